@@ -1,6 +1,6 @@
 -- A sum over the blocks, block by block.
-use Rattle.std.proofs.Common.{◌≡◌, ℕ, ◌+◌, ◌<◌, ◌≤◌, ◌≢◌, List, [], ◌∷◌, length, get_or, set, take, replicate, cond, eqb, true, false, sum_by, arith, sym, ◌∙◌, ap, refl, ⊎_elim, add-zero, eq-eqb, ne_eqb}
 use Rattle.std.specs.List.{zip}
+use Rattle.std.proofs.Common.{◌≡◌, ℕ, ◌+◌, ◌<◌, ◌≤◌, ◌≢◌, List, [], ◌∷◌, length, get_or, set, take, replicate, cond, eqb, true, false, sum_by, arith, sym, ◌∙◌, ap, ⊎_elim, add-zero, eq-eqb, ne_eqb, rules}
 use Rattle.std.proofs.lemmas.List.{get_or_default, get_or-replicate, length-set, get_or-set_same, get_or-set_other, take_all}
 use Rattle.std.proofs.lemmas.List.Sums.{sum_by_more, sum_by_more_le_part, sum_by-cons}
 use Rattle.std.proofs.lemmas.List.FromFn.{get_or-map-range_with_len, length-map-range_with_len}
@@ -23,19 +23,14 @@ pub record AreCounted (blocks : List BlockRow) (plan : List ℕ) (count : ℕ) (
   pub sums : (k : ℕ) → k < length_of → get_or people k 0 ≡ people_so_far blocks plan count k
 
 pub counted_none : (blocks : List BlockRow) (plan : List ℕ) (n : ℕ) (people : List ℕ) → length people ≡ n → people ≡ replicate n 0 → AreCounted blocks plan 0 n people
-counted_none blocks plan n people long none = record {
-  long = long;
-  sums = λ k less. rw none (get_or-replicate n k 0 0 less);
-}
+counted_none blocks plan n people long none = search (rules, get_or-replicate)
 
 inside_zip : (blocks : List BlockRow) (plan : List ℕ) (count : ℕ) → length plan ≡ length blocks → count < length blocks → count < length (zip blocks plan)
 inside_zip blocks plan count beside less = omega (arith, length-zip blocks plan)
 
 zip_there : (blocks : List BlockRow) (plan : List ℕ) (count : ℕ) (block : BlockRow) → length plan ≡ length blocks → count < length blocks
     → block ≡ get_or blocks count block → get_or (zip blocks plan) count (block, 0) ≡ (block, get_or plan count 0)
-zip_there blocks plan count block beside less is =
-    let e = get_or-zip blocks plan count (block, 0) less (omega arith) in
-    let f : (get_or blocks count block, get_or plan count 0) ≡ (block, get_or plan count 0) = rw (← is) refl in e ∙ f
+zip_there blocks plan count block beside less is = search (rules, get_or-zip)
 
 pub more_people : (blocks : List BlockRow) (plan : List ℕ) (count k : ℕ) (block : BlockRow) → length plan ≡ length blocks → count < length blocks
     → block ≡ get_or blocks count block → people_so_far blocks plan (count + 1) k ≡ people_so_far blocks plan count k + cond (eqb (get_or plan count 0) (k + 1)) block.population 0

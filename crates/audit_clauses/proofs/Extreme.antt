@@ -1,10 +1,9 @@
 -- The districts that deviate, district by district.
-use Rattle.std.proofs.Common.{◌≡◌, ℕ, ◌+◌, ◌-◌, ◌*◌, ◌<◌, ◌≤◌, Bool, true, false, cond, ltb, List, [], ◌∷◌, ◌++◌, length, get_or, filter, ap, sym, ◌∙◌, arith}
+use Rattle.std.proofs.Common.{◌≡◌, ℕ, ◌+◌, ◌-◌, ◌*◌, ◌<◌, ◌≤◌, Bool, cond, ltb, List, [], ◌∷◌, ◌++◌, length, get_or, filter, ap, sym, ◌∙◌, arith, rules}
 use Rattle.std.proofs.lemmas.List.{map-id, append-nil}
 use Rattle.std.proofs.lemmas.Bool.{lt-ltb, le-ltb}
 use Rattle.std.proofs.lemmas.List.FromFn.{filter_of_map_range_with_len_more}
-use Rattle.audit_clauses.specs.claim.People.{districts}
-use Rattle.audit_clauses.specs.claim.Clauses.{deviation, deviates}
+use Rattle.audit_clauses.specs.{claim.People.districts, claim.Clauses.{deviation, deviates}}
 
 filter_more : (p : ℕ → Bool) (i : ℕ) → filter p (districts (i + 1)) ≡ filter p (districts i) ++ cond (p (i + 1)) ((i + 1) ∷ []) []
 filter_more p i =
@@ -13,22 +12,14 @@ filter_more p i =
 
 here : (populations : List ℕ) (total i people : ℕ) → people ≡ get_or populations i 0
     → deviates populations total (i + 1) ≡ ltb total (100 * deviation (length populations) total people)
-here populations total i people is =
-    let e : (i + 1) - 1 ≡ i = omega arith in
-    ap (λ m. ltb total (100 * deviation (length populations) total m)) (ap (λ j. get_or populations j 0) e ∙ sym is)
+here populations total i people is = search rules
 
 -- the next district deviates
 pub listed : (populations : List ℕ) (total i people : ℕ) (breaks : List ℕ) → breaks ≡ filter (deviates populations total) (districts i) → people ≡ get_or populations i 0
     → total < 100 * deviation (length populations) total people → breaks ++ (i + 1) ∷ [] ≡ filter (deviates populations total) (districts (i + 1))
-listed populations total i people breaks was is over =
-    let test : deviates populations total (i + 1) ≡ true = here populations total i people is ∙ lt-ltb _ _ over in
-    ap (λ xs. xs ++ (i + 1) ∷ []) was ∙ ap (λ b. filter (deviates populations total) (districts i) ++ cond b ((i + 1) ∷ []) []) (sym test)
-    ∙ sym (filter_more (deviates populations total) i)
+listed populations total i people breaks was is over = search (rules, here, lt-ltb, filter, filter_more)
 
 -- the next district doesn't
 pub passed : (populations : List ℕ) (total i people : ℕ) (breaks : List ℕ) → breaks ≡ filter (deviates populations total) (districts i) → people ≡ get_or populations i 0
     → 100 * deviation (length populations) total people ≤ total → breaks ≡ filter (deviates populations total) (districts (i + 1))
-passed populations total i people breaks was is within =
-    let test : deviates populations total (i + 1) ≡ false = here populations total i people is ∙ le-ltb _ _ within in
-    was ∙ sym (append-nil (filter (deviates populations total) (districts i)))
-    ∙ ap (λ b. filter (deviates populations total) (districts i) ++ cond b ((i + 1) ∷ []) []) (sym test) ∙ sym (filter_more (deviates populations total) i)
+passed populations total i people breaks was is within = search (rules, here, le-ltb, append-nil, filter, filter_more)

@@ -1,10 +1,9 @@
 -- A forest grows by a pair.
-use Rattle.std.proofs.Common.{◌≡◌, ◌≢◌, ℕ, ◌+◌, ◌<◌, ◌≤◌, ◌⊎◌, inl, inr, ⊎_elim, cond, eqb, List, length, get_or, min, max, take, Contains, sym, ap, ◌∙◌, refl, arith, eq-eqb, ne_eqb}
+use Rattle.std.proofs.Common.{◌≡◌, ◌≢◌, ℕ, ◌+◌, ◌<◌, ◌≤◌, ◌⊎◌, inl, inr, ⊎_elim, cond, eqb, List, length, get_or, min, max, take, Contains, sym, ap, ◌∙◌, refl, arith, eq-eqb, ne_eqb, rules}
 use Rattle.std.proofs.lemmas.Bool.{cases_eq, cases_lt}
 use Rattle.std.proofs.lemmas.List.Elements.{All-more, All-nil, All-weaker, Contains-get_or}
 use Rattle.desk_model.specs.declared.geography.Pair.{Pair}
-use Rattle.audit_clauses.specs.claim.Paths.{AreNeighbours, IsIn, AreJoined}
-use Rattle.audit_clauses.specs.Forest.{ArePairsOf, PointsDown, AreAlone, IsRooting, merged, HasOneRoot, IsForest}
+use Rattle.audit_clauses.specs.{claim.Paths.{AreNeighbours, IsIn, AreJoined}, Forest.{ArePairsOf, PointsDown, AreAlone, IsRooting, merged, HasOneRoot, IsForest}}
 use Rattle.audit_clauses.proofs.Walks.{joined_here, joined_on, joined_back, joined_next, end_lies}
 
 pub forest_alone : (pairs : List Pair) (plan : List ℕ) (first last : ℕ) (parents : List ℕ) → ArePairsOf plan pairs → AreAlone (length plan) parents
@@ -14,12 +13,7 @@ forest_alone pairs plan first last parents placed alone = record {
   long = alone.long;
   down = λ i less. omega (arith, alone.own i (rw alone.long at less));
   root = λ i. i;
-  rooting = record {
-    low = λ i less. omega arith;
-    kept = λ i less. alone.own i (rw alone.long at less);
-    own = λ i less. alone.own i (rw alone.long at less);
-    top = λ i less e. refl;
-  };
+  rooting = search rules;
   joined = λ i d lies. joined_here pairs plan d i lies;
   closed = All-nil (HasOneRoot (λ i. i) plan first last);
 }
@@ -39,9 +33,7 @@ forest_skip pairs plan first last count parents pair less is was none = record {
 }
 
 merged_at : (root : ℕ → ℕ) (low high i : ℕ) → (root i ≡ low) ⊎ (root i ≡ high) → merged root low high i ≡ low
-merged_at root low high i (inl e) =
-    ⊎_elim (λ (f : root i ≡ high). ap (λ b. cond b low (root i)) (eq-eqb (root i) high f)) (λ (ne : root i ≢ high). ap (λ b. cond b low (root i)) (ne_eqb (root i) high ne) ∙ e)
-    (cases_eq (root i) high)
+merged_at root low high i (inl e) = search (rules, eq-eqb, ne_eqb, cases_eq)
 merged_at root low high i (inr f) = ap (λ b. cond b low (root i)) (eq-eqb (root i) high f)
 
 same_district : (plan : List ℕ) (d e a : ℕ) → IsIn plan d a → IsIn plan e a → d ≡ e

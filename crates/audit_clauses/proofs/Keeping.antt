@@ -1,20 +1,12 @@
 -- What is found in the plan that keeps the districts of own parts alone holds of them in the whole plan.
-use Rattle.std.proofs.Common.{◌≡◌, ℕ, ◌+◌, ◌*◌, ◌-◌, ◌/◌, ◌<◌, ◌≤◌, ◌⊎◌, inl, inr, ⊎_elim, Bool, true, false, List, ◌∷◌, length, map, get_or, min, take, drop, Option, None, Some, IsTrue, sym, ap, ◌∙◌, subst, refl, arith}
 use Rattle.std.specs.Prelude.{MatchOption}
+use Rattle.std.proofs.Common.{◌≡◌, ℕ, ◌+◌, ◌*◌, ◌-◌, ◌<◌, ◌≤◌, ◌⊎◌, inl, inr, ⊎_elim, Bool, true, false, List, length, map, get_or, min, take, drop, Option, None, Some, IsTrue, sym, ap, ◌∙◌, subst, refl, arith, rules}
 use Rattle.std.proofs.lemmas.Bool.{cond-true, cond_both, and_from, lt-ltb}
 use Rattle.std.proofs.lemmas.List.{length-map, length-drop, length-take-le, get_or-map, get_or-take, get_or-drop}
 use Rattle.std.proofs.lemmas.List.Elements.{All-weaker}
-use Rattle.desk_model.specs.claim.Geography.{GeographyModel}
-use Rattle.audit_clauses.specs.declared.breaks.Gap.{Gap}
-use Rattle.audit_clauses.specs.declared.breaks.Break.{Break}
-use Rattle.desk_model.specs.declared.geography.Pair.{Pair}
-use Rattle.audit_clauses.specs.claim.Paths.{IsIn, AreJoined, HoldsTogether}
-use Rattle.audit_clauses.specs.Forest.{IsForest}
-use Rattle.audit_clauses.specs.declared.lowest.Lowest.{Lowest}
-use Rattle.audit_clauses.specs.declared.lowest.Lowest.TheVariants.{Zero}
-use Rattle.audit_clauses.specs.Lowest.{AreLowest, AreAllLowest}
-use Rattle.audit_clauses.specs.claim.Breaks.{IsApart, IsGap, IsBreak, AreBreaks}
-use Rattle.audit_clauses.specs.Parts.{is_own, kept, Shown}
+use Rattle.desk_model.specs.{claim.Geography.GeographyModel, declared.geography.Pair.Pair}
+use Rattle.audit_clauses.specs.{declared.breaks.Gap.Gap, declared.breaks.Break.Break, claim.Paths.{IsIn, AreJoined, HoldsTogether}, Forest.IsForest, declared.lowest.Lowest.Lowest}
+use Rattle.audit_clauses.specs.{Lowest.AreAllLowest, claim.Breaks.{IsApart, IsGap, IsBreak, AreBreaks}, Parts.{is_own, kept, Shown}}
 
 kept_own : (own : List Bool) (d : ℕ) → is_own own d ≡ true → kept own d ≡ d
 kept_own own d is = cond-true (is_own own d) d 0 is
@@ -49,12 +41,10 @@ match_same (Some x) N N' S S' none some is = some x is
 module _ (g : GeographyModel) (small plan : List ℕ) (first last : ℕ) (up : (d a : ℕ) → first ≤ d → d ≤ last → IsIn small d a → IsIn plan d a)
     (down : (d a : ℕ) → first ≤ d → d ≤ last → IsIn plan d a → IsIn small d a) where
   joined_up : (d a b : ℕ) → first ≤ d → d ≤ last → AreJoined g.pairs small d a b → AreJoined g.pairs plan d a b
-  joined_up d a b from to way =
-      record { rest = way.rest; path = way.path; ends = way.ends; inside = All-weaker (IsIn small d) (IsIn plan d) (λ x lies. up d x from to lies) (a ∷ way.rest) way.inside }
+  joined_up d a b from to way = search (rules, All-weaker, up)
 
   joined_down : (d a b : ℕ) → first ≤ d → d ≤ last → AreJoined g.pairs plan d a b → AreJoined g.pairs small d a b
-  joined_down d a b from to way =
-      record { rest = way.rest; path = way.path; ends = way.ends; inside = All-weaker (IsIn plan d) (IsIn small d) (λ x lies. down d x from to lies) (a ∷ way.rest) way.inside }
+  joined_down d a b from to way = search (rules, All-weaker, down)
 
   together_up : (d : ℕ) → first ≤ d → d ≤ last → HoldsTogether g.pairs small d → HoldsTogether g.pairs plan d
   together_up d from to was = record {
@@ -86,18 +76,12 @@ module _ (g : GeographyModel) (small plan : List ℕ) (first last : ℕ) (up : (
   breaks_up : (breaks : List Break) → AreBreaks g small first last breaks → AreBreaks g plan first last breaks
   breaks_up breaks are = record {
     rising = are.rising;
-    broken = λ k d less. let was = are.broken k d less in record {
-      from_first = was.from_first;
-      to_last = was.to_last;
-      breaks = break_up _ was.from_first was.to_last was.breaks;
-    };
+    broken = search (rules, break_up);
     whole = λ d from to not_told. together_up d from to (are.whole d from to not_told);
   }
 
 own_part : (own : List Bool) (part count d : ℕ) → IsTrue (get_or own part false) → 16 * part + 1 ≤ d → d ≤ min (16 * part + 16) count → is_own own d ≡ true
-own_part own part count d is from to =
-    let at : (d - 1) / 16 ≡ part = omega arith in
-    and_from _ _ (lt-ltb 0 d (omega arith)) (ap (λ p. get_or own p false) at ∙ is)
+own_part own part count d is from to = search (rules, and_from, lt-ltb)
 
 pub own_breaks : (s : Shown) (plan : List ℕ) (part : ℕ) (breaks : List Break) → plan ≡ map (kept s.own) s.plan → IsTrue (get_or s.own part false)
     → AreBreaks s.geography plan (16 * part + 1) (min (16 * part + 16) s.count) breaks → AreBreaks s.geography s.plan (16 * part + 1) (min (16 * part + 16) s.count) breaks
@@ -122,10 +106,4 @@ forest_within pairs plan parents low high first last count above below forest = 
 -- the lowest roots of more districts are those of fewer too
 pub lowest_within : (parents plan : List ℕ) (count low wide first size from taken : ℕ) (lowest : List Lowest) → first ≡ low + from → taken ≡ size → from + size ≤ wide
     → AreAllLowest parents plan count low wide lowest → AreAllLowest parents plan count first size (take taken (drop from lowest))
-lowest_within parents plan count low wide first size from taken lowest place same within are = record {
-  long = length-take-le taken (drop from lowest) (omega (arith, length-drop from lowest, are.long)) ∙ same;
-  each = λ k less.
-      let at : get_or (take taken (drop from lowest)) k Zero ≡ get_or lowest (from + k) Zero = get_or-take taken (drop from lowest) k Zero (omega arith) ∙ get_or-drop from lowest k Zero in
-      let district : low + (from + k) ≡ first + k = omega arith in
-      rw at (subst (λ d. AreLowest parents plan count d (get_or lowest (from + k) Zero)) district (are.each (from + k) (omega arith)));
-}
+lowest_within parents plan count low wide first size from taken lowest place same within are = search (rules, length-take-le, length-drop, get_or-take, get_or-drop)

@@ -1,6 +1,5 @@
 -- A rising list, number by number.
-use Rattle.std.proofs.Common.{ℕ, ◌<◌, List, All, Contains}
-use Rattle.std.specs.List.Sorted.{IsStrictlyIncreasing}
+use Rattle.std.{specs.List.Sorted.IsStrictlyIncreasing, proofs.Common.{ℕ, ◌<◌, List, All, Contains, rules}}
 use Rattle.std.proofs.lemmas.List.Elements.{All-weaker}
 use Rattle.audit_clauses.specs.claim.Exactly.{AreExactly}
 
@@ -14,8 +13,4 @@ pub record AreListed (Holds : ℕ → Type 0) (count : ℕ) (numbers : List ℕ)
 -- two facts that hold of the same numbers
 pub exactly_same : (Holds Means : ℕ → Type 0) (numbers : List ℕ) → ((number : ℕ) → Holds number → Means number) → ((number : ℕ) → Means number → Holds number)
     → AreExactly Holds numbers → AreExactly Means numbers
-exactly_same Holds Means numbers means holds was = record {
-  rising = was.rising;
-  listed = All-weaker Holds Means means numbers was.listed;
-  all = λ number is. was.all number (holds number is);
-}
+exactly_same Holds Means numbers means holds was = search (rules, All-weaker)

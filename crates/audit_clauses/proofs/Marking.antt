@@ -1,16 +1,12 @@
 -- The marks, block by block.
-use Rattle.std.proofs.Common.{◌≡◌, ◌≢◌, ℕ, ◌+◌, ◌<◌, ◌≤◌, ⊎_elim, List, length, get_or, set, replicate, sym, ap, ◌∙◌, refl, arith, eq-eqb, ne_eqb}
+use Rattle.std.proofs.Common.{◌≡◌, ◌≢◌, ℕ, ◌+◌, ◌<◌, ◌≤◌, ⊎_elim, List, get_or, set, replicate, sym, ap, ◌∙◌, refl, arith, eq-eqb, ne_eqb, rules}
 use Rattle.std.proofs.lemmas.Bool.{cases_eq}
 use Rattle.std.proofs.lemmas.List.{length-set, get_or-set_same, get_or-set_other, get_or-replicate, length-replicate}
-use Rattle.audit_clauses.specs.declared.mark.GroupMark.{GroupMark}
-use Rattle.audit_clauses.specs.declared.mark.GroupMark.TheVariants.{Unseen, Seen, Divided}
+use Rattle.audit_clauses.specs.{declared.mark.GroupMark.GroupMark, declared.mark.GroupMark.TheVariants.{Unseen, Seen, Divided}}
 use Rattle.audit_clauses.specs.Marks.{mark_at, AreUnseen, marked, IsWhole, IsSplit, IsMark, AreMarks}
 
 pub unseen_are : (wide : ℕ) (marks : List GroupMark) → marks ≡ replicate wide Unseen → AreUnseen wide marks
-unseen_are wide marks same = record {
-  long = ap length same ∙ length-replicate wide Unseen;
-  unseen = λ k less. rw same (get_or-replicate wide k Unseen Unseen less);
-}
+unseen_are wide marks same = search (rules, length-replicate, get_or-replicate)
 
 -- one block more
 before : (i count : ℕ) → i < count + 1 → i ≢ count → i < count
@@ -19,19 +15,7 @@ before i count less other = omega (arith, other)
 -- the first block, or the first block of a part
 begun : (Holds : ℕ → Type 0) (part value : ℕ → ℕ) (count : ℕ) → Holds count → ((i : ℕ) → i < count → Holds i → part i < part count)
     → ((i j : ℕ) → i < count → j < count → Holds i → Holds j → part i ≡ part j → value i ≡ value j) → IsWhole Holds part value (count + 1) (part count) (value count)
-begun Holds part value count here lower whole = record {
-  place = count;
-  early = omega arith;
-  holds = here;
-  part_is = refl;
-  value_is = refl;
-  latest = λ i less is. ⊎_elim (λ (e : i ≡ count). rw e (omega arith)) (λ (ne : i ≢ count). omega (arith, lower i (before i count less ne) is)) (cases_eq i count);
-  whole = λ i j i_less j_less i_is j_is same. ⊎_elim
-      (λ (e : i ≡ count). ⊎_elim (λ (f : j ≡ count). ap value (e ∙ sym f)) (λ (nf : j ≢ count). absurd (omega (arith, lower j (before j count j_less nf) j_is, same, ap part e))) (cases_eq j count))
-      (λ (ne : i ≢ count). ⊎_elim (λ (f : j ≡ count). absurd (omega (arith, lower i (before i count i_less ne) i_is, same, ap part f)))
-      (λ (nf : j ≢ count). whole i j (before i count i_less ne) (before j count j_less nf) i_is j_is same) (cases_eq j count))
-      (cases_eq i count);
-}
+begun Holds part value count here lower whole = search (rules, before, cases_eq)
 
 -- a block of the last part with its value
 went_on : (Holds : ℕ → Type 0) (part value : ℕ → ℕ) (count p v : ℕ) → Holds count → part count ≡ p → value count ≡ v → IsWhole Holds part value count p v
@@ -57,14 +41,7 @@ went_on Holds part value count p v here part_is value_is was = record {
 -- a block of the last part with another value
 fell_apart : (Holds : ℕ → Type 0) (part value : ℕ → ℕ) (count p v : ℕ) → Holds count → part count ≡ p → value count ≢ v → IsWhole Holds part value count p v
     → IsSplit Holds part value
-fell_apart Holds part value count p v here part_is other was = record {
-  one = was.place;
-  other = count;
-  one_holds = was.holds;
-  other_holds = here;
-  part_is = was.part_is ∙ sym part_is;
-  differ = λ e. other (sym e ∙ was.value_is);
-}
+fell_apart Holds part value count p v here part_is other was = search rules
 
 marked_same : (p v part value : ℕ) → p ≡ part → v ≡ value → marked (Seen p v) part value ≡ Seen p v
 marked_same p v part value e f = rw (eq-eqb p part e, eq-eqb v value f) refl
@@ -77,18 +54,8 @@ marked_anew p v part value ne = rw (ne_eqb p part ne) refl
 
 pub mark_more : (Holds : ℕ → Type 0) (part value : ℕ → ℕ) (count : ℕ) (mark : GroupMark) → Holds count → ((i : ℕ) → i < count → Holds i → part i ≤ part count)
     → IsMark Holds part value count mark → IsMark Holds part value (count + 1) (marked mark (part count) (value count))
-mark_more Holds part value count Unseen here rising was =
-    begun Holds part value count here (λ i less is. absurd (was i less is)) (λ i j i_less j_less i_is j_is same. absurd (was i i_less i_is))
-mark_more Holds part value count (Seen p v) here rising was =
-    ⊎_elim
-    (λ (e : p ≡ part count). ⊎_elim
-    (λ (f : v ≡ value count). let is = marked_same p v (part count) (value count) e f in rw is (went_on Holds part value count p v here (sym e) (sym f) was))
-    (λ (nf : v ≢ value count). let is = marked_apart p v (part count) (value count) e nf in rw is (fell_apart Holds part value count p v here (sym e) (λ f. nf (sym f)) was))
-    (cases_eq v (value count)))
-    (λ (ne : p ≢ part count). let is = marked_anew p v (part count) (value count) ne in
-    rw is (begun Holds part value count here
-    (λ i less at. omega (arith, was.latest i less at, rising was.place was.early was.holds, was.part_is, ne)) was.whole))
-    (cases_eq p (part count))
+mark_more Holds part value count Unseen here rising was = search (rules, begun)
+mark_more Holds part value count (Seen p v) here rising was = search (rules, marked_same, went_on, marked_apart, fell_apart, cases_eq, marked_anew, begun)
 mark_more Holds part value count Divided here rising was = was
 
 mark_pass : (Holds : ℕ → Type 0) (part value : ℕ → ℕ) (count : ℕ) (mark : GroupMark) → ¬ Holds count → IsMark Holds part value count mark → IsMark Holds part value (count + 1) mark
@@ -99,24 +66,13 @@ mark_pass Holds part value count mark not_here was = by_case mark was
 
     by_case : (m : GroupMark) → IsMark Holds part value count m → IsMark Holds part value (count + 1) m
     by_case Unseen had = λ i less is. had i (earlier i less is) is
-    by_case (Seen p v) had = record {
-      place = had.place;
-      early = omega (arith, had.early);
-      holds = had.holds;
-      part_is = had.part_is;
-      value_is = had.value_is;
-      latest = λ i less is. had.latest i (earlier i less is) is;
-      whole = λ i j i_less j_less i_is j_is same. had.whole i j (earlier i i_less i_is) (earlier j j_less j_is) i_is j_is same;
-    }
+    by_case (Seen p v) had = search rules
     by_case Divided had = had
 
 -- the block lies in no group
 pub marks_pass : (Holds : ℕ → ℕ → Type 0) (part value : ℕ → ℕ) (count wide : ℕ) (marks : List GroupMark) → ((k : ℕ) → k < wide → ¬ Holds k count)
     → AreMarks Holds part value count wide marks → AreMarks Holds part value (count + 1) wide marks
-marks_pass Holds part value count wide marks none was = record {
-  long = was.long;
-  each = λ k less. mark_pass (Holds k) part value count (mark_at marks k) (none k less) (was.each k less);
-}
+marks_pass Holds part value count wide marks none was = search (rules, mark_pass)
 
 -- the block lies in one group
 pub marks_take : (Holds : ℕ → ℕ → Type 0) (part value : ℕ → ℕ) (count wide place : ℕ) (marks : List GroupMark) → place < wide → Holds place count → ((k : ℕ) → Holds k count → k ≡ place)

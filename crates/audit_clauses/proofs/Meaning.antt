@@ -1,28 +1,20 @@
 -- What the marks of all blocks say.
-use Rattle.std.proofs.Common.{◌≡◌, ◌≢◌, ℕ, ◌+◌, ◌<◌, ◌≤◌, ⊎_elim, List, length, sym, ◌∙◌, subst, refl, arith}
+use Rattle.std.proofs.Common.{◌≡◌, ◌≢◌, ℕ, ◌+◌, ◌<◌, ⊎_elim, List, length, sym, ◌∙◌, refl, arith, rules}
 use Rattle.std.proofs.lemmas.Bool.{cases_lt, cases_eq}
 use Rattle.std.proofs.lemmas.List.{get_or_past}
 use Rattle.desk_model.specs.declared.block.BlockRow.{BlockRow}
-use Rattle.audit_clauses.specs.declared.mark.GroupMark.{GroupMark}
-use Rattle.audit_clauses.specs.declared.mark.GroupMark.TheVariants.{Unseen, Seen, Divided}
-use Rattle.audit_clauses.specs.claim.Divided.{county_at, IsInCounty, IsInCity, AreDivided, IsDividedCounty, IsDividedCity, IsDividedWithinCounty}
-use Rattle.audit_clauses.specs.claim.Exactly.{AreExactly}
-use Rattle.audit_clauses.specs.claim.Nested.{IsIn, IsNested, BreaksNesting}
-use Rattle.audit_clauses.specs.Marks.{mark_at, value_at, one_part, IsSplit, IsMark, AreMarks, IsDividedAt, IsUnnested, IsUnnestedAt}
-use Rattle.audit_clauses.proofs.Listing.{exactly_same}
-use Rattle.audit_clauses.proofs.Places.{county_below}
+use Rattle.audit_clauses.specs.{declared.mark.GroupMark.GroupMark, declared.mark.GroupMark.TheVariants.{Unseen, Seen, Divided}}
+use Rattle.audit_clauses.specs.{claim.Divided.{county_at, IsInCounty, IsInCity, AreDivided, IsDividedCounty, IsDividedCity, IsDividedWithinCounty}, claim.Exactly.AreExactly}
+use Rattle.audit_clauses.specs.{claim.Nested.{IsIn, IsNested, BreaksNesting}, Marks.{mark_at, value_at, one_part, IsSplit, IsMark, AreMarks, IsDividedAt, IsUnnested, IsUnnestedAt}}
+use Rattle.audit_clauses.proofs.{Listing.exactly_same, Places.county_below}
 
 -- a mark past the end isn't there
 inside : (marks : List GroupMark) (k : ℕ) → IsDividedAt marks k → k < length marks
-inside marks k is =
-    ⊎_elim (λ (less : k < length marks). less)
-    (λ (past : length marks ≤ k). let none : mark_at marks k ≡ Unseen = get_or_past marks k Unseen past in let bad : Unseen ≡ Divided = sym none ∙ is in absurd cc)
-    (cases_lt k (length marks))
+inside marks k is = search (rules, get_or_past, cases_lt)
 
 pub split_from_mark : (Holds : ℕ → ℕ → Type 0) (part value : ℕ → ℕ) (count wide : ℕ) (marks : List GroupMark) (k : ℕ) → AreMarks Holds part value count wide marks → IsDividedAt marks k
     → IsSplit (Holds k) part value
-split_from_mark Holds part value count wide marks k are is =
-    subst (λ (m : GroupMark). IsMark (Holds k) part value count m) is (are.each k (rw are.long at (inside marks k is)))
+split_from_mark Holds part value count wide marks k are is = search (rules, inside)
 
 pub mark_from_split : (Holds : ℕ → ℕ → Type 0) (part value : ℕ → ℕ) (count wide : ℕ) (marks : List GroupMark) (k : ℕ) → AreMarks Holds part value count wide marks → k < wide
     → ((i : ℕ) → Holds k i → i < count) → IsSplit (Holds k) part value → IsDividedAt marks k
@@ -30,28 +22,14 @@ mark_from_split Holds part value count wide marks k are less within split = by_c
   where
     by_case : (m : GroupMark) → IsMark (Holds k) part value count m → m ≡ Divided
     by_case Unseen none = absurd (none split.one (within split.one split.one_holds) split.one_holds)
-    by_case (Seen p v) whole =
-        absurd (split.differ (whole.whole split.one split.other (within split.one split.one_holds) (within split.other split.other_holds) split.one_holds split.other_holds split.part_is))
+    by_case (Seen p v) whole = search rules
     by_case Divided had = refl
 
 divided_from_split : (Holds : ℕ → Type 0) (plan : List ℕ) → IsSplit Holds one_part (value_at plan) → AreDivided Holds plan
-divided_from_split Holds plan split = record {
-  one = split.one;
-  other = split.other;
-  one_holds = split.one_holds;
-  other_holds = split.other_holds;
-  differ = split.differ;
-}
+divided_from_split Holds plan split = search rules
 
 split_from_divided : (Holds : ℕ → Type 0) (plan : List ℕ) → AreDivided Holds plan → IsSplit Holds one_part (value_at plan)
-split_from_divided Holds plan divided = record {
-  one = divided.one;
-  other = divided.other;
-  one_holds = divided.one_holds;
-  other_holds = divided.other_holds;
-  part_is = refl;
-  differ = divided.differ;
-}
+split_from_divided Holds plan divided = search rules
 
 pub counties_are : (blocks : List BlockRow) (plan : List ℕ) (marks : List GroupMark) (codes : List ℕ) → AreMarks (IsInCounty blocks) one_part (value_at plan) (length blocks) 1000 marks
     → AreExactly (IsDividedAt marks) codes → AreExactly (IsDividedCounty blocks plan) codes
@@ -74,24 +52,11 @@ cities_are blocks plan wide marks codes above are exactly =
 within_from_split : (blocks : List BlockRow) (plan : List ℕ) (city : ℕ) → IsSplit (IsInCity blocks city) (county_at blocks) (value_at plan) → IsDividedWithinCounty blocks plan city
 within_from_split blocks plan city split = record {
   county = county_at blocks split.one;
-  divided = record {
-    one = split.one;
-    other = split.other;
-    one_holds = record { in_city = split.one_holds; in_county = record { within = split.one_holds.within; county_is = refl } };
-    other_holds = record { in_city = split.other_holds; in_county = record { within = split.other_holds.within; county_is = sym split.part_is } };
-    differ = split.differ;
-  };
+  divided = search rules;
 }
 
 split_from_within : (blocks : List BlockRow) (plan : List ℕ) (city : ℕ) → IsDividedWithinCounty blocks plan city → IsSplit (IsInCity blocks city) (county_at blocks) (value_at plan)
-split_from_within blocks plan city is = record {
-  one = is.divided.one;
-  other = is.divided.other;
-  one_holds = is.divided.one_holds.in_city;
-  other_holds = is.divided.other_holds.in_city;
-  part_is = is.divided.one_holds.in_county.county_is ∙ sym is.divided.other_holds.in_county.county_is;
-  differ = is.divided.differ;
-}
+split_from_within blocks plan city is = search rules
 
 pub cities_within_are : (blocks : List BlockRow) (plan : List ℕ) (wide : ℕ) (marks : List GroupMark) (codes : List ℕ) → ((city place : ℕ) → IsInCity blocks city place → city < wide)
     → AreMarks (IsInCity blocks) (county_at blocks) (value_at plan) (length blocks) wide marks → AreExactly (IsDividedAt marks) codes → AreExactly (IsDividedWithinCounty blocks plan) codes
@@ -121,10 +86,7 @@ unnested plan companion d (Seen p v) is broken =
 unnested plan companion d Divided is broken = tt
 
 unnested_inside : (marks : List GroupMark) (d : ℕ) → IsUnnested (mark_at marks d) → d < length marks
-unnested_inside marks d is =
-    ⊎_elim (λ (less : d < length marks). less)
-    (λ (past : length marks ≤ d). absurd (subst IsUnnested (get_or_past marks d Unseen past) is))
-    (cases_lt d (length marks))
+unnested_inside marks d is = search (rules, get_or_past, cases_lt)
 
 pub unnested_below : (marks : List GroupMark) (d : ℕ) → IsUnnestedAt marks d → d < length marks
 unnested_below marks d is = unnested_inside marks d is.unnested

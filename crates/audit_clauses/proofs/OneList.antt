@@ -1,7 +1,6 @@
 -- A plan's breaks are one list, and those of districts that follow one another are put together.
-use Rattle.std.proofs.Common.{Less, ◌≡◌, ◌≢◌, ℕ, ◌+◌, ◌-◌, ◌<◌, ◌≤◌, ◌⊎◌, inl, inr, ⊎_elim, Option, None, Some, MatchOption, List, [], ◌∷◌, ◌++◌, length, get_or, Contains, refl, sym, ap, ◌∙◌, subst, arith}
-use Rattle.std.specs.Ordering.{nat_cmp}
-use Rattle.std.specs.List.Sorted.{IsStrictlyIncreasing, IsStrictlySortedBy}
+use Rattle.std.specs.{Ordering.nat_cmp, List.Sorted.{IsStrictlyIncreasing, IsStrictlySortedBy}}
+use Rattle.std.proofs.Common.{Less, ◌≡◌, ◌≢◌, ℕ, ◌+◌, ◌-◌, ◌<◌, ◌≤◌, ◌⊎◌, inl, inr, ⊎_elim, Option, None, Some, MatchOption, List, [], ◌∷◌, ◌++◌, length, get_or, Contains, refl, sym, ap, ◌∙◌, subst, arith, rules}
 use Rattle.std.proofs.lemmas.Bool.{cases_eq, cases_lt}
 use Rattle.std.proofs.lemmas.Cmp.{ranked}
 use Rattle.std.proofs.lemmas.List.{length-map, length-append, map-append, get_or-map, get_or_append_left, get_or-append_right, same_lists}
@@ -9,11 +8,9 @@ use Rattle.std.proofs.lemmas.List.Elements.{All-contains, All-append, All-weaker
 use Rattle.std.proofs.lemmas.Map.Keys.{sorted_tail, sorted_from_strictly_increasing}
 use Rattle.std.proofs.lemmas.Map.Views.{All-after_first}
 use Rattle.std.proofs.lemmas.Map.Made.{Contains-tail}
-use Rattle.desk_model.specs.claim.Geography.{GeographyModel, id_at}
-use Rattle.audit_clauses.specs.declared.breaks.Gap.{Gap}
-use Rattle.audit_clauses.specs.declared.breaks.Break.{Break}
-use Rattle.audit_clauses.specs.claim.Paths.{IsIn, HoldsTogether}
-use Rattle.audit_clauses.specs.claim.Breaks.{IsLeast, IsApart, IsGap, IsBreak, IsBreakWithin, districts_of, AreBreaks}
+use Rattle.desk_model.specs.claim.Geography.{GeographyModel}
+use Rattle.audit_clauses.specs.{declared.breaks.Gap.Gap, declared.breaks.Break.Break, claim.Paths.{IsIn, HoldsTogether}}
+use Rattle.audit_clauses.specs.claim.Breaks.{IsLeast, IsGap, IsBreak, IsBreakWithin, districts_of, AreBreaks}
 
 later : (x : ℕ) (xs : List ℕ) (z : ℕ) → IsStrictlySortedBy nat_cmp (x ∷ xs) → Contains xs z → x < z
 later x xs z sorted has = ranked x z Less (sym (All-contains (λ q. nat_cmp x q ≡ Less) xs z (All-after_first nat_cmp x xs sorted) has))
@@ -57,11 +54,7 @@ gap_is : (x y : Gap) → x.from ≡ y.from → x.to ≡ y.to → x ≡ y
 gap_is x y from to = ap (λ a. record { from = a; to = x.to }) from ∙ ap (λ b. record { from = y.from; to = b }) to
 
 gap_same : (g : GeographyModel) (plan : List ℕ) (d : ℕ) (x y : Gap) → IsGap g plan d x → IsGap g plan d y → x ≡ y
-gap_same g plan d x y one other =
-    let from = least_same (IsIn plan d) one.from other.from one.least other.least in
-    let apart = subst (λ a. IsLeast (IsApart g plan d a) one.to) from one.apart in
-    let to = least_same (IsApart g plan d other.from) one.to other.to apart other.apart in
-    gap_is x y (sym one.from_id ∙ ap (id_at g.blocks) from ∙ other.from_id) (sym one.to_id ∙ ap (id_at g.blocks) to ∙ other.to_id)
+gap_same g plan d x y one other = search (rules, least_same, gap_is)
 
 told_same : (g : GeographyModel) (plan : List ℕ) (d : ℕ) (x y : Option Gap) → MatchOption x ((a : ℕ) → ¬ IsIn plan d a) (IsGap g plan d) → MatchOption y ((a : ℕ) → ¬ IsIn plan d a) (IsGap g plan d) → x ≡ y
 told_same g plan d None None one other = refl
@@ -70,9 +63,7 @@ told_same g plan d (Some x) None gap none = absurd (none gap.from gap.least.hold
 told_same g plan d (Some x) (Some y) one other = ap Some (gap_same g plan d x y one other)
 
 break_same : (g : GeographyModel) (plan : List ℕ) (x y : Break) → x.district ≡ y.district → IsBreak g plan x → IsBreak g plan y → x ≡ y
-break_same g plan x y e one other =
-    let there : MatchOption y.gap ((a : ℕ) → ¬ IsIn plan x.district a) (IsGap g plan x.district) = subst (λ d. MatchOption y.gap ((a : ℕ) → ¬ IsIn plan d a) (IsGap g plan d)) (sym e) other in
-    ap (λ d. record { district = d; gap = x.gap }) e ∙ ap (λ (o : Option Gap). record { district = y.district; gap = o }) (told_same g plan x.district x.gap y.gap one there)
+break_same g plan x y e one other = search (rules, told_same)
 
 parted : (g : GeographyModel) (plan : List ℕ) (d : ℕ) (gap : Option Gap) → MatchOption gap ((a : ℕ) → ¬ IsIn plan d a) (IsGap g plan d) → HoldsTogether g.pairs plan d → ⊥
 parted g plan d None none holds = none holds.some.0 holds.some.1
@@ -156,9 +147,7 @@ breaks_put_together g plan first middle last one other from to are too = record 
       (rising_append (districts_of one) (districts_of other) middle are.rising too.rising
       (λ k less. (told_within g plan first middle one k are less).1)
       (λ k less. let low = (told_within g plan (middle + 1) last other k too less).0 in omega (arith, low)));
-  broken = All-append (IsBreakWithin g plan first last) one other
-      (All-weaker (IsBreakWithin g plan first middle) (IsBreakWithin g plan first last) (within_more g plan first middle first last (omega arith) to) one are.broken)
-      (All-weaker (IsBreakWithin g plan (middle + 1) last) (IsBreakWithin g plan first last) (within_more g plan (middle + 1) last first last from (omega arith)) other too.broken);
+  broken = search (rules, All-append, All-weaker, within_more);
   whole = λ d low high not_told. ⊎_elim
       (λ (before : d < middle + 1). are.whole d low (omega arith) (λ has. not_told (rw (map-append (λ (b : Break). b.district) one other) (Contains-append_left (districts_of one) (districts_of other) d has))))
       (λ (after : middle + 1 ≤ d). too.whole d after high (λ has. not_told (rw (map-append (λ (b : Break). b.district) one other) (Contains-append_right (districts_of one) (districts_of other) d has))))

@@ -1,14 +1,11 @@
 -- Counties and cities of the blocks at places.
-use Rattle.std.proofs.Common.{◌≡◌, ℕ, ◌+◌, ◌<◌, ◌≤◌, ◌^◌, ⊎_elim, Some, None, List, length, get_or, sym, ap, ◌∙◌, subst, arith}
+use Rattle.std.proofs.Common.{◌≡◌, ℕ, ◌+◌, ◌<◌, ◌≤◌, ◌^◌, Some, None, List, length, get_or, sym, ap, ◌∙◌, arith, rules}
 use Rattle.std.proofs.lemmas.Bool.{cases_lt}
 use Rattle.std.proofs.lemmas.List.{get_or-map, length-map}
 use Rattle.std.proofs.lemmas.Map.Keys.{sorted_from_strictly_increasing, below_from_sorted}
-use Rattle.desk_model.specs.declared.block.BlockRow.{BlockRow}
-use Rattle.desk_model.specs.claim.Block.{county_of, state_of}
-use Rattle.desk_model.specs.claim.GeographyModels.{AreBlocks}
-use Rattle.desk_model.specs.claim.Geography.{ids_of, id_at}
-use Rattle.audit_clauses.specs.claim.Divided.{county_at, city_at, IsInCounty, IsInCity}
-use Rattle.audit_clauses.specs.Splits.{AreCodesBelow}
+use Rattle.desk_model.specs.{declared.block.BlockRow.BlockRow, claim.Block.{county_of, state_of}, claim.GeographyModels.AreBlocks, claim.Geography.{ids_of, id_at}}
+use Rattle.desk_model.proofs.Parts.{county_rises}
+use Rattle.audit_clauses.specs.{claim.Divided.{county_at, city_at, IsInCounty, IsInCity}, Splits.AreCodesBelow}
 
 pub county_here : (blocks : List BlockRow) (i : ℕ) (row : BlockRow) → i < length blocks → row ≡ get_or blocks i row → county_at blocks i ≡ county_of row.id
 county_here blocks i row within is = ap county_of (get_or-map (λ (b : BlockRow). b.id) blocks i row 0 within ∙ ap (λ (b : BlockRow). b.id) (sym is))
@@ -21,9 +18,6 @@ county_small id = omega arith
 
 pub county_below : (blocks : List BlockRow) (county i : ℕ) → IsInCounty blocks county i → county < 1000
 county_below blocks county i is = rw (← is.county_is) (county_small (id_at blocks i))
-
-county_rises : (id later : ℕ) → id ≤ later → state_of id ≡ state_of later → county_of id ≤ county_of later
-county_rises id later le same = omega arith
 
 -- counties never fall along the blocks
 pub counties_rise : (blocks : List BlockRow) (i j : ℕ) → AreBlocks blocks → i < j → j < length blocks → county_at blocks i ≤ county_at blocks j
@@ -45,11 +39,7 @@ one_city blocks a b i one other = some_same a b (sym one.city_is ∙ other.city_
 -- a bound above the cities so far, with one block more
 pub codes_more : (blocks : List BlockRow) (i old new : ℕ) → AreCodesBelow blocks i old → old ≤ new → new ≤ 2 ^ 32 → ((city : ℕ) → IsInCity blocks city i → city < new)
     → AreCodesBelow blocks (i + 1) new
-codes_more blocks i old new was more few here = record {
-  few = few;
-  above = λ city place less lies. ⊎_elim (λ (before : place < i). omega (arith, was.above city place before lies))
-      (λ (after : i ≤ place). let e : place ≡ i = omega arith in here city (subst (IsInCity blocks city) e lies)) (cases_lt place i);
-}
+codes_more blocks i old new was more few here = search (rules, cases_lt)
 
 pub in_city : (blocks : List BlockRow) (i city : ℕ) (row : BlockRow) → i < length blocks → row ≡ get_or blocks i row → row.city ≡ Some city → IsInCity blocks city i
 in_city blocks i city row within is has = record { within = within; city_is = city_here blocks i row within is ∙ has }

@@ -1,24 +1,16 @@
 -- Trees that point down, under a shorter way and under a joined root.
-use Rattle.std.proofs.Common.{◌≡◌, ◌≢◌, ℕ, ◌<◌, ◌≤◌, cond, eqb, List, length, get_or, set, min, max, sym, ap, ◌∙◌, arith, ⊎_elim, eq-eqb, ne_eqb}
+use Rattle.std.proofs.Common.{◌≡◌, ◌≢◌, ℕ, ◌<◌, ◌≤◌, cond, eqb, List, length, get_or, set, min, max, sym, ap, ◌∙◌, arith, eq-eqb, ne_eqb, rules}
 use Rattle.std.proofs.lemmas.Bool.{cases_eq}
 use Rattle.std.proofs.lemmas.List.{length-set, get_or-set_same, get_or-set_other}
 use Rattle.audit_clauses.specs.Forest.{IsRooting, IsRootOf, merged}
 
 -- what a place holds after a write
 written : (parents : List ℕ) (at value i : ℕ) → at < length parents → (P : ℕ → Type 0) → (i ≡ at → P value) → (i ≢ at → P (get_or parents i 0)) → P (get_or (set parents at value) i 0)
-written parents at value i inside P same other =
-    ⊎_elim (λ (e : i ≡ at). let h : get_or (set parents at value) at 0 ≡ value = get_or-set_same parents at value 0 inside in rw (e, h) (same e))
-    (λ (ne : i ≢ at). let h = get_or-set_other parents at i value 0 ne in rw h (other ne))
-    (cases_eq i at)
+written parents at value i inside P same other = search (rules, get_or-set_same, get_or-set_other, cases_eq)
 
 -- one function for another that is the same at each block
 pub same_rooting : (root other : ℕ → ℕ) (parents : List ℕ) → ((i : ℕ) → other i ≡ root i) → IsRooting root parents → IsRooting other parents
-same_rooting root other parents same was = record {
-  low = λ i less. rw (same i) (was.low i less);
-  kept = λ i less. same (get_or parents i 0) ∙ was.kept i less ∙ sym (same i);
-  own = λ i less. rw (same i) (was.own i less);
-  top = λ i less e. same i ∙ was.top i less e;
-}
+same_rooting root other parents same was = search rules
 
 -- one root is hung on a lower one
 pub linked : (root : ℕ → ℕ) (parents : List ℕ) (low high : ℕ) → high < length parents → low < high → get_or parents low 0 ≡ low → get_or parents high 0 ≡ high
@@ -55,14 +47,11 @@ linked root parents low high inside less low_own high_own was = record {
     low_stays = other_stays low (λ e. omega (arith, e, low_root)) ∙ low_root
 
     by_root : (i : ℕ) (P : ℕ → Type 0) → (root i ≡ high → P low) → (root i ≢ high → P (root i)) → P (merged root low high i)
-    by_root i P same other =
-        ⊎_elim (λ (e : root i ≡ high). let h = high_moves i e in rw h (same e)) (λ (ne : root i ≢ high). let h = other_stays i ne in rw h (other ne)) (cases_eq (root i) high)
+    by_root i P same other = search (rules, cases_eq)
 
 -- the two have one root already
 pub merged_same : (root : ℕ → ℕ) (low high : ℕ) → low ≡ high → (i : ℕ) → merged root low high i ≡ root i
-merged_same root low high e i =
-    ⊎_elim (λ (at : root i ≡ high). ap (λ b. cond b low (root i)) (eq-eqb (root i) high at) ∙ e ∙ sym at)
-    (λ (ne : root i ≢ high). ap (λ b. cond b low (root i)) (ne_eqb (root i) high ne)) (cases_eq (root i) high)
+merged_same root low high e i = search (rules, eq-eqb, ne_eqb, cases_eq)
 
 -- one root is found after another
 pub both_roots : (old mid parents : List ℕ) (one other a b : ℕ) → IsRootOf old one mid a → IsRootOf mid other parents b → (root : ℕ → ℕ) → IsRooting root old
@@ -72,24 +61,12 @@ both_roots old mid parents one other a b first second root was = (second.rooting
 -- what joining two blocks' trees leaves, by the order of their roots
 pub joined_low : (root : ℕ → ℕ) (parents : List ℕ) (one other low high : ℕ) → one < length parents → high < length parents → IsRooting root parents → low ≡ root one
     → high ≡ root other → other < length parents → low < high → IsRooting (merged root (min (root one) (root other)) (max (root one) (root other))) (set parents high low)
-joined_low root parents one other low high one_in high_in was low_is high_is other_in less =
-    let e : min (root one) (root other) ≡ low = omega arith in
-    let f : max (root one) (root other) ≡ high = omega arith in
-    let low_own : get_or parents low 0 ≡ low = rw low_is (was.own one one_in) in
-    let high_own : get_or parents high 0 ≡ high = rw high_is (was.own other other_in) in
-    rw (e, f) (linked root parents low high high_in less low_own high_own was)
+joined_low root parents one other low high one_in high_in was low_is high_is other_in less = search (rules, linked)
 
 pub joined_high : (root : ℕ → ℕ) (parents : List ℕ) (one other low high : ℕ) → one < length parents → high < length parents → IsRooting root parents → high ≡ root one
     → low ≡ root other → other < length parents → low < high → IsRooting (merged root (min (root one) (root other)) (max (root one) (root other))) (set parents high low)
-joined_high root parents one other low high one_in high_in was high_is low_is other_in less =
-    let e : min (root one) (root other) ≡ low = omega arith in
-    let f : max (root one) (root other) ≡ high = omega arith in
-    let low_own : get_or parents low 0 ≡ low = rw low_is (was.own other other_in) in
-    let high_own : get_or parents high 0 ≡ high = rw high_is (was.own one one_in) in
-    rw (e, f) (linked root parents low high high_in less low_own high_own was)
+joined_high root parents one other low high one_in high_in was high_is low_is other_in less = search (rules, linked)
 
 pub joined_same : (root : ℕ → ℕ) (parents : List ℕ) (one other : ℕ) → root one ≡ root other → IsRooting root parents
     → IsRooting (merged root (min (root one) (root other)) (max (root one) (root other))) parents
-joined_same root parents one other e was =
-    let f : min (root one) (root other) ≡ max (root one) (root other) = omega arith in
-    same_rooting root (merged root (min (root one) (root other)) (max (root one) (root other))) parents (merged_same root (min (root one) (root other)) (max (root one) (root other)) f) was
+joined_same root parents one other e was = search (rules, same_rooting, merged_same)

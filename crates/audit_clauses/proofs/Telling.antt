@@ -1,18 +1,12 @@
 -- The breaks, district by district.
-use Rattle.std.proofs.Common.{◌≡◌, ℕ, ◌+◌, ◌<◌, ◌≤◌, ◌⊎◌, ⊎_elim, None, List, [], ◌∷◌, ◌++◌, length, get_or, All, Contains, sym, ap, ◌∙◌, arith}
 use Rattle.std.specs.List.Sorted.{IsStrictlyIncreasing}
+use Rattle.std.proofs.Common.{◌≡◌, ℕ, ◌+◌, ◌<◌, ◌≤◌, ◌⊎◌, ⊎_elim, None, List, [], ◌∷◌, ◌++◌, length, get_or, All, Contains, sym, ap, ◌∙◌, arith, rules}
 use Rattle.std.proofs.lemmas.Bool.{cases_lt}
 use Rattle.std.proofs.lemmas.List.{length-map, map_push, length_push, get_or_push, get_or_append_left, get_or-map, take_all}
 use Rattle.std.proofs.lemmas.List.Elements.{All-push, All-contains, Contains-push, Contains-append_left}
-use Rattle.desk_model.specs.declared.block.BlockRow.{BlockRow}
-use Rattle.desk_model.specs.declared.geography.Pair.{Pair}
-use Rattle.desk_model.specs.claim.Geography.{GeographyModel, id_at}
-use Rattle.audit_clauses.specs.declared.breaks.Gap.{Gap}
-use Rattle.audit_clauses.specs.declared.breaks.Break.{Break}
-use Rattle.audit_clauses.specs.declared.lowest.Lowest.TheVariants.{Zero, One, Two}
-use Rattle.audit_clauses.specs.claim.Paths.{AreNeighbours, IsIn, AreJoined, HoldsTogether}
-use Rattle.audit_clauses.specs.Forest.{HasOneRoot, IsForest}
-use Rattle.audit_clauses.specs.Lowest.{IsRoot, AreLowest}
+use Rattle.desk_model.specs.{declared.block.BlockRow.BlockRow, declared.geography.Pair.Pair, claim.Geography.{GeographyModel, id_at}}
+use Rattle.audit_clauses.specs.{declared.breaks.Gap.Gap, declared.breaks.Break.Break, declared.lowest.Lowest.TheVariants.{Zero, One, Two}}
+use Rattle.audit_clauses.specs.{claim.Paths.{AreNeighbours, IsIn, AreJoined, HoldsTogether}, Forest.{HasOneRoot, IsForest}, Lowest.{IsRoot, AreLowest}}
 use Rattle.audit_clauses.specs.claim.Breaks.{IsLeast, IsApart, IsGap, IsBreak, IsBreakWithin, districts_of, AreBreaks}
 use Rattle.audit_clauses.proofs.Walks.{joined_on, joined_back, end_lies, same_joined}
 
@@ -99,14 +93,7 @@ two_apart g plan first last parents d a b from to forest two = record {
 pub gap_there : (g : GeographyModel) (plan : List ℕ) (first last : ℕ) (parents : List ℕ) (d a b : ℕ) (gap : Gap) → first ≤ d → d ≤ last
     → IsForest g.pairs plan first last (length g.pairs) parents → AreLowest parents plan (length plan) d (Two a b) → id_at g.blocks a ≡ gap.from → id_at g.blocks b ≡ gap.to
     → IsGap g plan d gap
-gap_there g plan first last parents d a b gap from to forest two from_id to_id = record {
-  from = a;
-  to = b;
-  from_id = from_id;
-  to_id = to_id;
-  least = two_least g.pairs plan first last parents d a b from to forest two;
-  apart = two_apart g plan first last parents d a b from to forest two;
-}
+gap_there g plan first last parents d a b gap from to forest two from_id to_id = search (rules, two_least, two_apart)
 
 -- the breaks of the first districts
 pub record AreTold (g : GeographyModel) (plan : List ℕ) (first last count : ℕ) (breaks : List Break) : Type 0 where
@@ -115,17 +102,8 @@ pub record AreTold (g : GeographyModel) (plan : List ℕ) (first last count : �
   pub broken : All (IsBreakWithin g plan first last) breaks
   pub whole : (d : ℕ) → first ≤ d → d < first + count → ¬ Contains (districts_of breaks) d → HoldsTogether g.pairs plan d
 
-rising_push : (xs : List ℕ) (y : ℕ) → IsStrictlyIncreasing xs → All (λ x. x < y) xs → IsStrictlyIncreasing (xs ++ y ∷ [])
-rising_push xs y rising below k less =
-    ⊎_elim
-    (λ (inside : k + 1 < length xs).
-    let e = get_or_append_left xs (y ∷ []) 0 k (omega arith) in
-    let f = get_or_append_left xs (y ∷ []) 0 (k + 1) inside in rw (e, f) (rising k inside))
-    (λ (last : length xs ≤ k + 1).
-    let at : length xs ≡ k + 1 = omega (arith, length_push xs y) in
-    let e = get_or_append_left xs (y ∷ []) 0 k (omega arith) in
-    let f = get_or_push xs y 0 (k + 1) at in rw (e, f) (below k 0 (omega arith)))
-    (cases_lt (k + 1) (length xs))
+pub rising_push : (xs : List ℕ) (y : ℕ) → IsStrictlyIncreasing xs → All (λ x. x < y) xs → IsStrictlyIncreasing (xs ++ y ∷ [])
+rising_push xs y rising below k less = search (rules, get_or_append_left, length_push, get_or_push, cases_lt)
 
 below_map : (breaks : List Break) (d : ℕ) → All (λ (b : Break). b.district < d) breaks → All (λ x. x < d) (districts_of breaks)
 below_map breaks d below k e less =

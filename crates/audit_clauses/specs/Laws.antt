@@ -1,9 +1,7 @@
 -- Laws of the breaks of a plan.
-use Rattle.std.specs.Prelude.{◌≡◌, ℕ, ◌+◌, ◌≤◌, ◌++◌, List, Contains}
-use Rattle.std.specs.List.Sorted.{IsStrictlyIncreasing}
+use Rattle.std.specs.{Prelude.{◌≡◌, ℕ, ◌+◌, ◌≤◌, ◌++◌, List, Contains}, List.Sorted.IsStrictlyIncreasing}
 use Rattle.desk_model.specs.claim.Geography.{GeographyModel}
-use Rattle.audit_clauses.specs.declared.breaks.Break.{Break}
-use Rattle.audit_clauses.specs.claim.Breaks.{AreBreaks}
+use Rattle.audit_clauses.specs.{declared.breaks.Break.Break, claim.Breaks.AreBreaks}
 
 -- a plan's breaks are one list
 abbrev pub BreaksAreOneList : Type 0

@@ -1,9 +1,7 @@
 -- Trees with the lowest roots of each district.
 use Rattle.std.specs.Prelude.{◌≡◌, ℕ, ◌+◌, ◌-◌, List, length}
 use Rattle.desk_model.specs.claim.Geography.{GeographyModel}
-use Rattle.audit_clauses.specs.declared.lowest.Lowest.{Lowest}
-use Rattle.audit_clauses.specs.Forest.{IsForest}
-use Rattle.audit_clauses.specs.Lowest.{AreAllLowest}
+use Rattle.audit_clauses.specs.{declared.lowest.Lowest.Lowest, Forest.IsForest, Lowest.AreAllLowest}
 
 -- the plan's trees over the blocks, and the lowest roots of its districts from first to last
 pub record AreRooted (g : GeographyModel) (plan : List ℕ) (first last : ℕ) (parents : List ℕ) (lowest : List Lowest) : Type 0 where

@@ -1,10 +1,7 @@
 -- The counties and cities that a plan divides, and the marks by which they are found.
 use Rattle.std.specs.Prelude.{◌≡◌, ℕ, ◌<◌, ◌≤◌, ◌^◌, List, length}
-use Rattle.desk_model.specs.declared.block.BlockRow.{BlockRow}
-use Rattle.desk_model.specs.claim.GeographyModels.{AreBlocks}
-use Rattle.audit_clauses.specs.declared.mark.GroupMark.{GroupMark}
-use Rattle.audit_clauses.specs.declared.splits.DividedGroups.{DividedGroups}
-use Rattle.audit_clauses.specs.claim.Exactly.{AreExactly}
+use Rattle.desk_model.specs.{declared.block.BlockRow.BlockRow, claim.GeographyModels.AreBlocks}
+use Rattle.audit_clauses.specs.{declared.mark.GroupMark.GroupMark, declared.splits.DividedGroups.DividedGroups, claim.Exactly.AreExactly}
 use Rattle.audit_clauses.specs.claim.Divided.{county_at, IsInCounty, IsInCity, IsDividedCounty, IsDividedCity, IsDividedWithinCounty}
 use Rattle.audit_clauses.specs.Marks.{AreUnseen, AreMarks, one_part, value_at}
 

@@ -1,21 +1,14 @@
 -- The pieces that are left when one is taken, and the breaks of all parts.
+use Rattle.std.specs.{Prelude.Vec, declared.alloc.Global.Global}
 use Rattle.std.proofs.Common.{◌≡◌, ◌≢◌, ℕ, ◌+◌, ◌-◌, ◌*◌, ◌/◌, ◌%◌, ◌<◌, ◌≤◌, min, List, ◌++◌, length, get_or, set, remove, sym, ap, ◌∙◌, subst, arith, ⊎_elim}
-use Rattle.std.specs.Prelude.{Vec}
-use Rattle.std.specs.declared.alloc.Global.{Global}
 use Rattle.std.proofs.Math.Nat.{mul-le-mul_left, div-add-mod, mod-lt}
 use Rattle.std.proofs.lemmas.Bool.{cases_lt, cases_eq}
 use Rattle.std.proofs.lemmas.List.{get_or_default, length-set, get_or-set_same, get_or-set_other}
 use Rattle.std.proofs.lemmas.List.Edits.{get_or-remove_below, length-remove}
-use Rattle.audit_clauses.specs.declared.breaks.Break.{Break}
-use Rattle.audit_clauses.specs.claim.Breaks.{AreBreaks}
-use Rattle.audit_clauses.specs.Laws.{BreaksFollow}
-use Rattle.audit_report.specs.declared.pieces.People.{People}
-use Rattle.audit_clauses.specs.declared.splits.DividedGroups.{DividedGroups}
-use Rattle.audit_report.specs.declared.pieces.Unnested.{Unnested}
-use Rattle.audit_report.specs.declared.work.Found.{Found}
-use Rattle.audit_report.specs.declared.work.Found.TheVariants as found
-use Rattle.audit_report.specs.Work.{Audit, IsPieceOf, IsFound, breaks_in}
+use Rattle.audit_clauses.specs.{declared.breaks.Break.Break, claim.Breaks.AreBreaks, Laws.BreaksFollow, declared.splits.DividedGroups.DividedGroups}
+use Rattle.audit_report.specs.{declared.pieces.People.People, declared.pieces.Unnested.Unnested, declared.work.Found.Found, Work.{Audit, IsPieceOf, IsFound, breaks_in}}
 use Rattle.audit_report.specs.Share.{AreNumberedBelow, IsHeld, AreShares, IsTaken, IsThere}
+use Rattle.audit_report.specs.declared.work.Found.TheVariants as found
 
 -- of two pieces of one worker the one before has the lower place
 place_before : (workers p q : ℕ) → 0 < workers → p % workers ≡ q % workers → p < q → p / workers < q / workers
@@ -78,29 +71,21 @@ found_at a pieces workers piece shares share x less held share_is x_is =
     subst (IsFound a piece) (sym e) ((held.each piece share less).is x)
 
 pub nesting_there : (a : Audit) (x : Found) → IsFound a 2 x → ((y : Unnested) → x ≡ found.Nesting y → ⊥) → ⊥
-nesting_there a (found.People x) is not_it = omega (arith, is.0)
-nesting_there a (found.Splits x) is not_it = omega (arith, is.0)
 nesting_there a (found.Nesting x) is not_it = not_it x (λ i. found.Nesting x)
-nesting_there a (found.Breaks x) is not_it = omega (arith, is.0)
+nesting_there a _ is not_it = omega (arith, is.0)
 
 pub splits_there : (a : Audit) (x : Found) → IsFound a 1 x → ((y : DividedGroups) → x ≡ found.Splits y → ⊥) → ⊥
-splits_there a (found.People x) is not_it = omega (arith, is.0)
 splits_there a (found.Splits x) is not_it = not_it x (λ i. found.Splits x)
-splits_there a (found.Nesting x) is not_it = omega (arith, is.0)
-splits_there a (found.Breaks x) is not_it = omega (arith, is.0)
+splits_there a _ is not_it = omega (arith, is.0)
 
 pub people_there : (a : Audit) (x : Found) → IsFound a 0 x → ((y : People) → x ≡ found.People y → ⊥) → ⊥
 people_there a (found.People x) is not_it = not_it x (λ i. found.People x)
-people_there a (found.Splits x) is not_it = omega (arith, is.0)
-people_there a (found.Nesting x) is not_it = omega (arith, is.0)
-people_there a (found.Breaks x) is not_it = omega (arith, is.0)
+people_there a _ is not_it = omega (arith, is.0)
 
 breaks_found : (a : Audit) (piece : ℕ) (x : Found) → 3 ≤ piece → IsFound a piece x
     → AreBreaks a.geography a.plan (16 * (piece - 3) + 1) (min (16 * (piece - 3) + 16) a.count) (breaks_in x)
-breaks_found a piece (found.People x) from is = absurd (omega (arith, is.0))
-breaks_found a piece (found.Splits x) from is = absurd (omega (arith, is.0))
-breaks_found a piece (found.Nesting x) from is = absurd (omega (arith, is.0))
 breaks_found a piece (found.Breaks x) from is = is.1
+breaks_found a piece _ from is = absurd (omega (arith, is.0))
 
 pub breaks_more : BreaksFollow → (a : Audit) (piece : ℕ) (so_far : List Break) (x : Found) → 3 ≤ piece → IsPieceOf a.count piece
     → AreBreaks a.geography a.plan 1 (min (16 * (piece - 3)) a.count) so_far → IsFound a piece x

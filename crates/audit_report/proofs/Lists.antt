@@ -1,12 +1,9 @@
 -- Lists as JSON, item by item.
+use Rattle.std.specs.declared.alloc.Global.{Global}
 use Rattle.std.proofs.Common.{◌≡◌, ℕ, zero, suc, ◌+◌, ◌<◌, List, [], ◌∷◌, ◌++◌, length, get_or, map, take, Vec, String, string_bytes, refl, ap, sym, ◌∙◌, arith, rules}
 use Rattle.std.proofs.lemmas.List.{map_push, map_more, take_all}
-use Rattle.std.specs.declared.alloc.Global.{Global}
-use Rattle.serde_json.specs.Data.{Data, array, string}
-use Rattle.serde_json.specs.View.{view, items_of}
-use Rattle.serde_json.specs.declared.value.Value.{Value, Array, the_lemmas}
+use Rattle.serde_json.{specs.Data.{Data, array, string}, specs.View.{view, items_of}, specs.declared.value.Value.{Value, Array, the_lemmas}, proofs.Views.view-Array}
 use Rattle.serde_json.specs.declared.value.Value as json
-use Rattle.serde_json.proofs.Views.{view-Array}
 use Rattle.audit_report.specs.claim.ReportText.{list_data}
 
 -- the values so far are those of the first items

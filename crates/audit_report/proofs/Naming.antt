@@ -1,13 +1,12 @@
 -- The broken clauses, one by one.
-use Rattle.std.proofs.Common.{◌≡◌, ℕ, ◌+◌, ◌<◌, ◌≤◌, Bool, true, false, IsTrue, zero, suc, List, [], ◌∷◌, ◌++◌, length, map, All, Contains, refl, ap, sym, ◌∙◌, subst, arith, ⊎_elim}
 use Rattle.std.specs.List.Sorted.{IsStrictlyIncreasing}
+use Rattle.std.proofs.Common.{◌≡◌, ℕ, ◌+◌, ◌<◌, ◌≤◌, Bool, true, false, IsTrue, zero, suc, List, [], ◌∷◌, ◌++◌, length, map, All, Contains, refl, ap, sym, ◌∙◌, subst, arith, ⊎_elim}
 use Rattle.std.proofs.lemmas.Bool.{cases_lt, cases_Bool, false≢true}
-use Rattle.std.proofs.lemmas.List.{append-nil, length-map, map_push, length_push, get_or_push, get_or_append_left, get_or-map}
+use Rattle.std.proofs.lemmas.List.{append-nil, length-map, map_push, get_or-map}
 use Rattle.std.proofs.lemmas.List.Elements.{All-push, All-nil, All-weaker, Contains-push, Contains-append_left}
-use Rattle.audit_report.specs.declared.clause.Clause.{Clause}
-use Rattle.audit_report.specs.declared.clause.Clause.TheVariants.{Complete, Mean, Range, Congress, Contiguous, Nested}
-use Rattle.audit_report.specs.claim.Clauses.{rank, AreExactlyClauses}
-use Rattle.audit_report.specs.Assembled.{noted}
+use Rattle.audit_report.specs.{declared.clause.Clause.Clause, declared.clause.Clause.TheVariants.{Complete, Mean, Range, Congress, Contiguous, Nested}}
+use Rattle.audit_report.specs.{claim.Clauses.{rank, AreExactlyClauses}, Assembled.noted}
+use Rattle.audit_clauses.proofs.Telling.{rising_push}
 
 -- the clauses of a lower rank of which this holds are named
 pub record AreNamed (Holds : Clause → Type 0) (count : ℕ) (clauses : List Clause) : Type 0 where
@@ -35,26 +34,10 @@ clause_at (suc (suc (suc (suc (suc k))))) = Nested
 pub at_rank : (c : Clause) → clause_at (rank c) ≡ c
 unfolding clause_at
 at_rank Complete = refl
-at_rank Mean = refl
-at_rank Range = refl
-at_rank Congress = refl
-at_rank Contiguous = refl
-at_rank Nested = refl
+at_rank _ = refl
 
 same_rank : (a b : Clause) → rank a ≡ rank b → a ≡ b
 same_rank a b e = sym (at_rank a) ∙ ap clause_at e ∙ at_rank b
-
-rising_push : (xs : List ℕ) (y : ℕ) → IsStrictlyIncreasing xs → All (λ x. x < y) xs → IsStrictlyIncreasing (xs ++ y ∷ [])
-rising_push xs y rising below k less =
-    ⊎_elim
-    (λ (inside : k + 1 < length xs).
-    let e = get_or_append_left xs (y ∷ []) 0 k (omega arith) in
-    let f = get_or_append_left xs (y ∷ []) 0 (k + 1) inside in rw (e, f) (rising k inside))
-    (λ (last : length xs ≤ k + 1).
-    let at : length xs ≡ k + 1 = omega (arith, length_push xs y) in
-    let e = get_or_append_left xs (y ∷ []) 0 k (omega arith) in
-    let f = get_or_push xs y 0 (k + 1) at in rw (e, f) (below k 0 (omega arith)))
-    (cases_lt (k + 1) (length xs))
 
 below_map : (clauses : List Clause) (count : ℕ) → All (λ (c : Clause). rank c < count) clauses → All (λ x. x < count) (map rank clauses)
 below_map clauses count below k d less =
@@ -92,11 +75,7 @@ named_more Holds count clauses told clause is holds tells was =
 
 rank_below : (c : Clause) → rank c < 6
 rank_below Complete = omega arith
-rank_below Mean = omega arith
-rank_below Range = omega arith
-rank_below Congress = omega arith
-rank_below Contiguous = omega arith
-rank_below Nested = omega arith
+rank_below _ = omega arith
 
 pub named_all : (Holds : Clause → Type 0) (clauses : List Clause) → AreNamed Holds 6 clauses → AreExactlyClauses Holds clauses
 named_all Holds clauses was = record {

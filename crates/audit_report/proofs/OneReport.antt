@@ -5,19 +5,11 @@ use Rattle.std.proofs.lemmas.List.{length-map, get_or-map}
 use Rattle.std.proofs.lemmas.List.Elements.{All-contains, Contains-get_or}
 use Rattle.desk_model.specs.declared.kind.Kind.{Kind}
 use Rattle.desk_model.specs.declared.kind.Kind.TheVariants as kind
-use Rattle.audit_clauses.specs.declared.deviations.Extremes.{Extremes}
-use Rattle.audit_clauses.specs.claim.People.{populations_of}
-use Rattle.audit_clauses.specs.claim.Clauses.{RangeBreaks, AreExtremes, IsFirstMostPopulous, IsFirstLeastPopulous}
-use Rattle.audit_clauses.specs.Laws.{BreaksAreOneList, RisingListsAreOne}
-use Rattle.audit_clauses.specs.claim.Exactly.{AreExactly}
-use Rattle.audit_clauses.specs.claim.Divided.{IsDividedCounty, IsDividedCity, IsDividedWithinCounty}
-use Rattle.audit_clauses.specs.claim.Nested.{BreaksNesting}
-use Rattle.audit_report.specs.declared.clause.Clause.{Clause}
-use Rattle.audit_report.specs.declared.clause.Clause.TheVariants.{Complete}
-use Rattle.audit_report.specs.claim.Clauses.{rank, IsNamed, AreExactlyClauses}
-use Rattle.audit_report.specs.Laws.{ReportIsOne}
-use Rattle.audit_report.specs.claim.Report.{IsRange, IsNesting, IsDividedBy}
-use Rattle.audit_report.proofs.Naming.{clause_at, at_rank}
+use Rattle.audit_clauses.specs.{declared.deviations.Extremes.Extremes, claim.People.populations_of}
+use Rattle.audit_clauses.specs.{claim.Clauses.{RangeBreaks, AreExtremes, IsFirstMostPopulous, IsFirstLeastPopulous}, Laws.{BreaksAreOneList, RisingListsAreOne}}
+use Rattle.audit_clauses.specs.{claim.Exactly.AreExactly, claim.Divided.{IsDividedCounty, IsDividedCity, IsDividedWithinCounty}, claim.Nested.BreaksNesting}
+use Rattle.audit_report.specs.{declared.clause.Clause.Clause, declared.clause.Clause.TheVariants.Complete, claim.Clauses.{rank, IsNamed, AreExactlyClauses}, Laws.ReportIsOne}
+use Rattle.audit_report.{specs.claim.Report.{IsRange, IsNesting, IsDividedBy}, proofs.Naming.{clause_at, at_rank}}
 
 from_ranks : (xs : List Clause) → map clause_at (map rank xs) ≡ xs
 from_ranks [] = refl
@@ -74,8 +66,7 @@ told_same populations (Some x) (Some y) is too = ap Some (extremes_same populati
 
 range_same : (k : Kind) (populations : List ℕ) (one other : Option Extremes) → IsRange k populations one → IsRange k populations other → one ≡ other
 range_same kind.Congress populations one other is too = is ∙ sym too
-range_same kind.Senate populations one other is too = told_same populations one other is too
-range_same kind.House populations one other is too = told_same populations one other is too
+range_same _ populations one other is too = told_same populations one other is too
 
 nesting_same : (n : ℕ) (plan : List ℕ) (companion : Option (List ℕ)) (one other : List ℕ) → RisingListsAreOne → IsNesting n plan companion one → IsNesting n plan companion other
     → one ≡ other

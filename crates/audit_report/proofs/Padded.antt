@@ -1,6 +1,5 @@
 -- Numbers with zeros before them.
-use Rattle.std.proofs.Common.{◌≡◌, ℕ, ◌-◌, ◌^◌, false, [], ◌++◌, length, replicate, ap, ◌∙◌, arith}
-use Rattle.std.specs.Fmt.{decimal, padded_integral, format_spec, char_count}
+use Rattle.std.{specs.Fmt.{decimal, padded_integral, format_spec, char_count}, proofs.Common.{◌≡◌, ℕ, ◌-◌, ◌^◌, false, [], ◌++◌, length, replicate, ap, ◌∙◌, arith}}
 use Rattle.std.proofs.lemmas.List.{append-nil}
 use Rattle.desk_model.specs.claim.Padded.{padded_decimal}
 

@@ -1,31 +1,19 @@
 -- From the pieces to the report.
+use Rattle.std.specs.{Option.option_copied, Borrow.Bor}
 use Rattle.std.proofs.Common.{◌≡◌, ℕ, ◌<◌, ◌≤◌, Bool, IsTrue, List, [], length, get_or, filter, Option, Some, None, option_map, is_some, MatchOption, refl, ap, sym, ◌∙◌, arith, ⊎_elim}
-use Rattle.std.specs.Option.{option_copied}
-use Rattle.std.specs.Borrow.{Bor}
 use Rattle.std.proofs.lemmas.Bool.{cases_lt, lt-ltb, ltb-true, false≢true, some_since, and_from}
 use Rattle.std.proofs.lemmas.List.{length-map}
 use Rattle.std.proofs.lemmas.List.FromFn.{length-map-range_with_len}
-use Rattle.desk_model.specs.declared.kind.Kind.{Kind}
+use Rattle.desk_model.specs.{declared.kind.Kind.Kind, declared.block.BlockRow.BlockRow, claim.Companions.takes, claim.Geography.GeographyModel}
 use Rattle.desk_model.specs.declared.kind.Kind.TheVariants as kind
-use Rattle.desk_model.specs.declared.block.BlockRow.{BlockRow}
-use Rattle.desk_model.specs.claim.Companions.{takes}
-use Rattle.desk_model.specs.claim.Geography.{GeographyModel}
-use Rattle.audit_clauses.specs.declared.deviations.Extremes.{Extremes}
-use Rattle.audit_clauses.specs.claim.People.{people_in, populations_of, state_people, districts}
-use Rattle.audit_clauses.specs.claim.Clauses.{deviates, RangeBreaks, AreExtremes}
-use Rattle.audit_clauses.specs.declared.breaks.Gap.{Gap}
-use Rattle.audit_clauses.specs.declared.breaks.Break.{Break}
-use Rattle.audit_clauses.specs.claim.Paths.{IsIn, HoldsTogether}
+use Rattle.audit_clauses.specs.{declared.deviations.Extremes.Extremes, claim.People.{people_in, populations_of, state_people, districts}}
+use Rattle.audit_clauses.specs.{claim.Clauses.{deviates, RangeBreaks, AreExtremes}, declared.breaks.Gap.Gap, declared.breaks.Break.Break, claim.Paths.{IsIn, HoldsTogether}}
 use Rattle.audit_clauses.specs.claim.Breaks.{IsGap, AreBreaks}
-use Rattle.audit_report.specs.declared.clause.Clause.{Clause}
-use Rattle.audit_report.specs.declared.clause.Clause.TheVariants.{Complete, Mean, Range, Congress, Contiguous, Nested}
+use Rattle.audit_report.specs.{declared.clause.Clause.Clause, declared.clause.Clause.TheVariants.{Complete, Mean, Range, Congress, Contiguous, Nested}}
 use Rattle.audit_report.specs.declared.pieces.Pieces.{Pieces}
 use Rattle.audit_report.specs.claim.Clauses.{is_house, is_congress, is_legislative, CongressBreaks, ContiguityBreaks, NestingBreaks, IsNamed, AreExactlyClauses}
-use Rattle.audit_report.specs.claim.Report.{congress_of, IsRange, IsNesting, not_asked_of}
-use Rattle.audit_report.specs.Pieces.{ArePeople, ReportsPieces}
-use Rattle.audit_report.specs.Assembled.{is_listed, found_clauses}
-use Rattle.audit_report.proofs.Counting.{has_from_count, count_from_has, filter_from_district, first_filtered}
-use Rattle.audit_report.proofs.Naming.{named_none, named_more, named_all}
+use Rattle.audit_report.specs.{claim.Report.{congress_of, IsRange, IsNesting, not_asked_of}, Pieces.{ArePeople, ReportsPieces}, Assembled.{is_listed, found_clauses}}
+use Rattle.audit_report.proofs.{Counting.{has_from_count, count_from_has, filter_from_district, first_filtered}, Naming.{named_none, named_more, named_all}}
 
 pub populations_long : (blocks : List BlockRow) (plan : List ℕ) (n : ℕ) (populations : List ℕ) → populations ≡ populations_of blocks plan n → length populations ≡ n
 populations_long blocks plan n populations same = ap length same ∙ length-map-range_with_len (people_in blocks plan) 1 n
@@ -40,13 +28,11 @@ extremes_from populations (Some e) is some = record { most = e.most; least = e.l
 
 range_holds : (k : Kind) (populations : List ℕ) (range : Option Extremes) → IsRange k populations range → IsTrue (is_some range) → IsTrue (is_legislative k) × RangeBreaks populations
 range_holds kind.Congress populations range is some = absurd (false≢true (ap is_some (sym is) ∙ some))
-range_holds kind.Senate populations range is some = (refl, extremes_from populations range is some)
-range_holds kind.House populations range is some = (refl, extremes_from populations range is some)
+range_holds _ populations range is some = (refl, extremes_from populations range is some)
 
 range_tells : (k : Kind) (populations : List ℕ) (range : Option Extremes) → IsRange k populations range → IsTrue (is_legislative k) → RangeBreaks populations → IsTrue (is_some range)
 range_tells kind.Congress populations range is applies breaks = absurd (false≢true applies)
-range_tells kind.Senate populations range is applies breaks = some_since range (¬ RangeBreaks populations) (AreExtremes populations) is (λ keeps. keeps breaks)
-range_tells kind.House populations range is applies breaks = some_since range (¬ RangeBreaks populations) (AreExtremes populations) is (λ keeps. keeps breaks)
+range_tells _ populations range is applies breaks = some_since range (¬ RangeBreaks populations) (AreExtremes populations) is (λ keeps. keeps breaks)
 
 none_listed : {X : Type 0} (xs : List X) → xs ≡ [] → ¬ IsTrue (is_listed xs)
 none_listed xs none listed = false≢true (ap is_listed (sym none) ∙ listed)
@@ -60,16 +46,14 @@ deviating_from populations total listed is some =
 congress_holds : (k : Kind) (populations : List ℕ) (total : ℕ) (listed : List ℕ) → listed ≡ congress_of k populations total → IsTrue (is_listed listed)
     → IsTrue (is_congress k) × CongressBreaks populations total
 congress_holds kind.Congress populations total listed is some = (refl, deviating_from populations total listed is some)
-congress_holds kind.Senate populations total listed is some = absurd (none_listed listed is some)
-congress_holds kind.House populations total listed is some = absurd (none_listed listed is some)
+congress_holds _ populations total listed is some = absurd (none_listed listed is some)
 
 congress_tells : (k : Kind) (populations : List ℕ) (total : ℕ) (listed : List ℕ) → listed ≡ congress_of k populations total → IsTrue (is_congress k) → CongressBreaks populations total
     → IsTrue (is_listed listed)
 congress_tells kind.Congress populations total listed is applies breaks =
     let some = filter_from_district (deviates populations total) (length populations) breaks.district breaks.is.0 breaks.is.1 (lt-ltb _ _ breaks.deviates) in
     lt-ltb 0 (length listed) (omega (arith, ap length is, some))
-congress_tells kind.Senate populations total listed is applies breaks = absurd (false≢true applies)
-congress_tells kind.House populations total listed is applies breaks = absurd (false≢true applies)
+congress_tells _ populations total listed is applies breaks = absurd (false≢true applies)
 
 apart : (g : GeographyModel) (plan : List ℕ) (d : ℕ) (gap : Option Gap) → MatchOption gap ((a : ℕ) → ¬ IsIn plan d a) (IsGap g plan d) → ¬ HoldsTogether g.pairs plan d
 apart g plan d None none holds = none holds.some.0 holds.some.1
@@ -104,8 +88,7 @@ nesting_tells n plan (Some c) listed is broken = let has = is.all broken.distric
 -- a plan that takes a senate plan beside it is a house plan
 house_takes : (k : Kind) → IsTrue (takes kind.Senate k) → IsTrue (is_house k)
 house_takes kind.Congress is = is
-house_takes kind.Senate is = is
-house_takes kind.House is = is
+house_takes _ is = is
 
 -- the clauses that the pieces found are those that apply and are broken
 named : (g : GeographyModel) (k : Kind) (n : ℕ) (plan : List ℕ) (companion : Option (List ℕ)) (p : Pieces) → (IsTrue (is_some companion) → IsTrue (takes kind.Senate k)) → ArePeople g k n plan p.people

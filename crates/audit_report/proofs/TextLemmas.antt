@@ -1,13 +1,8 @@
 -- A report has no float.
+use Rattle.std.specs.{Prelude.String, declared.alloc.AllocError.AllocError, declared.alloc.Global.Global}
 use Rattle.std.proofs.Common.{◌≡◌, false, ℕ, List, [], ◌∷◌, Option, Some, None, Result, Ok, Err, IfOk, refl, ap, ◌∙◌, string_bytes}
-use Rattle.std.specs.Prelude.{String}
-use Rattle.std.specs.declared.alloc.AllocError.{AllocError}
-use Rattle.std.specs.declared.alloc.Global.{Global}
-use Rattle.serde_json.specs.Data.{Data}
-use Rattle.serde_json.specs.Written.{has_float, compact_text}
-use Rattle.audit_clauses.specs.declared.deviations.Extremes.{Extremes}
-use Rattle.audit_clauses.specs.declared.breaks.Gap.{Gap}
-use Rattle.audit_clauses.specs.declared.breaks.Break.{Break}
+use Rattle.serde_json.specs.{Data.Data, Written.{has_float, compact_text}}
+use Rattle.audit_clauses.specs.{declared.deviations.Extremes.Extremes, declared.breaks.Gap.Gap, declared.breaks.Break.Break}
 use Rattle.audit_report.specs.claim.Figures.{Figures}
 use Rattle.audit_report.specs.claim.ReportText.{clause_data, code_data, number_data, list_data, gap_data, break_data, divided_data, range_data, report_data, report_text}
 

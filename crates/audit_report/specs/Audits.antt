@@ -1,9 +1,6 @@
 -- What can be audited.
 use Rattle.std.specs.Prelude.{◌≡◌, ℕ, List, length}
-use Rattle.desk_model.specs.declared.companions.Companions.{Companions}
-use Rattle.desk_model.specs.declared.kind.Kind.{Kind}
-use Rattle.desk_model.specs.Companions.{AreLong, AreTaken}
-use Rattle.desk_model.specs.claim.Geography.{GeographyModel}
+use Rattle.desk_model.specs.{declared.companions.Companions.Companions, declared.kind.Kind.Kind, Companions.{AreLong, AreTaken}, claim.Geography.GeographyModel}
 use Rattle.audit_clauses.specs.Counts.{IsCount}
 
 -- a plan of so many districts, with one or none for each block

@@ -2,8 +2,7 @@
 use Rattle.std.specs.Prelude.{codes}
 use Rattle.desk_model.specs.claim.Kind.{kind_name}
 use Rattle.serde_json.specs.Data.{string, Members, put}
-use Rattle.audit_report.specs.claim.Figures.{Figures}
-use Rattle.audit_report.specs.claim.ReportText.{clause_data, code_data, number_data, list_data, break_data, divided_data, range_data}
+use Rattle.audit_report.specs.{claim.Figures.Figures, claim.ReportText.{clause_data, code_data, number_data, list_data, break_data, divided_data, range_data}}
 
 abbrev pub last_members : Figures → Members → Members
 last_members r m =

@@ -1,10 +1,7 @@
 -- A law of reports.
 use Rattle.std.specs.Prelude.{◌≡◌, ℕ, List}
-use Rattle.desk_model.specs.declared.companions.Companions.{Companions}
-use Rattle.desk_model.specs.declared.kind.Kind.{Kind}
-use Rattle.desk_model.specs.claim.Geography.{GeographyModel}
-use Rattle.audit_report.specs.claim.Figures.{Figures}
-use Rattle.audit_report.specs.claim.Report.{IsReport}
+use Rattle.desk_model.specs.{declared.companions.Companions.Companions, declared.kind.Kind.Kind, claim.Geography.GeographyModel}
+use Rattle.audit_report.specs.{claim.Figures.Figures, claim.Report.IsReport}
 
 -- a plan has one report
 abbrev pub ReportIsOne : Type 0

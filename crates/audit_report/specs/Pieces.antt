@@ -1,18 +1,8 @@
 -- What the pieces of the work found.
 use Rattle.std.specs.Prelude.{◌≡◌, ℕ, Bool, IsTrue, List, option_map, is_some}
-use Rattle.desk_model.specs.declared.companions.Companions.{Companions}
-use Rattle.desk_model.specs.declared.kind.Kind.{Kind}
-use Rattle.desk_model.specs.Companions.{AreTaken}
-use Rattle.desk_model.specs.claim.Geography.{GeographyModel}
-use Rattle.audit_clauses.specs.claim.People.{populations_of, state_people}
-use Rattle.audit_clauses.specs.claim.Clauses.{MeanBreaks}
-use Rattle.audit_clauses.specs.claim.Breaks.{AreBreaks}
-use Rattle.audit_clauses.specs.Splits.{AreDividedGroups}
-use Rattle.audit_report.specs.declared.pieces.People.{People}
-use Rattle.audit_report.specs.declared.pieces.Unnested.{Unnested}
-use Rattle.audit_report.specs.declared.pieces.Pieces.{Pieces}
-use Rattle.audit_report.specs.claim.Clauses.{is_legislative}
-use Rattle.audit_report.specs.claim.Figures.{Figures}
+use Rattle.desk_model.specs.{declared.companions.Companions.Companions, declared.kind.Kind.Kind, Companions.AreTaken, claim.Geography.GeographyModel}
+use Rattle.audit_clauses.specs.{claim.People.{populations_of, state_people}, claim.Clauses.MeanBreaks, claim.Breaks.AreBreaks, Splits.AreDividedGroups}
+use Rattle.audit_report.specs.{declared.pieces.People.People, declared.pieces.Unnested.Unnested, declared.pieces.Pieces.Pieces, claim.Clauses.is_legislative, claim.Figures.Figures}
 use Rattle.audit_report.specs.claim.Report.{unassigned_of, congress_of, IsRange, IsNesting, IsDividedBy, IsReport}
 
 -- whether the clause of the mean applies and is broken

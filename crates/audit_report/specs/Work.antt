@@ -1,15 +1,8 @@
 -- An audit's work in numbered pieces.
 use Rattle.std.specs.Prelude.{◌≡◌, ℕ, ◌+◌, ◌-◌, ◌*◌, ◌<◌, ◌≤◌, min, List, [], Bool}
-use Rattle.desk_model.specs.declared.companions.Companions.{Companions}
-use Rattle.desk_model.specs.declared.kind.Kind.{Kind}
-use Rattle.desk_model.specs.claim.Geography.{GeographyModel}
-use Rattle.audit_clauses.specs.declared.breaks.Break.{Break}
-use Rattle.audit_clauses.specs.claim.Breaks.{AreBreaks}
-use Rattle.audit_clauses.specs.Parts.{Shown}
-use Rattle.audit_report.specs.declared.pieces.Pieces.{Pieces}
-use Rattle.audit_clauses.specs.Splits.{AreDividedGroups}
-use Rattle.audit_report.specs.Pieces.{ArePeople, AreUnnested, ArePieces}
-use Rattle.audit_report.specs.declared.work.Found.{Found}
+use Rattle.desk_model.specs.{declared.companions.Companions.Companions, declared.kind.Kind.Kind, claim.Geography.GeographyModel}
+use Rattle.audit_clauses.specs.{declared.breaks.Break.Break, claim.Breaks.AreBreaks, Parts.Shown, Splits.AreDividedGroups}
+use Rattle.audit_report.specs.{declared.pieces.Pieces.Pieces, Pieces.{ArePeople, AreUnnested, ArePieces}, declared.work.Found.Found}
 use Rattle.audit_report.specs.declared.work.Found.TheVariants as found
 
 -- a plan of count districts, with what it is judged by

@@ -1,9 +1,6 @@
 -- A printed text is read line by line.
-use Rattle.std.proofs.Common.{◌≡◌, ℕ, ◌+◌, ◌-◌, ◌<◌, ◌≤◌, ◌^◌, true, false, not, ◌&&◌, eqb, List, [], ◌∷◌, ◌++◌, map, length, get_or, zero, suc, refl, sym, ◌∙◌, ap, arith, All, Some, None, Result, Ok, append_assoc, append-nil, length-append}
-use Rattle.std.specs.Prelude.{codes, AllPairs}
-use Rattle.std.specs.Char.{is_ascii_digit}
-use Rattle.std.specs.List.{list_all, list_any, flat_map, zip}
-use Rattle.std.specs.Str.Lines.{lines, strip_carriage_return}
+use Rattle.std.specs.{Prelude.{codes, AllPairs}, Char.is_ascii_digit, List.{list_all, list_any, flat_map, zip}, Str.Lines.{lines, strip_carriage_return}}
+use Rattle.std.proofs.Common.{◌≡◌, ℕ, ◌+◌, ◌-◌, ◌<◌, ◌≤◌, ◌^◌, true, false, not, ◌&&◌, eqb, List, [], ◌∷◌, ◌++◌, map, length, get_or, zero, suc, refl, sym, ◌∙◌, ap, arith, All, Some, None, Result, Ok, append_assoc, append-nil, length-append, rules}
 use Rattle.std.proofs.Math.Dec.{eqb-suc-zero}
 use Rattle.std.proofs.lemmas.Bool.{ne_eqb, eq-eqb, and_parts, and_from, cond-true, cond-false, not-true}
 use Rattle.std.proofs.lemmas.Bool.Decides.{nat_tests}
@@ -11,23 +8,12 @@ use Rattle.std.proofs.lemmas.List.{length-map}
 use Rattle.std.proofs.lemmas.List.Folds.{list_any_at}
 use Rattle.std.proofs.lemmas.List.Kept.{AllPairs-from_increasing}
 use Rattle.std.proofs.lemmas.List.Elements.{All-cons, All-nil, All-append, All-head, All-tail}
-use Rattle.desk_model.specs.declared.kind.Kind.{Kind}
-use Rattle.desk_model.specs.declared.kind.Kind.TheVariants.{Congress, Senate, House}
-use Rattle.desk_model.specs.claim.Baf.{Values, Fault, value_at, header, fields_of, line_read, rows_read, body_read}
-use Rattle.desk_model.specs.claim.Padded.{padded_decimal}
-use Rattle.desk_model.specs.claim.Printed.{code_text, row_text, printed}
-use Rattle.desk_model.specs.claim.Geography.{GeographyModel, ids}
-use Rattle.desk_model.specs.claim.GeographyModels.{AreBlocks}
-use Rattle.desk_model.specs.declared.block.BlockRow.{BlockRow}
-use Rattle.byte_stream.specs.claim.Fields.{fields}
-use Rattle.byte_stream.proofs.TextLemmas.{lines-cut}
-use Rattle.desk_model.specs.claim.Sizes.{most_districts}
-use Rattle.baf_text.specs.Laws.{IsAssignment, PrintedIsRead}
-use Rattle.baf_text.specs.Listed.{listed_of}
-use Rattle.baf_text.proofs.Taken.{header_read}
-use Rattle.baf_text.proofs.Codes.{Writes, padded_writes, said, code_again, in_range_again}
-use Rattle.baf_text.proofs.Rows.{two_fields, fields_from_row}
-use Rattle.baf_text.proofs.Values.{value_at-push_other}
+use Rattle.desk_model.specs.{declared.kind.Kind.Kind, declared.kind.Kind.TheVariants.{Congress, Senate, House}}
+use Rattle.desk_model.specs.{claim.Baf.{Values, Fault, value_at, fields_of, line_read, rows_read, body_read}, claim.Padded.padded_decimal}
+use Rattle.desk_model.specs.{claim.Printed.{code_text, row_text, printed}, claim.Geography.{GeographyModel, ids}, claim.GeographyModels.AreBlocks, claim.Sizes.most_districts}
+use Rattle.byte_stream.{specs.claim.Fields.fields, proofs.TextLemmas.lines-cut}
+use Rattle.baf_text.{specs.Laws.{IsAssignment, PrintedIsRead}, specs.Listed.listed_of, proofs.Codes.{Writes, padded_writes, said, code_again, in_range_again}}
+use Rattle.baf_text.proofs.{Rows.{two_fields, fields_from_row}, Values.value_at-push_other}
 
 -- a byte that ends no line
 record IsInLine (b : ℕ) : Type 0 where
@@ -117,10 +103,7 @@ pub record AreNew (g : GeographyModel) (kind : Kind) (n : ℕ) (so_far : Values)
   pub districts : All (λ d. (d ≤ n) × (d ≤ most_districts kind)) ds
 
 first_of_rows : (kind : Kind) (g : GeographyModel) (n x d : ℕ) (so_far : Values) (xs ds : List ℕ) → AreNew g kind n so_far (x ∷ xs) (d ∷ ds) → IsPrintable kind (x, d)
-first_of_rows kind g n x d so_far xs ds are = record {
-  id = All-head (λ x. x < 10 ^ 15) x xs are.ids;
-  district = (All-head (λ d. (d ≤ n) × (d ≤ most_districts kind)) d ds are.districts).1;
-}
+first_of_rows kind g n x d so_far xs ds are = search (rules, All-head)
 
 later_rows : (kind : Kind) (g : GeographyModel) (n x d : ℕ) (so_far : Values) (xs ds : List ℕ) → AreNew g kind n so_far (x ∷ xs) (d ∷ ds) → AreNew g kind n (so_far ++ (x, d) ∷ []) xs ds
 later_rows kind g n x d so_far xs ds are = record {
@@ -158,12 +141,7 @@ rows_again kind g n at so_far (x ∷ xs) (d ∷ ds) are =
 
 -- the printed text, read
 pub printed_again : (kind : Kind) (g : GeographyModel) (n : ℕ) (f : List ℕ) → AreNew g kind n [] (ids g) f → body_read g n (printed g kind f) ≡ Ok (zip (ids g) f)
-printed_again kind g n f are =
-    header_read g n (printed g kind f) header (map (row_line kind) (zip (ids g) f))
-    (line_cut header (flat_map (row_text kind) (zip (ids g) f)) (in_line header refl)
-    ∙ ap (λ (rows : List (List ℕ)). header ∷ rows) (rows_cut kind (zip (ids g) f) (rows_printable kind g n [] (ids g) f are)))
-    refl
-    ∙ rows_again kind g n 2 [] (ids g) f are
+printed_again kind g n f are = search (rules, line_cut, in_line, rows_cut, rows_printable, rows_again)
 
 same_cons : {A : Type 0} (x y : A) (xs ys : List A) → x ≡ y → xs ≡ ys → x ∷ xs ≡ y ∷ ys
 same_cons x y xs ys first more = ap (λ a. a ∷ xs) first ∙ ap (λ rest. y ∷ rest) more
@@ -199,18 +177,10 @@ districts_small kind n f most in' = λ k e inside. (in' k e inside, omega (arith
 
 new_at_first : (g : GeographyModel) (kind : Kind) (n : ℕ) (f : List ℕ) → AreBlocks g.blocks → All (λ id. id < 10 ^ 15) (ids g) → n ≤ most_districts kind → IsAssignment g n f
     → AreNew g kind n [] (ids g) f
-new_at_first g kind n f blocks small most is = record {
-  same = is.whole ∙ sym (length-map g.blocks (λ (b : BlockRow). b.id));
-  rising = AllPairs-from_increasing (ids g) blocks.rising;
-  known = λ k e inside. list_any_at (λ id. eqb id (get_or (ids g) k e)) (ids g) k e inside (eq-eqb (get_or (ids g) k e) (get_or (ids g) k e) refl);
-  unlisted = λ k e inside. refl;
-  ids = small;
-  districts = districts_small kind n f most is.in_range;
-}
+new_at_first g kind n f blocks small most is = search (rules, length-map, AllPairs-from_increasing, list_any_at, eq-eqb, districts_small)
 
 values_again : (g : GeographyModel) (n : ℕ) (f : List ℕ) → AreBlocks g.blocks → IsAssignment g n f → listed_of g (zip (ids g) f) ≡ map (λ d. Some d) f
-values_again g n f blocks is =
-    listed_again (ids g) f (is.whole ∙ sym (length-map g.blocks (λ (b : BlockRow). b.id))) (AllPairs-from_increasing (ids g) blocks.rising)
+values_again g n f blocks is = search (rules, listed_again, length-map, AllPairs-from_increasing)
 
 pub printed_is_read : PrintedIsRead
 printed_is_read g kind n f blocks small most is = record {

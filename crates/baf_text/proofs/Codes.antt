@@ -1,26 +1,16 @@
 -- The fields of a printed line, as they are read.
-use Rattle.std.proofs.Common.{◌≡◌, ℕ, ◌-◌, ◌<◌, ◌≤◌, ◌^◌, true, false, cond, ◌&&◌, eqb, List, ◌++◌, length, replicate, zero, suc, refl, ◌∙◌, ap, arith, Option, Some, None}
-use Rattle.std.specs.Prelude.{codes, nat_eq}
-use Rattle.std.specs.Char.{is_ascii_digit}
-use Rattle.std.specs.Fmt.{decimal}
-use Rattle.std.specs.List.{list_all}
-use Rattle.std.specs.Cmp.Lexicographic.{pointwise}
-use Rattle.std.specs.Str.Parse.{digits_value}
+use Rattle.std.specs.{Prelude.nat_eq, Char.is_ascii_digit, Fmt.decimal, List.list_all, Cmp.Lexicographic.pointwise, Str.Parse.digits_value}
+use Rattle.std.proofs.Common.{◌≡◌, ℕ, ◌-◌, ◌<◌, ◌≤◌, ◌^◌, true, false, cond, eqb, List, ◌++◌, length, replicate, zero, suc, refl, ◌∙◌, arith, Option, Some, None, rules}
 use Rattle.std.proofs.Math.Dec.{eqb-suc-zero}
 use Rattle.std.proofs.lemmas.Bool.{ne_eqb, eqb-true, le-leb, and_from, and_parts, false_from_ne_true}
 use Rattle.std.proofs.lemmas.Option.{cond_some}
 use Rattle.std.proofs.lemmas.Slice.Eq.{bytes_eq-Decides}
 use Rattle.std.proofs.lemmas.List.Folds.{list_all-append}
 use Rattle.std.proofs.lemmas.Fmt.{length-decimal-le, digits_decimal, digits_value-decimal}
-use Rattle.desk_model.specs.declared.kind.Kind.{Kind}
-use Rattle.desk_model.specs.declared.kind.Kind.TheVariants.{Congress, Senate, House}
-use Rattle.desk_model.specs.claim.Baf.{code_value, in_range}
-use Rattle.desk_model.specs.claim.Padded.{padded_decimal}
-use Rattle.desk_model.specs.claim.Printed.{code_text}
-use Rattle.desk_model.specs.claim.Sizes.{most_districts}
+use Rattle.desk_model.specs.{declared.kind.Kind.Kind, declared.kind.Kind.TheVariants.{Congress, Senate, House}, claim.Baf.{code_value, in_range}, claim.Padded.padded_decimal}
+use Rattle.desk_model.specs.{claim.Printed.code_text, claim.Sizes.most_districts}
 use Rattle.byte_stream.specs.claim.Digits.{number_of_digits}
-use Rattle.baf_text.proofs.Printing.{length-padded}
-use Rattle.baf_text.proofs.Rows.{own}
+use Rattle.baf_text.proofs.{Printing.length-padded, Rows.own}
 
 -- so many digits, which write n
 pub record Writes (width n : ℕ) (text : List ℕ) : Type 0 where
@@ -48,25 +38,13 @@ padded_writes width n some small word = record {
 
 -- digits aren't letters
 no_letters : (text letters : List ℕ) → list_all is_ascii_digit text ≡ true → list_all is_ascii_digit letters ≡ false → pointwise nat_eq text letters ≡ false
-no_letters text letters digits not = false_from_ne_true _ (λ same.
-    let e : list_all is_ascii_digit text ≡ list_all is_ascii_digit letters = ap (list_all is_ascii_digit) ((bytes_eq-Decides text letters).0 same) in
-    cc)
+no_letters text letters digits not = search (rules, false_from_ne_true, bytes_eq-Decides)
 
 code_of_digits : (width n : ℕ) (text : List ℕ) → 0 < width → width ≤ 3 → Writes width n text → code_value text ≡ Some (Some n)
-code_of_digits width n text some few w =
-    rw (
-      ne_eqb (length text) 0 (λ e. omega (arith, w.long)),
-      no_letters text (codes "ZZ") w.digits refl,
-      no_letters text (codes "ZZZ") w.digits refl,
-      le-leb (length text) 3 (omega (arith, w.long)),
-      w.digits,
-    ) (ap (λ (v : ℕ). Some (Some v)) w.value)
+code_of_digits width n text some few w = search (rules, ne_eqb, no_letters, le-leb)
 
 pub code_of_three : (code : List ℕ) (v : ℕ) → number_of_digits 3 code ≡ Some v → code_value code ≡ Some (Some v)
-code_of_three code v is =
-    let got = cond_some ((eqb (length code) 3) && list_all is_ascii_digit code) (digits_value 10 code) v is in
-    let tests = and_parts (eqb (length code) 3) (list_all is_ascii_digit code) got.0 in
-    code_of_digits 3 v code (omega arith) (omega arith) (record { long = eqb-true (length code) 3 tests.0; digits = tests.1; value = got.1 })
+code_of_three code v is = search (rules, cond_some, and_parts, code_of_digits, eqb-true)
 
 -- what a code says: nothing, or the district
 abbrev pub said : ℕ → Option ℕ

@@ -1,16 +1,11 @@
 -- A printed line: how long it is, and what the next line has of it.
-use Rattle.std.proofs.Common.{set, ◌≤◌, ◌≡◌, ℕ, zero, suc, ◌+◌, ◌-◌, ◌/◌, ◌%◌, ◌<◌, ◌^◌, List, [], ◌∷◌, ◌++◌, length, replicate, refl, sym, ◌∙◌, ap, arith, inl, inr, append_assoc, length-append}
-use Rattle.std.specs.Fmt.{decimal}
+use Rattle.std.proofs.Common.{set, ◌≤◌, ◌≡◌, ℕ, zero, suc, ◌+◌, ◌-◌, ◌/◌, ◌%◌, ◌<◌, ◌^◌, List, [], ◌∷◌, ◌++◌, length, replicate, refl, ◌∙◌, ap, arith, append_assoc, length-append, rules}
 use Rattle.std.proofs.Math.Dec.{eqb-suc-zero}
 use Rattle.std.proofs.lemmas.Bool.{cases_lt}
 use Rattle.std.proofs.lemmas.Fmt.{decimal_digit, decimal_step, length-decimal-le}
-use Rattle.desk_model.specs.declared.kind.Kind.{Kind}
-use Rattle.desk_model.specs.declared.kind.Kind.TheVariants.{Congress, Senate, House}
-use Rattle.desk_model.specs.claim.Padded.{padded_decimal}
-use Rattle.desk_model.specs.claim.Printed.{code_text, row_text}
+use Rattle.desk_model.specs.{declared.kind.Kind.Kind, declared.kind.Kind.TheVariants.{Congress, Senate, House}, claim.Padded.padded_decimal, claim.Printed.{code_text, row_text}}
 use Rattle.desk_model.specs.claim.Sizes.{most_districts}
-use Rattle.baf_text.specs.Ends.{line_length}
-use Rattle.baf_text.proofs.Printing.{length-padded}
+use Rattle.baf_text.{specs.Ends.line_length, proofs.Printing.length-padded}
 
 one_zero_more : (m : ℕ) → replicate {A = ℕ} (suc m) 48 ≡ replicate {A = ℕ} m 48 ++ 48 ∷ []
 one_zero_more zero = refl
@@ -25,20 +20,11 @@ by_zeros (suc m) n ds ts some small is tens =
     rw (is, tens, a, b) (ap (λ (t : List ℕ). t ++ (48 + n) ∷ []) (one_zero_more m))
 
 by_digits : (k c : ℕ) (ds ts : List ℕ) → ds ≡ ts ++ c ∷ [] → replicate (k + 1 - length ds) 48 ++ ds ≡ (replicate (k - length ts) 48 ++ ts) ++ c ∷ []
-by_digits k c ds ts is =
-    let same : k + 1 - length ds ≡ k - length ts = omega (arith, ap length is, length-append ts (c ∷ [])) in
-    ap (λ (j : ℕ). replicate j 48 ++ ds) same ∙ ap (λ (t : List ℕ). replicate (k - length ts) 48 ++ t) is ∙ sym (append_assoc (replicate (k - length ts) 48) ts (c ∷ []))
+by_digits k c ds ts is = search (rules, length-append, append_assoc)
 
 -- the last digit of a number that has zeros before it
 padded_step : (k n : ℕ) → 0 < k → n < 2 ^ 64 → padded_decimal (k + 1) n ≡ padded_decimal k (n / 10) ++ (48 + n % 10) ∷ []
-padded_step k n some word =
-    elim (cases_lt n 10) [
-      | inl small ↦
-          let none : n / 10 ≡ 0 = omega arith in
-          let whole : n % 10 ≡ n = omega arith in
-          rw (none, whole) (by_zeros k n (decimal n) (decimal 0) some small (decimal_digit n small) (decimal_digit 0 (omega arith)))
-      | inr large ↦ by_digits k (48 + n % 10) (decimal n) (decimal (n / 10)) (decimal_step n large word)
-    ]
+padded_step k n some word = search (rules, cases_lt, by_zeros, decimal_digit, by_digits, decimal_step)
 
 -- a number with just so many digits, zeros before it
 pub length_within : (width n : ℕ) → 0 < width → n < 10 ^ width → n < 2 ^ 64 → length (padded_decimal width n) ≡ width
@@ -53,14 +39,7 @@ length_code Senate (suc d) small = rw (eqb-suc-zero d, length_within 3 (suc d) (
 length_code House (suc d) small = rw (eqb-suc-zero d, length_within 3 (suc d) (omega arith) (omega arith) (omega arith)) refl
 
 pub length_row : (kind : Kind) (id d : ℕ) → id < 10 ^ 15 → d ≤ most_districts kind → length (row_text kind (id, d)) ≡ line_length kind
-length_row kind id d block small =
-    omega (
-      arith,
-      length-append (padded_decimal 15 id ++ 124 ∷ code_text kind d) (10 ∷ []),
-      length-append (padded_decimal 15 id) (124 ∷ code_text kind d),
-      length_within 15 id (omega arith) block (omega (arith, block)),
-      length_code kind d small,
-    )
+length_row kind id d block small = search (rules, length-append, length_within, length_code)
 
 -- the bytes after a prefix
 two_set : (p : List ℕ) (n a b x y : ℕ) (rest : List ℕ) → n ≡ length p → set (set (p ++ a ∷ b ∷ rest) n x) (n + 1) y ≡ p ++ x ∷ y ∷ rest
@@ -84,23 +63,14 @@ padded_cut n word =
 
 row_cut : (kind : Kind) (n d : ℕ) → n < 2 ^ 64
     → row_text kind (n, d) ≡ padded_decimal 13 (n / 100) ++ (48 + n / 10 % 10) ∷ (48 + n % 10) ∷ 124 ∷ (code_text kind d ++ 10 ∷ [])
-row_cut kind n d word =
-    ap (λ (t : List ℕ). (t ++ 124 ∷ code_text kind d) ++ 10 ∷ []) (padded_cut n word)
-    ∙ ap (λ (t : List ℕ). t ++ 10 ∷ []) (append_assoc (padded_decimal 13 (n / 100)) ((48 + n / 10 % 10) ∷ (48 + n % 10) ∷ []) (124 ∷ code_text kind d))
-    ∙ append_assoc (padded_decimal 13 (n / 100)) ((48 + n / 10 % 10) ∷ (48 + n % 10) ∷ 124 ∷ code_text kind d) (10 ∷ [])
+row_cut kind n d word = search (rules, padded_cut, append_assoc)
 
 -- the line of a block whose number has other last two digits
 pub row_turned : (kind : Kind) (old new d x y : ℕ) (cells : List ℕ) → new < 10 ^ 15 → old / 100 ≡ new / 100 → cells ≡ row_text kind (old, d)
     → x ≡ 48 + new / 10 % 10 → y ≡ 48 + new % 10 → set (set cells 13 x) 14 y ≡ row_text kind (new, d)
-row_turned kind old new d x y cells block near is tens ones =
-    rw (is, tens, ones, row_cut kind old d (omega (arith, near, block)), row_cut kind new d (omega (arith, block)), near)
-    (two_set (padded_decimal 13 (new / 100)) 13 (48 + old / 10 % 10) (48 + old % 10) (48 + new / 10 % 10) (48 + new % 10) (124 ∷ (code_text kind d ++ 10 ∷ []))
-    (sym (length_within 13 (new / 100) (omega arith) (omega (arith, block)) (omega (arith, block)))))
+row_turned kind old new d x y cells block near is tens ones = search (rules, row_cut, two_set, length_within)
 
 -- a block's number that has other last two digits
 pub number_turned : (old new x y : ℕ) (cells : List ℕ) → new < 10 ^ 15 → old / 100 ≡ new / 100 → cells ≡ padded_decimal 15 old
     → x ≡ 48 + new / 10 % 10 → y ≡ 48 + new % 10 → set (set cells 13 x) 14 y ≡ padded_decimal 15 new
-number_turned old new x y cells block near is tens ones =
-    rw (is, tens, ones, padded_cut old (omega (arith, near, block)), padded_cut new (omega (arith, block)), near)
-    (two_set (padded_decimal 13 (new / 100)) 13 (48 + old / 10 % 10) (48 + old % 10) (48 + new / 10 % 10) (48 + new % 10) []
-    (sym (length_within 13 (new / 100) (omega arith) (omega (arith, block)) (omega (arith, block)))))
+number_turned old new x y cells block near is tens ones = search (rules, padded_cut, two_set, length_within)

@@ -1,18 +1,13 @@
 -- The first line with a fault.
-use Rattle.std.proofs.Common.{◌≡◌, ◌≢◌, ◌⊎◌, inl, inr, ⊎_elim, ℕ, ◌+◌, true, false, eqb, List, [], ◌∷◌, ◌++◌, length, suc, refl, sym, ◌∙◌, ap, arith, add-zero, Some, Result, Ok, Err}
-use Rattle.std.specs.Prelude.{nat_eq}
-use Rattle.std.specs.Cmp.Lexicographic.{pointwise}
-use Rattle.std.specs.Str.Lines.{lines}
+use Rattle.std.specs.{Prelude.nat_eq, Cmp.Lexicographic.pointwise, Str.Lines.lines}
+use Rattle.std.proofs.Common.{◌≡◌, ◌≢◌, ◌⊎◌, inl, inr, ⊎_elim, ℕ, ◌+◌, true, false, eqb, List, [], ◌∷◌, ◌++◌, length, suc, refl, sym, ◌∙◌, ap, arith, add-zero, Result, Ok, Err, rules}
 use Rattle.std.proofs.lemmas.Bool.{cases_Bool, both_ways, eqb-false, ne_eqb, false_from_ne_true}
 use Rattle.std.proofs.lemmas.Option.{same_Some}
 use Rattle.std.proofs.lemmas.Slice.Eq.{bytes_eq-Decides}
-use Rattle.desk_model.specs.declared.reply.BodyFault.{BodyFault}
-use Rattle.desk_model.specs.declared.reply.BodyFault.TheVariants.{Header}
-use Rattle.desk_model.specs.claim.Baf.{Values, Fault, header, fields_of, line_read, at_line, rows_read, with_header}
-use Rattle.desk_model.specs.claim.Geography.{GeographyModel}
+use Rattle.desk_model.specs.{declared.reply.BodyFault.BodyFault, declared.reply.BodyFault.TheVariants.Header}
+use Rattle.desk_model.specs.{claim.Baf.{Values, Fault, header, fields_of, line_read, at_line, rows_read, with_header}, claim.Geography.GeographyModel}
 use Rattle.byte_stream.specs.claim.Fields.{fields}
-use Rattle.baf_text.specs.Body.{IsBody, IsFaultyLine, HasNoHeader, FaultIsFirst}
-use Rattle.baf_text.proofs.Listing.{body_lists, body_listed, goes_on}
+use Rattle.baf_text.{specs.Body.{IsBody, IsFaultyLine, HasNoHeader, FaultIsFirst}, proofs.Listing.{body_lists, body_listed, goes_on}}
 
 -- the lines up to a fault, read from some values on
 record FaultIn (g : GeographyModel) (n at : ℕ) (so_far : Values) (ls : List (List ℕ)) (code : BodyFault) (told : ℕ) : Type 0 where
@@ -68,18 +63,13 @@ rows_fault g n at so_far (line ∷ ls) code told is = ⊎_elim
     by_line : eqb (length line) 0 ≡ false → (r : Result Values BodyFault) → line_read g n so_far (fields_of (fields line)) ≡ r
         → at_line at r (λ next. rows_read g n (at + 1) next ls) ≡ Err (code, told)
         → ((next : Values) → rows_read g n (at + 1) next ls ≡ Err (code, told) → FaultIn g n (at + 1) next ls code told) → FaultIn g n at so_far (line ∷ ls) code told
-    by_line bytes (Ok next) read is later =
-        fault_later g n at so_far next line ls code told (λ more. rw (bytes, read) refl) (later next is)
-    by_line bytes (Err e) read is later =
-        let both : ◌≡◌ {A = Fault} (e, at) (code, told) = cc in
-        fault_here g n at so_far line ls code told (eqb-false (length line) 0 bytes) (read ∙ ap (λ (f : Fault). Err f.0) both) (ap (λ (f : Fault). f.1) both)
+    by_line bytes (Ok next) read is later = search (rules, fault_later)
+    by_line bytes (Err e) read is later = search (rules, fault_here, eqb-false)
 
 -- the lines after those that were read
 rows_after : (g : GeographyModel) (n at : ℕ) (so_far : Values) (xs ys : List (List ℕ)) (values : Values) → rows_read g n at so_far xs ≡ Ok values
     → rows_read g n at so_far (xs ++ ys) ≡ rows_read g n (at + length xs) values ys
-rows_after g n at so_far [] ys values ok =
-    let same : so_far ≡ values = cc in
-    ap (λ k. rows_read g n k so_far ys) (sym (add-zero at)) ∙ ap (λ (v : Values). rows_read g n (at + 0) v ys) same
+rows_after g n at so_far [] ys values ok = search (rules, add-zero)
 rows_after g n at so_far (line ∷ xs) ys values ok =
     ⊎_elim
     (λ (empty : eqb (length line) 0 ≡ true).
@@ -93,9 +83,7 @@ rows_after g n at so_far (line ∷ xs) ys values ok =
     further = ap (λ k. rows_read g n k values ys) (omega arith)
 
 told_first : (g : GeographyModel) (n : ℕ) (ls : List (List ℕ)) (code : BodyFault) (at : ℕ) → with_header g n ls ≡ Err (code, at) → HasNoHeader ls code at ⊎ IsFaultyLine g n ls code at
-told_first g n [] code at is =
-    let both : ◌≡◌ {A = Fault} (Header, 1) (code, at) = cc in
-    inl (record { told = sym (ap (λ (f : Fault). f.0) both); number = sym (ap (λ (f : Fault). f.1) both); first = λ e. cc })
+told_first g n [] code at is = search rules
 told_first g n (first ∷ more) code at is = ⊎_elim
     (λ (same : pointwise nat_eq first header ≡ true).
     let f = rows_fault g n 2 [] more code at (rw same at is) in
@@ -123,10 +111,7 @@ told_first g n (first ∷ more) code at is = ⊎_elim
 
 header_told : (g : GeographyModel) (n : ℕ) (ls : List (List ℕ)) (code : BodyFault) (at : ℕ) → HasNoHeader ls code at → with_header g n ls ≡ Err (code, at)
 header_told g n [] code at is = ap (λ (c : BodyFault). Err (c, 1)) (sym is.told) ∙ ap (λ (k : ℕ). Err (code, k)) (sym is.number)
-header_told g n (first ∷ more) code at is =
-    let other : pointwise nat_eq first header ≡ false = false_from_ne_true (pointwise nat_eq first header)
-    (λ same. is.first (ap (λ (line : List ℕ). Some line) ((bytes_eq-Decides first header).0 same))) in
-    rw other (ap (λ (c : BodyFault). Err (c, 1)) (sym is.told) ∙ ap (λ (k : ℕ). Err (code, k)) (sym is.number))
+header_told g n (first ∷ more) code at is = search (rules, false_from_ne_true, bytes_eq-Decides)
 
 line_told : (g : GeographyModel) (n : ℕ) (before : List (List ℕ)) (line : List ℕ) (after : List (List ℕ)) (values : Values) (code : BodyFault) → IsBody g n before values
     → length line ≢ 0 → line_read g n values (fields_of (fields line)) ≡ Err code → with_header g n (before ++ line ∷ after) ≡ Err (code, length before + 1)
@@ -138,11 +123,7 @@ line_told g n (first ∷ before) line after values code body bytes fault =
     rw same (rows_after g n 2 [] before (line ∷ after) values ok ∙ rw (some, fault) (ap (λ (k : ℕ). Err (code, k)) (omega arith)))
 
 first_told : (g : GeographyModel) (n : ℕ) (ls : List (List ℕ)) (code : BodyFault) (at : ℕ) → HasNoHeader ls code at ⊎ IsFaultyLine g n ls code at → with_header g n ls ≡ Err (code, at)
-first_told g n ls code at is = ⊎_elim
-    (header_told g n ls code at)
-    (λ (l : IsFaultyLine g n ls code at).
-    ap (with_header g n) l.cut ∙ line_told g n l.before l.line l.after l.values code l.body l.bytes l.fault ∙ ap (λ (k : ℕ). Err (code, k)) (sym l.number))
-    is
+first_told g n ls code at is = search (rules, header_told, line_told)
 
 pub fault_is_first : FaultIsFirst
 fault_is_first g n text code at = (told_first g n (lines text) code at, first_told g n (lines text) code at)

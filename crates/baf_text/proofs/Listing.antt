@@ -1,9 +1,6 @@
 -- The lines' own values, and what the reading of them in turn gives.
-use Rattle.std.proofs.Common.{◌≡◌, ◌≢◌, ℕ, ◌+◌, Bool, true, false, not, cond, eqb, List, [], ◌∷◌, ◌++◌, map, filter, length, get_or, zero, suc, refl, sym, ◌∙◌, ap, arith, All, Contains, Option, Some, None, Result, Ok, Err, is_some, append_assoc, ⊎_elim}
-use Rattle.std.specs.Prelude.{AllPairs, nat_eq}
-use Rattle.std.specs.List.{list_any}
-use Rattle.std.specs.Cmp.Lexicographic.{pointwise}
-use Rattle.std.specs.Str.Lines.{lines}
+use Rattle.std.specs.{Prelude.{AllPairs, nat_eq}, List.list_any, Cmp.Lexicographic.pointwise, Str.Lines.lines}
+use Rattle.std.proofs.Common.{◌≡◌, ◌≢◌, ℕ, ◌+◌, Bool, true, false, not, cond, eqb, List, [], ◌∷◌, ◌++◌, map, filter, length, get_or, zero, suc, refl, sym, ◌∙◌, ap, arith, All, Contains, Option, Some, None, Result, Ok, Err, is_some, append_assoc, ⊎_elim, rules}
 use Rattle.std.proofs.lemmas.Bool.{eq-eqb, eqb-true, cases_Bool}
 use Rattle.std.proofs.lemmas.List.{append-nil, get_or_default}
 use Rattle.std.proofs.lemmas.Option.{same_Some}
@@ -11,13 +8,10 @@ use Rattle.std.proofs.lemmas.List.Elements.{All-cons, All-nil, All-head, All-tai
 use Rattle.std.proofs.lemmas.List.Folds.{list_any_at, Any-from_list_any}
 use Rattle.std.proofs.lemmas.List.Kept.{AllPairs-cons}
 use Rattle.std.proofs.lemmas.Slice.Eq.{bytes_eq-Decides}
-use Rattle.desk_model.specs.declared.reply.BodyFault.{BodyFault}
-use Rattle.desk_model.specs.declared.reply.BodyFault.TheVariants.{UnknownBlock, RepeatedBlock}
-use Rattle.desk_model.specs.claim.Baf.{Values, value_at, header, fields_of, in_range, placed, line_read, at_line, rows_read, with_header}
-use Rattle.desk_model.specs.claim.Geography.{GeographyModel, ids}
+use Rattle.desk_model.specs.{declared.reply.BodyFault.BodyFault, declared.reply.BodyFault.TheVariants.{UnknownBlock, RepeatedBlock}}
+use Rattle.desk_model.specs.{claim.Baf.{Values, value_at, header, fields_of, in_range, placed, line_read, at_line, rows_read, with_header}, claim.Geography.{GeographyModel, ids}}
 use Rattle.byte_stream.specs.claim.Fields.{fields}
-use Rattle.baf_text.specs.Body.{with_district, value_of, IsBody, ReadIsListed}
-use Rattle.baf_text.proofs.Values.{value_at-push_other}
+use Rattle.baf_text.{specs.Body.{with_district, value_of, IsBody, ReadIsListed}, proofs.Values.value_at-push_other}
 
 -- a line's fields add this block with its district
 pub record Adds (g : GeographyModel) (n : ℕ) (so_far : Values) (f : Option (ℕ × Option ℕ)) (e : ℕ × ℕ) : Type 0 where
@@ -32,12 +26,7 @@ line_added g n so_far (Some x) e adds = by_range (in_range n x.1) adds.value
     by_range : (d : Option ℕ) → with_district x.0 d ≡ Some e
         → ◌≡◌ {A = Result Values BodyFault} (cond (not (list_any (λ id. eqb id x.0) (ids g))) (Err UnknownBlock) (cond (is_some (value_at so_far x.0)) (Err RepeatedBlock) (placed so_far x.0 d))) (Ok (so_far ++ e ∷ []))
     by_range None is = cc
-    by_range (Some d) is =
-        let pair : ◌≡◌ {A = ℕ × ℕ} (x.0, d) e = cc in
-        let same = ap (λ (p : ℕ × ℕ). p.0) pair in
-        let known : list_any (λ id. eqb id x.0) (ids g) ≡ true = ap (λ (i : ℕ). list_any (λ id. eqb id i) (ids g)) same ∙ adds.known in
-        let fresh : value_at so_far x.0 ≡ None = ap (value_at so_far) same ∙ adds.fresh in
-        rw (known, fresh) (ap (λ (p : ℕ × ℕ). Ok (so_far ++ p ∷ [])) pair)
+    by_range (Some d) is = search rules
 
 -- what an accepted line adds
 pub record Added (g : GeographyModel) (n : ℕ) (so_far : Values) (f : Option (ℕ × Option ℕ)) (next : Values) : Type 0 where
@@ -55,11 +44,7 @@ line_adds g n so_far (Some x) next ok = by_tests (list_any (λ id. eqb id x.0) (
     by_tests false seen d known_is seen_is d_is ok = cc
     by_tests true (Some s) d known_is seen_is d_is ok = cc
     by_tests true None None known_is seen_is d_is ok = cc
-    by_tests true None (Some d) known_is seen_is d_is ok = record {
-      e = (x.0, d);
-      adds = record { value = ap (with_district x.0) d_is; known = known_is; fresh = seen_is };
-      is = cc;
-    }
+    by_tests true None (Some d) known_is seen_is d_is ok = search rules
 
 abbrev pub value_in : ℕ → List ℕ → Option (ℕ × ℕ)
 value_in n line = value_of n (fields_of (fields line))
@@ -137,17 +122,17 @@ pub record More (g : GeographyModel) (n : ℕ) (so_far : Values) (ls : List (Lis
   pub lists : ListsMore g n so_far ls more
 
 -- a line that was accepted, and the reading that goes on after it
-pub record GoesOn (g : GeographyModel) (n at : ℕ) (so_far : Values) (line : List ℕ) (ls : List (List ℕ)) (values : Values) : Type 0 where
+pub record ReadsNextLine (g : GeographyModel) (n at : ℕ) (so_far : Values) (line : List ℕ) (ls : List (List ℕ)) (values : Values) : Type 0 where
   pub next : Values
   pub line_is : line_read g n so_far (fields_of (fields line)) ≡ Ok next
   pub rest_is : rows_read g n (at + 1) next ls ≡ Ok values
 
 pub goes_on : (g : GeographyModel) (n at : ℕ) (so_far : Values) (line : List ℕ) (ls : List (List ℕ)) (values : Values)
-    → at_line at (line_read g n so_far (fields_of (fields line))) (λ next. rows_read g n (at + 1) next ls) ≡ Ok values → GoesOn g n at so_far line ls values
+    → at_line at (line_read g n so_far (fields_of (fields line))) (λ next. rows_read g n (at + 1) next ls) ≡ Ok values → ReadsNextLine g n at so_far line ls values
 goes_on g n at so_far line ls values = by_line (line_read g n so_far (fields_of (fields line))) refl
   where
     by_line : (r : Result Values BodyFault) → line_read g n so_far (fields_of (fields line)) ≡ r → at_line at r (λ next. rows_read g n (at + 1) next ls) ≡ Ok values
-        → GoesOn g n at so_far line ls values
+        → ReadsNextLine g n at so_far line ls values
     by_line (Ok next) is ok = record { next = next; line_is = is; rest_is = ok }
     by_line (Err fault) is ok = cc
 
@@ -179,11 +164,7 @@ one_more g n so_far line ls values next bytes added m = record {
 }
 
 pub rows_list : (g : GeographyModel) (n at : ℕ) (so_far : Values) (ls : List (List ℕ)) (values : Values) → rows_read g n at so_far ls ≡ Ok values → More g n so_far ls values
-rows_list g n at so_far [] values ok = record {
-  more = [];
-  is = append-nil so_far ∙ cc;
-  lists = record { rows = refl; known = All-nil _; fresh = All-nil _; once = λ i j f less inside. absurd (omega arith) };
-}
+rows_list g n at so_far [] values ok = search (rules, append-nil, All-nil)
 rows_list g n at so_far (line ∷ ls) values ok = ⊎_elim
     (λ (empty : eqb (length line) 0 ≡ true).
     let m = rows_list g n (at + 1) so_far ls values (rw empty at ok) in
@@ -203,9 +184,7 @@ known_from : (xs : List ℕ) (id : ℕ) → Contains xs id → list_any (λ x. e
 known_from xs id has = list_any_at (λ x. eqb x id) xs has.0 id has.1 (eq-eqb (get_or xs has.0 id) id has.2)
 
 contains_from : (xs : List ℕ) (id : ℕ) → list_any (λ x. eqb x id) xs ≡ true → Contains xs id
-contains_from xs id is =
-    let a = Any-from_list_any (λ x. eqb x id) xs is in
-    (a.0, a.2, get_or_default xs a.0 id a.1 a.2 ∙ a.3 ∙ eqb-true a.1 id a.4)
+contains_from xs id is = search (rules, Any-from_list_any, get_or_default, eqb-true)
 
 pub body_lists : (g : GeographyModel) (n : ℕ) (ls : List (List ℕ)) (values : Values) → with_header g n ls ≡ Ok values → IsBody g n ls values
 body_lists g n [] values ok = cc

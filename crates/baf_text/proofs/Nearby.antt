@@ -1,21 +1,15 @@
 -- The head and the code of a line, by those of the line before.
+use Rattle.std.specs.{Char.{is_ascii_digit, digit_value}, List.list_all, Str.Lines.strip_carriage_return, Str.Parse.digits_value}
 use Rattle.std.proofs.Common.{◌≡◌, ℕ, ◌+◌, ◌-◌, ◌*◌, ◌/◌, ◌<◌, ◌≤◌, ◌^◌, Bool, true, ◌&&◌, eqb, List, [], ◌∷◌, ◌++◌, length, take, drop, get_or, sym, ◌∙◌, ap, arith, All, Option, Some, append_assoc, length-append, take-append-drop}
-use Rattle.std.specs.Char.{is_ascii_digit, digit_value}
-use Rattle.std.specs.List.{list_all}
-use Rattle.std.specs.Str.Lines.{strip_carriage_return}
-use Rattle.std.specs.Str.Parse.{digits_value}
 use Rattle.std.proofs.lemmas.Bool.{and_parts}
-use Rattle.std.proofs.lemmas.Bool.Decides.{nat_tests}
 use Rattle.std.proofs.lemmas.Option.{cond_some}
 use Rattle.std.proofs.lemmas.Int.Digits.{digits_value_more}
 use Rattle.std.proofs.lemmas.List.{take_at, length-take-le}
 use Rattle.std.proofs.lemmas.List.Folds.{list_all_more}
 use Rattle.std.proofs.lemmas.Str.{digit_value_digit}
 use Rattle.desk_model.specs.claim.Baf.{are_digits, code_value}
-use Rattle.byte_stream.specs.claim.Digits.{number_of_digits}
-use Rattle.baf_text.specs.Prefix.{HasHead, HasCode, HasHundreds, HasFirst}
-use Rattle.baf_text.proofs.Prefix.{IsNoFeed, prefix}
-use Rattle.baf_text.proofs.Rows.{value_small}
+use Rattle.byte_stream.{specs.claim.Digits.number_of_digits, proofs.DigitLemmas.{digit_high, digit_low}}
+use Rattle.baf_text.{specs.Prefix.{HasHead, HasCode, HasHundreds, HasFirst}, proofs.Prefix.{IsNoFeed, prefix}, proofs.Rows.value_small}
 
 -- fifteen digits, the last two by themselves
 record IsTold (text : List ℕ) : Type 0 where
@@ -27,12 +21,6 @@ told text long = record {
   digits = list_all_more is_ascii_digit text 14 0 (omega (arith, long)) ∙ ap (λ (b : Bool). b && is_ascii_digit (get_or text 14 0)) (list_all_more is_ascii_digit text 13 0 (omega (arith, long)));
   value = digits_value_more 10 text 14 (omega (arith, long)) ∙ ap (λ (n : ℕ). n * 10 + digit_value (get_or text 14 0)) (digits_value_more 10 text 13 (omega (arith, long)));
 }
-
-digit_low : (c : ℕ) → is_ascii_digit c ≡ true → 48 ≤ c
-digit_low c is = grind (arith, nat_tests)
-
-digit_high : (c : ℕ) → is_ascii_digit c ≡ true → c ≤ 57
-digit_high c is = grind (arith, nat_tests)
 
 worth : (c : ℕ) → is_ascii_digit c ≡ true → digit_value c + 48 ≡ c
 worth c is = digit_value_digit c (digit_low c is, digit_high c is)

@@ -1,9 +1,9 @@
 -- Parts that stand from a place on.
-use Rattle.std.proofs.Common.{Result, Ok, Err, OnOk, ◌≡◌, ℕ, zero, suc, ◌+◌, ◌-◌, ◌<◌, ◌≤◌, List, [], ◌∷◌, map, length, get_or, set, Option, Some, None, arith, refl, ap, sym, ◌∙◌, inl, inr}
 use Rattle.std.specs.Prelude.{unwrap_or}
+use Rattle.std.proofs.Common.{Result, Ok, Err, OnOk, ◌≡◌, ℕ, zero, suc, ◌+◌, ◌-◌, ◌<◌, ◌≤◌, List, [], ◌∷◌, map, length, get_or, set, Option, Some, None, arith, refl, ap, sym, ◌∙◌, inl, inr, rules}
 use Rattle.std.proofs.lemmas.Bool.{cases_lt, cases_eq, lt-ltb, le-ltb}
 use Rattle.std.proofs.lemmas.List.{ext_get_or, get_or_past, length-set, get_or-set_same, get_or-set_other, get_or-map, length-map}
-use Rattle.baf_text.specs.Listed.{part_at, spread, IsPart, IsEntered}
+use Rattle.baf_text.specs.Listed.{part_at, spread, IsListedPart, IsEntered}
 
 pub before : (first : ℕ) (part : List (Option ℕ)) (k : ℕ) → k < first → part_at first part k ≡ None
 before first part k less = rw (lt-ltb k first less) refl
@@ -37,16 +37,10 @@ spread_there (suc first) part (suc n) zero j at within = absurd (omega arith)
 spread_there (suc first) part (suc n) (suc k) j at within = spread_there first part n k j (omega arith) (omega arith)
 
 pub spread_at : (first : ℕ) (part : List (Option ℕ)) (n k : ℕ) → first + length part ≤ n → get_or (spread first part n) k None ≡ part_at first part k
-spread_at first part n k within = elim (cases_lt k first) [
-  | inl less ↦ spread_before first part n k less ∙ sym (before first part k less)
-  | inr more ↦ spread_there first part n k (k - first) (omega arith) within ∙ sym (there first part k more)
-]
+spread_at first part n k within = search (rules, cases_lt, spread_before, before, spread_there, there)
 
-pub is_part : (first : ℕ) (part : List (Option ℕ)) (n : ℕ) → first + length part ≤ n → IsPart first part (spread first part n)
-is_part first part n within = record {
-  within = omega (arith, length-spread first part n);
-  there = λ k. spread_at first part n k within;
-}
+pub is_part : (first : ℕ) (part : List (Option ℕ)) (n : ℕ) → first + length part ≤ n → IsListedPart first part (spread first part n)
+is_part first part n within = search (rules, length-spread, spread_at)
 
 -- at first nothing is listed
 pub spread_none : {A : Type 0} → (blocks : List A) → spread 0 [] (length blocks) ≡ map (λ _. None) blocks
@@ -76,7 +70,7 @@ pub record IsWholeTo (listed : List (Option ℕ)) (first : ℕ) (districts : Lis
   pub done : (k : ℕ) → k < first + i → get_or districts k 0 ≡ unwrap_or (get_or listed k None) 0
   pub rest : (k : ℕ) → first + i ≤ k → get_or districts k 0 ≡ 0
 
-module _ (listed : List (Option ℕ)) (first : ℕ) (part : List (Option ℕ)) (is : IsPart first part listed) where
+module _ (listed : List (Option ℕ)) (first : ℕ) (part : List (Option ℕ)) (is : IsListedPart first part listed) where
   pub whole_all : (districts : List ℕ) (i : ℕ) → IsWholeTo listed first districts i → length part ≤ i → districts ≡ map (λ d. unwrap_or d 0) listed
   whole_all districts i was past =
       let long = was.long in
@@ -84,7 +78,4 @@ module _ (listed : List (Option ℕ)) (first : ℕ) (part : List (Option ℕ)) (
       (λ k inside. at k (omega arith) ∙ sym (get_or-map (λ d. unwrap_or d 0) listed k None 0 (omega arith)))
     where
       at : (k : ℕ) → k < length listed → get_or districts k 0 ≡ unwrap_or (get_or listed k None) 0
-      at k inside = elim (cases_lt k (first + i)) [
-        | inl less ↦ was.done k less
-        | inr more ↦ was.rest k more ∙ sym (ap (λ (d : Option ℕ). unwrap_or d 0) (is.there k ∙ there first part k (omega arith) ∙ get_or_past part (k - first) None (omega arith)))
-      ]
+      at k inside = search (rules, cases_lt, there, get_or_past)

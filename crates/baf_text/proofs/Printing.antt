@@ -1,22 +1,16 @@
 -- The parts of a printed text.
-use Rattle.std.proofs.Common.{◌≡◌, ℕ, ◌+◌, ◌-◌, ◌<◌, ◌≤◌, List, [], ◌∷◌, ◌++◌, length, take, drop, get_or, replicate, zero, suc, sym, ◌∙◌, ap, arith, append_assoc, length-append, length-drop, add-one}
-use Rattle.std.specs.Fmt.{decimal}
-use Rattle.std.specs.List.{flat_map, zip}
+use Rattle.std.specs.{Fmt.decimal, List.{flat_map, zip}}
+use Rattle.std.proofs.Common.{◌≡◌, ℕ, ◌+◌, ◌-◌, ◌<◌, ◌≤◌, List, [], ◌∷◌, ◌++◌, length, take, drop, get_or, replicate, zero, suc, sym, ◌∙◌, ap, arith, append_assoc, length-append, length-drop, add-one, rules}
 use Rattle.std.proofs.lemmas.List.{take-take, take-replicate, length-replicate, append-nil, take_all, length-map}
 use Rattle.std.proofs.lemmas.List.Concat.{flat_map-append}
-use Rattle.desk_model.specs.declared.block.BlockRow.{BlockRow}
-use Rattle.desk_model.specs.declared.kind.Kind.{Kind}
-use Rattle.desk_model.specs.claim.Padded.{padded_decimal}
-use Rattle.desk_model.specs.claim.Printed.{row_text}
-use Rattle.desk_model.specs.claim.Geography.{ids_of}
+use Rattle.desk_model.specs.{declared.block.BlockRow.BlockRow, declared.kind.Kind.Kind, claim.Padded.padded_decimal, claim.Printed.row_text, claim.Geography.ids_of}
 
 -- zeros before a place are zeros before an earlier one
 pub zeros_below : (xs : List ℕ) (n m : ℕ) → n ≤ m → take m xs ≡ replicate m 48 → take n xs ≡ replicate n 48
 zeros_below xs n m le zeros = sym (take-take n m xs le) ∙ ap (take n) zeros ∙ take-replicate n m 48 le
 
 pub length-padded : (width n : ℕ) → length (padded_decimal width n) ≡ (width - length (decimal n)) + length (decimal n)
-length-padded width n = length-append (replicate (width - length (decimal n)) 48) (decimal n)
-    ∙ ap (λ k. k + length (decimal n)) (length-replicate {A = ℕ} (width - length (decimal n)) 48)
+length-padded width n = search (rules, length-append, length-replicate)
 
 -- where so many bytes stand before the rest of a row
 pub width_of : (row old text : List ℕ) (start end : ℕ) → start ≤ end → end ≤ length old → length row ≡ length old → drop start row ≡ text ++ drop end old → end ≡ start + length text
@@ -50,10 +44,7 @@ all_rows blocks ds i end = take_all i (zip (ids_of blocks) ds) (omega (arith, le
 pub text_more : (kind : Kind) (blocks : List BlockRow) (ds base old new : List ℕ) (i : ℕ) (b : BlockRow) → i < length blocks → length ds ≡ length blocks → b ≡ get_or blocks i b
     → old ≡ base ++ flat_map (row_text kind) (take i (zip (ids_of blocks) ds)) → new ≡ old ++ row_text kind (b.id, get_or ds i 0)
     → new ≡ base ++ flat_map (row_text kind) (take (i + 1) (zip (ids_of blocks) ds))
-text_more kind blocks ds base old new i b within same is before pushed =
-    pushed ∙ ap (λ xs. xs ++ row_text kind (b.id, get_or ds i 0)) before
-    ∙ append_assoc base (flat_map (row_text kind) (take i (zip (ids_of blocks) ds))) (row_text kind (b.id, get_or ds i 0))
-    ∙ ap (λ xs. base ++ xs) (sym (rows_more kind blocks ds i b within (omega arith) is))
+text_more kind blocks ds base old new i b within same is before pushed = search (rules, append_assoc, rows_more)
 
 pub text_whole : (kind : Kind) (blocks : List BlockRow) (ds base text : List ℕ) (i : ℕ) → length blocks ≤ i
     → text ≡ base ++ flat_map (row_text kind) (take i (zip (ids_of blocks) ds)) → text ≡ base ++ flat_map (row_text kind) (zip (ids_of blocks) ds)

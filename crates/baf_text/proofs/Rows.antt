@@ -1,10 +1,6 @@
 -- The parts of a line.
-use Rattle.std.proofs.Common.{◌≡◌, ℕ, ◌<◌, ◌≤◌, ◌^◌, Bool, true, false, cond, ◌&&◌, ◌||◌, eqb, nat_le, ⊎_elim, List, [], ◌∷◌, ◌++◌, length, take, drop, get_or, refl, sym, ◌∙◌, ap, arith, rules, All, Option, Some, None, length-append}
-use Rattle.std.specs.Prelude.{codes, nat_eq}
-use Rattle.std.specs.Char.{is_ascii_digit}
-use Rattle.std.specs.List.{list_all, join_with_byte}
-use Rattle.std.specs.Cmp.Lexicographic.{pointwise}
-use Rattle.std.specs.Str.Parse.{digits_value}
+use Rattle.std.specs.{Prelude.{codes, nat_eq}, Char.is_ascii_digit, List.{list_all, join_with_byte}, Cmp.Lexicographic.pointwise, Str.Parse.digits_value}
+use Rattle.std.proofs.Common.{◌≡◌, ℕ, ◌<◌, ◌≤◌, ◌^◌, Bool, true, false, cond, ◌&&◌, ◌||◌, eqb, nat_le, List, [], ◌∷◌, ◌++◌, length, take, drop, get_or, refl, sym, ◌∙◌, ap, arith, rules, All, Option, Some, None, length-append}
 use Rattle.std.proofs.lemmas.Bool.{eqb-true, leb-true, and_parts, or_cases}
 use Rattle.std.proofs.lemmas.Option.{cond_some}
 use Rattle.std.proofs.lemmas.Bool.Decides.{nat_tests}
@@ -14,8 +10,7 @@ use Rattle.std.proofs.lemmas.List.Elements.{All-cons, All-nil, All-same}
 use Rattle.std.proofs.lemmas.List.Splits.{slice_split_at, slice_split_none, join_with_byte-slice_split}
 use Rattle.std.proofs.lemmas.Str.Parse.{IsNumeralModel, IsDigitsTest, numerals_by_value, digits_value_short}
 use Rattle.desk_model.specs.claim.Baf.{are_digits, code_value, with_id, fields_of}
-use Rattle.byte_stream.specs.claim.Digits.{number_of, number_of_digits}
-use Rattle.byte_stream.specs.claim.Fields.{fields}
+use Rattle.byte_stream.specs.{claim.Digits.{number_of, number_of_digits}, claim.Fields.fields}
 
 tells_digits : IsDigitsTest (λ ds. list_all is_ascii_digit ds ≡ true)
 tells_digits = search rules
@@ -28,17 +23,10 @@ pub value_small : (bytes : List ℕ) (most : ℕ) → list_all is_ascii_digit by
 value_small bytes most are few = digits_value_short own bytes most are few
 
 pub number_small : (most : ℕ) (bytes : List ℕ) (v : ℕ) → number_of most bytes ≡ Some v → v < 10 ^ most
-number_small most bytes v is =
-    let got = cond_some ((nat_le 1 (length bytes) && nat_le (length bytes) most) && list_all is_ascii_digit bytes) (digits_value 10 bytes) v is in
-    let tests = and_parts (nat_le 1 (length bytes) && nat_le (length bytes) most) (list_all is_ascii_digit bytes) got.0 in
-    let short = leb-true (length bytes) most (and_parts (nat_le 1 (length bytes)) (nat_le (length bytes) most) tests.0).1 in
-    omega (arith, value_small bytes most tests.1 short)
+number_small most bytes v is = search (rules, cond_some, nat_le, and_parts, leb-true, value_small)
 
 pub id_small : (count : ℕ) (bytes : List ℕ) (v : ℕ) → number_of_digits count bytes ≡ Some v → v < 10 ^ count
-id_small count bytes v is =
-    let got = cond_some ((eqb (length bytes) count) && list_all is_ascii_digit bytes) (digits_value 10 bytes) v is in
-    let tests = and_parts (eqb (length bytes) count) (list_all is_ascii_digit bytes) got.0 in
-    omega (arith, value_small bytes count tests.1 (omega (arith, eqb-true (length bytes) count tests.0)))
+id_small count bytes v is = search (rules, cond_some, and_parts, value_small, eqb-true)
 
 -- a line has the block's number, a bar and a code
 pub record IsRow (line : List ℕ) (e : ℕ × Option ℕ) : Type 0 where
@@ -93,13 +81,7 @@ three_letters : All IsNoBar (codes "ZZZ")
 three_letters = All-cons IsNoBar 90 (90 ∷ 90 ∷ []) refl two_letters
 
 unassigned_without_bar : (code : List ℕ) → ((eqb (length code) 0 || pointwise nat_eq code (codes "ZZ")) || pointwise nat_eq code (codes "ZZZ")) ≡ true → All IsNoBar code
-unassigned_without_bar code is = ⊎_elim
-    (λ (short : (eqb (length code) 0 || pointwise nat_eq code (codes "ZZ")) ≡ true). ⊎_elim
-    (λ (e : eqb (length code) 0 ≡ true). All-same IsNoBar code [] (nil_from_length code (eqb-true (length code) 0 e)) (All-nil IsNoBar))
-    (λ (e : pointwise nat_eq code (codes "ZZ") ≡ true). All-same IsNoBar code (codes "ZZ") ((bytes_eq-Decides code (codes "ZZ")).0 e) two_letters)
-    (or_cases _ _ short))
-    (λ (e : pointwise nat_eq code (codes "ZZZ") ≡ true). All-same IsNoBar code (codes "ZZZ") ((bytes_eq-Decides code (codes "ZZZ")).0 e) three_letters)
-    (or_cases _ _ is)
+unassigned_without_bar code is = search (rules, All-same, nil_from_length, eqb-true, All-nil, bytes_eq-Decides, two_letters, or_cases, three_letters)
 
 code_without_bar : (code : List ℕ) (v : Option ℕ) → code_value code ≡ Some v → All IsNoBar code
 code_without_bar code v = by_tests

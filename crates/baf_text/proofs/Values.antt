@@ -1,14 +1,11 @@
 -- The values that are listed so far.
-use Rattle.std.proofs.Common.{◌≡◌, ◌≢◌, ℕ, ◌<◌, Bool, true, false, cond, eqb, List, [], ◌∷◌, ◌++◌, map, length, get_or, set, refl, sym, ◌∙◌, ap, arith, Contains, Option, Some, None, Err, IsOkAnd, is_some, ⊎_elim}
-use Rattle.std.specs.List.{list_any}
-use Rattle.std.specs.List.Sorted.{IsStrictlyIncreasing}
+use Rattle.std.specs.{List.list_any, List.Sorted.IsStrictlyIncreasing}
+use Rattle.std.proofs.Common.{◌≡◌, ◌≢◌, ℕ, ◌<◌, Bool, true, false, cond, eqb, List, [], ◌∷◌, ◌++◌, map, length, get_or, set, refl, sym, ◌∙◌, ap, Contains, Option, Some, None, Err, IsOkAnd, is_some, ⊎_elim, rules}
 use Rattle.std.proofs.lemmas.Bool.{ne_eqb, eq-eqb, cond-true, cond-false, cases_eq, cases_order}
 use Rattle.std.proofs.lemmas.List.{get_or-map, get_or_default, get_or-set_same, get_or-set_other, length-set, length-map, ext_get_or}
 use Rattle.std.proofs.lemmas.List.Folds.{list_any_none, list_any_at}
 use Rattle.std.proofs.lemmas.Map.Keys.{sorted_from_strictly_increasing, below_from_sorted}
-use Rattle.desk_model.specs.claim.Baf.{Values, value_at, in_range, line_read}
-use Rattle.desk_model.specs.declared.reply.BodyFault.TheVariants.{UnknownBlock}
-use Rattle.desk_model.specs.declared.block.BlockRow.{BlockRow}
+use Rattle.desk_model.specs.{claim.Baf.{Values, value_at, in_range, line_read}, declared.reply.BodyFault.TheVariants.UnknownBlock, declared.block.BlockRow.BlockRow}
 use Rattle.desk_model.specs.claim.Geography.{GeographyModel, ids, ids_of, id_at}
 use Rattle.baf_text.specs.Listed.{listed_of}
 
@@ -37,8 +34,7 @@ rises xs rising i j less within = below_from_sorted xs i j 0 (sorted_from_strict
 
 -- blocks at two places differ
 pub differ_at : (xs : List ℕ) → IsStrictlyIncreasing xs → (i j : ℕ) → i < length xs → j < length xs → i ≢ j → get_or xs i 0 ≢ get_or xs j 0
-differ_at xs rising i j inside within differ same =
-    ⊎_elim differ (⊎_elim (λ less. omega (arith, rises xs rising i j less within)) (λ more. omega (arith, rises xs rising j i more inside))) (cases_order i j)
+differ_at xs rising i j inside within differ same = search (rules, rises, cases_order)
 
 -- the list with one block more
 pub listed_more : (xs : List ℕ) (values : Values) (place d : ℕ) → IsStrictlyIncreasing xs → place < length xs → get_or (map (value_at values) xs) place None ≡ None
@@ -76,8 +72,7 @@ line_unknown g n so_far e missing = rw (unknown (ids g) e.0 missing) refl
 -- what the line's block has in the list
 listed_at : (g : GeographyModel) (so_far : Values) (listed : List (Option ℕ)) (place id : ℕ) → place < length g.blocks → id_at g.blocks place ≡ id → listed ≡ listed_of g so_far
     → get_or listed place None ≡ value_at so_far id
-listed_at g so_far listed place id within is lists =
-    ap (λ (xs : List (Option ℕ)). get_or xs place None) lists ∙ get_or-map (value_at so_far) (ids g) place 0 None (rw length-map within) ∙ ap (value_at so_far) is
+listed_at g so_far listed place id within is lists = search (rules, get_or-map, length-map)
 
 known : (g : GeographyModel) (place id : ℕ) → place < length g.blocks → id_at g.blocks place ≡ id → list_any (λ x. eqb x id) (ids g) ≡ true
 known g place id within is = list_any_at (λ x. eqb x id) (ids g) place 0 (rw length-map within) (eq-eqb (get_or (ids g) place 0) id is)

@@ -1,11 +1,6 @@
 -- What a printed text says.
-use Rattle.std.specs.Prelude.{◌≡◌, ℕ, ◌<◌, ◌≤◌, ◌^◌, List, map, length, Some, Ok, All}
-use Rattle.std.specs.List.{zip}
-use Rattle.desk_model.specs.declared.kind.Kind.{Kind}
-use Rattle.desk_model.specs.claim.Sizes.{most_districts}
-use Rattle.desk_model.specs.claim.Baf.{body_read}
-use Rattle.desk_model.specs.claim.Printed.{printed}
-use Rattle.desk_model.specs.claim.Geography.{GeographyModel, ids}
+use Rattle.std.specs.{Prelude.{◌≡◌, ℕ, ◌<◌, ◌≤◌, ◌^◌, List, map, length, Some, Ok, All}, List.zip}
+use Rattle.desk_model.specs.{declared.kind.Kind.Kind, claim.Sizes.most_districts, claim.Baf.body_read, claim.Printed.printed, claim.Geography.{GeographyModel, ids}}
 use Rattle.desk_model.specs.claim.GeographyModels.{AreBlocks}
 use Rattle.baf_text.specs.Listed.{listed_of}
 

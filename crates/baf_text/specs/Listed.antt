@@ -1,11 +1,7 @@
 -- The blocks that a text lists, and a text's fault.
-use Rattle.std.specs.Prelude.{◌≡◌, ◌≢◌, ◌≤◌, ◌+◌, ◌-◌, ℕ, zero, suc, nat_lt, List, [], ◌∷◌, map, length, get_or}
-use Rattle.std.specs.Prelude.{slice_set, Option, Some, None, Result, Ok, Err, IsOkAnd, if◌then◌else◌, ◌==◌}
-use Rattle.baf_text.specs.declared.reading.BafFault.{BafFault}
-use Rattle.baf_text.specs.declared.reading.BafFault.TheVariants.{Body, Memory}
-use Rattle.desk_model.specs.declared.reply.BodyFault.{BodyFault}
-use Rattle.desk_model.specs.claim.Baf.{Values, value_at, fields_of, line_read}
-use Rattle.desk_model.specs.claim.Geography.{GeographyModel, ids}
+use Rattle.std.specs.Prelude.{◌≡◌, ◌≢◌, ◌≤◌, ◌+◌, ◌-◌, ℕ, zero, suc, nat_lt, List, [], ◌∷◌, map, length, get_or, slice_set, Option, Some, None, Result, Ok, Err, IsOkAnd, if◌then◌else◌, ◌==◌}
+use Rattle.baf_text.specs.{declared.reading.BafFault.BafFault, declared.reading.BafFault.TheVariants.{Body, Memory}}
+use Rattle.desk_model.specs.{declared.reply.BodyFault.BodyFault, claim.Baf.{Values, value_at, fields_of, line_read}, claim.Geography.{GeographyModel, ids}}
 use Rattle.byte_stream.specs.claim.Fields.{fields}
 
 -- the value of each block, rising: nothing where a block isn't listed
@@ -24,7 +20,7 @@ spread zero (x ∷ part) (suc n) = x ∷ spread zero part n
 spread (suc first) part (suc n) = None ∷ spread first part n
 
 -- a list is the part that stands from a place on, and nothing else is listed
-pub record IsPart (first : ℕ) (part listed : List (Option ℕ)) : Type 0 where
+pub record IsListedPart (first : ℕ) (part listed : List (Option ℕ)) : Type 0 where
   pub within : first + length part ≤ length listed
   pub there : (k : ℕ) → get_or listed k None ≡ part_at first part k
 

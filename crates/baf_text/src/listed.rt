@@ -29,7 +29,7 @@ impl Model for Listed {
 
 impl Listed {
     ghost use Rattle.std.specs.Prelude.{◌≡◌, ◌<◌, [], length, get_or, slice_set, Some, None, IfOk, OnOk};
-    ghost use Rattle.baf_text.specs.Listed.{spread, IsPart};
+    ghost use Rattle.baf_text.specs.Listed.{spread, IsListedPart};
 
     /// A list of so many blocks, none of which is listed, with room for a part of that length.
     pub(crate) fn none(alloc: Global, count: usize, room: usize) -> Result<Listed, AllocError>
@@ -59,7 +59,7 @@ impl Listed {
 
     /// A place, and the districts from there on. No other block is listed.
     pub fn part(&self) -> (usize, &[Option<u16>])
-        ensures { IsPart result.0 result.1.now self.now }
+        ensures { IsListedPart result.0 result.1.now self.now }
     {
         (self.first, self.part.as_slice())
     }

@@ -1,23 +1,14 @@
 -- The child that a key belongs to, and what a put into it does to all children.
+use Rattle.std.specs.{Prelude.{Option, Some, is_some}, Ordering.is_gt, FinMap.find}
 use Rattle.std.proofs.Common.{◌≡◌, ◌++◌, inl, inr, ⊎_elim, ℕ, List, [], ◌∷◌, Bool, true, false, cond, refl, sym, ap, subst, ◌∙◌, arith}
-use Rattle.std.specs.Prelude.{Option, Some, is_some}
-use Rattle.std.specs.Ordering.{is_gt}
-use Rattle.std.specs.FinMap.{find}
 use Rattle.sector_device.specs.claim.Disk.{Image}
 use Rattle.page_store.specs.claim.Chain.{IsIn}
-use Rattle.page_node.specs.claim.Entries.{Entry, child_bytes}
-use Rattle.page_node.specs.Entries.{key_at}
-use Rattle.page_node.specs.claim.Places.{key_cmp}
-use Rattle.page_node.specs.Places.{floor}
+use Rattle.page_node.specs.{claim.Entries.{Entry, child_bytes}, Entries.key_at, claim.Places.key_cmp, Places.floor}
 use Rattle.page_btree.specs.claim.Keys.{IsBetween, Parts}
 use Rattle.page_btree.specs.claim.Tree.{Tree, Forest, one, more, page_of, first_key, links, rows, forest_rows, owns, forest_owns, IsTree, AreTrees, IsApart, AreApart}
-use Rattle.btree_puts.specs.Putting.{IsPut, linked, after_child}
-use Rattle.page_btree.proofs.Rows.{put_left, put_right, find_left, find_right, key_before}
-use Rattle.page_btree.proofs.MapLaws.{tree_same, trees_same}
-use Rattle.page_btree.proofs.Within.{rows_after, rows_before}
-use Rattle.page_btree.proofs.Booleans.{either}
+use Rattle.page_btree.proofs.{Rows.{put_left, put_right, find_left, find_right, key_before}, MapLaws.{tree_same, trees_same}, Within.{rows_after, rows_before}, Booleans.either}
 use Rattle.page_btree.proofs.Descent.{floor_links, key_of_links}
-use Rattle.btree_puts.proofs.Joined.{join, join_links, join_rows, join_size, owns_join, join_apart, join_trees}
+use Rattle.btree_puts.{specs.Putting.{IsPut, linked, after_child}, proofs.Joined.{join, join_links, join_rows, join_size, owns_join, join_apart, join_trees}}
 
 linked_key : (key : List ℕ) (new es : List Entry) → key_at (linked key new es) 0 ≡ key_at es 0
 linked_key key new [] = refl
@@ -45,7 +36,6 @@ module _ (P Q : Image) (d : ℕ) (low : List ℕ) (high : Option (List ℕ)) (fr
       let stays : (q : ℕ) → forest_owns f q → Q q ≡ P q = λ q own. done.frame q (λ o. apart.1 q o own) (λ taken. used q (inr own) taken.0) in
       let off : (q : ℕ) → forest_owns g q → forest_owns f q → ⊥ = λ q there own. ⊎_elim (λ o. apart.1 q o own) (λ taken. used q (inr own) taken.0) (done.owned q there) in
       let n = join_size g f in
-      let m = done.whole in
       record {
         trees = join_trees Q d low high g f done.trees trees.1 (trees_same P Q d (first_key f) high f stays trees.2);
         apart = join_apart g f done.apart apart.2 off;
@@ -64,7 +54,6 @@ module _ (P Q : Image) (d : ℕ) (low : List ℕ) (high : Option (List ℕ)) (fr
   put_later k t f g trees apart used from same done =
       let after = rows_after P d low (first_key f) key t trees.0 from in
       let stays : (q : ℕ) → owns t q → Q q ≡ P q = λ q own. done.frame q (λ o. apart.1 q own o) (λ taken. used q (inl own) taken.0) in
-      let m = done.whole in
       record {
         trees = (
           subst (λ (b : List ℕ). IsTree Q d low (Some b) t) (sym same) (tree_same P Q d low (Some (first_key f)) t stays trees.0),

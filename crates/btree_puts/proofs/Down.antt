@@ -1,23 +1,13 @@
 -- A step down to the child of a key, and up again.
+use Rattle.std.specs.{Prelude.{Option, Some, None, option_map}, Ordering.is_gt, FinMap.find}
 use Rattle.std.proofs.Common.{◌≡◌, ◌≢◌, ◌<◌, ◌≤◌, ◌-◌, ◌^◌, inl, inr, ℕ, List, [], ◌∷◌, Bool, true, false, cond, refl, sym, ap, subst, ◌∙◌, arith}
-use Rattle.std.specs.Prelude.{Option, Some, None, option_map}
-use Rattle.std.specs.Ordering.{is_gt}
-use Rattle.std.specs.FinMap.{find}
 use Rattle.sector_device.specs.claim.Disk.{Image}
 use Rattle.page_store.specs.claim.Chain.{IsIn, AreFree}
-use Rattle.page_node.specs.claim.Entries.{Entry, child_bytes}
-use Rattle.page_node.specs.Entries.{key_at, child_in}
-use Rattle.page_node.specs.claim.Node.{Node, IsNode}
-use Rattle.page_node.specs.claim.Places.{key_cmp}
-use Rattle.page_node.specs.Places.{floor}
+use Rattle.page_node.specs.{claim.Entries.{Entry, child_bytes}, Entries.{key_at, child_in}, claim.Node.{Node, IsNode}, claim.Places.key_cmp, Places.floor}
 use Rattle.page_node.proofs.Laws.{child_written}
-use Rattle.page_btree.specs.claim.Keys.{IsBetween}
-use Rattle.page_btree.specs.claim.Tree.{Tree, Forest, leaf, inner, one, page_of, rows, links, forest_owns}
-use Rattle.page_btree.specs.claim.Map.{IsSound}
+use Rattle.page_btree.specs.{claim.Keys.IsBetween, claim.Tree.{Tree, Forest, leaf, inner, one, page_of, rows, links, forest_owns}, claim.Map.IsSound}
 use Rattle.page_btree.proofs.Descent.{owns_page}
-use Rattle.btree_puts.specs.Putting.{IsPut, IsWritten, IsRaised, StandsAt, CanPut, linked, after_child}
-use Rattle.btree_puts.proofs.Chosen.{HasChild, chosen}
-use Rattle.btree_puts.proofs.Raised.{raise}
+use Rattle.btree_puts.{specs.Putting.{IsPut, IsWritten, IsRaised, StandsAt, CanPut, linked, after_child}, proofs.Chosen.{HasChild, chosen}, proofs.Raised.raise}
 use Rattle.btree_puts.proofs.Roots.{level_there}
 
 after_none : (key : List ℕ) (es : List Entry) → after_child key [] es ≡ es

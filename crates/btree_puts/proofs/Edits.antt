@@ -1,20 +1,10 @@
 -- A put that edits a leaf in its place.
-use Rattle.std.proofs.Common.{◌≡◌, ℕ, List, Ok, Err, refl, sym, subst, ◌∙◌}
-use Rattle.std.specs.Prelude.{Result, Option, Some, None, IfOk, IfSome, MatchOption}
-use Rattle.std.specs.FinMap.{put as put_entry}
+use Rattle.std.{specs.Prelude.{Result, Option, Some, None, IfOk, IfSome, MatchOption}, specs.FinMap.put as put_entry, proofs.Common.{◌≡◌, ℕ, List, Ok, Err, refl, sym, subst, ◌∙◌}}
 use Rattle.sector_device.specs.claim.Disk.{Image}
 use Rattle.page_btree.specs.gate_journal.Writes.{IsEdited}
 use Rattle.page_btree.proofs.gate_journal.Images.{put_on, put_off}
-use Rattle.page_store.specs.claim.Chain.{IsIn, AreFree}
-use Rattle.page_store.specs.claim.Transactions.{over, free_over}
-use Rattle.page_store.specs.Transactions.{txn_list, IsWritten}
-use Rattle.page_store.specs.declared.txn.Txn.{Txn}
-use Rattle.page_node.specs.claim.Entries.{Entry}
-use Rattle.page_node.specs.claim.Node.{IsNode}
-use Rattle.page_node.specs.claim.Places.{key_cmp, Rises}
-use Rattle.page_node.specs.Searching.{IsBelow}
-use Rattle.page_node.specs.Spots.{IsRowPut}
-use Rattle.page_node.specs.declared.edit.RowPut.{RowPut}
+use Rattle.page_store.specs.{claim.Chain.{IsIn, AreFree}, claim.Transactions.{over, free_over}, Transactions.{txn_list, IsWritten}, declared.txn.Txn.Txn}
+use Rattle.page_node.specs.{claim.Entries.Entry, claim.Node.IsNode, claim.Places.{key_cmp, Rises}, Searching.IsBelow, Spots.IsRowPut, declared.edit.RowPut.RowPut}
 use Rattle.page_node.specs.declared.search.RowNear.{RowNear}
 use Rattle.btree_puts.specs.Fitting.{IsLeafPut}
 

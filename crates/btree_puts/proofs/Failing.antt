@@ -1,24 +1,13 @@
 -- A refusal below, told above.
 use Rattle.std.proofs.Common.{◌≡◌, ◌≤◌, ◌<◌, ◌+◌, ℕ, List, sym, subst, ◌∙◌, arith, length}
-use Rattle.sector_device.specs.claim.Disk.{Image}
-use Rattle.sector_device.specs.declared.SectorDevice.{Ghosts}
-use Rattle.page_store.specs.claim.Chain.{AreFree}
-use Rattle.page_store.specs.claim.Transactions.{stored, disk_in, txn_pages, txn_root, txn_free, over, free_over, IsQuiet, Passed, ReadErr, TakeErr}
-use Rattle.page_store.proofs.Stops.{failed_more}
-use Rattle.page_store.specs.gate_journal.declared.error.PageError.{PageError}
+use Rattle.sector_device.specs.{claim.Disk.Image, declared.SectorDevice.Ghosts}
+use Rattle.page_store.specs.{claim.Chain.AreFree, claim.Transactions.{stored, disk_in, txn_pages, txn_root, txn_free, over, free_over, IsQuiet, Passed, ReadErr, TakeErr}}
+use Rattle.page_store.{specs.gate_journal.declared.error.PageError.PageError, specs.declared.pages.Pages.Pages, specs.declared.txn.Txn.Txn, proofs.Stops.failed_more}
 use Rattle.page_store.specs.gate_journal.declared.error.PageError.TheVariants as page
-use Rattle.page_store.specs.declared.pages.Pages.{Pages}
-use Rattle.page_store.specs.declared.txn.Txn.{Txn}
-use Rattle.page_node.specs.claim.Entries.{Entry}
-use Rattle.page_node.specs.claim.Node.{Node, IsNode}
-use Rattle.page_btree.specs.Errors.{tree_error, IsNoWant}
-use Rattle.page_btree.specs.claim.Errors.{PutErr, level_in}
+use Rattle.page_node.specs.{claim.Entries.Entry, claim.Node.{Node, IsNode}}
+use Rattle.page_btree.specs.{Errors.{tree_error, IsNoWant}, claim.Errors.{PutErr, level_in}, claim.Keys.KeyMap, claim.Map.InTxn, declared.error.TreeError.TreeError}
+use Rattle.page_btree.{specs.declared.error.TreeError.TheVariants.NoPages, proofs.Refusals.{by_case, by_read}}
 use Rattle.btree_puts.specs.Errors.{StepErr, PlaceErr, RowErr, LinkErr, WriteErr, GrowErr}
-use Rattle.page_btree.specs.claim.Keys.{KeyMap}
-use Rattle.page_btree.specs.claim.Map.{InTxn}
-use Rattle.page_btree.specs.declared.error.TreeError.{TreeError}
-use Rattle.page_btree.specs.declared.error.TreeError.TheVariants.{NoPages}
-use Rattle.page_btree.proofs.Refusals.{by_case, by_read}
 
 module _ {D : Type 0} {g : Ghosts D} where
   pub step_failed : (level : ℕ) (can : Image → Type 0) (t : Txn) (old new : Pages D g) (e : TreeError) → StepErr can old new e → PlaceErr level can t old new e
@@ -48,13 +37,10 @@ module _ {D : Type 0} {g : Ghosts D} where
 
   -- ---- of a node that is written
   pub take_failed : (t : Txn) (old new : Pages D g) (e : PageError) → TakeErr t old new e → WriteErr t old new (tree_error e)
-  take_failed t old new page.DeviceFault why = why
-  take_failed t old new page.Halted why = why
-  take_failed t old new page.NotAStore why = why
   take_failed t old new page.TooManyPages why = absurd why
   take_failed t old new page.TooSmall why = absurd why
-  take_failed t old new page.NoPages why = why
   take_failed t old new page.Memory why = absurd why
+  take_failed t old new _ why = why
 
   pub row_written_failed : (bytes : List ℕ) (t : Txn) (old new : Pages D g) (e : TreeError) → WriteErr t old new e → RowErr bytes t old new e
   row_written_failed bytes t old new = by_case (λ e. WriteErr t old new e) (λ e. RowErr bytes t old new e)

@@ -1,29 +1,12 @@
 -- A put that edits a leaf alone, told above.
 use Rattle.std.proofs.Common.{◌≡◌, ℕ, List, sym, subst, ◌∙◌, arith}
-use Rattle.sector_device.specs.claim.Disk.{Image}
-use Rattle.sector_device.specs.declared.SectorDevice.{Ghosts}
-use Rattle.page_store.specs.claim.Transactions.{stored, disk_in, txn_root, over, IsQuiet, Passed}
+use Rattle.sector_device.specs.{claim.Disk.Image, declared.SectorDevice.Ghosts}
+use Rattle.page_store.specs.{claim.Transactions.{stored, disk_in, txn_root, over, IsQuiet, Passed}, declared.pages.Pages.Pages, declared.txn.Txn.Txn}
 use Rattle.page_store.proofs.Stops.{failed_more}
-use Rattle.page_store.specs.declared.pages.Pages.{Pages}
-use Rattle.page_store.specs.declared.txn.Txn.{Txn}
-use Rattle.page_node.specs.claim.Entries.{Entry}
-use Rattle.page_node.specs.claim.Node.{IsNode}
-use Rattle.page_node.specs.claim.Places.{Rises}
-use Rattle.page_node.specs.Searching.{IsBelow}
-use Rattle.page_node.specs.declared.search.RowNear.{RowNear}
-use Rattle.btree_puts.specs.Fitting.{LeafPutErr}
-use Rattle.btree_puts.specs.Fingers.{StandsIn, PutByErr, GetWhereErr}
-use Rattle.btree_puts.specs.declared.finger.Finger.{Finger}
-use Rattle.page_btree.specs.claim.Keys.{KeyMap}
-use Rattle.page_btree.specs.Getting.{ReadsErr}
-use Rattle.page_btree.specs.claim.Errors.{GetErr, PutErr, level_in}
-use Rattle.page_btree.specs.Errors.{IsNoWant}
-use Rattle.page_btree.specs.claim.Map.{InTxn}
-use Rattle.page_btree.specs.Editing.{IsAlike}
-use Rattle.page_btree.specs.declared.error.TreeError.{TreeError}
-use Rattle.page_btree.specs.declared.error.TreeError.TheVariants.{NoPages}
-use Rattle.page_btree.proofs.Editing.{still_in}
-use Rattle.page_btree.proofs.Refusals.{by_case}
+use Rattle.page_node.specs.{claim.Entries.Entry, claim.Node.IsNode, claim.Places.Rises, Searching.IsBelow, declared.search.RowNear.RowNear}
+use Rattle.btree_puts.specs.{Fitting.LeafPutErr, Fingers.{StandsIn, PutByErr, GetWhereErr}, declared.finger.Finger.Finger}
+use Rattle.page_btree.specs.{claim.Keys.KeyMap, Getting.ReadsErr, claim.Errors.{GetErr, PutErr, level_in}, Errors.IsNoWant, claim.Map.InTxn, Editing.IsAlike}
+use Rattle.page_btree.{specs.declared.error.TreeError.TreeError, specs.declared.error.TreeError.TheVariants.NoPages, proofs.Editing.still_in, proofs.Refusals.by_case}
 
 module _ {D : Type 0} {g : Ghosts D} where
   -- ---- refusals

@@ -1,26 +1,12 @@
 -- A put into the tree at a child, whose page was read.
+use Rattle.std.specs.{Prelude.{Option, Some, None, Result, Ok, MatchResult}, Option.option_map, FinMap.find}
 use Rattle.std.proofs.Common.{◌≡◌, ◌≢◌, ◌-◌, ◌<◌, ◌≤◌, ◌^◌, ℕ, List, [], ◌∷◌, length, sym, subst, ◌∙◌}
-use Rattle.std.specs.Prelude.{Option, Some, None, Result, Ok, MatchResult}
-use Rattle.std.specs.Option.{option_map}
-use Rattle.std.specs.FinMap.{find}
-use Rattle.sector_device.specs.claim.Disk.{Image}
-use Rattle.sector_device.specs.declared.SectorDevice.{Ghosts}
-use Rattle.page_store.specs.claim.Chain.{IsIn, AreFree}
-use Rattle.page_store.specs.claim.Transactions.{stored, disk_in, txn_pages, txn_free, over, free_over, IsQuiet}
-use Rattle.page_store.specs.declared.pages.Pages.{Pages}
+use Rattle.sector_device.specs.{claim.Disk.Image, declared.SectorDevice.Ghosts}
+use Rattle.page_store.specs.{claim.Chain.{IsIn, AreFree}, claim.Transactions.{stored, disk_in, txn_pages, txn_free, over, free_over, IsQuiet}, declared.pages.Pages.Pages}
 use Rattle.page_store.specs.declared.txn.Txn.{Txn}
-use Rattle.page_node.specs.claim.Entries.{Entry, child_bytes}
-use Rattle.page_node.specs.Entries.{key_at, child_in}
-use Rattle.page_node.specs.claim.Node.{Node, IsNode}
-use Rattle.page_node.specs.claim.Places.{key_cmp}
-use Rattle.page_node.specs.Places.{floor}
-use Rattle.page_btree.specs.claim.Tree.{Tree, links, rows}
-use Rattle.page_btree.specs.Errors.{IsNoWant}
-use Rattle.page_btree.specs.declared.error.TreeError.{TreeError}
-use Rattle.page_btree.proofs.Descent.{some_links}
-use Rattle.btree_puts.specs.Putting.{CanPutSome, linked}
-use Rattle.btree_puts.specs.Outcomes.{CanPutIn, IsRaisedBy, IsWrittenBy, TakesNoPageAt, PutsRowAt}
-use Rattle.btree_puts.specs.declared.puts.Placed.{Placed}
+use Rattle.page_node.specs.{claim.Entries.{Entry, child_bytes}, Entries.{key_at, child_in}, claim.Node.{Node, IsNode}, claim.Places.key_cmp, Places.floor}
+use Rattle.page_btree.{specs.claim.Tree.{Tree, links, rows}, specs.Errors.IsNoWant, specs.declared.error.TreeError.TreeError, proofs.Descent.some_links}
+use Rattle.btree_puts.specs.{Putting.{CanPutSome, linked}, Outcomes.{CanPutIn, IsRaisedBy, IsWrittenBy, TakesNoPageAt, PutsRowAt}, declared.puts.Placed.Placed}
 use Rattle.btree_puts.proofs.Down.{HasBelow, here, find_below, can_below, through_none, free_then, node_then, through_some}
 
 module _ {D : Type 0} {g : Ghosts D} (t : Txn) (old mid : Pages D g) (level page child : ℕ) (bytes below key value : List ℕ) (deep : level ≢ 0) (few : txn_pages t ≤ 2 ^ 32) (told : (node : Node) → IsNode bytes node → option_map child_in (floor key node.entries) ≡ Some child) (quiet : IsQuiet old mid) (reads : (disk_in mid).is_honest → below ≡ over t (stored old) child) (honest : (disk_in mid).is_honest) (low : List ℕ) (high : Option (List ℕ)) (tree : Tree) (can : CanPutIn t (stored old) level low high page bytes key tree) where

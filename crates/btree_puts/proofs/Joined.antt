@@ -1,11 +1,8 @@
 -- Children after children, and children parted.
-use Rattle.std.proofs.Common.{◌≡◌, ◌⊎◌, ◌<◌, ◌+◌, ◌++◌, inl, inr, ⊎_elim, ℕ, List, [], ◌∷◌, length, refl, sym, ap, subst, ◌∙◌, arith, append_assoc}
-use Rattle.std.specs.Prelude.{Option, Some}
+use Rattle.std.{specs.Prelude.{Option, Some}, proofs.Common.{◌≡◌, ◌⊎◌, ◌<◌, ◌+◌, ◌++◌, inl, inr, ⊎_elim, ℕ, List, [], ◌∷◌, length, refl, sym, ap, subst, ◌∙◌, arith, append_assoc}}
 use Rattle.sector_device.specs.claim.Disk.{Image}
-use Rattle.page_node.specs.claim.Entries.{Entry, child_bytes}
-use Rattle.page_node.proofs.Laws.{less_trans}
-use Rattle.page_btree.specs.claim.Keys.{Parts}
-use Rattle.page_btree.specs.claim.Tree.{Forest, one, more, page_of, first_key, links, forest_rows, rows, forest_owns, forest_size, IsTree, AreTrees, AreApart}
+use Rattle.page_node.{specs.claim.Entries.{Entry, child_bytes}, proofs.Laws.less_trans}
+use Rattle.page_btree.specs.{claim.Keys.Parts, claim.Tree.{Forest, one, more, page_of, first_key, links, forest_rows, rows, forest_owns, forest_size, IsTree, AreTrees, AreApart}}
 use Rattle.page_btree.proofs.Rows.{wider_under}
 
 abbrev pub join : Forest → Forest → Forest

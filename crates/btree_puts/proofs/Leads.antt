@@ -1,27 +1,13 @@
 -- A put into the leaf that a key belongs to, told above.
+use Rattle.std.specs.{Prelude.{Option, None, is_some}, FinMap.{insert, contains_key, find, put}}
 use Rattle.std.proofs.Common.{◌≡◌, ◌≢◌, ◌<◌, ◌≤◌, ◌-◌, ◌^◌, ℕ, zero, suc, List, [], Bool, refl, sym, ap, subst, ◌∙◌, arith}
-use Rattle.std.specs.Prelude.{Option, None, is_some}
-use Rattle.std.specs.FinMap.{insert, contains_key, find, put}
 use Rattle.sector_device.specs.claim.Disk.{Image}
-use Rattle.page_store.specs.claim.Transactions.{over, free_over}
-use Rattle.page_store.specs.declared.txn.Txn.{Txn}
-use Rattle.page_store.specs.claim.Chain.{IsIn, AreFree}
-use Rattle.page_node.specs.claim.Entries.{Entry}
-use Rattle.page_node.specs.claim.Places.{key_cmp, Rises}
-use Rattle.page_node.specs.claim.Node.{Node, IsNode}
-use Rattle.page_node.proofs.Laws.{node_unique}
-use Rattle.page_btree.specs.claim.Keys.{KeyMap}
-use Rattle.page_btree.specs.claim.Tree.{Tree}
-use Rattle.page_btree.specs.claim.Map.{Holds, IsRooted}
-use Rattle.page_btree.specs.Getting.{CanGetAt}
-use Rattle.page_btree.specs.Leading.{LeadsTo}
-use Rattle.btree_puts.specs.Putting.{IsRaised, IsWhole, CanPut}
-use Rattle.btree_puts.proofs.EmptyLeaf.{nothing}
+use Rattle.page_store.specs.{claim.Transactions.{over, free_over}, declared.txn.Txn.Txn, claim.Chain.{IsIn, AreFree}}
+use Rattle.page_node.{specs.claim.Entries.Entry, specs.claim.Places.{key_cmp, Rises}, specs.claim.Node.{Node, IsNode}, proofs.Laws.node_unique}
+use Rattle.page_btree.specs.{claim.Keys.KeyMap, claim.Tree.Tree, claim.Map.{Holds, IsRooted}, Getting.CanGetAt, Leading.LeadsTo}
 use Rattle.page_btree.proofs.Tops.{rooted, can_get, at_root}
-use Rattle.btree_puts.proofs.Down.{through_none}
-use Rattle.btree_puts.proofs.Leaves.{leaf_rows, leaf_node, leaf_rises, leaf_off, leaf_raised}
-use Rattle.btree_puts.proofs.Roots.{rooted as has_root, root_can, after_whole}
-use Rattle.btree_puts.proofs.Rising.{put_rises}
+use Rattle.btree_puts.{specs.Putting.{IsRaised, IsWhole, CanPut}, proofs.EmptyLeaf.nothing, proofs.Down.through_none}
+use Rattle.btree_puts.proofs.{Leaves.{leaf_rows, leaf_node, leaf_rises, leaf_off, leaf_raised}, Roots.{rooted as has_root, root_can, after_whole}, Rising.put_rises}
 
 -- a row was put into the leaf at a page, where there is one
 abbrev pub IsPutAt : Txn → Txn → Image → ℕ → List ℕ → List ℕ → Bool → Type 0

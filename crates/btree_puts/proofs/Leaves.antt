@@ -1,22 +1,12 @@
 -- A leaf was written, whole or cut, with a row put.
+use Rattle.std.specs.{Prelude.{Option, Some, None, is_some}, List.AllByRecursion, FinMap.{find, put}, Ordering.is_gt, declared.cmp.Ordering.TheVariants.Less}
 use Rattle.std.proofs.Common.{◌≡◌, ◌<◌, ◌+◌, ◌++◌, inl, inr, ⊎_elim, ℕ, List, [], ◌∷◌, length, Bool, false, refl, sym, ap, subst, ◌∙◌, arith}
-use Rattle.std.specs.Prelude.{Option, Some, None, is_some}
-use Rattle.std.specs.List.{AllByRecursion}
-use Rattle.std.specs.FinMap.{find, put}
-use Rattle.std.specs.Ordering.{is_gt}
-use Rattle.std.specs.declared.cmp.Ordering.TheVariants.{Less}
 use Rattle.sector_device.specs.claim.Disk.{Image}
 use Rattle.page_store.specs.claim.Chain.{IsIn, AreFree}
-use Rattle.page_node.specs.claim.Entries.{Entry}
-use Rattle.page_node.specs.Entries.{key_at}
-use Rattle.page_node.specs.claim.Node.{Node, IsNode}
-use Rattle.page_node.specs.claim.Places.{key_cmp, Rises}
-use Rattle.page_btree.specs.claim.Keys.{IsBetween, Parts}
-use Rattle.page_btree.specs.claim.Tree.{Tree, leaf, inner, one, more, rows, IsLeaf}
-use Rattle.page_btree.specs.claim.Map.{IsSound}
+use Rattle.page_node.specs.{claim.Entries.Entry, Entries.key_at, claim.Node.{Node, IsNode}, claim.Places.{key_cmp, Rises}}
+use Rattle.page_btree.specs.{claim.Keys.{IsBetween, Parts}, claim.Tree.{Tree, leaf, inner, one, more, rows, IsLeaf}, claim.Map.IsSound}
+use Rattle.page_btree.proofs.{Rows.{all_prefix, all_rest, from_then, rises_put, rises_prefix, rises_rest, rises_under, rises_from, all_put, some_put}, Within.AreBetween}
 use Rattle.btree_puts.specs.Putting.{IsTaken, IsWhole, IsCut, IsWritten, IsRaised, CanPut}
-use Rattle.page_btree.proofs.Rows.{all_prefix, all_rest, from_then, rises_put, rises_prefix, rises_rest, rises_under, rises_from, all_put, some_put}
-use Rattle.page_btree.proofs.Within.{AreBetween}
 
 -- rows between bounds, parted at the first of the upper ones
 pub record ArePartsOf (low : List ℕ) (high : Option (List ℕ)) (lower : List Entry) (y : Entry) (ys : List Entry) : Type 0 where

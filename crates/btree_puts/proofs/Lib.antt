@@ -1,6 +1,5 @@
 pub mod Edits
 pub mod EmptyLeaf
-pub mod Images
 pub mod Linking
 pub mod Placing
 pub mod Failing

@@ -1,33 +1,13 @@
 -- Fingers before and after an edit of a leaf.
-use Rattle.std.proofs.Common.{◌∙◌, ◌≡◌, ◌≢◌, ◌<◌, ◌≤◌, ◌^◌, ℕ, List, false, refl, sym, ap, subst}
-use Rattle.std.specs.Prelude.{Option}
-use Rattle.std.specs.Ordering.{is_gt}
-use Rattle.std.specs.FinMap.{find, get}
+use Rattle.std.{specs.Prelude.Option, specs.Ordering.is_gt, specs.FinMap.{find, get}, proofs.Common.{◌∙◌, ◌≡◌, ◌≢◌, ◌<◌, ◌≤◌, ◌^◌, ℕ, List, false, refl, sym, ap, subst}}
 use Rattle.sector_device.specs.claim.Disk.{Image}
-use Rattle.page_store.specs.claim.Transactions.{txn_pages, txn_root, over, free_over}
-use Rattle.page_store.specs.declared.txn.Txn.{Txn}
-use Rattle.page_node.specs.claim.Entries.{Entry}
-use Rattle.page_node.specs.Entries.{key_at}
-use Rattle.page_node.specs.claim.Node.{Node, IsNode}
-use Rattle.page_node.specs.claim.Places.{key_cmp, Rises}
-use Rattle.page_node.specs.Searching.{IsBelow}
-use Rattle.page_node.proofs.Laws.{node_unique}
-use Rattle.page_btree.specs.claim.Keys.{KeyMap, IsBetween}
-use Rattle.page_btree.specs.claim.Map.{Holds, IsRooted}
-use Rattle.page_btree.specs.claim.Errors.{level_in}
-use Rattle.page_btree.specs.Getting.{CanGet, CanGetAt, CanGetIn}
-use Rattle.page_btree.specs.Leading.{LeadsTo, LeadsAll, end_of}
-use Rattle.page_btree.proofs.Tops.{rooted, can_get, at_root, found_rows}
-use Rattle.page_btree.proofs.Rows.{less_from}
-use Rattle.page_btree.proofs.Leads.{leads_leaf}
-use Rattle.page_btree.proofs.Reaching.{root_level, leads_stays, level_stays, leads_found}
-use Rattle.page_btree.proofs.Seeking.{lower_of}
-use Rattle.btree_puts.specs.Fitting.{IsLeafPut}
-use Rattle.btree_puts.specs.Fingers.{IsPlaced, StandsIn, IsReached}
-use Rattle.btree_puts.specs.declared.finger.Finger.{Finger}
-use Rattle.btree_puts.proofs.Leads.{IsPutAt}
-use Rattle.page_node.specs.declared.edit.RowPut.{RowPut}
-use Rattle.page_node.specs.declared.search.RowNear.{RowNear}
+use Rattle.page_store.specs.{claim.Transactions.{txn_pages, txn_root, over, free_over}, declared.txn.Txn.Txn}
+use Rattle.page_node.specs.{claim.Entries.Entry, Entries.key_at, claim.Node.{Node, IsNode}, claim.Places.{key_cmp, Rises}, Searching.IsBelow, declared.edit.RowPut.RowPut}
+use Rattle.page_node.{specs.declared.search.RowNear.RowNear, proofs.Laws.node_unique}
+use Rattle.page_btree.specs.{claim.Keys.{KeyMap, IsBetween}, claim.Map.{Holds, IsRooted}, claim.Errors.level_in, Getting.{CanGet, CanGetAt, CanGetIn}}
+use Rattle.page_btree.{specs.Leading.{LeadsTo, LeadsAll, end_of}, proofs.Tops.{rooted, can_get, at_root, found_rows}, proofs.Rows.less_from, proofs.Leads.leads_leaf}
+use Rattle.page_btree.proofs.{Reaching.{root_level, leads_stays, level_stays, leads_found}, Seeking.lower_of}
+use Rattle.btree_puts.{specs.Fitting.IsLeafPut, specs.Fingers.{IsPlaced, StandsIn, IsReached}, specs.declared.finger.Finger.Finger, proofs.Leads.IsPutAt}
 
 -- each key before a place is below one, and so below those after it
 pub further : (low key : List ℕ) (es : List Entry) (k at : ℕ) → is_gt (key_cmp low key) ≡ false → IsBelow low es k at → IsBelow key es k at

@@ -1,14 +1,9 @@
 -- A row found or put among a leaf's.
+use Rattle.std.specs.{Prelude.{Option, Some, None, is_some}, FinMap.{find, put}}
 use Rattle.std.proofs.Common.{◌≡◌, ◌<◌, ℕ, zero, suc, List, [], ◌∷◌, length, set, insert, slice_set, true, false, sym, ap, subst, ◌∙◌, arith}
-use Rattle.std.specs.Prelude.{Option, Some, None, is_some}
-use Rattle.std.specs.FinMap.{find, put}
-use Rattle.page_node.specs.claim.Entries.{Entry, size_of}
-use Rattle.page_node.specs.Entries.{key_at, value_at}
-use Rattle.page_node.specs.claim.Node.{Node, IsNode, Fits}
-use Rattle.page_node.specs.claim.Places.{key_cmp, Rises}
-use Rattle.page_node.specs.Places.{IsFound, IsGap}
-use Rattle.btree_puts.specs.Putting.{linked}
+use Rattle.page_node.specs.{claim.Entries.{Entry, size_of}, Entries.{key_at, value_at}, claim.Node.{Node, IsNode, Fits}, claim.Places.{key_cmp, Rises}, Places.{IsFound, IsGap}}
 use Rattle.page_node.proofs.Laws.{node_unique, found_put, gap_put, found_find, gap_find}
+use Rattle.btree_puts.specs.Putting.{linked}
 
 some_is : (x y : List ℕ) → Some x ≡ Some y → x ≡ y
 some_is x y e = ap (λ (o : Option (List ℕ)). or_none o) e
@@ -47,7 +42,6 @@ module _ (bytes : List ℕ) (node new : Node) (es : List Entry) (i : ℕ) (key v
     found_fits held there same =
         let value_is : value_at es i ≡ held = some_is _ _ (sym (found_find key es i found) ∙ there) in
         let size : size_of new.entries ≡ size_of es = ap (λ (n : Node). size_of n.entries) set_is ∙ size_same es i value found.within (ap length value_is ∙ same) in
-        let fits = is.fits in
         omega arith
 
   module _ (at : Rises node.entries → IsGap key node.entries i) where

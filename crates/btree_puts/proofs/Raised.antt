@@ -1,14 +1,11 @@
 -- A node above was written, whole or cut, after a put into its children; and a leaf was.
-use Rattle.std.proofs.Common.{◌≡◌, ◌⊎◌, ◌<◌, ◌+◌, ◌-◌, inl, inr, ⊎_elim, ℕ, List, ◌∷◌, length, Bool, refl, sym, ap, subst, ◌∙◌, arith}
-use Rattle.std.specs.Prelude.{Option, Some, None}
+use Rattle.std.{specs.Prelude.{Option, Some, None}, proofs.Common.{◌≡◌, ◌⊎◌, ◌<◌, ◌+◌, ◌-◌, inl, inr, ⊎_elim, ℕ, List, ◌∷◌, length, Bool, refl, sym, ap, subst, ◌∙◌, arith}}
 use Rattle.sector_device.specs.claim.Disk.{Image}
 use Rattle.page_store.specs.claim.Chain.{IsIn, AreFree}
-use Rattle.page_node.specs.Entries.{key_at}
-use Rattle.page_node.specs.claim.Node.{Node, IsNode}
-use Rattle.page_btree.specs.claim.Tree.{Forest, inner, one, more, first_key, links, forest_rows, owns, forest_owns, forest_size, AreTrees, AreApart}
-use Rattle.page_btree.specs.claim.Map.{IsSound}
-use Rattle.btree_puts.specs.Putting.{IsPut, IsTaken, IsWhole, IsCut, IsWritten, IsRaised}
+use Rattle.page_node.specs.{Entries.key_at, claim.Node.{Node, IsNode}}
+use Rattle.page_btree.specs.{claim.Tree.{Forest, inner, one, more, first_key, links, forest_rows, owns, forest_owns, forest_size, AreTrees, AreApart}, claim.Map.IsSound}
 use Rattle.page_btree.proofs.MapLaws.{trees_same}
+use Rattle.btree_puts.specs.Putting.{IsPut, IsTaken, IsWhole, IsCut, IsWritten, IsRaised}
 use Rattle.btree_puts.proofs.Joined.{join, join_rows, join_size, join_owns, part_apart, part_trees, part_at, IsJoined}
 
 module _ (P Q R : Image) (n d : ℕ) (low : List ℕ) (high : Option (List ℕ)) (free left last : List ℕ) (key value : List ℕ) (had : Bool) (k : List ℕ) (p : ℕ) (f h : Forest) (positive : 0 < d) (sound : IsSound n free (inner p f)) (free_are : AreFree n free) (done : IsPut P Q (d - 1) low high free left key value had f h) where
@@ -18,7 +15,6 @@ module _ (P Q R : Image) (n d : ℕ) (low : List ℕ) (high : Option (List ℕ))
 
   raise_whole : (upper : Node) → IsWhole Q R left last p (record { level = d; entries = links h }) → IsRaised P R d low high free last key value had k p (inner p f) None upper
   raise_whole upper w =
-      let m = done.whole in
       let e : length last ≡ length left = ap length w.none in
       let moved : IsTaken free left ≡ IsTaken free last = ap (IsTaken free) (sym w.none) in
       let back : (q : ℕ) → IsTaken free last q → IsTaken free left q = λ q taken. (taken.0, λ there. taken.1 (subst (IsIn q) (sym w.none) there)) in
@@ -68,7 +64,6 @@ module _ (P Q R : Image) (n d : ℕ) (low : List ℕ) (high : Option (List ℕ))
         let under : (x : ℕ) → forest_owns j.low x ⊎ forest_owns j.high x → forest_owns h x = λ x own. subst (λ g. forest_owns g x) (sym j.is) (join_owns j.low j.high x own) in
         let bound : first_key j.high ≡ key_at upper.entries 0 = first_of_links j.high ∙ ap (λ l. key_at l 0) j.high_links in
         let node : upper ≡ record { level = d; entries = links j.high } = λ i. record { level = w.level i; entries = sym j.high_links i } in
-        let m = done.whole in
         let s : forest_size h ≡ forest_size j.low + forest_size j.high = ap forest_size j.is ∙ join_size j.low j.high in
         let e : length left ≡ length last + 1 = ap length w.taken ∙ omega arith in
         let b = first_key j.high in

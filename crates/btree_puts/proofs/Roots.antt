@@ -1,23 +1,14 @@
 -- A put at the root.
-use Rattle.std.proofs.Common.{◌≡◌, ◌≢◌, ◌<◌, ◌≤◌, ◌+◌, ◌-◌, inl, inr, ⊎_elim, ℕ, List, [], ◌∷◌, length, Bool, refl, sym, ap, subst, ◌∙◌, arith}
-use Rattle.std.specs.Prelude.{Option, Some, None, is_some}
-use Rattle.std.specs.Cmp.Lexicographic.{nat_list_cmp_total}
+use Rattle.std.specs.{Prelude.{Option, Some, None, is_some}, Cmp.Lexicographic.nat_list_cmp_total}
 use Rattle.std.specs.FinMap.{empty, entries, entries-insert, get-entries, get, insert, contains_key, find, put}
+use Rattle.std.proofs.Common.{◌≡◌, ◌≢◌, ◌<◌, ◌≤◌, ◌+◌, inl, inr, ⊎_elim, ℕ, List, [], ◌∷◌, length, Bool, refl, sym, ap, subst, ◌∙◌, arith}
 use Rattle.sector_device.specs.claim.Disk.{Image}
-use Rattle.page_store.specs.claim.Chain.{IsIn, AreFree}
-use Rattle.page_store.proofs.Chains.{below_free}
-use Rattle.page_node.specs.claim.Entries.{Entry, child_bytes}
-use Rattle.page_node.specs.Entries.{key_at}
-use Rattle.page_node.specs.claim.Node.{Node, IsNode}
-use Rattle.page_node.specs.claim.Places.{key_cmp}
-use Rattle.page_btree.specs.claim.Keys.{KeyMap}
-use Rattle.page_btree.specs.claim.Tree.{Tree, Forest, leaf, inner, one, more, page_of, rows, forest_rows, links, forest_owns, IsTree, AreTrees}
-use Rattle.page_btree.specs.claim.Map.{Holds, IsRooted}
-use Rattle.page_btree.specs.Map.{IsOnlyRow}
-use Rattle.btree_puts.specs.Putting.{IsPut, IsRaised, IsGrown, CanPut}
-use Rattle.page_btree.proofs.MapLaws.{trees_same, no_entries}
-use Rattle.page_btree.proofs.Descent.{owns_page}
+use Rattle.page_store.{specs.claim.Chain.{IsIn, AreFree}, proofs.Chains.below_free}
+use Rattle.page_node.specs.{claim.Entries.{Entry, child_bytes}, Entries.key_at, claim.Node.{Node, IsNode}, claim.Places.key_cmp}
+use Rattle.page_btree.specs.{claim.Keys.KeyMap, claim.Tree.{Tree, Forest, leaf, inner, one, more, page_of, rows, forest_rows, links, forest_owns, IsTree, AreTrees}}
+use Rattle.page_btree.{specs.claim.Map.{Holds, IsRooted}, specs.Map.IsOnlyRow, proofs.MapLaws.{trees_same, no_entries}, proofs.Descent.owns_page}
 use Rattle.page_btree.proofs.Tops.{rooted as has_tree, every_key}
+use Rattle.btree_puts.specs.Putting.{IsPut, IsRaised, IsGrown, CanPut}
 
 -- the level that a tree's page says
 pub level_there : (P : Image) (d : ℕ) (low : List ℕ) (high : Option (List ℕ)) (t : Tree) → IsTree P d low high t → (es : List Entry) × IsNode (P (page_of t)) (record { level = d; entries = es })
@@ -78,20 +69,19 @@ module _ (n : ℕ) (P Q : Image) (root : ℕ) (free left : List ℕ) (m : KeyMap
 
   one_holds : (t : Tree) → page_of t ≡ root → IsPut P Q r.level [] None free left key value had (one [] r.tree) (one [] t) → Holds n Q root left (insert m key value) × (had ≡ contains_key m key)
   one_holds t is done = (
-    let a = done.whole in
-        let b = r.whole in record {
-          free_are = done.rest n free_are;
-          held = inr (record {
-            tree = t;
-            level = r.level;
-            few = r.few;
-            stands = done.trees;
-            root_is = is;
-            sound = record { apart = done.apart; below = g_below (one [] t) done; used = g_used (one [] t) done };
-            rows_are = g_rows (one [] t) done;
-            whole = omega arith;
-          });
-        },
+    let b = r.whole in record {
+      free_are = done.rest n free_are;
+      held = inr (record {
+        tree = t;
+        level = r.level;
+        few = r.few;
+        stands = done.trees;
+        root_is = is;
+        sound = record { apart = done.apart; below = g_below (one [] t) done; used = g_used (one [] t) done };
+        rows_are = g_rows (one [] t) done;
+        whole = omega arith;
+      });
+    },
     g_had (one [] t) done,
   )
 
@@ -106,7 +96,6 @@ module _ (n : ℕ) (P Q : Image) (root : ℕ) (free left : List ℕ) (m : KeyMap
       let off : forest_owns g top → ⊥ = λ own. g_used g done top own in_left in
       let are : AreFree n (top ∷ last) = subst (AreFree n) grown.taken (done.rest n free_are) in
       let trees : AreTrees R r.level [] None g = trees_same Q R r.level [] None g (λ q own. grown.elsewhere q (λ is. off (subst (forest_owns g) is own))) done.trees in
-      let less : r.level + 1 - 1 ≡ r.level = omega arith in
       let node : IsNode (R top) (record { level = r.level + 1; entries = links g }) = subst (λ (a : ℕ). IsNode (R top) (record { level = r.level + 1; entries = ([], child_bytes a) ∷ (bound, child_bytes (page_of u)) ∷ [] })) (sym here)
       (subst (λ (b : ℕ). IsNode (R top) (record { level = r.level + 1; entries = ([], child_bytes root) ∷ (bound, child_bytes b) ∷ [] })) (sym there) grown.holds) in
       let a = done.whole in
@@ -116,7 +105,7 @@ module _ (n : ℕ) (P Q : Image) (root : ℕ) (free left : List ℕ) (m : KeyMap
         tree = inner top g;
         level = r.level + 1;
         few = omega arith;
-        stands = (omega arith, node, subst (λ (d : ℕ). AreTrees R d [] None g) (sym less) trees);
+        stands = (omega arith, node, subst (λ (d : ℕ). AreTrees R d [] None g) (sym (omega arith)) trees);
         root_is = refl;
         sound = record {
           apart = (off, done.apart);

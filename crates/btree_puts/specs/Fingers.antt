@@ -1,23 +1,11 @@
 -- Leaves that are known, and puts by them.
-use Rattle.std.specs.Prelude.{◌≡◌, ◌≢◌, ◌<◌, ℕ, Bool, List, Option, true, Result, IfOk, IfSome}
-use Rattle.std.specs.FinMap.{insert, contains_key, get as row_at}
-use Rattle.sector_device.specs.claim.Disk.{Image}
-use Rattle.sector_device.specs.declared.SectorDevice.{Ghosts}
-use Rattle.page_store.specs.claim.Transactions.{stored, disk_in, has_halted, HasFailed, txn_pages, txn_root, txn_free, over}
-use Rattle.page_store.specs.declared.pages.Pages.{Pages}
-use Rattle.page_store.specs.declared.txn.Txn.{Txn}
-use Rattle.page_node.specs.claim.Entries.{Entry}
-use Rattle.page_node.specs.claim.Node.{IsNode}
-use Rattle.page_node.specs.Searching.{IsBelow}
-use Rattle.page_btree.specs.claim.Keys.{KeyMap}
-use Rattle.page_btree.specs.claim.Map.{InTxn}
-use Rattle.page_btree.specs.claim.Errors.{level_in}
-use Rattle.page_btree.specs.Getting.{CanGetAt, IsCopied}
-use Rattle.page_btree.specs.Leading.{LeadsTo, LeadsAll, end_of}
-use Rattle.page_btree.specs.declared.error.TreeError.{TreeError}
-use Rattle.page_btree.specs.declared.error.TreeError.TheVariants.{DeviceFault, NotAStore, Halted, NoPages, TooDeep, Memory}
-use Rattle.btree_puts.specs.declared.finger.Finger.{Finger}
-use Rattle.btree_puts.specs.declared.finger.Fingers.{Fingers}
+use Rattle.std.specs.{Prelude.{◌≡◌, ◌≢◌, ◌<◌, ℕ, Bool, List, Option, true, Result, IfOk, IfSome}, FinMap.{insert, contains_key, get as row_at}}
+use Rattle.sector_device.specs.{claim.Disk.Image, declared.SectorDevice.Ghosts}
+use Rattle.page_store.specs.{claim.Transactions.{stored, disk_in, has_halted, HasFailed, txn_pages, txn_root, txn_free, over}, declared.pages.Pages.Pages, declared.txn.Txn.Txn}
+use Rattle.page_node.specs.{claim.Entries.Entry, claim.Node.IsNode, Searching.IsBelow}
+use Rattle.page_btree.specs.{claim.Keys.KeyMap, claim.Map.InTxn, claim.Errors.level_in, Getting.{CanGetAt, IsCopied}, Leading.{LeadsTo, LeadsAll, end_of}}
+use Rattle.page_btree.specs.{declared.error.TreeError.TreeError, declared.error.TreeError.TheVariants.{DeviceFault, NotAStore, Halted, NoPages, TooDeep, Memory}}
+use Rattle.btree_puts.specs.{declared.finger.Finger.Finger, declared.finger.Fingers.Fingers}
 
 -- keys from the finger's on, as far as they reach, belong to its leaf, where each key before its place is below them
 pub record IsPlaced (t : Txn) (S : Image) (f : Finger) : Type 0 where
@@ -85,6 +73,4 @@ module _ {D : Type 0} {g : Ghosts D} where
   GetWhereErr says t old new DeviceFault = HasFailed old new
   GetWhereErr says t old new NotAStore = (disk_in new).is_honest → (m : KeyMap) → InTxn t (stored old) m → says (stored old) → ⊥
   GetWhereErr says t old new Halted = has_halted old ≡ true
-  GetWhereErr says t old new NoPages = ⊥
-  GetWhereErr says t old new TooDeep = ⊥
-  GetWhereErr says t old new Memory = ⊥
+  GetWhereErr says t old new _ = ⊥

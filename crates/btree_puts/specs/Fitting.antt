@@ -1,23 +1,10 @@
 -- What a put needs that edits a leaf alone.
-use Rattle.std.specs.Prelude.{◌≡◌, ◌≢◌, ℕ, List, Option, None, is_some, true, Result, IfOk, IfSome}
-use Rattle.std.specs.FinMap.{find, put}
-use Rattle.sector_device.specs.claim.Disk.{Image}
-use Rattle.sector_device.specs.declared.SectorDevice.{Ghosts}
-use Rattle.page_store.specs.claim.Transactions.{stored, disk_in, has_halted, HasFailed, over, free_over}
-use Rattle.page_store.specs.claim.Chain.{IsIn, AreFree}
-use Rattle.page_store.specs.declared.pages.Pages.{Pages}
-use Rattle.page_store.specs.declared.txn.Txn.{Txn}
-use Rattle.page_store.specs.Outcomes.{KeepsRoot}
-use Rattle.page_store.specs.Reading.{ReadsOnly}
-use Rattle.page_node.specs.claim.Entries.{Entry}
-use Rattle.page_node.specs.claim.Node.{IsNode}
-use Rattle.page_node.specs.claim.Places.{key_cmp, Rises}
-use Rattle.page_node.specs.Searching.{IsBelow}
-use Rattle.page_node.specs.declared.edit.RowPut.{RowPut}
-use Rattle.page_node.specs.declared.search.RowNear.{RowNear}
-use Rattle.page_btree.specs.Editing.{IsAlike, WritesOne}
-use Rattle.page_btree.specs.declared.error.TreeError.{TreeError}
-use Rattle.page_btree.specs.declared.error.TreeError.TheVariants.{DeviceFault, NotAStore, Halted, NoPages, TooDeep, Memory}
+use Rattle.std.specs.{Prelude.{◌≡◌, ◌≢◌, ℕ, List, Option, None, is_some, true, Result, IfOk, IfSome}, FinMap.{find, put}}
+use Rattle.sector_device.specs.{claim.Disk.Image, declared.SectorDevice.Ghosts}
+use Rattle.page_store.specs.{claim.Transactions.{stored, disk_in, has_halted, HasFailed, over, free_over}, claim.Chain.{IsIn, AreFree}, declared.pages.Pages.Pages}
+use Rattle.page_store.specs.{declared.txn.Txn.Txn, Outcomes.KeepsRoot, Reading.ReadsOnly}
+use Rattle.page_node.specs.{claim.Entries.Entry, claim.Node.IsNode, claim.Places.{key_cmp, Rises}, Searching.IsBelow, declared.edit.RowPut.RowPut, declared.search.RowNear.RowNear}
+use Rattle.page_btree.specs.{Editing.{IsAlike, WritesOne}, declared.error.TreeError.TreeError, declared.error.TreeError.TheVariants.{DeviceFault, NotAStore, Halted, Memory}}
 
 -- a row was put into the leaf at a page, where there is one and each key before a place is below its own
 abbrev pub IsLeafPut : Txn → Txn → Image → ℕ → RowNear → List ℕ → List ℕ → RowPut → Type 0
@@ -34,9 +21,8 @@ module _ {D : Type 0} {g : Ghosts D} where
   LeafPutErr page from key t old new NotAStore = (disk_in new).is_honest → (es : List Entry)
       → IsNode (over t (stored old) page) (record { level = 0; entries = es }) → Rises es → IsBelow key es from.k from.at → ⊥
   LeafPutErr page from key t old new Halted = has_halted old ≡ true
-  LeafPutErr page from key t old new NoPages = ⊥
-  LeafPutErr page from key t old new TooDeep = ⊥
   LeafPutErr page from key t old new Memory = Unit {0}
+  LeafPutErr page from key t old new _ = ⊥
 
   -- a put into the leaf at a page by an edit of it, which isn't made where the row doesn't fit
   pub record PutsAtLeaf (page : ℕ) (from : RowNear) (before after : Txn) (old new : Pages D g) (key value : List ℕ) (result : Result (Option RowPut) TreeError) : Type 0 where

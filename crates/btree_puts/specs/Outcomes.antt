@@ -1,26 +1,13 @@
 -- What a put leaves, where the device is honest and the pages hold what they may.
 use Rattle.std.specs.Prelude.{◌≡◌, ◌<◌, ◌+◌, ℕ, Bool, List, [], ◌∷◌, length, Option, Some, None, is_some, Result, OnOk, IfOk, IfErr, MatchResult}
 use Rattle.std.specs.FinMap.{find, get, insert, contains_key, put as put_entry}
-use Rattle.sector_device.specs.claim.Disk.{Image}
-use Rattle.sector_device.specs.declared.SectorDevice.{Ghosts}
-use Rattle.page_store.specs.claim.Chain.{IsIn, AreFree}
-use Rattle.page_store.specs.claim.Transactions.{stored, disk_in, txn_pages, txn_root, txn_free, over, free_over}
-use Rattle.page_store.specs.declared.pages.Pages.{Pages}
-use Rattle.page_store.specs.declared.txn.Txn.{Txn}
-use Rattle.page_node.specs.claim.Entries.{Entry, child_bytes}
-use Rattle.page_node.specs.Entries.{key_at}
-use Rattle.page_node.specs.claim.Node.{Node, IsNode}
-use Rattle.page_node.specs.claim.Places.{key_cmp, Rises}
-use Rattle.page_btree.specs.claim.Keys.{KeyMap}
-use Rattle.page_btree.specs.claim.Tree.{Tree, rows}
-use Rattle.page_btree.specs.claim.Map.{InTxn}
-use Rattle.page_store.specs.Outcomes.{KeepsRoot}
-use Rattle.page_btree.specs.Editing.{Spends}
-use Rattle.page_btree.specs.Errors.{IsNoWant}
-use Rattle.btree_puts.specs.Putting.{CanPut, IsRaised, IsGrown, IsWritten, IsCut, linked}
-use Rattle.page_btree.specs.declared.error.TreeError.{TreeError}
+use Rattle.sector_device.specs.{claim.Disk.Image, declared.SectorDevice.Ghosts}
+use Rattle.page_store.specs.{claim.Chain.{IsIn, AreFree}, claim.Transactions.{stored, disk_in, txn_pages, txn_root, txn_free, over, free_over}, declared.pages.Pages.Pages}
+use Rattle.page_store.specs.{declared.txn.Txn.Txn, Outcomes.KeepsRoot}
+use Rattle.page_node.specs.{claim.Entries.{Entry, child_bytes}, Entries.key_at, claim.Node.{Node, IsNode}, claim.Places.{key_cmp, Rises}}
+use Rattle.page_btree.specs.{claim.Keys.KeyMap, claim.Tree.{Tree, rows}, claim.Map.InTxn, Editing.Spends, Errors.IsNoWant, declared.error.TreeError.TreeError}
 use Rattle.page_btree.specs.declared.error.TreeError.TheVariants.{NoPages, TooDeep}
-use Rattle.btree_puts.specs.declared.puts.Placed.{Placed}
+use Rattle.btree_puts.specs.{Putting.{CanPut, IsRaised, IsGrown, IsWritten, IsCut, linked}, declared.puts.Placed.Placed}
 
 -- ---- what a put does to a part of a tree, as one transaction over stored pages became another
 -- a row can be put into the tree at a page

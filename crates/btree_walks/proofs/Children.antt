@@ -1,20 +1,13 @@
 -- The children of a tree that could be walked.
-use Rattle.std.proofs.Common.{◌≡◌, ◌<◌, ◌≤◌, ◌+◌, ◌-◌, ◌^◌, ℕ, zero, suc, List, [], ◌∷◌, length, drop, get_or, inl, inr, refl, sym, ap, subst, ◌∙◌, arith, add-one, length-drop}
 use Rattle.std.specs.Prelude.{Option, Some}
+use Rattle.std.proofs.Common.{◌≡◌, ◌<◌, ◌≤◌, ◌+◌, ◌-◌, ◌^◌, ℕ, zero, suc, List, [], ◌∷◌, length, drop, get_or, inl, inr, refl, sym, ap, subst, ◌∙◌, arith, add-one, length-drop}
 use Rattle.sector_device.specs.claim.Disk.{Image}
-use Rattle.page_node.specs.claim.Entries.{Entry, child_bytes}
-use Rattle.page_node.specs.Entries.{key_at, value_at}
-use Rattle.page_node.specs.claim.Node.{Node, IsNode}
-use Rattle.page_node.proofs.Laws.{node_unique}
+use Rattle.page_node.{specs.claim.Entries.{Entry, child_bytes}, specs.Entries.{key_at, value_at}, specs.claim.Node.{Node, IsNode}, proofs.Laws.node_unique}
 use Rattle.page_btree.specs.claim.Keys.{Parts}
 use Rattle.page_btree.specs.claim.Tree.{Tree, Forest, leaf, inner, one, more, page_of, first_key, links, owns, forest_owns, size, IsTree, AreTrees, IsApart, AreApart}
-use Rattle.page_btree.proofs.Descent.{node_of, owns_page, some_links, key_of_links}
-use Rattle.page_btree.proofs.MapLaws.{page_is, one_tree}
-use Rattle.btree_walks.specs.Order.{lower_of, upper_of, next_key, AreRows, AreParts, IsOrdered}
-use Rattle.btree_walks.specs.Owners.{CanName, AreNamed, HasLevel, IsWalked, AreWalkedFrom, CanWalk}
-use Rattle.btree_walks.specs.declared.marks.Marks.{Marks}
-use Rattle.btree_walks.proofs.Named.{can_still}
-use Rattle.btree_walks.proofs.Trees.{drop_next}
+use Rattle.page_btree.proofs.{Descent.{node_of, owns_page, some_links, key_of_links}, MapLaws.{page_is, one_tree}}
+use Rattle.btree_walks.specs.{Order.{lower_of, upper_of, next_key, AreRows, AreParts, IsOrdered}, Owners.{CanName, AreNamed, HasLevel, IsWalked, AreWalkedFrom, CanWalk}}
+use Rattle.btree_walks.{specs.declared.marks.Marks.Marks, proofs.Named.can_still, proofs.Trees.drop_next}
 
 -- ---- what a tree says of its page
 pub can_level : (P : Image) (d : ℕ) (low : List ℕ) (high : Option (List ℕ)) (p : ℕ) (old : Marks) → CanWalk P d low high p old → HasLevel (P p) d

@@ -1,24 +1,15 @@
 -- A row taken out of rows, and out of a map.
-use Rattle.std.specs.Prelude.{insert, remove}
-use Rattle.std.proofs.Common.{◌≡◌, ℕ, zero, suc, ◌+◌, ◌<◌, ◌≤◌, List, [], ◌∷◌, length, get_or, Bool, true, false, cond, refl, sym, ap, subst, ◌∙◌, arith}
-use Rattle.std.specs.Prelude.{Option, Some, None}
-use Rattle.std.specs.List.{AllByRecursion}
-use Rattle.std.specs.Ordering.{is_gt, is_lt, is_eq, eq_by_cmp}
-use Rattle.std.specs.Cmp.Lexicographic.{nat_list_cmp_total}
-use Rattle.std.specs.declared.cmp.Ordering.{Ordering}
+use Rattle.std.specs.{Prelude.{insert, remove, Option, Some, None}, List.AllByRecursion, Ordering.{is_gt, is_lt, is_eq, eq_by_cmp}, Cmp.Lexicographic.nat_list_cmp_total}
 use Rattle.std.specs.declared.cmp.Ordering.TheVariants.{Less, Equal, Greater}
 use Rattle.std.specs.FinMap.{is_sorted, find, put, entries, get, same_entries_map, from_sorted, entries-from_sorted, entries-insert, get-insert, get-remove, same_map, get_tied, slice_cmp-IsAntisymmetric, nat_cmp-IsAntisymmetric, get-from_sorted, get-entries}
-use Rattle.std.specs.FinMap as map
 use Rattle.std.specs.FinMap.Entries.{by_order, below_all, find-put}
+use Rattle.std.proofs.Common.{◌≡◌, ℕ, zero, suc, ◌+◌, ◌<◌, ◌≤◌, List, [], ◌∷◌, length, get_or, Bool, true, false, cond, refl, sym, ap, subst, ◌∙◌, arith}
+use Rattle.std.specs.FinMap as map
 use Rattle.std.proofs.lemmas.Cmp.{tied_itself}
 use Rattle.std.proofs.lemmas.List.Edits.{get_or-remove_below, get_or-remove_above}
-use Rattle.page_node.specs.claim.Entries.{Entry, size_of}
-use Rattle.page_node.specs.Entries.{key_at, value_at}
-use Rattle.page_node.specs.claim.Places.{key_cmp, Rises}
-use Rattle.page_node.specs.Places.{IsFound, IsGap}
+use Rattle.page_node.specs.{claim.Entries.{Entry, size_of}, Entries.{key_at, value_at}, claim.Places.{key_cmp, Rises}, Places.{IsFound, IsGap}}
 use Rattle.page_node.proofs.Laws.{gap_put, gap_find}
-use Rattle.page_btree.specs.claim.Keys.{KeyMap}
-use Rattle.page_btree.proofs.Booleans.{first_so, second_so, both_so}
+use Rattle.page_btree.{specs.claim.Keys.KeyMap, proofs.Booleans.{first_so, second_so, both_so}, proofs.Placed.is_equal as equal}
 use Rattle.btree_walks.specs.Removing.{unlinked, unlinked_from}
 
 length_remove : (es : List Entry) (i : ℕ) → i < length es → length (remove es i) + 1 ≡ length es
@@ -41,7 +32,6 @@ size_remove (e ∷ es) (suc i) = let rest = size_remove es i in omega arith
 gap_remove : (key : List ℕ) (es : List Entry) (i : ℕ) → IsFound key es i → IsGap key (remove es i) i
 gap_remove key es i found =
     let few = length_remove es i found.within in
-    let in_it = found.within in
     record {
       within = omega arith;
       below = λ j less. ap (λ (e : Entry). key_cmp e.0 key) (get_or-remove_below es i ([], []) j less found.within) ∙ found.below j less;
@@ -93,10 +83,6 @@ pub found_put : (key value : List ℕ) (es : List Entry) → find key_cmp key (p
 found_put key value es = find-put key_cmp nat_list_cmp_total key key value es ∙ ap (λ r. cond (is_eq r) (Some value) (find key_cmp key es)) (tied_itself nat_list_cmp_total key)
 
 -- ---- maps
-equal : (r : Ordering) → is_eq r ≡ true → r ≡ Equal
-equal Less h = cc
-equal Equal h = refl
-equal Greater h = cc
 
 without_key : (b : Bool) (value : List ℕ) (found : Option (List ℕ)) → (b ≡ true → found ≡ None) → cond b None (cond b (Some value) found) ≡ found
 without_key true value found none = sym (none refl)

@@ -1,47 +1,32 @@
 -- What isn't so of the page that is told, by cases.
-use Rattle.std.proofs.Common.{◌≡◌, ◌<◌, ◌+◌, ◌++◌, ℕ, List, [], ◌∷◌, length, refl, sym, ap, subst, ◌∙◌}
-use Rattle.std.specs.Prelude.{Option, None}
-use Rattle.sector_device.specs.claim.Disk.{Image}
-use Rattle.gate_journal.specs.claim.Store.{word}
-use Rattle.page_store.specs.claim.Chain.{IsIn, root_in}
-use Rattle.gate_journal.specs.declared.error.PageError.{PageError}
-use Rattle.gate_journal.specs.declared.error.PageError.TheVariants as page
-use Rattle.page_node.specs.claim.Entries.{child_bytes}
-use Rattle.page_node.specs.Entries.{value_at}
-use Rattle.page_node.specs.claim.Node.{Node, IsNode}
-use Rattle.btree_walks.specs.Order.{lower_of, upper_of}
-use Rattle.btree_walks.specs.Errors.{pages_error}
-use Rattle.btree_walks.specs.Owners.{linked, named_free, after}
-use Rattle.btree_walks.specs.Faults.{IsWay, IsPlace, IsNamedIn, IsWrongPage, TellsOf, IsUnnamed}
-use Rattle.btree_walks.specs.declared.error.PageFault.{PageFault}
-use Rattle.btree_walks.specs.declared.error.PageFaultKind.{PageFaultKind}
-use Rattle.btree_walks.specs.declared.error.PageFaultKind.TheVariants.{BeyondTheEnd, NamedTwice, NotFree, ListGoesOn, NotANode, WrongLevel, KeysOutOfOrder, Lost}
-use Rattle.btree_walks.specs.declared.marks.Marks.{Marks}
+use Rattle.std.{specs.Prelude.{Option, None, Result, IfErr, IsErrAnd}, proofs.Common.{◌≡◌, ◌<◌, ◌+◌, ◌++◌, ℕ, List, [], ◌∷◌, length, refl, sym, ap, subst, ◌∙◌}}
+use Rattle.page_btree.proofs.Outcomes.{err_of}
+use Rattle.btree_walks.specs.{declared.error.PagesError.PagesError, declared.error.PagesError.TheVariants.Unsound, Order.{lower_of, upper_of}, Errors.pages_error}
+use Rattle.btree_walks.specs.{Owners.{linked, named_free, after}, Faults.{IsWay, IsPlace, IsNamedIn, IsWrongPage, TellsOf, IsUnnamed}, declared.error.PageFault.PageFault}
+use Rattle.btree_walks.specs.{declared.error.PageFaultKind.PageFaultKind, declared.error.PageFaultKind.TheVariants.{BeyondTheEnd, NamedTwice}, declared.marks.Marks.Marks}
 use Rattle.btree_walks.proofs.Lists.{AreListed, after_in}
+use Rattle.sector_device.specs.claim.Disk.{Image}
+use Rattle.gate_journal.specs.{claim.Store.word, declared.error.PageError.PageError}
+use Rattle.page_store.specs.claim.Chain.{IsIn, root_in}
+use Rattle.gate_journal.specs.declared.error.PageError.TheVariants as page
+use Rattle.page_node.specs.{claim.Entries.child_bytes, Entries.value_at, claim.Node.{Node, IsNode}}
 
 -- a read that was refused tells no page
-pub read_told : (n : ℕ) (P : Image) (e : PageError) → TellsOf n P (pages_error e)
-read_told n P page.NotAStore = tt
-read_told n P page.DeviceFault = tt
-read_told n P page.Halted = tt
-read_told n P page.TooManyPages = tt
-read_told n P page.TooSmall = tt
-read_told n P page.NoPages = tt
+read_told : (n : ℕ) (P : Image) (e : PageError) → TellsOf n P (pages_error e)
 read_told n P page.Memory = tt
+read_told n P _ = tt
+
+pub unread_told : {U : Type 0} (r : Result U PagesError) (n : ℕ) (P : Image) (e : PageError) → IsErrAnd r (λ x. x ≡ pages_error e) → IfErr r (TellsOf n P)
+unread_told r n P e is = err_of r (pages_error e) (TellsOf n P) is (read_told n P e)
 
 -- a page that can't be named
 unnamed : (n : ℕ) (P : Image) (p : ℕ) (kind : PageFaultKind) → IsNamedIn P p → IsUnnamed n p kind → IsWrongPage n P p kind
 unnamed n P p BeyondTheEnd named is = (is, named)
 unnamed n P p NamedTwice named is = (is, named)
-unnamed n P p NotFree named is = absurd is
-unnamed n P p ListGoesOn named is = absurd is
-unnamed n P p NotANode named is = absurd is
-unnamed n P p WrongLevel named is = absurd is
-unnamed n P p KeysOutOfOrder named is = absurd is
-unnamed n P p Lost named is = absurd is
+unnamed n P p _ named is = absurd is
 
-pub name_told : (n : ℕ) (P : Image) (p : ℕ) (fault : PageFault) → IsNamedIn P p → (fault.page ≡ p) × IsUnnamed n p fault.kind → IsWrongPage n P fault.page fault.kind
-name_told n P p fault named is = subst (λ (q : ℕ). IsWrongPage n P q fault.kind) (sym is.0) (unnamed n P p fault.kind named is.1)
+pub name_told : {U : Type 0} (r : Result U PagesError) (n : ℕ) (P : Image) (p : ℕ) (fault : PageFault) → IsErrAnd r (λ x. x ≡ Unsound fault) → IsNamedIn P p → (fault.page ≡ p) × IsUnnamed n p fault.kind → IfErr r (TellsOf n P)
+name_told r n P p fault told named is = err_of r (Unsound fault) (TellsOf n P) told (subst (λ (q : ℕ). IsWrongPage n P q fault.kind) (sym is.0) (unnamed n P p fault.kind named is.1))
 
 -- ---- ways
 way_more : (P : Image) (page level : ℕ) (low : List ℕ) (high : Option (List ℕ)) (way : List ℕ) (end end_level : ℕ) (end_low : List ℕ) (end_high : Option (List ℕ)) (node : Node) (k child below : ℕ)

@@ -1,27 +1,12 @@
 -- A remove from the tree at a child, whose page was read.
+use Rattle.std.specs.{Prelude.{Some, None, Result, Ok, IfOk, OnOk}, Option.option_map, FinMap.find}
 use Rattle.std.proofs.Common.{◌≡◌, ◌≢◌, ◌-◌, ◌<◌, ◌≤◌, ◌^◌, ℕ, List, sym, subst, arith}
-use Rattle.std.specs.Prelude.{Some, None, Result, Ok, IfOk, OnOk}
-use Rattle.std.specs.Option.{option_map}
-use Rattle.std.specs.FinMap.{find}
-use Rattle.sector_device.specs.claim.Disk.{Image}
-use Rattle.sector_device.specs.declared.SectorDevice.{Ghosts}
-use Rattle.page_store.specs.claim.Chain.{AreFree}
-use Rattle.page_store.specs.claim.Transactions.{stored, disk_in, txn_pages, over, free_over, IsQuiet}
-use Rattle.page_store.specs.declared.pages.Pages.{Pages}
-use Rattle.page_store.specs.declared.txn.Txn.{Txn}
-use Rattle.page_node.specs.Entries.{child_in}
-use Rattle.page_node.specs.claim.Node.{Node, IsNode}
-use Rattle.page_node.specs.claim.Places.{key_cmp}
-use Rattle.page_node.specs.Places.{floor}
-use Rattle.page_btree.specs.claim.Tree.{rows}
-use Rattle.page_btree.specs.declared.error.TreeError.{TreeError}
-use Rattle.btree_walks.specs.Removing.{CanRemove, Removes, IsPutBack, unlinked}
-use Rattle.btree_walks.specs.Outcomes.{RemovesKeyAt}
-use Rattle.btree_walks.specs.declared.removes.Removed.{Removed}
-use Rattle.btree_walks.specs.declared.removes.Removed.TheVariants.{Absent, Kept, Emptied}
-use Rattle.page_btree.proofs.Outcomes.{map_ok}
-use Rattle.btree_walks.proofs.Refusals.{HasNode}
-use Rattle.btree_walks.proofs.Steps.{StepsDown, step_down, both_ok}
+use Rattle.sector_device.specs.{claim.Disk.Image, declared.SectorDevice.Ghosts}
+use Rattle.page_store.specs.{claim.Chain.AreFree, claim.Transactions.{stored, disk_in, txn_pages, over, free_over, IsQuiet}, declared.pages.Pages.Pages, declared.txn.Txn.Txn}
+use Rattle.page_node.specs.{Entries.child_in, claim.Node.{Node, IsNode}, claim.Places.key_cmp, Places.floor}
+use Rattle.page_btree.{specs.claim.Tree.rows, specs.declared.error.TreeError.TreeError, proofs.Outcomes.map_ok}
+use Rattle.btree_walks.specs.{Removing.{CanRemove, Removes, IsPutBack, unlinked}, Outcomes.RemovesKeyAt, declared.removes.Removed.Removed}
+use Rattle.btree_walks.{specs.declared.removes.Removed.TheVariants.{Absent, Kept, Emptied}, proofs.Refusals.HasNode, proofs.Steps.{StepsDown, step_down, both_ok}}
 
 module _ {D : Type 0} {g : Ghosts D} (t u : Txn) (old mid new : Pages D g) (level p child : ℕ) (page below key : List ℕ) (deep : level ≢ 0) (few : txn_pages t ≤ 2 ^ 32) (told : (node : Node) → IsNode page node → option_map child_in (floor key node.entries) ≡ Some child) (quiet : IsQuiet old mid) (later : IsQuiet mid new) (reads : (disk_in mid).is_honest → below ≡ over t (stored old) child) (honest : (disk_in new).is_honest) (there : page ≡ over t (stored old) p) (can : CanRemove (txn_pages t) (over t (stored old)) (free_over t (stored old)) level key p) where
   positive : 0 < level

@@ -1,20 +1,11 @@
 -- A remove from the tree at a root that was read.
-use Rattle.std.proofs.Common.{◌≡◌, ◌≢◌, ℕ, List, true, false, refl, sym, subst, ◌∙◌}
-use Rattle.std.specs.Prelude.{Some, None, Ok}
-use Rattle.std.specs.FinMap.{remove as remove_key, contains_key}
-use Rattle.sector_device.specs.claim.Disk.{Image}
-use Rattle.sector_device.specs.declared.SectorDevice.{Ghosts}
-use Rattle.page_store.specs.claim.Transactions.{stored, disk_in, txn_pages, txn_root, over, free_over, IsQuiet}
-use Rattle.page_store.specs.declared.pages.Pages.{Pages}
-use Rattle.page_store.specs.declared.txn.Txn.{Txn}
+use Rattle.std.{specs.Prelude.{Some, None, Ok}, specs.FinMap.{remove as remove_key, contains_key}, proofs.Common.{◌≡◌, ◌≢◌, ℕ, List, true, false, refl, sym, subst, ◌∙◌}}
+use Rattle.sector_device.specs.{claim.Disk.Image, declared.SectorDevice.Ghosts}
+use Rattle.page_store.specs.{claim.Transactions.{stored, disk_in, txn_pages, txn_root, over, free_over, IsQuiet}, declared.pages.Pages.Pages, declared.txn.Txn.Txn}
 use Rattle.page_node.specs.claim.Node.{Node, IsNode}
-use Rattle.page_btree.specs.claim.Keys.{KeyMap}
-use Rattle.page_btree.specs.claim.Map.{InTxn, IsRooted}
-use Rattle.btree_walks.specs.Removing.{CanRemove, Removes, StaysAt}
-use Rattle.btree_walks.specs.Outcomes.{RemovesKeyAt}
-use Rattle.btree_walks.specs.declared.removes.Removed.{Removed}
+use Rattle.page_btree.{specs.claim.Keys.KeyMap, specs.claim.Map.{InTxn, IsRooted}, proofs.Tops.{rooted, level_lent}}
+use Rattle.btree_walks.specs.{Removing.{CanRemove, Removes, StaysAt}, Outcomes.RemovesKeyAt, declared.removes.Removed.Removed}
 use Rattle.btree_walks.specs.declared.removes.Removed.TheVariants.{Absent, Kept, Emptied}
-use Rattle.page_btree.proofs.Tops.{rooted, level_lent}
 use Rattle.btree_walks.proofs.Lefts.{can_remove, absent_same, had_none, had_after, kept_holds, emptied_holds, holds_at}
 
 module _ {D : Type 0} {g : Ghosts D} (t u : Txn) (old mid new : Pages D g) (root level : ℕ) (page key : List ℕ) (root_is : root ≡ txn_root t) (some : root ≢ 0) (quiet : IsQuiet old mid) (later : IsQuiet mid new) (reads : (disk_in mid).is_honest → page ≡ over t (stored old) root) (level_is : (node : Node) → IsNode page node → level ≡ node.level) (honest : (disk_in new).is_honest) (m : KeyMap) (holds : InTxn t (stored old) m) where

@@ -1,20 +1,9 @@
 -- Keys that were compared one by one.
+use Rattle.std.specs.{Prelude.{Option, Some}, List.AllByRecursion, Ordering.{is_gt, is_lt}, declared.cmp.Ordering.TheVariants.Less, FinMap.is_sorted, FinMap.Entries.below_all}
 use Rattle.std.proofs.Common.{◌≡◌, ◌<◌, ◌≤◌, ◌+◌, ◌-◌, ℕ, zero, suc, true, false, List, [], ◌∷◌, length, get_or, inl, inr, refl, sym, ap, subst, ◌∙◌, arith, add-one}
-use Rattle.std.specs.Prelude.{Option, Some}
 use Rattle.std.proofs.lemmas.Bool.{cases_lt}
-use Rattle.std.specs.List.{AllByRecursion}
-use Rattle.std.specs.Ordering.{is_gt, is_lt}
-use Rattle.std.specs.declared.cmp.Ordering.{Ordering}
-use Rattle.std.specs.declared.cmp.Ordering.TheVariants.{Less, Equal, Greater}
-use Rattle.std.specs.FinMap.{is_sorted}
-use Rattle.std.specs.FinMap.Entries.{below_all}
-use Rattle.page_node.specs.claim.Entries.{Entry}
-use Rattle.page_node.specs.Entries.{key_at}
-use Rattle.page_node.specs.claim.Places.{key_cmp, Rises}
-use Rattle.page_node.proofs.Laws.{less_trans, is_less, rises_at, same_key}
-use Rattle.page_btree.specs.claim.Keys.{IsBetween, IsUnder}
-use Rattle.page_btree.proofs.Booleans.{first_so, second_so, both_so}
-use Rattle.page_btree.proofs.Rows.{wider_under}
+use Rattle.page_node.{specs.claim.Entries.Entry, specs.Entries.key_at, specs.claim.Places.{key_cmp, Rises}, proofs.Laws.{less_trans, is_less, rises_at, is_lower}}
+use Rattle.page_btree.{specs.claim.Keys.{IsBetween, IsUnder}, proofs.Booleans.{first_so, second_so, both_so}, proofs.Rows.wider_under}
 use Rattle.btree_walks.specs.Order.{lower_of, upper_of, AreRows, AreParts, IsOrdered}
 
 -- ---- at each place
@@ -45,10 +34,6 @@ rises_from (e ∷ f ∷ es) h =
     rest
 
 -- ---- keys between the first and the last
-is_lower : (x y z : List ℕ) (r : Ordering) → key_cmp x y ≡ r → is_gt r ≡ false → key_cmp y z ≡ Less → is_gt (key_cmp x z) ≡ false
-is_lower x y z Less is from less = ap is_gt (less_trans x y z is less)
-is_lower x y z Equal is from less = ap (λ k. is_gt (key_cmp k z)) (same_key x y is) ∙ ap is_gt less
-is_lower x y z Greater is from less = cc
 
 from_first : (low : List ℕ) (es : List Entry) (k : ℕ) → Rises es → is_gt (key_cmp low (key_at es 0)) ≡ false → k < length es → is_gt (key_cmp low (key_at es k)) ≡ false
 from_first low es zero rises first lt = first

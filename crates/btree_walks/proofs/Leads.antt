@@ -1,23 +1,10 @@
 -- A row taken out of the leaf that its key belongs to, told above.
 use Rattle.std.proofs.Common.{◌≡◌, ◌<◌, ◌≤◌, ◌-◌, ◌^◌, ℕ, zero, suc, List, Bool, refl, sym, ap, subst, arith}
-use Rattle.sector_device.specs.claim.Disk.{Image}
-use Rattle.sector_device.specs.declared.SectorDevice.{Ghosts}
-use Rattle.page_store.specs.claim.Transactions.{stored, disk_in, over, free_over}
-use Rattle.page_store.specs.declared.pages.Pages.{Pages}
-use Rattle.page_store.specs.declared.txn.Txn.{Txn}
-use Rattle.page_btree.specs.claim.Keys.{KeyMap}
-use Rattle.page_btree.specs.claim.Map.{InTxn}
-use Rattle.page_btree.specs.claim.Errors.{RemoveErr}
-use Rattle.page_btree.specs.Getting.{ReadsErr}
-use Rattle.page_btree.specs.Leading.{LeadsTo}
-use Rattle.btree_walks.specs.Removing.{CanRemove, Removes}
-use Rattle.btree_walks.specs.Sparing.{IsLeafTaken}
-use Rattle.btree_walks.proofs.Sparing.{did_take}
-use Rattle.page_btree.specs.declared.error.TreeError.{TreeError}
-use Rattle.btree_walks.proofs.Steps.{step_down}
-use Rattle.btree_walks.proofs.Spares.{leaf_takes, steps_up}
-use Rattle.page_btree.proofs.Rising.{tree_rises}
-use Rattle.page_btree.proofs.Refusals.{by_case}
+use Rattle.sector_device.specs.{claim.Disk.Image, declared.SectorDevice.Ghosts}
+use Rattle.page_store.specs.{claim.Transactions.{stored, disk_in, over, free_over}, declared.pages.Pages.Pages, declared.txn.Txn.Txn}
+use Rattle.page_btree.specs.{claim.Keys.KeyMap, claim.Map.InTxn, claim.Errors.RemoveErr, Getting.ReadsErr, Leading.LeadsTo, declared.error.TreeError.TreeError}
+use Rattle.page_btree.proofs.{Rising.tree_rises, Refusals.by_case}
+use Rattle.btree_walks.{specs.Removing.{CanRemove, Removes}, specs.Sparing.IsLeafTaken, proofs.Steps.step_down, proofs.Spares.{did_take, leaf_takes, steps_up}}
 
 pub removes_there : (n : ℕ) (S : Image) (t0 t1 : Txn) (key : List ℕ) (had : Bool) → n ≤ 2 ^ 32 → (leaf : ℕ) → IsLeafTaken t0 t1 S leaf key had → (d page : ℕ) → LeadsTo (over t0 S) d page key leaf
     → (can : CanRemove n (over t0 S) (free_over t0 S) d key page) → Removes (over t1 S) (free_over t1 S) can (did_take had)

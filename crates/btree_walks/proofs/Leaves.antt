@@ -1,11 +1,7 @@
 -- Leaves that are held one after the other.
+use Rattle.std.specs.{Prelude.{Result, Ok, Err, OnErr}, Ordering.is_gt}
 use Rattle.std.proofs.Common.{◌≡◌, ◌<◌, ◌+◌, ◌-◌, ℕ, zero, suc, List, [], ◌∷◌, ◌++◌, length, drop, get_or, Bool, true, false, cond, refl, ap, subst, ◌∙◌, arith}
-use Rattle.std.specs.Prelude.{Result, Ok, Err, OnErr}
-use Rattle.std.specs.Ordering.{is_gt}
-use Rattle.page_node.specs.claim.Entries.{Entry}
-use Rattle.page_node.specs.claim.Node.{IsNode}
-use Rattle.page_node.specs.claim.Places.{Rises, key_cmp}
-use Rattle.page_node.specs.Places.{entries_from}
+use Rattle.page_node.specs.{claim.Entries.Entry, claim.Node.IsNode, claim.Places.{Rises, key_cmp}, Places.entries_from}
 use Rattle.page_btree.specs.Seeking.{AreLeaves}
 
 -- the first of them, and the others

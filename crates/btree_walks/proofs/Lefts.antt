@@ -1,18 +1,13 @@
 -- Where a remove begins, and the map that it leaves.
+use Rattle.std.specs.{Prelude.{Option, Some, None, is_some}, FinMap.{find, put, is_sorted, get, get-entries, entries, entries_sorted, contains_key}}
 use Rattle.std.proofs.Common.{◌≡◌, inl, inr, ℕ, List, [], true, false, refl, sym, ap, subst, ◌∙◌, arith}
-use Rattle.std.specs.Prelude.{Option, Some, None, is_some}
-use Rattle.std.specs.FinMap.{find, put, is_sorted, get, get-entries, entries, entries_sorted, contains_key}
 use Rattle.std.specs.FinMap as map
 use Rattle.sector_device.specs.claim.Disk.{Image}
 use Rattle.page_store.specs.claim.Chain.{AreFree}
 use Rattle.page_node.specs.claim.Places.{key_cmp, Rises}
-use Rattle.page_btree.specs.claim.Keys.{KeyMap}
-use Rattle.page_btree.specs.claim.Tree.{Tree, IsTree, rows}
-use Rattle.page_btree.specs.claim.Map.{IsRooted, Holds}
-use Rattle.btree_walks.specs.Removing.{CanRemove, IsRemoved, rows_left}
-use Rattle.page_btree.proofs.Tops.{every_key, found_rows}
+use Rattle.page_btree.{specs.claim.Keys.KeyMap, specs.claim.Tree.{Tree, IsTree, rows}, specs.claim.Map.{IsRooted, Holds}, proofs.Tops.{every_key, found_rows}}
 use Rattle.page_btree.proofs.Booleans.{true_is}
-use Rattle.btree_walks.proofs.Edits.{rises_unput, found_put, remove_rows, remove_none}
+use Rattle.btree_walks.{specs.Removing.{CanRemove, IsRemoved, rows_left}, proofs.Edits.{rises_unput, found_put, remove_rows, remove_none}}
 
 abbrev pub can_remove : (n : ℕ) (P : Image) (root : ℕ) (free : List ℕ) (m : KeyMap) (r : IsRooted n P root free m) (key : List ℕ) (level p : ℕ) → AreFree n free → level ≡ r.level → p ≡ root → CanRemove n P free level key p
 can_remove n P root free m r key level p are same at = record {
@@ -33,20 +28,18 @@ module _ (n : ℕ) (P Q : Image) (root : ℕ) (free left : List ℕ) (m : KeyMap
 
   rows_after : (level : ℕ) (u : Option Tree) → IsRemoved n P Q level [] None free left key r.tree u → entries (map.remove m key) ≡ rows_left u
   rows_after level u done =
-      let whole : put key_cmp key done.value (rows_left u) ≡ entries m = done.rows_are ∙ r.rows_are in
-      remove_rows m key done.value (rows_left u) (rises_unput key done.value (rows_left u) (subst Rises (sym whole) rises_map)) done.none whole
+      let whole : put key_cmp key done.less.value (rows_left u) ≡ entries m = done.less.rows_are ∙ r.rows_are in
+      remove_rows m key done.less.value (rows_left u) (rises_unput key done.less.value (rows_left u) (subst Rises (sym whole) rises_map)) done.less.none whole
 
   pub had_after : (level : ℕ) (u : Option Tree) → IsRemoved n P Q level [] None free left key r.tree u → contains_key m key ≡ true
-  had_after level u done = ap is_some (sym (found_rows n P root free m r key) ∙ ap (find key_cmp key) (sym done.rows_are) ∙ found_put key done.value (rows_left u))
+  had_after level u done = ap is_some (sym (found_rows n P root free m r key) ∙ ap (find key_cmp key) (sym done.less.rows_are) ∙ found_put key done.less.value (rows_left u))
 
   -- a smaller tree at the root
   pub kept_holds : (level : ℕ) (t : Tree) → level ≡ r.level → IsRemoved n P Q level [] None free left key r.tree (Some t) → Holds n Q root left (map.remove m key)
   kept_holds level t same done =
       let few = r.few in
-      let first = r.whole in
-      let then = done.whole in
       record {
-        free_are = done.free_are;
+        free_are = done.less.free_are;
         held = inr (record {
           tree = t;
           level = level;
@@ -55,8 +48,8 @@ module _ (n : ℕ) (P Q : Image) (root : ℕ) (free left : List ℕ) (m : KeyMap
           root_is = done.stands.2 ∙ r.root_is;
           sound = record {
             apart = done.stands.1;
-            below = λ q own. r.sound.below q (done.owned q own).0;
-            used = λ q own. (done.owned q own).1;
+            below = λ q own. r.sound.below q (done.less.owned q own).0;
+            used = λ q own. (done.less.owned q own).1;
           };
           rows_are = sym (rows_after level (Some t) done);
           whole = omega arith;
@@ -66,10 +59,8 @@ module _ (n : ℕ) (P Q : Image) (root : ℕ) (free left : List ℕ) (m : KeyMap
   -- none is left
   pub emptied_holds : (level : ℕ) → IsRemoved n P Q level [] None free left key r.tree None → Holds n Q 0 left (map.remove m key)
   emptied_holds level done =
-      let first = r.whole in
-      let then = done.whole in
       record {
-        free_are = done.free_are;
+        free_are = done.less.free_are;
         held = inl (record {
           root_is = refl;
           none = rows_after level None done;

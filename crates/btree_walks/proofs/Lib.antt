@@ -19,8 +19,6 @@ pub mod Scanning
 pub mod Taken
 pub mod Walked
 mod Trees
-pub mod Removing
-pub mod Sparing
 pub mod Refusals
 pub mod Edits
 pub mod Removals

@@ -2,19 +2,16 @@
 use Rattle.std.proofs.Common.{◌≡◌, ◌⊎◌, ◌<◌, ◌+◌, ℕ, zero, suc, List, [], ◌∷◌, ◌++◌, length, inl, inr, refl, sym, ap, subst, ◌∙◌, arith, add-one}
 use Rattle.sector_device.specs.claim.Disk.{Image}
 use Rattle.gate_journal.specs.claim.Store.{word}
-use Rattle.page_store.specs.claim.Chain.{is_blank, chain, IsIn, AreFree}
-use Rattle.page_store.proofs.Chains.{below_free, first_blank, counts}
-use Rattle.btree_walks.specs.Owners.{linked, after, IsSeen, IsBlank, CanName, AreNamed, IsFreeList, CanList}
-use Rattle.btree_walks.specs.declared.marks.Marks.{Marks}
+use Rattle.page_store.{specs.claim.Chain.{is_blank, chain, IsIn, AreFree}, proofs.Chains.{below_free, first_blank, counts}}
+use Rattle.btree_walks.specs.{Owners.{linked, after, IsSeen, IsBlank, CanName, AreNamed, IsFreeList, CanList}, declared.marks.Marks.Marks}
 use Rattle.btree_walks.proofs.Named.{named_none, named_more, named_as, can_still}
 
 -- blank pages that are linked are the chain of free ones
 pub blank_chain : (P : Image) (first count : ℕ) → ((q : ℕ) → IsIn q (linked P first count) → IsBlank (P q)) → chain P first count ≡ linked P first count
 blank_chain P first zero blank = refl
 blank_chain P first (suc count) blank =
-    let here = counts (is_blank (P first)) first (blank first (inl refl)) in
     let rest = blank_chain P (word (P first) 0) count (λ q there. blank q (inr there)) in
-    λ i. here i ∷ rest i
+    λ i. (counts (is_blank (P first)) first (blank first (inl refl))) i ∷ rest i
 
 -- and those of a chain of free pages are blank
 pub free_chain : (n : ℕ) (P : Image) (first count : ℕ) → AreFree n (chain P first count) → (q : ℕ) → IsIn q (linked P first count) → IsBlank (P q)

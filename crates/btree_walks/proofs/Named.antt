@@ -2,9 +2,7 @@
 use Rattle.std.proofs.Common.{◌≡◌, ◌⊎◌, ◌<◌, ◌+◌, ℕ, zero, suc, Bool, true, false, List, [], ◌∷◌, length, get_or, set, replicate, inl, inr, refl, sym, ap, subst, ◌∙◌, arith, length-set, get_or-set_same, get_or-set_other}
 use Rattle.std.proofs.lemmas.Bool.{cases_eq}
 use Rattle.page_store.specs.claim.Chain.{IsIn}
-use Rattle.btree_walks.specs.Marks.{unseen}
-use Rattle.btree_walks.specs.Owners.{IsSeen, CanName, AreNamed}
-use Rattle.btree_walks.specs.declared.marks.Marks.{Marks}
+use Rattle.btree_walks.specs.{Marks.unseen, Owners.{IsSeen, CanName, AreNamed}, declared.marks.Marks.Marks}
 
 pub unseen_set : (seen : List Bool) (p : ℕ) → p < length seen → get_or seen p false ≡ false → unseen (set seen p true) + 1 ≡ unseen seen
 unseen_set [] p lt off = absurd (omega arith)

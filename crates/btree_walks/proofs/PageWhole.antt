@@ -1,19 +1,11 @@
 -- All pages of a store.
-use Rattle.std.proofs.Common.{◌≡◌, ◌<◌, ◌≤◌, ◌^◌, ℕ, [], length, inl, inr, refl, sym, ap, subst, ◌∙◌, arith}
-use Rattle.std.specs.Prelude.{None}
-use Rattle.std.specs.FinMap.{empty}
+use Rattle.std.{specs.Prelude.None, specs.FinMap.empty, proofs.Common.{◌≡◌, ◌<◌, ◌≤◌, ◌^◌, ℕ, [], length, inl, inr, refl, sym, ap, subst, ◌∙◌, arith}}
 use Rattle.sector_device.specs.claim.Disk.{Image}
 use Rattle.gate_journal.specs.claim.Store.{word}
-use Rattle.page_store.specs.claim.Chain.{IsIn, AreFree, root_in, free_in}
-use Rattle.page_store.proofs.Chains.{length_chain, below_free}
-use Rattle.page_btree.specs.claim.Tree.{page_of, owns, size}
-use Rattle.page_btree.proofs.MapLaws.{no_entries, one_tree}
-use Rattle.page_btree.proofs.Descent.{owns_page}
-use Rattle.btree_walks.specs.Owners.{linked, AreOwned, IsSeen, AreNamed, IsFreeList, CanList, IsRootWalked, CanWalkRoot}
-use Rattle.btree_walks.specs.Faults.{IsOffTree, IsWrongPage}
-use Rattle.btree_walks.specs.declared.error.PageFaultKind.TheVariants.{Lost}
-use Rattle.btree_walks.specs.declared.marks.Marks.{Marks}
-use Rattle.btree_walks.proofs.Lists.{pos, blank_chain, free_chain}
+use Rattle.page_store.{specs.claim.Chain.{IsIn, AreFree, root_in, free_in}, proofs.Chains.{length_chain, below_free}}
+use Rattle.page_btree.{specs.claim.Tree.{page_of, owns, size}, proofs.MapLaws.{no_entries, one_tree}, proofs.Descent.owns_page}
+use Rattle.btree_walks.specs.{Owners.{linked, AreOwned, IsSeen, AreNamed, IsFreeList, CanList, IsRootWalked, CanWalkRoot}, Faults.{IsOffTree, IsWrongPage}}
+use Rattle.btree_walks.{specs.declared.error.PageFaultKind.TheVariants.Lost, specs.declared.marks.Marks.Marks, proofs.Lists.{pos, blank_chain, free_chain}}
 use Rattle.btree_walks.proofs.Rising.{map_of_tree, rows_of_map}
 
 pub some_pages : (n : ℕ) (P : Image) → AreOwned n P → 0 < n
@@ -22,33 +14,17 @@ some_pages n P (m, own) = elim own.holds.held [
   | inr r ↦ (let whole = r.whole in omega arith)
 ]
 
--- the same of pages that are the same
-pub list_as : (P Q : Image) (f g k l : ℕ) (a b : Marks) → Q ≡ P → f ≡ g → k ≡ l → IsFreeList Q f k a b → IsFreeList P g l a b
-list_as P Q f g k l a b same first count is =
-    subst (λ (X : Image). IsFreeList X g l a b) same (subst (λ (x : ℕ). IsFreeList Q x l a b) first (subst (λ (x : ℕ). IsFreeList Q f x a b) count is))
-
-pub can_list_as : (P Q : Image) (f g k l : ℕ) (a : Marks) → Q ≡ P → f ≡ g → k ≡ l → CanList P g l a → CanList Q f k a
-can_list_as P Q f g k l a same first count is =
-    subst (λ (X : Image). CanList X f k a) (sym same) (subst (λ (x : ℕ). CanList P x k a) (sym first) (subst (λ (x : ℕ). CanList P g x a) (sym count) is))
-
-pub root_as : (P Q : Image) (f g : ℕ) (a b : Marks) → Q ≡ P → f ≡ g → IsRootWalked Q f a b → IsRootWalked P g a b
-root_as P Q f g a b same root is = subst (λ (X : Image). IsRootWalked X g a b) same (subst (λ (x : ℕ). IsRootWalked Q x a b) root is)
-
-pub can_root_as : (P Q : Image) (f g : ℕ) (a : Marks) → Q ≡ P → f ≡ g → CanWalkRoot P g a → CanWalkRoot Q f a
-can_root_as P Q f g a same root is = subst (λ (X : Image). CanWalkRoot X f a) (sym same) (subst (λ (x : ℕ). CanWalkRoot P x a) (sym root) is)
-
 -- page 0 was named, then the free pages, then those of the tree
 module _ (n : ℕ) (P : Image) (a b c d : Marks) (long : length a.seen.items ≡ n) (none : (q : ℕ) → IsSeen a q → ⊥) (left : a.left ≡ n)
     (meta : AreNamed (λ q. q ≡ 0) 1 a b) where
   -- why they can be named
   pub can_list : AreOwned n P → CanList P (word (P 0) 1) (word (P 0) 2) b
   can_list (m, own) =
-      let m_long : n ≡ length b.seen.items = sym long ∙ sym meta.long in
       let names = linked P (word (P 0) 1) (word (P 0) 2) in
       let blank = free_chain n P (word (P 0) 1) (word (P 0) 2) own.holds.free_are in
       let free : AreFree n names = subst (AreFree n) (blank_chain P (word (P 0) 1) (word (P 0) 2) blank) own.holds.free_are in
       record {
-        free = subst (λ k. AreFree k names) m_long free;
+        free = subst (λ k. AreFree k names) (sym long ∙ sym meta.long) free;
         fresh = λ q there seen. elim (meta.only q seen) [
           | inl e ↦ (let some = (below_free n names q free there).0 in absurd (omega arith))
           | inr before ↦ none q before
@@ -144,8 +120,6 @@ module _ (n : ℕ) (P : Image) (a b c d : Marks) (long : length a.seen.items ≡
       -- one that wasn't named is lost
       pub is_lost : (p : ℕ) → p < length d.seen.items → (IsSeen d p → ⊥) → IsWrongPage n P p Lost
       is_lost p within off =
-          let x = meta.long in
-          let y = list.named.long in
           let kept : (q : ℕ) → IsSeen c q → IsSeen d q = kept_by walked in
           let same : length d.seen.items ≡ length c.seen.items = long_by walked in (
             omega arith,

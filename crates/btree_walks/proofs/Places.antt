@@ -1,28 +1,16 @@
 -- A place in a scan's leaf.
-use Rattle.std.proofs.Common.{◌≡◌, ◌<◌, ◌+◌, ℕ, List, ◌∷◌, Bool, true, false, cond, refl, sym, subst, arith}
-use Rattle.std.specs.Prelude.{Option, Some, None, IfSome, IfNone}
-use Rattle.page_node.specs.claim.Entries.{Entry}
-use Rattle.page_node.specs.Walking.{IsAhead}
-use Rattle.btree_walks.specs.Scanning.{Rest, RestWhere, IsReady, IsNextRow, IsTakenRow, is_open, FitsIn, leaf_at, moved_to, stood_at}
-use Rattle.btree_walks.specs.Parts.{page_of, row_at, row_in}
-use Rattle.btree_walks.specs.declared.parts.Parts.{Parts}
-use Rattle.btree_walks.specs.declared.parts.ScanPlace.{ScanPlace}
-use Rattle.btree_walks.specs.declared.rows.Row.{Row}
-use Rattle.btree_walks.specs.declared.scans.Scan.{Scan}
+use Rattle.std.{specs.Prelude.{Option, Some, None, IfSome, IfNone}, proofs.Common.{◌≡◌, ◌<◌, ◌+◌, ℕ, List, ◌∷◌, Bool, true, false, cond, refl, sym, subst, arith}}
+use Rattle.page_node.specs.{claim.Entries.Entry, Walking.IsAhead}
+use Rattle.btree_walks.specs.{Scanning.{Rest, RestWhere, IsReady, IsNextRow, IsTakenRow, is_open, FitsIn, leaf_at, moved_to, stood_at}, Parts.{page_of, row_at, row_in}}
+use Rattle.btree_walks.specs.{declared.parts.Parts.Parts, declared.parts.ScanPlace.ScanPlace, declared.rows.Row.Row, declared.scans.Scan.Scan}
 use Rattle.btree_walks.proofs.Ready.{IsHead, head_of, covered_step}
 
 goes_on : (ended covered : Bool) → cond ended false covered ≡ true → ended ≡ false
-goes_on true covered going = absurd (no going)
-  where
-    no : false ≡ true → ⊥
-    no e = cc
+goes_on true covered going = cc
 goes_on false covered going = refl
 
 is_covered : (ended covered : Bool) → cond ended false covered ≡ true → covered ≡ true
-is_covered true covered going = absurd (no going)
-  where
-    no : false ≡ true → ⊥
-    no e = cc
+is_covered true covered going = cc
 is_covered false covered going = going
 
 -- where rows are left at a place, its scan's leaf has them

@@ -1,34 +1,22 @@
 -- Lemmas on the definitions of Prefixes.
-use Rattle.std.proofs.Common.{◌≡◌, ◌⊎◌, ◌<◌, ◌≤◌, inl, inr, ℕ, List, [], ◌∷◌, ◌++◌, length, length-append, Bool, true, false, cond, ◌&&◌, nat_eq, refl, sym, ap, subst, ◌∙◌, arith}
-use Rattle.std.specs.Prelude.{None, T}
-use Rattle.std.specs.List.{starts_with, AllByRecursion}
-use Rattle.std.specs.Ordering.{nat_cmp, is_gt, is_lt, ordering_then}
-use Rattle.std.specs.Cmp.{nat_cmp_is}
-use Rattle.std.specs.declared.cmp.Ordering.{Ordering}
-use Rattle.std.specs.declared.cmp.Ordering.TheVariants.{Less, Equal, Greater}
-use Rattle.std.specs.FinMap.{find, is_sorted}
+use Rattle.std.specs.{Prelude.{None, T}, List.{starts_with, AllByRecursion}, Ordering.{nat_cmp, is_gt, is_lt, ordering_then}, Cmp.nat_cmp_is, declared.cmp.Ordering.Ordering}
+use Rattle.std.specs.{declared.cmp.Ordering.TheVariants.{Less, Equal, Greater}, FinMap.{find, is_sorted}}
 use Rattle.std.specs.FinMap.Entries.{below_all, where_key, find-where_key, is_sorted-where_key}
+use Rattle.std.proofs.Common.{◌≡◌, ◌⊎◌, ◌<◌, ◌≤◌, inl, inr, ℕ, List, [], ◌∷◌, ◌++◌, length, length-append, Bool, true, false, cond, ◌&&◌, nat_eq, refl, sym, ap, subst, ◌∙◌, arith}
 use Rattle.std.proofs.lemmas.Bool.{eqb-true}
 use Rattle.std.proofs.lemmas.List.Elements.{filter-append}
 use Rattle.std.proofs.lemmas.Bool.Decides.{nat_tests}
-use Rattle.page_node.specs.claim.Entries.{Entry}
-use Rattle.page_node.specs.claim.Places.{key_cmp, Rises}
-use Rattle.page_node.specs.Places.{is_from, entries_from}
-use Rattle.page_node.proofs.Laws.{is_less, same_key, flip_greater}
+use Rattle.page_node.{specs.claim.Entries.Entry, specs.claim.Places.{key_cmp, Rises}, specs.Places.{is_from, entries_from}, proofs.Laws.{is_less, same_key, flip_greater}}
 use Rattle.page_node.proofs.Scanning.{above_true}
 use Rattle.btree_walks.specs.Prefixes.{AllFrom, AllUnder, is_under, under}
-use Rattle.page_btree.proofs.Booleans.{either, first_so, second_so}
-use Rattle.page_btree.proofs.Seeking.{from_all}
+use Rattle.page_btree.proofs.{Booleans.{either, first_so, second_so}, Seeking.from_all}
+use Rattle.page_store.proofs.Chains.{both_ways as clash}
 
 -- ---- one key
 
 not_both : (b c : Bool) → c ≡ false → (b && c) ≡ false
 not_both true c h = h
 not_both false c h = refl
-
-clash : (b : Bool) → b ≡ true → b ≡ false → ⊥
-clash true h g = cc
-clash false h g = cc
 
 -- a key isn't below its prefix
 pub under_is_from : (prefix key : List ℕ) → starts_with nat_eq key prefix ≡ true → is_gt (key_cmp prefix key) ≡ false

@@ -1,41 +1,18 @@
 -- A leaf before the rows that are still to come.
+use Rattle.std.specs.{Prelude.{Option, Some, None}, List.starts_with, FinMap.{entries, entries_sorted}}
 use Rattle.std.proofs.Common.{◌≡◌, ◌<◌, ◌+◌, ℕ, List, [], ◌∷◌, ◌++◌, length, nat_eq, Bool, true, false, cond, refl, sym, ap, subst, ◌∙◌, zero, suc, drop, get_or, append_assoc, arith}
-use Rattle.std.specs.Prelude.{Option, Some, None, Result, Ok, Err, IfErr, OnOk, OnErr, T}
-use Rattle.std.specs.List.{starts_with}
-use Rattle.std.specs.FinMap.{entries, entries_sorted}
 use Rattle.std.proofs.lemmas.List.Elements.{All-nil}
 use Rattle.std.proofs.lemmas.List.{nil_from_length}
 use Rattle.sector_device.specs.declared.SectorDevice.{Ghosts}
-use Rattle.page_store.specs.declared.pages.Pages.{Pages}
-use Rattle.page_store.specs.declared.txn.Txn.{Txn}
-use Rattle.page_node.specs.claim.Entries.{Entry, IsEntry}
-use Rattle.page_node.specs.claim.Places.{Rises}
-use Rattle.page_node.specs.Places.{entries_from}
-use Rattle.page_node.specs.Walking.{IsAhead}
-use Rattle.page_btree.specs.claim.Keys.{KeyMap}
-use Rattle.page_btree.specs.claim.Errors.{GetErr}
-use Rattle.page_btree.specs.Seeking.{bound_in, IsNext, IsFrom, AreLeaves}
-use Rattle.page_btree.specs.declared.seeks.Leaf.{Leaf}
-use Rattle.page_btree.specs.declared.error.TreeError.{TreeError}
-use Rattle.page_btree.specs.declared.error.TreeError.TheVariants.{NotAStore}
-use Rattle.btree_walks.specs.Prefixes.{under, AllFrom, AllUnder}
+use Rattle.page_store.specs.{declared.pages.Pages.Pages, declared.txn.Txn.Txn}
+use Rattle.page_node.specs.{claim.Entries.{Entry, IsEntry}, claim.Places.Rises, Places.entries_from, Walking.IsAhead}
+use Rattle.page_btree.specs.{claim.Keys.KeyMap, claim.Errors.GetErr, Seeking.{bound_in, IsNext, IsFrom, AreLeaves}, declared.seeks.Leaf.Leaf, declared.error.TreeError.TreeError}
+use Rattle.page_btree.proofs.{Refusals.by_case, Booleans.true_is}
+use Rattle.btree_walks.specs.{Prefixes.{under, AllFrom, AllUnder}, Parts.page_of, Turning.IsTurned, Scanning.{IsReady, Rest, RestWhere, IsWithin, IsStep, IsTakenRow, ScanErr}}
+use Rattle.btree_walks.specs.{declared.held.HeldLeaves.HeldLeaves, declared.rows.Row.Row, declared.scans.Scan.Scan}
 use Rattle.btree_walks.proofs.Prefixes.{under_from, under_is_from, none_under, rises_from_key, all_from_key, head_rises, all_between, prefix_from, below_bound}
-use Rattle.btree_walks.specs.Parts.{page_of}
-use Rattle.btree_walks.specs.Turning.{IsTurned}
-use Rattle.btree_walks.specs.Scanning.{IsReady, Rest, RestWhere, IsWithin, IsStep, IsTakenRow, ScanErr}
-use Rattle.btree_walks.specs.declared.held.HeldLeaves.{HeldLeaves}
-use Rattle.btree_walks.specs.declared.rows.Row.{Row}
-use Rattle.btree_walks.specs.declared.scans.Scan.{Scan}
-use Rattle.page_btree.proofs.Refusals.{by_case}
-use Rattle.page_btree.proofs.Booleans.{true_is}
 
-not_covered : {A : Type 0} → false ≡ true → A
-not_covered e = absurd (no e)
-  where
-    no : false ≡ true → ⊥
-    no e = cc
-
-no_others : (more : ℕ) (pages : List (List ℕ)) (rows : List Entry) → more ≡ 0 → AreLeaves more pages rows → rows ≡ []
+pub no_others : (more : ℕ) (pages : List (List ℕ)) (rows : List Entry) → more ≡ 0 → AreLeaves more pages rows → rows ≡ []
 no_others zero pages rows none are = are
 no_others (suc m) pages rows none are = absurd (omega arith)
 
@@ -52,15 +29,15 @@ ready_new prefix m leaf held at left more bound = record {
   rest_are = sym (under_from prefix (entries m));
   rises = rises_from_key prefix (entries m) (true_is _ (entries_sorted m));
   from = all_from_key prefix (entries m);
-  covers = λ covered. not_covered covered;
+  covers = λ covered. cc;
 }
 
 -- the beginning of one that goes over all rows from a key on
-all_under : (key : List ℕ) → starts_with nat_eq key [] ≡ true
+pub all_under : (key : List ℕ) → starts_with nat_eq key [] ≡ true
 all_under [] = refl
 all_under (x ∷ xs) = refl
 
-under_nothing : (es : List Entry) → under [] es ≡ es
+pub under_nothing : (es : List Entry) → under [] es ≡ es
 under_nothing [] = refl
 under_nothing (e ∷ es) = ap (λ (b : Bool). cond b (e ∷ under [] es) (under [] es)) (all_under e.0) ∙ ap (λ (l : List Entry). e ∷ l) (under_nothing es)
 
@@ -80,7 +57,7 @@ ready_from key m leaf held at left more bound = record {
   rest_are = sym (under_nothing (entries_from key (entries m)));
   rises = rises_from_key key (entries m) (true_is _ (entries_sorted m));
   from = all_from_nothing (entries_from key (entries m));
-  covers = λ covered. not_covered covered;
+  covers = λ covered. cc;
 }
 
 -- a scan that stands before them
@@ -143,7 +120,6 @@ ready_turn covered prefix old leaf before held all rest is none there bound =
     let here : is.here ≡ [] = nil_from_length is.here (sym is.left_is ∙ none) in
     let rows = there.rows_are in
     let same : is.here ++ (is.others ++ is.after) ≡ there.here ++ (there.others ++ is.after) = (λ i. here i ++ (rows i ++ is.after)) ∙ append_assoc there.here there.others is.after in
-    let some = there.some in
     let left = there.left_is in (
       record {
         here = there.here;
@@ -214,15 +190,7 @@ step_of covered prefix leaf next held row all rest h false taken less same bound
 pub covered_step : (covered : Bool) (prefix : List ℕ) (leaf next : Leaf) (held : HeldLeaves) (row : Row) (all rest : List Entry) (h : IsHead covered prefix leaf held all rest) → covered ≡ true → IsTakenRow h.e h.es row (page_of held) next.at → next.left + 1 ≡ leaf.left → next.more ≡ leaf.more → bound_in next ≡ bound_in leaf → IsStep true covered prefix next held row all rest
 covered_step covered prefix leaf next held row all rest h is taken less same bound = step_of covered prefix leaf next held row all rest h true taken less same bound (sym (ap (λ (k : List ℕ). starts_with nat_eq k prefix) taken.key_is ∙ h.on is))
 
--- ---- results
-pub ok_if : {T E : Type 0} (r : Result T E) (A B : Type 0) → (A → B) → OnOk r A → OnOk r B
-ok_if (Ok x) A B f h = f h
-ok_if (Err e) A B f h = tt
-
-pub fault_err : {T : Type 0} (r : Result T TreeError) (P : TreeError → Type 0) (X : Type 0) → IfErr r (λ e. e ≡ NotAStore) → OnErr r X → (X → P NotAStore) → IfErr r P
-fault_err (Ok x) P X is why f = tt
-fault_err (Err e) P X is why f = subst P (sym is) (f why)
-
+-- ---- refusals
 module _ {D : Type 0} {g : Ghosts D} where
   pub scan_fails : (can : KeyMap → Type 0) (t : Txn) (old new : Pages D g) (e : TreeError) → GetErr t old new e → ScanErr can t old new e
   scan_fails can t old new = by_case (λ e. GetErr t old new e) (λ e. ScanErr can t old new e)

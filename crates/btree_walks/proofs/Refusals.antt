@@ -1,23 +1,12 @@
 -- A refusal of a remove below, told above.
 use Rattle.std.proofs.Common.{◌<◌, ℕ, List, sym, ◌∙◌, length}
-use Rattle.sector_device.specs.claim.Disk.{Image}
-use Rattle.sector_device.specs.declared.SectorDevice.{Ghosts}
-use Rattle.page_store.specs.claim.Chain.{IsIn, AreFree}
-use Rattle.page_store.specs.claim.Transactions.{stored, disk_in, txn_pages, free_over, IsQuiet, Passed}
-use Rattle.page_store.proofs.Stops.{failed_more}
-use Rattle.gate_journal.specs.declared.error.PageError.TheVariants as page
-use Rattle.page_store.specs.declared.pages.Pages.{Pages}
-use Rattle.page_store.specs.declared.txn.Txn.{Txn}
-use Rattle.page_node.specs.claim.Entries.{Entry}
-use Rattle.page_node.specs.claim.Node.{Node, IsNode}
-use Rattle.page_node.specs.claim.Places.{Rises}
-use Rattle.page_btree.specs.claim.Errors.{RemoveErr}
-use Rattle.page_btree.specs.Getting.{ReadsErr}
-use Rattle.btree_walks.specs.Removing.{BackErr, TakenErr, LinkErr, BelowErr}
-use Rattle.page_btree.specs.claim.Keys.{KeyMap}
-use Rattle.page_btree.specs.claim.Map.{InTxn}
-use Rattle.page_btree.specs.declared.error.TreeError.{TreeError}
+use Rattle.sector_device.specs.{claim.Disk.Image, declared.SectorDevice.Ghosts}
+use Rattle.page_store.specs.{claim.Chain.{IsIn, AreFree}, claim.Transactions.{stored, disk_in, txn_pages, free_over, IsQuiet, Passed}, declared.pages.Pages.Pages}
+use Rattle.page_store.{specs.declared.txn.Txn.Txn, proofs.Stops.failed_more}
+use Rattle.page_node.specs.{claim.Entries.Entry, claim.Node.{Node, IsNode}, claim.Places.Rises}
+use Rattle.page_btree.specs.{claim.Errors.RemoveErr, Getting.ReadsErr, claim.Keys.KeyMap, claim.Map.InTxn, declared.error.TreeError.TreeError}
 use Rattle.page_btree.proofs.Refusals.{by_case}
+use Rattle.btree_walks.specs.Removing.{BackErr, TakenErr, LinkErr, BelowErr}
 
 -- what a call on a page's node needs
 pub record HasNode (t : Txn) (S : Image) (p : ℕ) (bytes : List ℕ) : Type 0 where

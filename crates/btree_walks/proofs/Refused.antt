@@ -1,17 +1,9 @@
 -- A refusal in the midst of a scan, told from its beginning on.
 use Rattle.std.proofs.Common.{sym, subst, ◌∙◌}
-use Rattle.sector_device.specs.claim.Disk.{Image}
-use Rattle.sector_device.specs.declared.SectorDevice.{Ghosts}
-use Rattle.page_store.specs.claim.Transactions.{stored, disk_in, IsQuiet, Passed}
-use Rattle.page_store.proofs.Stops.{failed_more}
-use Rattle.page_store.specs.declared.pages.Pages.{Pages}
-use Rattle.page_store.specs.declared.txn.Txn.{Txn}
-use Rattle.page_btree.specs.claim.Keys.{KeyMap}
-use Rattle.page_btree.specs.claim.Map.{InTxn}
-use Rattle.page_btree.specs.claim.Errors.{GetErr}
-use Rattle.page_btree.specs.declared.error.TreeError.{TreeError}
+use Rattle.sector_device.specs.{claim.Disk.Image, declared.SectorDevice.Ghosts}
+use Rattle.page_store.{specs.claim.Transactions.{stored, disk_in, IsQuiet, Passed}, specs.declared.pages.Pages.Pages, specs.declared.txn.Txn.Txn, proofs.Stops.failed_more}
+use Rattle.page_btree.{specs.claim.Keys.KeyMap, specs.claim.Map.InTxn, specs.claim.Errors.GetErr, specs.declared.error.TreeError.TreeError, proofs.Refusals.by_case}
 use Rattle.btree_walks.specs.Scanning.{ScanErr}
-use Rattle.page_btree.proofs.Refusals.{by_case}
 
 module _ {D : Type 0} {g : Ghosts D} where
   -- calls passed without a fault, then one was refused, where a map that the transaction reads has what that call needs

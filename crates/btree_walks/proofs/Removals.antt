@@ -1,27 +1,16 @@
 -- What a remove below one child does to all children, and to the node above them.
-use Rattle.std.proofs.Common.{◌≡◌, ◌≢◌, ◌⊎◌, ◌<◌, ◌-◌, ◌++◌, inl, inr, ⊎_elim, ℕ, List, [], ◌∷◌, length, Bool, true, false, cond, refl, sym, ap, subst, ◌∙◌, arith}
+use Rattle.std.specs.{Prelude.{Option, Some, None, remove}, Ordering.is_gt, FinMap.{find, put}, declared.cmp.Ordering.TheVariants.{Less, Greater}}
+use Rattle.std.proofs.Common.{◌≡◌, ◌≢◌, ◌⊎◌, ◌<◌, ◌-◌, ◌+◌, ◌++◌, inl, inr, ⊎_elim, ℕ, List, [], ◌∷◌, length, Bool, true, false, cond, refl, sym, ap, subst, ◌∙◌, arith}
 use Rattle.std.proofs.lemmas.List.{append-nil}
-use Rattle.std.specs.Prelude.{Option, Some, None, remove}
-use Rattle.std.specs.Ordering.{is_gt}
-use Rattle.std.specs.FinMap.{find, put}
-use Rattle.std.specs.declared.cmp.Ordering.TheVariants.{Less, Greater}
 use Rattle.sector_device.specs.claim.Disk.{Image}
 use Rattle.page_store.specs.claim.Chain.{IsIn, AreFree}
-use Rattle.page_node.specs.claim.Entries.{Entry, child_bytes}
-use Rattle.page_node.specs.Entries.{value_at}
-use Rattle.page_node.specs.claim.Node.{IsNode}
-use Rattle.page_node.specs.claim.Places.{key_cmp, Rises}
-use Rattle.page_node.specs.Places.{IsFound, floor}
+use Rattle.page_node.specs.{claim.Entries.{Entry, child_bytes}, Entries.value_at, claim.Node.IsNode, claim.Places.{key_cmp, Rises}, Places.{IsFound, floor}}
 use Rattle.page_node.proofs.Laws.{less_trans}
 use Rattle.page_btree.specs.claim.Keys.{IsBetween, IsUnder, Parts}
-use Rattle.page_btree.specs.claim.Tree.{Tree, Forest, leaf, inner, one, more, page_of, first_key, links, rows, forest_rows, owns, forest_owns, IsTree, AreTrees, IsApart, AreApart}
-use Rattle.btree_walks.specs.Removing.{IsRemoved, AreRemoved, unlinked}
-use Rattle.btree_walks.proofs.Removing.{links_left}
+use Rattle.page_btree.specs.claim.Tree.{Tree, Forest, leaf, inner, one, more, page_of, first_key, links, rows, forest_rows, owns, forest_owns, size, forest_size, IsTree, AreTrees, IsApart, AreApart}
 use Rattle.page_btree.proofs.Rows.{Each, all_map, wider_under, put_left, put_right, find_left, find_right, key_before}
-use Rattle.page_btree.proofs.Within.{AreBetween, wider_high, wider_low, rows_after, rows_before}
-use Rattle.page_btree.proofs.MapLaws.{tree_same, trees_same}
-use Rattle.page_btree.proofs.Booleans.{either}
-use Rattle.page_btree.proofs.Descent.{floor_links}
+use Rattle.page_btree.proofs.{Within.{AreBetween, wider_high, wider_low, rows_after, rows_before}, MapLaws.{tree_same, trees_same}, Booleans.either, Descent.floor_links}
+use Rattle.btree_walks.specs.Removing.{IsLess, IsRemoved, AreRemoved, rows_left, owns_left, size_left, forest_rows_left, forest_owns_left, forest_size_left, unlinked}
 use Rattle.btree_walks.proofs.Edits.{put_remove, none_removed, all_unput, rises_unput}
 
 -- ---- wider bounds
@@ -73,6 +62,10 @@ unlinked_links : (k key : List ℕ) (t : Tree) (f : Forest) → unlinked key (li
 unlinked_links k key t (one q u) = refl
 unlinked_links k key t (more q u f) = refl
 
+abbrev pub links_left : Option Forest → List Entry
+links_left None = []
+links_left (Some f) = links f
+
 -- the links of a node above a child of which this is left
 abbrev pub links_after : List ℕ → Option Tree → List Entry → List Entry
 links_after key None es = unlinked key es
@@ -93,121 +86,88 @@ abbrev sole_left : List ℕ → Option Tree → Option Forest
 sole_left k None = None
 sole_left k (Some t) = Some (one k t)
 
-module _ (n : ℕ) (P Q : Image) (d : ℕ) (low : List ℕ) (high : Option (List ℕ)) (free left : List ℕ) (key : List ℕ) where
-  -- the key was the first child's
-  first_removed : (k : List ℕ) (t : Tree) (f : Forest) (u : Option Tree) → AreTrees P d low high (more k t f) → AreApart (more k t f) → AreUsed (more k t f) free → is_gt (key_cmp (first_key f) key) ≡ true
-      → IsRemoved n P Q d low (Some (first_key f)) free left key t u → AreRemoved n P Q d low high free left key (more k t f) (first_left k u f)
-  first_removed k t f None trees apart used above done =
-      let before : Each Less key (forest_rows f) = rows_before P d (first_key f) high key f trees.2 (key_before (first_key f) key above) in
-      let stays : (q : ℕ) → forest_owns f q → Q q ≡ P q = λ q own. done.frame q (λ o. apart.1 q o own) in
-      let others = trees_same P Q d (first_key f) high f stays trees.2 in
-      let m = done.whole in
-      record {
-        stands = (trees_low Q d low (first_key f) high f trees.1.above others, apart.2, inr (trees.1, others));
-        value = done.value;
-        rows_are = put_left key done.value [] (forest_rows f) before ∙ ap (λ l. l ++ forest_rows f) done.rows_are;
-        none = find_left key [] (forest_rows f) before;
-        owned = λ q own. (inr own, (λ there. ⊎_elim (λ was. used q (inr own) was) (λ o. apart.1 q o own) (done.given q there)));
-        frame = λ q out. done.frame q (λ o. out (inl o));
-        given = λ q there. ⊎_elim (λ was. inl was) (λ o. inr (inl o)) (done.given q there);
-        free_are = done.free_are;
-        whole = omega arith;
-      }
-  first_removed k t f (Some u) trees apart used above done =
-      let before : Each Less key (forest_rows f) = rows_before P d (first_key f) high key f trees.2 (key_before (first_key f) key above) in
-      let stays : (q : ℕ) → forest_owns f q → Q q ≡ P q = λ q own. done.frame q (λ o. apart.1 q o own) in
-      let m = done.whole in
-      record {
-        stands = ((done.stands.0, trees.1, trees_same P Q d (first_key f) high f stays trees.2), (done.stands.1, (λ q o own. apart.1 q (done.owned q o).0 own), apart.2), inl refl);
-        value = done.value;
-        rows_are = put_left key done.value (rows u) (forest_rows f) before ∙ ap (λ l. l ++ forest_rows f) done.rows_are;
-        none = find_left key (rows u) (forest_rows f) before ∙ done.none;
-        owned = λ q own. ⊎_elim
-            (λ o. let was = done.owned q o in (inl was.0, was.1))
-            (λ o. (inr o, (λ there. ⊎_elim (λ was. used q (inr o) was) (λ own2. apart.1 q own2 o) (done.given q there))))
-            own;
-        frame = λ q out. done.frame q (λ o. out (inl o));
-        given = λ q there. ⊎_elim (λ was. inl was) (λ o. inr (inl o)) (done.given q there);
-        free_are = done.free_are;
-        whole = omega arith;
-      }
+-- rows among others that stay
+less_among : {n : ℕ} {P Q : Image} {free left key : List ℕ} {all now : List Entry} {own still : ℕ → Type 0} {total now_total : ℕ} → IsLess n P Q free left key all now own still total now_total
+    → (put_in : List Entry → List Entry) → ((value : List ℕ) (es : List Entry) → put key_cmp key value (put_in es) ≡ put_in (put key_cmp key value es)) → ((es : List Entry) → find key_cmp key (put_in es) ≡ find key_cmp key es)
+    → (others whole still_whole : ℕ → Type 0) → ((q : ℕ) → own q → whole q) → ((q : ℕ) → others q → whole q) → ((q : ℕ) → still_whole q → still q ⊎ others q)
+    → ((q : ℕ) → own q → others q → ⊥) → ((q : ℕ) → others q → IsIn q free → ⊥) → (extra sum now_sum : ℕ) → sum ≡ total + extra → now_sum ≡ now_total + extra
+    → IsLess n P Q free left key (put_in all) (put_in now) whole still_whole sum now_sum
+less_among {now} less put_in puts finds others whole still_whole owns_in other_in split apart used extra sum now_sum sum_is now_sum_is = record {
+  value = less.value;
+  rows_are = puts less.value now ∙ ap put_in less.rows_are;
+  none = finds now ∙ less.none;
+  owned = λ q own. ⊎_elim
+      (λ o. let was = less.owned q o in (owns_in q was.0, was.1))
+      (λ o. (other_in q o, (λ there. ⊎_elim (λ was. used q o was) (λ its. apart q its o) (less.given q there))))
+      (split q own);
+  frame = λ q out. less.frame q (λ o. out (owns_in q o));
+  given = λ q there. ⊎_elim (λ was. inl was) (λ o. inr (owns_in q o)) (less.given q there);
+  free_are = less.free_are;
+  whole = let few = less.whole in omega arith;
+}
 
-  -- it was a later child's
-  later_removed : (k : List ℕ) (t : Tree) (f : Forest) (g : Option Forest) → AreTrees P d low high (more k t f) → AreApart (more k t f) → AreUsed (more k t f) free → is_gt (key_cmp (first_key f) key) ≡ false
-      → AreRemoved n P Q d (first_key f) high free left key f g → AreRemoved n P Q d low high free left key (more k t f) (later_left k t g)
-  later_removed k t f None trees apart used from done =
-      let after : Each Greater key (rows t) = rows_after P d low (first_key f) key t trees.0 from in
-      let stays : (q : ℕ) → owns t q → Q q ≡ P q = λ q own. done.frame q (λ o. apart.1 q own o) in
-      let m = done.whole in
-      record {
-        stands = (tree_high Q d low (first_key f) high t trees.1.under (tree_same P Q d low (Some (first_key f)) t stays trees.0), apart.0, inl refl);
-        value = done.value;
-        rows_are = ap (λ l. put key_cmp key done.value l) (sym (append-nil (rows t))) ∙ put_right key done.value (rows t) [] after ∙ ap (λ l. rows t ++ l) done.rows_are;
-        none = ap (λ l. find key_cmp key l) (sym (append-nil (rows t))) ∙ find_right key (rows t) [] after;
-        owned = λ q own. (inl own, (λ there. ⊎_elim (λ was. used q (inl own) was) (λ o. apart.1 q own o) (done.given q there)));
-        frame = λ q out. done.frame q (λ o. out (inr o));
-        given = λ q there. ⊎_elim (λ was. inl was) (λ o. inr (inr o)) (done.given q there);
-        free_are = done.free_are;
-        whole = omega arith;
-      }
-  later_removed k t f (Some g) trees apart used from done =
-      let after : Each Greater key (rows t) = rows_after P d low (first_key f) key t trees.0 from in
-      let stays : (q : ℕ) → owns t q → Q q ≡ P q = λ q own. done.frame q (λ o. apart.1 q own o) in
-      let first : IsTree Q d low (Some (first_key f)) t = tree_same P Q d low (Some (first_key f)) t stays trees.0 in
-      let m = done.whole in
-      record {
-        stands = (
-          ⊎_elim
-              (λ same. (
-                subst (λ (b : List ℕ). IsTree Q d low (Some b) t) (sym same) first,
-                subst (λ (b : List ℕ). Parts low high b) (sym same) trees.1,
-                subst (λ (b : List ℕ). AreTrees Q d b high g) (sym same) done.stands.0,
-              ))
-              (λ next. (
-                tree_high Q d low (first_key f) (Some (first_key g)) t next.0.above first,
-                record { above = less_trans low (first_key f) (first_key g) trees.1.above next.0.above; under = next.0.under },
-                next.1,
-              ))
-              done.stands.2,
-          (apart.0, (λ q own there. apart.1 q own (done.owned q there).0), done.stands.1),
-          inl refl,
-        );
-        value = done.value;
-        rows_are = put_right key done.value (rows t) (forest_rows g) after ∙ ap (λ l. rows t ++ l) done.rows_are;
-        none = find_right key (rows t) (forest_rows g) after ∙ done.none;
-        owned = λ q own. ⊎_elim
-            (λ o. (inl o, (λ there. ⊎_elim (λ was. used q (inl o) was) (λ own2. apart.1 q o own2) (done.given q there))))
-            (λ o. let was = done.owned q o in (inr was.0, was.1))
-            own;
-        frame = λ q out. done.frame q (λ o. out (inr o));
-        given = λ q there. ⊎_elim (λ was. inl was) (λ o. inr (inr o)) (done.given q there);
-        free_are = done.free_are;
-        whole = omega arith;
-      }
+module _ (n : ℕ) (P Q : Image) (d : ℕ) (low : List ℕ) (high : Option (List ℕ)) (free left : List ℕ) (key : List ℕ) where
+  module _ (k : List ℕ) (t : Tree) (f : Forest) (trees : AreTrees P d low high (more k t f)) (apart : AreApart (more k t f)) (used : AreUsed (more k t f) free) where
+    -- the key was the first child's
+    first_less : (u : Option Tree) (still : ℕ → Type 0) (total : ℕ) → is_gt (key_cmp (first_key f) key) ≡ true → IsRemoved n P Q d low (Some (first_key f)) free left key t u → ((q : ℕ) → still q → owns_left u q ⊎ forest_owns f q) → total ≡ size_left u + forest_size f
+        → IsLess n P Q free left key (rows t ++ forest_rows f) (rows_left u ++ forest_rows f) (forest_owns (more k t f)) still (forest_size (more k t f)) total
+    first_less u still total above done split total_is =
+        let before : Each Less key (forest_rows f) = rows_before P d (first_key f) high key f trees.2 (key_before (first_key f) key above) in
+        less_among done.less (λ l. l ++ forest_rows f) (λ value es. put_left key value es (forest_rows f) before) (λ es. find_left key es (forest_rows f) before)
+        (forest_owns f) (forest_owns (more k t f)) still (λ q o. inl o) (λ q o. inr o) split apart.1 (λ q o. used q (inr o)) (forest_size f) (forest_size (more k t f)) total refl total_is
+
+    first_removed : (u : Option Tree) → is_gt (key_cmp (first_key f) key) ≡ true → IsRemoved n P Q d low (Some (first_key f)) free left key t u → AreRemoved n P Q d low high free left key (more k t f) (first_left k u f)
+    first_removed None above done = record {
+      stands = (trees_low Q d low (first_key f) high f trees.1.above (trees_same P Q d (first_key f) high f (λ q own. done.less.frame q (λ o. apart.1 q o own)) trees.2), apart.2, inr (trees.1, trees_same P Q d (first_key f) high f (λ q own. done.less.frame q (λ o. apart.1 q o own)) trees.2));
+      less = first_less None (forest_owns f) (forest_size f) above done (λ q own. inr own) (omega arith);
+    }
+    first_removed (Some u) above done = record {
+      stands = ((done.stands.0, trees.1, trees_same P Q d (first_key f) high f (λ q own. done.less.frame q (λ o. apart.1 q o own)) trees.2), (done.stands.1, (λ q o own. apart.1 q (done.less.owned q o).0 own), apart.2), inl refl);
+      less = first_less (Some u) (forest_owns (more k u f)) (forest_size (more k u f)) above done (λ q own. own) refl;
+    }
+
+    -- it was a later child's
+    later_less : (g : Option Forest) (still : ℕ → Type 0) (total : ℕ) → is_gt (key_cmp (first_key f) key) ≡ false → AreRemoved n P Q d (first_key f) high free left key f g → ((q : ℕ) → still q → forest_owns_left g q ⊎ owns t q) → total ≡ forest_size_left g + size t
+        → IsLess n P Q free left key (rows t ++ forest_rows f) (rows t ++ forest_rows_left g) (forest_owns (more k t f)) still (forest_size (more k t f)) total
+    later_less g still total from done split total_is =
+        let after : Each Greater key (rows t) = rows_after P d low (first_key f) key t trees.0 from in
+        less_among done.less (λ l. rows t ++ l) (λ value es. put_right key value (rows t) es after) (λ es. find_right key (rows t) es after)
+        (owns t) (forest_owns (more k t f)) still (λ q o. inr o) (λ q o. inl o) split (λ q its o. apart.1 q o its) (λ q o. used q (inl o)) (size t) (forest_size (more k t f)) total (omega arith) total_is
+
+    later_removed : (g : Option Forest) → is_gt (key_cmp (first_key f) key) ≡ false → AreRemoved n P Q d (first_key f) high free left key f g → AreRemoved n P Q d low high free left key (more k t f) (later_left k t g)
+    later_removed None from done =
+        let stays : (q : ℕ) → owns t q → Q q ≡ P q = λ q own. done.less.frame q (λ o. apart.1 q own o) in
+        record {
+          stands = (tree_high Q d low (first_key f) high t trees.1.under (tree_same P Q d low (Some (first_key f)) t stays trees.0), apart.0, inl refl);
+          less = subst (λ (l : List Entry). IsLess n P Q free left key (rows t ++ forest_rows f) l (forest_owns (more k t f)) (owns t) (forest_size (more k t f)) (size t)) (append-nil (rows t))
+              (later_less None (owns t) (size t) from done (λ q own. inr own) (omega arith));
+        }
+    later_removed (Some g) from done =
+        let stays : (q : ℕ) → owns t q → Q q ≡ P q = λ q own. done.less.frame q (λ o. apart.1 q own o) in
+        let first : IsTree Q d low (Some (first_key f)) t = tree_same P Q d low (Some (first_key f)) t stays trees.0 in
+        record {
+          stands = (
+            ⊎_elim
+                (λ same. (
+                  subst (λ (b : List ℕ). IsTree Q d low (Some b) t) (sym same) first,
+                  subst (λ (b : List ℕ). Parts low high b) (sym same) trees.1,
+                  subst (λ (b : List ℕ). AreTrees Q d b high g) (sym same) done.stands.0,
+                ))
+                (λ next. (
+                  tree_high Q d low (first_key f) (Some (first_key g)) t next.0.above first,
+                  record { above = less_trans low (first_key f) (first_key g) trees.1.above next.0.above; under = next.0.under },
+                  next.1,
+                ))
+                done.stands.2,
+            (apart.0, (λ q own there. apart.1 q own (done.less.owned q there).0), done.stands.1),
+            inl refl,
+          );
+          less = later_less (Some g) (forest_owns (more k t g)) (forest_size (more k t g)) from done (λ q own. ⊎_elim (λ o. inr o) (λ o. inl o) own) (omega arith);
+        }
 
   sole_removed : (k : List ℕ) (t : Tree) (u : Option Tree) → IsRemoved n P Q d low high free left key t u → AreRemoved n P Q d low high free left key (one k t) (sole_left k u)
-  sole_removed k t None done = record {
-    stands = tt;
-    value = done.value;
-    rows_are = done.rows_are;
-    none = refl;
-    owned = λ q own. absurd own;
-    frame = done.frame;
-    given = done.given;
-    free_are = done.free_are;
-    whole = done.whole;
-  }
-  sole_removed k t (Some u) done = record {
-    stands = (done.stands.0, done.stands.1, inl refl);
-    value = done.value;
-    rows_are = done.rows_are;
-    none = done.none;
-    owned = done.owned;
-    frame = done.frame;
-    given = done.given;
-    free_are = done.free_are;
-    whole = done.whole;
-  }
+  sole_removed k t None done = record { stands = tt; less = done.less }
+  sole_removed k t (Some u) done = record { stands = (done.stands.0, done.stands.1, inl refl); less = done.less }
 
 -- the links then
 sole_links : (n : ℕ) (P Q : Image) (d : ℕ) (low : List ℕ) (high : Option (List ℕ)) (free left key k : List ℕ) (t : Tree) (u : Option Tree) → IsRemoved n P Q d low high free left key t u → links_left (sole_left k u) ≡ links_after key u (links (one k t))
@@ -264,7 +224,7 @@ owner_of n P d low high free key (more k t f) trees apart used between = elim (e
     floor_is = floor_links k key t f ∙ ap (λ (b : Bool). cond b (Some (child_bytes (page_of t))) (floor key (links f))) above;
     owned = λ q own. inl own;
     found = sym (find_left key (rows t) (forest_rows f) (rows_before P d (first_key f) high key f trees.2 (key_before (first_key f) key above)));
-    back = λ Q left u done. (first_left k u f, first_removed n P Q d low high free left key k t f u trees apart used above done, first_links n P Q d low (Some (first_key f)) free left key k t f u above done);
+    back = λ Q left u done. (first_left k u f, first_removed n P Q d low high free left key k t f trees apart used u above done, first_links n P Q d low (Some (first_key f)) free left key k t f u above done);
   }
   | inr from ↦
       let rest = owner_of n P d (first_key f) high free key f trees.2 apart.2 (λ q own. used q (inr own)) (record { from = from; under = between.under }) in record {
@@ -280,7 +240,7 @@ owner_of n P d low high free key (more k t f) trees apart used between = elim (e
         back = λ Q left u done.
             let up = rest.back Q left u done in (
               later_left k t up.0,
-              later_removed n P Q d low high free left key k t f up.0 trees apart used from up.1,
+              later_removed n P Q d low high free left key k t f trees apart used up.0 from up.1,
               later_links k t up.0 ∙ ap (λ l. (k, child_bytes (page_of t)) ∷ l) up.2 ∙ rest_links key k t f u from,
             );
       }
@@ -291,40 +251,42 @@ module _ (n : ℕ) (P Q R : Image) (d : ℕ) (low : List ℕ) (high : Option (Li
   pub inner_written : (g : Forest) → IsTree P d low high (inner p f) → IsApart (inner p f) → (IsIn p free → ⊥) → AreRemoved n P Q (d - 1) low high free left key f (Some g)
       → IsNode (R p) (record { level = d; entries = links g }) → ((q : ℕ) → q ≢ p → R q ≡ Q q) → IsRemoved n P R d low high free left key (inner p f) (Some (inner p g))
   inner_written g is apart used done node elsewhere =
-      let m = done.whole in
       record {
         stands = (
-          (is.0, node, trees_same Q R (d - 1) low high g (λ q own. elsewhere q (λ same. apart.0 (subst (forest_owns f) same (done.owned q own).0))) done.stands.0),
-          ((λ own. apart.0 (done.owned p own).0), done.stands.1),
+          (is.0, node, trees_same Q R (d - 1) low high g (λ q own. elsewhere q (λ same. apart.0 (subst (forest_owns f) same (done.less.owned q own).0))) done.stands.0),
+          ((λ own. apart.0 (done.less.owned p own).0), done.stands.1),
           refl,
         );
-        value = done.value;
-        rows_are = done.rows_are;
-        none = done.none;
-        owned = λ q own. ⊎_elim
-            (λ same. (inl same, (λ there. ⊎_elim (λ was. used was) (λ o. apart.0 o) (done.given p (subst (λ (x : ℕ). IsIn x left) same there)))))
-            (λ o. let was = done.owned q o in (inr was.0, was.1))
-            own;
-        frame = λ q out. elsewhere q (λ same. out (inl same)) ∙ done.frame q (λ o. out (inr o));
-        given = λ q there. ⊎_elim (λ was. inl was) (λ o. inr (inr o)) (done.given q there);
-        free_are = done.free_are;
-        whole = omega arith;
+        less = record {
+          value = done.less.value;
+          rows_are = done.less.rows_are;
+          none = done.less.none;
+          owned = λ q own. ⊎_elim
+              (λ same. (inl same, (λ there. ⊎_elim (λ was. used was) (λ o. apart.0 o) (done.less.given p (subst (λ (x : ℕ). IsIn x left) same there)))))
+              (λ o. let was = done.less.owned q o in (inr was.0, was.1))
+              own;
+          frame = λ q out. elsewhere q (λ same. out (inl same)) ∙ done.less.frame q (λ o. out (inr o));
+          given = λ q there. ⊎_elim (λ was. inl was) (λ o. inr (inr o)) (done.less.given q there);
+          free_are = done.less.free_are;
+          whole = let m = done.less.whole in omega arith;
+        };
       }
 
   pub inner_given : IsApart (inner p f) → (IsIn p free → ⊥) → 0 < p → p < n → AreRemoved n P Q (d - 1) low high free left key f None → ((q : ℕ) → q ≢ p → R q ≡ Q q)
       → IsRemoved n P R d low high free (p ∷ left) key (inner p f) None
   inner_given apart used some below done elsewhere =
-      let m = done.whole in
       record {
         stands = tt;
-        value = done.value;
-        rows_are = done.rows_are;
-        none = refl;
-        owned = λ q own. absurd own;
-        frame = λ q out. elsewhere q (λ same. out (inl same)) ∙ done.frame q (λ o. out (inr o));
-        given = λ q there. ⊎_elim (λ same. inr (inl same)) (λ was. ⊎_elim (λ o. inl o) (λ o. inr (inr o)) (done.given q was)) there;
-        free_are = (some, below, (λ there. ⊎_elim (λ was. used was) (λ o. apart.0 o) (done.given p there)), done.free_are);
-        whole = omega arith;
+        less = record {
+          value = done.less.value;
+          rows_are = done.less.rows_are;
+          none = refl;
+          owned = λ q own. absurd own;
+          frame = λ q out. elsewhere q (λ same. out (inl same)) ∙ done.less.frame q (λ o. out (inr o));
+          given = λ q there. ⊎_elim (λ same. inr (inl same)) (λ was. ⊎_elim (λ o. inl o) (λ o. inr (inr o)) (done.less.given q was)) there;
+          free_are = (some, below, (λ there. ⊎_elim (λ was. used was) (λ o. apart.0 o) (done.less.given p there)), done.less.free_are);
+          whole = let m = done.less.whole in omega arith;
+        };
       }
 
 -- ---- a leaf
@@ -347,25 +309,29 @@ module _ (n : ℕ) (P R : Image) (d : ℕ) (low : List ℕ) (high : Option (List
           tt,
           refl,
         );
-        value = value_at es i;
-        rows_are = back;
-        none = none_removed key es i found;
-        owned = λ q own. (own, (λ there. used (subst (λ (x : ℕ). IsIn x free) own there)));
-        frame = λ q out. elsewhere q out;
-        given = λ q there. inl there;
-        free_are = free_are;
-        whole = refl;
+        less = record {
+          value = value_at es i;
+          rows_are = back;
+          none = none_removed key es i found;
+          owned = λ q own. (own, (λ there. used (subst (λ (x : ℕ). IsIn x free) own there)));
+          frame = λ q out. elsewhere q out;
+          given = λ q there. inl there;
+          free_are = free_are;
+          whole = refl;
+        };
       }
 
   pub leaf_given : (IsIn p free → ⊥) → AreFree n free → 0 < p → p < n → remove es i ≡ [] → ((q : ℕ) → q ≢ p → R q ≡ P q) → IsRemoved n P R d low high free (p ∷ free) key (leaf p es) None
   leaf_given used free_are some below bare elsewhere = record {
     stands = tt;
-    value = value_at es i;
-    rows_are = ap (λ l. put key_cmp key (value_at es i) l) (sym bare) ∙ put_remove key es i found;
-    none = refl;
-    owned = λ q own. absurd own;
-    frame = λ q out. elsewhere q out;
-    given = λ q there. ⊎_elim (λ same. inr same) (λ was. inl was) there;
-    free_are = (some, below, used, free_are);
-    whole = omega arith;
+    less = record {
+      value = value_at es i;
+      rows_are = ap (λ l. put key_cmp key (value_at es i) l) (sym bare) ∙ put_remove key es i found;
+      none = refl;
+      owned = λ q own. absurd own;
+      frame = λ q out. elsewhere q out;
+      given = λ q there. ⊎_elim (λ same. inr same) (λ was. inl was) there;
+      free_are = (some, below, used, free_are);
+      whole = omega arith;
+    };
   }

@@ -1,19 +1,11 @@
 -- The rows of a tree rise, so a map has them.
+use Rattle.std.specs.{Prelude.{Option, Some}, List.AllByRecursion, Ordering.{is_lt, is_gt}, declared.cmp.Ordering.TheVariants.Less}
+use Rattle.std.specs.{FinMap.{is_sorted, entries, from_sorted, entries-from_sorted}, FinMap.Entries.below_all}
 use Rattle.std.proofs.Common.{◌≡◌, ◌-◌, ℕ, true, false, List, [], ◌∷◌, ◌++◌, refl, sym, ap, subst, T}
-use Rattle.std.specs.Prelude.{Option, Some}
-use Rattle.std.specs.List.{AllByRecursion}
-use Rattle.std.specs.Ordering.{is_lt, is_gt}
-use Rattle.std.specs.declared.cmp.Ordering.TheVariants.{Less}
-use Rattle.std.specs.FinMap.{is_sorted, entries, from_sorted, entries-from_sorted}
-use Rattle.std.specs.FinMap.Entries.{below_all}
 use Rattle.sector_device.specs.claim.Disk.{Image}
-use Rattle.page_node.specs.claim.Entries.{Entry}
-use Rattle.page_node.specs.claim.Places.{key_cmp, Rises}
-use Rattle.page_btree.specs.claim.Keys.{KeyMap, IsBetween}
-use Rattle.page_btree.specs.claim.Tree.{Tree, Forest, leaf, inner, one, more, first_key, rows, forest_rows, IsTree, AreTrees}
-use Rattle.page_btree.proofs.Rows.{all_map, less_from}
-use Rattle.page_btree.proofs.Within.{within_tree, within_trees}
-use Rattle.page_btree.proofs.Booleans.{first_so, second_so, both_so}
+use Rattle.page_node.specs.{claim.Entries.Entry, claim.Places.{key_cmp, Rises}}
+use Rattle.page_btree.specs.{claim.Keys.{KeyMap, IsBetween}, claim.Tree.{Tree, Forest, leaf, inner, one, more, first_key, rows, forest_rows, IsTree, AreTrees}}
+use Rattle.page_btree.proofs.{Rows.{all_map, less_from}, Within.{within_tree, within_trees}, Booleans.{first_so, second_so, both_so}}
 
 -- a key below a bound is below all rows from it on
 below_from : (x q : List ℕ) (ys : List Entry) → key_cmp x q ≡ Less → AllByRecursion (λ e. is_gt (key_cmp q e.0) ≡ false) ys → below_all key_cmp x ys ≡ true

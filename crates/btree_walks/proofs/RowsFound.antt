@@ -1,33 +1,17 @@
 -- Rows under a prefix and rows from a key on are rows of the map. What is so of each of some rows is so of one found among them.
-use Rattle.std.proofs.Common.{◌≡◌, ℕ, List, [], ◌∷◌, ◌++◌, Bool, true, false, cond, nat_eq, refl, sym, ap, subst, ◌∙◌, inl, inr}
-use Rattle.std.specs.Prelude.{Some, None}
-use Rattle.std.specs.List.{AllByRecursion, starts_with}
-use Rattle.std.specs.Ordering.{is_eq, is_gt, eq_by_cmp}
-use Rattle.std.specs.Cmp.Lexicographic.{nat_list_cmp_total}
-use Rattle.std.specs.declared.cmp.Ordering.{Ordering}
-use Rattle.std.specs.declared.cmp.Ordering.TheVariants.{Less, Equal, Greater}
-use Rattle.std.specs.FinMap.{entries, entries_sorted, find, get, get-entries, is_sorted}
-use Rattle.std.specs.FinMap.Entries.{find-where_key}
+use Rattle.std.specs.{Prelude.{Some, None}, List.{AllByRecursion, starts_with}, Ordering.{is_eq, is_gt, eq_by_cmp}, Cmp.Lexicographic.nat_list_cmp_total}
+use Rattle.std.specs.{declared.cmp.Ordering.Ordering, declared.cmp.Ordering.TheVariants.{Less, Greater}, FinMap.{entries, entries_sorted, find, get, get-entries, is_sorted}}
+use Rattle.std.{specs.FinMap.Entries.find-where_key, proofs.Common.{◌≡◌, ℕ, List, [], ◌∷◌, ◌++◌, Bool, true, false, cond, nat_eq, refl, sym, ap, subst, ◌∙◌, inl, inr}}
 use Rattle.std.proofs.lemmas.Bool.{cases_Bool}
 use Rattle.std.proofs.lemmas.Cmp.{tied_itself}
 use Rattle.std.proofs.lemmas.List.{append-nil}
-use Rattle.page_node.specs.claim.Entries.{Entry}
-use Rattle.page_node.specs.claim.Places.{key_cmp, Rises}
-use Rattle.page_node.specs.Places.{entries_from}
-use Rattle.page_node.proofs.Laws.{flip_less, same_key}
-use Rattle.page_btree.specs.claim.Keys.{KeyMap}
-use Rattle.page_btree.proofs.Rows.{all_append, all_map, all_rest, find_right, rises_from, rises_under}
-use Rattle.btree_walks.specs.Prefixes.{AllFrom, AllUnder, is_under, under}
-use Rattle.btree_walks.proofs.Prefixes.{all_from_key, find_under, rises_from_key, true_is, under_rises}
+use Rattle.page_node.{specs.claim.Entries.Entry, specs.claim.Places.{key_cmp, Rises}, specs.Places.entries_from, proofs.Laws.{flip_less, same_key}}
+use Rattle.page_btree.{specs.claim.Keys.KeyMap, proofs.Rows.{all_append, all_map, all_rest, find_right, rises_from, rises_under}, proofs.Placed.is_equal}
+use Rattle.btree_walks.{specs.Prefixes.{AllFrom, AllUnder, is_under, under}, proofs.Prefixes.{all_from_key, find_under, rises_from_key, true_is, under_rises}}
 
 -- ---- each of some rows
 pub all_more : (P : Entry → Type 0) (es : List Entry) (e : Entry) → P e → AllByRecursion P es → AllByRecursion P (es ++ e ∷ [])
 all_more P es e is all = all_append P es (e ∷ []) all (is, tt)
-
-is_equal : (r : Ordering) → is_eq r ≡ true → r ≡ Equal
-is_equal Less h = cc
-is_equal Equal h = refl
-is_equal Greater h = cc
 
 pub all_found : (P : Entry → Type 0) (key value : List ℕ) (es : List Entry) → AllByRecursion P es → find key_cmp key es ≡ Some value → P (key, value)
 all_found P key value [] all there = absurd (cc)

@@ -1,33 +1,19 @@
 -- A remove that edits a leaf alone, told above.
-use Rattle.std.proofs.Common.{◌≡◌, ℕ, List, Ok, Err, refl, sym, subst, ◌∙◌, arith}
 use Rattle.std.specs.Prelude.{Bool, true, false, Result, Option, Some, None, IfOk, IfSome, MatchOption, remove}
-use Rattle.sector_device.specs.claim.Disk.{Image}
-use Rattle.sector_device.specs.declared.SectorDevice.{Ghosts}
-use Rattle.page_store.specs.claim.Chain.{IsIn, AreFree}
-use Rattle.page_store.specs.claim.Transactions.{stored, disk_in, over, free_over, IsQuiet, Passed}
-use Rattle.page_store.specs.Transactions.{txn_list, IsWritten}
-use Rattle.gate_journal.specs.Writes.{IsEdited}
-use Rattle.gate_journal.proofs.Images.{put_on, put_off}
-use Rattle.page_node.specs.Spots.{IsSpareTaken}
-use Rattle.page_store.proofs.Stops.{failed_more}
-use Rattle.page_store.specs.declared.pages.Pages.{Pages}
-use Rattle.page_store.specs.declared.txn.Txn.{Txn}
-use Rattle.page_node.specs.claim.Entries.{Entry}
-use Rattle.page_node.specs.claim.Node.{IsNode}
-use Rattle.page_node.specs.claim.Places.{Rises}
-use Rattle.page_btree.specs.claim.Tree.{Tree, leaf, inner, IsTree, page_of, rows}
-use Rattle.page_btree.specs.claim.Map.{IsSound, InTxn}
-use Rattle.page_btree.specs.claim.Errors.{RemoveErr}
-use Rattle.btree_walks.specs.Removing.{IsRemoved, CanRemove, RemovesAt, Removes, BelowErr}
-use Rattle.page_btree.specs.Editing.{IsAlike, LeafErr}
-use Rattle.btree_walks.specs.Sparing.{TakesRow, IsLeafTaken}
-use Rattle.btree_walks.proofs.Sparing.{did_take}
-use Rattle.btree_walks.specs.declared.removes.Removed.TheVariants.{Kept}
-use Rattle.page_btree.specs.declared.error.TreeError.{TreeError}
-use Rattle.btree_walks.proofs.Removals.{leaf_written}
-use Rattle.btree_walks.proofs.Steps.{StepsDown, leaf_there}
-use Rattle.page_btree.proofs.Editing.{still_in}
-use Rattle.page_btree.proofs.Refusals.{by_case}
+use Rattle.std.proofs.Common.{◌≡◌, ℕ, List, Ok, Err, refl, sym, subst, ◌∙◌, arith}
+use Rattle.sector_device.specs.{claim.Disk.Image, declared.SectorDevice.Ghosts}
+use Rattle.page_store.specs.{claim.Chain.{IsIn, AreFree}, claim.Transactions.{stored, disk_in, over, free_over, IsQuiet, Passed}, Transactions.{txn_list, IsWritten}}
+use Rattle.page_store.{specs.declared.pages.Pages.Pages, specs.declared.txn.Txn.Txn, proofs.Stops.failed_more}
+use Rattle.gate_journal.{specs.Writes.IsEdited, proofs.Images.{put_on, put_off}}
+use Rattle.page_node.specs.{Spots.IsSpareTaken, claim.Entries.Entry, claim.Node.IsNode, claim.Places.Rises}
+use Rattle.page_btree.specs.{claim.Tree.{Tree, leaf, inner, IsTree, page_of, rows}, claim.Map.{IsSound, InTxn}, claim.Errors.RemoveErr, Editing.{IsAlike, LeafErr}}
+use Rattle.page_btree.{specs.declared.error.TreeError.TreeError, proofs.Editing.still_in, proofs.Refusals.by_case}
+use Rattle.btree_walks.specs.{Removing.{IsRemoved, CanRemove, RemovesAt, Removes, BelowErr}, Sparing.{TakesRow, IsLeafTaken}, declared.removes.Removed.Removed}
+use Rattle.btree_walks.{specs.declared.removes.Removed.TheVariants.{Absent, Kept}, proofs.Removals.leaf_written, proofs.Steps.{StepsDown, leaf_there}}
+
+abbrev pub did_take : Bool → Removed
+did_take true = Kept
+did_take false = Absent
 
 -- ---- at a leaf
 module _ (n : ℕ) (S : Image) (t0 t1 : Txn) (d : ℕ) (low : List ℕ) (high : Option (List ℕ)) (key : List ℕ) (p : ℕ) (none : d ≡ 0) (are : AreFree n (free_over t0 S)) where
@@ -85,22 +71,13 @@ steps_up n S t0 d low high key p child t s t1 false done = s.absent done
 -- ---- what is told
 pub top_some : {E : Type 0} (r : Result (Option Bool) E) (A B : Bool → Type 0) (C : Type 0) → (A true → B true) → (A false → C → B false) → IfOk r (λ d. IfSome d A) → IfOk r (λ d. (d ≡ Some true → ⊥) → C) → IfOk r (λ d. IfSome d B)
 top_some (Ok (Some true)) A B C f g a k = f a
-top_some (Ok (Some false)) A B C f g a k = g a (k (λ e. false_true e))
-  where
-    false_true : Some false ≡ Some true → ⊥
-    false_true e = cc
+top_some (Ok (Some false)) A B C f g a k = g a (k (λ e. cc))
 top_some (Ok None) A B C f g a k = tt
 top_some (Err e) A B C f g a k = tt
 
 pub none_only : {E : Type 0} (r : Result (Option Bool) E) (C : Type 0) → IfOk r (λ d. (d ≡ Some true → ⊥) → C) → IfOk r (λ d. d ≡ None → C)
-none_only (Ok (Some b)) C k = λ none. absurd (some_none b none)
-  where
-    some_none : (b : Bool) → Some b ≡ None → ⊥
-    some_none b e = cc
-none_only (Ok None) C k = λ none. k (λ e. none_some e)
-  where
-    none_some : None ≡ Some true → ⊥
-    none_some e = cc
+none_only (Ok (Some b)) C k = λ none. cc
+none_only (Ok None) C k = λ none. k (λ e. cc)
 none_only (Err e) C k = tt
 
 -- ---- refusals

@@ -1,28 +1,14 @@
 -- A remove at a leaf, and one step above it.
+use Rattle.std.specs.{Prelude.{Option, Some, None, remove, Result, Ok, Err, IfOk}, Option.option_map, FinMap.find}
 use Rattle.std.proofs.Common.{◌≡◌, ◌≢◌, inl, inr, ⊎_elim, ℕ, ◌-◌, ◌<◌, ◌≤◌, ◌^◌, List, length, refl, sym, ap, subst, ◌∙◌, arith}
-use Rattle.std.specs.Prelude.{Option, Some, None, remove, Result, Ok, Err, IfOk}
-use Rattle.std.specs.Option.{option_map}
-use Rattle.std.specs.FinMap.{find}
 use Rattle.sector_device.specs.claim.Disk.{Image}
-use Rattle.page_store.specs.claim.Chain.{IsIn, AreFree}
-use Rattle.page_store.specs.claim.Transactions.{txn_pages, over, free_over}
-use Rattle.page_store.specs.declared.txn.Txn.{Txn}
-use Rattle.page_node.specs.claim.Entries.{Entry}
-use Rattle.page_node.specs.Entries.{child_in}
-use Rattle.page_node.specs.claim.Node.{Node, IsNode}
-use Rattle.page_node.specs.claim.Places.{key_cmp, Rises}
-use Rattle.page_node.specs.Places.{IsFound, floor}
-use Rattle.page_btree.specs.claim.Keys.{IsBetween}
-use Rattle.page_btree.specs.claim.Tree.{Tree, Forest, leaf, inner, IsTree, page_of, links, rows, owns}
-use Rattle.page_btree.specs.claim.Map.{IsSound}
-use Rattle.page_btree.specs.Getting.{CanGet, IsLevel}
-use Rattle.btree_walks.specs.Removing.{IsRemoved, AreRemoved, CanRemove, RemovesAt, Removes, RowRemoves, IsPutBack, IsDone, StaysAt, unlinked}
-use Rattle.btree_walks.proofs.Removing.{links_left}
-use Rattle.btree_walks.specs.declared.removes.Removed.{Removed}
-use Rattle.btree_walks.specs.declared.removes.Removed.TheVariants.{Absent, Kept, Emptied}
-use Rattle.btree_walks.proofs.Refusals.{HasRows}
+use Rattle.page_store.specs.{claim.Chain.{IsIn, AreFree}, claim.Transactions.{txn_pages, over, free_over}, declared.txn.Txn.Txn}
+use Rattle.page_node.specs.{claim.Entries.Entry, Entries.child_in, claim.Node.{Node, IsNode}, claim.Places.{key_cmp, Rises}, Places.{IsFound, floor}}
+use Rattle.page_btree.specs.{claim.Keys.IsBetween, claim.Tree.{Tree, Forest, leaf, inner, IsTree, page_of, links, rows, owns}, claim.Map.IsSound, Getting.{CanGet, IsLevel}}
 use Rattle.page_btree.proofs.Descent.{named, node_of, owns_page, at_leaf, some_links}
-use Rattle.btree_walks.proofs.Removals.{owner_of, inner_written, inner_given, leaf_written, leaf_given}
+use Rattle.btree_walks.specs.{Removing.{IsRemoved, AreRemoved, CanRemove, RemovesAt, Removes, RowRemoves, IsPutBack, IsDone, StaysAt, unlinked}, declared.removes.Removed.Removed}
+use Rattle.btree_walks.{specs.declared.removes.Removed.TheVariants.{Absent, Kept, Emptied}, proofs.Refusals.HasRows}
+use Rattle.btree_walks.proofs.Removals.{links_left, owner_of, inner_written, inner_given, leaf_written, leaf_given}
 
 -- ---- at a leaf
 module _ (n : ℕ) (S : Image) (t0 t1 : Txn) (low : List ℕ) (high : Option (List ℕ)) (key : List ℕ) (p : ℕ) (elsewhere : (q : ℕ) → q ≢ p → over t1 S q ≡ over t0 S q) where
@@ -104,7 +90,7 @@ module _ (n : ℕ) (S : Image) (t0 : Txn) (d : ℕ) (low : List ℕ) (high : Opt
   kept_as t1 (Some g) done same = (
     inner p g,
     inner_written n (over t0 S) (over t1 S) (over t1 S) d low high (free_over t0 S) (free_over t1 S) key p f g is sound.apart (sound.used p (inl refl)) done
-        (subst (λ es. IsNode (over t1 S p) (record { level = d; entries = es })) (sym same) (subst (λ bytes. IsNode bytes (record { level = d; entries = links f })) (sym (done.frame p sound.apart.0)) is.1))
+        (subst (λ es. IsNode (over t1 S p) (record { level = d; entries = es })) (sym same) (subst (λ bytes. IsNode bytes (record { level = d; entries = links f })) (sym (done.less.frame p sound.apart.0)) is.1))
         (λ q other. refl),
   )
 
@@ -130,9 +116,9 @@ module _ (n : ℕ) (S : Image) (t0 : Txn) (d : ℕ) (low : List ℕ) (high : Opt
         between = owner.between;
       } in
       let stays : (t1 : Txn) → IsRemoved n (over t0 S) (over t1 S) (d - 1) owner.its_low owner.its_high (free_over t0 S) (free_over t1 S) key c None → (over t1 S p ≡ over t0 S p) × (IsIn p (free_over t1 S) → ⊥) × AreFree n (free_over t1 S) = λ t1 done. (
-        done.frame p (λ own. sound.apart.0 (owner.owned p own)),
-        (λ there. ⊎_elim (λ was. sound.used p (inl refl) was) (λ own. sound.apart.0 (owner.owned p own)) (done.given p there)),
-        done.free_are,
+        done.less.frame p (λ own. sound.apart.0 (owner.owned p own)),
+        (λ there. ⊎_elim (λ was. sound.used p (inl refl) was) (λ own. sound.apart.0 (owner.owned p own)) (done.less.given p there)),
+        done.less.free_are,
       ) in
       record {
         can = can;
@@ -199,5 +185,4 @@ both_ok (Err e) A B a b = tt
 
 pub done_stays : (old new : Txn) (did : Removed) → IsDone did → StaysAt old new did
 done_stays old new Absent done = absurd done
-done_stays old new Kept done = tt
-done_stays old new Emptied done = tt
+done_stays old new _ done = tt

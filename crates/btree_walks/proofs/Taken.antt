@@ -1,13 +1,8 @@
 -- Lemmas on the definitions of Taken.
-use Rattle.std.proofs.Common.{◌≡◌, ℕ, List, [], ◌∷◌, ◌++◌, true, false, refl, sym, ap, ◌∙◌, append_assoc, ◌≤◌, cond, length, length-append, arith}
-use Rattle.std.specs.Prelude.{None}
+use Rattle.std.{specs.Prelude.None, proofs.Common.{◌≡◌, ℕ, List, [], ◌∷◌, ◌++◌, true, false, refl, sym, ap, ◌∙◌, append_assoc, ◌≤◌, cond, length, length-append, arith}}
 use Rattle.std.proofs.lemmas.List.{append-nil}
 use Rattle.page_node.specs.claim.Entries.{Entry}
-use Rattle.btree_walks.specs.Prefixes.{under, is_under}
-use Rattle.btree_walks.specs.Scanning.{Rest, IsNextRow, fault_in}
-use Rattle.btree_walks.specs.declared.rows.Row.{Row}
-use Rattle.btree_walks.specs.declared.scans.Scan.{Scan}
-use Rattle.btree_walks.specs.Taken.{HasTaken}
+use Rattle.btree_walks.specs.{Prefixes.{under, is_under}, Scanning.{Rest, IsNextRow, fault_in}, declared.rows.Row.Row, declared.scans.Scan.Scan, Taken.HasTaken}
 
 pub taken_none : (prefix : List ℕ) (scan : Scan) (all : List Entry) → Rest scan all (under prefix all) → HasTaken prefix [] scan all
 taken_none prefix scan all rest = record { rest = under prefix all; rest_are = rest; whole = refl }

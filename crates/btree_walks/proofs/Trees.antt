@@ -1,19 +1,13 @@
 -- A tree whose children were walked.
+use Rattle.std.specs.Prelude.{Option, Some}
 use Rattle.std.proofs.Common.{◌≡◌, ◌⊎◌, ◌<◌, ◌≤◌, ◌+◌, ◌-◌, ℕ, suc, List, [], ◌∷◌, length, drop, get_or, refl, sym, ap, subst, ◌∙◌, arith, add-one, length-drop}
 use Rattle.std.proofs.lemmas.List.{drop_more}
-use Rattle.std.specs.Prelude.{Option, Some}
 use Rattle.sector_device.specs.claim.Disk.{Image}
-use Rattle.page_node.specs.claim.Entries.{Entry, child_bytes}
-use Rattle.page_node.specs.Entries.{key_at, value_at}
-use Rattle.page_node.specs.claim.Node.{Node, IsNode}
-use Rattle.page_btree.specs.claim.Keys.{Parts}
-use Rattle.page_btree.specs.claim.Tree.{Forest, leaf, inner, one, more, first_key, links, owns, forest_owns, size, forest_size, IsTree, AreTrees}
+use Rattle.page_node.specs.{claim.Entries.{Entry, child_bytes}, Entries.{key_at, value_at}, claim.Node.{Node, IsNode}}
+use Rattle.page_btree.specs.{claim.Keys.Parts, claim.Tree.{Forest, leaf, inner, one, more, first_key, links, owns, forest_owns, size, forest_size, IsTree, AreTrees}}
 use Rattle.page_btree.proofs.MapLaws.{key_of}
-use Rattle.btree_walks.specs.Order.{lower_of, upper_of, next_key, AreRows, AreParts}
-use Rattle.btree_walks.specs.Owners.{AreNamed, IsWalked, AreWalked, AreWalkedFrom}
-use Rattle.btree_walks.specs.declared.marks.Marks.{Marks}
-use Rattle.btree_walks.proofs.Named.{named_more, named_as}
-use Rattle.btree_walks.proofs.Lists.{pos as above}
+use Rattle.btree_walks.specs.{Order.{lower_of, upper_of, next_key, AreRows, AreParts}, Owners.{AreNamed, IsWalked, AreWalked, AreWalkedFrom}, declared.marks.Marks.Marks}
+use Rattle.btree_walks.proofs.{Named.{named_more, named_as}, Lists.pos as above}
 
 -- ---- children, from a place on
 pub drop_next : (es : List Entry) (k : ℕ) → k < length es → drop k es ≡ get_or es k ([], []) ∷ drop (suc k) es

@@ -1,25 +1,13 @@
 -- Loops over a scan: rows under a prefix were taken in turn, and something is known of them.
+use Rattle.std.specs.{Prelude.{Some, None, IfSome}, FinMap.entries}
 use Rattle.std.proofs.Common.{◌≡◌, ◌≤◌, ◌<◌, ◌+◌, ℕ, List, [], ◌∷◌, ◌++◌, Bool, true, false, length, length-append, refl, sym, ap, subst, ◌∙◌, arith}
-use Rattle.std.specs.Prelude.{Some, None, IfSome}
-use Rattle.std.specs.FinMap.{entries}
-use Rattle.sector_device.specs.claim.Disk.{Image}
-use Rattle.sector_device.specs.declared.SectorDevice.{Ghosts}
-use Rattle.page_store.specs.claim.Transactions.{stored, disk_in, IsQuiet, Passed}
-use Rattle.page_store.specs.declared.pages.Pages.{Pages}
-use Rattle.page_store.specs.declared.txn.Txn.{Txn}
+use Rattle.sector_device.specs.{claim.Disk.Image, declared.SectorDevice.Ghosts}
+use Rattle.page_store.specs.{claim.Transactions.{stored, disk_in, IsQuiet, Passed}, declared.pages.Pages.Pages, declared.txn.Txn.Txn}
 use Rattle.page_store.proofs.Stops.{passed_more, passed_none, quiet_more}
 use Rattle.page_node.specs.claim.Entries.{Entry}
-use Rattle.page_btree.specs.claim.Errors.{GetErr}
-use Rattle.page_btree.specs.claim.Keys.{KeyMap}
-use Rattle.page_btree.specs.claim.Map.{InTxn}
-use Rattle.page_btree.specs.declared.error.TreeError.{TreeError}
-use Rattle.btree_walks.specs.Prefixes.{under}
-use Rattle.btree_walks.specs.Scanning.{CanScan, IsNextRow, Rest, ScanErr, TakesNextRow, fault_in, has_ended}
-use Rattle.btree_walks.specs.Taken.{HasTaken}
-use Rattle.btree_walks.specs.declared.rows.Row.{Row}
-use Rattle.btree_walks.specs.declared.scans.Scan.{Scan}
-use Rattle.btree_walks.proofs.Refused.{scan_refused}
-use Rattle.btree_walks.proofs.RowsFound.{IsNextUnder, next_under}
+use Rattle.page_btree.specs.{claim.Errors.GetErr, claim.Keys.KeyMap, claim.Map.InTxn, declared.error.TreeError.TreeError}
+use Rattle.btree_walks.specs.{Prefixes.under, Scanning.{CanScan, IsNextRow, Rest, ScanErr, TakesNextRow, fault_in, has_ended}, Taken.HasTaken, declared.rows.Row.Row}
+use Rattle.btree_walks.{specs.declared.scans.Scan.Scan, proofs.Refused.scan_refused, proofs.RowsFound.{IsNextUnder, next_under}}
 use Rattle.btree_walks.proofs.Taken.{taken_all, taken_few, taken_more, taken_none}
 
 -- the rows taken before the next one, and what is known of them
@@ -57,7 +45,6 @@ module _ {D : Type 0} {g : Ghosts D} where
         let rows = walked.taken honest m holds in
         let few = taken_few prefix rows.0 was (entries m) rows.2 in
         let less = fewer (stored old) m holds in
-        let long = rows.1 in
         omega arith
 
     module _ {new : Pages D g} (quiet : IsQuiet now new) where

@@ -1,22 +1,16 @@
 -- Why pages aren't found sound.
 use Rattle.std.specs.Prelude.{◌≡◌, true}
 use Rattle.sector_device.specs.declared.SectorDevice.{Ghosts}
-use Rattle.page_store.specs.claim.Transactions.{disk_in, has_halted, HasFailed}
+use Rattle.page_store.specs.{claim.Transactions.{disk_in, has_halted, HasFailed}, declared.pages.Pages.Pages}
 use Rattle.gate_journal.specs.declared.error.PageError.{PageError}
 use Rattle.gate_journal.specs.declared.error.PageError.TheVariants as page
-use Rattle.page_store.specs.declared.pages.Pages.{Pages}
-use Rattle.btree_walks.specs.declared.error.PagesError.{PagesError}
-use Rattle.btree_walks.specs.declared.error.PagesError.TheVariants.{Unsound, DeviceFault, Halted, Memory}
+use Rattle.btree_walks.specs.{declared.error.PagesError.PagesError, declared.error.PagesError.TheVariants.{Unsound, DeviceFault, Halted, Memory}}
 
 -- the refusal of a read. Those of openings and commits don't come
 abbrev pub pages_error : PageError → PagesError
-pages_error page.NotAStore = DeviceFault
-pages_error page.DeviceFault = DeviceFault
 pages_error page.Halted = Halted
-pages_error page.TooManyPages = DeviceFault
-pages_error page.TooSmall = DeviceFault
-pages_error page.NoPages = DeviceFault
 pages_error page.Memory = Memory
+pages_error _ = DeviceFault
 
 module _ {D : Type 0} {g : Ghosts D} where
   -- what is to be so of the pages isn't, or they couldn't be read
@@ -28,7 +22,5 @@ module _ {D : Type 0} {g : Ghosts D} where
 
   -- or a growth was refused
   abbrev pub CheckErr : Type 0 → Pages D g → Pages D g → PagesError → Type 0
-  CheckErr sound old new (Unsound fault) = (disk_in new).is_honest → sound → ⊥
-  CheckErr sound old new DeviceFault = HasFailed old new
-  CheckErr sound old new Halted = has_halted old ≡ true
   CheckErr sound old new Memory = Unit {0}
+  CheckErr sound old new e = PagesErr sound old new e

@@ -3,16 +3,11 @@ use Rattle.std.specs.Prelude.{◌≡◌, ◌⊎◌, ◌≤◌, ◌<◌, ◌+◌,
 use Rattle.sector_device.specs.claim.Disk.{Image}
 use Rattle.gate_journal.specs.claim.Store.{word}
 use Rattle.page_store.specs.claim.Chain.{IsIn, root_in}
-use Rattle.page_node.specs.claim.Entries.{child_bytes}
-use Rattle.page_node.specs.Entries.{value_at}
-use Rattle.page_node.specs.claim.Node.{Node, IsNode}
+use Rattle.page_node.specs.{claim.Entries.child_bytes, Entries.value_at, claim.Node.{Node, IsNode}}
 use Rattle.page_btree.specs.claim.Tree.{Tree, IsTree, page_of, owns}
-use Rattle.btree_walks.specs.Order.{lower_of, upper_of, IsOrdered}
-use Rattle.btree_walks.specs.Owners.{IsBlank, named_free, after}
-use Rattle.btree_walks.specs.declared.error.PageFaultKind.{PageFaultKind}
+use Rattle.btree_walks.specs.{Order.{lower_of, upper_of, IsOrdered}, Owners.{IsBlank, named_free, after}, declared.error.PageFaultKind.PageFaultKind}
 use Rattle.btree_walks.specs.declared.error.PageFaultKind.TheVariants.{BeyondTheEnd, NamedTwice, NotFree, ListGoesOn, NotANode, WrongLevel, KeysOutOfOrder, Lost}
-use Rattle.btree_walks.specs.declared.error.PagesError.{PagesError}
-use Rattle.btree_walks.specs.declared.error.PagesError.TheVariants.{Unsound, DeviceFault, Halted, Memory}
+use Rattle.btree_walks.specs.{declared.error.PagesError.PagesError, declared.error.PagesError.TheVariants.Unsound}
 
 -- ---- where the tree has a page
 -- the way leads from a page of a level and with bounds of its keys to another one, by the children that nodes name at places
@@ -55,17 +50,10 @@ IsWrongPage n P page Lost = (page < n) × (page ≡ 0 → ⊥) × (IsIn page (na
 -- the same of what isn't found sound, if a page is told
 abbrev pub TellsOf : ℕ → Image → PagesError → Type 0
 TellsOf n P (Unsound fault) = IsWrongPage n P fault.page fault.kind
-TellsOf n P DeviceFault = Unit {0}
-TellsOf n P Halted = Unit {0}
-TellsOf n P Memory = Unit {0}
+TellsOf n P _ = Unit {0}
 
 -- why a page can't be named
 abbrev pub IsUnnamed : ℕ → ℕ → PageFaultKind → Type 0
 IsUnnamed n page BeyondTheEnd = n ≤ page
 IsUnnamed n page NamedTwice = page < n
-IsUnnamed n page NotFree = ⊥
-IsUnnamed n page ListGoesOn = ⊥
-IsUnnamed n page NotANode = ⊥
-IsUnnamed n page WrongLevel = ⊥
-IsUnnamed n page KeysOutOfOrder = ⊥
-IsUnnamed n page Lost = ⊥
+IsUnnamed n page _ = ⊥

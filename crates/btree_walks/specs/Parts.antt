@@ -1,11 +1,7 @@
 -- A row where it stands in a leaf's page.
-use Rattle.std.specs.Prelude.{ℕ, List, []}
-use Rattle.std.proofs.Common.{get_or}
+use Rattle.std.{specs.Prelude.{ℕ, List, []}, proofs.Common.get_or}
 use Rattle.page_node.specs.Walking.{part_of}
-use Rattle.btree_walks.specs.declared.held.HeldLeaves.{HeldLeaves}
-use Rattle.btree_walks.specs.declared.parts.Parts.{Parts}
-use Rattle.btree_walks.specs.declared.rows.Row.{Row}
-use Rattle.btree_walks.specs.declared.scans.Scan.{Scan}
+use Rattle.btree_walks.specs.{declared.held.HeldLeaves.HeldLeaves, declared.parts.Parts.Parts, declared.rows.Row.Row, declared.scans.Scan.Scan}
 
 -- the page of the leaf at which a scan stands
 abbrev pub page_of : HeldLeaves → List ℕ

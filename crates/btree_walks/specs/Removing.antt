@@ -1,25 +1,12 @@
 -- What a remove does to a part of a tree.
-use Rattle.std.specs.Prelude.{◌≡◌, ◌⊎◌, true, ◌<◌, ◌+◌, ℕ, List, [], ◌∷◌, length, cond, Option, Some, None, remove}
-use Rattle.std.specs.Ordering.{is_gt}
-use Rattle.std.specs.FinMap.{find, put}
-use Rattle.sector_device.specs.claim.Disk.{Image}
-use Rattle.page_store.specs.claim.Chain.{IsIn, AreFree}
-use Rattle.sector_device.specs.declared.SectorDevice.{Ghosts}
-use Rattle.page_store.specs.claim.Transactions.{stored, disk_in, has_halted, HasFailed, txn_pages, over, free_over}
-use Rattle.page_store.specs.declared.pages.Pages.{Pages}
-use Rattle.page_store.specs.declared.txn.Txn.{Txn}
-use Rattle.page_node.specs.claim.Entries.{Entry}
-use Rattle.page_node.specs.claim.Node.{Node, IsNode}
-use Rattle.page_node.specs.claim.Places.{key_cmp, Rises}
-use Rattle.page_node.specs.Places.{IsFound}
+use Rattle.std.specs.{Prelude.{◌≡◌, ◌⊎◌, ◌<◌, ◌+◌, ℕ, List, [], ◌∷◌, length, cond, Option, Some, None, remove}, Ordering.is_gt, FinMap.{find, put}}
+use Rattle.sector_device.specs.{claim.Disk.Image, declared.SectorDevice.Ghosts}
+use Rattle.page_store.specs.{claim.Chain.{IsIn, AreFree}, claim.Transactions.{txn_pages, over, free_over}, declared.pages.Pages.Pages, declared.txn.Txn.Txn}
+use Rattle.page_node.specs.{claim.Entries.Entry, claim.Node.{Node, IsNode}, claim.Places.{key_cmp, Rises}, Places.IsFound}
 use Rattle.page_btree.specs.claim.Keys.{IsBetween, Parts}
-use Rattle.page_btree.specs.claim.Tree.{Tree, Forest, IsTree, AreTrees, IsApart, AreApart, page_of, first_key}
-use Rattle.page_btree.specs.claim.Tree.{rows, owns, size, forest_rows, forest_owns, forest_size}
-use Rattle.page_btree.specs.claim.Map.{IsSound}
-use Rattle.page_btree.specs.declared.error.TreeError.{TreeError}
-use Rattle.page_btree.specs.declared.error.TreeError.TheVariants.{DeviceFault, NotAStore, Halted, NoPages, TooDeep, Memory}
-use Rattle.btree_walks.specs.declared.removes.Removed.{Removed}
-use Rattle.btree_walks.specs.declared.removes.Removed.TheVariants.{Absent, Kept, Emptied}
+use Rattle.page_btree.specs.claim.Tree.{Tree, Forest, IsTree, AreTrees, IsApart, AreApart, page_of, first_key, rows, owns, size, forest_rows, forest_owns, forest_size}
+use Rattle.page_btree.specs.{claim.Map.IsSound, Getting.ReadsErr, declared.error.TreeError.TreeError, declared.error.TreeError.TheVariants.{NotAStore, Memory}}
+use Rattle.btree_walks.specs.{declared.removes.Removed.Removed, declared.removes.Removed.TheVariants.{Absent, Kept, Emptied}}
 
 -- ---- what is left of a tree, or of children: a smaller one, or nothing
 abbrev pub rows_left : Option Tree → List Entry
@@ -56,32 +43,29 @@ ForestLeft Q d low high first None = Unit {0}
 ForestLeft Q d low high first (Some f) = AreTrees Q d low high f × AreApart f
     × ((first_key f ≡ first) ⊎ (Parts low high (first_key f) × AreTrees Q d (first_key f) high f))
 
--- A tree became a smaller one, or nothing, as the pages went from P to Q and pages of its own were given back: its rows are
--- those that are left, with the row that was removed.
+-- Rows became others as the pages went from P to Q, and pages of their own were given back: they are those that are left, with the row that
+-- was removed.
+pub record IsLess (n : ℕ) (P Q : Image) (free left key : List ℕ) (all now : List Entry) (own still : ℕ → Type 0) (total now_total : ℕ) : Type 0 where
+  pub value : List ℕ
+  pub rows_are : put key_cmp key value now ≡ all
+  pub none : find key_cmp key now ≡ None
+  pub owned : (q : ℕ) → still q → own q × (IsIn q left → ⊥)
+  pub frame : (q : ℕ) → (own q → ⊥) → Q q ≡ P q
+  pub given : (q : ℕ) → IsIn q left → IsIn q free ⊎ own q
+  pub free_are : AreFree n left
+  pub whole : now_total + length left ≡ total + length free
+
+-- a tree became a smaller one, or nothing
 pub record IsRemoved (n : ℕ) (P Q : Image) (d : ℕ) (low : List ℕ) (high : Option (List ℕ))
     (free left : List ℕ) (key : List ℕ) (t : Tree) (u : Option Tree) : Type 0 where
   pub stands : StandsLeft Q d low high (page_of t) u
-  pub value : List ℕ
-  pub rows_are : put key_cmp key value (rows_left u) ≡ rows t
-  pub none : find key_cmp key (rows_left u) ≡ None
-  pub owned : (q : ℕ) → owns_left u q → owns t q × (IsIn q left → ⊥)
-  pub frame : (q : ℕ) → (owns t q → ⊥) → Q q ≡ P q
-  pub given : (q : ℕ) → IsIn q left → IsIn q free ⊎ owns t q
-  pub free_are : AreFree n left
-  pub whole : size_left u + length left ≡ size t + length free
+  pub less : IsLess n P Q free left key (rows t) (rows_left u) (owns t) (owns_left u) (size t) (size_left u)
 
 -- the same of children
 pub record AreRemoved (n : ℕ) (P Q : Image) (d : ℕ) (low : List ℕ) (high : Option (List ℕ))
     (free left : List ℕ) (key : List ℕ) (f : Forest) (g : Option Forest) : Type 0 where
   pub stands : ForestLeft Q d low high (first_key f) g
-  pub value : List ℕ
-  pub rows_are : put key_cmp key value (forest_rows_left g) ≡ forest_rows f
-  pub none : find key_cmp key (forest_rows_left g) ≡ None
-  pub owned : (q : ℕ) → forest_owns_left g q → forest_owns f q × (IsIn q left → ⊥)
-  pub frame : (q : ℕ) → (forest_owns f q → ⊥) → Q q ≡ P q
-  pub given : (q : ℕ) → IsIn q left → IsIn q free ⊎ forest_owns f q
-  pub free_are : AreFree n left
-  pub whole : forest_size_left g + length left ≡ forest_size f + length free
+  pub less : IsLess n P Q free left key (forest_rows f) (forest_rows_left g) (forest_owns f) (forest_owns_left g) (forest_size f) (forest_size_left g)
 
 -- links without that of the child that a key belongs to
 abbrev pub unlinked_from : List ℕ → Entry → List Entry → List Entry
@@ -117,14 +101,12 @@ Removes {n = n} {P = P} {free = free} {d = d} {key = key} Q left can did = Remov
 -- where the key isn't there the transaction stays as it is
 abbrev pub StaysAt : Txn → Txn → Removed → Type 0
 StaysAt old new Absent = new ≡ old
-StaysAt old new Kept = Unit {0}
-StaysAt old new Emptied = Unit {0}
+StaysAt old new _ = Unit {0}
 
 -- something was removed
 abbrev pub IsDone : Removed → Type 0
 IsDone Absent = ⊥
-IsDone Kept = Unit {0}
-IsDone Emptied = Unit {0}
+IsDone _ = Unit {0}
 
 -- a node that has an entry less was written, or was empty and its page given back
 abbrev pub IsPutBack : Txn → Txn → ℕ → Node → Removed → Type 0
@@ -137,44 +119,30 @@ IsPutBack old new page node Emptied = (node.entries ≡ [])
 -- a leaf's row was taken out, or its key isn't there
 abbrev pub RowRemoves : Txn → Txn → ℕ → List ℕ → List Entry → Removed → Type 0
 RowRemoves old new page key es Absent = find key_cmp key es ≡ None
-RowRemoves old new page key es Kept = (i : ℕ) × IsFound key es i × IsPutBack old new page (record { level = 0; entries = remove es i }) Kept
-RowRemoves old new page key es Emptied = (i : ℕ) × IsFound key es i × IsPutBack old new page (record { level = 0; entries = remove es i }) Emptied
+RowRemoves old new page key es did = (i : ℕ) × IsFound key es i × IsPutBack old new page (record { level = 0; entries = remove es i }) did
 
 -- why a page isn't given back or written: more pages are free than a store has, or a growth was refused
 abbrev pub BackErr : Txn → ℕ → TreeError → Type 0
-BackErr t p DeviceFault = ⊥
 BackErr t p NotAStore = (P : Image) → 0 < p → AreFree (txn_pages t) (free_over t P) → (IsIn p (free_over t P) → ⊥) → ⊥
-BackErr t p Halted = ⊥
-BackErr t p NoPages = ⊥
-BackErr t p TooDeep = ⊥
 BackErr t p Memory = Unit {0}
+BackErr t p _ = ⊥
 
 -- or the page is that of no leaf whose keys rise
 abbrev pub TakenErr : Txn → ℕ → List ℕ → TreeError → Type 0
-TakenErr t p page DeviceFault = ⊥
 TakenErr t p page NotAStore = (P : Image) (es : List Entry) → IsNode page (record { level = 0; entries = es })
     → Rises es → 0 < p → AreFree (txn_pages t) (free_over t P) → (IsIn p (free_over t P) → ⊥) → ⊥
-TakenErr t p page Halted = ⊥
-TakenErr t p page NoPages = ⊥
-TakenErr t p page TooDeep = ⊥
 TakenErr t p page Memory = Unit {0}
+TakenErr t p page _ = ⊥
 
 -- or the page is that of no node with entries
 abbrev pub LinkErr : Txn → ℕ → List ℕ → TreeError → Type 0
-LinkErr t p page DeviceFault = ⊥
 LinkErr t p page NotAStore = (P : Image) (node : Node) → IsNode page node → 0 < length node.entries
     → 0 < p → AreFree (txn_pages t) (free_over t P) → (IsIn p (free_over t P) → ⊥) → ⊥
-LinkErr t p page Halted = ⊥
-LinkErr t p page NoPages = ⊥
-LinkErr t p page TooDeep = ⊥
 LinkErr t p page Memory = Unit {0}
+LinkErr t p page _ = ⊥
 
 module _ {D : Type 0} {g : Ghosts D} where
   -- why a key isn't removed below a page, where the pages are such
   abbrev pub BelowErr : (Image → Type 0) → Pages D g → Pages D g → TreeError → Type 0
-  BelowErr can old new DeviceFault = HasFailed old new
-  BelowErr can old new NotAStore = (disk_in new).is_honest → can (stored old) → ⊥
-  BelowErr can old new Halted = has_halted old ≡ true
-  BelowErr can old new NoPages = ⊥
-  BelowErr can old new TooDeep = ⊥
   BelowErr can old new Memory = Unit {0}
+  BelowErr can old new e = ReadsErr can old new e

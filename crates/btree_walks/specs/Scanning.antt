@@ -1,28 +1,13 @@
 -- Which rows of a scan are still to come.
-use Rattle.std.specs.Prelude.{◌≡◌, ℕ, Bool, true, false, List, [], ◌∷◌, ◌++◌, ◌+◌, length, drop}
-use Rattle.std.specs.Prelude.{Option, Some, None, cond, nat_eq, Result, OnOk, IfOk, IfSome}
-use Rattle.std.specs.List.{starts_with}
+use Rattle.std.specs.{Prelude.{◌≡◌, ℕ, Bool, true, false, List, [], ◌∷◌, ◌++◌, ◌+◌, length, drop, Option, Some, None, cond, nat_eq, Result, OnOk, IfOk, IfSome}, List.starts_with}
 use Rattle.std.specs.FinMap.{entries}
 use Rattle.sector_device.specs.declared.SectorDevice.{Ghosts}
-use Rattle.page_store.specs.claim.Transactions.{stored, disk_in, has_halted, HasFailed, IsQuiet, Passed}
-use Rattle.page_store.specs.declared.pages.Pages.{Pages}
-use Rattle.page_store.specs.declared.txn.Txn.{Txn}
-use Rattle.page_node.specs.claim.Entries.{Entry}
-use Rattle.page_node.specs.claim.Places.{Rises}
-use Rattle.page_node.specs.Walking.{IsAhead}
-use Rattle.page_btree.specs.claim.Keys.{KeyMap}
-use Rattle.page_btree.specs.claim.Map.{InTxn}
-use Rattle.page_btree.specs.Seeking.{bound_in, IsNext, AreLeaves}
-use Rattle.page_btree.specs.declared.seeks.Leaf.{Leaf}
-use Rattle.page_btree.specs.declared.error.TreeError.{TreeError}
-use Rattle.page_btree.specs.declared.error.TreeError.TheVariants.{DeviceFault, NotAStore, Halted, NoPages, TooDeep, Memory}
-use Rattle.btree_walks.specs.Prefixes.{under, AllFrom, AllUnder}
-use Rattle.btree_walks.specs.Parts.{page_of, row_in, row_at}
-use Rattle.btree_walks.specs.declared.held.HeldLeaves.{HeldLeaves}
-use Rattle.btree_walks.specs.declared.parts.ScanPlace.{ScanPlace}
-use Rattle.btree_walks.specs.declared.rows.Row.{Row}
-use Rattle.btree_walks.specs.declared.scans.Scan.{Scan}
-use Rattle.btree_walks.specs.declared.parts.Parts.{Parts}
+use Rattle.page_store.specs.{claim.Transactions.{stored, disk_in, has_halted, HasFailed, IsQuiet, Passed}, declared.pages.Pages.Pages, declared.txn.Txn.Txn}
+use Rattle.page_node.specs.{claim.Entries.Entry, claim.Places.Rises, Walking.IsAhead}
+use Rattle.page_btree.specs.{claim.Keys.KeyMap, claim.Map.InTxn, Seeking.{bound_in, IsNext, AreLeaves}, declared.seeks.Leaf.Leaf, declared.error.TreeError.TreeError}
+use Rattle.page_btree.specs.declared.error.TreeError.TheVariants.{DeviceFault, NotAStore, Halted}
+use Rattle.btree_walks.specs.{Prefixes.{under, AllFrom, AllUnder}, Parts.{page_of, row_in, row_at}, declared.held.HeldLeaves.HeldLeaves, declared.parts.ScanPlace.ScanPlace}
+use Rattle.btree_walks.specs.{declared.rows.Row.Row, declared.scans.Scan.Scan, declared.parts.Parts.Parts}
 
 -- A leaf stands before the rows of which those under the prefix are still to come: some are ahead in its page, others in the leaves
 -- that are held with it, and the others after these. They rise, and none is below the prefix. Where the leaves are covered, none
@@ -95,9 +80,7 @@ module _ {D : Type 0} {g : Ghosts D} where
   ScanErr can t old new DeviceFault = HasFailed old new
   ScanErr can t old new NotAStore = (disk_in new).is_honest → (m : KeyMap) → InTxn t (stored old) m → can m → ⊥
   ScanErr can t old new Halted = has_halted old ≡ true
-  ScanErr can t old new NoPages = ⊥
-  ScanErr can t old new TooDeep = ⊥
-  ScanErr can t old new Memory = ⊥
+  ScanErr can t old new _ = ⊥
 
 -- the scan is one of the map
 abbrev pub CanScan : Scan → KeyMap → Type 0

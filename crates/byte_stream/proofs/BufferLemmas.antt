@@ -1,10 +1,9 @@
 -- Parts of a buffer.
-use Rattle.std.proofs.Common.{◌≡◌, ℕ, ◌+◌, ◌-◌, ◌≤◌, Bool, true, false, cond, eqb, List, [], ◌∷◌, ◌++◌, length, take, drop, get_or, sym, ap, ◌∙◌, arith, length-append, length-take}
-use Rattle.std.specs.List.{slice_range}
-use Rattle.std.specs.Str.Lines.{strip_carriage_return}
+use Rattle.std.specs.{List.slice_range, Str.Lines.strip_carriage_return}
+use Rattle.std.proofs.Common.{◌≡◌, ℕ, ◌+◌, ◌-◌, ◌≤◌, Bool, true, false, cond, eqb, List, [], ◌∷◌, ◌++◌, length, take, drop, get_or, sym, ap, ◌∙◌, arith, length-append, length-take, rules}
+use Rattle.std.proofs.Math.Seq.{take-add, drop-append-add}
 use Rattle.std.proofs.lemmas.Slice.{between_is}
 use Rattle.std.proofs.lemmas.List.{drop-drop, take-take, take-append-le, take_at, take_all}
-use Rattle.std.proofs.Math.Seq.{take-add, drop-append-add}
 use Rattle.byte_stream.specs.claim.Reading.{BeginsWithLine, NoLineFeed}
 
 prefix_of : (b : Bool) (l : List ℕ) → take (length (cond b (take (length l - 1) l) l)) l ≡ cond b (take (length l - 1) l) l
@@ -62,8 +61,7 @@ pub put_back : (len : ℕ) (new old : List ℕ) → length new ≡ len → take 
 put_back len new old same = take_at new (drop (length new) old) len same
 
 pub kept_held : (old new held : List ℕ) (s e : ℕ) → take e new ≡ take e old → slice_range old s e ≡ held → slice_range new s e ≡ held
-kept_held old new held s e prefix was =
-    between_is new s e ∙ ap (drop s) prefix ∙ sym (between_is old s e) ∙ was
+kept_held old new held s e prefix was = search (rules, between_is)
 
 pub more_held : (new held : List ℕ) (s e n : ℕ) → s ≤ e → slice_range new s e ≡ held → slice_range new s (e + n) ≡ held ++ take n (drop e new)
 more_held new held s e n order was =
@@ -77,13 +75,11 @@ more_held new held s e n order was =
 -- the same, of the buffer as the write leaves it
 pub filled : (len : ℕ) (old new held : List ℕ) (s e : ℕ) → length new ≡ len → take e new ≡ take e old → slice_range old s e ≡ held
     → slice_range (take len (new ++ drop (length new) old)) s e ≡ held
-filled len old new held s e same prefix was =
-    ap (λ (b : List ℕ). slice_range b s e) (put_back len new old same) ∙ kept_held old new held s e prefix was
+filled len old new held s e same prefix was = search (rules, put_back, kept_held)
 
 pub filled_more : (len : ℕ) (old new held : List ℕ) (s e n : ℕ) → length new ≡ len → take e new ≡ take e old → slice_range old s e ≡ held → s ≤ e
     → slice_range (take len (new ++ drop (length new) old)) s (e + n) ≡ held ++ take n (drop e new)
-filled_more len old new held s e n same prefix was order =
-    ap (λ (b : List ℕ). slice_range b s (e + n)) (put_back len new old same) ∙ more_held new held s e n order (kept_held old new held s e prefix was)
+filled_more len old new held s e n same prefix was order = search (rules, put_back, more_held, kept_held)
 
 pub none_came : (piece : List ℕ) (n : ℕ) → n ≡ 0 → take n piece ≡ []
 none_came piece n none = ap (λ (k : ℕ). take k piece) none

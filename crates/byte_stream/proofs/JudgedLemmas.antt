@@ -1,14 +1,11 @@
 -- Lines that are judged one after the other.
-use Rattle.std.proofs.Common.{◌≡◌, ℕ, zero, suc, ◌+◌, ◌<◌, ◌⊎◌, List, [], ◌∷◌, ◌++◌, Bool, true, false, eqb, Option, None, Some, length, map, refl, sym, ap, ◌∙◌, arith, append_assoc, inl, inr, length-append, ⊎_elim}
+use Rattle.std.specs.{Io.KnownBytes.IsAtEnd, Str.Lines.{lines, strip_carriage_return}}
+use Rattle.std.proofs.Common.{◌≡◌, ℕ, zero, suc, ◌+◌, ◌<◌, ◌⊎◌, List, [], ◌∷◌, ◌++◌, Bool, true, false, eqb, Option, None, Some, length, map, refl, sym, ap, ◌∙◌, arith, append_assoc, inl, inr, length-append, ⊎_elim, rules}
 use Rattle.std.proofs.lemmas.List.{append-nil, map-append}
 use Rattle.std.proofs.lemmas.Bool.{eqb-true}
 use Rattle.std.proofs.lemmas.List.Elements.{All-append}
-use Rattle.std.specs.Io.KnownBytes.{IsAtEnd}
-use Rattle.std.specs.Str.Lines.{lines, strip_carriage_return}
-use Rattle.byte_stream.specs.claim.Reading.{NoLineFeed, IsBroken, BeginsWithLine, line_limit}
-use Rattle.byte_stream.specs.Reading.{IsLong, IsTooLong, IsLastLine}
-use Rattle.byte_stream.specs.claim.Judged.{Judge, AreGood, IsFirstFault, ShowsFault, with_ends, AreCut, BeginsWithLines, IsCutShort}
-use Rattle.byte_stream.proofs.TextLemmas.{lines-cut, lines-last}
+use Rattle.byte_stream.specs.{claim.Reading.{NoLineFeed, IsBroken, BeginsWithLine, line_limit}, Reading.{IsLong, IsTooLong, IsLastLine}}
+use Rattle.byte_stream.{specs.claim.Judged.{Judge, AreGood, IsFirstFault, ShowsFault, with_ends, AreCut, BeginsWithLines, IsCutShort}, proofs.TextLemmas.{lines-cut, lines-last}}
 use Rattle.byte_stream.proofs.BufferLemmas.{strip_by_one, strip_shorter}
 
 -- ---- whole lines at the start of a text
@@ -17,12 +14,7 @@ pub begins : (text : List ℕ) → BeginsWithLines text [] text
 begins text = record { raws = []; cut = refl; each = tt; stripped = refl }
 
 pub begins_more : (text more rest : List ℕ) (ls : List (List ℕ)) → BeginsWithLines text ls rest → BeginsWithLines (text ++ more) ls (rest ++ more)
-begins_more text more rest ls b = record {
-  raws = b.raws;
-  cut = ap (λ (t : List ℕ). t ++ more) b.cut ∙ append_assoc (with_ends b.raws) rest more;
-  each = b.each;
-  stripped = b.stripped;
-}
+begins_more text more rest ls b = search (rules, append_assoc)
 
 with_ends-push : (raws : List (List ℕ)) (raw rest : List ℕ) → with_ends raws ++ (raw ++ 10 ∷ rest) ≡ with_ends (raws ++ raw ∷ []) ++ rest
 with_ends-push [] raw rest = sym (append_assoc raw (10 ∷ []) rest)
@@ -53,8 +45,7 @@ lines-with_ends (x ∷ raws) rest each =
     ∙ ap (λ (t : List (List ℕ)). strip_carriage_return x ∷ t) (lines-with_ends raws rest each.1)
 
 pub lines-begins : (text rest : List ℕ) (ls : List (List ℕ)) → BeginsWithLines text ls rest → lines text ≡ ls ++ lines rest
-lines-begins text rest ls b =
-    ap lines b.cut ∙ lines-with_ends b.raws rest b.each ∙ ap (λ (t : List (List ℕ)). t ++ lines rest) (sym b.stripped)
+lines-begins text rest ls b = search (rules, lines-with_ends)
 
 -- ---- a line that is too long
 
@@ -78,8 +69,7 @@ NoLineFeed-append xs ys = All-append (λ b. eqb b 10 ≡ false) xs ys
 
 pub long_part : (text raw : List ℕ) → IsLong text → line_limit < length (strip_carriage_return (text ++ raw))
 long_part text [] long = rw (append-nil text) long
-long_part text (x ∷ raw) long =
-    omega (arith, strip_by_one (text ++ x ∷ raw), length-append text (x ∷ raw), strip_shorter text)
+long_part text (x ∷ raw) long = search (rules, strip_by_one, length-append, strip_shorter)
 
 -- whatever follows, the first line is too long
 pub long_line : (text more : List ℕ) → IsTooLong text → (line : List ℕ) × (after : List (List ℕ)) × (lines (text ++ more) ≡ line ∷ after) × (line_limit < length line)
@@ -133,11 +123,7 @@ module _ {F : Type 0} (judge : Judge F) where
   good_none = record { each = λ before line after e. absurd (omega (arith, ap length e, length-append before (line ∷ after))) }
 
   pub good_more : (ls : List (List ℕ)) (line : List ℕ) → AreGood judge ls → judge ls line ≡ None → AreGood judge (ls ++ line ∷ [])
-  good_more ls line good is = record {
-    each = λ before l after e.
-        ⊎_elim (λ w. ap (λ (t : List ℕ). judge before t) (sym w.1) ∙ ap (λ (t : List (List ℕ)). judge t line) (sym w.0) ∙ is)
-        (λ w. good.each before l w.0 w.1) (split_push ls before after line l e);
-  }
+  good_more ls line good is = search (rules, split_push)
 
   first_at : (ls all after : List (List ℕ)) (line : List ℕ) (fault : F) → all ≡ ls ++ line ∷ after → AreGood judge ls → judge ls line ≡ Some fault
       → IsFirstFault judge all (length ls + 1) fault

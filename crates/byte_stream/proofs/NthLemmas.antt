@@ -1,7 +1,6 @@
 -- One element after others that are passed over.
+use Rattle.std.specs.{List.slice_get, Option.option_copied}
 use Rattle.std.proofs.Common.{◌≡◌, ◌∷◌, [], ◌+◌, ◌≤◌, ℕ, List, Option, Some, None, length, drop, sym, ◌∙◌, ap, arith, length-drop, MatchOption, zero, suc, Bor}
-use Rattle.std.specs.List.{slice_get}
-use Rattle.std.specs.Option.{option_copied}
 use Rattle.std.proofs.lemmas.List.{drop_all, drop-drop}
 use Rattle.std.proofs.lemmas.Option.{slice_get_past}
 

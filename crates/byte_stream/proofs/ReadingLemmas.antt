@@ -1,8 +1,6 @@
 -- Steps of a reader, one after the other.
-use Rattle.std.proofs.Common.{◌≡◌, ℕ, ◌+◌, List, [], ◌++◌, Option, None, Some, refl, sym, ap, ◌∙◌, arith, append_assoc}
-use Rattle.std.specs.Io.KnownBytes.{Consumes, Keeps}
-use Rattle.byte_stream.specs.claim.Counts.{counted}
-use Rattle.byte_stream.specs.Reading.{CountsFrom}
+use Rattle.std.{specs.Io.KnownBytes.{Consumes, Keeps}, proofs.Common.{◌≡◌, ℕ, ◌+◌, List, [], ◌++◌, Option, None, Some, refl, sym, ap, ◌∙◌, arith, append_assoc}}
+use Rattle.byte_stream.specs.{claim.Counts.counted, Reading.CountsFrom}
 
 pub Consumes-nothing : (a : Option (List ℕ)) → Consumes a a []
 Consumes-nothing None = tt

@@ -1,10 +1,10 @@
 -- One byte, sought and counted in blocks.
-use Rattle.std.proofs.Common.{◌≡◌, ℕ, ◌+◌, ◌-◌, ◌≤◌, Bool, true, false, ◌||◌, List, length, take, drop, All, eqb, cond, refl, sym, ◌∙◌, ap, subst, arith, rules, length-take, length-drop, take-append-drop}
 use Rattle.std.specs.List.{count_by}
+use Rattle.std.proofs.Common.{◌≡◌, ℕ, ◌+◌, ◌-◌, ◌≤◌, Bool, true, false, ◌||◌, List, length, take, drop, All, eqb, cond, refl, sym, ◌∙◌, ap, subst, arith, rules, length-take, length-drop, take-append-drop}
+use Rattle.std.proofs.Math.Seq.{take-add}
 use Rattle.std.proofs.lemmas.List.{take_all}
 use Rattle.std.proofs.lemmas.List.Elements.{All-append}
 use Rattle.std.proofs.lemmas.List.Sums.{sum_by-append, count_by-le-length}
-use Rattle.std.proofs.Math.Seq.{take-add}
 
 pub first_no : (a b : Bool) → (a || b) ≡ false → a ≡ false
 first_no true b is = is
@@ -33,10 +33,7 @@ none_before text byte at n before rest =
 -- and one block more that is counted
 pub count_more : (text : List ℕ) (at n bars : ℕ) → bars ≡ count_by (λ b. eqb b 124) (take (at + n - at) (drop at text))
     → count_by (λ b. eqb b 124) (take at text) + bars ≡ count_by (λ b. eqb b 124) (take (at + n) text)
-count_more text at n bars is =
-    let e : at + n - at ≡ n = omega arith in
-    sym (ap (count_by (λ b. eqb b 124)) (take-add at n text) ∙ sum_by-append (λ b. cond (eqb b 124) 1 0) (take at text) (take n (drop at text))
-    ∙ ap (λ k. count_by (λ b. eqb b 124) (take at text) + k) (sym (rw e at is)))
+count_more text at n bars is = search (rules, take-add, sum_by-append)
 
 -- no more bars than bytes
 pub count_few : (text : List ℕ) (n : ℕ) → count_by (λ b. eqb b 124) (take n text) ≤ n

@@ -1,9 +1,7 @@
 -- Lines and fields, one after the other.
-use Rattle.std.proofs.Common.{◌≡◌, ℕ, ◌<◌, false, List, [], ◌∷◌, ◌++◌, length, take, drop, refl, ap, ◌∙◌, arith, eqb, All, ◌-◌, length-take}
-use Rattle.std.specs.List.{slice_split}
 use Rattle.std.specs.Str.Lines.{lines, lines_of_parts, strip_carriage_return}
+use Rattle.std.proofs.{Common.{◌≡◌, ℕ, ◌<◌, false, List, [], ◌∷◌, ◌++◌, length, take, drop, refl, ap, ◌∙◌, arith, eqb, All, ◌-◌, length-take, rules}, Math.Dec.eqb-suc-zero}
 use Rattle.std.proofs.lemmas.List.Splits.{slice_split_at, slice_split_none, length-slice_split}
-use Rattle.std.proofs.Math.Dec.{eqb-suc-zero}
 use Rattle.byte_stream.specs.claim.Fields.{fields}
 
 lines_of_parts-cons : (x : List ℕ) (parts : List (List ℕ)) → 0 < length parts → lines_of_parts (x ∷ parts) ≡ strip_carriage_return x ∷ lines_of_parts parts
@@ -12,9 +10,7 @@ lines_of_parts-cons x (y ∷ more) some = refl
 
 -- the first line ends at the first line feed
 pub lines-cut : (line rest : List ℕ) → All (λ b. eqb b 10 ≡ false) line → lines (line ++ 10 ∷ rest) ≡ strip_carriage_return line ∷ lines rest
-lines-cut line rest none =
-    ap lines_of_parts (slice_split_at (λ b. eqb b 10) line 10 rest none refl)
-    ∙ lines_of_parts-cons line (slice_split (λ b. eqb b 10) rest) (omega (arith, length-slice_split (λ b. eqb b 10) rest))
+lines-cut line rest none = search (rules, slice_split_at, lines_of_parts-cons, length-slice_split)
 
 unended : (line : List ℕ) → 0 < length line → lines_of_parts (line ∷ []) ≡ line ∷ []
 unended [] some = absurd (omega arith)

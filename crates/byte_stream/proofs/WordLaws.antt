@@ -1,11 +1,8 @@
 -- What callers need of words.
-use Rattle.std.specs.Prelude.{◌≡◌, ℕ, Bool, true, false, cond, List, [], ◌∷◌, ◌++◌, refl}
-use Rattle.std.proofs.Common.{ap, ◌∙◌, arith}
-use Rattle.std.specs.List.{slice_split, onto_first, filter}
+use Rattle.std.{specs.Prelude.{◌≡◌, ℕ, Bool, true, false, cond, List, [], ◌∷◌, ◌++◌, refl}, specs.List.{slice_split, onto_first, filter}, proofs.Common.{ap, ◌∙◌, arith}}
 use Rattle.std.proofs.lemmas.List.Elements.{All-head, All-tail}
 use Rattle.std.proofs.lemmas.List.Splits.{slice_split-cons_yes, slice_split-cons_no, slice_split_none, slice_split_at}
-use Rattle.byte_stream.specs.claim.Words.{is_separator, words, has_bytes, AreSeparators, NoSeparator}
-use Rattle.byte_stream.specs.Words.{IsWord}
+use Rattle.byte_stream.specs.{claim.Words.{is_separator, words, has_bytes, AreSeparators, NoSeparator}, Words.IsWord}
 
 pub words-none : words [] ≡ []
 unfolding words

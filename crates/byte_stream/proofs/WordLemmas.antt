@@ -1,11 +1,10 @@
 -- Words at the start of a text.
-use Rattle.std.proofs.Common.{◌≡◌, ℕ, zero, suc, ◌+◌, ◌-◌, ◌<◌, ◌≤◌, true, false, List, [], ◌∷◌, ◌++◌, length, take, drop, get_or, sym, ap, ◌∙◌, arith, length-take, length-drop, add-one, drop-cons, inl, inr}
 use Rattle.std.specs.List.{slice_range}
+use Rattle.std.proofs.Common.{◌≡◌, ℕ, zero, suc, ◌+◌, ◌-◌, ◌<◌, ◌≤◌, true, false, List, [], ◌∷◌, ◌++◌, length, take, drop, get_or, sym, ap, ◌∙◌, arith, length-take, length-drop, add-one, drop-cons, inl, inr, rules}
 use Rattle.std.proofs.lemmas.Bool.{false≢true, cases_lt}
 use Rattle.std.proofs.lemmas.List.{take_all, drop_all, drop-drop, take-take, take-append-drop, get_or-drop}
 use Rattle.std.proofs.lemmas.Slice.{between_is}
-use Rattle.byte_stream.specs.claim.Words.{is_separator, words, AreSeparators, NoSeparator, word_limit}
-use Rattle.byte_stream.specs.Words.{IsWord, CutsWord, CutsPart, CutsLong}
+use Rattle.byte_stream.specs.{claim.Words.{is_separator, words, AreSeparators, NoSeparator, word_limit}, Words.{IsWord, CutsWord, CutsPart, CutsLong}}
 use Rattle.byte_stream.proofs.WordLaws.{words-none, words-separator, words-past, words-word, words-last}
 
 drop_here : (text : List ℕ) (n : ℕ) → n < length text → drop n text ≡ get_or text n 0 ∷ drop (n + 1) text
@@ -17,10 +16,7 @@ cut_at text n inside = sym (take-append-drop n text) ∙ ap (λ (r : List ℕ). 
 
 some_word : (text : List ℕ) (n m : ℕ) → n + m < length text → (n < length text → is_separator (get_or text n 0) ≡ false)
     → (m < length (drop n text) → is_separator (get_or (drop n text) m 0) ≡ true) → 0 < m
-some_word text n zero inside stops ends =
-    let here : n + 0 ≡ n = omega arith in
-    let same : get_or text n 0 ≡ get_or (drop n text) 0 0 = sym (get_or-drop n text 0 0 ∙ ap (λ (k : ℕ). get_or text k 0) here) in
-    absurd (false≢true (sym (stops (omega arith)) ∙ ap is_separator same ∙ ends (omega (arith, length-drop n text))))
+some_word text n zero inside stops ends = search (rules, get_or-drop, false≢true, length-drop)
 some_word text n (suc m) inside stops ends = omega arith
 
 pub found_word : (text : List ℕ) (n m : ℕ) → AreSeparators (take n text) → (n < length text → is_separator (get_or text n 0) ≡ false) → NoSeparator (take m (drop n text))
@@ -63,8 +59,7 @@ found_long text n m blank one long within = record {
 
 -- parts of a part of a buffer
 tail_is : (buffer h : List ℕ) (s e n : ℕ) → slice_range buffer s e ≡ h → slice_range buffer (s + n) e ≡ drop n h
-tail_is buffer h s e n same =
-    between_is buffer (s + n) e ∙ sym (drop-drop n s (take e buffer)) ∙ ap (drop n) (sym (between_is buffer s e) ∙ same)
+tail_is buffer h s e n same = search (rules, between_is, drop-drop)
 
 inner_is : (buffer h : List ℕ) (s e n m : ℕ) → slice_range buffer s e ≡ h → n + m ≤ length h → slice_range buffer (s + n) (s + n + m) ≡ take m (drop n h)
 inner_is buffer h s e n m same fits =

@@ -1,14 +1,10 @@
 -- Steps of a reader of words, one after the other.
-use Rattle.std.proofs.Common.{◌≡◌, ℕ, List, [], ◌∷◌, ◌++◌, Option, Ok, true, sym, ap, ◌∙◌, arith, append_assoc, length-append}
-use Rattle.std.specs.Io.KnownBytes.{Consumes, IsAtEnd}
+use Rattle.std.{specs.Io.KnownBytes.{Consumes, IsAtEnd}, proofs.Common.{◌≡◌, ℕ, List, [], ◌++◌, Option, Ok, true, sym, ap, ◌∙◌, arith, append_assoc, length-append, rules}}
 use Rattle.std.proofs.lemmas.List.{append-nil}
 use Rattle.std.proofs.lemmas.List.Elements.{All-append}
-use Rattle.byte_stream.specs.Reading.{Reading}
-use Rattle.byte_stream.specs.claim.Words.{is_separator, words, AreSeparators, IsBrokenWord}
-use Rattle.byte_stream.specs.Words.{IsWord, BeginsWithWord, BeginsWithLongWord, GivesWord, CutsWord, CutsPart, CutsLong, TakesLastWord}
-use Rattle.byte_stream.proofs.WordLaws.{words-none, words-past, words-word, words-last, words-goes_on}
-use Rattle.byte_stream.specs.declared.reader.WordStep.{WordStep}
-use Rattle.byte_stream.specs.declared.reader.WordStep.TheVariants.{Word, LastWord, End}
+use Rattle.byte_stream.specs.{Reading.Reading, claim.Words.{is_separator, words, AreSeparators, IsBrokenWord}}
+use Rattle.byte_stream.specs.{Words.{IsWord, BeginsWithWord, BeginsWithLongWord, GivesWord, CutsWord, CutsPart, CutsLong, TakesLastWord}, declared.reader.WordStep.WordStep}
+use Rattle.byte_stream.{specs.declared.reader.WordStep.TheVariants.{Word, LastWord, End}, proofs.WordLaws.{words-none, words-past, words-word, words-last, words-goes_on}}
 use Rattle.byte_stream.proofs.ReadingLemmas.{Consumes-nothing, Consumes-then}
 
 -- the source gave more bytes, and of all that came separators are passed and the rest is held
@@ -39,42 +35,21 @@ past_part before after old held part reads cuts = record {
 
 pub past_turn : (before between after : Option (List ℕ)) (old held new piece : List ℕ) → ReadsPast before between old held → Consumes between after piece → new ≡ held ++ piece
     → ReadsPast before after old new
-past_turn before between after old held new piece reads came is = record {
-  more = reads.more ++ piece;
-  blanks = reads.blanks;
-  consumes = Consumes-then before between after reads.more piece reads.consumes came;
-  text = sym (append_assoc old reads.more piece) ∙ ap (λ (t : List ℕ). t ++ piece) reads.text ∙ append_assoc reads.blanks held piece ∙ ap (λ (h : List ℕ). reads.blanks ++ h) (sym is);
-  blank = reads.blank;
-}
+past_turn before between after old held new piece reads came is = search (rules, Consumes-then, append_assoc)
 
 -- the same where no byte came
 pub past_none : (before between after : Option (List ℕ)) (old held new : List ℕ) → ReadsPast before between old held → Consumes between after [] → new ≡ held → ReadsPast before after old new
 past_none before between after old held new reads came is = past_turn before between after old held new [] reads came (is ∙ sym (append-nil held))
 
 words_on : (before after : Option (List ℕ)) (old held next : List ℕ) (reads : ReadsPast before after old held) → words ((old ++ reads.more) ++ next) ≡ words (held ++ next)
-words_on before after old held next reads =
-    ap (λ (t : List ℕ). words (t ++ next)) reads.text ∙ ap words (append_assoc reads.blanks held next) ∙ words-past reads.blanks (held ++ next) reads.blank
+words_on before after old held next reads = search (rules, append_assoc, words-past)
 
 words_of : (before after : Option (List ℕ)) (old held : List ℕ) (reads : ReadsPast before after old held) → words (old ++ reads.more) ≡ words held
 words_of before after old held reads = ap words reads.text ∙ words-past reads.blanks held reads.blank
 
 pub word_given : (before after : Option (List ℕ)) (old held word rest : List ℕ) → ReadsPast before after old held → CutsWord held word rest
     → (more : List ℕ) × Consumes before after more × BeginsWithWord (old ++ more) word rest
-word_given before after old held word rest reads cuts = (
-  reads.more,
-  reads.consumes,
-  record {
-    gives = λ next.
-        words_on before after old held next reads
-        ∙ ap (λ (t : List ℕ). words (t ++ next)) cuts.cut
-        ∙ ap words (append_assoc cuts.blanks (word ++ cuts.separator ∷ rest) next)
-        ∙ words-past cuts.blanks ((word ++ cuts.separator ∷ rest) ++ next) cuts.blank
-        ∙ ap words (append_assoc word (cuts.separator ∷ rest) next)
-        ∙ words-word word cuts.separator (rest ++ next) cuts.is cuts.ends;
-    is = cuts.is;
-    short = cuts.short;
-  },
-)
+word_given before after old held word rest reads cuts = search (rules, words_on, append_assoc, words-past, words-word)
 
 pub long_given : (before after : Option (List ℕ)) (old held : List ℕ) → ReadsPast before after old held → CutsLong held
     → (more : List ℕ) × Consumes before after more × BeginsWithLongWord (old ++ more)
@@ -97,18 +72,7 @@ long_given before after old held reads cuts = (
 
 pub part_given : (before after : Option (List ℕ)) (old held part : List ℕ) → ReadsPast before after old part → CutsPart held part
     → (more : List ℕ) × Consumes before after more × IsBrokenWord (old ++ more)
-part_given before after old held part reads cuts = (
-  reads.more,
-  reads.consumes,
-  record {
-    blanks = reads.blanks;
-    part = part;
-    cut = reads.text;
-    blank = reads.blank;
-    one = cuts.one;
-    short = cuts.short;
-  },
-)
+part_given before after old held part reads cuts = search rules
 
 -- the text's end ends the part that is held
 pub end_given : (before after : Option (List ℕ)) (old held part : List ℕ) (step : WordStep) (new : Reading) → ReadsPast before after old part → CutsPart held part

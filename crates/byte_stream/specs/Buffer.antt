@@ -1,9 +1,6 @@
 -- What a reader's buffer means.
-use Rattle.std.specs.Prelude.{◌+◌, ◌-◌, ◌*◌, ◌^◌, ◌≤◌, vec_len}
-use Rattle.std.specs.List.{slice_range}
-use Rattle.byte_stream.specs.declared.reader.LineReader.TheInside.{Inside}
-use Rattle.byte_stream.specs.Reading.{Reading}
-use Rattle.byte_stream.specs.claim.Reading.{turn_limit}
+use Rattle.std.specs.{Prelude.{◌+◌, ◌-◌, ◌*◌, ◌^◌, ◌≤◌, vec_len}, List.slice_range}
+use Rattle.byte_stream.specs.{declared.reader.LineReader.TheInside.Inside, Reading.Reading, claim.Reading.turn_limit}
 
 abbrev pub reading_of : Inside → Reading
 reading_of a = record {

@@ -1,15 +1,10 @@
 -- What no promise rests on, beside claim/Words.antt.
-use Rattle.std.specs.Prelude.{◌≡◌, ℕ, ◌+◌, ◌<◌, ◌≤◌, true, List, [], ◌∷◌, ◌++◌, length, Option, Result, Ok, Err}
-use Rattle.std.specs.Io.KnownBytes.{IsAtEnd}
-use Rattle.byte_stream.specs.claim.Counts.{counted}
-use Rattle.byte_stream.specs.Reading.{Reading}
-use Rattle.byte_stream.specs.declared.reader.AtHand.{AtHand}
-use Rattle.byte_stream.specs.declared.reader.AtHand.TheVariants as hand
-use Rattle.byte_stream.specs.declared.reader.WordStep.{WordStep}
-use Rattle.byte_stream.specs.declared.reader.WordStep.TheVariants as step
-use Rattle.byte_stream.specs.declared.reader.ReadFault.{ReadFault}
-use Rattle.byte_stream.specs.declared.reader.ReadFault.TheVariants as fault
+use Rattle.std.specs.{Prelude.{◌≡◌, ℕ, ◌+◌, ◌<◌, ◌≤◌, true, List, [], ◌∷◌, ◌++◌, length, Option, Result, Ok, Err}, Io.KnownBytes.IsAtEnd}
+use Rattle.byte_stream.specs.{claim.Counts.counted, Reading.Reading, declared.reader.AtHand.AtHand, declared.reader.WordStep.WordStep, declared.reader.ReadFault.ReadFault}
 use Rattle.byte_stream.specs.claim.Words.{AreSeparators, IsBrokenWord, NoSeparator, is_separator, word_limit, words}
+use Rattle.byte_stream.specs.declared.reader.AtHand.TheVariants as hand
+use Rattle.byte_stream.specs.declared.reader.WordStep.TheVariants as step
+use Rattle.byte_stream.specs.declared.reader.ReadFault.TheVariants as fault
 
 pub record IsWord (word : List ℕ) : Type 0 where
   pub some : 0 < length word

@@ -1,26 +1,18 @@
 -- What is known of a printed report.
 use Rattle.std.proofs.Common.{◌≡◌, true, false, Result, Ok, Err, IfOk, refl, sym, ◌∙◌, ap, ⊎_elim, true≢false}
-use Rattle.state_files.specs.pl94.declared.geo.GeoFault.{GeoFault}
-use Rattle.state_files.specs.pl94.declared.geo.GeoFault.TheVariants as geo
-use Rattle.state_files.specs.pl94.declared.segment.SegFault.{SegFault}
-use Rattle.state_files.specs.pl94.declared.segment.SegFault.TheVariants as segment
-use Rattle.state_files.specs.pl94.declared.join.JoinFault.{JoinFault}
-use Rattle.state_files.specs.pl94.declared.join.JoinFault.TheVariants as join
-use Rattle.state_files.specs.gal_text.declared.fault.GalFault.{GalFault}
-use Rattle.state_files.specs.gal_text.declared.fault.GalFault.TheVariants as gal
-use Rattle.state_files.specs.declared.fault.OpenFault.{OpenFault}
-use Rattle.state_files.specs.declared.fault.OpenFault.TheVariants as opening
-use Rattle.state_files.specs.declared.fault.PlanFault.{PlanFault}
-use Rattle.state_files.specs.declared.fault.PlanFault.TheVariants as plan
-use Rattle.state_files.specs.declared.fault.FileFault.{FileFault}
+use Rattle.state_files.specs.{pl94.declared.geo.GeoFault.GeoFault, pl94.declared.segment.SegFault.SegFault, pl94.declared.join.JoinFault.JoinFault}
+use Rattle.state_files.specs.{gal_text.declared.fault.GalFault.GalFault, declared.fault.OpenFault.OpenFault, declared.fault.PlanFault.PlanFault, declared.fault.FileFault.FileFault}
 use Rattle.state_files.specs.declared.fault.FileFault.TheVariants.{NoHeader, Header, NoSegment, Segment, Join, NoGal, Gal, Plan}
+use Rattle.state_files.specs.pl94.declared.geo.GeoFault.TheVariants as geo
+use Rattle.state_files.specs.pl94.declared.segment.SegFault.TheVariants as segment
+use Rattle.state_files.specs.pl94.declared.join.JoinFault.TheVariants as join
+use Rattle.state_files.specs.gal_text.declared.fault.GalFault.TheVariants as gal
+use Rattle.state_files.specs.declared.fault.OpenFault.TheVariants as opening
+use Rattle.state_files.specs.declared.fault.PlanFault.TheVariants as plan
 use Rattle.command_output.specs.declared.status.Status.{Status}
 use Rattle.command_output.specs.claim.Faults.{status_of_open, status_of_geo, status_of_segment, status_of_join, status_of_gal, status_of_plan, status_of_fault}
-use Rattle.command_output.specs.claim.Telling.{Tells}
-use Rattle.command_output.specs.claim.Writing.{Written}
-use Rattle.check_command.specs.declared.report.Audited.{Audited}
-use Rattle.check_command.specs.claim.Auditing.{EndsAudit}
-use Rattle.check_command.specs.Sharing.{is_of_report}
+use Rattle.command_output.specs.{claim.Telling.Tells, claim.Writing.Written}
+use Rattle.check_command.specs.{declared.report.Audited.Audited, claim.Auditing.EndsAudit, Sharing.is_of_report}
 
 of_open : (fault : OpenFault) → is_of_report (status_of_open fault) ≡ false
 of_open opening.Unreadable = refl
@@ -28,36 +20,23 @@ of_open opening.Memory = refl
 
 of_geo : (fault : GeoFault) → is_of_report (status_of_geo fault) ≡ false
 of_geo (geo.Line fault line) = refl
-of_geo (geo.Read line) = refl
-of_geo (geo.NoBlock line) = refl
-of_geo (geo.TurnLimit line) = refl
-of_geo geo.Memory = refl
+of_geo _ = refl
 
 of_segment : (fault : SegFault) → is_of_report (status_of_segment fault) ≡ false
 of_segment (segment.Line fault line) = refl
-of_segment (segment.Read line) = refl
-of_segment (segment.TurnLimit line) = refl
-of_segment segment.Memory = refl
+of_segment _ = refl
 
 of_join : (fault : JoinFault) → is_of_report (status_of_join fault) ≡ false
 of_join (join.Missing number part) = refl
-of_join join.TooManyPeople = refl
-of_join (join.OtherTotal state total) = refl
-of_join join.Memory = refl
+of_join _ = refl
 
 of_gal : (fault : GalFault) → is_of_report (status_of_gal fault) ≡ false
 of_gal (gal.Text fault) = refl
-of_gal (gal.MissingUnit block) = refl
-of_gal (gal.OneWay first second) = refl
-of_gal gal.Read = refl
-of_gal gal.TurnLimit = refl
-of_gal gal.Memory = refl
+of_gal _ = refl
 
 of_plan : (fault : PlanFault) → is_of_report (status_of_plan fault) ≡ false
 of_plan plan.Unreadable = refl
-of_plan plan.TooLarge = refl
-of_plan (plan.Body fault line) = refl
-of_plan plan.Memory = refl
+of_plan _ = refl
 
 -- no fault's status goes with a report
 of_fault : (fault : FileFault) → is_of_report (status_of_fault fault) ≡ false

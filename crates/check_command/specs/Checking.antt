@@ -1,20 +1,12 @@
 -- What `check` without a plan comes to: the counts of the blocks that the census files say, printed; or their first fault, told.
-use Rattle.std.specs.Prelude.{◌≡◌, ℕ, Result, Ok, Err, Vec}
-use Rattle.std.specs.declared.alloc.Global.{Global}
+use Rattle.std.specs.{Prelude.{◌≡◌, ℕ, Result, Ok, Err, Vec}, declared.alloc.Global.Global}
 use Rattle.desk_model.specs.declared.block.BlockRow.{BlockRow}
 use Rattle.state_files.specs.pl94.declared.join.JoinFault.TheVariants as join
-use Rattle.command_output.specs.declared.status.Status.{Status}
-use Rattle.command_output.specs.declared.status.Status.TheVariants.{Done}
-use Rattle.state_files.specs.claim.Opening.{Census, census_of}
-use Rattle.state_files.specs.claim.State.{Then, NoFile, ReadsState, AreLeftBy}
-use Rattle.state_files.specs.declared.fault.FileFault.{FileFault}
-use Rattle.state_files.specs.declared.fault.FileFault.TheVariants.{Join}
-use Rattle.state_files.specs.declared.census.CensusFiles.{CensusFiles}
+use Rattle.command_output.specs.{declared.status.Status.Status, declared.status.Status.TheVariants.Done, claim.Telling.Tells, claim.Writing.Written}
+use Rattle.state_files.specs.{claim.Opening.{Census, census_of}, claim.State.{Then, NoFile, ReadsState, AreLeftBy}, declared.fault.FileFault.FileFault}
+use Rattle.state_files.specs.{declared.fault.FileFault.TheVariants.Join, declared.census.CensusFiles.CensusFiles}
 use Rattle.byte_stream.specs.declared.source.Source.{Ghosts}
-use Rattle.check_command.specs.Counts.{counts_text}
-use Rattle.command_output.specs.claim.Telling.{Tells}
-use Rattle.command_output.specs.claim.Writing.{Written}
-use Rattle.check_command.specs.claim.Writing.{Prints}
+use Rattle.check_command.specs.{Counts.counts_text, claim.Writing.Prints}
 
 -- the counts of the blocks
 abbrev pub PrintsCounts : Vec BlockRow Global → Result (Vec ℕ Global) FileFault → Type 0

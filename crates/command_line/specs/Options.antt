@@ -1,22 +1,11 @@
 -- Which options of `check` go together, and the values of those that aren't paths.
-use Rattle.std.specs.Prelude.{◌≡◌, true, false, ℕ, ◌≤◌, Bool, not, ◌&&◌, ◌||◌, nat_le, if◌then◌else◌, List}
-use Rattle.std.specs.Prelude.{Option, Some, None, is_some, IsSome, IfSome, IsTrue, option_map}
-use Rattle.std.specs.Char.{is_ascii_digit}
-use Rattle.std.specs.List.{list_all}
-use Rattle.std.specs.Str.Parse.{digits_value}
-use Rattle.desk_model.specs.declared.companions.Companions.{Companions}
-use Rattle.desk_model.specs.declared.kind.Kind.{Kind}
-use Rattle.desk_model.specs.declared.kind.Kind.TheVariants.{Congress, Senate}
-use Rattle.desk_model.specs.claim.Companions.{takes}
+use Rattle.std.specs.Prelude.{◌≡◌, true, false, ℕ, ◌≤◌, Bool, not, ◌&&◌, ◌||◌, nat_le, if◌then◌else◌, List, Option, Some, None, is_some, IsSome, IfSome, IsTrue, option_map}
+use Rattle.std.specs.{Char.is_ascii_digit, List.list_all, Str.Parse.digits_value}
+use Rattle.desk_model.specs.{declared.companions.Companions.Companions, declared.kind.Kind.Kind, declared.kind.Kind.TheVariants.{Congress, Senate}, claim.Companions.takes}
 use Rattle.desk_model.specs.claim.Sizes.{kind_named, most_districts}
 use Rattle.state_files.specs.Opens.{AreAlike}
-use Rattle.command_line.specs.declared.options.Patience.{Patience}
-use Rattle.command_line.specs.Sizes.{size_reckoned}
-use Rattle.command_line.specs.declared.options.Serving.{Serving}
-use Rattle.command_line.specs.declared.options.Size.{Size}
-use Rattle.command_line.specs.declared.options.Terms.{Terms}
-use Rattle.command_line.specs.declared.options.Form.{Form}
-use Rattle.command_line.specs.declared.options.Form.TheVariants.{Counts, Audit}
+use Rattle.command_line.specs.{declared.options.Patience.Patience, Sizes.size_reckoned, declared.options.Serving.Serving, declared.options.Size.Size, declared.options.Terms.Terms}
+use Rattle.command_line.specs.{declared.options.Form.Form, declared.options.Form.TheVariants.{Counts, Audit}}
 
 -- the number that digits alone write, however many, where it is 1 to `most`
 abbrev pub number_to : ℕ → List ℕ → Option ℕ

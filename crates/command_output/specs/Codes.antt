@@ -1,9 +1,6 @@
 -- Which code a text has.
-use Rattle.std.specs.Prelude.{ℕ, Bool, false, not, ◌&&◌, if◌then◌else◌, List, [], ◌∷◌, Option, Some, None}
-use Rattle.std.specs.Char.{is_ascii_alphanumeric}
-use Rattle.std.specs.Str.{str_eq_ignore_ascii_case}
-use Rattle.command_output.specs.Tables.{Words, places, words_at}
-use Rattle.command_output.specs.declared.explanation.FaultPlace.{FaultPlace}
+use Rattle.std.specs.{Prelude.{ℕ, Bool, false, not, ◌&&◌, if◌then◌else◌, List, [], ◌∷◌, Option, Some, None}, Char.is_ascii_alphanumeric, Str.str_eq_ignore_ascii_case}
+use Rattle.command_output.specs.{Tables.{Words, places, words_at}, declared.explanation.FaultPlace.FaultPlace}
 
 -- the code of a place's rows that a word is, in any case, as the table has it
 abbrev pub code_among : List ℕ → List Words → Option (List ℕ)

@@ -1,9 +1,6 @@
 -- What is known of a code wherever it is told.
-use Rattle.std.specs.Prelude.{ℕ, if◌then◌else◌, List, [], ◌∷◌, ◌++◌, Option, Some, None}
-use Rattle.std.specs.Str.{bytes_eq}
-use Rattle.command_output.specs.Sentences.{entry_of}
-use Rattle.command_output.specs.Tables.{Words, places, words_at, place_name}
-use Rattle.command_output.specs.declared.explanation.FaultPlace.{FaultPlace}
+use Rattle.std.specs.{Prelude.{ℕ, if◌then◌else◌, List, [], ◌∷◌, ◌++◌, Option, Some, None}, Str.bytes_eq}
+use Rattle.command_output.specs.{Sentences.entry_of, Tables.{Words, places, words_at, place_name}, declared.explanation.FaultPlace.FaultPlace}
 
 -- the entries of a code among a place's rows, one after the other
 abbrev pub entries_among : List ℕ → List ℕ → List Words → List ℕ

@@ -1,6 +1,5 @@
 -- What a log is handed.
-use Rattle.std.specs.Prelude.{Option, IfSome}
-use Rattle.std.specs.Borrow.{Bor}
+use Rattle.std.specs.{Prelude.{Option, IfSome}, Borrow.Bor}
 use Rattle.jiff_core.specs.declared.civil.datetime.DateTime.{DateTime}
 use Rattle.connection_log.specs.declared.line.LogLine.{LogLine}
 

@@ -1,7 +1,5 @@
 -- Two lists of districts compared.
-use Rattle.std.proofs.Common.{◌≡◌, ℕ, Bool, true, List, length, take, drop, sym, ◌∙◌, arith}
-use Rattle.std.specs.Prelude.{nat_eq}
-use Rattle.std.specs.Cmp.Lexicographic.{pointwise, same_text}
+use Rattle.std.{specs.Prelude.nat_eq, specs.Cmp.Lexicographic.{pointwise, same_text}, proofs.Common.{◌≡◌, ℕ, Bool, true, List, length, take, drop, sym, ◌∙◌, arith}}
 use Rattle.std.proofs.lemmas.List.{take_all}
 
 -- lists that are as long as each other, and the same at all places

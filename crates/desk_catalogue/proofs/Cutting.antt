@@ -1,7 +1,6 @@
 -- Lemmas on the definitions of Cutting.
 use Rattle.std.specs.Prelude.{◌≡◌, ◌+◌, ◌<◌, ◌≤◌, ◌++◌, ℕ, Bool, List, [], ◌∷◌, Option, Some, None, length, get_or, drop, IfSome}
-use Rattle.std.proofs.Common.{suc, ap, subst, sym, ◌∙◌, arith, append_assoc}
-use Rattle.std.proofs.Math.Seq.{drop-cons}
+use Rattle.std.proofs.{Common.{suc, ap, subst, sym, ◌∙◌, arith, append_assoc}, Math.Seq.drop-cons}
 use Rattle.desk_model.specs.declared.ranges.CountyRange.{CountyRange}
 use Rattle.desk_catalogue.specs.Cutting.{AreWithin, range_rows, changes_in, is_changed}
 

@@ -1,29 +1,15 @@
 -- Which counties a revision changes that a plan got.
+use Rattle.std.specs.{Prelude.{◌==◌, IfErr, MatchResult}, FinMap.get-insert, List.slice_get, Ordering.is_eq, Cmp.Lexicographic.nat_list_cmp_total}
 use Rattle.std.proofs.Common.{◌≡◌, ◌+◌, ◌-◌, ℕ, suc, Bool, false, cond, List, [], ◌∷◌, ◌++◌, length, Option, Some, None, Result, Ok, Err, IfOk, IfSome, refl, sym, ap, ◌∙◌, inl, inr, arith}
-use Rattle.std.specs.Prelude.{◌==◌, IfErr, MatchResult}
 use Rattle.std.specs.FinMap as map_of
-use Rattle.std.specs.FinMap.{get-insert}
-use Rattle.std.specs.List.{slice_get}
-use Rattle.std.specs.Ordering.{is_eq}
-use Rattle.std.specs.Cmp.Lexicographic.{nat_list_cmp_total}
 use Rattle.std.proofs.lemmas.Cmp.{tied_itself}
 use Rattle.std.proofs.lemmas.List.{get_or_past}
 use Rattle.std.proofs.lemmas.Bool.Decides.{nat_tests}
-use Rattle.desk_model.specs.declared.ranges.CountyRange.{CountyRange}
-use Rattle.desk_model.specs.Ranges.{ranges_in}
-use Rattle.desk_model.specs.declared.command.Command.{Command}
-use Rattle.desk_model.specs.declared.reply.Refusal.{Refusal}
-use Rattle.desk_model.specs.declared.reply.Refusal.TheVariants.{Memory}
-use Rattle.desk_model.specs.claim.Desk.{Plan, Desk, name_cmp}
-use Rattle.desk_model.specs.claim.Room.{last_revision}
-use Rattle.desk_model.specs.claim.Subject.{revision_at}
+use Rattle.desk_model.specs.{declared.ranges.CountyRange.CountyRange, Ranges.ranges_in, declared.command.Command.Command, declared.reply.Refusal.Refusal}
+use Rattle.desk_model.specs.{declared.reply.Refusal.TheVariants.Memory, claim.Desk.{Plan, Desk, name_cmp}, claim.Room.last_revision, claim.Subject.revision_at}
 use Rattle.desk_plans.specs.Rows.{Row}
-use Rattle.desk_catalogue.specs.Cutting.{StaysOutside, changes_in}
-use Rattle.desk_catalogue.specs.Accepting.{IsRevisable, StepRefuses}
-use Rattle.desk_catalogue.specs.claim.Accepting.{IsAfter}
-use Rattle.desk_catalogue.specs.declared.catalogue.Draft.{Draft}
-use Rattle.desk_catalogue.specs.Drafts.{IsDrafted, changes_between, changes_of}
-use Rattle.desk_catalogue.specs.Kept.{revision_in}
+use Rattle.desk_catalogue.specs.{Cutting.{StaysOutside, changes_in}, Accepting.{IsRevisable, StepRefuses}, claim.Accepting.IsAfter, declared.catalogue.Draft.Draft}
+use Rattle.desk_catalogue.specs.{Drafts.{IsDrafted, changes_between, changes_of}, Kept.revision_in}
 
 -- ---- lists as long as one another are the same after their end
 pub stays_within : (last new : List ℕ) (end : ℕ) → length last ≡ end → length new ≡ end → StaysOutside 0 end last new
@@ -40,11 +26,11 @@ all_stay (Some last) new end n old now is = stays_within last new end (old ∙ s
 abbrev with_next : Plan → List ℕ → Plan
 with_next p districts = record p { revisions = p.revisions ++ districts ∷ [] }
 
-end_of : (xs : List (List ℕ)) (x : List ℕ) → slice_get (xs ++ x ∷ []) (length xs) ≡ Some x
+pub end_of : (xs : List (List ℕ)) (x : List ℕ) → slice_get (xs ++ x ∷ []) (length xs) ≡ Some x
 end_of [] x = refl
 end_of (y ∷ ys) x = end_of ys x
 
-no_zero : (n : ℕ) → (suc n == 0) ≡ false
+pub no_zero : (n : ℕ) → (suc n == 0) ≡ false
 no_zero n = grind (arith, nat_tests)
 
 at_next : (p : Plan) (districts : List ℕ) (k : ℕ) → k ≡ suc (length p.revisions) → revision_at (with_next p districts) k ≡ Some districts
@@ -55,7 +41,7 @@ at_next p districts k is =
     ∙ ap (λ n. slice_get (p.revisions ++ districts ∷ []) n) back
     ∙ end_of p.revisions districts
 
-put_there : (plans : map_of.FinMap name_cmp Plan) (name : List ℕ) (p : Plan) → map_of.get (map_of.insert plans name p) name ≡ Some p
+pub put_there : (plans : map_of.FinMap name_cmp Plan) (name : List ℕ) (p : Plan) → map_of.get (map_of.insert plans name p) name ≡ Some p
 put_there plans name p = get-insert nat_list_cmp_total plans name p name ∙ ap (λ b. cond b (Some p) (map_of.get plans name)) (ap is_eq (tied_itself nat_list_cmp_total name))
 
 pub changes_are : (d : Desk) (name : List ℕ) (after : ℕ) (row : Row) (districts : List ℕ) (e : Desk) (ranges : List CountyRange) (changes : List Bool) → IsRevisable d name after row

@@ -1,13 +1,10 @@
 -- A line that is written from its end on.
+use Rattle.std.specs.{Fmt.decimal, List.flat_map}
 use Rattle.std.proofs.Common.{◌≡◌, ℕ, ◌+◌, ◌-◌, ◌≤◌, List, ◌++◌, length, drop, replicate, ◌<◌, [], ◌∷◌, take, get_or, suc, sym, ◌∙◌, ap, arith, append_assoc, length-append, length-drop}
-use Rattle.std.specs.Fmt.{decimal}
-use Rattle.std.specs.List.{flat_map}
+use Rattle.std.proofs.Math.Seq.{take-suc}
 use Rattle.std.proofs.lemmas.Grind.{flat_map-append}
 use Rattle.std.proofs.lemmas.List.{append-nil, length-replicate}
-use Rattle.std.proofs.Math.Seq.{take-suc}
-use Rattle.desk_model.specs.declared.block.BlockRow.{BlockRow}
-use Rattle.desk_model.specs.claim.Padded.{padded_decimal}
-use Rattle.desk_model.specs.claim.Step.{block_text}
+use Rattle.desk_model.specs.{declared.block.BlockRow.BlockRow, claim.Padded.padded_decimal, claim.Step.block_text}
 
 pub length-padded : (width n : ℕ) → length (padded_decimal width n) ≡ (width - length (decimal n)) + length (decimal n)
 length-padded width n = length-append (replicate (width - length (decimal n)) 48) (decimal n)

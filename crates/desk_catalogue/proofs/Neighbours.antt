@@ -1,24 +1,15 @@
 -- Blocks side by side: where two of one county differ, and where all agree.
+use Rattle.std.specs.{Prelude.{is_some, not}, List.Any}
 use Rattle.std.proofs.Common.{◌≡◌, ◌≢◌, ℕ, zero, suc, ◌+◌, ◌-◌, ◌<◌, ◌≤◌, Bool, true, false, List, length, get_or, Option, Some, None, IsSome, arith, refl, ap, sym, ◌∙◌, ◌⊎◌, inl, inr, ⊎_elim}
-use Rattle.std.specs.Prelude.{is_some, not}
 use Rattle.std.proofs.Math.Bool.{beq}
-use Rattle.std.specs.List.{Any}
 use Rattle.std.proofs.lemmas.List.{get_or-map, get_or_past, length-map}
 use Rattle.std.proofs.lemmas.Grind.{get_or_default_zero}
 use Rattle.std.proofs.lemmas.Map.Keys.{sorted_from_strictly_increasing, below_from_sorted}
 use Rattle.std.proofs.lemmas.Bool.{cases_lt}
-use Rattle.desk_model.specs.claim.Block.{county_of, state_of}
-use Rattle.desk_model.specs.claim.Baf.{Values, value_at}
-use Rattle.desk_model.specs.claim.Geography.{GeographyModel, ids, ids_of, id_at}
-use Rattle.desk_model.specs.claim.GeographyModels.{AreBlocks}
-use Rattle.desk_model.specs.Counties.{IsInPart, LeastCountyIsTold}
-use Rattle.desk_model.specs.claim.Step.{partly_listed}
-use Rattle.desk_model.specs.declared.block.BlockRow.{BlockRow}
-use Rattle.baf_text.specs.Listed.{listed_of, IsPart}
+use Rattle.desk_model.specs.{claim.Block.{county_of, state_of}, claim.Baf.{Values, value_at}, claim.Geography.{GeographyModel, ids, ids_of, id_at}, claim.GeographyModels.AreBlocks}
+use Rattle.desk_model.{specs.Counties.{IsInPart, LeastCountyIsTold}, specs.claim.Step.partly_listed, specs.declared.block.BlockRow.BlockRow, proofs.Parts.county_rises}
+use Rattle.baf_text.specs.Listed.{listed_of, IsListedPart}
 use Rattle.desk_catalogue.proofs.Overlays.{before, there}
-
-county_rises : (a b : ℕ) → a ≤ b → state_of a ≡ state_of b → county_of a ≤ county_of b
-county_rises a b less same = omega (arith, less, same)
 
 -- the county of the block at a place
 abbrev pub county_at : List BlockRow → ℕ → ℕ
@@ -37,7 +28,7 @@ abbrev pub IsSpan : ℕ × ℕ → List (Option ℕ) → Type 0
 IsSpan span listed = (k : ℕ) → (k < span.0) ⊎ (span.1 ≤ k) → get_or listed k None ≡ None
 
 -- a part and what isn't listed around it
-pub part_span : (first : ℕ) (part listed : List (Option ℕ)) → IsPart first part listed → IsSpan (first, first + length part) listed
+pub part_span : (first : ℕ) (part listed : List (Option ℕ)) → IsListedPart first part listed → IsSpan (first, first + length part) listed
 part_span first part listed is k (inl less) = is.there k ∙ before first part k less
 part_span first part listed is k (inr more) = is.there k ∙ there first part k (omega arith) ∙ get_or_past part (k - first) None (omega arith)
 

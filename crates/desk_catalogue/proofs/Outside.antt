@@ -1,11 +1,9 @@
 -- Counties outside of the places in which two lists differ.
+use Rattle.std.specs.{Prelude.{nat_eq, not}, Cmp.Lexicographic.pointwise}
 use Rattle.std.proofs.Common.{◌≡◌, ◌⊎◌, ◌<◌, ◌≤◌, ◌+◌, ◌-◌, ℕ, true, false, List, [], ◌∷◌, length, drop, Some, refl, sym, ap, min, ◌∙◌, inl, inr, arith}
-use Rattle.std.specs.Prelude.{nat_eq, not}
-use Rattle.std.specs.Cmp.Lexicographic.{pointwise}
 use Rattle.std.proofs.lemmas.List.{ext_get_or, get_or-take, get_or-drop, length-take, length-drop}
 use Rattle.std.proofs.lemmas.Bool.Decides.{nat_tests}
-use Rattle.desk_model.specs.claim.Room.{differs}
-use Rattle.desk_model.specs.declared.ranges.CountyRange.{CountyRange}
+use Rattle.desk_model.specs.{claim.Room.differs, declared.ranges.CountyRange.CountyRange}
 use Rattle.desk_catalogue.specs.Cutting.{StaysOutside, is_changed, part}
 
 -- a list is the same as itself

@@ -1,23 +1,14 @@
 -- Listed districts over the last ones.
+use Rattle.std.specs.{Prelude.unwrap_or, List.zip}
 use Rattle.std.proofs.Common.{◌≡◌, ℕ, zero, suc, ◌+◌, ◌-◌, ◌<◌, ◌≤◌, List, [], ◌∷◌, map, length, get_or, Option, Some, None, Result, Ok, Err, IsOkAnd, IfSome, arith, refl, ap, sym, ◌∙◌, ◌⊎◌, inl, inr}
-use Rattle.std.specs.Prelude.{unwrap_or}
-use Rattle.std.specs.List.{zip}
 use Rattle.std.proofs.lemmas.Bool.{lt-ltb, le-ltb}
 use Rattle.std.proofs.lemmas.List.{get_or_past, length-map}
 use Rattle.std.proofs.lemmas.Slice.Zip.{length-zip}
-use Rattle.desk_model.specs.declared.block.BlockRow.{BlockRow}
-use Rattle.desk_model.specs.claim.Baf.{Values, Fault, value_at}
-use Rattle.desk_model.specs.claim.Geography.{GeographyModel, ids, ids_of}
-use Rattle.desk_model.specs.claim.Step.{partly_listed, patched}
-use Rattle.baf_text.specs.Listed.{listed_of, part_at, IsPart}
+use Rattle.desk_model.specs.{declared.block.BlockRow.BlockRow, claim.Baf.{Values, Fault, value_at}, claim.Geography.{GeographyModel, ids, ids_of}}
+use Rattle.desk_model.specs.{claim.Step.{partly_listed, patched}, declared.reply.Refusal.Refusal, declared.reply.Refusal.TheVariants.{BadBody, Memory}}
+use Rattle.baf_text.specs.Listed.{listed_of, part_at, IsListedPart}
 use Rattle.shared_lists.specs.Laid.{laid}
-use Rattle.desk_catalogue.specs.Cutting.{StaysOutside}
-use Rattle.desk_model.specs.declared.reply.Refusal.{Refusal}
-use Rattle.desk_model.specs.declared.reply.Refusal.TheVariants.{NoPlan, NoRevision, PlanExists, Stale, BadBody, NotWholeCounty}
-use Rattle.desk_model.specs.declared.reply.Refusal.TheVariants.{BadCompanion, Limit, Full, Memory, Halted, NotSealed}
-use Rattle.desk_catalogue.specs.Kept.{IsRefusalOf}
-use Rattle.desk_catalogue.specs.Patches.{overlaid, IsPatchRefusal}
-use Rattle.desk_catalogue.proofs.Whole.{in_turn}
+use Rattle.desk_catalogue.{specs.Cutting.StaysOutside, specs.Kept.IsRefusalOf, specs.Patches.{overlaid, IsPatchRefusal}, proofs.Whole.in_turn}
 
 -- what is listed of a place, before a part and in it or after it
 pub before : (first : ℕ) (part : List (Option ℕ)) (k : ℕ) → k < first → part_at first part k ≡ None
@@ -39,7 +30,7 @@ laid_from first part (o ∷ listed) place (d ∷ last) long is =
     ap (λ (more : List ℕ). unwrap_or (part_at first part place) d ∷ more) rest
     ∙ ap (λ (n : ℕ). n ∷ map (λ (e : Option ℕ × ℕ). unwrap_or e.0 e.1) (zip listed last)) first_is
 
-pub laid_over : (first : ℕ) (part listed : List (Option ℕ)) (last : List ℕ) → IsPart first part listed → length last ≡ length listed → laid first part 0 last ≡ overlaid listed (Some last)
+pub laid_over : (first : ℕ) (part listed : List (Option ℕ)) (last : List ℕ) → IsListedPart first part listed → length last ≡ length listed → laid first part 0 last ≡ overlaid listed (Some last)
 laid_over first part listed last is long = laid_from first part listed 0 last long (λ k. is.there k ∙ ap (part_at first part) (omega arith))
 
 -- where nothing is listed of a place, its district stays
@@ -56,7 +47,7 @@ overlaid_stays listed None first end districts long none is = tt
 overlaid_stays listed (Some last) first end districts long none is = λ k outside. ap (λ (l : List ℕ). get_or l k 0) is ∙ unlisted listed last k long (none k outside)
 
 -- nothing is listed outside of a part
-pub none_outside : (first : ℕ) (part listed : List (Option ℕ)) → IsPart first part listed → (k : ℕ) → (k < first) ⊎ (first + length part ≤ k) → get_or listed k None ≡ None
+pub none_outside : (first : ℕ) (part listed : List (Option ℕ)) → IsListedPart first part listed → (k : ℕ) → (k < first) ⊎ (first + length part ≤ k) → get_or listed k None ≡ None
 none_outside first part listed is k outside = elim outside [
   | inl less ↦ is.there k ∙ before first part k less
   | inr more ↦ is.there k ∙ there first part k (omega arith) ∙ get_or_past part (k - first) None (omega arith)
@@ -114,13 +105,4 @@ part_told (Ok values) g listed county said tells = sym (tells values said)
 pub no_patch : (g : GeographyModel) (reading : Result Values Fault) (refusal : Refusal) → IsRefusalOf reading refusal → IsPatchRefusal g reading refusal
 no_patch g reading (BadBody code line) is = is
 no_patch g reading Memory is = is
-no_patch g reading NoPlan is = absurd is
-no_patch g reading NoRevision is = absurd is
-no_patch g reading PlanExists is = absurd is
-no_patch g reading (Stale k) is = absurd is
-no_patch g reading (NotWholeCounty county) is = absurd is
-no_patch g reading BadCompanion is = absurd is
-no_patch g reading Limit is = absurd is
-no_patch g reading Full is = absurd is
-no_patch g reading Halted is = absurd is
-no_patch g reading NotSealed is = absurd is
+no_patch g reading _ is = absurd is

@@ -1,25 +1,15 @@
 -- What the desk's step makes of a post to a plan that may have one more revision.
-use Rattle.std.proofs.Common.{◌≡◌, ◌+◌, ℕ, Bool, true, false, List, [], ◌∷◌, ◌++◌, length, Option, Some, Result, Ok, Err, IfOk, ◌<◌, refl, ap, sym, subst, ◌∙◌, arith}
 use Rattle.std.specs.Prelude.{◌==◌, not, if◌then◌else◌, nat_le, IsOkAnd}
+use Rattle.std.proofs.Common.{◌≡◌, ◌+◌, ℕ, Bool, true, false, List, [], ◌∷◌, ◌++◌, length, Option, Some, Result, Ok, Err, IfOk, ◌<◌, refl, ap, sym, subst, ◌∙◌, arith}
 use Rattle.std.specs.FinMap as map_of
 use Rattle.std.proofs.lemmas.Bool.Decides.{nat_tests}
-use Rattle.desk_model.specs.declared.command.Command.{Command}
-use Rattle.desk_model.specs.declared.command.Command.TheVariants.{Counties, Whole}
-use Rattle.desk_model.specs.declared.reply.Reply.TheVariants.{Created}
-use Rattle.desk_model.specs.declared.reply.Reply.TheVariants as reply
-use Rattle.desk_model.specs.declared.reply.Refusal.{Refusal}
-use Rattle.desk_model.specs.declared.reply.Refusal.TheVariants.{NoPlan, NoRevision, PlanExists, Stale, BadBody, NotWholeCounty}
-use Rattle.desk_model.specs.declared.reply.Refusal.TheVariants.{BadCompanion, Limit, Full, Memory, Halted, NotSealed}
-use Rattle.desk_model.specs.claim.Baf.{Values, Fault, body_read, whole}
-use Rattle.desk_model.specs.claim.Desk.{Plan, Desk}
-use Rattle.desk_model.specs.claim.Geography.{GeographyModel}
-use Rattle.desk_model.specs.claim.Outcome.{IsStep}
+use Rattle.desk_model.specs.{declared.command.Command.Command, declared.command.Command.TheVariants.{Counties, Whole}, declared.reply.Reply.TheVariants.Created}
+use Rattle.desk_model.specs.{declared.reply.Refusal.Refusal, declared.reply.Refusal.TheVariants.{Stale, BadBody, NotWholeCounty, Limit, Memory}}
+use Rattle.desk_model.specs.{claim.Baf.{Values, Fault, body_read, whole}, claim.Desk.{Plan, Desk}, claim.Geography.GeographyModel, claim.Outcome.IsStep}
 use Rattle.desk_model.specs.claim.Step.{Outcome, refused, revised, on_revisions, whole_read, patch_read, county_patched, partly_listed, step, step_at, revision_limit}
+use Rattle.desk_model.specs.declared.reply.Reply.TheVariants as reply
 use Rattle.desk_plans.specs.Rows.{Row}
-use Rattle.desk_catalogue.specs.Accepting.{IsRevisable, StepRefuses}
-use Rattle.desk_catalogue.specs.claim.Accepting.{IsAfter}
-use Rattle.desk_catalogue.specs.Kept.{IsRefusalOf}
-use Rattle.desk_catalogue.specs.Patches.{with_revision_of, IsPatchRefusal}
+use Rattle.desk_catalogue.specs.{Accepting.{IsRevisable, StepRefuses}, claim.Accepting.IsAfter, Kept.IsRefusalOf, Patches.{with_revision_of, IsPatchRefusal}}
 use Rattle.desk_catalogue.specs.declared.catalogue.Draft.{Draft}
 
 same_count : (a b : ℕ) → a ≡ b → (a == b) ≡ true
@@ -65,16 +55,7 @@ module _ (d : Desk) (g : GeographyModel) (name : List ℕ) (after : ℕ) (body :
   pub whole_refused : (refusal : Refusal) → IsRefusalOf (body_read g row.1.n body) refusal → StepRefuses d (Whole name after body) refusal
   whole_refused (BadBody code line) is = (λ no. no, refuses (Whole name after body) (BadBody code line) (step_reads ∙ ap (whole_read g d name row.1) is))
   whole_refused Memory is = (λ no. no, refl)
-  whole_refused NoPlan is = absurd is
-  whole_refused NoRevision is = absurd is
-  whole_refused PlanExists is = absurd is
-  whole_refused (Stale k) is = absurd is
-  whole_refused (NotWholeCounty county) is = absurd is
-  whole_refused BadCompanion is = absurd is
-  whole_refused Limit is = absurd is
-  whole_refused Full is = absurd is
-  whole_refused Halted is = absurd is
-  whole_refused NotSealed is = absurd is
+  whole_refused _ is = absurd is
 
   step_patches : step d (Counties name after body) ≡ patch_read g d name row.1 (body_read g row.1.n body)
   step_patches = ap (λ (o : Option GeographyModel). step_at o d (Counties name after body)) there ∙ goes (λ p. patch_read g d name p (body_read g p.n body))
@@ -88,12 +69,4 @@ module _ (d : Desk) (g : GeographyModel) (name : List ℕ) (after : ℕ) (body :
   counties_refused (NotWholeCounty county) is =
       (λ no. no, refuses (Counties name after body) (NotWholeCounty county) (step_patches ∙ in_part (body_read g row.1.n body) county is))
   counties_refused Memory is = (λ no. no, refl)
-  counties_refused NoPlan is = absurd is
-  counties_refused NoRevision is = absurd is
-  counties_refused PlanExists is = absurd is
-  counties_refused (Stale k) is = absurd is
-  counties_refused BadCompanion is = absurd is
-  counties_refused Limit is = absurd is
-  counties_refused Full is = absurd is
-  counties_refused Halted is = absurd is
-  counties_refused NotSealed is = absurd is
+  counties_refused _ is = absurd is

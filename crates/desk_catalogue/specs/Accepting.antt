@@ -1,11 +1,7 @@
 -- What no promise rests on, beside claim/Accepting.antt.
 use Rattle.std.specs.Prelude.{◌≡◌, ℕ, ◌<◌, List, length, Some}
 use Rattle.std.specs.FinMap as map_of
-use Rattle.desk_model.specs.declared.command.Command.{Command}
-use Rattle.desk_model.specs.claim.Desk.{Desk}
-use Rattle.desk_model.specs.claim.Step.{revision_limit}
-use Rattle.desk_model.specs.declared.reply.Refusal.{Refusal}
-use Rattle.desk_model.specs.claim.Outcome.{RefusalMay}
+use Rattle.desk_model.specs.{declared.command.Command.Command, claim.Desk.Desk, claim.Step.revision_limit, declared.reply.Refusal.Refusal, claim.Outcome.RefusalMay}
 use Rattle.desk_plans.specs.Rows.{Row}
 use Rattle.desk_catalogue.specs.Kept.{HasWhole}
 

@@ -1,10 +1,8 @@
 -- How desks are told apart.
-use Rattle.std.specs.Prelude.{Option, refl}
-use Rattle.std.specs.Coded.{Coded, code_by, coded×, coded_option}
+use Rattle.std.specs.{Prelude.{Option, refl}, Coded.{Coded, code_by, coded×, coded_option}}
 use Rattle.std.specs.FinMap as map_of
 use Rattle.desk_model.specs.contracts.geography.Geography as geography
-use Rattle.desk_model.specs.claim.Geography.{GeographyModel}
-use Rattle.desk_model.specs.claim.Desk.{Plan, Desk, name_cmp}
+use Rattle.desk_model.specs.{claim.Geography.GeographyModel, claim.Desk.{Plan, Desk, name_cmp}}
 use Rattle.desk_plans.specs.Codes.{coded_plans}
 
 abbrev pub coded_desk : Coded Desk

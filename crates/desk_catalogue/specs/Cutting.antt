@@ -1,10 +1,6 @@
 -- The counties of lists beside the blocks, by their places.
-use Rattle.std.specs.Prelude.{◌≡◌, ◌⊎◌, ◌<◌, ◌≤◌, ◌+◌, ℕ, Bool, true, if◌then◌else◌, List, map}
-use Rattle.std.specs.Prelude.{get_or, take, drop, All, Option, Some, None, length, IfSome}
-use Rattle.desk_model.specs.claim.Room.{rows_for, differs, revision_rows, fork_rows}
-use Rattle.desk_model.specs.declared.ranges.CountyRange.{CountyRange}
-use Rattle.desk_model.specs.Ranges.{ranges_of}
-use Rattle.desk_model.specs.claim.Ranges.{sizes}
+use Rattle.std.specs.Prelude.{◌≡◌, ◌⊎◌, ◌<◌, ◌≤◌, ◌+◌, ℕ, Bool, true, if◌then◌else◌, List, map, get_or, take, drop, All, Option, Some, None, length, IfSome}
+use Rattle.desk_model.specs.{claim.Room.{rows_for, differs, revision_rows, fork_rows}, declared.ranges.CountyRange.CountyRange, Ranges.ranges_of, claim.Ranges.sizes}
 use Rattle.desk_model.specs.claim.Geography.{GeographyModel}
 use Rattle.desk_catalogue.specs.declared.changes.Span.{Span}
 

@@ -1,14 +1,8 @@
 -- What is kept of revisions.
 use Rattle.std.specs.Prelude.{◌≡◌, ℕ, List, length, All, Option, Some, None, Result, Err, IfSome}
 use Rattle.std.specs.FinMap as map_of
-use Rattle.desk_model.specs.claim.Desk.{Plan, name_cmp}
-use Rattle.desk_model.specs.claim.Subject.{revision_at}
-use Rattle.desk_model.specs.claim.Baf.{Values, Fault}
-use Rattle.desk_model.specs.claim.Geography.{GeographyModel}
-use Rattle.desk_model.specs.claim.Step.{blocks_text}
-use Rattle.desk_model.specs.declared.reply.Refusal.{Refusal}
-use Rattle.desk_model.specs.declared.reply.Refusal.TheVariants.{NoPlan, NoRevision, PlanExists, Stale, BadBody, NotWholeCounty}
-use Rattle.desk_model.specs.declared.reply.Refusal.TheVariants.{BadCompanion, Limit, Full, Memory, Halted, NotSealed}
+use Rattle.desk_model.specs.{claim.Desk.{Plan, name_cmp}, claim.Subject.revision_at, claim.Baf.{Values, Fault}, claim.Geography.GeographyModel, claim.Step.blocks_text}
+use Rattle.desk_model.specs.{declared.reply.Refusal.Refusal, declared.reply.Refusal.TheVariants.{BadBody, Memory}}
 
 -- every revision of a plan has a district for each block
 abbrev pub AreWhole : Option GeographyModel → map_of.FinMap name_cmp Plan → Type 0
@@ -41,13 +35,4 @@ ListsBlocks geography text = (g : GeographyModel) (t : List ℕ) → geography �
 abbrev pub IsRefusalOf : Result Values Fault → Refusal → Type 0
 IsRefusalOf reading (BadBody code line) = reading ≡ Err (code, line)
 IsRefusalOf reading Memory = Unit {0}
-IsRefusalOf reading NoPlan = ⊥
-IsRefusalOf reading NoRevision = ⊥
-IsRefusalOf reading PlanExists = ⊥
-IsRefusalOf reading (Stale k) = ⊥
-IsRefusalOf reading (NotWholeCounty county) = ⊥
-IsRefusalOf reading BadCompanion = ⊥
-IsRefusalOf reading Limit = ⊥
-IsRefusalOf reading Full = ⊥
-IsRefusalOf reading Halted = ⊥
-IsRefusalOf reading NotSealed = ⊥
+IsRefusalOf reading _ = ⊥

@@ -1,20 +1,10 @@
 -- What a patch by counties makes of the last districts.
-use Rattle.std.specs.Prelude.{◌≡◌, ◌<◌, ℕ, List, map, unwrap_or, Option, Some, None, Result, Err, IsOkAnd, IfOk, IfErr, IfSome, ◌++◌, ◌∷◌, [], length}
-use Rattle.std.specs.List.{zip}
+use Rattle.std.specs.{Prelude.{◌≡◌, ◌<◌, ℕ, List, map, unwrap_or, Option, Some, None, Result, Err, IsOkAnd, IfOk, IfErr, IfSome, ◌++◌, ◌∷◌, [], length}, List.zip}
 use Rattle.std.specs.FinMap as map_of
-use Rattle.desk_model.specs.claim.Baf.{Values, Fault, body_read}
-use Rattle.desk_model.specs.claim.Geography.{GeographyModel}
-use Rattle.desk_model.specs.claim.Room.{last_revision}
-use Rattle.desk_model.specs.claim.Step.{partly_listed, patched, revision_limit}
-use Rattle.desk_model.specs.Ranges.{ranges_in}
-use Rattle.desk_model.specs.claim.Desk.{Desk}
-use Rattle.desk_model.specs.declared.reply.Refusal.{Refusal}
-use Rattle.desk_model.specs.declared.reply.Refusal.TheVariants.{NoPlan, NoRevision, PlanExists, Stale, BadBody, NotWholeCounty}
-use Rattle.desk_model.specs.declared.reply.Refusal.TheVariants.{BadCompanion, Limit, Full, Memory, Halted, NotSealed}
+use Rattle.desk_model.specs.{claim.Baf.{Values, Fault, body_read}, claim.Geography.GeographyModel, claim.Room.last_revision, claim.Step.{partly_listed, patched, revision_limit}}
+use Rattle.desk_model.specs.{Ranges.ranges_in, claim.Desk.Desk, declared.reply.Refusal.Refusal, declared.reply.Refusal.TheVariants.{BadBody, NotWholeCounty, Memory}}
 use Rattle.desk_plans.specs.Rows.{Row}
-use Rattle.desk_catalogue.specs.Cutting.{AreComparable, StaysOutside, changes_in}
-use Rattle.desk_catalogue.specs.declared.catalogue.Draft.{Draft}
-use Rattle.desk_catalogue.specs.declared.patch.Patched.{Patched}
+use Rattle.desk_catalogue.specs.{Cutting.{AreComparable, StaysOutside, changes_in}, declared.catalogue.Draft.Draft, declared.patch.Patched.Patched}
 
 -- the listed districts, and the last ones where none is listed, 0 before there are any
 abbrev pub overlaid : List (Option ℕ) → Option (List ℕ) → List ℕ
@@ -26,15 +16,7 @@ abbrev pub IsPatchRefusal : GeographyModel → Result Values Fault → Refusal �
 IsPatchRefusal g reading (BadBody code line) = reading ≡ Err (code, line)
 IsPatchRefusal g reading (NotWholeCounty county) = IsOkAnd reading (λ values. partly_listed g values ≡ Some county)
 IsPatchRefusal g reading Memory = Unit {0}
-IsPatchRefusal g reading NoPlan = ⊥
-IsPatchRefusal g reading NoRevision = ⊥
-IsPatchRefusal g reading PlanExists = ⊥
-IsPatchRefusal g reading (Stale k) = ⊥
-IsPatchRefusal g reading BadCompanion = ⊥
-IsPatchRefusal g reading Limit = ⊥
-IsPatchRefusal g reading Full = ⊥
-IsPatchRefusal g reading Halted = ⊥
-IsPatchRefusal g reading NotSealed = ⊥
+IsPatchRefusal g reading _ = ⊥
 
 -- the body is read, lists no county in part, and makes these districts of the last ones
 abbrev pub IsPatched : GeographyModel → ℕ → List ℕ → Option (List ℕ) → List ℕ → Type 0

@@ -1,40 +1,20 @@
 -- The plans whose rows a scan took.
+use Rattle.std.specs.{Prelude.{Option, is_some, Result, Ok, Err, IsErrAnd, OnOk, IfOk, IfErr, Vec}, declared.alloc.Global.Global, BTreeMap.BTreeMap}
+use Rattle.std.specs.{Cmp.Lexicographic.nat_list_cmp_total, FinMap.{empty, entries, get, insert, len, get-empty, len-empty, len-insert}}
 use Rattle.std.proofs.Common.{◌≡◌, ◌≤◌, ◌+◌, ℕ, Bool, true, false, cond, List, [], ◌∷◌, ◌++◌, Some, refl, sym, ap, subst, ◌∙◌, inl, inr, arith}
-use Rattle.std.specs.Prelude.{Option, is_some, Result, Ok, Err, IsErrAnd, OnOk, IfOk, IfErr, Vec}
-use Rattle.std.specs.declared.alloc.Global.{Global}
 use Rattle.sector_device.specs.declared.SectorDevice.{Ghosts}
-use Rattle.page_store.specs.declared.pages.Pages.{Pages}
-use Rattle.page_store.specs.declared.txn.Txn.{Txn}
-use Rattle.page_store.proofs.Stops.{quiet_none}
-use Rattle.page_btree.specs.declared.error.TreeError.{TreeError}
-use Rattle.page_btree.specs.declared.error.TreeError.TheVariants.{DeviceFault, NotAStore, Halted, NoPages, TooDeep, Memory}
-use Rattle.std.specs.BTreeMap.{BTreeMap}
-use Rattle.std.specs.Cmp.Lexicographic.{nat_list_cmp_total}
-use Rattle.std.specs.FinMap.{empty, entries, get, insert, len, get-empty, len-empty, len-insert}
+use Rattle.page_store.{specs.declared.pages.Pages.Pages, specs.declared.txn.Txn.Txn, proofs.Stops.quiet_none}
+use Rattle.page_btree.specs.{declared.error.TreeError.TreeError, declared.error.TreeError.TheVariants.{DeviceFault, NotAStore, Halted, NoPages, TooDeep, Memory}}
 use Rattle.page_btree.specs.page_node.claim.Entries.{Entry}
-use Rattle.btree_walks.specs.Prefixes.{under}
-use Rattle.btree_walks.specs.declared.rows.Row.{Row}
-use Rattle.desk_model.specs.claim.Desk.{Plan, name_cmp}
-use Rattle.desk_model.specs.claim.Geography.{GeographyModel}
-use Rattle.desk_model.specs.claim.Step.{plan_limit}
-use Rattle.desk_model.specs.Ranges.{ListsAreCut, ranges_of}
+use Rattle.btree_walks.specs.{Prefixes.under, declared.rows.Row.Row}
+use Rattle.desk_model.specs.{claim.Desk.{Plan, name_cmp}, claim.Geography.GeographyModel, claim.Step.plan_limit, Ranges.{ListsAreCut, ranges_of}}
 use Rattle.desk_model.specs.declared.ranges.CountyRange.{CountyRange}
-use Rattle.store_rows.specs.claim.Keys.{plans_prefix}
-use Rattle.store_rows.specs.claim.Values.{plan_bytes}
-use Rattle.store_rows.specs.claim.Rows.{KeyMap}
-use Rattle.store_rows.proofs.Changes.{cases_key}
+use Rattle.store_rows.{specs.claim.Keys.plans_prefix, specs.claim.Values.plan_bytes, specs.claim.Rows.KeyMap, proofs.Changes.cases_key}
 use Rattle.geo_tables.specs.Elements.{IsGeographyRead}
-use Rattle.desk_pages.specs.Desks.{new_desk}
-use Rattle.desk_pages.specs.Looking.{Gathers}
-use Rattle.desk_pages.specs.Reading.{SeekErr}
-use Rattle.desk_pages.proofs.Looking.{finds, not_looked}
-use Rattle.desk_pages.specs.claim.Desks.{IsSized}
-use Rattle.desk_opening.specs.Opening.{ArePlansApart, ArePlansShown, HasNothing, IsNoted, IsNotGone, NoteErr}
-use Rattle.desk_opening.proofs.Parts.{Plans, put_keeps, put_there}
-use Rattle.desk_opening.proofs.PlanNumbers.{AreNoted, noted_more}
-use Rattle.desk_opening.proofs.Shown.{AreShown, all_shown, more_shown, none_shown, nothing_shown}
-use Rattle.desk_check.specs.Checking.{ArePlansTold, AreSized, IsDeskShown, IsNever, IsRowSeen}
-use Rattle.desk_check.proofs.Made.{plan_made}
+use Rattle.desk_pages.{specs.Desks.new_desk, specs.Looking.Gathers, specs.Reading.SeekErr, specs.claim.Desks.IsSized, proofs.Looking.{finds, not_looked}}
+use Rattle.desk_opening.{specs.Opening.{ArePlansApart, ArePlansShown, HasNothing, IsNoted, IsNotGone, NoteErr}, proofs.Parts.{Plans, put_keeps, put_there}}
+use Rattle.desk_opening.proofs.{PlanNumbers.{AreNoted, noted_more}, Shown.{AreShown, all_shown, more_shown, none_shown, nothing_shown}}
+use Rattle.desk_check.{specs.Checking.{ArePlansTold, AreSized, IsDeskShown, IsNever, IsRowSeen}, proofs.Made.plan_made}
 
 -- plans that the rows tell, no more than so many, and their numbers
 pub record AreTold (ranges : List CountyRange) (taken : ℕ) (counts : BTreeMap ℕ ℕ) (m : KeyMap) (rows : List Entry) : Type 0 where

@@ -1,27 +1,14 @@
 -- What is found of a desk's rows by whoever keeps none of them.
-use Rattle.std.specs.Prelude.{◌≡◌, ◌<◌, ◌≤◌, ◌+◌, ◌^◌, ℕ, List, length, get_or, Some, Result}
+use Rattle.std.specs.{Prelude.{◌≡◌, ◌<◌, ◌≤◌, ◌+◌, ◌^◌, ℕ, List, length, get_or, Some, Result}, FinMap.{FinMap, get, len}}
 use Rattle.sector_device.specs.declared.SectorDevice.{Ghosts}
-use Rattle.desk_model.specs.Ranges.{ranges_in}
-use Rattle.desk_model.specs.declared.ranges.CountyRange.{CountyRange}
-use Rattle.desk_model.specs.claim.Desk.{Desk}
-use Rattle.desk_model.specs.claim.Sizes.{most_districts}
+use Rattle.desk_model.specs.{Ranges.ranges_in, declared.ranges.CountyRange.CountyRange, claim.Desk.{Desk, Plan, name_cmp}, claim.Sizes.most_districts}
 use Rattle.desk_model.specs.claim.Step.{plan_limit, revision_limit}
-use Rattle.std.specs.FinMap.{FinMap, get, len}
-use Rattle.desk_model.specs.claim.Desk.{Plan, name_cmp}
-use Rattle.desk_pages.specs.claim.Desks.{AreWithin, IsSized, IsWithinLimits}
-use Rattle.page_store.specs.declared.pages.Pages.{Pages}
-use Rattle.page_store.specs.declared.txn.Txn.{Txn}
+use Rattle.desk_pages.specs.{claim.Desks.{AreWithin, IsSized, IsWithinLimits}, Looking.Gathers}
+use Rattle.page_store.specs.{declared.pages.Pages.Pages, declared.txn.Txn.Txn}
 use Rattle.page_btree.specs.declared.error.TreeError.{TreeError}
 use Rattle.btree_walks.specs.declared.rows.Row.{Row}
-use Rattle.store_rows.specs.claim.Keys.{key_of, named}
-use Rattle.store_rows.specs.claim.Values.{plan_bytes}
-use Rattle.store_rows.specs.declared.value.PlanRow.{PlanRow}
-use Rattle.store_rows.specs.claim.Rows.{KeyMap}
-use Rattle.desk_pages.specs.Looking.{Gathers}
-use Rattle.desk_opening.specs.plan_rows.ChunkReading.{HasPieces}
-use Rattle.desk_opening.specs.plan_rows.RevisionReading.{HasParts}
-use Rattle.desk_opening.specs.Reading.{no_cut}
-use Rattle.desk_opening.specs.Opening.{ArePlansShown, IsReadFrom, IsShown}
+use Rattle.store_rows.specs.{claim.Keys.{key_of, named}, claim.Values.plan_bytes, declared.value.PlanRow.PlanRow, claim.Rows.KeyMap}
+use Rattle.desk_opening.specs.{plan_rows.ChunkReading.HasPieces, plan_rows.RevisionReading.HasParts, Reading.no_cut, Opening.{ArePlansShown, IsReadFrom, IsShown}}
 
 -- of an error nothing is said of the rows
 abbrev pub IsNever : KeyMap → Type 0

@@ -3,17 +3,10 @@ use Rattle.std.proofs.Common.{◌≡◌, ◌<◌, ℕ, Result, Ok, Err}
 use Rattle.desk_model.specs.claim.Desk.{Desk}
 use Rattle.desk_pages.specs.declared.error.StoreError.{StoreError}
 use Rattle.store_lives.specs.claim.Calls.{asked_in, told_in}
-use Rattle.desk_claim.specs.claim.Streams.{Ends}
+use Rattle.desk_claim.specs.{claim.Streams.Ends, declared.asking.Asking.Asking, declared.asking.Asking.TheVariants.{Requests, Stream, Office}, declared.asking.Told.Told}
+use Rattle.desk_claim.specs.{declared.asking.Told.TheVariants.{Answers, Served, Seated, Unseated}, claim.Sentence.AskedMay, claim.AskedLives.AskedLife, claim.Offices.Officed}
+use Rattle.desk_claim.proofs.{Later.{lived_later, passing_later}, StreamsLater.streamed_later}
 use Rattle.serve_command.specs.http_seats.claim.Streams.{Traffic}
-use Rattle.desk_claim.specs.declared.asking.Asking.{Asking}
-use Rattle.desk_claim.specs.declared.asking.Asking.TheVariants.{Requests, Stream, Office}
-use Rattle.desk_claim.specs.declared.asking.Told.{Told}
-use Rattle.desk_claim.specs.declared.asking.Told.TheVariants.{Answers, Served, Seated, Unseated}
-use Rattle.desk_claim.specs.claim.Sentence.{AskedMay}
-use Rattle.desk_claim.specs.claim.AskedLives.{AskedLife}
-use Rattle.desk_claim.specs.claim.Offices.{Officed}
-use Rattle.desk_claim.proofs.Later.{lived_later, passing_later}
-use Rattle.desk_claim.proofs.StreamsLater.{streamed_later}
 
 module _ {P Q : Type 0} (s : Traffic P Q) (workers : ℕ) where
   abbrev officed_later : (t u v w : ℕ) (more : t < u → v < w) (calm : u ≡ t → w ≡ v) (d e : Desk) → Officed s workers t u d e → Officed s workers v w d e

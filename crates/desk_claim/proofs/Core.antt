@@ -5,13 +5,9 @@ use Rattle.std.proofs.lemmas.List.Elements.{All-set, All-weaker, All-map, All-re
 use Rattle.std.proofs.lemmas.Bool.{and_parts}
 use Rattle.std.proofs.lemmas.Bool.Decides.{nat_tests}
 use mathlib.Core.List.{IsPrefix}
-use Rattle.desk_model.specs.declared.command.Command.{Command}
-use Rattle.desk_model.specs.claim.Desk.{Desk}
-use Rattle.desk_model.specs.claim.Step.{step}
-use Rattle.desk_claim.specs.declared.event.Event.{Event}
-use Rattle.desk_claim.specs.declared.event.Event.TheVariants.{Commit, Acknowledge, Show, Visit, Learn, Stop}
-use Rattle.desk_claim.specs.claim.World.{World, world, after, accepts, learnt, move, run, shown_list, seen_at, seen}
-use Rattle.desk_claim.specs.claim.Law.{IsOrdered, GoesOn, Rising, IsLawful, CoreLaw}
+use Rattle.desk_model.specs.{declared.command.Command.Command, claim.Desk.Desk, claim.Step.step}
+use Rattle.desk_claim.specs.{declared.event.Event.Event, declared.event.Event.TheVariants.{Commit, Acknowledge, Show, Visit, Learn, Stop}}
+use Rattle.desk_claim.specs.{claim.World.{World, world, after, accepts, learnt, move, run, shown_list, seen_at, seen}, claim.Law.{IsOrdered, IsNoStop, Rising, IsLawful, CoreLaw}}
 
 -- what holds both ways holds of a choice
 either_way : (P : World → Type 0) (b : Bool) (x y : World) → (b ≡ true → P x) → P y → P (if b then x else y)
@@ -61,46 +57,41 @@ moved_ordered d w (Stop kept) o = either_way IsOrdered (nat_le w.acknowledged ke
 -- what an event keeps
 kept_prefix : (d : Desk) (w : World) (e : Event) (n : ℕ) → n ≤ w.acknowledged → IsPrefix (take n w.changes) (move d w e).changes
 kept_prefix d w (Commit c) n low = either_way (λ x. IsPrefix (take n w.changes) x.changes) _ _ w (λ _. prefix_trans _ _ _ (prefix_whole n w.changes) (c ∷ [], refl)) (prefix_whole n w.changes)
-kept_prefix d w Acknowledge n low = either_way (λ x. IsPrefix (take n w.changes) x.changes) _ _ w (λ _. prefix_whole n w.changes) (prefix_whole n w.changes)
-kept_prefix d w Show n low = either_way (λ x. IsPrefix (take n w.changes) x.changes) _ _ w (λ _. prefix_whole n w.changes) (prefix_whole n w.changes)
 kept_prefix d w (Visit i q) n low = prefix_whole n w.changes
-kept_prefix d w (Learn i told) n low = either_way (λ x. IsPrefix (take n w.changes) x.changes) _ _ w (λ _. prefix_whole n w.changes) (prefix_whole n w.changes)
 kept_prefix d w (Stop kept) n low = either_way (λ x. IsPrefix (take n w.changes) x.changes) (nat_le w.acknowledged kept && nat_le kept (length w.changes)) _ w (λ is.
     let both = and_parts (nat_le w.acknowledged kept) (nat_le kept (length w.changes)) is in
     let le : w.acknowledged ≤ kept = within w.acknowledged kept both.0 in
     prefix_longer n kept w.changes (le_trans low le)) (prefix_whole n w.changes) where
       within : (a b : ℕ) → nat_le a b ≡ true → a ≤ b
       within a b is = grind (arith, nat_tests)
+kept_prefix d w _ n low = either_way (λ x. IsPrefix (take n w.changes) x.changes) _ _ w (λ _. prefix_whole n w.changes) (prefix_whole n w.changes)
 
-kept_changes : (d : Desk) (w : World) (e : Event) → GoesOn e → IsPrefix w.changes (move d w e).changes
+kept_changes : (d : Desk) (w : World) (e : Event) → IsNoStop e → IsPrefix w.changes (move d w e).changes
 kept_changes d w (Commit c) on = either_way (λ x. IsPrefix w.changes x.changes) _ _ w (λ _. (c ∷ [], refl)) (prefix_self w.changes)
-kept_changes d w Acknowledge on = either_way (λ x. IsPrefix w.changes x.changes) _ _ w (λ _. prefix_self w.changes) (prefix_self w.changes)
-kept_changes d w Show on = either_way (λ x. IsPrefix w.changes x.changes) _ _ w (λ _. prefix_self w.changes) (prefix_self w.changes)
 kept_changes d w (Visit i q) on = prefix_self w.changes
-kept_changes d w (Learn i told) on = either_way (λ x. IsPrefix w.changes x.changes) _ _ w (λ _. prefix_self w.changes) (prefix_self w.changes)
 kept_changes d w (Stop kept) on = absurd on
+kept_changes d w _ on = either_way (λ x. IsPrefix w.changes x.changes) _ _ w (λ _. prefix_self w.changes) (prefix_self w.changes)
 
 -- with no stop what is shown only grows
-shown_grows : (d : Desk) (w : World) (e : Event) → GoesOn e → IsOrdered w → IsPrefix (shown_list w) (shown_list (move d w e))
+shown_grows : (d : Desk) (w : World) (e : Event) → IsNoStop e → IsOrdered w → IsPrefix (shown_list w) (shown_list (move d w e))
 shown_grows d w (Commit c) on o = either_way (λ x. IsPrefix (shown_list w) (shown_list x)) _ _ w (λ _.
     let le : w.shown ≤ length w.changes = le_trans o.shown o.acknowledged in
     subst (λ ys. IsPrefix (shown_list w) ys) (sym (take-append-le w.shown w.changes (c ∷ []) le)) (prefix_self (shown_list w))) (prefix_self (shown_list w))
-shown_grows d w Acknowledge on o = either_way (λ x. IsPrefix (shown_list w) (shown_list x)) _ _ w (λ _. prefix_self (shown_list w)) (prefix_self (shown_list w))
 shown_grows d w Show on o = either_way (λ x. IsPrefix (shown_list w) (shown_list x)) _ _ w (λ _. prefix_longer w.shown w.acknowledged w.changes o.shown) (prefix_self (shown_list w))
 shown_grows d w (Visit i q) on o = prefix_self (shown_list w)
-shown_grows d w (Learn i told) on o = either_way (λ x. IsPrefix (shown_list w) (shown_list x)) _ _ w (λ _. prefix_self (shown_list w)) (prefix_self (shown_list w))
 shown_grows d w (Stop kept) on o = absurd on
+shown_grows d w _ on o = either_way (λ x. IsPrefix (shown_list w) (shown_list x)) _ _ w (λ _. prefix_self (shown_list w)) (prefix_self (shown_list w))
 
 -- each answer's list begins with a list that was shown before
-begun : (i : ℕ) (d : Desk) (low : List Command) (w : World) (es : List Event) → All GoesOn es → IsOrdered w → IsPrefix low (shown_list w) → Rising (low ∷ seen i d w es)
+begun : (i : ℕ) (d : Desk) (low : List Command) (w : World) (es : List Event) → All IsNoStop es → IsOrdered w → IsPrefix low (shown_list w) → Rising (low ∷ seen i d w es)
 begun i d low w [] on o p = tt
 begun i d low w (e ∷ es) on o p =
-    let first = All-head GoesOn e es on in
-    let rest = All-tail GoesOn e es on in
+    let first = All-head IsNoStop e es on in
+    let rest = All-tail IsNoStop e es on in
     let o' = moved_ordered d w e o in
     let grown = shown_grows d w e first o in
     at e (seen i d (move d w e) es) first grown (λ l q. begun i d l (move d w e) es rest o' q) where
-      at : (e : Event) (more : List (List Command)) → GoesOn e → IsPrefix (shown_list w) (shown_list (move d w e))
+      at : (e : Event) (more : List (List Command)) → IsNoStop e → IsPrefix (shown_list w) (shown_list (move d w e))
           → ((l : List Command) → IsPrefix l (shown_list (move d w e)) → Rising (l ∷ more)) → Rising (low ∷ (seen_at i w e ++ more))
       at (Commit c) more on grown go = go low (prefix_trans _ _ _ p grown)
       at Acknowledge more on grown go = go low (prefix_trans _ _ _ p grown)

@@ -1,37 +1,21 @@
 -- Lives in a file, by what it held.
-use Rattle.std.proofs.Common.{◌≡◌, ℕ, Bool, true, false, [], ◌∷◌, ⊎_elim, refl, sym, subst, arith}
-use Rattle.sector_device.specs.claim.Disk.{Disk, Image}
-use Rattle.sector_device.specs.Disk.{IsSynced}
+use Rattle.std.proofs.Common.{◌≡◌, ℕ, [], ◌∷◌, refl, sym, subst, arith}
+use Rattle.sector_device.specs.{claim.Disk.{Disk, Image}, Disk.IsSynced}
 use Rattle.desk_model.specs.claim.Desk.{Desk}
-use Rattle.desk_pages.specs.claim.Desks.{OpensDeskOf}
 use Rattle.desk_pages.specs.claim.Openings.{AllVersions}
-use Rattle.store_lives.specs.desk_runs.Recovery.{ImagesAreOne}
+use Rattle.store_lives.specs.{desk_runs.Recovery.ImagesAreOne, claim.Versions.{Version, version_1}, VersionInside.{OpensIn, HoldsIn, IsOneIn, LivesIn}}
+use Rattle.store_lives.proofs.VersionLiving.{holds_read, opens_as}
 use Rattle.serve_command.specs.http_seats.claim.Streams.{Traffic}
-use Rattle.desk_claim.specs.claim.Streams.{Ends}
-use Rattle.store_lives.specs.claim.Versions.{Version, version_1, version_2, either}
-use Rattle.store_lives.specs.VersionInside.{OpensIn, HoldsIn, IsOneIn, LivesIn}
-use Rattle.store_lives.proofs.VersionLiving.{holds_read}
-use Rattle.desk_claim.specs.declared.lives.Task.{Task}
-use Rattle.desk_claim.specs.declared.lives.Done.{Done}
-use Rattle.desk_claim.specs.claim.Sentence.{LifeMay}
-use Rattle.desk_claim.specs.Inside.{IsLife}
-use Rattle.desk_claim.specs.claim.InFile.{OpensAs, IsStoreAs, LivesFrom, AreLives}
-use Rattle.desk_claim.proofs.Sentence.{life_holds}
-
-opens_as : (v : Version) (n : ℕ) (d : Desk) (c : Image) → OpensIn v n d c → (new : Bool) × OpensDeskOf new n d c
-opens_as version_1 n d c opens = (false, opens)
-opens_as version_2 n d c opens = (true, opens)
-opens_as either n d c opens = ⊎_elim (λ is. (true, is)) (λ is. (false, is)) opens
+use Rattle.desk_claim.specs.{claim.Streams.Ends, declared.lives.Task.Task, declared.lives.Done.Done, claim.Sentence.LifeMay, Inside.IsLife}
+use Rattle.desk_claim.{specs.claim.InFile.{OpensAs, IsStoreAs, LivesFrom, AreLives}, proofs.Sentence.life_holds}
 
 opens_in : (v : Version) (n : ℕ) (d : Desk) (c : Image) → OpensAs v n d c → OpensIn v n d c
 opens_in version_1 n d c opens = opens
-opens_in version_2 n d c opens = opens
-opens_in either n d c opens = opens
+opens_in _ n d c opens = opens
 
 told_as : (v : Version) (n : ℕ) (d : Desk) (c : Image) → OpensIn v n d c → OpensAs v n d c
 told_as version_1 n d c opens = opens
-told_as version_2 n d c opens = opens
-told_as either n d c opens = opens
+told_as _ n d c opens = opens
 
 -- where each image opens to one desk in a version
 all_open : (v : Version) (disk : Disk) (d : Desk) → HoldsIn v disk d → AllVersions disk

@@ -1,34 +1,21 @@
 -- The run of an office as a life.
 use Rattle.std.proofs.Common.{◌≡◌, ◌≤◌, ℕ, false, if◌then◌else◌, List, [], ◌∷◌, ◌++◌, refl, subst, ◌∙◌}
 use Rattle.sector_device.specs.declared.SectorDevice.{Ghosts}
-use Rattle.desk_model.specs.declared.command.Command.{Command}
-use Rattle.desk_model.specs.declared.reply.Reply.{Reply}
+use Rattle.desk_model.specs.{declared.command.Command.Command, declared.reply.Reply.Reply, claim.Desk.Desk}
 use Rattle.desk_model.specs.declared.reply.Reply.TheVariants as reply
-use Rattle.desk_model.specs.claim.Desk.{Desk}
 use Rattle.desk_pages.specs.claim.Desks.{OpensDesk}
-use Rattle.desk_store.specs.declared.clerk.Clerk.{Clerk}
-use Rattle.desk_store.specs.claim.Clerks.{desk_of, disk_of}
-use Rattle.store_lives.specs.desk_runs.claim.Runs.{Call, if_accepted, acknowledged as acknowledged_calls}
-use Rattle.serve_command.specs.desk_gallery.claim.Working.{AreAccepted}
-use Rattle.serve_command.specs.desk_gallery.claim.Telling.{halts_of}
-use Rattle.store_lives.specs.claim.DeskLives.{Lived}
-use Rattle.store_lives.specs.claim.Calls.{asked_in, told_in, is_done, acknowledged}
-use Rattle.store_lives.specs.DeskInside.{LivedThrough}
-use Rattle.http_connections.specs.declared.ran.Ran.{Ran}
-use Rattle.serve_command.specs.http_seats.claim.Streams.{Traffic, AreCounted}
+use Rattle.desk_store.specs.{declared.clerk.Clerk.Clerk, claim.Clerks.{desk_of, disk_of}}
+use Rattle.store_lives.specs.{desk_runs.claim.Runs.{Call, if_accepted, acknowledged as acknowledged_calls}, claim.DeskLives.Lived}
+use Rattle.store_lives.specs.{claim.Calls.{asked_in, told_in, is_done, acknowledged}, DeskInside.LivedThrough}
+use Rattle.serve_command.specs.{desk_gallery.claim.Working.AreAccepted, desk_gallery.claim.Telling.halts_of, http_seats.claim.Streams.{Traffic, AreCounted}}
 use Rattle.serve_command.specs.claim.Lasting.{Outlasts, LastsAsked, ServesStreams}
-use Rattle.desk_claim.specs.claim.Offices.{Officed, Answered}
-use Rattle.desk_claim.proofs.Sweeping.{swept_lived}
+use Rattle.http_connections.specs.declared.ran.Ran.{Ran}
+use Rattle.desk_claim.{specs.claim.Offices.{Officed, Answered}, proofs.Sweeping.swept_lived}
 
 -- the acknowledged commands of a run, in the words of a life
 done_is : (c : Command) (r : Reply) → if_accepted c r ≡ (if is_done r then c ∷ [] else [])
 done_is c (reply.Created name revisions) = refl
-done_is c (reply.Retired name) = refl
-done_is c (reply.Plans rows) = refl
-done_is c (reply.Blocks text) = refl
-done_is c (reply.Baf text) = refl
-done_is c (reply.Audited text) = refl
-done_is c (reply.Refused refusal) = refl
+done_is c _ = refl
 
 told_as : (calls : List Call) → acknowledged_calls calls ≡ acknowledged calls
 told_as [] = refl

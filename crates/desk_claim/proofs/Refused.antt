@@ -1,27 +1,16 @@
 -- A request to which memory was refused is as one that wasn't asked.
-use Rattle.std.proofs.Common.{◌≡◌, ◌<◌, ℕ, List, [], ◌∷◌, inl, inr, ⊎_elim, sym, subst}
-use Rattle.std.specs.Prelude.{⊤}
-use Rattle.desk_model.specs.declared.command.Command.{Command}
-use Rattle.desk_model.specs.declared.reply.Reply.{Reply}
-use Rattle.desk_model.specs.declared.reply.Reply.TheVariants.{Refused}
-use Rattle.desk_model.specs.declared.reply.Refusal.TheVariants.{Memory, Halted}
-use Rattle.desk_model.specs.claim.Desk.{Desk}
-use Rattle.desk_model.specs.claim.Outcome.{CommandMay}
+use Rattle.std.{specs.Prelude.⊤, proofs.Common.{◌≡◌, ◌<◌, ℕ, List, [], ◌∷◌, inl, inr, ⊎_elim, sym, subst}}
+use Rattle.desk_model.specs.{declared.command.Command.Command, declared.reply.Reply.Reply, declared.reply.Reply.TheVariants.Refused}
+use Rattle.desk_model.specs.{declared.reply.Refusal.TheVariants.{Memory, Halted}, claim.Desk.Desk, claim.Outcome.CommandMay}
 use Rattle.desk_pages.specs.declared.error.StoreError.TheVariants as store
-use Rattle.store_lives.specs.declared.desk_lives.Request.{Request}
-use Rattle.store_lives.specs.declared.desk_lives.Request.TheVariants.{Change, Look, Load, Sweep}
-use Rattle.store_lives.specs.declared.desk_lives.Answer.{Answer}
-use Rattle.store_lives.specs.declared.desk_lives.Answer.TheVariants.{Said, Loaded, Unloaded, Swept, Unswept}
-use Rattle.store_lives.specs.claim.DeskLives.{Failed, Lived}
+use Rattle.store_lives.specs.{declared.desk_lives.Request.Request, declared.desk_lives.Request.TheVariants.{Change, Look, Load, Sweep}, declared.desk_lives.Answer.Answer}
+use Rattle.store_lives.specs.{declared.desk_lives.Answer.TheVariants.{Said, Loaded, Unloaded, Swept, Unswept}, claim.DeskLives.{Failed, Lived}}
 use Rattle.desk_claim.specs.claim.Sentence.{Without}
 
 -- what was said, else this
 abbrev pub said_in : Answer → Reply
 said_in (Said r) = r
-said_in Loaded = Refused Halted
-said_in (Unloaded why) = Refused Halted
-said_in (Swept count) = Refused Halted
-said_in (Unswept why) = Refused Halted
+said_in _ = Refused Halted
 
 not_halted : Said (Refused Memory) ≡ Said (Refused Halted) → ⊥
 not_halted same = let clash : Refused Memory ≡ Refused Halted = λ i. said_in (same i) in cc

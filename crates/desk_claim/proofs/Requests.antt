@@ -1,22 +1,12 @@
 -- What is acknowledged of a life's requests outlives its stop.
-use Rattle.std.proofs.Common.{◌≡◌, ◌<◌, ℕ, Bool, true, false, if◌then◌else◌, List, [], ◌∷◌, ◌++◌, inl, inr, ⊎_elim, refl, sym, subst, ◌∙◌}
-use Rattle.std.specs.Prelude.{⊤, fold, None}
-use Rattle.desk_model.specs.declared.command.Command.{Command}
-use Rattle.desk_model.specs.declared.reply.Reply.{Reply}
+use Rattle.std.{specs.Prelude.{⊤, fold, None}, proofs.Common.{◌≡◌, ◌<◌, ℕ, Bool, true, false, if◌then◌else◌, List, [], ◌∷◌, ◌++◌, inl, inr, ⊎_elim, refl, sym, subst, ◌∙◌}}
+use Rattle.desk_model.specs.{declared.command.Command.Command, declared.reply.Reply.Reply, declared.reply.Refusal.Refusal, claim.Geography.GeographyModel, claim.Desk.Desk}
+use Rattle.desk_model.specs.{claim.Outcome.{IsAcceptance, IsStep, RefusalMay, CommandMay}, claim.Step.step}
 use Rattle.desk_model.specs.declared.reply.Reply.TheVariants as reply
-use Rattle.desk_model.specs.declared.reply.Refusal.{Refusal}
 use Rattle.desk_model.specs.declared.reply.Refusal.TheVariants as refusal
-use Rattle.desk_model.specs.claim.Geography.{GeographyModel}
-use Rattle.desk_model.specs.claim.Desk.{Desk}
-use Rattle.desk_model.specs.claim.Outcome.{IsAcceptance, IsStep, RefusalMay, CommandMay}
-use Rattle.desk_model.specs.claim.Step.{step}
 use Rattle.store_lives.proofs.desk_runs.Steps.{refused_same}
-use Rattle.store_lives.specs.declared.desk_lives.Request.{Request}
-use Rattle.store_lives.specs.declared.desk_lives.Request.TheVariants.{Change, Look, Load, Sweep}
-use Rattle.store_lives.specs.declared.desk_lives.Answer.{Answer}
-use Rattle.store_lives.specs.declared.desk_lives.Answer.TheVariants.{Said, Loaded, Unloaded, Swept, Unswept}
-use Rattle.store_lives.specs.claim.DeskLives.{loaded_desk, after_load, IsUnloaded, Failed, FailsAt, Lived}
-use Rattle.store_lives.specs.claim.Calls.{is_done}
+use Rattle.store_lives.specs.{declared.desk_lives.Request.Request, declared.desk_lives.Request.TheVariants.{Change, Look, Load, Sweep}, declared.desk_lives.Answer.Answer}
+use Rattle.store_lives.specs.{declared.desk_lives.Answer.TheVariants.Unloaded, claim.DeskLives.{loaded_desk, after_load, IsUnloaded, Failed, FailsAt, Lived}, claim.Calls.is_done}
 use Rattle.desk_claim.specs.claim.Sentence.{made, tells_done, acknowledged_in, HoldsAcknowledged}
 
 -- ---- what a command leaves, by its reply
@@ -42,10 +32,7 @@ pub left_by : (d : Desk) (c : Command) (r : Reply) (next : Desk) → CommandMay 
 left_by d c (reply.Refused r) next is = refused_stays d c r next is
 left_by d c (reply.Created name revisions) next is = is.1.desk
 left_by d c (reply.Retired name) next is = is.1.desk
-left_by d c (reply.Plans rows) next is = absurd is
-left_by d c (reply.Blocks text) next is = absurd is
-left_by d c (reply.Baf text) next is = absurd is
-left_by d c (reply.Audited text) next is = absurd is
+left_by d c _ next is = absurd is
 
 -- ---- one request before others
 abbrev With : Bool → Request → List Request → List Request
@@ -75,11 +62,8 @@ pub load_first : (d : Desk) (g : GeographyModel) → d.geography ≡ None → af
 load_first d g none = λ i. after_load (none i) d g
 
 pub untold_load : (a : Answer) (d : Desk) → IsUnloaded a d → tells_done a ≡ false
-untold_load (Said r) d is = absurd is
-untold_load Loaded d is = absurd is
 untold_load (Unloaded why) d is = refl
-untold_load (Swept count) d is = absurd is
-untold_load (Unswept why) d is = absurd is
+untold_load _ d is = absurd is
 
 -- ---- where the device has failed nothing more is done
 failed_stays : (d : Desk) (asked : List Request) (told : List Answer) → Failed d asked told → All_made d (acknowledged_in asked told) ≡ d

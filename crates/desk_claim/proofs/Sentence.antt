@@ -2,25 +2,14 @@
 use Rattle.std.proofs.Common.{◌≡◌, ℕ, List, [], ◌∷◌, All, Ok, Err}
 use Rattle.std.proofs.lemmas.List.Elements.{All-nil}
 use Rattle.desk_model.specs.claim.Desk.{Desk}
-use Rattle.store_lives.specs.claim.DeskLives.{Lived, LifeAfterLife}
+use Rattle.store_lives.specs.{claim.DeskLives.{Lived, LifeAfterLife}, claim.Versions.Store}
 use Rattle.serve_command.specs.http_seats.claim.Streams.{Traffic, Worker}
-use Rattle.desk_claim.specs.claim.Streams.{Ends, working}
-use Rattle.store_lives.specs.claim.Versions.{Store}
-use Rattle.desk_claim.specs.declared.asking.Asking.{Asking}
-use Rattle.desk_claim.specs.declared.asking.Asking.TheVariants.{Requests, Stream, Office}
-use Rattle.desk_claim.specs.declared.asking.Told.{Told}
-use Rattle.desk_claim.specs.declared.asking.Told.TheVariants.{Answers, Served, Seated, Unseated}
-use Rattle.desk_claim.specs.declared.lives.Task.{Task}
-use Rattle.desk_claim.specs.declared.lives.Task.TheVariants.{Ask, Migrate}
-use Rattle.desk_claim.specs.declared.lives.Done.{Done}
-use Rattle.desk_claim.specs.declared.lives.Done.TheVariants as done
-use Rattle.desk_claim.specs.claim.Exchanges.{exchanges_in}
+use Rattle.desk_claim.specs.{claim.Streams.{Ends, working}, declared.asking.Asking.Asking, declared.asking.Asking.TheVariants.{Requests, Stream, Office}, declared.asking.Told.Told}
+use Rattle.desk_claim.specs.{declared.asking.Told.TheVariants.{Answers, Served, Seated, Unseated}, declared.lives.Task.Task, declared.lives.Task.TheVariants.{Ask, Migrate}}
+use Rattle.desk_claim.specs.{declared.lives.Done.Done, claim.Exchanges.exchanges_in}
 use Rattle.desk_claim.specs.claim.Sentence.{Keeps, Account, nothing, of_exchanges, of_calls, Clauses, AskedMay, asked_account, LifeMay, account_of, LifeHolds, PlanDesk}
-use Rattle.desk_claim.proofs.Audits.{names_exactly, lived_audits}
-use Rattle.desk_claim.proofs.Requests.{lasts}
-use Rattle.desk_claim.proofs.StreamAsked.{stream_asked}
-use Rattle.desk_claim.proofs.Readers.{nothing_is_lost}
-use Rattle.desk_claim.proofs.Refused.{lived_without}
+use Rattle.desk_claim.proofs.{Audits.{names_exactly, lived_audits}, Requests.lasts, StreamAsked.stream_asked, Readers.nothing_is_lost, Refused.lived_without}
+use Rattle.desk_claim.specs.declared.lives.Done.TheVariants as done
 
 -- whoever was shown something in it is shown that later
 abbrev Shows : Desk → Account → Desk → Type 0

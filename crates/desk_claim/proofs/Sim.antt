@@ -2,31 +2,16 @@
 use Rattle.std.specs.Prelude.{⊤}
 use Rattle.std.proofs.Common.{◌≡◌, ◌⊎◌, ◌≤◌, ◌<◌, ℕ, Bool, true, false, List, [], ◌++◌, Option, Result, Ok, Err, ◌+◌, inl, inr, ⊎_elim, refl, sym, subst, ◌∙◌, arith}
 use Rattle.std.proofs.lemmas.List.{append-nil}
-use Rattle.sector_device.specs.claim.Disk.{Image}
-use Rattle.sector_device.proofs.Moments.{leaves_now}
-use Rattle.sector_device.specs.declared.SectorDevice.{Ghosts}
-use Rattle.desk_model.specs.declared.command.Command.{Command}
-use Rattle.desk_model.specs.declared.command.Query.{Query}
-use Rattle.desk_model.specs.declared.reply.Reply.{Reply}
-use Rattle.desk_model.specs.claim.Desk.{Desk}
-use Rattle.desk_model.specs.claim.Outcome.{CommandMay}
-use Rattle.desk_model.specs.claim.Step.{step}
+use Rattle.sector_device.{specs.claim.Disk.Image, specs.declared.SectorDevice.Ghosts, proofs.Moments.leaves_now}
+use Rattle.desk_model.specs.{declared.command.Command.Command, declared.command.Query.Query, declared.reply.Reply.Reply, claim.Desk.Desk, claim.Outcome.CommandMay, claim.Step.step}
 use Rattle.desk_catalogue.specs.claim.Audits.{AskMay}
 use Rattle.desk_pages.specs.claim.Desks.{OpensDesk}
-use Rattle.desk_store.specs.declared.clerk.Clerk.{Clerk}
-use Rattle.desk_store.specs.claim.Clerks.{desk_of, disk_of, is_halted, pages_of, sectors_of, Keeps}
-use Rattle.desk_store.specs.claim.Commands.{Does, MustBeFull, MayBeFull}
-use Rattle.http_desk.specs.http_routes.declared.order.Order.{Order}
+use Rattle.desk_store.specs.{declared.clerk.Clerk.Clerk, claim.Clerks.{desk_of, disk_of, is_halted, pages_of, sectors_of, Keeps}, claim.Commands.{Does, MustBeFull, MayBeFull}}
+use Rattle.http_desk.specs.{http_routes.declared.order.Order.Order, http_routes.claim.Orders.order_of, http_wire.claim.Prefix.{closes_after, is_head}, declared.serve.Served.Served}
+use Rattle.http_desk.specs.{declared.serve.StreamFault.StreamFault, claim.Serving.{Serves, ServesTo, IsShortTalk, IsPrefixTalk}, claim.Talk.{Talk, MayAnswer}}
 use Rattle.http_desk.specs.http_routes.declared.order.Order.TheVariants as order
-use Rattle.http_desk.specs.http_routes.claim.Orders.{order_of}
-use Rattle.http_desk.specs.http_wire.claim.Prefix.{closes_after, is_head}
-use Rattle.http_desk.specs.declared.serve.Served.{Served}
-use Rattle.http_desk.specs.declared.serve.StreamFault.{StreamFault}
 use Rattle.http_desk.specs.declared.serve.StreamFault.TheVariants as fault
-use Rattle.http_desk.specs.claim.Serving.{Serves, ServesTo, IsShortTalk, IsPrefixTalk}
-use Rattle.http_desk.specs.claim.Talk.{Talk, MayAnswer}
-use Rattle.store_lives.specs.DeskInside.{LivedThrough}
-use Rattle.store_lives.proofs.DeskLiving.{either, calm, halt, clash_of, left_working}
+use Rattle.store_lives.{specs.DeskInside.LivedThrough, proofs.DeskLiving.{either, calm, halt, clash_of, left_working}}
 use Rattle.desk_claim.specs.claim.Streams.{State, working, failed, shown_in, left_in, Takes, Looks, Ends, HasCause, ServedAs, Streamed}
 
 -- ---- what is known of the end is known before
@@ -85,14 +70,11 @@ module _ {D : Type 0} {g : Ghosts D} where
   was_before x (order.Refused e) closing head_only text shut y may = same x y may.2
 
   talk_before : (x : Clerk D g) (input output : List ℕ) (n : ℕ) (shut : Bool) (z : Clerk D g) → Talk DoesAtCounter AsksAtCounter x input output n shut z → Before x z
-  talk_before x _ _ _ _ _ (Talk.over _) = same x x refl
-  talk_before x _ _ _ _ _ (Talk.ended _ input interim cut line) = same x x refl
-  talk_before x _ _ _ _ _ (Talk.out_of_memory _ input interim head_only out_of_memory line) = same x x refl
-  talk_before x _ _ _ _ _ (Talk.refused _ input interim f head_only has line) = same x x refl
   talk_before x _ _ _ _ _ (Talk.closed _ input h target body rest text y has may) =
       was_before x (order_of h.method target body) (closes_after h) (is_head h.method) text true y may
   talk_before x _ _ _ _ _ (Talk.went _ input h target body rest text y output n shut z has may talk) =
       both x y z (was_before x (order_of h.method target body) (closes_after h) (is_head h.method) text false y may) (talk_before y rest output n shut z talk)
+  talk_before x _ _ _ _ _ _ = same x x refl
 
   -- a short talk is one over a prefix
   prefix_of : (x : Clerk D g) (input output : List ℕ) (y : Clerk D g) → IsShortTalk DoesAtCounter AsksAtCounter x input output y → IsPrefixTalk DoesAtCounter AsksAtCounter x input output y

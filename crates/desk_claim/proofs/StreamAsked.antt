@@ -1,24 +1,14 @@
 -- The requests of a stream as those of a life.
 use Rattle.std.proofs.Common.{◌≡◌, ℕ, Bool, true, false, List, [], ◌∷◌, ◌++◌, map, Option, Result, Ok, Err, inl, inr, ⊎_elim, refl, sym, subst, ◌∙◌}
 use Rattle.std.proofs.lemmas.List.{append-nil}
-use Rattle.desk_model.specs.declared.command.Command.{Command}
-use Rattle.desk_model.specs.declared.command.Query.{Query}
-use Rattle.desk_model.specs.declared.reply.Reply.{Reply}
-use Rattle.desk_model.specs.claim.Desk.{Desk}
+use Rattle.desk_model.specs.{declared.command.Command.Command, declared.command.Query.Query, declared.reply.Reply.Reply, claim.Desk.Desk}
 use Rattle.desk_catalogue.specs.claim.Audits.{AskMay}
-use Rattle.store_lives.specs.declared.desk_lives.Request.{Request}
-use Rattle.store_lives.specs.declared.desk_lives.Request.TheVariants.{Change, Look}
-use Rattle.store_lives.specs.declared.desk_lives.Answer.{Answer}
-use Rattle.store_lives.specs.declared.desk_lives.Answer.TheVariants.{Said}
-use Rattle.store_lives.specs.claim.DeskLives.{Failed, Lived}
-use Rattle.http_desk.specs.http_wire.claim.Prefix.{closes_after, is_head}
-use Rattle.http_desk.specs.http_routes.declared.order.Order.{Order}
+use Rattle.store_lives.specs.{declared.desk_lives.Request.Request, declared.desk_lives.Request.TheVariants.{Change, Look}, declared.desk_lives.Answer.Answer}
+use Rattle.store_lives.specs.{declared.desk_lives.Answer.TheVariants.Said, claim.DeskLives.{Failed, Lived}}
+use Rattle.http_desk.specs.{http_wire.claim.Prefix.{closes_after, is_head}, http_routes.declared.order.Order.Order, http_routes.claim.Orders.order_of, declared.serve.Served.Served}
+use Rattle.http_desk.specs.{declared.serve.StreamFault.StreamFault, claim.Talk.{Talk, MayAnswer}}
 use Rattle.http_desk.specs.http_routes.declared.order.Order.TheVariants as order
-use Rattle.http_desk.specs.http_routes.claim.Orders.{order_of}
-use Rattle.http_desk.specs.declared.serve.Served.{Served}
-use Rattle.http_desk.specs.declared.serve.StreamFault.{StreamFault}
 use Rattle.http_desk.specs.declared.serve.StreamFault.TheVariants as fault
-use Rattle.http_desk.specs.claim.Talk.{Talk, MayAnswer}
 use Rattle.desk_claim.specs.claim.Streams.{State, working, failed, shown_in, left_in, Takes, Looks, Ends, ServedAs, Streamed}
 use Rattle.desk_claim.specs.claim.Exchanges.{exchange_of, exchanges_of, exchanges_in}
 
@@ -73,14 +63,11 @@ module _ (t u : ℕ) where
       subst (λ (all : List Exchange). Goes s all (left_in y)) (append-nil (exchange_of t u s o closing head_only text shut y may)) (one_first s o closing head_only text shut y may [] (left_in y) (stays y))
 
   talk_goes : (s : State) (input output : List ℕ) (m : ℕ) (shut : Bool) (z : State) (talk : Talk (Takes t u) Looks s input output m shut z) → Goes s (exchanges_of t u s input output m shut z talk) (left_in z)
-  talk_goes s _ _ _ _ _ (Talk.over _) = stays s
-  talk_goes s _ _ _ _ _ (Talk.ended _ input interim cut line) = stays s
-  talk_goes s _ _ _ _ _ (Talk.out_of_memory _ input interim head_only out_of_memory line) = stays s
-  talk_goes s _ _ _ _ _ (Talk.refused _ input interim f head_only has line) = stays s
   talk_goes s _ _ _ _ _ (Talk.closed _ input h target body rest text y has may) =
       one_last s (order_of h.method target body) (closes_after h) (is_head h.method) text true y may
   talk_goes s _ _ _ _ _ (Talk.went _ input h target body rest text y output m shut z has may talk) =
       one_first s (order_of h.method target body) (closes_after h) (is_head h.method) text false y may (exchanges_of t u y rest output m shut z talk) (left_in z) (talk_goes y rest output m shut z talk)
+  talk_goes s _ _ _ _ _ _ = stays s
 
   served_goes : (s : State) (served : Result Served StreamFault) (left : Option (List ℕ)) (input output : List ℕ) (end : State) (is : ServedAs t u s served left input output end)
       → Goes s (exchanges_in t u s served left input output end is) (left_in end)

@@ -1,17 +1,10 @@
 -- What is known of a stream's life doesn't depend on how often the device failed before.
 use Rattle.std.proofs.Common.{◌<◌, ℕ, Bool, true, false, List, Option, Result, Ok, Err}
-use Rattle.desk_model.specs.declared.command.Command.{Command}
-use Rattle.desk_model.specs.declared.reply.Reply.{Reply}
-use Rattle.desk_model.specs.claim.Desk.{Desk}
-use Rattle.http_desk.specs.http_wire.claim.Prefix.{closes_after, is_head}
-use Rattle.http_desk.specs.http_routes.declared.order.Order.{Order}
+use Rattle.desk_model.specs.{declared.command.Command.Command, declared.reply.Reply.Reply, claim.Desk.Desk}
+use Rattle.http_desk.specs.{http_wire.claim.Prefix.{closes_after, is_head}, http_routes.declared.order.Order.Order, http_routes.claim.Orders.order_of, declared.serve.Served.Served}
+use Rattle.http_desk.specs.{declared.serve.StreamFault.StreamFault, claim.Serving.IsPrefixTalk, claim.Talk.{Talk, MayAnswer}}
 use Rattle.http_desk.specs.http_routes.declared.order.Order.TheVariants as order
-use Rattle.http_desk.specs.http_routes.claim.Orders.{order_of}
-use Rattle.http_desk.specs.declared.serve.Served.{Served}
-use Rattle.http_desk.specs.declared.serve.StreamFault.{StreamFault}
 use Rattle.http_desk.specs.declared.serve.StreamFault.TheVariants as fault
-use Rattle.http_desk.specs.claim.Serving.{IsPrefixTalk}
-use Rattle.http_desk.specs.claim.Talk.{Talk, MayAnswer}
 use Rattle.desk_claim.specs.claim.Streams.{State, working, failed, Takes, Looks, Ends, ServedAs, Streamed}
 
 module _ (t u s v : ℕ) (more : t < u → s < v) where
@@ -24,8 +17,7 @@ module _ (t u s v : ℕ) (more : t < u → s < v) where
   may_later : (x : State) (o : Order) (closing head_only : Bool) (text : List ℕ) (shut : Bool) (y : State)
       → MayAnswer (Takes t u) Looks x o closing head_only text shut y → MayAnswer (Takes s v) Looks x o closing head_only text shut y
   may_later x (order.Command c) closing head_only text shut y may = (may.0, takes_later x c may.0 y may.1, may.2)
-  may_later x (order.Query q) closing head_only text shut y may = may
-  may_later x (order.Refused e) closing head_only text shut y may = may
+  may_later x _ closing head_only text shut y may = may
 
   talk_later : (x : State) (input output : List ℕ) (n : ℕ) (shut : Bool) (z : State) → Talk (Takes t u) Looks x input output n shut z → Talk (Takes s v) Looks x input output n shut z
   talk_later x _ _ _ _ _ (Talk.over _) = Talk.over x

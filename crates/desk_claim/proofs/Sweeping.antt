@@ -1,22 +1,13 @@
 -- A run of commands, with steps of sweeps between them, as a life of the commands alone.
 use Rattle.std.proofs.Common.{◌≡◌, ◌⊎◌, ℕ, ◌<◌, Bool, false, List, [], ◌∷◌, ◌++◌, inl, inr, ⊎_elim, refl, sym, subst, ◌∙◌, append_assoc}
 use Rattle.std.proofs.lemmas.List.{append-nil}
-use Rattle.sector_device.specs.claim.Disk.{Image}
-use Rattle.sector_device.proofs.Moments.{leaves_now}
-use Rattle.sector_device.specs.declared.SectorDevice.{Ghosts}
+use Rattle.sector_device.{specs.claim.Disk.Image, specs.declared.SectorDevice.Ghosts, proofs.Moments.leaves_now}
 use Rattle.desk_model.specs.claim.Desk.{Desk}
 use Rattle.desk_pages.specs.claim.Desks.{OpensDesk}
-use Rattle.desk_store.specs.declared.clerk.Clerk.{Clerk}
-use Rattle.desk_store.specs.claim.Clerks.{desk_of, disk_of, is_halted, sectors_of, Keeps}
-use Rattle.store_lives.specs.desk_runs.claim.Runs.{Call}
-use Rattle.store_lives.specs.desk_runs.claim.SweptRuns.{Tends, SweptRun}
-use Rattle.store_lives.specs.declared.desk_lives.Request.{Request}
-use Rattle.store_lives.specs.declared.desk_lives.Request.TheVariants.{Change}
-use Rattle.store_lives.specs.declared.desk_lives.Answer.{Answer}
-use Rattle.store_lives.specs.declared.desk_lives.Answer.TheVariants.{Said}
-use Rattle.store_lives.specs.claim.DeskLives.{Failed, Lived}
-use Rattle.store_lives.specs.DeskInside.{Holds, GoingFailed, LivedThrough, Stands}
-use Rattle.store_lives.specs.claim.Calls.{asked_in, told_in}
+use Rattle.desk_store.specs.{declared.clerk.Clerk.Clerk, claim.Clerks.{desk_of, disk_of, is_halted, sectors_of, Keeps}}
+use Rattle.store_lives.specs.{desk_runs.claim.Runs.Call, desk_runs.claim.SweptRuns.{Tends, SweptRun}, declared.desk_lives.Request.Request}
+use Rattle.store_lives.specs.{declared.desk_lives.Request.TheVariants.Change, declared.desk_lives.Answer.Answer, declared.desk_lives.Answer.TheVariants.Said}
+use Rattle.store_lives.specs.{claim.DeskLives.{Failed, Lived}, DeskInside.{Holds, GoingFailed, LivedThrough, Stands}, claim.Calls.{asked_in, told_in}}
 use Rattle.store_lives.proofs.DeskLiving.{either, ends, fails_no_less, goes_on}
 
 -- a device that failed between two commands leaves the desk, and all that are asked then are told so

@@ -1,24 +1,18 @@
 -- The events of an office: its changes in their order, and after each of them the calls that heard of just so many.
-use Rattle.std.proofs.Common.{◌≡◌, ℕ, zero, suc, ◌+◌, ◌≤◌, ◌<◌, ◌==◌, ◌&&◌, if◌then◌else◌, nat_le, nat_lt, max, Bool, true, false, List, [], ◌∷◌, ◌++◌, length, take, map, get_or, All, replicate, slice_get, slice_set, Some, refl, sym, ap, ◌∙◌, subst, arith, append_assoc, length-append}
 use Rattle.std.specs.Bool.{⊤}
+use Rattle.std.proofs.Common.{◌≡◌, ℕ, zero, suc, ◌+◌, ◌≤◌, ◌<◌, ◌==◌, ◌&&◌, if◌then◌else◌, nat_le, nat_lt, max, Bool, true, false, List, [], ◌∷◌, ◌++◌, length, take, map, get_or, All, replicate, slice_get, slice_set, Some, refl, sym, ap, ◌∙◌, subst, arith, append_assoc, length-append}
 use Rattle.std.proofs.lemmas.List.{append-nil, take_all}
 use Rattle.std.proofs.lemmas.List.Elements.{All-nil, All-cons, All-append, All-head, All-tail, All-more}
 use Rattle.std.proofs.lemmas.Bool.Decides.{nat_tests}
 use mathlib.Core.List.{IsPrefix}
-use Rattle.desk_model.specs.declared.command.Command.{Command}
-use Rattle.desk_model.specs.declared.command.Query.{Query}
-use Rattle.desk_model.specs.declared.reply.Reply.{Reply}
-use Rattle.desk_model.specs.declared.reply.Reply.TheVariants as reply
-use Rattle.desk_model.specs.claim.Desk.{Desk}
-use Rattle.desk_model.specs.claim.Outcome.{IsAcceptance}
+use Rattle.desk_model.specs.{declared.command.Command.Command, declared.command.Query.Query, declared.reply.Reply.Reply, claim.Desk.Desk, claim.Outcome.IsAcceptance}
 use Rattle.desk_model.specs.claim.Step.{step}
-use Rattle.desk_claim.specs.declared.event.Event.{Event}
-use Rattle.desk_claim.specs.declared.event.Event.TheVariants.{Commit, Acknowledge, Show, Visit, Learn, Stop}
-use Rattle.desk_claim.specs.claim.World.{World, world, after, accepts, learnt, move, run, shown_list, seen, seen_at}
-use Rattle.desk_claim.specs.claim.Law.{GoesOn, IsLawful, CoreLaw}
-use Rattle.serve_command.specs.desk_gallery.claim.Working.{AreAccepted}
+use Rattle.desk_model.specs.declared.reply.Reply.TheVariants as reply
+use Rattle.desk_claim.specs.{declared.event.Event.Event, declared.event.Event.TheVariants.{Commit, Acknowledge, Show, Visit, Learn}}
+use Rattle.desk_claim.specs.{claim.World.{World, world, after, accepts, learnt, move, run, shown_list, seen, seen_at}, claim.Law.{IsNoStop, IsLawful, CoreLaw}}
 use Rattle.desk_claim.specs.claim.Runs.{standing, beginning, Heard, list_of, heard_of, answer_of, answers, answer_at, answers_in, Rises, HasRuns}
 use Rattle.desk_claim.specs.Runs.{Grows, AreWithin, HasRunsWithin, IsReached, OfficeLaw}
+use Rattle.serve_command.specs.desk_gallery.claim.Working.{AreAccepted}
 
 -- beginnings
 nil_begins : (xs : List Command) → IsPrefix [] xs
@@ -361,11 +355,7 @@ picked_ended i k now shown begins le (p ∷ seats) fit =
 accepts_is : (r : Reply) → IsAcceptance r → accepts r ≡ true
 accepts_is (reply.Created name revisions) is = refl
 accepts_is (reply.Retired name) is = refl
-accepts_is (reply.Plans rows) is = absurd is
-accepts_is (reply.Blocks text) is = absurd is
-accepts_is (reply.Baf text) is = absurd is
-accepts_is (reply.Audited text) is = absurd is
-accepts_is (reply.Refused refusal) is = absurd is
+accepts_is _ is = absurd is
 
 pub commit_moves : (d : Desk) (now : List Command) (views : List ℕ) (c : Command) → IsAcceptance (step (after d now) c).0 → move d (all_shown now views) (Commit c) ≡ world (now ++ c ∷ []) (length now) (length now) views
 commit_moves d now views c accepted =
@@ -427,21 +417,21 @@ weave_answered i d shown now (c ∷ commands) seats whole accepted fit =
     ∙ picked_append i 0 now shown begins seats fit))))
 
 -- none of the events is a stop
-calls_go : (k : ℕ) (calls : List Heard) → All GoesOn (map (event k) calls)
-calls_go k [] = All-nil GoesOn
-calls_go k (Heard.saw q l ∷ calls) = All-cons GoesOn (Visit k q) (map (event k) calls) tt (calls_go k calls)
-calls_go k (Heard.told l ∷ calls) = All-cons GoesOn (Learn k (length l)) (map (event k) calls) tt (calls_go k calls)
+calls_go : (k : ℕ) (calls : List Heard) → All IsNoStop (map (event k) calls)
+calls_go k [] = All-nil IsNoStop
+calls_go k (Heard.saw q l ∷ calls) = All-cons IsNoStop (Visit k q) (map (event k) calls) tt (calls_go k calls)
+calls_go k (Heard.told l ∷ calls) = All-cons IsNoStop (Learn k (length l)) (map (event k) calls) tt (calls_go k calls)
 
-block_goes : (k n : ℕ) (seats : List Seat) → All GoesOn (block k n seats)
-block_goes k n [] = All-nil GoesOn
-block_goes k n (p ∷ seats) = All-append GoesOn (map (event k) (prefix_at n p.1)) (block (suc k) n seats) (calls_go k (prefix_at n p.1)) (block_goes (suc k) n seats)
+block_goes : (k n : ℕ) (seats : List Seat) → All IsNoStop (block k n seats)
+block_goes k n [] = All-nil IsNoStop
+block_goes k n (p ∷ seats) = All-append IsNoStop (map (event k) (prefix_at n p.1)) (block (suc k) n seats) (calls_go k (prefix_at n p.1)) (block_goes (suc k) n seats)
 
-weave_goes : (now commands : List Command) (seats : List Seat) → All GoesOn (weave now commands seats)
+weave_goes : (now commands : List Command) (seats : List Seat) → All IsNoStop (weave now commands seats)
 weave_goes now [] seats = block_goes 0 (length now) seats
 weave_goes now (c ∷ commands) seats =
     let later = weave (now ++ c ∷ []) commands (next_seats (length now) seats) in
-    All-append GoesOn (block 0 (length now) seats) (Commit c ∷ Acknowledge ∷ Show ∷ later) (block_goes 0 (length now) seats)
-    (All-cons GoesOn (Commit c) (Acknowledge ∷ Show ∷ later) tt (All-cons GoesOn Acknowledge (Show ∷ later) tt (All-cons GoesOn Show later tt (weave_goes (now ++ c ∷ []) commands (next_seats (length now) seats)))))
+    All-append IsNoStop (block 0 (length now) seats) (Commit c ∷ Acknowledge ∷ Show ∷ later) (block_goes 0 (length now) seats)
+    (All-cons IsNoStop (Commit c) (Acknowledge ∷ Show ∷ later) tt (All-cons IsNoStop Acknowledge (Show ∷ later) tt (All-cons IsNoStop Show later tt (weave_goes (now ++ c ∷ []) commands (next_seats (length now) seats)))))
 
 -- what is pending in the end, one change at most
 abbrev commits : List Command → List Event
@@ -456,9 +446,9 @@ pending_answered : (i : ℕ) (d : Desk) (w : World) (rest : List Command) → an
 pending_answered i d w [] = refl
 pending_answered i d w (c ∷ rest) = pending_answered i d (move d w (Commit c)) rest
 
-pending_goes : (rest : List Command) → All GoesOn (commits rest)
-pending_goes [] = All-nil GoesOn
-pending_goes (c ∷ rest) = All-cons GoesOn (Commit c) (commits rest) tt (pending_goes rest)
+pending_goes : (rest : List Command) → All IsNoStop (commits rest)
+pending_goes [] = All-nil IsNoStop
+pending_goes (c ∷ rest) = All-cons IsNoStop (Commit c) (commits rest) tt (pending_goes rest)
 
 accepted_parts : (d : Desk) (xs ys : List Command) → AreAccepted d (xs ++ ys) → AreAccepted d xs × AreAccepted (after d xs) ys
 accepted_parts d [] ys all = (tt, all)
@@ -513,7 +503,7 @@ runs_of d shown all accepted begins few visitors within =
     let ran : run d (beginning (length visitors)) woven ≡ all_shown shown (ends_of seats) = ap (λ w. run d w woven) first ∙ weave_runs d shown [] shown seats refl parts.0 fit in (
       woven ++ commits rest,
       record {
-        goes = All-append GoesOn woven (commits rest) (weave_goes [] shown seats) (pending_goes rest);
+        goes = All-append IsNoStop woven (commits rest) (weave_goes [] shown seats) (pending_goes rest);
         leads = run_append d (beginning (length visitors)) woven (commits rest) ∙ (ap (λ w. run d w (commits rest)) ran ∙ (pending_runs d shown rest (ends_of seats) one parts.1
             ∙ (ap (λ l. world l (length shown) (length shown) (ends_of seats)) begins.1 ∙ ap (λ l. world all (length shown) (length shown) l) (last_views visitors))));
         answered = λ i calls is.
@@ -528,15 +518,11 @@ runs_of d shown all accepted begins few visitors within =
 
 -- the lists of the answers
 seen_one : (i : ℕ) (w : World) (e : Event) → map (λ a. a.1) (answer_at i w e) ≡ seen_at i w e
-seen_one i w (Commit c) = refl
-seen_one i w Acknowledge = refl
-seen_one i w Show = refl
 seen_one i w (Visit j q) = by ((i == j) && nat_lt j (length w.views)) where
   by : (b : Bool) → map (λ (a : Query × List Command). a.1) (if b then (q, shown_list w) ∷ [] else []) ≡ (if b then shown_list w ∷ [] else [])
   by true = refl
   by false = refl
-seen_one i w (Learn j known) = refl
-seen_one i w (Stop kept) = refl
+seen_one i w _ = refl
 
 map_append : (xs ys : List (Query × List Command)) → map (λ (a : Query × List Command). a.1) (xs ++ ys) ≡ map (λ (a : Query × List Command). a.1) xs ++ map (λ (a : Query × List Command). a.1) ys
 map_append [] ys = refl

@@ -2,13 +2,9 @@
 use Rattle.std.specs.Prelude.{ℕ}
 use Rattle.desk_model.specs.claim.Desk.{Desk}
 use Rattle.serve_command.specs.http_seats.claim.Streams.{Traffic}
-use Rattle.desk_claim.specs.claim.Streams.{Ends}
-use Rattle.store_lives.specs.claim.Versions.{Store}
-use Rattle.desk_claim.specs.declared.asking.Asking.{Asking}
-use Rattle.desk_claim.specs.declared.asking.Told.{Told}
-use Rattle.desk_claim.specs.declared.lives.Task.{Task}
-use Rattle.desk_claim.specs.declared.lives.Done.{Done}
+use Rattle.desk_claim.specs.{claim.Streams.Ends, declared.asking.Asking.Asking, declared.asking.Told.Told, declared.lives.Task.Task, declared.lives.Done.Done}
 use Rattle.desk_claim.specs.claim.Sentence.{AskedMay, LifeMay}
+use Rattle.store_lives.specs.claim.Versions.{Store}
 
 module _ {R W P Q A : Type 0} (ends : R → W → Ends) (streams : A → Traffic P Q) (workers : ℕ) where
   abbrev pub IsAsked : Asking R W A → Told R W → (t u : ℕ) → Desk → Desk → Type 0

@@ -1,13 +1,9 @@
 -- What no promise rests on, beside claim/Runs.antt.
 use Rattle.std.specs.Prelude.{◌≡◌, ◌≤◌, ◌+◌, ℕ, All, List, [], ◌∷◌, length, map}
 use mathlib.Core.List.{IsPrefix}
-use Rattle.desk_model.specs.declared.command.Command.{Command}
-use Rattle.desk_model.specs.claim.Desk.{Desk}
+use Rattle.desk_model.specs.{declared.command.Command.Command, claim.Desk.Desk}
 use Rattle.serve_command.specs.desk_gallery.claim.Working.{AreAccepted}
-use Rattle.desk_claim.specs.declared.event.Event.{Event}
-use Rattle.desk_claim.specs.claim.World.{World, run, seen}
-use Rattle.desk_claim.specs.claim.Law.{GoesOn}
-use Rattle.desk_claim.specs.claim.Runs.{Heard, IsRun, answers_in, beginning, list_of, standing}
+use Rattle.desk_claim.specs.{declared.event.Event.Event, claim.World.{World, run, seen}, claim.Law.IsNoStop, claim.Runs.{Heard, IsRun, answers_in, beginning, list_of, standing}}
 
 -- it hears of more and more, from this list on, and in the end of no more than what is shown
 abbrev pub Grows : List Command → List Heard → List Command → Type 0
@@ -24,7 +20,7 @@ HasRunsWithin d shown all = (visitors : List (List Heard)) → AreWithin shown v
 
 -- what is shown, and what each visitor has heard of, is what events without a stop lead to
 abbrev pub IsReached : Desk → List Command → List Command → List (List Command) → Type 0
-IsReached d shown all heard = (events : List Event) × All GoesOn events × (run d (beginning (length heard)) events ≡ standing shown all heard)
+IsReached d shown all heard = (events : List Event) × All IsNoStop events × (run d (beginning (length heard)) events ≡ standing shown all heard)
 
 pub record OfficeLaw : Type 0 where
   -- changes that were accepted one after the other, of which at most the last isn't shown

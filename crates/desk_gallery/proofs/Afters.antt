@@ -1,14 +1,8 @@
 -- The desk after one command more.
 use Rattle.std.proofs.Common.{◌≡◌, ◌∙◌, ◌⊎◌, ⊎_elim, List, [], ◌∷◌, ◌++◌, refl, sym, ap, subst}
 use mathlib.Core.List.{IsPrefix}
-use Rattle.desk_model.specs.declared.command.Command.{Command}
-use Rattle.desk_model.specs.claim.Desk.{Desk}
-use Rattle.desk_model.specs.claim.Step.{step}
-use Rattle.desk_model.specs.claim.Outcome.{IsAcceptance}
-use Rattle.desk_gallery.specs.claim.After.{after}
-use Rattle.desk_gallery.specs.claim.Working.{AreAccepted}
-use Rattle.desk_gallery.specs.Shelves.{ComesAfter}
-use Rattle.desk_gallery.proofs.Pasts.{prefix_length, prefix_whole}
+use Rattle.desk_model.specs.{declared.command.Command.Command, claim.Desk.Desk, claim.Step.step, claim.Outcome.IsAcceptance}
+use Rattle.desk_gallery.{specs.claim.After.after, specs.claim.Working.AreAccepted, specs.Shelves.ComesAfter, proofs.Pasts.{prefix_length, prefix_whole}}
 
 pub after_more : (d : Desk) (commands : List Command) (c : Command) → after d (commands ++ c ∷ []) ≡ (step (after d commands) c).1
 after_more d [] c = refl

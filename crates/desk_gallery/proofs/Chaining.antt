@@ -5,8 +5,7 @@ use Rattle.std.proofs.lemmas.List.Elements.{All-head, All-tail}
 use Rattle.std.proofs.lemmas.Bool.Decides.{nat_tests}
 use mathlib.Core.List.{IsPrefix}
 use Rattle.desk_model.specs.declared.command.Command.{Command}
-use Rattle.desk_gallery.specs.declared.book.LogEntry.{LogEntry}
-use Rattle.desk_gallery.specs.Rules.{key_after, chained, NoneBy}
+use Rattle.desk_gallery.specs.{declared.book.LogEntry.LogEntry, Rules.{key_after, chained, NoneBy}}
 
 -- a chain goes on after a beginning
 pub chained_on : (k : ℕ) (xs ys : List LogEntry) → chained k (xs ++ ys) ≡ chained k xs ++ chained (key_after k xs) ys

@@ -4,9 +4,7 @@ use Rattle.std.proofs.lemmas.List.{append-nil}
 use Rattle.std.proofs.lemmas.List.Elements.{All-nil, All-cons, All-append, All-weaker}
 use prog.Atomic.{either}
 use Rattle.logbook.specs.Pages.{Cell, cell, Nib, no_nib, may_write, keeps, gives, adds, step, Moves}
-use Rattle.desk_gallery.specs.declared.book.LogEntry.{LogEntry}
-use Rattle.desk_gallery.specs.Rules.{IsKept, NoneBy, Makes, Looks, Adds}
-use Rattle.desk_gallery.proofs.Chaining.{rest_none}
+use Rattle.desk_gallery.{specs.declared.book.LogEntry.LogEntry, specs.Rules.{IsKept, NoneBy, Makes, Looks, Adds}, proofs.Chaining.rest_none}
 
 -- what is asked for where nothing is added
 abbrev pub no_entry : LogEntry

@@ -1,20 +1,15 @@
 -- A clerk's outcome without its room.
 use Rattle.std.specs.Prelude.{◌≡◌, Bool, true, ⊤}
-use Rattle.desk_model.specs.declared.command.Command.{Command}
-use Rattle.desk_model.specs.declared.reply.Reply.{Reply}
-use Rattle.desk_model.specs.declared.reply.Reply.TheVariants as reply
-use Rattle.desk_model.specs.declared.reply.Refusal.{Refusal}
-use Rattle.desk_model.specs.declared.reply.Refusal.TheVariants.{NoPlan, NoRevision, PlanExists, Stale, BadBody, NotWholeCounty, BadCompanion, Limit, Full, Memory, Halted, NotSealed}
-use Rattle.desk_model.specs.claim.Desk.{Desk}
+use Rattle.desk_model.specs.{declared.command.Command.Command, declared.reply.Reply.Reply, declared.reply.Refusal.Refusal}
+use Rattle.desk_model.specs.{declared.reply.Refusal.TheVariants.{NoPlan, NoRevision, PlanExists, Stale, BadBody, NotWholeCounty, Limit, Full, NotSealed}, claim.Desk.Desk}
 use Rattle.desk_model.specs.claim.Outcome.{CommandMay, RefusalMay, IsStep}
+use Rattle.desk_model.specs.declared.reply.Reply.TheVariants as reply
 use Rattle.desk_gallery.specs.claim.Outcomes.{OutcomeMay}
 
 step_of : (must : Type 0) (d : Desk) (c : Command) (r : Reply) (e : Desk) → IsStep must d c r e → IsStep ⊥ d c r e
 step_of must d c r e is = record { reply = is.reply; desk = is.desk; room = λ accepted none. none }
 
 refusal_is : (must may failed : Type 0) (d : Desk) (c : Command) (why : Refusal) (e : Desk) → RefusalMay must may failed d c why e → RefusalMay ⊥ ⊤ failed d c why e
-refusal_is must may failed d c Memory e h = h
-refusal_is must may failed d c Halted e h = h
 refusal_is must may failed d c Full e h = (h.0, record { accepted = h.1.accepted; no_room = tt; desk = h.1.desk })
 refusal_is must may failed d c NoPlan e h = (h.0, step_of must d c (reply.Refused NoPlan) e h.1)
 refusal_is must may failed d c NoRevision e h = (h.0, step_of must d c (reply.Refused NoRevision) e h.1)
@@ -22,18 +17,15 @@ refusal_is must may failed d c PlanExists e h = (h.0, step_of must d c (reply.Re
 refusal_is must may failed d c (Stale k) e h = (h.0, step_of must d c (reply.Refused (Stale k)) e h.1)
 refusal_is must may failed d c (BadBody code line) e h = (h.0, step_of must d c (reply.Refused (BadBody code line)) e h.1)
 refusal_is must may failed d c (NotWholeCounty county) e h = (h.0, step_of must d c (reply.Refused (NotWholeCounty county)) e h.1)
-refusal_is must may failed d c BadCompanion e h = h
 refusal_is must may failed d c Limit e h = (h.0, step_of must d c (reply.Refused Limit) e h.1)
 refusal_is must may failed d c NotSealed e h = (h.0, step_of must d c (reply.Refused NotSealed) e h.1)
+refusal_is must may failed d c _ e h = h
 
 may_be : (must may failed : Type 0) (d : Desk) (c : Command) (r : Reply) (e : Desk) → CommandMay must may failed d c r e → CommandMay ⊥ ⊤ failed d c r e
 may_be must may failed d c (reply.Refused why) e h = refusal_is must may failed d c why e h
 may_be must may failed d c (reply.Created name revisions) e h = (h.0, step_of must d c (reply.Created name revisions) e h.1)
 may_be must may failed d c (reply.Retired name) e h = (h.0, step_of must d c (reply.Retired name) e h.1)
-may_be must may failed d c (reply.Plans rows) e h = h
-may_be must may failed d c (reply.Blocks text) e h = h
-may_be must may failed d c (reply.Baf text) e h = h
-may_be must may failed d c (reply.Audited text) e h = h
+may_be must may failed d c _ e h = h
 
 pub outcome_is : (must may : Type 0) (failed : Bool) (d : Desk) (c : Command) (r : Reply) (e : Desk) → CommandMay must may (failed ≡ true) d c r e → OutcomeMay d c r e
 outcome_is must may failed d c r e h = (failed, may_be must may (failed ≡ true) d c r e h)

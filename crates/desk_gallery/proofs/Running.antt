@@ -3,16 +3,10 @@ use Rattle.std.proofs.Common.{◌≡◌, ℕ, ◌+◌, Bool, false, List, [], �
 use Rattle.std.proofs.lemmas.List.{append-nil}
 use Rattle.std.proofs.lemmas.List.Elements.{All-nil, All-push, All-weaker}
 use Rattle.sector_device.specs.declared.SectorDevice.{Ghosts}
-use Rattle.desk_model.specs.declared.command.Command.{Command}
-use Rattle.desk_model.specs.declared.reply.Reply.{Reply}
+use Rattle.desk_model.specs.{declared.command.Command.Command, declared.reply.Reply.Reply, claim.Outcome.IsAcceptance}
 use Rattle.desk_model.specs.declared.reply.Reply.TheVariants as reply
-use Rattle.desk_model.specs.claim.Outcome.{IsAcceptance}
-use Rattle.desk_runs.specs.desk_store.declared.clerk.Clerk.{Clerk}
-use Rattle.desk_runs.specs.desk_store.claim.Commands.{Does}
-use Rattle.desk_runs.specs.claim.Runs.{Call, acknowledged, if_accepted}
-use Rattle.desk_runs.specs.claim.SweptRuns.{Tends, SweptRun}
-use Rattle.desk_gallery.specs.claim.Begun.{Beginning, BeginsWith, HasRun}
-use Rattle.desk_gallery.specs.claim.Telling.{accepted_in, halted_in, halts_of}
+use Rattle.desk_runs.specs.{desk_store.declared.clerk.Clerk.Clerk, desk_store.claim.Commands.Does, claim.Runs.{Call, acknowledged, if_accepted}, claim.SweptRuns.{Tends, SweptRun}}
+use Rattle.desk_gallery.specs.{claim.Begun.{Beginning, BeginsWith, HasRun}, claim.Telling.{accepted_in, halted_in, halts_of}}
 
 acknowledged_more : (calls : List Call) (c : Command) (r : Reply) → acknowledged (calls ++ (c, r) ∷ []) ≡ acknowledged calls ++ if_accepted c r
 acknowledged_more [] c r = append-nil (if_accepted c r)
@@ -22,21 +16,12 @@ acknowledged_more (e ∷ calls) c r = ap (λ l. if_accepted e.0 e.1 ++ l) (ackno
 grown_by : (shown new : List Command) (c : Command) (r : Reply) → (IsAcceptance r → new ≡ shown ++ c ∷ []) → ((IsAcceptance r → ⊥) → new ≡ shown) → new ≡ shown ++ if_accepted c r
 grown_by shown new c (reply.Created name revisions) joined same = joined tt
 grown_by shown new c (reply.Retired name) joined same = joined tt
-grown_by shown new c (reply.Plans rows) joined same = same (λ none. none) ∙ sym (append-nil shown)
-grown_by shown new c (reply.Blocks text) joined same = same (λ none. none) ∙ sym (append-nil shown)
-grown_by shown new c (reply.Baf text) joined same = same (λ none. none) ∙ sym (append-nil shown)
-grown_by shown new c (reply.Audited text) joined same = same (λ none. none) ∙ sym (append-nil shown)
-grown_by shown new c (reply.Refused refusal) joined same = same (λ none. none) ∙ sym (append-nil shown)
+grown_by shown new c _ joined same = same (λ none. none) ∙ sym (append-nil shown)
 
 -- as many are shown as were told as accepted
 length_by : (c : Command) (r : Reply) → length (if_accepted c r) ≡ accepted_in r
 length_by c (reply.Created name revisions) = refl
-length_by c (reply.Retired name) = refl
-length_by c (reply.Plans rows) = refl
-length_by c (reply.Blocks text) = refl
-length_by c (reply.Baf text) = refl
-length_by c (reply.Audited text) = refl
-length_by c (reply.Refused refusal) = refl
+length_by c _ = refl
 
 pub counted_by : (shown new : List Command) (c : Command) (r : Reply) (total more : ℕ) → (IsAcceptance r → new ≡ shown ++ c ∷ []) → ((IsAcceptance r → ⊥) → new ≡ shown)
     → total ≡ length shown → more ≡ total + accepted_in r → more ≡ length new

@@ -1,10 +1,8 @@
 -- A turn of sweeping.
 use Rattle.std.proofs.Common.{◌≡◌, ℕ, Option, Result, inr}
 use Rattle.sector_device.specs.declared.SectorDevice.{Ghosts}
-use Rattle.desk_runs.specs.desk_pages.declared.error.StoreError.{StoreError}
+use Rattle.desk_runs.specs.{desk_pages.declared.error.StoreError.StoreError, Turns.swept_of, declared.turning.Swept.Swept}
 use Rattle.desk_model.specs.claim.Desk.{Desk}
-use Rattle.desk_runs.specs.Turns.{swept_of}
-use Rattle.desk_runs.specs.declared.turning.Swept.{Swept}
 use Rattle.desk_gallery.specs.Fronts.{Kept, SweepsOn, MayTurn}
 
 pub may_turn : {D : Type 0} (g : Ghosts D) (first : Desk) (moves : ℕ) (old : Kept D) (did : Result (Option ℕ) StoreError) (new : Kept D) (swept : Swept)

@@ -2,10 +2,8 @@
 use Rattle.std.proofs.Common.{◌≡◌, ℕ, Option, Some, None, List, [], ◌∷◌, ◌++◌, refl, sym, ap, ◌∙◌, subst}
 use mathlib.Core.List.{IsPrefix}
 use Rattle.desk_model.specs.declared.command.Command.{Command}
-use Rattle.desk_gallery.specs.declared.book.LogEntry.{LogEntry}
-use Rattle.desk_gallery.specs.Rules.{key_after, chained, weighed, lists_of, shown_of, NoneBy}
-use Rattle.desk_gallery.proofs.Chaining.{chained_on, chained_more, begins_whole}
-use Rattle.desk_gallery.proofs.Pasts.{prefix_self, prefix_trans}
+use Rattle.desk_gallery.specs.{declared.book.LogEntry.LogEntry, Rules.{key_after, chained, weighed, lists_of, shown_of, NoneBy}}
+use Rattle.desk_gallery.proofs.{Chaining.{chained_on, chained_more, begins_whole}, Pasts.{prefix_self, prefix_trans}}
 
 pub weighed_on : (s : List Command × List Command) (xs ys : List (Option Command)) → weighed s (xs ++ ys) ≡ weighed (weighed s xs) ys
 weighed_on s [] ys = refl

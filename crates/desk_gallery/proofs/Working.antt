@@ -3,32 +3,16 @@ use Rattle.std.proofs.Common.{◌≡◌, ◌+◌, ℕ, Bool, Option, Result, tru
 use Rattle.std.proofs.lemmas.Bool.{both_ways, cases_Bool}
 use mathlib.Core.List.{IsPrefix}
 use Rattle.sector_device.specs.declared.SectorDevice.{Ghosts}
-use Rattle.desk_model.specs.declared.command.Command.{Command}
-use Rattle.desk_model.specs.declared.reply.Reply.{Reply}
-use Rattle.desk_model.specs.declared.reply.Reply.TheVariants.{Refused}
-use Rattle.desk_model.specs.declared.reply.Refusal.{Refusal}
-use Rattle.desk_model.specs.declared.reply.Refusal.TheVariants.{Memory}
-use Rattle.desk_model.specs.claim.Desk.{Desk}
-use Rattle.desk_model.specs.claim.Outcome.{IsAcceptance}
-use Rattle.desk_model.specs.claim.Step.{step}
-use Rattle.desk_runs.specs.desk_store.declared.clerk.Clerk.{Clerk}
-use Rattle.desk_runs.specs.desk_store.declared.ready.Ready.{Ready}
-use Rattle.desk_runs.specs.desk_store.claim.Keeping.{IsLeft}
+use Rattle.desk_model.specs.{declared.command.Command.Command, declared.reply.Reply.Reply, declared.reply.Reply.TheVariants.Refused, declared.reply.Refusal.Refusal}
+use Rattle.desk_model.specs.{declared.reply.Refusal.TheVariants.Memory, claim.Desk.Desk, claim.Outcome.IsAcceptance, claim.Step.step}
+use Rattle.desk_runs.specs.{desk_store.declared.clerk.Clerk.Clerk, desk_store.declared.ready.Ready.Ready, desk_store.claim.Keeping.IsLeft}
 use Rattle.desk_runs.specs.desk_store.claim.Clerks.{desk_of, is_halted, sectors_of, Keeps, Reads}
 use Rattle.desk_runs.specs.desk_store.claim.Commands.{command_of, after_of, MustBeFull, PrepareErr, IsReady, IsMade, IsNotMade, Commits, Does}
+use Rattle.desk_runs.specs.{desk_pages.declared.error.StoreError.StoreError, claim.SweptRuns.Tends, Steps.StepMay}
 use Rattle.desk_runs.proofs.desk_store.Kept.{acceptance_is, accepted_is}
 use Rattle.desk_runs.proofs.desk_store.Done.{refused_does, committed_does}
-use Rattle.desk_gallery.specs.claim.After.{after}
-use Rattle.desk_runs.specs.desk_pages.declared.error.StoreError.{StoreError}
-use Rattle.desk_gallery.specs.Fronts.{Kept, kept_of, IsClerk, Works, SweepsOn, OpensShown}
-use Rattle.desk_gallery.specs.claim.Outcomes.{OutcomeMay}
-use Rattle.desk_gallery.specs.claim.Working.{AreAccepted}
-use Rattle.desk_gallery.specs.Working.{Agree, Worked}
-use Rattle.desk_gallery.proofs.Afters.{after_more, accepted_first, accepted_more}
-use Rattle.desk_gallery.proofs.Outcomes.{outcome_is}
-use Rattle.desk_gallery.proofs.Pasts.{prefix_self}
-use Rattle.desk_runs.specs.claim.SweptRuns.{Tends}
-use Rattle.desk_runs.specs.Steps.{StepMay}
+use Rattle.desk_gallery.specs.{claim.After.after, Fronts.{Kept, kept_of, IsClerk, Works, SweepsOn, OpensShown}, claim.Outcomes.OutcomeMay, claim.Working.AreAccepted}
+use Rattle.desk_gallery.{specs.Working.{Agree, Worked}, proofs.Afters.{after_more, accepted_first, accepted_more}, proofs.Outcomes.outcome_is, proofs.Pasts.prefix_self}
 
 module _ {D : Type 0} {g : Ghosts D} where
   pub was_working : (x y : Clerk D g) → Reads x y → is_halted y ≡ false → is_halted x ≡ false

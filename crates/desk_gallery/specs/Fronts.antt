@@ -1,25 +1,13 @@
 -- What lies under an office's lock, as the layers above see it.
 use Rattle.std.specs.Prelude.{◌≡◌, ◌⊎◌, ◌≤◌, ◌+◌, ℕ, Bool, false, Option, List, length, Result}
 use mathlib.Core.List.{IsPrefix}
-use Rattle.sector_device.specs.claim.Disk.{Image}
-use Rattle.sector_device.specs.declared.SectorDevice.{Ghosts}
+use Rattle.sector_device.specs.{claim.Disk.Image, declared.SectorDevice.Ghosts}
 use Rattle.page_store.specs.claim.Transactions.{device_in}
-use Rattle.desk_runs.specs.desk_pages.declared.error.StoreError.{StoreError}
-use Rattle.desk_model.specs.declared.command.Command.{Command}
-use Rattle.desk_model.specs.declared.reply.Reply.{Reply}
-use Rattle.desk_model.specs.claim.Desk.{Desk}
-use Rattle.desk_runs.specs.desk_store.declared.clerk.Clerk.{Clerk}
-use Rattle.desk_runs.specs.desk_store.claim.Keeping.{IsLeft}
-use Rattle.desk_runs.specs.desk_store.claim.Clerks.{desk_of, Keeps, is_halted, sectors_of, room_of, free_of, pages_of}
-use Rattle.desk_runs.specs.desk_store.claim.Commands.{Does}
-use Rattle.desk_runs.specs.claim.SweptRuns.{Tends}
-use Rattle.desk_runs.specs.Steps.{StepMay}
-use Rattle.desk_runs.specs.Turns.{swept_of}
-use Rattle.desk_runs.specs.declared.turning.Swept.{Swept}
-use Rattle.desk_runs.specs.declared.turning.Swept.TheVariants.{Over}
-use Rattle.desk_gallery.specs.claim.After.{after}
-use Rattle.desk_gallery.specs.claim.Begun.{Beginning, BeginsWith}
-use Rattle.desk_gallery.specs.claim.Working.{AreAccepted}
+use Rattle.desk_runs.specs.{desk_pages.declared.error.StoreError.StoreError, desk_store.declared.clerk.Clerk.Clerk, desk_store.claim.Keeping.IsLeft}
+use Rattle.desk_runs.specs.{desk_store.claim.Clerks.{desk_of, Keeps, is_halted, sectors_of, room_of, free_of, pages_of}, desk_store.claim.Commands.Does, claim.SweptRuns.Tends}
+use Rattle.desk_runs.specs.{Steps.StepMay, Turns.swept_of, declared.turning.Swept.Swept, declared.turning.Swept.TheVariants.Over}
+use Rattle.desk_model.specs.{declared.command.Command.Command, declared.reply.Reply.Reply, claim.Desk.Desk}
+use Rattle.desk_gallery.specs.{claim.After.after, claim.Begun.{Beginning, BeginsWith}, claim.Working.AreAccepted}
 
 -- the store's device, whether it has halted, its sizes, the changes that are shown, and these with what is pending after them
 pub record Kept (D : Type 0) : Type 0 where

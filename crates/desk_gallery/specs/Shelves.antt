@@ -2,12 +2,8 @@
 use Rattle.std.specs.Prelude.{◌≡◌, ◌⊎◌, ℕ, List, [], ◌∷◌, length}
 use mathlib.Core.List.{IsPrefix}
 use Rattle.logbook.specs.Pages.{Book}
-use Rattle.desk_model.specs.declared.command.Command.{Command}
-use Rattle.desk_model.specs.claim.Desk.{Desk}
-use Rattle.desk_gallery.specs.declared.book.Mark.{Mark}
-use Rattle.desk_gallery.specs.declared.shelf.Shelf.{Shelf}
-use Rattle.desk_gallery.specs.claim.After.{after}
-use Rattle.desk_gallery.specs.Rules.{shown_of}
+use Rattle.desk_model.specs.{declared.command.Command.Command, claim.Desk.Desk}
+use Rattle.desk_gallery.specs.{declared.book.Mark.Mark, declared.shelf.Shelf.Shelf, claim.After.after, Rules.shown_of}
 
 -- a log of this book, with the number of changes that are shown in it
 abbrev pub IsMark : Book → ℕ → Mark → Type 0

@@ -1,17 +1,10 @@
 -- Calls at a clerk, one after the other.
-use Rattle.std.proofs.Common.{◌≡◌, ◌⊎◌, ◌<◌, ℕ, Bool, true, false, inl, inr, ⊎_elim, refl, sym, subst, ◌∙◌, arith}
-use Rattle.sector_device.specs.claim.Disk.{Image}
-use Rattle.sector_device.specs.claim.Moments.{LeavesOnly}
-use Rattle.sector_device.proofs.Moments.{leaves_more, leaves_wider}
-use Rattle.sector_device.specs.declared.SectorDevice.{Ghosts}
+use Rattle.std.proofs.Common.{◌≡◌, ◌⊎◌, ◌<◌, ℕ, true, false, inl, inr, ⊎_elim, sym, subst, ◌∙◌, arith}
+use Rattle.sector_device.{specs.claim.Disk.Image, specs.claim.Moments.LeavesOnly, specs.declared.SectorDevice.Ghosts, proofs.Moments.{leaves_more, leaves_wider}}
 use Rattle.desk_model.specs.claim.Desk.{Desk}
 use Rattle.desk_pages.specs.claim.Desks.{OpensDesk}
-use Rattle.desk_store.specs.declared.clerk.Clerk.{Clerk}
-use Rattle.desk_store.specs.claim.Clerks.{desk_of, disk_of, sectors_of, MovesIf}
-
-either : (b : Bool) → (b ≡ true) ⊎ (b ≡ false)
-either true = inl refl
-either false = inr refl
+use Rattle.desk_store.specs.{declared.clerk.Clerk.Clerk, claim.Clerks.{desk_of, disk_of, sectors_of, MovesIf}}
+use Rattle.page_store.proofs.Chains.{either}
 
 module _ {D : Type 0} {g : Ghosts D} where
   abbrev pub OneOf : Clerk D g → Desk → Image → Type 0

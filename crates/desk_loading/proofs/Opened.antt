@@ -3,11 +3,8 @@ use Rattle.std.proofs.Common.{◌≡◌, ◌<◌, ◌≤◌, ◌^◌, ◌∙◌,
 use Rattle.page_store.proofs.gate_journal.Headers.{same_journal}
 use Rattle.page_store.specs.claim.Transactions.{count_of}
 use Rattle.sector_device.specs.declared.SectorDevice.{Ghosts}
-use Rattle.desk_pages.specs.Desks.{new_desk}
-use Rattle.desk_pages.specs.Formats.{OpensNew, HasJournal}
-use Rattle.desk_pages.specs.claim.Openings.{AllVersions}
-use Rattle.desk_store.specs.declared.clerk.Clerk.{Clerk}
-use Rattle.desk_store.specs.claim.Clerks.{disk_of, pages_of, room_of, Keeps}
+use Rattle.desk_pages.specs.{Desks.new_desk, Formats.{OpensNew, HasJournal}, claim.Openings.AllVersions}
+use Rattle.desk_store.specs.{declared.clerk.Clerk.Clerk, claim.Clerks.{disk_of, pages_of, room_of, Keeps}}
 use Rattle.desk_loading.specs.Openings.{IsOpened}
 
 module _ {D : Type 0} {g : Ghosts D} where

@@ -1,39 +1,21 @@
 -- Rows that are taken out, tag after tag, until the rows are of the old version.
-use Rattle.std.proofs.Common.{◌≡◌, ◌+◌, inl, ℕ, zero, List, [], ◌∷◌, drop, Bool, true, false, cond, nat_eq, Option, Some, None, refl, sym, ap, subst, ◌∙◌, arith}
-use Rattle.std.specs.List.{starts_with}
-use Rattle.std.specs.Ordering.{eq_by_cmp}
-use Rattle.std.specs.FinMap.{get, get-remove, remove}
-use Rattle.std.specs.Cmp.Lexicographic.{nat_list_cmp_total}
-use Rattle.sector_device.specs.claim.Disk.{Image}
-use Rattle.sector_device.specs.claim.Moments.{LeavesOnly}
-use Rattle.sector_device.proofs.Moments.{leaves_wider}
-use Rattle.sector_device.specs.declared.SectorDevice.{Ghosts}
-use Rattle.page_store.specs.gate_journal.claim.Store.{home}
-use Rattle.page_store.specs.claim.Transactions.{stored, disk_in, count_of, journal_of, has_halted, IsQuiet, Passed}
-use Rattle.page_store.specs.declared.pages.Pages.{Pages}
+use Rattle.std.specs.{List.starts_with, Ordering.eq_by_cmp, FinMap.{get, get-remove, remove}, Cmp.Lexicographic.nat_list_cmp_total}
+use Rattle.std.proofs.Common.{◌≡◌, ◌+◌, inl, ℕ, zero, List, [], ◌∷◌, drop, Bool, true, false, cond, nat_eq, Some, None, refl, sym, ap, subst, ◌∙◌, arith}
+use Rattle.sector_device.{specs.claim.Disk.Image, specs.claim.Moments.LeavesOnly, specs.declared.SectorDevice.Ghosts, proofs.Moments.leaves_wider}
+use Rattle.page_store.specs.{gate_journal.claim.Store.home, claim.Transactions.{stored, disk_in, count_of, journal_of, has_halted, IsQuiet, Passed}, declared.pages.Pages.Pages}
 use Rattle.page_store.specs.declared.txn.Txn.{Txn}
-use Rattle.page_btree.specs.page_node.claim.Places.{key_cmp}
-use Rattle.page_btree.specs.claim.Map.{InTxn}
+use Rattle.page_btree.specs.{page_node.claim.Places.key_cmp, claim.Map.InTxn}
 use Rattle.btree_walks.specs.declared.rows.Row.{Row}
 use Rattle.desk_model.specs.claim.Desk.{Desk}
-use Rattle.store_rows.specs.claim.Rows.{KeyMap}
-use Rattle.store_rows.specs.Rows.{SameTag}
-use Rattle.store_rows.specs.claim.Holders.{AreTallied}
-use Rattle.store_rows.proofs.Frames.{desk_stays, either_way, remove_keeps_tag}
-use Rattle.store_rows.proofs.KeyPrefixes.{after_tag, starts_itself}
-use Rattle.store_rows.proofs.OneGeography.{no_value}
-use Rattle.store_rows.proofs.TidyParts.{AllKept, chunks_stay, kept_of, loads_stay, next_moves, plans_stay, tidy_at}
+use Rattle.store_rows.{specs.claim.Rows.KeyMap, specs.Rows.SameTag, specs.claim.Holders.AreTallied, proofs.Frames.{desk_stays, either_way, remove_keeps_tag}}
+use Rattle.store_rows.proofs.{KeyPrefixes.{after_tag, starts_itself}, OneGeography.no_value}
+use Rattle.store_rows.proofs.TidyParts.{AllKept, chunks_stay, kept_of, loads_stay, next_moves, plans_stay, tidy_at, some_or_none as none_or}
 use Rattle.desk_pages.specs.claim.Desks.{InPages, InTxnOf, IsMapOf, OpensDesk, OpensEither}
-use Rattle.store_check.specs.Rows.{IsFirst, NoneFrom}
-use Rattle.store_check.proofs.FirstRows.{none_at_all, none_after}
-use Rattle.store_check.proofs.After.{from_tag}
+use Rattle.store_check.{specs.Rows.{IsFirst, NoneFrom}, proofs.FirstRows.{none_at_all, none_after}, proofs.After.from_tag}
 use Rattle.desk_opening.proofs.plan_rows.Committing.{IsBegun, quiet_leaves}
 use Rattle.desk_migration.specs.TurningBack.{IsLess, IsWithout, NoneOf}
 
 -- ---- one row
-none_or : (o : Option (List ℕ)) → ((value : List ℕ) → o ≡ Some value → ⊥) → o ≡ None
-none_or None none = refl
-none_or (Some value) none = absurd (none value refl)
 
 starts_tag : (tag : ℕ) → starts_with nat_eq (tag ∷ []) (tag ∷ []) ≡ true
 starts_tag tag = starts_itself (tag ∷ []) []

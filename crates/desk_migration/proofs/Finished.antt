@@ -1,34 +1,17 @@
 -- The end: the version's row is put, and it is committed.
 use Rattle.std.proofs.Common.{◌≡◌, ◌⊎◌, ◌<◌, ◌≤◌, ◌+◌, ℕ, List, [], ◌∷◌, true, false, Result, Ok, Err, OnOk, IfErr, sym, subst, ◌∙◌, inl, inr, ⊎_elim, arith}
-use Rattle.sector_device.specs.claim.Disk.{Image}
-use Rattle.sector_device.specs.claim.Moments.{LeavesOnly}
-use Rattle.sector_device.proofs.Moments.{leaves_wider}
-use Rattle.sector_device.specs.declared.SectorDevice.{Ghosts}
-use Rattle.page_store.specs.gate_journal.claim.Store.{home}
-use Rattle.page_store.proofs.Stops.{quiet_none}
-use Rattle.page_store.specs.claim.Transactions.{stored, disk_in, count_of, journal_of, has_halted, txn_writes, IsQuiet, Passed}
-use Rattle.page_store.specs.declared.pages.Pages.{Pages}
-use Rattle.page_store.specs.declared.txn.Txn.{Txn}
-use Rattle.page_btree.specs.claim.Map.{InTxn, InPages}
-use Rattle.page_btree.specs.declared.error.TreeError.{TreeError}
+use Rattle.sector_device.{specs.claim.Disk.Image, specs.claim.Moments.LeavesOnly, specs.declared.SectorDevice.Ghosts, proofs.Moments.leaves_wider}
+use Rattle.page_store.specs.{gate_journal.claim.Store.home, claim.Transactions.{stored, disk_in, count_of, journal_of, has_halted, txn_writes, IsQuiet, Passed}}
+use Rattle.page_store.{specs.declared.pages.Pages.Pages, specs.declared.txn.Txn.Txn, proofs.Stops.quiet_none}
+use Rattle.page_btree.specs.{claim.Map.{InTxn, InPages}, declared.error.TreeError.TreeError}
 use Rattle.page_btree.specs.declared.error.TreeError.TheVariants as tree
 use Rattle.desk_model.specs.claim.Desk.{Desk}
-use Rattle.store_rows.specs.claim.Keys.{key_of, version, in_four}
-use Rattle.store_rows.specs.claim.Rows.{KeyMap}
-use Rattle.store_rows.specs.claim.Puts.{Row}
-use Rattle.store_rows.specs.MigrationLaws.{VersionIsTold, as_new}
-use Rattle.desk_pages.specs.claim.Puts.{HasPut, PutsErr}
-use Rattle.desk_pages.specs.claim.Desks.{IsMapOf, IsOldMap, OpensAs, OpensOld, OpensDesk, OpensEither, InPages as HoldsDesk}
-use Rattle.desk_pages.specs.Desks.{InPagesAs, InTxnAs}
-use Rattle.desk_pages.specs.Moments.{StopsLeaveEither}
-use Rattle.desk_migration.specs.claim.Holding.{AllAreHeld}
-use Rattle.desk_pages.specs.Errors.{tree_refusal}
-use Rattle.desk_migration.specs.Puts.{version_rows, FinishErr, HoldsAll, TellsFaults, free_of}
-use Rattle.desk_pages.specs.Commits.{FittingErr}
-use Rattle.desk_pages.specs.declared.error.StoreError.{StoreError}
+use Rattle.store_rows.specs.{claim.Keys.{key_of, version, in_four}, claim.Rows.KeyMap, claim.Puts.Row, MigrationLaws.{VersionIsTold, as_new}}
+use Rattle.desk_pages.specs.{claim.Puts.{HasPut, PutsErr}, claim.Desks.{IsMapOf, IsOldMap, OpensAs, OpensOld, OpensDesk, OpensEither, InPages as HoldsDesk}}
+use Rattle.desk_pages.specs.{Desks.{InPagesAs, InTxnAs}, Moments.StopsLeaveEither, Errors.tree_refusal, Commits.FittingErr, declared.error.StoreError.StoreError}
 use Rattle.desk_pages.specs.declared.error.StoreError.TheVariants.{Full, Memory, DeviceFault}
+use Rattle.desk_migration.{specs.claim.Holding.AllAreHeld, specs.Puts.{version_rows, FinishErr, HoldsAll, TellsFaults, free_of}, proofs.Stepped.{commit_faults, no_faults}}
 use Rattle.desk_opening.proofs.plan_rows.Committing.{IsBegun, both, commit_leaves, failed_after, quiet_leaves}
-use Rattle.desk_migration.proofs.Stepped.{commit_faults, no_faults}
 
 told_map : VersionIsTold → (m : KeyMap) (d : Desk) → IsOldMap m d → AllAreHeld m → IsMapOf true (as_new m) d
 told_map law m d is all =

@@ -1,6 +1,6 @@
 mod Order
 mod PartRows
-mod Pairs
+pub mod Pairs
 mod Walking
 mod Turns
 mod Stepped

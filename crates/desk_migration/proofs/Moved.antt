@@ -1,32 +1,19 @@
 -- Steps and the end at a migration.
-use Rattle.std.proofs.Common.{◌≡◌, ◌⊎◌, ◌+◌, ℕ, zero, suc, Bool, true, false, List, refl, sym, ap, subst, ◌∙◌, inl, inr, arith}
 use Rattle.std.specs.Prelude.{◌↔◌, Result, Ok, Err, OnOk, IfErr, IsErr}
-use Rattle.sector_device.specs.claim.Disk.{Image}
-use Rattle.sector_device.specs.claim.Moments.{LeavesOnly}
-use Rattle.sector_device.proofs.Moments.{leaves_now}
-use Rattle.sector_device.specs.declared.SectorDevice.{Ghosts}
-use Rattle.page_store.specs.gate_journal.claim.Store.{home}
-use Rattle.page_store.specs.gate_journal.claim.Contents.{is_halted as journal_halted}
-use Rattle.page_store.specs.claim.Transactions.{HasShape, IsQuiet, IsSame}
-use Rattle.page_store.specs.declared.pages.Pages.{Pages}
+use Rattle.std.proofs.Common.{◌≡◌, ◌⊎◌, ◌+◌, ℕ, zero, suc, true, false, List, refl, sym, ap, subst, ◌∙◌, inl, inr, arith}
+use Rattle.sector_device.{specs.claim.Disk.Image, specs.claim.Moments.LeavesOnly, specs.declared.SectorDevice.Ghosts, proofs.Moments.leaves_now}
+use Rattle.page_store.specs.{gate_journal.claim.Store.home, gate_journal.claim.Contents.is_halted as journal_halted, claim.Transactions.{HasShape, IsQuiet, IsSame}}
+use Rattle.page_store.{specs.declared.pages.Pages.Pages, proofs.Chains.either}
 use Rattle.page_btree.specs.claim.Map.{InPages}
 use Rattle.desk_model.specs.claim.Desk.{Desk}
 use Rattle.store_rows.specs.claim.Rows.{KeyMap}
-use Rattle.desk_pages.specs.claim.Desks.{IsOldMap, InPages as HoldsDesk, OpensEither, OpensOld}
-use Rattle.desk_pages.specs.Moments.{StopsLeave}
-use Rattle.desk_pages.proofs.Kept.{opens_now}
+use Rattle.desk_pages.specs.{claim.Desks.{IsOldMap, InPages as HoldsDesk, OpensEither, OpensOld}, Moments.StopsLeave, declared.error.StoreError.StoreError}
+use Rattle.desk_pages.{specs.declared.error.StoreError.TheVariants.{Full, Memory, NotAStore, DeviceFault, Halted}, proofs.Kept.opens_now}
 use Rattle.desk_migration.specs.claim.Holding.{AllAreHeld, AreHeldTo}
 use Rattle.desk_migration.specs.claim.Migrating.{disk_of, has_ended, is_halted, sectors_of, Ends, Goes, HasMore, HasRows, Keeps, KeepsNew, Moves}
-use Rattle.desk_migration.specs.Puts.{FinishErr, HoldsAll, HoldsMore, HoldsTo, StepErr, TellsFaults}
-use Rattle.desk_pages.specs.declared.error.StoreError.{StoreError}
-use Rattle.desk_pages.specs.declared.error.StoreError.TheVariants.{Full, Memory, NotAStore, DeviceFault, Halted}
-use Rattle.desk_migration.specs.declared.migration.Migration.{Migration}
+use Rattle.desk_migration.specs.{Puts.{FinishErr, HoldsAll, HoldsMore, HoldsTo, StepErr, TellsFaults}, declared.migration.Migration.Migration}
 use Rattle.desk_migration.proofs.Pairs.{not_all, same_map}
 use Rattle.desk_opening.proofs.plan_rows.Committing.{both, quiet_rows}
-
-either : (b : Bool) → (b ≡ true) ⊎ (b ≡ false)
-either true = inl refl
-either false = inr refl
 
 zero_or : (n : ℕ) → (n ≡ 0) ⊎ (n ≡ 0 → ⊥)
 zero_or zero = inl refl

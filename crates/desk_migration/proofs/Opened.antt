@@ -1,37 +1,20 @@
 -- What an opening finds.
 use Rattle.std.proofs.Common.{◌≡◌, ℕ, Bool, true, false, refl, sym, subst, ◌∙◌, arith}
-use Rattle.sector_device.specs.claim.Disk.{Disk, Image}
-use Rattle.sector_device.specs.declared.SectorDevice.{Ghosts}
-use Rattle.sector_device.proofs.Moments.{leaves_now}
+use Rattle.sector_device.{specs.claim.Disk.{Disk, Image}, specs.declared.SectorDevice.Ghosts, proofs.Moments.leaves_now}
+use Rattle.page_store.specs.{gate_journal.Recovery.{HasRoom, Found}, claim.Transactions.{stored, disk_in, count_of, journal_of, has_halted, IsQuiet, IsKept, Passed}}
+use Rattle.page_store.specs.{Transactions.OpenErr, declared.pages.Pages.Pages, declared.txn.Txn.Txn, gate_journal.declared.error.PageError.PageError}
 use Rattle.page_store.proofs.Stops.{leaves_here, leaves_quiet}
-use Rattle.page_store.specs.gate_journal.Recovery.{HasRoom, Found}
-use Rattle.page_store.specs.claim.Transactions.{stored, disk_in, count_of, journal_of, has_halted, IsQuiet, IsKept, Passed}
-use Rattle.page_store.specs.Transactions.{OpenErr}
-use Rattle.page_store.specs.declared.pages.Pages.{Pages}
-use Rattle.page_store.specs.declared.txn.Txn.{Txn}
-use Rattle.page_store.specs.gate_journal.declared.error.PageError.{PageError}
 use Rattle.page_store.specs.gate_journal.declared.error.PageError.TheVariants as page
-use Rattle.page_btree.specs.declared.error.TreeError.{TreeError}
+use Rattle.page_btree.specs.{declared.error.TreeError.TreeError, claim.Map.InTxn}
 use Rattle.page_btree.specs.declared.error.TreeError.TheVariants as tree
-use Rattle.page_btree.specs.claim.Map.{InTxn}
 use Rattle.desk_model.specs.claim.Desk.{Desk}
-use Rattle.store_rows.specs.Keys.{parts_prefix}
-use Rattle.store_rows.specs.claim.Keys.{version}
-use Rattle.store_rows.specs.claim.Rows.{KeyMap, row_in}
-use Rattle.store_rows.specs.claim.Tidy.{version_row}
-use Rattle.desk_pages.specs.Reading.{ReadErr}
+use Rattle.store_rows.specs.{Keys.parts_prefix, claim.Keys.version, claim.Rows.{KeyMap, row_in}, claim.Tidy.version_row}
+use Rattle.desk_pages.specs.{Reading.ReadErr, claim.Desks.{InPagesOf, OpensDeskOf}, claim.Openings.AllVersions, Errors.{missing, page_refusal, row_refusal}}
+use Rattle.desk_pages.specs.{declared.error.StoreError.StoreError, declared.error.StoreError.TheVariants.{NotAStore, DeviceFault, Memory, AlreadyNew}}
+use Rattle.desk_pages.proofs.{Found.{found_after, found_desk, page_stores_of, pages_left}, Kept.opens_now}
 use Rattle.desk_opening.specs.Opening.{HasVersion, IsReadFrom, OpenErr as ReadDeskErr}
-use Rattle.desk_pages.specs.claim.Desks.{InPagesOf, OpensDeskOf}
-use Rattle.desk_pages.specs.claim.Openings.{AllVersions}
-use Rattle.desk_pages.proofs.Found.{found_after, found_desk, page_stores_of, pages_left}
-use Rattle.desk_pages.proofs.Kept.{opens_now}
-use Rattle.desk_migration.specs.claim.Holding.{AreHeldTo}
-use Rattle.desk_migration.specs.claim.Migrating.{disk_of, has_ended, is_halted, sectors_of}
-use Rattle.desk_pages.specs.Errors.{missing, page_refusal, row_refusal}
-use Rattle.desk_migration.specs.Openings.{AreOfVersion, AreRead, IsFound, IsRefused, JudgeErr, KeepsOne, LeavesNew}
-use Rattle.desk_pages.specs.declared.error.StoreError.{StoreError}
-use Rattle.desk_pages.specs.declared.error.StoreError.TheVariants.{NotAStore, DeviceFault, Memory, AlreadyNew}
-use Rattle.desk_migration.specs.declared.migration.Migration.{Migration}
+use Rattle.desk_migration.specs.{claim.Holding.AreHeldTo, claim.Migrating.{disk_of, has_ended, is_halted, sectors_of}}
+use Rattle.desk_migration.specs.{Openings.{AreOfVersion, AreRead, IsFound, IsRefused, JudgeErr, KeepsOne, LeavesNew}, declared.migration.Migration.Migration}
 use Rattle.desk_migration.proofs.PartRows.{begins_held}
 use Rattle.desk_opening.proofs.plan_rows.Committing.{IsBegun, both, quiet_rows}
 
@@ -40,20 +23,12 @@ pub page_refused : {D : Type 0} (h : Ghosts D) (old new : D) (e : PageError) →
 page_refused h old new page.NotAStore why = λ honest all. why honest (page_stores_of (h.disk old) all)
 page_refused h old new page.DeviceFault why = why
 page_refused h old new page.Memory why = λ honest. let it = why honest in (it.0, it.1.0, it.1.1)
-page_refused h old new page.Halted why = absurd why
-page_refused h old new page.TooManyPages why = absurd why
-page_refused h old new page.TooSmall why = absurd why
-page_refused h old new page.NoPages why = absurd why
+page_refused h old new _ why = absurd why
 
 -- none of them is of the new version
 pub page_not_new : (e : PageError) → page_refusal e ≡ AlreadyNew → ⊥
 page_not_new page.NotAStore is = cc
-page_not_new page.DeviceFault is = cc
-page_not_new page.Memory is = cc
-page_not_new page.Halted is = cc
-page_not_new page.TooManyPages is = cc
-page_not_new page.TooSmall is = cc
-page_not_new page.NoPages is = cc
+page_not_new _ is = cc
 
 module _ {D : Type 0} {g : Ghosts D} where
   -- ---- whether pages hold a desk in the old version
@@ -78,19 +53,14 @@ module _ {D : Type 0} {g : Ghosts D} where
   tree_judged : (a b : Pages D g) (e : TreeError) (halted : Bool) → halted ≡ has_halted b → NoDesk a b e → JudgeErr a b (row_refusal e halted)
   tree_judged a b tree.Memory true is none = sym is
   tree_judged a b tree.Memory false is none = tt
-  tree_judged a b tree.DeviceFault halted is none = missing_told a b halted is (none (λ same. cc))
-  tree_judged a b tree.NotAStore halted is none = missing_told a b halted is (none (λ same. cc))
-  tree_judged a b tree.Halted halted is none = missing_told a b halted is (none (λ same. cc))
-  tree_judged a b tree.NoPages halted is none = missing_told a b halted is (none (λ same. cc))
-  tree_judged a b tree.TooDeep halted is none = missing_told a b halted is (none (λ same. cc))
+  tree_judged a b _ halted is none = missing_told a b halted is (none (λ same. cc))
 
   no_desk : (t : Txn) (a b : Pages D g) (e : TreeError) → IsBegun a t → IsQuiet a b → ReadDeskErr t a b e → NoDesk a b e
   no_desk t a b tree.DeviceFault start quiet why other works = both (has_halted b) why.halted works
   no_desk t a b tree.NotAStore start quiet why other works = λ honest new d holds. why honest new d (record { m = holds.m; holds = start.reads (quiet.honest honest) holds.m holds.holds; is = holds.is })
   no_desk t a b tree.Halted start quiet why other works = both (has_halted a) why start.working
-  no_desk t a b tree.NoPages start quiet why other works = absurd why
-  no_desk t a b tree.TooDeep start quiet why other works = absurd why
   no_desk t a b tree.Memory start quiet why other works = absurd (other refl)
+  no_desk t a b _ start quiet why other works = absurd why
 
   pub not_read : (t : Txn) (a b : Pages D g) (e : TreeError) (halted : Bool) → halted ≡ has_halted b → IsBegun a t → IsQuiet a b → ReadDeskErr t a b e → JudgeErr a b (row_refusal e halted)
   not_read t a b e halted is start quiet why = tree_judged a b e halted is (no_desk t a b e start quiet why)
@@ -102,9 +72,7 @@ module _ {D : Type 0} {g : Ghosts D} where
       let reads = start.reads (ab.quiet.honest middle) holds.m holds.holds in
       why honest holds.m (subst (λ (P : Image). InTxn t P holds.m) (sym (ab.quiet.same middle)) reads) (holds.is.tidy.new, holds.is.tidy.holdings.told)
   no_version t a b c tree.Halted start ab quiet why other works = both (has_halted a) (sym ab.halted ∙ why) start.working
-  no_version t a b c tree.NoPages start ab quiet why other works = absurd why
-  no_version t a b c tree.TooDeep start ab quiet why other works = absurd why
-  no_version t a b c tree.Memory start ab quiet why other works = absurd why
+  no_version t a b c _ start ab quiet why other works = absurd why
 
   pub version_not_read : (t : Txn) (a b c : Pages D g) (e : TreeError) (halted : Bool) → halted ≡ has_halted c → IsBegun a t → Passed a b → IsQuiet b c → ReadErr HasVersion t b c e → JudgeErr a c (row_refusal e halted)
   version_not_read t a b c e halted is start ab quiet why = tree_judged a c e halted is (no_version t a b c e start ab quiet why)

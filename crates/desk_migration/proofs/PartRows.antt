@@ -1,34 +1,17 @@
 -- Parts of revisions, and the chunks that they name.
+use Rattle.std.specs.{Prelude.Contains, Int.from_be_bytes, List.starts_with, Ordering.is_gt, FinMap.get}
 use Rattle.std.proofs.Common.{◌≡◌, inl, inr, ◌<◌, ◌^◌, ℕ, List, ◌++◌, length, take, drop, Bool, true, false, nat_eq, Some, sym, ap, subst, ◌∙◌, w64, arith}
-use Rattle.std.specs.Prelude.{Contains}
-use Rattle.std.specs.Int.{from_be_bytes}
-use Rattle.std.specs.List.{starts_with}
-use Rattle.std.specs.Ordering.{is_gt}
-use Rattle.std.specs.FinMap.{get}
 use Rattle.std.proofs.lemmas.Nat.{from_be_bytes-to_be_bytes_8}
 use Rattle.std.proofs.lemmas.List.Elements.{All-contains}
 use Rattle.page_btree.specs.page_node.claim.Places.{key_cmp}
 use Rattle.btree_walks.specs.declared.rows.Row.{Row}
-use Rattle.store_rows.specs.claim.Keys.{RowKey, key_of, Fits, counters, retired, begun, holding, holder_count, named, part, seal, version, block, pair, chunk, in_one, in_four, in_eight}
-use Rattle.store_rows.specs.Keys.{parts_prefix}
-use Rattle.store_rows.specs.claim.Lists.{AreChunks, chunks_bytes}
-use Rattle.store_rows.specs.claim.Rows.{KeyMap, Has}
-use Rattle.store_rows.specs.claim.Holders.{IsHeld}
-use Rattle.store_rows.specs.claim.Tidy.{IsNamedBy, Tidy}
-use Rattle.store_rows.proofs.ListLaws.{chunks_differ}
-use Rattle.store_rows.proofs.OneGeography.{value_is}
-use Rattle.store_check.specs.Rows.{IsFirst, NoneFrom}
-use Rattle.store_check.proofs.FirstRows.{clash, first_least, first_there, none_after}
-use Rattle.store_rows.proofs.Frames.{either_way}
-use Rattle.store_check.proofs.After.{from_tag}
-use Rattle.store_rows.proofs.KeyPrefixes.{starts_itself}
+use Rattle.store_rows.specs.{claim.Keys.{RowKey, key_of, Fits, holding, part, in_one, in_four, in_eight}, Keys.parts_prefix, claim.Lists.{AreChunks, chunks_bytes}}
+use Rattle.store_rows.{specs.claim.Rows.{KeyMap, Has}, specs.claim.Holders.IsHeld, specs.claim.Tidy.{IsNamedBy, Tidy}, proofs.ListLaws.chunks_differ, proofs.OneGeography.value_is}
+use Rattle.store_rows.proofs.{Frames.either_way, KeyPrefixes.starts_itself}
+use Rattle.store_check.{specs.Rows.{IsFirst, NoneFrom}, proofs.FirstRows.{clash, first_least, first_there, none_after}, proofs.After.from_tag}
 use Rattle.desk_opening.specs.plan_rows.Holding.{Stands}
-use Rattle.desk_migration.specs.claim.Holding.{AllAreHeld, AreHeldTo, part_key}
-use Rattle.desk_migration.specs.Outcomes.{IsReadAs}
-use Rattle.desk_migration.specs.Parts.{IsPartFrom, IsPartRow, IsUnderParts}
-use Rattle.desk_migration.specs.Walks.{after, HoldsEach, HoldsIt}
-use Rattle.desk_migration.specs.declared.parts.Part.{Part}
-use Rattle.desk_migration.proofs.Order.{from_after, from_or_same}
+use Rattle.desk_migration.specs.{claim.Holding.{AllAreHeld, AreHeldTo, part_key}, Outcomes.IsReadAs, Parts.{IsPartFrom, IsPartRow, IsUnderParts}, Walks.{after, HoldsEach, HoldsIt}}
+use Rattle.desk_migration.{specs.declared.parts.Part.Part, proofs.Order.{from_after, from_or_same}}
 
 -- the first row from a key on is that of a part, or there is no part
 pub part_found : (found : Bool) (m : KeyMap) (from : List ℕ) (row : Row) → IsFirst true from row m → IsUnderParts from → starts_with nat_eq row.key parts_prefix ≡ found → IsPartFrom found from row m
@@ -41,20 +24,10 @@ starts_part plan revision index = starts_itself parts_prefix ((in_eight plan ++ 
 -- ---- rows of parts
 -- a row under the key of parts is that of one
 row_of_part : (m : KeyMap) (tidy : Tidy m) (row : Row) (of : RowKey) → Fits of → row.key ≡ key_of of → get m row.key ≡ Some row.value → IsUnderParts (key_of of) → IsPartRow row
-row_of_part m tidy row counters fits is there on = cc
-row_of_part m tidy row (retired plan) fits is there on = cc
-row_of_part m tidy row (begun load) fits is there on = cc
-row_of_part m tidy row (holding plan number) fits is there on = cc
-row_of_part m tidy row (holder_count number) fits is there on = cc
-row_of_part m tidy row (named name) fits is there on = cc
 row_of_part m tidy row (part plan revision index) fits is there on =
     let (numbers, chunks, value) = tidy.counted.parts plan revision index row.value fits (ap (get m) (sym is) ∙ there) in
     record { plan = plan; revision = revision; index = index; fits = fits; key_is = is; numbers = numbers; chunks = chunks; value_is = value }
-row_of_part m tidy row seal fits is there on = cc
-row_of_part m tidy row version fits is there on = cc
-row_of_part m tidy row (block load place) fits is there on = cc
-row_of_part m tidy row (pair load place) fits is there on = cc
-row_of_part m tidy row (chunk number piece) fits is there on = cc
+row_of_part m tidy row _ fits is there on = cc
 
 pub part_row : (m : KeyMap) (from : List ℕ) (row : Row) → Tidy m → IsPartFrom true from row m → IsPartRow row
 part_row m from row tidy found =

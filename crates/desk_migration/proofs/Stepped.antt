@@ -1,32 +1,17 @@
 -- A step: a transaction that is begun, in which pairs come to be held, and that is committed then.
-use Rattle.std.proofs.Common.{◌≡◌, ◌⊎◌, ◌<◌, ◌≤◌, ◌+◌, ◌*◌, ℕ, false, List, refl, sym, subst, ◌∙◌, inl, inr, ⊎_elim, arith}
-use Rattle.sector_device.specs.claim.Disk.{Image}
-use Rattle.sector_device.specs.claim.Moments.{LeavesOnly}
-use Rattle.sector_device.proofs.Moments.{leaves_wider}
-use Rattle.sector_device.specs.declared.SectorDevice.{Ghosts}
-use Rattle.page_store.specs.gate_journal.claim.Store.{home}
-use Rattle.page_store.specs.claim.Transactions.{stored, disk_in, count_of, journal_of, has_halted, txn_writes, IsQuiet, Passed}
-use Rattle.page_store.specs.gate_journal.declared.error.PageError.TheVariants as page
-use Rattle.page_store.specs.declared.pages.Pages.{Pages}
-use Rattle.page_store.specs.declared.txn.Txn.{Txn}
-use Rattle.page_btree.specs.claim.Map.{InTxn, InPages}
-use Rattle.page_btree.specs.declared.error.TreeError.{TreeError}
+use Rattle.std.{specs.Prelude.{Result, IsErrAnd}, proofs.Common.{◌≡◌, ◌⊎◌, ◌<◌, ◌≤◌, ◌+◌, ◌*◌, ℕ, true, false, List, Ok, Err, refl, sym, subst, ◌∙◌, inl, inr, ⊎_elim, arith}}
+use Rattle.sector_device.{specs.claim.Disk.Image, specs.claim.Moments.LeavesOnly, specs.declared.SectorDevice.Ghosts, proofs.Moments.leaves_wider}
+use Rattle.page_store.specs.{gate_journal.claim.Store.home, claim.Transactions.{stored, disk_in, count_of, journal_of, has_halted, txn_writes, IsQuiet, IsSame, Passed}}
+use Rattle.page_store.{specs.declared.pages.Pages.Pages, specs.declared.txn.Txn.Txn, proofs.Stops.quiet_none}
+use Rattle.page_btree.specs.{claim.Map.{InTxn, InPages}, declared.error.TreeError.TreeError}
 use Rattle.page_btree.specs.declared.error.TreeError.TheVariants as tree
 use Rattle.desk_model.specs.claim.Desk.{Desk}
-use Rattle.store_rows.specs.claim.Rows.{KeyMap}
-use Rattle.store_rows.specs.MigrationLaws.{NamedIsHeld}
-use Rattle.desk_pages.specs.claim.Desks.{IsOldMap, OpensAs, OpensOld}
-use Rattle.desk_pages.specs.Desks.{InPagesAs, InTxnAs}
-use Rattle.desk_pages.specs.Moments.{StopsLeaveEither}
-use Rattle.desk_opening.proofs.plan_rows.Committing.{IsBegun, both, commit_leaves, failed_after, quiet_leaves, quiet_rows}
-use Rattle.desk_migration.specs.claim.Holding.{AllAreHeld, AreHeldTo, IsHeldBy}
-use Rattle.desk_migration.specs.Parts.{IsUnderWay}
-use Rattle.desk_pages.specs.Errors.{tree_refusal}
-use Rattle.desk_migration.specs.Puts.{IsHeldMap, HasHeld, HoldErr, HoldsMore, HoldsTo, StepErr, TellsFaults, free_of}
-use Rattle.desk_pages.specs.Commits.{FittingErr}
-use Rattle.desk_pages.specs.declared.error.StoreError.{StoreError}
-use Rattle.desk_pages.specs.declared.error.StoreError.TheVariants.{Full, Memory, DeviceFault}
-use Rattle.desk_migration.proofs.Pairs.{map_by, none_by, same_map}
+use Rattle.store_rows.specs.{claim.Rows.KeyMap, MigrationLaws.NamedIsHeld}
+use Rattle.desk_pages.specs.{claim.Desks.{IsOldMap, OpensAs, OpensOld}, Desks.{InPagesAs, InTxnAs}, Moments.StopsLeaveEither, Errors.tree_refusal, Commits.FittingErr}
+use Rattle.desk_pages.specs.{declared.error.StoreError.StoreError, declared.error.StoreError.TheVariants.{Full, Memory, DeviceFault, Halted}}
+use Rattle.desk_opening.proofs.plan_rows.Committing.{IsBegun, both, commit_leaves, failed_after, quiet_leaves, quiet_rows, quiet_shape}
+use Rattle.desk_migration.specs.{claim.Holding.{AllAreHeld, AreHeldTo, IsHeldBy}, Parts.IsUnderWay}
+use Rattle.desk_migration.{specs.Puts.{IsHeldMap, HasHeld, HoldErr, HoldsMore, HoldsTo, StepErr, Steps, TellsFaults, free_of}, proofs.Pairs.{map_by, none_by, same_map}}
 
 -- room enough
 pub no_room : (count free left : ℕ) → free ≡ left → 26 * count ≤ free → 13 * (2 * count) ≤ left
@@ -36,6 +21,24 @@ module _ {D : Type 0} {g : Ghosts D} where
   -- ---- faults
   pub quiet_faults : (a b : Pages D g) → IsQuiet a b → TellsFaults a b
   quiet_faults a b quiet = record { rose = quiet.rose; calm = quiet.calm }
+
+  -- a call that read at most, and came to nothing
+  pub quiet_steps : {A : Type 0} (a b : Pages D g) (r : Result A StoreError) (e : StoreError) → IsQuiet a b → (has_halted a ≡ true → (r ≡ Err Halted) × IsSame a b) → IsErrAnd r (λ x. x ≡ e) → Steps a b r
+  quiet_steps a b (Ok x) e quiet still is = absurd is
+  quiet_steps a b (Err x) e quiet still is = record {
+    shape = quiet_shape a b quiet;
+    honest = quiet.honest;
+    kept = λ honest. tt;
+    faults = quiet_faults a b quiet;
+    ok = tt;
+    still = still;
+  }
+
+  pub halted_steps : {A : Type 0} (a : Pages D g) → Steps {A = A} a a (Err Halted)
+  halted_steps {A} a = quiet_steps {A = A} a a (Err Halted) Halted (quiet_none a) (λ halted. (refl, refl)) refl
+
+  pub refused_steps : {A : Type 0} (a b : Pages D g) (r : Result A StoreError) (e : StoreError) → IsQuiet a b → has_halted a ≡ false → IsErrAnd r (λ x. x ≡ e) → Steps a b r
+  refused_steps a b r e quiet working is = quiet_steps a b r e quiet (λ halted. both (has_halted a) halted working) is
 
   pub commit_faults : (a b c : Pages D g) → Passed a b → ((disk_in c).is_honest → (disk_in b).is_honest) → (e : StoreError) → FittingErr b c e → TellsFaults a c
   commit_faults a b c ab bc Memory why = subst (λ (p : Pages D g). TellsFaults a p) (sym why) (quiet_faults a b ab.quiet)

@@ -1,34 +1,17 @@
 -- Pairs that come to be held one after the other within a transaction.
-use Rattle.std.proofs.Common.{◌≡◌, ◌<◌, ◌+◌, ◌++◌, ℕ, false, List, [], refl, sym, ap, subst, ◌∙◌, arith}
-use Rattle.std.specs.Prelude.{Option, Some}
-use Rattle.sector_device.specs.claim.Disk.{Image}
-use Rattle.sector_device.specs.declared.SectorDevice.{Ghosts}
-use Rattle.page_store.specs.claim.Transactions.{stored, disk_in, txn_root, over, IsQuiet, Passed}
+use Rattle.std.{specs.Prelude.{Option, Some}, proofs.Common.{◌≡◌, ◌<◌, ◌+◌, ◌++◌, ℕ, false, List, [], refl, sym, ap, subst, ◌∙◌, arith}}
+use Rattle.sector_device.specs.{claim.Disk.Image, declared.SectorDevice.Ghosts}
+use Rattle.page_store.specs.{claim.Transactions.{stored, disk_in, txn_root, over, IsQuiet, Passed}, declared.pages.Pages.Pages, declared.txn.Txn.Txn}
 use Rattle.page_store.proofs.Stops.{passed_none, passed_more, failed_more}
-use Rattle.page_store.specs.declared.pages.Pages.{Pages}
-use Rattle.page_store.specs.declared.txn.Txn.{Txn}
-use Rattle.page_btree.specs.claim.Map.{InTxn}
-use Rattle.page_btree.specs.claim.Errors.{level_in}
-use Rattle.page_btree.specs.declared.error.TreeError.{TreeError}
+use Rattle.page_btree.specs.{claim.Map.InTxn, claim.Errors.level_in, declared.error.TreeError.TreeError}
 use Rattle.page_btree.specs.declared.error.TreeError.TheVariants.{DeviceFault, NotAStore, Halted, NoPages, TooDeep, Memory}
-use Rattle.store_rows.specs.claim.Keys.{holding}
-use Rattle.store_rows.specs.claim.Rows.{KeyMap, Lacks}
-use Rattle.store_rows.specs.claim.Puts.{Row, put_rows}
-use Rattle.store_rows.specs.claim.Holders.{holding_rows}
-use Rattle.store_rows.specs.claim.Shares.{hold}
-use Rattle.store_rows.specs.claim.Tidy.{Tidy}
+use Rattle.store_rows.specs.{claim.Keys.holding, claim.Rows.{KeyMap, Lacks}, claim.Puts.{Row, put_rows}, claim.Holders.holding_rows, claim.Shares.hold, claim.Tidy.Tidy}
 use Rattle.store_rows.proofs.Migrating.{names_can_hold}
-use Rattle.desk_pages.specs.claim.Puts.{HasDeepened}
-use Rattle.desk_pages.specs.Reading.{ReadErr}
-use Rattle.desk_pages.specs.btree_puts.Fingers.{Stand}
-use Rattle.desk_pages.specs.btree_puts.declared.finger.Fingers.{Fingers}
+use Rattle.desk_pages.specs.{claim.Puts.HasDeepened, Reading.ReadErr, btree_puts.Fingers.Stand, btree_puts.declared.finger.Fingers.Fingers}
 use Rattle.desk_pages.proofs.Rising.{fresh_stand}
 use Rattle.desk_opening.specs.plan_rows.Holding as chunk
-use Rattle.desk_migration.specs.claim.Holding.{AreUnheld, IsHeldBy, IsUnheld, hold_pairs}
-use Rattle.desk_migration.specs.Walks.{IsNextPair}
-use Rattle.desk_migration.specs.declared.parts.HeldPair.{HeldPair}
-use Rattle.desk_migration.specs.Puts.{AndStand, HasHeldAs, IsTurn, HoldErrOf}
-use Rattle.desk_migration.proofs.Pairs.{then_by, none_by, one_by, unheld_more, hold_more}
+use Rattle.desk_migration.specs.{claim.Holding.{AreUnheld, IsHeldBy, IsUnheld, hold_pairs}, Walks.IsNextPair, declared.parts.HeldPair.HeldPair}
+use Rattle.desk_migration.{specs.Puts.{AndStand, HasHeldAs, IsTurn, HoldErrOf}, proofs.Pairs.{then_by, none_by, one_by, unheld_more, hold_more}}
 
 -- what is known of a map is known of it where one pair more is held
 abbrev Stays : (KeyMap → Type 0) → Type 0
@@ -93,12 +76,10 @@ module _ {D : Type 0} {g : Ghosts D} where
 
   -- it isn't known whether there is one
   pub not_found : (most : ℕ) (has : KeyMap → Type 0) (t : Txn) (a b : Pages D g) (e : TreeError) → ReadErr has t a b e → HoldErrOf most has t a b e
-  not_found most has t a b DeviceFault why = why
-  not_found most has t a b NotAStore why = why
-  not_found most has t a b Halted why = why
   not_found most has t a b NoPages why = absurd why
   not_found most has t a b TooDeep why = absurd why
   not_found most has t a b Memory why = tt
+  not_found most has t a b _ why = why
 
   -- ---- one after the other
   pub none_held : (has : KeyMap → Type 0) (fs : Fingers) (t : Txn) (a : Pages D g) → fs.first.page ≡ 0 → fs.second.page ≡ 0 → HasHeldAs ⊥ 0 has (AndStand has fs t (stored a)) t t a a
@@ -211,8 +192,6 @@ module _ {D : Type 0} {g : Ghosts D} where
 
   pub less_not_held : (most : ℕ) (has more : KeyMap → Type 0) (t : Txn) (a b : Pages D g) (e : TreeError) → ((m : KeyMap) → more m → has m) → HoldErrOf most has t a b e → HoldErrOf most more t a b e
   less_not_held most has more t a b DeviceFault gives why = why
-  less_not_held most has more t a b NotAStore gives why = λ honest m reads known. why honest m reads (gives m known)
   less_not_held most has more t a b Halted gives why = why
-  less_not_held most has more t a b NoPages gives why = λ honest m reads known. why honest m reads (gives m known)
-  less_not_held most has more t a b TooDeep gives why = λ honest m reads known. why honest m reads (gives m known)
   less_not_held most has more t a b Memory gives why = tt
+  less_not_held most has more t a b _ gives why = λ honest m reads known. why honest m reads (gives m known)

@@ -1,24 +1,15 @@
 -- Steps of a walk over parts of revisions.
+use Rattle.std.specs.{Prelude.IfSome, FinMap.{entries, get}}
 use Rattle.std.proofs.Common.{◌≡◌, ◌<◌, ℕ, List, [], ◌∷◌, length, take, get_or, Bool, true, false, Option, Some, refl, sym, ap, subst, ◌∙◌}
-use Rattle.std.specs.Prelude.{IfSome}
-use Rattle.std.specs.FinMap.{entries, get}
 use Rattle.std.proofs.lemmas.List.Elements.{All-nil, Contains-get_or}
 use Rattle.page_btree.specs.page_node.Places.{entries_from}
 use Rattle.btree_walks.specs.declared.rows.Row.{Row}
-use Rattle.store_rows.specs.claim.Keys.{key_of, Fits, holding, part}
-use Rattle.store_rows.specs.claim.Lists.{chunks_bytes}
-use Rattle.store_rows.specs.claim.Rows.{KeyMap, Lacks}
-use Rattle.store_rows.specs.claim.Tidy.{IsNamedBy}
+use Rattle.store_rows.specs.{claim.Keys.{key_of, Fits, holding, part}, claim.Lists.chunks_bytes, claim.Rows.{KeyMap, Lacks}, claim.Tidy.IsNamedBy}
 use Rattle.store_check.proofs.FirstRows.{first_there}
 use Rattle.desk_opening.specs.plan_rows.Holding as chunk
-use Rattle.desk_migration.specs.claim.Holding.{AreHeldTo, IsUnheld}
-use Rattle.desk_migration.specs.Outcomes.{IsReadAs, IsToldAt}
-use Rattle.desk_migration.specs.Parts.{IsPartFrom, IsPartRow, IsUnderWay}
-use Rattle.desk_migration.specs.Walks.{after, HoldsEach, HoldsIt, IsNextPart, IsWalking}
-use Rattle.desk_migration.specs.declared.parts.Part.{Part}
-use Rattle.desk_migration.specs.declared.walks.Walk.{Walk}
-use Rattle.desk_migration.proofs.Order.{fewer_after, first_itself}
-use Rattle.desk_migration.proofs.PartRows.{named_fits, part_passed, part_reached, part_row, read_as, stands_held}
+use Rattle.desk_migration.specs.{claim.Holding.{AreHeldTo, IsUnheld}, Outcomes.{IsReadAs, IsToldAt}, Parts.{IsPartFrom, IsPartRow, IsUnderWay}}
+use Rattle.desk_migration.specs.{Walks.{after, HoldsEach, HoldsIt, IsNextPart, IsWalking}, declared.parts.Part.Part, declared.walks.Walk.Walk}
+use Rattle.desk_migration.proofs.{Order.{fewer_after, first_itself}, PartRows.{named_fits, part_passed, part_reached, part_row, read_as, stands_held}}
 
 never_both : {X : Type 0} (b : Bool) → b ≡ true → b ≡ false → X
 never_both b one other = let clash : true ≡ false = sym one ∙ other in absurd (cc)

@@ -1,27 +1,16 @@
 -- Chunks that plans come to hold within a transaction, and in pages.
 use Rattle.std.specs.Prelude.{◌≡◌, ◌⊎◌, ◌≤◌, ◌<◌, ◌+◌, ◌*◌, ℕ, Bool, true, false, List, [], ◌∷◌, length, Result, Err, OnOk}
-use Rattle.sector_device.specs.claim.Disk.{Image}
-use Rattle.sector_device.specs.declared.SectorDevice.{Ghosts}
+use Rattle.sector_device.specs.{claim.Disk.Image, declared.SectorDevice.Ghosts}
 use Rattle.page_store.specs.claim.Chain.{free_in}
 use Rattle.page_store.specs.claim.Transactions.{stored, disk_in, has_halted, txn_pages, txn_free, txn_writes, HasFailed, HasShape, IsKept, IsQuiet, IsSame, Passed}
-use Rattle.page_store.specs.declared.pages.Pages.{Pages}
-use Rattle.page_store.specs.declared.txn.Txn.{Txn}
-use Rattle.page_btree.specs.claim.Map.{InTxn, InPages}
-use Rattle.page_btree.specs.declared.error.TreeError.{TreeError}
+use Rattle.page_store.specs.{declared.pages.Pages.Pages, declared.txn.Txn.Txn}
+use Rattle.page_btree.specs.{claim.Map.{InTxn, InPages}, declared.error.TreeError.TreeError}
 use Rattle.page_btree.specs.declared.error.TreeError.TheVariants as tree
 use Rattle.desk_model.specs.claim.Desk.{Desk}
-use Rattle.store_rows.specs.claim.Keys.{key_of, version, in_four}
-use Rattle.store_rows.specs.claim.Rows.{KeyMap}
-use Rattle.store_rows.specs.claim.Puts.{Row}
-use Rattle.store_rows.specs.claim.Holders.{holding_rows}
-use Rattle.desk_pages.specs.claim.Puts.{HasDeepened}
-use Rattle.desk_pages.specs.btree_puts.Fingers.{Stand}
-use Rattle.desk_pages.specs.btree_puts.declared.finger.Fingers.{Fingers}
-use Rattle.desk_pages.specs.claim.Desks.{IsOldMap}
-use Rattle.desk_migration.specs.claim.Holding.{AllAreHeld, AreHeldTo, AreUnheld, IsHeldBy, hold_pairs}
-use Rattle.desk_migration.specs.Parts.{IsUnderWay}
-use Rattle.desk_pages.specs.declared.error.StoreError.{StoreError}
-use Rattle.desk_pages.specs.declared.error.StoreError.TheVariants.{Full, Memory, NotAStore, DeviceFault, Halted}
+use Rattle.store_rows.specs.{claim.Keys.{key_of, version, in_four}, claim.Rows.KeyMap, claim.Puts.Row, claim.Holders.holding_rows}
+use Rattle.desk_pages.specs.{claim.Puts.HasDeepened, btree_puts.Fingers.Stand, btree_puts.declared.finger.Fingers.Fingers, claim.Desks.IsOldMap}
+use Rattle.desk_pages.specs.{declared.error.StoreError.StoreError, declared.error.StoreError.TheVariants.{Full, Memory, NotAStore, DeviceFault, Halted}}
+use Rattle.desk_migration.specs.{claim.Holding.{AllAreHeld, AreHeldTo, AreUnheld, IsHeldBy, hold_pairs}, Parts.IsUnderWay}
 
 -- the row that tells the new version
 abbrev pub version_rows : List Row

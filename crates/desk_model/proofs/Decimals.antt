@@ -1,6 +1,5 @@
 -- Numbers with zeros before them.
-use Rattle.std.proofs.Common.{◌≡◌, ℕ, ◌-◌, ◌≤◌, List, ◌++◌, length, take, drop, replicate, sym, ◌∙◌, ap, arith, append_assoc, take-append-drop}
-use Rattle.std.specs.Fmt.{decimal}
+use Rattle.std.{specs.Fmt.decimal, proofs.Common.{◌≡◌, ℕ, ◌-◌, ◌≤◌, List, ◌++◌, length, take, drop, replicate, sym, ◌∙◌, ap, arith, append_assoc, take-append-drop}}
 use Rattle.std.proofs.lemmas.List.{take-take, take-replicate, drop-replicate, drop-append-le, length-replicate}
 use Rattle.desk_model.specs.claim.Padded.{padded_decimal}
 

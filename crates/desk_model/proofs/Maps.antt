@@ -1,9 +1,7 @@
 -- Plans under their names.
-use Rattle.std.proofs.Common.{◌≡◌, ℕ, List, [], ◌∷◌, Bool, true, false, cond, refl, ap, sym, ◌∙◌, arith, length, Option, Some, None}
+use Rattle.std.specs.{FinMap.{get-empty, get-insert, get-remove, len-empty, len-entries, same_map, slice_cmp-IsAntisymmetric, nat_cmp-IsAntisymmetric}, Ordering.eq_by_cmp}
+use Rattle.std.{specs.Cmp.Lexicographic.nat_list_cmp_total, proofs.Common.{◌≡◌, ℕ, List, [], ◌∷◌, Bool, true, false, cond, refl, ap, sym, ◌∙◌, arith, length, Option, Some, None}}
 use Rattle.std.specs.FinMap as map_of
-use Rattle.std.specs.FinMap.{get-empty, get-insert, get-remove, len-empty, len-entries, same_map, slice_cmp-IsAntisymmetric, nat_cmp-IsAntisymmetric}
-use Rattle.std.specs.Ordering.{eq_by_cmp}
-use Rattle.std.specs.Cmp.Lexicographic.{nat_list_cmp_total}
 use Rattle.desk_model.specs.claim.Desk.{Plan, name_cmp}
 
 no_items : {A : Type 0} (xs : List A) → length xs ≡ 0 → xs ≡ []

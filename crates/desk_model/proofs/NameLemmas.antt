@@ -1,7 +1,5 @@
 -- A plan's name is ASCII.
-use Rattle.std.proofs.Common.{◌≡◌, ◌<◌, ◌&&◌, nat_le, ℕ, true, List, length, arith}
-use Rattle.std.specs.Str.{IsAscii}
-use Rattle.std.specs.List.{list_all}
+use Rattle.std.{specs.Str.IsAscii, specs.List.list_all, proofs.Common.{◌≡◌, ◌<◌, ◌&&◌, nat_le, ℕ, true, List, length, arith}}
 use Rattle.std.proofs.lemmas.Str.Ascii.{IsAscii-from_all}
 use Rattle.std.proofs.lemmas.Bool.{and_parts}
 use Rattle.std.proofs.lemmas.List.Sums.{AllPass-from_list_all}

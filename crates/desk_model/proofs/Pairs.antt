@@ -1,11 +1,7 @@
 -- Pairs of places in their order.
+use Rattle.std.specs.{Cmp.{IsTotalOrder, IsEquivalence, unsigned_ties}, List.dedup, List.Sorted.{IsSorted, IsStrictlySortedBy, IsStrictlyIncreasing}}
+use Rattle.std.specs.{Ordering.{nat_cmp, ordering_then, eq_by_cmp, is_eq}, declared.cmp.Ordering.Ordering, declared.cmp.Ordering.TheVariants.{Less, Equal, Greater}}
 use Rattle.std.proofs.Common.{◌≡◌, ℕ, zero, suc, ◌≤◌, ◌+◌, ◌<◌, ◌⊎◌, inl, inr, Bool, true, ◌↔◌, IsTrue, ◌&&◌, eqb, List, [], ◌∷◌, ◌++◌, length, get_or, take, Contains, refl, sym, ap, subst, ◌∙◌, arith, ⊎_elim}
-use Rattle.std.specs.Cmp.{IsTotalOrder, IsEquivalence, unsigned_ties}
-use Rattle.std.specs.List.{dedup}
-use Rattle.std.specs.List.Sorted.{IsSorted, IsStrictlySortedBy, IsStrictlyIncreasing}
-use Rattle.std.specs.Ordering.{nat_cmp, ordering_then, eq_by_cmp, is_eq}
-use Rattle.std.specs.declared.cmp.Ordering.{Ordering}
-use Rattle.std.specs.declared.cmp.Ordering.TheVariants.{Less, Equal, Greater}
 use Rattle.std.proofs.lemmas.Bool.{lt-ltb, cases_lt}
 use Rattle.std.proofs.lemmas.Cmp.{nat_cmp_total, nat_eq_equiv, on_total, then_total, on_equiv, and_equiv, ranked}
 use Rattle.std.proofs.lemmas.List.{take_more, take_all, get_or_default}
@@ -13,11 +9,8 @@ use Rattle.std.proofs.lemmas.List.Elements.{All-from_recursion, Contains-append_
 use Rattle.std.proofs.lemmas.List.Kept.{IsStrictlySortedBy-dedup}
 use Rattle.std.proofs.lemmas.Map.Lookups.{CmpEqualImpliesEq}
 use Rattle.std.proofs.lemmas.Map.Views.{tells_apart}
-use Rattle.desk_model.specs.claim.GeographyModels.{AreBlocks, IsGeographyModel, IsPair, AreRising, AreTold, IsTold, is_before, pair_ids, turned}
-use Rattle.desk_model.specs.claim.Geography.{id_at, ids_of}
-use Rattle.desk_model.specs.declared.block.BlockRow.{BlockRow}
-use Rattle.desk_model.specs.declared.geography.Pair.{Pair}
-use Rattle.desk_model.proofs.Places.{rises}
+use Rattle.desk_model.specs.{claim.GeographyModels.{AreBlocks, IsGeographyModel, IsPair, AreRising, AreTold, IsTold, is_before, pair_ids, turned}, claim.Geography.{id_at, ids_of}}
+use Rattle.desk_model.{specs.declared.block.BlockRow.BlockRow, specs.declared.geography.Pair.Pair, proofs.Places.rises}
 
 abbrev pub pair_cmp : Pair → Pair → Ordering
 pair_cmp p q = ordering_then (nat_cmp p.first q.first) (nat_cmp p.second q.second)
@@ -28,10 +21,9 @@ pair_eq p q = eqb p.first q.first && eqb p.second q.second
 pub pair_total : IsTotalOrder pair_cmp
 pair_total = then_total (on_total (λ (p : Pair). p.first) nat_cmp_total) (on_total (λ (p : Pair). p.second) nat_cmp_total)
 
-both_equal : (o q : Ordering) → (is_eq o && is_eq q) ≡ is_eq (ordering_then o q)
+pub both_equal : (o q : Ordering) → (is_eq o && is_eq q) ≡ is_eq (ordering_then o q)
 both_equal Less q = refl
-both_equal Equal q = refl
-both_equal Greater q = refl
+both_equal _ q = refl
 
 pub pair_ties : (p q : Pair) → pair_eq p q ≡ eq_by_cmp pair_cmp p q
 pair_ties p q =

@@ -1,7 +1,6 @@
 -- Counties that are listed in part, and the first block that is left out.
+use Rattle.std.specs.{Prelude.{not, ◌&&◌, ◌==◌, is_some, option_map}, List.{position_or_len, Any}}
 use Rattle.std.proofs.Common.{◌≡◌, ℕ, ◌<◌, ◌≤◌, true, false, length, get_or, Option, Some, None, IsSome, ◌⊎◌, inl, inr, arith, refl, ap, sym, ◌∙◌, ⊎_elim}
-use Rattle.std.specs.Prelude.{not, ◌&&◌, ◌==◌, is_some, option_map}
-use Rattle.std.specs.List.{position_or_len, Any}
 use Rattle.std.proofs.lemmas.List.{get_or-map, length-map}
 use Rattle.std.proofs.lemmas.List.Folds.{find_at, list_any_at, Any-from_list_any}
 use Rattle.std.proofs.lemmas.List.Sums.{fails_before_first, passes_at_first}
@@ -10,12 +9,8 @@ use Rattle.std.proofs.lemmas.Grind.{get_or_default_zero}
 use Rattle.std.proofs.lemmas.Map.Keys.{sorted_from_strictly_increasing, below_from_sorted}
 use Rattle.std.proofs.lemmas.Bool.{cases_lt, and_parts}
 use Rattle.std.proofs.lemmas.Bool.Decides.{Decides-eqb}
-use Rattle.desk_model.specs.declared.block.BlockRow.{BlockRow}
-use Rattle.desk_model.specs.claim.Block.{county_of, state_of}
-use Rattle.desk_model.specs.claim.Baf.{Values, value_at}
-use Rattle.desk_model.specs.claim.Geography.{GeographyModel, ids, id_at}
-use Rattle.desk_model.specs.claim.GeographyModels.{AreBlocks}
-use Rattle.desk_model.specs.claim.Step.{partly_listed, is_left_out, is_county_listed}
+use Rattle.desk_model.specs.{declared.block.BlockRow.BlockRow, claim.Block.{county_of, state_of}, claim.Baf.{Values, value_at}, claim.Geography.{GeographyModel, ids, id_at}}
+use Rattle.desk_model.specs.{claim.GeographyModels.AreBlocks, claim.Step.{partly_listed, is_left_out, is_county_listed}}
 use Rattle.desk_model.specs.Counties.{IsInPart, IsLeastInPart, IsLeastTold, LeastCountyIsTold}
 
 -- in one state counties rise with the numbers

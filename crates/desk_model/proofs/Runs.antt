@@ -1,18 +1,13 @@
 -- How lists are cut at the counties.
+use Rattle.std.specs.{List.concat, List.Sorted.IsStrictlyIncreasing}
 use Rattle.std.proofs.Common.{◌≡◌, ◌≢◌, ℕ, zero, suc, ◌+◌, ◌-◌, ◌<◌, ◌≤◌, Bool, true, false, cond, eqb, List, [], ◌∷◌, ◌++◌, map, length, take, drop, get_or, All, refl, sym, ap, subst, ◌∙◌, arith, append_assoc, take-append-drop, length-append, length-drop, length-take-le, drop-cons, add-one, ⊎_elim}
-use Rattle.std.specs.List.{concat}
-use Rattle.std.specs.List.Sorted.{IsStrictlyIncreasing}
-use Rattle.std.proofs.lemmas.Bool.{ne_eqb, eq-eqb, cases_lt}
 use Rattle.std.proofs.Math.Seq.{take-append_seam, drop-append_seam}
+use Rattle.std.proofs.lemmas.Bool.{ne_eqb, eq-eqb, cases_lt}
 use Rattle.std.proofs.lemmas.List.Elements.{All-push}
 use Rattle.std.proofs.lemmas.List.{append-nil, take_all, get_or-map, length-map}
-use Rattle.desk_model.specs.claim.Block.{county_of}
-use Rattle.desk_model.specs.claim.Geography.{GeographyModel, ids}
-use Rattle.desk_model.specs.claim.Ranges.{runs, runs_from, parts, counties}
-use Rattle.desk_model.specs.Ranges.{laid, first_county, IsOneCounty, AreCounties, ListsAreCut, RangesAreCounties}
-use Rattle.desk_model.specs.declared.block.BlockRow.{BlockRow}
-use Rattle.desk_model.specs.declared.ranges.CountyRange.{CountyRange}
-use Rattle.desk_model.proofs.Parts.{climbs}
+use Rattle.desk_model.specs.{claim.Block.county_of, claim.Geography.{GeographyModel, ids}, claim.Ranges.{runs, runs_from, parts, counties}}
+use Rattle.desk_model.specs.{Ranges.{laid, first_county, IsOneCounty, AreCounties, ListsAreCut, RangesAreCounties}, declared.block.BlockRow.BlockRow}
+use Rattle.desk_model.{specs.declared.ranges.CountyRange.CountyRange, proofs.Parts.climbs}
 
 -- the counties before a place are cut off, and a county's blocks from a place on are counted up to there
 pub record IsCutTo (cs : List ℕ) (all : List CountyRange) (first place : ℕ) : Type 0 where

@@ -1,6 +1,5 @@
 -- What no promise rests on, beside claim/Name.antt.
-use Rattle.std.specs.Prelude.{◌≡◌, ℕ, ◌≤◌, ◌-◌, List, ◌++◌, length, take, drop, replicate}
-use Rattle.std.proofs.Common.{arith, take-append-drop, length-take-le}
+use Rattle.std.{specs.Prelude.{◌≡◌, ℕ, ◌≤◌, ◌-◌, List, ◌++◌, length, take, drop, replicate}, proofs.Common.{arith, take-append-drop, length-take-le}}
 
 pub length_again : (len : ℕ) (cells : List ℕ) → len ≤ 64 → length cells ≡ 64 → length (take len cells) ≡ len
 length_again len cells few whole = length-take-le len cells (omega arith)

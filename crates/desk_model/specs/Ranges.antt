@@ -1,13 +1,7 @@
 -- What no promise rests on, beside claim/Ranges.antt.
-use Rattle.std.specs.Prelude.{◌≡◌, ℕ, ◌+◌, ◌<◌, List, [], ◌∷◌, map, length, get_or, All, Option, Some, None}
-use Rattle.std.specs.List.{concat}
-use Rattle.std.specs.List.Sorted.{IsStrictlyIncreasing}
-use Rattle.desk_model.specs.claim.Block.{county_of}
-use Rattle.desk_model.specs.declared.block.BlockRow.{BlockRow}
-use Rattle.desk_model.specs.claim.Geography.{GeographyModel, ids, ids_of}
-use Rattle.desk_model.specs.claim.GeographyModels.{AreBlocks, IsGeographyModel}
-use Rattle.desk_model.specs.declared.ranges.CountyRange.{CountyRange}
-use Rattle.desk_model.specs.claim.Ranges.{cut, runs, sizes}
+use Rattle.std.specs.{Prelude.{◌≡◌, ℕ, ◌+◌, ◌<◌, List, [], ◌∷◌, map, length, get_or, All, Option, Some, None}, List.concat, List.Sorted.IsStrictlyIncreasing}
+use Rattle.desk_model.specs.{claim.Block.county_of, declared.block.BlockRow.BlockRow, claim.Geography.{GeographyModel, ids, ids_of}}
+use Rattle.desk_model.specs.{claim.GeographyModels.{AreBlocks, IsGeographyModel}, declared.ranges.CountyRange.CountyRange, claim.Ranges.{cut, runs, sizes}}
 
 -- parts of these sizes one after the other, from a place on
 abbrev pub laid : ℕ → List ℕ → List CountyRange

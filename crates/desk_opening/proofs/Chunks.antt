@@ -1,14 +1,9 @@
 -- A number names one list of so many districts.
-use Rattle.std.proofs.Common.{◌≡◌, ◌<◌, ◌≤◌, ◌+◌, ◌*◌, ◌^◌, ◌++◌, ℕ, zero, suc, List, length, take, drop, take_all, Option, Some, refl, sym, ◌∙◌, arith}
+use Rattle.std.proofs.Common.{◌≡◌, ◌<◌, ◌≤◌, ◌+◌, ◌*◌, ◌^◌, ◌++◌, ℕ, zero, suc, List, length, take, drop, take_all, refl, sym, ◌∙◌, arith}
 use Rattle.desk_model.specs.claim.Room.{rows_for}
-use Rattle.store_rows.specs.claim.Lists.{districts_bytes}
-use Rattle.store_rows.proofs.ListLaws.{districts_differ}
-use Rattle.store_rows.specs.claim.Rows.{KeyMap}
-use Rattle.store_rows.specs.claim.RevisionRows.{HasChunk}
-use Rattle.desk_pages.proofs.Appending.{part_there, some_of_part, most_of_part, each_of_part, parts_more}
-
-given : (a b : List ℕ) → ◌≡◌ {A = Option (List ℕ)} (Some a) (Some b) → a ≡ b
-given a b same = cc
+use Rattle.store_rows.{specs.claim.Lists.districts_bytes, specs.claim.Rows.KeyMap, specs.claim.RevisionRows.HasChunk, proofs.ListLaws.districts_differ}
+use Rattle.store_rows.proofs.OneGeography.{value_is as given}
+use Rattle.desk_pages.proofs.ListParts.{part_there, some_of_part, most_of_part, each_of_part, parts_more}
 
 module _ (m : KeyMap) (number : ℕ) (a b : List ℕ) (one : HasChunk m number a) (other : HasChunk m number b) (long : length a ≡ length b) where
   same_piece : (k : ℕ) → k < 2 ^ 16 → 512 * k < length a → take 512 (drop (512 * k) a) ≡ take 512 (drop (512 * k) b)

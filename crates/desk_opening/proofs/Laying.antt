@@ -1,22 +1,16 @@
 -- The counties of a revision, laid one after the other over the districts of the one before.
-use Rattle.std.proofs.Common.{◌≡◌, ◌<◌, ◌≤◌, ◌+◌, ◌-◌, ◌++◌, ℕ, zero, suc, List, [], ◌∷◌, length, get_or, take, take_all, drop, map}
-use Rattle.std.proofs.Common.{refl, sym, ap, subst, ◌∙◌, arith, append_assoc, length-append, length-drop, length-take}
+use Rattle.std.specs.List.{concat}
+use Rattle.std.proofs.Common.{◌≡◌, ◌<◌, ◌≤◌, ◌+◌, ◌-◌, ◌++◌, ℕ, zero, suc, List, [], ◌∷◌, length, get_or, take, take_all, drop, map, refl, sym, ap, subst, ◌∙◌, arith, append_assoc, length-append, length-drop, length-take, inl, inr}
 use Rattle.std.proofs.Math.Seq.{take-add}
 use Rattle.std.proofs.lemmas.List.{append-nil, drop-append-le, drop-drop, drop_all, drop_at}
 use Rattle.std.proofs.lemmas.List.Elements.{All-drop, All-take}
 use Rattle.std.proofs.lemmas.List.{length-take-le, take_at, take-append-drop, take-append-le}
-use Rattle.std.specs.List.{concat}
-use Rattle.desk_model.specs.claim.Ranges.{cut, sizes}
-use Rattle.desk_model.specs.Ranges.{laid, ListsAreCut}
-use Rattle.desk_model.specs.declared.ranges.CountyRange.{CountyRange}
+use Rattle.desk_model.specs.{claim.Ranges.{cut, sizes}, Ranges.{laid, ListsAreCut}, declared.ranges.CountyRange.CountyRange}
 use Rattle.desk_catalogue.specs.shared_lists.Laid.{with_at}
-use Rattle.store_rows.specs.claim.Rows.{KeyMap}
-use Rattle.store_rows.specs.claim.RevisionRows.{HasChunk}
-use Rattle.std.proofs.Common.{inl, inr}
+use Rattle.store_rows.specs.{claim.Rows.KeyMap, claim.RevisionRows.HasChunk}
 use Rattle.std.proofs.lemmas.Bool.{cases_lt}
-use Rattle.desk_opening.specs.Reading.{AreCountiesOf, AreNamed, AreChunksRead, IsCounty, IsCountyRead, IsLaid, no_cut, part_of}
+use Rattle.desk_opening.{specs.Reading.{AreCountiesOf, AreNamed, AreChunksRead, IsCounty, IsCountyRead, IsLaid, no_cut, part_of}, proofs.Chunks.one_chunk}
 use Rattle.plan_rows.specs.ChunkReading.{HasPieces}
-use Rattle.desk_opening.proofs.Chunks.{one_chunk}
 
 -- ---- a part in the place of its own
 pub with_long : (first : ℕ) (part ds : List ℕ) → first + length part ≤ length ds → length (with_at first part ds) ≡ length ds

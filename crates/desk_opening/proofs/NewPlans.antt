@@ -1,22 +1,12 @@
 -- A row that is taken says which plan it is of.
+use Rattle.std.specs.{Prelude.{Option, not, nat_eq}, Cmp.Lexicographic.{pointwise, nat_list_eq_equiv}, FinMap.{FinMap, get as row_at}}
 use Rattle.std.proofs.Common.{◌≡◌, ◌-◌, ℕ, Bool, true, false, cond, List, ◌∷◌, length, take, drop, Some, None, refl, sym, ap, subst, ◌∙◌, take_all, arith}
-use Rattle.std.specs.Prelude.{Option, not, nat_eq}
-use Rattle.std.specs.Cmp.Lexicographic.{pointwise, nat_list_eq_equiv}
-use Rattle.std.specs.FinMap.{FinMap, get as row_at}
-use Rattle.desk_model.specs.claim.Geography.{GeographyModel}
-use Rattle.desk_model.specs.claim.Desk.{Plan, name_cmp}
-use Rattle.desk_model.specs.claim.Name.{IsPlanName, is_plan_name, plan_name_of}
+use Rattle.desk_model.specs.{claim.Geography.GeographyModel, claim.Desk.{Plan, name_cmp}, claim.Name.{IsPlanName, is_plan_name, plan_name_of}}
 use Rattle.btree_walks.specs.declared.rows.Row.{Row}
-use Rattle.store_rows.specs.claim.Keys.{key_of, named}
-use Rattle.store_rows.specs.claim.Values.{plan_bytes}
-use Rattle.store_rows.specs.declared.value.PlanRow.{PlanRow}
-use Rattle.store_rows.specs.claim.Rows.{KeyMap}
-use Rattle.store_rows.specs.claim.DeskRows.{HasPlan, IsPlanAt}
-use Rattle.store_rows.specs.Changes.{plan_row_of}
+use Rattle.store_rows.specs.{claim.Keys.{key_of, named}, claim.Values.plan_bytes, declared.value.PlanRow.PlanRow, claim.Rows.KeyMap, claim.DeskRows.{HasPlan, IsPlanAt}}
+use Rattle.store_rows.{specs.Changes.plan_row_of, proofs.OneGeography.value_is}
 use Rattle.plan_rows.specs.PlanLaws.{IsTold, PlansAreTold, RowFits}
-use Rattle.desk_opening.specs.Reading.{IsPlanRow}
-use Rattle.desk_opening.specs.Opening.{IsKeptPlan, IsNewPlan}
-use Rattle.store_rows.proofs.OneGeography.{value_is}
+use Rattle.desk_opening.specs.{Reading.IsPlanRow, Opening.{IsKeptPlan, IsNewPlan}}
 
 -- ---- the name in a key
 read_again : (bytes name : List ℕ) → is_plan_name bytes ≡ true → ◌≡◌ {A = Option (List ℕ)} (plan_name_of bytes) (Some name) → name ≡ bytes

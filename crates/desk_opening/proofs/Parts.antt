@@ -1,22 +1,13 @@
 -- Some of a desk's plans were read: those whose rows a scan took.
-use Rattle.std.proofs.Common.{◌≡◌, ◌<◌, ◌≤◌, ◌+◌, ◌-◌, ℕ, zero, suc, cond, List, [], ◌∷◌, ◌++◌, length, Some, None, refl, sym, ap, subst, ◌∙◌, inl, inr, arith}
-use Rattle.std.specs.Prelude.{Option, is_some, MatchOption}
-use Rattle.std.specs.Ordering.{eq_by_cmp}
-use Rattle.std.specs.Cmp.Lexicographic.{nat_list_cmp_total}
+use Rattle.std.specs.{Prelude.{Option, is_some, MatchOption}, Ordering.eq_by_cmp, Cmp.Lexicographic.nat_list_cmp_total}
 use Rattle.std.specs.FinMap.{FinMap, empty, entries, find, get, insert, len, remove, empty_of_len, get-empty, get-entries, get-insert, get-remove, len-entries, len-insert, len-remove, same_map, slice_cmp-IsAntisymmetric, nat_cmp-IsAntisymmetric}
 use Rattle.std.specs.FinMap.Entries.{find-append}
+use Rattle.std.proofs.Common.{◌≡◌, ◌<◌, ◌≤◌, ◌+◌, ◌-◌, ℕ, zero, suc, cond, List, [], ◌∷◌, ◌++◌, length, Some, None, refl, sym, ap, subst, ◌∙◌, inl, inr, arith}
 use Rattle.page_btree.specs.page_node.claim.Entries.{Entry}
 use Rattle.btree_walks.specs.Prefixes.{under}
-use Rattle.desk_model.specs.claim.Geography.{GeographyModel}
-use Rattle.desk_model.specs.claim.Desk.{Plan, name_cmp}
-use Rattle.desk_model.specs.claim.Step.{plan_limit}
-use Rattle.store_rows.specs.claim.Keys.{key_of, named, plans_prefix}
-use Rattle.store_rows.specs.claim.Order.{key_cmp}
-use Rattle.store_rows.specs.claim.Rows.{KeyMap}
-use Rattle.store_rows.specs.claim.DeskRows.{IsDesk, IsPlanAt}
-use Rattle.store_rows.specs.Changes.{desk_with}
-use Rattle.store_rows.proofs.Changes.{cases_key, other_row}
-use Rattle.store_rows.proofs.Frames.{differs, itself}
+use Rattle.desk_model.specs.{claim.Geography.GeographyModel, claim.Desk.{Plan, name_cmp}, claim.Step.plan_limit}
+use Rattle.store_rows.specs.{claim.Keys.{key_of, named, plans_prefix}, claim.Order.key_cmp, claim.Rows.KeyMap, claim.DeskRows.{IsDesk, IsPlanAt}, Changes.desk_with}
+use Rattle.store_rows.proofs.{Changes.{cases_key, other_row}, Frames.{differs, itself}}
 use Rattle.desk_opening.proofs.Scanned.{found_among}
 
 abbrev pub Plans : Type 0

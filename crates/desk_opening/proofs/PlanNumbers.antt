@@ -1,40 +1,20 @@
 -- Numbers of plans, each once, with the counts of their revisions.
+use Rattle.std.specs.{Prelude.Contains, BTreeMap.{BTreeMap, IsEmpty, is_at, get as count_at}, Map.lookup, Cmp.{eq_by_cmp_equiv, nat_cmp_total}, Int.from_be_bytes}
+use Rattle.std.specs.{Ordering.{eq_by_cmp, nat_cmp}, FinMap.{entries, find, get}}
 use Rattle.std.proofs.Common.{◌≡◌, ◌⊎◌, ◌<◌, ◌^◌, ℕ, zero, suc, cond, List, [], ◌∷◌, ◌++◌, Bool, true, Option, Some, None, inl, inr, w64, refl, sym, ap, subst, ◌∙◌, arith, append_assoc}
-use Rattle.std.specs.Prelude.{Contains}
-use Rattle.std.specs.BTreeMap.{BTreeMap, IsEmpty, is_at, get as count_at}
-use Rattle.std.specs.Map.{lookup}
-use Rattle.std.specs.Cmp.{eq_by_cmp_equiv, nat_cmp_total}
-use Rattle.std.specs.Int.{from_be_bytes}
-use Rattle.std.specs.Ordering.{eq_by_cmp, nat_cmp}
 use Rattle.std.proofs.lemmas.Map.Lookups.{exact_unsigned}
 use Rattle.std.proofs.lemmas.Map.Views.{tells_apart}
 use Rattle.std.proofs.lemmas.Nat.{from_be_bytes-to_be_bytes_8}
-use Rattle.std.specs.FinMap.{entries, find, get}
 use Rattle.sector_device.specs.declared.SectorDevice.{Ghosts}
-use Rattle.page_store.specs.declared.pages.Pages.{Pages}
-use Rattle.page_store.specs.declared.txn.Txn.{Txn}
-use Rattle.page_btree.specs.page_node.claim.Entries.{Entry}
-use Rattle.page_btree.specs.declared.error.TreeError.{TreeError}
-use Rattle.page_btree.specs.declared.error.TreeError.TheVariants.{DeviceFault, NotAStore, Halted, NoPages, TooDeep, Memory}
-use Rattle.btree_walks.specs.Prefixes.{under}
-use Rattle.btree_walks.specs.declared.rows.Row.{Row}
-use Rattle.desk_model.specs.claim.Geography.{GeographyModel}
-use Rattle.desk_model.specs.claim.Desk.{Plan}
-use Rattle.store_rows.specs.claim.Keys.{key_of, named, plans_prefix}
-use Rattle.store_rows.specs.claim.Order.{key_cmp}
-use Rattle.store_rows.specs.claim.Values.{plan_bytes}
-use Rattle.store_rows.specs.declared.value.PlanRow.{PlanRow}
-use Rattle.store_rows.specs.claim.Rows.{KeyMap, Has}
-use Rattle.store_rows.specs.claim.DeskRows.{IsPlanAt}
-use Rattle.store_rows.specs.Changes.{plan_row_of}
-use Rattle.store_rows.proofs.Frames.{either_way, is_equal, itself, same_key}
-use Rattle.store_rows.specs.claim.Tidy.{IsNumbered}
-use Rattle.store_rows.proofs.OneGeography.{no_value, value_is}
-use Rattle.desk_pages.specs.Looking.{Says}
-use Rattle.desk_pages.specs.Reading.{SeekErr}
-use Rattle.desk_opening.specs.Opening.{AreCounts, ArePlans, ArePlansApart, HasNoPlans, IsFreshPlan, IsNoted, IsUnused, NoteErr}
-use Rattle.desk_opening.proofs.NewPlans.{is_kept_plan}
-use Rattle.desk_opening.proofs.Parts.{Plans}
+use Rattle.page_store.specs.{declared.pages.Pages.Pages, declared.txn.Txn.Txn}
+use Rattle.page_btree.specs.{page_node.claim.Entries.Entry, declared.error.TreeError.TreeError, declared.error.TreeError.TheVariants.{NotAStore, Memory}}
+use Rattle.btree_walks.specs.{Prefixes.under, declared.rows.Row.Row}
+use Rattle.desk_model.specs.{claim.Geography.GeographyModel, claim.Desk.Plan}
+use Rattle.store_rows.specs.{claim.Keys.{key_of, named, plans_prefix}, claim.Order.key_cmp, claim.Values.plan_bytes, declared.value.PlanRow.PlanRow, claim.Rows.{KeyMap, Has}}
+use Rattle.store_rows.{specs.claim.DeskRows.IsPlanAt, specs.Changes.plan_row_of, specs.claim.Tidy.IsNumbered, proofs.Frames.{either_way, is_equal, itself, same_key}}
+use Rattle.store_rows.proofs.{OneGeography.{no_value, value_is}, Sharing.later_one as later_in}
+use Rattle.desk_pages.specs.{Looking.Says, Reading.SeekErr}
+use Rattle.desk_opening.{specs.Opening.{AreCounts, ArePlans, ArePlansApart, HasNoPlans, IsFreshPlan, IsNoted, IsUnused, NoteErr}, proofs.NewPlans.is_kept_plan, proofs.Parts.Plans}
 use Rattle.desk_opening.proofs.Scanned.{found_among, next_plan}
 
 -- ---- the number that a row's value begins with
@@ -63,9 +43,6 @@ none_in x (i, within, is) = omega arith
 
 first_in : (x y : ℕ) (xs : List ℕ) → x ≡ y → Contains (x ∷ xs) y
 first_in x y xs is = (0, omega arith, is)
-
-later_in : (x y : ℕ) (xs : List ℕ) → Contains xs y → Contains (x ∷ xs) y
-later_in x y xs (i, within, is) = (suc i, omega arith, is)
 
 of_two : (x y : ℕ) (xs : List ℕ) → Contains (x ∷ xs) y → (x ≡ y) ⊎ Contains xs y
 of_two x y xs (zero, within, is) = inl is
@@ -268,11 +245,8 @@ none_counted m counts empty none = record {
 
 -- what isn't noted isn't read
 pub unnoted : {D : Type 0} {g : Ghosts D} (the_geography : GeographyModel) (plans : Plans) (row : Row) (counts : BTreeMap ℕ ℕ) (t : Txn) (a : Pages D g) (e : TreeError) → NoteErr row counts e → SeekErr (Unit {0}) (Says (IsFreshPlan the_geography plans counts row)) t a a e
-unnoted the_geography plans row counts t a DeviceFault why = absurd why
 unnoted the_geography plans row counts t a NotAStore why = λ honest m holds is.
     let kept = is_kept_plan the_geography plans row m is.0 is.1.new in
     why kept.plan kept.fits kept.value (is.1.unused kept.plan kept.fits kept.value)
-unnoted the_geography plans row counts t a Halted why = absurd why
-unnoted the_geography plans row counts t a NoPages why = absurd why
-unnoted the_geography plans row counts t a TooDeep why = absurd why
 unnoted the_geography plans row counts t a Memory why = tt
+unnoted the_geography plans row counts t a _ why = absurd why

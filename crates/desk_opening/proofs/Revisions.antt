@@ -1,29 +1,16 @@
 -- A revision of a geography's blocks, county by county.
-use Rattle.std.proofs.Common.{◌≡◌, ◌<◌, ◌+◌, ◌-◌, ℕ, zero, suc, List, [], ◌∷◌, ◌++◌, length, get_or, take, drop, Some, cond}
-use Rattle.std.proofs.Common.{refl, sym, ap, subst, ◌∙◌, arith, length-append}
-use Rattle.std.specs.Prelude.{false, ◌==◌, Option, None, IfSome}
-use Rattle.std.specs.List.{slice_get}
+use Rattle.std.specs.{Prelude.{false, ◌==◌, Option, None, IfSome}, List.slice_get}
+use Rattle.std.proofs.Common.{◌≡◌, ◌<◌, ◌+◌, ◌-◌, ℕ, zero, suc, List, [], ◌∷◌, ◌++◌, length, get_or, take, drop, Some, cond, refl, sym, ap, subst, ◌∙◌, arith, length-append}
 use Rattle.std.proofs.lemmas.Bool.Decides.{nat_tests}
 use Rattle.std.proofs.lemmas.List.Elements.{All-get_or}
 use Rattle.std.proofs.lemmas.List.{take_more, drop-drop}
-use Rattle.desk_model.specs.claim.Geography.{GeographyModel}
-use Rattle.desk_model.specs.claim.Ranges.{cut, parts, sizes}
-use Rattle.desk_model.specs.Ranges.{ranges_of, laid}
-use Rattle.desk_model.specs.declared.ranges.CountyRange.{CountyRange}
-use Rattle.desk_model.specs.claim.Desk.{Plan}
+use Rattle.desk_model.specs.{claim.Geography.GeographyModel, claim.Ranges.{cut, parts, sizes}, Ranges.{ranges_of, laid}, declared.ranges.CountyRange.CountyRange, claim.Desk.Plan}
 use Rattle.desk_model.specs.claim.Subject.{revision_at}
-use Rattle.store_rows.specs.declared.value.PlanRow.{PlanRow}
-use Rattle.store_rows.specs.claim.Rows.{KeyMap}
-use Rattle.store_rows.specs.Changes.{with_revision}
-use Rattle.store_rows.specs.claim.RevisionRows.{HasChunk}
+use Rattle.store_rows.specs.{declared.value.PlanRow.PlanRow, claim.Rows.KeyMap, Changes.with_revision, claim.RevisionRows.HasChunk}
 use Rattle.plan_rows.specs.RevisionReading.{AppendsParts, AreNames, HasParts}
 use Rattle.desk_pages.specs.claim.Desks.{AreWithin}
-use Rattle.desk_opening.specs.Reading.{AreChunksRead, AreKnown, AreNamed, BecomesKnown, BecomesLast}
-use Rattle.desk_opening.specs.Reading.{IsAfter, IsLast, IsNext, IsOfBlocks, IsPlanRow, IsRevisionRead, IsTold, NamesLast}
-
-laid_long : (first : ℕ) (ns : List ℕ) → length (laid first ns) ≡ length ns
-laid_long first [] = refl
-laid_long first (n ∷ ns) = ap suc (laid_long (first + n) ns)
+use Rattle.desk_opening.specs.Reading.{AreChunksRead, AreKnown, AreNamed, BecomesKnown, BecomesLast, IsAfter, IsLast, IsNext, IsOfBlocks, IsPlanRow, IsRevisionRead, IsTold, NamesLast}
+use Rattle.desk_catalogue.proofs.{Drafted.end_of, Counted.laid_long}
 
 parts_long : (ns xs : List ℕ) → length (parts ns xs) ≡ length ns
 parts_long [] xs = refl
@@ -112,10 +99,6 @@ module _ (g : GeographyModel) (ranges : List CountyRange) (plan revision : ℕ) 
 pub none_last : (names : List ℕ) (g : GeographyModel) (p : Plan) (m : KeyMap) → names ≡ [] → NamesLast g names p m
 none_last names g p m none before is county c there within =
     absurd (let long : length names ≡ 0 = ap (λ (l : List ℕ). length l) none in omega arith)
-
-end_of : (xs : List (List ℕ)) (x : List ℕ) → slice_get (xs ++ x ∷ []) (length xs) ≡ Some x
-end_of [] x = refl
-end_of (y ∷ ys) x = end_of ys x
 
 no_zero : (n : ℕ) → (suc n == 0) ≡ false
 no_zero n = grind (arith, nat_tests)

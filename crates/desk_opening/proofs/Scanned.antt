@@ -1,13 +1,8 @@
 -- The rows that a scan takes under the prefix of plans are rows of the map, each once.
-use Rattle.std.proofs.Common.{◌≡◌, ℕ, List, ◌∷◌, ◌++◌, Some, None, drop, refl, sym}
-use Rattle.std.specs.FinMap.{entries, find, get}
-use Rattle.page_btree.specs.page_node.claim.Entries.{Entry}
-use Rattle.page_btree.specs.page_node.claim.Places.{key_cmp}
-use Rattle.btree_walks.specs.Prefixes.{under}
-use Rattle.btree_walks.proofs.RowsFound.{next_under, found_among as found_under}
-use Rattle.store_rows.specs.claim.Keys.{key_of, named, plans_prefix}
-use Rattle.store_rows.specs.claim.Rows.{KeyMap}
-use Rattle.store_rows.proofs.KeyPrefixes.{after_tag, starts_itself}
+use Rattle.std.{specs.FinMap.{entries, find, get}, proofs.Common.{◌≡◌, ℕ, List, ◌∷◌, ◌++◌, Some, None, drop, refl, sym}}
+use Rattle.page_btree.specs.{page_node.claim.Entries.Entry, page_node.claim.Places.key_cmp}
+use Rattle.btree_walks.{specs.Prefixes.under, proofs.RowsFound.{next_under, found_among as found_under}}
+use Rattle.store_rows.{specs.claim.Keys.{key_of, named, plans_prefix}, specs.claim.Rows.KeyMap, proofs.KeyPrefixes.{after_tag, starts_itself}}
 
 -- the next row is that of a plan, stands in the map, and wasn't taken before
 pub record IsNextPlan (m : KeyMap) (taken : List Entry) (e : Entry) : Type 0 where

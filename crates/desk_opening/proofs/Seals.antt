@@ -1,19 +1,10 @@
 -- The sealed load is none that was begun.
-use Rattle.std.proofs.Common.{◌≡◌, ◌<◌, ◌^◌, ℕ, Some, None, w64, sym, ap, subst, ◌∙◌}
-use Rattle.std.specs.Int.{from_be_bytes}
-use Rattle.std.proofs.lemmas.Nat.{from_be_bytes-to_be_bytes_8}
-use Rattle.store_rows.specs.claim.Keys.{key_of, begun, seal}
-use Rattle.store_rows.specs.claim.Values.{seal_bytes}
-use Rattle.store_rows.specs.declared.value.SealRow.{SealRow}
-use Rattle.store_rows.specs.claim.Rows.{KeyMap, Lacks}
-use Rattle.store_rows.proofs.OneGeography.{value_is, no_value}
+use Rattle.std.proofs.Common.{◌<◌, ◌^◌, ℕ, Some, None, sym, subst, ◌∙◌}
+use Rattle.store_rows.specs.{claim.Keys.{key_of, begun, seal}, claim.Values.seal_bytes, declared.value.SealRow.SealRow, claim.Rows.{KeyMap, Lacks}}
+use Rattle.store_rows.proofs.OneGeography.{value_is, no_value, seal_load as same_load}
 use Rattle.desk_pages.specs.Reading.{StandsAs}
-use Rattle.store_check.specs.Numbers.{IsKept}
-use Rattle.store_check.proofs.Kept.{seal_of}
+use Rattle.store_check.{specs.Numbers.IsKept, proofs.Kept.seal_of}
 use Rattle.desk_opening.specs.Opening.{IsSealEnded, IsSealKept}
-
-same_load : (a b : SealRow) → a.load < 2 ^ 64 → b.load < 2 ^ 64 → seal_bytes a ≡ seal_bytes b → a.load ≡ b.load
-same_load a b fa fb same = sym (from_be_bytes-to_be_bytes_8 a.load fa) ∙ ap (from_be_bytes w64) same ∙ from_be_bytes-to_be_bytes_8 b.load fb
 
 pub none_ended : (m : KeyMap) → StandsAs seal_bytes (key_of seal) m None → IsSealEnded m
 none_ended m stands sealed fits has = absurd (no_value (seal_bytes sealed) (sym has ∙ sym stands))

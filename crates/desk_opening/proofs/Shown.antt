@@ -1,29 +1,15 @@
 -- The plans that are shown are those whose rows a scan took, each with what its row says.
+use Rattle.std.specs.{Prelude.Option, Ordering.eq_by_cmp, Cmp.Lexicographic.nat_list_cmp_total, FinMap.{empty, entries, find, get, insert, get-empty}, FinMap.Entries.find-append}
 use Rattle.std.proofs.Common.{◌≡◌, ◌<◌, ◌^◌, ℕ, cond, List, [], ◌∷◌, ◌++◌, length, Some, None, inl, inr, refl, sym, ap, subst, ◌∙◌}
-use Rattle.std.specs.Prelude.{Option}
-use Rattle.std.specs.Ordering.{eq_by_cmp}
-use Rattle.std.specs.Cmp.Lexicographic.{nat_list_cmp_total}
-use Rattle.std.specs.FinMap.{empty, entries, find, get, insert, get-empty}
-use Rattle.std.specs.FinMap.Entries.{find-append}
 use Rattle.page_btree.specs.page_node.claim.Entries.{Entry}
-use Rattle.btree_walks.specs.Prefixes.{under}
-use Rattle.btree_walks.specs.declared.rows.Row.{Row}
-use Rattle.desk_model.specs.claim.Desk.{Desk, Plan, name_cmp}
-use Rattle.store_rows.specs.claim.Keys.{key_of, named, plans_prefix, retired}
-use Rattle.store_rows.specs.claim.Order.{key_cmp}
-use Rattle.store_rows.specs.claim.Values.{plan_bytes}
-use Rattle.store_rows.specs.declared.value.PlanRow.{PlanRow}
-use Rattle.store_rows.specs.claim.Rows.{KeyMap, Lacks}
-use Rattle.store_rows.proofs.OneGeography.{no_value}
-use Rattle.store_rows.specs.Changes.{plan_row_of}
-use Rattle.store_rows.proofs.Changes.{cases_key, other_row}
+use Rattle.btree_walks.specs.{Prefixes.under, declared.rows.Row.Row}
+use Rattle.desk_model.specs.{claim.Desk.{Desk, Plan, name_cmp}, declared.ranges.CountyRange.CountyRange}
+use Rattle.store_rows.specs.{claim.Keys.{key_of, named, plans_prefix, retired}, claim.Order.key_cmp, claim.Values.plan_bytes, declared.value.PlanRow.PlanRow}
+use Rattle.store_rows.{specs.claim.Rows.{KeyMap, Lacks}, specs.Changes.plan_row_of, proofs.OneGeography.no_value, proofs.Changes.{cases_key, other_row}}
 use Rattle.store_rows.proofs.Frames.{differs, itself}
-use Rattle.desk_opening.specs.Opening.{ArePlansShown, HasNothing, IsListed, IsNotGone, IsShown, IsShownAt}
-use Rattle.desk_model.specs.declared.ranges.CountyRange.{CountyRange}
-use Rattle.desk_opening.specs.Reading.{AreRevisionsShown}
+use Rattle.desk_opening.specs.{Opening.{ArePlansShown, HasNothing, IsListed, IsNotGone, IsShown, IsShownAt}, Reading.AreRevisionsShown}
+use Rattle.desk_opening.proofs.{Parts.{Plans, put_there, put_keeps}, Scanned.{found_among, next_plan}}
 use Rattle.desk_pages.specs.Desks.{new_desk}
-use Rattle.desk_opening.proofs.Parts.{Plans, put_there, put_keeps}
-use Rattle.desk_opening.proofs.Scanned.{found_among, next_plan}
 
 -- a row's numbers are those of the plan
 pub row_is : (row : PlanRow) (p : Plan) → p.kind ≡ row.kind → p.n ≡ row.districts → length p.revisions ≡ row.revisions → row ≡ plan_row_of row.number p

@@ -1,30 +1,14 @@
 -- A desk of its geography and its plans.
-use Rattle.std.proofs.Common.{◌≡◌, List, ℕ, Bool, Some, None, Result, Ok, Err, OnOk, IfOk, IfErr, refl, sym, subst, ◌∙◌}
-use Rattle.std.specs.Prelude.{Option}
-use Rattle.std.specs.Cmp.Lexicographic.{nat_list_cmp_total}
-use Rattle.std.specs.FinMap.{empty, get, get-empty, same_map, slice_cmp-IsAntisymmetric, nat_cmp-IsAntisymmetric}
-use Rattle.sector_device.specs.claim.Disk.{Image}
-use Rattle.sector_device.specs.declared.SectorDevice.{Ghosts}
-use Rattle.page_store.specs.claim.Transactions.{stored, disk_in, IsQuiet, Passed}
-use Rattle.page_store.proofs.Stops.{failed_more}
-use Rattle.page_store.specs.declared.pages.Pages.{Pages}
-use Rattle.page_store.specs.declared.txn.Txn.{Txn}
-use Rattle.page_btree.specs.claim.Map.{InTxn as InTree}
-use Rattle.page_btree.specs.declared.error.TreeError.{TreeError}
-use Rattle.page_btree.specs.declared.error.TreeError.TheVariants.{DeviceFault, NotAStore, Halted, NoPages, TooDeep, Memory}
-use Rattle.desk_model.specs.claim.Geography.{GeographyModel}
-use Rattle.desk_model.specs.claim.Desk.{Desk, Plan, name_cmp}
-use Rattle.store_rows.specs.claim.Rows.{KeyMap, Lacks}
-use Rattle.store_rows.specs.claim.Keys.{named}
-use Rattle.store_rows.specs.claim.GeographyRows.{IsGeography}
-use Rattle.store_rows.specs.claim.DeskRows.{IsDesk, IsPlanAt}
-use Rattle.store_rows.specs.Changes.{desk_with}
+use Rattle.std.specs.{Prelude.Option, Cmp.Lexicographic.nat_list_cmp_total, FinMap.{empty, get, get-empty, same_map, slice_cmp-IsAntisymmetric, nat_cmp-IsAntisymmetric}}
+use Rattle.std.proofs.Common.{◌≡◌, List, ℕ, Bool, Some, None, Result, Ok, Err, IfOk, refl, sym, subst, ◌∙◌}
+use Rattle.sector_device.specs.{claim.Disk.Image, declared.SectorDevice.Ghosts}
+use Rattle.page_store.{specs.claim.Transactions.{stored, disk_in, IsQuiet, Passed}, specs.declared.pages.Pages.Pages, specs.declared.txn.Txn.Txn, proofs.Stops.failed_more}
+use Rattle.page_btree.specs.{claim.Map.InTxn as InTree, declared.error.TreeError.TreeError, declared.error.TreeError.TheVariants.{DeviceFault, NotAStore, Halted, Memory}}
+use Rattle.desk_model.specs.{claim.Geography.GeographyModel, claim.Desk.{Desk, Plan, name_cmp}}
+use Rattle.store_rows.specs.{claim.Rows.{KeyMap, Lacks}, claim.Keys.named, claim.GeographyRows.IsGeography, claim.DeskRows.{IsDesk, IsPlanAt}, Changes.desk_with}
+use Rattle.desk_pages.specs.{Looking.{Gathers, Says}, Reading.{ReadErr, SeekErr}, claim.Desks.{IsMapOf, IsWithinLimits, InTxnOf}, Desks.new_desk}
 use Rattle.desk_pages.proofs.Looking.{looked, not_looked}
-use Rattle.desk_pages.specs.Looking.{Gathers, Says}
-use Rattle.desk_pages.specs.Reading.{ReadErr, SeekErr}
 use Rattle.store_check.specs.Numbers.{IsKept}
-use Rattle.desk_pages.specs.claim.Desks.{IsMapOf, IsWithinLimits, InTxnOf}
-use Rattle.desk_pages.specs.Desks.{new_desk}
 use Rattle.desk_opening.specs.Opening.{ArePlans, HasNothing, IsMapAs, OpenErr}
 
 none_at : (m : KeyMap) (name : List ℕ) (p : Option Plan) → IsPlanAt m None name p → p ≡ None
@@ -61,21 +45,14 @@ module _ {new : Bool} (m : KeyMap) (d : Desk) (is : IsMapOf new m d) where
 
 -- what isn't read of the rows of a desk
 pub unopened : {D : Type 0} {g : Ghosts D} (t : Txn) (a b : Pages D g) (e : TreeError) → SeekErr (Unit {0}) (Says IsMapAs) t a b e → OpenErr t a b e
-unopened t a b DeviceFault why = why
 unopened t a b NotAStore why = λ honest new d held. why honest held.m held.holds ((new, d), held.is)
-unopened t a b Halted why = why
-unopened t a b NoPages why = why
-unopened t a b TooDeep why = why
-unopened t a b Memory why = why
+unopened t a b _ why = why
 
 -- what isn't kept is no desk's
 pub unkept : {D : Type 0} {g : Ghosts D} (t : Txn) (a b : Pages D g) (e : TreeError) → ReadErr IsKept t a b e → OpenErr t a b e
-unkept t a b DeviceFault why = why
 unkept t a b NotAStore why = λ honest new d held. why honest held.m held.holds (record { desk = d; is = held.is.desk; tidy = held.is.tidy })
-unkept t a b Halted why = why
-unkept t a b NoPages why = why
-unkept t a b TooDeep why = why
 unkept t a b Memory why = tt
+unkept t a b _ why = why
 
 -- ---- calls that passed, and then one more
 module _ {D : Type 0} {g : Ghosts D} where
@@ -86,9 +63,8 @@ module _ {D : Type 0} {g : Ghosts D} where
   then_unopened t a b c passed quiet DeviceFault why = failed_more a b c passed quiet why
   then_unopened t a b c passed quiet NotAStore why = λ honest new d held. why honest new d (still_reads t a b d passed (quiet.honest honest) held)
   then_unopened t a b c passed quiet Halted why = sym passed.halted ∙ why
-  then_unopened t a b c passed quiet NoPages why = why
-  then_unopened t a b c passed quiet TooDeep why = why
   then_unopened t a b c passed quiet Memory why = tt
+  then_unopened t a b c passed quiet _ why = why
 
   -- what isn't read of what each desk has
   pub unread_unopened : (has : KeyMap → Type 0) (t : Txn) (a b c : Pages D g) → Passed a b → IsQuiet b c → ((disk_in b).is_honest → (m : KeyMap) (x : Bool × Desk) → InTree t (stored a) m → IsMapAs m x → has m) → (e : TreeError) → ReadErr has t b c e → OpenErr t a c e
@@ -97,9 +73,8 @@ module _ {D : Type 0} {g : Ghosts D} where
       let then = quiet.honest honest in
       why honest held.m (subst (λ (P : Image). InTree t P held.m) (sym (passed.quiet.same then)) held.holds) (gives then held.m (new, d) held.holds held.is)
   unread_unopened has t a b c passed quiet gives Halted why = sym passed.halted ∙ why
-  unread_unopened has t a b c passed quiet gives NoPages why = why
-  unread_unopened has t a b c passed quiet gives TooDeep why = why
   unread_unopened has t a b c passed quiet gives Memory why = tt
+  unread_unopened has t a b c passed quiet gives _ why = why
 
 -- what is so of what was found, whatever the rows say
 pub with_also : {D X : Type 0} {g : Ghosts D} {says : KeyMap → X → Type 0} {has : KeyMap → Type 0} {t : Txn} {a b : Pages D g} (P : X → Type 0) (r : Result X TreeError) → Gathers says has t a b r → IfOk r P

@@ -1,13 +1,9 @@
 -- Plans whose revisions have a district for each block.
-use Rattle.std.proofs.Common.{◌≡◌, ℕ, List, Some, None, inl, inr, sym, ap, subst, ◌∙◌}
-use Rattle.std.specs.Prelude.{Option}
-use Rattle.std.specs.FinMap.{FinMap, empty, get, insert, get-empty}
-use Rattle.desk_model.specs.claim.Geography.{GeographyModel}
-use Rattle.desk_model.specs.claim.Desk.{Plan, name_cmp}
+use Rattle.std.{specs.Prelude.Option, specs.FinMap.{FinMap, empty, get, insert, get-empty}, proofs.Common.{◌≡◌, ℕ, List, Some, None, inl, inr, sym, ap, subst, ◌∙◌}}
+use Rattle.desk_model.specs.{claim.Geography.GeographyModel, claim.Desk.{Plan, name_cmp}}
 use Rattle.store_rows.proofs.Changes.{cases_key}
 use Rattle.desk_catalogue.specs.Kept.{AreWhole}
-use Rattle.desk_opening.specs.Reading.{IsWhole}
-use Rattle.desk_opening.proofs.Parts.{put_there, put_keeps}
+use Rattle.desk_opening.{specs.Reading.IsWhole, proofs.Parts.{put_there, put_keeps}}
 
 pub none_whole : (g : GeographyModel) → AreWhole (Some g) (empty {X = Plan} {R = name_cmp})
 none_whole g other name p same there =

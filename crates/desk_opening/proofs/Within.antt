@@ -1,12 +1,10 @@
 -- No block of a plan's revisions is in a district above its last.
+use Rattle.std.specs.{Prelude.{◌==◌, All, Option}, List.slice_get}
 use Rattle.std.proofs.Common.{◌≡◌, ◌≤◌, ◌+◌, ◌-◌, ◌++◌, ℕ, Bool, true, false, cond, List, [], length, take, drop, Some, None, sym, subst, ◌∙◌, inl, inr}
-use Rattle.std.specs.Prelude.{◌==◌, All, Option}
-use Rattle.std.specs.List.{slice_get}
 use Rattle.std.proofs.lemmas.Option.{get_or_from_slice_get, slice_get_cases}
 use Rattle.std.proofs.lemmas.List.Elements.{All-append, All-drop, All-get_or, All-push, All-take}
 use Rattle.desk_catalogue.specs.shared_lists.Laid.{with_at}
-use Rattle.desk_model.specs.claim.Desk.{Plan}
-use Rattle.desk_model.specs.claim.Subject.{revision_at}
+use Rattle.desk_model.specs.{claim.Desk.Plan, claim.Subject.revision_at}
 use Rattle.desk_pages.specs.claim.Desks.{AreWithin}
 use Rattle.store_rows.specs.Changes.{with_revision}
 use Rattle.desk_opening.specs.Reading.{AreAllWithin}

@@ -1,42 +1,26 @@
 -- What is read back of a desk row by row, and why it is not.
-use Rattle.std.specs.Prelude.{◌≡◌, ◌⊎◌, ◌<◌, ◌≤◌, ◌^◌, ℕ, List, [], Bool, true, Option, Some, None}
-use Rattle.std.specs.FinMap.{FinMap, get, insert, len, get as row_at}
-use Rattle.std.specs.BTreeMap.{BTreeMap, Updates, get as count_at}
-use Rattle.std.specs.Ordering.{nat_cmp}
+use Rattle.std.specs.{Prelude.{◌≡◌, ◌⊎◌, ◌<◌, ◌≤◌, ◌^◌, ℕ, List, [], Bool, true, Option, Some, None}, FinMap.{FinMap, get, insert, len, get as row_at}}
+use Rattle.std.specs.{BTreeMap.{BTreeMap, Updates, get as count_at}, Ordering.nat_cmp}
 use Rattle.sector_device.specs.declared.SectorDevice.{Ghosts}
-use Rattle.desk_model.specs.claim.Geography.{GeographyModel}
-use Rattle.desk_model.specs.Ranges.{ranges_in}
-use Rattle.desk_model.specs.declared.ranges.CountyRange.{CountyRange}
-use Rattle.desk_model.specs.claim.Desk.{Desk, Plan, name_cmp}
-use Rattle.desk_model.specs.claim.Step.{plan_limit}
-use Rattle.page_store.specs.claim.Transactions.{stored, disk_in, has_halted, HasFailed}
-use Rattle.page_store.specs.declared.pages.Pages.{Pages}
-use Rattle.page_store.specs.declared.txn.Txn.{Txn}
-use Rattle.page_btree.specs.declared.error.TreeError.{TreeError}
-use Rattle.page_btree.specs.declared.error.TreeError.TheVariants.{DeviceFault, NotAStore, Halted, NoPages, TooDeep, Memory}
+use Rattle.desk_model.specs.{claim.Geography.GeographyModel, Ranges.ranges_in, declared.ranges.CountyRange.CountyRange, claim.Desk.{Desk, Plan, name_cmp}, claim.Step.plan_limit}
+use Rattle.page_store.specs.{claim.Transactions.{stored, disk_in, has_halted, HasFailed}, declared.pages.Pages.Pages, declared.txn.Txn.Txn}
+use Rattle.page_btree.specs.{declared.error.TreeError.TreeError, declared.error.TreeError.TheVariants.{DeviceFault, NotAStore, Halted, Memory}}
 use Rattle.btree_walks.specs.declared.rows.Row.{Row}
-use Rattle.store_rows.specs.claim.Keys.{key_of, Fits, begun, named, part, retired, seal, version}
-use Rattle.store_rows.specs.claim.Values.{plan_bytes, seal_bytes}
-use Rattle.store_rows.specs.declared.value.PlanRow.{PlanRow}
-use Rattle.store_rows.specs.declared.value.SealRow.{SealRow}
-use Rattle.desk_pages.specs.Reading.{StandsAs}
-use Rattle.store_rows.specs.claim.Rows.{KeyMap, row_in, Has, Lacks}
-use Rattle.store_rows.specs.claim.DeskRows.{IsDesk}
-use Rattle.store_rows.specs.claim.Tidy.{IsNumbered, Tidy, version_row}
+use Rattle.store_rows.specs.{claim.Keys.{key_of, Fits, begun, named, part, retired, seal, version}, claim.Values.{plan_bytes, seal_bytes}, declared.value.PlanRow.PlanRow}
+use Rattle.store_rows.specs.{declared.value.SealRow.SealRow, claim.Rows.{KeyMap, row_in, Has, Lacks}, claim.DeskRows.IsDesk, claim.Tidy.{IsNumbered, Tidy, version_row}}
 use Rattle.store_rows.specs.Changes.{desk_with, plan_row_of}
+use Rattle.desk_pages.specs.{Reading.StandsAs, claim.Desks.{InTxnOf, IsMapOf, IsSized, IsWithinLimits}}
 use Rattle.store_check.specs.Numbers.{HasNumbersBelow}
 use Rattle.geo_tables.specs.Elements.{IsGeographyRead}
 use Rattle.desk_opening.specs.Reading.{AreRevisionsShown}
-use Rattle.desk_pages.specs.claim.Desks.{InTxnOf, IsMapOf, IsSized, IsWithinLimits}
 
 -- the device failed, or the transaction reads no desk in either version; or a growth was refused
 abbrev pub OpenErr : {D : Type 0} {g : Ghosts D} → Txn → Pages D g → Pages D g → TreeError → Type 0
 OpenErr t old new DeviceFault = HasFailed old new
 OpenErr t old new NotAStore = (disk_in new).is_honest → (new : Bool) (d : Desk) → InTxnOf new t (stored old) d → ⊥
 OpenErr t old new Halted = has_halted old ≡ true
-OpenErr t old new NoPages = ⊥
-OpenErr t old new TooDeep = ⊥
 OpenErr t old new Memory = Unit {0}
+OpenErr t old new _ = ⊥
 
 -- the rows tell a version
 abbrev pub HasVersion : KeyMap → Type 0
@@ -89,12 +73,9 @@ pub record IsNoted (row : Row) (old new : BTreeMap ℕ ℕ) : Type 0 where
   pub is : Updates nat_cmp old new plan.number (Some plan.revisions)
 
 abbrev pub NoteErr : Row → BTreeMap ℕ ℕ → TreeError → Type 0
-NoteErr row counts DeviceFault = ⊥
 NoteErr row counts NotAStore = (p : PlanRow) → p.number < 2 ^ 64 → row.value ≡ plan_bytes p → count_at nat_cmp counts p.number ≡ None → ⊥
-NoteErr row counts Halted = ⊥
-NoteErr row counts NoPages = ⊥
-NoteErr row counts TooDeep = ⊥
 NoteErr row counts Memory = Unit {0}
+NoteErr row counts _ = ⊥
 
 -- the row is that of a plan of the desk that isn't among these, nor its number among theirs
 pub record IsFreshPlan (g : GeographyModel) (plans : FinMap name_cmp Plan) (counts : BTreeMap ℕ ℕ) (row : Row) (m : KeyMap) (plan : List ℕ × Plan)

@@ -1,27 +1,15 @@
 -- What is held before and after a commit.
-use Rattle.std.proofs.Common.{◌≡◌, ◌≢◌, ◌⊎◌, ◌<◌, ◌≤◌, ◌+◌, ℕ, true, false, List, length, Result, Ok, Err, OnOk, inl, inr, ⊎_elim, sym, ap, subst, ◌∙◌, arith}
-use Rattle.std.specs.Prelude.{IfOk}
-use Rattle.sector_device.specs.claim.Disk.{Disk, Image}
-use Rattle.sector_device.specs.claim.Moments.{LeavesOnly}
-use Rattle.sector_device.proofs.Moments.{leaves_wider}
-use Rattle.sector_device.specs.declared.SectorDevice.{Ghosts}
-use Rattle.page_store.specs.gate_journal.claim.Store.{home}
-use Rattle.page_store.specs.gate_journal.Store.{IsBeforeOrAfter}
-use Rattle.page_store.specs.claim.Chain.{AreFree, IsPages, root_in, free_in}
-use Rattle.page_store.proofs.Chains.{length_chain}
+use Rattle.std.{specs.Prelude.IfOk, proofs.Common.{◌≡◌, ◌≢◌, ◌⊎◌, ◌<◌, ◌≤◌, ◌+◌, ℕ, true, false, List, length, Result, Ok, Err, OnOk, inl, inr, ⊎_elim, sym, ap, subst, ◌∙◌, arith}}
+use Rattle.sector_device.{specs.claim.Disk.{Disk, Image}, specs.claim.Moments.LeavesOnly, specs.declared.SectorDevice.Ghosts, proofs.Moments.leaves_wider}
+use Rattle.page_store.specs.{gate_journal.claim.Store.home, gate_journal.Store.IsBeforeOrAfter, claim.Chain.{AreFree, IsPages, root_in, free_in}}
 use Rattle.page_store.specs.claim.Transactions.{stored, disk_in, count_of, has_halted, txn_pages, txn_root, txn_free, over, free_over, prepared_pages, prepared_writes, after, journal_of, HasShape, CommitErr}
-use Rattle.page_store.specs.Transactions.{txn_first}
-use Rattle.page_store.specs.gate_journal.declared.error.PageError.{PageError}
+use Rattle.page_store.specs.{Transactions.txn_first, gate_journal.declared.error.PageError.PageError, declared.pages.Pages.Pages, declared.txn.Txn.Txn}
+use Rattle.page_store.{specs.declared.txn.Prepared.Prepared, proofs.Chains.length_chain}
 use Rattle.page_store.specs.gate_journal.declared.error.PageError.TheVariants as page
-use Rattle.page_store.specs.declared.pages.Pages.{Pages}
-use Rattle.page_store.specs.declared.txn.Txn.{Txn}
-use Rattle.page_store.specs.declared.txn.Prepared.{Prepared}
 use Rattle.btree_puts.proofs.page_btree.MapLaws.{prepared_holds}
 use Rattle.btree_puts.specs.page_btree.claim.Map.{Holds, InTxn, InPages}
 use Rattle.store_rows.specs.claim.Rows.{KeyMap}
-use Rattle.desk_pages.specs.claim.Commits.{HoldsAfter}
-use Rattle.desk_pages.specs.Commits.{OpensRows, FittingErr}
-use Rattle.desk_pages.specs.Errors.{page_refusal}
+use Rattle.desk_pages.specs.{claim.Commits.HoldsAfter, Commits.{OpensRows, FittingErr}, Errors.page_refusal}
 
 pub holds_after : (t : Txn) (r : Result Prepared PageError) → IfOk r (λ made. prepared_pages made ≡ txn_pages t) → IfOk r (λ made. (P : Image) (q : ℕ) → q ≢ 0 → after made P q ≡ over t P q) → IfOk r (λ made. (P : Image) → root_in (after made P) ≡ txn_root t)
     → IfOk r (λ made. (P : Image) → AreFree (txn_pages t) (free_over t P) → free_in (after made P) ≡ free_over t P) → IfOk r (λ made. (P : Image) → AreFree (txn_pages t) (free_over t P) → IsPages (txn_pages t) (after made P)) → IfOk r (λ made. (P : Image) (m : KeyMap) → InTxn t P m → HoldsAfter made P m)
@@ -74,7 +62,4 @@ module _ {D : Type 0} {g : Ghosts D} where
   commit_refused writes a b working few page.DeviceFault why = why.0
   commit_refused writes a b working few page.Halted why = absurd (let clash : false ≡ true = sym working ∙ why.0 in cc)
   commit_refused writes a b working few page.TooManyPages why = absurd (let less = why.1 in omega arith)
-  commit_refused writes a b working few page.NotAStore why = absurd why
-  commit_refused writes a b working few page.TooSmall why = absurd why
-  commit_refused writes a b working few page.NoPages why = absurd why
-  commit_refused writes a b working few page.Memory why = absurd why
+  commit_refused writes a b working few _ why = absurd why

@@ -1,17 +1,11 @@
 -- What keeps a desk in pages, and that pages hold one desk alone.
-use Rattle.std.specs.Prelude.{◌≡◌, ◌≢◌, ◌⊎◌, ◌≤◌, ◌+◌, ◌^◌, ℕ, Bool, List}
-use Rattle.std.proofs.Common.{inl, inr, ⊎_elim, subst}
+use Rattle.std.{specs.Prelude.{◌≡◌, ◌≢◌, ◌⊎◌, ◌≤◌, ◌+◌, ◌^◌, ℕ, Bool, List}, proofs.Common.{inl, inr, ⊎_elim, subst}}
 use Rattle.sector_device.specs.claim.Disk.{Image}
-use Rattle.page_store.specs.gate_journal.claim.Store.{home, overlay}
-use Rattle.page_store.specs.gate_journal.Store.{IsBeforeOrAfter}
-use Rattle.page_store.specs.claim.Chain.{root_in, free_in, IsPages}
-use Rattle.page_store.specs.claim.Transactions.{txn_pages, txn_root, over, free_over}
-use Rattle.page_store.specs.declared.txn.Txn.{Txn}
+use Rattle.page_store.specs.{gate_journal.claim.Store.{home, overlay}, gate_journal.Store.IsBeforeOrAfter, claim.Chain.{root_in, free_in, IsPages}}
+use Rattle.page_store.specs.{claim.Transactions.{txn_pages, txn_root, over, free_over}, declared.txn.Txn.Txn}
 use Rattle.btree_puts.proofs.page_btree.MapLaws.{begun_holds, prepared_holds, one_map}
 use Rattle.desk_model.specs.claim.Desk.{Desk}
-use Rattle.store_rows.specs.claim.Rows.{KeyMap}
-use Rattle.store_rows.specs.claim.DeskRows.{IsDesk}
-use Rattle.store_rows.specs.Laws.{DeskIsOne}
+use Rattle.store_rows.specs.{claim.Rows.KeyMap, claim.DeskRows.IsDesk, Laws.DeskIsOne}
 use Rattle.desk_pages.specs.claim.Desks.{HoldsDeskOf, InTxnOf, OpensDeskOf}
 
 -- a transaction that is begun reads the desk that the pages hold

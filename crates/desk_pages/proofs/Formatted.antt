@@ -1,29 +1,14 @@
 -- A new store holds the desk without geography and plans, and the row of the version alone.
-use Rattle.std.proofs.Common.{◌≡◌, ℕ, List, Option, Some, None, sym, ◌∙◌, subst, arith}
-use Rattle.std.specs.FinMap.{empty, get, len, get-empty, len-empty}
-use Rattle.sector_device.specs.claim.Disk.{Disk}
-use Rattle.sector_device.specs.declared.SectorDevice.{Ghosts}
-use Rattle.page_store.specs.gate_journal.claim.Store.{pages}
+use Rattle.std.{specs.FinMap.{empty, get, len, get-empty, len-empty}, proofs.Common.{◌≡◌, ℕ, List, Option, Some, None, sym, ◌∙◌, subst, arith}}
+use Rattle.sector_device.specs.{claim.Disk.Disk, declared.SectorDevice.Ghosts}
+use Rattle.page_store.specs.{gate_journal.claim.Store.pages, claim.Chain.free_in, New.{IsNewWith, FormatErr as PagesErr}, gate_journal.declared.error.PageError.PageError}
 use Rattle.page_store.proofs.gate_journal.Commit.{settled_opens}
-use Rattle.page_store.specs.claim.Chain.{free_in}
-use Rattle.page_store.specs.New.{IsNewWith, FormatErr as PagesErr}
-use Rattle.page_store.specs.gate_journal.declared.error.PageError.{PageError}
 use Rattle.page_store.specs.gate_journal.declared.error.PageError.TheVariants as page
-use Rattle.btree_puts.specs.page_btree.claim.Map.{Holds}
-use Rattle.btree_puts.specs.page_btree.Map.{IsOnlyRow}
+use Rattle.btree_puts.specs.{page_btree.claim.Map.Holds, page_btree.Map.IsOnlyRow}
 use Rattle.desk_model.specs.claim.Desk.{Plan, name_cmp}
-use Rattle.store_rows.specs.claim.Keys.{key_of, seal, named, version, in_four}
-use Rattle.store_rows.specs.claim.Order.{key_cmp}
-use Rattle.store_rows.specs.claim.Rows.{KeyMap}
-use Rattle.store_rows.specs.claim.DeskRows.{IsPlanAt, IsDesk}
-use Rattle.store_rows.specs.claim.Tidy.{AllHold}
-use Rattle.store_rows.specs.MigrationLaws.{as_new}
-use Rattle.store_rows.proofs.Migrating.{version_told, new_tidy}
-use Rattle.store_rows.proofs.TidyFree.{empty_tidy}
-use Rattle.desk_pages.specs.Desks.{new_desk}
-use Rattle.desk_pages.specs.claim.Desks.{IsSized, IsWithinLimits}
-use Rattle.desk_pages.specs.Errors.{page_refusal}
-use Rattle.desk_pages.specs.Formats.{FormatErr, OpensNew, HasJournal}
+use Rattle.store_rows.specs.{claim.Keys.{key_of, seal, named, version, in_four}, claim.Order.key_cmp, claim.Rows.KeyMap, claim.DeskRows.{IsPlanAt, IsDesk}, claim.Tidy.AllHold}
+use Rattle.store_rows.{specs.MigrationLaws.as_new, proofs.Migrating.{version_told, new_tidy}, proofs.TidyFree.empty_tidy}
+use Rattle.desk_pages.specs.{Desks.new_desk, claim.Desks.{IsSized, IsWithinLimits}, Errors.page_refusal, Formats.{FormatErr, OpensNew, HasJournal}}
 
 abbrev none : KeyMap
 none = empty
@@ -75,7 +60,4 @@ pub format_refused : {D : Type 0} (g : Ghosts D) (J : ℕ) (old new : D) (e : Pa
 format_refused g J old new page.DeviceFault why = why
 format_refused g J old new page.TooSmall why = why
 format_refused g J old new page.Memory why = why
-format_refused g J old new page.NotAStore why = absurd why
-format_refused g J old new page.Halted why = absurd why
-format_refused g J old new page.TooManyPages why = absurd why
-format_refused g J old new page.NoPages why = absurd why
+format_refused g J old new _ why = absurd why

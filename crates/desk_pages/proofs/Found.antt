@@ -1,23 +1,14 @@
 -- Desks of a store that an opening finds.
 use Rattle.std.proofs.Common.{◌≡◌, ◌+◌, ℕ, Bool, true, sym, ap, subst, ◌∙◌, arith}
-use Rattle.sector_device.specs.claim.Disk.{Disk, Image}
-use Rattle.sector_device.specs.claim.Moments.{LeavesOnly}
-use Rattle.sector_device.proofs.Moments.{leaves_wider}
-use Rattle.sector_device.specs.declared.SectorDevice.{Ghosts}
-use Rattle.page_store.specs.gate_journal.claim.Store.{home, header_of, IsStore, Opens, pages}
-use Rattle.page_store.specs.gate_journal.Recovery.{HasRoom, AllStores, ReadsAs, Found}
+use Rattle.sector_device.{specs.claim.Disk.{Disk, Image}, specs.claim.Moments.LeavesOnly, specs.declared.SectorDevice.Ghosts, proofs.Moments.leaves_wider}
+use Rattle.page_store.specs.{gate_journal.claim.Store.{home, header_of, IsStore, Opens, pages}, gate_journal.Recovery.{HasRoom, AllStores, ReadsAs, Found}}
+use Rattle.page_store.specs.{claim.Chain.{root_in, free_in, IsPages}, Openings.AllPageStores, claim.Transactions.{stored, disk_in, count_of, journal_of, IsKept, IsQuiet}}
+use Rattle.page_store.{specs.declared.pages.Pages.Pages, proofs.Stops.kept_quiet}
 use Rattle.page_store.proofs.gate_journal.Headers.{same_journal}
-use Rattle.page_store.specs.claim.Chain.{root_in, free_in, IsPages}
-use Rattle.page_store.specs.Openings.{AllPageStores}
-use Rattle.page_store.specs.claim.Transactions.{stored, disk_in, count_of, journal_of, IsKept, IsQuiet}
-use Rattle.page_store.proofs.Stops.{kept_quiet}
-use Rattle.page_store.specs.declared.pages.Pages.{Pages}
 use Rattle.btree_puts.specs.page_btree.claim.Map.{Holds, InPages as HasRows}
 use Rattle.desk_model.specs.claim.Desk.{Desk}
 use Rattle.store_rows.specs.claim.Rows.{KeyMap}
-use Rattle.desk_pages.specs.claim.Desks.{HoldsDeskOf, OpensAs, OpensDeskOf}
-use Rattle.desk_pages.specs.Desks.{InPagesAs}
-use Rattle.desk_pages.specs.Openings.{AllDesks, OpensOneOf, HasPages, StillStands}
+use Rattle.desk_pages.specs.{claim.Desks.{HoldsDeskOf, OpensAs, OpensDeskOf}, Desks.InPagesAs, Openings.{AllDesks, OpensOneOf, HasPages, StillStands}}
 use Rattle.desk_pages.specs.claim.Openings.{AllVersions, OpensOneAs}
 
 -- what is of the new version is of either

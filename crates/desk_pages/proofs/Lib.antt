@@ -5,7 +5,7 @@ pub mod Refusals
 pub mod Committed
 pub mod Kept
 pub mod Found
-pub mod Appending
+pub mod ListParts
 pub mod Outcomes
 pub mod RowsPut
 pub mod Reading

@@ -1,20 +1,12 @@
 -- Looks, one after the other.
-use Rattle.std.specs.Prelude.{◌≡◌, ℕ, List, Option, Result, Ok, Err, IsErrAnd}
-use Rattle.std.specs.FinMap.{get as row_at}
-use Rattle.std.proofs.Common.{refl, sym, subst, ◌∙◌}
-use Rattle.sector_device.specs.claim.Disk.{Image}
-use Rattle.sector_device.specs.declared.SectorDevice.{Ghosts}
-use Rattle.page_store.specs.claim.Transactions.{stored, disk_in, IsQuiet, Passed}
+use Rattle.std.{specs.Prelude.{◌≡◌, ℕ, List, Option, Result, Ok, Err, IsErrAnd}, specs.FinMap.get as row_at, proofs.Common.{refl, sym, subst, ◌∙◌}}
+use Rattle.sector_device.specs.{claim.Disk.Image, declared.SectorDevice.Ghosts}
+use Rattle.page_store.specs.{claim.Transactions.{stored, disk_in, IsQuiet, Passed}, declared.pages.Pages.Pages, declared.txn.Txn.Txn}
 use Rattle.page_store.proofs.Stops.{quiet_more, passed_more, passed_none, failed_more}
-use Rattle.page_store.specs.declared.pages.Pages.{Pages}
-use Rattle.page_store.specs.declared.txn.Txn.{Txn}
-use Rattle.btree_puts.specs.page_btree.claim.Map.{InTxn}
-use Rattle.btree_puts.specs.page_btree.declared.error.TreeError.{TreeError}
-use Rattle.btree_puts.specs.page_btree.declared.error.TreeError.TheVariants.{DeviceFault, NotAStore, Halted, NoPages, TooDeep, Memory}
+use Rattle.btree_puts.specs.{page_btree.claim.Map.InTxn, page_btree.declared.error.TreeError.TreeError}
+use Rattle.btree_puts.specs.page_btree.declared.error.TreeError.TheVariants.{DeviceFault, NotAStore, Halted, Memory}
 use Rattle.store_rows.specs.claim.Rows.{KeyMap}
-use Rattle.desk_pages.proofs.Reading.{less_sought, value_read, value_unread}
-use Rattle.desk_pages.specs.Looking.{Gathers, Looks, Seeks}
-use Rattle.desk_pages.specs.Reading.{IsReadAs, ReadErr, SeekErr, StandsAs}
+use Rattle.desk_pages.{specs.Looking.{Gathers, Looks, Seeks}, specs.Reading.{IsReadAs, ReadErr, SeekErr, StandsAs}, proofs.Reading.{less_sought, value_read, value_unread}}
 
 module _ {D X : Type 0} {g : Ghosts D} {short : Type 0} {says : KeyMap → X → Type 0} {has : KeyMap → Type 0} {t : Txn} {a b : Pages D g} where
   -- calls passed, and this is so after them
@@ -61,18 +53,12 @@ module _ {D : Type 0} {g : Ghosts D} (short : Type 0) (has more : KeyMap → Typ
   then_unread gives NotAStore why = λ honest m holds is.
       let then = quiet.honest honest in why honest m (subst (λ (P : Image). InTxn t P m) (sym (read.quiet.same then)) holds) (gives then m holds is)
   then_unread gives Halted why = sym read.halted ∙ why
-  then_unread gives NoPages why = why
-  then_unread gives TooDeep why = why
-  then_unread gives Memory why = why
+  then_unread gives _ why = why
 
 -- a look is a gathering
 pub may_lack : {D : Type 0} {g : Ghosts D} (has : KeyMap → Type 0) (t : Txn) (a b : Pages D g) (e : TreeError) → ReadErr has t a b e → SeekErr (Unit {0}) has t a b e
-may_lack has t a b DeviceFault why = why
-may_lack has t a b NotAStore why = why
-may_lack has t a b Halted why = why
-may_lack has t a b NoPages why = why
-may_lack has t a b TooDeep why = why
 may_lack has t a b Memory why = tt
+may_lack has t a b _ why = why
 
 module _ {D X : Type 0} {g : Ghosts D} {says : KeyMap → X → Type 0} {has : KeyMap → Type 0} {t : Txn} {a b : Pages D g} where
   pub gathered : (r : Result X TreeError) → Looks says has t a b r → Gathers says has t a b r

@@ -1,28 +1,12 @@
 -- Lemmas on the definitions of Reading.
-use Rattle.std.specs.Prelude.{◌≡◌, ℕ, List, [], Option, Some, None, Result, Ok, Err, IfOk, IfErr, option_map, MatchOption}
+use Rattle.std.specs.{Prelude.{◌≡◌, ℕ, List, [], Option, Some, None, Result, Ok, Err, IfOk, IfErr, option_map, MatchOption}, FinMap.get as row_at}
 use Rattle.std.proofs.Common.{refl, sym, ap, subst, ◌∙◌, arith}
-use Rattle.std.specs.FinMap.{get as row_at}
-use Rattle.sector_device.specs.claim.Disk.{Image}
-use Rattle.sector_device.specs.declared.SectorDevice.{Ghosts}
-use Rattle.page_store.specs.claim.Transactions.{stored, disk_in, IsQuiet, Passed}
-use Rattle.page_store.proofs.Stops.{failed_more}
-use Rattle.page_store.specs.declared.pages.Pages.{Pages}
-use Rattle.page_store.specs.declared.txn.Txn.{Txn}
-use Rattle.btree_puts.specs.page_btree.claim.Map.{InTxn}
-use Rattle.btree_puts.specs.page_btree.declared.error.TreeError.{TreeError}
-use Rattle.btree_puts.specs.page_btree.declared.error.TreeError.TheVariants.{DeviceFault, NotAStore, Halted, NoPages, TooDeep, Memory}
-use Rattle.btree_puts.specs.page_btree.claim.Errors.{GetErr}
-use Rattle.btree_puts.specs.declared.finger.Fingers.{Fingers}
-use Rattle.btree_puts.specs.Fingers.{Stand, GetWhereErr}
-use Rattle.store_rows.specs.claim.Keys.{key_of, counters}
-use Rattle.store_rows.specs.claim.Values.{counters_bytes}
-use Rattle.store_rows.specs.declared.value.Counters.{Counters}
-use Rattle.store_rows.specs.claim.Rows.{KeyMap}
-use Rattle.store_rows.specs.claim.Puts.{Row}
-use Rattle.desk_pages.specs.claim.Puts.{HasPut, PutsErr}
-use Rattle.desk_pages.proofs.RowsPut.{more_put, then_not_put}
-use Rattle.store_rows.specs.claim.Tidy.{no_numbers}
-use Rattle.desk_pages.specs.Reading.{HasNext, IsReadAs, ReadErr, ReadErrWith, SeekErr, StandsAs}
+use Rattle.sector_device.specs.{claim.Disk.Image, declared.SectorDevice.Ghosts}
+use Rattle.page_store.specs.{claim.Transactions.{stored, disk_in, IsQuiet, Passed}, declared.pages.Pages.Pages, declared.txn.Txn.Txn}
+use Rattle.btree_puts.specs.{page_btree.claim.Map.InTxn, page_btree.declared.error.TreeError.TreeError, page_btree.declared.error.TreeError.TheVariants.NotAStore}
+use Rattle.btree_puts.specs.{page_btree.claim.Errors.GetErr, declared.finger.Fingers.Fingers, Fingers.{Stand, GetWhereErr}}
+use Rattle.store_rows.specs.{claim.Keys.{key_of, counters}, claim.Values.counters_bytes, declared.value.Counters.Counters, claim.Rows.KeyMap, claim.Puts.Row, claim.Tidy.no_numbers}
+use Rattle.desk_pages.{specs.claim.Puts.{HasPut, PutsErr}, specs.Reading.{HasNext, IsReadAs, ReadErr, ReadErrWith, SeekErr, StandsAs}, proofs.RowsPut.{more_put, then_not_put}}
 
 -- and has one value
 pub one_value : (key a b : List ℕ) (m : KeyMap) → row_at m key ≡ Some a → row_at m key ≡ Some b → a ≡ b
@@ -53,29 +37,17 @@ module _ {D : Type 0} {g : Ghosts D} where
 
   -- a value that isn't copied isn't read
   pub get_unread : (has : KeyMap → Type 0) (t : Txn) (old new : Pages D g) (e : TreeError) → GetErr t old new e → ReadErr has t old new e
-  get_unread has t old new DeviceFault why = why
   get_unread has t old new NotAStore why = λ honest m holds is. why honest m holds
-  get_unread has t old new Halted why = why
-  get_unread has t old new NoPages why = why
-  get_unread has t old new TooDeep why = why
-  get_unread has t old new Memory why = why
+  get_unread has t old new _ why = why
 
   pub get_unread_with : (has : KeyMap → Type 0) (fs : Fingers) (t : Txn) (old new : Pages D g) (e : TreeError) → GetWhereErr (λ (S : Image). Stand t S fs) t old new e → ReadErrWith fs has t old new e
-  get_unread_with has fs t old new DeviceFault why = why
   get_unread_with has fs t old new NotAStore why = λ honest m holds stand is. why honest m holds stand
-  get_unread_with has fs t old new Halted why = why
-  get_unread_with has fs t old new NoPages why = why
-  get_unread_with has fs t old new TooDeep why = why
-  get_unread_with has fs t old new Memory why = why
+  get_unread_with has fs t old new _ why = why
 
   -- one who needs more of a map isn't told more
   pub less_sought : (short : Type 0) (has more : KeyMap → Type 0) (t : Txn) (old new : Pages D g) → ((m : KeyMap) → more m → has m) → (e : TreeError) → SeekErr short has t old new e → SeekErr short more t old new e
-  less_sought short has more t old new gives DeviceFault why = why
   less_sought short has more t old new gives NotAStore why = λ honest m holds is. why honest m holds (gives m is)
-  less_sought short has more t old new gives Halted why = why
-  less_sought short has more t old new gives NoPages why = why
-  less_sought short has more t old new gives TooDeep why = why
-  less_sought short has more t old new gives Memory why = why
+  less_sought short has more t old new gives _ why = why
 
 next_in : (row : Option (List ℕ)) (next : Counters) → MatchOption row (next ≡ no_numbers) (λ value. value ≡ counters_bytes next) → (value : Option Counters) × (option_map counters_bytes value ≡ row)
 next_in None next is = (None, refl)
@@ -101,15 +73,6 @@ module _ {D : Type 0} {g : Ghosts D} (t : Txn) (a b : Pages D g) (read : Passed 
 
   pub not_put_after : (rows : List Row) (c : Pages D g) (e : TreeError) → IsQuiet b c → PutsErr rows t b c e → PutsErr rows t a c e
   not_put_after rows c e quiet why = then_not_put [] rows t t a b c e first_read quiet why
-
-  -- what isn't read after them isn't read at all
-  pub not_read_after : (has : KeyMap → Type 0) (c : Pages D g) (e : TreeError) → IsQuiet b c → ReadErr has t b c e → ReadErr has t a c e
-  not_read_after has c DeviceFault quiet why = failed_more a b c read quiet why
-  not_read_after has c NotAStore quiet why = λ honest m holds is. why honest m (subst (λ P. InTxn t P m) (sym (read.quiet.same (quiet.honest honest))) holds) is
-  not_read_after has c Halted quiet why = sym read.halted ∙ why
-  not_read_after has c NoPages quiet why = why
-  not_read_after has c TooDeep quiet why = why
-  not_read_after has c Memory quiet why = why
 
   -- and what is read is of the same map
   pub read_after : (is : KeyMap → Type 0) (c : Pages D g) → IsQuiet b c → ((disk_in c).is_honest → (m : KeyMap) → InTxn t (stored b) m → is m) → (disk_in c).is_honest → (m : KeyMap) → InTxn t (stored a) m → is m

@@ -1,37 +1,22 @@
 -- What is told of pages that aren't opened, and of rows that aren't read.
 use Rattle.std.proofs.Common.{◌≡◌, ◌≢◌, Bool, true, false, inl, refl, sym, subst, ◌∙◌}
-use Rattle.sector_device.specs.claim.Disk.{Disk}
-use Rattle.sector_device.specs.declared.SectorDevice.{Ghosts}
-use Rattle.page_store.specs.claim.Transactions.{disk_in, device_in, has_halted, IsQuiet}
-use Rattle.page_store.specs.Transactions.{IsUntouched}
-use Rattle.page_store.specs.gate_journal.declared.error.PageError.{PageError}
-use Rattle.page_store.specs.gate_journal.declared.error.PageError.TheVariants as page
+use Rattle.sector_device.specs.{claim.Disk.Disk, declared.SectorDevice.Ghosts}
+use Rattle.page_store.specs.{claim.Transactions.{disk_in, device_in, has_halted, IsQuiet}, Transactions.IsUntouched, gate_journal.declared.error.PageError.PageError}
 use Rattle.page_store.specs.declared.pages.Pages.{Pages}
+use Rattle.page_store.specs.gate_journal.declared.error.PageError.TheVariants as page
 use Rattle.btree_puts.specs.page_btree.declared.error.TreeError.{TreeError}
-use Rattle.desk_pages.specs.Errors.{page_refusal, row_refusal, IsCalm}
-use Rattle.desk_pages.specs.Openings.{IsSpared}
-use Rattle.desk_pages.specs.declared.error.StoreError.{StoreError}
+use Rattle.desk_pages.specs.{Errors.{page_refusal, row_refusal, IsCalm}, Openings.IsSpared, declared.error.StoreError.StoreError}
 use Rattle.desk_pages.specs.declared.error.StoreError.TheVariants.{NotAStore, DeviceFault}
 
 -- nothing else is told of pages that weren't opened for a fault
 pub page_calm : (old new : Disk) (e : PageError) → (new.is_honest → e ≢ page.DeviceFault → new.faults ≡ old.faults) → new.is_honest → page_refusal e ≢ DeviceFault → new.faults ≡ old.faults
 page_calm old new page.DeviceFault calm honest other = absurd (other refl)
-page_calm old new page.NotAStore calm honest other = calm honest (λ is. cc)
-page_calm old new page.Memory calm honest other = calm honest (λ is. cc)
-page_calm old new page.Halted calm honest other = calm honest (λ is. cc)
-page_calm old new page.TooManyPages calm honest other = calm honest (λ is. cc)
-page_calm old new page.TooSmall calm honest other = calm honest (λ is. cc)
-page_calm old new page.NoPages calm honest other = calm honest (λ is. cc)
+page_calm old new _ calm honest other = calm honest (λ is. cc)
 
 -- what is no store stays as it is
 pub page_spared : (old new : Disk) (e : PageError) → (new.is_honest → e ≡ page.NotAStore → IsUntouched old new) → new.is_honest → page_refusal e ≡ NotAStore → IsSpared old new
 page_spared old new page.NotAStore untouched = λ honest is. inl (untouched honest refl)
-page_spared old new page.DeviceFault untouched = λ honest is. cc
-page_spared old new page.Memory untouched = λ honest is. cc
-page_spared old new page.Halted untouched = λ honest is. cc
-page_spared old new page.TooManyPages untouched = λ honest is. cc
-page_spared old new page.TooSmall untouched = λ honest is. cc
-page_spared old new page.NoPages untouched = λ honest is. cc
+page_spared old new _ untouched = λ honest is. cc
 
 module _ {D : Type 0} {g : Ghosts D} where
   -- where no fault is told, none came

@@ -1,27 +1,14 @@
 -- Lemmas on the definitions of Rising.
-use Rattle.std.specs.Prelude.{◌≡◌, ◌<◌, ◌≤◌, ◌+◌, ℕ, List, [], ◌∷◌, ◌++◌}
-use Rattle.std.proofs.Common.{suc, refl, sym, ap, subst, ◌∙◌, arith, append_assoc, length-append}
-use Rattle.std.specs.FinMap.{insert}
-use Rattle.sector_device.specs.claim.Disk.{Image}
-use Rattle.sector_device.specs.declared.SectorDevice.{Ghosts}
-use Rattle.page_store.specs.claim.Transactions.{stored, disk_in, txn_pages, txn_root, txn_free, txn_writes, over, IsQuiet, Passed}
-use Rattle.page_store.proofs.Stops.{passed_none, passed_more, failed_more}
-use Rattle.page_store.specs.declared.pages.Pages.{Pages}
-use Rattle.page_store.specs.declared.txn.Txn.{Txn}
-use Rattle.btree_puts.specs.page_btree.claim.Map.{InTxn}
-use Rattle.btree_puts.specs.page_btree.claim.Errors.{PutErr, level_in}
-use Rattle.btree_puts.specs.page_btree.declared.error.TreeError.{TreeError}
-use Rattle.btree_puts.specs.page_btree.declared.error.TreeError.TheVariants.{DeviceFault, NotAStore, Halted, NoPages, TooDeep, Memory}
+use Rattle.std.{specs.Prelude.{◌≡◌, ◌<◌, ◌≤◌, ◌+◌, ℕ, List, [], ◌∷◌, ◌++◌}, specs.FinMap.insert, proofs.Common.{suc, refl, sym, ap, subst, ◌∙◌, arith, append_assoc, length-append}}
+use Rattle.sector_device.specs.{claim.Disk.Image, declared.SectorDevice.Ghosts}
+use Rattle.page_store.specs.{claim.Transactions.{stored, disk_in, txn_pages, txn_root, txn_free, txn_writes, over, IsQuiet, Passed}, declared.pages.Pages.Pages}
+use Rattle.page_store.{specs.declared.txn.Txn.Txn, proofs.Stops.{passed_none, passed_more, failed_more}}
+use Rattle.btree_puts.specs.{page_btree.claim.Map.InTxn, page_btree.claim.Errors.{PutErr, level_in}, page_btree.declared.error.TreeError.TreeError}
+use Rattle.btree_puts.specs.{page_btree.declared.error.TreeError.TheVariants.{DeviceFault, NotAStore, Halted, NoPages, TooDeep, Memory}, declared.finger.Finger.Finger}
+use Rattle.btree_puts.specs.{declared.finger.Fingers.Fingers, Fingers.{Stand, StandsIn, PutByErr}}
 use Rattle.btree_puts.proofs.page_btree.Refusals.{by_case}
-use Rattle.btree_puts.specs.declared.finger.Finger.{Finger}
-use Rattle.btree_puts.specs.declared.finger.Fingers.{Fingers}
-use Rattle.btree_puts.specs.Fingers.{Stand, StandsIn, PutByErr}
-use Rattle.store_rows.specs.claim.Rows.{KeyMap}
-use Rattle.store_rows.specs.claim.Puts.{Row, put_rows}
-use Rattle.store_rows.specs.Puts.{rows_told}
-use Rattle.store_rows.proofs.Puts.{put_rows-append, told_prefix}
-use Rattle.desk_pages.specs.claim.Puts.{HasPut, PutsErr}
-use Rattle.desk_pages.specs.Rising.{HasPutWith, PutsErrWith}
+use Rattle.store_rows.{specs.claim.Rows.KeyMap, specs.claim.Puts.{Row, put_rows}, specs.Puts.rows_told, proofs.Puts.{put_rows-append, told_prefix}}
+use Rattle.desk_pages.specs.{claim.Puts.{HasPut, PutsErr}, Rising.{HasPutWith, PutsErrWith}}
 
 -- where no leaf is known, a finger stands, and so do both
 pub none_stands : (t : Txn) (S : Image) (f : Finger) → f.page ≡ 0 → StandsIn t S f
@@ -89,9 +76,7 @@ module _ {D : Type 0} {g : Ghosts D} where
 
   -- or it was not, by one that stands where both do
   pub one_not_put_with : (f : Fingers) (was : Finger) (row : Row) (t : Txn) (a b : Pages D g) → ((S : Image) → Stand t S f → StandsIn t S was) → (e : TreeError) → PutByErr was t a b e → PutsErrWith f (row ∷ []) t a b e
-  one_not_put_with f was row t a b stands DeviceFault why = why
   one_not_put_with f was row t a b stands NotAStore why = λ honest m holds stand. why honest m holds (stands (stored a) stand)
-  one_not_put_with f was row t a b stands Halted why = why
   one_not_put_with f was row t a b stands NoPages why = omega arith
   one_not_put_with f was row t a b stands TooDeep why = λ honest m holds stand. record {
     prefix = [];
@@ -102,6 +87,7 @@ module _ {D : Type 0} {g : Ghosts D} where
     deep = why honest;
   }
   one_not_put_with f was row t a b stands Memory why = tt
+  one_not_put_with f was row t a b stands _ why = why
 
   -- some were put, and then others were not
   pub then_not_put_with : (f h : Fingers) (rows more : List Row) (t u : Txn) (a b c : Pages D g) (e : TreeError) → HasPutWith f h rows t u a b → IsQuiet b c → PutsErrWith h more u b c e → PutsErrWith f (rows ++ more) t a c e
@@ -138,9 +124,6 @@ module _ {D : Type 0} {g : Ghosts D} where
 
   -- rows are not all put where the first of them are not
   pub prefix_not_put_with : (f : Fingers) (rows more : List Row) (t : Txn) (a b : Pages D g) (e : TreeError) → PutsErrWith f rows t a b e → PutsErrWith f (rows ++ more) t a b e
-  prefix_not_put_with f rows more t a b DeviceFault why = why
-  prefix_not_put_with f rows more t a b NotAStore why = why
-  prefix_not_put_with f rows more t a b Halted why = why
   prefix_not_put_with f rows more t a b NoPages why = let count = length-append rows more in omega arith
   prefix_not_put_with f rows more t a b TooDeep why = λ honest m holds stand.
       let deep = why honest m holds stand in
@@ -153,6 +136,7 @@ module _ {D : Type 0} {g : Ghosts D} where
         deep = deep.deep;
       }
   prefix_not_put_with f rows more t a b Memory why = tt
+  prefix_not_put_with f rows more t a b _ why = why
 
   -- ---- where no leaf was known at first
   pub fresh_put : (f h : Fingers) (rows : List Row) (t u : Txn) (a b : Pages D g) → f.first.page ≡ 0 → f.second.page ≡ 0 → HasPutWith f h rows t u a b → HasPut rows t u a b
@@ -165,12 +149,9 @@ module _ {D : Type 0} {g : Ghosts D} where
   }
 
   pub fresh_not_put : (f : Fingers) (rows : List Row) (t : Txn) (a b : Pages D g) (e : TreeError) → f.first.page ≡ 0 → f.second.page ≡ 0 → PutsErrWith f rows t a b e → PutsErr rows t a b e
-  fresh_not_put f rows t a b DeviceFault first second why = why
   fresh_not_put f rows t a b NotAStore first second why = λ honest m holds. why honest m holds (fresh_stand t (stored a) f first second)
-  fresh_not_put f rows t a b Halted first second why = why
-  fresh_not_put f rows t a b NoPages first second why = why
   fresh_not_put f rows t a b TooDeep first second why = λ honest m holds. why honest m holds (fresh_stand t (stored a) f first second)
-  fresh_not_put f rows t a b Memory first second why = why
+  fresh_not_put f rows t a b _ first second why = why
 
   -- so many of the rows that a place tells were put, from no known leaf on
   pub record HasPutFrom (fs : Fingers) (rows : List Row) (t u : Txn) (old new : Pages D g) : Type 0 where

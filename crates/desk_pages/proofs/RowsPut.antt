@@ -1,20 +1,11 @@
 -- Lemmas on the definitions of Puts.
-use Rattle.std.specs.Prelude.{◌≡◌, ◌<◌, ◌≤◌, ◌+◌, ℕ, List, [], ◌∷◌, ◌++◌}
-use Rattle.std.proofs.Common.{suc, refl, sym, ap, subst, ◌∙◌, arith, append_assoc, length-append}
-use Rattle.std.specs.FinMap.{insert}
+use Rattle.std.{specs.Prelude.{◌≡◌, ◌<◌, ◌≤◌, ◌+◌, ℕ, List, [], ◌∷◌, ◌++◌}, specs.FinMap.insert, proofs.Common.{suc, refl, sym, ap, subst, ◌∙◌, arith, append_assoc, length-append}}
 use Rattle.sector_device.specs.declared.SectorDevice.{Ghosts}
-use Rattle.page_store.specs.claim.Transactions.{stored, disk_in, txn_pages, txn_root, txn_free, txn_writes, over, IsQuiet, Passed}
-use Rattle.page_store.proofs.Stops.{passed_none, passed_more, failed_more}
-use Rattle.page_store.specs.declared.pages.Pages.{Pages}
-use Rattle.page_store.specs.declared.txn.Txn.{Txn}
-use Rattle.btree_puts.specs.page_btree.claim.Map.{InTxn}
-use Rattle.btree_puts.specs.page_btree.claim.Errors.{PutErr, level_in}
-use Rattle.btree_puts.specs.page_btree.declared.error.TreeError.{TreeError}
+use Rattle.page_store.specs.{claim.Transactions.{stored, disk_in, txn_pages, txn_root, txn_free, txn_writes, over, IsQuiet, Passed}, declared.pages.Pages.Pages}
+use Rattle.page_store.{specs.declared.txn.Txn.Txn, proofs.Stops.{passed_none, passed_more, failed_more}}
+use Rattle.btree_puts.specs.{page_btree.claim.Map.InTxn, page_btree.claim.Errors.{PutErr, level_in}, page_btree.declared.error.TreeError.TreeError}
 use Rattle.btree_puts.specs.page_btree.declared.error.TreeError.TheVariants.{DeviceFault, NotAStore, Halted, NoPages, TooDeep, Memory}
-use Rattle.store_rows.specs.claim.Rows.{KeyMap}
-use Rattle.store_rows.specs.claim.Puts.{Row, put_rows}
-use Rattle.store_rows.specs.Puts.{rows_told}
-use Rattle.store_rows.proofs.Puts.{put_rows-append, told_prefix}
+use Rattle.store_rows.{specs.claim.Rows.KeyMap, specs.claim.Puts.{Row, put_rows}, specs.Puts.rows_told, proofs.Puts.{put_rows-append, told_prefix}}
 use Rattle.desk_pages.specs.claim.Puts.{HasPut, PutsErr}
 
 module _ {D : Type 0} {g : Ghosts D} where
@@ -55,9 +46,6 @@ module _ {D : Type 0} {g : Ghosts D} where
 
   -- or it was not
   pub one_not_put : (row : Row) (t : Txn) (a b : Pages D g) (e : TreeError) → PutErr t a b e → PutsErr (row ∷ []) t a b e
-  one_not_put row t a b DeviceFault why = why
-  one_not_put row t a b NotAStore why = why
-  one_not_put row t a b Halted why = why
   one_not_put row t a b NoPages why = omega arith
   one_not_put row t a b TooDeep why = λ honest m holds. record {
     prefix = [];
@@ -68,6 +56,7 @@ module _ {D : Type 0} {g : Ghosts D} where
     deep = why honest;
   }
   one_not_put row t a b Memory why = tt
+  one_not_put row t a b _ why = why
 
   -- what holds after some rows
   held_then : (rows : List Row) (t u : Txn) (a b : Pages D g) → HasPut rows t u a b → (disk_in b).is_honest → (m : KeyMap) → InTxn t (stored a) m → InTxn u (stored b) (put_rows m rows)
@@ -98,9 +87,6 @@ module _ {D : Type 0} {g : Ghosts D} where
 
   -- rows are not all put where the first of them are not
   pub prefix_not_put : (rows more : List Row) (t : Txn) (a b : Pages D g) (e : TreeError) → PutsErr rows t a b e → PutsErr (rows ++ more) t a b e
-  prefix_not_put rows more t a b DeviceFault why = why
-  prefix_not_put rows more t a b NotAStore why = why
-  prefix_not_put rows more t a b Halted why = why
   prefix_not_put rows more t a b NoPages why = let count = length-append rows more in omega arith
   prefix_not_put rows more t a b TooDeep why = λ honest m holds.
       let deep = why honest m holds in
@@ -113,6 +99,7 @@ module _ {D : Type 0} {g : Ghosts D} where
         deep = deep.deep;
       }
   prefix_not_put rows more t a b Memory why = tt
+  prefix_not_put rows more t a b _ why = why
 
   -- of rows that a place tells: one more, and none at all where a prefix is not
   pub told_more : (row : ℕ → Row) (k : ℕ) (t u v : Txn) (a b c : Pages D g) → HasPut (rows_told row k) t u a b → HasPut (row k ∷ []) u v b c → HasPut (rows_told row (k + 1)) t v a c

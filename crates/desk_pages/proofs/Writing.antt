@@ -1,17 +1,10 @@
 -- Rows that are put, call by call.
-use Rattle.std.specs.Prelude.{◌≡◌, ◌<◌, ◌+◌, ℕ, List, ◌++◌, [], ◌∷◌, Result, Ok, Err, IsErrAnd}
-use Rattle.std.proofs.Common.{sym, subst}
+use Rattle.std.{specs.Prelude.{◌≡◌, ◌<◌, ◌+◌, ℕ, List, ◌++◌, [], ◌∷◌, Result, Ok, Err, IsErrAnd}, proofs.Common.{sym, subst}}
 use Rattle.sector_device.specs.declared.SectorDevice.{Ghosts}
-use Rattle.page_store.specs.claim.Transactions.{count_of, txn_pages, IsQuiet}
-use Rattle.page_store.proofs.Stops.{quiet_more, quiet_none}
-use Rattle.page_store.specs.declared.pages.Pages.{Pages}
-use Rattle.page_store.specs.declared.txn.Txn.{Txn}
+use Rattle.page_store.{specs.claim.Transactions.{count_of, txn_pages, IsQuiet}, specs.declared.pages.Pages.Pages, specs.declared.txn.Txn.Txn, proofs.Stops.{quiet_more, quiet_none}}
 use Rattle.btree_puts.specs.page_btree.declared.error.TreeError.{TreeError}
-use Rattle.store_rows.specs.Puts.{rows_told}
-use Rattle.store_rows.specs.claim.Puts.{Row}
-use Rattle.desk_pages.specs.claim.Puts.{PutsErr}
-use Rattle.desk_pages.specs.Outcomes.{PutsRows, Writes}
-use Rattle.desk_pages.proofs.RowsPut.{more_put, none_put, prefix_not_put, then_not_put, told_more, told_not_put}
+use Rattle.store_rows.specs.{Puts.rows_told, claim.Puts.Row}
+use Rattle.desk_pages.{specs.claim.Puts.PutsErr, specs.Outcomes.{PutsRows, Writes}, proofs.RowsPut.{more_put, none_put, prefix_not_put, then_not_put, told_more, told_not_put}}
 
 module _ {D X Y : Type 0} {g : Ghosts D} {done : X → Type 0} {failed : TreeError → Type 0} {u : Txn} {a b : Pages D g} {also : Y → Type 0} {why : TreeError → Type 0} where
   -- what was done says something else

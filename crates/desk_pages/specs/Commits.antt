@@ -1,20 +1,14 @@
 -- What no promise rests on, beside claim/Commits.antt.
 use Rattle.std.specs.Prelude.{◌≡◌, ◌⊎◌, ◌<◌, ◌+◌, ℕ, true, false, Result, OnOk, IfErr}
-use Rattle.sector_device.specs.claim.Disk.{Image}
-use Rattle.sector_device.specs.claim.Moments.{LeavesOnly}
+use Rattle.sector_device.specs.{claim.Disk.Image, claim.Moments.LeavesOnly, declared.SectorDevice.Ghosts}
 use Rattle.desk_model.specs.claim.Desk.{Desk}
-use Rattle.page_store.specs.gate_journal.claim.Store.{home}
-use Rattle.page_store.specs.claim.Chain.{IsPages}
-use Rattle.sector_device.specs.declared.SectorDevice.{Ghosts}
+use Rattle.page_store.specs.{gate_journal.claim.Store.home, claim.Chain.IsPages}
 use Rattle.page_store.specs.claim.Transactions.{stored, disk_in, count_of, journal_of, has_halted, txn_writes, HasFailed, HasShape, IsKept, IsSame}
-use Rattle.page_store.specs.gate_journal.declared.error.PageError.{PageError}
-use Rattle.page_store.specs.gate_journal.declared.error.PageError.TheVariants.{NotAStore, DeviceFault, Halted, TooManyPages, TooSmall, NoPages, Memory}
-use Rattle.page_store.specs.declared.pages.Pages.{Pages}
-use Rattle.page_store.specs.declared.txn.Txn.{Txn}
+use Rattle.page_store.specs.{gate_journal.declared.error.PageError.PageError, gate_journal.declared.error.PageError.TheVariants.{DeviceFault, Halted, TooManyPages, Memory}}
+use Rattle.page_store.specs.{declared.pages.Pages.Pages, declared.txn.Txn.Txn}
 use Rattle.btree_puts.specs.page_btree.Map.{OpensMap}
 use Rattle.store_rows.specs.claim.Rows.{KeyMap}
-use Rattle.desk_pages.specs.claim.Desks.{InTxn as DeskInTxn, InPages as DeskInPages, OpensDesk}
-use Rattle.desk_pages.specs.declared.error.StoreError.{StoreError}
+use Rattle.desk_pages.specs.{claim.Desks.{InTxn as DeskInTxn, InPages as DeskInPages, OpensDesk}, declared.error.StoreError.StoreError}
 use Rattle.desk_pages.specs.declared.error.StoreError.TheVariants as store
 
 -- an image opens to the map, and to pages that hold a root and free pages
@@ -28,9 +22,7 @@ TxnErr t old new DeviceFault = HasFailed old new
 TxnErr t old new Halted = (has_halted old ≡ true) × IsSame old new
 TxnErr t old new TooManyPages = (has_halted old ≡ false) × (journal_of old < txn_writes t + 1) × IsSame old new
 TxnErr t old new Memory = new ≡ old
-TxnErr t old new NotAStore = ⊥
-TxnErr t old new TooSmall = ⊥
-TxnErr t old new NoPages = ⊥
+TxnErr t old new _ = ⊥
 
 module _ {D : Type 0} {g : Ghosts D} where
   -- what a stop in a commit leaves of pages that work: the desk before, or the one that the transaction reads

@@ -1,12 +1,8 @@
 -- What a format leaves.
 use Rattle.std.specs.Prelude.{◌≡◌, ◌≤◌, ◌<◌, ◌+◌, ℕ}
-use Rattle.sector_device.specs.claim.Disk.{Disk, Image}
-use Rattle.sector_device.specs.declared.SectorDevice.{Ghosts}
+use Rattle.sector_device.specs.{claim.Disk.{Disk, Image}, declared.SectorDevice.Ghosts}
 use Rattle.page_store.specs.gate_journal.claim.Store.{home, IsStore}
-use Rattle.desk_pages.specs.claim.Desks.{OpensDesk}
-use Rattle.desk_pages.specs.Desks.{new_desk}
-use Rattle.desk_pages.specs.declared.error.StoreError.{StoreError}
-use Rattle.desk_pages.specs.declared.error.StoreError.TheVariants.{TooSmall, Memory, DeviceFault}
+use Rattle.desk_pages.specs.{claim.Desks.OpensDesk, Desks.new_desk, declared.error.StoreError.StoreError, declared.error.StoreError.TheVariants.{TooSmall, Memory, DeviceFault}}
 
 -- each image that a stop may leave opens to the desk without geography and plans
 abbrev pub OpensNew : Disk → Type 0

@@ -8,7 +8,6 @@ pub mod Openings
 pub mod Laws
 pub mod Reading
 pub mod Looking
-pub mod Appending
 pub mod Outcomes
 pub mod Rising
 pub mod Calls

@@ -1,9 +1,7 @@
 -- What becomes of rows that are put.
 use Rattle.std.specs.Prelude.{◌≡◌, List, Result, MatchResult}
 use Rattle.sector_device.specs.declared.SectorDevice.{Ghosts}
-use Rattle.page_store.specs.claim.Transactions.{count_of, txn_pages, IsQuiet}
-use Rattle.page_store.specs.declared.pages.Pages.{Pages}
-use Rattle.page_store.specs.declared.txn.Txn.{Txn}
+use Rattle.page_store.specs.{claim.Transactions.{count_of, txn_pages, IsQuiet}, declared.pages.Pages.Pages, declared.txn.Txn.Txn}
 use Rattle.btree_puts.specs.page_btree.declared.error.TreeError.{TreeError}
 use Rattle.store_rows.specs.claim.Puts.{Row}
 use Rattle.desk_pages.specs.claim.Puts.{HasPut, PutsErr}

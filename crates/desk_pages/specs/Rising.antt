@@ -1,16 +1,11 @@
 -- Rows that are put with two leaves that are known.
 use Rattle.std.specs.Prelude.{◌≡◌, ◌<◌, ◌≤◌, ◌+◌, ◌*◌, List, length, true, Result, MatchResult}
 use Rattle.sector_device.specs.declared.SectorDevice.{Ghosts}
-use Rattle.page_store.specs.claim.Transactions.{stored, disk_in, has_halted, txn_pages, txn_free, txn_writes, HasFailed, Passed}
-use Rattle.page_store.specs.declared.pages.Pages.{Pages}
-use Rattle.page_store.specs.declared.txn.Txn.{Txn}
-use Rattle.btree_puts.specs.page_btree.claim.Map.{InTxn}
-use Rattle.btree_puts.specs.page_btree.declared.error.TreeError.{TreeError}
-use Rattle.btree_puts.specs.page_btree.declared.error.TreeError.TheVariants.{DeviceFault, NotAStore, Halted, NoPages, TooDeep, Memory}
-use Rattle.btree_puts.specs.declared.finger.Fingers.{Fingers}
+use Rattle.page_store.specs.{claim.Transactions.{stored, disk_in, has_halted, txn_pages, txn_free, txn_writes, HasFailed, Passed}, declared.pages.Pages.Pages, declared.txn.Txn.Txn}
+use Rattle.btree_puts.specs.{page_btree.claim.Map.InTxn, page_btree.declared.error.TreeError.TreeError}
+use Rattle.btree_puts.specs.{page_btree.declared.error.TreeError.TheVariants.{DeviceFault, NotAStore, Halted, NoPages, TooDeep, Memory}, declared.finger.Fingers.Fingers}
 use Rattle.btree_puts.specs.Fingers.{Stand}
-use Rattle.store_rows.specs.claim.Rows.{KeyMap}
-use Rattle.store_rows.specs.claim.Puts.{Row, put_rows}
+use Rattle.store_rows.specs.{claim.Rows.KeyMap, claim.Puts.{Row, put_rows}}
 use Rattle.desk_pages.specs.claim.Puts.{HasDeepened}
 
 module _ {D : Type 0} {g : Ghosts D} where

@@ -7,7 +7,7 @@
 //!
 //! Rows are seen as a list, and the map with them put. `put_row`: at Ok the map with the row put, else why not (`PutsRows`).
 //! `put_row_with`, `get_row_with`: where leaves are known. `read_row`, `get_row`: what stands there (`Looks`), or that none does.
-//! `HasAppended`: lists read part by part; `part_of`: a part by its index.
+//! `part_of`: a part of a list by its index.
 #![tactic(auto)]
 
 mod commits;

@@ -1,20 +1,11 @@
 -- Plans of which one may wait to be put into the tree, as a map.
+use Rattle.std.specs.{Option.{option_copied, is_some}, Result.is_ok, FinMap.{is_sorted, get, len, get-insert, len-insert}, Cmp.Lexicographic.nat_list_cmp_total, Ordering.is_eq}
+use Rattle.std.specs.{declared.cmp.Ordering.Ordering, declared.cmp.Ordering.TheVariants.Equal, declared.sync.Arc.Arc, declared.alloc.Global.Global}
 use Rattle.std.proofs.Common.{◌≡◌, ℕ, ◌+◌, ◌-◌, ◌<◌, true, false, cond, List, length, IsTrue, Option, Some, None, IsSome, IfSome, IfNone, Bor, Result, Ok, Err, OnOk, arith, refl, subst, ap, sym, ◌∙◌}
-use Rattle.std.specs.Option.{option_copied, is_some}
-use Rattle.std.specs.Result.{is_ok}
 use Rattle.std.specs.FinMap as map_of
-use Rattle.std.specs.FinMap.{is_sorted, get, len, get-insert, len-insert}
-use Rattle.std.specs.Cmp.Lexicographic.{nat_list_cmp_total}
-use Rattle.std.specs.Ordering.{is_eq}
-use Rattle.std.specs.declared.cmp.Ordering.{Ordering}
-use Rattle.std.specs.declared.cmp.Ordering.TheVariants.{Less, Equal, Greater}
-use Rattle.std.specs.declared.sync.Arc.{Arc}
-use Rattle.std.specs.declared.alloc.Global.{Global}
 use Rattle.std.proofs.lemmas.Map.Lookups.{exact_bytes}
 use Rattle.desk_model.specs.claim.Desk.{Plan, name_cmp}
-use Rattle.desk_plans.specs.Rows.{Row, IsRemoved, IsFound}
-use Rattle.desk_plans.proofs.Rows.{AreRows}
-use Rattle.desk_plans.specs.Held.{laid, AreHeld, IsSettled}
+use Rattle.desk_plans.{specs.Rows.{Row, IsRemoved, IsFound}, specs.Held.{laid, AreHeld, IsSettled}, proofs.Rows.AreRows}
 use Rattle.desk_plans.proofs.AsMap.{as_map, len_of, map_put, rising_after, is_less, found_row, missing_row}
 
 -- rows that are the map
@@ -77,9 +68,8 @@ held_less rows new self name count are number some gone =
 
 -- what is found where a plan is pending
 equal : (o : Ordering) → is_eq o ≡ true → o ≡ Equal
-equal Less t = cc
 equal Equal t = refl
-equal Greater t = cc
+equal _ t = cc
 
 pub named_pending : (name : List ℕ) (e : Row) → is_eq (name_cmp name e.0) ≡ true → e.0 ≡ name
 named_pending name e same = sym (exact_bytes name e.0 (equal (name_cmp name e.0) same))

@@ -1,19 +1,14 @@
 -- Rows that rise by name: what stands before and after a name's place, and what is found there.
+use Rattle.std.specs.{declared.cmp.Ordering.Ordering, declared.cmp.Ordering.TheVariants.{Less, Equal, Greater}, Ordering.{is_lt, is_eq, ordering_reverse}}
+use Rattle.std.specs.{FinMap.{put, find, is_sorted}, FinMap.Entries.{by_order, below_all}, Cmp.Lexicographic.nat_list_cmp_total}
 use Rattle.std.proofs.Common.{◌≡◌, ℕ, ◌<◌, Bool, true, false, cond, ◌&&◌, List, [], ◌∷◌, ◌++◌, length, IsTrue, Some, None, arith, refl, ap, ◌∙◌}
-use Rattle.std.specs.declared.cmp.Ordering.{Ordering}
-use Rattle.std.specs.declared.cmp.Ordering.TheVariants.{Less, Equal, Greater}
-use Rattle.std.specs.Ordering.{is_lt, is_eq, ordering_reverse}
-use Rattle.std.specs.FinMap.{put, find, is_sorted}
-use Rattle.std.specs.FinMap.Entries.{by_order, below_all}
-use Rattle.std.specs.Cmp.Lexicographic.{nat_list_cmp_total}
 use Rattle.desk_model.specs.claim.Desk.{Plan, name_cmp}
 use Rattle.desk_plans.specs.Rows.{Row, EndsBelow, StartsAbove}
 
 -- a test's answer and the order after it
 less : (o : Ordering) → is_lt o ≡ true → o ≡ Less
 less Less t = refl
-less Equal t = cc
-less Greater t = cc
+less _ t = cc
 
 pub turned : (x y : List ℕ) → is_lt (name_cmp x y) ≡ true → name_cmp y x ≡ Greater
 turned x y t = nat_list_cmp_total.antisymm y x ∙ ap ordering_reverse (less _ t)

@@ -1,6 +1,5 @@
 -- Lemmas on the definitions of Rows.
-use Rattle.std.specs.Prelude.{◌≡◌, ℕ, List, length, IsTrue}
-use Rattle.std.specs.FinMap.{is_sorted}
+use Rattle.std.specs.{Prelude.{◌≡◌, ℕ, List, length, IsTrue}, FinMap.is_sorted}
 use Rattle.desk_model.specs.claim.Desk.{name_cmp}
 use Rattle.desk_plans.specs.Rows.{Row}
 

@@ -1,13 +1,9 @@
 -- A name's place in a tree, from its place on one side.
+use Rattle.std.specs.{Option.option_to_list, Ordering.{is_lt, ordering_reverse}, declared.cmp.Ordering.TheVariants.{Less, Equal, Greater}, Cmp.Lexicographic.nat_list_cmp_total}
 use Rattle.std.proofs.Common.{◌≡◌, ℕ, ◌<◌, true, List, [], ◌∷◌, ◌++◌, length, drop, Option, Some, None, Result, Ok, Err, IfOk, arith, refl, ap, ◌∙◌}
-use Rattle.std.specs.Option.{option_to_list}
 use Rattle.std.proofs.lemmas.List.{append_assoc}
-use Rattle.std.specs.Ordering.{is_lt, ordering_reverse}
-use Rattle.std.specs.declared.cmp.Ordering.TheVariants.{Less, Equal, Greater}
-use Rattle.std.specs.Cmp.Lexicographic.{nat_list_cmp_total}
 use Rattle.desk_model.specs.claim.Desk.{name_cmp}
-use Rattle.desk_plans.specs.Rows.{Row, EndsBelow, StartsAbove, StandsAt, IsSplit, IsPut, IsRemoved, IsFound}
-use Rattle.desk_plans.proofs.Rising.{ends_below_last}
+use Rattle.desk_plans.{specs.Rows.{Row, EndsBelow, StartsAbove, StandsAt, IsSplit, IsMade, IsFound}, proofs.Rising.ends_below_last}
 
 -- what follows at Ok
 pub if_ok : {T E : Type 0} (r : Result T E) (P Q : T → Type 0) → ((t : T) → P t → Q t) → IfOk r P → IfOk r Q
@@ -60,34 +56,9 @@ module _ (name : List ℕ) (l r : List Row) (e : Row) where
 pub split_none : (name : List ℕ) → IsSplit name [] [] [] []
 split_none name = record { all = refl; stands = (tt, tt) }
 
--- a plan is put: on the left, on the right, in the place of the one there, and where there is none
-pub put_left : (row : Row) (l r : List Row) (e : Row) (new rows made : List Row) → l ++ e ∷ r ≡ rows → made ≡ new ++ e ∷ r → name_cmp row.0 e.0 ≡ Less → IsPut row l new → IsPut row rows made
-put_left row l r e new rows made was is less p = record {
-  prefix = p.prefix;
-  here = p.here;
-  back = p.back ++ e ∷ r;
-  split = rw (← was) (split_left row.0 l r e p.prefix p.here p.back (below_of row.0 e.0 less) p.split);
-  new_is = is ∙ ap (λ xs. xs ++ e ∷ r) p.new_is ∙ simp append_assoc;
-}
-
-pub put_right : (row : Row) (l r : List Row) (e : Row) (new rows made : List Row) → l ++ e ∷ r ≡ rows → made ≡ l ++ e ∷ new → name_cmp row.0 e.0 ≡ Greater → IsPut row r new → IsPut row rows made
-put_right row l r e new rows made was is more p = record {
-  prefix = l ++ e ∷ p.prefix;
-  here = p.here;
-  back = p.back;
-  split = rw (← was) (split_right row.0 l r e p.prefix p.here p.back (above_of row.0 e.0 more) p.split);
-  new_is = is ∙ ap (λ xs. l ++ e ∷ xs) p.new_is ∙ simp append_assoc;
-}
-
-pub put_here : (row : Row) (l r : List Row) (e : Row) (rows made : List Row) → l ++ e ∷ r ≡ rows → made ≡ l ++ row ∷ r → name_cmp row.0 e.0 ≡ Equal → IsPut row rows made
-put_here row l r e rows made was is same = record { prefix = l; here = e ∷ []; back = r; split = rw (← was) (split_here row.0 l r e same); new_is = is }
-
-pub put_alone : (row : Row) (made : List Row) → made ≡ row ∷ [] → IsPut row [] made
-put_alone row made is = record { prefix = []; here = []; back = []; split = split_none row.0; new_is = is }
-
--- a plan is taken away: on the left, on the right, there, and where there is none
-pub removed_left : (name : List ℕ) (l r : List Row) (e : Row) (new rows made : List Row) → l ++ e ∷ r ≡ rows → made ≡ new ++ e ∷ r → name_cmp name e.0 ≡ Less → IsRemoved name l new → IsRemoved name rows made
-removed_left name l r e new rows made was is less p = record {
+-- a plan is put or taken away: on the left, on the right, there, and where there is none
+pub made_left : {name : List ℕ} {into : List Row} (l r : List Row) (e : Row) (new rows made : List Row) → l ++ e ∷ r ≡ rows → made ≡ new ++ e ∷ r → name_cmp name e.0 ≡ Less → IsMade name into l new → IsMade name into rows made
+made_left {name} {into} l r e new rows made was is less p = record {
   prefix = p.prefix;
   here = p.here;
   back = p.back ++ e ∷ r;
@@ -95,8 +66,8 @@ removed_left name l r e new rows made was is less p = record {
   new_is = is ∙ ap (λ xs. xs ++ e ∷ r) p.new_is ∙ simp append_assoc;
 }
 
-pub removed_right : (name : List ℕ) (l r : List Row) (e : Row) (new rows made : List Row) → l ++ e ∷ r ≡ rows → made ≡ l ++ e ∷ new → name_cmp name e.0 ≡ Greater → IsRemoved name r new → IsRemoved name rows made
-removed_right name l r e new rows made was is more p = record {
+pub made_right : {name : List ℕ} {into : List Row} (l r : List Row) (e : Row) (new rows made : List Row) → l ++ e ∷ r ≡ rows → made ≡ l ++ e ∷ new → name_cmp name e.0 ≡ Greater → IsMade name into r new → IsMade name into rows made
+made_right {name} {into} l r e new rows made was is more p = record {
   prefix = l ++ e ∷ p.prefix;
   here = p.here;
   back = p.back;
@@ -104,11 +75,11 @@ removed_right name l r e new rows made was is more p = record {
   new_is = is ∙ ap (λ xs. l ++ e ∷ xs) p.new_is ∙ simp append_assoc;
 }
 
-pub removed_here : (name : List ℕ) (l r : List Row) (e : Row) (rows made : List Row) → l ++ e ∷ r ≡ rows → made ≡ l ++ r → name_cmp name e.0 ≡ Equal → IsRemoved name rows made
-removed_here name l r e rows made was is same = record { prefix = l; here = e ∷ []; back = r; split = rw (← was) (split_here name l r e same); new_is = is }
+pub made_here : {name : List ℕ} {into : List Row} (l r : List Row) (e : Row) (rows made : List Row) → l ++ e ∷ r ≡ rows → made ≡ l ++ (into ++ r) → name_cmp name e.0 ≡ Equal → IsMade name into rows made
+made_here {name} {into} l r e rows made was is same = record { prefix = l; here = e ∷ []; back = r; split = rw (← was) (split_here name l r e same); new_is = is }
 
-pub removed_none : (name : List ℕ) → IsRemoved name [] []
-removed_none name = record { prefix = []; here = []; back = []; split = split_none name; new_is = refl }
+pub made_alone : (name : List ℕ) (into made : List Row) → made ≡ into ++ [] → IsMade name into [] made
+made_alone name into made is = record { prefix = []; here = []; back = []; split = split_none name; new_is = is }
 
 pub found_right : (name : List ℕ) (l r : List Row) (e : Row) (rows : List Row) (found : Option Row) → l ++ e ∷ r ≡ rows → name_cmp name e.0 ≡ Greater → IsFound name r found → IsFound name rows found
 found_right name l r e rows found was more f = record {

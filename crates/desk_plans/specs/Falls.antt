@@ -1,13 +1,7 @@
 -- Each side of a tree has fewer plans than the tree.
-use Rattle.std.specs.Prelude.{ℕ, ◌≤◌, [], ◌∷◌, ◌++◌, Option, Some, None, length}
+use Rattle.std.specs.{Prelude.{ℕ, ◌≤◌, [], ◌∷◌, ◌++◌, Option, Some, None, length}, declared.sync.Arc.Arc, declared.alloc.Global.Global}
 use Rattle.std.proofs.Common.{arith, length-append}
-use Rattle.std.specs.declared.sync.Arc.{Arc}
-use Rattle.std.specs.declared.alloc.Global.{Global}
-use Rattle.desk_plans.specs.Rows.{Row}
-use Rattle.desk_plans.specs.declared.tree.Tree.{Tree}
-use Rattle.desk_plans.specs.declared.tree.Tree.TheInside.{Inside}
-use Rattle.desk_plans.specs.declared.tree.Tree.TheDeep.{deep-Tree}
-use Rattle.desk_plans.specs.Tree.{rows_of}
+use Rattle.desk_plans.specs.{Rows.Row, declared.tree.Tree.Tree, declared.tree.Tree.TheInside.Inside, declared.tree.Tree.TheDeep.deep-Tree, Tree.rows_of}
 
 by_sides : (left right : Option (Arc Tree Global)) (entry : Arc Row Global) (height : ℕ)
     → deep-Tree (record { left = left; entry = entry; height = height; right = right }) ≤ length (rows_of left ++ entry.value ∷ rows_of right)

@@ -1,9 +1,6 @@
 -- Plans of which one may wait to be put into the tree.
-use Rattle.std.specs.Prelude.{◌≡◌, ℕ, List, Option, Some, None, IsTrue}
+use Rattle.std.specs.{Prelude.{◌≡◌, ℕ, List, Option, Some, None, IsTrue}, FinMap.is_sorted, declared.sync.Arc.Arc, declared.alloc.Global.Global}
 use Rattle.std.specs.FinMap as map_of
-use Rattle.std.specs.FinMap.{is_sorted}
-use Rattle.std.specs.declared.sync.Arc.{Arc}
-use Rattle.std.specs.declared.alloc.Global.{Global}
 use Rattle.desk_model.specs.claim.Desk.{Plan, name_cmp}
 use Rattle.desk_plans.specs.Rows.{Row, IsPut}
 

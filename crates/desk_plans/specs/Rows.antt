@@ -1,8 +1,5 @@
 -- Plans in the order of their names, and where a name stands among them.
-use Rattle.std.specs.Prelude.{◌≡◌, ℕ, List, [], ◌∷◌, ◌++◌, true, Option, IsTrue}
-use Rattle.std.specs.Option.{option_to_list}
-use Rattle.std.specs.Ordering.{is_lt}
-use Rattle.std.specs.declared.cmp.Ordering.TheVariants.{Equal}
+use Rattle.std.specs.{Prelude.{◌≡◌, ℕ, List, [], ◌∷◌, ◌++◌, true, Option, IsTrue}, Option.option_to_list, Ordering.is_lt, declared.cmp.Ordering.TheVariants.Equal}
 use Rattle.desk_model.specs.claim.Desk.{Plan, name_cmp}
 
 -- a plan under its name
@@ -31,21 +28,21 @@ pub record IsSplit (name : List ℕ) (rows prefix here back : List Row) : Type 0
   pub all : rows ≡ prefix ++ (here ++ back)
   pub stands : StandsAt name prefix here back
 
--- the row has come to its name's place, where it is the only one of the name
-pub record IsPut (row : Row) (old new : List Row) : Type 0 where
-  pub prefix : List Row
-  pub here : List Row
-  pub back : List Row
-  pub split : IsSplit row.0 old prefix here back
-  pub new_is : new ≡ prefix ++ row ∷ back
-
--- the row of the name, if there is one, is gone
-pub record IsRemoved (name : List ℕ) (old new : List Row) : Type 0 where
+-- the row of the name, if there is one, made way for these
+pub record IsMade (name : List ℕ) (into old new : List Row) : Type 0 where
   pub prefix : List Row
   pub here : List Row
   pub back : List Row
   pub split : IsSplit name old prefix here back
-  pub new_is : new ≡ prefix ++ back
+  pub new_is : new ≡ prefix ++ (into ++ back)
+
+-- the row has come to its name's place, where it is the only one of the name
+abbrev pub IsPut : Row → List Row → List Row → Type 0
+IsPut row old new = IsMade row.0 (row ∷ []) old new
+
+-- the row of the name, if there is one, is gone
+abbrev pub IsRemoved : List ℕ → List Row → List Row → Type 0
+IsRemoved name old new = IsMade name [] old new
 
 -- the row of the name, or none where there is none
 pub record IsFound (name : List ℕ) (rows : List Row) (found : Option Row) : Type 0 where

@@ -1,26 +1,15 @@
 -- Lives of a store, by induction on them.
-use Rattle.std.proofs.Common.{◌≡◌, ◌≤◌, ℕ, Bool, true, false, inl, ⊎_elim, Result, Ok, zero, suc, List, [], ◌∷◌, ◌++◌, length, take, get_or, refl, sym, subst, ◌∙◌, arith}
+use Rattle.std.proofs.Common.{◌≡◌, ◌≤◌, ℕ, Bool, true, false, inl, ⊎_elim, Result, Ok, zero, suc, List, [], ◌∷◌, ◌++◌, length, take, get_or, refl, sym, subst, ◌∙◌, arith, rules}
 use Rattle.std.proofs.lemmas.List.Sums.{fold-append}
-use Rattle.sector_device.specs.claim.Disk.{Disk, Image}
-use Rattle.sector_device.specs.declared.SectorDevice.{Ghosts}
-use Rattle.desk_model.specs.declared.command.Command.{Command}
-use Rattle.desk_model.specs.claim.Desk.{Desk}
-use Rattle.desk_model.specs.claim.Step.{step}
-use Rattle.desk_pages.specs.claim.Desks.{OpensDeskOf, OpensDesk, OpensEither}
-use Rattle.desk_pages.specs.claim.Openings.{AllVersions}
-use Rattle.desk_store.specs.declared.clerk.Clerk.{Clerk}
-use Rattle.desk_store.specs.claim.Clerks.{desk_of, disk_of, sectors_of}
-use Rattle.desk_runs.specs.claim.Runs.{Call, Run, after, acknowledged, acknowledged_at, in_flight, OpensAfterSome, OpenSince, SurvivesEachRun}
-use Rattle.desk_runs.specs.Recovery.{ImagesAreOne}
-use Rattle.desk_runs.specs.claim.Recovery.{HoldsEither}
-use Rattle.desk_pages.specs.declared.error.StoreError.{StoreError}
-use Rattle.desk_migration.specs.declared.migration.Migration.{Migration}
-use Rattle.desk_migration.specs.claim.Migrating.{disk_of as migrated_disk}
-use Rattle.desk_migration.specs.claim.Openings.{device_after as device_left}
-use Rattle.desk_runs.specs.claim.Migrations.{IsEntry, Migrates}
-use Rattle.desk_runs.proofs.Migrated.{honest_migration, migration_leaves}
-use Rattle.desk_runs.proofs.One.{in_either, either_as, one_opens}
+use Rattle.sector_device.specs.{claim.Disk.{Disk, Image}, declared.SectorDevice.Ghosts}
+use Rattle.desk_model.specs.{declared.command.Command.Command, claim.Desk.Desk, claim.Step.step}
+use Rattle.desk_pages.specs.{claim.Desks.{OpensDeskOf, OpensDesk, OpensEither}, claim.Openings.AllVersions, declared.error.StoreError.StoreError}
+use Rattle.desk_store.specs.{declared.clerk.Clerk.Clerk, claim.Clerks.{desk_of, disk_of, sectors_of}}
+use Rattle.desk_runs.specs.{claim.Runs.{Call, Run, after, acknowledged, acknowledged_at, in_flight, OpensAfterSome, OpenSince, SurvivesEachRun}, Recovery.ImagesAreOne}
+use Rattle.desk_runs.specs.{claim.Recovery.HoldsEither, claim.Migrations.{IsEntry, Migrates}}
 use Rattle.desk_runs.specs.claim.Lives.{Life, found, accepted, told, left_by, IsSound, Finds, Follow, last_left, Lasted, OpensAfterLives, LivesSurvive}
+use Rattle.desk_runs.proofs.{Migrated.{honest_migration, migration_leaves}, One.{in_either, either_as, one_opens}}
+use Rattle.desk_migration.specs.{declared.migration.Migration.Migration, claim.Migrating.disk_of as migrated_disk, claim.Openings.device_after as device_left}
 
 -- an image opens to one of these desks
 record OpensTo (n : ℕ) (P : Desk → Type 0) (c : Image) : Type 0 where
@@ -131,10 +120,8 @@ module _ {D : Type 0} {g : Ghosts D} where
         has = record { from = desk_of x; has = one_of_these g one n P left has device finds true (desk_of x) was.was was.left was.opens; count = there.count; enough = there.enough; within = there.within; desk = refl };
         opens = subst (λ (s : ℕ). OpensEither s desk c) (is.working.1 ∙ finds.0) (inl there.opens);
       }
-  life_leaves one runs n P left has (Life.entering device result is) finds sound c stopped =
-      stays n P (Life.entering device result is) refl c (entry_leaves one n P left has device result is finds sound c stopped)
-  life_leaves one runs n P left has (Life.migrating device x is z steps) finds sound c stopped =
-      stays n P (Life.migrating device x is z steps) refl c (steps_leave one n P left has device x is z steps finds sound c stopped)
+  life_leaves one runs n P left has (Life.entering device result is) finds sound c stopped = search (rules, stays, entry_leaves)
+  life_leaves one runs n P left has (Life.migrating device x is z steps) finds sound c stopped = search (rules, stays, steps_leave)
 
   -- what came of one of these desks in all these lives
   record OpensLater (n : ℕ) (P : Desk → Type 0) (lives : List (Life g)) (c : Image) : Type 0 where

@@ -7,3 +7,4 @@ pub mod Steps
 mod SweptRuns
 pub use Rattle.desk_store.proofs as desk_store
 pub use Rattle.desk_store.proofs.store_sweep
+pub use Rattle.desk_migration.proofs as desk_migration

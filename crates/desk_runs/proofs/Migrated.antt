@@ -1,14 +1,11 @@
 -- What a stop in the midst of a migration leaves.
-use Rattle.std.proofs.Common.{◌≡◌, ℕ, false, inl, inr, sym, subst}
+use Rattle.std.proofs.Common.{◌≡◌, ℕ, false, inr, subst, rules}
 use Rattle.std.proofs.lemmas.Bool.{cases_Bool}
-use Rattle.sector_device.specs.claim.Moments.{LeavesOnly}
-use Rattle.sector_device.proofs.Moments.{leaves_more, leaves_wider}
-use Rattle.sector_device.specs.declared.SectorDevice.{Ghosts}
+use Rattle.sector_device.{specs.claim.Moments.LeavesOnly, specs.declared.SectorDevice.Ghosts, proofs.Moments.{leaves_more, leaves_wider}}
 use Rattle.page_store.proofs.Stops.{leaves_here}
 use Rattle.desk_model.specs.claim.Desk.{Desk}
 use Rattle.desk_pages.specs.claim.Desks.{OpensOld, OpensEither}
-use Rattle.desk_migration.specs.declared.migration.Migration.{Migration}
-use Rattle.desk_migration.specs.claim.Migrating.{disk_of, is_halted, sectors_of, Keeps, Goes}
+use Rattle.desk_migration.specs.{declared.migration.Migration.Migration, claim.Migrating.{disk_of, is_halted, sectors_of, Keeps, Goes}}
 use Rattle.desk_runs.specs.claim.Migrations.{Migrates}
 
 module _ {D : Type 0} {g : Ghosts D} where
@@ -24,10 +21,7 @@ module _ {D : Type 0} {g : Ghosts D} where
   -- so does each that a stop leaves within a call: one that has halted changes nothing
   within : (x : Migration D g) (y : Migration D g) (d : Desk) → Goes x y → Keeps x d → (disk_of y).is_honest
       → (is_halted x ≡ false → LeavesOnly (OpensEither (sectors_of x) d) (disk_of x) (disk_of y)) → LeavesOnly (OpensEither (sectors_of x) d) (disk_of x) (disk_of y)
-  within x y d goes keeps honest working = elim (cases_Bool (is_halted x)) [
-    | inl on ↦ subst (λ j. LeavesOnly (OpensEither (sectors_of x) d) (disk_of x) (g.disk j.device)) (sym (goes.still on)) (here x d keeps (goes.honest honest))
-    | inr off ↦ working off
-  ]
+  within x y d goes keeps honest working = search (rules, cases_Bool, here)
 
   pub migration_leaves : (x : Migration D g) (z : Migration D g) → Migrates x z → (d : Desk) → Keeps x d → (disk_of z).is_honest → LeavesOnly (OpensEither (sectors_of x) d) (disk_of x) (disk_of z)
   migration_leaves x _ (Migrates.over _) d keeps honest = here x d keeps honest

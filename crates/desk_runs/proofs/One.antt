@@ -1,30 +1,16 @@
 -- One image, one desk, one version; and what an opening makes of that.
 use Rattle.std.proofs.Common.{◌≡◌, ◌≢◌, ◌≤◌, ◌^◌, ℕ, Bool, true, false, Result, Ok, Err, IfOk, IfErr, inl, inr, ⊎_elim, sym, subst, ◌∙◌, arith}
-use Rattle.sector_device.specs.claim.Disk.{Disk, Image}
-use Rattle.sector_device.specs.claim.Moments.{LeavesOnly}
-use Rattle.sector_device.proofs.Moments.{leaves_wider}
-use Rattle.sector_device.specs.declared.SectorDevice.{Ghosts}
-use Rattle.page_store.specs.gate_journal.claim.Store.{pages}
+use Rattle.sector_device.{specs.claim.Disk.{Disk, Image}, specs.claim.Moments.LeavesOnly, specs.declared.SectorDevice.Ghosts, proofs.Moments.leaves_wider}
+use Rattle.page_store.specs.{gate_journal.claim.Store.pages, claim.Chain.{root_in, free_in}}
 use Rattle.page_store.proofs.gate_journal.Headers.{same_journal}
-use Rattle.page_store.specs.claim.Chain.{root_in, free_in}
 use Rattle.page_btree.proofs.MapLaws.{one_map}
 use Rattle.desk_model.specs.claim.Desk.{Desk}
-use Rattle.store_rows.specs.claim.Keys.{version}
-use Rattle.store_rows.specs.claim.Rows.{KeyMap, row_in}
-use Rattle.store_rows.specs.claim.Tidy.{version_row}
-use Rattle.desk_pages.specs.claim.Desks.{HoldsDeskOf, OpensDeskOf, OpensDesk, OpensOld, OpensEither}
-use Rattle.desk_pages.specs.Laws.{HoldsOneDesk}
-use Rattle.desk_store.specs.declared.clerk.Clerk.{Clerk}
-use Rattle.desk_pages.specs.declared.error.StoreError.{StoreError}
-use Rattle.desk_pages.specs.declared.error.StoreError.TheVariants.{NotAStore, OldVersion}
-use Rattle.desk_store.specs.claim.Clerks.{desk_of, disk_of, is_halted, sectors_of, Keeps}
-use Rattle.desk_store.specs.claim.Keeping.{IsLeft, OpensOneMore}
-use Rattle.desk_pages.specs.Openings.{AllDesks, OpensOneOf}
-use Rattle.desk_pages.specs.claim.Openings.{AllVersions, IsOneOf, OpensOneAs}
-use Rattle.desk_store.specs.Openings.{OpenRefused}
+use Rattle.store_rows.specs.{claim.Keys.version, claim.Rows.{KeyMap, row_in}, claim.Tidy.version_row}
+use Rattle.desk_pages.specs.{claim.Desks.{HoldsDeskOf, OpensDeskOf, OpensDesk, OpensOld, OpensEither}, Laws.HoldsOneDesk, declared.error.StoreError.StoreError}
+use Rattle.desk_pages.specs.{declared.error.StoreError.TheVariants.{NotAStore, OldVersion}, Openings.{AllDesks, OpensOneOf}, claim.Openings.{AllVersions, IsOneOf, OpensOneAs}}
+use Rattle.desk_store.specs.{declared.clerk.Clerk.Clerk, claim.Clerks.{desk_of, disk_of, is_halted, sectors_of, Keeps}, claim.Keeping.{IsLeft, OpensOneMore}, Openings.OpenRefused}
 use Rattle.desk_store.specs.claim.Openings.{device_after}
-use Rattle.desk_runs.specs.Recovery.{ImagesAreOne, HoldsOne, Shows, Recovers}
-use Rattle.desk_runs.specs.claim.Recovery.{HoldsEither}
+use Rattle.desk_runs.specs.{Recovery.{ImagesAreOne, HoldsOne, Shows, Recovers}, claim.Recovery.HoldsEither}
 
 -- what pages say of their desk
 abbrev Held : Bool → ℕ → Image → Desk → Type 0

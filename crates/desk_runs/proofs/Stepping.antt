@@ -1,40 +1,21 @@
 -- A step of a sweep, by what the clerk says of it.
-use Rattle.std.proofs.Common.{◌≡◌, ◌≤◌, ◌↔◌, ℕ, Bool, true, false, Some, None, Ok, Err, refl}
+use Rattle.std.proofs.Common.{◌≡◌, ◌≤◌, ◌↔◌, ℕ, Bool, true, false, Some, None, Ok, Err, refl, rules}
 use Rattle.sector_device.specs.declared.SectorDevice.{Ghosts}
 use Rattle.page_store.specs.claim.Transactions.{IsQuiet}
 use Rattle.page_btree.specs.claim.Map.{InPages as HoldsRows}
 use Rattle.store_rows.specs.claim.Rows.{KeyMap}
-use Rattle.desk_store.specs.store_sweep.claim.Checks.{AreSoundHoldings}
+use Rattle.desk_store.specs.{store_sweep.claim.Checks.AreSoundHoldings, declared.clerk.Clerk.Clerk}
+use Rattle.desk_store.specs.{claim.Clerks.{desk_of, disk_of, free_of, is_halted, pages_of, HaltsByDevice, Keeps, Moves}, Sweeps.{HasRows, IsClean, SweepRefused}}
 use Rattle.desk_pages.specs.declared.error.StoreError.{StoreError}
-use Rattle.desk_store.specs.declared.clerk.Clerk.{Clerk}
-use Rattle.desk_store.specs.claim.Clerks.{desk_of, disk_of, free_of, is_halted, pages_of, HaltsByDevice, Keeps, Moves}
-use Rattle.desk_store.specs.Sweeps.{HasRows, IsClean, SweepRefused}
-use Rattle.desk_runs.specs.claim.SweptRuns.{Tends}
-use Rattle.desk_runs.specs.Steps.{StepMay}
+use Rattle.desk_runs.specs.{claim.SweptRuns.Tends, Steps.StepMay}
 
 module _ {D : Type 0} {g : Ghosts D} where
   pub step_tends : (x y : Clerk D g) → Moves (desk_of x) x y → desk_of y ≡ desk_of x → y.loading ≡ x.loading → (Keeps x → (disk_of y).is_honest → y.halted ≡ false → free_of x ≤ free_of y) → HaltsByDevice x y → Tends true x true y
-  step_tends x y moves desk loading free device = record {
-    moves = moves;
-    desk = desk;
-    loading = loading;
-    quiet = λ off. absurd (let clash : true ≡ false = off in cc);
-    sound = λ off on. absurd (let clash : true ≡ false = off in cc);
-    free = λ on. free;
-    device = device;
-  }
+  step_tends x y moves desk loading free device = search rules
 
   pub check_tends : (x y : Clerk D g) (is : Bool) → Moves (desk_of x) x y → desk_of y ≡ desk_of x → y.loading ≡ x.loading → IsQuiet (pages_of x) (pages_of y)
       → (is ≡ true → (disk_of y).is_honest → (m : KeyMap) → HoldsRows (pages_of x) m → AreSoundHoldings m) → Tends false x is y
-  check_tends x y is moves desk loading quiet sound = record {
-    moves = moves;
-    desk = desk;
-    loading = loading;
-    quiet = λ off. quiet;
-    sound = λ off. sound;
-    free = λ on. absurd (let clash : false ≡ true = on in cc);
-    device = record { rose = quiet.rose; calm = quiet.calm };
-  }
+  check_tends x y is moves desk loading quiet sound = search rules
 
   -- what was refused
   pub refused_may : (was : Bool) (x : Clerk D g) (e : StoreError) (y : Clerk D g) → SweepRefused x e (is_halted y) (pages_of y) → StepMay was x (Err e) y

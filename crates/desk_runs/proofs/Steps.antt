@@ -1,18 +1,9 @@
 -- A command that the desk refuses leaves the desk.
-use Rattle.std.specs.Prelude.{◌==◌, not, nat_le}
 use Rattle.std.specs.FinMap as map_of
-use Rattle.std.proofs.Common.{◌≡◌, ◌⊎◌, ℕ, Bool, true, false, if◌then◌else◌, List, [], length, Option, Some, None, Result, Ok, Err, inl, inr, ⊎_elim, refl}
-use Rattle.desk_model.specs.declared.kind.Kind.{Kind}
-use Rattle.desk_model.specs.declared.command.Command.{Command}
-use Rattle.desk_model.specs.declared.command.Command.TheVariants.{Create, Whole, Counties, Retire, Fork}
-use Rattle.desk_model.specs.declared.reply.Reply.TheVariants as reply
-use Rattle.desk_model.specs.declared.reply.Refusal.TheVariants.{Stale, Limit}
-use Rattle.desk_model.specs.claim.Baf.{Values, Fault, body_read}
-use Rattle.desk_model.specs.claim.Geography.{GeographyModel}
-use Rattle.desk_model.specs.claim.Desk.{Plan, Desk}
-use Rattle.desk_model.specs.claim.Subject.{revision_at}
-use Rattle.desk_model.specs.claim.Outcome.{IsAcceptance}
-use Rattle.desk_model.specs.claim.Step.{Outcome, refused, plan_limit, create, revision_limit, on_revisions, whole_read, partly_listed, county_patched, patch_read, retired, fork_of, fork_from, fork, step_on, step_at, step}
+use Rattle.std.proofs.Common.{◌≡◌, ◌⊎◌, ℕ, Bool, true, false, if◌then◌else◌, List, Option, Some, None, Result, Ok, Err, inl, inr, ⊎_elim, refl, rules}
+use Rattle.desk_model.specs.{declared.kind.Kind.Kind, declared.command.Command.Command, declared.command.Command.TheVariants.{Create, Whole, Counties, Retire, Fork}}
+use Rattle.desk_model.specs.{claim.Baf.{Values, Fault, body_read}, claim.Geography.GeographyModel, claim.Desk.{Plan, Desk}, claim.Subject.revision_at, claim.Outcome.IsAcceptance}
+use Rattle.desk_model.specs.claim.Step.{Outcome, create, on_revisions, whole_read, partly_listed, county_patched, patch_read, retired, fork_of, fork_from, fork, step_on, step_at, step}
 
 -- accepted, or the desk is as it was
 abbrev Moved : Desk → Outcome → Type 0
@@ -24,14 +15,11 @@ moved_if d false x y first second = second
 
 create_moved : (d : Desk) (name : List ℕ) (kind : Kind) (n : ℕ) (p : Option Plan) → Moved d (create d name kind n p)
 create_moved d name kind n (Some p) = inr refl
-create_moved d name kind n None =
-    moved_if d (nat_le plan_limit (map_of.len d.plans)) (refused d Limit) (reply.Created name 0, record d { plans = map_of.insert d.plans name (record { kind = kind; n = n; revisions = [] }) }) (inr refl) (inl tt)
+create_moved d name kind n None = search (rules, moved_if)
 
 revisions_moved : (d : Desk) (p : Option Plan) (k : ℕ) (go : Plan → Outcome) → ((q : Plan) → Moved d (go q)) → Moved d (on_revisions d p k go)
 revisions_moved d None k go moved = inr refl
-revisions_moved d (Some p) k go moved =
-    moved_if d (not (k == length p.revisions)) (refused d (Stale (length p.revisions))) (if nat_le revision_limit (length p.revisions) then refused d Limit else go p) (inr refl)
-    (moved_if d (nat_le revision_limit (length p.revisions)) (refused d Limit) (go p) (inr refl) (moved p))
+revisions_moved d (Some p) k go moved = search (rules, moved_if)
 
 whole_moved : (g : GeographyModel) (d : Desk) (name : List ℕ) (p : Plan) (read : Result Values Fault) → Moved d (whole_read g d name p read)
 whole_moved g d name p (Err f) = inr refl
@@ -59,9 +47,7 @@ fork_from_moved d name (Some q) j = fork_of_moved d name q (revision_at q j)
 
 fork_moved : (d : Desk) (name : List ℕ) (from : List ℕ × ℕ) (p : Option Plan) → Moved d (fork d name from p)
 fork_moved d name from (Some p) = inr refl
-fork_moved d name from None =
-    moved_if d (nat_le plan_limit (map_of.len d.plans)) (refused d Limit) (fork_from d name (map_of.get d.plans from.0) from.1) (inr refl)
-    (fork_from_moved d name (map_of.get d.plans from.0) from.1)
+fork_moved d name from None = search (rules, moved_if, fork_from_moved)
 
 step_on_moved : (g : GeographyModel) (d : Desk) (c : Command) → Moved d (step_on g d c)
 step_on_moved g d (Create name size) = create_moved d name size.0 size.1 (map_of.get d.plans name)

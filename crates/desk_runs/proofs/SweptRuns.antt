@@ -1,26 +1,14 @@
 -- Runs of a clerk whose store is swept between commands, by induction on the calls.
-use Rattle.std.proofs.Common.{◌≡◌, ◌⊎◌, ℕ, suc, ◌≤◌, Bool, true, false, if◌then◌else◌, List, [], ◌∷◌, ◌++◌, inl, inr, ⊎_elim, refl, sym, subst, ◌∙◌, arith}
+use Rattle.std.proofs.Common.{◌≡◌, ◌⊎◌, ℕ, suc, ◌≤◌, Bool, true, false, if◌then◌else◌, List, [], ◌∷◌, ◌++◌, inl, inr, ⊎_elim, refl, sym, subst, ◌∙◌, arith, rules}
 use Rattle.std.proofs.lemmas.Bool.{cases_Bool}
-use Rattle.sector_device.specs.claim.Disk.{Disk, Image}
-use Rattle.sector_device.specs.claim.Moments.{LeavesOnly}
-use Rattle.sector_device.proofs.Moments.{leaves_wider}
-use Rattle.sector_device.specs.declared.SectorDevice.{Ghosts}
-use Rattle.page_store.proofs.Stops.{leaves_here, leaves_quiet}
-use Rattle.page_store.specs.claim.Transactions.{IsSame}
-use Rattle.desk_model.specs.declared.command.Command.{Command}
-use Rattle.desk_model.specs.declared.reply.Reply.{Reply}
+use Rattle.sector_device.{specs.claim.Disk.{Disk, Image}, specs.claim.Moments.LeavesOnly, specs.declared.SectorDevice.Ghosts, proofs.Moments.leaves_wider}
+use Rattle.page_store.{specs.claim.Transactions.IsSame, proofs.Stops.{leaves_here, leaves_quiet}}
+use Rattle.desk_model.specs.{declared.command.Command.Command, declared.reply.Reply.Reply, claim.Desk.Desk, claim.Outcome.{IsAcceptance, CommandMay}, claim.Step.step}
 use Rattle.desk_model.specs.declared.reply.Reply.TheVariants as reply
-use Rattle.desk_model.specs.claim.Desk.{Desk}
-use Rattle.desk_model.specs.claim.Outcome.{IsAcceptance, CommandMay}
-use Rattle.desk_model.specs.claim.Step.{step}
 use Rattle.desk_pages.specs.claim.Desks.{OpensDesk}
-use Rattle.desk_store.specs.declared.clerk.Clerk.{Clerk}
-use Rattle.desk_store.specs.claim.Clerks.{desk_of, disk_of, pages_of, sectors_of, Keeps}
-use Rattle.desk_store.specs.claim.Commands.{Does, MustBeFull, MayBeFull}
+use Rattle.desk_store.specs.{declared.clerk.Clerk.Clerk, claim.Clerks.{desk_of, disk_of, pages_of, sectors_of, Keeps}, claim.Commands.{Does, MustBeFull, MayBeFull}}
 use Rattle.desk_runs.specs.claim.Runs.{Call, after, if_accepted, acknowledged, OpensAfterSome, OpenSince}
-use Rattle.desk_runs.proofs.One.{left_working}
-use Rattle.desk_runs.proofs.Steps.{refused_same}
-use Rattle.desk_runs.specs.claim.SweptRuns.{Tends, SweptRun, acknowledged_at, in_flight, SurvivesEachSwept}
+use Rattle.desk_runs.{specs.claim.SweptRuns.{Tends, SweptRun, acknowledged_at, in_flight, SurvivesEachSwept}, proofs.One.left_working, proofs.Steps.refused_same}
 
 -- no command, one command more before the others
 none_of : (sectors : ℕ) (d : Desk) (commands : List Command) (c : Image) → OpensDesk sectors d c → OpensAfterSome sectors d commands c
@@ -40,11 +28,7 @@ since_earlier disk sectors d s t (m ∷ ms) (a ∷ commands) le has since = (ome
 accepts : (r : Reply) → (IsAcceptance r × ((c : Command) → if_accepted c r ≡ c ∷ []) × ((m : ℕ) → if_accepted m r ≡ m ∷ [])) ⊎ ((IsAcceptance r → ⊥) × ((c : Command) → if_accepted c r ≡ []) × ((m : ℕ) → if_accepted m r ≡ []))
 accepts (reply.Created name revisions) = inl (tt, λ c. refl, λ m. refl)
 accepts (reply.Retired name) = inl (tt, λ c. refl, λ m. refl)
-accepts (reply.Plans rows) = inr (λ none. none, λ c. refl, λ m. refl)
-accepts (reply.Blocks text) = inr (λ none. none, λ c. refl, λ m. refl)
-accepts (reply.Baf text) = inr (λ none. none, λ c. refl, λ m. refl)
-accepts (reply.Audited text) = inr (λ none. none, λ c. refl, λ m. refl)
-accepts (reply.Refused refusal) = inr (λ none. none, λ c. refl, λ m. refl)
+accepts _ = inr (λ none. none, λ c. refl, λ m. refl)
 
 -- what a run comes to, over plain disks: from a to z the desk d became the last one by these commands, acknowledged at these moments
 record Goes (a : Disk) (sectors : ℕ) (d : Desk) (commands : List Command) (moments : List ℕ) (flying : List Command) (z : Disk) (ended : Bool) (last : Desk) : Type 0 where
@@ -61,12 +45,7 @@ some_of sectors d a commands c (inl opens) = none_of sectors d (a ∷ commands) 
 some_of sectors d a commands c (inr opens) = one_more sectors d a commands c (none_of sectors (step d a).1 commands c opens)
 
 goes_none : (a : Disk) (sectors : ℕ) (d : Desk) (ended : Bool) → ((c : Image) → a.leaves c → OpensDesk sectors d c) → Goes a sectors d [] [] [] a ended d
-goes_none a sectors d ended opens = record {
-  desk = refl;
-  halted = λ off. refl;
-  since = (omega arith, λ c left. none_of sectors d [] c (opens c (a.only_now c left)));
-  before = λ t c le left. inl left;
-}
+goes_none a sectors d ended opens = search (rules, none_of)
 
 -- a fault came in a call that the desk accepts, or in one that it refuses
 goes_halted : (a z : Disk) (sectors : ℕ) (d : Desk) (c : Command) → LeavesOnly (Either sectors d c) a z → Goes a sectors d [] [] (c ∷ []) z true d
@@ -81,12 +60,7 @@ same_desk : (sectors : ℕ) (d : Desk) (c : Command) (i : Image) → (step d c).
 same_desk sectors d c i same = ⊎_elim (λ opens. opens) (λ opens. subst (λ e. OpensDesk sectors e i) same opens)
 
 goes_refused_halted : (a z : Disk) (sectors : ℕ) (d : Desk) (c : Command) → (step d c).1 ≡ d → LeavesOnly (Either sectors d c) a z → Goes a sectors d [] [] [] z true d
-goes_refused_halted a z sectors d c same leaves = record {
-  desk = refl;
-  halted = λ off. refl;
-  since = (leaves.later, λ i left. none_of sectors d [] i (same_desk sectors d c i same (leaves.each i left)));
-  before = λ t i le left. ⊎_elim (λ was. inl was) (λ has. inr (none_of sectors d [] i (same_desk sectors d c i same has))) (leaves.before t i le left);
-}
+goes_refused_halted a z sectors d c same leaves = search (rules, none_of, same_desk)
 
 goes_ended : (a z : Disk) (sectors : ℕ) (d : Desk) (c : Command) → LeavesOnly (Either sectors d c) a z → Goes a sectors d [] [] (if_accepted c (step d c).0) z true d
 goes_ended a z sectors d c leaves = elim (accepts (step d c).0) [
@@ -116,20 +90,11 @@ goes_refused a b z sectors d commands moments flying ended last leaves goes =
 accepted_is : (must may failed : Type 0) (d : Desk) (c : Command) (r : Reply) (e : Desk) → CommandMay must may failed d c r e → IsAcceptance r → (e ≡ (step d c).1) × (failed → ⊥)
 accepted_is must may failed d c (reply.Created name revisions) e may_be accepted = (may_be.1.desk, may_be.0)
 accepted_is must may failed d c (reply.Retired name) e may_be accepted = (may_be.1.desk, may_be.0)
-accepted_is must may failed d c (reply.Plans rows) e may_be accepted = absurd accepted
-accepted_is must may failed d c (reply.Blocks text) e may_be accepted = absurd accepted
-accepted_is must may failed d c (reply.Baf text) e may_be accepted = absurd accepted
-accepted_is must may failed d c (reply.Audited text) e may_be accepted = absurd accepted
-accepted_is must may failed d c (reply.Refused refusal) e may_be accepted = absurd accepted
+accepted_is must may failed d c _ e may_be accepted = absurd accepted
 
 -- a fault came in a sweep
 goes_tended_halted : (a z : Disk) (sectors : ℕ) (d : Desk) → LeavesOnly (OpensDesk sectors d) a z → Goes a sectors d [] [] [] z true d
-goes_tended_halted a z sectors d leaves = record {
-  desk = refl;
-  halted = λ off. refl;
-  since = (leaves.later, λ i left. none_of sectors d [] i (leaves.each i left));
-  before = λ t i le left. ⊎_elim (λ was. inl was) (λ has. inr (none_of sectors d [] i has)) (leaves.before t i le left);
-}
+goes_tended_halted a z sectors d leaves = search (rules, none_of)
 
 module _ {D : Type 0} {g : Ghosts D} where
   honest_run : (a : Bool) (x : Clerk D g) (calls : List Call) (b : Bool) (z : Clerk D g) → SweptRun a x calls b z → (disk_of z).is_honest → (disk_of x).is_honest
@@ -150,10 +115,7 @@ module _ {D : Type 0} {g : Ghosts D} where
   not_accepted x c r y does on accepted = (accepted_is (MustBeFull x c) (MayBeFull x (pages_of y) c) (y.halted ≡ true) (desk_of x) c r (desk_of y) does.outcome accepted).1 on
 
   halted_told : (x : Clerk D g) (c : Command) (r : Reply) (y : Clerk D g) → Does x c r y → y.halted ≡ true → (if_accepted c r ≡ []) × (if_accepted (disk_of y).moment r ≡ [])
-  halted_told x c r y does on = elim (accepts r) [
-    | inl told ↦ absurd (not_accepted x c r y does on told.0)
-    | inr told ↦ (told.1 c, told.2 (disk_of y).moment)
-  ]
+  halted_told x c r y does on = search (rules, accepts, not_accepted)
 
   halted_run : (a : Bool) (x : Clerk D g) (calls : List Call) (b : Bool) (z : Clerk D g) (run : SweptRun a x calls b z) → x.halted ≡ true → IsStill a x calls b z run
   halted_run a x _ _ z (SweptRun.over _ _) on = record { none = refl; never = refl; same = refl; desk = refl; on = on }

@@ -1,32 +1,18 @@
 -- A change that is committed.
-use Rattle.std.proofs.Common.{◌≡◌, ◌⊎◌, ◌≤◌, ◌<◌, ◌+◌, ℕ, Bool, true, false, length, inl, inr, refl, sym, subst, ◌∙◌, arith}
-use Rattle.sector_device.specs.claim.Disk.{Image}
-use Rattle.sector_device.specs.claim.Moments.{LeavesOnly}
-use Rattle.sector_device.specs.declared.SectorDevice.{Ghosts}
-use Rattle.page_store.specs.gate_journal.claim.Store.{home}
-use Rattle.page_store.specs.claim.Chain.{free_in}
+use Rattle.std.proofs.Common.{◌≡◌, ◌⊎◌, ◌≤◌, ◌<◌, ◌+◌, ℕ, true, false, length, inl, inr, refl, sym, subst, ◌∙◌, arith}
+use Rattle.sector_device.specs.{claim.Disk.Image, claim.Moments.LeavesOnly, declared.SectorDevice.Ghosts}
+use Rattle.page_store.specs.{gate_journal.claim.Store.home, claim.Chain.free_in}
 use Rattle.page_store.specs.claim.Transactions.{stored, disk_in, count_of, journal_of, has_halted, prepared_writes, after, HasShape, IsKept, CommitErr}
-use Rattle.page_store.specs.gate_journal.declared.error.PageError.{PageError}
-use Rattle.page_store.specs.gate_journal.declared.error.PageError.TheVariants.{NotAStore, DeviceFault, Halted, TooManyPages, TooSmall, NoPages, Memory}
+use Rattle.page_store.specs.{gate_journal.declared.error.PageError.PageError, gate_journal.declared.error.PageError.TheVariants.{DeviceFault, Halted, TooManyPages}}
 use Rattle.page_store.specs.declared.pages.Pages.{Pages}
 use Rattle.page_btree.specs.claim.Map.{InPages as HoldsRows}
 use Rattle.store_rows.specs.claim.Rows.{KeyMap}
-use Rattle.desk_model.specs.declared.reply.Reply.{Reply}
-use Rattle.desk_model.specs.declared.reply.Reply.TheVariants.{Refused}
+use Rattle.desk_model.specs.{declared.reply.Reply.Reply, declared.reply.Reply.TheVariants.Refused, claim.Desk.Desk, claim.Room.need}
 use Rattle.desk_model.specs.declared.reply.Refusal.TheVariants as refusal
-use Rattle.desk_model.specs.claim.Desk.{Desk}
-use Rattle.desk_model.specs.claim.Room.{need}
 use Rattle.desk_catalogue.specs.claim.Accepting.{acceptance}
-use Rattle.desk_pages.specs.claim.Commits.{HoldsAfter}
-use Rattle.desk_pages.specs.Commits.{OpensRows}
-use Rattle.desk_pages.proofs.Openings.{leaves_desk}
-use Rattle.desk_pages.specs.claim.Desks.{InPages, OpensDesk}
-use Rattle.desk_store.specs.claim.Keeping.{IsLeft}
-use Rattle.desk_store.specs.claim.Clerks.{desk_of, disk_of, pages_of, sectors_of, free_of, Keeps}
-use Rattle.desk_store.specs.claim.Commands.{command_of, after_of, written_of, IsReady, Commits}
-use Rattle.desk_store.specs.declared.clerk.Clerk.{Clerk}
-use Rattle.desk_store.specs.declared.ready.Ready.{Ready}
-use Rattle.desk_store.proofs.Kept.{accepted_is, kept_opens, left_halted}
+use Rattle.desk_pages.{specs.claim.Commits.HoldsAfter, specs.Commits.OpensRows, specs.claim.Desks.{InPages, OpensDesk}, proofs.Openings.leaves_desk}
+use Rattle.desk_store.specs.{claim.Clerks.{desk_of, disk_of, pages_of, sectors_of, free_of, Keeps}, claim.Commands.{command_of, after_of, written_of, IsReady, Commits}}
+use Rattle.desk_store.{specs.declared.clerk.Clerk.Clerk, specs.declared.ready.Ready.Ready, proofs.Kept.accepted_is, proofs.Moved.{worked, faulted}}
 
 module _ {D : Type 0} {g : Ghosts D} where
   -- a refused commit was a fault
@@ -34,19 +20,13 @@ module _ {D : Type 0} {g : Ghosts D} where
   fault_rose n a b DeviceFault why working few honest = why.0.rose honest
   fault_rose n a b Halted why working few honest = absurd (let clash : true ≡ false = sym why.0 ∙ working in cc)
   fault_rose n a b TooManyPages why working few honest = absurd (let more = why.1 in omega arith)
-  fault_rose n a b NotAStore why working few honest = absurd why
-  fault_rose n a b TooSmall why working few honest = absurd why
-  fault_rose n a b NoPages why working few honest = absurd why
-  fault_rose n a b Memory why working few honest = absurd why
+  fault_rose n a b _ why working few honest = absurd why
 
   fault_halts : (n : ℕ) (a b : Pages D g) (e : PageError) → CommitErr n a b e → has_halted a ≡ false → n ≤ journal_of a → has_halted b ≡ true
   fault_halts n a b DeviceFault why working few = why.0.halted
   fault_halts n a b Halted why working few = absurd (let clash : true ≡ false = sym why.0 ∙ working in cc)
   fault_halts n a b TooManyPages why working few = absurd (let more = why.1 in omega arith)
-  fault_halts n a b NotAStore why working few = absurd why
-  fault_halts n a b TooSmall why working few = absurd why
-  fault_halts n a b NoPages why working few = absurd why
-  fault_halts n a b Memory why working few = absurd why
+  fault_halts n a b _ why working few = absurd why
 
   -- the stop clause of a commit, over maps
   abbrev MapsLeft : Clerk D g → Ready → Pages D g → Type 0
@@ -61,9 +41,6 @@ module _ {D : Type 0} {g : Ghosts D} where
       let then = ready.rows keeps working (was_honest honest) in
       leaves_desk (sectors_of x) was.m then.m (desk_of x) (after_of r) (disk_of x) (disk_in b) was.is then.is (left honest (x.working working) (sectors_of x) was.m then.m refl was.holds then.holds)
 
-  sectors_same : (x y : Clerk D g) → HasShape (pages_of x) (pages_of y) → sectors_of y ≡ sectors_of x
-  sectors_same x y shape = λ i. home (shape.journal_pages i) + shape.pages i
-
   pub change_made : (x y : Clerk D g) (r : Ready) (reply : Reply) → IsReady x r → x.halted ≡ false → reply ≡ acceptance (command_of r) → desk_of y ≡ after_of r → y.halted ≡ false → HasShape (pages_of x) (pages_of y)
       → ((disk_of y).is_honest → (disk_of x).is_honest) → MapsLeft x r (pages_of y) → ((disk_of y).is_honest → (next : KeyMap) → HoldsAfter (written_of r) (stored (pages_of x)) next → HoldsRows (pages_of y) next)
       → ((disk_of y).is_honest → stored (pages_of y) ≡ after (written_of r) (stored (pages_of x))) → ((disk_of y).is_honest → IsKept (pages_of y)) → ((disk_of y).is_honest → (disk_of y).faults ≡ (disk_of x).faults) → y.loading ≡ x.loading → Commits x r reply y
@@ -73,19 +50,7 @@ module _ {D : Type 0} {g : Ghosts D} where
       let there : InPages (pages_of y) (after_of r) = record { m = then.m; holds = held is_honest then.m then.holds; is = then.is } in
       subst (λ (d : Desk). InPages (pages_of y) d) (sym desk) there in
       record {
-        moves = record {
-          sectors = sectors_same x y shape;
-          room = shape.journal_pages;
-          honest = honest;
-          any_moment = desks_left x r (pages_of y) ready honest left;
-          keeps = λ keeps. record {
-            holds = λ off is_honest. holds keeps is_honest;
-            left = λ is_honest c leaves. inl (kept_opens (pages_of y) (desk_of y) (y.working works) is_honest (kept is_honest) (holds keeps is_honest) c leaves);
-          };
-          still = λ on. absurd (let clash : true ≡ false = sym on ∙ working in cc);
-          rose = λ keeps off on is_honest. absurd (let clash : true ≡ false = sym on ∙ works in cc);
-          calm = λ off is_honest. passed is_honest;
-        };
+        moves = worked (Keeps x) (after_of r) x y working works shape honest (λ keeps. desks_left x r (pages_of y) ready honest left keeps working) holds kept passed;
         device = record {
           rose = λ off on. absurd (let clash : true ≡ false = sym on ∙ y.working works in cc);
           calm = λ off is_honest. passed is_honest;
@@ -103,27 +68,14 @@ module _ {D : Type 0} {g : Ghosts D} where
   pub change_not_made : (x y : Clerk D g) (r : Ready) (e : PageError) → IsReady x r → x.halted ≡ false → desk_of y ≡ desk_of x → y.halted ≡ true → HasShape (pages_of x) (pages_of y) → ((disk_of y).is_honest → (disk_of x).is_honest) → MapsLeft x r (pages_of y)
       → CommitErr (length (prepared_writes (written_of r))) (pages_of x) (pages_of y) e → y.loading ≡ x.loading → Commits x r (Refused refusal.Halted) y
   change_not_made x y r e ready working desk halts shape honest left why loading =
-      let sectors = sectors_same x y shape in
-      let images = λ (keeps : Keeps x) (is_honest : (disk_of y).is_honest) (c : Image) (leaves : (disk_of y).leaves c).
-      left_halted (sectors_of x) (desk_of x) (after_of r) (disk_of x) (disk_of y) (inl (record { command = command_of r; accepted = accepted_is (desk_of x) (command_of r) (after_of r) ready.accepted; desk = ready.accepted.desk }))
-      (desks_left x r (pages_of y) ready honest left keeps working is_honest) c leaves in
+      let writes = length (prepared_writes (written_of r)) in
       record {
-        moves = record {
-          sectors = sectors;
-          room = shape.journal_pages;
-          honest = honest;
-          any_moment = desks_left x r (pages_of y) ready honest left;
-          keeps = λ keeps. record {
-            holds = λ off is_honest. absurd (let clash : true ≡ false = sym halts ∙ off in cc);
-            left = λ is_honest c leaves. subst (λ (h : Bool). IsLeft h (sectors_of y) (desk_of y) c) (sym halts) (subst (λ (s : ℕ). IsLeft true s (desk_of y) c) (sym sectors) (subst (λ (d : Desk). IsLeft true (sectors_of x) d c) (sym desk) (images keeps is_honest c leaves)));
-          };
-          still = λ on. absurd (let clash : true ≡ false = sym on ∙ working in cc);
-          rose = λ keeps off on is_honest. fault_rose (length (prepared_writes (written_of r))) (pages_of x) (pages_of y) e why (x.working off) ready.writes is_honest;
-          calm = λ off is_honest. absurd (let clash : true ≡ false = sym halts ∙ off in cc);
-        };
+        moves = faulted (Keeps x) (after_of r) x y working halts desk shape honest (λ keeps. desks_left x r (pages_of y) ready honest left keeps working)
+            (λ keeps is_honest. inr (inl (record { command = command_of r; accepted = accepted_is (desk_of x) (command_of r) (after_of r) ready.accepted; desk = ready.accepted.desk })))
+            (λ keeps. fault_rose writes (pages_of x) (pages_of y) e why (x.working working) ready.writes);
         device = record {
-          rose = λ off on is_honest. fault_rose (length (prepared_writes (written_of r))) (pages_of x) (pages_of y) e why off ready.writes is_honest;
-          calm = λ off. absurd (let clash : true ≡ false = sym (fault_halts (length (prepared_writes (written_of r))) (pages_of x) (pages_of y) e why (x.working working) ready.writes) ∙ off in cc);
+          rose = λ off on is_honest. fault_rose writes (pages_of x) (pages_of y) e why off ready.writes is_honest;
+          calm = λ off. absurd (let clash : true ≡ false = sym (fault_halts writes (pages_of x) (pages_of y) e why (x.working working) ready.writes) ∙ off in cc);
         };
         loading = loading;
         outcome = inr (record { reply_is = refl; desk = desk; halted = halts });

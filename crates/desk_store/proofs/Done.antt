@@ -1,45 +1,22 @@
 -- What became of a command.
-use Rattle.std.proofs.Common.{◌≡◌, ◌⊎◌, ◌+◌, ℕ, Bool, true, false, length, inl, inr, ⊎_elim, refl, sym, ap, subst, ◌∙◌, arith}
-use Rattle.sector_device.specs.claim.Disk.{Image}
-use Rattle.sector_device.specs.claim.Moments.{LeavesOnly}
-use Rattle.sector_device.proofs.Moments.{leaves_more, leaves_now}
-use Rattle.sector_device.specs.declared.SectorDevice.{Ghosts}
-use Rattle.page_store.specs.gate_journal.claim.Store.{home}
-use Rattle.page_store.specs.claim.Chain.{root_in, free_in}
-use Rattle.page_store.proofs.Stops.{leaves_here, leaves_quiet}
-use Rattle.page_store.specs.claim.Transactions.{stored, count_of}
+use Rattle.std.proofs.Common.{◌≡◌, ◌⊎◌, ◌+◌, ℕ, Bool, true, false, length, inl, inr, ⊎_elim, sym, ap, subst, ◌∙◌, arith}
+use Rattle.sector_device.{specs.claim.Disk.Image, specs.claim.Moments.LeavesOnly, specs.declared.SectorDevice.Ghosts, proofs.Moments.{leaves_more, leaves_now}}
+use Rattle.page_store.specs.{gate_journal.claim.Store.home, claim.Chain.{root_in, free_in}, claim.Transactions.{stored, count_of}}
+use Rattle.page_store.proofs.{Stops.{leaves_here, leaves_quiet}, Chains.either}
 use Rattle.page_btree.specs.claim.Map.{Holds}
-use Rattle.desk_model.specs.declared.command.Command.{Command}
-use Rattle.desk_model.specs.declared.command.Command.TheVariants.{Create, Fork, Whole, Counties, Retire}
-use Rattle.desk_model.specs.declared.reply.Reply.{Reply}
-use Rattle.desk_model.specs.declared.reply.Reply.TheVariants.{Refused}
-use Rattle.desk_model.specs.declared.reply.Refusal.{Refusal}
-use Rattle.desk_model.specs.claim.Desk.{Desk}
-use Rattle.desk_model.specs.claim.Outcome.{IsAcceptance, CommandMay}
-use Rattle.desk_model.specs.claim.Room.{need}
-use Rattle.desk_model.specs.claim.Step.{step}
+use Rattle.desk_model.specs.{declared.command.Command.Command, declared.command.Command.TheVariants.Fork, declared.reply.Reply.Reply, declared.reply.Reply.TheVariants.Refused}
+use Rattle.desk_model.specs.{declared.reply.Refusal.Refusal, claim.Desk.Desk, claim.Outcome.{IsAcceptance, CommandMay}, claim.Room.need, claim.Step.step}
 use Rattle.desk_catalogue.specs.claim.Accepting.{IsAfter, acceptance}
-use Rattle.desk_pages.specs.Desks.{HoldsDesk}
-use Rattle.desk_pages.specs.claim.Desks.{InPages, OpensDesk}
+use Rattle.desk_pages.specs.{Desks.HoldsDesk, claim.Desks.{InPages, OpensDesk}}
 use Rattle.plan_revisions.specs.claim.Rows.{HasNumbers}
-use Rattle.desk_store.specs.claim.Keeping.{IsLeft, OpensOneMore}
-use Rattle.desk_store.specs.claim.Clerks.{desk_of, disk_of, pages_of, sectors_of, free_of, HaltsByDevice, Keeps, Reads, Moves}
-use Rattle.desk_store.specs.claim.Commands.{command_of, after_of, IsExhausted, MustBeFull, MayBeFull, PrepareErr, IsReady, Commits, Does}
-use Rattle.desk_store.specs.declared.clerk.Clerk.{Clerk}
-use Rattle.desk_store.specs.declared.ready.Ready.{Ready}
-use Rattle.desk_store.proofs.Kept.{acceptance_is}
-
-either : (b : Bool) → (b ≡ true) ⊎ (b ≡ false)
-either true = inl refl
-either false = inr refl
+use Rattle.desk_store.specs.{claim.Keeping.{IsLeft, OpensOneMore}, claim.Clerks.{desk_of, disk_of, pages_of, sectors_of, free_of, HaltsByDevice, Keeps, Reads, Moves}}
+use Rattle.desk_store.specs.{claim.Commands.{command_of, after_of, IsExhausted, MustBeFull, MayBeFull, PrepareErr, IsReady, Commits, Does}, declared.clerk.Clerk.Clerk}
+use Rattle.desk_store.{specs.declared.ready.Ready.Ready, proofs.Kept.acceptance_is}
 
 -- an accepted command has the step's outcome
 made_may : (must may failed : Type 0) (d : Desk) (c : Command) (e : Desk) → ¬ failed → IsAfter d c e → ¬ must → CommandMay must may failed d c (acceptance c) e
 made_may must may failed d (Fork name from) e works is room = (works, record { reply = sym is.reply; desk = is.desk; room = λ accepted. room })
-made_may must may failed d (Create name size) e works is room = (works, record { reply = sym is.reply; desk = is.desk; room = λ accepted. room })
-made_may must may failed d (Whole name after body) e works is room = (works, record { reply = sym is.reply; desk = is.desk; room = λ accepted. room })
-made_may must may failed d (Counties name after body) e works is room = (works, record { reply = sym is.reply; desk = is.desk; room = λ accepted. room })
-made_may must may failed d (Retire name) e works is room = (works, record { reply = sym is.reply; desk = is.desk; room = λ accepted. room })
+made_may must may failed d _ e works is room = (works, record { reply = sym is.reply; desk = is.desk; room = λ accepted. room })
 
 -- what is left of a clerk that has not halted
 left_working : (halted : Bool) (sectors : ℕ) (d : Desk) (c : Image) → halted ≡ false → IsLeft halted sectors d c → OpensDesk sectors d c

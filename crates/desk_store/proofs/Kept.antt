@@ -1,29 +1,16 @@
 -- What a clerk's store keeps.
 use Rattle.std.proofs.Common.{◌≡◌, ◌⊎◌, ◌+◌, ℕ, true, false, inl, inr, ⊎_elim, refl, sym, subst}
-use Rattle.sector_device.specs.claim.Disk.{Disk, Image}
-use Rattle.sector_device.specs.claim.Moments.{LeavesOnly}
-use Rattle.sector_device.proofs.Moments.{leaves_now}
-use Rattle.sector_device.specs.declared.SectorDevice.{Ghosts}
-use Rattle.page_store.specs.gate_journal.claim.Store.{home}
-use Rattle.page_store.specs.claim.Transactions.{stored, disk_in, count_of, journal_of, has_halted, IsKept}
-use Rattle.page_store.specs.declared.pages.Pages.{Pages}
-use Rattle.desk_model.specs.declared.command.Command.{Command}
-use Rattle.desk_model.specs.declared.command.Command.TheVariants.{Create, Fork, Whole, Counties, Retire}
-use Rattle.desk_model.specs.claim.Desk.{Desk}
-use Rattle.desk_model.specs.claim.Outcome.{IsAcceptance}
-use Rattle.desk_model.specs.claim.Step.{step}
+use Rattle.sector_device.{specs.claim.Disk.{Disk, Image}, specs.claim.Moments.LeavesOnly, specs.declared.SectorDevice.Ghosts, proofs.Moments.leaves_now}
+use Rattle.page_store.specs.{gate_journal.claim.Store.home, claim.Transactions.{stored, disk_in, count_of, journal_of, has_halted, IsKept}, declared.pages.Pages.Pages}
+use Rattle.desk_model.specs.{declared.command.Command.Command, declared.command.Command.TheVariants.Create, claim.Desk.Desk, claim.Outcome.IsAcceptance, claim.Step.step}
 use Rattle.desk_catalogue.specs.claim.Accepting.{IsAfter, acceptance}
-use Rattle.desk_pages.specs.claim.Desks.{InPages, OpensDesk}
-use Rattle.desk_pages.proofs.Committed.{pages_sound}
+use Rattle.desk_pages.{specs.claim.Desks.{InPages, OpensDesk}, proofs.Committed.pages_sound}
 use Rattle.desk_store.specs.claim.Keeping.{IsLeft, IsOneMore}
 
 -- each reply to a command that is accepted is one
 pub acceptance_is : (c : Command) → IsAcceptance (acceptance c)
 acceptance_is (Create name size) = tt
-acceptance_is (Fork name from) = tt
-acceptance_is (Whole name after body) = tt
-acceptance_is (Counties name after body) = tt
-acceptance_is (Retire name) = tt
+acceptance_is _ = tt
 
 pub accepted_is : (d : Desk) (c : Command) (e : Desk) → IsAfter d c e → IsAcceptance (step d c).0
 accepted_is d c e after = subst IsAcceptance (sym after.reply) (acceptance_is c)

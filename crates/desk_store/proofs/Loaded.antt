@@ -1,32 +1,16 @@
 -- Loads at a clerk.
+use Rattle.std.specs.{FinMap.{get-empty, same_map, slice_cmp-IsAntisymmetric, nat_cmp-IsAntisymmetric}, Cmp.Lexicographic.nat_list_cmp_total}
 use Rattle.std.proofs.Common.{◌≡◌, ◌⊎◌, ◌<◌, ◌+◌, ℕ, true, false, List, Option, Some, None, inl, inr, ⊎_elim, refl, sym, ap, subst, ◌∙◌}
 use Rattle.std.specs.FinMap as map_of
-use Rattle.std.specs.FinMap.{get-empty, same_map, slice_cmp-IsAntisymmetric, nat_cmp-IsAntisymmetric}
-use Rattle.std.specs.Cmp.Lexicographic.{nat_list_cmp_total}
-use Rattle.sector_device.specs.claim.Disk.{Disk}
-use Rattle.sector_device.specs.claim.Moments.{LeavesOnly}
-use Rattle.sector_device.proofs.Moments.{leaves_wider}
-use Rattle.sector_device.specs.declared.SectorDevice.{Ghosts}
-use Rattle.page_store.specs.gate_journal.claim.Store.{home}
-use Rattle.page_store.specs.claim.Transactions.{disk_in, count_of, journal_of, has_halted, IsQuiet}
-use Rattle.page_store.specs.declared.pages.Pages.{Pages}
-use Rattle.desk_model.specs.claim.Geography.{GeographyModel}
-use Rattle.desk_model.specs.claim.Desk.{Desk, Plan, name_cmp}
-use Rattle.store_rows.specs.claim.Rows.{KeyMap}
-use Rattle.store_rows.specs.claim.DeskRows.{IsDesk, IsPlanAt}
-use Rattle.store_rows.specs.Changes.{desk_with}
-use Rattle.geo_tables.specs.Loading.{HoldsLoad, geography_model_of}
-use Rattle.geo_tables.specs.Refusals.{BeginErr, BatchErr, SealErr}
-use Rattle.geo_tables.specs.declared.load.Load.{Load}
-use Rattle.desk_pages.specs.declared.error.StoreError.{StoreError}
-use Rattle.desk_pages.specs.declared.error.StoreError.TheVariants.{AlreadySealed, Ended, Full, Memory, NotAStore, DeviceFault, Halted}
+use Rattle.sector_device.{specs.claim.Disk.Disk, specs.claim.Moments.LeavesOnly, specs.declared.SectorDevice.Ghosts, proofs.Moments.leaves_wider}
+use Rattle.page_store.specs.{gate_journal.claim.Store.home, claim.Transactions.{disk_in, count_of, journal_of, has_halted, HasFailed, IsQuiet}, declared.pages.Pages.Pages}
+use Rattle.desk_model.specs.{claim.Geography.GeographyModel, claim.Desk.{Desk, Plan, name_cmp}}
+use Rattle.store_rows.specs.{claim.Rows.KeyMap, claim.DeskRows.{IsDesk, IsPlanAt}, Changes.desk_with}
+use Rattle.geo_tables.specs.{Loading.{HoldsLoad, geography_model_of}, Refusals.{BeginErr, BatchErr, SealErr}, declared.load.Load.Load}
+use Rattle.desk_pages.specs.{declared.error.StoreError.StoreError, declared.error.StoreError.TheVariants.{AlreadySealed, Ended, Full, Memory, NotAStore, DeviceFault, Halted}}
 use Rattle.desk_pages.specs.claim.Desks.{InPages, OpensDesk}
-use Rattle.desk_store.specs.claim.Keeping.{IsOneMore}
-use Rattle.desk_store.specs.Keeping.{sealed_desk}
-use Rattle.desk_store.specs.claim.Clerks.{desk_of, disk_of, pages_of, sectors_of, Keeps}
-use Rattle.desk_store.specs.Loads.{Stages, BeginRefused, EndRefused, BatchRefused, SealRefused}
-use Rattle.desk_store.specs.Failures.{is_failure}
-use Rattle.desk_store.specs.declared.clerk.Clerk.{Clerk}
+use Rattle.desk_store.specs.{claim.Keeping.IsOneMore, Keeping.sealed_desk, claim.Clerks.{desk_of, disk_of, pages_of, sectors_of, Keeps}}
+use Rattle.desk_store.specs.{Loads.{Stages, BeginRefused, EndRefused, BatchRefused, SealRefused}, Failures.is_failure, declared.clerk.Clerk.Clerk}
 use Rattle.desk_store.proofs.Moved.{OneOf, Left}
 
 -- a desk without geography has no plan
@@ -41,6 +25,29 @@ one_left : (sectors : ℕ) (d next : Desk) (old new : Disk) → LeavesOnly (λ c
 one_left sectors d next old new left = leaves_wider (λ c. OpensDesk sectors d c) (λ c. OpensDesk sectors d c ⊎ OpensDesk sectors next c) old new (λ c opens. inl opens) left
 
 module _ {D : Type 0} {g : Ghosts D} where
+  -- ---- refusals
+  -- by a fault, by pages that had halted, or with no page changed
+  abbrev pub IsRefusedBy : Pages D g → Pages D g → StoreError → Type 0
+  IsRefusedBy a b DeviceFault = HasFailed a b
+  IsRefusedBy a b Halted = has_halted a ≡ true
+  IsRefusedBy a b _ = IsQuiet a b
+
+  pub refused_rose : (x : Clerk D g) (b : Pages D g) (e : StoreError) → x.halted ≡ false → IsRefusedBy (pages_of x) b e → (is_failure e ≡ true) ⊎ (has_halted b ≡ true) → (disk_in b).is_honest → (disk_of x).faults < (disk_in b).faults
+  refused_rose x b DeviceFault working told on honest = told.rose honest
+  refused_rose x b Halted working told on honest = absurd (let clash : true ≡ false = sym told ∙ x.working working in cc)
+  refused_rose x b _ working told on honest = ⊎_elim (λ clash. absurd (cc)) (λ halted. told.rose (x.working working) halted honest) on
+
+  -- what is told as a fault has halted the pages
+  pub refused_failed : (x : Clerk D g) (b : Pages D g) (e : StoreError) → x.halted ≡ false → IsRefusedBy (pages_of x) b e → (is_failure e ≡ true) ⊎ (has_halted b ≡ true) → has_halted b ≡ true
+  refused_failed x b DeviceFault working told on = told.halted
+  refused_failed x b Halted working told on = absurd (let clash : true ≡ false = sym told ∙ x.working working in cc)
+  refused_failed x b _ working told on = ⊎_elim (λ clash. absurd (cc)) (λ halted. halted) on
+
+  pub refused_quiet : (a b : Pages D g) (e : StoreError) → is_failure e ≡ false → IsRefusedBy a b e → IsQuiet a b
+  refused_quiet a b DeviceFault off told = absurd (cc)
+  refused_quiet a b Halted off told = absurd (cc)
+  refused_quiet a b _ off told = told
+
   -- ---- begin
   abbrev BeginLeft : Clerk D g → Pages D g → Type 0
   BeginLeft x b = (disk_in b).is_honest → has_halted (pages_of x) ≡ false → (sectors : ℕ) (d : Desk) → home (journal_of (pages_of x)) + count_of (pages_of x) ≡ sectors → InPages (pages_of x) d → LeavesOnly (OpensDesk sectors d) (disk_in (pages_of x)) (disk_in b)
@@ -48,14 +55,14 @@ module _ {D : Type 0} {g : Ghosts D} where
   pub begin_left : (x : Clerk D g) (b : Pages D g) → x.halted ≡ false → ((disk_in b).is_honest → (disk_of x).is_honest) → BeginLeft x b → Left (Keeps x) (desk_of x) x b
   begin_left x b working honest left keeps is_honest = one_left (sectors_of x) (desk_of x) (desk_of x) (disk_of x) (disk_in b) (left is_honest (x.working working) (sectors_of x) (desk_of x) refl (keeps.holds working (honest is_honest)))
 
-  pub begin_rose : (area : GeographyModel) (x : Clerk D g) (b : Pages D g) (e : StoreError) → x.halted ≡ false → ((disk_in b).is_honest → (disk_of x).is_honest) → BeginErr area (pages_of x) b e → (is_failure e ≡ true) ⊎ (has_halted b ≡ true) → Keeps x → (disk_in b).is_honest → (disk_of x).faults < (disk_in b).faults
-  begin_rose area x b AlreadySealed working met why on keeps honest = ⊎_elim (λ clash. absurd (cc)) (λ halted. why.0.quiet.rose (x.working working) halted honest) on
-  begin_rose area x b Full working met why on keeps honest = ⊎_elim (λ clash. absurd (cc)) (λ halted. why.0.rose (x.working working) halted honest) on
-  begin_rose area x b Memory working met why on keeps honest = ⊎_elim (λ clash. absurd (cc)) (λ halted. why.0.rose (x.working working) halted honest) on
-  begin_rose area x b NotAStore working met why on keeps honest = ⊎_elim (λ clash. absurd (cc)) (λ halted. why.0.rose (x.working working) halted honest) on
-  begin_rose area x b DeviceFault working met why on keeps honest = why.rose honest
-  begin_rose area x b Halted working met why on keeps honest = absurd (let clash : true ≡ false = sym why.0 ∙ x.working working in cc)
-  begin_rose area x b _ working met why on keeps honest = absurd why
+  pub begin_told : (area : GeographyModel) (a b : Pages D g) (e : StoreError) → BeginErr area a b e → IsRefusedBy a b e
+  begin_told area a b AlreadySealed why = why.0.quiet
+  begin_told area a b Full why = why.0
+  begin_told area a b Memory why = why.0
+  begin_told area a b NotAStore why = why.0
+  begin_told area a b DeviceFault why = why
+  begin_told area a b Halted why = why.0
+  begin_told area a b _ why = absurd why
 
   load_desk : (b : Pages D g) (d : Desk) (load : Load) → HoldsLoad b d load → InPages b d
   load_desk b d load holds = record { m = holds.m; holds = holds.holds; is = holds.is }
@@ -82,15 +89,6 @@ module _ {D : Type 0} {g : Ghosts D} where
     holds = λ off is_honest. subst (λ (d : Desk). HoldsLoad (pages_of y) d next) (sym desk) (staged is_honest (desk_of x) (stages.holds working (honest is_honest)));
   }
 
-  pub begin_quiet : (area : GeographyModel) (x : Clerk D g) (b : Pages D g) (e : StoreError) → is_failure e ≡ false → BeginErr area (pages_of x) b e → IsQuiet (pages_of x) b
-  begin_quiet area x b AlreadySealed off why = why.0.quiet
-  begin_quiet area x b Full off why = why.0
-  begin_quiet area x b Memory off why = why.0
-  begin_quiet area x b NotAStore off why = why.0
-  begin_quiet area x b DeviceFault off why = absurd (cc)
-  begin_quiet area x b Halted off why = absurd (cc)
-  begin_quiet area x b _ off why = absurd why
-
   pub begin_refused : (area : GeographyModel) (x : Clerk D g) (b : Pages D g) (e : StoreError) → x.halted ≡ false → ((disk_in b).is_honest → (disk_of x).is_honest) → is_failure e ≡ false → BeginErr area (pages_of x) b e → BeginRefused area x e x.halted b
   begin_refused area x b AlreadySealed working honest off why = (refl, λ keeps is_honest. why.1 is_honest (desk_of x) (keeps.holds working (honest is_honest)))
   begin_refused area x b Full working honest off why = (working, why)
@@ -100,16 +98,6 @@ module _ {D : Type 0} {g : Ghosts D} where
   begin_refused area x b Halted working honest off why = absurd (cc)
   begin_refused area x b _ working honest off why = absurd why
 
-  -- what is told as a fault has halted the pages
-  pub begin_failed : (area : GeographyModel) (x : Clerk D g) (b : Pages D g) (e : StoreError) → x.halted ≡ false → BeginErr area (pages_of x) b e → (is_failure e ≡ true) ⊎ (has_halted b ≡ true) → has_halted b ≡ true
-  begin_failed area x b AlreadySealed working why on = ⊎_elim (λ clash. absurd (cc)) (λ halted. halted) on
-  begin_failed area x b Full working why on = ⊎_elim (λ clash. absurd (cc)) (λ halted. halted) on
-  begin_failed area x b Memory working why on = ⊎_elim (λ clash. absurd (cc)) (λ halted. halted) on
-  begin_failed area x b NotAStore working why on = ⊎_elim (λ clash. absurd (cc)) (λ halted. halted) on
-  begin_failed area x b DeviceFault working why on = why.halted
-  begin_failed area x b Halted working why on = absurd (let clash : true ≡ false = sym why.0 ∙ x.working working in cc)
-  begin_failed area x b _ working why on = absurd why
-
   -- ---- a batch
   abbrev BatchLeft : Clerk D g → Load → Pages D g → Type 0
   BatchLeft x load b = (disk_in b).is_honest → has_halted (pages_of x) ≡ false → (sectors : ℕ) (d : Desk) → home (journal_of (pages_of x)) + count_of (pages_of x) ≡ sectors → HoldsLoad (pages_of x) d load → LeavesOnly (OpensDesk sectors d) (disk_in (pages_of x)) (disk_in b)
@@ -117,29 +105,13 @@ module _ {D : Type 0} {g : Ghosts D} where
   pub batch_left : (x : Clerk D g) (b : Pages D g) (load : Load) → x.halted ≡ false → ((disk_in b).is_honest → (disk_of x).is_honest) → BatchLeft x load b → Left (Stages x load) (desk_of x) x b
   batch_left x b load working honest left stages is_honest = one_left (sectors_of x) (desk_of x) (desk_of x) (disk_of x) (disk_in b) (left is_honest (x.working working) (sectors_of x) (desk_of x) refl (stages.holds working (honest is_honest)))
 
-  pub batch_rose : (load : Load) (rows : ℕ) (x : Clerk D g) (b : Pages D g) (e : StoreError) → x.halted ≡ false → ((disk_in b).is_honest → (disk_of x).is_honest) → BatchErr load rows (pages_of x) b e → (is_failure e ≡ true) ⊎ (has_halted b ≡ true) → Stages x load → (disk_in b).is_honest → (disk_of x).faults < (disk_in b).faults
-  batch_rose load rows x b Full working met why on stages honest = ⊎_elim (λ clash. absurd (cc)) (λ halted. why.0.rose (x.working working) halted honest) on
-  batch_rose load rows x b Memory working met why on stages honest = ⊎_elim (λ clash. absurd (cc)) (λ halted. why.0.rose (x.working working) halted honest) on
-  batch_rose load rows x b NotAStore working met why on stages honest = ⊎_elim (λ clash. absurd (cc)) (λ halted. why.0.rose (x.working working) halted honest) on
-  batch_rose load rows x b DeviceFault working met why on stages honest = why.1.rose honest
-  batch_rose load rows x b Halted working met why on stages honest = absurd (let clash : true ≡ false = sym why.0 ∙ x.working working in cc)
-  batch_rose load rows x b _ working met why on stages honest = absurd why
-
-  pub batch_quiet : (load : Load) (rows : ℕ) (x : Clerk D g) (b : Pages D g) (e : StoreError) → is_failure e ≡ false → BatchErr load rows (pages_of x) b e → IsQuiet (pages_of x) b
-  batch_quiet load rows x b Full off why = why.0
-  batch_quiet load rows x b Memory off why = why.0
-  batch_quiet load rows x b NotAStore off why = why.0
-  batch_quiet load rows x b DeviceFault off why = absurd (cc)
-  batch_quiet load rows x b Halted off why = absurd (cc)
-  batch_quiet load rows x b _ off why = absurd why
-
-  pub batch_failed : (load : Load) (rows : ℕ) (x : Clerk D g) (b : Pages D g) (e : StoreError) → x.halted ≡ false → BatchErr load rows (pages_of x) b e → (is_failure e ≡ true) ⊎ (has_halted b ≡ true) → has_halted b ≡ true
-  batch_failed load rows x b Full working why on = ⊎_elim (λ clash. absurd (cc)) (λ halted. halted) on
-  batch_failed load rows x b Memory working why on = ⊎_elim (λ clash. absurd (cc)) (λ halted. halted) on
-  batch_failed load rows x b NotAStore working why on = ⊎_elim (λ clash. absurd (cc)) (λ halted. halted) on
-  batch_failed load rows x b DeviceFault working why on = why.1.halted
-  batch_failed load rows x b Halted working why on = absurd (let clash : true ≡ false = sym why.0 ∙ x.working working in cc)
-  batch_failed load rows x b _ working why on = absurd why
+  pub batch_told : (load : Load) (rows : ℕ) (a b : Pages D g) (e : StoreError) → BatchErr load rows a b e → IsRefusedBy a b e
+  batch_told load rows a b Full why = why.0
+  batch_told load rows a b Memory why = why.0
+  batch_told load rows a b NotAStore why = why.0
+  batch_told load rows a b DeviceFault why = why.1
+  batch_told load rows a b Halted why = why.0
+  batch_told load rows a b _ why = absurd why
 
   pub batch_refused : (load : Load) (rows : ℕ) (x : Clerk D g) (b : Pages D g) (e : StoreError) → x.halted ≡ false → is_failure e ≡ false → BatchErr load rows (pages_of x) b e → BatchRefused load rows x e x.halted b
   batch_refused load rows x b Full working off why = (working, why)
@@ -177,29 +149,13 @@ module _ {D : Type 0} {g : Ghosts D} where
       let holds = stages.holds working (honest is_honest) in
       subst (λ (f : Desk). InPages b f) (plans_are x load none holds ∙ sym desk) (sealed is_honest (desk_of x) holds)
 
-  pub seal_rose : (load : Load) (x : Clerk D g) (b : Pages D g) (e : StoreError) → x.halted ≡ false → ((disk_in b).is_honest → (disk_of x).is_honest) → SealErr load (pages_of x) b e → (is_failure e ≡ true) ⊎ (has_halted b ≡ true) → Stages x load → (disk_in b).is_honest → (disk_of x).faults < (disk_in b).faults
-  seal_rose load x b Full working met why on stages honest = ⊎_elim (λ clash. absurd (cc)) (λ halted. why.0.rose (x.working working) halted honest) on
-  seal_rose load x b Memory working met why on stages honest = ⊎_elim (λ clash. absurd (cc)) (λ halted. why.0.rose (x.working working) halted honest) on
-  seal_rose load x b NotAStore working met why on stages honest = ⊎_elim (λ clash. absurd (cc)) (λ halted. why.0.rose (x.working working) halted honest) on
-  seal_rose load x b DeviceFault working met why on stages honest = why.1.rose honest
-  seal_rose load x b Halted working met why on stages honest = absurd (let clash : true ≡ false = sym why.0 ∙ x.working working in cc)
-  seal_rose load x b _ working met why on stages honest = absurd why
-
-  pub seal_quiet : (load : Load) (x : Clerk D g) (b : Pages D g) (e : StoreError) → is_failure e ≡ false → SealErr load (pages_of x) b e → IsQuiet (pages_of x) b
-  seal_quiet load x b Full off why = why.0
-  seal_quiet load x b Memory off why = why.0
-  seal_quiet load x b NotAStore off why = why.0
-  seal_quiet load x b DeviceFault off why = absurd (cc)
-  seal_quiet load x b Halted off why = absurd (cc)
-  seal_quiet load x b _ off why = absurd why
-
-  pub seal_failed : (load : Load) (x : Clerk D g) (b : Pages D g) (e : StoreError) → x.halted ≡ false → SealErr load (pages_of x) b e → (is_failure e ≡ true) ⊎ (has_halted b ≡ true) → has_halted b ≡ true
-  seal_failed load x b Full working why on = ⊎_elim (λ clash. absurd (cc)) (λ halted. halted) on
-  seal_failed load x b Memory working why on = ⊎_elim (λ clash. absurd (cc)) (λ halted. halted) on
-  seal_failed load x b NotAStore working why on = ⊎_elim (λ clash. absurd (cc)) (λ halted. halted) on
-  seal_failed load x b DeviceFault working why on = why.1.halted
-  seal_failed load x b Halted working why on = absurd (let clash : true ≡ false = sym why.0 ∙ x.working working in cc)
-  seal_failed load x b _ working why on = absurd why
+  pub seal_told : (load : Load) (a b : Pages D g) (e : StoreError) → SealErr load a b e → IsRefusedBy a b e
+  seal_told load a b Full why = why.0
+  seal_told load a b Memory why = why.0
+  seal_told load a b NotAStore why = why.0
+  seal_told load a b DeviceFault why = why.1
+  seal_told load a b Halted why = why.0
+  seal_told load a b _ why = absurd why
 
   pub seal_refused : (load : Load) (x : Clerk D g) (b : Pages D g) (e : StoreError) → x.halted ≡ false → is_failure e ≡ false → SealErr load (pages_of x) b e → SealRefused load x e x.halted b
   seal_refused load x b Full working off why = (working, why)

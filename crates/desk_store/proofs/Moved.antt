@@ -1,20 +1,12 @@
 -- Calls that commit, and calls that came to nothing.
-use Rattle.std.proofs.Common.{◌≡◌, ◌⊎◌, ◌<◌, ◌+◌, ℕ, Bool, true, false, inl, inr, ⊎_elim, refl, sym, subst, ◌∙◌}
-use Rattle.sector_device.specs.claim.Disk.{Image}
-use Rattle.sector_device.specs.claim.Moments.{LeavesOnly}
-use Rattle.sector_device.proofs.Moments.{leaves_now}
-use Rattle.sector_device.specs.declared.SectorDevice.{Ghosts}
-use Rattle.page_store.specs.gate_journal.claim.Store.{home}
+use Rattle.std.proofs.Common.{◌≡◌, ◌⊎◌, ◌<◌, ◌+◌, ℕ, Bool, true, false, inl, ⊎_elim, refl, sym, subst, ◌∙◌}
+use Rattle.sector_device.{specs.claim.Disk.Image, specs.claim.Moments.LeavesOnly, specs.declared.SectorDevice.Ghosts, proofs.Moments.leaves_now}
+use Rattle.page_store.specs.{gate_journal.claim.Store.home, claim.Transactions.{disk_in, HasShape, IsKept, IsQuiet}, declared.pages.Pages.Pages}
 use Rattle.page_store.proofs.Stops.{quiet_none}
-use Rattle.page_store.specs.claim.Transactions.{disk_in, HasShape, IsKept, IsQuiet}
-use Rattle.page_store.specs.declared.pages.Pages.{Pages}
 use Rattle.desk_model.specs.claim.Desk.{Desk}
 use Rattle.desk_pages.specs.claim.Desks.{InPages, OpensDesk}
-use Rattle.desk_store.specs.claim.Keeping.{IsLeft, IsOneMore}
-use Rattle.desk_store.specs.claim.Clerks.{desk_of, disk_of, pages_of, sectors_of, Keeps, Reads, Moves, MovesIf}
-use Rattle.desk_store.specs.declared.clerk.Clerk.{Clerk}
-use Rattle.desk_store.proofs.Kept.{kept_opens}
-use Rattle.desk_store.proofs.Done.{reads_move}
+use Rattle.desk_store.specs.{claim.Keeping.{IsLeft, IsOneMore}, claim.Clerks.{desk_of, disk_of, pages_of, sectors_of, Keeps, Reads, MovesIf}, declared.clerk.Clerk.Clerk}
+use Rattle.desk_store.proofs.{Kept.{kept_opens, left_halted}, Done.reads_move}
 
 module _ {D : Type 0} {g : Ghosts D} where
   abbrev pub OneOf : Clerk D g → Desk → Image → Type 0
@@ -49,9 +41,8 @@ module _ {D : Type 0} {g : Ghosts D} where
   faulted sound next x y working halts desk shape honest left more rose =
       let sectors = shape_sectors x y shape in
       let images = λ (is : sound) (is_honest : (disk_of y).is_honest) (c : Image) (leaves : (disk_of y).leaves c).
-      ⊎_elim {C = IsLeft true (sectors_of x) (desk_of x) c} (λ was. inl was)
-      (λ now. ⊎_elim {C = IsLeft true (sectors_of x) (desk_of x) c} (λ (same : next ≡ desk_of x). inl (subst (λ (d : Desk). OpensDesk (sectors_of x) d c) same now)) (λ (one : IsOneMore (desk_of x) next). inr (record { halt = refl; next = next; is = one; opens = now })) (more is is_honest))
-      (leaves_now (OneOf x next) (disk_of x) (disk_of y) (left is is_honest) c leaves) in
+      ⊎_elim {C = IsLeft true (sectors_of x) (desk_of x) c} (λ (same : next ≡ desk_of x). inl (⊎_elim (λ was. was) (λ now. subst (λ (d : Desk). OpensDesk (sectors_of x) d c) same now) (leaves_now (OneOf x next) (disk_of x) (disk_of y) (left is is_honest) c leaves)))
+      (λ (one : IsOneMore (desk_of x) next). left_halted (sectors_of x) (desk_of x) next (disk_of x) (disk_of y) one (left is is_honest) c leaves) (more is is_honest) in
       record {
         sectors = sectors;
         room = shape.journal_pages;
@@ -66,41 +57,9 @@ module _ {D : Type 0} {g : Ghosts D} where
         calm = λ off is_honest. absurd (let clash : true ≡ false = sym halts ∙ off in cc);
       }
 
-  -- nothing was committed, and no fault came
-  pub quieted : (sound : Type 0) (next : Desk) (x y : Clerk D g) → (sound → Keeps x) → x.halted ≡ false → y.halted ≡ false → desk_of y ≡ desk_of x → IsQuiet (pages_of x) (pages_of y) → MovesIf sound next x y
-  quieted sound next x y gives working works desk quiet =
-      let reads : Reads x y = record {
-        quiet = quiet;
-        desk = desk;
-        halts = λ on. absurd (let clash : true ≡ false = sym on ∙ working in cc);
-        still = λ on. absurd (let clash : true ≡ false = sym on ∙ working in cc);
-        rose = λ keeps off on. absurd (let clash : true ≡ false = sym on ∙ works in cc);
-      } in
-      as_if sound next x y gives (reads_move next x y reads)
-    where
-      as_if : (sound : Type 0) (next : Desk) (x y : Clerk D g) → (sound → Keeps x) → Moves next x y → MovesIf sound next x y
-      as_if sound next x y gives moves = record {
-        sectors = moves.sectors;
-        room = moves.room;
-        honest = moves.honest;
-        any_moment = λ is. moves.any_moment (gives is);
-        keeps = λ is. moves.keeps (gives is);
-        still = moves.still;
-        rose = λ is. moves.rose (gives is);
-        calm = moves.calm;
-      }
-
-  -- nothing happened
-  pub unmoved : (sound : Type 0) (next : Desk) (x : Clerk D g) → (sound → Keeps x) → MovesIf sound next x x
-  unmoved sound next x gives =
-      let reads : Reads x x = record {
-        quiet = quiet_none (pages_of x);
-        desk = refl;
-        halts = λ on. on;
-        still = λ on. refl;
-        rose = λ keeps off on. absurd (let clash : true ≡ false = sym on ∙ off in cc);
-      } in
-      let moves = reads_move next x x reads in
+  as_if : (sound : Type 0) (next : Desk) (x y : Clerk D g) → (sound → Keeps x) → Reads x y → MovesIf sound next x y
+  as_if sound next x y gives reads =
+      let moves = reads_move next x y reads in
       record {
         sectors = moves.sectors;
         room = moves.room;
@@ -111,3 +70,23 @@ module _ {D : Type 0} {g : Ghosts D} where
         rose = λ is. moves.rose (gives is);
         calm = moves.calm;
       }
+
+  -- nothing was committed, and no fault came
+  pub quieted : (sound : Type 0) (next : Desk) (x y : Clerk D g) → (sound → Keeps x) → x.halted ≡ false → y.halted ≡ false → desk_of y ≡ desk_of x → IsQuiet (pages_of x) (pages_of y) → MovesIf sound next x y
+  quieted sound next x y gives working works desk quiet = as_if sound next x y gives (record {
+    quiet = quiet;
+    desk = desk;
+    halts = λ on. absurd (let clash : true ≡ false = sym on ∙ working in cc);
+    still = λ on. absurd (let clash : true ≡ false = sym on ∙ working in cc);
+    rose = λ keeps off on. absurd (let clash : true ≡ false = sym on ∙ works in cc);
+  })
+
+  -- nothing happened
+  pub unmoved : (sound : Type 0) (next : Desk) (x : Clerk D g) → (sound → Keeps x) → MovesIf sound next x x
+  unmoved sound next x gives = as_if sound next x x gives (record {
+    quiet = quiet_none (pages_of x);
+    desk = refl;
+    halts = λ on. on;
+    still = λ on. refl;
+    rose = λ keeps off on. absurd (let clash : true ≡ false = sym on ∙ off in cc);
+  })

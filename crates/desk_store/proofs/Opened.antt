@@ -1,42 +1,22 @@
 -- What an opening finds.
 use Rattle.std.proofs.Common.{◌≡◌, ◌<◌, ℕ, Bool, true, false, inl, inr, refl, sym, ap, subst, ◌∙◌, arith}
-use Rattle.sector_device.specs.claim.Disk.{Disk, Image}
-use Rattle.sector_device.specs.declared.SectorDevice.{Ghosts}
-use Rattle.page_store.specs.gate_journal.claim.Store.{pages}
-use Rattle.page_store.specs.gate_journal.Recovery.{HasRoom, Found}
-use Rattle.page_store.specs.claim.Chain.{root_in, free_in}
-use Rattle.page_store.proofs.Stops.{kept_quiet}
-use Rattle.page_store.specs.claim.Transactions.{stored, disk_in, count_of, journal_of, has_halted, HasFailed, IsQuiet, IsKept}
-use Rattle.page_store.specs.Transactions.{OpenErr}
-use Rattle.page_store.specs.declared.pages.Pages.{Pages}
-use Rattle.page_store.specs.gate_journal.declared.error.PageError.{PageError}
+use Rattle.sector_device.specs.{claim.Disk.{Disk, Image}, declared.SectorDevice.Ghosts}
+use Rattle.page_store.specs.{gate_journal.claim.Store.pages, gate_journal.Recovery.{HasRoom, Found}, claim.Chain.{root_in, free_in}}
+use Rattle.page_store.specs.{claim.Transactions.{stored, disk_in, count_of, journal_of, has_halted, HasFailed, IsQuiet, IsKept}, Transactions.OpenErr, declared.pages.Pages.Pages}
+use Rattle.page_store.{specs.gate_journal.declared.error.PageError.PageError, specs.declared.txn.Txn.Txn, proofs.Stops.kept_quiet}
 use Rattle.page_store.specs.gate_journal.declared.error.PageError.TheVariants as page
 use Rattle.desk_model.specs.claim.Desk.{Desk}
-use Rattle.page_store.specs.declared.txn.Txn.{Txn}
-use Rattle.page_btree.specs.declared.error.TreeError.{TreeError}
+use Rattle.page_btree.specs.{declared.error.TreeError.TreeError, claim.Map.{Holds, InPages as HasRows, InTxn as TxnHas}}
 use Rattle.page_btree.specs.declared.error.TreeError.TheVariants as tree
-use Rattle.page_btree.specs.claim.Map.{Holds, InPages as HasRows, InTxn as TxnHas}
-use Rattle.store_rows.specs.claim.Keys.{version, in_four}
-use Rattle.store_rows.specs.claim.Rows.{KeyMap, row_in, Has, Lacks}
-use Rattle.store_rows.specs.claim.Tidy.{version_row}
-use Rattle.store_rows.proofs.OneGeography.{no_value}
+use Rattle.store_rows.{specs.claim.Keys.{version, in_four}, specs.claim.Rows.{KeyMap, row_in, Has, Lacks}, specs.claim.Tidy.version_row, proofs.OneGeography.no_value}
 use Rattle.plan_revisions.specs.desk_pages.Reading.{ReadErr as RowErr}
 use Rattle.desk_opening.specs.Opening.{HasVersion, IsReadFrom, OpenErr as ReadErr}
-use Rattle.desk_pages.specs.claim.Desks.{HoldsDeskOf, IsMapOf, InPagesOf, InPages, OpensDesk, OpensDeskOf}
-use Rattle.desk_pages.specs.Desks.{InPagesAs}
-use Rattle.desk_pages.specs.Openings.{AllDesks, HasPages}
-use Rattle.desk_pages.specs.claim.Openings.{AllVersions, IsOneOf}
-use Rattle.desk_pages.proofs.Found.{page_stores_of, found_desk, found_after, pages_left, rows_before}
-use Rattle.desk_store.specs.claim.Keeping.{IsLeft}
-use Rattle.desk_store.specs.claim.Clerks.{desk_of, disk_of, pages_of, sectors_of, Keeps}
-use Rattle.desk_pages.specs.Errors.{missing, page_refusal, row_refusal}
-use Rattle.desk_store.specs.Finding.{FindErr}
-use Rattle.desk_store.specs.Openings.{IsOldStore, IsFound, OpenRefused}
-use Rattle.desk_store.specs.declared.clerk.Clerk.{Clerk}
-use Rattle.desk_pages.specs.declared.error.StoreError.{StoreError}
+use Rattle.desk_pages.specs.{claim.Desks.{HoldsDeskOf, IsMapOf, InPagesOf, InPages, OpensDesk, OpensDeskOf}, Desks.InPagesAs, Openings.{AllDesks, HasPages}}
+use Rattle.desk_pages.specs.{claim.Openings.{AllVersions, IsOneOf}, Errors.{missing, page_refusal, row_refusal}, declared.error.StoreError.StoreError}
 use Rattle.desk_pages.specs.declared.error.StoreError.TheVariants.{NotAStore, DeviceFault, Memory, OldVersion}
-use Rattle.desk_store.proofs.Kept.{kept_opens}
-use Rattle.desk_store.proofs.Prepared.{IsBegun, begun_reads, begun_rows}
+use Rattle.desk_pages.proofs.Found.{page_stores_of, found_desk, found_after, pages_left, rows_before}
+use Rattle.desk_store.specs.{claim.Keeping.IsLeft, claim.Clerks.{desk_of, disk_of, pages_of, sectors_of, Keeps}, Finding.FindErr, Openings.{IsOldStore, IsFound, OpenRefused}}
+use Rattle.desk_store.{specs.declared.clerk.Clerk.Clerk, proofs.Kept.kept_opens, proofs.Prepared.{IsBegun, begun_reads, begun_rows}}
 
 -- why a device is not opened, by what it is like afterwards
 abbrev FindTold : Disk → Disk → StoreError → Type 0
@@ -50,16 +30,10 @@ pub page_refused : {D : Type 0} (h : Ghosts D) (old new : D) (e : PageError) →
 page_refused h old new page.NotAStore why = λ honest all. why honest (page_stores_of (h.disk old) all)
 page_refused h old new page.DeviceFault why = why
 page_refused h old new page.Memory why = λ honest. let it = why honest in (it.0, it.1.0, it.1.1)
-page_refused h old new page.Halted why = absurd why
-page_refused h old new page.TooManyPages why = absurd why
-page_refused h old new page.TooSmall why = absurd why
-page_refused h old new page.NoPages why = absurd why
+page_refused h old new _ why = absurd why
 
 pub as_refused : {D : Type 0} (h : Ghosts D) (old new : D) (e : StoreError) → FindTold (h.disk old) (h.disk new) e → OpenRefused h old new e
 as_refused h old new NotAStore told = told
-as_refused h old new DeviceFault told = told
-as_refused h old new Memory told = told
-as_refused h old new OldVersion told = told
 as_refused h old new _ told = told
 
 opens_left : (halted : Bool) (sectors : ℕ) (d : Desk) (c : Image) → IsLeft halted sectors d c → (e : Desk) × OpensDesk sectors e c
@@ -190,19 +164,16 @@ module _ {D : Type 0} {g : Ghosts D} where
       let it = begun_reads a t x.1 begun (quiet.honest honest) holds in
       why honest it.m it.holds (it.is.tidy.new, it.is.tidy.holdings.told))
   version_unread a b t tree.Halted halted begun quiet is working why = absurd (was_halted a working why)
-  version_unread a b t tree.NoPages halted begun quiet is working why = absurd why
-  version_unread a b t tree.TooDeep halted begun quiet is working why = absurd why
-  version_unread a b t tree.Memory halted begun quiet is working why = absurd why
+  version_unread a b t _ halted begun quiet is working why = absurd why
 
   -- nor is the desk
   pub none_read : (a b : Pages D g) (t : Txn) (e : TreeError) (halted : Bool) → IsBegun a t → IsQuiet a b → halted ≡ has_halted b → has_halted a ≡ false → ReadErr t a b e → FindErr a b (row_refusal e halted)
   none_read a b t tree.DeviceFault halted begun quiet is working why = missing_found a b halted is (λ works. absurd (halts_not a b works why))
   none_read a b t tree.NotAStore halted begun quiet is working why = missing_found a b halted is (λ works honest x holds. why honest x.0 x.1 (begun_reads a t x.1 begun (quiet.honest honest) holds))
   none_read a b t tree.Halted halted begun quiet is working why = absurd (was_halted a working why)
-  none_read a b t tree.NoPages halted begun quiet is working why = absurd why
-  none_read a b t tree.TooDeep halted begun quiet is working why = absurd why
   none_read a b t tree.Memory true begun quiet is working why = sym is
   none_read a b t tree.Memory false begun quiet is working why = tt
+  none_read a b t _ halted begun quiet is working why = absurd why
 
   -- ---- what is kept opens again
   pub reopened : (x : Clerk D g) → Keeps x → (disk_of x).is_honest → AllDesks (disk_of x)

@@ -1,39 +1,21 @@
 -- A command whose pages are made ready.
 use Rattle.std.proofs.Common.{◌≡◌, ◌⊎◌, ◌≤◌, ◌+◌, ℕ, Bool, true, false, List, length, inl, inr, ⊎_elim, refl, sym, ap, subst, ◌∙◌, arith}
-use Rattle.sector_device.specs.claim.Disk.{Image}
-use Rattle.sector_device.specs.declared.SectorDevice.{Ghosts}
+use Rattle.sector_device.specs.{claim.Disk.Image, declared.SectorDevice.Ghosts}
 use Rattle.page_store.specs.claim.Chain.{free_in, root_in}
-use Rattle.page_store.proofs.Chains.{length_chain}
 use Rattle.page_store.specs.claim.Transactions.{stored, disk_in, count_of, has_halted, txn_pages, txn_writes, txn_free, txn_root, over, free_over, prepared_pages, prepared_writes, after, IsQuiet}
-use Rattle.page_store.specs.Transactions.{txn_first}
-use Rattle.page_store.specs.declared.pages.Pages.{Pages}
-use Rattle.page_store.specs.declared.txn.Txn.{Txn}
-use Rattle.page_store.specs.declared.txn.Prepared.{Prepared}
-use Rattle.page_btree.proofs.MapLaws.{begun_holds}
-use Rattle.page_btree.specs.claim.Map.{Holds, InTxn as TxnHas, InPages as HoldsRows}
-use Rattle.page_btree.specs.declared.error.TreeError.{TreeError}
-use Rattle.page_btree.specs.declared.error.TreeError.TheVariants.{DeviceFault, NotAStore, Halted, NoPages, TooDeep, Memory}
+use Rattle.page_store.{specs.Transactions.txn_first, specs.declared.pages.Pages.Pages, specs.declared.txn.Txn.Txn, specs.declared.txn.Prepared.Prepared, proofs.Chains.length_chain}
+use Rattle.page_btree.specs.{claim.Map.{Holds, InTxn as TxnHas, InPages as HoldsRows}, declared.error.TreeError.TreeError}
+use Rattle.page_btree.{specs.declared.error.TreeError.TheVariants.{DeviceFault, NotAStore, Halted, NoPages, TooDeep, Memory}, proofs.MapLaws.begun_holds}
 use Rattle.store_rows.specs.claim.Rows.{KeyMap}
-use Rattle.desk_model.specs.declared.command.Command.{Command}
-use Rattle.desk_model.specs.claim.Desk.{Desk}
-use Rattle.desk_model.specs.claim.Outcome.{IsFull, RefusalMay}
-use Rattle.desk_model.specs.claim.Room.{need, command_rows}
+use Rattle.desk_model.specs.{declared.command.Command.Command, claim.Desk.Desk, claim.Outcome.{IsFull, RefusalMay}, claim.Room.{need, command_rows}}
 use Rattle.desk_catalogue.specs.claim.Accepting.{IsAfter}
-use Rattle.plan_revisions.specs.plan_rows.claim.Outcomes.{HasExhausted}
-use Rattle.plan_revisions.specs.plan_rows.declared.change.ChangeOutcome.{ChangeOutcome}
-use Rattle.plan_revisions.specs.plan_rows.declared.change.ChangeOutcome.TheVariants.{Made, NumbersExhausted}
-use Rattle.plan_revisions.specs.claim.Steps.{HasStepped, IsStepped, LeavesNumbers, StepErr}
-use Rattle.desk_pages.specs.claim.Commits.{HoldsAfter}
-use Rattle.desk_pages.specs.Desks.{HoldsDesk}
-use Rattle.desk_pages.specs.claim.Desks.{IsDeskMap, HoldsDeskOf, InPages, InPagesOf, InTxn, InTxnOf}
+use Rattle.plan_revisions.specs.{plan_rows.claim.Outcomes.HasExhausted, plan_rows.declared.change.ChangeOutcome.ChangeOutcome}
+use Rattle.plan_revisions.specs.{plan_rows.declared.change.ChangeOutcome.TheVariants.{Made, NumbersExhausted}, claim.Steps.{HasStepped, IsStepped, LeavesNumbers, StepErr}}
+use Rattle.plan_revisions.{specs.claim.Rows.HasNumbers, proofs.Accepted.{rows_some, geography_stays}}
+use Rattle.desk_pages.specs.{claim.Commits.HoldsAfter, Desks.HoldsDesk, claim.Desks.{IsDeskMap, HoldsDeskOf, InPages, InPagesOf, InTxn, InTxnOf}}
 use Rattle.desk_pages.proofs.DeskLaws.{begun_desk}
-use Rattle.plan_revisions.specs.claim.Rows.{HasNumbers}
-use Rattle.plan_revisions.proofs.Accepted.{rows_some, geography_stays}
-use Rattle.desk_store.specs.claim.Clerks.{desk_of, disk_of, pages_of, room_of, Keeps, Reads}
-use Rattle.desk_store.specs.declared.ready.Ready.{Ready}
-use Rattle.desk_store.specs.claim.Commands.{command_of, after_of, written_of, IsReady, HasRoom, MustBeFull, MayBeFull}
-use Rattle.desk_store.specs.Faults.{is_fault, refusal_of}
-use Rattle.desk_store.specs.declared.clerk.Clerk.{Clerk}
+use Rattle.desk_store.specs.{claim.Clerks.{desk_of, disk_of, pages_of, room_of, Keeps, Reads}, declared.ready.Ready.Ready}
+use Rattle.desk_store.specs.{claim.Commands.{command_of, after_of, written_of, IsReady, HasRoom, MustBeFull, MayBeFull}, Faults.{is_fault, refusal_of}, declared.clerk.Clerk.Clerk}
 use Rattle.desk_store.proofs.Kept.{accepted_is}
 
 -- the pages of a prepared transaction, which read what the one before reads with the command's rows
@@ -131,9 +113,6 @@ module _ {D : Type 0} {g : Ghosts D} where
 
   pub not_put : (x : Clerk D g) (b : Pages D g) (c : Command) (e : Desk) (t : Txn) (error : TreeError) → IsAfter (desk_of x) c e → HasRoom x (command_rows (desk_of x) c) → x.halted ≡ false → IsBegun (pages_of x) t → IsQuiet (pages_of x) b
       → StepErr (λ d. d ≡ desk_of x) (command_rows (desk_of x) c) t (pages_of x) b error → is_fault error ≡ false → RefusalMay (MustBeFull x c) (MayBeFull x b c) (x.halted ≡ true) (desk_of x) c (refusal_of error) (desk_of x)
-  not_put x b c e t DeviceFault is room working begun quiet why off = absurd (cc)
-  not_put x b c e t NotAStore is room working begun quiet why off = absurd (cc)
-  not_put x b c e t Halted is room working begun quiet why off = absurd (cc)
   not_put x b c e t Memory is room working begun quiet why off = (λ on. let clash : true ≡ false = sym on ∙ working in cc, refl)
   not_put x b c e t NoPages is room working begun quiet why off = (
     λ on. let clash : true ≡ false = sym on ∙ working in cc,
@@ -151,15 +130,14 @@ module _ {D : Type 0} {g : Ghosts D} where
       desk = refl;
     },
   )
+  not_put x b c e t _ is room working begun quiet why off = absurd (cc)
 
   -- ---- a fault, which is one of the device where the store keeps the desk
   has_failed : (x : Clerk D g) (b : Pages D g) (c : Command) (t : Txn) (error : TreeError) → x.halted ≡ false → Keeps x → (disk_in b).is_honest → IsBegun (pages_of x) t → IsQuiet (pages_of x) b → StepErr (λ d. d ≡ desk_of x) (command_rows (desk_of x) c) t (pages_of x) b error → is_fault error ≡ true → has_halted b ≡ true
   has_failed x b c t DeviceFault working keeps honest begun quiet why fault = why.halted
   has_failed x b c t NotAStore working keeps honest begun quiet why fault = absurd (why honest (desk_of x) (begun_reads (pages_of x) t (desk_of x) begun (quiet.honest honest) (keeps.holds working (quiet.honest honest))) refl)
   has_failed x b c t Halted working keeps honest begun quiet why fault = absurd (let clash : true ≡ false = sym why ∙ x.working working in cc)
-  has_failed x b c t NoPages working keeps honest begun quiet why fault = absurd (cc)
-  has_failed x b c t TooDeep working keeps honest begun quiet why fault = absurd (cc)
-  has_failed x b c t Memory working keeps honest begun quiet why fault = absurd (cc)
+  has_failed x b c t _ working keeps honest begun quiet why fault = absurd (cc)
 
   pub fault_reads : (x y : Clerk D g) (c : Command) (t : Txn) (error : TreeError) → x.halted ≡ false → y.halted ≡ true → desk_of y ≡ desk_of x → IsBegun (pages_of x) t → IsQuiet (pages_of x) (pages_of y) → StepErr (λ d. d ≡ desk_of x) (command_rows (desk_of x) c) t (pages_of x) (pages_of y) error
       → (is_fault error ≡ true) ⊎ (has_halted (pages_of y) ≡ true) → Reads x y

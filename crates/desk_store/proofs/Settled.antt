@@ -1,17 +1,9 @@
 -- A clerk whose catalogue was settled: what is shown stays, and so does the clerk.
-use Rattle.std.proofs.Common.{◌≡◌, Bool, true, false, sym, ap, subst}
-use Rattle.std.proofs.Props.{props}
-use Rattle.std.specs.Arc.{arc_with_value}
+use Rattle.std.{specs.Arc.arc_with_value, proofs.Common.{◌≡◌, Bool, true, false, sym, ap, subst}, proofs.Props.props}
 use Rattle.sector_device.specs.declared.SectorDevice.{Ghosts}
-use Rattle.page_store.specs.claim.Transactions.{has_halted}
-use Rattle.page_store.specs.declared.pages.Pages.{Pages}
-use Rattle.desk_model.specs.claim.Desk.{Desk}
-use Rattle.desk_model.specs.claim.Outcome.{RefusalMay}
-use Rattle.desk_model.specs.declared.command.Command.{Command}
-use Rattle.desk_model.specs.declared.reply.Refusal.{Refusal}
-use Rattle.desk_store.specs.claim.Clerks.{desk_of, pages_of, Reads}
-use Rattle.desk_store.specs.claim.Commands.{MustBeFull, MayBeFull}
-use Rattle.desk_store.specs.declared.clerk.Clerk.{Clerk}
+use Rattle.page_store.specs.{claim.Transactions.has_halted, declared.pages.Pages.Pages}
+use Rattle.desk_model.specs.{claim.Desk.Desk, claim.Outcome.RefusalMay, declared.command.Command.Command, declared.reply.Refusal.Refusal}
+use Rattle.desk_store.specs.{claim.Clerks.{desk_of, pages_of, Reads}, claim.Commands.{MustBeFull, MayBeFull}, declared.clerk.Clerk.Clerk}
 
 module _ {D : Type 0} {g : Ghosts D} where
   -- the fact that a clerk who works has pages that work has one proof at most

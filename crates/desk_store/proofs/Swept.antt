@@ -1,35 +1,19 @@
 -- Sweeps at a clerk.
-use Rattle.std.proofs.Common.{◌≡◌, ◌⊎◌, ◌<◌, ◌+◌, ◌^◌, ℕ, zero, suc, Bool, true, false, List, [], ◌∷◌, ◌++◌, Option, Some, inl, inr, ⊎_elim, refl, sym, ap, subst, ◌∙◌, arith}
 use Rattle.std.specs.FinMap.{remove}
+use Rattle.std.proofs.Common.{◌≡◌, ◌⊎◌, ◌<◌, ◌+◌, ◌^◌, ℕ, zero, suc, Bool, true, false, List, [], ◌∷◌, ◌++◌, Option, Some, inl, inr, ⊎_elim, refl, sym, ap, subst, ◌∙◌, arith}
 use Rattle.sector_device.specs.declared.SectorDevice.{Ghosts}
-use Rattle.page_store.specs.gate_journal.declared.journal.Journal.{Journal}
-use Rattle.page_store.specs.claim.Transactions.{disk_in, has_halted, IsQuiet, IsSame}
-use Rattle.page_store.specs.declared.pages.Pages.{Pages}
+use Rattle.page_store.specs.{gate_journal.declared.journal.Journal.Journal, claim.Transactions.{disk_in, has_halted, IsQuiet, IsSame}, declared.pages.Pages.Pages}
 use Rattle.page_btree.specs.claim.Map.{InPages as HoldsRows}
-use Rattle.desk_model.specs.claim.Geography.{GeographyModel}
-use Rattle.desk_model.specs.claim.Desk.{Desk}
-use Rattle.store_rows.specs.claim.Keys.{RowKey, key_of, Fits, counters, retired, begun, holding, holder_count, named, part, seal, version, block, pair, chunk, in_eight}
-use Rattle.store_rows.specs.Holders.{released}
-use Rattle.store_rows.proofs.RowLaws.{keys_differ}
+use Rattle.desk_model.specs.{claim.Geography.GeographyModel, claim.Desk.Desk}
+use Rattle.store_rows.specs.{claim.Keys.{RowKey, key_of, Fits, begun, holding, seal, block, pair, in_eight}, Holders.released, claim.Rows.{KeyMap, row_in}, Rows.SameTag}
+use Rattle.store_rows.{specs.claim.GeographyRows.IsStaged, specs.TurnLaws.{Turn, goes, lets_go, IsUnneeded, CanTurn, turned, take_turns, AreTurns}, proofs.RowLaws.keys_differ}
 use Rattle.store_rows.proofs.Frames.{remove_keeps, put_keeps_tag, remove_keeps_tag, tag_follows}
-use Rattle.store_rows.specs.claim.Rows.{KeyMap, row_in}
-use Rattle.store_rows.specs.Rows.{SameTag}
-use Rattle.store_rows.specs.claim.GeographyRows.{IsStaged}
-use Rattle.store_rows.specs.TurnLaws.{Turn, goes, lets_go, IsUnneeded, CanTurn, turned, take_turns, AreTurns}
-use Rattle.geo_tables.specs.Loading.{HoldsLoad, number_of, geography_model_of, done_of}
-use Rattle.geo_tables.specs.declared.load.Load.{Load}
-use Rattle.desk_pages.specs.claim.Desks.{IsDeskMap, InPages}
-use Rattle.store_sweep.specs.Leftovers.{IsOfLoad, IsApart, AreNotSpared, IsSweptBy, IsSweptClean}
-use Rattle.store_sweep.specs.Sweeping.{SweepErr, Sweeps}
-use Rattle.desk_pages.specs.declared.error.StoreError.{StoreError}
-use Rattle.desk_pages.specs.declared.error.StoreError.TheVariants.{Memory, NotAStore, DeviceFault, Halted}
+use Rattle.geo_tables.specs.{Loading.{HoldsLoad, number_of, geography_model_of, done_of}, declared.load.Load.Load}
+use Rattle.desk_pages.specs.{claim.Desks.{IsDeskMap, InPages}, declared.error.StoreError.StoreError, declared.error.StoreError.TheVariants.{Memory, NotAStore, DeviceFault, Halted}}
+use Rattle.store_sweep.specs.{Leftovers.{IsOfLoad, IsApart, AreNotSpared, IsSweptBy, IsSweptClean}, Sweeping.{SweepErr, Sweeps}}
 use Rattle.desk_opening.proofs.plan_rows.Committing.{quiet_rows}
-use Rattle.desk_store.specs.claim.Clerks.{desk_of, disk_of, pages_of, HaltsByDevice, Keeps, Reads, Moves}
-use Rattle.desk_store.specs.Loads.{Stages, IsLast}
-use Rattle.desk_store.specs.Failures.{is_failure}
-use Rattle.desk_store.specs.Sweeps.{HasRows, HasSwept, SweepRefused}
-use Rattle.desk_store.specs.declared.clerk.Clerk.{Clerk}
-use Rattle.desk_store.proofs.Done.{reads_move}
+use Rattle.desk_store.specs.{claim.Clerks.{desk_of, disk_of, pages_of, HaltsByDevice, Keeps, Reads, Moves}, Loads.{Stages, IsLast}, Failures.is_failure}
+use Rattle.desk_store.{specs.Sweeps.{HasRows, HasSwept, SweepRefused}, specs.declared.clerk.Clerk.Clerk, proofs.Done.reads_move}
 
 -- ---- turns leave the rows of a load
 -- a plan that lets a chunk go leaves the rows with other tags
@@ -42,18 +26,10 @@ released_keeps m plan number (suc more) tag holds counts =
     tag_follows tag m gone (released m plan number (suc more)) (remove_keeps_tag m tag 72 (in_eight plan ++ in_eight number) holds) (put_keeps_tag gone tag 75 (in_eight number) (in_eight (more + 1)) counts)
 
 let_go_kept : (load plan number count : ℕ) (m : KeyMap) (row : RowKey) → IsOfLoad load row → row_in (released m plan number count) row ≡ row_in m row
-let_go_kept load plan number count m counters of = absurd of
-let_go_kept load plan number count m (retired other) of = absurd of
 let_go_kept load plan number count m (begun other) of = released_keeps m plan number count 76 (λ same. absurd (omega (arith, same))) (λ same. absurd (omega (arith, same))) (in_eight other)
-let_go_kept load plan number count m (holding other held) of = absurd of
-let_go_kept load plan number count m (holder_count held) of = absurd of
-let_go_kept load plan number count m (named name) of = absurd of
-let_go_kept load plan number count m (part other revision index) of = absurd of
-let_go_kept load plan number count m seal of = absurd of
-let_go_kept load plan number count m version of = absurd of
 let_go_kept load plan number count m (block other place) of = released_keeps m plan number count 103 (λ same. absurd (omega (arith, same))) (λ same. absurd (omega (arith, same))) _
 let_go_kept load plan number count m (pair other place) of = released_keeps m plan number count 103 (λ same. absurd (omega (arith, same))) (λ same. absurd (omega (arith, same))) _
-let_go_kept load plan number count m (chunk other piece) of = absurd of
+let_go_kept load plan number count m _ of = absurd of
 
 turn_kept : (load : ℕ) (turn : Turn) (m : KeyMap) (row : RowKey) → Fits row → IsOfLoad load row → CanTurn m turn → IsApart (Some load) turn → row_in (turned m turn) row ≡ row_in m row
 turn_kept load (goes r) m row fits of can apart =

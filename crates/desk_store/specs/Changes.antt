@@ -1,6 +1,5 @@
 -- A change of a desk, as it is shown.
-use Rattle.desk_model.specs.declared.command.Command.{Command}
-use Rattle.desk_model.specs.claim.Desk.{Desk}
+use Rattle.desk_model.specs.{declared.command.Command.Command, claim.Desk.Desk}
 
 -- a command with the desk after it
 pub record Made : Type 0 where

@@ -2,14 +2,10 @@
 use Rattle.std.specs.Prelude.{◌≡◌, Bool, true}
 use Rattle.sector_device.specs.declared.SectorDevice.{Ghosts}
 use Rattle.desk_model.specs.claim.Desk.{Desk}
-use Rattle.page_store.specs.claim.Transactions.{disk_in, has_halted}
-use Rattle.page_store.specs.declared.pages.Pages.{Pages}
+use Rattle.page_store.specs.{claim.Transactions.{disk_in, has_halted}, declared.pages.Pages.Pages}
 use Rattle.page_btree.specs.claim.Map.{InPages as HasRows}
-use Rattle.store_rows.specs.claim.Keys.{version}
-use Rattle.store_rows.specs.claim.Rows.{KeyMap, Lacks}
-use Rattle.desk_pages.specs.Desks.{InPagesAs}
-use Rattle.desk_pages.specs.declared.error.StoreError.{StoreError}
-use Rattle.desk_pages.specs.declared.error.StoreError.TheVariants.{NotAStore, DeviceFault, Memory, OldVersion}
+use Rattle.store_rows.specs.{claim.Keys.version, claim.Rows.{KeyMap, Lacks}}
+use Rattle.desk_pages.specs.{Desks.InPagesAs, declared.error.StoreError.StoreError, declared.error.StoreError.TheVariants.{NotAStore, DeviceFault, Memory, OldVersion}}
 
 -- the pages hold no desk, the device failed, a growth was refused, or the rows tell no version
 abbrev pub FindErr : {D : Type 0} {g : Ghosts D} → Pages D g → Pages D g → StoreError → Type 0

@@ -1,16 +1,11 @@
 -- Loads at a clerk.
 use Rattle.std.specs.Prelude.{◌≡◌, ℕ, Bool, true, false, Some, None, Result, OnOk, OnErr}
 use Rattle.sector_device.specs.declared.SectorDevice.{Ghosts}
-use Rattle.page_store.specs.claim.Transactions.{disk_in, has_halted, IsQuiet}
-use Rattle.page_store.specs.declared.pages.Pages.{Pages}
+use Rattle.page_store.specs.{claim.Transactions.{disk_in, has_halted, IsQuiet}, declared.pages.Pages.Pages}
 use Rattle.desk_model.specs.claim.Geography.{GeographyModel}
-use Rattle.geo_tables.specs.declared.load.Load.{Load}
-use Rattle.geo_tables.specs.Loading.{HoldsLoad, number_of}
-use Rattle.geo_tables.specs.Refusals.{BeginErr, BatchErr, SealErr}
-use Rattle.desk_store.specs.declared.clerk.Clerk.{Clerk}
-use Rattle.desk_pages.specs.declared.error.StoreError.{StoreError}
-use Rattle.desk_pages.specs.declared.error.StoreError.TheVariants.{AlreadySealed, Full, Memory, NotAStore, Halted, Ended}
-use Rattle.desk_store.specs.claim.Clerks.{desk_of, disk_of, pages_of, Keeps}
+use Rattle.geo_tables.specs.{declared.load.Load.Load, Loading.{HoldsLoad, number_of}, Refusals.{BeginErr, BatchErr, SealErr}}
+use Rattle.desk_store.specs.{declared.clerk.Clerk.Clerk, claim.Clerks.{desk_of, disk_of, pages_of, Keeps}}
+use Rattle.desk_pages.specs.{declared.error.StoreError.StoreError, declared.error.StoreError.TheVariants.{AlreadySealed, Full, Memory, NotAStore, Halted, Ended}}
 
 module _ {D : Type 0} {g : Ghosts D} where
   -- the store holds what is staged of the load, beside the desk that is shown

@@ -1,23 +1,14 @@
 -- What no promise rests on, beside claim/Openings.antt.
 use Rattle.std.specs.Prelude.{◌≡◌, ◌<◌, ℕ}
-use Rattle.sector_device.specs.claim.Disk.{Disk}
-use Rattle.sector_device.specs.declared.SectorDevice.{Ghosts}
+use Rattle.sector_device.specs.{claim.Disk.Disk, declared.SectorDevice.Ghosts}
 use Rattle.desk_model.specs.claim.Desk.{Desk}
-use Rattle.page_store.specs.gate_journal.Recovery.{Found}
-use Rattle.page_store.specs.gate_journal.claim.Store.{pages}
-use Rattle.page_store.specs.claim.Chain.{root_in, free_in}
-use Rattle.page_store.specs.claim.Transactions.{count_of, journal_of}
+use Rattle.page_store.specs.{gate_journal.Recovery.Found, gate_journal.claim.Store.pages, claim.Chain.{root_in, free_in}, claim.Transactions.{count_of, journal_of}}
 use Rattle.page_btree.specs.claim.Map.{Holds, InPages as HasRows}
-use Rattle.store_rows.specs.claim.Keys.{version, in_four}
-use Rattle.store_rows.specs.claim.Rows.{KeyMap, Has, Lacks}
+use Rattle.store_rows.specs.{claim.Keys.{version, in_four}, claim.Rows.{KeyMap, Has, Lacks}}
 use Rattle.desk_opening.specs.Opening.{IsReadFrom}
-use Rattle.desk_pages.specs.claim.Desks.{InPages}
-use Rattle.desk_pages.specs.Openings.{AllDesks, HasPages}
-use Rattle.desk_pages.specs.claim.Openings.{AllVersions}
-use Rattle.desk_store.specs.claim.Clerks.{desk_of, disk_of, pages_of}
-use Rattle.desk_store.specs.declared.clerk.Clerk.{Clerk}
-use Rattle.desk_pages.specs.declared.error.StoreError.{StoreError}
+use Rattle.desk_pages.specs.{claim.Desks.InPages, Openings.{AllDesks, HasPages}, claim.Openings.AllVersions, declared.error.StoreError.StoreError}
 use Rattle.desk_pages.specs.declared.error.StoreError.TheVariants.{NotAStore, DeviceFault, Memory, OldVersion}
+use Rattle.desk_store.specs.{claim.Clerks.{desk_of, disk_of, pages_of}, declared.clerk.Clerk.Clerk}
 
 -- the pages of a store that was there, as they were, whose rows tell no version
 pub record IsOldStore (old new : Disk) : Type 0 where

@@ -3,12 +3,8 @@ use Rattle.std.specs.Prelude.{ℕ, List, Result}
 use Rattle.byte_stream.specs.declared.source.Source.{Ghosts}
 use Rattle.check_command.specs.claim.Auditing.{Audits, AuditsBy}
 use Rattle.command_line.specs.declared.options.Terms.{Terms}
-use Rattle.command_output.specs.claim.Writing.{Written}
-use Rattle.command_output.specs.declared.status.Status.{Status}
-use Rattle.state_files.specs.declared.fault.OpenFault.{OpenFault}
-use Rattle.state_files.specs.declared.open.AuditFiles.{AuditFiles}
-use Rattle.state_files.specs.declared.open.AuditPaths.{AuditPaths}
-use Rattle.state_files.specs.Opens.{OpensAudit}
+use Rattle.command_output.specs.{claim.Writing.Written, declared.status.Status.Status}
+use Rattle.state_files.specs.{declared.fault.OpenFault.OpenFault, declared.open.AuditFiles.AuditFiles, declared.open.AuditPaths.AuditPaths, Opens.OpensAudit}
 
 -- The files were opened by their paths, and audited by so many workers as the plan of a kind that the terms name, with their number of
 -- districts.

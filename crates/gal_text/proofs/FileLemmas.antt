@@ -1,61 +1,34 @@
 -- A neighbour file as a whole: its header, its words and its end.
-use Rattle.std.proofs.Common.{◌≡◌, ℕ, ◌+◌, ◌<◌, ◌≤◌, Bool, true, false, cond, List, [], ◌∷◌, ◌++◌, length, Vec, Option, Result, Ok, Err, refl, sym, ap, subst, ◌∙◌, arith, append_assoc, length-append, inl, inr, ⊎_elim}
-use Rattle.std.specs.declared.alloc.Global.{Global}
+use Rattle.std.specs.{declared.alloc.Global.Global, Io.KnownBytes.{Consumes, IsAtEnd}, Str.Lines.strip_carriage_return}
+use Rattle.std.proofs.Common.{◌≡◌, ℕ, ◌+◌, ◌<◌, ◌≤◌, Bool, true, cond, List, [], ◌∷◌, ◌++◌, length, Vec, Option, Result, Ok, Err, refl, sym, ap, subst, ◌∙◌, arith, append_assoc, length-append, inl, inr, ⊎_elim, rules}
 use Rattle.std.proofs.lemmas.Bool.{lt-ltb}
-use Rattle.std.specs.Io.KnownBytes.{Consumes, IsAtEnd}
-use Rattle.std.specs.Str.Lines.{strip_carriage_return}
-use Rattle.byte_stream.specs.claim.Words.{words}
-use Rattle.byte_stream.proofs.WordLaws.{words-none}
-use Rattle.byte_stream.specs.Reading.{Reading, IsLastLine, IsTooLong, Gives, CountsFrom}
-use Rattle.byte_stream.specs.claim.Reading.{NoLineFeed, BeginsWithLine, line_limit, turn_limit}
-use Rattle.byte_stream.specs.declared.reader.ReadFault.{ReadFault}
-use Rattle.byte_stream.specs.declared.reader.ReadFault.TheVariants as read
-use Rattle.byte_stream.proofs.ReadingLemmas.{Consumes-then}
-use Rattle.byte_stream.proofs.BufferLemmas.{strip_shorter}
+use Rattle.byte_stream.specs.{claim.Words.words, Reading.{Reading, IsLastLine, IsTooLong, Gives, CountsFrom}, claim.Reading.{NoLineFeed, BeginsWithLine, line_limit, turn_limit}}
+use Rattle.byte_stream.{specs.declared.reader.ReadFault.ReadFault, proofs.WordLaws.words-none, proofs.ReadingLemmas.Consumes-then, proofs.BufferLemmas.strip_shorter}
 use Rattle.byte_stream.proofs.JudgedLemmas.{cut_or_one, NoLineFeed-append, long_part}
-use Rattle.desk_model.specs.claim.Geography.{ids_of}
-use Rattle.desk_model.specs.declared.block.BlockRow.{BlockRow}
-use Rattle.gal_text.specs.claim.Units.{Progress, at_start, words_read, count_of_words, header_count, from_count, progress_after, go_on, at_end, is_done}
-use Rattle.gal_text.specs.Holding.{Holds}
+use Rattle.byte_stream.specs.declared.reader.ReadFault.TheVariants as read
+use Rattle.desk_model.specs.{claim.Geography.ids_of, declared.block.BlockRow.BlockRow}
+use Rattle.gal_text.specs.{claim.Units.{Progress, at_start, words_read, count_of_words, header_count, from_count, progress_after, is_done}, Holding.Holds}
 use Rattle.gal_text.specs.claim.GalFile.{HasHeader, Says, IsCutInWords, IsRead, failures_after_file}
-use Rattle.gal_text.specs.Parts.{AreCutWords, ReadsWords, IsGraph, ReadsGraph, Begins, Finishes, refused, read_told}
-use Rattle.gal_text.specs.declared.fault.TextFault.{TextFault}
-use Rattle.gal_text.specs.declared.fault.TextFault.TheVariants.{Header, EndsEarly}
-use Rattle.gal_text.specs.declared.fault.GalFault.{GalFault}
-use Rattle.gal_text.specs.declared.fault.GalFault.TheVariants as fault
-use Rattle.gal_text.specs.declared.units.Graph.{Graph}
+use Rattle.gal_text.specs.{Parts.{AreCutWords, ReadsWords, IsGraph, ReadsGraph, Begins, Finishes, refused, read_told}, declared.fault.TextFault.TextFault}
+use Rattle.gal_text.specs.{declared.fault.TextFault.TheVariants.{Header, EndsEarly}, declared.fault.GalFault.GalFault, declared.units.Graph.Graph}
 use Rattle.gal_text.specs.declared.units.UnitRefusal.{UnitRefusal}
+use Rattle.gal_text.specs.declared.fault.GalFault.TheVariants as fault
 use Rattle.gal_text.specs.declared.units.UnitRefusal.TheVariants as refusal
 
 -- ---- the header
 
 line_more : (text line rest more : List ℕ) → BeginsWithLine text line rest → BeginsWithLine (text ++ more) line (rest ++ more)
-line_more text line rest more l = record {
-  raw = l.raw;
-  cut = ap (λ (t : List ℕ). t ++ more) l.cut ∙ append_assoc l.raw (10 ∷ rest) more;
-  one = l.one;
-  stripped = l.stripped;
-}
+line_more text line rest more l = search (rules, append_assoc)
 
 module _ (ids : List ℕ) where
   bad_header : (text line rest : List ℕ) (f : TextFault) → HasHeader text line rest → header_count line ≡ Err f → Says ids text (Err f)
-  bad_header text line rest f header is = record {
-    line = line;
-    rest = rest;
-    header = header;
-    says = sym (ap (λ (r : Result ℕ TextFault). go_on (from_count r (λ n. words_read ids (at_start n) 1 (words rest))) at_end) is);
-  }
+  bad_header text line rest f header is = search rules
 
   after : (line : List ℕ) (count : ℕ) (ws : List (List ℕ)) (r : Result Progress TextFault) → header_count line ≡ Ok count → words_read ids (at_start count) 1 ws ≡ r → progress_after ids line ws ≡ r
   after line count ws r is said = ap (λ (c : Result ℕ TextFault). from_count c (λ n. words_read ids (at_start n) 1 ws)) is ∙ said
 
   bad_words : (text line rest : List ℕ) (count : ℕ) (f : TextFault) → HasHeader text line rest → header_count line ≡ Ok count → words_read ids (at_start count) 1 (words rest) ≡ Err f → Says ids text (Err f)
-  bad_words text line rest count f header is said = record {
-    line = line;
-    rest = rest;
-    header = header;
-    says = sym (ap (λ (r : Result Progress TextFault). go_on r at_end) (after line count (words rest) (Err f) is said));
-  }
+  bad_words text line rest count f header is said = search (rules, after)
 
   long_header : (line : List ℕ) → line_limit < length line → header_count line ≡ Err Header
   long_header line long = ap (λ (b : Bool). cond b (Err Header) (count_of_words (words line))) (lt-ltb line_limit (length line) long)
@@ -75,12 +48,7 @@ module _ (ids : List ℕ) where
       part : ((raw : List ℕ) × (rest : List ℕ) × (more ≡ raw ++ 10 ∷ rest) × NoLineFeed raw) → Says ids (text ++ more) (Err Header)
       part w =
           bad_header (text ++ more) (strip_carriage_return (text ++ w.0)) w.1 Header
-          (inl (record {
-            raw = text ++ w.0;
-            cut = ap (λ (m : List ℕ). text ++ m) w.2 ∙ sym (append_assoc text w.0 (10 ∷ w.1));
-            one = NoLineFeed-append text w.0 t.one w.3;
-            stripped = refl;
-          }))
+          (inl (search (rules, append_assoc, NoLineFeed-append)))
           (long_header (strip_carriage_return (text ++ w.0)) (long_part text w.0 t.long))
 
   none_says : Says ids [] (Err Header)
@@ -147,48 +115,26 @@ module _ (blocks : List BlockRow) where
   told_refused_last old left text line refusal.Memory came end l is = (text, came, tt)
 
   pub told_header_alone : (old left : Option (List ℕ)) (text line : List ℕ) (g : Graph) → Consumes old left text → IsAtEnd left → IsLastLine text line → Begins blocks line (Ok g) → Told old left (Ok g)
-  told_header_alone old left text line g came end l is = (
-    text,
-    came,
-    (
-      end,
-      record {
-        line = line;
-        rest = [];
-        header = last_header text line l;
-        progress = at_start g.left;
-        said = after (ids_of blocks) line g.left (words []) (Ok (at_start g.left)) is.0 (ap (words_read (ids_of blocks) (at_start g.left) 1) words-none);
-        holds = is.1;
-      },
-    ),
-  )
+  told_header_alone old left text line g came end l is = search (rules, last_header, after, words-none)
 
   pub told_none : (old left : Option (List ℕ)) (text : List ℕ) → Consumes old left text → IsAtEnd left → text ≡ [] → Told old left (Err (fault.Text Header))
   told_none old left text came end none = (text, came, inr (end, subst (λ (t : List ℕ). Says (ids_of blocks) t (Err Header)) (sym none) (none_says (ids_of blocks))))
 
   pub told_fault : (old left : Option (List ℕ)) (text : List ℕ) (e : ReadFault) (r : Reading) → Consumes old left text → Gives text left (Err e) r → Told old left (Err (read_told Header e))
   told_fault old left text read.TooLong r came gives = (text, came, inl (λ rest. too_long (ids_of blocks) text rest gives))
-  told_fault old left text read.Failed r came gives = (text, came, inl gives)
-  told_fault old left text read.TurnLimit r came gives = (text, came, inl gives)
+  told_fault old left text _ r came gives = (text, came, inl gives)
 
   -- ---- the end
 
   said_end : (text : List ℕ) (g : Graph) (graph : IsGraph blocks text g) (b : Bool) → is_done graph.progress ≡ b → Says (ids_of blocks) text (cond b (Ok graph.progress) (Err EndsEarly))
-  said_end text g graph b done = record {
-    line = graph.line;
-    rest = graph.rest;
-    header = graph.header;
-    says = sym (ap (λ (r : Result Progress TextFault). go_on r at_end) graph.said ∙ ap (λ (t : Bool). cond t (Ok graph.progress) (Err EndsEarly)) done);
-  }
+  said_end text g graph b done = search rules
 
   pub told_end : (text : List ℕ) (left : Option (List ℕ)) (g : Graph) (result : Result (Vec (ℕ × ℕ) Global) GalFault) → IsAtEnd left → IsGraph blocks text g
       → ((p : Progress) → Holds blocks g p → Finishes (ids_of blocks) p result) → IsRead (ids_of blocks) text left result
   told_end text left g (Ok pairs) end graph finishes =
       let is = finishes graph.progress graph.holds in
       (end, record { progress = graph.progress; says = said_end text g graph true is.done; complete = is.complete; back = is.back; pairs_are = is.pairs_are })
-  told_end text left g (Err (fault.Text f)) end graph finishes =
-      let is = finishes graph.progress graph.holds in
-      inr (end, subst (λ (e : TextFault). Says (ids_of blocks) text (Err e)) (sym is.0) (said_end text g graph false is.1))
+  told_end text left g (Err (fault.Text f)) end graph finishes = search (rules, said_end)
   told_end text left g (Err (fault.MissingUnit id)) end graph finishes =
       let is = finishes graph.progress graph.holds in
       (end, record { progress = graph.progress; says = said_end text g graph true is.done; missing = is.missing })

@@ -1,34 +1,22 @@
 -- What the marks and the links say once all words are read.
-use Rattle.std.proofs.Common.{◌≡◌, ℕ, ◌<◌, ◌≤◌, Bool, true, false, List, length, get_or, Vec, Result, Ok, Err, All, Contains, sym, ap, subst, ◌∙◌, arith, ⊎_elim}
-use Rattle.std.specs.declared.alloc.Global.{Global}
+use Rattle.std.specs.{declared.alloc.Global.Global, List.Sorted.IsStrictlyIncreasing}
+use Rattle.std.proofs.Common.{◌≡◌, ℕ, ◌<◌, ◌≤◌, Bool, true, false, List, length, get_or, Vec, Result, Ok, Err, All, Contains, sym, ap, subst, ◌∙◌, arith, ⊎_elim, rules}
 use Rattle.std.proofs.lemmas.Bool.{cases_lt}
 use Rattle.std.proofs.lemmas.List.{length-map, get_or-map}
 use Rattle.std.proofs.lemmas.Grind.{get_or_default_zero}
 use Rattle.std.proofs.lemmas.Map.Keys.{sorted_from_strictly_increasing, below_from_sorted}
-use Rattle.std.specs.List.Sorted.{IsStrictlyIncreasing}
-use Rattle.desk_model.specs.claim.Geography.{ids_of, id_at}
-use Rattle.desk_model.specs.declared.block.BlockRow.{BlockRow}
+use Rattle.desk_model.specs.{claim.Geography.{ids_of, id_at}, declared.block.BlockRow.BlockRow}
+use Rattle.gal_text.specs.{claim.Units.{Progress, has_number, is_done}, claim.Links.{AreComplete, IsLeastMissing, AreMutual, ArePairsOf}, Links.IsFirstFalse, Holding.Holds}
+use Rattle.gal_text.specs.{Parts.{PairsUp, Finishes}, declared.fault.GalFault.GalFault, declared.units.Link.Link, declared.units.Graph.Graph}
 use Rattle.gal_text.proofs.RelationLemmas.{contains_from_has, not_contains}
-use Rattle.gal_text.specs.claim.Units.{Progress, has_number, is_done}
-use Rattle.gal_text.specs.claim.Links.{AreComplete, IsLeastMissing, AreMutual, ArePairsOf, IsLeastOneWay}
-use Rattle.gal_text.specs.Links.{IsFirstFalse}
-use Rattle.gal_text.specs.Holding.{Holds}
-use Rattle.gal_text.specs.Parts.{PairsUp, Finishes}
-use Rattle.gal_text.specs.declared.links.Unpaired.TheVariants as unpaired
-use Rattle.gal_text.specs.declared.fault.GalFault.{GalFault}
 use Rattle.gal_text.specs.declared.fault.GalFault.TheVariants as fault
-use Rattle.gal_text.specs.declared.units.Link.{Link}
-use Rattle.gal_text.specs.declared.units.Graph.{Graph}
 
 -- the number at a place
 id_is : (blocks : List BlockRow) (k d : ℕ) → k < length (ids_of blocks) → get_or (ids_of blocks) k d ≡ id_at blocks k
 id_is blocks k d inside = get_or_default_zero (ids_of blocks) k d inside
 
 rises : (blocks : List BlockRow) → IsStrictlyIncreasing (ids_of blocks) → (i j : ℕ) → i ≤ j → j < length (ids_of blocks) → id_at blocks i ≤ id_at blocks j
-rises blocks rising i j most within = ⊎_elim
-    (λ (less : i < j). omega (arith, below_from_sorted (ids_of blocks) i j 0 (sorted_from_strictly_increasing (ids_of blocks) rising) less within))
-    (λ (same : j ≤ i). let e : i ≡ j = omega arith in rw e (omega arith))
-    (cases_lt i j)
+rises blocks rising i j most within = search (rules, below_from_sorted, sorted_from_strictly_increasing, cases_lt)
 
 pub id_there : (blocks : List BlockRow) (k : ℕ) (row : BlockRow) → k < length blocks → (get_or blocks k row).id ≡ id_at blocks k
 id_there blocks k row within = sym (get_or-map (λ (b : BlockRow). b.id) blocks k row 0 within)
@@ -41,8 +29,7 @@ module _ (blocks : List BlockRow) (g : Graph) (p : Progress) (holds : Holds bloc
   mark_is k inside = holds.marks k (rw length-map at inside)
 
   pub all_there : All (λ mark. mark ≡ true) g.seen.items → AreComplete (ids_of blocks) p.units
-  all_there each = λ k d inside.
-      subst (Contains p.units) (sym (id_is blocks k d inside)) (contains_from_has p.units (id_at blocks k) (sym (mark_is k inside) ∙ each k false (omega (arith, marked))))
+  all_there each = search (rules, id_is, contains_from_has, mark_is, marked)
 
   pub least_missing : (place : ℕ) (marks : List Bool) (id : ℕ) → IsStrictlyIncreasing (ids_of blocks) → marks ≡ g.seen.items → IsFirstFalse marks place → id ≡ id_at blocks place
       → IsLeastMissing (ids_of blocks) p.units id
@@ -66,11 +53,7 @@ module _ (blocks : List BlockRow) (g : Graph) (p : Progress) (holds : Holds bloc
     back = subst AreMutual linked up.0;
     pairs_are = subst (λ (ls : List Link). ArePairsOf ls pairs.items) linked up.1;
   }
-  finished marks links (Err (fault.OneWay a b)) done same linked each up = record {
-    done = done;
-    complete = all_there (subst (All (λ mark. mark ≡ true)) same each);
-    one_way = subst (λ (ls : List Link). IsLeastOneWay ls a b) linked up;
-  }
+  finished marks links (Err (fault.OneWay a b)) done same linked each up = search (rules, all_there)
   finished marks links (Err fault.Memory) done same linked each up = tt
   finished marks links (Err (fault.Text f)) done same linked each up = absurd up
   finished marks links (Err (fault.MissingUnit id)) done same linked each up = absurd up

@@ -1,24 +1,17 @@
 -- What the units' state holds, word by word.
-use Rattle.std.proofs.Common.{◌≡◌, ℕ, ◌-◌, ◌<◌, ◌≤◌, Bool, true, false, cond, ◌&&◌, ◌||◌, eqb, List, [], ◌∷◌, ◌++◌, length, get_or, set, vec_len, Vec, Option, Some, None, Result, Ok, Err, All, Contains, refl, sym, ap, subst, ◌∙◌, arith, ⊎_elim, eq-eqb}
-use Rattle.std.specs.declared.alloc.Global.{Global}
+use Rattle.std.specs.{declared.alloc.Global.Global, List.Sorted.IsStrictlyIncreasing}
+use Rattle.std.proofs.Common.{◌≡◌, ℕ, ◌-◌, ◌<◌, ◌≤◌, Bool, true, false, cond, ◌&&◌, ◌||◌, eqb, List, [], ◌∷◌, ◌++◌, length, get_or, set, vec_len, Vec, Option, Some, None, Result, Ok, Err, All, Contains, refl, sym, ap, subst, ◌∙◌, arith, eq-eqb, rules}
+use Rattle.std.proofs.Math.ListN.{drop_of_length-le}
 use Rattle.std.proofs.lemmas.Bool.{eqb-true, cases_lt, le-ltb}
 use Rattle.std.proofs.lemmas.List.{length-map, get_or-set_other, get_or_read}
 use Rattle.std.proofs.lemmas.Grind.{get_or-set_at}
-use Rattle.std.proofs.Math.ListN.{drop_of_length-le}
 use Rattle.std.proofs.lemmas.List.Folds.{list_any-append, list_any_none}
 use Rattle.std.proofs.lemmas.Map.Keys.{sorted_from_strictly_increasing, below_from_sorted}
-use Rattle.std.specs.List.Sorted.{IsStrictlyIncreasing}
-use Rattle.desk_model.specs.claim.Geography.{ids_of, id_at}
-use Rattle.desk_model.specs.declared.block.BlockRow.{BlockRow}
-use Rattle.gal_text.proofs.RelationLemmas.{has_not}
+use Rattle.desk_model.specs.{claim.Geography.{ids_of, id_at}, declared.block.BlockRow.BlockRow}
 use Rattle.gal_text.specs.claim.Units.{Progress, has_number, lists, known, block_of, neighbours_left, unit_read, count_read, neighbour_limit, word_awaited, word_read}
-use Rattle.gal_text.specs.Holding.{AreFromUnits, IsAtHand, HasUnit, Holds, Meets}
-use Rattle.gal_text.specs.declared.fault.TextFault.TheVariants.{RepeatedUnit, TooManyNeighbours, TrailingWord}
-use Rattle.gal_text.specs.declared.units.Link.{Link}
-use Rattle.gal_text.specs.declared.units.Awaited.{Awaited}
+use Rattle.gal_text.specs.{Holding.{AreFromUnits, IsAtHand, HasUnit, Holds, Meets}, declared.fault.TextFault.TheVariants.TooManyNeighbours, declared.units.Link.Link}
+use Rattle.gal_text.{specs.declared.units.Awaited.Awaited, specs.declared.units.Graph.Graph, specs.declared.units.UnitRefusal.UnitRefusal, proofs.RelationLemmas.has_not}
 use Rattle.gal_text.specs.declared.units.Awaited.TheVariants as awaited
-use Rattle.gal_text.specs.declared.units.Graph.{Graph}
-use Rattle.gal_text.specs.declared.units.UnitRefusal.{UnitRefusal}
 
 -- ---- numbers in a list
 
@@ -49,17 +42,7 @@ last_unit units id = has_number-push units id id ∙ ap (λ (b : Bool). has_numb
 -- ---- the marks
 
 differ : (blocks : List BlockRow) → IsStrictlyIncreasing (ids_of blocks) → (i j : ℕ) → i < length blocks → j < length blocks → id_at blocks i ≡ id_at blocks j → i ≡ j
-differ blocks rising i j inside within same =
-    let sorted = sorted_from_strictly_increasing (ids_of blocks) rising in
-    let lt_i : i < length (ids_of blocks) = rw length-map inside in
-    let lt_j : j < length (ids_of blocks) = rw length-map within in
-    ⊎_elim
-    (λ (less : i < j). absurd (omega (arith, below_from_sorted (ids_of blocks) i j 0 sorted less lt_j, same)))
-    (λ (most : j ≤ i). ⊎_elim
-    (λ (less : j < i). absurd (omega (arith, below_from_sorted (ids_of blocks) j i 0 sorted less lt_i, same)))
-    (λ (least : i ≤ j). omega arith)
-    (cases_lt j i))
-    (cases_lt i j)
+differ blocks rising i j inside within same = search (rules, sorted_from_strictly_increasing, length-map, below_from_sorted, cases_lt)
 
 -- a mark more, that of a unit
 pub marks_more : (blocks : List BlockRow) (marks : List Bool) (units : List ℕ) (place id : ℕ) → IsStrictlyIncreasing (ids_of blocks) → length marks ≡ length blocks
@@ -68,10 +51,7 @@ pub marks_more : (blocks : List BlockRow) (marks : List Bool) (units : List ℕ)
 marks_more blocks marks units place id rising same within here marks_are q inside = by_case (eqb place q) refl
   where
     by_case : (b : Bool) → eqb place q ≡ b → get_or (set marks place true) q false ≡ has_number (units ++ id ∷ []) (id_at blocks q)
-    by_case true e =
-        let there : q ≡ place = sym (eqb-true place q e) in
-        get_or-set_at marks place q true false there (omega (arith, same))
-        ∙ sym (ap (has_number (units ++ id ∷ [])) (ap (id_at blocks) there ∙ here) ∙ last_unit units id)
+    by_case true e = search (rules, eqb-true, get_or-set_at, last_unit)
     by_case false e =
         let apart : q ≡ place → ⊥ = λ there. let yes : eqb place q ≡ true = eq-eqb place q (sym there) in (cc) in
         let other : eqb id (id_at blocks q) ≡ false = not_both (eqb id (id_at blocks q)) (λ yes. absurd (apart (sym (differ blocks rising place q within inside (here ∙ eqb-true id (id_at blocks q) yes))))) in
@@ -92,25 +72,19 @@ listed_none units links id x from_units fresh = list_any_none (λ (l : Link). eq
 
 -- the links of a new unit begin at the end
 pub unit_begins : (units : List ℕ) (links : List Link) (first id : ℕ) → AreFromUnits units links → has_number units id ≡ false → length links ≤ first → IsAtHand (units ++ id ∷ []) links first id
-unit_begins units links first id from_units fresh end = record {
-  is_unit = last_unit units id;
-  lists_from = λ x. ap (λ (ls : List Link). lists ls id x) (drop_of_length-le links end) ∙ sym (listed_none units links id x from_units fresh);
-}
+unit_begins units links first id from_units fresh end = search (rules, last_unit, drop_of_length-le, listed_none)
 
 pub from_more_units : (units : List ℕ) (links : List Link) (id : ℕ) → AreFromUnits units links → AreFromUnits (units ++ id ∷ []) links
 from_more_units units links id from_units = λ k d inside. stays_unit units id (get_or links k d).from (from_units k d inside)
 
 unit_said : (p : Progress) (id number : ℕ) → has_number p.units id ≡ false
     → unit_read p number (Some id) ≡ Ok (record { left = p.left - 1; next = awaited.Count id; units = p.units ++ id ∷ []; links = p.links })
-unit_said p id number fresh =
-    ap (λ (b : Bool). cond b (Err (RepeatedUnit id)) (Ok (record { left = p.left - 1; next = awaited.Count id; units = p.units ++ id ∷ []; links = p.links }))) fresh
+unit_said p id number fresh = search rules
 
 -- what a mark says of a block
 pub mark_says : (blocks : List BlockRow) (g : Graph) (p : Progress) (place id : ℕ) (b : Bool) → Holds blocks g p → place < vec_len g.seen → id_at blocks place ≡ id
     → b ≡ get_or g.seen.items place b → has_number p.units id ≡ b
-mark_says blocks g p place id b holds within here is =
-    let inside : place < length g.seen.items = omega (arith, g.seen.ok.0) in
-    sym (get_or_read g.seen.items place b inside is false ∙ holds.marks place (omega (arith, holds.marked)) ∙ ap (has_number p.units) here)
+mark_says blocks g p place id b holds within here is = search (rules, get_or_read)
 
 pub unit_taken : (blocks : List BlockRow) (old new : Graph) (p : Progress) (place id number : ℕ) → IsStrictlyIncreasing (ids_of blocks) → Holds blocks old p → place < vec_len old.seen
     → id_at blocks place ≡ id → has_number p.units id ≡ false → new.seen.items ≡ set old.seen.items place true → vec_len new.seen ≡ vec_len old.seen → new.links ≡ old.links
@@ -124,8 +98,7 @@ unit_taken blocks old new p place id number rising holds within here fresh seen 
     next = next;
     links = ap (λ (v : Vec Link Global). v.items) links ∙ holds.links;
     marked = len ∙ holds.marked;
-    marks = subst (λ (marks : List Bool). (q : ℕ) → q < length blocks → get_or marks q false ≡ has_number (p.units ++ id ∷ []) (id_at blocks q)) (sym seen)
-        (marks_more blocks old.seen.items p.units place id rising (omega (arith, old.seen.ok.0, holds.marked)) (omega (arith, holds.marked)) here holds.marks);
+    marks = search (rules, marks_more);
     begins = omega (arith, first, ap (λ (v : Vec Link Global). vec_len v) links);
     at_hand = unit_begins p.units p.links new.first id holds.from_units fresh (omega (arith, first, old.links.ok.0, ap (λ (ls : List Link). length ls) holds.links));
     from_units = from_more_units p.units p.links id holds.from_units;
@@ -145,27 +118,15 @@ count_taken blocks old new p unit n number holds awaits few seen links first lef
     let at : IsAtHand p.units p.links old.first unit = subst (HasUnit p.units p.links old.first) awaits holds.at_hand in (
       record { left = p.left; next = neighbours_left unit n; units = p.units; links = p.links },
       ap (λ (b : Bool). cond b (Err (TooManyNeighbours unit)) (Ok (record { left = p.left; next = neighbours_left unit n; units = p.units; links = p.links }))) (le-ltb neighbour_limit n few),
-      record {
-        left = left ∙ holds.left;
-        next = next;
-        links = ap (λ (v : Vec Link Global). v.items) links ∙ holds.links;
-        marked = ap (λ (v : Vec Bool Global). vec_len v) seen ∙ holds.marked;
-        marks = subst (λ (v : Vec Bool Global). (q : ℕ) → q < length blocks → get_or v.items q false ≡ has_number p.units (id_at blocks q)) (sym seen) holds.marks;
-        begins = omega (arith, first, ap (λ (v : Vec Link Global). vec_len v) links, holds.begins);
-        at_hand = left_at_hand (eqb n 0) p.units p.links new.first unit n (subst (λ (k : ℕ). IsAtHand p.units p.links k unit) (sym first) at);
-        from_units = holds.from_units;
-      },
+      search (rules, at, left_at_hand),
     )
 
 -- ---- a word
 
 pub block_said : (ids : List ℕ) (p : Progress) (number id : ℕ) (word : List ℕ) → (p.left ≡ 0 → ⊥) → block_of ids word ≡ Some id
     → word_awaited ids p number word awaited.Block ≡ unit_read p number (Some id)
-block_said ids p number id word some is =
-    ap (λ (b : Bool). cond b (Err (TrailingWord number)) (unit_read p number (block_of ids word))) (not_both (eqb p.left 0) (λ none. absurd (some (eqb-true p.left 0 none))))
-    ∙ ap (unit_read p number) is
+block_said ids p number id word some is = search (rules, not_both, eqb-true)
 
 pub met_as : (blocks : List BlockRow) (p : Progress) (number : ℕ) (word : List ℕ) (next : Awaited) (result : Result (Unit {0}) UnitRefusal) (new : Graph) → p.next ≡ next
     → Meets blocks (word_awaited (ids_of blocks) p number word next) result new → Meets blocks (word_read (ids_of blocks) p number word) result new
-met_as blocks p number word next result new is met =
-    subst (λ (a : Awaited). Meets blocks (word_awaited (ids_of blocks) p number word a) result new) (sym is) met
+met_as blocks p number word next result new is met = search rules

@@ -1,14 +1,8 @@
 -- Pairs in their order, and which links they come from.
-use Rattle.std.proofs.Common.{◌≡◌, ℕ, zero, suc, ◌+◌, ◌<◌, ◌≤◌, ◌⊎◌, inl, inr, Bool, true, false, not, cond, ◌||◌, ◌↔◌, IsTrue, ◌&&◌, eqb, ltb, List, [], ◌∷◌, ◌++◌, length, get_or, take, Option, Some, None, Result, Ok, Err, IfOk, is_ok, MatchOption, refl, sym, ap, subst, ◌∙◌, arith}
-use Rattle.std.specs.Bool.{Decides}
-use Rattle.std.specs.Cmp.Lexicographic.{pointwise}
-use Rattle.std.specs.Cmp.{IsTotalOrder, IsEquivalence, unsigned_ties}
-use Rattle.std.specs.List.{All, Contains, HoldsAt, list_any, filter_map, cons_option, dedup}
-use Rattle.std.specs.List.Sorted.{IsSorted, IsStrictlySortedBy, IsNonDecreasingBy, IsPartitionPoint, IsBinarySearchResult, IsSearchInRange}
-use Rattle.std.specs.Option.{option_to_list}
-use Rattle.std.specs.Ordering.{nat_cmp, ordering_then, eq_by_cmp, is_lt, is_eq, ordering_index}
-use Rattle.std.specs.declared.cmp.Ordering.{Ordering}
-use Rattle.std.specs.declared.cmp.Ordering.TheVariants.{Less, Equal, Greater}
+use Rattle.std.specs.{Bool.Decides, Cmp.Lexicographic.pointwise, Cmp.{IsTotalOrder, IsEquivalence}, List.{All, Contains, HoldsAt, list_any, filter_map, cons_option, dedup}}
+use Rattle.std.specs.{List.Sorted.{IsSorted, IsStrictlySortedBy, IsNonDecreasingBy, IsPartitionPoint, IsBinarySearchResult, IsSearchInRange}, Option.option_to_list}
+use Rattle.std.specs.{Ordering.{nat_cmp, ordering_then, eq_by_cmp, is_lt, ordering_index}, declared.cmp.Ordering.Ordering, declared.cmp.Ordering.TheVariants.{Less, Equal, Greater}}
+use Rattle.std.proofs.Common.{◌≡◌, ℕ, zero, suc, ◌+◌, ◌<◌, ◌≤◌, ◌⊎◌, inl, inr, Bool, true, false, not, cond, ◌||◌, ◌↔◌, IsTrue, ◌&&◌, eqb, ltb, List, [], ◌∷◌, ◌++◌, length, get_or, take, Option, Some, None, Result, Ok, Err, IfOk, is_ok, MatchOption, refl, sym, ap, subst, ◌∙◌, arith, rules}
 use Rattle.std.proofs.lemmas.Bool.{ltb-true, lt-ltb, false≢true}
 use Rattle.std.proofs.lemmas.Bool.Decides.{nat_tests, leb_tells}
 use Rattle.std.proofs.lemmas.Cmp.{nat_cmp_total, nat_eq_equiv, on_total, then_total, on_equiv, and_equiv, ranked, tied_itself}
@@ -20,9 +14,8 @@ use Rattle.std.proofs.lemmas.Map.Lookups.{CmpEqualImpliesEq, exact_unsigned, exa
 use Rattle.std.proofs.lemmas.Map.Views.{tells_apart}
 use Rattle.std.proofs.lemmas.Slice.Eq.{slice_eq-Decides}
 use Rattle.gal_text.specs.claim.Links.{Precedes, Lists, AreRising, AreMutual, ArePairsOf, IsPairOf, IsOneWay, IsLeastOneWay}
-use Rattle.gal_text.specs.Pairing.{AreCut, IsPairBack, IsLeastSeen, IsLeastOrNone, is_before, upward_pair, downward_pair}
-use Rattle.gal_text.specs.claim.Units.{link_of}
-use Rattle.gal_text.specs.declared.units.Link.{Link}
+use Rattle.gal_text.specs.{Pairing.{AreCut, IsPairBack, IsLeastSeen, IsLeastOrNone, is_before, upward_pair, downward_pair}, claim.Units.link_of, declared.units.Link.Link}
+use Rattle.desk_model.proofs.Pairs.{both_equal}
 
 -- ---- the order of pairs
 
@@ -38,16 +31,8 @@ pair_total = then_total (on_total (λ (p : ℕ × ℕ). p.0) nat_cmp_total) (on_
 pub pair_exact : CmpEqualImpliesEq pair_cmp
 pair_exact = exact_pairs nat_cmp nat_cmp exact_unsigned exact_unsigned
 
-both_equal : (o q : Ordering) → (is_eq o && is_eq q) ≡ is_eq (ordering_then o q)
-both_equal Less q = refl
-both_equal Equal q = refl
-both_equal Greater q = refl
-
 pub pair_ties : (p q : ℕ × ℕ) → pair_eq p q ≡ eq_by_cmp pair_cmp p q
-pair_ties p q =
-    ap (λ (b : Bool). b && eqb p.1 q.1) (unsigned_ties p.0 q.0)
-    ∙ ap (λ (b : Bool). is_eq (nat_cmp p.0 q.0) && b) (unsigned_ties p.1 q.1)
-    ∙ both_equal (nat_cmp p.0 q.0) (nat_cmp p.1 q.1)
+pair_ties p q = search (rules, both_equal)
 
 precedes_by : (p q : ℕ × ℕ) (o r : Ordering) → o ≡ nat_cmp p.0 q.0 → r ≡ nat_cmp p.1 q.1 → ordering_then o r ≡ Less → Precedes p q
 precedes_by p q Less r is also less = inl (ranked p.0 q.0 Less is)
@@ -132,10 +117,7 @@ module _ {X Y : Type 0} (h : X → Option Y) where
 
   first_or_later : (x : X) (xs : List X) (y : Y) (o : Option Y) → h x ≡ o → (Contains (filter_map h xs) y → ComesFrom xs y) → Contains (cons_option o (filter_map h xs)) y → ComesFrom (x ∷ xs) y
   first_or_later x xs y None is more c = later x xs y (more c)
-  first_or_later x xs y (Some z) is more c = elim (Contains-cases z (filter_map h xs) y c) [
-    | inl same ↦ record { from = x; there = Contains-here x xs x refl; gives = is ∙ ap Some same }
-    | inr rest ↦ later x xs y (more rest)
-  ]
+  first_or_later x xs y (Some z) is more c = search (rules, later)
 
   pub comes_from : (xs : List X) (y : Y) → Contains (filter_map h xs) y → ComesFrom xs y
   comes_from [] y c = absurd (omega (arith, c.1))
@@ -148,10 +130,7 @@ or_true true c is = refl
 or_true false c is = is
 
 first_or_rest : (l : Link) (links : List Link) (a b : ℕ) (s t : Bool) → eqb l.from a ≡ s → eqb l.to b ≡ t → ((s && t) || list_any (λ k. eqb k.from a && eqb k.to b) links) ≡ true → (list_any (λ k. eqb k.from a && eqb k.to b) links ≡ true → Lists links a b) → Lists (l ∷ links) a b
-first_or_rest l links a b true true from to is rest =
-    let x : l.from ≡ a = grind (arith, nat_tests) in
-    let y : l.to ≡ b = grind (arith, nat_tests) in
-    Contains-here l links (link_of a b) (ap (λ (k : ℕ). link_of k l.to) x ∙ ap (λ (k : ℕ). link_of a k) y)
+first_or_rest l links a b true true from to is rest = search (rules, nat_tests)
 first_or_rest l links a b true false from to is rest = Contains-there l links (link_of a b) (rest is)
 first_or_rest l links a b false t from to is rest = Contains-there l links (link_of a b) (rest is)
 
@@ -183,8 +162,7 @@ upward_listed links p c =
     subst P (sym is.1) (record { rising = is.0; listed = f.there })
 
 pub listed_upward : (links : List Link) (p : ℕ × ℕ) → IsPairOf links p → Contains (filter_map upward_pair links) p
-listed_upward links p is =
-    kept upward_pair links (link_of p.0 p.1) p (ap (λ (b : Bool). cond b (Some p) None) (lt-ltb p.0 p.1 is.rising)) is.listed
+listed_upward links p is = search (rules, kept, lt-ltb)
 
 pub downward_listed : (links : List Link) (p : ℕ × ℕ) → Contains (filter_map downward_pair links) p → IsPairBack links p
 downward_listed links p c =
@@ -194,8 +172,7 @@ downward_listed links p c =
     subst P (sym is.1) (record { rising = is.0; listed = f.there })
 
 pub listed_downward : (links : List Link) (p : ℕ × ℕ) → IsPairBack links p → Contains (filter_map downward_pair links) p
-listed_downward links p is =
-    kept downward_pair links (link_of p.1 p.0) p (ap (λ (b : Bool). cond b (Some p) None) (lt-ltb p.0 p.1 is.rising)) is.listed
+listed_downward links p is = search (rules, kept, lt-ltb)
 
 -- ---- one more link
 
@@ -212,18 +189,13 @@ more_kept {Y} h links i l old new inside is so_far grown =
     grown ∙ ap (λ (x : List Y). x ++ option_to_list (h l)) so_far ∙ ap (λ (x : List Y). filter_map h (take i links) ++ x) (sym (alone (h l))) ∙ sym (filter_map-append h (take i links) (l ∷ [])) ∙ ap (filter_map h) (sym one)
 
 side : (a b : ℕ) → (a < b) ⊎ (b ≤ a)
-side a b = elim (leb_tells b a) [
-  | inl le ↦ inr le.1
-  | inr lt ↦ inl lt.1
-]
+side a b = search (rules, leb_tells)
 
 pub pushed : (a b : ℕ) (p : ℕ × ℕ) (old new : List (ℕ × ℕ)) → a < b → new ≡ old ++ p ∷ [] → new ≡ old ++ option_to_list (cond (ltb a b) (Some p) None)
 pushed a b p old new less grown = grown ∙ ap (λ (t : Bool). old ++ option_to_list (cond t (Some p) None)) (sym (lt-ltb a b less))
 
 pub passed_over : (a b : ℕ) (p : ℕ × ℕ) (old new : List (ℕ × ℕ)) → b ≤ a → new ≡ old → new ≡ old ++ option_to_list (cond (ltb a b) (Some p) None)
-passed_over a b p old new more same =
-    let no : ltb a b ≡ false = grind (arith, nat_tests) in
-    same ∙ sym (append-nil old) ∙ ap (λ (t : Bool). old ++ option_to_list (cond t (Some p) None)) (sym no)
+passed_over a b p old new more same = search (rules, nat_tests, append-nil)
 
 -- ---- a search
 
@@ -317,22 +289,10 @@ pub mutual_from_none : (links : List Link) → All (λ l. ¬ IsOneWay links l.fr
 mutual_from_none links none a b listed = listed_at links a b _ refl listed (All-contains (λ l. ¬ IsOneWay links l.from l.to) links (link_of a b) none listed)
 
 order_of : (a b x y : ℕ) → is_before (link_of x y) (link_of a b) ≡ false → (a < x) ⊎ ((a ≡ x) × (b ≤ y))
-order_of a b x y after = elim (side a x) [
-  | inl less ↦ inl less
-  | inr more ↦ elim (side x a) [
-    | inl less ↦ absurd (grind (arith, nat_tests))
-    | inr least ↦ let is : a ≡ x = omega arith in elim (side y b) [
-      | inl under ↦ absurd (grind (arith, nat_tests))
-      | inr above ↦ inr (is, above)
-    ]
-  ]
-]
+order_of a b x y after = search (rules, side, nat_tests)
 
 pub least_from_seen : (links : List Link) (l : Link) → IsLeastSeen links links l → IsLeastOneWay links l.from l.to
-least_from_seen links l least = record {
-  one_way = least.one_way;
-  least = λ x y one. order_of l.from l.to x y (All-contains (λ m. IsOneWay links m.from m.to → is_before m l ≡ false) links (link_of x y) least.least one.there one);
-}
+least_from_seen links l least = search (rules, order_of, All-contains)
 
 pub cut_from : (links : List Link) (up down : List (ℕ × ℕ)) → AreRising up → ((p : ℕ × ℕ) → Contains (filter_map upward_pair links) p ↔ Contains up p) → AreRising down → ((p : ℕ × ℕ) → Contains (filter_map downward_pair links) p ↔ Contains down p) → AreCut links up down
 cut_from links up down rising same falling also = record {

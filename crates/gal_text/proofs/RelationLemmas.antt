@@ -1,7 +1,6 @@
 -- Units word by word, and as a whole.
-use Rattle.std.proofs.Common.{◌≡◌, ◌≢◌, ℕ, ◌+◌, ◌-◌, ◌<◌, ◌≤◌, inl, inr, Bool, true, false, cond, ◌&&◌, eqb, ltb, List, [], ◌∷◌, ◌++◌, length, map, get_or, Option, Some, None, Result, Ok, Err, refl, sym, ap, subst, ◌∙◌, arith, append_assoc}
-use Rattle.std.specs.Prelude.{nat_eq}
-use Rattle.std.specs.List.{All, AllZip, Contains, IsDistinct, flat_map}
+use Rattle.std.specs.{Prelude.nat_eq, List.{All, AllZip, Contains, IsDistinct, flat_map}}
+use Rattle.std.proofs.Common.{◌≡◌, ◌≢◌, ℕ, ◌+◌, ◌-◌, ◌<◌, ◌≤◌, inl, inr, Bool, true, false, cond, ◌&&◌, eqb, ltb, List, [], ◌∷◌, ◌++◌, length, map, get_or, Option, Some, None, Result, Ok, Err, refl, sym, ap, subst, ◌∙◌, arith, append_assoc, rules}
 use Rattle.std.proofs.lemmas.Bool.{false≢true}
 use Rattle.std.proofs.lemmas.Bool.Decides.{nat_tests}
 use Rattle.std.proofs.lemmas.List.{append-nil}
@@ -9,15 +8,13 @@ use Rattle.std.proofs.lemmas.List.Elements.{All-cons, All-head, All-tail, All-co
 use Rattle.std.proofs.lemmas.List.Folds.{Any-from_list_any, list_any-from_Any}
 use Rattle.std.proofs.lemmas.Map.Keys.{IsDistinct-cons, IsDistinct-head, IsDistinct-tail}
 use Rattle.byte_stream.specs.claim.Digits.{number_of, number_of_digits}
-use Rattle.gal_text.specs.claim.Links.{Lists}
-use Rattle.gal_text.specs.Relation.{Listing, IsListing, AreNames, IsWritten, AreWritten, blocks_of, links_of, IsSaid}
+use Rattle.gal_text.specs.{claim.Links.Lists, Relation.{Listing, IsListing, AreNames, IsWritten, AreWritten, blocks_of, links_of, IsSaid}}
 use Rattle.gal_text.specs.claim.Units.{Progress, at_start, at_end, go_on, link_of, lists, known, block_of, has_number, neighbour_limit, neighbours_left, unit_read, count_read, neighbour_read, word_awaited, word_read, words_read, awaits_block}
 use Rattle.gal_text.specs.declared.fault.TextFault.{TextFault}
 use Rattle.gal_text.specs.declared.fault.TextFault.TheVariants.{RepeatedUnit, OwnNeighbour, TooManyNeighbours, TrailingWord, EndsEarly, RepeatedNeighbour}
-use Rattle.gal_text.specs.declared.units.Awaited.{Awaited}
-use Rattle.gal_text.specs.declared.units.Awaited.TheVariants as awaited
-use Rattle.gal_text.specs.declared.units.Link.{Link}
+use Rattle.gal_text.specs.{declared.units.Awaited.Awaited, declared.units.Link.Link}
 use Rattle.gal_text.proofs.LinkLemmas.{Contains-cases, Contains-here, Contains-there, lists_from_test, test_from_lists}
+use Rattle.gal_text.specs.declared.units.Awaited.TheVariants as awaited
 
 -- ---- numbers in lists
 
@@ -31,10 +28,7 @@ pub has_from_contains : (xs : List ℕ) (x : ℕ) → Contains xs x → has_numb
 has_from_contains xs x c = list_any-from_Any (λ y. eqb y x) xs (c.0, x, c.1, c.2, eqb-itself x)
 
 pub contains_from_has : (xs : List ℕ) (x : ℕ) → has_number xs x ≡ true → Contains xs x
-contains_from_has xs x has =
-    let a = Any-from_list_any (λ y. eqb y x) xs has in
-    let there : Contains xs a.1 = (a.0, a.2, a.3) in
-    subst (Contains xs) (eqb-is a.1 x a.4) there
+contains_from_has xs x has = search (rules, Any-from_list_any, eqb-is)
 
 not_true : (b : Bool) → (b ≡ true → ⊥) → b ≡ false
 not_true true none = absurd (none refl)
@@ -46,22 +40,14 @@ has_not xs x none = not_true (has_number xs x) (λ has. none (contains_from_has 
 pub not_contains : (xs : List ℕ) (x : ℕ) → has_number xs x ≡ false → ¬ Contains xs x
 not_contains xs x has c = false≢true (sym has ∙ has_from_contains xs x c)
 
-pub lists_not : (links : List Link) (a b : ℕ) → ¬ Lists links a b → lists links a b ≡ false
-lists_not links a b none = not_true (lists links a b) (λ has. none (lists_from_test links a b has))
-
 pub not_lists : (links : List Link) (a b : ℕ) → lists links a b ≡ false → ¬ Lists links a b
 not_lists links a b has c = false≢true (sym has ∙ test_from_lists links a b c)
 
 pub distinct_cons : (x : ℕ) (xs : List ℕ) → ¬ Contains xs x → IsDistinct nat_eq xs → IsDistinct nat_eq (x ∷ xs)
-distinct_cons x xs none distinct =
-    let apart : All (λ y. eqb x y ≡ false) xs = λ k d inside. not_true (eqb x (get_or xs k d)) (λ same. none (subst (Contains xs) (sym (eqb-is x (get_or xs k d) same)) (Contains-get_or xs k d inside))) in
-    IsDistinct-cons nat_eq x xs (recursion_from_All (λ y. eqb x y ≡ false) xs apart) distinct
+distinct_cons x xs none distinct = search (rules, not_true, eqb-is, Contains-get_or, IsDistinct-cons, recursion_from_All)
 
 pub distinct_head : (x : ℕ) (xs : List ℕ) → IsDistinct nat_eq (x ∷ xs) → ¬ Contains xs x
-distinct_head x xs distinct c =
-    let apart = All-from_recursion (λ y. eqb x y ≡ false) xs (IsDistinct-head nat_eq x xs distinct) in
-    let differs : eqb x x ≡ false = All-contains (λ y. eqb x y ≡ false) xs x apart c in
-    false≢true (sym differs ∙ eqb-itself x)
+distinct_head x xs distinct c = search (rules, All-from_recursion, IsDistinct-head, All-contains, false≢true, eqb-itself)
 
 pub distinct_none : IsDistinct nat_eq []
 unfolding IsDistinct
@@ -102,31 +88,15 @@ block_is ids word id is there = ap (known ids) is ∙ ap (λ (b : Bool). cond b 
 
 unit_word : (ids : List ℕ) (left : ℕ) (units : List ℕ) (links : List Link) (at : ℕ) (w : List ℕ) (id : ℕ) → 0 < left → number_of_digits 15 w ≡ Some id → Contains ids id → ¬ Contains units id
     → word_read ids (standing left awaited.Block units links) at w ≡ Ok (standing (left - 1) (awaited.Count id) (units ++ id ∷ []) links)
-unit_word ids left units links at w id some is there fresh =
-    let q = standing left awaited.Block units links in
-    let wanted : eqb left 0 ≡ false = grind (arith, nat_tests) in
-    let next : Result Progress TextFault = Ok (standing (left - 1) (awaited.Count id) (units ++ id ∷ []) links) in
-    ap (λ (b : Bool). cond b (Err (TrailingWord at)) (unit_read q at (block_of ids w))) wanted
-    ∙ ap (unit_read q at) (block_is ids w id is there)
-    ∙ ap (λ (b : Bool). cond b (Err (RepeatedUnit id)) next) (has_not units id fresh)
+unit_word ids left units links at w id some is there fresh = search (rules, nat_tests, block_is, has_not)
 
 count_word : (ids : List ℕ) (left : ℕ) (units : List ℕ) (links : List Link) (at : ℕ) (w : List ℕ) (u n : ℕ) → number_of 10 w ≡ Some n → n ≤ neighbour_limit
     → word_read ids (standing left (awaited.Count u) units links) at w ≡ Ok (standing left (neighbours_left u n) units links)
-count_word ids left units links at w u n is few =
-    let q = standing left (awaited.Count u) units links in
-    let fits : ltb neighbour_limit n ≡ false = grind (arith, nat_tests) in
-    let next : Result Progress TextFault = Ok (standing left (neighbours_left u n) units links) in
-    ap (count_read q u at) is ∙ ap (λ (b : Bool). cond b (Err (TooManyNeighbours u)) next) fits
+count_word ids left units links at w u n is few = search (rules, nat_tests)
 
 neighbour_word : (ids : List ℕ) (left : ℕ) (units : List ℕ) (links : List Link) (at : ℕ) (w : List ℕ) (u k n : ℕ) → number_of_digits 15 w ≡ Some n → Contains ids n → n ≢ u → ¬ Lists links u n
     → word_read ids (standing left (awaited.Neighbour u k) units links) at w ≡ Ok (standing left (neighbours_left u (k - 1)) units (links ++ link_of u n ∷ []))
-neighbour_word ids left units links at w u k n is there other fresh =
-    let q = standing left (awaited.Neighbour u k) units links in
-    let differs : eqb n u ≡ false = grind (arith, nat_tests) in
-    let next : Result Progress TextFault = Ok (standing left (neighbours_left u (k - 1)) units (links ++ link_of u n ∷ [])) in
-    ap (neighbour_read q u k at) (block_is ids w n is there)
-    ∙ ap (λ (b : Bool). cond b (Err (OwnNeighbour u)) (cond (lists links u n) (Err (RepeatedNeighbour u n)) next)) differs
-    ∙ ap (λ (b : Bool). cond b (Err (RepeatedNeighbour u n)) next) (lists_not links u n fresh)
+neighbour_word ids left units links at w u k n is there other fresh = search (rules, nat_tests, block_is, not_true, lists_from_test)
 
 some_left : (u k : ℕ) → 0 < k → neighbours_left u k ≡ awaited.Neighbour u k
 some_left u k some = let left : eqb k 0 ≡ false = grind (arith, nat_tests) in ap (λ (b : Bool). cond b awaited.Block (awaited.Neighbour u k)) left
@@ -200,17 +170,12 @@ left_tail ids left units links u ls are = record {
     | inr same ↦ distinct_head u.block (blocks_of ls) are.different (subst (Contains (blocks_of ls)) (sym same) (Contains-get_or (blocks_of ls) k d inside))
   ];
   different = IsDistinct-tail nat_eq u.block (blocks_of ls) are.different;
-  listed = All-append (λ l. Contains (units ++ u.block ∷ []) l.from) links (map (link_of u.block) u.neighbours)
-      (All-weaker (λ l. Contains units l.from) (λ l. Contains (units ++ u.block ∷ []) l.from) (λ l c. Contains-append_left units (u.block ∷ []) l.from c) links are.listed)
-      (All-map (λ l. Contains (units ++ u.block ∷ []) l.from) (link_of u.block) u.neighbours (λ k d inside. Contains-push units u.block));
+  listed = search (rules, All-append, All-weaker, Contains-append_left, All-map, Contains-push);
 }
 
 read_all : (ls : List Listing) (parts : List (List (List ℕ))) (ids : List ℕ) (left : ℕ) (units : List ℕ) (links : List Link) → AreLeft ids left units links ls → AllZip IsWritten ls parts
     → (at : ℕ) → Reads ids (standing left awaited.Block units links) at (flat_map (λ part. part) parts) (standing 0 awaited.Block (units ++ blocks_of ls) (links ++ links_of ls))
-read_all [] [] ids left units links are written at =
-    let none : 0 ≡ left = are.count in
-    subst (λ (n : ℕ). Reads ids (standing n awaited.Block units links) at [] (standing 0 awaited.Block (units ++ []) (links ++ []))) none
-    (ap Ok (ap (λ (us : List ℕ). standing 0 awaited.Block us links) (sym (append-nil units)) ∙ ap (λ (ls : List Link). standing 0 awaited.Block (units ++ []) ls) (sym (append-nil links))))
+read_all [] [] ids left units links are written at = search (rules, append-nil)
 read_all [] (part ∷ parts) ids left units links are written at = absurd written
 read_all (u ∷ ls) [] ids left units links are written at = absurd written
 read_all (u ∷ ls) (part ∷ parts) ids left units links are written at =
@@ -282,15 +247,7 @@ at_none : (ids : List ℕ) (left : ℕ) (next : Awaited) (units : List ℕ) (lin
 at_none ids left awaited.Block units links p true none is =
     let zero_left : 0 ≡ left = sym (eqb-is left 0 none) in
     let same : standing left awaited.Block units links ≡ p = cc in
-    record {
-      listings = [];
-      count = zero_left;
-      each = none_all (IsListing ids);
-      fresh = none_all (λ x. ¬ Contains units x);
-      different = distinct_none;
-      written = record { parts = []; cut = refl; each = tt };
-      is = sym same ∙ ap (λ (n : ℕ). standing n awaited.Block units links) (sym zero_left) ∙ ap (λ (us : List ℕ). standing 0 awaited.Block us links) (sym (append-nil units)) ∙ ap (λ (ls : List Link). standing 0 awaited.Block (units ++ []) ls) (sym (append-nil links));
-    }
+    search (rules, zero_left, same, none_all, distinct_none, append-nil)
 at_none ids left awaited.Block units links p false none is = absurd (cc)
 at_none ids left (awaited.Count u) units links p true none is = absurd (cc)
 at_none ids left (awaited.Count u) units links p false none is = absurd (cc)
@@ -307,13 +264,7 @@ unit_more ids left units links w id more p some is there fresh c =
     let part = w ∷ c.word ∷ names.names in
     let cut : w ∷ more ≡ part ++ flat_map (λ x. x) rest.written.parts =
     ap (λ (x : List (List ℕ)). w ∷ x) c.cut ∙ ap (λ (x : List (List ℕ)). w ∷ c.word ∷ x) (names.cut ∙ ap (λ (x : List (List ℕ)). names.names ++ x) rest.written.cut) in
-    let good : IsListing ids u = record {
-      known = there;
-      neighbours_known = names.are.neighbours_known;
-      few = omega (arith, names.long, c.few);
-      different = names.are.different;
-      others = names.are.others;
-    } in
+    let good : IsListing ids u = search (rules, names) in
     let one : IsWritten u part = record { name = w; count = c.word; names = names.names; words_are = refl; name_is = is; count_is = c.count_is ∙ ap Some (sym names.long); names_are = names.names_are } in
     record {
       listings = u ∷ rest.listings;
@@ -323,9 +274,7 @@ unit_more ids left units links w id more p some is there fresh c =
           (All-weaker (λ x. ¬ Contains (units ++ id ∷ []) x) (λ x. ¬ Contains units x) (λ x none. fewer units x id none) (blocks_of rest.listings) rest.fresh);
       different = distinct_cons id (blocks_of rest.listings) (λ again. All-contains (λ x. ¬ Contains (units ++ id ∷ []) x) (blocks_of rest.listings) id rest.fresh again (Contains-push units id)) rest.different;
       written = record { parts = part ∷ rest.written.parts; cut = cut; each = (one, rest.written.each) };
-      is = rest.is
-          ∙ ap (λ (x : List ℕ). standing 0 awaited.Block x ((links ++ map (link_of id) names.numbers) ++ links_of rest.listings)) (append_assoc units (id ∷ []) (blocks_of rest.listings))
-          ∙ ap (standing 0 awaited.Block (units ++ id ∷ blocks_of rest.listings)) (append_assoc links (map (link_of id) names.numbers) (links_of rest.listings));
+      is = search (rules, append_assoc);
     }
 
 -- one more neighbour
@@ -360,9 +309,7 @@ names_by ids left units links u k more p true none wanting = record {
   are = record { neighbours_known = none_all (Contains ids); others = none_contained u; fresh = none_all (λ m. ¬ Lists links u m); different = distinct_none };
   more = subst (λ (ls : List Link). Blocks ids left units ls more p) (sym (append-nil links)) wanting;
 }
-names_by ids left units links u k more p false some wanting =
-    let same : k - 1 + 1 ≡ k = grind (arith, nat_tests) in
-    subst (λ (n : ℕ). Names ids left units links u n more p) same wanting
+names_by ids left units links u k more p false some wanting = search (rules, nat_tests)
 
 abbrev From : List ℕ → Progress → List (List ℕ) → Progress → Type 0
 From ids q ws p = Wanting ids q.left q.next q.units q.links ws p
@@ -371,9 +318,7 @@ module _ (ids : List ℕ) (left : ℕ) (units : List ℕ) (links : List Link) (a
   unit_fresh : (id : ℕ) (b : Bool) → left ≢ 0 → number_of_digits 15 w ≡ Some id → Contains ids id → has_number units id ≡ b
       → cond b (Err (RepeatedUnit id)) (Ok (standing (left - 1) (awaited.Count id) (units ++ id ∷ []) links)) ≡ Ok q → Blocks ids left units links (w ∷ more) p
   unit_fresh id true some named there has is = absurd (cc)
-  unit_fresh id false some named there has is =
-      let same : q ≡ standing (left - 1) (awaited.Count id) (units ++ id ∷ []) links = cc in
-      unit_more ids left units links w id more p some named there (not_contains units id has) (subst (λ (x : Progress). From ids x more p) same on)
+  unit_fresh id false some named there has is = search (rules, unit_more, not_contains)
 
   unit_named : (o : Option ℕ) → left ≢ 0 → block_of ids w ≡ o → unit_read (standing left awaited.Block units links) at o ≡ Ok q → Blocks ids left units links (w ∷ more) p
   unit_named None some named is = absurd (cc)
@@ -390,15 +335,7 @@ module _ (ids : List ℕ) (left : ℕ) (units : List ℕ) (links : List Link) (a
   count_few u n false named fits is =
       let same : q ≡ standing left (neighbours_left u n) units links = cc in
       let few : n ≤ neighbour_limit = grind (arith, nat_tests) in
-      record {
-        word = w;
-        after = more;
-        number = n;
-        cut = refl;
-        count_is = named;
-        few = few;
-        names = names_by ids left units links u n more p (eqb n 0) refl (subst (λ (x : Progress). From ids x more p) same on);
-      }
+      search (rules, same, few, names_by)
 
   count_named : (u : ℕ) (o : Option ℕ) → number_of 10 w ≡ o → count_read (standing left (awaited.Count u) units links) u at o ≡ Ok q → Counted ids left units links u (w ∷ more) p
   count_named u None named is = absurd (cc)

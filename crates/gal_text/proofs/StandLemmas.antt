@@ -1,22 +1,13 @@
 -- The words of a neighbour file, one after the other.
-use Rattle.std.proofs.Common.{◌≡◌, ℕ, ◌+◌, ◌<◌, List, [], ◌∷◌, ◌++◌, length, Option, Result, Ok, Err, refl, sym, ap, subst, ◌∙◌, arith, append_assoc, length-append, inl, inr}
-use Rattle.std.proofs.lemmas.List.{append-nil}
 use Rattle.std.specs.Io.KnownBytes.{Consumes, IsAtEnd}
-use Rattle.byte_stream.specs.claim.Words.{words, word_limit, IsBrokenWord}
-use Rattle.byte_stream.specs.Words.{BeginsWithWord, IsOneWord, GivesWord}
-use Rattle.byte_stream.specs.Reading.{Reading}
-use Rattle.byte_stream.specs.declared.reader.ReadFault.{ReadFault}
-use Rattle.byte_stream.specs.declared.reader.ReadFault.TheVariants as read
+use Rattle.std.proofs.Common.{◌≡◌, ℕ, ◌+◌, ◌<◌, List, [], ◌∷◌, ◌++◌, length, Option, Result, Ok, Err, refl, sym, ap, subst, ◌∙◌, arith, append_assoc, length-append, inl, inr, rules}
+use Rattle.std.proofs.lemmas.List.{append-nil}
+use Rattle.byte_stream.specs.{claim.Words.{words, word_limit, IsBrokenWord}, Words.{BeginsWithWord, IsOneWord, GivesWord}, Reading.Reading, declared.reader.ReadFault.ReadFault}
 use Rattle.byte_stream.proofs.ReadingLemmas.{Consumes-nothing, Consumes-then}
-use Rattle.desk_model.specs.claim.Geography.{ids_of}
-use Rattle.desk_model.specs.declared.block.BlockRow.{BlockRow}
-use Rattle.gal_text.specs.claim.Units.{Progress, at_start, word_read, words_read, go_on}
-use Rattle.gal_text.specs.Holding.{Holds, Takes}
-use Rattle.gal_text.specs.Parts.{Stands, ReadsWords, AreCutWords, refused, read_told}
-use Rattle.gal_text.specs.declared.fault.TextFault.{TextFault}
-use Rattle.gal_text.specs.declared.fault.GalFault.{GalFault}
-use Rattle.gal_text.specs.declared.units.Graph.{Graph}
-use Rattle.gal_text.specs.declared.units.UnitRefusal.{UnitRefusal}
+use Rattle.byte_stream.specs.declared.reader.ReadFault.TheVariants as read
+use Rattle.desk_model.specs.{claim.Geography.ids_of, declared.block.BlockRow.BlockRow}
+use Rattle.gal_text.specs.{claim.Units.{Progress, at_start, word_read, words_read, go_on}, Holding.{Holds, Takes}, Parts.{Stands, ReadsWords, AreCutWords, refused, read_told}}
+use Rattle.gal_text.specs.{declared.fault.TextFault.TextFault, declared.fault.GalFault.GalFault, declared.units.Graph.Graph, declared.units.UnitRefusal.UnitRefusal}
 use Rattle.gal_text.specs.declared.units.UnitRefusal.TheVariants as refusal
 
 -- ---- words after words
@@ -28,9 +19,7 @@ go_on-ok (Err f) = refl
 go_on-words : (ids : List ℕ) (at : ℕ) (w : List ℕ) (ws more : List (List ℕ))
     → ((q : Progress) → words_read ids q (at + 1) (ws ++ more) ≡ go_on (words_read ids q (at + 1) ws) (λ n. words_read ids n (at + 1 + length ws) more))
     → (r : Result Progress TextFault) → go_on r (λ q. words_read ids q (at + 1) (ws ++ more)) ≡ go_on (go_on r (λ q. words_read ids q (at + 1) ws)) (λ n. words_read ids n (at + length (w ∷ ws)) more)
-go_on-words ids at w ws more each (Ok q) =
-    let same : at + 1 + length ws ≡ at + length (w ∷ ws) = omega arith in
-    each q ∙ ap (λ (k : ℕ). go_on (words_read ids q (at + 1) ws) (λ n. words_read ids n k more)) same
+go_on-words ids at w ws more each (Ok q) = search rules
 go_on-words ids at w ws more each (Err f) = refl
 
 pub words_read-append : (ids : List ℕ) (p : Progress) (at : ℕ) (ws more : List (List ℕ))
@@ -40,11 +29,7 @@ words_read-append ids p at (w ∷ ws) more = go_on-words ids at w ws more (λ q.
 
 module _ (ids : List ℕ) (s p : Progress) (ws : List (List ℕ)) (said : words_read ids s 1 ws ≡ Ok p) where
   after : (more : List (List ℕ)) → words_read ids s 1 (ws ++ more) ≡ words_read ids p (length ws + 1) more
-  after more =
-      let same : 1 + length ws ≡ length ws + 1 = omega arith in
-      words_read-append ids s 1 ws more
-      ∙ ap (λ (r : Result Progress TextFault). go_on r (λ q. words_read ids q (1 + length ws) more)) said
-      ∙ ap (λ (k : ℕ). words_read ids p k more) same
+  after more = search (rules, words_read-append)
 
   pub said_more : (w : List ℕ) (q : Progress) → word_read ids p (length ws + 1) w ≡ Ok q → words_read ids s 1 (ws ++ w ∷ []) ≡ Ok q
   said_more w q is = after (w ∷ []) ∙ go_on-ok (word_read ids p (length ws + 1) w) ∙ is
@@ -69,20 +54,7 @@ module _ (blocks : List BlockRow) (count : ℕ) (start : List ℕ) (old : Option
 
   pub stands_more : (left next : Option (List ℕ)) (held more : List ℕ) (number : ℕ) (g : Graph) → Stands blocks count start old left held number g → Consumes left next more
       → Stands blocks count start old next (held ++ more) number g
-  stands_more left next held more number g s came = record {
-    came = s.came ++ more;
-    consumed = Consumes-then old left next s.came more s.consumed came;
-    whole = s.whole;
-    words_are = λ rest.
-        ap (λ (t : List ℕ). words (t ++ rest)) (sym (append_assoc start s.came more))
-        ∙ ap words (append_assoc (start ++ s.came) more rest)
-        ∙ s.words_are (more ++ rest)
-        ∙ ap (λ (t : List ℕ). s.whole ++ words t) (sym (append_assoc held more rest));
-    progress = s.progress;
-    said = s.said;
-    holds = s.holds;
-    counted = s.counted;
-  }
+  stands_more left next held more number g s came = search (rules, Consumes-then, append_assoc)
 
   -- what was judged of the word at hand, of any progress that the state holds
   abbrev pub Took : Graph → ℕ → List ℕ → Result (Unit {0}) UnitRefusal → Graph → Type 0
@@ -114,8 +86,7 @@ module _ (blocks : List BlockRow) (count : ℕ) (start : List ℕ) (old : Option
 
   faulty : (left : Option (List ℕ)) (held : List ℕ) (number : ℕ) (g : Graph) → (s : Stands blocks count start old left held number g) → (word : List ℕ) (more : List (List ℕ)) (f : TextFault)
       → word_read (ids_of blocks) s.progress number word ≡ Err f → words_read (ids_of blocks) (at_start count) 1 (s.whole ++ word ∷ more) ≡ Err f
-  faulty left held number g s word more f is =
-      said_fault (ids_of blocks) (at_start count) s.progress s.whole s.said word more f (subst (λ (k : ℕ). word_read (ids_of blocks) s.progress k word ≡ Err f) s.counted is)
+  faulty left held number g s word more f is = search (rules, said_fault)
 
   -- ---- the end
 
@@ -163,14 +134,7 @@ module _ (blocks : List BlockRow) (count : ℕ) (start : List ℕ) (old : Option
   told_refused_last left held word number g new refusal.Memory s end one took = (s.came, s.consumed, tt)
 
   told_cut : (left : Option (List ℕ)) (held : List ℕ) (number : ℕ) (g : Graph) → (s : Stands blocks count start old left held number g) → IsBrokenWord held → AreCutWords (ids_of blocks) count (start ++ s.came)
-  told_cut left held number g s broken = record {
-    whole = s.whole;
-    broken = held;
-    words_are = s.words_are;
-    is_broken = broken;
-    progress = s.progress;
-    good = s.said;
-  }
+  told_cut left held number g s broken = search rules
 
   pub told_fault : (left : Option (List ℕ)) (held : List ℕ) (number : ℕ) (g : Graph) (long : TextFault) (e : ReadFault) (r : Reading) → Stands blocks count start old left held number g
       → ((p : Progress) (word : List ℕ) → Holds blocks g p → word_limit < length word → word_read (ids_of blocks) p number word ≡ Err long) → GivesWord held left (Err e) r
@@ -183,12 +147,10 @@ module _ (blocks : List BlockRow) (count : ℕ) (start : List ℕ) (old : Option
         ap (words_read (ids_of blocks) (at_start count) 1) (s.words_are more ∙ ap (λ (ws : List (List ℕ)). s.whole ++ ws) w.2)
         ∙ faulty left held number g s w.0 w.1 long (is_long s.progress w.0 s.holds w.3)),
   )
-  told_fault left held number g long read.Failed r s is_long gives = (s.came, s.consumed, told_cut left held number g s gives)
-  told_fault left held number g long read.TurnLimit r s is_long gives = (s.came, s.consumed, told_cut left held number g s gives)
+  told_fault left held number g long _ r s is_long gives = (s.came, s.consumed, told_cut left held number g s gives)
 
   pub took_at : (g new : Graph) (number at : ℕ) (given word : List ℕ) (r : Result (Unit {0}) UnitRefusal) → at ≡ number → given ≡ word → Took g at given r new → Took g number word r new
-  took_at g new number at given word r same_number same took =
-      subst (λ (w : List ℕ). Took g number w r new) same (subst (λ (k : ℕ). Took g k given r new) same_number took)
+  took_at g new number at given word r same_number same took = search rules
 
 -- the fault of a word that is too long, at the same number
 pub long_at : (blocks : List BlockRow) (g : Graph) (number at : ℕ) (long : TextFault) → at ≡ number

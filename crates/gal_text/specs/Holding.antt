@@ -1,15 +1,9 @@
 -- What the units' state holds while the words of a neighbour file are read.
-use Rattle.std.specs.Prelude.{◌≡◌, ℕ, ◌<◌, ◌≤◌, true, false, List, [], ◌∷◌, ◌++◌, length, drop}
-use Rattle.std.specs.Prelude.{vec_len, get_or, All, Option, Some, None, Result, Ok, Err, ⊤}
-use Rattle.desk_model.specs.claim.Geography.{ids_of, id_at}
-use Rattle.desk_model.specs.declared.block.BlockRow.{BlockRow}
-use Rattle.gal_text.specs.claim.Units.{Progress, has_number, lists, block_of, neighbours_left, word_read}
-use Rattle.gal_text.specs.declared.fault.TextFault.{TextFault}
-use Rattle.gal_text.specs.declared.units.Link.{Link}
-use Rattle.gal_text.specs.declared.units.Awaited.{Awaited}
+use Rattle.std.specs.Prelude.{◌≡◌, ℕ, ◌<◌, ◌≤◌, true, false, List, [], ◌∷◌, ◌++◌, length, drop, vec_len, get_or, All, Option, Some, None, Result, Ok, Err, ⊤}
+use Rattle.desk_model.specs.{claim.Geography.{ids_of, id_at}, declared.block.BlockRow.BlockRow}
+use Rattle.gal_text.specs.{claim.Units.{Progress, has_number, lists, block_of, neighbours_left, word_read}, declared.fault.TextFault.TextFault, declared.units.Link.Link}
+use Rattle.gal_text.specs.{declared.units.Awaited.Awaited, declared.units.Graph.Graph, declared.units.UnitRefusal.UnitRefusal}
 use Rattle.gal_text.specs.declared.units.Awaited.TheVariants as awaited
-use Rattle.gal_text.specs.declared.units.Graph.{Graph}
-use Rattle.gal_text.specs.declared.units.UnitRefusal.{UnitRefusal}
 use Rattle.gal_text.specs.declared.units.UnitRefusal.TheVariants as refusal
 
 -- what the unit lists stands among the links from this place on

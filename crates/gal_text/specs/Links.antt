@@ -1,10 +1,6 @@
 -- What no promise rests on, beside claim/Links.antt.
-use Rattle.std.specs.Prelude.{◌≡◌, ℕ, ◌<◌, Bool, true, false, List, length, Result, Ok, Err, Vec, ⊤}
-use Rattle.std.specs.List.{HoldsAt, AllWithin}
-use Rattle.std.specs.declared.alloc.Global.{Global}
-use Rattle.gal_text.specs.declared.units.Link.{Link}
-use Rattle.gal_text.specs.declared.links.Unpaired.{Unpaired}
-use Rattle.gal_text.specs.declared.links.Unpaired.TheVariants.{OneWay, Memory}
+use Rattle.std.specs.{Prelude.{◌≡◌, ℕ, ◌<◌, Bool, true, false, List, length, Result, Ok, Err, Vec, ⊤}, List.{HoldsAt, AllWithin}, declared.alloc.Global.Global}
+use Rattle.gal_text.specs.{declared.units.Link.Link, declared.links.Unpaired.Unpaired, declared.links.Unpaired.TheVariants.{OneWay, Memory}}
 use Rattle.gal_text.specs.claim.Links.{AreMutual, ArePairsOf, IsLeastOneWay}
 
 -- what the links give

@@ -1,8 +1,6 @@
 -- How links become pairs: those to greater blocks and those to less are put in order and compared.
-use Rattle.std.specs.Prelude.{◌≡◌, ℕ, ◌<◌, ◌↔◌, Bool, false, ◌&&◌, ◌||◌, ◌==◌, nat_lt}
-use Rattle.std.specs.Prelude.{if◌then◌else◌, List, All, Contains, Option, Some, None, MatchOption}
-use Rattle.gal_text.specs.claim.Links.{Lists, IsOneWay, IsPairOf, AreRising}
-use Rattle.gal_text.specs.declared.units.Link.{Link}
+use Rattle.std.specs.Prelude.{◌≡◌, ℕ, ◌<◌, ◌↔◌, Bool, false, ◌&&◌, ◌||◌, ◌==◌, nat_lt, if◌then◌else◌, List, All, Contains, Option, Some, None, MatchOption}
+use Rattle.gal_text.specs.{claim.Links.{Lists, IsOneWay, IsPairOf, AreRising}, declared.units.Link.Link}
 
 -- a link to a greater block, and one to a less block turned round
 abbrev pub upward_pair : Link → Option (ℕ × ℕ)

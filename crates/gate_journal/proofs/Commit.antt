@@ -1,12 +1,9 @@
 -- What a stop leaves in each step of a commit.
 use Rattle.std.proofs.Common.{◌≡◌, ◌≢◌, ◌≤◌, ◌<◌, ◌+◌, ℕ, zero, suc, List, [], length, take, get_or, ◌/◌, inl, inr, refl, sym, subst, ap, ◌∙◌, arith}
-use Rattle.sector_device.specs.claim.Disk.{Disk, Image, AgreeOff, Nowhere, Touches}
-use Rattle.sector_device.specs.Disk.{Only, IsSynced}
-use Rattle.sector_device.specs.claim.Moments.{LeavesOnly}
+use Rattle.sector_device.specs.{claim.Disk.{Disk, Image, AgreeOff, Nowhere, Touches}, Disk.{Only, IsSynced}, claim.Moments.LeavesOnly}
 use Rattle.sector_device.proofs.Moments.{leaves_from, leaves_more, touches_none, touches_more}
 use Rattle.gate_journal.specs.claim.Store.{first_copy, list_word, copies_from, copies, home, gate, overlay, home_pages, pages, IsValid, IsStore, Opens}
-use Rattle.gate_journal.specs.Store.{IsWithin, Homes, Stages, Staging, IsBeforeOrAfter, IsSettled}
-use Rattle.gate_journal.specs.Steps.{HasGate, HasHomes, IsStaged, IsHome}
+use Rattle.gate_journal.specs.{Store.{IsWithin, Homes, Stages, Staging, IsBeforeOrAfter, IsSettled}, Steps.{HasGate, HasHomes, IsStaged, IsHome}}
 use Rattle.gate_journal.proofs.Images.{pages_shut, pages_open, stages_same, store_same, staged_valid, while_staging, while_opening, while_copying, while_closing, same_homes, list_word_same, writes_at, homes_more}
 
 -- where the gate is closed, the pages are the home pages

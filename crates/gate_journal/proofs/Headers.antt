@@ -1,16 +1,13 @@
 -- What a header says of its store.
-use Rattle.std.proofs.Common.{◌≡◌, ◌≢◌, ◌<◌, ◌+◌, ◌*◌, ◌^◌, ℕ, true, List, [], ◌∷◌, length, get_or, replicate, refl, sym, ap, ◌∙◌, arith}
+use Rattle.std.{specs.Int.{w32, from_be_bytes}, proofs.Common.{◌≡◌, ◌≢◌, ◌<◌, ◌+◌, ◌*◌, ◌^◌, ℕ, true, List, [], ◌∷◌, length, get_or, replicate, refl, sym, ap, ◌∙◌, arith}}
 use Rattle.std.proofs.lemmas.Grind.{common_steps}
 use Rattle.std.proofs.lemmas.List.{length-set, length-replicate, get_or-set_other}
 use Rattle.std.proofs.lemmas.Nat.{from_be_bytes-to_be_bytes_4}
-use Rattle.std.specs.Int.{w32, from_be_bytes}
 use Rattle.std.proofs.lemmas.Bool.{eq-eqb}
 use lib.Pointwise.{pointwise}
 use lib.Dec.{eqb}
 use Rattle.sector_device.specs.claim.Disk.{Image}
-use Rattle.gate_journal.specs.claim.Store.{word, put_word, header_of, IsStore}
-use Rattle.gate_journal.specs.Store.{IsStoreOf}
-use Rattle.gate_journal.specs.Recovery.{HasRoom}
+use Rattle.gate_journal.specs.{claim.Store.{word, put_word, header_of, IsStore}, Store.IsStoreOf, Recovery.HasRoom}
 
 length_put : (s : List ℕ) (k n : ℕ) → length (put_word s k n) ≡ length s
 length_put s k n = simp length-set
@@ -51,12 +48,11 @@ journal_is sectors c s is same = ap (λ (x : List ℕ). word x 3) (same ∙ is.s
 -- a store of so many sectors has the layout that its header names
 pub is_laid_out : (sectors : ℕ) (c : Image) (J n : ℕ) → HasRoom sectors J n → c 0 ≡ header_of J n → IsStoreOf sectors c → IsStore J n c
 is_laid_out sectors c J n room layout is =
-    let most = room.most_journal in
     let journal : J ≡ is.J = sym (ap (λ (x : List ℕ). word x 3) layout ∙ header_journal J n (omega arith)) ∙ journal_is sectors c (c 0) is refl in
     let pages : n ≡ is.n = omega (arith, journal, room.whole, is.whole) in
     record {
       least_journal = room.least_journal;
-      most_journal = most;
+      most_journal = room.most_journal;
       least_pages = room.least_pages;
       header = layout;
       list = λ open_gate. let valid = is.store.list open_gate in record { count = omega (arith, journal, valid.count); each = λ k lt. omega (arith, pages, valid.each k lt) };

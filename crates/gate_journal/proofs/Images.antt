@@ -2,8 +2,7 @@
 use Rattle.std.proofs.Common.{◌≡◌, ◌≢◌, ◌≤◌, ◌<◌, ◌+◌, ◌*◌, ◌/◌, ◌%◌, ℕ, zero, suc, Bool, true, false, List, [], ◌∷◌, length, take, inl, inr, ⊎_elim, refl, sym, subst, ap, ◌∙◌, arith, get_or, cond, nat_eq, add-one}
 use Rattle.std.proofs.lemmas.Bool.{cases_eq}
 use Rattle.std.proofs.lemmas.Bool.Decides.{nat_tests}
-use Rattle.sector_device.specs.claim.Disk.{Disk, Image, AgreeOff}
-use Rattle.sector_device.specs.Disk.{Only}
+use Rattle.sector_device.specs.{claim.Disk.{Disk, Image, AgreeOff}, Disk.Only}
 use Rattle.gate_journal.specs.Steps.{Span, HasList, HasCopies, want}
 use Rattle.gate_journal.specs.claim.Store.{word, list_word, first_copy, home, gate, copies_from, copies, put, overlay, home_pages, pages, IsValid, IsStore, Opens}
 use Rattle.gate_journal.specs.Store.{IsWithin, Writes, Homes, Stages, Staging, IsBeforeOrAfter}
@@ -177,9 +176,8 @@ list_word_at x k i at = ap (λ (n : ℕ). word (x n) (k % 1024)) at
 pub list_more : (ws : List (ℕ × List ℕ)) (s : ℕ) (b c : Disk) → HasList ws (1024 * s) b → AgreeOff (Only (2 + s)) b.reads c.reads → ((j : ℕ) → j < 1024 → 1024 * s + j ≤ length ws → word (c.reads (2 + s)) j ≡ want ws (1024 * s + j)) → HasList ws (1024 * (s + 1)) c
 list_more ws s b c has agree written k lt le = elim (cases_eq (k / 1024) s) [
   | inl here ↦
-      let at : 2 + k / 1024 ≡ 2 + s = omega arith in
       let is : 1024 * s + k % 1024 ≡ k = omega arith in
-      list_word_at c.reads k (2 + s) at ∙ written (k % 1024) (omega arith) (omega arith) ∙ ap (λ (n : ℕ). want ws n) is
+      list_word_at c.reads k (2 + s) (omega arith) ∙ written (k % 1024) (omega arith) (omega arith) ∙ ap (λ (n : ℕ). want ws n) is
   | inr off ↦ list_word_same b.reads c.reads k (agree.same (2 + k / 1024) (λ is. off (omega arith))) ∙ has k (omega arith) le
 ]
 

@@ -2,8 +2,7 @@
 use Rattle.std.proofs.Common.{◌≡◌, ◌≤◌, ◌<◌, ◌+◌, ◌-◌, ◌*◌, ◌/◌, ◌%◌, ℕ, false, IsTrue, List, inl, inr, ap, arith, subst}
 use Rattle.std.proofs.lemmas.Bool.{cases_eq}
 use Rattle.sector_device.specs.claim.Disk.{Image}
-use Rattle.gate_journal.specs.claim.Store.{word, list_word}
-use Rattle.gate_journal.specs.Recovery.{NamesPages, SectorNames}
+use Rattle.gate_journal.specs.{claim.Store.{word, list_word}, Recovery.{NamesPages, SectorNames}}
 
 pub word_in : (c : Image) (k s : ℕ) → k / 1024 ≡ s → list_word c k ≡ word (c (2 + s)) (k % 1024)
 unfolding list_word

@@ -1,12 +1,9 @@
 -- Writes in a list, and what they leave of a page.
 use Rattle.std.proofs.Common.{Option, Some, None, MatchOption, ◌≡◌, ◌≢◌, ◌⊎◌, ◌<◌, ℕ, zero, suc, List, [], ◌∷◌, ◌++◌, length, get_or, set, inl, inr, refl, sym, ap, subst, ◌∙◌, arith, length-append}
+use Rattle.std.proofs.{Math.ListN.get_or-append, Math.Seq.get_or-append_seam}
 use Rattle.std.proofs.lemmas.Bool.{cases_eq, cases_lt}
-use Rattle.std.proofs.Math.ListN.{get_or-append}
-use Rattle.std.proofs.Math.Seq.{get_or-append_seam}
 use Rattle.sector_device.specs.claim.Disk.{Image}
-use Rattle.gate_journal.specs.claim.Store.{put, overlay}
-use Rattle.gate_journal.specs.Store.{Writes, IsWithin, IsOnce, AreNumbers, AreApart}
-use Rattle.gate_journal.specs.Writes.{IsLast}
+use Rattle.gate_journal.specs.{claim.Store.{put, overlay}, Store.{Writes, IsWithin, IsOnce, AreNumbers, AreApart}, Writes.IsLast}
 use Rattle.gate_journal.proofs.Images.{overlay_off, overlay_same, put_on, put_off, writes_at}
 
 -- where one is found
@@ -60,7 +57,6 @@ module _ (ns : List ℕ) (ws : List (ℕ × List ℕ)) (beside : AreNumbers ns w
   -- where a number is found, the write is the only one of its page
   found_last : (p k : ℕ) → AreApart ns → k < length ns → get_or ns k 0 ≡ p → IsLast ws p k
   found_last p k apart lt is =
-      let long = beside.long in
       record {
         below = omega arith;
         here = at_place k p lt is;
@@ -92,8 +88,7 @@ module _ (ns : List ℕ) (ws : List (ℕ × List ℕ)) (beside : AreNumbers ns w
         | inl early ↦ get_or-append ns (p ∷ []) 0 k (omega arith) ∙ beside.each k early ∙ sym (ap (λ (w : ℕ × List ℕ). w.0) (get_or-append ws ((p, bytes) ∷ []) (0, []) k early))
         | inr late ↦
             let here : k ≡ length ws = omega (arith, length-append ws ((p, bytes) ∷ [])) in
-            let there : k ≡ length ns = omega arith in
-            ap (λ (i : ℕ). get_or (ns ++ p ∷ []) i 0) there ∙ get_or-append_seam ns p [] 0
+            ap (λ (i : ℕ). get_or (ns ++ p ∷ []) i 0) (omega arith) ∙ get_or-append_seam ns p [] 0
             ∙ sym (ap (λ (i : ℕ). (get_or (ws ++ (p, bytes) ∷ []) i (0, [])).0) here ∙ ap (λ (w : ℕ × List ℕ). w.0) (get_or-append_seam ws (p, bytes) [] (0, [])))
       ]
 

@@ -1,16 +1,10 @@
 -- What an opening may leave.
 use Rattle.std.proofs.Common.{◌≡◌, ◌⊎◌, ◌≤◌, ◌<◌, ℕ, Result, Ok, Err, OnOk, OnErr, IsErrOf, IfOk, IfErr, IsErrAnd, inl, inr, ⊎_elim, refl, sym, subst, ap, ◌∙◌, arith}
-use Rattle.sector_device.specs.claim.Disk.{Disk, Image, AgreeOff, Nowhere, Touches, LeavesBut}
-use Rattle.sector_device.specs.Disk.{IsSynced, HasCause}
-use Rattle.sector_device.specs.claim.Moments.{LeavesOnly}
+use Rattle.sector_device.specs.{claim.Disk.{Disk, Image, AgreeOff, Nowhere, Touches, LeavesBut}, Disk.{IsSynced, HasCause}, claim.Moments.LeavesOnly}
 use Rattle.sector_device.proofs.Moments.{leaves_from, leaves_more, leaves_wider, now_but, cause_after, on_ok, touches_more}
-use Rattle.gate_journal.specs.claim.Store.{header_of, pages, IsStore, Opens}
-use Rattle.gate_journal.specs.Store.{IsStoreOf, IsSettled}
-use Rattle.gate_journal.specs.Recovery.{AllStores, HasRoom, HasLayout, ReadsAs, Found, Reopens, Recovers, Starts, LooksAt, OpensSo}
-use Rattle.gate_journal.specs.declared.layout.Layout.{Layout}
-use Rattle.gate_journal.proofs.Headers.{is_laid_out}
-use Rattle.gate_journal.specs.declared.error.PageError.{PageError}
-use Rattle.gate_journal.specs.declared.error.PageError.TheVariants.{NotAStore, DeviceFault}
+use Rattle.gate_journal.specs.{claim.Store.{header_of, pages, IsStore, Opens}, Store.{IsStoreOf, IsSettled}}
+use Rattle.gate_journal.specs.{Recovery.{AllStores, HasRoom, HasLayout, ReadsAs, Found, Reopens, Recovers, Starts, LooksAt, OpensSo}, declared.layout.Layout.Layout}
+use Rattle.gate_journal.{specs.declared.error.PageError.PageError, specs.declared.error.PageError.TheVariants.{NotAStore, DeviceFault}, proofs.Headers.is_laid_out}
 
 agreed : (b c : Image) → AgreeOff Nowhere b c → b ≡ c
 agreed b c agree = λ i k. (sym (agree.same k (λ none. none))) i

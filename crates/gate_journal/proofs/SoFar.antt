@@ -1,9 +1,7 @@
 -- What a step did so far, and at its end.
 use Rattle.std.specs.Prelude.{◌≡◌, ℕ, List, Result}
-use Rattle.sector_device.specs.claim.Disk.{Disk, Touches}
-use Rattle.sector_device.specs.Disk.{Step}
-use Rattle.gate_journal.specs.Steps.{TakesStep, Commits, CommitsOn}
-use Rattle.gate_journal.specs.declared.layout.Layout.{Layout}
+use Rattle.sector_device.specs.{claim.Disk.{Disk, Touches}, Disk.Step}
+use Rattle.gate_journal.specs.{Steps.{TakesStep, Commits, CommitsOn}, declared.layout.Layout.Layout}
 
 -- nothing failed so far
 pub record SoFar (S : ℕ → Type 0) (Q : Disk → Type 0) (old new : Disk) : Type 0 where

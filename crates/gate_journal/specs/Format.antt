@@ -1,13 +1,8 @@
 -- What a new store is.
 use Rattle.std.specs.Prelude.{◌≡◌, ◌≤◌, ◌<◌, ◌+◌, ℕ, Result, OnOk, IfOk, IfErr}
-use Rattle.sector_device.specs.claim.Disk.{Disk, Touches}
-use Rattle.sector_device.specs.declared.SectorDevice.{Ghosts}
-use Rattle.gate_journal.specs.claim.Store.{home}
-use Rattle.gate_journal.specs.Store.{IsSettled}
-use Rattle.gate_journal.specs.Recovery.{HasRoom, AllStores}
-use Rattle.gate_journal.specs.declared.layout.Layout.{Layout}
-use Rattle.gate_journal.specs.declared.error.PageError.{PageError}
-use Rattle.gate_journal.specs.declared.error.PageError.TheVariants.{NotAStore, DeviceFault, Halted, TooManyPages, TooSmall, NoPages, Memory}
+use Rattle.sector_device.specs.{claim.Disk.{Disk, Touches}, declared.SectorDevice.Ghosts}
+use Rattle.gate_journal.specs.{claim.Store.home, Store.IsSettled, Recovery.{HasRoom, AllStores}, declared.layout.Layout.Layout, declared.error.PageError.PageError}
+use Rattle.gate_journal.specs.declared.error.PageError.TheVariants.{DeviceFault, TooSmall}
 
 -- the disk is a store of this layout, its gate closed, and each image that a stop may leave is one
 pub record IsFormatted (layout : Layout) (disk : Disk) : Type 0 where
@@ -22,11 +17,7 @@ Front i = i < 2
 abbrev pub FormatErr : {D : Type 0} (g : Ghosts D) → ℕ → D → D → PageError → Type 0
 FormatErr g J old new DeviceFault = (home J + 64 ≤ (g.disk old).sectors) × ((g.disk new).is_honest → (g.disk old).faults < (g.disk new).faults)
 FormatErr g J old new TooSmall = ((g.disk old).sectors < home J + 64) × (new ≡ old)
-FormatErr g J old new NotAStore = ⊥
-FormatErr g J old new Halted = ⊥
-FormatErr g J old new TooManyPages = ⊥
-FormatErr g J old new NoPages = ⊥
-FormatErr g J old new Memory = ⊥
+FormatErr g J old new _ = ⊥
 
 -- a store has so many journal pages
 pub record IsJournalSize (J : ℕ) : Type 0 where
@@ -34,7 +25,7 @@ pub record IsJournalSize (J : ℕ) : Type 0 where
   pub most : J ≤ 65536
 
 -- The header and the gate are written, and the answer is what the store has.
-pub record Formats {D : Type 0} (g : Ghosts D) (J : ℕ) (old new : D) (result : Result Layout PageError) : Type 0 where
+pub record FormatsJournal {D : Type 0} (g : Ghosts D) (J : ℕ) (old new : D) (result : Result Layout PageError) : Type 0 where
   pub sectors : (g.disk new).sectors ≡ (g.disk old).sectors
   pub honest : (g.disk new).is_honest → (g.disk old).is_honest
   pub touches : (g.disk new).is_honest → Touches Front (g.disk old) (g.disk new)

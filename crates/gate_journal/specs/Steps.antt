@@ -1,12 +1,7 @@
 -- What each step of a commit leaves.
-use Rattle.std.specs.Prelude.{◌≡◌, ◌≤◌, ◌<◌, ◌+◌, ℕ, List, [], length, Result, OnOk}
-use Rattle.std.proofs.Common.{get_or, zero, suc}
-use Rattle.sector_device.specs.claim.Disk.{Disk}
-use Rattle.sector_device.specs.Disk.{IsSynced, HasCause, Step}
-use Rattle.sector_device.specs.claim.Moments.{LeavesOnly}
-use Rattle.gate_journal.specs.claim.Store.{home, overlay, pages, gate, list_word}
-use Rattle.gate_journal.specs.Store.{Stages, IsSettled, IsBeforeOrAfter, IsWithin}
-use Rattle.gate_journal.specs.declared.layout.Layout.{Layout}
+use Rattle.std.{specs.Prelude.{◌≡◌, ◌≤◌, ◌<◌, ◌+◌, ℕ, List, [], length, Result, OnOk}, proofs.Common.{get_or, zero, suc}}
+use Rattle.sector_device.specs.{claim.Disk.Disk, Disk.{IsSynced, HasCause, Step}, claim.Moments.LeavesOnly}
+use Rattle.gate_journal.specs.{claim.Store.{home, overlay, pages, gate, list_word}, Store.{Stages, IsSettled, IsBeforeOrAfter, IsWithin}, declared.layout.Layout.Layout}
 
 -- n sectors from the first
 abbrev pub Span : ℕ → ℕ → ℕ → Type 0

@@ -1,8 +1,6 @@
 -- What no promise rests on, beside claim/Store.antt.
-use Rattle.std.specs.Prelude.{◌≡◌, ◌≢◌, ◌⊎◌, ◌≤◌, ◌<◌, ◌+◌, ℕ, List, [], ◌∷◌, length}
-use Rattle.std.proofs.Common.{get_or}
-use Rattle.sector_device.specs.claim.Disk.{Disk, Image}
-use Rattle.sector_device.specs.Disk.{IsSynced}
+use Rattle.std.{specs.Prelude.{◌≡◌, ◌≢◌, ◌⊎◌, ◌≤◌, ◌<◌, ◌+◌, ℕ, List, [], ◌∷◌, length}, proofs.Common.get_or}
+use Rattle.sector_device.specs.{claim.Disk.{Disk, Image}, Disk.IsSynced}
 use Rattle.gate_journal.specs.claim.Store.{IsStore, Opens, first_copy, gate, home, list_word, overlay}
 
 -- it is one of a store with so many sectors

@@ -3,7 +3,7 @@ ghost use Rattle.std.specs.Prelude.{◌≡◌, ◌≤◌, ◌<◌, ◌+◌, true
 ghost use Rattle.gate_journal.specs.claim.Store.{home};
 ghost use Rattle.gate_journal.specs.Steps.{MayCommit, CommitsOn};
 ghost use Rattle.gate_journal.specs.claim.Writes.{writes_of};
-ghost use Rattle.gate_journal.specs.Format.{IsJournalSize, Formats};
+ghost use Rattle.gate_journal.specs.Format.{IsJournalSize, FormatsJournal};
 
 use crate::error::PageError;
 use crate::layout::{Layout, homes_begin};
@@ -27,7 +27,7 @@ pub fn has_room(sectors: u32, journal_pages: u32) -> bool
 /// end isn't covered: the device is formatted again. The answer is what the store has.
 pub fn format<D: SectorDevice>(device: &mut D, journal_pages: u32) -> Result<Layout, PageError>
     requires { IsJournalSize journal_pages }
-    ensures { Formats D.SectorDevice journal_pages device.old device.new result }
+    ensures { FormatsJournal D.SectorDevice journal_pages device.old device.new result }
 {
     let home = homes_begin!(journal_pages);
     let count = device.count();

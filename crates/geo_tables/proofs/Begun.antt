@@ -1,17 +1,10 @@
 -- What a transaction that is begun reads, and how many pages are free in it.
-use Rattle.std.proofs.Common.{◌≡◌, ◌*◌, ◌≤◌, ◌<◌, ℕ, length, sym, subst, inl, inr, arith}
-use Rattle.std.specs.Prelude.{◌⊎◌}
+use Rattle.std.{specs.Prelude.◌⊎◌, proofs.Common.{◌≡◌, ◌*◌, ◌≤◌, ◌<◌, ℕ, length, sym, subst, arith}}
 use Rattle.std.proofs.lemmas.Bool.{cases_lt}
-use Rattle.sector_device.specs.claim.Disk.{Image}
-use Rattle.sector_device.specs.declared.SectorDevice.{Ghosts}
-use Rattle.page_store.proofs.Chains.{length_chain}
-use Rattle.page_store.specs.claim.Chain.{free_in, root_in}
-use Rattle.page_store.specs.claim.Transactions.{stored, disk_in, count_of, journal_of, txn_pages, txn_root, txn_free, over, free_over}
-use Rattle.page_store.specs.Transactions.{txn_first}
-use Rattle.page_store.specs.declared.pages.Pages.{Pages}
-use Rattle.page_store.specs.declared.txn.Txn.{Txn}
-use Rattle.page_btree.proofs.MapLaws.{begun_holds}
-use Rattle.page_btree.specs.claim.Map.{Holds, InTxn, InPages}
+use Rattle.sector_device.specs.{claim.Disk.Image, declared.SectorDevice.Ghosts}
+use Rattle.page_store.specs.{claim.Chain.{free_in, root_in}, claim.Transactions.{stored, disk_in, count_of, journal_of, txn_pages, txn_root, txn_free, over, free_over}}
+use Rattle.page_store.{specs.Transactions.txn_first, specs.declared.pages.Pages.Pages, specs.declared.txn.Txn.Txn, proofs.Chains.length_chain}
+use Rattle.page_btree.{specs.claim.Map.{Holds, InTxn, InPages}, proofs.MapLaws.begun_holds}
 use Rattle.store_rows.specs.claim.Rows.{KeyMap}
 use Rattle.geo_tables.specs.Starting.{IsStarted}
 
@@ -24,10 +17,4 @@ module _ {D : Type 0} {g : Ghosts D} (ps : Pages D g) (t : Txn) (count : txn_pag
 
 -- one of them is too few
 pub short_of : {D : Type 0} {g : Ghosts D} (ps : Pages D g) (t : Txn) (rows : ℕ) → IsStarted 0 ps t → ((13 * rows ≤ txn_free t) × (13 * rows ≤ journal_of ps) → ⊥) → (journal_of ps < 13 * rows) ⊎ ((disk_in ps).is_honest → length (free_in (stored ps)) < 13 * rows)
-short_of ps t rows started none = elim (cases_lt (journal_of ps) (13 * rows)) [
-  | inl less ↦ inl less
-  | inr more ↦ inr (λ honest. elim (cases_lt (txn_free t) (13 * rows)) [
-    | inl few ↦ (let count = started.count honest in omega arith)
-    | inr enough ↦ absurd (none (enough, more))
-  ])
-]
+short_of ps t rows started none = search (arith, cases_lt, started.count, none)

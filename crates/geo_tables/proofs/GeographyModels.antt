@@ -1,22 +1,12 @@
 -- What was read of a geography, where it is none.
-use Rattle.std.proofs.Common.{◌≡◌, Ok, Err, List, sym, subst, ◌∙◌}
-use Rattle.std.specs.Prelude.{Result, MatchResult}
+use Rattle.std.{specs.Prelude.{Result, MatchResult}, proofs.Common.{◌≡◌, Ok, Err, List, sym, subst, ◌∙◌}}
 use Rattle.sector_device.specs.declared.SectorDevice.{Ghosts}
-use Rattle.page_store.specs.declared.pages.Pages.{Pages}
-use Rattle.page_store.specs.declared.txn.Txn.{Txn}
-use Rattle.page_btree.specs.declared.error.TreeError.{TreeError}
-use Rattle.page_btree.specs.declared.error.TreeError.TheVariants.{DeviceFault, NotAStore, Halted, NoPages, TooDeep, Memory}
-use Rattle.desk_model.specs.declared.block.BlockRow.{BlockRow}
-use Rattle.desk_model.specs.declared.geography.Pair.{Pair}
-use Rattle.desk_model.specs.claim.Geography.{GeographyModel}
-use Rattle.desk_model.specs.claim.GeographyModels.{IsGeographyModel}
-use Rattle.store_rows.specs.claim.Keys.{key_of, block, pair}
-use Rattle.store_rows.specs.claim.Values.{block_bytes}
-use Rattle.store_rows.specs.declared.value.SealRow.{SealRow}
-use Rattle.store_rows.specs.claim.Rows.{KeyMap}
+use Rattle.page_store.specs.{declared.pages.Pages.Pages, declared.txn.Txn.Txn}
+use Rattle.page_btree.specs.{declared.error.TreeError.TreeError, declared.error.TreeError.TheVariants.{DeviceFault, NotAStore, Halted, NoPages, TooDeep, Memory}}
+use Rattle.desk_model.specs.{declared.block.BlockRow.BlockRow, declared.geography.Pair.Pair, claim.Geography.GeographyModel, claim.GeographyModels.IsGeographyModel}
+use Rattle.store_rows.specs.{claim.Keys.{key_of, block, pair}, claim.Values.block_bytes, declared.value.SealRow.SealRow, claim.Rows.KeyMap}
 use Rattle.store_rows.specs.claim.GeographyRows.{IsBlockRow, neighbours_bytes}
-use Rattle.desk_pages.proofs.Looking.{finds, not_looked, refuses}
-use Rattle.desk_pages.specs.Looking.{Gathers, IsOnly, Says}
+use Rattle.desk_pages.{specs.Looking.{Gathers, IsOnly, Says}, proofs.Looking.{finds, not_looked, refuses}}
 use Rattle.geo_tables.specs.Elements.{GeographyErr, HoldsElements, IsPairRow, IsReadBy, IsSealedAs, IsSealRead}
 
 -- the rows hold these blocks and pairs alone

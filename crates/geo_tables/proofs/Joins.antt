@@ -1,24 +1,14 @@
 -- A transaction that is begun, whose rows are put, and that is committed then.
-use Rattle.std.proofs.Common.{◌≡◌, ◌+◌, ◌*◌, ◌≤◌, ℕ, length, false, sym, subst, ◌∙◌, inl, ⊎_elim, arith}
-use Rattle.std.specs.Prelude.{◌⊎◌}
-use Rattle.sector_device.specs.claim.Disk.{Disk, Image}
-use Rattle.sector_device.specs.claim.Moments.{LeavesOnly}
-use Rattle.sector_device.proofs.Moments.{leaves_more, leaves_wider}
-use Rattle.sector_device.specs.declared.SectorDevice.{Ghosts}
-use Rattle.page_store.specs.gate_journal.claim.Store.{home}
-use Rattle.page_store.specs.claim.Chain.{free_in, root_in}
-use Rattle.page_store.proofs.Stops.{leaves_here, leaves_quiet}
-use Rattle.page_store.specs.claim.Transactions.{stored, disk_in, count_of, journal_of, has_halted, txn_free, HasFailed, HasShape, IsQuiet, Passed}
-use Rattle.page_store.specs.declared.pages.Pages.{Pages}
-use Rattle.page_store.specs.declared.txn.Txn.{Txn}
-use Rattle.page_btree.specs.claim.Map.{Holds, InTxn as TxnHolds, InPages as PagesHold}
+use Rattle.std.{specs.Prelude.◌⊎◌, proofs.Common.{◌≡◌, ◌+◌, ◌*◌, ◌≤◌, ℕ, length, false, sym, subst, ◌∙◌, inl, ⊎_elim, arith}}
+use Rattle.sector_device.{specs.claim.Disk.{Disk, Image}, specs.claim.Moments.LeavesOnly, specs.declared.SectorDevice.Ghosts, proofs.Moments.{leaves_more, leaves_wider}}
+use Rattle.page_store.specs.{gate_journal.claim.Store.home, claim.Chain.free_in}
+use Rattle.page_store.specs.{claim.Transactions.{stored, disk_in, count_of, journal_of, has_halted, txn_free, HasFailed, HasShape, IsQuiet, Passed}, declared.pages.Pages.Pages}
+use Rattle.page_store.{specs.declared.txn.Txn.Txn, proofs.Stops.{leaves_here, leaves_quiet}}
+use Rattle.page_btree.specs.claim.Map.{InTxn as TxnHolds, InPages as PagesHold}
 use Rattle.desk_model.specs.claim.Desk.{Desk}
 use Rattle.store_rows.specs.claim.Rows.{KeyMap}
-use Rattle.desk_pages.specs.claim.Desks.{InPages, InTxn, OpensDesk}
-use Rattle.desk_pages.proofs.Kept.{opens_now}
-use Rattle.geo_tables.specs.Starting.{IsStarted}
-use Rattle.desk_pages.specs.Commits.{Leaves}
-use Rattle.geo_tables.specs.Refusals.{HasRoom}
+use Rattle.desk_pages.{specs.claim.Desks.{InPages, InTxn, OpensDesk}, specs.Commits.Leaves, proofs.Kept.opens_now}
+use Rattle.geo_tables.specs.{Starting.IsStarted, Refusals.HasRoom}
 
 -- a commit of what opens to the same desk
 pub one_leaves : (sectors : ℕ) (d : Desk) (old new : Disk) → LeavesOnly (λ x. OpensDesk sectors d x ⊎ OpensDesk sectors d x) old new → LeavesOnly (OpensDesk sectors d) old new
@@ -27,9 +17,7 @@ one_leaves sectors d old new left = leaves_wider (λ x. OpensDesk sectors d x �
 module _ {D : Type 0} {g : Ghosts D} where
   -- pages that were read at most hold the same
   pub quiet_rows : (a b : Pages D g) → IsQuiet a b → (disk_in b).is_honest → (m : KeyMap) → PagesHold a m → PagesHold b m
-  quiet_rows a b quiet honest m holds =
-      subst (λ (n : ℕ). Holds n (stored b) (root_in (stored b)) (free_in (stored b)) m) (sym quiet.count)
-      (subst (λ (P : Image). Holds (count_of a) P (root_in P) (free_in P) m) (sym (quiet.same honest)) holds)
+  quiet_rows a b quiet honest m holds = search (arith, quiet.count, quiet.same)
 
   pub quiet_desk : (a b : Pages D g) → IsQuiet a b → (disk_in b).is_honest → (d : Desk) → InPages a d → InPages b d
   quiet_desk a b quiet honest d holds = record { m = holds.m; holds = quiet_rows a b quiet honest holds.m holds.holds; is = holds.is }
@@ -43,9 +31,7 @@ module _ {D : Type 0} {g : Ghosts D} where
 
   -- a stop in calls that read at most leaves the desk
   pub quiet_leaves : (a b : Pages D g) → IsQuiet a b → (disk_in b).is_honest → has_halted a ≡ false → (sectors : ℕ) (d : Desk) → home (journal_of a) + count_of a ≡ sectors → InPages a d → LeavesOnly (OpensDesk sectors d) (disk_in a) (disk_in b)
-  quiet_leaves a b quiet honest working sectors d whole holds =
-      leaves_quiet a b quiet honest (OpensDesk sectors d) (disk_in a)
-      (leaves_here (OpensDesk sectors d) (disk_in a) (opens_now a working (quiet.honest honest) sectors d whole holds))
+  quiet_leaves a b quiet honest working sectors d whole holds = search (arith, leaves_quiet, leaves_here, opens_now, quiet.honest)
 
   pub whole_then : (a b : Pages D g) (sectors : ℕ) → IsQuiet a b → home (journal_of a) + count_of a ≡ sectors → home (journal_of b) + count_of b ≡ sectors
   whole_then a b sectors quiet whole = (λ i. home (quiet.journal i) + quiet.count i) ∙ whole
@@ -60,18 +46,11 @@ module _ {D : Type 0} {g : Ghosts D} where
 
   -- a fault after calls that passed
   pub failed_after : (a b c : Pages D g) → Passed a b → ((disk_in c).is_honest → (disk_in b).is_honest) → HasFailed b c → HasFailed a c
-  failed_after a b c ab bc failed = record {
-    worked = sym ab.halted ∙ failed.worked;
-    halted = failed.halted;
-    rose = λ honest. let rose = failed.rose honest in let same = ab.faults (bc honest) in omega arith;
-  }
+  failed_after a b c ab bc failed = search (arith, ab.halted, failed.worked, failed.halted, failed.rose, ab.faults, bc)
 
   -- the room that was tested
   pub room_of : (rows : ℕ) (a c : Pages D g) (t : Txn) → IsStarted rows a t → ((disk_in c).is_honest → (disk_in a).is_honest) → HasRoom rows a c
-  room_of rows a c t started honest_then = record {
-    journal = started.journal;
-    free = λ honest. let count = started.count (honest_then honest) in let free = started.free in omega arith;
-  }
+  room_of rows a c t started honest_then = search (arith, started.journal, started.count, honest_then, started.free)
 
   -- a transaction reads the rows as before after calls that read at most
   pub reads_then : (t : Txn) (a b : Pages D g) → IsQuiet a b → (disk_in b).is_honest → (m : KeyMap) → TxnHolds t (stored a) m → TxnHolds t (stored b) m
@@ -79,9 +58,7 @@ module _ {D : Type 0} {g : Ghosts D} where
 
   -- what pages hold after calls that read at most, they held before
   pub quiet_back : (a b : Pages D g) → IsQuiet a b → (disk_in b).is_honest → (m : KeyMap) → PagesHold b m → PagesHold a m
-  quiet_back a b quiet honest m holds =
-      subst (λ (n : ℕ). Holds n (stored a) (root_in (stored a)) (free_in (stored a)) m) quiet.count
-      (subst (λ (P : Image). Holds (count_of b) P (root_in P) (free_in P) m) (quiet.same honest) holds)
+  quiet_back a b quiet honest m holds = search (arith, quiet.count, quiet.same)
 
   -- a transaction that was begun, after calls that read at most, where there is room then
   pub started_then : (rows : ℕ) (t : Txn) (a b : Pages D g) → IsStarted 0 a t → Passed a b → 13 * rows ≤ txn_free t → 13 * rows ≤ journal_of b → IsStarted rows b t

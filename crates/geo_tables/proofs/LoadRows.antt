@@ -1,48 +1,28 @@
 -- What the rows of a load leave as it is.
-use Rattle.std.specs.Prelude.{◌≡◌, ◌<◌, ◌+◌, ◌^◌, ℕ, List, [], ◌∷◌, length, Option, MatchOption}
-use Rattle.std.proofs.Common.{zero, suc, refl, sym, ap, subst, ◌∙◌, inl, inr, arith}
-use Rattle.std.specs.FinMap.{FinMap, insert}
+use Rattle.std.specs.{Prelude.{◌≡◌, ◌<◌, ◌+◌, ◌^◌, ℕ, List, [], ◌∷◌, length, Option, MatchOption}, FinMap.{FinMap, insert}}
+use Rattle.std.proofs.Common.{zero, suc, sym, subst, ◌∙◌, inl, inr, arith}
 use Rattle.std.proofs.lemmas.Bool.{cases_lt}
-use Rattle.desk_model.specs.claim.Geography.{GeographyModel}
-use Rattle.desk_model.specs.claim.GeographyModels.{IsGeographyModel}
-use Rattle.desk_model.specs.claim.Desk.{Desk, Plan, name_cmp}
-use Rattle.store_rows.specs.claim.Keys.{key_of, begun, block, counters, in_eight, pair, seal}
-use Rattle.store_rows.specs.claim.Values.{counters_bytes}
-use Rattle.store_rows.specs.declared.value.Counters.{Counters}
-use Rattle.store_rows.specs.claim.Rows.{KeyMap, Has, Lacks}
-use Rattle.store_rows.specs.Rows.{SameTag}
-use Rattle.store_rows.specs.claim.Puts.{Row, put_rows}
-use Rattle.store_rows.proofs.Puts.{put_rows-append, told_keep}
-use Rattle.store_rows.specs.claim.GeographyRows.{IsSealed, IsStaged, geography_rows}
-use Rattle.store_rows.specs.claim.DeskRows.{IsDesk}
-use Rattle.store_rows.specs.Changes.{desk_with}
-use Rattle.store_rows.specs.claim.Tidy.{IsNext, no_numbers}
-use Rattle.store_rows.specs.Staging.{desk_without}
-use Rattle.store_rows.proofs.Staging.{load_sealed, none_staged, staged_unseen}
+use Rattle.desk_model.specs.{claim.Geography.GeographyModel, claim.GeographyModels.IsGeographyModel, claim.Desk.{Desk, Plan, name_cmp}}
+use Rattle.store_rows.specs.{claim.Keys.{key_of, begun, block, in_eight, pair, seal}, claim.Values.counters_bytes, declared.value.Counters.Counters}
+use Rattle.store_rows.specs.{claim.Rows.{KeyMap, Has, Lacks}, Rows.SameTag, claim.Puts.{Row, put_rows}, claim.GeographyRows.{IsSealed, IsStaged, geography_rows}}
+use Rattle.store_rows.specs.{claim.DeskRows.IsDesk, Changes.desk_with, claim.Tidy.{IsNext, no_numbers}, Staging.desk_without}
+use Rattle.store_rows.proofs.{Puts.{put_rows-append, told_keep}, Staging.{load_sealed, none_staged, staged_unseen}}
 use Rattle.store_rows.proofs.Frames.{desk_stays, put_is_there, put_keeps_tag, remove_keeps_tag, removed_is_gone, staged_stays, tag_follows}
-use Rattle.geo_tables.specs.Rows.{begun_rows, load_taken, seal_row, staged_row, staged_rows}
-use Rattle.geo_tables.proofs.Staging.{is_block, is_pair}
-use Rattle.geo_tables.specs.Loads.{sealed_rows}
+use Rattle.geo_tables.{specs.Rows.{begun_rows, load_taken, seal_row, staged_row, staged_rows}, specs.Loads.sealed_rows, proofs.Staging.{is_block, is_pair}}
 
 -- ---- a load that is begun
 module _ (m : KeyMap) (next : Counters) where
   begun_tag : (tag : ℕ) → (tag ≡ 76 → ⊥) → (tag ≡ 65 → ⊥) → SameTag tag m (put_rows m (begun_rows next))
-  begun_tag tag not_begun not_counters =
-      let first = insert m (key_of (begun next.load)) [] in
-      tag_follows tag m first (put_rows m (begun_rows next)) (put_keeps_tag m tag 76 (in_eight next.load) [] not_begun) (put_keeps_tag first tag 65 [] (counters_bytes (load_taken next)) not_counters)
+  begun_tag tag not_begun not_counters = search (arith, next.load, tag_follows, put_keeps_tag)
 
   pub begun_desk : (d : Desk) → IsDesk m d → IsDesk (put_rows m (begun_rows next)) d
   begun_desk d is = desk_stays m (put_rows m (begun_rows next)) d (begun_tag 80 (λ same. absurd (omega arith)) (λ same. absurd (omega arith))) (begun_tag 82 (λ same. absurd (omega arith)) (λ same. absurd (omega arith))) (begun_tag 83 (λ same. absurd (omega arith)) (λ same. absurd (omega arith))) (begun_tag 103 (λ same. absurd (omega arith)) (λ same. absurd (omega arith))) (begun_tag 107 (λ same. absurd (omega arith)) (λ same. absurd (omega arith))) is
 
   pub begun_mark : Has (put_rows m (begun_rows next)) (begun next.load) []
-  begun_mark =
-      let first = insert m (key_of (begun next.load)) [] in
-      put_keeps_tag first 76 65 [] (counters_bytes (load_taken next)) (λ same. absurd (omega arith)) (in_eight next.load) ∙ put_is_there m (key_of (begun next.load)) []
+  begun_mark = search (arith, next.load, put_keeps_tag, put_is_there)
 
   pub begun_next : IsNext (put_rows m (begun_rows next)) (load_taken next)
-  begun_next =
-      let first = insert m (key_of (begun next.load)) [] in
-      subst (λ (row : Option (List ℕ)). MatchOption row (load_taken next ≡ no_numbers) (λ value. value ≡ counters_bytes (load_taken next))) (sym (put_is_there first (key_of counters) (counters_bytes (load_taken next)))) refl
+  begun_next = search (arith, put_is_there)
 
   pub begun_unsealed : Lacks m seal → Lacks (put_rows m (begun_rows next)) seal
   begun_unsealed none = begun_tag 83 (λ same. absurd (omega arith)) (λ same. absurd (omega arith)) [] ∙ none
@@ -53,14 +33,8 @@ module _ (m : KeyMap) (next : Counters) where
       (λ place small. begun_tag 103 (λ same. absurd (omega arith)) (λ same. absurd (omega arith)) _ ∙ pairs place small)
 
 -- ---- a batch of its rows
-not_there : (tag : ℕ) (rest more : List ℕ) → (tag ≡ 103 → ⊥) → tag ∷ rest ≡ 103 ∷ more → ⊥
-not_there tag rest more apart same = apart (cc)
-
 not_staged : (load : ℕ) (g : GeographyModel) (place tag : ℕ) (rest : List ℕ) → (tag ≡ 103 → ⊥) → tag ∷ rest ≡ (staged_row load g place).0 → ⊥
-not_staged load g place tag rest apart same = elim (cases_lt place (length g.blocks)) [
-  | inl less ↦ not_there tag rest _ apart (same ∙ ap (λ (r : Row). r.0) (is_block load g place less))
-  | inr more ↦ not_there tag rest _ apart (same ∙ ap (λ (r : Row). r.0) (is_pair load g place more))
-]
+not_staged load g place tag rest apart same = search (arith, cases_lt, g.blocks, is_block, is_pair)
 
 pub batch_tag : (m : KeyMap) (load : ℕ) (g : GeographyModel) (done rows tag : ℕ) → (tag ≡ 103 → ⊥) → SameTag tag m (put_rows m (staged_rows load g done rows))
 batch_tag m load g done rows tag apart rest = told_keep m (λ k. staged_row load g (done + k)) rows (tag ∷ rest) (λ k less same. not_staged load g (done + k) tag rest apart same)
@@ -73,9 +47,7 @@ row_unseen m load g place plans is = elim (cases_lt place (length g.blocks)) [
 
 pub batch_unseen : (m : KeyMap) (load : ℕ) (g : GeographyModel) (done rows : ℕ) (plans : FinMap name_cmp Plan) → IsDesk m (desk_without plans) → IsDesk (put_rows m (staged_rows load g done rows)) (desk_without plans)
 batch_unseen m load g done zero plans is = is
-batch_unseen m load g done (suc rows) plans is =
-    subst (λ (n : KeyMap). IsDesk n (desk_without plans)) (sym (put_rows-append m (staged_rows load g done rows) (staged_row load g (done + rows) ∷ [])))
-    (row_unseen (put_rows m (staged_rows load g done rows)) load g (done + rows) plans (batch_unseen m load g done rows plans is))
+batch_unseen m load g done (suc rows) plans is = search (arith, put_rows-append, row_unseen, (batch_unseen m load g done rows plans is))
 
 pub batch_next : (m : KeyMap) (load : ℕ) (g : GeographyModel) (done rows : ℕ) (next : Counters) → IsNext m next → IsNext (put_rows m (staged_rows load g done rows)) next
 batch_next m load g done rows next is = subst (λ (row : Option (List ℕ)). MatchOption row (next ≡ no_numbers) (λ value. value ≡ counters_bytes next)) (sym (batch_tag m load g done rows 65 (λ same. absurd (omega arith)) [])) is

@@ -1,53 +1,24 @@
 -- What the rows of a load make of a map that is a desk's.
-use Rattle.std.proofs.Common.{◌≡◌, ◌<◌, ◌≤◌, ◌+◌, ◌-◌, ◌^◌, ℕ, List, [], length, Option, Some, None, refl, sym, ap, subst, ◌∙◌, inl, inr, arith}
+use Rattle.std.proofs.Common.{◌≡◌, ◌<◌, ◌≤◌, ◌+◌, ◌-◌, ◌^◌, ℕ, List, [], length, Some, None, sym, ap, subst, ◌∙◌, inl, inr, arith}
 use Rattle.std.proofs.lemmas.Bool.{cases_lt}
-use Rattle.desk_model.specs.claim.Geography.{GeographyModel}
-use Rattle.desk_model.specs.claim.GeographyModels.{IsGeographyModel}
-use Rattle.desk_model.specs.claim.Desk.{Desk}
-use Rattle.store_rows.specs.claim.Keys.{begun, seal}
-use Rattle.store_rows.specs.claim.Values.{seal_bytes}
-use Rattle.store_rows.specs.declared.value.Counters.{Counters}
-use Rattle.store_rows.specs.declared.value.SealRow.{SealRow}
-use Rattle.store_rows.specs.claim.Rows.{KeyMap, Has, Lacks}
-use Rattle.store_rows.specs.claim.Puts.{Row, put_rows}
-use Rattle.store_rows.specs.claim.GeographyRows.{IsGeography, IsStaged, geography_rows}
-use Rattle.store_rows.specs.claim.DeskRows.{IsDesk}
-use Rattle.store_rows.specs.Changes.{desk_with}
-use Rattle.store_rows.specs.Staging.{desk_without}
-use Rattle.store_rows.specs.Steps.{IsLoadKey}
-use Rattle.store_rows.specs.claim.Tidy.{IsNext, CountersFit, Tidy}
-use Rattle.store_rows.proofs.TidyFree.{one_next}
-use Rattle.store_rows.proofs.TidyLoads.{begun_tidy, begun_unstaged, sealed_tidy, staged_tidy}
-use Rattle.store_rows.proofs.PutAll.{told_all}
-use Rattle.geo_tables.specs.Rows.{begun_rows, staged_row, staged_rows}
-use Rattle.geo_tables.specs.Loads.{sealed_rows}
-use Rattle.geo_tables.proofs.LoadRows.{begun_desk, batch_tag, batch_unseen, sealed_desk}
+use Rattle.desk_model.specs.{claim.Geography.GeographyModel, claim.GeographyModels.IsGeographyModel, claim.Desk.Desk}
+use Rattle.store_rows.specs.{claim.Keys.{begun, seal}, declared.value.Counters.Counters, declared.value.SealRow.SealRow, claim.Rows.{KeyMap, Has, Lacks}}
+use Rattle.store_rows.specs.{claim.Puts.{Row, put_rows}, claim.GeographyRows.{IsStaged, geography_rows}, claim.DeskRows.IsDesk, Changes.desk_with, Staging.desk_without}
+use Rattle.store_rows.{specs.Steps.IsLoadKey, specs.claim.Tidy.{IsNext, CountersFit, Tidy}, proofs.TidyFree.one_next}
+use Rattle.store_rows.proofs.{TidyLoads.{begun_tidy, begun_unstaged, sealed_tidy, staged_tidy}, PutAll.told_all}
+use Rattle.geo_tables.{specs.Rows.{begun_rows, staged_row, staged_rows}, specs.Loads.sealed_rows, proofs.LoadRows.{begun_desk, batch_tag, batch_unseen, sealed_desk}}
 use Rattle.geo_tables.proofs.Staging.{is_block, is_pair}
 use Rattle.desk_pages.specs.claim.Desks.{IsDeskMap}
 
 -- ---- what a desk's map says of the seal
-sealed_or_not : (m : KeyMap) (o : Option GeographyModel) → IsGeography m o → Lacks m seal → o ≡ None
-sealed_or_not m None is none = refl
-sealed_or_not m (Some g) is none = let clash : ◌≡◌ {A = Option (List ℕ)} None (Some (seal_bytes (record { load = is.0; blocks = length g.blocks; pairs = length g.pairs }))) = sym none ∙ is.1.named in absurd (cc)
-
 pub no_geography : (m : KeyMap) (d : Desk) → IsDesk m d → Lacks m seal → d.geography ≡ None
-no_geography m d is none = sealed_or_not m d.geography is.geography none
-
-some_sealed : (m : KeyMap) (o : Option GeographyModel) (value : List ℕ) → IsGeography m o → Has m seal value → (g : GeographyModel) × (o ≡ Some g)
-some_sealed m None value is has = let clash : ◌≡◌ {A = Option (List ℕ)} None (Some value) = sym is ∙ has in absurd (cc)
-some_sealed m (Some g) value is has = (g, refl)
+no_geography m d is none = search (arith)
 
 pub has_geography : (m : KeyMap) (d : Desk) (value : List ℕ) → IsDesk m d → Has m seal value → (g : GeographyModel) × (d.geography ≡ Some g)
-has_geography m d value is has = some_sealed m d.geography value is.geography has
+has_geography m d value is has = search (arith)
 
 pub without : (d : Desk) → d.geography ≡ None → d ≡ desk_without d.plans
 without d none = λ i. record { geography = none i; plans = d.plans }
-
--- a desk without a geography, whose rows change unseen
-unseen : (m n : KeyMap) (d : Desk) → IsDesk m d → Lacks m seal → (IsDesk m (desk_without d.plans) → IsDesk n (desk_without d.plans)) → IsDesk n d
-unseen m n d is none go =
-    let same = without d (no_geography m d is none) in
-    subst (λ (e : Desk). IsDesk n e) (sym same) (go (subst (λ (e : Desk). IsDesk m e) same is))
 
 -- ---- a load is begun
 pub begun_is : (m : KeyMap) (d : Desk) (next : Counters) → IsDeskMap m d → IsNext m next → CountersFit next → next.load + 1 < 2 ^ 64 → IsDeskMap (put_rows m (begun_rows next)) d
@@ -80,7 +51,7 @@ module _ (m : KeyMap) (d : Desk) (load : ℕ) (g : GeographyModel) (done rows : 
       let after = staged_tidy m is.tidy load (staged_rows load g done rows) load_fits (inr mark)
       (told_all (λ row. IsLoadKey load row.0) (λ k. staged_row load g (done + k)) rows (λ k less. load_key load g (done + k) blocks_few pairs_few (omega arith))) in
       record {
-        desk = unseen m (put_rows m (staged_rows load g done rows)) d is.desk unsealed (batch_unseen m load g done rows d.plans);
+        desk = search (arith, without, no_geography, (batch_unseen m load g done rows d.plans));
         tidy = after.0;
         version = after.2 ∙ is.version;
         limits = is.limits;

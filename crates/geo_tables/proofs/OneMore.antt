@@ -1,23 +1,15 @@
 -- One element more of those that a load's rows hold.
-use Rattle.std.proofs.Common.{◌≡◌, ◌<◌, ◌≤◌, ◌+◌, ℕ, zero, suc, List, [], ◌∷◌, ◌++◌, length, length-append, take, Some, refl, sym, ap, subst, ◌∙◌, inl, inr, arith}
-use Rattle.std.specs.Prelude.{option_map, Result, Ok, Err, MatchResult}
-use Rattle.std.specs.FinMap.{get as row_at}
-use Rattle.std.specs.List.{slice_get}
+use Rattle.std.specs.{Prelude.{option_map, Result, Ok, Err, MatchResult}, FinMap.get as row_at, List.slice_get}
+use Rattle.std.proofs.Common.{◌≡◌, ◌<◌, ◌+◌, ℕ, zero, suc, List, [], ◌∷◌, ◌++◌, length, length-append, take, Some, refl, sym, ap, subst, ◌∙◌, arith}
 use Rattle.std.proofs.lemmas.Bool.{cases_lt}
 use Rattle.std.proofs.lemmas.List.{take_all, take_more}
-use Rattle.std.proofs.lemmas.List.Elements.{All-nil, All-push}
+use Rattle.std.proofs.lemmas.List.Elements.{All-push}
 use Rattle.std.proofs.lemmas.Option.{get_or_from_slice_get}
 use Rattle.sector_device.specs.declared.SectorDevice.{Ghosts}
-use Rattle.page_store.specs.claim.Transactions.{stored, disk_in, Passed}
-use Rattle.page_store.specs.declared.pages.Pages.{Pages}
-use Rattle.page_store.specs.declared.txn.Txn.{Txn}
-use Rattle.page_btree.specs.claim.Map.{InTxn}
-use Rattle.page_btree.specs.declared.error.TreeError.{TreeError}
-use Rattle.page_btree.specs.declared.error.TreeError.TheVariants.{DeviceFault, NotAStore, Halted, NoPages, TooDeep, Memory}
+use Rattle.page_store.specs.{claim.Transactions.{stored, disk_in, Passed}, declared.pages.Pages.Pages, declared.txn.Txn.Txn}
+use Rattle.page_btree.specs.{claim.Map.InTxn, declared.error.TreeError.TreeError, declared.error.TreeError.TheVariants.{DeviceFault, NotAStore, Halted, NoPages, TooDeep, Memory}}
 use Rattle.store_rows.specs.claim.Rows.{KeyMap}
-use Rattle.desk_pages.proofs.Looking.{looked, not_looked}
-use Rattle.desk_pages.proofs.Reading.{one_value}
-use Rattle.desk_pages.specs.Looking.{Gathers, IsOnly, Says}
+use Rattle.desk_pages.{specs.Looking.{Gathers, IsOnly, Says}, proofs.Looking.{looked, not_looked}, proofs.Reading.one_value}
 use Rattle.geo_tables.specs.Elements.{AddsOne, HoldsElement, HoldsElements, IsIn, ValueErr}
 
 there : {X : Type 0} (xs : List X) (place : ℕ) → place < length xs → (x : X) × (slice_get xs place ≡ Some x)
@@ -53,26 +45,13 @@ in_prefix [] ys place less = absurd (omega arith)
 in_prefix (x ∷ xs) ys zero less = refl
 in_prefix (x ∷ xs) ys (suc place) less = in_prefix xs ys place (omega arith)
 
-none_held : {X : Type 0} (bytes_of : X → List ℕ) (fits : X → Type 0) (key_at : ℕ → List ℕ) (m : KeyMap) (xs : List X) → xs ≡ [] → HoldsElements bytes_of fits key_at 0 m xs
-none_held bytes_of fits key_at m xs none = subst (λ l. HoldsElements bytes_of fits key_at 0 m l) (sym none) (record {
-  long = refl;
-  fit = All-nil fits;
-  rows = λ place less. absurd (omega arith);
-})
-
 module _ {X : Type 0} (bytes_of : X → List ℕ) (fits : X → Type 0) (key_at : ℕ → List ℕ) (m : KeyMap) (count : ℕ) (before after : List X)
     (held : HoldsElements bytes_of fits key_at count m before) (adds : AddsOne (HoldsElement bytes_of fits (key_at count) m) before after) where
   abbrev both : List X
   both = before ++ adds.x ∷ []
 
   row_so : (place : ℕ) → place < count + 1 → row_at m (key_at place) ≡ option_map bytes_of (slice_get both place)
-  row_so place less = elim (cases_lt place count) [
-    | inl earlier ↦ let long = held.long in held.rows place earlier ∙ ap (option_map bytes_of) (sym (in_prefix before (adds.x ∷ []) place (omega arith)))
-    | inr not ↦
-        let here : length before ≡ place = let long = held.long in omega arith in
-        let there : count ≡ place = omega arith in
-        ap (λ p. row_at m (key_at p)) (sym there) ∙ adds.one.said.row ∙ ap (option_map bytes_of) (sym (ap (λ p. slice_get both p) (sym here) ∙ at_end before adds.x))
-  ]
+  row_so place less = search (arith, cases_lt, held.long, held.rows, in_prefix, adds.x, key_at, adds.one.said.row, at_end)
 
   one_more_held : HoldsElements bytes_of fits key_at (count + 1) m after
   one_more_held = subst (λ l. HoldsElements bytes_of fits key_at (count + 1) m l) (sym adds.added) (record {
@@ -88,7 +67,7 @@ pub record HoldsFirst {X : Type 0} (bytes_of : X → List ℕ) (fits : X → Typ
 
 module _ {X : Type 0} (bytes_of : X → List ℕ) (fits : X → Type 0) (key_at : ℕ → List ℕ) (count : ℕ) (m : KeyMap) where
   pub none_first : (xs : List X) → xs ≡ [] → HoldsFirst bytes_of fits key_at count 0 m xs
-  none_first xs none = record { held = none_held bytes_of fits key_at m xs none; first = λ ys held. none }
+  none_first xs none = record { held = (search arith); first = λ ys held. none }
 
   pub one_more_first : (place : ℕ) (before after : List X) → place < count → HoldsFirst bytes_of fits key_at count place m before
       → AddsOne (HoldsElement bytes_of fits (key_at place) m) before after → HoldsFirst bytes_of fits key_at count (place + 1) m after
@@ -100,28 +79,15 @@ module _ {X : Type 0} (bytes_of : X → List ℕ) (fits : X → Type 0) (key_at 
   }
 
   pub all_first : (place : ℕ) (xs : List X) → place ≡ count → HoldsFirst bytes_of fits key_at count place m xs → IsOnly (HoldsElements bytes_of fits key_at count m) xs
-  all_first place xs same so = record {
-    said = subst (λ (n : ℕ). HoldsElements bytes_of fits key_at n m xs) same so.held;
-    only = λ ys held. let long = held.long in let whole : length ys ≤ place = omega arith in so.first ys held ∙ take_all place ys whole;
-  }
+  all_first place xs same so = search (arith, so.held, so.first, take_all)
 
 -- ---- a row's value holds its element
 module _ {X : Type 0} (bytes_of : X → List ℕ) (fits : X → Type 0) (key bytes : List ℕ) (before after : List X) where
-  value_held : (m : KeyMap) → row_at m key ≡ Some bytes → AddsOne (IsIn bytes_of fits bytes) before after → AddsOne (HoldsElement bytes_of fits key m) before after
-  value_held m row adds = record {
-    x = adds.x;
-    one = record {
-      said = record { fit = adds.one.said.0; row = row ∙ ap Some (sym adds.one.said.1) };
-      only = λ y held. adds.one.only y (held.fit, one_value key (bytes_of y) bytes m held.row row);
-    };
-    added = adds.added;
-  }
-
   module _ {D : Type 0} {g : Ghosts D} {t : Txn} {a b : Pages D g} where
     pub value_gathered : (r : Result (Unit {0}) TreeError) → Passed a b → ((disk_in b).is_honest → (m : KeyMap) → InTxn t (stored a) m → row_at m key ≡ Some bytes)
         → MatchResult r (λ u. AddsOne (IsIn bytes_of fits bytes) before after) (ValueErr (IsIn bytes_of fits bytes))
         → Gathers (λ m u. AddsOne (HoldsElement bytes_of fits key m) before after) (Says (HoldsElement bytes_of fits key)) t a b r
-    value_gathered (Ok x) passed row adds = looked passed (λ honest m holds. value_held m (row honest m holds) adds)
+    value_gathered (Ok x) passed row adds = looked passed (λ honest m holds. search (arith, adds.x, adds.one.said.0, adds.one.said.1, adds.one.only, one_value, bytes_of, adds.added))
     value_gathered (Err DeviceFault) passed row why = absurd why
     value_gathered (Err NotAStore) passed row why = not_looked passed.quiet (λ honest m holds is. why is.0 (is.1.fit, one_value key (bytes_of is.0) bytes m is.1.row (row honest m holds)))
     value_gathered (Err Halted) passed row why = absurd why

@@ -1,48 +1,24 @@
 -- Why a step of a load is refused, from why its parts are.
-use Rattle.std.proofs.Common.{◌≡◌, ◌+◌, ◌*◌, ◌≤◌, ◌<◌, ◌^◌, ℕ, Bool, List, ◌∷◌, [], Option, Some, None, length, false, true, refl, sym, subst, ◌∙◌, inl, inr, arith}
 use Rattle.std.specs.FinMap.{get as row_at}
+use Rattle.std.proofs.Common.{◌≡◌, ◌+◌, ◌*◌, ◌≤◌, ◌<◌, ◌^◌, ℕ, Bool, List, ◌∷◌, [], Option, Some, None, length, false, true, refl, sym, subst, ◌∙◌, inl, inr, arith}
 use Rattle.std.proofs.lemmas.Bool.{cases_lt}
-use Rattle.sector_device.specs.claim.Disk.{Image}
-use Rattle.sector_device.specs.declared.SectorDevice.{Ghosts}
-use Rattle.page_store.specs.claim.Transactions.{stored, disk_in, journal_of, has_halted, txn_free, txn_root, over, IsQuiet, Passed}
-use Rattle.page_store.specs.claim.Chain.{free_in}
-use Rattle.page_store.proofs.Stops.{quiet_more, quiet_none}
-use Rattle.page_store.specs.declared.pages.Pages.{Pages}
-use Rattle.page_store.specs.declared.txn.Txn.{Txn}
-use Rattle.page_btree.specs.claim.Errors.{level_in}
-use Rattle.page_btree.specs.claim.Map.{InTxn as TxnHolds, InPages as HoldsRows}
-use Rattle.page_btree.specs.declared.error.TreeError.{TreeError}
+use Rattle.sector_device.specs.{claim.Disk.Image, declared.SectorDevice.Ghosts}
+use Rattle.page_store.specs.{claim.Transactions.{stored, disk_in, journal_of, has_halted, txn_free, txn_root, over, IsQuiet, Passed}, declared.pages.Pages.Pages}
+use Rattle.page_store.{specs.declared.txn.Txn.Txn, proofs.Stops.{quiet_more, quiet_none}}
+use Rattle.page_btree.specs.{claim.Errors.level_in, claim.Map.{InTxn as TxnHolds, InPages as HoldsRows}, declared.error.TreeError.TreeError}
 use Rattle.page_btree.specs.declared.error.TreeError.TheVariants as tree
-use Rattle.desk_model.specs.claim.Geography.{GeographyModel}
-use Rattle.desk_model.specs.claim.Desk.{Desk}
-use Rattle.store_rows.specs.claim.Keys.{key_of, seal}
-use Rattle.store_rows.specs.claim.Values.{seal_bytes}
-use Rattle.store_rows.specs.declared.value.SealRow.{SealRow}
-use Rattle.store_rows.specs.claim.Rows.{KeyMap, Lacks}
-use Rattle.store_rows.specs.claim.Puts.{Row, put_rows}
-use Rattle.store_rows.proofs.Puts.{length-rows_told}
-use Rattle.store_rows.specs.claim.GeographyRows.{IsGeography}
-use Rattle.desk_pages.specs.claim.Puts.{PutsErr}
-use Rattle.desk_pages.specs.Reading.{HasNext, ReadErr, StandsAs}
-use Rattle.geo_tables.specs.Rows.{begun_rows, staged_row, staged_rows, seal_row}
-use Rattle.geo_tables.specs.Loads.{AreExhausted, IsNotBegun, BeginErr}
-use Rattle.desk_pages.specs.claim.Desks.{IsDeskMap, InPages}
-use Rattle.desk_pages.specs.declared.error.StoreError.{StoreError}
-use Rattle.desk_pages.specs.declared.error.StoreError.TheVariants.{AlreadySealed, Full, Memory, NotAStore, DeviceFault, Halted}
-use Rattle.geo_tables.specs.declared.load.Load.{Load}
-use Rattle.desk_pages.specs.Errors.{tree_refusal}
+use Rattle.desk_model.specs.{claim.Geography.GeographyModel, claim.Desk.Desk}
+use Rattle.store_rows.specs.{claim.Keys.{key_of, seal}, claim.Values.seal_bytes, declared.value.SealRow.SealRow, claim.Rows.{KeyMap, Lacks}, claim.Puts.{Row, put_rows}}
+use Rattle.store_rows.{specs.claim.GeographyRows.IsGeography, proofs.Puts.length-rows_told}
+use Rattle.desk_pages.specs.{claim.Puts.PutsErr, Reading.{HasNext, ReadErr, StandsAs}, claim.Desks.{IsDeskMap, InPages}, declared.error.StoreError.StoreError}
+use Rattle.desk_pages.specs.{declared.error.StoreError.TheVariants.{Full, Memory, NotAStore, DeviceFault, Halted}, Errors.tree_refusal, Commits.FittingErr}
+use Rattle.geo_tables.specs.{Rows.{begun_rows, staged_rows, seal_row}, Loads.{AreExhausted, IsNotBegun, BeginErr}, declared.load.Load.Load}
 use Rattle.geo_tables.specs.Loading.{number_of, geography_model_of, done_of}
-use Rattle.geo_tables.specs.Refusals.{HasRoom, IsShort, IsDeep, AreBegun, NextErr, SealedErr, BatchErr, SealErr, BeginErr as Begins}
-use Rattle.geo_tables.specs.Starting.{IsStarted, StartErr}
-use Rattle.desk_pages.specs.Commits.{FittingErr}
-use Rattle.geo_tables.proofs.Joins.{failed_after, room_of, quiet_rows, quiet_desk}
-use Rattle.geo_tables.proofs.Maps.{has_geography, no_geography}
-
-clash : {X : Type 0} → true ≡ false → X
-clash is = absurd (cc)
+use Rattle.geo_tables.specs.{Refusals.{HasRoom, IsShort, IsDeep, AreBegun, NextErr, SealedErr, BatchErr, SealErr, BeginErr as Begins}, Starting.{IsStarted, StartErr}}
+use Rattle.geo_tables.proofs.{Joins.{failed_after, room_of, quiet_rows, quiet_desk}, Maps.{has_geography, no_geography}}
 
 pub both : {X : Type 0} (b : Bool) → b ≡ true → b ≡ false → X
-both b one other = clash (sym one ∙ other)
+both b one other = absurd (cc)
 
 desk_seal : (m : KeyMap) (o : Option GeographyModel) → IsGeography m o → (sealed : Option SealRow) × StandsAs seal_bytes (key_of seal) m sealed
 desk_seal m None is = (None, sym is)
@@ -53,23 +29,16 @@ module _ {D : Type 0} {g : Ghosts D} where
   -- a batch
   -- no transaction was begun
   pub batch_unstarted : (load : Load) (rows : ℕ) (a : Pages D g) (e : StoreError) → StartErr (rows + 1) a e → BatchErr load rows a a e
-  batch_unstarted load rows a Full why = (quiet_none a, inl why.1)
-  batch_unstarted load rows a Halted why = (why, refl)
-  batch_unstarted load rows a _ why = absurd why
+  batch_unstarted load rows a e why = search (arith, quiet_none)
 
   pub seal_unstarted : (load : Load) (a : Pages D g) (e : StoreError) → StartErr 2 a e → SealErr load a a e
-  seal_unstarted load a Full why = (quiet_none a, inl why.1)
-  seal_unstarted load a Halted why = (why, refl)
-  seal_unstarted load a _ why = absurd why
+  seal_unstarted load a e why = search (arith, quiet_none)
 
   pub batch_refused : (load : Load) (rows : ℕ) (t : Txn) (a b : Pages D g) → IsStarted (rows + 1) a t → IsQuiet a b → (e : TreeError) → PutsErr (staged_rows (number_of load) (geography_model_of load) (done_of load) rows) t a b e → BatchErr load rows a b (tree_refusal e)
   batch_refused load rows t a b started quiet tree.DeviceFault why = (room_of (rows + 1) a b t started quiet.honest, why)
   batch_refused load rows t a b started quiet tree.NotAStore why = (quiet, λ honest d holds. why honest holds.m (started.reads (quiet.honest honest) holds.m holds.holds))
   batch_refused load rows t a b started quiet tree.Halted why = both (has_halted a) why started.working
-  batch_refused load rows t a b started quiet tree.NoPages why =
-      let count : length (staged_rows (number_of load) (geography_model_of load) (done_of load) rows) ≡ rows = length-rows_told (λ k. staged_row (number_of load) (geography_model_of load) (done_of load + k)) rows in
-      let free = started.free in
-      absurd (omega arith)
+  batch_refused load rows t a b started quiet tree.NoPages why = search (arith, length-rows_told, started.free)
   batch_refused load rows t a b started quiet tree.TooDeep why = (
     quiet,
     inr (λ honest m holds. (staged_rows (number_of load) (geography_model_of load) (done_of load) rows, refl, (t, why honest m (started.reads (quiet.honest honest) m holds)))),
@@ -103,9 +72,7 @@ module _ {D : Type 0} {g : Ghosts D} where
   next_unread t a b has started quiet is_there tree.DeviceFault why = why
   next_unread t a b has started quiet is_there tree.NotAStore why = (quiet, λ honest d holds. why honest holds.m (started.reads (quiet.honest honest) holds.m holds.holds) (is_there holds.m d holds.is))
   next_unread t a b has started quiet is_there tree.Halted why = both (has_halted a) why started.working
-  next_unread t a b has started quiet is_there tree.NoPages why = absurd why
-  next_unread t a b has started quiet is_there tree.TooDeep why = absurd why
-  next_unread t a b has started quiet is_there tree.Memory why = absurd why
+  next_unread t a b has started quiet is_there _ why = absurd why
 
   next_unput : (t : Txn) (a b : Pages D g) → IsStarted 2 a t → IsQuiet a b → (e : TreeError) → IsNotBegun t a b e → NextErr a b (tree_refusal e)
   next_unput t a b started quiet tree.DeviceFault not = not.why
@@ -137,10 +104,9 @@ module _ {D : Type 0} {g : Ghosts D} where
   deep_after are a b c quiet honest_then deep = λ honest m holds.
       let then = honest_then honest in
       let found = deep honest m (quiet_rows a b quiet then m holds) in
-      let rows = found.0 in
       let at = found.2.0 in
       let is = found.2.1 in (
-        rows,
+        found.0,
         found.1,
         (
           at,
@@ -155,35 +121,22 @@ module _ {D : Type 0} {g : Ghosts D} where
         ),
       )
 
-  short_after : (rows : ℕ) (a b c : Pages D g) → IsQuiet a b → ((disk_in c).is_honest → (disk_in b).is_honest) → IsShort rows b c → IsShort rows a c
-  short_after rows a b c quiet honest_then short = elim short [
-    | inl less ↦ inl (let same = quiet.journal in omega arith)
-    | inr few ↦ inr (λ honest. subst (λ (P : Image). length (free_in P) < 13 * rows) (quiet.same (honest_then honest)) (few honest))
-  ]
-
   pub room_after : (rows : ℕ) (a b c : Pages D g) → IsQuiet a b → ((disk_in c).is_honest → (disk_in b).is_honest) → HasRoom rows b c → HasRoom rows a c
-  room_after rows a b c quiet honest_then room = record {
-    journal = let more = room.journal in let same = quiet.journal in omega arith;
-    free = λ honest. subst (λ (P : Image). 13 * rows ≤ length (free_in P)) (quiet.same (honest_then honest)) (room.free honest);
-  }
+  room_after rows a b c quiet honest_then room = search (arith, room.journal, quiet.journal, quiet.same, honest_then, room.free)
 
   pub begin_after : (area : GeographyModel) (a b c : Pages D g) → Passed a b → has_halted a ≡ false → ((disk_in c).is_honest → (disk_in b).is_honest) → ((disk_in b).is_honest → (d : Desk) → InPages b d → d.geography ≡ None) → (e : StoreError) → NextErr b c e → Begins area a c e
   begin_after area a b c passed working honest_then unsealed Full why = (
     quiet_more a b c passed.quiet why.0,
     (λ honest d holds. let then = honest_then honest in unsealed then d (quiet_desk a b passed.quiet then d holds)),
     elim why.1 [
-      | inl short ↦ inl (short_after 2 a b c passed.quiet honest_then short)
+      | inl short ↦ inl (search (arith, passed.quiet.journal, passed.quiet.same, honest_then))
       | inr more ↦ elim more [
         | inl exhausted ↦ inr (inl (λ honest m holds. exhausted honest m (quiet_rows a b passed.quiet (honest_then honest) m holds)))
         | inr deep ↦ inr (inr (inl (deep_after AreBegun a b c passed.quiet honest_then deep)))
       ]
     ],
   )
-  begin_after area a b c passed working honest_then unsealed Memory why = (
-    quiet_more a b c passed.quiet why.0,
-    (λ honest d holds. let then = honest_then honest in unsealed then d (quiet_desk a b passed.quiet then d holds)),
-    room_after 2 a b c passed.quiet honest_then why.1,
-  )
+  begin_after area a b c passed working honest_then unsealed Memory why = search (arith, quiet_more, passed.quiet, why.0, honest_then, quiet_desk, room_after, why.1)
   begin_after area a b c passed working honest_then unsealed DeviceFault why = failed_after a b c passed honest_then why
   begin_after area a b c passed working honest_then unsealed NotAStore why = (quiet_more a b c passed.quiet why.0, λ honest d holds. why.1 honest d (quiet_desk a b passed.quiet (honest_then honest) d holds))
   begin_after area a b c passed working honest_then unsealed Halted why = both (has_halted a) (sym passed.halted ∙ why.0) working
@@ -191,13 +144,7 @@ module _ {D : Type 0} {g : Ghosts D} where
 
   -- ---- where there is no room for the rows that begin a load, or its pairs can't be numbered
   short_begun : (rows : ℕ) (t : Txn) (a b : Pages D g) → IsStarted 0 a t → IsQuiet a b → ((13 * rows ≤ txn_free t) × (13 * rows ≤ journal_of b) → ⊥) → IsShort rows a b
-  short_begun rows t a b started quiet none = elim (cases_lt (journal_of b) (13 * rows)) [
-    | inl less ↦ inl (let same = quiet.journal in omega arith)
-    | inr more ↦ inr (λ honest. elim (cases_lt (txn_free t) (13 * rows)) [
-      | inl few ↦ (let count = started.count (quiet.honest honest) in omega arith)
-      | inr enough ↦ absurd (none (enough, more))
-    ])
-  ]
+  short_begun rows t a b started quiet none = search (arith, cases_lt, quiet.journal, started.count, quiet.honest, none)
 
   pub begin_full : (area : GeographyModel) (t : Txn) (a b : Pages D g) → IsStarted 0 a t → IsQuiet a b → ((disk_in b).is_honest → (d : Desk) → InPages a d → d.geography ≡ None) → ((length area.pairs < 2 ^ 32) × ((13 * 2 ≤ txn_free t) × (13 * 2 ≤ journal_of b)) → ⊥) → Begins area a b Full
   begin_full area t a b started quiet unsealed none = (
@@ -219,9 +166,7 @@ module _ {D : Type 0} {g : Ghosts D} where
         (subst (λ (k : List ℕ). (value : Option SealRow) × StandsAs seal_bytes k holds.m value) (sym is) (desk_seal holds.m d.geography holds.is.desk.geography)),
   )
   seal_unread t a b key working quiet reads is tree.Halted why = both (has_halted a) why working
-  seal_unread t a b key working quiet reads is tree.NoPages why = absurd why
-  seal_unread t a b key working quiet reads is tree.TooDeep why = absurd why
-  seal_unread t a b key working quiet reads is tree.Memory why = absurd why
+  seal_unread t a b key working quiet reads is _ why = absurd why
 
   pub seal_seen : (t : Txn) (a b : Pages D g) (key : List ℕ) (row : SealRow) → ((disk_in b).is_honest → (m : KeyMap) → HoldsRows a m → TxnHolds t (stored a) m) → key ≡ key_of seal
       → ((disk_in b).is_honest → (m : KeyMap) → TxnHolds t (stored a) m → StandsAs seal_bytes key m (Some row)) → (disk_in b).is_honest → (d : Desk) → InPages a d → (sealed : GeographyModel) × (d.geography ≡ Some sealed)
@@ -232,8 +177,4 @@ module _ {D : Type 0} {g : Ghosts D} where
   desk_unsealed b c honest_then lacks honest d holds = no_geography holds.m d holds.is.desk (lacks (honest_then honest) holds.m holds.holds)
 
   pub sealed_refused : (area : GeographyModel) (a b : Pages D g) (e : StoreError) → SealedErr a b e → Begins area a b e
-  sealed_refused area a b AlreadySealed why = why
-  sealed_refused area a b NotAStore why = why
-  sealed_refused area a b DeviceFault why = why
-  sealed_refused area a b Halted why = why
-  sealed_refused area a b _ why = absurd why
+  sealed_refused area a b e why = search (arith)

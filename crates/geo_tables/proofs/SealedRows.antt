@@ -1,24 +1,12 @@
 -- The seal tells the rows of its geography.
-use Rattle.std.proofs.Common.{◌≡◌, ◌-◌, ℕ, List, length, take, drop, All, Option, Some, None, refl, sym, ap, subst, ◌∙◌, w32, w64, arith}
-use Rattle.std.specs.Int.{from_be_bytes}
+use Rattle.std.{specs.Int.from_be_bytes, proofs.Common.{◌≡◌, ◌-◌, ℕ, List, length, take, drop, All, Option, Some, None, refl, sym, ap, subst, ◌∙◌, w32, w64, arith}}
 use Rattle.std.proofs.lemmas.List.{take_all}
 use Rattle.std.proofs.lemmas.Nat.{from_be_bytes-to_be_bytes_4, from_be_bytes-to_be_bytes_8}
-use Rattle.desk_model.specs.declared.block.BlockRow.{BlockRow}
-use Rattle.desk_model.specs.declared.geography.Pair.{Pair}
-use Rattle.desk_model.specs.claim.Geography.{GeographyModel}
-use Rattle.store_rows.specs.claim.Keys.{key_of, seal}
-use Rattle.store_rows.specs.claim.Values.{block_bytes, seal_bytes}
-use Rattle.store_rows.specs.declared.value.SealRow.{SealRow}
-use Rattle.store_rows.specs.claim.Rows.{KeyMap, Lacks, element_row}
-use Rattle.store_rows.specs.claim.GeographyRows.{IsBlockRow, IsSealed, IsGeography, geography_rows, neighbours_bytes}
+use Rattle.desk_model.specs.{declared.block.BlockRow.BlockRow, declared.geography.Pair.Pair, claim.Geography.GeographyModel}
+use Rattle.store_rows.specs.{claim.Keys.{key_of, seal}, claim.Values.{block_bytes, seal_bytes}, declared.value.SealRow.SealRow, claim.Rows.{KeyMap, Lacks, element_row}}
+use Rattle.store_rows.{specs.claim.GeographyRows.{IsBlockRow, IsSealed, IsGeography, geography_rows, neighbours_bytes}, proofs.OneGeography.no_value}
 use Rattle.desk_pages.specs.Reading.{StandsAs}
 use Rattle.geo_tables.specs.Elements.{IsSealedAs, IsSealRow}
-
-value_is : (a b : List ℕ) → ◌≡◌ {A = Option (List ℕ)} (Some a) (Some b) → a ≡ b
-value_is a b same = cc
-
-no_value : (a : List ℕ) → ◌≡◌ {A = Option (List ℕ)} (Some a) None → ⊥
-no_value a clash = cc
 
 -- the seal's row of a geography
 seal_of : ℕ → GeographyModel → SealRow
@@ -47,8 +35,6 @@ module _ (m : KeyMap) (load : ℕ) (g : GeographyModel) (is : IsSealed m load g)
   as_told : IsSealedAs (seal_of load g) m g
   unfolding seal_of
   as_told =
-      let few = is.sound.blocks.few in
-      let pairs_few = is.pairs_fit in
       record {
         sound = is.sound;
         blocks = record {
@@ -65,24 +51,16 @@ module _ (m : KeyMap) (load : ℕ) (g : GeographyModel) (is : IsSealed m load g)
 
   pub sealed_as : (sealed : SealRow) → IsSealRow sealed → StandsAs seal_bytes (key_of seal) m (Some sealed) → IsSealedAs sealed m g
   unfolding seal_of
-  sealed_as sealed small stands =
-      let same = value_is (seal_bytes sealed) (seal_bytes (seal_of load g)) (stands ∙ is.named) in
-      let one_load = same_load sealed (seal_of load g) small fits same in
-      let one_count = same_blocks sealed (seal_of load g) small fits same in
-      let other_count = same_pairs sealed (seal_of load g) small fits same in
-      let one : sealed ≡ seal_of load g = λ i. record { load = one_load i; blocks = one_count i; pairs = other_count i } in
-      subst (λ (s : SealRow). IsSealedAs s m g) (sym one) as_told
+  sealed_as sealed small stands = search (arith, seal_of, is.named, same_load, same_blocks, same_pairs, as_told)
 
 -- where a seal stands, it is that of the geography
 pub told_by_seal : (m : KeyMap) (found : Option GeographyModel) (sealed : SealRow) → IsSealRow sealed → StandsAs seal_bytes (key_of seal) m (Some sealed) → IsGeography m found → (g : GeographyModel) × (found ≡ Some g) × IsSealedAs sealed m g
-told_by_seal m None sealed small stands is = absurd (no_value (seal_bytes sealed) (stands ∙ is))
-told_by_seal m (Some g) sealed small stands is = (g, refl, sealed_as m is.0 g is.1 sealed small stands)
+told_by_seal m found sealed small stands is = search (arith, no_value, sealed_as)
 
 -- where none stands, there is no geography
 pub none_by_seal : (m : KeyMap) (found : Option GeographyModel) → Lacks m seal → IsGeography m found → None ≡ found
 unfolding seal_of
-none_by_seal m None lacks is = refl
-none_by_seal m (Some g) lacks is = absurd (no_value (seal_bytes (seal_of is.0 g)) (sym is.1.named ∙ lacks))
+none_by_seal m found lacks is = search (arith, no_value, seal_of)
 
 -- either way the seal's row can be read
 pub seal_stands : (m : KeyMap) (found : Option GeographyModel) → IsGeography m found → (sealed : Option SealRow) × StandsAs seal_bytes (key_of seal) m sealed

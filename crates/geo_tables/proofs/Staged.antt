@@ -1,32 +1,15 @@
 -- Rows of a load that are put and committed.
 use Rattle.std.proofs.Common.{◌≡◌, ◌+◌, ◌≤◌, ◌<◌, ◌^◌, ℕ, List, [], length, sym, subst, ◌∙◌, arith}
 use Rattle.sector_device.specs.declared.SectorDevice.{Ghosts}
-use Rattle.page_store.specs.claim.Transactions.{stored, disk_in, journal_of, txn_writes}
-use Rattle.page_store.specs.declared.pages.Pages.{Pages}
-use Rattle.page_store.specs.declared.txn.Txn.{Txn}
+use Rattle.page_store.specs.{claim.Transactions.{stored, disk_in, journal_of, txn_writes}, declared.pages.Pages.Pages, declared.txn.Txn.Txn}
 use Rattle.page_btree.specs.claim.Map.{InTxn as TxnHolds, InPages as PagesHold}
-use Rattle.desk_model.specs.claim.Geography.{GeographyModel}
-use Rattle.desk_model.specs.claim.GeographyModels.{IsGeographyModel}
-use Rattle.desk_model.specs.claim.Desk.{Desk}
-use Rattle.store_rows.specs.claim.Keys.{begun, seal}
-use Rattle.store_rows.specs.declared.value.Counters.{Counters}
-use Rattle.store_rows.specs.claim.Rows.{KeyMap, Has, Lacks}
-use Rattle.store_rows.specs.claim.Puts.{Row, put_rows}
-use Rattle.store_rows.proofs.Puts.{length-rows_told}
-use Rattle.store_rows.specs.Changes.{desk_with}
-use Rattle.store_rows.specs.claim.GeographyRows.{IsStaged, geography_rows}
-use Rattle.store_rows.specs.claim.Tidy.{IsNext, CountersFit}
-use Rattle.desk_pages.specs.claim.Puts.{HasPut}
-use Rattle.geo_tables.specs.Rows.{begun_rows, staged_row, staged_rows}
-use Rattle.geo_tables.specs.Loads.{HasBegun, HasSealed, sealed_rows}
-use Rattle.geo_tables.proofs.LoadRows.{begun_mark, begun_unsealed}
-use Rattle.geo_tables.specs.Staging.{Stages}
-use Rattle.desk_pages.specs.claim.Desks.{InTxn, InPages}
-use Rattle.geo_tables.specs.declared.load.Load.{Load}
-use Rattle.geo_tables.specs.Loading.{HoldsLoad, HoldsFurther, HoldsNew, number_of, geography_model_of, done_of}
-use Rattle.geo_tables.specs.Starting.{IsStarted}
-use Rattle.geo_tables.proofs.Joins.{reads_then}
-use Rattle.geo_tables.proofs.Maps.{begun_is, begun_none, batch_is, batch_mark, batch_unsealed, seal_is}
+use Rattle.desk_model.specs.{claim.Geography.GeographyModel, claim.GeographyModels.IsGeographyModel, claim.Desk.Desk}
+use Rattle.store_rows.specs.{claim.Keys.{begun, seal}, declared.value.Counters.Counters, claim.Rows.{KeyMap, Has, Lacks}, claim.Puts.{Row, put_rows}, Changes.desk_with}
+use Rattle.store_rows.{specs.claim.GeographyRows.{IsStaged, geography_rows}, specs.claim.Tidy.{IsNext, CountersFit}, proofs.Puts.length-rows_told}
+use Rattle.desk_pages.specs.{claim.Puts.HasPut, claim.Desks.{InTxn, InPages}}
+use Rattle.geo_tables.specs.{Rows.{begun_rows, staged_row, staged_rows}, Loads.{HasBegun, HasSealed, sealed_rows}, Staging.Stages, declared.load.Load.Load}
+use Rattle.geo_tables.specs.{Loading.{HoldsLoad, HoldsFurther, HoldsNew, number_of, geography_model_of, done_of}, Starting.IsStarted}
+use Rattle.geo_tables.proofs.{LoadRows.{begun_mark, begun_unsealed}, Joins.reads_then, Maps.{begun_is, begun_none, batch_is, batch_mark, batch_unsealed, seal_is}}
 
 -- the rows of a load that are put next
 abbrev pub rows_of : Load → ℕ → List Row
@@ -45,17 +28,11 @@ pub record CanStage (load : Load) (rows : ℕ) : Type 0 where
 module _ {D : Type 0} {g : Ghosts D} where
   -- a transaction that put rows reads the map with them
   pub put_reads : (rows : List Row) (n : ℕ) (t u : Txn) (a b : Pages D g) → IsStarted n a t → HasPut rows t u a b → (disk_in b).is_honest → (m : KeyMap) → PagesHold a m → TxnHolds u (stored b) (put_rows m rows)
-  put_reads rows n t u a b started put honest m holds =
-      reads_then u a b put.passed.quiet honest (put_rows m rows) (put.put honest m (started.reads (put.passed.quiet.honest honest) m holds))
+  put_reads rows n t u a b started put honest m holds = search (arith, reads_then, put.passed.quiet, put.put, started.reads, put.passed.quiet.honest)
 
   -- and its pages fit in the journal
   pub put_fits : (rows : List Row) (n : ℕ) (t u : Txn) (a b : Pages D g) → length rows ≡ n → IsStarted (n + 1) a t → HasPut rows t u a b → txn_writes u + 1 ≤ journal_of b
-  put_fits rows n t u a b count started put =
-      let writes = put.writes in
-      let none = started.none in
-      let room = started.journal in
-      let same = put.passed.quiet.journal in
-      omega arith
+  put_fits rows n t u a b count started put = search (arith, put.writes, started.none, started.journal, put.passed.quiet.journal)
 
   pub batch_desk : (load : Load) (rows : ℕ) (t u : Txn) (a b : Pages D g) (d : Desk) → CanStage load rows → IsStarted (rows + 1) a t → HasPut (rows_of load rows) t u a b → (disk_in b).is_honest → HoldsLoad a d load → InTxn u (stored b) d
   batch_desk load rows t u a b d can started put honest holds = record {
@@ -70,13 +47,12 @@ module _ {D : Type 0} {g : Ghosts D} where
   batch_holds load rows t u a b c d can started put stages honest holds held next further =
       let n = put_rows holds.m (rows_of load rows) in
       let desk = batch_desk load rows t u a b d can started put honest holds in
-      let same : geography_model_of next ≡ geography_model_of load = λ i. (further.geography i).value in
       record {
         m = n;
         holds = held n desk.holds;
         is = desk.is;
         staged = subst (λ (k : ℕ). IsStaged n k (geography_model_of next) (done_of next)) (sym further.number)
-            (subst (λ (area : GeographyModel). IsStaged n (number_of load) area (done_of next)) (sym same)
+            (subst (λ (area : GeographyModel). IsStaged n (number_of load) area (done_of next)) (sym (λ i. (further.geography i).value))
             (subst (λ (k : ℕ). IsStaged n (number_of load) (geography_model_of load) k) (sym further.done) (stages holds.m holds.staged)));
         mark = subst (λ (k : ℕ). Has n (begun k) []) (sym further.number) (batch_mark holds.m d (number_of load) (geography_model_of load) (done_of load) rows holds.is holds.mark holds.unsealed);
         unsealed = batch_unsealed holds.m d (number_of load) (geography_model_of load) (done_of load) rows holds.is holds.mark holds.unsealed;
@@ -84,12 +60,7 @@ module _ {D : Type 0} {g : Ghosts D} where
 
   -- ---- the seal
   pub seal_fits : (load : Load) (t u : Txn) (a b : Pages D g) → IsStarted 2 a t → HasSealed (number_of load) (geography_model_of load) t u a b → txn_writes u + 1 ≤ journal_of b
-  seal_fits load t u a b started put =
-      let writes = put.writes in
-      let none = started.none in
-      let room = started.journal in
-      let same = put.passed.quiet.journal in
-      omega arith
+  seal_fits load t u a b started put = search (arith, put.writes, started.none, started.journal, put.passed.quiet.journal)
 
   pub seal_desk : (load : Load) (t u : Txn) (a b : Pages D g) (d : Desk) → CanStage load 0 → done_of load ≡ geography_rows (geography_model_of load) → IsStarted 2 a t → HasSealed (number_of load) (geography_model_of load) t u a b → (disk_in b).is_honest → HoldsLoad a d load → InTxn u (stored b) (desk_with (geography_model_of load) d.plans)
   seal_desk load t u a b d can whole started put honest holds = record {
@@ -100,19 +71,10 @@ module _ {D : Type 0} {g : Ghosts D} where
 
   -- ---- a load that is begun
   pub begun_fits : (number : ℕ) (t u : Txn) (a b : Pages D g) → IsStarted 2 a t → HasBegun number t u a b → txn_writes u + 1 ≤ journal_of b
-  begun_fits number t u a b started made =
-      let writes = made.put.writes in
-      let none = started.none in
-      let room = started.journal in
-      let same = made.put.passed.quiet.journal in
-      omega arith
+  begun_fits number t u a b started made = search (arith, made.put.writes, started.none, started.journal, made.put.passed.quiet.journal)
 
   fits_of : (number : ℕ) (t u : Txn) (a b : Pages D g) (made : HasBegun number t u a b) → CountersFit made.next
-  fits_of number t u a b made = record {
-    plan_fits = made.others_fit.0;
-    chunk_fits = made.others_fit.1;
-    load_fits = let same = made.load_is in let more = made.load_fits in omega arith;
-  }
+  fits_of number t u a b made = search (arith, made.others_fit.0, made.others_fit.1, made.load_is, made.load_fits)
 
   next_of : (number : ℕ) (t u : Txn) (a b : Pages D g) (made : HasBegun number t u a b) → IsStarted 2 a t → (disk_in b).is_honest → (m : KeyMap) → PagesHold a m → IsNext m made.next
   next_of number t u a b made started honest m holds = made.was honest m (started.reads (made.put.passed.quiet.honest honest) m holds)

@@ -1,22 +1,12 @@
 -- Lemmas on the definitions of Staging.
-use Rattle.std.specs.Prelude.{◌≡◌, ◌<◌, ◌≤◌, ◌+◌, ◌-◌, ◌^◌, ℕ, List, [], ◌∷◌, length, Option, Some, option_map, cond, get_or}
-use Rattle.std.proofs.Common.{zero, suc, refl, sym, ap, subst, ◌∙◌, inl, inr, arith}
-use Rattle.std.specs.List.{slice_get}
-use Rattle.std.specs.FinMap.{insert}
+use Rattle.std.specs.{Prelude.{◌≡◌, ◌<◌, ◌≤◌, ◌+◌, ◌-◌, ◌^◌, ℕ, List, [], ◌∷◌, length, Some, option_map, cond, get_or}, List.slice_get, FinMap.insert}
+use Rattle.std.proofs.Common.{zero, suc, refl, sym, ap, subst, inl, inr, arith}
 use Rattle.std.proofs.lemmas.Bool.{cases_lt, lt-ltb, le-ltb}
 use Rattle.std.proofs.lemmas.Option.{slice_get_within, slice_get_read, slice_get-get_or}
-use Rattle.desk_model.specs.declared.block.BlockRow.{BlockRow}
-use Rattle.desk_model.specs.declared.geography.Pair.{Pair}
-use Rattle.desk_model.specs.claim.Geography.{GeographyModel}
-use Rattle.store_rows.specs.claim.Values.{block_bytes}
-use Rattle.store_rows.specs.claim.Keys.{key_of, block, pair}
-use Rattle.store_rows.specs.claim.Rows.{KeyMap, element_row}
-use Rattle.store_rows.specs.claim.Puts.{Row, put_rows}
-use Rattle.store_rows.proofs.Puts.{put_rows-append}
-use Rattle.store_rows.specs.claim.GeographyRows.{IsBlockRow, IsStaged, geography_rows, neighbours_bytes}
-use Rattle.store_rows.proofs.Staging.{block_staged, pair_staged}
-use Rattle.geo_tables.specs.Rows.{bytes_in, block_at, pair_at, staged_row, staged_rows}
-use Rattle.geo_tables.specs.Staging.{Stages}
+use Rattle.desk_model.specs.{declared.block.BlockRow.BlockRow, declared.geography.Pair.Pair, claim.Geography.GeographyModel}
+use Rattle.store_rows.specs.{claim.Values.block_bytes, claim.Keys.{key_of, block, pair}, claim.Rows.{KeyMap, element_row}, claim.Puts.{Row, put_rows}}
+use Rattle.store_rows.{specs.claim.GeographyRows.{IsBlockRow, IsStaged, geography_rows, neighbours_bytes}, proofs.Puts.put_rows-append, proofs.Staging.{block_staged, pair_staged}}
+use Rattle.geo_tables.specs.{Rows.{bytes_in, block_at, pair_at, staged_row, staged_rows}, Staging.Stages}
 
 -- the block at a place, where there is one, fits in its row
 abbrev pub FitsAt : GeographyModel → ℕ → Type 0
@@ -27,9 +17,6 @@ there : {X : Type 0} (xs : List X) (place : ℕ) → place < length xs → (x : 
 there [] place less = absurd (omega arith)
 there (x ∷ xs) zero less = (x, refl)
 there (x ∷ xs) (suc place) less = there xs place (omega arith)
-
-some_is : {X : Type 0} (x y : X) → ◌≡◌ {A = Option X} (Some x) (Some y) → x ≡ y
-some_is x y same = cc
 
 bytes_there : {X : Type 0} (bytes : X → List ℕ) (xs : List X) (place : ℕ) (x : X) → slice_get xs place ≡ Some x → bytes_in (element_row bytes xs place) ≡ bytes x
 bytes_there bytes xs place x is = ap (λ o. bytes_in (option_map bytes o)) is
@@ -44,16 +31,14 @@ is_pair load g place more = ap (λ b. cond b (block_at load g place) (pair_at lo
 block_more : (m : KeyMap) (load : ℕ) (g : GeographyModel) (done : ℕ) → load < 2 ^ 64 → length g.blocks ≤ 2 ^ 32 → FitsAt g done → IsStaged m load g done → done < length g.blocks → IsStaged (put_rows m (block_at load g done ∷ [])) load g (done + 1)
 block_more m load g done load_fits few fits staged less =
     let here = there g.blocks done less in
-    let small : done < 2 ^ 32 = omega arith in
     subst (λ value. IsStaged (insert m (key_of (block load done)) value) load g (done + 1)) (sym (bytes_there block_bytes g.blocks done here.0 here.1))
-    (block_staged m load g done here.0 staged load_fits small here.1 (fits here.0 here.1))
+    (block_staged m load g done here.0 staged load_fits (omega arith) here.1 (fits here.0 here.1))
 
 pair_more : (m : KeyMap) (load : ℕ) (g : GeographyModel) (place : ℕ) → load < 2 ^ 64 → length g.pairs ≤ 2 ^ 32 → IsStaged m load g (length g.blocks + place) → place < length g.pairs → IsStaged (put_rows m (pair_at load g place ∷ [])) load g (length g.blocks + place + 1)
 pair_more m load g place load_fits few staged less =
     let here = there g.pairs place less in
-    let small : place < 2 ^ 32 = omega arith in
     subst (λ value. IsStaged (insert m (key_of (pair load place)) value) load g (length g.blocks + place + 1)) (sym (bytes_there neighbours_bytes g.pairs place here.0 here.1))
-    (pair_staged m load g place here.0 staged load_fits small here.1)
+    (pair_staged m load g place here.0 staged load_fits (omega arith) here.1)
 
 -- one row more
 pub row_more : (m : KeyMap) (load : ℕ) (g : GeographyModel) (done : ℕ) → load < 2 ^ 64 → length g.blocks ≤ 2 ^ 32 → length g.pairs ≤ 2 ^ 32 → FitsAt g done → done < geography_rows g → IsStaged m load g done → IsStaged (put_rows m (staged_row load g done ∷ [])) load g (done + 1)
@@ -62,10 +47,9 @@ row_more m load g done load_fits blocks_few pairs_few fits left staged = elim (c
   | inr more ↦
       (let place = done - length g.blocks in
       let whole : length g.blocks + place ≡ done = omega arith in
-      let within : place < length g.pairs = omega arith in
       subst (λ (row : Row). IsStaged (put_rows m (row ∷ [])) load g (done + 1)) (sym (is_pair load g done more))
       (subst (λ (n : ℕ). IsStaged (put_rows m (pair_at load g place ∷ [])) load g (n + 1)) whole
-      (pair_more m load g place load_fits pairs_few (subst (λ (n : ℕ). IsStaged m load g n) (sym whole) staged) within)))
+      (pair_more m load g place load_fits pairs_few (subst (λ (n : ℕ). IsStaged m load g n) (sym whole) staged) (omega arith))))
 ]
 
 pub none_stage : (load : ℕ) (g : GeographyModel) (done : ℕ) → Stages load g done 0
@@ -73,10 +57,9 @@ none_stage load g done m staged = subst (λ (n : ℕ). IsStaged m load g n) (ome
 
 pub more_stage : (load : ℕ) (g : GeographyModel) (done k : ℕ) → Stages load g done k → ((m : KeyMap) → IsStaged m load g (done + k) → IsStaged (put_rows m (staged_row load g (done + k) ∷ [])) load g (done + k + 1)) → Stages load g done (k + 1)
 more_stage load g done k before here m staged =
-    let next : suc k ≡ k + 1 = omega arith in
     let last : done + k + 1 ≡ done + suc k = omega arith in
     let half = put_rows m (staged_rows load g done k) in
-    subst (λ (n : ℕ). IsStaged (put_rows m (staged_rows load g done n)) load g (done + n)) next
+    subst (λ (n : ℕ). IsStaged (put_rows m (staged_rows load g done n)) load g (done + n)) (omega arith)
     (subst (λ (n : KeyMap). IsStaged n load g (done + suc k)) (sym (put_rows-append m (staged_rows load g done k) (staged_row load g (done + k) ∷ [])))
     (subst (λ (n : ℕ). IsStaged (put_rows half (staged_row load g (done + k) ∷ [])) load g n) last (here half (before m staged))))
 
@@ -88,19 +71,14 @@ pub had_at : {X : Type 0} (xs ys : List X) (place : ℕ) (d : X) → xs ≡ ys �
 had_at {X = X} xs ys place d same less = subst (λ (l : List X). slice_get l place ≡ Some (get_or xs place d)) same (slice_get-get_or xs place d less)
 
 pub block_is : (load : ℕ) (g : GeographyModel) (place : ℕ) (b : BlockRow) → slice_get g.blocks place ≡ Some b → ◌≡◌ {A = Row} (key_of (block load place), block_bytes b) (staged_row load g place)
-block_is load g place b is =
-    let less : place < length g.blocks = slice_get_within g.blocks place b is in
-    sym (is_block load g place less ∙ ap (λ (value : List ℕ). (key_of (block load place), value)) (bytes_there block_bytes g.blocks place b is))
+block_is load g place b is = search (arith, slice_get_within, g.blocks, is_block, bytes_there)
 
 pub pair_is : (load : ℕ) (g : GeographyModel) (place after : ℕ) (p : Pair) → length g.blocks + after ≡ place → slice_get g.pairs after ≡ Some p → ◌≡◌ {A = Row} (key_of (pair load after), neighbours_bytes p) (staged_row load g place)
-pair_is load g place after p whole is =
-    let more : length g.blocks ≤ place = omega arith in
-    let same : place - length g.blocks ≡ after = omega arith in
-    sym (is_pair load g place more ∙ ap (λ (k : ℕ). pair_at load g k) same ∙ ap (λ (value : List ℕ). (key_of (pair load after), value)) (bytes_there neighbours_bytes g.pairs after p is))
+pair_is load g place after p whole is = search (arith, g.blocks, is_pair, bytes_there, g.pairs)
 
 -- a block that was read fits, where its numbers do; after the blocks there is none
 pub fits_here : (g : GeographyModel) (place : ℕ) (b : BlockRow) → slice_get g.blocks place ≡ Some b → IsBlockRow b → FitsAt g place
-fits_here g place b is fits c other = subst IsBlockRow (some_is b c (sym is ∙ other)) fits
+fits_here g place b is fits c other = subst IsBlockRow (cc) fits
 
 pub no_block : (g : GeographyModel) (place : ℕ) → length g.blocks ≤ place → FitsAt g place
 no_block g place more b is = let less : place < length g.blocks = slice_get_within g.blocks place b is in absurd (omega arith)

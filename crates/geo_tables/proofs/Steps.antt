@@ -1,26 +1,14 @@
 -- What a commit of rows comes to, exit by exit.
-use Rattle.std.proofs.Common.{◌≡◌, ℕ, Ok, Err, false, true, refl, ap, subst, sym, ◌∙◌}
-use Rattle.std.specs.Prelude.{Result, IfErr, IsErrAnd, OnOk}
+use Rattle.std.{specs.Prelude.{Result, IfErr, IsErrAnd, OnOk}, proofs.Common.{◌≡◌, ℕ, Ok, Err, false, true, refl, ◌∙◌, arith}}
 use Rattle.sector_device.specs.declared.SectorDevice.{Ghosts}
-use Rattle.page_store.specs.claim.Transactions.{disk_in, has_halted, HasShape, IsKept, IsQuiet, Passed}
-use Rattle.page_store.specs.declared.pages.Pages.{Pages}
-use Rattle.desk_pages.specs.Commits.{FittingErr}
-use Rattle.desk_pages.specs.declared.error.StoreError.{StoreError}
-use Rattle.desk_pages.specs.declared.error.StoreError.TheVariants.{Full, Halted}
-use Rattle.geo_tables.specs.Refusals.{CommitsRows, HasRoom}
-use Rattle.geo_tables.specs.Starting.{StartErr}
-use Rattle.geo_tables.proofs.Joins.{quiet_shape, shape_after}
-use Rattle.geo_tables.proofs.Refused.{both, room_after}
+use Rattle.page_store.specs.{claim.Transactions.{disk_in, has_halted, HasShape, IsKept, IsQuiet, Passed}, declared.pages.Pages.Pages}
+use Rattle.desk_pages.specs.{Commits.FittingErr, declared.error.StoreError.StoreError, declared.error.StoreError.TheVariants.Halted}
+use Rattle.geo_tables.{specs.Refusals.{CommitsRows, HasRoom}, specs.Starting.StartErr, proofs.Joins.{quiet_shape, shape_after}, proofs.Refused.{both, room_after}}
 
 module _ {D T : Type 0} {g : Ghosts D} {rows : ℕ} {failed : StoreError → Type 0} {a b : Pages D g} where
   -- pages that work were not changed but for a fault
   pub step_failed : (e : StoreError) (r : Result T StoreError) → has_halted a ≡ false → HasShape a b → ((disk_in b).is_honest → (disk_in a).is_honest) → IsErrAnd r (λ x. x ≡ e) → failed e → CommitsRows rows failed a b r
-  step_failed e (Ok x) working shape honest is why = absurd is
-  step_failed e (Err x) working shape honest is why = record {
-    commits = record { shape = shape; honest = honest; kept = λ h. tt; passed = λ h. tt; ok = tt; err = subst failed (sym is) why };
-    room = tt;
-    still = λ halted. both (has_halted a) halted working;
-  }
+  step_failed e r working shape honest is why = search (arith, both)
 
   -- they were read at most
   pub not_stepped : (e : StoreError) (r : Result T StoreError) → has_halted a ≡ false → IsQuiet a b → IsErrAnd r (λ x. x ≡ e) → failed e → CommitsRows rows failed a b r
@@ -29,11 +17,7 @@ module _ {D T : Type 0} {g : Ghosts D} {rows : ℕ} {failed : StoreError → Typ
   -- rows were committed
   pub stepped : {x : T} → has_halted a ≡ false → has_halted b ≡ false → HasShape a b → ((disk_in b).is_honest → (disk_in a).is_honest) → ((disk_in b).is_honest → IsKept b)
       → ((disk_in b).is_honest → (disk_in b).faults ≡ (disk_in a).faults) → HasRoom rows a b → CommitsRows rows failed a b (Ok x)
-  stepped working works shape honest kept passed room = record {
-    commits = record { shape = shape; honest = honest; kept = kept; passed = passed; ok = (working, works); err = tt };
-    room = room;
-    still = λ halted. both (has_halted a) halted working;
-  }
+  stepped working works shape honest kept passed room = search (arith, both)
 
 same_shape : {D : Type 0} {g : Ghosts D} (a : Pages D g) → HasShape a a
 same_shape a = record { journal_pages = refl; pages = refl }
@@ -41,17 +25,10 @@ same_shape a = record { journal_pages = refl; pages = refl }
 -- no transaction was begun
 module _ {D T : Type 0} {g : Ghosts D} {rows : ℕ} {failed : StoreError → Type 0} {a : Pages D g} where
   pub was_halted : (e : StoreError) (r : Result T StoreError) → (e ≡ Halted) × (has_halted a ≡ true) → IsErrAnd r (λ x. x ≡ e) → failed Halted → CommitsRows rows failed a a r
-  was_halted e (Ok x) halted is why = absurd is
-  was_halted e (Err x) halted is why = record {
-    commits = record { shape = same_shape a; honest = λ h. h; kept = λ h. tt; passed = λ h. tt; ok = tt; err = subst failed (sym (is ∙ halted.0)) why };
-    room = tt;
-    still = λ h. (ap Err (is ∙ halted.0), refl);
-  }
+  was_halted e r halted is why = search (arith, same_shape)
 
   pub not_started : (e : StoreError) (r : Result T StoreError) → StartErr rows a e → IsErrAnd r (λ x. x ≡ e) → ((x : StoreError) → StartErr rows a x → failed x) → CommitsRows rows failed a a r
-  not_started Full r why is told = step_failed Full r why.0 (same_shape a) (λ h. h) is (told Full why)
-  not_started Halted r why is told = was_halted Halted r (refl, why) is (told Halted why)
-  not_started _ r why is told = absurd why
+  not_started e r why is told = search (arith, step_failed, same_shape, told, was_halted)
 
 -- a step after calls that read at most
 module _ {D T U : Type 0} {g : Ghosts D} {rows : ℕ} {before failed : StoreError → Type 0} {a b c : Pages D g} (read : Passed a b) (working : has_halted a ≡ false) where
@@ -67,22 +44,11 @@ module _ {D T : Type 0} {g : Ghosts D} {rows : ℕ} {failed : StoreError → Typ
   pub commits_after : (r : Result T StoreError) → HasRoom rows a c → HasShape b c → ((disk_in c).is_honest → (disk_in b).is_honest) → ((disk_in c).is_honest → OnOk r (IsKept c))
       → ((disk_in c).is_honest → OnOk r ((disk_in c).faults ≡ (disk_in b).faults)) → OnOk r (has_halted c ≡ false) → IfErr r (FittingErr b c)
       → ((e : StoreError) → FittingErr b c e → failed e) → CommitsRows rows failed a c r
-  commits_after (Ok x) room shape honest kept passed works err told = stepped working works (shape_after a b c read.quiet shape) (λ h. read.quiet.honest (honest h)) kept
-      (λ h. passed h ∙ read.faults (honest h)) room
-  commits_after (Err e) room shape honest kept passed works err told = step_failed e (Err e) working (shape_after a b c read.quiet shape) (λ h. read.quiet.honest (honest h)) refl (told e err)
-
--- another value is handed on, or the same refusal
-error_is : {T : Type 0} (e x : StoreError) → ◌≡◌ {A = Result T StoreError} (Err e) (Err x) → e ≡ x
-error_is e x same = cc
+  commits_after r room shape honest kept passed works err told = search (arith, stepped, shape_after, read.quiet.honest, honest, passed, read.faults, step_failed, told)
 
 module _ {D T U : Type 0} {g : Ghosts D} {rows : ℕ} {failed : StoreError → Type 0} {a b : Pages D g} where
   pub step_made : {x : T} {y : U} → CommitsRows rows failed a b (Ok x) → CommitsRows rows failed a b (Ok y)
   step_made step = stepped step.commits.ok.0 step.commits.ok.1 step.commits.shape step.commits.honest step.commits.kept step.commits.passed step.room
 
   pub step_told : (e : StoreError) (r : Result U StoreError) → CommitsRows {T = T} rows failed a b (Err e) → IsErrAnd r (λ x. x ≡ e) → CommitsRows rows failed a b r
-  step_told e (Ok y) step is = absurd is
-  step_told e (Err x) step is = record {
-    commits = record { shape = step.commits.shape; honest = step.commits.honest; kept = λ h. tt; passed = λ h. tt; ok = tt; err = subst failed (sym is) step.commits.err };
-    room = tt;
-    still = λ halted. let was = step.still halted in (ap Err (is ∙ error_is e Halted was.0), was.1);
-  }
+  step_told e r step is = search (arith, step.still)

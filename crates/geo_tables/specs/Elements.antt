@@ -1,18 +1,10 @@
 -- What stands in the rows of a load, from the first place on.
-use Rattle.std.specs.Prelude.{◌≡◌, ◌<◌, ◌^◌, ℕ, List, [], ◌∷◌, ◌++◌, length, All, Option, Some, None}
-use Rattle.std.specs.FinMap.{get as row_at}
-use Rattle.desk_model.specs.declared.geography.Pair.{Pair}
-use Rattle.desk_model.specs.claim.Geography.{GeographyModel}
-use Rattle.desk_model.specs.claim.GeographyModels.{IsGeographyModel}
-use Rattle.store_rows.specs.claim.Keys.{key_of, block, pair, seal}
-use Rattle.store_rows.specs.claim.Values.{block_bytes, seal_bytes}
-use Rattle.store_rows.specs.declared.value.SealRow.{SealRow}
-use Rattle.store_rows.specs.claim.GeographyRows.{IsBlockRow, neighbours_bytes}
-use Rattle.page_btree.specs.declared.error.TreeError.{TreeError}
-use Rattle.page_btree.specs.declared.error.TreeError.TheVariants.{DeviceFault, NotAStore, Halted, NoPages, TooDeep, Memory}
-use Rattle.store_rows.specs.claim.Rows.{KeyMap, Lacks, element_row}
-use Rattle.desk_pages.specs.Looking.{IsOnly}
-use Rattle.desk_pages.specs.Reading.{StandsAs}
+use Rattle.std.specs.{Prelude.{◌≡◌, ◌<◌, ◌^◌, ℕ, List, [], ◌∷◌, ◌++◌, length, All, Option, Some, None}, FinMap.get as row_at}
+use Rattle.desk_model.specs.{declared.geography.Pair.Pair, claim.Geography.GeographyModel, claim.GeographyModels.IsGeographyModel}
+use Rattle.store_rows.specs.{claim.Keys.{key_of, block, pair, seal}, claim.Values.{block_bytes, seal_bytes}, declared.value.SealRow.SealRow}
+use Rattle.store_rows.specs.{claim.GeographyRows.{IsBlockRow, neighbours_bytes}, claim.Rows.{KeyMap, Lacks, element_row}}
+use Rattle.page_btree.specs.{declared.error.TreeError.TreeError, declared.error.TreeError.TheVariants.{NotAStore, Memory}}
+use Rattle.desk_pages.specs.{Looking.IsOnly, Reading.StandsAs}
 
 -- the places of a pair fit in its row
 pub record IsPairRow (p : Pair) : Type 0 where
@@ -43,21 +35,15 @@ IsIn bytes_of fits bytes x = fits x × (bytes_of x ≡ bytes)
 
 -- why no element is appended of a value: none has these bytes, or a growth was refused
 abbrev pub ValueErr : {X : Type 0} → (X → Type 0) → TreeError → Type 0
-ValueErr {X} is DeviceFault = ⊥
 ValueErr {X} is NotAStore = (x : X) → is x → ⊥
-ValueErr {X} is Halted = ⊥
-ValueErr {X} is NoPages = ⊥
-ValueErr {X} is TooDeep = ⊥
 ValueErr {X} is Memory = Unit {0}
+ValueErr {X} is _ = ⊥
 
 -- why blocks and pairs make no geography: they are none, or a growth was refused
 abbrev pub GeographyErr : GeographyModel → TreeError → Type 0
-GeographyErr g DeviceFault = ⊥
 GeographyErr g NotAStore = IsGeographyModel g → ⊥
-GeographyErr g Halted = ⊥
-GeographyErr g NoPages = ⊥
-GeographyErr g TooDeep = ⊥
 GeographyErr g Memory = Unit {0}
+GeographyErr g _ = ⊥
 
 -- the geography whose rows a seal tells
 pub record IsSealedAs (sealed : SealRow) (m : KeyMap) (g : GeographyModel) : Type 0 where

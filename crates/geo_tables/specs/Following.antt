@@ -1,10 +1,7 @@
 -- A scan that goes along while rows are read by their places.
-use Rattle.std.specs.Prelude.{◌≡◌, ℕ, List, [], ◌∷◌, Bool, true, false, Some}
-use Rattle.std.specs.FinMap.{entries, get as row_at}
+use Rattle.std.specs.{Prelude.{◌≡◌, ℕ, List, [], ◌∷◌, Bool, true, false, Some}, FinMap.{entries, get as row_at}}
 use Rattle.page_btree.specs.page_node.claim.Entries.{Entry}
-use Rattle.btree_walks.specs.Scanning.{Rest}
-use Rattle.btree_walks.specs.declared.rows.Row.{Row}
-use Rattle.btree_walks.specs.declared.scans.Scan.{Scan}
+use Rattle.btree_walks.specs.{Scanning.Rest, declared.rows.Row.Row, declared.scans.Scan.Scan}
 use Rattle.store_rows.specs.claim.Rows.{KeyMap}
 
 -- each of some rows is one of the map

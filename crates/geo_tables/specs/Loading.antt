@@ -1,17 +1,11 @@
 -- A load that is under way, and the pages that hold its rows.
 use Rattle.std.specs.Prelude.{◌≡◌, ◌≤◌, ◌+◌, ◌⊎◌, ℕ, [], Result, Ok, Err}
-use Rattle.sector_device.specs.declared.SectorDevice.{Ghosts}
-use Rattle.sector_device.specs.claim.Disk.{Image}
+use Rattle.sector_device.specs.{declared.SectorDevice.Ghosts, claim.Disk.Image}
 use Rattle.page_store.specs.declared.pages.Pages.{Pages}
 use Rattle.page_btree.specs.claim.Map.{InPages}
-use Rattle.desk_model.specs.claim.Geography.{GeographyModel}
-use Rattle.desk_model.specs.claim.Desk.{Desk}
-use Rattle.store_rows.specs.claim.Keys.{begun, seal}
-use Rattle.store_rows.specs.claim.Rows.{KeyMap, Has, Lacks}
-use Rattle.store_rows.specs.claim.GeographyRows.{IsStaged, geography_rows}
-use Rattle.store_rows.specs.Changes.{desk_with}
-use Rattle.desk_pages.specs.claim.Desks.{IsDeskMap, OpensDesk}
-use Rattle.desk_pages.specs.declared.error.StoreError.{StoreError}
+use Rattle.desk_model.specs.{claim.Geography.GeographyModel, claim.Desk.Desk}
+use Rattle.store_rows.specs.{claim.Keys.{begun, seal}, claim.Rows.{KeyMap, Has, Lacks}, claim.GeographyRows.{IsStaged, geography_rows}, Changes.desk_with}
+use Rattle.desk_pages.specs.{claim.Desks.{IsDeskMap, OpensDesk}, declared.error.StoreError.StoreError}
 use Rattle.geo_tables.specs.declared.load.Load.{Load}
 
 -- its number, its geography, and how many of the geography's rows are staged
@@ -46,7 +40,7 @@ pub record IsBatch (load : Load) (rows : ℕ) : Type 0 where
   pub left : done_of load + rows ≤ geography_rows (geography_model_of load)
 
 -- and so many are left then
-pub record GoesOn (old new : Load) (rows left : ℕ) : Type 0 where
+pub record LeavesRows (old new : Load) (rows left : ℕ) : Type 0 where
   pub further : IsFurther old new rows
   pub rest : left + done_of new ≡ geography_rows (geography_model_of new)
 

@@ -1,19 +1,11 @@
 -- Loads that are begun and sealed.
-use Rattle.std.specs.Prelude.{◌≡◌, ◌⊎◌, ◌<◌, ◌≤◌, ◌+◌, ◌^◌, ℕ, Option, MatchOption}
-use Rattle.std.specs.FinMap.{insert, remove}
+use Rattle.std.specs.{Prelude.{◌≡◌, ◌⊎◌, ◌<◌, ◌≤◌, ◌+◌, ◌^◌, ℕ, Option, MatchOption}, FinMap.{insert, remove}}
 use Rattle.sector_device.specs.declared.SectorDevice.{Ghosts}
-use Rattle.page_store.specs.claim.Transactions.{stored, disk_in, txn_pages, txn_free, txn_writes, Passed}
-use Rattle.page_store.specs.declared.pages.Pages.{Pages}
-use Rattle.page_store.specs.declared.txn.Txn.{Txn}
-use Rattle.page_btree.specs.claim.Map.{InTxn}
-use Rattle.page_btree.specs.declared.error.TreeError.{TreeError}
+use Rattle.page_store.specs.{claim.Transactions.{stored, disk_in, txn_pages, txn_free, txn_writes, Passed}, declared.pages.Pages.Pages, declared.txn.Txn.Txn}
+use Rattle.page_btree.specs.{claim.Map.InTxn, declared.error.TreeError.TreeError}
 use Rattle.desk_model.specs.claim.Geography.{GeographyModel}
-use Rattle.store_rows.specs.claim.Keys.{key_of, begun}
-use Rattle.store_rows.specs.declared.value.Counters.{Counters}
-use Rattle.store_rows.specs.claim.Rows.{KeyMap}
-use Rattle.store_rows.specs.claim.Tidy.{IsNext}
-use Rattle.desk_pages.specs.claim.Puts.{HasPut, PutsErr}
-use Rattle.desk_pages.specs.Reading.{HasNext, ReadErr}
+use Rattle.store_rows.specs.{claim.Keys.{key_of, begun}, declared.value.Counters.Counters, claim.Rows.KeyMap, claim.Tidy.IsNext}
+use Rattle.desk_pages.specs.{claim.Puts.{HasPut, PutsErr}, Reading.{HasNext, ReadErr}}
 use Rattle.geo_tables.specs.Rows.{begun_rows, seal_row}
 
 -- the rows after the seal: that row is put, and the one that the load was begun with is gone

@@ -1,26 +1,14 @@
 -- Why a load goes no further.
 use Rattle.std.specs.Prelude.{◌≡◌, ◌⊎◌, ◌<◌, ◌≤◌, ◌+◌, ◌*◌, ◌^◌, ℕ, List, [], ◌∷◌, length, Some, None, true, Result, Err, OnOk}
 use Rattle.sector_device.specs.declared.SectorDevice.{Ghosts}
-use Rattle.page_store.specs.claim.Chain.{free_in}
-use Rattle.page_store.specs.claim.Transactions.{stored, disk_in, journal_of, has_halted, HasFailed, IsQuiet, IsSame, Passed}
-use Rattle.page_store.specs.declared.pages.Pages.{Pages}
+use Rattle.page_store.specs.{claim.Chain.free_in, claim.Transactions.{stored, disk_in, journal_of, has_halted, HasFailed, IsQuiet, IsSame, Passed}, declared.pages.Pages.Pages}
 use Rattle.page_store.specs.declared.txn.Txn.{Txn}
 use Rattle.page_btree.specs.claim.Map.{InPages as HoldsRows}
-use Rattle.desk_model.specs.claim.Geography.{GeographyModel}
-use Rattle.desk_model.specs.claim.Desk.{Desk}
-use Rattle.store_rows.specs.declared.value.Counters.{Counters}
-use Rattle.store_rows.specs.claim.Keys.{seal}
-use Rattle.store_rows.specs.claim.Rows.{KeyMap, Lacks}
-use Rattle.store_rows.specs.claim.Puts.{Row}
-use Rattle.store_rows.specs.claim.Tidy.{IsNext}
-use Rattle.desk_pages.specs.claim.Puts.{HasDeepened}
-use Rattle.geo_tables.specs.Rows.{begun_rows, staged_rows, seal_row}
-use Rattle.desk_pages.specs.claim.Desks.{InPages}
-use Rattle.desk_pages.specs.Commits.{Commits}
-use Rattle.desk_pages.specs.declared.error.StoreError.{StoreError}
+use Rattle.desk_model.specs.{claim.Geography.GeographyModel, claim.Desk.Desk}
+use Rattle.store_rows.specs.{declared.value.Counters.Counters, claim.Keys.seal, claim.Rows.{KeyMap, Lacks}, claim.Puts.Row, claim.Tidy.IsNext}
+use Rattle.desk_pages.specs.{claim.Puts.HasDeepened, claim.Desks.InPages, Commits.Commits, declared.error.StoreError.StoreError}
 use Rattle.desk_pages.specs.declared.error.StoreError.TheVariants.{AlreadySealed, Full, Memory, NotAStore, DeviceFault, Halted}
-use Rattle.geo_tables.specs.declared.load.Load.{Load}
-use Rattle.geo_tables.specs.Loading.{HoldsLoad, number_of, geography_model_of, done_of}
+use Rattle.geo_tables.specs.{Rows.{begun_rows, staged_rows, seal_row}, declared.load.Load.Load, Loading.{HoldsLoad, number_of, geography_model_of, done_of}}
 
 -- the rows with which the next load begins
 abbrev pub AreBegun : KeyMap → List Row → Type 0

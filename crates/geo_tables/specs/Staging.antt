@@ -1,16 +1,11 @@
 -- Rows of a geography that are put in batches are staged.
 use Rattle.std.specs.Prelude.{◌+◌, ℕ, [], ◌∷◌, Result}
 use Rattle.sector_device.specs.declared.SectorDevice.{Ghosts}
-use Rattle.page_store.specs.declared.pages.Pages.{Pages}
-use Rattle.page_store.specs.declared.txn.Txn.{Txn}
+use Rattle.page_store.specs.{declared.pages.Pages.Pages, declared.txn.Txn.Txn}
 use Rattle.page_btree.specs.declared.error.TreeError.{TreeError}
 use Rattle.desk_model.specs.claim.Geography.{GeographyModel}
-use Rattle.store_rows.specs.claim.Rows.{KeyMap}
-use Rattle.store_rows.specs.claim.Puts.{Row, put_rows}
-use Rattle.store_rows.specs.claim.GeographyRows.{IsStaged}
-use Rattle.desk_pages.specs.btree_puts.declared.finger.Fingers.{Fingers}
-use Rattle.desk_pages.specs.Outcomes.{Writes}
-use Rattle.desk_pages.specs.Rising.{HasPutWith, PutsErrWith}
+use Rattle.store_rows.specs.{claim.Rows.KeyMap, claim.Puts.{Row, put_rows}, claim.GeographyRows.IsStaged}
+use Rattle.desk_pages.specs.{btree_puts.declared.finger.Fingers.Fingers, Outcomes.Writes, Rising.{HasPutWith, PutsErrWith}}
 use Rattle.geo_tables.specs.Rows.{staged_rows}
 
 -- what a batch's rows do, and one row more

@@ -4,7 +4,7 @@ ghost use Rattle.page_store.specs.claim.Transactions.{disk_in};
 ghost use Rattle.desk_model.specs.claim.Desk.{Desk};
 ghost use Rattle.desk_pages.specs.claim.Desks.{OpensDesk};
 ghost use Rattle.desk_pages.specs.Moments.{StopsLeave};
-ghost use Rattle.geo_tables.specs.Loading.{GoesOn, HoldsLoad, HoldsFurther, IsBatch};
+ghost use Rattle.geo_tables.specs.Loading.{LeavesRows, HoldsLoad, HoldsFurther, IsBatch};
 ghost use Rattle.geo_tables.specs.Refusals.{BatchErr, CommitsRows};
 
 use crate::load::Load;
@@ -56,7 +56,7 @@ pub fn load_batch<D: SectorDevice>(
     requires batch { IsBatch load.old rows }
     ensures any_moment { StopsLeave (λ d. HoldsLoad pages.old d load.old) OpensDesk pages.old pages.new }
     ensures staged { (disk_in pages.new).is_honest → (d : Desk) → HoldsLoad pages.old d load.old → OnOk result (HoldsLoad pages.new d load.new) }
-    ensures load { MatchResult result (GoesOn load.old load.new rows) (λ _. load.new ≡ load.old) }
+    ensures load { MatchResult result (LeavesRows load.old load.new rows) (λ _. load.new ≡ load.old) }
     ensures step { CommitsRows (rows + 1) (BatchErr load.old rows pages.old pages.new) pages.old pages.new result }
 {
     load.is_sound();

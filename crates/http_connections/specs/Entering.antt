@@ -1,6 +1,5 @@
 -- Who comes in at a door: so many connections are given to workers, and each but once.
-use Rattle.std.specs.Prelude.{◌≡◌, ◌+◌, ◌<◌, Bool, true, false, Option, None}
-use Rattle.std.specs.declared.net.tcp.TcpStream.{TcpStream}
+use Rattle.std.specs.{Prelude.{◌≡◌, ◌+◌, ◌<◌, Bool, true, false, Option, None}, declared.net.tcp.TcpStream.TcpStream}
 use Rattle.http_connections.specs.declared.door.Entrance.{Entrance}
 
 -- where none is left nothing changes; else one fewer is

@@ -1,17 +1,12 @@
 -- The list of plans, part by part.
-use Rattle.std.proofs.Common.{◌≡◌, ◌≤◌, ◌<◌, ◌+◌, ℕ, drop, get_or, true, false, Bool, nat_le, ◌&&◌, List, [], ◌∷◌, ◌++◌, map, length, refl, ap, sym, ◌∙◌, arith, append_assoc, decimal, codes}
 use Rattle.std.specs.List.{list_all}
+use Rattle.std.proofs.Common.{◌≡◌, ◌≤◌, ◌<◌, ◌+◌, ℕ, drop, get_or, true, false, Bool, nat_le, ◌&&◌, List, [], ◌∷◌, ◌++◌, map, length, refl, ap, sym, ◌∙◌, arith, append_assoc, decimal, codes, rules}
 use Rattle.std.proofs.lemmas.Bool.{and_parts}
 use Rattle.std.proofs.lemmas.List.{drop_more}
 use Rattle.std.proofs.lemmas.Bool.Decides.{nat_tests}
-use Rattle.json.specs.Print.{escape_byte, escape}
-use Rattle.json.proofs.Printed.Strings.{escape_byte_plain}
-use Rattle.serde_json.specs.View.{items_of}
-use Rattle.serde_json.specs.Written.{compact_text, comma_if, items_text}
-use Rattle.desk_model.specs.declared.kind.Kind.{Kind}
-use Rattle.desk_model.specs.declared.kind.Kind.TheVariants.{Congress, Senate, House}
-use Rattle.desk_model.specs.declared.reply.PlanLine.{PlanLine}
-use Rattle.desk_model.specs.claim.Kind.{kind_name}
+use Rattle.json.{specs.Print.{escape_byte, escape}, proofs.Printed.Strings.escape_byte_plain}
+use Rattle.serde_json.specs.{View.items_of, Written.{compact_text, comma_if, items_text}}
+use Rattle.desk_model.specs.{declared.kind.Kind.Kind, declared.kind.Kind.TheVariants.Congress, declared.reply.PlanLine.PlanLine, claim.Kind.kind_name}
 use Rattle.desk_model.specs.claim.Name.{is_name_byte, IsPlanName}
 use Rattle.http_desk.specs.claim.Bodies.{row_data, plans_body}
 
@@ -37,8 +32,7 @@ plain_name name is = plain_bytes name (and_parts (nat_le 1 (length name) && nat_
 plain_kind : (kind : Kind) → escape (kind_name kind) ≡ kind_name kind
 unfolding escape_byte
 plain_kind Congress = refl
-plain_kind Senate = refl
-plain_kind House = refl
+plain_kind _ = refl
 
 -- the bytes of a line
 abbrev pub line_of : PlanLine → List ℕ
@@ -70,13 +64,7 @@ begins rows = refl
 
 -- one line less
 pub goes_on : (text : List ℕ) (later : Bool) (row : PlanLine) (rows : List PlanLine) → (text ++ (comma_if later ++ compact_text (row_data row))) ++ rest_of true rows ≡ text ++ rest_of later (row ∷ rows)
-goes_on text later row rows =
-    append_assoc text (comma_if later ++ compact_text (row_data row)) (rest_of true rows)
-    ∙ ap (λ (t : List ℕ). text ++ t) (
-    append_assoc (comma_if later) (compact_text (row_data row)) (rest_of true rows)
-    ∙ ap (λ (t : List ℕ). comma_if later ++ t) (sym (append_assoc (compact_text (row_data row)) (items_text true (items_of (map row_data rows))) (codes "}")))
-    ∙ sym (append_assoc (comma_if later) (compact_text (row_data row) ++ items_text true (items_of (map row_data rows))) (codes "}"))
-    )
+goes_on text later row rows = search (rules, append_assoc)
 
 -- a line that was written part by part
 line_written : (row : PlanLine) (kind name t a b c d e f g h i : List ℕ) → kind ≡ kind_name row.kind → name ≡ row.name → IsPlanName row.name
@@ -103,20 +91,9 @@ line_written row kind name t a b c d e f g h i k n is a1 b1 c1 d1 e1 f1 g1 h1 i1
 pub item_written : (later : Bool) (row : PlanLine) (start member name t a b c f g h i : List ℕ) → start ≡ comma_if later ++ codes "{\"districts\":" → member ≡ codes ",\"kind\":\"" ++ (kind_name row.kind ++ codes "\",\"name\":\"")
     → name ≡ row.name → IsPlanName row.name → a ≡ t ++ start → b ≡ a ++ decimal row.n → c ≡ b ++ member → f ≡ c ++ name → g ≡ f ++ codes "\",\"revisions\":" → h ≡ g ++ decimal row.revisions → i ≡ h ++ codes "}"
     → i ≡ t ++ (comma_if later ++ compact_text (row_data row))
-item_written later row start member name t a b c f g h i s m n is a1 b1 c1 f1 g1 h1 i1 =
-    let q : List ℕ = codes ",\"kind\":\"" in
-    let k : List ℕ = kind_name row.kind in
-    let v : List ℕ = codes "\",\"name\":\"" in
-    line_written row k name (t ++ comma_if later) a b (b ++ q) ((b ++ q) ++ k) c f g h i refl n is
-    (a1 ∙ ap (λ (x : List ℕ). t ++ x) s ∙ sym (append_assoc t (comma_if later) (codes "{\"districts\":"))) b1 refl refl
-    (c1 ∙ ap (λ (x : List ℕ). b ++ x) m ∙ sym (append_assoc b q (k ++ v)) ∙ sym (append_assoc (b ++ q) k v)) f1 g1 h1 i1
-    ∙ append_assoc t (comma_if later) (compact_text (row_data row))
+item_written later row start member name t a b c f g h i s m n is a1 b1 c1 f1 g1 h1 i1 = search (rules, line_written, append_assoc)
 
 -- what is still to be written, after one line more
 pub kept : (text new all : List ℕ) (later : Bool) (row : PlanLine) (rows : List PlanLine) (k : ℕ) → k < length rows → row ≡ get_or rows k row
     → new ≡ text ++ (comma_if later ++ compact_text (row_data row)) → text ++ rest_of later (drop k rows) ≡ all → new ++ rest_of true (drop (k + 1) rows) ≡ all
-kept text new all later row rows k within is wrote before =
-    ap (λ (t : List ℕ). t ++ rest_of true (drop (k + 1) rows)) wrote
-    ∙ goes_on text later row (drop (k + 1) rows)
-    ∙ ap (λ (rs : List PlanLine). text ++ rest_of later rs) (sym (drop_more rows k row within ∙ ap (λ (x : PlanLine). x ∷ drop (k + 1) rows) (sym is)))
-    ∙ before
+kept text new all later row rows k within is wrote before = search (rules, goes_on, drop_more)

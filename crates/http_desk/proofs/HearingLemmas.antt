@@ -1,11 +1,7 @@
 -- What is heard of the commands of a stream.
 use Rattle.std.proofs.Common.{◌≡◌, Bool, Option, None, inl, inr, refl}
-use Rattle.desk_model.specs.declared.command.Command.{Command}
-use Rattle.desk_model.specs.declared.command.Query.{Query}
-use Rattle.desk_model.specs.declared.reply.Reply.{Reply}
-use Rattle.http_desk.specs.Accepting.{deed_where, heard_of}
-use Rattle.http_desk.specs.declared.accepted.Accepted.{Accepted}
-use Rattle.http_desk.specs.Hearing.{IsNoted}
+use Rattle.desk_model.specs.{declared.command.Command.Command, declared.command.Query.Query, declared.reply.Reply.Reply}
+use Rattle.http_desk.specs.{Accepting.{deed_where, heard_of}, declared.accepted.Accepted.Accepted, Hearing.IsNoted}
 
 module _ {X : Type 0} (commands : X → Command → Reply → X → Type 0) (asks : X → Query → Reply → X → Type 0) (listening : Bool) where
   pub none_noted : (x : X) (noted : Option Accepted) → noted ≡ None → IsNoted commands asks listening x noted x

@@ -1,18 +1,13 @@
 -- What comes next, and what waits then.
-use Rattle.std.proofs.Common.{◌≡◌, ℕ, List, [], ◌++◌, Option, Some, None, Result, Ok, Err, refl, sym, ap, subst, ◌∙◌, arith, append_assoc, append-nil, inl, inr, true, ◌==◌, ◌∷◌, length}
-use Rattle.std.proofs.lemmas.Bool.Decides.{nat_tests}
-use Rattle.std.proofs.KnownBytes.{Appends-nil, Consumes-trans}
 use Rattle.std.specs.Io.KnownBytes.{Appends, Consumes}
-use Rattle.http_wire.specs.declared.fault.RequestFault.{RequestFault}
+use Rattle.std.proofs.Common.{◌≡◌, ℕ, List, [], ◌++◌, Option, Some, None, Result, Ok, Err, refl, sym, ap, subst, ◌∙◌, arith, append_assoc, append-nil, inl, inr, true, ◌==◌, ◌∷◌, length, rules}
+use Rattle.std.proofs.KnownBytes.{Appends-nil, Consumes-trans}
+use Rattle.std.proofs.lemmas.Bool.Decides.{nat_tests}
+use Rattle.http_wire.specs.{declared.fault.RequestFault.RequestFault, declared.request.Incoming.Incoming, Incoming.{Came, IsNoEnd, ReadsPrefix, Taken}, Queue.Queued}
 use Rattle.http_wire.specs.declared.fault.RequestFault.TheVariants as fault
-use Rattle.http_wire.specs.declared.request.Incoming.{Incoming}
 use Rattle.http_wire.specs.declared.request.Incoming.TheVariants as came
-use Rattle.http_wire.specs.Incoming.{Came, IsNoEnd, ReadsPrefix, Taken}
-use Rattle.http_wire.specs.Queue.{Queued}
-use Rattle.http_desk.specs.declared.serve.Asked.{Asked}
+use Rattle.http_desk.{specs.declared.serve.Asked.Asked, specs.Serving.{IsUnanswered, NextCame}, proofs.TalkLemmas.{flushed, flushed_cut, queued_as, queued_then}}
 use Rattle.http_desk.specs.declared.serve.Asked.TheVariants as asked
-use Rattle.http_desk.specs.Serving.{IsUnanswered, NextCame}
-use Rattle.http_desk.proofs.TalkLemmas.{flushed, flushed_cut, queued_as, queued_then}
 
 -- what there is to tell of it
 abbrev pub Next : (u w a b : Option (List ℕ)) → (start before : List ℕ) → Result (Option Asked) RequestFault → (rest pending : List ℕ) → Type 0
@@ -32,12 +27,7 @@ no_turn u a start before none = record { more = []; read = none; came = append-n
 -- what waited was sent, and then more was read
 pub turn : (u v w a b c : Option (List ℕ)) (start before read_buffer pending came new left : List ℕ) → Turned u v a b start before read_buffer pending → Appends b c pending → Consumes v w came → new ≡ read_buffer ++ came → left ≡ []
     → Turned u w a c start before new left
-turn u v w a b c start before read_buffer pending came new left t s read is none = record {
-  more = t.more ++ came;
-  read = Consumes-trans u v w t.more came t.read read;
-  came = sym (append_assoc start t.more came) ∙ ap (λ (xs : List ℕ). xs ++ came) t.came ∙ sym is;
-  sent = queued_as a c before [] left [] (sym none) (flushed a b c before pending [] t.sent s);
-}
+turn u v w a b c start before read_buffer pending came new left t s read is none = search (rules, Consumes-trans, append_assoc, queued_as, flushed)
 
 -- what came next is told from where the turns ended
 pub next_from : (u w a b c : Option (List ℕ)) (start before read_buffer pending rest interim unsent after : List ℕ) (r : Result (Option Asked) RequestFault) → Turned u w a b start before read_buffer pending → Queued a c before unsent interim
@@ -67,10 +57,8 @@ pub next_taken : (u w a b : Option (List ℕ)) (start before read_buffer pending
 next_taken u w a b start before read_buffer pending rest i t taken = next_from u w a b b start before read_buffer pending rest [] pending pending (Ok (Some (asked.Of i))) t t.sent (taken.0, taken.1, refl)
 
 no_end : (i : Incoming) → (i ≡ came.End → ⊥) → IsNoEnd i
-no_end (came.Request q) other = tt
-no_end (came.Refused f head_only) other = tt
-no_end (came.OutOfMemory head_only) other = tt
 no_end came.End other = absurd (other refl)
+no_end _ other = tt
 
 -- all that waited was sent, and then a request was read
 module _ (u v w a b c d : Option (List ℕ)) (start before held pending read_buffer more rest after sent : List ℕ) (before_it : Turned u v a b start before held pending) (flush : Appends b c pending) (same : read_buffer ≡ held) (read : Consumes v w more) (send : Appends c d sent) (none : after ≡ []) where

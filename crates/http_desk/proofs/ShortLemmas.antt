@@ -2,17 +2,11 @@
 use Rattle.std.proofs.Common.{ℕ, ◌-◌, ◌<◌, ◌≤◌, length, replicate, decimal, arith, length-append}
 use Rattle.std.proofs.lemmas.List.{length-replicate}
 use Rattle.std.proofs.lemmas.Fmt.{length-decimal-le}
-use Rattle.desk_model.specs.declared.reply.BodyFault.{BodyFault}
-use Rattle.desk_model.specs.declared.reply.BodyFault.TheVariants.{Header, Shape, UnknownBlock, RepeatedBlock, OutOfRange}
-use Rattle.desk_model.specs.claim.Baf.{fault_code}
-use Rattle.desk_model.specs.claim.Padded.{padded_decimal}
+use Rattle.desk_model.specs.{declared.reply.BodyFault.BodyFault, declared.reply.BodyFault.TheVariants.Header, claim.Baf.fault_code, claim.Padded.padded_decimal}
 
 pub code_short : (fault : BodyFault) → length (fault_code fault) ≤ 2
 code_short Header = omega arith
-code_short Shape = omega arith
-code_short UnknownBlock = omega arith
-code_short RepeatedBlock = omega arith
-code_short OutOfRange = omega arith
+code_short _ = omega arith
 
 pub padded_short : (n : ℕ) → n < 65536 → length (padded_decimal 3 n) ≤ 22
 padded_short n small =

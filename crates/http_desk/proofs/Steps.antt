@@ -1,25 +1,18 @@
 -- What the step of an accepted command did.
-use Rattle.std.proofs.Common.{◌≡◌, ℕ, ◌+◌, Bool, true, false, cond, not, eqb, List, length, Option, Some, None, Result, Ok, Err, refl, sym, ap, ◌∙◌, arith}
+use Rattle.std.specs.{Prelude.nat_le, Str.Lines.lines}
+use Rattle.std.proofs.Common.{◌≡◌, ℕ, ◌+◌, Bool, true, false, cond, not, eqb, List, length, Option, Some, None, Result, Ok, Err, refl, sym, ap, ◌∙◌, arith, rules}
 use Rattle.std.proofs.lemmas.Bool.Decides.{nat_tests}
 use Rattle.std.proofs.lemmas.List.{length-map}
-use Rattle.std.specs.Prelude.{nat_le}
 use Rattle.std.specs.FinMap as map_of
-use Rattle.std.specs.Str.Lines.{lines}
-use Rattle.desk_model.specs.declared.command.Command.{Command}
-use Rattle.desk_model.specs.declared.command.Command.TheVariants.{Create, Whole, Counties, Retire, Fork}
-use Rattle.desk_model.specs.declared.reply.Reply.TheVariants as reply
-use Rattle.desk_model.specs.declared.reply.Refusal.TheVariants.{Stale, Limit}
-use Rattle.desk_model.specs.claim.Baf.{Values, Fault, body_read, fields_of}
-use Rattle.desk_model.specs.claim.Desk.{Desk, Plan}
-use Rattle.desk_model.specs.claim.Geography.{GeographyModel}
+use Rattle.desk_model.specs.{declared.command.Command.Command, declared.command.Command.TheVariants.{Create, Whole, Counties, Retire, Fork}}
+use Rattle.desk_model.specs.{declared.reply.Refusal.TheVariants.Limit, claim.Baf.{Values, Fault, body_read, fields_of}, claim.Desk.{Desk, Plan}, claim.Geography.GeographyModel}
 use Rattle.desk_model.specs.claim.Outcome.{IsAcceptance}
-use Rattle.desk_model.specs.claim.Step.{Outcome, refused, revision_limit, plan_limit, on_revisions, whole_read, patch_read, county_patched, partly_listed, create, retired, fork, fork_from, fork_of, step_at}
-use Rattle.desk_model.specs.claim.Subject.{revision_at}
-use Rattle.desk_model.specs.declared.kind.Kind.{Kind}
+use Rattle.desk_model.specs.claim.Step.{Outcome, refused, plan_limit, on_revisions, whole_read, patch_read, county_patched, partly_listed, create, retired, fork, fork_from, fork_of, step_at}
+use Rattle.desk_model.specs.{claim.Subject.revision_at, declared.kind.Kind.Kind}
+use Rattle.desk_model.specs.declared.reply.Reply.TheVariants as reply
 use Rattle.byte_stream.specs.claim.Fields.{fields}
 use Rattle.baf_text.specs.Body.{ReadIsListed, value_of, rows}
-use Rattle.http_desk.specs.Accepting.{done_by, rows_in}
-use Rattle.http_desk.specs.Laws.{IsRevised, IsDone, AcceptanceIsTold}
+use Rattle.http_desk.specs.{Accepting.{done_by, rows_in}, Laws.{IsRevised, IsDone, AcceptanceIsTold}}
 
 -- where the one outcome is a refusal and the test's is none, it is the other
 other : (b : Bool) (x y : Outcome) → ¬ IsAcceptance x.0 → IsAcceptance (cond b x y).0 → (b ≡ false) × IsAcceptance y.0 × ((cond b x y).0 ≡ y.0)
@@ -39,10 +32,7 @@ record IsAfter (d : Desk) (q : Option Plan) (after : ℕ) (go : Plan → Outcome
 
 after_is : (d : Desk) (q : Option Plan) (after : ℕ) (go : Plan → Outcome) → IsAcceptance (on_revisions d q after go).0 → IsAfter d q after go
 after_is d None after go ok = absurd ok
-after_is d (Some p) after go ok =
-    let one = other (not (eqb after (length p.revisions))) (refused d (Stale (length p.revisions))) (cond (nat_le revision_limit (length p.revisions)) (refused d Limit) (go p)) (λ bad. bad) ok in
-    let two = other (nat_le revision_limit (length p.revisions)) (refused d Limit) (go p) (λ bad. bad) one.1 in
-    record { plan = p; there = refl; count = same_after after (length p.revisions) one.0; ok = two.1; is = one.2 ∙ two.2 }
+after_is d (Some p) after go ok = search (rules, other, same_after)
 
 -- the body was read
 record IsRead (reading : Result Values Fault) (outcome : Outcome) (name : List ℕ) (p : Plan) : Type 0 where
@@ -75,17 +65,7 @@ count_is listed g n body values read =
 module _ (listed : ReadIsListed) (g : GeographyModel) (d : Desk) (is : d.geography ≡ Some g) where
   revised_is : (name body : List ℕ) (after : ℕ) (go : Plan → Outcome) (at : IsAfter d (map_of.get d.plans name) after go)
       → IsRead (body_read g at.plan.n body) (go at.plan) name at.plan → IsRevised d name body (after + 1) (rows_in body) (on_revisions d (map_of.get d.plans name) after go).0
-  revised_is name body after go at reads = record {
-    area = g;
-    geography = is;
-    plan = at.plan;
-    there = at.there;
-    next = ap (λ (n : ℕ). n + 1) at.count;
-    told = at.is ∙ (reads.told ∙ ap (λ (n : ℕ). reply.Created name (n + 1)) (sym at.count));
-    values = reads.values;
-    read = reads.read;
-    count = count_is listed g at.plan.n body reads.values reads.read;
-  }
+  revised_is name body after go at reads = search (rules, count_is)
 
 created_is : (d : Desk) (name : List ℕ) (kind : Kind) (n : ℕ) (q : Option Plan) → IsAcceptance (create d name kind n q).0 → (create d name kind n q).0 ≡ reply.Created name 0
 created_is d name kind n (Some p) ok = absurd ok
@@ -105,9 +85,7 @@ fork_from_is d name (Some q) j ok = fork_of_is d name q (revision_at q j) ok
 
 forked_is : (d : Desk) (name : List ℕ) (from : List ℕ × ℕ) (q : Option Plan) → IsAcceptance (fork d name from q).0 → (fork d name from q).0 ≡ reply.Created name 1
 forked_is d name from (Some p) ok = absurd ok
-forked_is d name from None ok =
-    let go = other (nat_le plan_limit (map_of.len d.plans)) (refused d Limit) (fork_from d name (map_of.get d.plans from.0) from.1) (λ bad. bad) ok in
-    go.2 ∙ fork_from_is d name (map_of.get d.plans from.0) from.1 go.1
+forked_is d name from None ok = search (rules, other, fork_from_is)
 
 done_at : ReadIsListed → (area : Option GeographyModel) (d : Desk) (c : Command) → d.geography ≡ area → IsAcceptance (step_at area d c).0 → IsDone d c (done_by c) (step_at area d c).0
 done_at listed None d c is ok = absurd ok

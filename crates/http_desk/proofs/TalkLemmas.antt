@@ -1,39 +1,26 @@
 -- How one exchange goes into a talk.
-use Rattle.std.proofs.Common.{◌≡◌, ◌⊎◌, ℕ, suc, Bool, true, false, List, [], ◌++◌, Option, Some, Result, Ok, Err, refl, sym, ap, subst, ◌∙◌, append_assoc, inl, inr, ◌+◌, ◌<◌, ◌≤◌, arith, codes}
-use Rattle.std.proofs.lemmas.List.{append-nil}
-use Rattle.std.proofs.KnownBytes.{Appends-nil, Appends-trans, Consumes-trans}
 use Rattle.std.specs.Io.KnownBytes.{Appends, Consumes}
+use Rattle.std.proofs.Common.{◌≡◌, ◌⊎◌, ℕ, suc, Bool, true, false, List, [], ◌++◌, Option, Some, Result, Ok, Err, refl, sym, ap, subst, ◌∙◌, append_assoc, inl, inr, ◌+◌, ◌<◌, ◌≤◌, arith, codes, rules}
+use Rattle.std.proofs.KnownBytes.{Appends-nil, Appends-trans, Consumes-trans}
+use Rattle.std.proofs.lemmas.List.{append-nil}
 use Rattle.httparse.specs.Grammar.{RequestHead}
-use Rattle.http_wire.specs.claim.Prefix.{HasRequest, IsOutOfMemory, closes_after as closes_after_head, is_head}
-use Rattle.http_wire.specs.claim.Interim.{continue_text, asks_to_continue}
-use Rattle.http_wire.specs.Interim.{IsCutShort}
-use Rattle.http_wire.specs.Queue.{Queued}
-use Rattle.http_wire.specs.declared.request.Incoming.{Incoming}
+use Rattle.http_wire.specs.{claim.Prefix.{HasRequest, IsOutOfMemory, closes_after as closes_after_head, is_head}, claim.Interim.{continue_text, asks_to_continue}}
+use Rattle.http_wire.specs.{Interim.IsCutShort, Queue.Queued, declared.request.Incoming.Incoming}
 use Rattle.http_wire.specs.declared.request.Incoming.TheVariants as came
-use Rattle.desk_model.specs.declared.command.Command.{Command}
-use Rattle.desk_model.specs.declared.command.Query.{Query}
-use Rattle.desk_model.specs.declared.reply.Reply.{Reply}
-use Rattle.http_desk.specs.declared.serve.Asked.{Asked}
+use Rattle.desk_model.specs.{declared.command.Command.Command, declared.command.Query.Query, declared.reply.Reply.Reply}
+use Rattle.http_desk.specs.{declared.serve.Asked.Asked, declared.serve.Next.Next, declared.serve.StreamFault.StreamFault, claim.Asking.{Asks, IsAskedAfter, IsAskedIn}}
+use Rattle.http_desk.specs.{Asking.TakesAll, Serving.{CutsNext, Handled, IsUnanswered, Leaves, MayHandle, NextCame, Puts, TakesNext}}
+use Rattle.http_desk.specs.claim.Serving.{Exchanges, IsCutTalk, IsPrefixTalk, IsShortTalk, GoesOn, ServesTo}
+use Rattle.http_desk.specs.claim.Talk.{Talk, Handles, over, ended, out_of_memory, refused, closed, went}
 use Rattle.http_desk.specs.declared.serve.Asked.TheVariants as asked
-use Rattle.http_desk.specs.declared.serve.Next.{Next}
 use Rattle.http_desk.specs.declared.serve.Next.TheVariants as next
-use Rattle.http_desk.specs.declared.serve.StreamFault.{StreamFault}
 use Rattle.http_desk.specs.declared.serve.StreamFault.TheVariants as fault
 use Rattle.http_routes.specs.declared.order.Order.TheVariants as order
 use Rattle.http_routes.specs.claim.Orders.{order_of}
-use Rattle.http_desk.specs.claim.Asking.{Asks, IsAskedAfter, IsAskedIn}
-use Rattle.http_desk.specs.Asking.{TakesAll}
-use Rattle.http_desk.specs.Serving.{CutsNext, Handled, IsUnanswered, Leaves, MayHandle, NextCame, Puts, TakesNext}
-use Rattle.http_desk.specs.claim.Serving.{Exchanges, IsCutTalk, IsPrefixTalk, IsShortTalk, GoesOn, ServesTo}
-use Rattle.http_desk.specs.claim.Talk.{Talk, Handles, over, ended, out_of_memory, refused, closed, went}
 
 -- one text after another waits
 pub queued_then : (u v w : Option (List ℕ)) (before between after first second : List ℕ) → Queued u v before between first → Queued v w between after second → Queued u w before after (first ++ second)
-queued_then u v w before between after first second p q = (
-  p.0 ++ q.0,
-  Appends-trans u v w p.0 q.0 p.1 q.1,
-  sym (append_assoc before first second) ∙ ap (λ (t : List ℕ). t ++ second) p.2 ∙ append_assoc p.0 between second ∙ ap (λ (t : List ℕ). p.0 ++ t) q.2 ∙ sym (append_assoc p.0 q.0 after),
-)
+queued_then u v w before between after first second p q = search (rules, Appends-trans, append_assoc)
 
 pub queued_as : (u v : Option (List ℕ)) (before unsent after text : List ℕ) → unsent ≡ after → Queued u v before unsent text → Queued u v before after text
 queued_as u v before unsent after text e q = subst (λ (t : List ℕ). Queued u v before t text) e q
@@ -56,9 +43,8 @@ may_handle takes x u v read_buffer more rest interim unsent pending (came.Reques
     let is = n.1.0 in
     let here = λ (c : Command) (asks : order_of r.method r.target.items r.body.items ≡ order.Command c). Asks.here (read_buffer ++ more) is.head r.target.items r.body.items rest c is.request (ap (λ (m : List ℕ). order_of m r.target.items r.body.items) (sym is.method) ∙ asks) in
     (is.ascii, λ c asks. all x c (v, more, read, here c asks))
-may_handle takes x u v read_buffer more rest interim unsent pending (came.Refused f head_only) all read n = tt
-may_handle takes x u v read_buffer more rest interim unsent pending (came.OutOfMemory head_only) all read n = tt
 may_handle takes x u v read_buffer more rest interim unsent pending came.End all read n = absurd n.0
+may_handle takes x u v read_buffer more rest interim unsent pending _ all read n = tt
 
 -- memory is wanting for a request that has come
 pub IsOutOfMemory-whole : (input : List ℕ) (h : RequestHead) (target body rest : List ℕ) → HasRequest input h target body rest → IsOutOfMemory input (is_head h.method)
@@ -158,14 +144,7 @@ module _ {X : Type 0} (commands : X → Command → Reply → X → Type 0) (ask
   pub cut_short : (x : X) (input interim : List ℕ) → IsUnanswered input interim ⊎ IsCutShort input interim → IsShortTalk commands asks x input interim x
   cut_short x input interim (inl c) = inl (0, unanswered x input interim c)
   cut_short x input interim (inr (inl c)) = inl (0, ended x input interim c.0 c.1)
-  cut_short x input interim (inr (inr (c, none))) = inr (record {
-    taken = [];
-    rest = input;
-    read = refl;
-    cut = c;
-    count = 0;
-    on = λ later more n shut z talk. moved x z shut later later more (interim ++ more) n (0 + n) refl (ap (λ (t : List ℕ). t ++ more) (sym none)) (omega arith) talk;
-  })
+  cut_short x input interim (inr (inr (c, none))) = search (rules, moved)
 
   pub counted_as : (x z : X) (shut : Bool) (input output : List ℕ) (n m : ℕ) → n ≡ m → Talk commands asks x input output n shut z → Talk commands asks x input output m shut z
   counted_as x z shut input output n m e talk = rw (← e) talk
@@ -272,7 +251,6 @@ module _ {X : Type 0} (commands : X → Command → Reply → X → Type 0) (ask
   pub fails : (x0 x y : X) (u v w b0 b1 b2 : Option (List ℕ)) (read_buffer rest pending after came sent unsent : List ℕ) (requests : ℕ) (e : StreamFault) → Stands x0 u v b0 b1 x read_buffer pending requests → Consumes v w came
       → Queued b1 b2 pending unsent sent → Exchanges commands asks x (Err e) w (read_buffer ++ came) rest sent y → Leaves (Err e) unsent after
       → (input : List ℕ) × (output : List ℕ) × Consumes u w input × Appends b0 b2 output × ServesTo commands asks x0 (Err e) w input output y
-  fails x0 x y u v w b0 b1 b2 read_buffer rest pending after came sent unsent requests fault.Read s read write t none = ends_short x0 x y u v w b0 b1 b2 read_buffer pending came sent unsent requests s read write none t
-  fails x0 x y u v w b0 b1 b2 read_buffer rest pending after came sent unsent requests fault.TurnLimit s read write t none = ends_short x0 x y u v w b0 b1 b2 read_buffer pending came sent unsent requests s read write none t
   fails x0 x y u v w b0 b1 b2 read_buffer rest pending after came sent unsent requests fault.Write s read write t none = ends_cut x0 x y u v w b0 b1 b2 read_buffer pending came sent unsent requests s read write t
   fails x0 x y u v w b0 b1 b2 read_buffer rest pending after came sent unsent requests fault.Memory s read write t none = absurd t
+  fails x0 x y u v w b0 b1 b2 read_buffer rest pending after came sent unsent requests _ s read write t none = ends_short x0 x y u v w b0 b1 b2 read_buffer pending came sent unsent requests s read write none t

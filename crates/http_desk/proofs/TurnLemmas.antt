@@ -2,12 +2,9 @@
 use Rattle.std.proofs.Common.{◌≡◌, ℕ, ◌<◌, ◌≤◌, Bool, false, List, Option, Result, Ok, Err, refl, arith}
 use Rattle.http_intake.specs.Budget.{Spends}
 use Rattle.byte_stream.specs.claim.Counts.{counted}
-use Rattle.http_desk.specs.declared.serve.Next.{Next}
+use Rattle.http_desk.specs.{declared.serve.Next.Next, declared.serve.StreamFault.StreamFault, Serving.{Puts, TakesSome}, claim.Serving.read_failures}
 use Rattle.http_desk.specs.declared.serve.Next.TheVariants as next
-use Rattle.http_desk.specs.declared.serve.StreamFault.{StreamFault}
 use Rattle.http_desk.specs.declared.serve.StreamFault.TheVariants as fault
-use Rattle.http_desk.specs.Serving.{Puts, TakesSome}
-use Rattle.http_desk.specs.claim.Serving.{read_failures}
 
 pub spends_none : (t u a : ℕ) → u ≡ t → Spends t u a a
 spends_none t u a same = record { fewer = omega (arith, same); taken = omega (arith, same) }

@@ -1,13 +1,9 @@
 -- What an accepted command did, by the command alone.
-use Rattle.std.specs.Prelude.{ℕ, ◌+◌, ◌==◌, if◌then◌else◌, Bool, true, false, List, length, Option, Some, None}
-use Rattle.std.specs.Str.Lines.{lines}
+use Rattle.std.specs.{Prelude.{ℕ, ◌+◌, ◌==◌, if◌then◌else◌, Bool, true, false, List, length, Option, Some, None}, Str.Lines.lines}
 use Rattle.baf_text.specs.Body.{rows}
-use Rattle.desk_model.specs.declared.command.Command.{Command}
-use Rattle.desk_model.specs.declared.command.Command.TheVariants.{Create, Whole, Counties, Retire, Fork}
-use Rattle.desk_model.specs.declared.reply.Reply.{Reply}
+use Rattle.desk_model.specs.{declared.command.Command.Command, declared.command.Command.TheVariants.{Create, Whole, Counties, Retire, Fork}, declared.reply.Reply.Reply}
 use Rattle.desk_model.specs.declared.reply.Reply.TheVariants as reply
-use Rattle.http_desk.specs.declared.accepted.Accepted.{Accepted}
-use Rattle.http_desk.specs.declared.accepted.Accepted.TheVariants.{Created, Revised, Forked, Deleted}
+use Rattle.http_desk.specs.{declared.accepted.Accepted.Accepted, declared.accepted.Accepted.TheVariants.{Created, Revised, Forked, Deleted}}
 
 -- 1 where a line has bytes
 abbrev pub one_row : List ℕ → ℕ

@@ -1,6 +1,5 @@
 -- A text, line by line.
-use Rattle.std.specs.Prelude.{◌≡◌, ◌<◌, ℕ, List, ◌∷◌, length}
-use Rattle.std.specs.Str.Lines.{lines}
+use Rattle.std.specs.{Prelude.{◌≡◌, ◌<◌, ℕ, List, ◌∷◌, length}, Str.Lines.lines}
 use Rattle.http_desk.specs.Accepting.{one_row}
 
 -- the first line of a text counts so much, and this is the text after it

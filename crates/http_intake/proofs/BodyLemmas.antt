@@ -1,8 +1,7 @@
 -- A body, one piece after another.
-use Rattle.std.proofs.Common.{◌≡◌, ℕ, ◌+◌, ◌*◌, ◌≤◌, List, [], ◌++◌, length, take, drop, Option, sym, ap, ◌∙◌, arith, append_assoc, append-nil, length-take}
-use Rattle.std.proofs.Math.Seq.{take-add}
-use Rattle.std.proofs.KnownBytes.{Consumes-trans}
 use Rattle.std.specs.Io.KnownBytes.{Consumes}
+use Rattle.std.proofs.{Common.{◌≡◌, ℕ, ◌+◌, ◌*◌, ◌≤◌, List, [], ◌++◌, length, take, drop, Option, sym, ap, ◌∙◌, append_assoc, append-nil, length-take, rules}, Math.Seq.take-add}
+use Rattle.std.proofs.KnownBytes.{Consumes-trans}
 
 -- one piece more after the filled bytes
 pub body_grown : (u v w : Option (List ℕ)) (start old mid new : List ℕ) (filled k : ℕ) → (more : List ℕ) × Consumes u v more × (take filled old ≡ start ++ more)
@@ -21,8 +20,4 @@ came_still u v w start prefix came still = (came.0 ++ [], Consumes-trans u v w c
 -- a room that grew with the filled bytes grew with those that came
 pub room_grown : (u v : Option (List ℕ)) (start read_buffer items : List ℕ) (filled room : ℕ) → read_buffer ≡ [] → filled ≤ length items → room ≤ 2 * filled + 65536
     → (more : List ℕ) × Consumes u v more × (take filled items ≡ start ++ more) → (more : List ℕ) × Consumes u v more × (room ≤ 2 * length (start ++ (read_buffer ++ more)) + 65536)
-room_grown u v start read_buffer items filled room none within small came =
-    let same : start ++ (read_buffer ++ came.0) ≡ take filled items = ap (λ (xs : List ℕ). start ++ (xs ++ came.0)) none ∙ sym came.2 in
-    let long : length (start ++ (read_buffer ++ came.0)) ≡ length (take filled items) = ap (λ (xs : List ℕ). length xs) same in
-    let cut = length-take filled items in
-    (came.0, came.1, omega (arith, small, long, cut, within))
+room_grown u v start read_buffer items filled room none within small came = search (rules, length-take)

@@ -1,19 +1,13 @@
 -- Chunks are one of their cases.
-use Rattle.std.proofs.Common.{◌≡◌, ℕ, zero, suc, ◌+◌, ◌<◌, ◌≤◌, None, List, [], ◌∷◌, ◌++◌, length, take, drop, codes, refl, sym, ap, subst, ◌∙◌, arith, inl, inr, ⊎_elim, take_all, append-nil, take-append-drop, length-take, length-take-le, length-append}
+use Rattle.std.proofs.Common.{◌≡◌, ℕ, zero, suc, ◌+◌, ◌<◌, ◌≤◌, None, List, [], ◌∷◌, ◌++◌, length, take, drop, codes, refl, sym, ap, subst, ◌∙◌, arith, inl, inr, ⊎_elim, take_all, append-nil, take-append-drop, length-take, length-take-le, length-append, rules}
 use Rattle.std.proofs.lemmas.Bool.{cases_lt}
 use Rattle.std.proofs.lemmas.List.Sums.{AllPass-from_list_all}
-use Rattle.std.specs.Char.{is_ascii_hexdigit}
-use Rattle.httparse.specs.Grammar.{ReadsSection, HasNoSection, MayBecomeSection, print_section, ChunkLine, ReadsChunkLine, HasNoChunkLine, MayBecomeChunkLine, print_chunk_line, chunk_size, IsChunkLine, is_ows}
-use Rattle.httparse.proofs.GrammarLemmas.{section_unique, ReadsSection-append}
-use Rattle.httparse.proofs.ChunkLemmas.{ReadsChunkLine-append}
-use Rattle.http_intake.specs.declared.bad_request.BadRequest.{BadRequest}
-use Rattle.http_intake.specs.declared.bad_request.BadRequest.TheVariants.{BadHead, HeadTooLarge, BodyTooLarge, BadChunk}
-use Rattle.http_intake.specs.claim.Lines.{section_lines}
-use Rattle.http_intake.specs.claim.Limits.{window, body_limit}
+use Rattle.httparse.specs.Grammar.{ReadsSection, HasNoSection, MayBecomeSection, print_section, ChunkLine, ReadsChunkLine, HasNoChunkLine, MayBecomeChunkLine, print_chunk_line, chunk_size, IsChunkLine}
+use Rattle.httparse.proofs.{GrammarLemmas.{section_unique, ReadsSection-append}, ChunkLemmas.ReadsChunkLine-append}
+use Rattle.http_intake.specs.{declared.bad_request.BadRequest.BadRequest, declared.bad_request.BadRequest.TheVariants.{BadHead, HeadTooLarge, BodyTooLarge, BadChunk}}
+use Rattle.http_intake.specs.{claim.Lines.section_lines, claim.Limits.{window, body_limit}}
 use Rattle.http_intake.specs.claim.Chunks.{line_window, HasLine, RefusesLine, IsOpenLine, HasTrailers, RefusesTrailers, AreOpenTrailers, HasChunk, HasChunks, HasChunkFault, LacksChunks, HasLastLine, HasDataLine, IsNoEnd, IsOpenEnd}
-use Rattle.http_intake.specs.Chunks.{AreNoChunks}
-use Rattle.http_intake.proofs.Prefixes.{window_rest, window_short, either_prefix}
-use Rattle.http_intake.proofs.LineLemmas.{lines_of_section, section_lines_grow}
+use Rattle.http_intake.{specs.Chunks.AreNoChunks, proofs.Prefixes.{window_rest, window_short, either_prefix}, proofs.LineLemmas.{lines_of_section, section_lines_grow}}
 use Rattle.http_intake.proofs.ChunkLookLemmas.{section_overflows_at, some_line}
 
 -- ---- trailers
@@ -129,11 +123,7 @@ last_chunk = record { digits = codes "0"; pad = []; extension = None }
 
 last_chunk_ok : IsChunkLine last_chunk
 unfolding lib.Utf8.encode
-last_chunk_ok = record {
-  digits = (omega arith, omega arith, AllPass-from_list_all is_ascii_hexdigit (codes "0") refl);
-  pad = AllPass-from_list_all is_ows [] refl;
-  extension = tt;
-}
+last_chunk_ok = search (rules, AllPass-from_list_all)
 
 may_begin : MayBecomeChunkLine []
 unfolding print_chunk_line

@@ -2,14 +2,11 @@
 use Rattle.std.proofs.Common.{◌≡◌, ◌⊎◌, ℕ, ◌+◌, ◌-◌, ◌<◌, ◌≤◌, List, [], ◌∷◌, ◌++◌, length, take, drop, refl, sym, ap, subst, ◌∙◌, arith, inl, inr, take_all, take-append-drop, length-append}
 use Rattle.std.proofs.Math.Seq.{take-append-add}
 use Rattle.httparse.specs.Grammar.{ReadsSection, MayBecomeSection, NeverHasSection, print_section, ChunkLine, ReadsChunkLine, print_chunk_line, chunk_size}
-use Rattle.httparse.proofs.ChunkLemmas.{chunk_line_unique}
-use Rattle.httparse.proofs.GrammarLemmas.{section_unique}
-use Rattle.http_intake.specs.declared.bad_request.BadRequest.{BadRequest}
-use Rattle.http_intake.specs.declared.bad_request.BadRequest.TheVariants.{BadHead, HeadTooLarge, BadHost, BadLength, BadCoding, BodyTooLarge, BadTarget, BadChunk}
+use Rattle.httparse.proofs.{ChunkLemmas.chunk_line_unique, GrammarLemmas.section_unique}
+use Rattle.http_intake.specs.{declared.bad_request.BadRequest.BadRequest, declared.bad_request.BadRequest.TheVariants.{BadHead, HeadTooLarge, BodyTooLarge, BadChunk}}
 use Rattle.http_intake.specs.claim.Limits.{window, body_limit}
 use Rattle.http_intake.specs.claim.Chunks.{line_window, HasLine, HasTrailers, HasChunk, HasLastLine, HasDataLine, HasChunks, RefusesLine, RefusesTrailers, IsNoEnd, HasTooManyTrailers, AreTooLong, IsOpenLine, IsOpenEnd, AreOpenTrailers, HasChunkFault, LacksChunks, ReachesTrailers}
-use Rattle.http_intake.specs.Chunks.{HasTwoFaults}
-use Rattle.http_intake.proofs.Prefixes.{same_cut, window_rest}
+use Rattle.http_intake.{specs.Chunks.HasTwoFaults, proofs.Prefixes.{same_cut, window_rest}}
 
 -- a line within its limit stands where one is looked for
 line_in_window : (input : List ℕ) (l : ChunkLine) (rest : List ℕ) → HasLine input l rest → (r : List ℕ) × ReadsChunkLine (line_window input) l r
@@ -102,12 +99,7 @@ same_trailers input r q x y = (section_unique input x.fields y.fields x.last y.l
 pub trailers_are : (input : List ℕ) (f : BadRequest) → RefusesTrailers input f → ((f ≡ BadHead) × NeverHasSection (window input)) ⊎ ((f ≡ HeadTooLarge) × (AreTooLong input ⊎ HasTooManyTrailers input))
 trailers_are input BadHead x = inl (refl, x)
 trailers_are input HeadTooLarge x = inr (refl, x)
-trailers_are input BadHost x = absurd x
-trailers_are input BadLength x = absurd x
-trailers_are input BadCoding x = absurd x
-trailers_are input BodyTooLarge x = absurd x
-trailers_are input BadTarget x = absurd x
-trailers_are input BadChunk x = absurd x
+trailers_are input _ x = absurd x
 
 trailers_or_refused : (input rest : List ℕ) (f : BadRequest) → HasTrailers input rest → RefusesTrailers input f → ⊥
 trailers_or_refused input rest f t x = decide (trailers_are input f x)
@@ -262,11 +254,10 @@ fault_or_lack n input f room (HasChunkFault.later _ _ l d x _ s fault) (LacksChu
 
 -- beside a line that is refused there is no other fault
 line_fault : (n : ℕ) (input : List ℕ) (g : BadRequest) → RefusesLine input → HasChunkFault n input g → BadChunk ≡ g
-line_fault n input g bad (HasChunkFault.bad_line _ _ other) = refl
 line_fault n input g bad (HasChunkFault.too_large _ _ k y u large) = absurd (line_or_refused input k y u bad)
-line_fault n input g bad (HasChunkFault.bad_end _ _ k c y u size other) = refl
 line_fault n input g bad (HasChunkFault.bad_trailers _ _ k y _ u other) = absurd (line_or_refused input k y u.line bad)
 line_fault n input g bad (HasChunkFault.later _ _ k c y _ u fault) = absurd (line_or_refused input k (c ++ 13 ∷ 10 ∷ y) u.line bad)
+line_fault n input g bad _ = refl
 
 module _ (n : ℕ) (input : List ℕ) (l : ChunkLine) where
   large_fault : (x : List ℕ) (g : BadRequest) → n ≤ body_limit → HasLine input l x → body_limit < n + chunk_size l → HasChunkFault n input g → BodyTooLarge ≡ g
@@ -277,11 +268,10 @@ module _ (n : ℕ) (input : List ℕ) (l : ChunkLine) where
   large_fault x g room s large (HasChunkFault.later _ _ k c y _ u fault) = absurd (chunk_or_large n input k l c y x u s large)
 
   end_fault : (d x : List ℕ) (g : BadRequest) → HasDataLine n input l (d ++ x) → length d ≡ chunk_size l → IsNoEnd x → HasChunkFault n input g → BadChunk ≡ g
-  end_fault d x g s size bad (HasChunkFault.bad_line _ _ other) = refl
   end_fault d x g s size bad (HasChunkFault.too_large _ _ k y u large) = absurd (data_or_large n input l k (d ++ x) y s u large)
-  end_fault d x g s size bad (HasChunkFault.bad_end _ _ k c y u other_size other) = refl
   end_fault d x g s size bad (HasChunkFault.bad_trailers _ _ k y _ u other) = absurd (data_or_last n input l k (d ++ x) y s u)
   end_fault d x g s size bad (HasChunkFault.later _ _ k c y _ u fault) = absurd (chunk_or_no_end n input k l c y d x u s size bad)
+  end_fault d x g s size bad _ = refl
 
   -- both faults are of these trailers
   two_faults : (x : List ℕ) (f g : BadRequest) → HasLastLine input l x → (f ≡ g) ⊎ (HasTooManyTrailers x × NeverHasSection (window x)) → (f ≡ g) ⊎ HasTwoFaults n input

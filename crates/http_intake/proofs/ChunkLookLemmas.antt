@@ -1,29 +1,20 @@
 -- What the parser answers on the first bytes holds of all bytes: chunks' lines and trailers.
-use Rattle.std.proofs.Common.{◌≡◌, ℕ, ◌+◌, ◌-◌, ◌<◌, ◌≤◌, min, List, [], ◌∷◌, ◌++◌, length, take, drop, sym, ap, ◌∙◌, arith, ⊎_elim, append-nil, take-append-drop, length-take, length-take-le, length-append}
+use Rattle.std.specs.Prelude.{All}
+use Rattle.std.proofs.Common.{◌≡◌, ℕ, ◌+◌, ◌-◌, ◌<◌, ◌≤◌, min, List, ◌++◌, length, take, drop, sym, ap, ◌∙◌, arith, ⊎_elim, append-nil, take-append-drop, length-take, length-take-le, length-append, rules}
+use Rattle.std.proofs.Math.Seq.{take-append_seam, take-append-add}
 use Rattle.std.proofs.lemmas.Bool.{cases_lt}
 use Rattle.std.proofs.lemmas.List.{length-map, take-append-le, append_cancel_right}
-use Rattle.std.proofs.Math.Seq.{take-append_seam, take-append-add}
-use Rattle.std.specs.List.{flat_map}
-use Rattle.std.specs.Prelude.{All}
-use Rattle.httparse.specs.Grammar.{LineEnd, crlf, lf, print_end, print_extension, Field, IsField, print_field, print_section, HasNoSection, ChunkLine, print_chunk_line, IsChunkLine}
-use Rattle.httparse.specs.Spans.{header_bytes, name_and_value, IsChunkLineAt, IsSectionWithin, IsSectionAt, SectionOverflows, SectionExceeds}
-use Rattle.httparse.specs.declared.spans.HeaderSpan.{HeaderSpan}
-use Rattle.http_intake.specs.claim.Lines.{section_lines}
-use Rattle.http_intake.specs.claim.Chunks.{HasTrailers, line_window}
-use Rattle.http_intake.specs.declared.chunk_line.FoundLine.{FoundLine}
-use Rattle.http_intake.specs.ChunkParts.{IsLineAt}
-use Rattle.http_intake.proofs.Prefixes.{prefix_of_prefix, take_min}
-use Rattle.http_intake.proofs.LineLemmas.{fields_lines, lines_of_section, section_lines_grow}
+use Rattle.httparse.specs.Grammar.{LineEnd, Field, IsField, print_section, HasNoSection, ChunkLine, print_chunk_line, IsChunkLine}
+use Rattle.httparse.specs.{Spans.{IsChunkLineAt, IsSectionWithin, IsSectionAt, SectionOverflows, SectionExceeds}, declared.spans.HeaderSpan.HeaderSpan}
+use Rattle.http_intake.specs.{claim.Lines.section_lines, claim.Chunks.{HasTrailers, line_window}, declared.chunk_line.FoundLine.FoundLine, ChunkParts.IsLineAt}
+use Rattle.http_intake.proofs.{Prefixes.{prefix_of_prefix, take_min}, LineLemmas.{fields_lines, lines_of_section, section_lines_grow}}
 
 pub line_window_is : (bytes : List ℕ) (n : ℕ) → n ≡ min (length bytes) 256 → take n bytes ≡ line_window bytes
 line_window_is bytes n e = take_min 256 bytes n e
 
 pub some_line : (l : ChunkLine) → IsChunkLine l → 0 < length (print_chunk_line l)
 unfolding print_chunk_line
-some_line l ok =
-    let prefix = l.digits ++ l.pad ++ print_extension l.extension in
-    let len : length (print_chunk_line l) ≡ length prefix + 2 = length-append prefix (print_end crlf) in
-    omega (arith, len)
+some_line l ok = search (rules, length-append)
 
 -- what stands at the start of the first n bytes ends within them
 prefix_fits : (bytes prefix : List ℕ) (n m : ℕ) → take n bytes ≡ prefix ++ drop m (take n bytes) → (length prefix ≤ n) × (length prefix ≤ length bytes)
@@ -35,41 +26,16 @@ prefix_fits bytes prefix n m e =
 
 -- a line of the first n bytes
 pub line_at : (bytes : List ℕ) (n : ℕ) (found : FoundLine) (l : ChunkLine) → n ≤ 256 → IsChunkLineAt (take n bytes) found.len found.size l → IsLineAt bytes found
-line_at bytes n found l few at =
-    let fits = prefix_fits bytes (print_chunk_line l) n found.len at.reads.1 in
-    record {
-      line = l;
-      stands = record {
-        reads = (at.reads.0, prefix_of_prefix bytes (print_chunk_line l) n found.len at.len_is at.reads.1);
-        short = omega (arith, fits.0);
-      };
-      within = omega (arith, at.len_is, fits.1);
-      some = omega (arith, at.len_is, some_line l at.reads.0);
-      size = at.size_is;
-    }
+line_at bytes n found l few at = search (rules, prefix_fits, prefix_of_prefix, some_line)
 
 -- trailers of the first n bytes
 pub trailers_at : (bytes : List ℕ) (n len count : ℕ) (headers : List HeaderSpan) (fields : List Field) (last : LineEnd) → n ≤ 16384 → length headers ≡ 64 → IsSectionWithin (take n bytes) headers len count
     → IsSectionAt (take n bytes) 0 headers len count fields last → (len ≤ length bytes) × HasTrailers bytes (drop len bytes)
-trailers_at bytes n len count headers fields last few room within at =
-    let fits = prefix_fits bytes (print_section fields last) n len at.reads.1 in
-    let fields_len : count ≡ length fields = sym (length-take-le count headers within.count_fits) ∙ sym (length-map (take count headers) (header_bytes (take n bytes))) ∙ ap length at.fields_are ∙ length-map fields name_and_value in (
-      omega (arith, at.len_is, fits.1),
-      record {
-        fields = fields;
-        last = last;
-        reads = (at.reads.0, prefix_of_prefix bytes (print_section fields last) n len (omega (arith, at.len_is)) at.reads.1);
-        short = omega (arith, fits.0);
-        few = omega (arith, within.count_fits);
-      },
-    )
+trailers_at bytes n len count headers fields last few room within at = search (rules, prefix_fits, length-take-le, length-map, prefix_of_prefix)
 
 -- more than 64 fields are at least 65 lines
 pub exceeds_lines : (part : List ℕ) → SectionExceeds 64 part → 65 ≤ section_lines part
-exceeds_lines part x =
-    let same : x.0 ≡ flat_map print_field x.3 = append_cancel_right x.0 (flat_map print_field x.3) (10 ∷ []) (x.4.1 ∙ append-nil (print_section x.3 lf)) in
-    let none : section_lines (flat_map print_field x.3) ≡ length x.3 = ap section_lines (sym (append-nil (flat_map print_field x.3))) ∙ fields_lines x.3 [] x.4.0 ∙ omega arith in
-    omega (arith, x.5, none, ap section_lines same, section_lines_grow x.0 x.1, ap section_lines x.2)
+exceeds_lines part x = search (rules, append_cancel_right, append-nil, fields_lines, section_lines_grow)
 
 -- a prefix of trailers has no more lines than they have fields
 prefix_lines : (fields : List Field) (last : LineEnd) (part more : List ℕ) → All IsField fields → print_section fields last ≡ part ++ more → section_lines part ≤ length fields

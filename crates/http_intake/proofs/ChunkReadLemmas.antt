@@ -1,56 +1,41 @@
 -- The parts of a body in chunks, one after another.
-use Rattle.std.proofs.Common.{◌≡◌, ℕ, ◌+◌, ◌<◌, ◌≤◌, List, [], ◌∷◌, ◌++◌, length, take, drop, Option, Some, None, Result, Ok, Err, refl, sym, ap, subst, ◌∙◌, arith, inl, inr, append_assoc, append-nil, take-append-drop, length-append}
-use Rattle.std.proofs.lemmas.List.{append_cancel_left, take-append-le}
-use Rattle.std.proofs.Math.Seq.{take-append_seam}
-use Rattle.std.proofs.KnownBytes.{Consumes-trans}
 use Rattle.std.specs.Io.KnownBytes.{Consumes}
-use Rattle.httparse.specs.Grammar.{ChunkLine, chunk_size}
-use Rattle.httparse.proofs.ChunkLemmas.{ReadsChunkLine-append}
-use Rattle.http_intake.specs.declared.chunk_line.FoundLine.{FoundLine}
-use Rattle.http_intake.specs.declared.chunks.Chunked.{Chunked}
-use Rattle.http_intake.specs.declared.chunks.Chunked.TheVariants as came
-use Rattle.http_intake.specs.declared.bad_request.BadRequest.{BadRequest}
-use Rattle.http_intake.specs.declared.bad_request.BadRequest.TheVariants.{BodyTooLarge}
-use Rattle.http_intake.specs.declared.fault.WireFault.{WireFault}
-use Rattle.http_intake.specs.declared.fault.WireFault.TheVariants as fault
-use Rattle.http_intake.specs.declared.sought.Seen.TheVariants.{Incomplete}
-use Rattle.http_intake.specs.Draws.{IsPutOff}
-use Rattle.http_intake.proofs.DrawsLemmas.{not_put_off}
-use Rattle.http_intake.specs.Chunked.{ChunksCame}
+use Rattle.std.proofs.Common.{◌≡◌, ℕ, ◌+◌, ◌<◌, ◌≤◌, List, [], ◌∷◌, ◌++◌, length, take, drop, Option, Some, None, Result, Ok, Err, refl, sym, ap, subst, ◌∙◌, arith, inl, inr, append_assoc, append-nil, take-append-drop, length-append, rules}
+use Rattle.std.proofs.{Math.Seq.take-append_seam, KnownBytes.Consumes-trans}
+use Rattle.std.proofs.lemmas.List.{append_cancel_left, take-append-le}
+use Rattle.httparse.{specs.Grammar.{ChunkLine, chunk_size}, proofs.ChunkLemmas.ReadsChunkLine-append}
+use Rattle.http_intake.specs.{declared.chunk_line.FoundLine.FoundLine, declared.chunks.Chunked.Chunked, declared.bad_request.BadRequest.BadRequest}
+use Rattle.http_intake.specs.{declared.bad_request.BadRequest.TheVariants.BodyTooLarge, declared.fault.WireFault.WireFault, declared.sought.Seen.TheVariants.Incomplete}
+use Rattle.http_intake.specs.{Draws.IsPutOff, Chunked.ChunksCame}
 use Rattle.http_intake.specs.claim.Chunks.{HasLine, IsOpenLine, IsOpenEnd, AreOpenTrailers, HasDataLine, HasLastLine, HasChunk, HasChunks, HasChunkFault, LacksChunks}
 use Rattle.http_intake.specs.ChunkParts.{IsLineAt, SeesLine, SeesEnd, SeesTrailers, EndCame, TrailersCame, HasData, LacksData, DataCame, StepCame, after_trailers, after_data}
+use Rattle.http_intake.proofs.DrawsLemmas.{not_put_off}
+use Rattle.http_intake.specs.declared.chunks.Chunked.TheVariants as came
+use Rattle.http_intake.specs.declared.fault.WireFault.TheVariants as fault
 
 line_before : (input : List ℕ) (l : ChunkLine) (rest more : List ℕ) → HasLine input l rest → HasLine (input ++ more) l (rest ++ more)
 line_before input l rest more s = record { reads = ReadsChunkLine-append input l rest more s.reads; short = s.short }
 
 chunk_before : (n : ℕ) (input : List ℕ) (l : ChunkLine) (bytes rest more : List ℕ) → HasChunk n input l bytes rest → HasChunk n (input ++ more) l bytes (rest ++ more)
-chunk_before n input l bytes rest more c = record {
-  line = subst (HasLine (input ++ more) l) (append_assoc bytes (13 ∷ 10 ∷ rest) more) (line_before input l (bytes ++ 13 ∷ 10 ∷ rest) more c.line);
-  some = c.some;
-  size = c.size;
-  within = c.within;
-}
+chunk_before n input l bytes rest more c = search (rules, append_assoc, line_before)
 
 -- ---- a part
 
 module _ (held : List ℕ) (new rest : List ℕ) where
   -- reading CR LF failed
   pub end_failed : (e : WireFault) → IsPutOff (λ prefix. SeesEnd prefix Incomplete) (λ b. ⊥) held → EndCame held (Err e) rest
-  end_failed fault.Read x = not_put_off IsOpenEnd held x
-  end_failed fault.TurnLimit x = not_put_off IsOpenEnd held x
   end_failed fault.Memory x = tt
+  end_failed _ x = not_put_off IsOpenEnd held x
 
   -- reading trailers failed
   pub trailers_failed : (e : WireFault) → IsPutOff (λ prefix. SeesTrailers prefix Incomplete) (λ b. ⊥) held → TrailersCame held (Err e) rest
-  trailers_failed fault.Read x = not_put_off AreOpenTrailers held x
-  trailers_failed fault.TurnLimit x = not_put_off AreOpenTrailers held x
   trailers_failed fault.Memory x = tt
+  trailers_failed _ x = not_put_off AreOpenTrailers held x
 
   -- reading a line failed
   pub line_failed : (old : List ℕ) (e : WireFault) → IsPutOff (λ prefix. SeesLine prefix Incomplete) (λ b. ⊥) held → StepCame old held (Err e) new rest
-  line_failed old fault.Read x = LacksChunks.no_line _ _ (not_put_off IsOpenLine held x)
-  line_failed old fault.TurnLimit x = LacksChunks.no_line _ _ (not_put_off IsOpenLine held x)
   line_failed old fault.Memory x = tt
+  line_failed old _ x = LacksChunks.no_line _ _ (not_put_off IsOpenLine held x)
 
 -- ---- one chunk
 
@@ -65,11 +50,7 @@ last_line : (input more : List ℕ) (found : FoundLine) → (s : IsLineAt input 
 last_line input more found s zero_size = record { line = found_line input more found s; none = sym s.size ∙ zero_size }
 
 data_line : (n : ℕ) (input more : List ℕ) (found : FoundLine) → (s : IsLineAt input found) → 0 < found.size → n + found.size ≤ 33554432 → HasDataLine n (input ++ more) s.line (after_line input found more)
-data_line n input more found s some room = record {
-  line = found_line input more found s;
-  some = omega (arith, s.size, some);
-  within = omega (arith, s.size, room);
-}
+data_line n input more found s some room = search (rules, found_line)
 
 -- its size passes what a body may have
 pub line_too_large : (n : ℕ) (input more : List ℕ) (found : FoundLine) → IsLineAt input found → 33554432 < n + found.size → HasChunkFault n (input ++ more) BodyTooLarge
@@ -98,13 +79,7 @@ lacks_data old input text n l s e (inr x) = LacksChunks.no_end _ _ l x.1.bytes x
 
 data_step : (old input text : List ℕ) (n : ℕ) (l : ChunkLine) (c : Result Chunked WireFault) (new rest : List ℕ) → HasDataLine (length old) input l text → n ≡ length old + chunk_size l → DataCame old n text c new rest
     → StepCame old input (after_data c) new rest
-data_step old input text n l (Ok came.Whole) new rest s e d =
-    let line = line_of_data n input (13 ∷ 10 ∷ rest) old l text s d.stands in (
-      l,
-      d.stands.bytes,
-      record { line = line.line; some = line.some; size = data_size old text (13 ∷ 10 ∷ rest) n (chunk_size l) e d.stands; within = line.within },
-      d.grown,
-    )
+data_step old input text n l (Ok came.Whole) new rest s e d = search (rules, line_of_data, data_size)
 data_step old input text n l (Ok came.Lacking) new rest s e d = lacks_data old input text n l s e d
 data_step old input text n l (Ok (came.Refused f)) new rest s e d =
     subst (HasChunkFault (length old) input) (sym d.0)
@@ -211,9 +186,8 @@ stands_ended u v w start held body new rest c s read =
     (s.bytes ++ read.0, Consumes-trans u v w s.bytes read.0 s.consumed read.1, ended_reads u v start held body read.0 new rest s c read.2)
 
 fault_reads : (u v : Option (List ℕ)) (start held body more new rest : List ℕ) (s : Stands u v start held body) (e : WireFault) → StepCame body (held ++ more) (Err e) new rest → ChunksCame 0 (start ++ (s.bytes ++ more)) (Err e) new rest
-fault_reads u v start held body more new rest s fault.Read x = s.lacks more x
-fault_reads u v start held body more new rest s fault.TurnLimit x = s.lacks more x
 fault_reads u v start held body more new rest s fault.Memory x = tt
+fault_reads u v start held body more new rest s _ x = s.lacks more x
 
 -- reading failed
 pub stands_failed : (u v w : Option (List ℕ)) (start held body new rest : List ℕ) (e : WireFault) → Stands u v start held body → (more : List ℕ) × Consumes v w more × StepCame body (held ++ more) (Err e) new rest

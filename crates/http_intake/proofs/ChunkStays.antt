@@ -1,18 +1,12 @@
 -- What chunks are stays, whatever bytes follow, and hangs on their bytes alone.
-use Rattle.std.proofs.Common.{◌≡◌, ◌⊎◌, ℕ, ◌+◌, ◌≤◌, List, [], ◌∷◌, ◌++◌, refl, sym, ap, subst, ◌∙◌, arith, inl, inr, append_assoc, length-append}
+use Rattle.std.proofs.Common.{◌≡◌, ◌⊎◌, ℕ, ◌+◌, ◌≤◌, List, [], ◌∷◌, ◌++◌, refl, sym, ap, subst, ◌∙◌, arith, inl, inr, append_assoc, length-append, rules}
 use Rattle.std.proofs.lemmas.List.{take-append-le}
 use Rattle.httparse.specs.Grammar.{ReadsSection, HasNoSection, NeverHasSection, MayBecomeSection, print_section, ChunkLine, ReadsChunkLine, HasNoChunkLine, NeverHasChunkLine, print_chunk_line, chunk_size}
-use Rattle.httparse.specs.Spans.{SectionOverflows}
-use Rattle.httparse.proofs.ChunkLemmas.{ReadsChunkLine-append}
-use Rattle.httparse.proofs.GrammarLemmas.{ReadsSection-append}
-use Rattle.http_intake.specs.declared.bad_request.BadRequest.{BadRequest}
-use Rattle.http_intake.specs.declared.bad_request.BadRequest.TheVariants.{BadHead, HeadTooLarge}
-use Rattle.http_intake.specs.claim.Lines.{section_lines}
+use Rattle.httparse.{specs.Spans.SectionOverflows, proofs.ChunkLemmas.ReadsChunkLine-append, proofs.GrammarLemmas.ReadsSection-append}
+use Rattle.http_intake.specs.{declared.bad_request.BadRequest.BadRequest, declared.bad_request.BadRequest.TheVariants.{BadHead, HeadTooLarge}, claim.Lines.section_lines}
 use Rattle.http_intake.specs.claim.Limits.{window}
 use Rattle.http_intake.specs.claim.Chunks.{line_window, HasLine, HasTrailers, HasChunk, HasLastLine, HasDataLine, HasChunks, RefusesLine, RefusesTrailers, IsNoEnd, HasTooManyTrailers, AreTooLong, HasChunkFault}
-use Rattle.http_intake.proofs.LineLemmas.{section_lines_grow}
-use Rattle.http_intake.proofs.Prefixes.{take_grows, window_grows, window_full}
-use Rattle.http_intake.proofs.ChunkLemmas.{trailers_are}
+use Rattle.http_intake.proofs.{LineLemmas.section_lines_grow, Prefixes.{take_grows, window_grows, window_full}, ChunkLemmas.trailers_are}
 
 -- ---- what stays
 
@@ -23,28 +17,13 @@ last_line_stays : (input more : List ℕ) (l : ChunkLine) (rest : List ℕ) → 
 last_line_stays input more l rest s = record { line = line_stays input more l rest s.line; none = s.none }
 
 data_line_stays : (n : ℕ) (input more : List ℕ) (l : ChunkLine) (bytes after : List ℕ) → HasDataLine n input l (bytes ++ after) → HasDataLine n (input ++ more) l (bytes ++ (after ++ more))
-data_line_stays n input more l bytes after s = record {
-  line = subst (HasLine (input ++ more) l) (append_assoc bytes after more) (line_stays input more l (bytes ++ after) s.line);
-  some = s.some;
-  within = s.within;
-}
+data_line_stays n input more l bytes after s = search (rules, append_assoc, line_stays)
 
 chunk_stays : (n : ℕ) (input more : List ℕ) (l : ChunkLine) (bytes rest : List ℕ) → HasChunk n input l bytes rest → HasChunk n (input ++ more) l bytes (rest ++ more)
-chunk_stays n input more l bytes rest s = record {
-  line = subst (HasLine (input ++ more) l) (append_assoc bytes (13 ∷ 10 ∷ rest) more) (line_stays input more l (bytes ++ 13 ∷ 10 ∷ rest) s.line);
-  some = s.some;
-  size = s.size;
-  within = s.within;
-}
+chunk_stays n input more l bytes rest s = search (rules, append_assoc, line_stays)
 
 trailers_stay : (input more rest : List ℕ) → HasTrailers input rest → HasTrailers (input ++ more) (rest ++ more)
-trailers_stay input more rest t = record {
-  fields = t.fields;
-  last = t.last;
-  reads = ReadsSection-append input t.fields t.last rest more t.reads;
-  short = t.short;
-  few = t.few;
-}
+trailers_stay input more rest t = search (rules, ReadsSection-append)
 
 pub body_stays : (n : ℕ) (input b r more : List ℕ) → HasChunks n input b r → HasChunks n (input ++ more) b (r ++ more)
 body_stays n input b r more (HasChunks.last _ _ l x _ s t) = HasChunks.last n (input ++ more) l (x ++ more) (r ++ more) (last_line_stays input more l x s) (trailers_stay x more r t)
@@ -114,10 +93,7 @@ fault_stays n input f more (HasChunkFault.later _ _ l d x _ s fault) =
 
 -- a line is its own bytes, before whatever follows
 line_prefix : (input : List ℕ) (l : ChunkLine) (rest : List ℕ) → HasLine input l rest → (prefix more after : List ℕ) → prefix ++ more ≡ after → HasLine ((print_chunk_line l ++ prefix) ++ more) l after
-line_prefix input l rest s prefix more after e = record {
-  reads = (s.reads.0, append_assoc (print_chunk_line l) prefix more ∙ ap (λ (xs : List ℕ). print_chunk_line l ++ xs) e);
-  short = s.short;
-}
+line_prefix input l rest s prefix more after e = search (rules, append_assoc)
 
 module _ (input : List ℕ) (l : ChunkLine) (after rest : List ℕ) (s : HasLastLine input l after) (t : HasTrailers after rest) where
   abbrev trailers_text : List ℕ
@@ -139,17 +115,10 @@ module _ (n : ℕ) (input : List ℕ) (l : ChunkLine) (bytes after : List ℕ) (
   chunk_text = bytes ++ 13 ∷ 10 ∷ prefix
 
   chunk_prefix : (more : List ℕ) → HasChunk n ((print_chunk_line l ++ chunk_text) ++ more) l bytes (prefix ++ more)
-  chunk_prefix more = record {
-    line = line_prefix input l (bytes ++ 13 ∷ 10 ∷ after) s.line chunk_text more (bytes ++ 13 ∷ 10 ∷ (prefix ++ more)) (append_assoc bytes (13 ∷ 10 ∷ prefix) more);
-    some = s.some;
-    size = s.size;
-    within = s.within;
-  }
+  chunk_prefix more = search (rules, line_prefix, append_assoc)
 
   chunk_whole : (rest : List ℕ) → after ≡ prefix ++ rest → input ≡ (print_chunk_line l ++ chunk_text) ++ rest
-  chunk_whole rest e =
-      s.line.reads.1 ∙ ap (λ (xs : List ℕ). print_chunk_line l ++ (bytes ++ 13 ∷ 10 ∷ xs)) e ∙ ap (λ (xs : List ℕ). print_chunk_line l ++ xs) (sym (append_assoc bytes (13 ∷ 10 ∷ prefix) rest))
-      ∙ sym (append_assoc (print_chunk_line l) chunk_text rest)
+  chunk_whole rest e = search (rules, append_assoc)
 
 pub body_prefix : (n : ℕ) (input b r : List ℕ) → HasChunks n input b r → (prefix : List ℕ) × (input ≡ prefix ++ r) × ((more : List ℕ) → HasChunks n (prefix ++ more) b more)
 body_prefix n input b r (HasChunks.last _ _ l x _ s t) = (print_chunk_line l ++ trailers_text input l x r s t, last_whole input l x r s t, last_prefix input l x r s t n)

@@ -1,8 +1,7 @@
 -- The law of chunks.
-use Rattle.http_intake.specs.Chunks.{ChunkLaw}
+use Rattle.http_intake.{specs.Chunks.ChunkLaw, proofs.ChunkCases.{some_chunks, nothing_lacks}}
 use Rattle.http_intake.proofs.ChunkLemmas as chunks
 use Rattle.http_intake.proofs.ChunkStays as stays
-use Rattle.http_intake.proofs.ChunkCases.{some_chunks, nothing_lacks}
 
 pub chunk_law : ChunkLaw
 chunk_law = record {

@@ -1,12 +1,7 @@
 -- Calls on an intake, one after another.
-use Rattle.std.proofs.Common.{◌≡◌, ℕ, ◌+◌, List, [], ◌∷◌, ◌++◌, Option, refl, ◌∙◌, arith, subst, sym, ap, append_assoc, append-nil}
-use Rattle.std.specs.Prelude.{All}
-use Rattle.std.specs.Io.KnownBytes.{Consumes}
-use Rattle.std.proofs.KnownBytes.{Consumes-trans}
-use Rattle.http_intake.specs.declared.fault.WireFault.TheVariants as fault
-use Rattle.http_intake.specs.declared.intake.Intake.{Intake}
-use Rattle.http_intake.specs.Budget.{Spends}
-use Rattle.http_intake.specs.Draws.{SameParts, IsPutOff}
+use Rattle.std.specs.{Prelude.All, Io.KnownBytes.Consumes}
+use Rattle.std.proofs.{Common.{◌≡◌, ℕ, ◌+◌, List, [], ◌∷◌, ◌++◌, Option, refl, ◌∙◌, arith, subst, sym, ap, append_assoc, append-nil, rules}, KnownBytes.Consumes-trans}
+use Rattle.http_intake.specs.{declared.intake.Intake.Intake, Budget.Spends, Draws.{SameParts, IsPutOff}}
 
 pub spends_more : (t u v a b c : ℕ) → Spends t u a b → Spends u v b c → Spends t v a c
 spends_more t u v a b c p q = record { fewer = omega (arith, p.fewer, q.fewer); taken = omega (arith, p.fewer, q.fewer, p.taken, q.taken) }
@@ -23,8 +18,7 @@ same_none a = record { reader = refl; read_buffer = refl; turns = refl }
 -- what holds of the inbox and some more bytes holds of the start and all bytes since
 pub goes_on : (P : List ℕ → Type 0) (u v w : Option (List ℕ)) (start read_buffer : List ℕ) → (more : List ℕ) × Consumes u v more × (read_buffer ≡ start ++ more)
     → ((x : List ℕ) × Consumes v w x × P (read_buffer ++ x)) → (x : List ℕ) × Consumes u w x × P (start ++ x)
-goes_on P u v w start read_buffer came next =
-    (came.0 ++ next.0, Consumes-trans u v w came.0 next.0 came.1 next.1, subst P (ap (λ (t : List ℕ). t ++ next.0) came.2 ∙ append_assoc start came.0 next.0) next.2)
+goes_on P u v w start read_buffer came next = search (rules, Consumes-trans, append_assoc)
 
 none_wait : (xs : List ℕ) → All (λ b. ⊥) xs → xs ≡ []
 none_wait [] all = refl

@@ -1,12 +1,10 @@
 -- How many lines a head has, and a prefix of one.
-use Rattle.std.proofs.Common.{◌≡◌, ◌≢◌, ℕ, ◌+◌, ◌<◌, ◌≤◌, ◌==◌, Bool, true, false, ◌||◌, ◌&&◌, cond, List, [], ◌∷◌, ◌++◌, length, refl, sym, ap, ◌∙◌, arith, append_assoc, append-nil}
+use Rattle.std.specs.{List.{flat_map, list_any}, Prelude.All}
+use Rattle.std.proofs.Common.{◌≡◌, ◌≢◌, ℕ, ◌+◌, ◌<◌, ◌≤◌, ◌==◌, Bool, true, false, ◌||◌, ◌&&◌, cond, List, [], ◌∷◌, ◌++◌, length, refl, sym, ap, ◌∙◌, arith, append_assoc, append-nil, rules}
 use Rattle.std.proofs.lemmas.List.Elements.{All-head, All-tail, All-nil, All-cons}
 use Rattle.std.proofs.lemmas.Bool.{false≢true, ne_eqb, eqb-false}
-use Rattle.std.specs.List.{flat_map, list_any}
-use Rattle.std.specs.Prelude.{All}
 use Rattle.httparse.specs.Grammar.{is_token_byte, is_uri_byte, is_value_byte, AllPass, LineEnd, crlf, lf, print_end, print_blank, print_version, Field, print_field, IsField, print_section, RequestHead, IsRequestHead, print_request}
-use Rattle.httparse.proofs.GrammarLemmas.{print_request-append}
-use Rattle.httparse.proofs.PieceLemmas.{token_is_no_newline}
+use Rattle.httparse.proofs.{GrammarLemmas.print_request-append, PieceLemmas.token_is_no_newline}
 use Rattle.http_intake.specs.claim.Lines.{IsWithinLine, is_newline, begins_empty, lines_end, section_lines, head_lines}
 
 -- a byte that is no LF
@@ -30,8 +28,7 @@ token_no_return = refl
 
 -- a line that begins with a token's byte is not empty
 not_empty : (b : ℕ) (xs : List ℕ) → is_token_byte b ≡ true → begins_empty (b ∷ xs) ≡ false
-not_empty b xs token =
-    rw (ne_eqb b 10 (λ e. false≢true (sym token_no_feed ∙ ap is_token_byte (sym e) ∙ token)), ne_eqb b 13 (λ e. false≢true (sym token_no_return ∙ ap is_token_byte (sym e) ∙ token))) refl
+not_empty b xs token = search (rules, ne_eqb, false≢true, token_no_feed, token_no_return)
 
 -- a line that has begun ends
 end_ends : (e : LineEnd) (ys : List ℕ) → lines_end (print_end e ++ ys) ≡ 1 + section_lines ys
@@ -77,10 +74,7 @@ started h text = print_blank h.blank ++ (h.method ++ 32 ∷ (h.target ++ 32 ∷ 
 
 started_blank : (ends : List LineEnd) (m after : List ℕ) (n : ℕ) → 0 < length m → AllPass is_token_byte m → lines_end (m ++ after) ≡ n → head_lines (print_blank ends ++ (m ++ after)) ≡ n
 started_blank ends [] after n some all e = absurd (omega arith)
-started_blank ends (b ∷ m) after n some all e =
-    let token = All-head (λ v. is_token_byte v ≡ true) b m all in
-    let no_feed : b ≢ 10 = λ (same : b ≡ 10). false≢true (sym token_no_feed ∙ ap is_token_byte (sym same) ∙ token) in
-    after_blank ends b (m ++ after) (token_is_no_newline b token) ∙ sym (other_end b (m ++ after) no_feed) ∙ e
+started_blank ends (b ∷ m) after n some all e = search (rules, All-head, false≢true, token_no_feed, after_blank, token_is_no_newline, other_end)
 
 pub started_lines : (h : RequestHead) (text : List ℕ) → IsRequestHead h → head_lines (started h text) ≡ 1 + section_lines text
 started_lines h text ok =
@@ -98,8 +92,7 @@ lines_of_head h ok =
     ap head_lines (sym (append-nil (print_request h)) ∙ print_request-append h []) ∙ started_lines h (print_section h.fields h.last ++ []) ok ∙ omega (arith, later)
 
 pub lines_of_section : (fields : List Field) (last : LineEnd) → All IsField fields → section_lines (print_section fields last) ≡ length fields
-lines_of_section fields last ok =
-    ap section_lines (ap (λ (xs : List ℕ). flat_map print_field fields ++ xs) (sym (append-nil (print_end last)))) ∙ fields_lines fields (print_end last ++ []) ok ∙ omega (arith, end_is_empty last [])
+lines_of_section fields last ok = search (rules, append-nil, fields_lines, end_is_empty)
 
 -- all of a line end but its LF
 pub before_feed : LineEnd → List ℕ

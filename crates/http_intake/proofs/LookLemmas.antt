@@ -1,15 +1,12 @@
 -- Looks that are put off.
-use Rattle.std.proofs.Common.{◌≡◌, ℕ, ◌-◌, List, ◌++◌, length, take, drop, Option, ap, subst, ◌∙◌, arith, append_assoc, length-append, take_all}
-use Rattle.std.specs.Prelude.{All}
-use Rattle.std.proofs.KnownBytes.{Consumes-trans}
+use Rattle.std.specs.{Prelude.All, Io.KnownBytes.Consumes}
+use Rattle.std.proofs.{Common.{◌≡◌, ℕ, ◌-◌, List, ◌++◌, length, take, drop, Option, ap, subst, ◌∙◌, append_assoc, length-append, take_all, rules}, KnownBytes.Consumes-trans}
 use Rattle.std.proofs.Math.Seq.{drop-append_seam}
 use Rattle.std.proofs.lemmas.List.Elements.{All-append}
-use Rattle.std.specs.Io.KnownBytes.{Consumes}
 
 -- the bytes after those that were held before
 part_added : (old new more held looked : List ℕ) → held ≡ new → looked ≡ old → new ≡ old ++ more → take (length held - length looked) (drop (length looked) held) ≡ more
-part_added old new more held looked e f g =
-    rw (e, f, g) (ap (take (length (old ++ more) - length old)) (drop-append_seam old more) ∙ take_all (length (old ++ more) - length old) more (omega (arith, length-append old more)))
+part_added old new more held looked e f g = search (rules, drop-append_seam, take_all, length-append)
 
 -- one turn more whose bytes may wait
 pub waits_more : (waits : ℕ → Type 0) (u v w : Option (List ℕ)) (start old new more held looked : List ℕ) → (x : List ℕ) × Consumes u v x × (old ≡ start ++ x) × All waits x → Consumes v w more → new ≡ old ++ more

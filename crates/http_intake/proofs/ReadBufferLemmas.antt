@@ -1,12 +1,10 @@
 -- The part of a buffer that has come.
-use Rattle.std.proofs.Common.{◌≡◌, ℕ, ◌+◌, ◌-◌, ◌<◌, ◌≤◌, ◌==◌, Bool, true, false, Ok, List, [], ◌++◌, length, take, drop, length-take, Option, sym, ap, subst, ◌∙◌, arith, length-take-le, length-drop}
-use Rattle.std.proofs.Math.Seq.{take-add}
+use Rattle.std.specs.{List.slice_range, Io.KnownBytes.{Consumes, Keeps, IsAtEnd}}
+use Rattle.std.proofs.Common.{◌≡◌, ℕ, ◌+◌, ◌-◌, ◌<◌, ◌≤◌, ◌==◌, Bool, true, false, Ok, List, [], ◌++◌, length, take, drop, length-take, Option, sym, ap, ◌∙◌, arith, length-take-le, length-drop, rules}
+use Rattle.std.proofs.{Math.Seq.take-add, KnownBytes.{Consumes-kept, Consumes-nil}}
 use Rattle.std.proofs.lemmas.Slice.{between_is}
 use Rattle.std.proofs.lemmas.List.{append-nil, drop-drop}
 use lib.Seq.{drop-append-le}
-use Rattle.std.proofs.KnownBytes.{Consumes-kept, Consumes-nil}
-use Rattle.std.specs.List.{slice_range}
-use Rattle.std.specs.Io.KnownBytes.{Consumes, Keeps, IsAtEnd}
 use Rattle.std.proofs.lemmas.Bool.Decides.{nat_tests}
 use Rattle.http_intake.specs.Body.{Fills}
 
@@ -31,16 +29,12 @@ Consumes-kept_nil a b k = Consumes-kept a a b [] (Consumes-nil a) k
 
 -- where less than a head has come there is room for more
 pub part_room : (xs : List ℕ) (s e : ℕ) → length xs ≡ 65536 → s ≤ e → e ≤ 65536 → s ≤ 49152 → length (slice_range xs s e) < 16384 → e < 65536
-part_room xs s e all ordered within low few =
-    let long : length (slice_range xs s e) ≡ e - s = length-take-le (e - s) (drop s xs) (omega (arith, length-drop s xs)) in
-    omega arith
+part_room xs s e all ordered within low few = search (rules, length-take-le, length-drop)
 
 -- a turn that read
 pub read_fills : (a b : Option (List ℕ)) (old new part : List ℕ) (n : ℕ) (none : Bool) → (n == 0) ≡ none → (n ≤ length part) × Consumes a b (take n part) × (n ≡ 0 → 0 < length part → IsAtEnd b)
     → 0 < length part → length part ≤ 65536 → new ≡ old ++ take n part → Fills a b old new (Ok none)
-read_fills a b old new part n true e t room most grown =
-    let zero_read : n ≡ 0 = grind (arith, nat_tests) in
-    (subst (λ k. Consumes a b (take k part)) zero_read t.1, t.2 zero_read room, grown ∙ ap (λ k. old ++ take k part) zero_read ∙ append-nil old)
+read_fills a b old new part n true e t room most grown = search (rules, nat_tests, append-nil)
 read_fills a b old new part n false e t room most grown = (take n part, t.1, grown, omega (arith, length-take n part))
 
 -- a turn that was interrupted

@@ -1,11 +1,8 @@
 -- What reading chunks gives.
-use Rattle.std.specs.Prelude.{ℕ, List, Option, Result, Ok, Err, ⊤}
-use Rattle.std.specs.Io.KnownBytes.{IsAtEnd}
-use Rattle.http_intake.specs.declared.chunks.Chunked.{Chunked}
-use Rattle.http_intake.specs.declared.chunks.Chunked.TheVariants.{Whole, Lacking, Refused}
-use Rattle.http_intake.specs.declared.fault.WireFault.{WireFault}
-use Rattle.http_intake.specs.declared.fault.WireFault.TheVariants as fault
+use Rattle.std.specs.{Prelude.{ℕ, List, Option, Result, Ok, Err, ⊤}, Io.KnownBytes.IsAtEnd}
+use Rattle.http_intake.specs.{declared.chunks.Chunked.Chunked, declared.chunks.Chunked.TheVariants.{Whole, Lacking, Refused}, declared.fault.WireFault.WireFault}
 use Rattle.http_intake.specs.claim.Chunks.{HasChunks, HasChunkFault, LacksChunks}
+use Rattle.http_intake.specs.declared.fault.WireFault.TheVariants as fault
 
 -- after n bytes of the body, what stands at the start of the input
 abbrev pub ChunksCame : ℕ → List ℕ → Result Chunked WireFault → List ℕ → List ℕ → Type 0

@@ -1,12 +1,8 @@
 -- What a call may do to an intake.
-use Rattle.std.specs.Prelude.{◌≡◌, ◌≢◌, ℕ, ◌≤◌, Bool, List, ◌++◌, All, Option, Result, Ok, Err, ⊤}
-use Rattle.std.specs.Io.KnownBytes.{Consumes, IsAtEnd}
-use Rattle.http_intake.specs.declared.fault.WireFault.{WireFault}
+use Rattle.std.specs.{Prelude.{◌≡◌, ◌≢◌, ℕ, ◌≤◌, Bool, List, ◌++◌, All, Option, Result, Ok, Err, ⊤}, Io.KnownBytes.{Consumes, IsAtEnd}}
+use Rattle.http_intake.specs.{declared.fault.WireFault.WireFault, declared.intake.Intake.Intake, declared.sought.Seen.Seen}
+use Rattle.http_intake.specs.{declared.sought.Seen.TheVariants.{Found, Refused, Incomplete}, Budget.{failures_of, reading_left, Spends}}
 use Rattle.http_intake.specs.declared.fault.WireFault.TheVariants as fault
-use Rattle.http_intake.specs.declared.intake.Intake.{Intake}
-use Rattle.http_intake.specs.declared.sought.Seen.{Seen}
-use Rattle.http_intake.specs.declared.sought.Seen.TheVariants.{Found, Refused, Incomplete}
-use Rattle.http_intake.specs.Budget.{failures_of, reading_left, Spends}
 
 -- it stays over the same reader, the same bytes and the same turns
 pub record SameParts {R : Type 0} (old new : Intake R) : Type 0 where

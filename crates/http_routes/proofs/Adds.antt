@@ -1,16 +1,9 @@
 -- A route that was added is one more of the rows, and one that conflicts with none is declined for memory alone.
 use Rattle.std.proofs.Common.{◌≡◌, ℕ, List, [], Result, Ok, Err, None, inl, inr, OnOk, IfErr, IsErrAnd, codes, ap, subst, ◌∙◌, refl}
-use Rattle.matchit.specs.Rows.{RowsOf}
-use Rattle.matchit.specs.Route.{Scan}
-use Rattle.matchit.specs.Router.{RouteOf, InsertsRead, Refused, nearest}
-use Rattle.matchit.specs.declared.InsertError.{InsertError}
-use Rattle.matchit.specs.declared.error.InsertError.TheVariants.{Conflict, OutOfMemory, InvalidParam, InvalidParamSegment, InvalidCatchAll}
-use Rattle.http_routes.specs.declared.route.Route.{Route}
-use Rattle.http_routes.specs.declared.route.Route.TheVariants.{Blocks, Plans, Plan, Revisions, Counties, Revision, Audit}
-use Rattle.matchit.proofs.OnLiterals.{matchit_on_literals}
-use Rattle.http_routes.specs.claim.Routes.{with_read, with_route, the_routes}
-use Rattle.http_routes.specs.Routes.{DeclinesRead, Declines, MakesTable}
-use Rattle.matchit.specs.Route.{parse_route}
+use Rattle.matchit.specs.{Rows.RowsOf, Route.{Scan, parse_route}, Router.{RouteOf, InsertsRead, Refused, nearest}, declared.InsertError.InsertError}
+use Rattle.matchit.{specs.declared.error.InsertError.TheVariants.{Conflict, OutOfMemory}, proofs.OnLiterals.matchit_on_literals}
+use Rattle.http_routes.specs.{declared.route.Route.Route, declared.route.Route.TheVariants.{Blocks, Plans, Plan, Revisions, Counties, Revision, Audit}}
+use Rattle.http_routes.specs.{claim.Routes.{with_read, with_route, the_routes}, Routes.{DeclinesRead, Declines, MakesTable}}
 
 pub added : (read : Result Scan InsertError) (route : Route) (old new : RowsOf (RouteOf Route)) (r : Result (Unit {0}) InsertError) (u : Unit {0}) → r ≡ Ok u → InsertsRead read route old new r → new ≡ with_read read route old
 added (Ok s) route old new (Ok w) u e i = i.1
@@ -38,9 +31,7 @@ FitsRead (Err bad) rows = ⊥
 only_memory : (p : List ℕ) (rows : RowsOf (RouteOf Route)) (e : InsertError) → nearest p rows ≡ None → Refused p rows e → e ≡ OutOfMemory
 only_memory p rows (Conflict with) none bad = absurd (cc)
 only_memory p rows OutOfMemory none bad = refl
-only_memory p rows InvalidParam none bad = absurd bad
-only_memory p rows InvalidParamSegment none bad = absurd bad
-only_memory p rows InvalidCatchAll none bad = absurd bad
+only_memory p rows _ none bad = absurd bad
 
 read_memory : (read : Result Scan InsertError) (rows : RowsOf (RouteOf Route)) (e : InsertError) → FitsRead read rows → DeclinesRead read rows e → e ≡ OutOfMemory
 read_memory (Ok s) rows e fits bad = only_memory s.pattern rows e fits bad

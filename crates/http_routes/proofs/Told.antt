@@ -1,6 +1,5 @@
 -- The companions that the pairs of a query tell, pair by pair.
-use Rattle.std.proofs.Common.{◌≡◌, ℕ, List, ◌∷◌, map, Option, Some, None, refl, ap, sym, ◌∙◌}
-use Rattle.std.specs.List.{fold}
+use Rattle.std.{specs.List.fold, proofs.Common.{◌≡◌, ℕ, List, ◌∷◌, map, Option, Some, None, refl, ap, sym, ◌∙◌}}
 use Rattle.std.proofs.lemmas.List.Folds.{fold_stays}
 use Rattle.desk_model.specs.declared.companions.Companions.{Companions}
 use Rattle.http_routes.specs.claim.Queries.{texts_of, more_told}

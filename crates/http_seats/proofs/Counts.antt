@@ -4,15 +4,10 @@ use Rattle.std.proofs.lemmas.List.{length-reverse, take_at}
 use Rattle.std.proofs.lemmas.List.Elements.{All-nil, All-cons, All-head, All-tail, All-more}
 use Rattle.std.proofs.lemmas.List.Sums.{sum_by-cons}
 use mathlib.Core.List.{IsPrefix}
-use Rattle.desk_model.specs.declared.command.Command.{Command}
-use Rattle.desk_model.specs.claim.Desk.{Desk}
-use Rattle.http_desk.specs.declared.serve.Served.{Served}
-use Rattle.http_desk.specs.declared.serve.StreamFault.{StreamFault}
-use Rattle.http_connections.specs.declared.ran.Ran.{Ran}
-use Rattle.http_connections.specs.claim.Running.{one_more, requests_of}
-use Rattle.http_seats.specs.claim.Seated.{Seated, newcomer}
-use Rattle.http_seats.specs.Seated.{seats_at}
-use Rattle.http_seats.specs.claim.Streams.{Traffic, Worker, IsTalkedTo, AreServed, EachHasWorked}
+use Rattle.desk_model.specs.{declared.command.Command.Command, claim.Desk.Desk}
+use Rattle.http_desk.specs.{declared.serve.Served.Served, declared.serve.StreamFault.StreamFault}
+use Rattle.http_connections.specs.{declared.ran.Ran.Ran, claim.Running.{one_more, requests_of}}
+use Rattle.http_seats.specs.{claim.Seated.{Seated, newcomer}, Seated.seats_at, claim.Streams.{Traffic, Worker, IsTalkedTo, AreServed, EachHasWorked}}
 use Rattle.http_seats.specs.Streams.{LeavesPlace, LeavesPlaces, places_of}
 
 -- a place as its guest and what its streams came to

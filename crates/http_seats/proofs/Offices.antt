@@ -16,10 +16,7 @@ use Rattle.atomic_table.proofs.shared.Seat.TheSendSync.{the_send as seat_send}
 use Rattle.atomic_table.proofs.shared.Shared.TheSendSync.{the_send as table_send, the_sync as table_sync}
 use Rattle.left_right.proofs.part.Part.TheSendSync.{the_send as part_send}
 use Rattle.left_right.proofs.part.Deed.TheSendSync.{the_send as deed_send}
-use Rattle.atomic_table.specs.contracts.shared.Seat as Seat
-use Rattle.left_right.specs.contracts.board.Doing as Doing
 use Rattle.left_right.specs.contracts.part.Part as Part
-use Rattle.left_right.specs.contracts.reader.Factory as Factory
 use Rattle.left_right.specs.contracts.reader.Reader as Reader
 use Rattle.core.proofs.ledger.Book.TheSendSync.{the_send as book_send}
 use Rattle.core.proofs.ledger.Share.TheSendSync.{the_send as share_send}

@@ -1,23 +1,15 @@
 -- What a command leaves on a seat.
 use Rattle.std.proofs.Common.{◌≡◌, ◌⊎◌, ℕ, inl, inr, List, [], ◌∷◌, ◌++◌, ⊎_elim, sym, subst}
 use mathlib.Core.List.{IsPrefix}
-use Rattle.desk_model.specs.declared.command.Command.{Command}
-use Rattle.desk_model.specs.declared.reply.Reply.{Reply}
+use Rattle.desk_model.specs.{declared.command.Command.Command, declared.reply.Reply.Reply, claim.Desk.Desk, claim.Outcome.IsAcceptance}
 use Rattle.desk_model.specs.declared.reply.Reply.TheVariants as reply
-use Rattle.desk_model.specs.claim.Desk.{Desk}
-use Rattle.desk_model.specs.claim.Outcome.{IsAcceptance}
 use Rattle.desk_gallery.proofs.Pasts.{prefix_self, prefix_trans, prefix_length, prefix_whole}
-use Rattle.http_seats.specs.claim.Explained.{ExplainsCommand}
-use Rattle.http_seats.specs.Seated.{seated}
+use Rattle.http_seats.specs.{claim.Explained.ExplainsCommand, Seated.seated}
 
 accepted_or_not : (r : Reply) → IsAcceptance r ⊎ (IsAcceptance r → ⊥)
 accepted_or_not (reply.Created name revisions) = inl tt
 accepted_or_not (reply.Retired name) = inl tt
-accepted_or_not (reply.Plans rows) = inr (λ x. x)
-accepted_or_not (reply.Blocks text) = inr (λ x. x)
-accepted_or_not (reply.Baf text) = inr (λ x. x)
-accepted_or_not (reply.Audited text) = inr (λ x. x)
-accepted_or_not (reply.Refused refusal) = inr (λ x. x)
+accepted_or_not _ = inr (λ x. x)
 
 -- what was there before is shown afterwards
 shown_grows : (r : Reply) (list new : List Command) (c : Command) → (IsAcceptance r → new ≡ list ++ c ∷ []) → ((IsAcceptance r → ⊥) → new ≡ list) → IsPrefix list new

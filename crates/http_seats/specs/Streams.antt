@@ -2,13 +2,10 @@
 use Rattle.std.specs.Prelude.{◌≡◌, ℕ, List, [], ◌∷◌, length, reverse, Option, Some, None, Result, ⊤}
 use Rattle.byte_stream.specs.declared.source.Source as source
 use Rattle.byte_stream.specs.declared.sink.Sink as sink
-use Rattle.desk_model.specs.declared.command.Command.{Command}
-use Rattle.desk_model.specs.claim.Desk.{Desk}
-use Rattle.http_desk.specs.declared.serve.Served.{Served}
-use Rattle.http_desk.specs.declared.serve.StreamFault.{StreamFault}
+use Rattle.desk_model.specs.{declared.command.Command.Command, claim.Desk.Desk}
+use Rattle.http_desk.specs.{declared.serve.Served.Served, declared.serve.StreamFault.StreamFault}
 use Rattle.http_connections.specs.declared.ran.Ran.{Ran}
-use Rattle.http_seats.specs.claim.Seated.{Seated, newcomer}
-use Rattle.http_seats.specs.claim.Streams.{Traffic, IsAskedOf, HasWorked}
+use Rattle.http_seats.specs.{claim.Seated.{Seated, newcomer}, claim.Streams.{Traffic, IsAskedOf, HasWorked}}
 
 -- of what comes from here
 abbrev pub traffic : {A R W : Type 0} → (A → ℕ → Option (R × W) → Type 0) → (A → R → W → Result Served StreamFault → Type 0)

@@ -1,7 +1,6 @@
 -- The parts of a list in a field.
-use Rattle.std.proofs.Common.{◌≡◌, ℕ, ◌+◌, ◌<◌, ◌==◌, false, List, [], ◌∷◌, ◌++◌, length, take, drop, refl, sym, ap, ◌∙◌, arith, length-drop, length-append}
-use Rattle.std.specs.Prelude.{codes}
-use Rattle.std.specs.List.{position_or_len, flat_map}
+use Rattle.std.specs.{Prelude.codes, List.{position_or_len, flat_map}}
+use Rattle.std.proofs.Common.{◌≡◌, ℕ, ◌+◌, ◌<◌, ◌==◌, false, List, [], ◌∷◌, ◌++◌, length, take, drop, refl, ap, ◌∙◌, arith, length-drop, length-append, rules}
 use Rattle.std.proofs.lemmas.Grind.{flat_map-append}
 use Rattle.std.proofs.lemmas.List.{append-nil}
 use Rattle.std.proofs.lemmas.List.Splits.{slice_split_none, slice_split_first, length-slice_split}
@@ -16,10 +15,7 @@ whole_part value end at all = slice_split_none (λ b. b == 44) value (λ k d ins
 -- the first part ends at the first comma
 pub first_part : (value : List ℕ) (end : ℕ) → end ≡ position_or_len (λ b. b == 44) value → end < length value
     → (parts value ≡ take end value ∷ parts (drop (end + 1) value)) × (length (drop (end + 1) value) < length value)
-first_part value end at within = (
-  slice_split_first (λ b. b == 44) value 0 (omega (arith, at, within)) ∙ ap (λ (n : ℕ). take n value ∷ parts (drop (n + 1) value)) (sym at),
-  omega (arith, within, length-drop (end + 1) value),
-)
+first_part value end at within = search (rules, slice_split_first, length-drop)
 
 -- there is a part
 pub some_part : (value : List ℕ) → 0 < length (parts value)
@@ -42,6 +38,4 @@ ends_append word (part ∷ before) more some = ends_after word part (before ++ m
 
 -- the last part of several values is that of the last value
 pub ends_last : (before : List (List ℕ)) (value : List ℕ) → ends_in (codes "chunked") (flat_map parts (before ++ value ∷ [])) ≡ ends_in (codes "chunked") (parts value)
-ends_last before value =
-    ap (ends_in (codes "chunked")) (flat_map-append parts before (value ∷ []) ∙ ap (λ (ps : List (List ℕ)). flat_map parts before ++ ps) (append-nil (parts value)))
-    ∙ ends_append (codes "chunked") (flat_map parts before) (parts value) (some_part value)
+ends_last before value = search (rules, flat_map-append, append-nil, ends_append, some_part)

@@ -1,16 +1,11 @@
 -- The values of the fields of one name, field by field.
-use Rattle.std.proofs.Common.{◌≡◌, ℕ, ◌+◌, ◌<◌, Bool, true, false, cond, List, [], ◌∷◌, ◌++◌, map, length, take, get_or, Some, None, refl, ap, ◌∙◌, arith, length-append}
+use Rattle.std.specs.{List.{slice_get, cons_option, flat_map}, Prelude.{◌==◌, ◌≢◌}}
+use Rattle.std.proofs.Common.{◌≡◌, ℕ, ◌+◌, ◌<◌, Bool, true, false, cond, List, [], ◌∷◌, ◌++◌, map, length, take, get_or, Some, None, refl, ap, ◌∙◌, arith, length-append, rules}
 use Rattle.std.proofs.lemmas.List.{map-append, append-nil, take_more}
 use Rattle.std.proofs.lemmas.List.Elements.{filter_map-append}
-use Rattle.std.specs.List.{slice_get, cons_option, flat_map}
-use Rattle.std.specs.Prelude.{◌==◌, ◌≢◌}
 use Rattle.std.proofs.lemmas.Bool.Decides.{nat_tests}
-use Rattle.http_wire.specs.claim.Connection.{parts}
-use Rattle.http_wire.proofs.ConnectionLemmas.{some_part}
-use Rattle.httparse.specs.Spans.{header_bytes}
-use Rattle.httparse.specs.declared.spans.HeaderSpan.{HeaderSpan}
-use Rattle.http_wire.specs.claim.Target.{is_word}
-use Rattle.http_wire.specs.claim.Prefix.{values, named_value}
+use Rattle.http_wire.{specs.claim.Connection.parts, specs.claim.Target.is_word, specs.claim.Prefix.{values, named_value}, proofs.ConnectionLemmas.some_part}
+use Rattle.httparse.specs.{Spans.header_bytes, declared.spans.HeaderSpan.HeaderSpan}
 
 picked : (b : Bool) (v : List ℕ) → cons_option (cond b (Some v) None) [] ≡ cond b (v ∷ []) []
 picked true v = refl
@@ -52,6 +47,4 @@ single_one (x ∷ []) v one e = let same : x ≡ v = cc in ap length (append-nil
 pub single_more : (all : List (List ℕ)) (v : List ℕ) → length all ≢ 1 → slice_get all 0 ≡ Some v → false ≡ (length (flat_map parts all) == 1)
 single_more [] v other e = absurd (cc)
 single_more (x ∷ []) v other e = absurd (other refl)
-single_more (x ∷ y ∷ more) v other e =
-    let many : 1 < length (flat_map parts (x ∷ y ∷ more)) = omega (arith, length-append (parts x) (flat_map parts (y ∷ more)), length-append (parts y) (flat_map parts more), some_part x, some_part y) in
-    grind (arith, nat_tests, many)
+single_more (x ∷ y ∷ more) v other e = search (rules, length-append, some_part, nat_tests)

@@ -1,11 +1,9 @@
 -- Two texts that are written one after the other.
-use Rattle.std.proofs.Common.{[], ◌∷◌, suc, true, false, refl, append-nil, ◌≡◌, ℕ, ◌+◌, ◌-◌, ◌≤◌, List, ◌++◌, length, take, drop, Option, sym, ap, subst, ◌∙◌, arith, append_assoc, length-drop, length-append, take-append-drop}
-use Rattle.std.specs.Prelude.{◌==◌}
+use Rattle.std.specs.{Prelude.◌==◌, Io.KnownBytes.{Appends, Keeps}}
+use Rattle.std.proofs.Common.{[], ◌∷◌, suc, true, false, refl, append-nil, ◌≡◌, ℕ, ◌+◌, ◌-◌, ◌≤◌, List, ◌++◌, length, take, drop, Option, sym, ap, subst, ◌∙◌, arith, append_assoc, length-drop, length-append, take-append-drop, rules}
+use Rattle.std.proofs.{Math.Seq.{take-add, drop-append-add}, KnownBytes.{Appends-trans, Appends-kept}}
 use Rattle.std.proofs.lemmas.Bool.Decides.{nat_tests}
 use Rattle.std.proofs.lemmas.List.{drop-append-le, take_rest}
-use Rattle.std.proofs.Math.Seq.{take-add, drop-append-add}
-use Rattle.std.proofs.KnownBytes.{Appends-trans, Appends-kept}
-use Rattle.std.specs.Io.KnownBytes.{Appends, Keeps}
 
 -- a prefix of the first is one of both
 pub cut_first : (a b : Option (List ℕ)) (first second : List ℕ) → (prefix : List ℕ) × (rest : List ℕ) × (first ≡ prefix ++ rest) × Appends a b prefix
@@ -30,9 +28,7 @@ piece_within first second done n h within = omega (arith, h, within, length-drop
 
 -- what is left where the first is whole
 pub past_first : (first second : List ℕ) (done : ℕ) → length first ≤ done → drop done (first ++ second) ≡ take (length second - (done - length first)) (drop (done - length first) second)
-past_first first second done h =
-    let e : done ≡ length first + (done - length first) = omega (arith, h) in
-    ap (λ n. drop n (first ++ second)) e ∙ drop-append-add first second (done - length first) ∙ sym (take_rest second (done - length first))
+past_first first second done h = search (rules, drop-append-add, take_rest)
 
 -- and where a part of it is left
 pub in_first : (first second : List ℕ) (done : ℕ) → done ≤ length first → drop done (first ++ second) ≡ take (length first - done) (drop done first) ++ second

@@ -1,20 +1,11 @@
 -- What is written before the answer to a start.
-use Rattle.std.proofs.Common.{◌≡◌, ℕ, zero, suc, ◌+◌, ◌≤◌, ◌&&◌, Bool, true, false, Option, List, [], ◌++◌, length, take, drop, Ok, Err, refl, sym, ap, subst, ◌∙◌, arith, inl, inr, append_assoc, append-nil, take-append-drop, length-append, length-drop}
 use Rattle.std.specs.Io.KnownBytes.{Appends, Consumes}
+use Rattle.std.proofs.Common.{◌≡◌, ℕ, zero, ◌+◌, ◌≤◌, ◌&&◌, Bool, true, false, Option, List, [], ◌++◌, length, take, drop, Ok, Err, refl, sym, ap, subst, ◌∙◌, arith, inl, inr, append_assoc, append-nil, take-append-drop, length-append, length-drop, rules}
 use Rattle.httparse.specs.Grammar.{RequestHead, print_request}
-use Rattle.http_intake.specs.declared.bad_request.BadRequest.{BadRequest}
-use Rattle.http_wire.specs.declared.head.Framing.{Framing}
-use Rattle.http_wire.specs.declared.head.Framing.TheVariants.{Sized, Chunked}
-use Rattle.http_wire.specs.declared.look.Head.{Head}
-use Rattle.http_intake.specs.Chunks.{ChunkLaw}
-use Rattle.http_intake.proofs.Prefixes.{same_cut}
-use Rattle.http_intake.specs.claim.Lines.{IsWithinLine}
-use Rattle.http_intake.specs.Draws.{IsPutOff}
-use Rattle.http_wire.specs.claim.Prefix.{HasHead, HasFault, Lacks, IsOpen, IsIncomplete, judged_head}
-use Rattle.http_wire.specs.Prefix.{RefusesPrefix}
-use Rattle.http_wire.specs.claim.Interim.{Interim, continue_text, asks_by, asks_to_continue, has_body}
-use Rattle.http_wire.specs.Interim.{IsCutInterim, IsCutShort}
-use Rattle.http_wire.specs.Look.{IsFound}
+use Rattle.http_intake.{specs.declared.bad_request.BadRequest.BadRequest, specs.Chunks.ChunkLaw, specs.claim.Lines.IsWithinLine, specs.Draws.IsPutOff, proofs.Prefixes.same_cut}
+use Rattle.http_wire.specs.{declared.head.Framing.Framing, declared.head.Framing.TheVariants.Sized, declared.look.Head.Head}
+use Rattle.http_wire.specs.{claim.Prefix.{HasHead, HasFault, Lacks, IsOpen, IsIncomplete, judged_head}, Prefix.RefusesPrefix}
+use Rattle.http_wire.specs.{claim.Interim.{Interim, continue_text, asks_by, asks_to_continue, has_body}, Interim.{IsCutInterim, IsCutShort}, Look.IsFound}
 use Rattle.http_wire.proofs.PrefixLemmas.{bytes_no_head, open_no_head}
 
 pub open_asks : (input : List ℕ) → IsOpen input → Interim input []
@@ -50,9 +41,8 @@ found_asks input found f = found_asked f.head found.framing found.expects f.judg
 
 -- a body has some bytes
 nothing_came : ChunkLaw → (m : Framing) → has_body m ≡ true → Lacks m []
-nothing_came law (Sized zero) some = absurd (cc)
-nothing_came law (Sized (suc n)) some = omega arith
-nothing_came law Chunked some = law.nothing_lacks 0
+nothing_came law (Sized zero) some = search rules
+nothing_came law _ some = search rules
 
 both_left : (a b : Bool) → (a && b) ≡ true → a ≡ true
 both_left true b e = refl
@@ -77,14 +67,7 @@ found_cut law input more found sent unwritten f expects cut =
       prefix = take found.len input;
       unread = drop found.len input ++ more;
       read = ap (λ (xs : List ℕ). xs ++ more) (sym (take-append-drop found.len input)) ∙ append_assoc (take found.len input) (drop found.len input) more;
-      lacks = inr (record {
-        head = f.head;
-        rest = [];
-        framing = found.framing;
-        stands = alone;
-        judges = f.judges;
-        lacks = nothing_came law found.framing (with_body found.framing f.head (sym f.expects ∙ expects));
-      });
+      lacks = search (rules, nothing_came, with_body);
       due = continue_text found.expects;
       interim = inl (record { head = f.head; rest = []; stands = alone; asked = found_asked f.head found.framing found.expects f.judges f.expects });
       unwritten = unwritten;
@@ -95,5 +78,4 @@ found_cut law input more found sent unwritten f expects cut =
 pub as_parameters : (Says : (input rest sent : List ℕ) → Type 0) (u v w a b : Option (List ℕ)) (start held read_buffer : List ℕ) → w ≡ v → read_buffer ≡ held
     → (sent : List ℕ) × Appends a b sent × ((more : List ℕ) × Consumes u v more × Says (start ++ more) held sent)
     → (more : List ℕ) × (sent : List ℕ) × Consumes u w more × Appends a b sent × Says (start ++ more) read_buffer sent
-as_parameters Says u v w a b start held read_buffer e f x =
-    (x.2.0, x.0, subst (λ z. Consumes u z x.2.0) (sym e) x.2.1, x.1, subst (λ (xs : List ℕ). Says (start ++ x.2.0) xs x.0) (sym f) x.2.2)
+as_parameters Says u v w a b start held read_buffer e f x = search rules

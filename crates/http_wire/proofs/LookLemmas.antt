@@ -1,23 +1,15 @@
 -- What the parser answers on the first bytes holds of all bytes.
-use Rattle.std.proofs.Common.{◌≡◌, ℕ, ◌+◌, ◌-◌, ◌<◌, ◌≤◌, List, [], ◌∷◌, ◌++◌, length, take, drop, sym, ap, ◌∙◌, arith, ⊎_elim, append-nil, take-append-drop, length-take-le, length-take}
+use Rattle.std.proofs.Common.{◌≡◌, ℕ, ◌+◌, ◌-◌, ◌<◌, ◌≤◌, List, [], ◌∷◌, ◌++◌, length, take, drop, sym, ap, ◌∙◌, arith, ⊎_elim, append-nil, take-append-drop, length-take-le, length-take, rules}
+use Rattle.std.proofs.Math.Seq.{take-append_seam, take-append-add}
 use Rattle.std.proofs.lemmas.Bool.{cases_lt}
 use Rattle.std.proofs.lemmas.List.{length-map, take-append-le, append_cancel_right}
 use Rattle.std.proofs.lemmas.Slice.{between_is}
-use Rattle.std.proofs.Math.Seq.{take-append_seam, take-append-add}
 use lib.Seq.{take-take}
-use Rattle.httparse.specs.Grammar.{RequestHead, IsRequestHead, HasNoRequest, print_request}
-use Rattle.httparse.specs.Spans.{header_bytes, name_and_value, span_bytes, IsRequestAt, IsRequestWithin, RequestOverflows, RequestExceeds}
-use Rattle.httparse.specs.declared.spans.Span.{Span}
-use Rattle.httparse.specs.declared.spans.HeaderSpan.{HeaderSpan}
-use Rattle.httparse.specs.declared.spans.RequestSpans.{RequestSpans}
-use Rattle.http_intake.specs.claim.Lines.{head_lines}
-use Rattle.http_wire.specs.Look.{IsParsed, Sees}
-use Rattle.http_wire.specs.declared.look.Head.{Head}
-use Rattle.http_wire.specs.declared.look.HeadRefusal.{HeadRefusal}
-use Rattle.http_intake.specs.declared.sought.Seen.{Seen}
-use Rattle.http_intake.specs.declared.sought.Seen.TheVariants.{Found, Refused, Incomplete}
-use Rattle.http_intake.proofs.Prefixes.{prefix_of_prefix}
+use Rattle.httparse.specs.{Grammar.{RequestHead, IsRequestHead, HasNoRequest, print_request}, Spans.{span_bytes, IsRequestAt, IsRequestWithin, RequestOverflows, RequestExceeds}}
+use Rattle.httparse.specs.{declared.spans.Span.Span, declared.spans.HeaderSpan.HeaderSpan, declared.spans.RequestSpans.RequestSpans}
+use Rattle.http_intake.{specs.claim.Lines.head_lines, specs.declared.sought.Seen.Seen, specs.declared.sought.Seen.TheVariants.Incomplete, proofs.Prefixes.prefix_of_prefix}
 use Rattle.http_intake.proofs.LineLemmas.{lines_of_head, cut_head, head_lines_grow}
+use Rattle.http_wire.specs.{Look.{IsParsed, Sees}, declared.look.Head.Head, declared.look.HeadRefusal.HeadRefusal}
 
 -- a span of a prefix is one of the whole
 span_prefix : (bytes : List ℕ) (n : ℕ) (s : Span) → s.end ≤ n → span_bytes (take n bytes) s ≡ span_bytes bytes s
@@ -31,36 +23,11 @@ some_lines (b ∷ xs) h = omega arith
 -- a head of the first n bytes
 pub parsed_at : (bytes : List ℕ) (n : ℕ) (headers : List HeaderSpan) (s : RequestSpans) (h : RequestHead) → n ≤ 16384 → length headers ≡ 64
     → IsRequestWithin (take n bytes) headers s → IsRequestAt (take n bytes) headers s h → IsParsed bytes (take n bytes) (take s.headers headers) s
-parsed_at bytes n headers s h few room within at =
-    let prefix_len : length (take n bytes) ≤ n = omega (arith, length-take n bytes) in
-    let bytes_len : length (take n bytes) ≤ length bytes = omega (arith, length-take n bytes) in
-    let fields_len : s.headers ≡ length h.fields = sym (length-take-le s.headers headers within.section.count_fits) ∙ sym (length-map (take s.headers headers) (header_bytes (take n bytes))) ∙ ap length at.fields ∙ length-map h.fields name_and_value in
-    record {
-      head = h;
-      stands = record {
-        reads = (at.reads.0, prefix_of_prefix bytes (print_request h) n s.len at.len at.reads.1);
-        short = omega (arith, at.len, within.section.len_fits);
-        few = omega (arith, within.section.count_fits);
-      };
-      within = omega (arith, within.section.len_fits);
-      some = omega (arith, at.len, some_lines (print_request h) (omega (arith, lines_of_head h at.reads.0)));
-      version = at.version;
-      method = sym (span_prefix bytes n s.method (omega (arith, within.method.1, within.section.len_fits))) ∙ at.method;
-      target = sym (span_prefix bytes n s.path (omega (arith, within.path.1, within.section.len_fits))) ∙ at.path;
-      fields = at.fields;
-      method_fits = (within.method.0, omega (arith, within.method.1, within.section.len_fits));
-      target_fits = (within.path.0, omega (arith, within.path.1, within.section.len_fits));
-      headers_fit = λ k d inside.
-          let fits = within.section.headers_fit k d inside in
-          ((fits.0.0, omega (arith, fits.0.1, within.section.len_fits)), (fits.1.0, omega (arith, fits.1.1, within.section.len_fits)));
-    }
+parsed_at bytes n headers s h few room within at = search (rules, length-take, length-take-le, length-map, prefix_of_prefix, some_lines, lines_of_head, span_prefix)
 
 -- more than 64 fields are at least 66 lines
 pub exceeds_lines : (part : List ℕ) → RequestExceeds 64 part → 66 ≤ head_lines part
-exceeds_lines part x =
-    let cut = cut_head x.3 x.4.0 in
-    let same : x.0 ≡ cut.0 = append_cancel_right x.0 cut.0 (10 ∷ []) (x.4.1 ∙ append-nil (print_request x.3) ∙ cut.1) in
-    omega (arith, x.5, ap head_lines same, cut.2, head_lines_grow x.0 x.1, ap head_lines x.2)
+exceeds_lines part x = search (rules, cut_head, append_cancel_right, append-nil, head_lines_grow)
 
 -- a prefix of a head has no more lines
 prefix_lines : (h : RequestHead) (part more : List ℕ) → IsRequestHead h → print_request h ≡ part ++ more → head_lines part ≤ length h.fields + 1
@@ -84,6 +51,5 @@ overflows_at part none many more h rest reads = ⊎_elim short long (cases_lt (l
 
 -- more bytes are wanted of few alone
 pub sees_short : (bytes : List ℕ) (r : Seen Head HeadRefusal) → Sees bytes r → r ≡ Incomplete → length bytes < 16384
-sees_short bytes (Found found) s e = absurd (cc)
-sees_short bytes (Refused refusal) s e = absurd (cc)
 sees_short bytes Incomplete s e = s.short
+sees_short bytes _ s e = absurd (cc)

@@ -1,19 +1,13 @@
 -- The prefix of an input is one thing alone.
-use Rattle.std.proofs.Common.{◌≡◌, ◌⊎◌, ℕ, ◌+◌, ◌-◌, Bool, false, Some, None, List, [], ◌++◌, length, take, drop, Ok, Err, refl, sym, ap, subst, ◌∙◌, arith, inl, inr, length-append}
+use Rattle.std.proofs.Common.{◌≡◌, ◌⊎◌, ℕ, ◌+◌, ◌-◌, Bool, false, Some, None, List, [], ◌++◌, length, take, drop, Ok, Err, sym, ap, subst, ◌∙◌, arith, inl, inr, length-append, rules}
 use Rattle.std.proofs.Math.Seq.{take-append-add}
-use Rattle.httparse.specs.Grammar.{RequestHead, ReadsRequest, MayBecomeRequest, print_request}
-use Rattle.httparse.proofs.GrammarLemmas.{request_unique}
-use Rattle.http_intake.specs.declared.bad_request.BadRequest.{BadRequest}
-use Rattle.http_intake.specs.declared.bad_request.BadRequest.TheVariants.{BadHead, HeadTooLarge, BadHost, BadLength, BadCoding, BodyTooLarge, BadTarget, BadChunk}
-use Rattle.http_intake.specs.claim.Limits.{window}
-use Rattle.http_wire.specs.claim.Prefix.{HasHead, HasMessage, HasRequest, IsNoHead, IsTooLong, HasTooManyLines, RefusesBytes, RefusesHead, RefusesBody, RefusesTarget, HasFault, HasBody, Lacks, IsFaulty, IsOpen, LacksBody, IsIncomplete, judged_head, is_head}
-use Rattle.http_intake.specs.Chunks as chunks
-use Rattle.http_intake.specs.Chunks.{ChunkLaw}
+use Rattle.httparse.{specs.Grammar.{RequestHead, ReadsRequest, MayBecomeRequest, print_request}, proofs.GrammarLemmas.request_unique}
+use Rattle.http_intake.specs.{declared.bad_request.BadRequest.BadRequest, declared.bad_request.BadRequest.TheVariants.{BadHead, HeadTooLarge}, claim.Limits.window, Chunks.ChunkLaw}
 use Rattle.http_intake.proofs.Prefixes.{window_rest, same_cut}
-use Rattle.http_wire.specs.Law.{HasTwoHeadFaults, HasTwoBodyFaults, HasTwoFaults}
-use Rattle.http_wire.specs.declared.head.Framing.{Framing}
-use Rattle.http_wire.specs.declared.head.Framing.TheVariants.{Sized, Chunked}
+use Rattle.http_wire.specs.claim.Prefix.{HasHead, HasMessage, HasRequest, IsNoHead, IsTooLong, HasTooManyLines, RefusesBytes, RefusesHead, RefusesBody, RefusesTarget, HasFault, HasBody, Lacks, IsFaulty, IsOpen, LacksBody, IsIncomplete, judged_head, is_head}
+use Rattle.http_wire.specs.{Law.{HasTwoHeadFaults, HasTwoBodyFaults, HasTwoFaults}, declared.head.Framing.Framing, declared.head.Framing.TheVariants.{Sized, Chunked}}
 use Rattle.http_wire.specs.claim.Target.{target_of}
+use Rattle.http_intake.specs.Chunks as chunks
 
 -- a head within its limit stands in the window
 pub head_in_window : (input : List ℕ) (h : RequestHead) (rest : List ℕ) → HasHead input h rest → (r : List ℕ) × ReadsRequest (window input) h r
@@ -31,14 +25,8 @@ same_head input h k r q a b = request_unique input h k r q a.reads b.reads
 
 -- what the first bytes may be refused for
 pub bytes_are : (input : List ℕ) (f : BadRequest) → RefusesBytes input f → ((f ≡ BadHead) × IsNoHead input) ⊎ ((f ≡ HeadTooLarge) × (IsTooLong input ⊎ HasTooManyLines input))
-bytes_are input BadHead x = inl (refl, x)
-bytes_are input HeadTooLarge x = inr (refl, x)
-bytes_are input BadHost x = absurd x
-bytes_are input BadLength x = absurd x
-bytes_are input BadCoding x = absurd x
-bytes_are input BodyTooLarge x = absurd x
-bytes_are input BadTarget x = absurd x
-bytes_are input BadChunk x = absurd x
+bytes_are input BadHead x = search rules
+bytes_are input _ x = search rules
 
 -- bytes that are refused have no head
 pub bytes_no_head : (input : List ℕ) (f : BadRequest) (h : RequestHead) (rest : List ℕ) → RefusesBytes input f → HasHead input h rest → ⊥

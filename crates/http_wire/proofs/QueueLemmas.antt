@@ -1,11 +1,8 @@
 -- Answers that wait, one after another.
-use Rattle.std.proofs.Common.{◌≡◌, ℕ, List, [], ◌++◌, Option, Some, None, Result, Ok, Err, codes, sym, ap, ◌∙◌, append_assoc, append-nil}
+use Rattle.std.{specs.Io.KnownBytes.Appends, proofs.Common.{◌≡◌, ℕ, List, [], ◌++◌, Option, Some, None, Result, Ok, Err, codes, sym, ap, ◌∙◌, append_assoc, append-nil}}
 use Rattle.std.proofs.KnownBytes.{Appends-trans, Appends-nil}
-use Rattle.std.specs.Io.KnownBytes.{Appends}
 use Rattle.byte_stream.specs.claim.Sends.{Sends}
-use Rattle.http_wire.specs.claim.Answer.{allow_line, line_end}
-use Rattle.http_wire.specs.Answer.{after_line}
-use Rattle.http_wire.specs.Queue.{Queued, Queues}
+use Rattle.http_wire.specs.{claim.Answer.{allow_line, line_end}, Answer.after_line, Queue.{Queued, Queues}}
 
 -- a head in four pieces: what stands before the length in its line, the length, the allowed methods, and the end
 pub head_built : (s t c d k : List ℕ) (allow : Option (List ℕ))

@@ -1,38 +1,21 @@
 -- A head that has come, and then its body.
-use Rattle.std.proofs.Common.{◌≡◌, ℕ, Bool, true, false, List, ◌++◌, drop, Result, Ok, Err, refl, sym, ap, subst, ◌∙◌, inl, inr, append_assoc}
-use Rattle.httparse.specs.Grammar.{RequestHead, print_request}
-use Rattle.httparse.specs.Spans.{span_bytes}
-use Rattle.httparse.proofs.GrammarLemmas.{ReadsRequest-append}
-use Rattle.http_intake.specs.declared.fault.WireFault.{WireFault}
+use Rattle.std.proofs.Common.{◌≡◌, ℕ, Bool, true, false, List, ◌++◌, drop, Result, Ok, Err, refl, sym, ap, ◌∙◌, inl, append_assoc, rules}
+use Rattle.httparse.{specs.Grammar.{RequestHead, print_request}, specs.Spans.span_bytes, proofs.GrammarLemmas.ReadsRequest-append}
+use Rattle.http_intake.specs.{declared.fault.WireFault.WireFault, Chunks.ChunkLaw, declared.chunks.Chunked.Chunked, declared.bad_request.BadRequest.BadRequest}
 use Rattle.http_intake.specs.declared.fault.WireFault.TheVariants as fault
-use Rattle.http_wire.specs.declared.look.Head.{Head}
-use Rattle.http_wire.specs.declared.request.Request.{Request}
-use Rattle.http_wire.specs.Framed.{BodyRead}
-use Rattle.http_intake.specs.Chunks.{ChunkLaw}
-use Rattle.http_intake.specs.declared.chunks.Chunked.{Chunked}
-use Rattle.http_intake.specs.declared.chunks.Chunked.TheVariants as chunked
-use Rattle.http_wire.specs.declared.head.Framing.{Framing}
-use Rattle.http_wire.specs.declared.head.Framing.TheVariants as framing
-use Rattle.http_intake.specs.declared.bad_request.BadRequest.{BadRequest}
+use Rattle.http_wire.specs.{declared.look.Head.Head, declared.request.Request.Request, Framed.BodyRead, declared.head.Framing.Framing}
 use Rattle.http_wire.specs.claim.Prefix.{HasHead, HasMessage, HasRequest, HasBody, HasFault, Lacks, IsFaulty, IsIncomplete, IsOutOfMemory, closes_after, is_head}
+use Rattle.http_wire.specs.{Incoming.{ReadsPrefix, IsTargetOf, finished, targeted}, claim.Interim.{Interim, continue_text, asks_to_continue}, Look.IsFound}
 use Rattle.http_wire.proofs.TargetTexts.{target_ascii}
-use Rattle.http_wire.specs.Incoming.{ReadsPrefix, IsTargetOf, finished, targeted}
-use Rattle.http_wire.specs.claim.Interim.{Interim, continue_text, asks_to_continue}
-use Rattle.http_wire.specs.Look.{IsFound}
+use Rattle.http_intake.specs.declared.chunks.Chunked.TheVariants as chunked
+use Rattle.http_wire.specs.declared.head.Framing.TheVariants as framing
 
 pub head_before : (input : List ℕ) (h : RequestHead) (rest more : List ℕ) → HasHead input h rest → HasHead (input ++ more) h (rest ++ more)
 head_before input h rest more s = record { reads = ReadsRequest-append input h rest more s.reads; short = s.short; few = s.few }
 
 -- less than the body has come
 lacks : (input more : List ℕ) (found : Head) → IsFound input found → Lacks found.framing (drop found.len input ++ more) → IsIncomplete (input ++ more)
-lacks input more found f short = inr (record {
-  head = f.head;
-  rest = drop found.len input ++ more;
-  framing = found.framing;
-  stands = head_before input f.head (drop found.len input) more f.stands;
-  judges = f.judges;
-  lacks = short;
-})
+lacks input more found f short = search (rules, head_before)
 
 -- memory is wanting for it
 pub out_of_memory : (input more : List ℕ) (found : Head) → IsFound input found → IsOutOfMemory (input ++ more) found.head_only
@@ -47,25 +30,11 @@ out_of_memory input more found f = record {
 
 -- what has come of the body has a fault
 faulty : (input more : List ℕ) (found : Head) (f : BadRequest) → IsFound input found → IsFaulty found.framing (drop found.len input ++ more) f → HasFault (input ++ more) f found.head_only
-faulty input more found fault f x = inr (inr (inl (record {
-  head = f.head;
-  rest = drop found.len input ++ more;
-  framing = found.framing;
-  stands = head_before input f.head (drop found.len input) more f.stands;
-  judges = f.judges;
-  faulty = x;
-  shown = f.shown;
-})))
+faulty input more found fault f x = search (rules, head_before)
 
 -- the body has come
 whole : (input more : List ℕ) (found : Head) (body rest : List ℕ) → (f : IsFound input found) → HasBody found.framing (drop found.len input ++ more) body rest → HasMessage (input ++ more) f.head body rest
-whole input more found body rest f stands = record {
-  text = drop found.len input ++ more;
-  head = head_before input f.head (drop found.len input) more f.stands;
-  framing = found.framing;
-  judges = f.judges;
-  stands = stands;
-}
+whole input more found body rest f stands = search (rules, head_before)
 
 -- the prefix of the bytes that a body is
 body_prefix : ChunkLaw → (m : Framing) (text b r : List ℕ) → HasBody m text b r → (prefix : List ℕ) × (text ≡ prefix ++ r) × ((more : List ℕ) → HasBody m (prefix ++ more) b more)
@@ -79,16 +48,7 @@ request_prefix law input h t b r x =
     let head = print_request h in (
       head ++ body.0,
       m.head.reads.1 ∙ ap (λ (xs : List ℕ). head ++ xs) body.1 ∙ sym (append_assoc head body.0 r),
-      λ more. record {
-        message = record {
-          text = body.0 ++ more;
-          head = record { reads = (m.head.reads.0, append_assoc head body.0 more); short = m.head.short; few = m.head.few };
-          framing = m.framing;
-          judges = m.judges;
-          stands = body.2 more;
-        };
-        target_is = x.target_is;
-      },
+      λ more. search (rules, append_assoc),
     )
 
 -- what a head asks for is due before the answer
@@ -105,36 +65,15 @@ judge_target : ChunkLaw → (input : List ℕ) (r : Request) (h : RequestHead) (
 judge_target law input r h rest sent true head_only good m method closes shown asked =
     let request : HasRequest input h r.target.items r.body.items rest = record { message = m; target_is = good } in
     let cut = request_prefix law input h r.target.items r.body.items rest request in (
-      record {
-        head = h;
-        request = request;
-        method = method;
-        closes = closes;
-        ascii = target_ascii h.target r.target.items good;
-        prefix = cut.0;
-        cut = cut.1;
-        alone = cut.2;
-      },
+      search (rules, request, cut, target_ascii),
       asked,
     )
-judge_target law input r h rest sent false head_only bad m method closes shown asked = (
-  inr (inr (inr (record {
-    head = h;
-    body = r.body.items;
-    rest = rest;
-    message = m;
-    bad = bad;
-    named = refl;
-    shown = shown;
-  }))),
-  inl (record { head = h; rest = m.text; stands = m.head; asked = asked }),
-)
+judge_target law input r h rest sent false head_only bad m method closes shown asked = search rules
 
 pub rest_reads : ChunkLaw → (input more : List ℕ) (found : Head) (r : Request) (good : Bool) (c : Result Chunked WireFault) (rest sent : List ℕ) (f : IsFound input found) → r.method ≡ span_bytes input found.method
     → IsTargetOf (span_bytes input found.target) good r.target.items → r.closes ≡ found.closes → BodyRead found.framing (drop found.len input ++ more) c r.body.items rest → sent ≡ continue_text (asks_to_continue f.head)
     → ReadsPrefix (input ++ more) (finished r good found.head_only c) rest sent
-rest_reads law input more found r good (Ok chunked.Whole) rest sent f method target closes b asked =
-    judge_target law (input ++ more) r f.head rest sent good found.head_only (subst (λ (raw : List ℕ). IsTargetOf raw good r.target.items) f.target target) (whole input more found r.body.items rest f b) (method ∙ f.method) (closes ∙ f.closes) f.shown asked
+rest_reads law input more found r good (Ok chunked.Whole) rest sent f method target closes b asked = search (rules, judge_target, whole)
 rest_reads law input more found r good (Ok chunked.Lacking) rest sent f method target closes b asked = (lacks input more found f b, due input more sent found f asked)
 rest_reads law input more found r good (Ok (chunked.Refused fault)) rest sent f method target closes b asked = (faulty input more found fault f b, due input more sent found f asked)
 rest_reads law input more found r good (Err fault.Read) rest sent f method target closes b asked = inl (lacks input more found f b, due input more sent found f asked)

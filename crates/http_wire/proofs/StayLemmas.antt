@@ -1,25 +1,16 @@
 -- A request and a fault stay, whatever bytes follow.
-use Rattle.std.proofs.Common.{◌≡◌, ◌⊎◌, ℕ, suc, ◌+◌, ◌-◌, ◌<◌, ◌≤◌, true, Bool, List, [], ◌∷◌, ◌++◌, length, take, drop, codes, refl, sym, ap, subst, ◌∙◌, arith, inl, inr, ⊎_elim, append_assoc, append-nil, take-append-drop, length-append}
+use Rattle.std.proofs.Common.{◌≡◌, ◌⊎◌, ℕ, suc, ◌+◌, ◌-◌, ◌<◌, ◌≤◌, true, Bool, List, [], ◌∷◌, ◌++◌, length, take, drop, codes, sym, ap, subst, ◌∙◌, arith, inl, inr, ⊎_elim, append_assoc, append-nil, take-append-drop, length-append, rules}
+use Rattle.std.proofs.Math.Seq.{take-append-add, take-append_seam}
 use Rattle.std.proofs.lemmas.Bool.{cases_lt}
 use Rattle.std.proofs.lemmas.List.{take-append-le}
 use Rattle.std.proofs.lemmas.List.Elements.{All-nil, All-take}
 use Rattle.std.proofs.lemmas.List.Sums.{AllPass-from_list_all}
-use Rattle.std.proofs.Math.Seq.{take-append-add, take-append_seam}
-use Rattle.httparse.specs.Grammar.{is_uri_byte, AllPass, IsToken, IsField, LineEnd, lf, print_blank, RequestHead, IsRequestHead, ReadsRequest, HasNoRequest, NeverHasRequest, MayBecomeRequest, EndsInTarget, print_request}
-use Rattle.httparse.specs.Spans.{RequestOverflows}
-use Rattle.httparse.proofs.GrammarLemmas.{print_request-append}
-use Rattle.http_intake.specs.declared.bad_request.BadRequest.{BadRequest}
-use Rattle.http_intake.specs.declared.bad_request.BadRequest.TheVariants.{BadHead, HeadTooLarge}
-use Rattle.http_intake.specs.claim.Limits.{window}
-use Rattle.http_wire.specs.claim.Prefix.{HasMessage, HasRequest, IsNoHead, IsTooLong, HasTooManyLines, RefusesBytes, HasFault, HasBody, IsFaulty}
-use Rattle.http_intake.specs.claim.Lines.{head_lines}
-use Rattle.http_intake.specs.Chunks.{ChunkLaw}
-use Rattle.http_wire.specs.declared.head.Framing.{Framing}
-use Rattle.http_wire.specs.declared.head.Framing.TheVariants.{Sized, Chunked}
-use Rattle.http_intake.proofs.Prefixes.{window_grows, window_full}
-use Rattle.http_wire.proofs.PrefixLemmas.{bytes_are}
-use Rattle.http_intake.proofs.LineLemmas.{head_lines_grow}
-use Rattle.http_wire.proofs.RequestLemmas.{head_before}
+use Rattle.httparse.specs.Grammar.{is_uri_byte, AllPass, IsToken, LineEnd, lf, print_blank, RequestHead, IsRequestHead, ReadsRequest, HasNoRequest, NeverHasRequest, MayBecomeRequest, EndsInTarget, print_request}
+use Rattle.httparse.{specs.Spans.RequestOverflows, proofs.GrammarLemmas.print_request-append}
+use Rattle.http_intake.specs.{declared.bad_request.BadRequest.BadRequest, declared.bad_request.BadRequest.TheVariants.{BadHead, HeadTooLarge}, claim.Limits.window, Chunks.ChunkLaw}
+use Rattle.http_intake.proofs.{Prefixes.{window_grows, window_full}, LineLemmas.head_lines_grow}
+use Rattle.http_wire.specs.{claim.Prefix.{HasMessage, HasRequest, IsNoHead, IsTooLong, HasTooManyLines, RefusesBytes, HasFault, HasBody, IsFaulty}, declared.head.Framing.Framing}
+use Rattle.http_wire.{specs.declared.head.Framing.TheVariants.{Sized, Chunked}, proofs.PrefixLemmas.bytes_are, proofs.RequestLemmas.head_before}
 
 never_grows : (w y : List ℕ) → NeverHasRequest w → NeverHasRequest (w ++ y)
 never_grows w y never more h rest reads = never (y ++ more) h rest (subst (λ xs. ReadsRequest xs h rest) (append_assoc w y more) reads)
@@ -37,13 +28,7 @@ short_head blank method = record { blank = blank; method = method; target = code
 
 short_head_ok : (blank : List LineEnd) (method : List ℕ) → IsToken method → IsRequestHead (short_head blank method)
 unfolding lib.Utf8.encode
-short_head_ok blank method token = record {
-  method = token;
-  target = (omega arith, AllPass-from_list_all is_uri_byte (codes "/") refl);
-  target_text = (codes "/", (refl, refl));
-  minor = omega arith;
-  fields = All-nil IsField;
-}
+short_head_ok blank method token = search (rules, AllPass-from_list_all, All-nil)
 
 short_head_text : (blank : List LineEnd) (method : List ℕ) → print_request (short_head blank method) ≡ (print_blank blank ++ method) ++ ending
 short_head_text blank method =
@@ -81,8 +66,7 @@ prefix_in_target blank method target w y token uris e beyond =
 
 -- bytes that go on into a target end in it, or are a prefix of a head
 target_or_prefix : (w y : List ℕ) → EndsInTarget (w ++ y) → EndsInTarget w ⊎ ((more : List ℕ) × (h : RequestHead) × ReadsRequest (w ++ more) h [])
-target_or_prefix w y e =
-    ⊎_elim (λ beyond. inl (prefix_in_target e.0 e.1 e.2 w y e.3 e.4 e.5 beyond)) (λ within. inr (prefix_becomes e.0 e.1 e.2 w y e.3 e.5 within)) (cases_lt (length (print_blank e.0 ++ e.1)) (length w))
+target_or_prefix w y e = search (rules, prefix_in_target, prefix_becomes, cases_lt)
 
 past_target_grows : (w y : List ℕ) → NeverHasRequest w → ¬ (EndsInTarget w) → EndsInTarget (w ++ y) → ⊥
 past_target_grows w y never past e = ⊎_elim (λ t. past t) (λ b. never b.0 b.1 [] b.2) (target_or_prefix w y e)
@@ -109,10 +93,7 @@ too_many_stays : (input more : List ℕ) → HasTooManyLines input → HasTooMan
 too_many_stays input more x =
     let g = window_grows input more in
     let w = window input in
-    record {
-      lines = subst (λ xs. 66 ≤ head_lines xs) (sym g.1) (omega (arith, x.lines, head_lines_grow w g.0));
-      exceeds = subst (RequestOverflows 64) (sym g.1) (overflows_grows w g.0 x.exceeds);
-    }
+    search (rules, g, w, head_lines_grow, overflows_grows)
 
 bytes_stay : (input more : List ℕ) (f : BadRequest) → ((f ≡ BadHead) × IsNoHead input) ⊎ ((f ≡ HeadTooLarge) × (IsTooLong input ⊎ HasTooManyLines input)) → RefusesBytes (input ++ more) f
 bytes_stay input more f (inl x) = subst (RefusesBytes (input ++ more)) (sym x.0) (no_head_stays input more x.1)

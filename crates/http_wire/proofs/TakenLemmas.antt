@@ -1,21 +1,12 @@
 -- A request that is there whole.
-use Rattle.std.proofs.Common.{◌≡◌, ℕ, ◌≤◌, Bool, true, false, List, [], ◌++◌, length, take, drop, Ok, sym, ap, subst, ◌∙◌, append-nil, take-append-drop, length-take-le}
+use Rattle.std.proofs.Common.{◌≡◌, ℕ, ◌≤◌, Bool, true, false, List, [], ◌++◌, length, take, drop, Ok, sym, ap, subst, ◌∙◌, append-nil, take-append-drop, length-take-le, rules}
 use Rattle.httparse.specs.Spans.{span_bytes}
 use Rattle.http_intake.specs.declared.chunks.Chunked.TheVariants as chunked
-use Rattle.http_intake.specs.declared.bad_request.BadRequest.{BadRequest}
-use Rattle.http_wire.specs.declared.head.Framing.{Framing}
-use Rattle.http_wire.specs.declared.head.Framing.TheVariants.{Sized}
-use Rattle.http_wire.specs.declared.look.Head.{Head}
+use Rattle.http_intake.specs.{declared.bad_request.BadRequest.BadRequest, Chunks.ChunkLaw}
+use Rattle.http_wire.specs.{declared.head.Framing.Framing, declared.head.Framing.TheVariants.Sized, declared.look.Head.Head, declared.request.Request.Request, claim.Prefix.HasBody}
+use Rattle.http_wire.specs.{Prefix.RefusesPrefix, Incoming.{Came, Taken, IsNoEnd, IsTargetOf, targeted}, claim.Interim.{continue_text, asks_to_continue}, Look.IsFound}
+use Rattle.http_wire.proofs.{InterimLemmas.{found_asks, refused_prefix}, RequestLemmas.{rest_reads, out_of_memory, due}}
 use Rattle.http_wire.specs.declared.request.Incoming.TheVariants as came
-use Rattle.http_wire.specs.declared.request.Request.{Request}
-use Rattle.http_intake.specs.Chunks.{ChunkLaw}
-use Rattle.http_wire.specs.claim.Prefix.{HasBody}
-use Rattle.http_wire.specs.Prefix.{RefusesPrefix}
-use Rattle.http_wire.specs.Incoming.{Came, Taken, IsNoEnd, IsTargetOf, targeted}
-use Rattle.http_wire.specs.claim.Interim.{continue_text, asks_to_continue}
-use Rattle.http_wire.specs.Look.{IsFound}
-use Rattle.http_wire.proofs.InterimLemmas.{found_asks, refused_prefix}
-use Rattle.http_wire.proofs.RequestLemmas.{rest_reads, out_of_memory, due}
 
 no_end : (r : Request) (good head_only : Bool) → IsNoEnd (targeted r good head_only)
 no_end r true head_only = tt
@@ -27,12 +18,7 @@ plainly input found f plain = sym (ap continue_text plain) ∙ found_asks input 
 -- the body that was cut off, and what is left
 pub body_cut : (left body rest bytes start read_buffer : List ℕ) (n : ℕ) → body ≡ start ++ take n bytes → start ≡ [] → bytes ≡ read_buffer → read_buffer ≡ left → rest ≡ drop n read_buffer → n ≤ length left
     → (left ≡ body ++ rest) × (length body ≡ n)
-body_cut left body rest bytes start read_buffer n e none held same tail within =
-    let b : body ≡ take n left = e ∙ ap (λ (xs : List ℕ). xs ++ take n bytes) none ∙ ap (take n) (held ∙ same) in
-    let r : rest ≡ drop n left = tail ∙ ap (drop n) same in (
-      sym (take-append-drop n left) ∙ ap (λ (xs : List ℕ). xs ++ drop n left) (sym b) ∙ ap (λ (xs : List ℕ). body ++ xs) (sym r),
-      ap length b ∙ length-take-le n left within,
-    )
+body_cut left body rest bytes start read_buffer n e none held same tail within = search (rules, take-append-drop, length-take-le)
 
 pub taken_whole : ChunkLaw → (input : List ℕ) (found : Head) (r : Request) (good : Bool) (n : ℕ) (rest : List ℕ) → IsFound input found → found.expects ≡ false → found.framing ≡ Sized n
     → r.method ≡ span_bytes input found.method → IsTargetOf (span_bytes input found.target) good r.target.items → r.closes ≡ found.closes → drop found.len input ≡ r.body.items ++ rest → length r.body.items ≡ n
@@ -43,8 +29,7 @@ taken_whole law input found r good n rest f plain framing method target closes c
     (no_end r good found.head_only, subst (λ (xs : List ℕ). Came xs (targeted r good found.head_only) rest []) (append-nil input) x)
 
 pub taken_out_of_memory : (input rest : List ℕ) (found : Head) → IsFound input found → found.expects ≡ false → Taken input (came.OutOfMemory found.head_only) rest
-taken_out_of_memory input rest found f plain =
-    (tt, subst (λ (xs : List ℕ). Came xs (came.OutOfMemory found.head_only) rest []) (append-nil input) (out_of_memory input [] found f, due input [] [] found f (plainly input found f plain)))
+taken_out_of_memory input rest found f plain = search (rules, append-nil, out_of_memory, due, plainly)
 
 pub taken_refused : (xs ys rest : List ℕ) (f : BadRequest) (head_only : Bool) → xs ≡ ys → RefusesPrefix xs f head_only → Taken ys (came.Refused f head_only) rest
 taken_refused xs ys rest f head_only e x = (tt, refused_prefix xs ys f head_only e x)

@@ -1,11 +1,10 @@
 -- The test for a text that ends inside a request target is right.
-use Rattle.std.proofs.Common.{◌≡◌, ℕ, ◌<◌, Bool, true, false, cond, ◌&&◌, ◌==◌, List, [], ◌∷◌, ◌++◌, length, refl, sym, ap, subst, ◌∙◌, arith, append_assoc}
+use Rattle.std.specs.List.{list_all}
+use Rattle.std.proofs.Common.{◌≡◌, ℕ, ◌<◌, Bool, true, false, cond, ◌&&◌, ◌==◌, List, [], ◌∷◌, ◌++◌, length, refl, sym, ap, subst, ◌∙◌, arith, append_assoc, rules}
 use Rattle.std.proofs.lemmas.Bool.{false≢true, and_parts, or_parts, eqb-true}
 use Rattle.std.proofs.lemmas.List.Elements.{All-nil, All-cons, All-head, All-tail}
 use Rattle.std.proofs.lemmas.List.Sums.{AllPass-from_list_all, list_all-from_AllPass}
-use Rattle.std.specs.List.{list_all}
-use Rattle.httparse.specs.Grammar.{is_token_byte, is_uri_byte, AllPass, LineEnd, crlf, lf, print_blank, EndsInTarget}
-use Rattle.httparse.proofs.PieceLemmas.{space_ends_token, token_is_no_newline}
+use Rattle.httparse.{specs.Grammar.{is_token_byte, is_uri_byte, AllPass, LineEnd, crlf, lf, print_blank, EndsInTarget}, proofs.PieceLemmas.{space_ends_token, token_is_no_newline}}
 use Rattle.http_wire.specs.InTarget.{in_method, in_blank}
 
 -- the rest of a method, and a target
@@ -116,5 +115,4 @@ blank_passes (crlf ∷ ends) m t some tokens uris = blank_passes ends m t some t
 blank_passes (lf ∷ ends) m t some tokens uris = blank_passes ends m t some tokens uris
 
 pub in_target_no : (bytes : List ℕ) → in_blank false bytes ≡ false → EndsInTarget bytes → ⊥
-in_target_no bytes e h =
-    false≢true (sym e ∙ ap (in_blank false) (h.5 ∙ append_assoc (print_blank h.0) h.1 (32 ∷ h.2)) ∙ blank_passes h.0 h.1 h.2 h.3.0 h.3.1 h.4)
+in_target_no bytes e h = search (rules, false≢true, append_assoc, blank_passes)

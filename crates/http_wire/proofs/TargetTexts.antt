@@ -1,16 +1,14 @@
 -- What a target asks for is ASCII.
-use Rattle.std.proofs.Common.{◌≡◌, ℕ, suc, ◌<◌, Bool, true, false, cond, List, [], ◌∷◌, drop, take, Some, None, refl, subst, arith}
-use Rattle.std.specs.Prelude.{option_map, codes, ◌&&◌, nat_lt}
-use Rattle.std.specs.Str.{IsAscii}
+use Rattle.std.specs.{Prelude.{option_map, codes, ◌&&◌, nat_lt}, Str.IsAscii}
+use Rattle.std.proofs.Common.{◌≡◌, ℕ, suc, ◌<◌, Bool, true, false, cond, List, [], ◌∷◌, drop, take, Some, None, refl, subst, arith, rules}
 use Rattle.std.proofs.lemmas.Str.{IsAscii-drop}
 use Rattle.std.proofs.lemmas.Str.Ascii.{IsAscii-nil, IsAscii-cons}
 use Rattle.std.proofs.lemmas.Bool.Decides.{nat_tests}
 use Rattle.http_wire.specs.claim.Target.{is_ascii, is_word, begins_with_slash, ends_authority, after_authority, after_scheme, with_path, without_authority, target_of}
 
 both : (a b : Bool) → (a && b) ≡ true → (a ≡ true) × (b ≡ true)
-both true true e = (refl, refl)
-both true false e = absurd (cc)
-both false b e = absurd (cc)
+both true true e = search rules
+both _ _ e = search rules
 
 below : (b : ℕ) → nat_lt b 128 ≡ true → b < 128
 below b e = grind (arith, nat_tests, e)
@@ -35,10 +33,7 @@ authority_ascii [] a = a
 authority_ascii (b ∷ bytes) a = either_ascii (ends_authority b) (b ∷ bytes) (after_authority bytes) a (authority_ascii bytes (tail_ascii b bytes a))
 
 after_ascii : (bytes text : List ℕ) → IsAscii bytes → Some (with_path (after_authority bytes)) ≡ Some text → IsAscii text
-after_ascii bytes text a e =
-    let rest = after_authority bytes in
-    let same : with_path rest ≡ text = cc in
-    subst IsAscii same (with_path_ascii rest (begins_with_slash rest) (authority_ascii bytes a))
+after_ascii bytes text a e = search (rules, with_path_ascii, authority_ascii)
 
 scheme_ascii : (target text : List ℕ) (is : Bool) → IsAscii target → option_map (λ rest. with_path (after_authority rest)) (cond is (Some (drop 7 target)) None) ≡ Some text → IsAscii text
 scheme_ascii target text true a e = after_ascii (drop 7 target) text (IsAscii-drop target 7 a) e

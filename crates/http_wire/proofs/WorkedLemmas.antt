@@ -1,15 +1,10 @@
 -- The prefixes of worked inputs.
-use Rattle.std.proofs.Common.{◌≡◌, ℕ, ◌<◌, true, false, List, [], ◌∷◌, length, codes, refl, arith, inl, inr, All}
+use Rattle.std.{specs.List.list_all, specs.Str.IsUtf8, proofs.Common.{◌≡◌, ℕ, ◌<◌, true, false, List, [], ◌∷◌, length, codes, refl, arith, All, rules}}
 use Rattle.std.proofs.lemmas.List.Elements.{All-nil, All-cons}
 use Rattle.std.proofs.lemmas.List.Sums.{AllPass-from_list_all}
-use Rattle.std.specs.List.{list_all}
-use Rattle.std.specs.Str.{IsUtf8}
-use Rattle.httparse.specs.Grammar.{is_token_byte, is_uri_byte, is_value_byte, Field, IsField, crlf, RequestHead, IsRequestHead}
-use Rattle.httparse.proofs.OnLiterals.{httparse_on_literals}
+use Rattle.httparse.{specs.Grammar.{is_token_byte, is_uri_byte, is_value_byte, Field, IsField, crlf, RequestHead, IsRequestHead}, proofs.OnLiterals.httparse_on_literals}
 use Rattle.http_intake.specs.declared.bad_request.BadRequest.TheVariants.{BadHost, BadLength}
-use Rattle.http_wire.specs.claim.Prefix.{HasRequest, RefusesHead}
-use Rattle.http_wire.specs.Law.{WorkedPrefixes}
-use Rattle.http_wire.specs.declared.head.Framing.TheVariants.{Sized}
+use Rattle.http_wire.specs.{claim.Prefix.{HasRequest, RefusesHead}, Law.WorkedPrefixes, declared.head.Framing.TheVariants.Sized}
 
 -- a head by its method, its target and its fields
 abbrev head : List ℕ → List ℕ → List Field → RequestHead
@@ -27,13 +22,7 @@ host_ok = record { name = (omega arith, AllPass-from_list_all is_token_byte (cod
 
 fields_ok : (target : List ℕ) (fs : List Field) (method : List ℕ) → list_all is_token_byte method ≡ true → list_all is_uri_byte target ≡ true → 0 < length method → 0 < length target → IsUtf8 target → All IsField fs
     → IsRequestHead (head method target fs)
-fields_ok target fs method m t some present text ok = record {
-  method = (some, AllPass-from_list_all is_token_byte method m);
-  target = (present, AllPass-from_list_all is_uri_byte target t);
-  target_text = text;
-  minor = omega arith;
-  fields = ok;
-}
+fields_ok target fs method m t some present text ok = search (rules, AllPass-from_list_all)
 
 plans_prefixes : HasRequest (codes "GET /plans HTTP/1.1\r\nHost: d\r\n\r\n") plans (codes "/plans") [] []
 unfolding httparse_on_literals lib.Utf8.encode
@@ -89,11 +78,7 @@ unfolding httparse_on_literals lib.Utf8.encode
 head_only_refused = record {
   head = head_only;
   rest = [];
-  stands = record {
-    reads = (fields_ok (codes "/plans") [] (codes "GET") refl refl (omega arith) (omega arith) (codes "/plans", (refl, refl)) (All-nil IsField), refl);
-    short = omega arith;
-    few = omega arith;
-  };
+  stands = search (rules, fields_ok, All-nil);
   judges = refl;
   shown = refl;
 }
@@ -117,23 +102,10 @@ unfolding httparse_on_literals lib.Utf8.encode
 coded_refused = record {
   head = head (codes "PUT") (codes "/plans/a") (host ∷ length_field ∷ coding_field ∷ []);
   rest = [];
-  stands = record {
-    reads = (
-      fields_ok (codes "/plans/a") (host ∷ length_field ∷ coding_field ∷ []) (codes "PUT") refl refl (omega arith) (omega arith) (codes "/plans/a", (refl, refl))
-          (All-cons IsField host (length_field ∷ coding_field ∷ []) host_ok (All-cons IsField length_field (coding_field ∷ []) length_ok (All-cons IsField coding_field [] coding_ok (All-nil IsField)))),
-      refl,
-    );
-    short = omega arith;
-    few = omega arith;
-  };
+  stands = search (rules, fields_ok, All-cons, host_ok, length_ok, coding_ok, All-nil);
   judges = refl;
   shown = refl;
 }
 
 pub worked_prefixes : WorkedPrefixes
-worked_prefixes = record {
-  plans = (plans, refl, plans_prefixes);
-  absolute = (old, refl, refl, old_prefixes);
-  no_host = inr (inl head_only_refused);
-  coded = inr (inl coded_refused);
-}
+worked_prefixes = search (rules, plans_prefixes, old_prefixes, head_only_refused, coded_refused)

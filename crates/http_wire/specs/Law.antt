@@ -1,8 +1,7 @@
 -- The prefix of an input is one thing alone.
 use Rattle.std.specs.Prelude.{◌≡◌, ◌⊎◌, ℕ, Bool, true, false, List, [], ◌++◌, codes}
 use Rattle.httparse.specs.Grammar.{RequestHead}
-use Rattle.http_intake.specs.declared.bad_request.BadRequest.{BadRequest}
-use Rattle.http_intake.specs.declared.bad_request.BadRequest.TheVariants.{BadHost, BadLength}
+use Rattle.http_intake.specs.{declared.bad_request.BadRequest.BadRequest, declared.bad_request.BadRequest.TheVariants.{BadHost, BadLength}}
 use Rattle.http_intake.specs.Chunks as chunks
 use Rattle.http_wire.specs.claim.Prefix.{HasHead, HasRequest, HasFault, closes_after, IsIncomplete, HasTooManyLines, IsNoHead}
 

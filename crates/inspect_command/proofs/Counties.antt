@@ -1,19 +1,11 @@
 -- Rows of commands, by the counties of a geography.
-use Rattle.std.proofs.Common.{◌≡◌, ◌<◌, ◌+◌, ℕ, Bool, true, false, cond, List, [], ◌∷◌, length, Option, Some, None, sym, ap, subst, ◌∙◌, refl, arith}
-use Rattle.std.specs.Prelude.{◌==◌}
-use Rattle.desk_model.specs.claim.Ranges.{runs_from, runs, counties, sizes}
-use Rattle.desk_model.specs.Ranges.{ranges_of}
-use Rattle.desk_model.specs.declared.ranges.CountyRange.{CountyRange}
-use Rattle.desk_model.specs.declared.command.Command.{Command}
-use Rattle.desk_model.specs.declared.command.Command.TheVariants.{Fork}
-use Rattle.desk_model.specs.claim.Desk.{Desk}
-use Rattle.desk_model.specs.claim.Geography.{GeographyModel}
-use Rattle.desk_model.specs.claim.Room.{command_rows, fork_rows, forked_rows}
+use Rattle.std.{specs.Prelude.◌==◌, proofs.Common.{◌≡◌, ◌<◌, ◌+◌, ℕ, Bool, true, false, cond, List, [], ◌∷◌, length, Option, Some, None, sym, ap, subst, ◌∙◌, refl, arith}}
+use Rattle.desk_model.specs.{claim.Ranges.{runs_from, runs, counties, sizes}, Ranges.ranges_of, declared.ranges.CountyRange.CountyRange, declared.command.Command.Command}
+use Rattle.desk_model.specs.{declared.command.Command.TheVariants.Fork, claim.Desk.Desk, claim.Geography.GeographyModel, claim.Room.{command_rows, fork_rows, forked_rows}}
 use Rattle.desk_model.proofs.Runs.{counties_long}
 use Rattle.desk_catalogue.specs.Cutting.{AreRevisionRows}
 use Rattle.desk_store.proofs.plan_revisions.LastRevision.{ranges_long}
-use Rattle.inspect_command.specs.Needs.{all_change, one_changes, IsLargest, IsRevision, AreNeededBy, AreNeeded}
-use Rattle.inspect_command.specs.declared.needs.RowsNeeded.{RowsNeeded}
+use Rattle.inspect_command.specs.{Needs.{all_change, one_changes, IsLargest, IsRevision, AreNeededBy, AreNeeded}, declared.needs.RowsNeeded.RowsNeeded}
 
 either_some : (same : Bool) (one other : List ℕ) → 0 < length one → 0 < length other → 0 < length (cond same one other)
 either_some true one other some more = some

@@ -1,49 +1,25 @@
 -- A device whose store is verified.
-use Rattle.std.proofs.Common.{◌≡◌, ◌+◌, ℕ, Bool, true, false, inl, inr, refl, sym, ap, subst, ◌∙◌, arith}
-use Rattle.std.specs.Prelude.{Option, Some, None, Result, Ok, Err, IfOk, IfErr}
-use Rattle.sector_device.specs.claim.Disk.{Disk, Image}
-use Rattle.sector_device.specs.Disk.{IsSynced}
-use Rattle.sector_device.specs.claim.Moments.{LeavesOnly}
-use Rattle.sector_device.specs.declared.SectorDevice.{Ghosts}
-use Rattle.page_store.specs.gate_journal.claim.Store.{home, pages}
-use Rattle.page_store.specs.gate_journal.Recovery.{HasRoom, AllStores, ReadsAs, Found}
-use Rattle.page_store.specs.claim.Chain.{root_in, free_in}
-use Rattle.page_store.proofs.Stops.{leaves_quiet, quiet_more}
-use Rattle.page_store.specs.claim.Transactions.{stored, disk_in, device_in, count_of, journal_of, has_halted, txn_pages, IsKept, IsQuiet}
-use Rattle.page_store.specs.Transactions.{IsUntouched, OpenErr}
-use Rattle.page_store.specs.declared.pages.Pages.{Pages}
-use Rattle.page_store.specs.declared.txn.Txn.{Txn}
-use Rattle.page_store.specs.gate_journal.declared.error.PageError.{PageError}
+use Rattle.std.{specs.Prelude.{Option, Some, None, Result, Ok, Err, IfOk, IfErr}, proofs.Common.{◌≡◌, ◌+◌, ℕ, Bool, true, false, inl, inr, refl, sym, ap, subst, ◌∙◌, arith}}
+use Rattle.sector_device.specs.{claim.Disk.{Disk, Image}, Disk.IsSynced, claim.Moments.LeavesOnly, declared.SectorDevice.Ghosts}
+use Rattle.page_store.specs.{gate_journal.claim.Store.{home, pages}, gate_journal.Recovery.{HasRoom, AllStores, ReadsAs, Found}, claim.Chain.{root_in, free_in}}
+use Rattle.page_store.specs.{claim.Transactions.{stored, disk_in, device_in, count_of, journal_of, has_halted, txn_pages, IsKept, IsQuiet}, Transactions.{IsUntouched, OpenErr}}
+use Rattle.page_store.{specs.declared.pages.Pages.Pages, specs.declared.txn.Txn.Txn, specs.gate_journal.declared.error.PageError.PageError, proofs.Stops.{leaves_quiet, quiet_more}}
 use Rattle.page_store.specs.gate_journal.declared.error.PageError.TheVariants as page
 use Rattle.page_btree.specs.claim.Map.{Holds, InPages as HoldsRows, InTxn}
-use Rattle.btree_walks.specs.Errors.{CheckErr}
-use Rattle.btree_walks.specs.Owners.{AreOwned}
-use Rattle.btree_walks.specs.Faults.{IsWrongPage, TellsOf}
-use Rattle.btree_walks.specs.declared.error.PageFault.{PageFault}
-use Rattle.btree_walks.specs.declared.error.PagesError.{PagesError}
+use Rattle.btree_walks.specs.{Errors.CheckErr, Owners.AreOwned, Faults.{IsWrongPage, TellsOf}, declared.error.PageFault.PageFault, declared.error.PagesError.PagesError}
 use Rattle.btree_walks.specs.declared.error.PagesError.TheVariants as owners
 use Rattle.store_rows.specs.claim.Rows.{KeyMap}
-use Rattle.desk_model.specs.Ranges.{ranges_in}
-use Rattle.desk_model.specs.claim.Desk.{Desk}
-use Rattle.desk_pages.specs.claim.Desks.{HoldsDeskOf, InPages as HoldsDesk, InTxn as ReadsIn}
-use Rattle.store_command.specs.Reading.{ReadsDesk}
-use Rattle.store_command.specs.desk_runs.Recovery.{ImagesAreOne}
-use Rattle.desk_pages.specs.Openings.{LeavesOneOf, OpensOneOf, StillStands}
+use Rattle.desk_model.specs.{Ranges.ranges_in, claim.Desk.Desk}
+use Rattle.desk_pages.specs.{claim.Desks.{HoldsDeskOf, InPages as HoldsDesk, InTxn as ReadsIn}, Openings.{LeavesOneOf, OpensOneOf, StillStands}, Errors.page_refusal}
 use Rattle.desk_pages.proofs.Found.{all_versions, stores_of, page_stores_of, open_leaves, found_desk, found_after, pages_stand, rows_before}
-use Rattle.store_command.proofs.desk_store.Prepared.{IsBegun, begun_rows}
+use Rattle.store_command.specs.{Reading.ReadsDesk, desk_runs.Recovery.ImagesAreOne, declared.fault.StoreFault.StoreFault}
+use Rattle.store_command.specs.{declared.fault.StoreFault.TheVariants.{NotAStore, OldVersion, DeviceFault, Memory}, Faults.fault_of_store}
 use Rattle.store_command.proofs.Read.{left_opens, leaves_new, all_either}
-use Rattle.store_command.specs.declared.fault.StoreFault.{StoreFault}
-use Rattle.store_command.specs.declared.fault.StoreFault.TheVariants.{NotFound, WrongSize, Exists, TooSmall, NotAStore, OldVersion, AlreadyNew, AlreadySealed, Full, DeviceFault, Memory}
-use Rattle.inspect_command.specs.declared.refusal.Refusal.{Refusal}
-use Rattle.inspect_command.specs.declared.verifying.Verified.{Verified}
-use Rattle.row_owners.specs.Strays.{AllBelong}
-use Rattle.row_owners.specs.declared.wrong.WrongRow.{WrongRow}
-use Rattle.inspect_command.specs.Sound.{HasSound, HasStray}
-use Rattle.parallel_verify.specs.Looking.{IsSoundAt}
-use Rattle.parallel_verify.proofs.Seen.{agreed, same_layout}
-use Rattle.desk_pages.specs.Errors.{page_refusal}
-use Rattle.store_command.specs.Faults.{fault_of_store}
-use Rattle.inspect_command.specs.Verifying.{HoldsOwned, HoldsSound, HoldsStray, IsFoundWrong, IsLookedAt, IsPart, IsRefused, IsSparedFor, IsUnsound, StrayOr, TellsPages, Unsound, VerifiesDevice}
+use Rattle.store_command.proofs.desk_store.Prepared.{IsBegun, begun_rows}
+use Rattle.inspect_command.specs.{declared.refusal.Refusal.Refusal, declared.verifying.Verified.Verified, Sound.{HasSound, HasStray}}
+use Rattle.inspect_command.specs.Verifying.{HoldsOwned, HoldsSound, HoldsStray, IsFoundWrong, IsLookedAt, NamesPageOrRow, IsRefused, IsSparedFor, IsUnsound, StrayOr, TellsPages, Unsound, VerifiesDevice}
+use Rattle.row_owners.specs.{Strays.AllBelong, declared.wrong.WrongRow.WrongRow}
+use Rattle.parallel_verify.{specs.Looking.IsSoundAt, proofs.Seen.{agreed, same_layout}}
 
 -- ---- what is told of a part of the store, or for another reason
 told_part : (is : Bool) (fault : StoreFault) (P Q : Type 0) → is ≡ true → fault ≡ NotAStore → P → StrayOr is fault P Q
@@ -82,7 +58,7 @@ module _ {D : Type 0} {g : Ghosts D} where
 
   pub of_unsound : (a b : Pages D g) (refusal : Refusal) (fault : StoreFault) → refusal.fault ≡ fault → refusal.is_stray ≡ false → refusal.page ≡ None → Unsound a b fault → IsUnsound a b refusal
   of_unsound a b refusal fault told opens whole why =
-      told_other refusal.is_stray refusal.fault (IsPart b refusal.page refusal.row) (Unsound a b refusal.fault × (refusal.page ≡ None)) opens
+      told_other refusal.is_stray refusal.fault (NamesPageOrRow b refusal.page refusal.row) (Unsound a b refusal.fault × (refusal.page ≡ None)) opens
       (subst (λ (f : StoreFault). Unsound a b f) (sym told) why, whole)
 
   -- ---- pages that were looked at before
@@ -98,22 +74,14 @@ module _ {D : Type 0} {g : Ghosts D} where
   owned_before a b quiet honest owned = subst (λ (n : ℕ). AreOwned n (stored a)) quiet.count (subst (λ (P : Image). AreOwned (count_of b) P) (quiet.same honest) owned)
 
   unsound_after : (a b c : Pages D g) (fault : StoreFault) → IsQuiet a b → IsQuiet b c → Unsound b c fault → Unsound a c fault
-  unsound_after a b c NotFound first then why = why
-  unsound_after a b c WrongSize first then why = why
-  unsound_after a b c Exists first then why = why
-  unsound_after a b c TooSmall first then why = why
   unsound_after a b c NotAStore first then why = λ honest d holds. why honest d (desk_after a b d first (then.honest honest) holds)
   unsound_after a b c OldVersion first then why = λ honest d holds. why honest d (desk_after a b d first (then.honest honest) holds)
-  unsound_after a b c AlreadyNew first then why = why
-  unsound_after a b c AlreadySealed first then why = why
-  unsound_after a b c Full first then why = why
-  unsound_after a b c DeviceFault first then why = why
-  unsound_after a b c Memory first then why = why
+  unsound_after a b c _ first then why = why
 
   pub then_unsound : (a b c : Pages D g) (result : Result Verified Refusal) → IsQuiet a b → IsQuiet b c → IfErr result (λ r. IsUnsound b c r) → IfErr result (λ r. IsUnsound a c r)
   then_unsound a b c (Ok v) first then why = why
   then_unsound a b c (Err r) first then why =
-      map_stray r.is_stray r.fault (IsPart c r.page r.row) (Unsound b c r.fault × (r.page ≡ None)) (IsPart c r.page r.row) (Unsound a c r.fault × (r.page ≡ None))
+      map_stray r.is_stray r.fault (NamesPageOrRow c r.page r.row) (Unsound b c r.fault × (r.page ≡ None)) (NamesPageOrRow c r.page r.row) (Unsound a c r.fault × (r.page ≡ None))
       (λ part. part) (λ other. (unsound_after a b c r.fault first then other.0, other.1)) why
 
   pub then_owned : (a b c : Pages D g) (result : Result Verified Refusal) → IsQuiet a b → IsQuiet b c → ((disk_in b).is_honest → AreOwned (count_of a) (stored a)) → IfOk result (λ v. HoldsSound c v) → IfOk result (λ v. HoldsOwned c v)
@@ -130,8 +98,8 @@ module _ {D : Type 0} {g : Ghosts D} where
   pub pages_told : (a b : Pages D g) (e : PagesError) (refusal : Refusal) → has_halted a ≡ false → IsQuiet a b → TellsPages e refusal → CheckErr (AreOwned (count_of a) (stored a)) a b e
       → ((disk_in b).is_honest → TellsOf (count_of a) (stored a) e) → IsUnsound a b refusal
   pages_told a b (owners.Unsound page) refusal working quiet told why wrong =
-      told_part refusal.is_stray refusal.fault (IsPart b refusal.page refusal.row) (Unsound a b refusal.fault × (refusal.page ≡ None)) told.0 told.1
-      (subst (λ (o : Option PageFault). IsPart b o refusal.row) (sym told.2) (record {
+      told_part refusal.is_stray refusal.fault (NamesPageOrRow b refusal.page refusal.row) (Unsound a b refusal.fault × (refusal.page ≡ None)) told.0 told.1
+      (subst (λ (o : Option PageFault). NamesPageOrRow b o refusal.row) (sym told.2) (record {
         unowned = λ honest owned. why honest (owned_before a b quiet honest owned);
         told = λ honest. wrong_after a b page quiet honest (wrong honest);
       }))
@@ -151,26 +119,15 @@ module _ {D : Type 0} (g : Ghosts D) where
   not_opened device left page.NotAStore why untouched = λ honest. inl (untouched honest refl)
   not_opened device left page.DeviceFault why untouched = tt
   not_opened device left page.Memory why untouched = λ honest. let p = why honest in (p.0, p.1.0, p.1.1)
-  not_opened device left page.Halted why untouched = absurd why
-  not_opened device left page.TooManyPages why untouched = absurd why
-  not_opened device left page.TooSmall why untouched = absurd why
-  not_opened device left page.NoPages why untouched = absurd why
+  not_opened device left _ why untouched = absurd why
 
   pub spared_as : (device left : D) (fault told : StoreFault) → told ≡ fault → IsSparedFor g device left fault → IsSparedFor g device left told
   spared_as device left fault told same is = subst (λ (f : StoreFault). IsSparedFor g device left f) (sym same) is
 
   still_spared : (device left : D) (fault : StoreFault) → ((g.disk left).is_honest → StillStands (g.disk device) (g.disk left)) → IsSparedFor g device left fault
-  still_spared device left NotFound stands = λ honest. inr (stands honest)
-  still_spared device left WrongSize stands = λ honest. inr (stands honest)
-  still_spared device left Exists stands = λ honest. inr (stands honest)
-  still_spared device left TooSmall stands = λ honest. inr (stands honest)
-  still_spared device left NotAStore stands = λ honest. inr (stands honest)
-  still_spared device left OldVersion stands = λ honest. inr (stands honest)
-  still_spared device left AlreadyNew stands = λ honest. inr (stands honest)
-  still_spared device left AlreadySealed stands = λ honest. inr (stands honest)
-  still_spared device left Full stands = λ honest. inr (stands honest)
   still_spared device left DeviceFault stands = tt
   still_spared device left Memory stands = λ honest. let s = stands honest in (s.J, s.n, s.found)
+  still_spared device left _ stands = λ honest. inr (stands honest)
 
 module _ {D : Type 0} (g : Ghosts D) (law : ImagesAreOne) (device : D) (synced : IsSynced (g.disk device)) where
   abbrev old : Disk
@@ -181,10 +138,7 @@ module _ {D : Type 0} (g : Ghosts D) (law : ImagesAreOne) (device : D) (synced :
   page_refused left page.NotAStore why = λ honest d reads. why honest (page_stores_of old (all_either old synced true d reads))
   page_refused left page.DeviceFault why = why
   page_refused left page.Memory why = tt
-  page_refused left page.Halted why = absurd why
-  page_refused left page.TooManyPages why = absurd why
-  page_refused left page.TooSmall why = absurd why
-  page_refused left page.NoPages why = absurd why
+  page_refused left _ why = absurd why
 
   pub looked_at : (left : D) → (g.disk left).sectors ≡ old.sectors → ((g.disk left).is_honest → old.is_honest) → LeavesOneOf old (g.disk left) → IsLookedAt g device left
   looked_at left sectors honest leaves = record {
@@ -212,17 +166,11 @@ module _ {D : Type 0} (g : Ghosts D) (law : ImagesAreOne) (device : D) (synced :
     reads_none none honest d reads = let it = found (quiet.honest honest) in none honest d (found_desk old a it room (true, d) (left_opens old synced true d reads it.was it.left))
 
     refused : (fault : StoreFault) → Unsound a b fault → IsRefused g device (device_in b) fault
-    refused NotFound why = why
-    refused WrongSize why = why
-    refused Exists why = why
-    refused TooSmall why = why
     refused NotAStore why = reads_none why
     refused OldVersion why = reads_none why
-    refused AlreadyNew why = why
-    refused AlreadySealed why = why
-    refused Full why = why
     refused DeviceFault why = λ honest. let rises = quiet.rose working why honest in let same = passed (quiet.honest honest) in omega (arith, rises, same)
     refused Memory why = tt
+    refused _ why = why
 
     same_sectors : (disk_in b).sectors ≡ (disk_in a).sectors
     same_sectors = sym b.journal.room.whole ∙ ap (λ J. home J + count_of b) quiet.journal ∙ ap (λ n. home (journal_of a) + n) quiet.count ∙ a.journal.room.whole
@@ -235,7 +183,7 @@ module _ {D : Type 0} (g : Ghosts D) (law : ImagesAreOne) (device : D) (synced :
     told (Err r) look sound why = (
       look,
       still_spared g device (device_in b) r.fault (pages_stand old a b found kept quiet),
-      map_stray r.is_stray r.fault (IsPart b r.page r.row) (Unsound a b r.fault × (r.page ≡ None)) (IsFoundWrong g device (device_in b) r.page r.row) (IsRefused g device (device_in b) r.fault × (r.page ≡ None))
+      map_stray r.is_stray r.fault (NamesPageOrRow b r.page r.row) (Unsound a b r.fault × (r.page ≡ None)) (IsFoundWrong g device (device_in b) r.page r.row) (IsRefused g device (device_in b) r.fault × (r.page ≡ None))
           (λ part. record { ps = b; back = refl; found = λ honest. found_after old a b found quiet honest; wrong = part }) (λ other. (refused r.fault other.0, other.1)) why,
     )
 

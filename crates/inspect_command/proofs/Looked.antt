@@ -1,33 +1,18 @@
 -- A device that a clerk opened, and that was opened once more by its pages.
-use Rattle.std.proofs.Common.{◌≡◌, ◌⊎◌, ◌<◌, ◌≤◌, ◌^◌, ℕ, true, refl, sym, subst, ◌∙◌, inl, inr, arith}
-use Rattle.std.specs.Prelude.{Result, Ok, Err, IfOk, IfErr}
-use Rattle.sector_device.specs.claim.Disk.{Disk, Image}
-use Rattle.sector_device.proofs.Moments.{leaves_more, leaves_now, leaves_wider}
-use Rattle.sector_device.specs.declared.SectorDevice.{Ghosts}
-use Rattle.page_store.specs.gate_journal.Recovery.{Found}
-use Rattle.page_store.specs.claim.Chain.{root_in, free_in}
-use Rattle.page_store.specs.claim.Transactions.{stored, disk_in, device_in, count_of, journal_of, IsQuiet}
+use Rattle.std.{specs.Prelude.{Result, Ok, Err, IfOk, IfErr}, proofs.Common.{◌≡◌, ◌⊎◌, ◌<◌, ◌≤◌, ◌^◌, ℕ, true, refl, sym, subst, ◌∙◌, inl, inr, arith}}
+use Rattle.sector_device.{specs.claim.Disk.{Disk, Image}, specs.declared.SectorDevice.Ghosts, proofs.Moments.{leaves_more, leaves_now, leaves_wider}}
+use Rattle.page_store.specs.{gate_journal.Recovery.Found, claim.Chain.{root_in, free_in}, claim.Transactions.{stored, disk_in, device_in, count_of, journal_of, IsQuiet}}
 use Rattle.page_store.specs.declared.pages.Pages.{Pages}
 use Rattle.page_btree.specs.claim.Map.{Holds, InPages}
-use Rattle.desk_pages.proofs.Found.{found_after}
+use Rattle.desk_pages.{specs.claim.Desks.OpensDesk, specs.Openings.{AllDesks, LeavesOneOf, OpensOneOf}, proofs.Found.found_after}
 use Rattle.store_rows.specs.claim.Rows.{KeyMap}
-use Rattle.inspect_command.specs.Rows.{AreCounted, CountsRows, IsUncounted}
-use Rattle.inspect_command.specs.declared.rows.Rows.{Rows}
-use Rattle.store_command.specs.declared.fault.StoreFault.{StoreFault}
-use Rattle.desk_model.specs.claim.Desk.{Desk}
-use Rattle.desk_pages.specs.claim.Desks.{OpensDesk}
-use Rattle.desk_pages.specs.Openings.{AllDesks, LeavesOneOf, OpensOneOf}
-use Rattle.store_command.specs.desk_loading.Openings.{IsOpened}
-use Rattle.store_command.specs.desk_runs.Recovery.{ImagesAreOne}
-use Rattle.store_command.specs.desk_store.declared.clerk.Clerk.{Clerk}
-use Rattle.store_command.specs.desk_store.claim.Clerks.{disk_of, pages_of}
-use Rattle.store_command.proofs.desk_store.Opened.{reopened}
-use Rattle.store_command.specs.Filling.{WhereItReads}
-use Rattle.store_command.specs.Reading.{LeavesDesk, ShowsWhatIsRead}
-use Rattle.store_command.specs.declared.fault.StoreFault.TheVariants.{NotAStore, DeviceFault, Memory}
-use Rattle.inspect_command.specs.declared.figures.Held.{Held}
-use Rattle.inspect_command.specs.Figures.{AreHeld}
+use Rattle.inspect_command.specs.{Rows.{AreCounted, CountsRows, IsUncounted}, declared.rows.Rows.Rows, declared.figures.Held.Held, Figures.AreHeld}
 use Rattle.inspect_command.specs.Stats.{joined, IsLookedAt, StatsDevice}
+use Rattle.store_command.specs.{declared.fault.StoreFault.StoreFault, desk_loading.Openings.IsOpened, desk_runs.Recovery.ImagesAreOne, desk_store.declared.clerk.Clerk.Clerk}
+use Rattle.store_command.specs.{desk_store.claim.Clerks.{disk_of, pages_of}, Filling.WhereItReads, Reading.{LeavesDesk, ShowsWhatIsRead}}
+use Rattle.store_command.specs.declared.fault.StoreFault.TheVariants.{NotAStore, DeviceFault, Memory}
+use Rattle.desk_model.specs.claim.Desk.{Desk}
+use Rattle.store_command.proofs.desk_store.Opened.{reopened}
 
 few_sectors : (disk : Disk) → disk.sectors ≤ 2 ^ 32
 few_sectors disk = let few = disk.few in omega (arith, few)

@@ -1,24 +1,15 @@
 -- A device whose readers looked at it before it was verified.
-use Rattle.std.proofs.Common.{◌≡◌, ◌<◌, ℕ, false, inl, inr, sym, subst, ◌∙◌, arith}
-use Rattle.std.specs.Prelude.{Result, Ok, Err, None}
-use Rattle.sector_device.specs.claim.Disk.{Disk, Image, Nowhere, Touches}
-use Rattle.sector_device.specs.Disk.{IsSynced}
-use Rattle.sector_device.specs.claim.Moments.{LeavesOnly}
-use Rattle.sector_device.specs.declared.SectorDevice.{Ghosts}
+use Rattle.std.{specs.Prelude.{Result, Ok, Err, None}, proofs.Common.{◌≡◌, ◌<◌, ℕ, false, inl, inr, sym, subst, ◌∙◌, arith}}
+use Rattle.sector_device.specs.{claim.Disk.{Disk, Image, Nowhere, Touches}, Disk.IsSynced, claim.Moments.LeavesOnly, declared.SectorDevice.Ghosts}
 use Rattle.sector_device.proofs.Moments.{leaves_from, leaves_more, now_but, touches_more}
-use Rattle.page_store.specs.gate_journal.Recovery.{Found}
-use Rattle.page_store.specs.claim.Transactions.{journal_of, count_of}
+use Rattle.page_store.specs.{gate_journal.Recovery.Found, claim.Transactions.{journal_of, count_of}}
 use Rattle.desk_model.specs.claim.Desk.{Desk}
-use Rattle.desk_pages.specs.claim.Desks.{OpensDesk}
-use Rattle.desk_pages.specs.Openings.{HasPages, IsSpared, StillStands}
-use Rattle.store_command.specs.Reading.{LeavesDesk, ReadsDesk}
-use Rattle.store_command.specs.declared.fault.StoreFault.{StoreFault}
-use Rattle.store_command.specs.declared.fault.StoreFault.TheVariants.{NotFound, WrongSize, Exists, TooSmall, NotAStore, OldVersion, AlreadyNew, AlreadySealed, Full, DeviceFault, Memory}
-use Rattle.inspect_command.specs.declared.refusal.Refusal.{Refusal}
-use Rattle.inspect_command.specs.declared.verifying.Verified.{Verified}
-use Rattle.inspect_command.specs.Verifying.{IsFoundWrong, IsLookedAt, IsRefused, IsSparedFor, VerifiesDevice}
+use Rattle.desk_pages.specs.{claim.Desks.OpensDesk, Openings.{HasPages, IsSpared, StillStands}}
+use Rattle.store_command.specs.{Reading.{LeavesDesk, ReadsDesk}, declared.fault.StoreFault.StoreFault}
+use Rattle.store_command.specs.declared.fault.StoreFault.TheVariants.{NotAStore, OldVersion, DeviceFault, Memory}
+use Rattle.inspect_command.specs.{declared.refusal.Refusal.Refusal, declared.verifying.Verified.Verified}
+use Rattle.inspect_command.{specs.Verifying.{IsFoundWrong, IsLookedAt, IsRefused, IsSparedFor, VerifiesDevice}, proofs.Devices.{map_stray, spared_as, unopened}}
 use Rattle.parallel_verify.proofs.Seen.{agreed}
-use Rattle.inspect_command.proofs.Devices.{map_stray, spared_as, unopened}
 
 -- the first device, and the one that was left by its readers
 module _ (a b : Disk) (synced : IsSynced a) (sectors : b.sectors ≡ a.sectors) (moves : Touches Nowhere a b) where
@@ -91,33 +82,19 @@ module _ {D : Type 0} (g : Ghosts D) (device mid : D) (synced : IsSynced (g.disk
     none_read none good d reads = none good d (reads_on a b synced sectors (by good) d reads)
 
     refused_before : (fault : StoreFault) → IsRefused g mid left fault → IsRefused g device left fault
-    refused_before NotFound why = why
-    refused_before WrongSize why = why
-    refused_before Exists why = why
-    refused_before TooSmall why = why
     refused_before NotAStore why = none_read why
     refused_before OldVersion why = none_read why
-    refused_before AlreadyNew why = why
-    refused_before AlreadySealed why = why
-    refused_before Full why = why
     refused_before DeviceFault why = λ good. let rose = why good in let fewer = (by good).faults in omega (arith, rose, fewer)
     refused_before Memory why = tt
+    refused_before _ why = why
 
     spared : ((g.disk left).is_honest → IsSpared b (g.disk left)) → (g.disk left).is_honest → IsSpared a (g.disk left)
     spared is good = spared_before a b synced sectors (by good) (g.disk left) (is good)
 
     spared_for : (fault : StoreFault) → IsSparedFor g mid left fault → IsSparedFor g device left fault
-    spared_for NotFound is = spared is
-    spared_for WrongSize is = spared is
-    spared_for Exists is = spared is
-    spared_for TooSmall is = spared is
-    spared_for NotAStore is = spared is
-    spared_for OldVersion is = spared is
-    spared_for AlreadyNew is = spared is
-    spared_for AlreadySealed is = spared is
-    spared_for Full is = spared is
     spared_for DeviceFault is = tt
     spared_for Memory is = λ good. pages_before a b synced sectors (by good) (g.disk left) (is good)
+    spared_for _ is = spared is
 
     found_at : (J n : ℕ) → ((g.disk left).is_honest → Found J n b (g.disk left)) → (g.disk left).is_honest → Found J n a (g.disk left)
     found_at J n found good = found_before a b synced sectors (by good) J n (g.disk left) (found good)

@@ -1,16 +1,9 @@
 -- What a clerk tells of the room for a command.
 use Rattle.std.proofs.Common.{◌≡◌, ℕ, Option, length, refl, sym, subst}
 use Rattle.sector_device.specs.declared.SectorDevice.{Ghosts}
-use Rattle.desk_model.specs.declared.command.Command.{Command}
-use Rattle.desk_model.specs.claim.Room.{command_rows}
-use Rattle.store_command.specs.desk_store.declared.clerk.Clerk.{Clerk}
-use Rattle.store_command.specs.desk_store.claim.Clerks.{desk_of, disk_of, free_of, room_of}
-use Rattle.inspect_command.specs.declared.needs.Need.{Need}
-use Rattle.desk_model.specs.declared.command.Command.TheVariants.{Fork}
-use Rattle.desk_model.specs.claim.Geography.{GeographyModel}
-use Rattle.inspect_command.specs.declared.needs.RowsNeeded.{RowsNeeded}
-use Rattle.inspect_command.specs.declared.figures.Held.{Held}
-use Rattle.inspect_command.specs.Needs.{IsNeed, AreNeeded}
+use Rattle.desk_model.specs.{declared.command.Command.Command, claim.Room.command_rows, declared.command.Command.TheVariants.Fork, claim.Geography.GeographyModel}
+use Rattle.store_command.specs.{desk_store.declared.clerk.Clerk.Clerk, desk_store.claim.Clerks.{desk_of, disk_of, free_of, room_of}}
+use Rattle.inspect_command.specs.{declared.needs.Need.Need, declared.needs.RowsNeeded.RowsNeeded, declared.figures.Held.Held, Needs.{IsNeed, AreNeeded}}
 use Rattle.inspect_command.specs.Figures.{blocks_in, pairs_in, plan_lines, revisions_in, TellsNeed, AreHeld}
 
 module _ {D : Type 0} {g : Ghosts D} where

@@ -1,46 +1,30 @@
 -- Rows that aren't read, where a device failed.
-use Rattle.std.proofs.Common.{◌≡◌, Bool, true, false, inl, inr, refl, sym, subst, ◌∙◌, arith}
-use Rattle.std.specs.Prelude.{◌<◌, Result, Ok, Err, OnErr, IfErr}
+use Rattle.std.{specs.Prelude.{◌<◌, Result, Ok, Err, OnErr, IfErr}, proofs.Common.{◌≡◌, Bool, true, false, inl, inr, refl, sym, subst, ◌∙◌, arith}}
 use Rattle.sector_device.specs.declared.SectorDevice.{Ghosts}
-use Rattle.page_store.specs.gate_journal.Recovery.{HasRoom, Found}
-use Rattle.page_store.specs.claim.Transactions.{stored, disk_in, device_in, count_of, journal_of, has_halted, IsQuiet}
-use Rattle.page_store.specs.Transactions.{OpenErr}
-use Rattle.page_store.specs.declared.pages.Pages.{Pages}
-use Rattle.page_store.specs.declared.txn.Txn.{Txn}
-use Rattle.page_store.specs.gate_journal.declared.error.PageError.{PageError}
+use Rattle.page_store.specs.{gate_journal.Recovery.{HasRoom, Found}, claim.Transactions.{stored, disk_in, device_in, count_of, journal_of, has_halted, IsQuiet}}
+use Rattle.page_store.specs.{Transactions.OpenErr, declared.pages.Pages.Pages, declared.txn.Txn.Txn, gate_journal.declared.error.PageError.PageError}
 use Rattle.page_store.specs.gate_journal.declared.error.PageError.TheVariants as page
-use Rattle.page_btree.specs.claim.Map.{InTxn}
-use Rattle.page_btree.specs.declared.error.TreeError.{TreeError}
+use Rattle.page_btree.specs.{claim.Map.InTxn, declared.error.TreeError.TreeError}
 use Rattle.page_btree.specs.declared.error.TreeError.TheVariants as tree
-use Rattle.desk_pages.specs.Reading.{ReadErr}
-use Rattle.desk_pages.proofs.Found.{all_versions, page_stores_of, found_desk}
+use Rattle.desk_pages.{specs.Reading.ReadErr, specs.Errors.page_refusal, proofs.Found.{all_versions, page_stores_of, found_desk}}
 use Rattle.store_rows.specs.claim.Rows.{KeyMap}
 use Rattle.row_owners.specs.Strays.{IsAny}
-use Rattle.store_command.specs.declared.fault.StoreFault.{StoreFault}
-use Rattle.store_command.specs.declared.fault.StoreFault.TheVariants.{NotAStore, DeviceFault}
-use Rattle.desk_pages.specs.Errors.{page_refusal}
-use Rattle.store_command.specs.Faults.{fault_of_store}
-use Rattle.inspect_command.specs.Rows.{fault_of_rows, AreUnread, IsUncounted}
-use Rattle.inspect_command.specs.declared.rows.Rows.{Rows}
+use Rattle.store_command.specs.{declared.fault.StoreFault.StoreFault, declared.fault.StoreFault.TheVariants.{NotAStore, DeviceFault}, Faults.fault_of_store}
+use Rattle.inspect_command.specs.{Rows.{fault_of_rows, AreUnread, IsUncounted}, declared.rows.Rows.Rows}
 
 module _ {D : Type 0} {g : Ghosts D} where
   pub unread : (t : Txn) (a b : Pages D g) (e : TreeError) → ReadErr IsAny t a b e → has_halted a ≡ false → (disk_in b).is_honest → (m : KeyMap) → InTxn t (stored a) m → (disk_in a).faults < (disk_in b).faults
   unread t a b tree.DeviceFault why working honest m holds = why.rose honest
   unread t a b tree.NotAStore why working honest m holds = absurd (why honest m holds tt)
   unread t a b tree.Halted why working honest m holds = let clash : true ≡ false = sym why ∙ working in absurd (cc)
-  unread t a b tree.NoPages why working honest m holds = absurd why
-  unread t a b tree.TooDeep why working honest m holds = absurd why
-  unread t a b tree.Memory why working honest m holds = absurd why
+  unread t a b _ why working honest m holds = absurd why
 
 module _ {D : Type 0} (g : Ghosts D) where
   pub page_uncounted : (device left : D) (e : PageError) → OpenErr g device left e → IsUncounted g device left (fault_of_store (page_refusal e))
   page_uncounted device left page.Memory why = inl refl
   page_uncounted device left page.DeviceFault why = inr (inl (refl, why))
   page_uncounted device left page.NotAStore why = inr (inr (refl, λ honest all. why honest (page_stores_of (g.disk device) (all_versions (g.disk device) all))))
-  page_uncounted device left page.Halted why = absurd why
-  page_uncounted device left page.TooManyPages why = absurd why
-  page_uncounted device left page.TooSmall why = absurd why
-  page_uncounted device left page.NoPages why = absurd why
+  page_uncounted device left _ why = absurd why
 
   failed_so : (device : D) (a b : Pages D g) (fault : StoreFault) (halted : Bool) → has_halted a ≡ false → has_halted b ≡ halted → ((disk_in a).is_honest → Found (journal_of a) (count_of a) (g.disk device) (disk_in a)) → HasRoom (g.disk device).sectors (journal_of a) (count_of a) → ((disk_in a).is_honest → (disk_in a).faults ≡ (g.disk device).faults) → IsQuiet a b
       → fault ≡ fault_of_rows halted → AreUnread a b → IsUncounted g device (device_in b) fault

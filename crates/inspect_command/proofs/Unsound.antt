@@ -1,39 +1,19 @@
 -- Why rows aren't found to be a desk's.
-use Rattle.std.proofs.Common.{◌≡◌, ℕ, List, Bool, true, false, refl, sym, ap, subst, ◌∙◌}
-use Rattle.std.specs.Prelude.{Option, Some, None, is_some}
-use Rattle.sector_device.specs.claim.Disk.{Image}
-use Rattle.sector_device.specs.declared.SectorDevice.{Ghosts}
-use Rattle.page_store.specs.gate_journal.claim.Contents.{is_halted}
-use Rattle.page_store.specs.claim.Transactions.{stored, disk_in, has_halted, HasFailed, IsQuiet, Passed}
-use Rattle.page_store.proofs.Stops.{failed_more}
-use Rattle.page_store.specs.declared.pages.Pages.{Pages}
-use Rattle.page_store.specs.declared.txn.Txn.{Txn}
-use Rattle.page_btree.specs.claim.Map.{InTxn as HasRows}
-use Rattle.page_btree.specs.declared.error.TreeError.{TreeError}
+use Rattle.std.{specs.Prelude.{Option, Some, None, is_some}, proofs.Common.{◌≡◌, ℕ, List, Bool, true, false, refl, sym, ap, subst, ◌∙◌}}
+use Rattle.sector_device.specs.{claim.Disk.Image, declared.SectorDevice.Ghosts}
+use Rattle.page_store.specs.{gate_journal.claim.Contents.is_halted, claim.Transactions.{stored, disk_in, has_halted, HasFailed, IsQuiet, Passed}, declared.pages.Pages.Pages}
+use Rattle.page_store.{specs.declared.txn.Txn.Txn, proofs.Stops.failed_more}
+use Rattle.page_btree.specs.{claim.Map.InTxn as HasRows, declared.error.TreeError.TreeError}
 use Rattle.page_btree.specs.declared.error.TreeError.TheVariants as tree
-use Rattle.desk_model.specs.Ranges.{ranges_in}
-use Rattle.desk_model.specs.claim.Desk.{Desk}
-use Rattle.store_rows.specs.claim.Keys.{in_four, version}
-use Rattle.store_rows.specs.claim.Rows.{KeyMap, Has}
-use Rattle.store_rows.proofs.OneGeography.{no_value}
-use Rattle.desk_pages.specs.Reading.{ReadErr, SeekErr}
-use Rattle.desk_store.specs.store_sweep.Checks.{IsNewTidy}
-use Rattle.desk_pages.specs.claim.Desks.{InTxn}
-use Rattle.desk_store.specs.desk_opening.Opening.{HasVersion, IsReadFrom, OpenErr}
+use Rattle.desk_model.specs.{Ranges.ranges_in, claim.Desk.Desk, declared.ranges.CountyRange.CountyRange}
+use Rattle.store_rows.{specs.claim.Keys.{in_four, version}, specs.claim.Rows.{KeyMap, Has}, proofs.OneGeography.no_value}
+use Rattle.desk_pages.specs.{Reading.{ReadErr, SeekErr}, claim.Desks.InTxn, Errors.{missing, row_refusal}}
+use Rattle.desk_store.specs.{store_sweep.Checks.IsNewTidy, desk_opening.Opening.{HasVersion, IsReadFrom, OpenErr}, store_sweep.claim.Checks.AreSoundHoldings}
 use Rattle.store_command.proofs.desk_store.Opened.{new_tells}
 use Rattle.store_command.proofs.desk_store.Prepared.{IsBegun, begun_reads}
-use Rattle.desk_model.specs.declared.ranges.CountyRange.{CountyRange}
-use Rattle.desk_store.specs.store_sweep.claim.Checks.{AreSoundHoldings}
-use Rattle.row_owners.specs.Strays.{AllBelong, IsChecked, IsStray}
-use Rattle.row_owners.specs.declared.wrong.WrongRow.{WrongRow}
-use Rattle.row_owners.specs.Wholes.{AllSay}
-use Rattle.row_owners.proofs.Whole.{all_say}
-use Rattle.store_command.specs.declared.fault.StoreFault.{StoreFault}
-use Rattle.store_command.specs.declared.fault.StoreFault.TheVariants.{NotFound, WrongSize, Exists, TooSmall, NotAStore, OldVersion, AlreadyNew, AlreadySealed, Full, DeviceFault, Memory}
-use Rattle.desk_pages.specs.Errors.{missing, row_refusal}
-use Rattle.store_command.specs.Faults.{fault_of_store}
-use Rattle.inspect_command.specs.Sound.{CheckErr, IsFoundAs, IsSoundAs, OldIn, UnsoundIn}
-use Rattle.inspect_command.specs.Verifying.{Unsound}
+use Rattle.row_owners.{specs.Strays.{AllBelong, IsChecked, IsStray}, specs.declared.wrong.WrongRow.WrongRow, specs.Wholes.AllSay, proofs.Whole.all_say}
+use Rattle.store_command.specs.{declared.fault.StoreFault.StoreFault, declared.fault.StoreFault.TheVariants.{NotAStore, OldVersion, DeviceFault, Memory}, Faults.fault_of_store}
+use Rattle.inspect_command.specs.{Sound.{CheckErr, IsFoundAs, IsSoundAs, OldIn, UnsoundIn}, Verifying.Unsound}
 
 module _ {D : Type 0} {g : Ghosts D} where
   -- what was read in between reads the same desk
@@ -45,37 +25,27 @@ module _ {D : Type 0} {g : Ghosts D} where
 
   -- ---- errors of the checks
   pub opening_check : (t : Txn) (a b : Pages D g) (e : TreeError) → OpenErr t a b e → CheckErr t a b e
-  opening_check t a b tree.DeviceFault why = why
   opening_check t a b tree.NotAStore why = λ honest d held. why honest true d held
-  opening_check t a b tree.Halted why = why
-  opening_check t a b tree.NoPages why = why
-  opening_check t a b tree.TooDeep why = why
   opening_check t a b tree.Memory why = tt
+  opening_check t a b _ why = why
 
   pub whole_check : (t : Txn) (a b : Pages D g) (e : TreeError) → ReadErr AllSay t a b e → CheckErr t a b e
-  whole_check t a b tree.DeviceFault why = why
   whole_check t a b tree.NotAStore why = λ honest d held. why honest held.m held.holds (all_say held.m held.is.tidy)
-  whole_check t a b tree.Halted why = why
-  whole_check t a b tree.NoPages why = why
-  whole_check t a b tree.TooDeep why = why
   whole_check t a b tree.Memory why = tt
+  whole_check t a b _ why = why
 
   pub holdings_check : (t : Txn) (a b : Pages D g) (e : TreeError) → SeekErr (Unit {0}) IsNewTidy t a b e → CheckErr t a b e
-  holdings_check t a b tree.DeviceFault why = why
   holdings_check t a b tree.NotAStore why = λ honest d held. why honest held.m held.holds (record { tidy = held.is.tidy; new = held.is.version })
-  holdings_check t a b tree.Halted why = why
-  holdings_check t a b tree.NoPages why = why
-  holdings_check t a b tree.TooDeep why = why
   holdings_check t a b tree.Memory why = tt
+  holdings_check t a b _ why = why
 
   -- after calls that passed
   pub then_check : (t : Txn) (a b c : Pages D g) (e : TreeError) → Passed a b → IsQuiet b c → CheckErr t b c e → CheckErr t a c e
   then_check t a b c tree.DeviceFault passed quiet why = failed_more a b c passed quiet why
   then_check t a b c tree.NotAStore passed quiet why = λ honest d held. why honest d (still t a b c d passed quiet honest held)
   then_check t a b c tree.Halted passed quiet why = sym passed.halted ∙ why
-  then_check t a b c tree.NoPages passed quiet why = why
-  then_check t a b c tree.TooDeep passed quiet why = why
   then_check t a b c tree.Memory passed quiet why = tt
+  then_check t a b c _ passed quiet why = why
 
   -- ---- what is told of them
   was_halted : {P : Type 0} (a : Pages D g) → has_halted a ≡ false → has_halted a ≡ true → P
@@ -109,39 +79,24 @@ module _ {D : Type 0} {g : Ghosts D} where
   version_told t a b tree.DeviceFault halted is working why = missing_version t a b halted is (λ works. halts_not a b works why)
   version_told t a b tree.NotAStore halted is working why = missing_version t a b halted is (λ works. why)
   version_told t a b tree.Halted halted is working why = was_halted a working why
-  version_told t a b tree.NoPages halted is working why = absurd why
-  version_told t a b tree.TooDeep halted is working why = absurd why
-  version_told t a b tree.Memory halted is working why = absurd why
+  version_told t a b _ halted is working why = absurd why
 
   pub version_of : (t : Txn) (a b : Pages D g) (e : TreeError) (halted : Bool) (fault : StoreFault) → fault ≡ fault_of_store (row_refusal e halted) → halted ≡ has_halted b → has_halted a ≡ false → ReadErr HasVersion t a b e → OldIn t a b fault
   version_of t a b e halted fault told is working why = subst (λ (f : StoreFault). OldIn t a b f) (sym told) (version_told t a b e halted is working why)
 
   pub old_unsound : (t : Txn) (a b : Pages D g) (fault : StoreFault) → OldIn t a b fault → UnsoundIn t a b fault
-  old_unsound t a b NotFound why = why
-  old_unsound t a b WrongSize why = why
-  old_unsound t a b Exists why = why
-  old_unsound t a b TooSmall why = why
   old_unsound t a b NotAStore why = λ honest d held. why honest held.m held.holds (held.is.tidy.new, held.is.tidy.holdings.told)
   old_unsound t a b OldVersion why = λ honest d held. no_value (in_four 2) (sym (new_tells held.m d held.is) ∙ why honest held.m held.holds)
-  old_unsound t a b AlreadyNew why = why
-  old_unsound t a b AlreadySealed why = why
-  old_unsound t a b Full why = why
-  old_unsound t a b DeviceFault why = why
   old_unsound t a b Memory why = absurd why
+  old_unsound t a b _ why = why
 
   -- ---- pages
   pub pages_unsound : (t : Txn) (a b c : Pages D g) (fault : StoreFault) → IsBegun a t → IsQuiet a b → IsQuiet b c → UnsoundIn t a b fault → Unsound a c fault
-  pages_unsound t a b c NotFound begun first then why = why
-  pages_unsound t a b c WrongSize begun first then why = why
-  pages_unsound t a b c Exists begun first then why = why
-  pages_unsound t a b c TooSmall begun first then why = why
   pages_unsound t a b c NotAStore begun first then why = λ honest d holds. why (then.honest honest) d (begun_reads a t d begun (first.honest (then.honest honest)) holds)
   pages_unsound t a b c OldVersion begun first then why = λ honest d holds. why (then.honest honest) d (begun_reads a t d begun (first.honest (then.honest honest)) holds)
-  pages_unsound t a b c AlreadyNew begun first then why = why
-  pages_unsound t a b c AlreadySealed begun first then why = why
-  pages_unsound t a b c Full begun first then why = why
   pages_unsound t a b c DeviceFault begun first then why = ap (λ j. is_halted j) (then.still why) ∙ why
   pages_unsound t a b c Memory begun first then why = tt
+  pages_unsound t a b c _ begun first then why = why
 
 -- ---- what is found of rows beside the counties of the desk that is read
 module _ (m : KeyMap) (d : Desk) (ranges : List CountyRange) (same : ranges ≡ ranges_in d.geography) where

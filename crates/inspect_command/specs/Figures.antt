@@ -2,20 +2,10 @@
 use Rattle.std.specs.Prelude.{◌≡◌, ◌↔◌, ◌-◌, ℕ, IsTrue, List, map, length, sum_by, Option, Some, None}
 use Rattle.std.specs.FinMap as map_of
 use Rattle.sector_device.specs.declared.SectorDevice.{Ghosts}
-use Rattle.desk_model.specs.declared.command.Command.{Command}
-use Rattle.desk_model.specs.declared.command.Command.TheVariants.{Fork}
-use Rattle.desk_model.specs.declared.reply.PlanLine.{PlanLine}
-use Rattle.desk_model.specs.Ranges.{ranges_in, ranges_of}
-use Rattle.desk_model.specs.claim.Desk.{Desk}
-use Rattle.desk_model.specs.claim.Geography.{GeographyModel}
-use Rattle.desk_model.specs.claim.Room.{need}
-use Rattle.desk_model.specs.claim.Step.{plan_row}
-use Rattle.store_command.specs.desk_store.declared.clerk.Clerk.{Clerk}
-use Rattle.store_command.specs.desk_store.claim.Clerks.{desk_of, disk_of, free_of, room_of}
-use Rattle.store_command.specs.desk_store.claim.Commands.{IsShort}
-use Rattle.inspect_command.specs.declared.figures.Held.{Held}
-use Rattle.inspect_command.specs.declared.needs.Need.{Need}
-use Rattle.inspect_command.specs.Needs.{all_change, one_changes, IsLargest, IsNeed, IsRevision}
+use Rattle.desk_model.specs.{declared.command.Command.Command, declared.command.Command.TheVariants.Fork, declared.reply.PlanLine.PlanLine, Ranges.{ranges_in, ranges_of}}
+use Rattle.desk_model.specs.{claim.Desk.Desk, claim.Geography.GeographyModel, claim.Room.need, claim.Step.plan_row}
+use Rattle.store_command.specs.{desk_store.declared.clerk.Clerk.Clerk, desk_store.claim.Clerks.{desk_of, disk_of, free_of, room_of}, desk_store.claim.Commands.IsShort}
+use Rattle.inspect_command.specs.{declared.figures.Held.Held, declared.needs.Need.Need, Needs.{all_change, one_changes, IsLargest, IsNeed, IsRevision}}
 
 abbrev pub blocks_in : Option GeographyModel → ℕ
 blocks_in None = 0

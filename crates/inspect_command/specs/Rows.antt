@@ -1,17 +1,12 @@
 -- Rows of a store that are counted.
-use Rattle.std.specs.Prelude.{◌≡◌, ◌⊎◌, ◌<◌, Bool, true, false, length}
-use Rattle.std.specs.FinMap.{entries}
+use Rattle.std.specs.{Prelude.{◌≡◌, ◌⊎◌, ◌<◌, Bool, true, false, length}, FinMap.entries}
 use Rattle.sector_device.specs.declared.SectorDevice.{Ghosts}
-use Rattle.page_store.specs.gate_journal.Recovery.{Found}
-use Rattle.page_store.specs.claim.Transactions.{disk_in, device_in, count_of, journal_of}
-use Rattle.page_store.specs.declared.pages.Pages.{Pages}
+use Rattle.page_store.specs.{gate_journal.Recovery.Found, claim.Transactions.{disk_in, device_in, count_of, journal_of}, declared.pages.Pages.Pages}
 use Rattle.page_btree.specs.claim.Map.{InPages}
 use Rattle.btree_walks.specs.Prefixes.{under}
-use Rattle.store_rows.specs.claim.Keys.{holder_counts_prefix, retired_prefix, begun_prefix}
-use Rattle.store_rows.specs.claim.Rows.{KeyMap}
+use Rattle.store_rows.specs.{claim.Keys.{holder_counts_prefix, retired_prefix, begun_prefix}, claim.Rows.KeyMap}
 use Rattle.desk_pages.specs.Openings.{AllDesks}
-use Rattle.store_command.specs.declared.fault.StoreFault.{StoreFault}
-use Rattle.store_command.specs.declared.fault.StoreFault.TheVariants.{NotAStore, DeviceFault, Memory}
+use Rattle.store_command.specs.{declared.fault.StoreFault.StoreFault, declared.fault.StoreFault.TheVariants.{NotAStore, DeviceFault, Memory}}
 use Rattle.inspect_command.specs.declared.rows.Rows.{Rows}
 
 -- a row for each chunk that plans hold, for each plan that was taken away, and for each load that was begun and isn't sealed

@@ -1,24 +1,15 @@
 -- Rows that a desk leaves.
 use Rattle.std.specs.Prelude.{◌≡◌, ℕ, true, List, Option, Some, None}
 use Rattle.sector_device.specs.declared.SectorDevice.{Ghosts}
-use Rattle.desk_model.specs.Ranges.{ranges_in}
-use Rattle.desk_model.specs.claim.Desk.{Desk}
-use Rattle.page_store.specs.claim.Transactions.{disk_in, has_halted, stored, HasFailed}
-use Rattle.page_store.specs.declared.pages.Pages.{Pages}
-use Rattle.page_store.specs.declared.txn.Txn.{Txn}
-use Rattle.page_btree.specs.claim.Map.{InTxn as HasRows}
-use Rattle.page_btree.specs.declared.error.TreeError.{TreeError}
+use Rattle.desk_model.specs.{Ranges.ranges_in, claim.Desk.Desk}
+use Rattle.page_store.specs.{claim.Transactions.{disk_in, has_halted, stored, HasFailed}, declared.pages.Pages.Pages, declared.txn.Txn.Txn}
+use Rattle.page_btree.specs.{claim.Map.InTxn as HasRows, declared.error.TreeError.TreeError}
 use Rattle.page_btree.specs.declared.error.TreeError.TheVariants as tree
-use Rattle.store_rows.specs.claim.Keys.{version, in_four}
-use Rattle.store_rows.specs.claim.Rows.{KeyMap, Has, Lacks}
-use Rattle.desk_store.specs.store_sweep.claim.Checks.{AreSoundHoldings}
-use Rattle.desk_store.specs.desk_opening.Opening.{HasVersion, IsReadFrom}
+use Rattle.store_rows.specs.{claim.Keys.{version, in_four}, claim.Rows.{KeyMap, Has, Lacks}}
+use Rattle.desk_store.specs.{store_sweep.claim.Checks.AreSoundHoldings, desk_opening.Opening.{HasVersion, IsReadFrom}}
 use Rattle.desk_pages.specs.claim.Desks.{InTxn}
-use Rattle.store_command.specs.declared.fault.StoreFault.{StoreFault}
-use Rattle.store_command.specs.declared.fault.StoreFault.TheVariants.{NotFound, WrongSize, Exists, TooSmall, NotAStore, OldVersion, AlreadyNew, AlreadySealed, Full, DeviceFault, Memory}
-use Rattle.row_owners.specs.Wholes.{AreWhole}
-use Rattle.row_owners.specs.Strays.{AllBelong, IsStray}
-use Rattle.row_owners.specs.declared.wrong.WrongRow.{WrongRow}
+use Rattle.store_command.specs.{declared.fault.StoreFault.StoreFault, declared.fault.StoreFault.TheVariants.{NotAStore, OldVersion, DeviceFault, Memory}}
+use Rattle.row_owners.specs.{Wholes.AreWhole, Strays.{AllBelong, IsStray}, declared.wrong.WrongRow.WrongRow}
 
 -- The rows tell the new version; what an opening reads of them is this desk; each key is that of a row, and each part and piece says what
 -- it has; each row belongs to its store; each chunk's count is that of the plans that hold it, and a plan that is there holds what it
@@ -61,34 +52,20 @@ module _ {D : Type 0} {g : Ghosts D} where
   CheckErr t old new tree.DeviceFault = HasFailed old new
   CheckErr t old new tree.NotAStore = (disk_in new).is_honest → (d : Desk) → InTxn t (stored old) d → ⊥
   CheckErr t old new tree.Halted = has_halted old ≡ true
-  CheckErr t old new tree.NoPages = ⊥
-  CheckErr t old new tree.TooDeep = ⊥
   CheckErr t old new tree.Memory = Unit {0}
+  CheckErr t old new _ = ⊥
 
   -- why rows aren't of version 2: they tell no version, or none that there is, or the device failed
   abbrev pub OldIn : Txn → Pages D g → Pages D g → StoreFault → Type 0
-  OldIn t old new NotFound = ⊥
-  OldIn t old new WrongSize = ⊥
-  OldIn t old new Exists = ⊥
-  OldIn t old new TooSmall = ⊥
   OldIn t old new NotAStore = (disk_in new).is_honest → (m : KeyMap) → HasRows t (stored old) m → HasVersion m → ⊥
   OldIn t old new OldVersion = (disk_in new).is_honest → (m : KeyMap) → HasRows t (stored old) m → Lacks m version
-  OldIn t old new AlreadyNew = ⊥
-  OldIn t old new AlreadySealed = ⊥
-  OldIn t old new Full = ⊥
   OldIn t old new DeviceFault = has_halted new ≡ true
-  OldIn t old new Memory = ⊥
+  OldIn t old new _ = ⊥
 
   -- the same as a fault that is told
   abbrev pub UnsoundIn : Txn → Pages D g → Pages D g → StoreFault → Type 0
-  UnsoundIn t old new NotFound = ⊥
-  UnsoundIn t old new WrongSize = ⊥
-  UnsoundIn t old new Exists = ⊥
-  UnsoundIn t old new TooSmall = ⊥
   UnsoundIn t old new NotAStore = (disk_in new).is_honest → (d : Desk) → InTxn t (stored old) d → ⊥
   UnsoundIn t old new OldVersion = (disk_in new).is_honest → (d : Desk) → InTxn t (stored old) d → ⊥
-  UnsoundIn t old new AlreadyNew = ⊥
-  UnsoundIn t old new AlreadySealed = ⊥
-  UnsoundIn t old new Full = ⊥
   UnsoundIn t old new DeviceFault = has_halted new ≡ true
   UnsoundIn t old new Memory = Unit {0}
+  UnsoundIn t old new _ = ⊥

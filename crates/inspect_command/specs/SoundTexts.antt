@@ -1,15 +1,11 @@
 -- What is printed of a store that is sound, and told of one that isn't.
 use Rattle.std.specs.Prelude.{◌≡◌, ◌⊎◌, ℕ, List, ◌++◌, codes, decimal, Option, Some, None}
-use Rattle.command_output.specs.declared.status.Status.{Status}
-use Rattle.command_output.specs.claim.Writing.{Written, Told}
-use Rattle.store_command.specs.declared.fault.StoreFault.TheVariants.{NotAStore}
-use Rattle.store_command.specs.Telling.{status_of, store_line}
-use Rattle.btree_walks.specs.declared.error.PageFault.{PageFault}
-use Rattle.btree_walks.specs.declared.error.PageFaultKind.{PageFaultKind}
+use Rattle.command_output.specs.{declared.status.Status.Status, claim.Writing.{Written, Told}}
+use Rattle.store_command.specs.{declared.fault.StoreFault.TheVariants.NotAStore, Telling.{status_of, store_line}}
+use Rattle.btree_walks.specs.{declared.error.PageFault.PageFault, declared.error.PageFaultKind.PageFaultKind}
 use Rattle.btree_walks.specs.declared.error.PageFaultKind.TheVariants.{BeyondTheEnd, NamedTwice, NotFree, ListGoesOn, NotANode, WrongLevel, KeysOutOfOrder, Lost}
 use Rattle.row_owners.specs.declared.wrong.WrongRow.{WrongRow}
-use Rattle.inspect_command.specs.declared.refusal.Refusal.{Refusal}
-use Rattle.inspect_command.specs.declared.verifying.Verified.{Verified}
+use Rattle.inspect_command.specs.{declared.refusal.Refusal.Refusal, declared.verifying.Verified.Verified}
 
 abbrev pub verified_text : Verified → List ℕ
 verified_text found = codes "sound yes\n" ++ (codes "pages " ++ (decimal found.pages ++ (codes "\nrows " ++ (decimal found.rows ++ codes "\n"))))

@@ -1,34 +1,18 @@
 -- A store that is verified.
-use Rattle.std.specs.Prelude.{◌≡◌, ◌⊎◌, ◌<◌, ℕ, Bool, true, false, List, codes, Option, Some, None, Result, Ok, Err, IfOk, IfErr, Vec}
-use Rattle.std.specs.declared.alloc.Global.{Global}
+use Rattle.std.specs.{Prelude.{◌≡◌, ◌⊎◌, ◌<◌, ℕ, Bool, true, false, List, codes, Option, Some, None, Result, Ok, Err, IfOk, IfErr, Vec}, declared.alloc.Global.Global}
 use Rattle.sector_device.specs.declared.SectorDevice.{Ghosts}
-use Rattle.page_store.specs.gate_journal.Recovery.{Found}
-use Rattle.page_store.specs.claim.Transactions.{stored, disk_in, device_in, count_of, journal_of, has_halted, IsQuiet}
-use Rattle.page_store.specs.declared.pages.Pages.{Pages}
+use Rattle.page_store.specs.{gate_journal.Recovery.Found, claim.Transactions.{stored, disk_in, device_in, count_of, journal_of, has_halted, IsQuiet}, declared.pages.Pages.Pages}
 use Rattle.page_btree.specs.claim.Map.{InPages}
-use Rattle.btree_walks.specs.Owners.{AreOwned}
-use Rattle.btree_walks.specs.Faults.{IsWrongPage}
-use Rattle.btree_walks.specs.declared.error.PagesError.{PagesError}
+use Rattle.btree_walks.specs.{Owners.AreOwned, Faults.IsWrongPage, declared.error.PagesError.PagesError, declared.error.PageFault.PageFault}
 use Rattle.btree_walks.specs.declared.error.PagesError.TheVariants as owners
-use Rattle.desk_model.specs.Ranges.{ranges_in}
-use Rattle.desk_model.specs.claim.Desk.{Desk}
+use Rattle.desk_model.specs.{Ranges.ranges_in, claim.Desk.Desk}
 use Rattle.store_rows.specs.claim.Rows.{KeyMap}
-use Rattle.desk_pages.specs.claim.Desks.{InPages as HoldsDesk}
-use Rattle.command_output.specs.declared.status.Status.{Status}
-use Rattle.command_output.specs.declared.status.Status.TheVariants.{Done}
-use Rattle.command_output.specs.claim.Writing.{Written, Prints, write_fault_line}
-use Rattle.store_command.specs.Filling.{WhereItReads}
-use Rattle.store_command.specs.Reading.{LeavesDesk}
-use Rattle.desk_pages.specs.Openings.{HasPages, IsSpared, StillStands}
-use Rattle.store_command.specs.declared.fault.StoreFault.{StoreFault}
+use Rattle.desk_pages.specs.{claim.Desks.InPages as HoldsDesk, Openings.{HasPages, IsSpared, StillStands}}
+use Rattle.command_output.specs.{declared.status.Status.Status, declared.status.Status.TheVariants.Done, claim.Writing.{Written, Prints, write_fault_line}}
+use Rattle.store_command.specs.{Filling.WhereItReads, Reading.LeavesDesk, declared.fault.StoreFault.StoreFault}
 use Rattle.store_command.specs.declared.fault.StoreFault.TheVariants.{NotFound, WrongSize, Exists, TooSmall, NotAStore, OldVersion, AlreadyNew, AlreadySealed, Full, DeviceFault, Memory}
-use Rattle.inspect_command.specs.declared.refusal.Refusal.{Refusal}
-use Rattle.inspect_command.specs.declared.verifying.Verified.{Verified}
-use Rattle.btree_walks.specs.declared.error.PageFault.{PageFault}
-use Rattle.row_owners.specs.declared.wrong.WrongRow.{WrongRow}
-use Rattle.row_owners.specs.Strays.{AllBelong}
-use Rattle.inspect_command.specs.Sound.{HasSound, HasStray}
-use Rattle.inspect_command.specs.SoundTexts.{verified_text, TellsRefusal}
+use Rattle.inspect_command.specs.{declared.refusal.Refusal.Refusal, declared.verifying.Verified.Verified, Sound.{HasSound, HasStray}, SoundTexts.{verified_text, TellsRefusal}}
+use Rattle.row_owners.specs.{declared.wrong.WrongRow.WrongRow, Strays.AllBelong}
 
 module _ {D : Type 0} {g : Ghosts D} where
   -- what was found in pages: so many are there, and what rows they hold are those of a desk
@@ -43,17 +27,11 @@ module _ {D : Type 0} {g : Ghosts D} where
 
   -- why pages aren't found to hold a desk; after a device's failure they are halted
   abbrev pub Unsound : Pages D g → Pages D g → StoreFault → Type 0
-  Unsound old new NotFound = ⊥
-  Unsound old new WrongSize = ⊥
-  Unsound old new Exists = ⊥
-  Unsound old new TooSmall = ⊥
   Unsound old new NotAStore = (disk_in new).is_honest → (d : Desk) → HoldsDesk old d → ⊥
   Unsound old new OldVersion = (disk_in new).is_honest → (d : Desk) → HoldsDesk old d → ⊥
-  Unsound old new AlreadyNew = ⊥
-  Unsound old new AlreadySealed = ⊥
-  Unsound old new Full = ⊥
   Unsound old new DeviceFault = has_halted new ≡ true
   Unsound old new Memory = Unit {0}
+  Unsound old new _ = ⊥
 
 module _ {D : Type 0} {g : Ghosts D} where
   -- what is told of a page is so, and pages aren't what their owners make of them, or have other owners than one
@@ -67,10 +45,10 @@ module _ {D : Type 0} {g : Ghosts D} where
     pub unfit : (disk_in ps).is_honest → (d : Desk) (h : HoldsDesk ps d) → AllBelong (ranges_in d.geography) h.m → ⊥
 
   -- such a page or row
-  abbrev pub IsPart : Pages D g → Option PageFault → Option WrongRow → Type 0
-  IsPart ps (Some page) row = IsUnowned ps page
-  IsPart ps None (Some row) = HoldsStray ps row
-  IsPart ps None None = ⊥
+  abbrev pub NamesPageOrRow : Pages D g → Option PageFault → Option WrongRow → Type 0
+  NamesPageOrRow ps (Some page) row = IsUnowned ps page
+  NamesPageOrRow ps None (Some row) = HoldsStray ps row
+  NamesPageOrRow ps None None = ⊥
 
 -- the store is none for what is told; else for another reason
 abbrev pub StrayOr : Bool → StoreFault → (part other : Type 0) → Type 0
@@ -79,7 +57,7 @@ StrayOr false fault part other = other
 
 module _ {D : Type 0} {g : Ghosts D} where
   abbrev pub IsUnsound : Pages D g → Pages D g → Refusal → Type 0
-  IsUnsound old new refusal = StrayOr refusal.is_stray refusal.fault (IsPart new refusal.page refusal.row) (Unsound old new refusal.fault × (refusal.page ≡ None))
+  IsUnsound old new refusal = StrayOr refusal.is_stray refusal.fault (NamesPageOrRow new refusal.page refusal.row) (Unsound old new refusal.fault × (refusal.page ≡ None))
 
   -- what a look at a store tells: no page changed, and of what was found so much holds, with its rows; else why the store isn't sound
   pub record VerifiesPages (is_told : ℕ → Type 0) (holds : Verified → Type 0) (old new : Pages D g) (result : Result Verified Refusal) : Type 0 where
@@ -98,17 +76,11 @@ TellsPages owners.Memory refusal = (refusal.is_stray ≡ false) × (refusal.faul
 module _ {D : Type 0} (g : Ghosts D) where
   -- Why a device isn't found to hold a desk: where it reads as one, it failed, or memory was refused.
   abbrev pub IsRefused : (device left : D) → StoreFault → Type 0
-  IsRefused device left NotFound = ⊥
-  IsRefused device left WrongSize = ⊥
-  IsRefused device left Exists = ⊥
-  IsRefused device left TooSmall = ⊥
   IsRefused device left NotAStore = WhereItReads (g.disk device) (g.disk left) (λ d. ⊥)
   IsRefused device left OldVersion = WhereItReads (g.disk device) (g.disk left) (λ d. ⊥)
-  IsRefused device left AlreadyNew = ⊥
-  IsRefused device left AlreadySealed = ⊥
-  IsRefused device left Full = ⊥
   IsRefused device left DeviceFault = (g.disk left).is_honest → (g.disk device).faults < (g.disk left).faults
   IsRefused device left Memory = Unit {0}
+  IsRefused device left _ = ⊥
 
   -- Nothing was written but what a stop in a commit left to be done: where the device reads as a desk, a stop at any moment leaves it.
   pub record IsLookedAt (device left : D) : Type 0 where
@@ -143,7 +115,7 @@ module _ {D : Type 0} (g : Ghosts D) where
     pub ps : Pages D g
     pub back : left ≡ device_in ps
     pub found : (g.disk left).is_honest → Found (journal_of ps) (count_of ps) (g.disk device) (g.disk left)
-    pub wrong : IsPart ps page row
+    pub wrong : NamesPageOrRow ps page row
 
   -- what came of the device
   abbrev pub VerifiesDevice : D → Result Verified Refusal → D → Type 0

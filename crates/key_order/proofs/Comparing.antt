@@ -1,11 +1,7 @@
 -- Keys compared by numbers that eight bytes spell.
+use Rattle.std.specs.{Ordering.{nat_cmp, ordering_then, MatchOrdering}, Cmp.{nat_cmp_is, ranks}, declared.cmp.Ordering.Ordering}
+use Rattle.std.specs.{declared.cmp.Ordering.TheVariants.{Less, Equal, Greater}, Slice.Scan.big_endian, Cmp.Lexicographic.slice_cmp}
 use Rattle.std.proofs.Common.{◌≡◌, ◌+◌, ◌*◌, ◌<◌, ◌≤◌, ◌++◌, ℕ, zero, suc, min, List, [], ◌∷◌, length, take, drop, get_or, refl, sym, ap, subst, ◌∙◌, arith, length-drop, get_or-drop, drop-cons, take-add, take-take, w8, Fits}
-use Rattle.std.specs.Ordering.{nat_cmp, ordering_then, MatchOrdering}
-use Rattle.std.specs.Cmp.{nat_cmp_is, ranks}
-use Rattle.std.specs.declared.cmp.Ordering.{Ordering}
-use Rattle.std.specs.declared.cmp.Ordering.TheVariants.{Less, Equal, Greater}
-use Rattle.std.specs.Slice.Scan.{big_endian}
-use Rattle.std.specs.Cmp.Lexicographic.{slice_cmp}
 
 -- keys in the order of their bytes, a key before its longer continuations
 abbrev pub key_cmp : List ℕ → List ℕ → Ordering

@@ -1,6 +1,5 @@
 -- Of truth values, by cases.
-use Rattle.std.proofs.Common.{◌≡◌, ◌⊎◌, inl, inr, Bool, true, false, ◌&&◌, refl}
-use Rattle.std.specs.Prelude.{T}
+use Rattle.std.{specs.Prelude.T, proofs.Common.{◌≡◌, ◌⊎◌, inl, inr, Bool, true, false, ◌&&◌, refl}}
 
 pub either : (b : Bool) → (b ≡ true) ⊎ (b ≡ false)
 either true = inl refl

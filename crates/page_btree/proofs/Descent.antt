@@ -1,25 +1,13 @@
 -- The child that a key belongs to, for a look-up.
+use Rattle.std.specs.{Prelude.{Option, Some, None}, Option.option_map, List.All, Ordering.{is_gt, eq_by_cmp}, FinMap.find}
 use Rattle.std.proofs.Common.{◌≡◌, inl, inr, ℕ, suc, ◌-◌, ◌<◌, ◌≤◌, ◌^◌, List, [], ◌∷◌, length, Bool, cond, refl, sym, ap, subst, ◌∙◌, arith}
-use Rattle.std.specs.Prelude.{Option, Some, None}
-use Rattle.std.specs.Option.{option_map}
-use Rattle.std.specs.List.{All}
-use Rattle.std.specs.Ordering.{is_gt, eq_by_cmp}
-use Rattle.std.specs.FinMap.{find}
 use Rattle.sector_device.specs.claim.Disk.{Image}
-use Rattle.page_node.specs.claim.Entries.{Entry, IsEntry, child_bytes}
-use Rattle.page_node.specs.Entries.{child_in, key_at}
-use Rattle.page_node.specs.claim.Node.{Node, IsNode}
-use Rattle.page_node.specs.claim.Places.{key_cmp, Rises}
-use Rattle.page_node.specs.Places.{floor, ceiling}
-use Rattle.page_node.proofs.Laws.{child_written, flip_less}
+use Rattle.page_node.specs.{claim.Entries.{Entry, IsEntry, child_bytes}, Entries.{child_in, key_at}, claim.Node.{Node, IsNode}, claim.Places.{key_cmp, Rises}}
+use Rattle.page_node.{specs.Places.{floor, ceiling}, proofs.Laws.{child_written, flip_less}}
 use Rattle.page_btree.specs.claim.Keys.{IsBetween}
 use Rattle.page_btree.specs.claim.Tree.{Tree, Forest, leaf, inner, one, more, page_of, first_key, links, rows, forest_rows, owns, forest_owns, IsTree, AreTrees}
-use Rattle.page_btree.specs.Getting.{CanGet, IsChild, IsLevel, NoChild}
-use Rattle.page_btree.specs.Seeking.{nearer, leaf_of, forest_leaf, bound_of, forest_bound}
-use Rattle.page_btree.proofs.Rising.{tree_rises}
-use Rattle.page_btree.proofs.Rows.{find_left, find_right, key_before}
-use Rattle.page_btree.proofs.Within.{rows_after, rows_before, wider_high, wider_low}
-use Rattle.page_btree.proofs.Booleans.{either}
+use Rattle.page_btree.{specs.Getting.{CanGet, IsChild, IsLevel, NoChild}, specs.Seeking.{nearer, leaf_of, forest_leaf, bound_of, forest_bound}, proofs.Rising.tree_rises}
+use Rattle.page_btree.proofs.{Rows.{find_left, find_right, key_before}, Within.{rows_after, rows_before, wider_high, wider_low}, Booleans.either}
 
 pub floor_links : (k key : List ℕ) (t : Tree) (f : Forest) → floor key (links (more k t f)) ≡ cond (is_gt (key_cmp (first_key f) key)) (Some (child_bytes (page_of t))) (floor key (links f))
 floor_links k key t (one q u) = refl
@@ -119,7 +107,7 @@ leaf_page n P d key page can none =
     (subst (λ bytes. IsNode bytes (record { level = 0; entries = rows can.tree })) (sym can.page_is) there.0, there.1)
 
 -- above it: the node's links name a page, at which the look-up goes on
-pub record GoesOn (n : ℕ) (P : Image) (d : ℕ) (key page : List ℕ) (t : Tree) (low : List ℕ) (high : Option (List ℕ)) (child : ℕ) : Type 0 where
+pub record LeadsDown (n : ℕ) (P : Image) (d : ℕ) (key page : List ℕ) (t : Tree) (low : List ℕ) (high : Option (List ℕ)) (child : ℕ) : Type 0 where
   pub next : (bytes : List ℕ) → bytes ≡ P child → CanGet n P (d - 1) key bytes
   pub level : IsLevel n P (d - 1) child
   pub found : (bytes : List ℕ) (is : bytes ≡ P child) → find key_cmp key (rows (next bytes is).tree) ≡ find key_cmp key (rows t)
@@ -135,10 +123,10 @@ named f page child is few told =
     cc
 
 -- what `child_for` names, in a node above the leaves
-pub goes_on : (n : ℕ) (P : Image) (d : ℕ) (key page : List ℕ) (can : CanGet n P d key page) (child : ℕ) → 0 < d → n ≤ 2 ^ 32 → IsChild page key child → GoesOn n P d key page can.tree can.low can.high child
+pub goes_on : (n : ℕ) (P : Image) (d : ℕ) (key page : List ℕ) (can : CanGet n P d key page) (child : ℕ) → 0 < d → n ≤ 2 ^ 32 → IsChild page key child → LeadsDown n P d key page can.tree can.low can.high child
 goes_on n P d key page can child some few told = step can.tree can.low can.high can.tree_is can.page_is can.below can.between
   where
-    step : (t : Tree) (low : List ℕ) (high : Option (List ℕ)) → IsTree P d low high t → page ≡ P (page_of t) → ((q : ℕ) → owns t q → q < n) → IsBetween low high key → GoesOn n P d key page t low high child
+    step : (t : Tree) (low : List ℕ) (high : Option (List ℕ)) → IsTree P d low high t → page ≡ P (page_of t) → ((q : ℕ) → owns t q → q < n) → IsBetween low high key → LeadsDown n P d key page t low high child
     step (leaf p es) low high is page_is below between = absurd (let none = is.0 in omega arith)
     step (inner p f) low high is page_is below between =
         let down = child_of P (d - 1) low high key f is.2 between in

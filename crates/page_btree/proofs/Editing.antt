@@ -1,12 +1,8 @@
 -- A transaction that an edit of a leaf alone left alike.
-use Rattle.std.proofs.Common.{ℕ, sym, subst}
-use Rattle.std.specs.Prelude.{Option, Some, None, IfSome}
+use Rattle.std.{specs.Prelude.{Option, Some, None, IfSome}, proofs.Common.{ℕ, sym, subst}}
 use Rattle.sector_device.specs.claim.Disk.{Image}
-use Rattle.page_store.specs.claim.Transactions.{txn_pages, txn_root, over, free_over}
-use Rattle.page_store.specs.declared.txn.Txn.{Txn}
-use Rattle.page_btree.specs.claim.Keys.{KeyMap}
-use Rattle.page_btree.specs.claim.Map.{Holds, InTxn}
-use Rattle.page_btree.specs.Editing.{IsAlike}
+use Rattle.page_store.specs.{claim.Transactions.{txn_pages, txn_root, over, free_over}, declared.txn.Txn.Txn}
+use Rattle.page_btree.specs.{claim.Keys.KeyMap, claim.Map.{Holds, InTxn}, Editing.IsAlike}
 
 pub some_of : {T : Type 0} (o : Option T) (A B : T → Type 0) → ((x : T) → A x → B x) → IfSome o A → IfSome o B
 some_of (Some x) A B f h = f x h

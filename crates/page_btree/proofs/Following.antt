@@ -1,34 +1,17 @@
 -- Leaves that follow one another under a node, and a leaf that was read with them.
-use Rattle.std.proofs.Common.{◌≡◌, ◌⊎◌, ◌≤◌, ◌<◌, ◌+◌, ◌^◌, inl, inr, ⊎_elim, ℕ, zero, suc, List, [], ◌∷◌, ◌++◌, length, drop, get_or, slice_set, Bool, false, cond, refl, ap, sym, subst, ◌∙◌, arith, append_assoc}
-use Rattle.std.specs.Prelude.{Option, Some, None, Result, Ok, Err, OnOk}
-use Rattle.std.specs.Option.{option_map}
-use Rattle.std.specs.Ordering.{is_gt}
-use Rattle.std.specs.FinMap.{entries}
+use Rattle.std.specs.{Prelude.{Option, Some, None, Result, Ok, Err, OnOk}, Option.option_map, Ordering.is_gt, FinMap.entries}
+use Rattle.std.proofs.Common.{◌≡◌, ◌≤◌, ◌<◌, ◌+◌, ◌^◌, inl, inr, ⊎_elim, ℕ, zero, suc, List, [], ◌∷◌, ◌++◌, length, drop, get_or, slice_set, Bool, false, cond, refl, ap, sym, subst, ◌∙◌, arith, append_assoc}
 use Rattle.std.proofs.lemmas.List.{get_or-set_same, get_or-set_other, nil_from_length}
 use Rattle.std.proofs.lemmas.List.Elements.{All-nil}
 use Rattle.std.proofs.lemmas.Bool.Decides.{leb_tells}
 use Rattle.sector_device.specs.claim.Disk.{Image}
-use Rattle.page_node.specs.claim.Entries.{Entry, IsEntry}
-use Rattle.page_node.specs.Entries.{child_in}
-use Rattle.page_node.specs.claim.Node.{Node, IsNode}
-use Rattle.page_node.specs.claim.Places.{key_cmp, Rises}
-use Rattle.page_node.specs.Places.{floor, ceiling, entries_from}
-use Rattle.page_node.specs.Searching.{RisesAfter}
-use Rattle.page_node.specs.Ways.{AreWays as NodeWays}
-use Rattle.page_node.specs.Walking.{IsAhead}
-use Rattle.page_btree.specs.claim.Keys.{KeyMap, IsBetween}
-use Rattle.page_btree.specs.claim.Map.{Holds, IsBare, IsRooted}
-use Rattle.page_btree.specs.claim.Tree.{Tree, Forest, leaf, inner, one, more, page_of, first_key, links, rows, owns, forest_owns, IsTree, AreTrees}
-use Rattle.page_btree.specs.Getting.{CanGet, IsLevel}
+use Rattle.page_node.specs.{claim.Entries.{Entry, IsEntry}, Entries.child_in, claim.Node.{Node, IsNode}, claim.Places.{key_cmp, Rises}, Places.{floor, ceiling, entries_from}}
+use Rattle.page_node.specs.{Searching.RisesAfter, Ways.AreWays as NodeWays, Walking.IsAhead}
+use Rattle.page_btree.specs.{claim.Keys.{KeyMap, IsBetween}, claim.Map.{Holds, IsBare, IsRooted}}
+use Rattle.page_btree.specs.{claim.Tree.{Tree, Forest, leaf, inner, one, more, page_of, first_key, links, rows, owns, forest_owns, IsTree, AreTrees}, Getting.{CanGet, IsLevel}}
 use Rattle.page_btree.specs.Seeking.{bound_in, nearer, leaf_of, forest_leaf, bound_of, forest_bound, AreWays, HasWays, Follows, IsRead, IsNext, AreLeaves, IsFrom}
-use Rattle.page_btree.specs.declared.seeks.Leaf.{Leaf}
-use Rattle.page_btree.specs.declared.error.TreeError.{TreeError}
-use Rattle.page_btree.proofs.Descent.{ceiling_links, child_of, named, owns_page}
-use Rattle.page_btree.proofs.Rising.{tree_rises}
-use Rattle.page_btree.proofs.Rows.{key_before, less_is_from}
-use Rattle.page_btree.proofs.Seeking.{lower_of, starts, from_all, top_parted, top_leaf}
-use Rattle.page_btree.proofs.Tops.{every_key}
-use Rattle.page_btree.proofs.Booleans.{either}
+use Rattle.page_btree.{specs.declared.seeks.Leaf.Leaf, specs.declared.error.TreeError.TreeError, proofs.Descent.{ceiling_links, child_of, named, owns_page}}
+use Rattle.page_btree.proofs.{Rising.tree_rises, Rows.{key_before, less_is_from}, Seeking.{lower_of, starts, from_all, top_parted, top_leaf}, Tops.every_key, Booleans.either}
 
 -- ---- children
 -- those that the node tells
@@ -51,7 +34,6 @@ three_of (x ∷ y ∷ z ∷ w ∷ l) three = absurd (omega arith)
 pub page_more : (P : Image) (children : List ℕ) (pages : List (List ℕ)) (j : ℕ) (page : List ℕ) → j < length pages → ((i : ℕ) → i < j → get_or pages i [] ≡ P (get_or children i 0)) → page ≡ P (get_or children j 0) → (i : ℕ) → i < j + 1 → get_or (slice_set pages j page) i [] ≡ P (get_or children i 0)
 page_more P children pages j page long before here i less = ⊎_elim
     (λ told.
-    let from = told.1 in
     let same : i ≡ j = omega arith in
     subst (λ (n : ℕ). get_or (slice_set pages j page) n [] ≡ P (get_or children n 0)) (sym same) (get_or-set_same pages j page [] long ∙ here))
     (λ told. let under = told.1 in get_or-set_other pages j i page [] (λ same. omega arith) ∙ before i under)
@@ -124,11 +106,10 @@ ways_follow n P p low high up f is below few (suc k) key between (c ∷ d ∷ ch
     let b = ways.1 in
     let higher = above_key P 0 low high key b f is ways.2 in
     let within = between_more low key b high between.from higher in
-    let here = there_for n P low high key f c is below few between ways.0 in
     let there = there_for n P low high b f d is below few within (first_way k b (links f) d children bound ways.3) in
     let read : next ≡ P d = reads 1 (omega arith) in (
       b,
-      here.bound up ∙ ap (λ x. nearer x up) ways.2,
+      (there_for n P low high key f c is below few between ways.0).bound up ∙ ap (λ x. nearer x up) ways.2,
       higher,
       subst (λ (bytes : List ℕ). IsNode bytes (record { level = 0; entries = forest_leaf f b })) (sym read) there.node,
       there.rises,
@@ -233,12 +214,9 @@ record IsFolded (all after : List Entry) (k : ℕ) (pages : List (List ℕ)) (bo
 -- a leaf that begins at a bound has all its rows from there on
 from_start : (n : ℕ) (P : Image) (root : ℕ) (free : List ℕ) (m : KeyMap) (r : IsRooted n P root free m) (key b : List ℕ) → bound_of r.tree None key ≡ Some b → entries_from b (leaf_of r.tree b) ≡ leaf_of r.tree b
 from_start n P root free m r key b bound = elim (starts P r.level [] None key b r.tree r.stands (every_key key) bound) [
-  | inl none ↦ absurd (clash none)
+  | inl none ↦ cc
   | inr s ↦ from_all b (leaf_of r.tree b) s.all
 ]
-  where
-    clash : None ≡ Some b → ⊥
-    clash e = cc
 
 folded : (n : ℕ) (P : Image) (root : ℕ) (free : List ℕ) (m : KeyMap) (r : IsRooted n P root free m) (high : Option (List ℕ)) (k : ℕ) (key : List ℕ) (pages : List (List ℕ)) (bound : Option (List ℕ)) (after : List Entry) → Follows r.tree high None key k pages bound → IsNext (bound_of r.tree None key) (entries m) after → IsFolded (entries m) after k pages bound
 folded n P root free m r high zero key pages bound after is next = record {
@@ -309,7 +287,6 @@ some_after n P root free m r key b first held before pages is alone bound there 
     let all = from_start n P root free m r key b (sym (bound_alone r.tree key first before is alone) ∙ bound) in
     let long : length (entries_from b (leaf_of r.tree b)) ≡ length (leaf_of r.tree b) = ap (λ (l : List Entry). length l) all in
     let some = (top_parted n P root free m r b).some in
-    let left_is = there.left_is in
     omega arith
 
 pub from_bare : (n root : ℕ) (free : List ℕ) (m : KeyMap) (key : List ℕ) (held : Leaf) (pages : List (List ℕ)) → IsBare n root free m → held.at ≡ 0 → held.left ≡ 0 → held.more ≡ 0 → bound_in held ≡ None → IsFrom key (entries m) held pages

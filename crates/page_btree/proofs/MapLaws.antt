@@ -1,25 +1,15 @@
 -- What keeps a map, and that pages hold one map alone.
 use Rattle.std.specs.Prelude.{◌≡◌, ◌≢◌, ◌⊎◌, ◌<◌, ◌≤◌, ◌+◌, ◌-◌, ◌*◌, ◌^◌, ℕ, List, [], ◌∷◌, length, Option, Some, None}
-use Rattle.std.proofs.Common.{inl, inr, ⊎_elim, refl, sym, ap, subst, ◌∙◌, arith, length-append}
-use Rattle.std.specs.FinMap.{entries, empty, len-entries, len-empty, same_entries_map}
+use Rattle.std.{specs.FinMap.{entries, empty, len-entries, len-empty, same_entries_map}, proofs.Common.{inl, inr, ⊎_elim, refl, sym, ap, subst, ◌∙◌, arith, length-append}}
 use Rattle.std.proofs.lemmas.List.{nil_from_length}
 use Rattle.sector_device.specs.claim.Disk.{Image}
-use Rattle.page_store.specs.gate_journal.claim.Store.{home, overlay}
-use Rattle.page_store.specs.gate_journal.Store.{IsBeforeOrAfter}
-use Rattle.page_store.specs.claim.Chain.{IsPages, root_in, free_in}
-use Rattle.page_store.specs.claim.Transactions.{txn_pages, txn_root, over, free_over}
-use Rattle.page_store.specs.declared.txn.Txn.{Txn}
-use Rattle.page_node.specs.claim.Entries.{Entry, child_bytes}
-use Rattle.page_node.specs.Entries.{child_in}
-use Rattle.page_node.specs.claim.Node.{Node, IsNode}
-use Rattle.page_node.proofs.Laws.{node_unique, child_written}
-use Rattle.page_node.specs.claim.Places.{key_cmp}
-use Rattle.page_node.proofs.Editing.{count_small}
+use Rattle.page_store.specs.{gate_journal.claim.Store.{home, overlay}, gate_journal.Store.IsBeforeOrAfter, claim.Chain.{IsPages, root_in, free_in}}
+use Rattle.page_store.specs.{claim.Transactions.{txn_pages, txn_root, over, free_over}, declared.txn.Txn.Txn}
+use Rattle.page_node.specs.{claim.Entries.{Entry, child_bytes}, Entries.child_in, claim.Node.{Node, IsNode}, claim.Places.key_cmp}
+use Rattle.page_node.proofs.{Laws.{node_unique, child_written}, Editing.count_small}
 use Rattle.page_btree.specs.claim.Keys.{KeyMap}
 use Rattle.page_btree.specs.claim.Tree.{Tree, Forest, leaf, inner, one, more, first_key, links, page_of, rows, forest_rows, owns, forest_owns, size, forest_size, IsTree, AreTrees}
-use Rattle.page_btree.specs.claim.Map.{Holds, InTxn}
-use Rattle.page_btree.specs.Map.{OpensMap}
-use Rattle.page_btree.proofs.Descent.{some_links, owns_page}
+use Rattle.page_btree.{specs.claim.Map.{Holds, InTxn}, specs.Map.OpensMap, proofs.Descent.{some_links, owns_page}}
 
 -- pages that agree on a tree's own hold it both
 mutual
@@ -176,6 +166,5 @@ few_rows n P root free m holds = ⊎_elim
     (λ r.
     let same : length (rows r.tree) ≡ length (entries m) = ap (λ (es : List Entry). length es) r.rows_are in
     let few = few_in P r.level [] None r.tree r.stands in
-    let whole = r.whole in
     omega arith)
     holds.held

@@ -1,13 +1,8 @@
 -- What is said of a result, said of it by cases.
-use Rattle.std.proofs.Common.{◌≡◌, Ok, Err, subst, sym}
-use Rattle.std.specs.Prelude.{Result, IfOk, IfErr, OnOk, OnErr, IsErrAnd, MatchResult}
+use Rattle.std.{specs.Prelude.{Result, IfOk, IfErr, OnOk, OnErr, IsErrAnd, MatchResult}, proofs.Common.{◌≡◌, Ok, Err, subst, sym}}
 use Rattle.sector_device.specs.declared.SectorDevice.{Ghosts}
-use Rattle.page_store.specs.claim.Transactions.{Passed}
-use Rattle.page_store.specs.Reading.{ReadsOnly}
-use Rattle.page_store.specs.declared.pages.Pages.{Pages}
-use Rattle.page_store.proofs.Stops.{passed_more}
-use Rattle.page_btree.specs.declared.error.TreeError.{TreeError}
-use Rattle.page_btree.specs.declared.error.TreeError.TheVariants.{NotAStore}
+use Rattle.page_store.{specs.claim.Transactions.{IsQuiet, Passed}, specs.Reading.ReadsOnly, specs.declared.pages.Pages.Pages, proofs.Stops.{passed_more, quiet_more}}
+use Rattle.page_btree.specs.{declared.error.TreeError.TreeError, declared.error.TreeError.TheVariants.NotAStore}
 
 pub map_ok : {T E : Type 0} (r : Result T E) (A B : T → Type 0) → ((x : T) → A x → B x) → IfOk r A → IfOk r B
 map_ok (Ok x) A B f h = f x h
@@ -51,3 +46,32 @@ module _ {D : Type 0} {g : Ghosts D} where
   -- calls that only read, and answered
   pub reads_ok : {T E : Type 0} {refused : E → Type 0} {old new : Pages D g} {x : T} → Passed old new → ReadsOnly refused old new (Ok x)
   reads_ok passed = record { quiet = passed.quiet; passed = passed; err = tt }
+
+  -- that were refused, also where the error is told by a `?`
+  pub reads_err : {T E : Type 0} {refused : E → Type 0} {old new : Pages D g} {x : E} → IsQuiet old new → refused x → ReadsOnly {A = T} refused old new (Err x)
+  reads_err quiet why = record { quiet = quiet; passed = tt; err = why }
+
+  pub refused_by : {T E : Type 0} {refused : E → Type 0} {old new : Pages D g} {r : Result T E} (x : E) → IsErrAnd r (λ e. e ≡ x) → IsQuiet old new → refused x → ReadsOnly refused old new r
+  refused_by {refused} {r = Ok y} x is quiet why = absurd is
+  refused_by {refused} {r = Err e} x is quiet why = reads_err quiet (subst refused (sym is) why)
+
+  pub refused_as : {T U E F : Type 0} {why : E → Type 0} {more : F → Type 0} {old new : Pages D g} {r : Result T F} {x : E} (y : F) → ReadsOnly {A = U} why old new (Err x) → IsErrAnd r (λ e. e ≡ y) → (why x → more y) → ReadsOnly more old new r
+  refused_as y told is f = refused_by y is told.quiet (f told.err)
+
+  pub refused_after : {T U E F : Type 0} {why : E → Type 0} {more : F → Type 0} {old mid new : Pages D g} {r : Result T F} {x : E} (y : F) → Passed old mid → ReadsOnly {A = U} why mid new (Err x) → IsErrAnd r (λ e. e ≡ y) → (why x → more y) → ReadsOnly more old new r
+  refused_after {old} {mid} {new} y passed told is f = refused_by y is (quiet_more old mid new passed.quiet told.quiet) (f told.err)
+
+  -- what the last call says, told of all: they passed those before
+  pub reads_as : {T E : Type 0} {why more : E → Type 0} {old new : Pages D g} {r : Result T E} → ReadsOnly why old new r → ((e : E) → why e → more e) → ReadsOnly more old new r
+  reads_as {why} {more} {r = r} is f = record { quiet = is.quiet; passed = is.passed; err = map_err r why more f is.err }
+
+  pub reads_after : {T E : Type 0} {why more : E → Type 0} {old mid new : Pages D g} {r : Result T E} → Passed old mid → ReadsOnly why mid new r → ((e : E) → why e → more e) → ReadsOnly more old new r
+  reads_after {why} {more} {old} {mid} {new} {r} passed is f = record {
+    quiet = quiet_more old mid new passed.quiet is.quiet;
+    passed = passed_ok r old mid new passed is.passed;
+    err = map_err r why more f is.err;
+  }
+
+  -- a part of a call that reads no page met the one fault that it can
+  pub fault_refused : {T : Type 0} {refused : TreeError → Type 0} {old new : Pages D g} {r : Result T TreeError} → Passed old new → IfErr r (λ e. e ≡ NotAStore) → OnErr r (refused NotAStore) → ReadsOnly refused old new r
+  fault_refused {refused} {r = r} passed is why = record { quiet = passed.quiet; passed = on_ok r _ passed; err = fault_of r refused is why }

@@ -1,30 +1,16 @@
 -- A page that isn't free and is no node's above the leaves is a leaf of the tree, and what is found in it is what the map has.
-use Rattle.std.proofs.Common.{◌≡◌, ◌≢◌, ◌⊎◌, ⊎_elim, inl, inr, ℕ, zero, suc, ◌+◌, ◌-◌, ◌<◌, List, [], ◌∷◌, ◌++◌, length, Bool, true, cond, refl, sym, ap, subst, ◌∙◌, arith}
-use Rattle.std.specs.Prelude.{Option, Some, None, IfSome, take}
-use Rattle.std.specs.Ordering.{is_eq, eq_by_cmp}
-use Rattle.std.specs.declared.cmp.Ordering.{Ordering}
-use Rattle.std.specs.declared.cmp.Ordering.TheVariants.{Less, Equal, Greater}
-use Rattle.std.specs.List.{AllByRecursion}
-use Rattle.std.specs.FinMap.{find, entries, get as row_at, get-entries}
+use Rattle.std.specs.{Prelude.{Option, Some, None, IfSome, take}, Ordering.{is_eq, eq_by_cmp}, declared.cmp.Ordering.Ordering, declared.cmp.Ordering.TheVariants.Equal}
+use Rattle.std.specs.{List.AllByRecursion, FinMap.{find, entries, get as row_at, get-entries}}
+use Rattle.std.proofs.Common.{◌≡◌, ◌≢◌, ◌⊎◌, ⊎_elim, inl, inr, ℕ, zero, suc, ◌-◌, ◌<◌, List, [], ◌∷◌, ◌++◌, length, Bool, true, cond, refl, sym, ap, subst, ◌∙◌, arith}
 use Rattle.std.proofs.lemmas.Bool.{cases_eq}
 use Rattle.std.proofs.lemmas.List.{length-append}
 use Rattle.sector_device.specs.claim.Disk.{Image}
-use Rattle.page_store.specs.gate_journal.claim.Store.{word}
-use Rattle.page_store.specs.claim.Chain.{is_blank, chain, IsIn, AreFree}
-use Rattle.page_store.specs.claim.Transactions.{txn_pages, over, free_over}
-use Rattle.page_store.specs.declared.txn.Txn.{Txn}
+use Rattle.page_store.specs.{gate_journal.claim.Store.word, claim.Chain.{is_blank, chain, IsIn, AreFree}, claim.Transactions.{txn_pages, over, free_over}, declared.txn.Txn.Txn}
 use Rattle.page_store.proofs.Chains.{counts, first_blank, room_left}
-use Rattle.page_node.specs.claim.Entries.{Entry}
-use Rattle.page_node.specs.claim.Node.{Node, IsNode}
-use Rattle.page_node.specs.claim.Places.{key_cmp, Rises}
-use Rattle.page_node.proofs.Laws.{same_key}
+use Rattle.page_node.{specs.claim.Entries.Entry, specs.claim.Node.{Node, IsNode}, specs.claim.Places.{key_cmp, Rises}, proofs.Laws.same_key}
 use Rattle.page_btree.specs.claim.Keys.{KeyMap, IsBetween}
 use Rattle.page_btree.specs.claim.Tree.{Tree, Forest, leaf, inner, one, more, first_key, links, rows, forest_rows, owns, forest_owns, size, forest_size, IsTree, AreTrees, IsApart, AreApart}
-use Rattle.page_btree.specs.claim.Map.{InTxn}
-use Rattle.page_btree.specs.Getting.{IsCopied}
-use Rattle.page_btree.proofs.Booleans.{either}
-use Rattle.page_btree.proofs.Rows.{find_right}
-use Rattle.page_btree.proofs.Within.{rows_after, within_trees}
+use Rattle.page_btree.{specs.claim.Map.InTxn, specs.Getting.IsCopied, proofs.Booleans.either, proofs.Rows.find_right, proofs.Within.{rows_after, within_trees}}
 
 -- ---- numbers of pages
 is_there : (q : ℕ) (ps : List ℕ) → IsIn q ps ⊎ (IsIn q ps → ⊥)
@@ -91,10 +77,9 @@ mutual
   forest_count (more k t f) = let a = tree_count t in let b = forest_count f in let both = length-append (pages_of t) (forest_pages f) in omega (arith, a, b, both)
 
 -- ---- a key that is found
-is_equal : (o : Ordering) → is_eq o ≡ true → o ≡ Equal
-is_equal Less h = cc
+pub is_equal : (o : Ordering) → is_eq o ≡ true → o ≡ Equal
 is_equal Equal h = refl
-is_equal Greater h = cc
+is_equal _ h = cc
 
 found_left : (key : List ℕ) (xs ys : List Entry) (value : List ℕ) → find key_cmp key xs ≡ Some value → find key_cmp key (xs ++ ys) ≡ Some value
 found_left key [] ys value found = cc
@@ -168,10 +153,8 @@ placed t S m p holds some below none used =
         | inr off ↦
             let each = both_free n (pages_of r.tree) free (tree_apart n r.tree r.sound.apart r.sound.below) holds.free_are (λ q a b. r.sound.used q (owns_it q r.tree a) b) in
             let few = room_left n p (pages_of r.tree ++ free) positive below each (λ there. ⊎_elim off not_free (in_one p (pages_of r.tree) free there)) in
-            let count = tree_count r.tree in
-            let both = length-append (pages_of r.tree) free in
             let whole = r.whole in
-            absurd (omega (arith, few, count, both, whole))
+            absurd (omega (arith, few, (tree_count r.tree), (length-append (pages_of r.tree) free), whole))
       ]
     ]
 

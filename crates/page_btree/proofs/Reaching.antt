@@ -1,34 +1,12 @@
 -- Keys that belong to one leaf.
+use Rattle.std.specs.{Prelude.{Option, Some}, Option.option_map, Ordering.{is_gt, is_lt}, Cmp.Lexicographic.nat_list_cmp_total, FinMap.find}
 use Rattle.std.proofs.Common.{◌≡◌, ◌≢◌, ◌-◌, ◌<◌, ◌≤◌, ◌^◌, ℕ, zero, suc, List, [], ◌∷◌, Bool, true, false, cond, inl, inr, refl, sym, ap, subst, ◌∙◌, arith, get_or}
 use Rattle.std.proofs.lemmas.Bool.{cases_eq}
-use Rattle.std.specs.Prelude.{Option, Some}
-use Rattle.std.specs.Option.{option_map}
-use Rattle.std.specs.Ordering.{is_gt, is_lt, ordering_reverse}
-use Rattle.std.specs.Cmp.Lexicographic.{nat_list_cmp_total}
 use Rattle.sector_device.specs.claim.Disk.{Image}
-use Rattle.page_node.specs.claim.Entries.{Entry}
-use Rattle.page_node.specs.Entries.{child_in}
-use Rattle.page_node.specs.claim.Node.{Node, IsNode}
-use Rattle.page_node.specs.claim.Places.{key_cmp}
-use Rattle.page_node.specs.Places.{floor, floor_from, ceiling, ceiling_from}
-use Rattle.page_node.specs.Searching.{RisesAfter}
-use Rattle.page_node.proofs.Laws.{flip_less, node_unique}
-use Rattle.page_btree.specs.claim.Keys.{IsBetween, IsUnder}
-use Rattle.page_btree.specs.claim.Errors.{level_in}
-use Rattle.page_btree.specs.Getting.{CanGet, CanGetAt, IsChild}
-use Rattle.page_btree.specs.Leading.{LeadsTo}
-use Rattle.page_btree.specs.claim.Tree.{rows}
-use Rattle.page_btree.proofs.Descent.{node_of, leaf_page, goes_on}
-use Rattle.std.specs.FinMap.{find}
-use Rattle.page_btree.proofs.Leads.{leads_more}
-use Rattle.page_btree.proofs.Seeking.{lower_of}
-use Rattle.std.specs.declared.cmp.Ordering.{Ordering}
-use Rattle.std.specs.declared.cmp.Ordering.TheVariants.{Less, Equal, Greater}
-
-reversed : (r : Ordering) → is_lt r ≡ false → is_gt (ordering_reverse r) ≡ false
-reversed Less not = cc
-reversed Equal not = refl
-reversed Greater not = refl
+use Rattle.page_node.specs.{claim.Entries.Entry, Entries.child_in, claim.Node.{Node, IsNode}, claim.Places.key_cmp, Places.{floor, floor_from, ceiling, ceiling_from}}
+use Rattle.page_node.{specs.Searching.RisesAfter, proofs.Laws.{flip_less, node_unique, not_greater as reversed}}
+use Rattle.page_btree.specs.{claim.Keys.{IsBetween, IsUnder}, claim.Errors.level_in, Getting.{CanGet, CanGetAt, IsChild}, Leading.LeadsTo, claim.Tree.rows}
+use Rattle.page_btree.proofs.{Descent.{node_of, leaf_page, goes_on}, Leads.leads_more, Seeking.lower_of}
 
 pub not_below : (x y : List ℕ) → is_lt (key_cmp x y) ≡ false → is_gt (key_cmp y x) ≡ false
 not_below x y not = ap is_gt (nat_list_cmp_total.antisymm y x) ∙ reversed (key_cmp x y) not
@@ -79,20 +57,17 @@ above_leaf n P d key page leaf es can at is =
     let node = node_of P (suc d) can.low can.high can.tree can.tree_is in
     let here : IsNode (P leaf) node.0 = subst (λ b. IsNode b node.0) (sym can.page_is ∙ ap P is) node.1 in
     let none : node.0.level ≡ 0 = ap (λ (x : Node). x.level) (node_unique (P leaf) node.0 (record { level = 0; entries = es }) here at) in
-    let some : node.0.level ≡ suc d = node.2 in
     omega arith
 
 -- where pages differ in a leaf alone, the ways down are the same
 pub leads_stays : (n : ℕ) (P Q : Image) (d : ℕ) (key : List ℕ) (page leaf other : ℕ) (es : List Entry) → n ≤ 2 ^ 32 → CanGet n P d key (P page) → IsNode (P leaf) (record { level = 0; entries = es }) → ((q : ℕ) → q ≢ leaf → Q q ≡ P q) → LeadsTo P d page key other → LeadsTo Q d page key other
 leads_stays n P Q zero key page leaf other es few can at same is = is
 leads_stays n P Q (suc d) key page leaf other es few can at same (child, told, rest) =
-    let some : 0 < suc d = omega arith in
-    let e : suc d - 1 ≡ d = omega arith in
     let there : Q page ≡ P page = same page (above_leaf n P d key page leaf es can at) in
-    let go = goes_on n P (suc d) key (P page) can child some few told in (
+    let go = goes_on n P (suc d) key (P page) can child (omega arith) few told in (
       child,
       λ node is rises. told node (subst (λ b. IsNode b node) there is) rises,
-      leads_stays n P Q d key child leaf other es few (subst (λ k. CanGet n P k key (P child)) e (go.next (P child) refl)) at same rest,
+      leads_stays n P Q d key child leaf other es few (subst (λ k. CanGet n P k key (P child)) (omega arith) (go.next (P child) refl)) at same rest,
     )
 
 -- and so is the root's level, where the leaf stays one
@@ -110,7 +85,6 @@ leads_found n P zero key page leaf es few can is at =
     let here : IsNode (P page) (record { level = 0; entries = es }) = subst (λ (q : ℕ). IsNode (P q) (record { level = 0; entries = es })) is at in
     ap (λ (x : Node). find key_cmp key x.entries) (node_unique (P page) (record { level = 0; entries = es }) (record { level = 0; entries = rows can.tree }) here l.0)
 leads_found n P (suc d) key page leaf es few can (child, told, rest) at =
-    let some : 0 < suc d = omega arith in
     let e : suc d - 1 ≡ d = omega arith in
-    let go = goes_on n P (suc d) key (P page) can child some few told in
+    let go = goes_on n P (suc d) key (P page) can child (omega arith) few told in
     subst (λ (k : ℕ). (c : CanGet n P k key (P child)) → find key_cmp key es ≡ find key_cmp key (rows c.tree)) (sym e) (λ c. leads_found n P d key child leaf es few c rest at) (go.next (P child) refl) ∙ go.found (P child) refl

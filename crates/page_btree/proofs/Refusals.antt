@@ -1,20 +1,11 @@
 -- A refusal of a look-up below, told above.
-use Rattle.std.proofs.Common.{◌≡◌, true, sym, subst, ◌∙◌}
-use Rattle.sector_device.specs.claim.Disk.{Image}
-use Rattle.sector_device.specs.declared.SectorDevice.{Ghosts}
-use Rattle.page_store.specs.claim.Transactions.{stored, disk_in, has_halted, HasFailed, IsQuiet, Passed, ReadErr}
-use Rattle.page_store.proofs.Stops.{failed_more}
-use Rattle.page_store.specs.gate_journal.declared.error.PageError.{PageError}
+use Rattle.std.{specs.Prelude.{Result, IsErrAnd}, proofs.Common.{◌≡◌, true, Err, sym, subst, ◌∙◌}}
+use Rattle.sector_device.specs.{claim.Disk.Image, declared.SectorDevice.Ghosts}
+use Rattle.page_store.specs.{claim.Transactions.{stored, disk_in, has_halted, HasFailed, IsQuiet, Passed, ReadErr}, Reading.ReadsOnly}
+use Rattle.page_store.{specs.gate_journal.declared.error.PageError.PageError, specs.declared.pages.Pages.Pages, specs.declared.txn.Txn.Txn, proofs.Stops.failed_more}
+use Rattle.page_btree.specs.{Errors.tree_error, claim.Errors.GetErr, Getting.ReadsErr, claim.Keys.KeyMap, claim.Map.InTxn, declared.error.TreeError.TreeError}
+use Rattle.page_btree.{specs.declared.error.TreeError.TheVariants.{DeviceFault, NotAStore, Halted, NoPages, TooDeep, Memory}, proofs.Outcomes.refused_after}
 use Rattle.page_store.specs.gate_journal.declared.error.PageError.TheVariants as page
-use Rattle.page_store.specs.declared.pages.Pages.{Pages}
-use Rattle.page_store.specs.declared.txn.Txn.{Txn}
-use Rattle.page_btree.specs.Errors.{tree_error}
-use Rattle.page_btree.specs.claim.Errors.{GetErr}
-use Rattle.page_btree.specs.Getting.{ReadsErr}
-use Rattle.page_btree.specs.claim.Keys.{KeyMap}
-use Rattle.page_btree.specs.claim.Map.{InTxn}
-use Rattle.page_btree.specs.declared.error.TreeError.{TreeError}
-use Rattle.page_btree.specs.declared.error.TreeError.TheVariants.{DeviceFault, NotAStore, Halted, NoPages, TooDeep, Memory}
 
 -- a refusal is another where each case of it is
 pub by_case : (A B : TreeError → Type 0) → (A DeviceFault → B DeviceFault) → (A NotAStore → B NotAStore) → (A Halted → B Halted) → (A NoPages → B NoPages) → (A TooDeep → B TooDeep) → (A Memory → B Memory) → (e : TreeError) → A e → B e
@@ -30,11 +21,7 @@ module _ {D : Type 0} {g : Ghosts D} where
   pub by_read : (B : TreeError → Type 0) (old new : Pages D g) → (HasFailed old new → B DeviceFault) → (has_halted old ≡ true → B Halted) → (e : PageError) → ReadErr old new e → B (tree_error e)
   by_read B old new failed halted page.DeviceFault why = failed why
   by_read B old new failed halted page.Halted why = halted why
-  by_read B old new failed halted page.NotAStore why = absurd why
-  by_read B old new failed halted page.TooManyPages why = absurd why
-  by_read B old new failed halted page.TooSmall why = absurd why
-  by_read B old new failed halted page.NoPages why = absurd why
-  by_read B old new failed halted page.Memory why = absurd why
+  by_read B old new failed halted _ why = absurd why
 
   pub reads_more : (can below : Image → Type 0) (old mid new : Pages D g) → Passed old mid → IsQuiet mid new → ((disk_in new).is_honest → can (stored old) → below (stored mid)) → (e : TreeError) → ReadsErr below mid new e → ReadsErr can old new e
   reads_more can below old mid new passed quiet also e why = by_case (λ x. ReadsErr below mid new x) (λ x. ReadsErr can old new x) (failed_more old mid new passed quiet)
@@ -48,6 +35,6 @@ module _ {D : Type 0} {g : Ghosts D} where
   get_more t old mid new passed quiet e why = by_case (λ x. GetErr t mid new x) (λ x. GetErr t old new x) (failed_more old mid new passed quiet)
       (λ none honest m is. none honest m (subst (λ (S : Image). InTxn t S m) (sym (passed.quiet.same (quiet.honest honest))) is)) (λ halted. sym passed.halted ∙ halted) (λ no. no) (λ no. no) (λ no. no) e why
 
-  pub same_fails : (can below : Image → Type 0) (old new : Pages D g) → ((disk_in new).is_honest → can (stored old) → below (stored old)) → (e : TreeError) → ReadsErr below old new e → ReadsErr can old new e
-  same_fails can below old new also e why = by_case (λ x. ReadsErr below old new x) (λ x. ReadsErr can old new x)
-      (λ failed. failed) (λ none honest is. none honest (also honest is)) (λ halted. halted) (λ no. no) (λ no. no) (λ no. no) e why
+  -- by a `?`
+  pub refused_below : {T U : Type 0} (can below : Image → Type 0) {old mid new : Pages D g} {r : Result T TreeError} {e : TreeError} → Passed old mid → ReadsOnly {A = U} (ReadsErr below mid new) mid new (Err e) → IsErrAnd r (λ x. x ≡ e) → ((disk_in new).is_honest → can (stored old) → below (stored mid)) → ReadsOnly (ReadsErr can old new) old new r
+  refused_below can below {old} {mid} {new} {e} passed told is also = refused_after _ passed told is (reads_more can below old mid new passed told.quiet also e)

@@ -1,21 +1,11 @@
 -- The keys of a node above the leaves rise after the first.
-use Rattle.std.proofs.Common.{◌≡◌, ◌<◌, ◌-◌, ℕ, List, drop, true, false, refl, sym, ap, subst, arith}
-use Rattle.std.specs.Prelude.{Option}
-use Rattle.std.specs.Ordering.{is_gt, is_lt}
-use Rattle.std.specs.declared.cmp.Ordering.TheVariants.{Less}
-use Rattle.std.specs.FinMap.{is_sorted}
-use Rattle.std.specs.FinMap.Entries.{below_all}
-use Rattle.std.specs.Cmp.Lexicographic.{nat_list_cmp_total}
+use Rattle.std.specs.{Prelude.Option, Ordering.{is_gt, is_lt}, declared.cmp.Ordering.TheVariants.Less, FinMap.is_sorted, FinMap.Entries.below_all}
+use Rattle.std.{specs.Cmp.Lexicographic.nat_list_cmp_total, proofs.Common.{◌≡◌, ◌<◌, ◌-◌, ℕ, List, drop, true, false, refl, sym, ap, subst, arith}}
 use Rattle.std.proofs.lemmas.Cmp.{tied_itself}
 use Rattle.sector_device.specs.claim.Disk.{Image}
-use Rattle.page_node.specs.claim.Node.{Node, IsNode}
-use Rattle.page_node.specs.claim.Places.{key_cmp, Rises}
-use Rattle.page_node.specs.Searching.{RisesAfter}
-use Rattle.page_node.proofs.Laws.{node_unique}
-use Rattle.page_btree.specs.claim.Tree.{Tree, Forest, leaf, inner, one, more, page_of, first_key, links, IsTree, AreTrees}
-use Rattle.page_btree.specs.Getting.{CanGet}
-use Rattle.page_btree.proofs.Rows.{from_then, less_is_from}
-use Rattle.page_btree.proofs.Booleans.{both_so}
+use Rattle.page_node.{specs.claim.Node.{Node, IsNode}, specs.claim.Places.{key_cmp, Rises}, specs.Searching.RisesAfter, proofs.Laws.node_unique}
+use Rattle.page_btree.specs.{claim.Tree.{Tree, Forest, leaf, inner, one, more, page_of, first_key, links, IsTree, AreTrees}, Getting.CanGet}
+use Rattle.page_btree.proofs.{Rows.{from_then, less_is_from}, Booleans.both_so}
 
 below_links : (x : List ℕ) (f : Forest) → key_cmp x (first_key f) ≡ Less → below_all key_cmp x (drop 1 (links f)) ≡ true → below_all key_cmp x (links f) ≡ true
 below_links x (one q u) less rest = both_so (is_lt (key_cmp x q)) true (ap is_lt less) refl

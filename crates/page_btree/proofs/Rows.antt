@@ -1,20 +1,12 @@
 -- Rows in a row, and a key among them.
-use Rattle.std.proofs.Common.{◌≡◌, ◌<◌, ℕ, List, [], ◌∷◌, ◌++◌, length, Bool, true, false, cond, refl, sym, ap, subst, ◌∙◌, arith}
-use Rattle.std.specs.Prelude.{Option, Some, None, T}
-use Rattle.std.specs.Ordering.{is_gt, is_eq, is_lt, eq_by_cmp}
-use Rattle.std.specs.Cmp.Lexicographic.{nat_list_cmp_total}
-use Rattle.std.specs.List.{AllByRecursion}
-use Rattle.std.specs.declared.cmp.Ordering.{Ordering}
-use Rattle.std.specs.declared.cmp.Ordering.TheVariants.{Less, Equal, Greater}
-use Rattle.std.specs.FinMap.{find, put, is_sorted}
+use Rattle.std.specs.{Prelude.{Option, Some, None, T}, Ordering.{is_gt, is_eq, is_lt, eq_by_cmp}, Cmp.Lexicographic.nat_list_cmp_total, List.AllByRecursion}
+use Rattle.std.specs.{declared.cmp.Ordering.Ordering, declared.cmp.Ordering.TheVariants.{Less, Equal, Greater}, FinMap.{find, put, is_sorted}}
 use Rattle.std.specs.FinMap.Entries.{by_order, below_all, is_sorted-put}
+use Rattle.std.proofs.Common.{◌≡◌, ◌<◌, ℕ, List, [], ◌∷◌, ◌++◌, length, Bool, true, false, cond, refl, sym, ap, subst, ◌∙◌, arith}
 use Rattle.std.proofs.lemmas.Cmp.{tied_itself}
-use Rattle.page_node.specs.claim.Entries.{Entry}
-use Rattle.page_node.specs.claim.Places.{key_cmp, Rises}
-use Rattle.page_node.proofs.Laws.{flip_less, flip_greater, less_trans, same_key, is_less}
+use Rattle.page_node.{specs.claim.Entries.Entry, specs.claim.Places.{key_cmp, Rises}, proofs.Laws.{flip_less, flip_greater, less_trans, same_key, is_less}}
 use Rattle.page_node.proofs.Scanning.{above_true}
-use Rattle.page_btree.specs.claim.Keys.{IsUnder}
-use Rattle.page_btree.proofs.Booleans.{first_so, second_so, both_so, true_is}
+use Rattle.page_btree.{specs.claim.Keys.IsUnder, proofs.Booleans.{first_so, second_so, both_so, true_is}}
 
 -- each key has this order to one
 abbrev pub Each : Ordering → List ℕ → List Entry → Type 0

@@ -1,28 +1,17 @@
 -- The leaf in whose range a key falls, among all rows.
+use Rattle.std.specs.{Prelude.{Option, Some, None}, Ordering.is_gt, Cmp.Lexicographic.nat_list_cmp_total, List.AllByRecursion, declared.cmp.Ordering.Ordering}
+use Rattle.std.specs.{declared.cmp.Ordering.TheVariants.{Less, Equal, Greater}, FinMap.entries}
 use Rattle.std.proofs.Common.{◌≡◌, ◌⊎◌, ◌<◌, ◌-◌, inl, inr, ℕ, List, [], ◌∷◌, ◌++◌, length, Bool, true, false, cond, refl, sym, ap, subst, ◌∙◌, append_assoc}
-use Rattle.std.specs.Prelude.{Option, Some, None}
-use Rattle.std.specs.Ordering.{is_gt}
-use Rattle.std.specs.Cmp.Lexicographic.{nat_list_cmp_total}
-use Rattle.std.specs.List.{AllByRecursion}
-use Rattle.std.specs.declared.cmp.Ordering.{Ordering}
-use Rattle.std.specs.declared.cmp.Ordering.TheVariants.{Less, Equal, Greater}
 use Rattle.std.proofs.lemmas.Cmp.{tied_itself}
 use Rattle.std.proofs.lemmas.List.{append-nil}
 use Rattle.std.proofs.lemmas.List.Elements.{filter-append}
 use Rattle.sector_device.specs.claim.Disk.{Image}
-use Rattle.page_node.specs.claim.Entries.{Entry}
-use Rattle.page_node.specs.claim.Places.{key_cmp}
-use Rattle.page_node.specs.Places.{is_from, entries_from}
-use Rattle.page_node.proofs.Laws.{flip_less, flip_greater, less_trans, same_key}
-use Rattle.std.specs.FinMap.{entries}
-use Rattle.page_btree.specs.claim.Keys.{KeyMap, IsBetween, IsUnder}
-use Rattle.page_btree.specs.claim.Map.{IsRooted}
+use Rattle.page_node.{specs.claim.Entries.Entry, specs.claim.Places.key_cmp, specs.Places.{is_from, entries_from}, proofs.Laws.{flip_less, flip_greater, less_trans, same_key}}
+use Rattle.page_btree.specs.{claim.Keys.{KeyMap, IsBetween, IsUnder}, claim.Map.IsRooted}
 use Rattle.page_btree.specs.claim.Tree.{Tree, Forest, leaf, inner, one, more, first_key, rows, forest_rows, IsTree, AreTrees}
-use Rattle.page_btree.specs.Seeking.{leaf_of, forest_leaf, bound_of, forest_bound, IsNext}
-use Rattle.page_btree.proofs.Tops.{every_key}
+use Rattle.page_btree.{specs.Seeking.{leaf_of, forest_leaf, bound_of, forest_bound, IsNext}, proofs.Tops.every_key}
 use Rattle.page_btree.proofs.Rows.{Each, all_map, all_append, all_prefix, all_rest, less_from, from_then, less_is_from, key_before, wider_under}
-use Rattle.page_btree.proofs.Within.{within_trees, rows_after}
-use Rattle.page_btree.proofs.Booleans.{either}
+use Rattle.page_btree.proofs.{Within.{within_trees, rows_after}, Booleans.either}
 
 -- ---- between bounds
 -- from a bound on; nothing is after the last leaf

@@ -1,14 +1,8 @@
 -- Where a look-up begins.
-use Rattle.std.proofs.Common.{◌≡◌, ◌≢◌, ⊎_elim, ℕ, List, [], ◌∷◌, refl, sym, ap, subst, ◌∙◌, arith}
-use Rattle.std.specs.Prelude.{None}
-use Rattle.std.specs.FinMap.{find, get, get-entries}
+use Rattle.std.{specs.Prelude.None, specs.FinMap.{find, get, get-entries}, proofs.Common.{◌≡◌, ◌≢◌, ⊎_elim, ℕ, List, [], ◌∷◌, refl, sym, ap, subst, ◌∙◌, arith}}
 use Rattle.sector_device.specs.claim.Disk.{Image}
-use Rattle.page_node.specs.claim.Node.{Node, IsNode}
-use Rattle.page_node.specs.claim.Places.{key_cmp}
-use Rattle.page_btree.specs.claim.Keys.{KeyMap, IsBetween}
-use Rattle.page_btree.specs.claim.Tree.{IsTree, page_of, rows}
-use Rattle.page_btree.specs.claim.Map.{IsRooted, Holds}
-use Rattle.page_btree.specs.Getting.{CanGet, IsLevel}
+use Rattle.page_node.specs.{claim.Node.{Node, IsNode}, claim.Places.key_cmp}
+use Rattle.page_btree.specs.{claim.Keys.{KeyMap, IsBetween}, claim.Tree.{IsTree, page_of, rows}, claim.Map.{IsRooted, Holds}, Getting.{CanGet, IsLevel}}
 use Rattle.page_btree.proofs.Descent.{node_of, owns_page}
 
 pub every_key : (key : List ℕ) → IsBetween [] None key
@@ -58,7 +52,6 @@ pub at_root : (n : ℕ) (P : Image) (root : ℕ) (free : List ℕ) (m : KeyMap) 
 at_root n P root free m r level same =
     let node = node_of P r.level [] None r.tree r.stands in
     let below = (r.sound.below (page_of r.tree) (owns_page r.tree)).1 in
-    let there = r.root_is in
     record {
       node = node.0;
       node_is = subst (λ (q : ℕ). IsNode (P q) node.0) r.root_is node.1;

@@ -1,9 +1,7 @@
 -- What calls on a tree ask for.
 use Rattle.std.specs.Prelude.{◌≡◌, ◌<◌, ◌≤◌, ℕ, List, length}
 use Rattle.sector_device.specs.declared.SectorDevice.{Ghosts}
-use Rattle.page_store.specs.claim.Transactions.{count_of, txn_pages}
-use Rattle.page_store.specs.declared.pages.Pages.{Pages}
-use Rattle.page_store.specs.declared.txn.Txn.{Txn}
+use Rattle.page_store.specs.{claim.Transactions.{count_of, txn_pages}, declared.pages.Pages.Pages, declared.txn.Txn.Txn}
 use Rattle.page_btree.specs.Keys.{IsKey}
 
 -- these are the pages that the transaction was begun with, and this is the number of one

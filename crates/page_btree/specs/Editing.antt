@@ -1,15 +1,10 @@
 -- What an edit of a leaf alone leaves as it was, and why there is none.
 use Rattle.std.specs.Prelude.{◌≡◌, ◌≤◌, ◌+◌, ℕ, List, true, Result, OnOk}
-use Rattle.sector_device.specs.claim.Disk.{Image}
-use Rattle.sector_device.specs.declared.SectorDevice.{Ghosts}
-use Rattle.page_store.specs.claim.Transactions.{stored, disk_in, has_halted, HasFailed, txn_pages, txn_root, txn_free, txn_writes, over, free_over}
-use Rattle.page_store.specs.declared.pages.Pages.{Pages}
+use Rattle.sector_device.specs.{claim.Disk.Image, declared.SectorDevice.Ghosts}
+use Rattle.page_store.specs.{claim.Transactions.{stored, disk_in, has_halted, HasFailed, txn_pages, txn_root, txn_free, txn_writes, over, free_over}, declared.pages.Pages.Pages}
 use Rattle.page_store.specs.declared.txn.Txn.{Txn}
-use Rattle.page_node.specs.claim.Entries.{Entry}
-use Rattle.page_node.specs.claim.Node.{IsNode}
-use Rattle.page_node.specs.claim.Places.{Rises}
-use Rattle.page_btree.specs.declared.error.TreeError.{TreeError}
-use Rattle.page_btree.specs.declared.error.TreeError.TheVariants.{DeviceFault, NotAStore, Halted, NoPages, TooDeep, Memory}
+use Rattle.page_node.specs.{claim.Entries.Entry, claim.Node.IsNode, claim.Places.Rises}
+use Rattle.page_btree.specs.{declared.error.TreeError.TreeError, declared.error.TreeError.TheVariants.{DeviceFault, NotAStore, Halted, Memory}}
 
 -- what a transaction reads, takes and writes is the same
 pub record IsAlike (old new : Txn) : Type 0 where
@@ -51,6 +46,5 @@ module _ {D : Type 0} {g : Ghosts D} where
   LeafErr page t old new NotAStore = (disk_in new).is_honest → (es : List Entry)
       → IsNode (over t (stored old) page) (record { level = 0; entries = es }) → Rises es → ⊥
   LeafErr page t old new Halted = has_halted old ≡ true
-  LeafErr page t old new NoPages = ⊥
-  LeafErr page t old new TooDeep = ⊥
   LeafErr page t old new Memory = Unit {0}
+  LeafErr page t old new _ = ⊥

@@ -1,22 +1,11 @@
 -- What a look-up below a page needs.
-use Rattle.std.specs.Prelude.{◌≡◌, ◌<◌, ℕ, List, take, Option, Some, None, true}
-use Rattle.std.specs.Option.{option_map}
-use Rattle.sector_device.specs.claim.Disk.{Image}
-use Rattle.sector_device.specs.declared.SectorDevice.{Ghosts}
-use Rattle.page_store.specs.claim.Transactions.{stored, disk_in, has_halted, HasFailed, txn_pages, over}
-use Rattle.page_store.specs.declared.pages.Pages.{Pages}
-use Rattle.page_store.specs.declared.txn.Txn.{Txn}
-use Rattle.page_node.specs.claim.Entries.{Entry}
-use Rattle.page_node.specs.Entries.{child_in}
-use Rattle.page_node.specs.claim.Node.{Node, IsNode}
-use Rattle.page_node.specs.claim.Places.{Rises}
-use Rattle.page_node.specs.Places.{floor}
-use Rattle.page_node.specs.Searching.{IsBelow, RisesAfter}
+use Rattle.std.specs.{Prelude.{◌≡◌, ◌<◌, ℕ, List, take, Option, Some, None, true}, Option.option_map}
+use Rattle.sector_device.specs.{claim.Disk.Image, declared.SectorDevice.Ghosts}
+use Rattle.page_store.specs.{claim.Transactions.{stored, disk_in, has_halted, HasFailed, txn_pages, over}, declared.pages.Pages.Pages, declared.txn.Txn.Txn}
+use Rattle.page_node.specs.{claim.Entries.Entry, Entries.child_in, claim.Node.{Node, IsNode}, claim.Places.Rises, Places.floor, Searching.{IsBelow, RisesAfter}}
 use Rattle.page_node.specs.declared.search.RowNear.{RowNear}
-use Rattle.page_btree.specs.claim.Keys.{IsBetween}
-use Rattle.page_btree.specs.claim.Tree.{Tree, IsTree, page_of, owns}
-use Rattle.page_btree.specs.declared.error.TreeError.{TreeError}
-use Rattle.page_btree.specs.declared.error.TreeError.TheVariants.{DeviceFault, NotAStore, Halted, NoPages, TooDeep, Memory}
+use Rattle.page_btree.specs.{claim.Keys.IsBetween, claim.Tree.{Tree, IsTree, page_of, owns}, declared.error.TreeError.TreeError}
+use Rattle.page_btree.specs.declared.error.TreeError.TheVariants.{DeviceFault, NotAStore, Halted}
 
 -- the bytes are those of a tree's page, whose range has the key
 pub record CanGet (n : ℕ) (P : Image) (d : ℕ) (key page : List ℕ) : Type 0 where
@@ -46,9 +35,7 @@ module _ {D : Type 0} {g : Ghosts D} where
   ReadsErr can old new DeviceFault = HasFailed old new
   ReadsErr can old new NotAStore = (disk_in new).is_honest → can (stored old) → ⊥
   ReadsErr can old new Halted = has_halted old ≡ true
-  ReadsErr can old new NoPages = ⊥
-  ReadsErr can old new TooDeep = ⊥
-  ReadsErr can old new Memory = ⊥
+  ReadsErr can old new _ = ⊥
 
 -- a page of n is one of a node of a level
 pub record IsLevel (n : ℕ) (P : Image) (d page : ℕ) : Type 0 where

@@ -1,10 +1,7 @@
 -- The way from a page down to the leaf that a key belongs to.
-use Rattle.std.specs.Prelude.{◌≡◌, ◌≤◌, ℕ, List, Option, Some, None, cond}
-use Rattle.std.proofs.Common.{zero, suc}
+use Rattle.std.{specs.Prelude.{◌≡◌, ◌≤◌, ℕ, List, Option, Some, None, cond}, proofs.Common.{zero, suc}}
 use Rattle.sector_device.specs.claim.Disk.{Image}
-use Rattle.page_btree.specs.claim.Keys.{IsBetween}
-use Rattle.page_btree.specs.Getting.{CanGetAt, IsChild}
-use Rattle.page_btree.specs.declared.reach.Reach.{Reach}
+use Rattle.page_btree.specs.{claim.Keys.IsBetween, Getting.{CanGetAt, IsChild}, declared.reach.Reach.Reach}
 
 -- from each node to the child that the key belongs to
 abbrev pub LeadsTo : Image → ℕ → ℕ → List ℕ → ℕ → Type 0

@@ -1,26 +1,11 @@
 -- What a map in pages keeps, and what is read of it where the device is honest and the pages hold what they may.
-use Rattle.std.specs.Prelude.{◌≡◌, ◌≢◌, ◌⊎◌, ◌≤◌, ◌<◌, ◌+◌, ◌^◌, ℕ, List, Option, None, Result, OnOk, IfOk}
-use Rattle.std.specs.FinMap.{find}
-use Rattle.sector_device.specs.claim.Disk.{Image}
-use Rattle.sector_device.specs.declared.SectorDevice.{Ghosts}
-use Rattle.page_store.specs.gate_journal.claim.Store.{home, overlay}
-use Rattle.page_store.specs.gate_journal.Store.{IsBeforeOrAfter}
-use Rattle.page_store.specs.claim.Chain.{root_in, free_in}
-use Rattle.page_store.specs.claim.Transactions.{stored, disk_in, txn_pages, txn_root, over, free_over}
-use Rattle.page_store.specs.Reading.{ReadsOnly}
-use Rattle.page_store.specs.declared.pages.Pages.{Pages}
-use Rattle.page_store.specs.declared.txn.Txn.{Txn}
+use Rattle.std.specs.{Prelude.{◌≡◌, ◌≢◌, ◌⊎◌, ◌≤◌, ◌<◌, ◌+◌, ◌^◌, ℕ, List, Option, None, Result, OnOk, IfOk}, FinMap.find}
+use Rattle.sector_device.specs.{claim.Disk.Image, declared.SectorDevice.Ghosts}
+use Rattle.page_store.specs.{gate_journal.claim.Store.{home, overlay}, gate_journal.Store.IsBeforeOrAfter, claim.Chain.{root_in, free_in}}
+use Rattle.page_store.specs.{claim.Transactions.{stored, disk_in, txn_pages, txn_root, over, free_over}, Reading.ReadsOnly, declared.pages.Pages.Pages, declared.txn.Txn.Txn}
 use Rattle.page_node.specs.claim.Places.{key_cmp}
-use Rattle.page_btree.specs.claim.Keys.{KeyMap}
-use Rattle.page_btree.specs.claim.Tree.{rows}
-use Rattle.page_btree.specs.claim.Map.{Holds, InTxn, IsRooted}
-use Rattle.page_btree.specs.Map.{OpensMap}
-use Rattle.page_btree.specs.Getting.{CanGet, CanGetAt, IsCopied, LevelErr}
-use Rattle.page_btree.specs.claim.Errors.{level_in}
-use Rattle.page_btree.specs.Leading.{LeadsTo, LeadsAll, end_of}
-use Rattle.page_btree.specs.Seeking.{bound_in, IsRead}
-use Rattle.page_btree.specs.declared.error.TreeError.{TreeError}
-use Rattle.page_btree.specs.declared.reach.Reach.{Reach}
+use Rattle.page_btree.specs.{claim.Keys.KeyMap, claim.Tree.rows, claim.Map.{Holds, InTxn, IsRooted}, Map.OpensMap, Getting.{CanGet, CanGetAt, IsCopied, LevelErr}}
+use Rattle.page_btree.specs.{claim.Errors.level_in, Leading.{LeadsTo, LeadsAll, end_of}, Seeking.{bound_in, IsRead}, declared.error.TreeError.TreeError, declared.reach.Reach.Reach}
 use Rattle.page_btree.specs.declared.seeks.Leaf.{Leaf}
 
 -- ---- laws of maps in pages

@@ -1,17 +1,8 @@
 -- What is read where rows are read one after the other.
-use Rattle.std.specs.Prelude.{◌≡◌, ◌<◌, ℕ, List, [], ◌∷◌, ◌++◌, length, drop, Option, Some, None, cond}
-use Rattle.std.specs.Option.{option_map}
+use Rattle.std.specs.{Prelude.{◌≡◌, ◌<◌, ℕ, List, [], ◌∷◌, ◌++◌, length, drop, Option, Some, None, cond}, Option.option_map, Ordering.is_gt}
 use Rattle.std.proofs.Common.{get_or, zero, suc}
-use Rattle.std.specs.Ordering.{is_gt}
-use Rattle.page_node.specs.claim.Entries.{Entry}
-use Rattle.page_node.specs.Entries.{child_in}
-use Rattle.page_node.specs.claim.Node.{IsNode}
-use Rattle.page_node.specs.claim.Places.{key_cmp, Rises}
-use Rattle.page_node.specs.Places.{floor, ceiling, entries_from}
-use Rattle.page_node.specs.Walking.{IsAhead}
-use Rattle.page_btree.specs.claim.Keys.{IsBetween}
-use Rattle.page_btree.specs.claim.Tree.{Tree, Forest, leaf, inner, one, more, first_key}
-use Rattle.page_btree.specs.declared.seeks.Leaf.{Leaf}
+use Rattle.page_node.specs.{claim.Entries.Entry, Entries.child_in, claim.Node.IsNode, claim.Places.{key_cmp, Rises}, Places.{floor, ceiling, entries_from}, Walking.IsAhead}
+use Rattle.page_btree.specs.{claim.Keys.IsBetween, claim.Tree.{Tree, Forest, leaf, inner, one, more, first_key}, declared.seeks.Leaf.Leaf}
 
 -- the key from which on the rows of the leaves behind it are, or none where it is the last
 abbrev pub bound_in : Leaf → Option (List ℕ)

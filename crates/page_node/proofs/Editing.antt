@@ -1,16 +1,12 @@
 -- What the edits of a buffer leave.
-use Rattle.std.specs.Prelude.{insert, remove}
+use Rattle.std.specs.{Prelude.{insert, remove}, List.{All, copy_within}}
 use Rattle.std.proofs.Common.{◌≡◌, ℕ, ◌+◌, ◌-◌, ◌*◌, ◌<◌, ◌≤◌, List, [], ◌∷◌, ◌++◌, length, take, drop, get_or, set, refl, sym, ap, subst, ◌∙◌, arith, suc, inl, inr}
-use Rattle.std.specs.List.{All, copy_within}
 use Rattle.std.proofs.lemmas.Bool.{cases_eq}
 use Rattle.std.proofs.lemmas.List.{take-take, drop-drop, length-take-le, length-drop, append-nil, set_split}
 use Rattle.std.proofs.lemmas.List.Elements.{All-nil, All-cons, All-take, All-drop}
-use Rattle.page_node.specs.claim.Entries.{Entry, IsEntry, entry_bytes, entry_size, body_of, size_of}
+use Rattle.page_node.specs.{claim.Entries.{Entry, IsEntry, entry_bytes, entry_size, body_of, size_of}, claim.Node.Node, Bytes.with_entry, Held.{held_node, IsHeld}}
 use Rattle.page_node.proofs.EntryLists.{size-parts, size-take_more, prefix_at, rest_at, length-read}
-use Rattle.page_node.specs.claim.Node.{Node}
-use Rattle.page_node.specs.Bytes.{with_entry}
 use Rattle.page_node.proofs.Standing.{Stands, nothing, edited, edited_bytes, edited_stands, size-edited, length-edited, size-take_from, moved_is, written_is, size_is, from_held, view_of}
-use Rattle.page_node.specs.Held.{held_node, IsHeld}
 
 pub count_small : (es : List Entry) → 3 * length es ≤ size_of es
 count_small [] = omega arith
@@ -58,8 +54,6 @@ pub insert_stands : (level : ℕ) (es : List Entry) (marks bytes moved new new_m
 insert_stands level es marks bytes moved new new_marks i e s within long fits entry child is_moved is_new kept shifted =
     let few = count_small es in
     let most = mark_most level es marks bytes s i within in
-    let short = entry.0 in
-    let narrow = entry.1 in
     let n = length-edited es i i (e ∷ []) within in
     let size = size-edited es i i (e ∷ []) in
     let parts = size-parts i es in
@@ -84,8 +78,6 @@ remove_stands level es marks bytes new new_marks i s within long is_new kept shi
     let size = size-edited es i (suc i) [] in
     let less = size-take_from es i (suc i) (omega arith) in
     let parts = size-parts (suc i) es in
-    let few = s.few in
-    let room = s.room in
     edited_stands level es marks bytes new_marks new i (suc i) [] s (omega arith) (omega arith) (omega arith) (All-nil IsEntry) (λ inner. All-nil (λ (f : Entry). length f.1 ≡ 4)) (omega arith) (omega arith)
     (edited_at level es marks bytes new i (suc i) [] [] (drop (get_or marks i 0 + (get_or marks (length es) 0 - get_or marks (i + 1) 0)) bytes) s (omega arith) (omega arith) (omega arith) refl
     (is_new ∙ moved_is bytes (get_or marks (i + 1) 0) (get_or marks (length es) 0) (get_or marks i 0)
@@ -103,8 +95,7 @@ remove_stands level es marks bytes new new_marks i s within long is_new kept shi
           let sum : k ≡ i + 0 + (m - suc i) = omega arith in
           let P : ℕ → Type 0 = λ q. get_or new_marks q 0 + get_or marks (suc i) 0 ≡ get_or marks i 0 + 0 + get_or marks m 0 in
           let there = shifted k (omega arith) (omega arith) in
-          let next : k + 1 ≡ m = omega arith in
-          let at_m : get_or marks (k + 1) 0 ≡ get_or marks m 0 = ap (λ q. get_or marks q 0) next in
+          let at_m : get_or marks (k + 1) 0 ≡ get_or marks m 0 = ap (λ q. get_or marks q 0) (omega arith) in
           let at_i : get_or marks (i + 1) 0 ≡ get_or marks (suc i) 0 = ap (λ q. get_or marks q 0) one in
           let rise = marks_rise level es marks bytes s (suc i) m le inside in
           let low = marks_rise level es marks bytes s i (suc i) (omega arith) (omega arith) in
@@ -120,13 +111,10 @@ pub set_stands : (level : ℕ) (es : List Entry) (marks bytes moved new new_mark
 set_stands level es marks bytes moved new new_marks i to e s within long fits entry child ends_to is_moved is_new kept shifted =
     let one : i + 1 ≡ suc i = omega arith in
     let most = mark_most level es marks bytes s i (omega arith) in
-    let short = entry.0 in
-    let narrow = entry.1 in
     let n = length-edited es i (suc i) (e ∷ []) (omega arith) in
     let size = size-edited es i (suc i) (e ∷ []) in
     let less = size-take_from es i (suc i) (omega arith) in
     let parts = size-parts (suc i) es in
-    let few = s.few in
     let P : List Entry → Type 0 = λ l. Stands level l new_marks new in
     subst P (sym (set_split es i e within))
     (edited_stands level es marks bytes new_marks new i (suc i) (e ∷ []) s (omega arith) (omega arith) (omega arith) (single IsEntry e entry) (λ inner. single (λ (f : Entry). length f.1 ≡ 4) e (child inner)) (omega arith) (omega arith)

@@ -1,25 +1,11 @@
 -- Children that follow one another.
+use Rattle.std.specs.{Prelude.{Option, Some, IfSome}, Option.option_map, List.starts_with, Ordering.is_gt, declared.cmp.Ordering.Ordering}
+use Rattle.std.specs.declared.cmp.Ordering.TheVariants.{Greater}
 use Rattle.std.proofs.Common.{◌≡◌, ◌≢◌, ◌⊎◌, ℕ, zero, suc, ◌+◌, ◌-◌, ◌<◌, ◌≤◌, List, [], ◌∷◌, length, take, drop, set, true, false, nat_eq, refl, sym, ap, ◌∙◌, subst, arith, inl, inr}
-use Rattle.std.specs.Prelude.{Option, Some, IfSome}
-use Rattle.std.specs.Option.{option_map}
-use Rattle.std.specs.List.{starts_with}
-use Rattle.std.specs.Ordering.{is_gt}
-use Rattle.std.specs.declared.cmp.Ordering.{Ordering}
-use Rattle.std.specs.declared.cmp.Ordering.TheVariants.{Less, Equal, Greater}
 use Rattle.std.proofs.lemmas.Bool.{cases_eq}
-use Rattle.page_node.specs.Bytes.{LiesAt}
-use Rattle.page_node.specs.claim.Entries.{Entry, size_of}
-use Rattle.page_node.specs.Entries.{key_at, value_at, child_in}
-use Rattle.page_node.proofs.Laws.{flip_less, flip_greater, floor_stop, ceiling_at}
-use Rattle.page_node.specs.claim.Node.{Node, IsNode}
-use Rattle.page_node.specs.claim.Places.{key_cmp}
-use Rattle.page_node.specs.Places.{floor, ceiling}
-use Rattle.page_node.specs.Searching.{IsTurn, RisesAfter}
-use Rattle.page_node.specs.Walking.{part_of}
-use Rattle.page_node.specs.Ways.{AreWays}
-use Rattle.page_node.proofs.Nearing.{after_at}
-use Rattle.page_node.proofs.Scanning.{entry_of, end_there, key_part, value_part}
-use Rattle.page_node.proofs.Standing.{nothing}
+use Rattle.page_node.specs.{Bytes.LiesAt, claim.Entries.{Entry, size_of}, Entries.{key_at, value_at, child_in}, claim.Node.{Node, IsNode}, claim.Places.key_cmp}
+use Rattle.page_node.specs.{Places.{floor, ceiling}, Searching.{IsTurn, RisesAfter}, Walking.part_of, Ways.AreWays}
+use Rattle.page_node.proofs.{Laws.{flip_less, flip_greater, floor_stop, ceiling_at}, Nearing.after_at, Scanning.{entry_of, end_there, key_part, value_part}, Standing.nothing}
 
 -- one child more, after those that there are
 ways_suc : (prefix : List ℕ) (es : List Entry) (key : List ℕ) (child more : ℕ) (after b : List ℕ) (next : ℕ) → more < length after → AreWays prefix es key child more after (Some b)
@@ -64,14 +50,11 @@ pub record IsHere (es : List Entry) (k at : ℕ) : Type 0 where
 -- the key of a turn is where it lies
 pub turn_bound : (page key : List ℕ) (node : Node) (k at value end : ℕ) → IsNode page node → IsTurn key node.entries k at → LiesAt page at value end → ceiling key node.entries ≡ Some (part_of page (at + 3) value)
 turn_bound page key node k at value end is turn lies =
-    let within = turn.within in
-    let e = entry_of page node k at is within turn.place in
-    turn.above ∙ ap Some (sym (key_part page node.entries k at value end e lies))
+    turn.above ∙ ap Some (sym (key_part page node.entries k at value end (entry_of page node k at is turn.within turn.place) lies))
 
 itself : (x : List ℕ) (r : Ordering) → key_cmp x x ≡ r → is_gt r ≡ false
-itself x Less is = refl
-itself x Equal is = refl
 itself x Greater is = let less = flip_greater x x is in let both = sym is ∙ less in cc
+itself x _ is = refl
 
 up_to : (es : List Entry) (k : ℕ) → RisesAfter es → k < length es → (j : ℕ) → 0 < j → j ≤ k → is_gt (key_cmp (key_at es j) (key_at es k)) ≡ false
 up_to es k rises within j some le = elim (cases_eq j k) [
@@ -114,9 +97,6 @@ here_no_child page node k at value end is here lies inner why =
     let within = here.within in
     let e = entry_of page node k at is within here.place in
     let four = is.shape.children inner k nothing within in
-    let wide = e.value in
-    let value_is = lies.value_is in
-    let end_is = lies.end_is in
     elim why [ inl none ↦ omega arith | inr differs ↦ differs (omega arith) ]
 
 pub ways_there : (page prefix : List ℕ) (node : Node) (key : List ℕ) (child more : ℕ) (after : List ℕ) (k at value end : ℕ) → IsNode page node → IsHere node.entries k at → LiesAt page at value end

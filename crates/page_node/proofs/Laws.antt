@@ -1,26 +1,15 @@
 -- Laws of nodes and of places, for the layers above.
-use Rattle.std.specs.Prelude.{insert}
-use Rattle.std.proofs.Common.{◌≡◌, ℕ, ◌+◌, ◌-◌, ◌^◌, ◌<◌, ◌≤◌, List, [], ◌∷◌, length, drop, set, replicate, Bool, true, false, cond, ◌&&◌, refl, sym, ap, subst, ◌∙◌, arith, zero, suc}
-use Rattle.std.specs.Prelude.{Option, Some, None}
-use Rattle.std.specs.Ordering.{is_gt, is_lt, is_eq, ordering_reverse, eq_by_cmp}
-use Rattle.std.specs.Cmp.Lexicographic.{nat_list_cmp_total}
-use Rattle.std.specs.declared.cmp.Ordering.{Ordering}
-use Rattle.std.specs.declared.cmp.Ordering.TheVariants.{Less, Equal, Greater}
-use Rattle.std.specs.FinMap.{is_sorted, find, put, slice_cmp-IsAntisymmetric, nat_cmp-IsAntisymmetric}
-use Rattle.std.specs.FinMap.Entries.{below_all}
-use Rattle.std.proofs.Common.{◌⊎◌, inl, inr}
+use Rattle.std.specs.{Prelude.{insert, Option, Some, None}, Ordering.{is_gt, is_lt, is_eq, ordering_reverse, eq_by_cmp}, Cmp.Lexicographic.nat_list_cmp_total}
+use Rattle.std.specs.{declared.cmp.Ordering.Ordering, declared.cmp.Ordering.TheVariants.{Less, Equal, Greater}}
+use Rattle.std.specs.{FinMap.{is_sorted, find, put, slice_cmp-IsAntisymmetric, nat_cmp-IsAntisymmetric}, FinMap.Entries.below_all}
+use Rattle.std.proofs.Common.{◌≡◌, ℕ, ◌+◌, ◌-◌, ◌^◌, ◌<◌, ◌≤◌, List, [], ◌∷◌, length, drop, set, replicate, Bool, true, false, cond, ◌&&◌, refl, sym, ap, subst, ◌∙◌, arith, zero, suc, ◌⊎◌, inl, inr}
 use Rattle.std.proofs.lemmas.Bool.{cases_eq}
 use Rattle.std.proofs.lemmas.Cmp.{tied_itself}
 use Rattle.std.proofs.lemmas.List.{take_at}
 use Rattle.std.proofs.lemmas.Nat.{from_be_bytes-to_be_bytes_4}
-use Rattle.page_node.specs.claim.Entries.{Entry, body_of, size_of, child_bytes}
-use Rattle.page_node.specs.Entries.{key_at, value_at, read_from, child_in}
-use Rattle.page_node.proofs.EntryLists.{length-body, read_at}
-use Rattle.page_node.specs.claim.Node.{Node, IsNode, IsShape, Fits, count_in}
-use Rattle.page_node.specs.Node.{bytes_of}
-use Rattle.page_node.proofs.Node.{node_in}
-use Rattle.page_node.specs.claim.Places.{key_cmp, Rises}
-use Rattle.page_node.specs.Places.{IsFound, IsGap, floor, floor_from, ceiling, ceiling_from, is_from, entries_from}
+use Rattle.page_node.specs.{claim.Entries.{Entry, body_of, size_of, child_bytes}, Entries.{key_at, value_at, read_from, child_in}}
+use Rattle.page_node.specs.{claim.Node.{Node, IsNode, IsShape, Fits, count_in}, Node.bytes_of, claim.Places.{key_cmp, Rises}}
+use Rattle.page_node.{specs.Places.{IsFound, IsGap, floor, floor_from, ceiling, ceiling_from, is_from, entries_from}, proofs.EntryLists.{length-body, read_at}, proofs.Node.node_in}
 
 -- ---- nodes
 -- a page stands for one node at most
@@ -68,8 +57,7 @@ second_so false c h = cc
 
 pub is_less : (r : Ordering) → is_lt r ≡ true → r ≡ Less
 is_less Less h = refl
-is_less Equal h = cc
-is_less Greater h = cc
+is_less _ h = cc
 
 below_at : (x : List ℕ) (es : List Entry) (j : ℕ) → below_all key_cmp x es ≡ true → j < length es → key_cmp x (key_at es j) ≡ Less
 below_at x [] j h within = absurd (omega arith)
@@ -230,7 +218,7 @@ ceiling_none key (e ∷ es) below = ceiling_from_none key es (λ j less. below (
 from_below : (key : List ℕ) (e : Entry) → key_cmp e.0 key ≡ Less → is_from key e ≡ false
 from_below key e less = ap (λ r. cond (is_gt r) false true) (flip_less e.0 key less)
 
-is_lower : (x y z : List ℕ) (r : Ordering) → key_cmp x y ≡ r → is_gt r ≡ false → key_cmp y z ≡ Less → is_gt (key_cmp x z) ≡ false
+pub is_lower : (x y z : List ℕ) (r : Ordering) → key_cmp x y ≡ r → is_gt r ≡ false → key_cmp y z ≡ Less → is_gt (key_cmp x z) ≡ false
 is_lower x y z Less is from less = ap is_gt (less_trans x y z is less)
 is_lower x y z Equal is from less = ap (λ k. is_gt (key_cmp k z)) (same_key x y is) ∙ ap is_gt less
 is_lower x y z Greater is from less = cc
@@ -256,10 +244,9 @@ from_middle es key k rises from j le within = elim (lt_or_same k j le) [
   | inr same ↦ ap (λ q. is_gt (key_cmp key (key_at es q))) (sym same) ∙ from
 ]
 
-not_greater : (r : Ordering) → is_lt r ≡ false → is_gt (ordering_reverse r) ≡ false
+pub not_greater : (r : Ordering) → is_lt r ≡ false → is_gt (ordering_reverse r) ≡ false
 not_greater Less h = cc
-not_greater Equal h = refl
-not_greater Greater h = refl
+not_greater _ h = refl
 
 pub not_below : (x key : List ℕ) → is_lt (key_cmp x key) ≡ false → is_gt (key_cmp key x) ≡ false
 not_below x key h = ap is_gt (nat_list_cmp_total.antisymm key x) ∙ not_greater (key_cmp x key) h

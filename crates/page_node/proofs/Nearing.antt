@@ -1,17 +1,9 @@
 -- A search that looks at a few keys of those that rise.
+use Rattle.std.specs.{Ordering.is_gt, Prelude.{Result, Ok, Err, OnErr}, declared.cmp.Ordering.Ordering, declared.cmp.Ordering.TheVariants.{Less, Equal, Greater}}
 use Rattle.std.proofs.Common.{◌≡◌, ℕ, ◌+◌, ◌-◌, ◌<◌, List, [], ◌∷◌, length, take, drop, false, zero, suc, refl, sym, ap, ◌∙◌, subst, arith, inl, inr}
 use Rattle.std.proofs.lemmas.Bool.{cases_eq}
-use Rattle.std.specs.Ordering.{is_gt}
-use Rattle.std.specs.Prelude.{Result, Ok, Err, OnErr}
-use Rattle.std.specs.declared.cmp.Ordering.{Ordering}
-use Rattle.std.specs.declared.cmp.Ordering.TheVariants.{Less, Equal, Greater}
-use Rattle.page_node.specs.claim.Entries.{Entry}
-use Rattle.page_node.specs.Entries.{key_at, value_at}
-use Rattle.page_node.specs.claim.Places.{key_cmp}
-use Rattle.page_node.specs.Searching.{IsBelow, IsLast, RisesAfter}
-use Rattle.page_node.proofs.Laws.{rises_at, less_trans, same_key}
-use Rattle.page_node.specs.Bytes.{LiesAt}
-use Rattle.page_node.proofs.Scanning.{IsEntryOf, end_there, value_part}
+use Rattle.page_node.specs.{claim.Entries.Entry, Entries.{key_at, value_at}, claim.Places.key_cmp, Searching.{IsBelow, IsLast, RisesAfter}, Bytes.LiesAt}
+use Rattle.page_node.proofs.{Laws.{rises_at, less_trans, same_key}, Scanning.{IsEntryOf, end_there, value_part}}
 
 lower_of : (x y z : List ℕ) (r : Ordering) → key_cmp x y ≡ Less → key_cmp y z ≡ r → is_gt r ≡ false → is_gt (key_cmp x z) ≡ false
 lower_of x y z Less less is from = ap is_gt (less_trans x y z less is)
@@ -27,11 +19,6 @@ after_at (e ∷ es) (suc j) (suc k) rises some less within = rises_at es j k ris
 -- after an entry whose key isn't above, none of the entries before is
 pub last_after : (page key : List ℕ) (es : List Entry) (k at value end : ℕ) → IsEntryOf page es k at → LiesAt page at value end → RisesAfter es → k < length es → is_gt (key_cmp (key_at es k) key) ≡ false → IsLast page key es (k + 1) value end
 last_after page key es k at value end e lies rises within from =
-    let one : k + 1 - 1 ≡ k = omega arith in
-    let value_is = lies.value_is in
-    let end_is = lies.end_is in
-    let wide = e.value in
-    let sum : value + length (value_at es k) ≡ end = omega arith in
     record {
       place = end_there page es k at value end e lies;
       below = λ j some less. elim (cases_eq j k) [
@@ -40,7 +27,7 @@ last_after page key es k at value end e lies rises within from =
       ];
       none = λ none. absurd (omega arith);
       some = λ _. let P : ℕ → Type 0 = λ q. (0 < value) × (value + length (value_at es q) ≡ end) × (take (end - value) (drop value page) ≡ value_at es q) in
-          subst P (sym one) (omega arith, sum, value_part page es k at value end e lies);
+          subst P (sym (omega arith)) (omega arith, (omega arith), value_part page es k at value end e lies);
     }
 
 -- no entry is before the first

@@ -1,8 +1,6 @@
 -- Lemmas on the definitions of Node.
-use Rattle.std.specs.Prelude.{ℕ, List, drop}
-use Rattle.std.proofs.Common.{get_or}
-use Rattle.page_node.specs.Entries.{read_from}
-use Rattle.page_node.specs.claim.Node.{Node, count_in}
+use Rattle.std.{specs.Prelude.{ℕ, List, drop}, proofs.Common.get_or}
+use Rattle.page_node.specs.{Entries.read_from, claim.Node.{Node, count_in}}
 
 -- the node of a page that stands for one
 abbrev pub node_in : List ℕ → Node

@@ -1,25 +1,14 @@
 -- What the edits of a page leave.
-use Rattle.std.specs.Prelude.{insert, remove, Bool, true, false, cond, Option, Some, None, is_some, Result, Ok, Err, OnErr}
-use Rattle.std.specs.FinMap.{find, put}
+use Rattle.std.specs.{Prelude.{insert, remove, Bool, true, false, cond, Option, Some, None, is_some, Result, Ok, Err, OnErr}, FinMap.{find, put}, List.{All, copy_within}}
 use Rattle.std.proofs.Common.{◌≡◌, ℕ, ◌+◌, ◌-◌, ◌*◌, ◌/◌, ◌%◌, ◌<◌, ◌≤◌, List, [], ◌∷◌, ◌++◌, length, take, drop, get_or, set, refl, sym, ap, subst, ◌∙◌, arith, suc, length-append, append_assoc, take-append-drop}
-use Rattle.std.specs.List.{All, copy_within}
+use Rattle.std.proofs.Math.Seq.{take-add}
 use Rattle.std.proofs.lemmas.List.{length-take-le, length-drop, append-nil, drop-drop, set_split, take-take, take-set, take-append-le, get_or-set_other}
 use Rattle.std.proofs.lemmas.List.Edits.{get_or-insert_below}
 use Rattle.std.proofs.lemmas.List.Elements.{All-nil}
-use Rattle.std.proofs.Math.Seq.{take-add}
-use Rattle.page_node.specs.Bytes.{with_entry}
-use Rattle.page_node.specs.claim.Entries.{Entry, IsEntry, entry_bytes, entry_size, body_of, size_of}
-use Rattle.page_node.proofs.EntryLists.{size-parts}
-use Rattle.page_node.specs.claim.Node.{Node, IsNode, count_in}
-use Rattle.page_node.specs.claim.Places.{key_cmp}
-use Rattle.page_node.specs.Places.{IsFound, IsGap}
-use Rattle.page_node.proofs.Laws.{found_put, found_find, gap_put, gap_find}
-use Rattle.page_node.specs.Entries.{key_at}
-use Rattle.page_node.specs.Searching.{IsBelow}
-use Rattle.page_node.specs.declared.edit.RowPut.{RowPut}
-use Rattle.page_node.specs.Spots.{IsSpot, Becomes, IsRowPut}
-use Rattle.page_node.proofs.Standing.{edited, edited_bytes, size-edited, length-edited, All-edited, size-take_from, moved_is}
-use Rattle.page_node.proofs.Editing.{single}
+use Rattle.page_node.specs.{Bytes.with_entry, claim.Entries.{Entry, IsEntry, entry_bytes, entry_size, body_of, size_of}, claim.Node.{Node, IsNode, count_in}, claim.Places.key_cmp}
+use Rattle.page_node.specs.{Places.{IsFound, IsGap}, Entries.key_at, Searching.IsBelow, declared.edit.RowPut.RowPut, Spots.{IsSpot, Becomes, IsRowPut}}
+use Rattle.page_node.proofs.{EntryLists.size-parts, Laws.{found_put, found_find, gap_put, gap_find}}
+use Rattle.page_node.proofs.{Standing.{edited, edited_bytes, size-edited, length-edited, All-edited, size-take_from, moved_is}, Editing.single}
 
 -- ---- the head of a page that says another count
 abbrev pub headed : List ℕ → ℕ → List ℕ
@@ -170,7 +159,6 @@ module _ (page : List ℕ) (node : Node) (is : IsNode page node) (long : length 
     replaced_here e made entry child same is_made =
         let there = next in
         let parts = size-parts (suc i) node.entries in
-        let fits = is.fits in
         let more = used - end in
         let rest : drop (at + entry_size e) page ≡ take more (drop end page) ++ drop (at + entry_size e + more) page =
         ap (λ k. drop k page) same ∙ sym (take-append-drop more (drop end page)) ∙ ap (λ l. take more (drop end page) ++ l) (drop-drop more end page ∙ ap (λ k. drop (k + more) page) (sym same)) in
@@ -184,9 +172,6 @@ module _ (page : List ℕ) (node : Node) (is : IsNode page node) (long : length 
         let n = length-edited node.entries i (suc i) [] (omega arith) in
         let less = size-take_from node.entries i (suc i) (omega arith) in
         let parts = size-parts (suc i) node.entries in
-        let fits = is.fits in
-        let there = next in
-        let rest = rest_is in
         let entries_moved : List ℕ = take (used - end) (drop end page) in
         let others_moved : List ℕ = drop (used - end) (take (till - end) (drop end page)) in
         let after : List ℕ = drop (at + (till - end)) page in
@@ -196,7 +181,7 @@ module _ (page : List ℕ) (node : Node) (is : IsNode page node) (long : length 
               [] (others_moved ++ after) refl made count
               (is_made ∙ moved_is page end till at ∙ (λ x. take (at_is x) page ++ (moved x ++ after))
               ∙ ap (λ l. take (4 + size_of (take i node.entries)) page ++ l) (append_assoc entries_moved others_moved after)
-              ∙ (λ x. take (4 + size_of (take i node.entries)) page ++ (take (rest x) (drop (there x) page) ++ (others_moved ++ after))))
+              ∙ (λ x. take (4 + size_of (take i node.entries)) page ++ (take (rest_is x) (drop (next x) page) ++ (others_moved ++ after))))
               (omega arith),
           omega arith,
         )
@@ -234,8 +219,7 @@ module _ (key : List ℕ) (es : List Entry) (value : List ℕ) (i at end : ℕ) 
       let s = subst P is spot in
       let gap : IsGap key es i = s.0 in
       let within = gap.within in
-      let same : put key_cmp key value es ≡ insert es i (key, value) = gap_put key value es i gap in
-      subst (λ l. IsBelow key l i at) (sym same) (
+      subst (λ l. IsBelow key l i at) (sym (gap_put key value es i gap)) (
         s.1 ∙ ap (λ l. 4 + size_of l) (sym (prefix_insert es i (key, value) within)),
         λ rises j less. ap (λ (e : Entry). key_cmp e.0 key) (get_or-insert_below es i (key, value) ([], []) j less within) ∙ gap.below j less,
       )

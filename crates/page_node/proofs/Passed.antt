@@ -1,17 +1,11 @@
 -- Entries that are passed over.
-use Rattle.std.proofs.Common.{◌≡◌, ℕ, ◌+◌, ◌*◌, ◌/◌, ◌%◌, ◌<◌, ◌≤◌, List, [], ◌∷◌, length, take, drop, sym, ap, ◌∙◌, subst, arith, true, nat_eq, true-eqb}
+use Rattle.std.proofs.{Common.{◌≡◌, ℕ, ◌+◌, ◌*◌, ◌/◌, ◌%◌, ◌<◌, ◌≤◌, List, [], ◌∷◌, length, take, drop, sym, ap, ◌∙◌, subst, arith, true, nat_eq, true-eqb}, Math.Seq.take-add}
 use mathlib.Core.Bool.{◌&&◌}
 use Rattle.std.proofs.lemmas.Bool.{and_parts}
 use Rattle.std.proofs.lemmas.List.{drop-drop, length-drop}
 use Rattle.std.proofs.lemmas.List.Elements.{All-drop}
-use Rattle.std.proofs.Math.Seq.{take-add}
-use Rattle.page_node.specs.claim.Entries.{Entry, IsEntry, size_of}
-use Rattle.page_node.specs.Entries.{key_length, value_length}
-use Rattle.page_node.proofs.EntryLists.{size-parts, size-append, rest_at}
-use Rattle.page_node.specs.Bytes.{LiesAt, LiesNot}
-use Rattle.page_node.specs.claim.Node.{Node, IsNode}
-use Rattle.page_node.specs.Walking.{IsAhead, PassesTo}
-use Rattle.page_node.proofs.Walking.{ahead_lies, ahead_lengths, node_ahead_at}
+use Rattle.page_node.specs.{claim.Entries.{Entry, IsEntry, size_of}, Entries.{key_length, value_length}, Bytes.{LiesAt, LiesNot}, claim.Node.{Node, IsNode}}
+use Rattle.page_node.{specs.Walking.{IsAhead, PassesTo}, proofs.EntryLists.{size-parts, size-append, rest_at}, proofs.Walking.{ahead_lies, ahead_lengths, node_ahead_at}}
 
 -- after some of those that stand ahead the others do
 ahead_at : (page : List ℕ) (at n : ℕ) (es : List Entry) → IsAhead page at es → IsAhead page (at + size_of (take n es)) (drop n es)
@@ -30,9 +24,8 @@ passes_none page at es is long = omega arith
 -- some and then others
 pub passes_both : (page : List ℕ) (at mid end m n : ℕ) → PassesTo page at m mid → PassesTo page mid n end → PassesTo page at (m + n) end
 passes_both page at mid end m n first then es is long =
-    let mid_is = first es is (omega arith) in
     let left = length-drop m es in
-    let rest : IsAhead page mid (drop m es) = subst (λ (place : ℕ). IsAhead page place (drop m es)) (sym mid_is) (ahead_at page at m es is) in
+    let rest : IsAhead page mid (drop m es) = subst (λ (place : ℕ). IsAhead page place (drop m es)) (sym (first es is (omega arith))) (ahead_at page at m es is) in
     let end_is = then (drop m es) rest (omega arith) in
     let sum = taken_more m n es in
     omega arith
@@ -46,8 +39,6 @@ pub passes_alike : (page : List ℕ) (at head size : ℕ) → size ≡ 3 + head 
 passes_alike page at head size size_is alike [] is long = absurd (omega arith)
 passes_alike page at head size size_is alike (e ∷ es) is long =
     let lengths = ahead_lengths page at e es is in
-    let key = lengths.0 in
-    let value = lengths.1 in
     let narrow = (is.entries 0 ([], []) (omega arith)).1 in
     omega arith
 
@@ -61,28 +52,22 @@ passes_four page at head size a b c d size_is a_is b_is c_is d_is all =
     let alike : (at : ℕ) (n : ℕ) → n ≡ head_of page at → nat_eq n head ≡ true → PassesTo page at 1 (at + size) = λ at n is same. passes_alike page at head size size_is (sym is ∙ true-eqb n head (sym same)) in
     let second : at + size + size ≡ at + 2 * size = omega arith in
     let third : at + 2 * size + size ≡ at + 3 * size = omega arith in
-    let fourth : at + 3 * size + size ≡ at + 4 * size = omega arith in
     let first_two = passes_both page at (at + size) (at + size + size) 1 1 (alike at a a_is one.0) (alike (at + size) b b_is one.1) in
     let first_three = passes_both page at (at + 2 * size) (at + 2 * size + size) 2 1 (subst (λ (end : ℕ). PassesTo page at 2 end) second first_two) (alike (at + 2 * size) c c_is two.1) in
     let all_four = passes_both page at (at + 3 * size) (at + 3 * size + size) 3 1 (subst (λ (end : ℕ). PassesTo page at 3 end) third first_three) (alike (at + 3 * size) d d_is three.1) in
-    subst (λ (end : ℕ). PassesTo page at 4 end) fourth all_four
+    subst (λ (end : ℕ). PassesTo page at 4 end) (omega arith) all_four
 
 -- one that is found to lie there
 pub passes_found : (page : List ℕ) (at value end : ℕ) → LiesAt page at value end → PassesTo page at 1 end
 passes_found page at value end lies [] is long = absurd (omega arith)
 passes_found page at value end lies (e ∷ es) is long =
     let lengths = ahead_lengths page at e es is in
-    let key = lengths.0 in
-    let wide = lengths.1 in
-    let value_is = lies.value_is in
-    let end_is = lies.end_is in
     omega arith
 
 pub passes_not : (page : List ℕ) (at mid k : ℕ) (es : List Entry) → PassesTo page at k mid → IsAhead page at es → k < length es → LiesNot page mid → ⊥
 passes_not page at mid k es passed is long not_there =
     let left = length-drop k es in
-    let mid_is = passed es is (omega arith) in
-    first_lies (drop k es) (subst (λ (place : ℕ). IsAhead page place (drop k es)) (sym mid_is) (ahead_at page at k es is)) (omega arith)
+    first_lies (drop k es) (subst (λ (place : ℕ). IsAhead page place (drop k es)) (sym (passed es is (omega arith))) (ahead_at page at k es is)) (omega arith)
   where
     first_lies : (rest : List Entry) → IsAhead page mid rest → 0 < length rest → ⊥
     first_lies [] ahead some = absurd (omega arith)

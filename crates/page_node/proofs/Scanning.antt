@@ -1,25 +1,15 @@
 -- A page's entries, read one after the other.
+use Rattle.std.specs.{List.All, Prelude.{false, true, Result, Ok, Err, IfOk, Some}, Option.option_map, Ordering.is_gt, declared.cmp.Ordering.Ordering}
+use Rattle.std.specs.declared.cmp.Ordering.TheVariants.{Greater}
 use Rattle.std.proofs.Common.{◌≡◌, ◌≢◌, ℕ, ◌+◌, ◌-◌, ◌*◌, ◌/◌, ◌%◌, ◌<◌, ◌≤◌, List, [], ◌∷◌, ◌++◌, length, take, drop, get_or, set, refl, sym, ap, subst, ◌∙◌, arith, suc, length-take, inl, inr, get_or-set_other, get_or-set_same}
-use Rattle.std.specs.List.{All}
+use Rattle.std.proofs.Math.Seq.{take-add}
 use Rattle.std.proofs.lemmas.Bool.{cases_eq}
 use Rattle.std.proofs.lemmas.List.{take_all, drop-drop, take-append-le, drop-append-le, drop_more, length-take-le, length-drop, append-nil, get_or-drop, take_more, length-set}
 use Rattle.std.proofs.lemmas.List.Elements.{All-more, All-same}
-use Rattle.std.proofs.Math.Seq.{take-add}
 use Rattle.page_node.specs.claim.Entries.{Entry, IsEntry, entry_bytes, entry_size, body_of, size_of}
-use Rattle.page_node.specs.Entries.{key_at, value_at, first_of, after, read_from, key_length, value_length}
+use Rattle.page_node.specs.{Entries.{key_at, value_at, first_of, after, read_from, key_length, value_length, child_in}, claim.Node.{Node, IsNode, count_in}}
+use Rattle.page_node.specs.{Held.{held_node, IsHeld}, Bytes.{LiesAt, LiesNot}, claim.Places.key_cmp, Places.floor, Searching.IsLast}
 use Rattle.page_node.proofs.EntryLists.{body-append, length-body, length-read, value_length-entry, first-entry, read_at, size-take_more, drop_three}
-use Rattle.page_node.specs.claim.Node.{Node, IsNode, count_in}
-use Rattle.page_node.specs.Held.{held_node, IsHeld}
-use Rattle.page_node.specs.Bytes.{LiesAt, LiesNot}
-use Rattle.std.specs.Prelude.{false, true, Result, Ok, Err, IfOk, Some}
-use Rattle.std.specs.Option.{option_map}
-use Rattle.std.specs.Ordering.{is_gt}
-use Rattle.std.specs.declared.cmp.Ordering.{Ordering}
-use Rattle.std.specs.declared.cmp.Ordering.TheVariants.{Less, Equal, Greater}
-use Rattle.page_node.specs.claim.Places.{key_cmp}
-use Rattle.page_node.specs.Places.{floor}
-use Rattle.page_node.specs.Searching.{IsLast}
-use Rattle.page_node.specs.Entries.{child_in}
 use Rattle.page_node.proofs.Standing.{Stands, nothing, entry_there, end_below, to_held, view_of}
 
 -- ---- the first entry of bytes
@@ -41,17 +31,15 @@ lying (a ∷ b ∷ []) small long = absurd (omega arith)
 lying (a ∷ b ∷ c ∷ xs) small long =
     let n : ℕ = 256 * b + c in
     let bytes : List ℕ = a ∷ b ∷ c ∷ xs in
-    let few : c < 256 = small 2 in
-    let parts = halves b c few in
+    let parts = halves b c (small 2) in
     let key : length (take a xs) ≡ a = length-take-le a xs (omega arith) in
     let later : drop (3 + a) bytes ≡ drop a xs = drop_three a a b c xs in
     let rest = length-drop a xs in
     let value : length (take n (drop (3 + a) bytes)) ≡ n = ap (λ l. length (take n l)) later ∙ length-take-le n (drop a xs) (omega arith) in
-    let sum : 3 + a + n ≡ 3 + (a + n) = omega arith in
     record {
       key = key;
       value = value;
-      whole = ap (λ k. take k bytes) sum ∙ take_three (a + n) a b c xs ∙ ap (λ l. a ∷ b ∷ c ∷ l) (take-add a n xs)
+      whole = ap (λ k. take k bytes) (omega arith) ∙ take_three (a + n) a b c xs ∙ ap (λ l. a ∷ b ∷ c ∷ l) (take-add a n xs)
           ∙ sym (λ x. key x ∷ (ap (λ m. m / 256) value ∙ parts.0) x ∷ (ap (λ m. m % 256) value ∙ parts.1) x ∷ (take a xs ++ take n (later x)));
     }
 
@@ -70,7 +58,6 @@ entry_of page node k at is within place =
     let there = entry_there es page k is.body within in
     let here : drop at page ≡ entry_bytes (get_or es k nothing) ++ there.0 = ap (λ n. drop n page) place ∙ there.1 in
     let below = end_below es k within in
-    let fits = is.fits in
     let more = size-take_more es k nothing within in
     record {
       key = ap key_length here;
@@ -85,36 +72,21 @@ entry_of page node k at is within place =
 pub lies_there : (page : List ℕ) (node : Node) (k at : ℕ) → IsNode page node → k < length node.entries → at ≡ 4 + size_of (take k node.entries) → LiesNot page at → ⊥
 lies_there page node k at is within place not_there =
     let e = entry_of page node k at is within place in
-    let key = e.key in
-    let value = e.value in
-    let room = e.within in
-    let short = e.entry.0 in
-    let narrow = e.entry.1 in
     not_there (omega arith) (omega arith) (omega arith)
 
 -- where it ends, and what its parts are
 pub end_there : (page : List ℕ) (es : List Entry) (k at value end : ℕ) → IsEntryOf page es k at → LiesAt page at value end → end ≡ 4 + size_of (take (k + 1) es)
 end_there page es k at value end e lies =
-    let long = e.key in
-    let wide = e.value in
-    let next = e.next in
-    let value_is = lies.value_is in
-    let end_is = lies.end_is in
     omega arith
 
 pub key_there : (page : List ℕ) (at value end : ℕ) → LiesAt page at value end → take (value - (at + 3)) (drop (at + 3) page) ≡ (first_of (drop at page)).0
 key_there page at value end lies =
-    let value_is = lies.value_is in
-    let long : value - (at + 3) ≡ key_length (drop at page) = omega arith in
-    ap (λ n. take n (drop (at + 3) page)) long ∙ ap (take (key_length (drop at page))) (sym (drop-drop 3 at page))
+    ap (λ n. take n (drop (at + 3) page)) (omega arith) ∙ ap (take (key_length (drop at page))) (sym (drop-drop 3 at page))
 
 pub value_there : (page : List ℕ) (at value end : ℕ) → LiesAt page at value end → take (end - value) (drop value page) ≡ (first_of (drop at page)).1
 value_there page at value end lies =
-    let value_is = lies.value_is in
-    let end_is = lies.end_is in
-    let long : end - value ≡ value_length (drop at page) = omega arith in
     let sum : value ≡ at + (3 + key_length (drop at page)) = omega arith in
-    ap (λ n. take n (drop value page)) long ∙ ap (take (value_length (drop at page))) (ap (λ n. drop n page) sum ∙ sym (drop-drop (3 + key_length (drop at page)) at page))
+    ap (λ n. take n (drop value page)) (omega arith) ∙ ap (take (value_length (drop at page))) (ap (λ n. drop n page) sum ∙ sym (drop-drop (3 + key_length (drop at page)) at page))
 
 -- ---- a page's entries, as far as k
 pub record IsScanned (level count : ℕ) (page marks : List ℕ) (k at : ℕ) : Type 0 where
@@ -134,12 +106,8 @@ scanned_next level count page marks k at value end s within room size small lies
     let e : Entry = first_of (drop at page) in
     let n = length-read count (drop 4 page) in
     let inside : k < length all = omega arith in
-    let value_is = lies.value_is in
-    let end_is = lies.end_is in
-    let end_within = lies.within in
     let long = length-drop at page in
     let l = lying (drop at page) (λ i. let P : ℕ → Type 0 = λ b. b < 256 in subst P (sym (get_or-drop at page i 0)) (small (at + i))) (omega arith) in
-    let key = l.key in
     let wide = l.value in
     let size_e : entry_size e ≡ 3 + key_length (drop at page) + value_length (drop at page) = omega arith in
     let one_more : count - k ≡ suc (count - (k + 1)) = omega arith in
@@ -157,7 +125,7 @@ scanned_next level count page marks k at value end s within room size small lies
     let taken : take (k + 1) all ≡ take k all ++ e ∷ [] = take_more all k nothing inside ∙ ap (λ f. take k all ++ f ∷ []) here in
     record {
       long = length-set marks (k + 1) end ∙ s.long;
-      within = end_within;
+      within = lies.within;
       at_is = new_at;
       rest = later ∙ ap (read_from (count - (k + 1))) (drop-drop (3 + key_length (drop at page) + value_length (drop at page)) at page ∙ ap (λ m. drop m page) sum);
       body = ap (λ m. take m (drop 4 page)) more
@@ -188,19 +156,12 @@ scanned_place level count page marks k at node s counted is =
 
 pub scanned_not : (level count : ℕ) (page marks : List ℕ) (k at : ℕ) → IsScanned level count page marks k at → k < count → count ≡ count_in page → LiesNot page at → (node : Node) → IsNode page node → ⊥
 scanned_not level count page marks k at s within counted not_there node is =
-    let place = scanned_place level count page marks k at node s counted is in
-    let long = place.1 in
-    lies_there page node k at is (omega arith) place.0 not_there
+    lies_there page node k at is (omega arith) (scanned_place level count page marks k at node s counted is).0 not_there
 
 pub scanned_no_child : (level count : ℕ) (page marks : List ℕ) (k at value end : ℕ) → IsScanned level count page marks k at → k < count → count ≡ count_in page → level ≡ get_or page 0 0 → LiesAt page at value end → 0 < level → end - value ≢ 4 → (node : Node) → IsNode page node → ⊥
 scanned_no_child level count page marks k at value end s within counted is_level lies inner differs node is =
-    let place = scanned_place level count page marks k at node s counted is in
-    let long = place.1 in
-    let e = entry_of page node k at is (omega arith) place.0 in
-    let level_is = is.level in
+    let e = entry_of page node k at is (omega arith) (scanned_place level count page marks k at node s counted is).0 in
     let four = is.shape.children (omega arith) k nothing (omega arith) in
-    let wide = e.value in
-    let end_is = lies.end_is in
     differs (omega arith)
 
 pub scanned_all : (level count : ℕ) (page marks : List ℕ) (at : ℕ) → IsScanned level count page marks count at → level ≤ 5 → count ≤ 1364 → IsHeld level count marks page
@@ -208,7 +169,6 @@ scanned_all level count page marks at s low few =
     let all : List Entry = read_from count (drop 4 page) in
     let n = length-read count (drop 4 page) in
     let same : take count all ≡ all = take_all count all (omega arith) in
-    let within = s.within in
     let at_is : at ≡ 4 + size_of all = s.at_is ∙ ap (λ l. 4 + size_of l) same in
     record {
       shape = record {
@@ -280,11 +240,6 @@ value_part page es k at value end e lies = value_there page at value end lies �
 
 pub last_next : (page key : List ℕ) (es : List Entry) (k value at new_value end : ℕ) → IsLast page key es k value at → IsEntryOf page es k at → LiesAt page at new_value end → (0 < k → is_gt (key_cmp (key_at es k) key) ≡ false) → IsLast page key es (k + 1) new_value end
 last_next page key es k value at new_value end l e lies here =
-    let one : k + 1 - 1 ≡ k = omega arith in
-    let value_is = lies.value_is in
-    let end_is = lies.end_is in
-    let wide = e.value in
-    let sum : new_value + length (value_at es k) ≡ end = omega arith in
     record {
       place = end_there page es k at new_value end e lies;
       below = λ j some less. elim (cases_eq j k) [
@@ -293,7 +248,7 @@ last_next page key es k value at new_value end l e lies here =
       ];
       none = λ none. absurd (omega arith);
       some = λ _. let P : ℕ → Type 0 = λ q. (0 < new_value) × (new_value + length (value_at es q) ≡ end) × (take (end - new_value) (drop new_value page) ≡ value_at es q) in
-          subst P (sym one) (omega arith, sum, value_part page es k at new_value end e lies);
+          subst P (sym (omega arith)) (omega arith, (omega arith), value_part page es k at new_value end e lies);
     }
 
 -- the child that was found, and why none was
@@ -304,13 +259,11 @@ child_ok page key es k value at (Ok child) l ok known = elim (cases_eq k 0) [
   | inl zero_is ↦ let none = l.none zero_is in let some = ok.0 in absurd (omega arith)
   | inr other ↦
       let last = l.some (omega arith) in
-      let end = ok.1 in
       let four : 4 ≡ at - value = omega arith in
       let same : take 4 (drop value page) ≡ value_at es (k - 1) = ap (λ n. take n (drop value page)) four ∙ last.2 in
       ap (option_map child_in) (known (omega arith)) ∙ ap Some (sym (ok.2 ∙ ap child_in same))
 ]
 
 pub above_true : (r : Ordering) → is_gt r ≡ true → r ≡ Greater
-above_true Less h = cc
-above_true Equal h = cc
 above_true Greater h = refl
+above_true _ h = cc

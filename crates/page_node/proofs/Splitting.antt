@@ -1,20 +1,14 @@
 -- A node in two buffers.
-use Rattle.std.proofs.Common.{◌≡◌, ℕ, ◌+◌, ◌-◌, ◌*◌, ◌<◌, ◌≤◌, List, [], ◌∷◌, length, take, drop, get_or, sym, ap, ◌∙◌, arith}
-use Rattle.std.specs.List.{All}
+use Rattle.std.{specs.List.All, proofs.Common.{◌≡◌, ℕ, ◌+◌, ◌-◌, ◌*◌, ◌<◌, ◌≤◌, List, [], ◌∷◌, length, take, drop, get_or, sym, ap, ◌∙◌, arith}}
 use Rattle.std.proofs.lemmas.List.{length-take-le, length-drop}
 use Rattle.std.proofs.lemmas.List.Elements.{All-head, All-tail}
-use Rattle.page_node.specs.claim.Entries.{Entry, IsEntry, size_of}
-use Rattle.page_node.specs.Entries.{read_from}
-use Rattle.page_node.proofs.EntryLists.{size-parts}
-use Rattle.page_node.proofs.Standing.{Stands, nothing, entries_are, size_is}
+use Rattle.page_node.{specs.claim.Entries.{Entry, IsEntry, size_of}, specs.Entries.read_from, proofs.EntryLists.size-parts, proofs.Standing.{Stands, nothing, entries_are, size_is}}
 use Rattle.page_node.proofs.Editing.{left_stands, right_stands, mark_step}
 
 pub size_few : (es : List Entry) → All IsEntry es → size_of es ≤ 1099 * length es
 size_few [] all = omega arith
 size_few (e ∷ es) all =
     let here = All-head IsEntry e es all in
-    let short = here.0 in
-    let narrow = here.1 in
     let rest = size_few es (All-tail IsEntry e es all) in
     omega arith
 
@@ -22,8 +16,6 @@ pub cut_steps : (level : ℕ) (es : List Entry) (marks bytes : List ℕ) (count 
 cut_steps level es marks bytes count s is k less =
     let step = mark_step level es marks bytes s k (omega arith) in
     let entry = s.shape.entries k nothing (omega arith) in
-    let short = entry.0 in
-    let narrow = entry.1 in
     (omega arith, omega arith)
 
 pub record IsSplit (level : ℕ) (es : List Entry) (count cut : ℕ) (marks bytes right_marks right_bytes : List ℕ) : Type 0 where

@@ -1,15 +1,12 @@
 -- Entries that stand in bytes, with the places where they end.
-use Rattle.std.proofs.Common.{◌≡◌, ℕ, ◌+◌, ◌-◌, ◌<◌, ◌≤◌, List, [], ◌++◌, length, take, drop, get_or, sym, ap, subst, ◌∙◌, arith, append_assoc, length-append, take-append-drop, ◌⊎◌, inl, inr}
 use Rattle.std.specs.List.{All, copy_within}
+use Rattle.std.proofs.Common.{◌≡◌, ℕ, ◌+◌, ◌-◌, ◌<◌, ◌≤◌, List, [], ◌++◌, length, take, drop, get_or, sym, ap, subst, ◌∙◌, arith, append_assoc, length-append, take-append-drop, ◌⊎◌, inl, inr}
+use Rattle.std.proofs.Math.Seq.{take-append-add, take-add}
 use Rattle.std.proofs.lemmas.List.{take_at, take_all, drop_at, drop-drop, take-take, take-append-le, drop_more, length-take-le, length-drop}
 use Rattle.std.proofs.lemmas.List.Elements.{All-append, All-take, All-drop}
-use Rattle.std.proofs.Math.Seq.{take-append-add, take-add}
-use Rattle.page_node.specs.claim.Entries.{Entry, IsEntry, entry_bytes, entry_size, body_of, size_of}
-use Rattle.page_node.specs.Entries.{key_at, value_at, first_of, read_from, key_length, value_length}
+use Rattle.page_node.specs.{claim.Entries.{Entry, IsEntry, entry_bytes, entry_size, body_of, size_of}, Entries.{key_at, value_at, first_of, read_from, key_length, value_length}}
+use Rattle.page_node.specs.{claim.Node.{Node, IsShape}, Held.{held_node, IsHeld}, Bytes.with_entry}
 use Rattle.page_node.proofs.EntryLists.{body-append, size-append, length-body, length-read, value_length-entry, first-entry, read_at, size-parts, size-take_more, prefix_at, rest_at}
-use Rattle.page_node.specs.claim.Node.{Node, IsShape}
-use Rattle.page_node.specs.Held.{held_node, IsHeld}
-use Rattle.page_node.specs.Bytes.{with_entry}
 
 pub record Stands (level : ℕ) (es : List Entry) (marks bytes : List ℕ) : Type 0 where
   pub shape : IsShape (record { level = level; entries = es })
@@ -116,8 +113,7 @@ module _ (level : ℕ) (es : List Entry) (marks bytes : List ℕ) (s : Stands le
   value_read =
       let at : ℕ = get_or marks i 0 in
       let k : ℕ = key_length (drop at bytes) in
-      let sum : at + 3 + k ≡ at + (3 + k) = omega arith in
-      ap (take (value_length (drop at bytes))) (ap (λ n. drop n bytes) sum ∙ sym (drop-drop (3 + k) at bytes)) ∙ ap (λ (e : Entry). e.1) first_is
+      ap (take (value_length (drop at bytes))) (ap (λ n. drop n bytes) (omega arith) ∙ sym (drop-drop (3 + k) at bytes)) ∙ ap (λ (e : Entry). e.1) first_is
 
   pub key_short : length (key_at es i) ≤ 72
   key_short = (s.shape.entries i nothing within).0
@@ -153,16 +149,14 @@ edited_prefix es i j mid k le low =
 
 pub size-take_from : (es : List Entry) (j m : ℕ) → j ≤ m → size_of (take m es) ≡ size_of (take j es) + size_of (take (m - j) (drop j es))
 size-take_from es j m le =
-    let sum : m ≡ j + (m - j) = omega arith in
-    ap (λ n. size_of (take n es)) sum ∙ ap size_of (take-add j (m - j) es) ∙ size-append (take j es) (take (m - j) (drop j es))
+    ap (λ n. size_of (take n es)) (omega arith) ∙ ap size_of (take-add j (m - j) es) ∙ size-append (take j es) (take (m - j) (drop j es))
 
 pub edited_back : (es : List Entry) (i j : ℕ) (mid : List Entry) (m : ℕ) → i ≤ length es → j ≤ m → size_of (take (i + length mid + (m - j)) (edited es i j mid)) + size_of (take j es) ≡ size_of (take i es) + size_of mid + size_of (take m es)
 edited_back es i j mid m le high =
     let n = length-take-le i es le in
     let r : ℕ = m - j in
-    let sum : i + length mid + r ≡ length (take i es) + (length mid + r) = omega arith in
     let prefix : take (i + length mid + r) (edited es i j mid) ≡ take i es ++ (mid ++ take r (drop j es)) =
-    ap (λ k. take k (edited es i j mid)) sum
+    ap (λ k. take k (edited es i j mid)) (omega arith)
     ∙ take-append-add (take i es) (mid ++ drop j es) (length mid + r)
     ∙ ap (λ l. take i es ++ l) (take-append-add mid (drop j es) r) in
     let a : size_of (take (i + length mid + r) (edited es i j mid)) ≡ size_of (take i es) + (size_of mid + size_of (take r (drop j es))) =
@@ -181,7 +175,6 @@ edited_bytes es bytes new i j mid added tail body long is_added is_new =
     let pre : List ℕ = body_of (take i es) in
     let post : List ℕ = body_of (drop j es) in
     let old : List ℕ = drop 4 bytes in
-    let four = length-take-le 4 bytes long in
     let after : take (size_of (drop j es)) (drop (4 + size_of (take j es)) bytes) ≡ post =
     ap (take (size_of (drop j es))) (sym (drop-drop (size_of (take j es)) 4 bytes)) ∙ rest_at j es old body in
     let ahead : take (4 + size_of (take i es)) bytes ≡ take 4 bytes ++ pre =
@@ -191,7 +184,7 @@ edited_bytes es bytes new i j mid added tail body long is_added is_new =
     ∙ (λ x. ahead x ++ (is_added x ++ (after x ++ tail)))
     ∙ append_assoc (take 4 bytes) pre (body_of mid ++ (post ++ tail)) in
     let cut : drop 4 new ≡ pre ++ (body_of mid ++ (post ++ tail)) =
-    ap (drop 4) all ∙ drop_at (take 4 bytes) (pre ++ (body_of mid ++ (post ++ tail))) 4 four in
+    ap (drop 4) all ∙ drop_at (take 4 bytes) (pre ++ (body_of mid ++ (post ++ tail))) 4 (length-take-le 4 bytes long) in
     let joined : pre ++ (body_of mid ++ (post ++ tail)) ≡ body_of (edited es i j mid) ++ tail =
     ap (λ b. pre ++ b) (sym (append_assoc (body_of mid) post tail))
     ∙ sym (append_assoc pre (body_of mid ++ post) tail)

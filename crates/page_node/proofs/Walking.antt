@@ -1,13 +1,9 @@
 -- Lemmas on the definitions of Walking.
-use Rattle.std.proofs.Common.{◌≡◌, ℕ, ◌+◌, ◌-◌, List, [], ◌∷◌, ◌++◌, length, take, drop, sym, ap, ◌∙◌, arith, suc, append_assoc, take-append-drop}
+use Rattle.std.proofs.Common.{◌≡◌, ℕ, ◌+◌, List, [], ◌∷◌, ◌++◌, length, take, drop, sym, ap, ◌∙◌, arith, suc, append_assoc, take-append-drop}
 use Rattle.std.proofs.lemmas.List.{drop_at, drop-drop, drop-take}
 use Rattle.std.proofs.lemmas.List.Elements.{All-drop}
-use Rattle.page_node.specs.claim.Entries.{Entry, IsEntry, entry_bytes, entry_size, body_of, size_of}
-use Rattle.page_node.specs.Entries.{first_of, key_length, value_length}
-use Rattle.page_node.proofs.EntryLists.{length-entry, value_length-entry, first-entry, size-parts, rest_at}
-use Rattle.page_node.specs.claim.Node.{Node, IsNode}
-use Rattle.page_node.specs.Bytes.{LiesAt, LiesNot}
-use Rattle.page_node.specs.Walking.{IsAhead, part_of}
+use Rattle.page_node.specs.{claim.Entries.{Entry, IsEntry, entry_bytes, entry_size, body_of, size_of}, Entries.{first_of, key_length, value_length}, claim.Node.{Node, IsNode}}
+use Rattle.page_node.{specs.Bytes.{LiesAt, LiesNot}, specs.Walking.{IsAhead, part_of}, proofs.EntryLists.{length-entry, value_length-entry, first-entry, size-parts, rest_at}}
 
 -- an entry lies there, and others are ahead after it
 pub record IsTaken (page : List ℕ) (at value end : ℕ) (e : Entry) (es : List Entry) : Type 0 where
@@ -59,22 +55,16 @@ ahead_lies page at e es is not_there =
     let value = value_long page at e b in
     let short = (is.entries 0 ([], []) (omega arith)).0 in
     let narrow = (is.entries 0 ([], []) (omega arith)).1 in
-    let within = is.within in
     not_there (omega arith) (omega arith) (omega arith)
 
 key_there : (page : List ℕ) (at value end : ℕ) → LiesAt page at value end → part_of page (at + 3) value ≡ (first_of (drop at page)).0
 key_there page at value end lies =
-    let value_is = lies.value_is in
-    let long : value - (at + 3) ≡ key_length (drop at page) = omega arith in
-    ap (λ n. take n (drop (at + 3) page)) long ∙ ap (take (key_length (drop at page))) (sym (drop-drop 3 at page))
+    ap (λ n. take n (drop (at + 3) page)) (omega arith) ∙ ap (take (key_length (drop at page))) (sym (drop-drop 3 at page))
 
 value_there : (page : List ℕ) (at value end : ℕ) → LiesAt page at value end → part_of page value end ≡ (first_of (drop at page)).1
 value_there page at value end lies =
-    let value_is = lies.value_is in
-    let end_is = lies.end_is in
-    let long : end - value ≡ value_length (drop at page) = omega arith in
     let sum : value ≡ at + (3 + key_length (drop at page)) = omega arith in
-    ap (λ n. take n (drop value page)) long ∙ ap (take (value_length (drop at page))) (ap (λ n. drop n page) sum ∙ sym (drop-drop (3 + key_length (drop at page)) at page))
+    ap (λ n. take n (drop value page)) (omega arith) ∙ ap (take (value_length (drop at page))) (ap (λ n. drop n page) sum ∙ sym (drop-drop (3 + key_length (drop at page)) at page))
 
 -- and where it ends the next one is ahead
 pub ahead_next : (page : List ℕ) (at value end : ℕ) (e : Entry) (es : List Entry) → IsAhead page at (e ∷ es) → LiesAt page at value end → IsTaken page at value end e es
@@ -83,15 +73,13 @@ ahead_next page at value end e es is lies =
     let key = key_long page at e b in
     let wide = value_long page at e b in
     let value_is = lies.value_is in
-    let end_is = lies.end_is in
     let first : first_of (drop at page) ≡ e = ap first_of b.bytes_are ∙ first-entry e b.rest in
-    let size : end ≡ at + entry_size e = omega arith in
     let within = is.within in
     record {
       key_is = key_there page at value end lies ∙ ap (λ (f : Entry). f.0) first;
       value_is = value_there page at value end lies ∙ ap (λ (f : Entry). f.1) first;
       rest = record {
-        body = ap (λ n. take (size_of es) (drop n page)) size
+        body = ap (λ n. take (size_of es) (drop n page)) (omega arith)
             ∙ ap (take (size_of es)) (sym (drop-drop (entry_size e) at page))
             ∙ sym (drop-take (entry_size e) (size_of es) (drop at page))
             ∙ ap (drop (entry_size e)) is.body

@@ -1,21 +1,16 @@
 -- An entry written into bytes, part by part.
-use Rattle.std.proofs.Common.{◌≡◌, ℕ, ◌+◌, ◌-◌, ◌/◌, ◌%◌, ◌≤◌, List, [], ◌∷◌, ◌++◌, length, take, drop, set, get_or, replicate, refl, sym, ap, ◌∙◌, arith, suc, append_assoc, length-append, take-append-drop}
 use Rattle.std.specs.List.{copy_within}
+use Rattle.std.proofs.Common.{◌≡◌, ℕ, ◌+◌, ◌-◌, ◌/◌, ◌%◌, ◌≤◌, List, [], ◌∷◌, ◌++◌, length, take, drop, set, get_or, replicate, refl, sym, ap, ◌∙◌, arith, suc, append_assoc, length-append, take-append-drop}
 use borrow.Rule.Slice.PartMut.{put_mid, mid_of}
 use Rattle.std.proofs.lemmas.List.{take_at, drop_at, drop-drop, drop_all, length-take-le, length-drop, append-nil}
 use Rattle.std.proofs.lemmas.Slice.{take-put_mid, drop-put_mid}
 use Rattle.std.proofs.lemmas.List.Edits.{sets-eq}
-use Rattle.page_node.specs.Bytes.{with_entry}
-use Rattle.page_node.specs.claim.Entries.{Entry, size_of, body_of}
-use Rattle.page_node.specs.Node.{bytes_of}
-use Rattle.page_node.proofs.Standing.{Stands, size_is}
+use Rattle.page_node.{specs.Bytes.with_entry, specs.claim.Entries.{Entry, size_of, body_of}, specs.Node.bytes_of, proofs.Standing.{Stands, size_is}}
 
 -- a part written after a prefix
 pub put_after : (prefix rest part : List ℕ) (a k : ℕ) → length prefix ≡ a → put_mid a k (prefix ++ rest) part ≡ prefix ++ (part ++ drop k rest)
 put_after prefix rest part a k long =
-    let one : take a (prefix ++ rest) ≡ prefix = take_at prefix rest a long in
-    let other : drop a (prefix ++ rest) ≡ rest = drop_at prefix rest a long in
-    λ x. one x ++ (part ++ drop k (other x))
+    λ x. (take_at prefix rest a long) x ++ (part ++ drop k ((drop_at prefix rest a long) x))
 
 -- bytes that are moved to where they are
 pub moved_nowhere : (bytes : List ℕ) (from until : ℕ) → bytes ≡ copy_within bytes from until from

@@ -1,8 +1,6 @@
 -- Entries as they lie in bytes.
 use Rattle.std.specs.Prelude.{◌≡◌, ◌≤◌, ◌+◌, ◌-◌, ℕ, List, ◌++◌, length, take, drop, Option, IfSome, IfNone}
-use Rattle.page_node.specs.declared.entry.Bounds.{Bounds}
-use Rattle.page_node.specs.claim.Entries.{Entry, IsEntry, entry_bytes, entry_size}
-use Rattle.page_node.specs.Entries.{key_length, value_length, first_of}
+use Rattle.page_node.specs.{declared.entry.Bounds.Bounds, claim.Entries.{Entry, IsEntry, entry_bytes, entry_size}, Entries.{key_length, value_length, first_of}}
 
 -- the entry at a place lies in the page: its value begins at one place and ends at another
 pub record LiesAt (page : List ℕ) (at value end : ℕ) : Type 0 where
@@ -22,7 +20,7 @@ pub record TellsBounds (page : List ℕ) (at : ℕ) (result : Option Bounds) : T
   pub none : IfNone result (LiesNot page at)
 
 -- two places, in their order, in so many
-pub record IsPart (from until size : ℕ) : Type 0 where
+pub record IsByteRange (from until size : ℕ) : Type 0 where
   pub order : from ≤ until
   pub within : until ≤ size
 

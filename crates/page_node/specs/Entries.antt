@@ -1,7 +1,5 @@
 -- What no promise rests on, beside claim/Entries.antt.
-use Rattle.std.specs.Prelude.{◌+◌, ◌*◌, ℕ, List, [], ◌∷◌, take, drop}
-use Rattle.std.specs.Int.{w32, from_be_bytes}
-use Rattle.std.proofs.Common.{get_or, zero, suc}
+use Rattle.std.{specs.Prelude.{◌+◌, ◌*◌, ℕ, List, [], ◌∷◌, take, drop}, specs.Int.{w32, from_be_bytes}, proofs.Common.{get_or, zero, suc}}
 use Rattle.page_node.specs.claim.Entries.{Entry}
 
 -- the key and the value at a place

@@ -1,17 +1,8 @@
 -- A search in a page from its first entry on.
-use Rattle.std.specs.Prelude.{◌≡◌, ◌<◌, ◌≤◌, ◌+◌, ◌-◌, ℕ, false, List, Some, None, length, take, drop, IfSome, IfNone}
-use Rattle.std.specs.Option.{option_map}
-use Rattle.std.specs.Ordering.{is_gt}
+use Rattle.std.specs.{Prelude.{◌≡◌, ◌<◌, ◌≤◌, ◌+◌, ◌-◌, ℕ, false, List, Some, None, length, take, drop, IfSome, IfNone}, Option.option_map, Ordering.is_gt}
 use Rattle.std.specs.declared.cmp.Ordering.TheVariants.{Less}
-use Rattle.page_node.specs.claim.Entries.{Entry, size_of}
-use Rattle.page_node.specs.Entries.{key_at, value_at, child_in}
-use Rattle.page_node.specs.Bytes.{LiesAt}
-use Rattle.page_node.specs.claim.Node.{Node, IsNode, count_in}
-use Rattle.page_node.specs.claim.Places.{key_cmp, Rises}
-use Rattle.page_node.specs.Places.{ceiling, floor}
-use Rattle.page_node.specs.declared.search.RowNear.{RowNear}
-use Rattle.page_node.specs.declared.search.Near.{Near}
-use Rattle.page_node.specs.declared.search.WayDown.{WayDown}
+use Rattle.page_node.specs.{claim.Entries.{Entry, size_of}, Entries.{key_at, value_at, child_in}, Bytes.LiesAt, claim.Node.{Node, IsNode, count_in}, claim.Places.{key_cmp, Rises}}
+use Rattle.page_node.specs.{Places.{ceiling, floor}, declared.search.RowNear.RowNear, declared.search.Near.Near, declared.search.WayDown.WayDown}
 
 -- the keys rise, where the first says nothing
 abbrev pub RisesAfter : List Entry → Type 0

@@ -1,12 +1,6 @@
 -- Entries that lie ahead in a page's bytes, taken one after the other.
-use Rattle.std.proofs.Common.{◌≡◌, ℕ, ◌+◌, ◌-◌, ◌≤◌, List, length, take, drop}
-use Rattle.std.specs.List.{All}
-use Rattle.std.specs.Prelude.{Option, MatchOption, Result, IfOk}
-use Rattle.page_node.specs.claim.Entries.{Entry, IsEntry, body_of, size_of}
-use Rattle.page_node.specs.claim.Node.{Node, IsNode}
-use Rattle.page_node.specs.claim.Places.{Rises}
-use Rattle.page_node.specs.Places.{entries_from}
-use Rattle.page_node.specs.declared.scan.NotANode.{NotANode}
+use Rattle.std.{specs.List.All, specs.Prelude.{Option, MatchOption, Result, IfOk}, proofs.Common.{◌≡◌, ℕ, ◌+◌, ◌-◌, ◌≤◌, List, length, take, drop}}
+use Rattle.page_node.specs.{claim.Entries.{Entry, IsEntry, body_of, size_of}, claim.Node.{Node, IsNode}, claim.Places.Rises, Places.entries_from, declared.scan.NotANode.NotANode}
 use Rattle.page_node.specs.declared.search.Place.{Place}
 
 -- the entries stand from a place on

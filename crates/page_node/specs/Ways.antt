@@ -1,18 +1,8 @@
 -- Ways from a node down to children that follow one another.
 use Rattle.std.specs.Prelude.{◌≡◌, ◌+◌, ℕ, zero, suc, true, List, Option, Some, nat_eq, get_or, drop, length, Result, IfOk, IfSome, IsSomeAnd, OnErr, ◌<◌, ◌≤◌}
-use Rattle.std.specs.Option.{option_map, option_copied}
-use Rattle.std.specs.List.{starts_with}
-use Rattle.page_node.specs.claim.Entries.{Entry}
-use Rattle.page_node.specs.Bytes.{LiesAt}
-use Rattle.page_node.specs.Entries.{child_in}
-use Rattle.page_node.specs.Places.{floor, ceiling}
-use Rattle.page_node.specs.claim.Node.{Node, IsNode}
-use Rattle.page_node.specs.Searching.{IsTurn, RisesAfter, NoWayDown}
-use Rattle.page_node.specs.Walking.{part_of}
-use Rattle.page_node.specs.declared.scan.NotANode.{NotANode}
-use Rattle.page_node.specs.declared.search.Above.{Above}
-use Rattle.page_node.specs.declared.search.Way.{Way}
-use Rattle.page_node.specs.declared.ways.Followed.{Followed}
+use Rattle.std.specs.{Option.{option_map, option_copied}, List.starts_with}
+use Rattle.page_node.specs.{claim.Entries.Entry, Bytes.LiesAt, Entries.child_in, Places.{floor, ceiling}, claim.Node.{Node, IsNode}, Searching.{IsTurn, RisesAfter, NoWayDown}}
+use Rattle.page_node.specs.{Walking.part_of, declared.scan.NotANode.NotANode, declared.search.Above.Above, declared.search.Way.Way, declared.ways.Followed.Followed}
 use Rattle.page_node.specs.declared.ways.Ways.{Ways}
 
 -- a bound that begins with the prefix, and what holds of the way from it on

@@ -3,7 +3,7 @@ ghost use Rattle.std.specs.Prelude.{◌≡◌, ◌≤◌, ◌<◌, ◌+◌, ◌-
 ghost use Rattle.std.specs.Prelude.{slice_set, MatchResult, cond, true, false, Option, Some, None};
 ghost use Rattle.page_node.specs.claim.Entries.{IsEntry, entry_bytes, entry_size, size_of};
 ghost use Rattle.page_node.specs.claim.Node.{Node, IsNode};
-ghost use Rattle.page_node.specs.Bytes.{HasRoomFor, IsPart};
+ghost use Rattle.page_node.specs.Bytes.{HasRoomFor, IsByteRange};
 ghost use Rattle.page_node.specs.Spots.{PutsRow, TakesRow, TakesSpareRow, InsertsEntry, ReplacesEntry, RemovesEntry, NoneEnds};
 
 use crate::entry::{move_bytes, put_entry};
@@ -14,7 +14,7 @@ use crate::spot::{end_from, spot_after};
 
 /// Puts an entry in the place of the bytes between two places, up to where the last entry ends.
 fn splice(page: &mut PageBytes, at: usize, end: usize, used: usize, key: &[u8], value: &[u8])
-    requires rest { IsPart end used 4096 }
+    requires rest { IsByteRange end used 4096 }
     requires room { HasRoomFor (key.now, value.now) (at + (used - end)) 4096 }
     ensures { page.new ≡ take at page.old ++ (entry_bytes (key.now, value.now)
         ++ (take (used - end) (drop end page.old) ++ drop (at + entry_size (key.now, value.now) + (used - end)) page.old)) }
@@ -68,7 +68,7 @@ fn replace_in(
     value: &[u8],
 ) -> Result<bool, NotANode>
     requires entry { IsEntry (key.now, value.now) }
-    requires part { IsPart at end 4096 }
+    requires part { IsByteRange at end 4096 }
     requires index { index < 65536 }
     ensures { MatchResult result (ReplacesEntry page.old page.new index at end (key.now, value.now))
         (λ _. (node : Node) → IsNode page.old node → index < length node.entries → end ≡ 4 + size_of (take (index + 1) node.entries) → ⊥) }
@@ -88,7 +88,7 @@ fn replace_in(
 /// Removes the entry that begins and ends at two places, and tells how many are left. All bytes after it are moved, so that it
 /// needn't be known where the last entry ends.
 fn remove_in(page: &mut PageBytes, at: usize, end: usize) -> Result<usize, NotANode>
-    requires { IsPart at end 4096 }
+    requires { IsByteRange at end 4096 }
     ensures { MatchResult result (RemovesEntry page.old page.new at end)
         (λ _. (node : Node) → IsNode page.old node → 0 < length node.entries → ⊥) }
 {

@@ -1,13 +1,13 @@
 //! Where entries end: the k-th number is where the first k of them do.
 ghost use Rattle.std.specs.Prelude.{◌≡◌, ◌≤◌, ◌<◌, ◌+◌, ◌-◌, ◌^◌, ℕ, get_or};
-ghost use Rattle.page_node.specs.Bytes.{IsPart};
+ghost use Rattle.page_node.specs.Bytes.{IsByteRange};
 ghost use Rattle.page_node.specs.Held.{HasEntryAt, IsCut, MayBeCut};
 
 use crate::sizes::PAGE_SIZE;
 
 /// Makes room for an entry of so many bytes at a place.
 pub fn insert_end(ends: &mut [u16; 1366], i: usize, count: usize, size: u16)
-    requires part { IsPart i count 1364 }
+    requires part { IsByteRange i count 1364 }
     requires fits { (k : ℕ) → k ≤ count → get_or ends.old k 0 + size < 2 ^ 16 }
     ensures kept { (k : ℕ) → k ≤ i → get_or ends.new k 0 ≡ get_or ends.old k 0 }
     ensures moved { (k : ℕ) → i ≤ k → k ≤ count → get_or ends.new (k + 1) 0 ≡ get_or ends.old k 0 + size }
@@ -47,7 +47,7 @@ pub fn resize_end(ends: &mut [u16; 1366], i: usize, count: usize, old: u16, new:
 
 /// Takes over the ends of the entries from a place on.
 pub fn copy_ends(from: &[u16; 1366], i: usize, count: usize, to: &mut [u16; 1366])
-    requires part { IsPart i count 1365 }
+    requires part { IsByteRange i count 1365 }
     requires rising { (k : ℕ) → i ≤ k → k ≤ count → get_or from.now i 0 ≤ get_or from.now k 0 }
     requires fits { (k : ℕ) → i ≤ k → k ≤ count → get_or from.now k 0 - get_or from.now i 0 + 4 < 2 ^ 16 }
     ensures { (k : ℕ) → i ≤ k → k ≤ count → get_or to.new (k - i) 0 ≡ get_or from.now k 0 - get_or from.now i 0 + 4 }

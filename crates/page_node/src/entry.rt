@@ -2,7 +2,7 @@
 ghost use Rattle.std.specs.Prelude.{◌≡◌, ◌≤◌, ◌<◌, ◌+◌, ◌*◌, ◌/◌, ◌%◌, ◌-◌, ◌++◌, length, take, drop, replicate};
 ghost use Rattle.std.specs.List.{copy_within};
 ghost use Rattle.page_node.specs.Entries.{key_length, value_length};
-ghost use Rattle.page_node.specs.Bytes.{HasRoomFor, IsPart, MayMove, TellsBounds, with_entry};
+ghost use Rattle.page_node.specs.Bytes.{HasRoomFor, IsByteRange, MayMove, TellsBounds, with_entry};
 
 use crate::sizes::{BODY_SIZE, KEY_LIMIT, PAGE_SIZE, PageBytes, VALUE_LIMIT};
 
@@ -124,7 +124,7 @@ pub fn put_entry(bytes: &mut [u8], at: usize, key: &[u8], value: &[u8])
 
 /// Writes the entries up to a place into a page, and zeros after them.
 pub fn put_body(page: &mut PageBytes, bytes: &[u8; 5200], used: usize)
-    requires { IsPart 4 used 4096 }
+    requires { IsByteRange 4 used 4096 }
     ensures { page.new ≡ take 4 page.old ++ (take (used - 4) (drop 4 bytes.now) ++ replicate (4096 - used) 0) }
 {
     page[4..used].copy_from_slice(&bytes[4..used]);
@@ -134,7 +134,7 @@ pub fn put_body(page: &mut PageBytes, bytes: &[u8; 5200], used: usize)
 /// Copies the entries between two places to the start of other bytes.
 pub fn copy_body(bytes: &[u8; 5200], from: usize, end: usize, to: &mut [u8; 5200])
     requires low { 4 ≤ from }
-    requires part { IsPart from end 5200 }
+    requires part { IsByteRange from end 5200 }
     ensures { take (end - from) (drop 4 to.new) ≡ take (end - from) (drop from bytes.now) }
 {
     to[4..4 + (end - from)].copy_from_slice(&bytes[from..end]);

@@ -4,7 +4,7 @@ ghost use Rattle.std.specs.Option.{option_copied, option_map};
 ghost use Rattle.std.specs.FinMap.{find};
 ghost use Rattle.std.specs.Ordering.{is_gt, is_lt};
 ghost use Rattle.std.proofs.Common.{get_or};
-ghost use Rattle.page_node.specs.Bytes.{IsPart};
+ghost use Rattle.page_node.specs.Bytes.{IsByteRange};
 ghost use Rattle.page_node.specs.claim.Entries.{Entry};
 ghost use Rattle.page_node.specs.Entries.{child_in};
 ghost use Rattle.page_node.specs.claim.Node.{Node, IsNode, count_in};
@@ -41,7 +41,7 @@ pub(crate) fn count_of(page: &PageBytes) -> usize
 /// A part of a page.
 #[inline(always)]
 pub(crate) fn part(page: &PageBytes, from: usize, end: usize) -> &[u8]
-    requires { IsPart from end 4096 }
+    requires { IsByteRange from end 4096 }
     ensures { result.now ≡ take (end - from) (drop from page.now) }
 {
     &page[from..end]
@@ -50,7 +50,7 @@ pub(crate) fn part(page: &PageBytes, from: usize, end: usize) -> &[u8]
 /// Compares a part of a page with a key.
 #[inline(always)]
 pub(crate) fn compare_part(page: &PageBytes, from: usize, end: usize, key: &[u8]) -> Ordering
-    requires { IsPart from end 4096 }
+    requires { IsByteRange from end 4096 }
     ensures { result ≡ key_cmp (take (end - from) (drop from page.now)) key.now }
 {
     compare(part(page, from, end), key)
@@ -59,7 +59,7 @@ pub(crate) fn compare_part(page: &PageBytes, from: usize, end: usize, key: &[u8]
 /// Whether a part of a page is above a key.
 #[inline(always)]
 fn is_above(page: &PageBytes, from: usize, end: usize, key: &[u8]) -> bool
-    requires { IsPart from end 4096 }
+    requires { IsByteRange from end 4096 }
     ensures { result ≡ is_gt (key_cmp (take (end - from) (drop from page.now)) key.now) }
 {
     compare_part(page, from, end, key).is_gt()
@@ -68,7 +68,7 @@ fn is_above(page: &PageBytes, from: usize, end: usize, key: &[u8]) -> bool
 /// Whether a part of a page is below a key.
 #[inline(always)]
 fn is_below(page: &PageBytes, from: usize, end: usize, key: &[u8]) -> bool
-    requires { IsPart from end 4096 }
+    requires { IsByteRange from end 4096 }
     ensures { result ≡ is_lt (key_cmp (take (end - from) (drop from page.now)) key.now) }
 {
     compare_part(page, from, end, key).is_lt()

@@ -1,20 +1,15 @@
 -- Chains of pages.
+use Rattle.std.specs.{List.{AllByRecursion, IsDistinct, list_any}, Int.{w32, from_be_bytes}, Prelude.{Option, Some, None, MatchOption}}
 use Rattle.std.proofs.Common.{⊎_elim, cond, nat_eq, ◌&&◌, ◌*◌, ◌⊎◌, replicate, get_or, Bool, true, false, ◌||◌, ◌-◌, ◌≡◌, ◌≢◌, ◌<◌, ◌≤◌, ◌+◌, ℕ, zero, suc, List, [], ◌∷◌, length, inl, inr, refl, sym, ap, subst, ◌∙◌, arith, add-one}
 use Rattle.std.proofs.lemmas.Bool.{cases_eq}
 use Rattle.std.proofs.lemmas.Bool.Decides.{nat_tests}
 use Rattle.std.proofs.lemmas.Map.Steps.{length-le_from_distinct_below}
-use Rattle.std.specs.List.{AllByRecursion, IsDistinct, list_any}
 use lib.Dec.{eqb}
 use Rattle.sector_device.specs.claim.Disk.{Image}
-use Rattle.gate_journal.specs.claim.Store.{word, put, overlay}
+use Rattle.gate_journal.specs.{claim.Store.{word, put, overlay}, claim.Writes.writes_of, Writes.IsEdited, declared.writes.PageWrites.PageWrites}
 use Rattle.gate_journal.proofs.Images.{put_on, put_off}
 use Rattle.std.proofs.lemmas.List.{get_or-replicate}
-use Rattle.std.specs.Int.{w32, from_be_bytes}
 use Rattle.page_store.specs.claim.Chain.{are_zero, is_blank, chain, free_in, IsIn, AreFree, IsPages}
-use Rattle.std.specs.Prelude.{Option, Some, None, MatchOption}
-use Rattle.gate_journal.specs.claim.Writes.{writes_of}
-use Rattle.gate_journal.specs.Writes.{IsEdited}
-use Rattle.gate_journal.specs.declared.writes.PageWrites.{PageWrites}
 
 -- ---- pages without bytes but those of a link
 both_true : (a b : Bool) → (a && b) ≡ true → (a ≡ true) × (b ≡ true)
@@ -46,7 +41,7 @@ pub words_blank : (page : List ℕ) → ((k : ℕ) → 0 < k → k < 1024 → wo
 unfolding is_blank
 words_blank page all = zero_from page 1023 (λ k some most. all k some (omega arith))
 
-either : (b : Bool) → (b ≡ true) ⊎ (b ≡ false)
+pub either : (b : Bool) → (b ≡ true) ⊎ (b ≡ false)
 either true = inl refl
 either false = inr refl
 

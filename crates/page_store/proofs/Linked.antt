@@ -3,12 +3,9 @@ use Rattle.std.proofs.Common.{⊎_elim, true, cond, [], ◌≡◌, ◌<◌, ◌�
 use Rattle.std.proofs.lemmas.Bool.{cases_eq, cases_lt}
 use Rattle.std.proofs.lemmas.Bool.Decides.{nat_tests}
 use Rattle.sector_device.specs.claim.Disk.{Image}
-use Rattle.gate_journal.specs.claim.Store.{word, put}
-use Rattle.gate_journal.proofs.Images.{put_on, put_off}
-use Rattle.page_store.specs.claim.Chain.{is_blank, chain, free_in, IsIn, AreFree, IsPages}
-use Rattle.page_store.specs.Chain.{IsMeta}
+use Rattle.gate_journal.{specs.claim.Store.{word, put}, proofs.Images.{put_on, put_off}}
+use Rattle.page_store.specs.{claim.Chain.{is_blank, chain, free_in, IsIn, AreFree, IsPages}, Chain.IsMeta, New.{next_of, AreLinked}}
 use Rattle.page_store.proofs.Chains.{length_chain, first_blank, counts}
-use Rattle.page_store.specs.New.{next_of, AreLinked}
 
 pub next_is : (n k : ℕ) → k + 1 < n → next_of n k ≡ k + 1
 next_is n k lt = grind (arith, nat_tests)

@@ -1,16 +1,9 @@
 -- What formatting leaves.
 use Rattle.std.proofs.Common.{Result, Ok, Err, OnOk, ◌≡◌, ◌≢◌, ◌<◌, ◌+◌, ◌-◌, ℕ, List, length, sym, ap, subst, ◌∙◌, arith}
 use Rattle.sector_device.specs.claim.Disk.{Disk, Image}
-use Rattle.gate_journal.specs.claim.Store.{overlay, put, word, pages}
-use Rattle.gate_journal.specs.Store.{IsSettled}
-use Rattle.gate_journal.specs.Steps.{Commits}
-use Rattle.gate_journal.specs.Recovery.{HasRoom}
-use Rattle.gate_journal.proofs.Commit.{settled_opens}
+use Rattle.gate_journal.{specs.claim.Store.{overlay, put, word, pages}, specs.Store.IsSettled, specs.Steps.Commits, specs.Recovery.HasRoom, proofs.Commit.settled_opens}
 use Rattle.gate_journal.proofs.Images.{put_off}
-use Rattle.page_store.specs.claim.Chain.{IsIn, IsPages, root_in, free_in}
-use Rattle.page_store.specs.Chain.{IsMeta}
-use Rattle.page_store.specs.Openings.{AllPageStores}
-use Rattle.page_store.specs.New.{AreLinked, IsNew, IsNewWith, IsLinked, Links}
+use Rattle.page_store.specs.{claim.Chain.{IsIn, IsPages, root_in, free_in}, Chain.IsMeta, Openings.AllPageStores, New.{AreLinked, IsNew, IsNewWith, IsLinked, Links}}
 use Rattle.page_store.proofs.Linked.{new_pages, batch_linked}
 
 module _ (J n : ℕ) (e : Disk) (room : HasRoom e.sectors J n) (settled : IsSettled J n e) where
@@ -24,7 +17,6 @@ module _ (J n : ℕ) (e : Disk) (room : HasRoom e.sectors J n) (settled : IsSett
     pub new_store : ((P : Image) → IsMeta (overlay ws P) 0 1 (n - 1 - 0)) → ((P : Image) (q : ℕ) → q ≢ 0 → overlay ws P q ≡ P q) → IsNew J e
     new_store meta others =
         let P = pages J d.reads in
-        let some = room.least_pages in
         let made = new_pages n 0 P (overlay ws P) (omega arith) linked.linked (λ q later. others P q (λ is. omega arith)) (meta P) in
         let sound : IsPages n (pages J e.reads) = subst (λ (X : Image). IsPages n X) (sym after) made.sound in
         record {
@@ -41,9 +33,7 @@ module _ (J n : ℕ) (e : Disk) (room : HasRoom e.sectors J n) (settled : IsSett
     pub new_store_with : (bytes : List ℕ) → IsMeta (overlay ws (pages J d.reads)) 1 2 (n - 1 - 1) → overlay ws (pages J d.reads) 1 ≡ bytes
         → ((q : ℕ) → 1 < q → overlay ws (pages J d.reads) q ≡ pages J d.reads q) → IsNewWith J bytes e
     new_store_with bytes meta there others =
-        let Q = overlay ws (pages J d.reads) in
-        let some = room.least_pages in
-        let made = new_pages n 1 (pages J d.reads) Q (omega arith) linked.linked others meta in
+        let made = new_pages n 1 (pages J d.reads) (overlay ws (pages J d.reads)) (omega arith) linked.linked others meta in
         let sound : IsPages n (pages J e.reads) = subst (λ (X : Image). IsPages n X) (sym after) made.sound in
         record {
           n = n;

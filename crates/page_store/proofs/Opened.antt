@@ -1,29 +1,18 @@
 -- What an opening finds in the pages.
 use Rattle.std.proofs.Common.{◌≡◌, ◌≢◌, ◌<◌, ℕ, true, false, refl, sym, subst, ◌∙◌, arith}
-use Rattle.sector_device.specs.claim.Disk.{Disk, Image, Nowhere, Touches}
-use Rattle.sector_device.specs.declared.SectorDevice.{Ghosts}
-use Rattle.gate_journal.specs.claim.Store.{Opens, pages}
-use Rattle.gate_journal.specs.Recovery.{HasRoom, Found}
-use Rattle.gate_journal.specs.claim.Contents.{content, disk_of, device_of, page_count, is_halted}
-use Rattle.gate_journal.specs.declared.journal.Journal.{Journal}
-use Rattle.gate_journal.proofs.Headers.{same_journal}
-use Rattle.page_store.specs.claim.Chain.{IsPages}
-use Rattle.page_store.specs.Openings.{AllPageStores, MetaErr}
-use Rattle.page_store.specs.Transactions.{OpenErr, HasBadPages}
-use Rattle.page_store.proofs.Stops.{kept_still}
-use Rattle.gate_journal.specs.declared.error.PageError.{PageError}
-use Rattle.gate_journal.specs.declared.error.PageError.TheVariants.{NotAStore, DeviceFault, Halted, TooManyPages, TooSmall, NoPages, Memory}
+use Rattle.sector_device.specs.{claim.Disk.{Disk, Image, Nowhere, Touches}, declared.SectorDevice.Ghosts}
+use Rattle.gate_journal.specs.{claim.Store.{Opens, pages}, Recovery.{HasRoom, Found}, claim.Contents.{content, disk_of, device_of, page_count, is_halted}}
+use Rattle.gate_journal.specs.{declared.journal.Journal.Journal, declared.error.PageError.PageError}
+use Rattle.gate_journal.{specs.declared.error.PageError.TheVariants.{NotAStore, DeviceFault, Halted, TooManyPages, TooSmall, NoPages, Memory}, proofs.Headers.same_journal}
+use Rattle.page_store.{specs.claim.Chain.IsPages, specs.Openings.{AllPageStores, MetaErr}, specs.Transactions.{OpenErr, HasBadPages}, proofs.Stops.kept_still}
 
 -- where each image is a store with pages, so is what was found
 pub found_pages : (a b : Disk) (J n : ℕ) → Found J n a b → HasRoom a.sectors J n → AllPageStores a → IsPages n (pages J b.reads)
 found_pages a b J n found room all =
     let is = all found.was found.left in
-    let most = room.most_journal in
-    let less = is.store.most_journal in
     let journal : is.J ≡ J = same_journal is.J is.n J n (omega arith) (omega arith) (sym is.store.header ∙ found.header) in
-    let count : is.n ≡ n = omega (arith, journal, is.whole, room.whole) in
     let here : IsPages is.n (pages J found.was) = subst (λ (k : ℕ). IsPages is.n (pages k found.was)) journal is.pages in
-    subst (λ (P : Image). IsPages n P) (sym found.same) (subst (λ (k : ℕ). IsPages k (pages J found.was)) count here)
+    subst (λ (P : Image). IsPages n P) (sym found.same) (subst (λ (k : ℕ). IsPages k (pages J found.was)) (omega (arith, journal, is.whole, room.whole)) here)
 
 -- the pages that were found are no store's
 pub bad_pages : (a b d : Disk) (J K n : ℕ) → Found J n a b → K ≡ J → pages K d.reads ≡ pages J b.reads → ((c : Image) → b.leaves c → Opens J n (pages J b.reads) c) → Touches Nowhere b d

@@ -1,12 +1,8 @@
 -- What a making of a store asks for, and what it comes to.
 use Rattle.std.specs.Prelude.{◌≡◌, ◌≤◌, ◌+◌, ℕ, length, Result, OnOk, IfErr}
 use Rattle.sector_device.specs.declared.SectorDevice.{Ghosts}
-use Rattle.gate_journal.specs.claim.Store.{home}
+use Rattle.gate_journal.specs.{claim.Store.home, Store.IsWithin, claim.Writes.writes_of, Writes.room_of, declared.writes.PageWrites.PageWrites}
 pub use Rattle.gate_journal.specs.Format.{IsJournalSize}
-use Rattle.gate_journal.specs.Store.{IsWithin}
-use Rattle.gate_journal.specs.claim.Writes.{writes_of}
-use Rattle.gate_journal.specs.Writes.{room_of}
-use Rattle.gate_journal.specs.declared.writes.PageWrites.{PageWrites}
 
 -- The device keeps its size. At Ok it didn't fail, and it has room for the journal and 64 pages.
 pub record FormatsDevice {D A E : Type 0} (g : Ghosts D) (journal : ℕ) (refused : E → Type 0) (old new : D) (result : Result A E) : Type 0 where
@@ -17,7 +13,7 @@ pub record FormatsDevice {D A E : Type 0} (g : Ghosts D) (journal : ℕ) (refuse
   pub err : IfErr result refused
 
 -- a batch of at most so many pages of a new store, with room for 256
-pub record IsBatch (most pages : ℕ) (writes : PageWrites) : Type 0 where
+pub record IsPageBatch (most pages : ℕ) (writes : PageWrites) : Type 0 where
   pub few : length (writes_of writes) ≤ most
   pub within : IsWithin (writes_of writes) pages
   pub room : 256 ≤ room_of writes

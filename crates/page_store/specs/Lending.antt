@@ -1,6 +1,5 @@
 -- Pages that are held as they were read.
-use Rattle.std.specs.Prelude.{◌≡◌, ◌<◌, ℕ, List, []}
-use Rattle.std.proofs.Common.{get_or}
+use Rattle.std.{specs.Prelude.{◌≡◌, ◌<◌, ℕ, List, []}, proofs.Common.get_or}
 use Rattle.sector_device.specs.claim.Disk.{Image}
 
 -- at each place with a number there are the bytes of the page with that number

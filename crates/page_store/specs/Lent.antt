@@ -1,7 +1,5 @@
 -- Pages that are lent where their bytes lie.
-use Rattle.std.specs.Prelude.{ℕ, List, [], ◌%◌, Option, Some, None}
-use Rattle.std.proofs.Common.{get_or}
-use Rattle.std.specs.Borrow.{Bor}
+use Rattle.std.{specs.Prelude.{ℕ, List, [], ◌%◌, Option, Some, None}, specs.Borrow.Bor, proofs.Common.get_or}
 use Rattle.page_store.specs.declared.pages.Pages.{Pages}
 use Rattle.sector_device.specs.declared.SectorDevice.{Ghosts}
 

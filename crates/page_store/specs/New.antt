@@ -1,14 +1,9 @@
 -- What a device is whose pages are new.
-use Rattle.std.specs.Prelude.{◌≡◌, ◌≤◌, ◌<◌, ◌+◌, ℕ, true, List, cond, length}
-use Rattle.std.proofs.Common.{nat_lt}
-use Rattle.sector_device.specs.claim.Disk.{Disk, Image}
-use Rattle.sector_device.specs.declared.SectorDevice.{Ghosts}
-use Rattle.gate_journal.specs.claim.Store.{home, word, pages}
-use Rattle.gate_journal.specs.Store.{IsSettled}
-use Rattle.page_store.specs.claim.Chain.{is_blank, IsIn, IsPages, root_in, free_in}
-use Rattle.page_store.specs.Openings.{AllPageStores}
-use Rattle.gate_journal.specs.declared.error.PageError.{PageError}
-use Rattle.gate_journal.specs.declared.error.PageError.TheVariants.{NotAStore, DeviceFault, Halted, TooManyPages, TooSmall, NoPages, Memory}
+use Rattle.std.{specs.Prelude.{◌≡◌, ◌≤◌, ◌<◌, ◌+◌, ℕ, true, List, cond, length}, proofs.Common.nat_lt}
+use Rattle.sector_device.specs.{claim.Disk.{Disk, Image}, declared.SectorDevice.Ghosts}
+use Rattle.gate_journal.specs.{claim.Store.{home, word, pages}, Store.IsSettled, declared.error.PageError.PageError}
+use Rattle.gate_journal.specs.declared.error.PageError.TheVariants.{DeviceFault, TooSmall, Memory}
+use Rattle.page_store.specs.{claim.Chain.{is_blank, IsIn, IsPages, root_in, free_in}, Openings.AllPageStores}
 
 -- each page of n is linked to the next one, the last to none
 abbrev pub next_of : ℕ → ℕ → ℕ
@@ -56,7 +51,4 @@ abbrev pub FormatErr : {D : Type 0} (g : Ghosts D) → ℕ → D → D → PageE
 FormatErr g J old new DeviceFault = (home J + 64 ≤ (g.disk old).sectors) × ((g.disk new).is_honest → (g.disk old).faults < (g.disk new).faults)
 FormatErr g J old new TooSmall = ((g.disk old).sectors < home J + 64) × (new ≡ old)
 FormatErr g J old new Memory = (home J + 64 ≤ (g.disk old).sectors) × (new ≡ old)
-FormatErr g J old new NotAStore = ⊥
-FormatErr g J old new Halted = ⊥
-FormatErr g J old new TooManyPages = ⊥
-FormatErr g J old new NoPages = ⊥
+FormatErr g J old new _ = ⊥

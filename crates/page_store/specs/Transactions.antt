@@ -1,17 +1,9 @@
 -- What no promise rests on, beside claim/Transactions.antt.
 use Rattle.std.specs.Prelude.{◌<◌, ◌⊎◌, ℕ, List}
-use Rattle.sector_device.specs.claim.Disk.{Disk, Image, Touches, Nowhere}
-use Rattle.sector_device.specs.declared.SectorDevice.{Ghosts}
-use Rattle.gate_journal.specs.claim.Store.{Opens, pages}
-use Rattle.gate_journal.specs.Store.{Writes}
-use Rattle.gate_journal.specs.claim.Writes.{writes_of}
-use Rattle.gate_journal.specs.Recovery.{Found}
-use Rattle.page_store.specs.claim.Chain.{AreFree, IsIn, IsPages}
-use Rattle.page_store.specs.Openings.{AllPageStores}
-use Rattle.gate_journal.specs.declared.error.PageError.{PageError}
-use Rattle.gate_journal.specs.declared.error.PageError.TheVariants.{NotAStore, DeviceFault, Halted, TooManyPages, TooSmall, NoPages, Memory}
-use Rattle.page_store.specs.declared.txn.Txn.{Txn}
-use Rattle.page_store.specs.claim.Transactions.{free_over}
+use Rattle.sector_device.specs.{claim.Disk.{Disk, Image, Touches, Nowhere}, declared.SectorDevice.Ghosts}
+use Rattle.gate_journal.specs.{claim.Store.{Opens, pages}, Store.Writes, claim.Writes.writes_of, Recovery.Found, declared.error.PageError.PageError}
+use Rattle.gate_journal.specs.declared.error.PageError.TheVariants.{NotAStore, DeviceFault, Memory}
+use Rattle.page_store.specs.{claim.Chain.{AreFree, IsIn, IsPages}, Openings.AllPageStores, declared.txn.Txn.Txn, claim.Transactions.free_over}
 
 -- the pages that it writes, each once, with their bytes; how many they are, and whether one is of them
 abbrev pub txn_list : Txn → List (ℕ × List ℕ)
@@ -28,11 +20,7 @@ txn_first t = t.first
 abbrev pub GiveErr : Txn → ℕ → PageError → Type 0
 GiveErr t p NotAStore = (P : Image) → 0 < p → AreFree t.pages (free_over t P) → (IsIn p (free_over t P) → ⊥) → ⊥
 GiveErr t p Memory = Unit {0}
-GiveErr t p Halted = ⊥
-GiveErr t p DeviceFault = ⊥
-GiveErr t p TooManyPages = ⊥
-GiveErr t p TooSmall = ⊥
-GiveErr t p NoPages = ⊥
+GiveErr t p _ = ⊥
 
 -- the journal was opened, and its pages, which are as they were whatever a stop leaves, are no store's
 pub record HasBadPages (old new : Disk) : Type 0 where
@@ -50,9 +38,6 @@ IsUntouched old new = Touches Nowhere old new ⊎ HasBadPages old new
 abbrev pub OpenErr : {D : Type 0} (g : Ghosts D) → D → D → PageError → Type 0
 OpenErr g old new DeviceFault = (g.disk new).is_honest → (g.disk old).faults < (g.disk new).faults
 OpenErr g old new NotAStore = (g.disk new).is_honest → AllPageStores (g.disk old) → ⊥
-OpenErr g old new Halted = ⊥
-OpenErr g old new TooManyPages = ⊥
-OpenErr g old new TooSmall = ⊥
-OpenErr g old new NoPages = ⊥
 -- the pages of a store that was there, as they were
 OpenErr g old new Memory = (g.disk new).is_honest → (J : ℕ) × ((n : ℕ) × Found J n (g.disk old) (g.disk new))
+OpenErr g old new _ = ⊥

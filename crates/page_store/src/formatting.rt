@@ -8,7 +8,7 @@ ghost use Rattle.gate_journal.specs.claim.Writes.{writes_of};
 ghost use Rattle.gate_journal.specs.Writes.{room_of};
 ghost use Rattle.page_store.specs.Chain.{IsMeta};
 ghost use Rattle.page_store.specs.New.{AreLinked, next_of, IsNew, IsNewWith, IsLinked, Links, FormatErr};
-ghost use Rattle.page_store.specs.Formats.{FormatsDevice, IsJournalSize, IsBatch};
+ghost use Rattle.page_store.specs.Formats.{FormatsDevice, IsJournalSize, IsPageBatch};
 
 use gate_journal::{Layout, PageError, PageWrites, commit_on, has_room, set_word};
 use sector_device::{DeviceFault, SECTOR_SIZE, Sector, SectorDevice};
@@ -42,7 +42,7 @@ fn link_pages(writes: &mut PageWrites, pages: u32, from: u32, to: u32)
     requires few { to ≤ from + 256 }
     requires below { to ≤ pages }
     requires room { 256 ≤ room_of writes.old }
-    ensures batch { IsBatch 256 pages writes.new }
+    ensures batch { IsPageBatch 256 pages writes.new }
     ensures linked { (P : Image) → AreLinked pages (overlay (writes_of writes.new) P) from to }
     ensures others { (P : Image) (q : ℕ) → q < from → overlay (writes_of writes.new) P q ≡ P q }
 {
@@ -129,7 +129,7 @@ fn link_all<D: SectorDevice>(
 fn put_meta(writes: &mut PageWrites, pages: u32, root: u32)
     requires some { root + 1 < pages }
     requires room { 256 ≤ room_of writes.old }
-    ensures batch { IsBatch 1 pages writes.new }
+    ensures batch { IsPageBatch 1 pages writes.new }
     ensures meta { (P : Image) → IsMeta (overlay (writes_of writes.new) P) root (root + 1) (pages - 1 - root) }
     ensures others { (P : Image) (q : ℕ) → q ≢ 0 → overlay (writes_of writes.new) P q ≡ P q }
 {

@@ -1,30 +1,17 @@
 -- What readers of a device find of its store.
-use Rattle.std.specs.Prelude.{◌≡◌, ◌⊎◌, ◌<◌, ℕ, Bool, true, false, List, Option, Some, IfSome, Vec}
-use Rattle.std.specs.declared.alloc.Global.{Global}
-use Rattle.sector_device.specs.claim.Disk.{Disk, Image}
-use Rattle.sector_device.specs.declared.SectorDevice.{Ghosts}
-use Rattle.page_store.specs.gate_journal.claim.Store.{header_of, pages}
-use Rattle.page_store.specs.gate_journal.Recovery.{Found, HasRoom}
-use Rattle.page_store.specs.gate_journal.declared.error.PageError.{PageError}
+use Rattle.std.specs.{Prelude.{◌≡◌, ◌⊎◌, ◌<◌, ℕ, Bool, true, false, List, Option, Some, IfSome, Vec}, declared.alloc.Global.Global}
+use Rattle.sector_device.specs.{claim.Disk.{Disk, Image}, declared.SectorDevice.Ghosts}
+use Rattle.page_store.specs.{gate_journal.claim.Store.{header_of, pages}, gate_journal.Recovery.{Found, HasRoom}, gate_journal.declared.error.PageError.PageError}
+use Rattle.page_store.specs.{claim.Chain.{root_in, free_in}, claim.Transactions.{stored, disk_in, count_of, IsQuiet}, declared.pages.Pages.Pages}
 use Rattle.page_store.specs.gate_journal.declared.error.PageError.TheVariants as page
-use Rattle.page_store.specs.claim.Chain.{root_in, free_in}
-use Rattle.page_store.specs.claim.Transactions.{stored, disk_in, count_of, IsQuiet}
-use Rattle.page_store.specs.declared.pages.Pages.{Pages}
 use Rattle.page_btree.specs.claim.Map.{Holds}
 use Rattle.btree_walks.specs.Owners.{AreOwned}
-use Rattle.desk_model.specs.Ranges.{ranges_in}
-use Rattle.desk_model.specs.claim.Desk.{Desk}
-use Rattle.desk_model.specs.declared.ranges.CountyRange.{CountyRange}
-use Rattle.store_rows.specs.claim.Keys.{version, in_four}
-use Rattle.store_rows.specs.claim.Rows.{KeyMap, Has}
-use Rattle.desk_store.specs.store_sweep.claim.Checks.{AreSoundHoldings}
+use Rattle.desk_model.specs.{Ranges.ranges_in, claim.Desk.Desk, declared.ranges.CountyRange.CountyRange}
+use Rattle.store_rows.specs.{claim.Keys.{version, in_four}, claim.Rows.{KeyMap, Has}}
+use Rattle.desk_store.specs.{store_sweep.claim.Checks.AreSoundHoldings, desk_opening.Opening.IsReadFrom}
 use Rattle.desk_check.specs.Checking.{TellsDesk}
-use Rattle.desk_store.specs.desk_opening.Opening.{IsReadFrom}
-use Rattle.row_owners.specs.Strays.{AllBelong}
-use Rattle.row_owners.specs.Wholes.{AreWhole}
-use Rattle.parallel_verify.specs.declared.jobs.SeenRows.{SeenRows}
-use Rattle.parallel_verify.specs.declared.look.Look.{Look}
-use Rattle.parallel_verify.specs.declared.look.Look.TheVariants.{Sound, Unsound, Failed}
+use Rattle.row_owners.specs.{Strays.AllBelong, Wholes.AreWhole}
+use Rattle.parallel_verify.specs.{declared.jobs.SeenRows.SeenRows, declared.look.Look.Look, declared.look.Look.TheVariants.{Sound, Unsound, Failed}}
 
 -- ---- what is found in pages, which are so many
 -- the pages hold rows, of which this is so

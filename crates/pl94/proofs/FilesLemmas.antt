@@ -1,9 +1,6 @@
 -- The four files line by line, and in one view.
-use Rattle.std.proofs.Common.{◌≡◌, ℕ, ◌<◌, Bool, true, false, cond, ◌||◌, ◌&&◌, eqb, List, [], ◌∷◌, ◌++◌, length, map, get_or, sum_by, Option, Some, None, IfSome, Result, Ok, Err, is_some, is_none, is_ok, unwrap_or, refl, sym, ap, subst, ◌∙◌, arith, nat_eq, length-append, append_assoc, IsPermutation}
-use Rattle.std.specs.List.{list_any, cons_option, IsDistinct}
-use Rattle.std.specs.Option.{option_map, option_to_list}
-use Rattle.std.specs.Result.{result_ok}
-use Rattle.std.specs.Str.Lines.{lines}
+use Rattle.std.specs.{List.{list_any, IsDistinct}, Option.option_map, Str.Lines.lines}
+use Rattle.std.proofs.Common.{◌≡◌, ℕ, ◌<◌, Bool, true, false, cond, ◌||◌, ◌&&◌, eqb, List, [], ◌∷◌, ◌++◌, length, map, get_or, sum_by, Option, Some, None, IfSome, Result, Ok, Err, is_some, is_none, is_ok, unwrap_or, refl, sym, ap, subst, ◌∙◌, arith, nat_eq, length-append, append_assoc, IsPermutation, rules}
 use Rattle.std.proofs.lemmas.Bool.{false≢true}
 use Rattle.std.proofs.lemmas.Bool.Decides.{nat_tests}
 use Rattle.std.proofs.lemmas.Cmp.{nat_eq_equiv}
@@ -12,21 +9,12 @@ use Rattle.std.proofs.lemmas.List.Elements.{filter_map-append, All-push}
 use Rattle.std.proofs.lemmas.Map.Keys.{IsDistinct-push}
 use Rattle.desk_model.specs.declared.block.BlockRow.{BlockRow}
 use Rattle.byte_stream.specs.claim.Judged.{AreGood}
-use Rattle.pl94.specs.claim.Judging.{entries, blocks_of}
-use Rattle.pl94.specs.declared.geo.GeoRows.{GeoRows}
-use Rattle.pl94.specs.declared.header.GeoBlock.{GeoBlock}
-use Rattle.pl94.proofs.WholeLemmas.{whole_from_good, before_differs}
-use Rattle.pl94.specs.Files.{AreSegmentLines, taken_in, people_in, counted_block, counted_blocks, counted_people, AreCensusFiles, AreRowsOf}
+use Rattle.pl94.specs.{claim.Judging.entries, declared.geo.GeoRows.GeoRows, Files.{AreSegmentLines, taken_in, people_in, counted_blocks, counted_people, AreCensusFiles, AreRowsOf}}
 use Rattle.pl94.specs.claim.Join.{AreJoined, NoneMissing, lacking_part, taken_numbers, rows_of, total_people, people_at_number}
-use Rattle.pl94.specs.claim.Records.{line_read, record_of, records, has_number, judged, judge}
-use Rattle.pl94.specs.claim.SegFile.{people_of, IsSegment}
-use Rattle.pl94.specs.declared.record.SegmentLineFault.{SegmentLineFault}
-use Rattle.pl94.specs.declared.record.SegmentLineFault.TheVariants.{RepeatedRecord}
-use Rattle.pl94.specs.declared.record.SegmentNumber.{SegmentNumber}
-use Rattle.pl94.specs.declared.record.SegmentNumber.TheVariants.{One, Two, Three}
-use Rattle.pl94.specs.declared.record.SegRecord.{SegRecord}
-use Rattle.pl94.specs.declared.segment.SegRows.{SegRows}
-use Rattle.pl94.proofs.SegLemmas.{records-push}
+use Rattle.pl94.specs.{claim.Records.{line_read, records, has_number, judged, judge}, claim.SegFile.{people_of, IsSegment}, declared.record.SegmentLineFault.SegmentLineFault}
+use Rattle.pl94.specs.{declared.record.SegmentLineFault.TheVariants.RepeatedRecord, declared.record.SegmentNumber.SegmentNumber}
+use Rattle.pl94.specs.{declared.record.SegmentNumber.TheVariants.{One, Two, Three}, declared.record.SegRecord.SegRecord, declared.segment.SegRows.SegRows}
+use Rattle.pl94.proofs.{WholeLemmas.{whole_from_good, before_differs}, SegLemmas.records-push}
 
 -- ---- a segment
 
@@ -70,8 +58,7 @@ module _ (part : SegmentNumber) where
   segment_from_good ls good = segment_on ls [] ls good refl segment_none
 
   records-cut : (before after : List (List ℕ)) (line : List ℕ) (r : SegRecord) → line_read part line ≡ Ok r → records part (before ++ line ∷ after) ≡ records part before ++ r ∷ records part after
-  records-cut before after line r is =
-      filter_map-append (record_of part) before (line ∷ after) ∙ ap (λ (x : Result SegRecord SegmentLineFault). records part before ++ cons_option (result_ok x) (records part after)) is
+  records-cut before after line r is = search (rules, filter_map-append)
 
   segment_before : (ls before after : List (List ℕ)) (line : List ℕ) (r : Result SegRecord SegmentLineFault) → line_read part line ≡ r → AreSegmentLines part ls → ls ≡ before ++ line ∷ after
       → judged (records part before) r ≡ None
@@ -117,18 +104,14 @@ state_from (Some n) f t is = is
 
 module _ (header first second third : List ℕ) (geo : GeoRows) (a b c : SegRows) (r : AreRowsOf header first second third geo a b c) where
   taken_same : taken_numbers geo ≡ taken_in (entries (lines header))
-  taken_same =
-      ap (λ (bs : List GeoBlock). map (λ (x : GeoBlock). x.number) bs ++ option_to_list geo.state_record) r.header_rows.blocks
-      ∙ ap (λ (o : Option ℕ). map (λ (x : GeoBlock). x.number) (blocks_of (entries (lines header))) ++ option_to_list o) r.header_rows.state_record
+  taken_same = search rules
 
   lacking_same : (n : ℕ) → lacking_part a b c n
       ≡ cond (is_none (people_in One first n)) (Some One) (cond (is_none (people_in Two second n)) (Some Two) (cond (is_none (people_in Three third n)) (Some Three) None))
   lacking_same n = rw (r.first_rows.people n, r.second_rows.people n, r.third_rows.people n) refl
 
   rows_same : rows_of geo a ≡ counted_blocks header first
-  rows_same =
-      ap (λ (f : ℕ → Option ℕ). map (λ (x : GeoBlock). let row : BlockRow = record { id = x.id; city = x.city; population = unwrap_or (f x.number) 0 } in row) geo.blocks.items) (same_people One first a r.first_rows)
-      ∙ ap (map (counted_block first)) r.header_rows.blocks
+  rows_same = search (rules, unwrap_or, same_people)
 
   total_same : total_people geo a ≡ counted_people header first
   total_same = ap (sum_by (λ (x : BlockRow). x.population)) rows_same
@@ -160,12 +143,4 @@ module _ (header first second third : List ℕ) (geo : GeoRows) (a b c : SegRows
       }
 
   pub join_from_files : (rows : List BlockRow) → AreCensusFiles header first second third rows → AreJoined geo a b c rows
-  join_from_files rows f =
-      let none : NoneMissing a b c (taken_in (entries (lines header))) = λ k d inside. lacking_same (get_or (taken_in (entries (lines header))) k d) ∙ none_from_all _ _ _ (f.complete k d inside) in
-      record {
-        none_missing = subst (NoneMissing a b c) (sym taken_same) none;
-        state = state_from geo.state_record (people_at_number a) (total_people geo a) (state_back geo.state_record
-            (subst (λ (o : Option ℕ). IfSome o (λ n. unwrap_or (people_in One first n) 0 ≡ counted_people header first)) (sym r.header_rows.state_record) f.total));
-        same = subst (λ (xs : List BlockRow). IsPermutation xs rows) (sym rows_same) f.same;
-        blocks = f.blocks;
-      }
+  join_from_files rows f = search (rules, lacking_same, none_from_all, taken_same, state_from, state_back, unwrap_or, rows_same)

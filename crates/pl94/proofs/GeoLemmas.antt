@@ -1,37 +1,18 @@
 -- A header line by line, and as a whole.
-use Rattle.std.proofs.Common.{◌≡◌, ◌≢◌, ℕ, ◌+◌, ◌<◌, Bool, true, false, not, cond, ◌||◌, eqb, ltb, List, [], ◌∷◌, ◌++◌, length, get_or, Option, Some, None, Result, Ok, Err, IfSome, IfOk, refl, sym, ap, subst, ◌∙◌, arith, nat_eq, length-append, All}
-use Rattle.std.specs.List.{cons_option, IsDistinct}
-use Rattle.std.specs.Option.{option_map_or, option_map}
-use Rattle.std.specs.Io.KnownBytes.{Consumes, IsAtEnd}
-use Rattle.std.specs.Str.Lines.{lines}
+use Rattle.std.specs.{List.cons_option, Option.{option_map_or, option_map}, Io.KnownBytes.{Consumes, IsAtEnd}, Str.Lines.lines}
+use Rattle.std.proofs.Common.{◌≡◌, ◌≢◌, ℕ, ◌+◌, ◌<◌, Bool, true, false, not, ◌||◌, eqb, List, [], ◌∷◌, ◌++◌, length, get_or, Option, Some, None, Result, Ok, Err, IfSome, IfOk, refl, sym, ap, ◌∙◌, arith, nat_eq, length-append, All, rules}
 use Rattle.std.proofs.lemmas.Bool.Decides.{nat_tests}
 use Rattle.std.proofs.lemmas.List.Elements.{All-cons, All-tail}
 use Rattle.desk_model.specs.claim.Block.{state_of}
-use Rattle.byte_stream.specs.claim.Reading.{BeginsWithLine, IsBroken, line_limit}
-use Rattle.byte_stream.specs.Reading.{IsLastLine, IsTooLong, Gives, Reading}
-use Rattle.byte_stream.specs.claim.Judged.{AreGood, IsCutShort, BeginsWithLines}
-use Rattle.byte_stream.proofs.ReadingLemmas.{Consumes-nothing, Consumes-then}
-use Rattle.byte_stream.proofs.JudgedLemmas.{begins, begins_more, begins_line, good_none, good_more, shown_line, shown_last, shown_long, cut_short, lines-ended, lines-last_one}
-use Rattle.byte_stream.specs.claim.Fields.{fields}
-use Rattle.pl94.specs.Entries.{IsEntry}
-use Rattle.pl94.specs.claim.Entries.{fields_read}
-use Rattle.pl94.specs.claim.Judging.{ids_of, blocks_of, state_record_of, other_state, entries, judge, judged}
-use Rattle.pl94.specs.Holding.{Holds, Judges}
-use Rattle.pl94.specs.GeoFile.{row_ids, AreGeoRows, Finishes, Stands, told, refused}
-use Rattle.pl94.specs.claim.GeoFile.{IsRead, failures_after_file}
-use Rattle.byte_stream.specs.declared.reader.ReadFault.{ReadFault}
+use Rattle.byte_stream.specs.{claim.Reading.{BeginsWithLine, line_limit}, Reading.{IsLastLine, Gives, Reading}, claim.Judged.AreGood, declared.reader.ReadFault.ReadFault}
+use Rattle.byte_stream.proofs.JudgedLemmas.{good_more, lines-ended, lines-last_one}
+use Rattle.pl94.specs.{Entries.IsEntry, claim.Judging.{ids_of, blocks_of, other_state, entries, judge, judged}, Holding.{Holds, Judges}}
+use Rattle.pl94.specs.{GeoFile.{row_ids, AreGeoRows, Finishes, told, refused}, claim.GeoFile.{IsRead, failures_after_file}, declared.entry.GeoRecord.GeoRecord}
+use Rattle.pl94.specs.{declared.entry.HeaderLineFault.TheVariants.Shape, declared.header.GeoBlock.GeoBlock, declared.header.Header.Header}
+use Rattle.pl94.specs.{declared.header.HeaderRefusal.HeaderRefusal, declared.header.HeaderRefusal.TheVariants.{Fault, Memory}, declared.geo.GeoRows.GeoRows}
+use Rattle.pl94.{specs.declared.geo.GeoFault.GeoFault, proofs.LineLemmas.{AreJudged, line_told, last_told, long_told, cut_told}, proofs.HoldingLemmas.length-blocks_of}
 use Rattle.byte_stream.specs.declared.reader.ReadFault.TheVariants as read
-use Rattle.pl94.specs.declared.entry.GeoRecord.{GeoRecord}
-use Rattle.pl94.specs.declared.entry.HeaderLineFault.{HeaderLineFault}
-use Rattle.pl94.specs.declared.entry.HeaderLineFault.TheVariants.{Shape}
-use Rattle.pl94.specs.declared.header.GeoBlock.{GeoBlock}
-use Rattle.pl94.specs.declared.header.Header.{Header}
-use Rattle.pl94.specs.declared.header.HeaderRefusal.{HeaderRefusal}
-use Rattle.pl94.specs.declared.header.HeaderRefusal.TheVariants.{Fault, Memory}
-use Rattle.pl94.specs.declared.geo.GeoRows.{GeoRows}
-use Rattle.pl94.specs.declared.geo.GeoFault.{GeoFault}
 use Rattle.pl94.specs.declared.geo.GeoFault.TheVariants as fault
-use Rattle.pl94.proofs.HoldingLemmas.{length-blocks_of}
 
 -- ---- the rows of the taken records
 
@@ -78,107 +59,56 @@ pub rows_from : (h : Header) (es : List GeoRecord) (rows : GeoRows) → Holds h 
 rows_from h es rows holds same some =
     let ids : row_ids rows.blocks.items ≡ ids_of es = ap row_ids same ∙ row_ids-blocks_of es in
     let known = states_known h es h.state holds.state holds.entries in
-    record {
-      some = omega (arith, ap length same);
-      few = omega (arith, ap length same, length-blocks_of es, holds.few);
-      distinct = subst (IsDistinct nat_eq) (sym ids) holds.distinct_ids;
-      one_state = subst (λ (xs : List ℕ). All (λ id. state_of id ≡ state_of (get_or xs 0 0)) xs) (sym ids) (all_as_first known.0 (ids_of es) known.1);
-    }
+    search (rules, ids, known, length-blocks_of, nat_eq, all_as_first)
 
 -- ---- the lines, one after the other
 
-pub stands_start : (left : Option (List ℕ)) (held : List ℕ) (h : Header) → held ≡ [] → Holds h [] → Stands left left held 0 h
-stands_start left held h none holds = record {
-  text = [];
-  ls = [];
-  consumed = Consumes-nothing left;
-  begins = subst (BeginsWithLines [] []) (sym none) (begins []);
-  good = good_none judge;
-  holds = holds;
-  counted = refl;
-}
-
-pub stands_more : (old left next : Option (List ℕ)) (held more : List ℕ) (number : ℕ) (h : Header) → Stands old left held number h → Consumes left next more
-    → Stands old next (held ++ more) number h
-stands_more old left next held more number h s came = record {
-  text = s.text ++ more;
-  ls = s.ls;
-  consumed = Consumes-then old left next s.text more s.consumed came;
-  begins = begins_more s.text more held s.ls s.begins;
-  good = s.good;
-  holds = s.holds;
-  counted = s.counted;
-}
-
-pub judged_at : (h new : Header) (r : Result (Unit {0}) HeaderRefusal) (given line : List ℕ) → given ≡ line → ((ls : List (List ℕ)) → Holds h (entries ls) → Judges ls given r new)
-    → (ls : List (List ℕ)) → Holds h (entries ls) → Judges ls line r new
-judged_at h new r given line same judged = subst (λ (l : List ℕ). (ls : List (List ℕ)) → Holds h (entries ls) → Judges ls l r new) same judged
-
--- a good line
-pub stands_line : (old left : Option (List ℕ)) (held line rest : List ℕ) (number : ℕ) (h new : Header) (u : Unit {0}) → Stands old left held number h → BeginsWithLine held line rest
-    → ((ls : List (List ℕ)) → Holds h (entries ls) → Judges ls line (Ok u) new) → Stands old left rest (number + 1) new
-stands_line old left held line rest number h new u s l judged =
-    let is = judged s.ls s.holds in
-    record {
-      text = s.text;
-      ls = s.ls ++ line ∷ [];
-      consumed = s.consumed;
-      begins = begins_line s.text held line rest s.ls s.begins l;
-      good = good_more judge s.ls line s.good is.0;
-      holds = is.1;
-      counted = omega (arith, s.counted, length-append s.ls (line ∷ []));
-    }
+-- the lines that came are good, and the header holds their records
+abbrev pub Stands : Option (List ℕ) → Option (List ℕ) → List ℕ → ℕ → Header → Type 0
+Stands old left held number h = AreJudged judge (λ ls. Holds h (entries ls)) old left held number
 
 -- what is told of the bytes that came
 abbrev pub Told : Option (List ℕ) → Option (List ℕ) → Result GeoRows GeoFault → Type 0
 Told old left result = (text : List ℕ) × Consumes old left text × IsRead text left result
 
-pub told_line : (old left : Option (List ℕ)) (held line rest : List ℕ) (number : ℕ) (h new : Header) (f : HeaderLineFault) → Stands old left held number h → BeginsWithLine held line rest
-    → ((ls : List (List ℕ)) → Holds h (entries ls) → Judges ls line (Err (Fault f)) new) → Told old left (Err (fault.Line f (number + 1)))
-told_line old left held line rest number h new f s l judged =
-    (s.text, s.consumed, rw s.counted (shown_line judge s.text held line rest left s.ls f s.begins l s.good (judged s.ls s.holds)))
-
-pub told_last : (old left : Option (List ℕ)) (held line : List ℕ) (number : ℕ) (h new : Header) (f : HeaderLineFault) → Stands old left held number h → IsAtEnd left → IsLastLine held line
-    → ((ls : List (List ℕ)) → Holds h (entries ls) → Judges ls line (Err (Fault f)) new) → Told old left (Err (fault.Line f (number + 1)))
-told_last old left held line number h new f s end l judged =
-    (s.text, s.consumed, rw s.counted (shown_last judge s.text held line left s.ls f s.begins end l s.good (judged s.ls s.holds)))
-
 long_judged : (ls : List (List ℕ)) (line : List ℕ) → line_limit < length line → judge ls line ≡ Some Shape
-long_judged ls line long =
-    let is : ltb line_limit (length line) ≡ true = grind (arith, nat_tests) in
-    ap (λ (b : Bool). judged (entries ls) (cond (b || not (eqb (length (fields line)) 97)) (Err Shape) (fields_read (fields line)))) is
-
-pub told_long : (old left : Option (List ℕ)) (held : List ℕ) (number : ℕ) (h : Header) → Stands old left held number h → IsTooLong held → Told old left (Err (fault.Line Shape (number + 1)))
-told_long old left held number h s t =
-    (s.text, s.consumed, rw s.counted (shown_long judge s.text held left s.ls Shape s.begins t s.good (long_judged s.ls)))
-
-pub told_cut : (old left : Option (List ℕ)) (held : List ℕ) (number : ℕ) (h : Header) → Stands old left held number h → IsBroken held
-    → (text : List ℕ) × Consumes old left text × IsCutShort judge text (number + 1)
-told_cut old left held number h s broken = (s.text, s.consumed, rw s.counted (cut_short judge s.text held s.ls s.begins broken s.good))
+long_judged ls line long = search (rules, nat_tests)
 
 finished : (text : List ℕ) (left : Option (List ℕ)) (ls : List (List ℕ)) (number : ℕ) (result : Result GeoRows GeoFault) → IsAtEnd left → lines text ≡ ls → AreGood judge ls → number ≡ length ls
     → Finishes (entries ls) number result → IsRead text left result
-finished text left ls number (Ok rows) end same good counted f =
-    (end, record { good = subst (AreGood judge) (sym same) good; some = rw same f.1; blocks = f.2 ∙ ap (λ (t : List (List ℕ)). blocks_of (entries t)) (sym same); state_record = f.3 ∙ ap (λ (t : List (List ℕ)). state_record_of (entries t)) (sym same) })
-finished text left ls number (Err e) end same good counted f =
-    subst (λ (x : GeoFault). IsRead text left (Err x)) (sym f.0)
-    (end, record { good = subst (AreGood judge) (sym same) good; none = ap (λ (t : List (List ℕ)). ids_of (entries t)) same ∙ f.1; counted = counted ∙ ap length (sym same) })
+finished text left ls number (Ok rows) end same good counted f = search rules
+finished text left ls number (Err e) end same good counted f = search rules
 
-pub told_end : (old left : Option (List ℕ)) (held : List ℕ) (number : ℕ) (h : Header) (result : Result GeoRows GeoFault) → Stands old left held number h → IsAtEnd left → held ≡ []
-    → ((es : List GeoRecord) → Holds h es → Finishes es number result) → Told old left result
-told_end old left held number h result s end none f =
-    (s.text, s.consumed, finished s.text left s.ls number result end (lines-ended s.text held s.ls s.begins none) s.good s.counted (f (entries s.ls) s.holds))
+module _ (old left : Option (List ℕ)) (held : List ℕ) (number : ℕ) (h : Header) (s : Stands old left held number h) where
+  pub told_end : (result : Result GeoRows GeoFault) → IsAtEnd left → held ≡ [] → ((es : List GeoRecord) → Holds h es → Finishes es number result) → Told old left result
+  told_end result end none f = search (rules, finished, lines-ended)
 
-pub told_last_end : (old left : Option (List ℕ)) (held line : List ℕ) (number : ℕ) (h new : Header) (u : Unit {0}) (result : Result GeoRows GeoFault) → Stands old left held number h → IsAtEnd left → IsLastLine held line
-    → ((ls : List (List ℕ)) → Holds h (entries ls) → Judges ls line (Ok u) new)
-    → ((es : List GeoRecord) → Holds new es → Finishes es (number + 1) result) → Told old left result
-told_last_end old left held line number h new u result s end l judged f =
-    let is = judged s.ls s.holds in (
-      s.text,
-      s.consumed,
-      finished s.text left (s.ls ++ line ∷ []) (number + 1) result end (lines-last_one s.text held line s.ls s.begins l) (good_more judge s.ls line s.good is.0)
-          (omega (arith, s.counted, length-append s.ls (line ∷ []))) (f (entries (s.ls ++ line ∷ [])) is.1),
-    )
+  pub told_last_end : (line : List ℕ) (new : Header) (u : Unit {0}) (result : Result GeoRows GeoFault) → IsAtEnd left → IsLastLine held line
+      → ((ls : List (List ℕ)) → Holds h (entries ls) → Judges ls line (Ok u) new)
+      → ((es : List GeoRecord) → Holds new es → Finishes es (number + 1) result) → Told old left result
+  told_last_end line new u result end l judged f =
+      let is = judged s.ls s.known in (
+        s.text,
+        s.consumed,
+        finished s.text left (s.ls ++ line ∷ []) (number + 1) result end (lines-last_one s.text held line s.ls s.begins l) (good_more judge s.ls line s.good is.0)
+            (omega (arith, s.counted, length-append s.ls (line ∷ []))) (f (entries (s.ls ++ line ∷ [])) is.1),
+      )
+
+  -- ---- why no rows are given
+
+  pub told_refused : (given line rest : List ℕ) (new : Header) (r : HeaderRefusal) → given ≡ line → BeginsWithLine held line rest
+      → ((ls : List (List ℕ)) → Holds h (entries ls) → Judges ls given (Err r) new) → Told old left (Err (refused r (number + 1)))
+  told_refused given line rest new (Fault f) same l judged = line_told judge _ old left held number s given line rest f same l judged
+  told_refused given line rest new Memory same l judged = (s.text, s.consumed, tt)
+
+  pub told_refused_last : (given line : List ℕ) (new : Header) (r : HeaderRefusal) → given ≡ line → IsAtEnd left → IsLastLine held line
+      → ((ls : List (List ℕ)) → Holds h (entries ls) → Judges ls given (Err r) new) → Told old left (Err (refused r (number + 1)))
+  told_refused_last given line new (Fault f) same end l judged = last_told judge _ old left held number s given line f same end l judged
+  told_refused_last given line new Memory same end l judged = (s.text, s.consumed, tt)
+
+  pub told_fault : (f : ReadFault) (r : Reading) → Gives held left (Err f) r → Told old left (Err (told f (number + 1)))
+  told_fault read.TooLong r gives = long_told judge _ old left held number s Shape gives long_judged
+  told_fault _ r gives = cut_told judge _ old left held number s gives
 
 -- ---- what else is told at the end
 
@@ -193,21 +123,3 @@ finishes_failures es number before (Err e) f = ap (λ (x : GeoFault). failures_a
 pub finishes_in_turns : (es : List GeoRecord) (number line : ℕ) (result : Result GeoRows GeoFault) → Finishes es number result → result ≢ Err (fault.TurnLimit line)
 finishes_in_turns es number line (Ok rows) f = λ is. absurd (cc)
 finishes_in_turns es number line (Err e) f = let why = f.0 in λ is. absurd (cc)
-
--- ---- why no rows are given
-
-pub told_refused : (old left : Option (List ℕ)) (held line rest : List ℕ) (number : ℕ) (h new : Header) (r : HeaderRefusal) → Stands old left held number h → BeginsWithLine held line rest
-    → ((ls : List (List ℕ)) → Holds h (entries ls) → Judges ls line (Err r) new) → Told old left (Err (refused r (number + 1)))
-told_refused old left held line rest number h new (Fault f) s l judged = told_line old left held line rest number h new f s l judged
-told_refused old left held line rest number h new Memory s l judged = (s.text, s.consumed, tt)
-
-pub told_refused_last : (old left : Option (List ℕ)) (held line : List ℕ) (number : ℕ) (h new : Header) (r : HeaderRefusal) → Stands old left held number h → IsAtEnd left → IsLastLine held line
-    → ((ls : List (List ℕ)) → Holds h (entries ls) → Judges ls line (Err r) new) → Told old left (Err (refused r (number + 1)))
-told_refused_last old left held line number h new (Fault f) s end l judged = told_last old left held line number h new f s end l judged
-told_refused_last old left held line number h new Memory s end l judged = (s.text, s.consumed, tt)
-
-pub told_fault : (old left : Option (List ℕ)) (held : List ℕ) (number : ℕ) (h : Header) (f : ReadFault) (r : Reading) → Stands old left held number h → Gives held left (Err f) r
-    → Told old left (Err (told f (number + 1)))
-told_fault old left held number h read.TooLong r s gives = told_long old left held number h s gives
-told_fault old left held number h read.Failed r s gives = told_cut old left held number h s gives
-told_fault old left held number h read.TurnLimit r s gives = told_cut old left held number h s gives

@@ -1,7 +1,6 @@
 -- One more taken record.
-use Rattle.std.proofs.Common.{◌≡◌, ℕ, suc, ◌<◌, ◌≤◌, Bool, true, false, not, cond, ◌||◌, eqb, leb, List, [], ◌∷◌, ◌++◌, length, Option, Some, None, Result, Ok, Err, is_some, is_none, refl, sym, ap, subst, ◌∙◌, arith, nat_eq, length-append}
-use Rattle.std.specs.List.{list_any, cons_option, IsDistinct}
-use Rattle.std.specs.Option.{option_map_or, option_map}
+use Rattle.std.specs.{List.{cons_option, IsDistinct}, Option.{option_map_or, option_map}}
+use Rattle.std.proofs.Common.{◌≡◌, ℕ, suc, ◌<◌, ◌≤◌, Bool, true, false, not, cond, ◌||◌, eqb, leb, List, [], ◌∷◌, ◌++◌, length, Option, Some, None, Result, Ok, Err, is_some, is_none, refl, sym, ap, subst, ◌∙◌, arith, nat_eq, length-append, rules}
 use Rattle.std.proofs.lemmas.Bool.Decides.{nat_tests}
 use Rattle.std.proofs.lemmas.Cmp.{nat_eq_equiv}
 use Rattle.std.proofs.lemmas.List.{map-append, append-nil}
@@ -9,18 +8,11 @@ use Rattle.std.proofs.lemmas.List.Folds.{list_any-append}
 use Rattle.std.proofs.lemmas.List.Elements.{filter_map-append, All-push}
 use Rattle.std.proofs.lemmas.Map.Keys.{IsDistinct-push}
 use Rattle.desk_model.specs.claim.GeographyModels.{block_limit}
-use Rattle.pl94.specs.Entries.{IsEntry}
-use Rattle.pl94.specs.claim.Entries.{line_read}
+use Rattle.pl94.specs.{Entries.IsEntry, claim.Entries.line_read}
 use Rattle.pl94.specs.claim.Judging.{states_of, numbers_of, ids_of, blocks_of, geo_block, state_record_of, other_state, repeats, conflict, entries, entry_of, taken_entry, judged}
-use Rattle.pl94.specs.Holding.{Holds, Takes, Judges}
-use Rattle.pl94.specs.Sets.{has}
-use Rattle.pl94.specs.declared.entry.GeoRecord.{GeoRecord}
-use Rattle.pl94.specs.declared.entry.HeaderLineFault.{HeaderLineFault}
-use Rattle.pl94.specs.declared.entry.HeaderLineFault.TheVariants.{TooManyBlocks}
-use Rattle.pl94.specs.declared.header.HeaderRefusal.{HeaderRefusal}
-use Rattle.pl94.specs.declared.header.HeaderRefusal.TheVariants.{Fault, Memory}
-use Rattle.pl94.specs.declared.header.Header.{Header}
-use Rattle.pl94.specs.declared.header.GeoBlock.{GeoBlock}
+use Rattle.pl94.specs.{Holding.{Holds, Takes, Judges}, Sets.has, declared.entry.GeoRecord.GeoRecord, declared.entry.HeaderLineFault.HeaderLineFault}
+use Rattle.pl94.specs.{declared.entry.HeaderLineFault.TheVariants.TooManyBlocks, declared.header.HeaderRefusal.HeaderRefusal}
+use Rattle.pl94.specs.{declared.header.HeaderRefusal.TheVariants.{Fault, Memory}, declared.header.Header.Header, declared.header.GeoBlock.GeoBlock}
 use Rattle.pl94.specs.declared.number_set.NumberSet.{NumberSet}
 
 eqb-flip : (a b : ℕ) → eqb a b ≡ eqb b a
@@ -74,16 +66,11 @@ or-self false = refl
 own_state : (o : Option ℕ) (state s : ℕ) → option_map_or (λ own. not (eqb own state)) o false ≡ false
     → (option_map_or (λ own. not (eqb own s)) o false || (not (eqb state s) || false)) ≡ not (eqb state s)
 own_state None state s same = or-false (not (eqb state s))
-own_state (Some own) state s same =
-    let is : own ≡ state = grind (arith, nat_tests) in
-    rw is (or-self (not (eqb state s)))
+own_state (Some own) state s same = search (rules, nat_tests, or-self)
 
 other_state-push : (h : Header) (es : List GeoRecord) (e : GeoRecord) (s : ℕ) → ((q : ℕ) → other_state es q ≡ option_map_or (λ own. not (eqb own q)) h.state false)
     → other_state es e.state ≡ false → other_state (es ++ e ∷ []) s ≡ not (eqb e.state s)
-other_state-push h es e s state same =
-    ap (list_any (λ x. not (eqb x s))) (states_of-push es e) ∙ list_any-append (λ x. not (eqb x s)) (states_of es) (e.state ∷ [])
-    ∙ ap (λ (b : Bool). b || (not (eqb e.state s) || false)) (state s)
-    ∙ own_state h.state e.state s (sym (state e.state) ∙ same)
+other_state-push h es e s state same = search (rules, states_of-push, list_any-append, own_state)
 
 cons_length : (e : GeoRecord) (o : Option ℕ) (xs : List ℕ) (ys : List GeoBlock) → length ys ≡ length xs
     → length (cons_option (option_map (λ (id : ℕ). let b : GeoBlock = record { number = e.number; id = id; city = e.city } in b) o) ys) ≡ length (cons_option o xs)
@@ -105,17 +92,7 @@ more_numbers old new ns n q same grown = repeats-push ns n q ∙ ap (λ (b : Boo
 -- no record yet
 pub holds_none : (h : Header) → h.state ≡ None → h.state_record ≡ None → h.blocks.items ≡ [] → ((n : ℕ) → has h.ids n ≡ false) → ((n : ℕ) → has h.numbers n ≡ false) → Holds h []
 unfolding IsDistinct
-holds_none h state state_record blocks ids numbers = record {
-  state = λ s. ap (λ (o : Option ℕ). option_map_or (λ own. not (eqb own s)) o false) (sym state);
-  state_record = state_record;
-  blocks = blocks;
-  ids = λ n. sym (ids n);
-  numbers = λ n. sym (numbers n);
-  distinct_ids = tt;
-  distinct_numbers = tt;
-  few = omega arith;
-  entries = λ k d inside. absurd (omega arith);
-}
+holds_none h state state_record blocks ids numbers = search rules
 
 -- a block that goes with the records before it
 pub holds_block : (h new : Header) (es : List GeoRecord) (e : GeoRecord) (id : ℕ) → Holds h es → IsEntry e → e.block ≡ Some id → other_state es e.state ≡ false
@@ -173,12 +150,7 @@ holds_state h new es e holds valid is same first new_number numbers state state_
 -- a block too many
 pub too_many : (h : Header) (es : List GeoRecord) (e : GeoRecord) (id : ℕ) → Holds h es → e.block ≡ Some id → other_state es e.state ≡ false
     → has h.ids id ≡ false → has h.numbers e.number ≡ false → block_limit ≤ length h.blocks.items → conflict es e ≡ Some TooManyBlocks
-too_many h es e id holds is same new_id new_number many =
-    let no_id : repeats (ids_of es) id ≡ false = fresh h.ids (ids_of es) id holds.ids new_id in
-    let no_number : repeats (numbers_of es) e.number ≡ false = fresh h.numbers (numbers_of es) e.number holds.numbers new_number in
-    let count : block_limit ≤ length (ids_of es) = omega (arith, length-blocks_of es, ap length holds.blocks) in
-    let full : leb block_limit (length (ids_of es)) ≡ true = grind (arith, nat_tests) in
-    rw (same, is, no_id, no_number, full) refl
+too_many h es e id holds is same new_id new_number many = search (rules, fresh, length-blocks_of, nat_tests)
 
 -- ---- lines
 

@@ -1,24 +1,14 @@
 -- The rows of the join.
-use Rattle.std.proofs.Common.{◌≡◌, ℕ, ◌+◌, ◌<◌, ◌≤◌, ◌^◌, List, [], ◌∷◌, ◌++◌, length, take, map, get_or, Option, Some, None, IfSome, sym, ap, subst, ◌∙◌, arith, nat_eq}
-use Rattle.std.specs.List.Sorted.{IsPermutation, IsNonDecreasing, IsNonDecreasingBy}
-use Rattle.std.specs.Option.{option_to_list}
+use Rattle.std.specs.{List.Sorted.{IsPermutation, IsNonDecreasing, IsNonDecreasingBy}, Option.option_to_list}
+use Rattle.std.proofs.Common.{◌≡◌, ℕ, ◌+◌, ◌<◌, ◌≤◌, ◌^◌, List, [], ◌∷◌, ◌++◌, length, take, map, get_or, Option, Some, None, IfSome, sym, ap, subst, ◌∙◌, arith, nat_eq, rules}
 use Rattle.std.proofs.lemmas.Bool.Decides.{nat_tests}
 use Rattle.std.proofs.lemmas.List.{append-nil, get_or-map, map_more, take_all, length-map}
 use Rattle.std.proofs.lemmas.List.Sorted.{IsPermutation-map, sum_by-IsPermutation, All-permutation, length_permutation}
 use Rattle.std.proofs.lemmas.Map.Keys.{IsDistinct-IsPermutation, IsStrictlyIncreasing-from_distinct}
 use Rattle.std.proofs.lemmas.Simd.{map-map}
-use Rattle.desk_model.specs.claim.Block.{state_of}
-use Rattle.desk_model.specs.claim.GeographyModels.{AreBlocks}
-use Rattle.desk_model.specs.claim.Geography.{ids_of}
-use Rattle.desk_model.specs.declared.block.BlockRow.{BlockRow}
-use Rattle.pl94.specs.GeoFile.{AreGeoRows, row_ids}
-use Rattle.pl94.specs.declared.geo.GeoRows.{GeoRows}
-use Rattle.pl94.specs.declared.header.GeoBlock.{GeoBlock}
-use Rattle.pl94.proofs.GeoLemmas.{all_as_first}
-use Rattle.pl94.specs.claim.Join.{taken_numbers, row_of, rows_of, total_people}
-use Rattle.pl94.specs.Join.{IsLeast}
-use Rattle.pl94.specs.declared.segment.SegRows.{SegRows}
-use Rattle.pl94.specs.declared.record.SegmentNumber.{SegmentNumber}
+use Rattle.desk_model.specs.{claim.Block.state_of, claim.GeographyModels.AreBlocks, claim.Geography.ids_of, declared.block.BlockRow.BlockRow}
+use Rattle.pl94.specs.{GeoFile.{AreGeoRows, row_ids}, declared.geo.GeoRows.GeoRows, declared.header.GeoBlock.GeoBlock, claim.Join.{taken_numbers, row_of, rows_of, total_people}}
+use Rattle.pl94.{specs.Join.IsLeast, specs.declared.segment.SegRows.SegRows, specs.declared.record.SegmentNumber.SegmentNumber, proofs.GeoLemmas.all_as_first}
 
 -- order by number, as a list of the numbers
 pub ids_rise : (rows : List BlockRow) → IsNonDecreasingBy (λ (b : BlockRow). b.id) rows → IsNonDecreasing (ids_of rows)
@@ -34,14 +24,11 @@ flip a b = grind (arith, nat_tests)
 
 all_numbers : (geo : GeoRows) (i : ℕ) (o : Option ℕ) → length geo.blocks.items ≤ i → geo.state_record ≡ o
     → map (λ (b : GeoBlock). b.number) (take i geo.blocks.items) ++ option_to_list o ≡ taken_numbers geo
-all_numbers geo i o all is =
-    ap (λ (bs : List GeoBlock). map (λ (b : GeoBlock). b.number) bs ++ option_to_list o) (take_all i geo.blocks.items all)
-    ∙ ap (λ (p : Option ℕ). map (λ (b : GeoBlock). b.number) geo.blocks.items ++ option_to_list p) (sym is)
+all_numbers geo i o all is = search (rules, take_all)
 
 pub least_of_all : (geo : GeoRows) (first second third : SegRows) (i number : ℕ) (o : Option (ℕ × SegmentNumber)) → length geo.blocks.items ≤ i → geo.state_record ≡ Some number
     → IsLeast first second third (map (λ (b : GeoBlock). b.number) (take i geo.blocks.items) ++ number ∷ []) o → IsLeast first second third (taken_numbers geo) o
-least_of_all geo first second third i number o all is least =
-    subst (λ (ns : List ℕ). IsLeast first second third ns o) (all_numbers geo i (Some number) all is) least
+least_of_all geo first second third i number o all is least = search (rules, all_numbers)
 
 pub least_of_blocks : (geo : GeoRows) (first second third : SegRows) (i : ℕ) (o : Option (ℕ × SegmentNumber)) → length geo.blocks.items ≤ i → geo.state_record ≡ None
     → IsLeast first second third (map (λ (b : GeoBlock). b.number) (take i geo.blocks.items)) o → IsLeast first second third (taken_numbers geo) o

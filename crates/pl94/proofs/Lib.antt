@@ -4,6 +4,7 @@ pub mod GeoLemmas
 pub mod HoldingLemmas
 pub mod JoinLemmas
 pub mod LeastLemmas
+pub mod LineLemmas
 pub mod RunLemmas
 pub mod SegLemmas
 pub mod SetLemmas

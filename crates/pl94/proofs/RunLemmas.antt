@@ -1,14 +1,8 @@
 -- The people of numbers, in a run and among the others.
-use Rattle.std.proofs.Common.{◌≡◌, ℕ, ◌-◌, ◌≤◌, Vec, Bool, true, false, cond, eqb, ltb, [], get_or, Option, Some, None, is_some, refl, sym, ap, ◌∙◌, arith}
-use Rattle.std.specs.BTreeMap.{BTreeMap, get, is_at, Updates}
-use Rattle.std.specs.Ordering.{nat_cmp, is_eq}
-use Rattle.std.specs.declared.cmp.Ordering.TheVariants.{Less, Equal, Greater}
-use Rattle.std.specs.declared.alloc.Global.{Global}
+use Rattle.std.specs.{BTreeMap.{BTreeMap, get, is_at, Updates}, Ordering.{nat_cmp, is_eq}, declared.cmp.Ordering.TheVariants.{Less, Equal, Greater}, declared.alloc.Global.Global}
+use Rattle.std.proofs.Common.{◌≡◌, ℕ, ◌-◌, ◌≤◌, Vec, Bool, true, false, cond, eqb, ltb, [], get_or, Option, Some, None, is_some, refl, ap, ◌∙◌, arith, rules}
 use Rattle.std.proofs.lemmas.Bool.Decides.{nat_tests}
-use Rattle.pl94.specs.claim.SegFile.{in_run, or_else, people_of}
-use Rattle.pl94.specs.SegFile.{Grows, Holds}
-use Rattle.pl94.specs.declared.record.SegRecord.{SegRecord}
-use Rattle.pl94.specs.declared.segment.SegRows.{SegRows}
+use Rattle.pl94.specs.{claim.SegFile.{in_run, or_else, people_of}, SegFile.{Grows, Holds}, declared.record.SegRecord.SegRecord, declared.segment.SegRows.SegRows}
 
 pub none_from_test : (o : Option ℕ) → is_some o ≡ false → o ≡ None
 none_from_test None test = refl
@@ -44,10 +38,7 @@ holds_none rows run others = record { people = λ n. none n }
 -- a run without a number holds none, wherever it begins
 pub same_begun : (old new : SegRows) → old.run.items ≡ [] → new.run.items ≡ [] → new.others ≡ old.others → (n : ℕ) → people_of new n ≡ people_of old n
 unfolding people_of
-same_begun old new run run_new others n =
-    let before : in_run old n ≡ None = either_none (ltb n old.first) (get_or old.run.items (n - old.first) None) (rw run refl) in
-    let after : in_run new n ≡ None = either_none (ltb n new.first) (get_or new.run.items (n - new.first) None) (rw run_new refl) in
-    ap (λ (o : Option ℕ). or_else o (get nat_cmp new.others n)) (after ∙ sym before) ∙ ap (λ (m : BTreeMap ℕ ℕ). or_else (in_run old n) (get nat_cmp m n)) others
+same_begun old new run run_new others n = search (rules, either_none)
 
 -- ---- one number more
 
@@ -75,11 +66,8 @@ grows_in_run old mid new r same from first others run = λ none n. by_place n (l
     outside n = ap (λ (m : BTreeMap ℕ ℕ). get nat_cmp m n) others
 
     by_place : (n : ℕ) (b : Bool) → ltb n mid.first ≡ b → or_else (in_run new n) (get nat_cmp new.others n) ≡ cond (eqb r.number n) (Some r.people) (or_else (in_run mid n) (get nat_cmp mid.others n))
-    by_place n true is =
-        let differ : eqb r.number n ≡ false = grind (arith, nat_tests) in
-        rw (placed n, outside n, is, differ) refl
-    by_place n false is =
-        rw (placed n, outside n, is, run (n - mid.first), in_place mid.first r.number n from is) (or_else-cond (eqb r.number n) r.people (get_or mid.run.items (n - mid.first) None) (get nat_cmp mid.others n))
+    by_place n true is = search (rules, nat_tests)
+    by_place n false is = search (rules, in_place, or_else-cond)
 
 same_key : (a n : ℕ) → is_at (nat_cmp a) n ≡ eqb a n
 same_key a n = by_case (ltb a n) (eqb a n) refl refl
@@ -108,8 +96,5 @@ grows_outside old mid new r same first run updates = λ none n. by_number none n
 
     by_number : people_of old r.number ≡ None → (n : ℕ) (b : Bool) → eqb r.number n ≡ b
         → or_else (in_run new n) (get nat_cmp new.others n) ≡ cond b (Some r.people) (or_else (in_run mid n) (get nat_cmp mid.others n))
-    by_number none n true is =
-        let at : n ≡ r.number = grind (arith, nat_tests) in
-        let absent : in_run mid n ≡ None = ap (in_run mid) at ∙ first_none (in_run mid r.number) (get nat_cmp mid.others r.number) (same r.number ∙ none) in
-        rw (placed n, absent, outside n, is) refl
+    by_number none n true is = search (rules, nat_tests, first_none)
     by_number none n false is = rw (placed n, outside n, is) refl

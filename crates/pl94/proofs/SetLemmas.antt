@@ -1,10 +1,9 @@
 -- A set of numbers in words of 64.
-use Rattle.std.proofs.Common.{◌≡◌, ◌≢◌, ℕ, ◌<◌, ◌/◌, ◌%◌, ◌^◌, ◌*◌, Bool, true, false, not, cond, ◌||◌, eqb, [], refl, sym, ap, ◌∙◌, arith, bit_and, bit_or}
 use Rattle.std.specs.Int.{bit_at, w64}
+use Rattle.std.proofs.Common.{◌≡◌, ◌≢◌, ℕ, ◌<◌, ◌/◌, ◌%◌, ◌^◌, ◌*◌, Bool, true, false, not, cond, ◌||◌, eqb, [], refl, sym, ap, ◌∙◌, arith, bit_and, bit_or, rules}
 use Rattle.std.proofs.lemmas.Bool.Decides.{nat_tests}
 use Rattle.std.proofs.lemmas.Nat.Bits.{bit_at-zero, shr_and_one, bit_at_set_same, bit_at_set_other}
-use Rattle.pl94.specs.Sets.{word_at, other_word, has, TurnsTo, Inserts}
-use Rattle.pl94.specs.declared.number_set.NumberSet.{NumberSet}
+use Rattle.pl94.specs.{Sets.{word_at, other_word, has, TurnsTo, Inserts}, declared.number_set.NumberSet.NumberSet}
 
 either_zero : (b : Bool) (x y : ℕ) → x ≡ 0 → y ≡ 0 → cond b x y ≡ 0
 either_zero true x y at other = at
@@ -13,10 +12,7 @@ either_zero false x y at other = other
 -- a set without a bit
 pub none_yet : (s : NumberSet) → s.word ≡ 0 → s.others.entries ≡ [] → (n : ℕ) → has s n ≡ false
 unfolding has
-none_yet s word empty n =
-    let other : other_word s (n / 64) ≡ 0 = rw empty refl in
-    let none : word_at s (n / 64) ≡ 0 = either_zero (eqb s.place (n / 64)) s.word (other_word s (n / 64)) word other in
-    ap (λ (w : ℕ). eqb (bit_at w (n % 64)) 1) none ∙ ap (λ (b : ℕ). eqb b 1) (bit_at-zero (n % 64))
+none_yet s word empty n = search (rules, either_zero, bit_at-zero)
 
 -- a word that is taken to hand changes nothing
 has_same : (old new : NumberSet) (place : ℕ) → TurnsTo old new place → (n : ℕ) → has new n ≡ has old n

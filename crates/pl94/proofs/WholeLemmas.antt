@@ -1,6 +1,6 @@
 -- Lines one by one, and all together.
-use Rattle.std.proofs.Common.{◌≡◌, ℕ, zero, suc, ◌+◌, ◌<◌, ◌≤◌, Bool, true, false, not, cond, ◌||◌, eqb, leb, List, [], ◌∷◌, ◌++◌, length, get_or, Option, Some, None, Result, Ok, Err, is_some, is_none, is_ok, refl, sym, ap, subst, ◌∙◌, arith, nat_eq, length-append, append_assoc, All, count_by}
 use Rattle.std.specs.List.{list_any, cons_option, IsDistinct, AllByRecursion}
+use Rattle.std.proofs.Common.{◌≡◌, ℕ, zero, suc, ◌+◌, ◌<◌, ◌≤◌, Bool, true, false, not, cond, ◌||◌, eqb, leb, List, [], ◌∷◌, ◌++◌, length, get_or, Option, Some, None, Result, Ok, Err, is_some, is_none, is_ok, refl, sym, ap, subst, ◌∙◌, arith, nat_eq, length-append, append_assoc, All, count_by, rules}
 use Rattle.std.proofs.lemmas.Bool.Decides.{nat_tests}
 use Rattle.std.proofs.lemmas.Cmp.{nat_eq_equiv}
 use Rattle.std.proofs.lemmas.List.{map-append, append-nil, get_or_at}
@@ -12,10 +12,8 @@ use Rattle.std.proofs.lemmas.Map.Keys.{IsDistinct-push, IsDistinct-head, IsDisti
 use Rattle.desk_model.specs.claim.GeographyModels.{block_limit}
 use Rattle.byte_stream.specs.claim.Judged.{AreGood}
 use Rattle.pl94.specs.claim.Entries.{line_read}
-use Rattle.pl94.specs.claim.Judging.{states_of, numbers_of, ids_of, state_record_of, other_state, repeats, conflict, kind_conflict, repeated_record, entries, entry_of, taken_entry, judge, judged}
-use Rattle.pl94.specs.Whole.{AreHeaderLines, AreTogether}
-use Rattle.pl94.specs.declared.entry.GeoRecord.{GeoRecord}
-use Rattle.pl94.specs.declared.entry.HeaderLineFault.{HeaderLineFault}
+use Rattle.pl94.specs.claim.Judging.{states_of, numbers_of, ids_of, state_record_of, other_state, repeats, conflict, kind_conflict, repeated_record, entries, entry_of, judge, judged}
+use Rattle.pl94.specs.{Whole.{AreHeaderLines, AreTogether}, declared.entry.GeoRecord.GeoRecord, declared.entry.HeaderLineFault.HeaderLineFault}
 use Rattle.pl94.specs.declared.entry.HeaderLineFault.TheVariants.{State, RepeatedBlock, RepeatedRecord, TooManyBlocks}
 use Rattle.pl94.proofs.HoldingLemmas.{entries_taken, entries_passed, numbers_of-push, states_of-push, ids_of-push}
 
@@ -95,9 +93,7 @@ both_false : (a b : Bool) → a ≡ false → b ≡ false → (a || (b || false)
 both_false a b ia ib = rw (ia, ib) refl
 
 other_state-push : (es : List GeoRecord) (e : GeoRecord) (s : ℕ) → other_state es s ≡ false → e.state ≡ s → other_state (es ++ e ∷ []) s ≡ false
-other_state-push es e s none same =
-    ap (list_any (λ x. not (eqb x s))) (states_of-push es e) ∙ list_any-append (λ x. not (eqb x s)) (states_of es) (e.state ∷ [])
-    ∙ both_false (other_state es s) (not (eqb e.state s)) none (test_from_same e.state s same)
+other_state-push es e s none same = search (rules, states_of-push, list_any-append, both_false, test_from_same)
 
 one_state-push : (es : List GeoRecord) (e : GeoRecord) → All (λ s. other_state es s ≡ false) (states_of es) → other_state es e.state ≡ false
     → All (λ s. other_state (es ++ e ∷ []) s ≡ false) (states_of (es ++ e ∷ []))
@@ -117,13 +113,7 @@ together_kind es e None is t same none =
     let count = none_counted es first.0 in
     let one : cond {A = ℕ} (is_none e.block) 1 0 ≡ 1 = ap (λ (x : Option ℕ). cond {A = ℕ} (is_none x) 1 0) is in
     let ids_are : ids_of (es ++ e ∷ []) ≡ ids_of es = ids_of-push es e ∙ ap (λ (x : Option ℕ). ids_of es ++ cons_option x []) is ∙ append-nil (ids_of es) in
-    record {
-      one_state = one_state-push es e t.one_state same;
-      one_state_record = omega (arith, count-push es e);
-      different_records = subst (IsDistinct nat_eq) (sym (numbers_of-push es e)) (IsDistinct-push nat_eq_equiv (numbers_of es) e.number t.different_records second.0);
-      different_blocks = subst (IsDistinct nat_eq) (sym ids_are) t.different_blocks;
-      few = omega (arith, ap length ids_are, t.few);
-    }
+    search (rules, second, ids_are, one_state-push, count-push, nat_eq, numbers_of-push, IsDistinct-push, nat_eq_equiv)
 together_kind es e (Some id) is t same none =
     let first = cond_none (repeats (ids_of es) id) RepeatedBlock (cond (repeats (numbers_of es) e.number) (Some RepeatedRecord) (cond (leb block_limit (length (ids_of es))) (Some TooManyBlocks) None)) none in
     let second = cond_none (repeats (numbers_of es) e.number) RepeatedRecord (cond (leb block_limit (length (ids_of es))) (Some TooManyBlocks) None) first.1 in
@@ -141,9 +131,7 @@ together_kind es e (Some id) is t same none =
     }
 
 together_more : (es : List GeoRecord) (e : GeoRecord) → AreTogether es → conflict es e ≡ None → AreTogether (es ++ e ∷ [])
-together_more es e t none =
-    let state = cond_none (other_state es e.state) State (kind_conflict es e.number e.block) none in
-    together_kind es e e.block refl t state.0 state.1
+together_more es e t none = search (rules, cond_none, together_kind)
 
 -- ---- a record among others
 
@@ -176,18 +164,8 @@ no_state_before es none = by_case (is_some (state_record_of es)) refl
     by_case false is = refl
 
 kind_before : (before after : List GeoRecord) (e : GeoRecord) (o : Option ℕ) → e.block ≡ o → AreTogether (before ++ e ∷ after) → kind_conflict before e.number o ≡ None
-kind_before before after e None is t =
-    let number : repeats (numbers_of before) e.number ≡ false = before_differs (numbers_of before) (numbers_of after) e.number (subst (IsDistinct nat_eq) (numbers_of-cut before after e) t.different_records) in
-    let one : cond {A = ℕ} (is_none e.block) 1 0 ≡ 1 = ap (λ (x : Option ℕ). cond {A = ℕ} (is_none x) 1 0) is in
-    let none : count_by (λ x. is_none x.block) before ≡ 0 = omega (arith, count-cut before after e, t.one_state_record) in
-    rw (no_state_before before none, number) refl
-kind_before before after e (Some id) is t =
-    let number : repeats (numbers_of before) e.number ≡ false = before_differs (numbers_of before) (numbers_of after) e.number (subst (IsDistinct nat_eq) (numbers_of-cut before after e) t.different_records) in
-    let ids_are : ids_of (before ++ e ∷ after) ≡ ids_of before ++ id ∷ ids_of after = ids_of-cut before after e ∙ ap (λ (x : Option ℕ). ids_of before ++ cons_option x (ids_of after)) is in
-    let block : repeats (ids_of before) id ≡ false = before_differs (ids_of before) (ids_of after) id (subst (IsDistinct nat_eq) ids_are t.different_blocks) in
-    let count : length (ids_of before) < block_limit = omega (arith, ap length ids_are, length-append (ids_of before) (id ∷ ids_of after), t.few) in
-    let room : leb block_limit (length (ids_of before)) ≡ false = grind (arith, nat_tests) in
-    rw (block, number, room) refl
+kind_before before after e None is t = search (rules, before_differs, nat_eq, numbers_of-cut, is_none, count_by, count-cut, no_state_before)
+kind_before before after e (Some id) is t = search (rules, before_differs, nat_eq, numbers_of-cut, ids_of-cut, length-append, nat_tests)
 
 together_before : (before after : List GeoRecord) (e : GeoRecord) → AreTogether (before ++ e ∷ after) → conflict before e ≡ None
 together_before before after e t =
@@ -208,16 +186,7 @@ line_more ls line (Ok (Some e)) is whole none = record {
 
 whole_none : AreHeaderLines []
 unfolding IsDistinct
-whole_none = record {
-  shaped = λ k d inside. absurd (omega arith);
-  together = record {
-    one_state = λ k d inside. absurd (omega arith);
-    one_state_record = omega arith;
-    different_records = tt;
-    different_blocks = tt;
-    few = omega arith;
-  };
-}
+whole_none = search rules
 
 whole_on : (ls done more : List (List ℕ)) → AreGood judge ls → ls ≡ done ++ more → AreHeaderLines done → AreHeaderLines ls
 whole_on ls done [] good cut whole = subst AreHeaderLines (sym (cut ∙ append-nil done)) whole
@@ -232,10 +201,7 @@ entries-cut before after line = filter_map-append entry_of before (line ∷ afte
 
 line_before : (ls before after : List (List ℕ)) (line : List ℕ) (r : Result (Option GeoRecord) HeaderLineFault) → line_read line ≡ r → AreHeaderLines ls → ls ≡ before ++ line ∷ after → judged (entries before) r ≡ None
 line_before ls before after line (Ok None) is whole cut = refl
-line_before ls before after line (Ok (Some e)) is whole cut =
-    let es : entries ls ≡ entries before ++ e ∷ entries after =
-    ap entries cut ∙ entries-cut before after line ∙ ap (λ (x : Result (Option GeoRecord) HeaderLineFault). entries before ++ cons_option (taken_entry x) (entries after)) is in
-    together_before (entries before) (entries after) e (subst AreTogether es whole.together)
+line_before ls before after line (Ok (Some e)) is whole cut = search (rules, entries-cut, together_before)
 line_before ls before after line (Err f) is whole cut =
     let there : get_or ls (length before) [] ≡ line = ap (λ (t : List (List ℕ)). get_or t (length before) []) cut ∙ get_or_at before line after [] (length before) refl in
     let inside : length before < length ls = omega (arith, ap length cut, length-append before (line ∷ after)) in

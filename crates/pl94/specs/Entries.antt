@@ -1,9 +1,7 @@
 -- What no promise rests on, beside claim/Entries.antt.
 use Rattle.std.specs.Prelude.{◌≡◌, ℕ, List, IfSome}
 use Rattle.desk_model.specs.claim.Block.{state_of}
-use Rattle.pl94.specs.declared.entry.GeoRecord.{GeoRecord}
-use Rattle.pl94.specs.declared.entry.BlockFields.{BlockFields}
-use Rattle.pl94.specs.claim.Entries.{field}
+use Rattle.pl94.specs.{declared.entry.GeoRecord.GeoRecord, declared.entry.BlockFields.BlockFields, claim.Entries.field}
 
 -- the state is the one of the block's number
 pub record IsEntry (e : GeoRecord) : Type 0 where

@@ -1,23 +1,11 @@
 -- What no promise rests on, beside claim/GeoFile.antt.
-use Rattle.std.specs.Prelude.{◌≡◌, ℕ, ◌<◌, ◌≤◌, List, [], map, length, get_or, All, nat_eq, Option, Result, Ok, Err}
-use Rattle.std.specs.List.{IsDistinct}
-use Rattle.std.specs.Io.KnownBytes.{Consumes}
-use Rattle.byte_stream.specs.claim.Counts.{counted}
-use Rattle.desk_model.specs.claim.Block.{state_of}
-use Rattle.desk_model.specs.claim.GeographyModels.{block_limit}
-use Rattle.byte_stream.specs.claim.Judged.{AreGood, BeginsWithLines}
+use Rattle.std.specs.{Prelude.{◌≡◌, ℕ, ◌<◌, ◌≤◌, List, [], map, length, get_or, All, nat_eq, Result, Ok, Err}, List.IsDistinct}
+use Rattle.desk_model.specs.{claim.Block.state_of, claim.GeographyModels.block_limit}
 use Rattle.byte_stream.specs.declared.reader.ReadFault.{ReadFault}
 use Rattle.byte_stream.specs.declared.reader.ReadFault.TheVariants as read
-use Rattle.pl94.specs.Holding.{Holds}
-use Rattle.pl94.specs.claim.Judging.{entries, blocks_of, state_record_of, ids_of, judge}
-use Rattle.pl94.specs.declared.entry.GeoRecord.{GeoRecord}
-use Rattle.pl94.specs.declared.entry.HeaderLineFault.TheVariants.{Shape}
-use Rattle.pl94.specs.declared.header.GeoBlock.{GeoBlock}
-use Rattle.pl94.specs.declared.header.Header.{Header}
-use Rattle.pl94.specs.declared.header.HeaderRefusal.{HeaderRefusal}
+use Rattle.pl94.specs.{claim.Judging.{blocks_of, state_record_of, ids_of}, declared.entry.GeoRecord.GeoRecord, declared.entry.HeaderLineFault.TheVariants.Shape}
+use Rattle.pl94.specs.{declared.header.GeoBlock.GeoBlock, declared.header.HeaderRefusal.HeaderRefusal, declared.geo.GeoRows.GeoRows, declared.geo.GeoFault.GeoFault}
 use Rattle.pl94.specs.declared.header.HeaderRefusal.TheVariants as refusal
-use Rattle.pl94.specs.declared.geo.GeoRows.{GeoRows}
-use Rattle.pl94.specs.declared.geo.GeoFault.{GeoFault}
 use Rattle.pl94.specs.declared.geo.GeoFault.TheVariants as fault
 
 abbrev pub row_ids : List GeoBlock → List ℕ
@@ -46,13 +34,3 @@ abbrev pub Finishes : List GeoRecord → ℕ → Result GeoRows GeoFault → Typ
 Finishes es number (Ok rows) = AreGeoRows rows × (0 < length (ids_of es))
     × (rows.blocks.items ≡ blocks_of es) × (rows.state_record ≡ state_record_of es)
 Finishes es number (Err e) = (e ≡ fault.NoBlock number) × (ids_of es ≡ [])
-
--- the bytes that came are these good lines, whose records the header holds, and the held bytes
-pub record Stands (old left : Option (List ℕ)) (held : List ℕ) (number : ℕ) (h : Header) : Type 0 where
-  pub text : List ℕ
-  pub ls : List (List ℕ)
-  pub consumed : Consumes old left text
-  pub begins : BeginsWithLines text ls held
-  pub good : AreGood judge ls
-  pub holds : Holds h (entries ls)
-  pub counted : number ≡ length ls

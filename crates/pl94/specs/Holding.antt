@@ -1,17 +1,10 @@
 -- What a reader keeps of the taken records.
-use Rattle.std.specs.Prelude.{◌≡◌, ℕ, ◌≤◌, true, false, not, ◌||◌, ◌==◌, nat_eq, List, [], ◌∷◌, ◌++◌, length, All, Some, None, Result, Ok, Err, ⊤}
-use Rattle.std.specs.List.{IsDistinct}
+use Rattle.std.specs.{Prelude.{◌≡◌, ℕ, ◌≤◌, true, false, not, ◌||◌, ◌==◌, nat_eq, List, [], ◌∷◌, ◌++◌, length, All, Some, None, Result, Ok, Err, ⊤}, List.IsDistinct}
 use Rattle.std.specs.Option.{option_map_or}
 use Rattle.desk_model.specs.claim.GeographyModels.{block_limit}
-use Rattle.pl94.specs.Entries.{IsEntry}
-use Rattle.pl94.specs.claim.Judging.{numbers_of, ids_of, blocks_of, state_record_of, other_state, repeats, conflict, entries, judge}
-use Rattle.pl94.specs.Sets.{has}
-use Rattle.pl94.specs.declared.entry.GeoRecord.{GeoRecord}
-use Rattle.pl94.specs.declared.entry.HeaderLineFault.{HeaderLineFault}
-use Rattle.pl94.specs.declared.header.Header.{Header}
-use Rattle.pl94.specs.declared.number_set.NumberSet.{NumberSet}
-use Rattle.pl94.specs.declared.header.HeaderRefusal.{HeaderRefusal}
-use Rattle.pl94.specs.declared.header.HeaderRefusal.TheVariants.{Fault, Memory}
+use Rattle.pl94.specs.{Entries.IsEntry, claim.Judging.{numbers_of, ids_of, blocks_of, state_record_of, other_state, repeats, conflict, entries, judge}, Sets.has}
+use Rattle.pl94.specs.{declared.entry.GeoRecord.GeoRecord, declared.entry.HeaderLineFault.HeaderLineFault, declared.header.Header.Header, declared.number_set.NumberSet.NumberSet}
+use Rattle.pl94.specs.{declared.header.HeaderRefusal.HeaderRefusal, declared.header.HeaderRefusal.TheVariants.{Fault, Memory}}
 
 -- these are the taken records, and they go together
 pub record Holds (h : Header) (es : List GeoRecord) : Type 0 where

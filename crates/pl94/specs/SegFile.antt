@@ -1,20 +1,12 @@
 -- What no promise rests on, beside claim/SegFile.antt.
-use Rattle.std.specs.Prelude.{◌≡◌, ℕ, List, [], ◌∷◌, ◌++◌, length, if◌then◌else◌, ◌==◌, false, Option, Some, None, Result, Ok, Err, ⊤}
-use Rattle.std.specs.Io.KnownBytes.{Consumes}
-use Rattle.byte_stream.specs.claim.Counts.{counted}
-use Rattle.byte_stream.specs.claim.Judged.{AreGood, BeginsWithLines}
+use Rattle.std.specs.Prelude.{◌≡◌, ℕ, List, [], ◌∷◌, ◌++◌, if◌then◌else◌, ◌==◌, false, Some, None, Result, Ok, Err, ⊤}
 use Rattle.byte_stream.specs.declared.reader.ReadFault.{ReadFault}
 use Rattle.byte_stream.specs.declared.reader.ReadFault.TheVariants as read
-use Rattle.pl94.specs.claim.Records.{people_at, has_number, records, judged, judge}
-use Rattle.pl94.specs.declared.record.SegmentNumber.{SegmentNumber}
-use Rattle.pl94.specs.declared.record.SegRecord.{SegRecord}
-use Rattle.pl94.specs.declared.record.SegmentLineFault.TheVariants.{Shape}
-use Rattle.pl94.specs.declared.segment.SegRows.{SegRows}
-use Rattle.pl94.specs.declared.segment.SegmentRefusal.{SegmentRefusal}
+use Rattle.pl94.specs.{claim.Records.{people_at, has_number, records, judged, judge}, declared.record.SegmentNumber.SegmentNumber, declared.record.SegRecord.SegRecord}
+use Rattle.pl94.specs.{declared.record.SegmentLineFault.TheVariants.Shape, declared.segment.SegRows.SegRows, declared.segment.SegmentRefusal.SegmentRefusal}
+use Rattle.pl94.specs.{declared.segment.SegFault.SegFault, claim.SegFile.people_of}
 use Rattle.pl94.specs.declared.segment.SegmentRefusal.TheVariants as refusal
-use Rattle.pl94.specs.declared.segment.SegFault.{SegFault}
 use Rattle.pl94.specs.declared.segment.SegFault.TheVariants as fault
-use Rattle.pl94.specs.claim.SegFile.{people_of}
 
 -- the rows have the record beside what they had, where it is new to them
 abbrev pub Grows : SegRows → SegRecord → SegRows → Type 0
@@ -46,13 +38,3 @@ abbrev pub Judges : SegmentNumber → List (List ℕ) → List ℕ → Result (U
 Judges part ls line (Ok u) new = (judge part ls line ≡ None) × Holds new (records part (ls ++ line ∷ []))
 Judges part ls line (Err (refusal.Fault f)) new = judge part ls line ≡ Some f
 Judges part ls line (Err refusal.Memory) new = ⊤
-
--- the bytes that came are these good lines, whose records the rows hold, and the held bytes
-pub record Stands (part : SegmentNumber) (old left : Option (List ℕ)) (held : List ℕ) (number : ℕ) (rows : SegRows) : Type 0 where
-  pub text : List ℕ
-  pub ls : List (List ℕ)
-  pub consumed : Consumes old left text
-  pub begins : BeginsWithLines text ls held
-  pub good : AreGood (judge part) ls
-  pub holds : Holds rows (records part ls)
-  pub counted : number ≡ length ls

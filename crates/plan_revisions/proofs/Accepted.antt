@@ -1,32 +1,17 @@
 -- Lemmas on the definitions of Accepted.
-use Rattle.std.proofs.Common.{◌≡◌, ◌<◌, ◌≤◌, ◌+◌, ◌-◌, ℕ, suc, Bool, true, false, cond, List, [], ◌∷◌, ◌++◌, length, Option, Some, None, Result, Ok, Err, refl, sym, ap, ◌∙◌, arith}
-use Rattle.std.specs.Prelude.{◌==◌, not, nat_le}
+use Rattle.std.specs.{Prelude.{◌==◌, not, nat_le, unwrap_or}, List.slice_get}
+use Rattle.std.proofs.Common.{◌≡◌, ◌<◌, ◌≤◌, ◌+◌, ◌-◌, ℕ, suc, Bool, cond, List, [], ◌∷◌, ◌++◌, length, Option, Some, None, Result, Ok, refl, sym, ap, ◌∙◌, arith}
 use Rattle.std.specs.FinMap as map_of
 use Rattle.std.proofs.lemmas.Bool.{leb-false, eqb-true}
-use Rattle.std.proofs.lemmas.Bool.Decides.{nat_tests}
-use Rattle.desk_model.specs.declared.command.Command.{Command}
-use Rattle.desk_model.specs.declared.command.Command.TheVariants.{Create, Whole, Counties, Retire, Fork}
-use Rattle.desk_model.specs.declared.reply.Reply.TheVariants as reply
-use Rattle.desk_model.specs.declared.kind.Kind.{Kind}
-use Rattle.desk_model.specs.claim.Baf.{Values, Fault, body_read}
-use Rattle.desk_model.specs.claim.Geography.{GeographyModel}
-use Rattle.desk_model.specs.claim.Desk.{Plan, Desk}
-use Rattle.desk_model.specs.claim.Step.{step, step_at, create, on_revisions, whole_read, patch_read, county_patched, partly_listed, patched, refused, retired, fork, fork_from, fork_of, plan_limit, revision_limit, Outcome}
-use Rattle.desk_model.specs.claim.Baf.{whole}
-use Rattle.desk_model.specs.claim.Subject.{revision_at}
-use Rattle.desk_model.specs.declared.reply.Refusal.TheVariants.{Limit, Stale}
-use Rattle.std.specs.List.{slice_get}
-use Rattle.std.specs.Cmp.Lexicographic.{nat_list_cmp_total}
-use Rattle.std.specs.Prelude.{unwrap_or}
-use Rattle.desk_model.specs.claim.Desk.{name_cmp}
+use Rattle.desk_model.specs.{declared.command.Command.Command, declared.command.Command.TheVariants.{Create, Whole, Counties, Retire, Fork}, declared.kind.Kind.Kind}
+use Rattle.desk_model.specs.{claim.Baf.{Values, Fault}, claim.Geography.GeographyModel, claim.Desk.{Plan, Desk}}
+use Rattle.desk_model.specs.claim.Step.{step, step_at, create, on_revisions, whole_read, patch_read, county_patched, patched, refused, retired, fork, fork_from, fork_of, plan_limit, revision_limit, Outcome}
+use Rattle.desk_model.specs.{claim.Subject.revision_at, declared.reply.Refusal.TheVariants.{Limit, Stale}}
 use Rattle.desk_model.specs.claim.Room.{changed, revision_rows, added_rows, command_rows, fork_rows, forked_rows, last_revision}
-use Rattle.desk_catalogue.specs.claim.Accepting.{IsAfter}
-use Rattle.desk_catalogue.specs.Kept.{revision_in}
-use Rattle.store_rows.proofs.Frames.{itself}
+use Rattle.desk_model.specs.declared.reply.Reply.TheVariants as reply
+use Rattle.desk_catalogue.{specs.claim.Accepting.IsAfter, specs.Kept.revision_in, proofs.Drafted.{end_of, put_there, no_zero}}
 use Rattle.store_rows.specs.Changes.{with_revision}
-use Rattle.plan_revisions.specs.claim.Rows.{added_chunks, added_by}
-use Rattle.plan_revisions.specs.Plans.{TakesPlan, with_plan, HasPlanAt, without_plan, TakesFork, with_fork}
-use Rattle.plan_revisions.specs.Accepted.{IsRevised}
+use Rattle.plan_revisions.specs.{claim.Rows.{added_chunks, added_by}, Plans.{TakesPlan, with_plan, HasPlanAt, without_plan, TakesFork, with_fork}, Accepted.IsRevised}
 use Rattle.plan_revisions.proofs.Within.{AreSmall, body_small, patched_within, revision_within, whole_within}
 
 -- ---- a plan is created
@@ -35,16 +20,13 @@ module _ (d : Desk) (name : List ℕ) (size : Kind × ℕ) where
   TellsPlan o = o.0 ≡ reply.Created name 0 → TakesPlan name d × (o.1 ≡ with_plan name size d)
 
   plan_room : (g : GeographyModel) → d.geography ≡ Some g → map_of.get d.plans name ≡ None → (full : Bool) → nat_le plan_limit (map_of.len d.plans) ≡ full → TellsPlan (cond full (refused d Limit) (reply.Created name 0, with_plan name size d))
-  plan_room g geography none true is = λ told. absurd (cc)
-  plan_room g geography none false is = λ told. (record { g = g; geography = geography; missing = none; room = leb-false plan_limit (map_of.len d.plans) is }, refl)
+  plan_room g geography none full is = search (arith, g, geography, leb-false, map_of.len)
 
   plan_missing : (g : GeographyModel) → d.geography ≡ Some g → (p : Option Plan) → map_of.get d.plans name ≡ p → TellsPlan (create d name size.0 size.1 p)
-  plan_missing g geography (Some p) is = λ told. absurd (cc)
-  plan_missing g geography None is = plan_room g geography is (nat_le plan_limit (map_of.len d.plans)) refl
+  plan_missing g geography p is = search (arith, plan_room, g, geography, map_of.len)
 
   plan_geography : (geo : Option GeographyModel) → d.geography ≡ geo → TellsPlan (step_at geo d (Create name size))
-  plan_geography None is = λ told. absurd (cc)
-  plan_geography (Some g) is = plan_missing g is (map_of.get d.plans name) refl
+  plan_geography geo is = search (arith, plan_missing, map_of.get)
 
   pub created : TellsPlan (step d (Create name size))
   created = plan_geography d.geography refl
@@ -55,12 +37,10 @@ module _ (d : Desk) (name : List ℕ) where
   TellsGone o = o.0 ≡ reply.Retired name → HasPlanAt name d × (o.1 ≡ without_plan name d)
 
   gone_there : (p : Option Plan) → map_of.get d.plans name ≡ p → TellsGone (retired d name p)
-  gone_there None is = λ told. absurd (cc)
-  gone_there (Some p) is = λ told. ((p, is), refl)
+  gone_there p is = search (arith)
 
   gone_geography : (geo : Option GeographyModel) → TellsGone (step_at geo d (Retire name))
-  gone_geography None = λ told. absurd (cc)
-  gone_geography (Some g) = gone_there (map_of.get d.plans name) refl
+  gone_geography geo = search (arith, gone_there, map_of.get)
 
   pub taken_away : TellsGone (step d (Retire name))
   taken_away = gone_geography d.geography
@@ -88,20 +68,16 @@ module _ (d : Desk) (name : List ℕ) (from : List ℕ × ℕ) where
     }
 
     fork_there : map_of.len d.plans < plan_limit → (q : Option Plan) → map_of.get d.plans from.0 ≡ q → TellsFork (fork_from d name q from.1)
-    fork_there room None is = λ told. absurd (cc)
-    fork_there room (Some q) is = fork_revision room q is (revision_at q from.1) refl
+    fork_there room q is = search (arith, fork_revision)
 
     fork_room : (full : Bool) → nat_le plan_limit (map_of.len d.plans) ≡ full → TellsFork (cond full (refused d Limit) (fork_from d name (map_of.get d.plans from.0) from.1))
-    fork_room true is = λ told. absurd (cc)
-    fork_room false is = fork_there (leb-false plan_limit (map_of.len d.plans) is) (map_of.get d.plans from.0) refl
+    fork_room full is = search (arith, fork_there, leb-false, map_of.len, map_of.get)
 
   fork_missing : (g : GeographyModel) → d.geography ≡ Some g → (p : Option Plan) → map_of.get d.plans name ≡ p → TellsFork (fork d name from p)
-  fork_missing g geography (Some p) is = λ told. absurd (cc)
-  fork_missing g geography None is = fork_room g geography is (nat_le plan_limit (map_of.len d.plans)) refl
+  fork_missing g geography p is = search (arith, fork_room, g, geography, map_of.len)
 
   fork_geography : (geo : Option GeographyModel) → d.geography ≡ geo → TellsFork (step_at geo d (Fork name from))
-  fork_geography None is = λ told. absurd (cc)
-  fork_geography (Some g) is = fork_missing g is (map_of.get d.plans name) refl
+  fork_geography geo is = search (arith, fork_missing, map_of.get)
 
   pub forked : TellsFork (step d (Fork name from))
   forked = fork_geography d.geography refl
@@ -120,20 +96,16 @@ module _ (d : Desk) (name : List ℕ) (after : ℕ) where
   TellsOf g go = (p : Plan) → map_of.get d.plans name ≡ Some p → after ≡ length p.revisions → length p.revisions < revision_limit → TellsRevision (go p)
 
   revision_room : (g : GeographyModel) (go : Plan → Outcome) → TellsOf g go → (p : Plan) → map_of.get d.plans name ≡ Some p → after ≡ length p.revisions → (full : Bool) → nat_le revision_limit (length p.revisions) ≡ full → TellsRevision (cond full (refused d Limit) (go p))
-  revision_room g go tells p there last true is = λ told. absurd (cc)
-  revision_room g go tells p there last false is = tells p there last (leb-false revision_limit (length p.revisions) is)
+  revision_room g go tells p there last full is = search (arith, tells, leb-false)
 
   revision_last : (g : GeographyModel) (go : Plan → Outcome) → TellsOf g go → (p : Plan) → map_of.get d.plans name ≡ Some p → (same : Bool) → (after == length p.revisions) ≡ same → TellsRevision (cond (not same) (refused d (Stale (length p.revisions))) (cond (nat_le revision_limit (length p.revisions)) (refused d Limit) (go p)))
-  revision_last g go tells p there false is = λ told. absurd (cc)
-  revision_last g go tells p there true is = revision_room g go tells p there (eqb-true after (length p.revisions) is) (nat_le revision_limit (length p.revisions)) refl
+  revision_last g go tells p there same is = search (arith, revision_room, g, eqb-true)
 
   revision_there : (g : GeographyModel) (go : Plan → Outcome) → TellsOf g go → (found : Option Plan) → map_of.get d.plans name ≡ found → TellsRevision (on_revisions d found after go)
-  revision_there g go tells None is = λ told. absurd (cc)
-  revision_there g go tells (Some p) is = revision_last g go tells p is (after == length p.revisions) refl
+  revision_there g go tells found is = search (arith, revision_last, g, after)
 
   whole_told : (g : GeographyModel) → d.geography ≡ Some g → (p : Plan) → map_of.get d.plans name ≡ Some p → after ≡ length p.revisions → length p.revisions < revision_limit → (reading : Result Values Fault) → ((listed : Values) → reading ≡ Ok listed → AreSmall p.n listed) → TellsRevision (whole_read g d name p reading)
-  whole_told g geography p there last few (Err f) small = λ told. absurd (cc)
-  whole_told g geography p there last few (Ok listed) small = λ told. record { g = g; plan = p; districts = whole g listed; geography = geography; there = there; count = last; few = few; within = λ limits. whole_within g p.n listed (small listed refl); desk = refl }
+  whole_told g geography p there last few reading small = search (arith, g, geography, whole_within, small)
 
   part_told : (g : GeographyModel) → d.geography ≡ Some g → (p : Plan) → map_of.get d.plans name ≡ Some p → after ≡ length p.revisions → length p.revisions < revision_limit → (listed : Values) → AreSmall p.n listed → (part : Option ℕ) → TellsRevision (county_patched g d name p listed part)
   part_told g geography p there last few listed small (Some county) = λ told. absurd (cc)
@@ -150,16 +122,13 @@ module _ (d : Desk) (name : List ℕ) (after : ℕ) where
   }
 
   patch_told : (g : GeographyModel) → d.geography ≡ Some g → (p : Plan) → map_of.get d.plans name ≡ Some p → after ≡ length p.revisions → length p.revisions < revision_limit → (reading : Result Values Fault) → ((listed : Values) → reading ≡ Ok listed → AreSmall p.n listed) → TellsRevision (patch_read g d name p reading)
-  patch_told g geography p there last few (Err f) small = λ told. absurd (cc)
-  patch_told g geography p there last few (Ok listed) small = part_told g geography p there last few listed (small listed refl) (partly_listed g listed)
+  patch_told g geography p there last few reading small = search (arith, part_told, g, geography, small)
 
   whole_geography : (body : List ℕ) (geo : Option GeographyModel) → d.geography ≡ geo → TellsRevision (step_at geo d (Whole name after body))
-  whole_geography body None is = λ told. absurd (cc)
-  whole_geography body (Some g) is = revision_there g (λ p. whole_read g d name p (body_read g p.n body)) (λ p there last few. whole_told g is p there last few (body_read g p.n body) (body_small g p.n body)) (map_of.get d.plans name) refl
+  whole_geography body geo is = search (arith, revision_there, whole_told, body_small, map_of.get)
 
   counties_geography : (body : List ℕ) (geo : Option GeographyModel) → d.geography ≡ geo → TellsRevision (step_at geo d (Counties name after body))
-  counties_geography body None is = λ told. absurd (cc)
-  counties_geography body (Some g) is = revision_there g (λ p. patch_read g d name p (body_read g p.n body)) (λ p there last few. patch_told g is p there last few (body_read g p.n body) (body_small g p.n body)) (map_of.get d.plans name) refl
+  counties_geography body geo is = search (arith, revision_there, patch_told, body_small, map_of.get)
 
   pub whole_revised : (body : List ℕ) → TellsRevision (step d (Whole name after body))
   whole_revised body = whole_geography body d.geography refl
@@ -168,16 +137,10 @@ module _ (d : Desk) (name : List ℕ) (after : ℕ) where
   counties_revised body = counties_geography body d.geography refl
 
 -- ---- the revision that it got
-end_of : (xs : List (List ℕ)) (x : List ℕ) → slice_get (xs ++ x ∷ []) (length xs) ≡ Some x
-end_of [] x = refl
-end_of (y ∷ ys) x = end_of ys x
 
 longer : (xs : List (List ℕ)) (x : List ℕ) → length (xs ++ x ∷ []) ≡ suc (length xs)
 longer [] x = refl
 longer (y ∷ ys) x = ap suc (longer ys x)
-
-no_zero : (n : ℕ) → (suc n == 0) ≡ false
-no_zero n = grind (arith, nat_tests)
 
 at_more : (q : Plan) (n : ℕ) → revision_at q (suc n) ≡ slice_get q.revisions n
 at_more q n = ap (λ b. cond b None (slice_get q.revisions (suc n - 1))) (no_zero n) ∙ ap (λ k. slice_get q.revisions k) (omega arith)
@@ -187,9 +150,6 @@ at_next p districts k is = ap (λ n. revision_at (with_revision p districts) n) 
 
 pub last_of_next : (p : Plan) (districts : List ℕ) → last_revision (with_revision p districts) ≡ Some districts
 last_of_next p districts = at_next p districts (length (p.revisions ++ districts ∷ [])) (longer p.revisions districts)
-
-put_there : (plans : map_of.FinMap name_cmp Plan) (name : List ℕ) (p : Plan) → map_of.get (map_of.insert plans name p) name ≡ Some p
-put_there plans name p = map_of.get-insert nat_list_cmp_total plans name p name ∙ ap (λ b. cond b (Some p) (map_of.get plans name)) (itself name)
 
 module _ (d : Desk) (name : List ℕ) (after : ℕ) (e : Desk) (r : IsRevised d name after e) where
   pub plan_then : map_of.get e.plans name ≡ Some (with_revision r.plan r.districts)
@@ -223,22 +183,13 @@ geography_of d e f same is = ap (λ (x : Desk). x.geography) same ∙ is
 
 -- the geography stays
 pub geography_stays : (d : Desk) (c : Command) (e : Desk) → IsAfter d c e → e.geography ≡ d.geography
-geography_stays d (Create name size) e is = geography_of d e (with_plan name size d) (is.desk ∙ (created d name size is.reply).1) refl
-geography_stays d (Whole name after body) e is = let r = whole_revised d name after body is.reply in geography_of d e (record d { plans = map_of.insert d.plans name (with_revision r.plan r.districts) }) (is.desk ∙ r.desk) refl
-geography_stays d (Counties name after body) e is = let r = counties_revised d name after body is.reply in geography_of d e (record d { plans = map_of.insert d.plans name (with_revision r.plan r.districts) }) (is.desk ∙ r.desk) refl
-geography_stays d (Fork name from) e is =
-    let told = forked d name from is.reply in
-    let took = told.takes.source in
-    geography_of d e (with_fork name from d) (is.desk ∙ told.desk)
-    (ap (λ (p : Option Plan). (fork_from d name p from.1).1.geography) took.there ∙ ap (λ (at : Option (List ℕ)). (fork_of d name took.plan at).1.geography) took.is)
-geography_stays d (Retire name) e is = geography_of d e (without_plan name d) (is.desk ∙ (taken_away d name is.reply).1) refl
+geography_stays d c e is = search (arith, geography_of, created, whole_revised, map_of.insert, counties_revised, forked, taken_away)
 
 some_rows : (g : GeographyModel) (last : Option (List ℕ)) (new : List ℕ) (n : ℕ) → n ≡ revision_rows g last new → 2 ≤ n
 some_rows g last new n is = omega arith
 
 -- and it writes two rows at least
 pub rows_some : (d : Desk) (c : Command) (e : Desk) → IsAfter d c e → 2 ≤ command_rows d c
-rows_some d (Create name size) e is = omega arith
 rows_some d (Whole name after body) e is =
     let then = (step d (Whole name after body)).1 in
     let r = whole_revised d name after body is.reply in
@@ -247,8 +198,5 @@ rows_some d (Counties name after body) e is =
     let then = (step d (Counties name after body)).1 in
     let r = counties_revised d name after body is.reply in
     some_rows r.g (revision_in (map_of.get d.plans name) after) r.districts (command_rows d (Counties name after body)) (rows_added d name after then r)
-rows_some d (Retire name) e is = omega arith
-rows_some d (Fork name from) e is =
-    let told = forked d name from is.reply in
-    let rows = rows_forked d name from told.g told.geography in
-    omega arith
+rows_some d (Fork name from) e is = search (arith, forked, is.reply, rows_forked)
+rows_some d _ e is = omega arith

@@ -1,41 +1,22 @@
 -- The rows of one revision more make the next desk.
-use Rattle.std.proofs.Common.{◌≡◌, ◌<◌, ◌+◌, ◌-◌, ◌^◌, ℕ, Bool, true, false, cond, List, [], ◌++◌, length, get_or, Option, Some, None, refl, sym, ap, subst, ◌∙◌, inl, inr, arith, append_assoc}
-use Rattle.std.specs.FinMap.{get, insert}
-use Rattle.std.specs.List.{slice_get}
+use Rattle.std.specs.{FinMap.insert, List.slice_get}
+use Rattle.std.proofs.Common.{◌≡◌, ◌<◌, ◌+◌, ◌-◌, ◌^◌, ℕ, Bool, true, cond, List, [], ◌++◌, length, get_or, Option, Some, None, refl, sym, ap, subst, ◌∙◌, inl, inr, arith, append_assoc}
 use Rattle.std.proofs.lemmas.List.Elements.{All-push}
 use Rattle.std.proofs.lemmas.Option.{get_or_from_slice_get, slice_get_cases}
-use Rattle.desk_model.specs.claim.Ranges.{cut, sizes}
-use Rattle.desk_model.specs.Ranges.{ranges_of, RangesAreCounties, ListsAreCut}
-use Rattle.desk_model.specs.claim.Desk.{Plan, Desk}
-use Rattle.desk_model.specs.claim.Geography.{GeographyModel}
+use Rattle.desk_model.specs.{claim.Ranges.{cut, sizes}, Ranges.{ranges_of, RangesAreCounties, ListsAreCut}, claim.Desk.{Plan, Desk}, claim.Geography.GeographyModel}
 use Rattle.desk_model.specs.claim.Room.{changed, last_revision, revision_rows}
-use Rattle.store_rows.specs.declared.value.Counters.{Counters}
-use Rattle.store_rows.specs.declared.value.PlanRow.{PlanRow}
-use Rattle.store_rows.specs.claim.Rows.{KeyMap}
-use Rattle.store_rows.specs.claim.Puts.{Row, put_rows}
-use Rattle.store_rows.specs.NameRows.{name_rows}
-use Rattle.store_rows.specs.claim.RevisionRows.{HasRevision}
-use Rattle.store_rows.specs.claim.DeskRows.{HasPlan}
-use Rattle.store_rows.specs.Changes.{plan_row_of, with_revision}
-use Rattle.store_rows.specs.Draws.{ChangesAreDrawn, FirstsAreDrawn, RowsAreCounted}
-use Rattle.store_rows.specs.RevisionSteps.{AreKept, IsDrawn, new_chunk_rows, new_holding_rows, rows_of_revision}
-use Rattle.store_rows.specs.TidyLaws.{ChunksAreKept, NextIsOne, RevisionsMakeDesks}
-use Rattle.plan_rows.specs.PlanRows.{revised_rows}
-use Rattle.plan_rows.specs.PlanLaws.{PlansAreTold}
+use Rattle.store_rows.specs.{declared.value.Counters.Counters, declared.value.PlanRow.PlanRow, claim.Rows.KeyMap, claim.Puts.{Row, put_rows}, NameRows.name_rows}
+use Rattle.store_rows.specs.{claim.RevisionRows.HasRevision, claim.DeskRows.HasPlan, Changes.{plan_row_of, with_revision}, Draws.{ChangesAreDrawn, FirstsAreDrawn, RowsAreCounted}}
+use Rattle.store_rows.specs.{RevisionSteps.{AreKept, IsDrawn, new_chunk_rows, new_holding_rows, rows_of_revision}, TidyLaws.{ChunksAreKept, NextIsOne, RevisionsMakeDesks}}
+use Rattle.plan_rows.specs.{PlanRows.revised_rows, PlanLaws.PlansAreTold}
 use Rattle.desk_pages.specs.claim.Desks.{AreWithin, IsDeskMap}
 use Rattle.desk_catalogue.specs.Cutting.{changes_in}
-use Rattle.plan_revisions.specs.Plans.{TakesNext, with_next, with_next_of}
-use Rattle.plan_revisions.specs.Counties.{drawn}
-use Rattle.plan_revisions.specs.Adding.{AreRead, rows_put}
-use Rattle.plan_revisions.specs.Laws.{CanAdd, all_rows}
-use Rattle.plan_revisions.proofs.Limits.{with_another}
-use Rattle.plan_revisions.proofs.Desks.{is_with, is_still, numbers_are}
-use Rattle.plan_revisions.proofs.LastRevision.{told_plan, last_there, last_named, as_many, ranges_long}
-use Rattle.plan_revisions.proofs.Drawn.{firsts_drawn, changes_drawn, drawn_long}
-use Rattle.plan_revisions.proofs.ChunkLists.{few_counties, are_chunk_lists}
+use Rattle.plan_revisions.specs.{Plans.{TakesNext, with_next, with_next_of}, Counties.drawn, Adding.{AreRead, rows_put}, Laws.{CanAdd, all_rows}}
+use Rattle.plan_revisions.proofs.{Limits.with_another, Desks.{is_with, is_still, numbers_are}, LastRevision.{told_plan, last_there, last_named, as_many, ranges_long}}
+use Rattle.plan_revisions.proofs.{Drawn.{firsts_drawn, changes_drawn, drawn_long}, ChunkLists.{few_counties, are_chunk_lists}}
 
 -- ---- the chunks of the revision
-clash : (o : Option (List ℕ)) (x : List ℕ) → o ≡ None → o ≡ Some x → ⊥
+pub clash : (o : Option (List ℕ)) (x : List ℕ) → o ≡ None → o ≡ Some x → ⊥
 clash o x none some = let same : ◌≡◌ {A = Option (List ℕ)} None (Some x) = sym none ∙ some in cc
 
 pub record IsLast (revisions : List (List ℕ)) (last : List ℕ) : Type 0 where
@@ -49,8 +30,7 @@ at_place revisions last there = elim (slice_get_cases revisions (length revision
 ]
 
 last_or_none : (b : Bool) (revisions : List (List ℕ)) (last : List ℕ) → cond b None (slice_get revisions (length revisions - 1)) ≡ Some last → IsLast revisions last
-last_or_none true revisions last there = absurd (clash None last refl there)
-last_or_none false revisions last there = at_place revisions last there
+last_or_none b revisions last there = search (arith, clash, at_place)
 
 module _ (kept_law : ChunksAreKept) (firsts : FirstsAreDrawn) (changes : ChangesAreDrawn) (counties : RangesAreCounties) (cut_law : ListsAreCut) (m : KeyMap) (g : GeographyModel) (name : List ℕ) (next : List ℕ) (row : PlanRow) (counters : Counters) (kept : List ℕ) (p : Plan)
     (told : row ≡ plan_row_of row.number p) (has : HasPlan m g name row.number p) (read : AreRead name (length (ranges_of g)) row counters kept m) where
@@ -94,9 +74,6 @@ rows_few counted g name last next row counters kept =
     let long : length numbers ≡ length (sizes g) = drawn_long counters.chunk 0 kept last next (ranges_of g) ∙ ranges_long g in
     ap length (in_order counters name row row (changed g last next) numbers refl) ∙ counted g last next counters name row numbers long
 
-next_there : (d : Desk) (name : List ℕ) (next : List ℕ) (p : Plan) → get d.plans name ≡ Some p → record d { plans = insert d.plans name (with_revision p next) } ≡ with_next name next d
-next_there d name next p there = ap (λ (o : Option Plan). with_next_of d name next o) (sym there)
-
 module _ (told : PlansAreTold) (one : NextIsOne) (makes : RevisionsMakeDesks) (kept_law : ChunksAreKept) (firsts : FirstsAreDrawn) (changes : ChangesAreDrawn) (counties : RangesAreCounties) (cut_law : ListsAreCut) where
   pub desks_added : (g : GeographyModel) (name : List ℕ) (last : Option (List ℕ)) (next : List ℕ) (row : PlanRow) (counters : Counters) (kept : List ℕ) → CanAdd g last next row counters
       → (m : KeyMap) (d : Desk) → IsDeskMap m d → TakesNext g name last next d → AreRead name (length (ranges_of g)) row counters kept m
@@ -116,7 +93,7 @@ module _ (told : PlansAreTold) (one : NextIsOne) (makes : RevisionsMakeDesks) (k
       ∙ ap (λ (n : Counters). rows_of_revision true n name (plan_row_of row.number p) lists numbers) (sym are)
       ∙ ap (λ (b : Bool). rows_of_revision b is.tidy.next name (plan_row_of row.number p) lists numbers) (sym is.version) in
       let sized = is.limits.sizes name p says.takes.there in
-      subst (λ (e : Desk). IsDeskMap (put_rows m (all_rows g name last next row counters kept)) e) (next_there d name next p says.takes.there)
+      subst (λ (e : Desk). IsDeskMap (put_rows m (all_rows g name last next row counters kept)) e) (ap (λ (o : Option Plan). with_next_of d name next o) (sym says.takes.there))
       (subst (λ (rs : List Row). IsDeskMap (put_rows m rs) (record d { plans = insert d.plans name (with_revision p next) })) (sym rows) (record {
         desk = is_still _ d g _ says.takes.geography made.desk;
         tidy = made.tidy.0;

@@ -1,26 +1,15 @@
 -- What is put for each command.
 use Rattle.std.proofs.Common.{◌≡◌, ◌⊎◌, ℕ, List, Some, Result, sym, ap, subst, ◌∙◌, inl, inr}
 use Rattle.sector_device.specs.declared.SectorDevice.{Ghosts}
-use Rattle.desk_model.specs.declared.kind.Kind.{Kind}
-use Rattle.desk_model.specs.declared.command.Command.{Command}
-use Rattle.desk_model.specs.declared.command.Command.TheVariants.{Create, Whole, Counties, Retire, Fork}
-use Rattle.desk_model.specs.claim.Desk.{Desk}
-use Rattle.desk_model.specs.claim.Geography.{GeographyModel}
-use Rattle.desk_model.specs.claim.Room.{command_rows, fork_rows}
+use Rattle.desk_model.specs.{declared.kind.Kind.Kind, declared.command.Command.Command, declared.command.Command.TheVariants.{Create, Whole, Counties, Retire, Fork}}
+use Rattle.desk_model.specs.{claim.Desk.Desk, claim.Geography.GeographyModel, claim.Room.{command_rows, fork_rows}}
 use Rattle.desk_catalogue.specs.claim.Accepting.{IsAfter}
-use Rattle.page_store.specs.declared.pages.Pages.{Pages}
-use Rattle.page_store.specs.declared.txn.Txn.{Txn}
+use Rattle.page_store.specs.{declared.pages.Pages.Pages, declared.txn.Txn.Txn}
 use Rattle.page_btree.specs.declared.error.TreeError.{TreeError}
-use Rattle.plan_rows.specs.claim.PlanRows.{HasPlanNumber, HasChunkNumbers}
-use Rattle.plan_rows.specs.declared.change.ChangeOutcome.{ChangeOutcome}
-use Rattle.plan_rows.specs.declared.change.ChangeOutcome.TheVariants.{Made}
-use Rattle.plan_revisions.specs.Plans.{TakesPlan, with_plan, HasPlanAt, without_plan, TakesFork, with_fork}
+use Rattle.plan_rows.specs.{claim.PlanRows.{HasPlanNumber, HasChunkNumbers}, declared.change.ChangeOutcome.ChangeOutcome, declared.change.ChangeOutcome.TheVariants.Made}
 use Rattle.plan_rows.proofs.Writing.{writes_as}
-use Rattle.plan_revisions.specs.Outcomes.{StepsWhereLeft}
-use Rattle.plan_revisions.specs.claim.Steps.{HasStepped, IsStepped, StepErr}
-use Rattle.plan_revisions.specs.claim.Rows.{HasNumbers, added_by}
-use Rattle.plan_revisions.proofs.Accepted.{created, forked, rows_forked, taken_away}
-use Rattle.plan_revisions.proofs.Counted.{same_geography}
+use Rattle.plan_revisions.specs.{Plans.{TakesPlan, with_plan, HasPlanAt, without_plan, TakesFork, with_fork}, Outcomes.StepsWhereLeft, claim.Steps.{HasStepped, IsStepped, StepErr}}
+use Rattle.plan_revisions.{specs.claim.Rows.{HasNumbers, added_by}, proofs.Accepted.{created, forked, rows_forked, taken_away}, proofs.Counted.same_geography}
 use Rattle.plan_revisions.proofs.Stepped.{rows_added_by, stepped_as, change_as, err_as}
 
 module _ {D : Type 0} {g : Ghosts D} where

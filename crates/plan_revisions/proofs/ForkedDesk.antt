@@ -1,47 +1,19 @@
 -- The rows of a fork make the desk with it.
+use Rattle.std.specs.{Prelude.Contains, FinMap.{FinMap, insert}}
 use Rattle.std.proofs.Common.{◌≡◌, ◌<◌, ◌≤◌, ◌*◌, ◌^◌, ℕ, true, List, [], ◌∷◌, length, get_or, Option, Some, refl, sym, ap, subst, ◌∙◌, arith}
-use Rattle.std.specs.Prelude.{Contains}
-use Rattle.std.specs.FinMap.{FinMap, insert}
 use Rattle.std.proofs.lemmas.List.Elements.{All-cons, All-contains, All-nil}
-use Rattle.desk_model.proofs.Maps.{insert_again}
-use Rattle.desk_model.specs.claim.Ranges.{cut}
-use Rattle.desk_model.specs.Ranges.{ranges_of, RangesAreCounties, ListsAreCut}
-use Rattle.desk_model.specs.claim.Desk.{Plan, Desk, name_cmp}
-use Rattle.desk_model.specs.claim.Geography.{GeographyModel}
-use Rattle.desk_model.specs.claim.Step.{fork_from, fork_of}
-use Rattle.desk_model.specs.declared.kind.Kind.{Kind}
-use Rattle.desk_model.specs.claim.Sizes.{most_districts}
-use Rattle.store_rows.specs.claim.Keys.{key_of, counters, named}
-use Rattle.store_rows.specs.claim.Values.{counters_bytes, plan_bytes}
-use Rattle.store_rows.specs.declared.value.Counters.{Counters}
-use Rattle.store_rows.specs.declared.value.PlanRow.{PlanRow}
-use Rattle.store_rows.specs.claim.Rows.{KeyMap}
-use Rattle.store_rows.specs.Rows.{SameTag}
-use Rattle.store_rows.proofs.Frames.{chunk_stays, other_tag, put_is_there, put_keeps}
-use Rattle.store_rows.specs.claim.RevisionRows.{HasRevision}
-use Rattle.store_rows.specs.claim.DeskRows.{HasPlan, IsDesk}
-use Rattle.store_rows.specs.Changes.{desk_with, plan_row_of}
-use Rattle.store_rows.specs.RevisionSteps.{AreKept}
-use Rattle.store_rows.specs.Shares.{with_shared}
-use Rattle.store_rows.specs.Steps.{chunks_more, one_plan_more}
-use Rattle.store_rows.specs.claim.Tidy.{CountersFit}
-use Rattle.store_rows.specs.TidyLaws.{ChunksAreKept, MakesRevision, NextIsOne, PlansComeAndGoTidily}
-use Rattle.store_rows.specs.ForkLaws.{SharesMakeDesks}
-use Rattle.store_rows.proofs.Forked.{can_hold}
-use Rattle.plan_rows.specs.PlanRows.{IsFound}
-use Rattle.plan_rows.specs.PlanLaws.{PlansAreMade, PlansAreTold, RowFits}
-use Rattle.store_rows.proofs.TidyParts.{naming_moves}
-use Rattle.plan_rows.proofs.Made.{numbers_moved, rows_keep}
+use Rattle.desk_model.specs.{claim.Ranges.cut, Ranges.{ranges_of, RangesAreCounties, ListsAreCut}, claim.Desk.{Plan, Desk, name_cmp}, claim.Geography.GeographyModel}
+use Rattle.desk_model.{specs.claim.Step.{fork_from, fork_of}, specs.declared.kind.Kind.Kind, specs.claim.Sizes.most_districts, proofs.Maps.insert_again}
+use Rattle.store_rows.specs.{claim.Keys.{key_of, counters, named}, claim.Values.{counters_bytes, plan_bytes}, declared.value.Counters.Counters, declared.value.PlanRow.PlanRow}
+use Rattle.store_rows.specs.{claim.Rows.KeyMap, Rows.SameTag, claim.RevisionRows.HasRevision, claim.DeskRows.{HasPlan, IsDesk}, Changes.{desk_with, plan_row_of}}
+use Rattle.store_rows.specs.{RevisionSteps.AreKept, Shares.with_shared, Steps.{chunks_more, one_plan_more}, claim.Tidy.CountersFit}
+use Rattle.store_rows.specs.{TidyLaws.{ChunksAreKept, MakesRevision, NextIsOne, PlansComeAndGoTidily}, ForkLaws.SharesMakeDesks}
+use Rattle.store_rows.proofs.{Frames.{chunk_stays, other_tag, put_is_there, put_keeps}, Forked.can_hold, TidyParts.naming_moves}
+use Rattle.plan_rows.{specs.PlanRows.IsFound, specs.PlanLaws.{PlansAreMade, PlansAreTold, RowFits}, proofs.Made.{numbers_moved, rows_keep}}
 use Rattle.desk_pages.specs.claim.Desks.{AreWithin, IsDeskMap}
-use Rattle.plan_revisions.specs.Plans.{HasRevisionAt, TakesFork, TakesPlan, with_fork, with_plan}
-use Rattle.plan_revisions.specs.Forking.{CanMake, IsSource, MakesFork, forked_map, row_like, with_made}
-use Rattle.plan_revisions.proofs.Creating.{IsSize, created_desk}
-use Rattle.plan_revisions.proofs.ChunkLists.{few_counties}
-use Rattle.plan_revisions.proofs.Desks.{is_with, is_still, numbers_are}
-use Rattle.plan_revisions.proofs.LastRevision.{as_many, told_plan, last_named}
-use Rattle.plan_revisions.proofs.Limits.{put_there, with_one_more}
-use Rattle.plan_revisions.proofs.Within.{revision_within}
-use Rattle.plan_revisions.proofs.Looking.{stands_at}
+use Rattle.plan_revisions.specs.{Plans.{HasRevisionAt, TakesFork, TakesPlan, with_fork, with_plan}, Forking.{CanMake, IsSource, MakesFork, forked_map, row_like, with_made}}
+use Rattle.plan_revisions.proofs.{Creating.{IsSize, created_desk}, ChunkLists.few_counties, Desks.{is_with, is_still, numbers_are}, LastRevision.{as_many, told_plan, last_named}}
+use Rattle.plan_revisions.proofs.{Limits.{put_there, with_one_more}, Within.revision_within, Looking.stands_at}
 
 -- ---- chunks that can be kept stay so where the parts and the pieces do
 kept_stay : (m n : KeyMap) (plan : ℕ) (numbers : List ℕ) (counties : List (List ℕ)) → SameTag 82 m n → SameTag 107 m n → AreKept m plan numbers counties → AreKept n plan numbers counties

@@ -1,45 +1,18 @@
 -- A fork that is read and put is a step of the desk.
-use Rattle.std.proofs.Common.{◌≡◌, ◌+◌, ◌*◌, ◌-◌, ◌^◌, ℕ, List, length, Some, refl, sym, ap, subst, ◌∙◌, inl, arith, length-append}
+use Rattle.std.proofs.Common.{◌≡◌, ◌+◌, ◌*◌, ◌-◌, ◌^◌, ℕ, List, length, Some, refl, ap, subst, ◌∙◌, arith, length-append}
 use Rattle.sector_device.specs.declared.SectorDevice.{Ghosts}
-use Rattle.desk_model.specs.Ranges.{ranges_of, ListsAreCut}
-use Rattle.desk_model.specs.claim.Desk.{Desk}
-use Rattle.desk_model.specs.claim.Geography.{GeographyModel}
-use Rattle.desk_model.specs.claim.Room.{rows_for, fork_rows}
-use Rattle.page_store.proofs.Stops.{passed_more, failed_more}
-use Rattle.page_store.specs.claim.Transactions.{stored, disk_in, IsQuiet, Passed}
-use Rattle.page_store.specs.declared.pages.Pages.{Pages}
-use Rattle.page_store.specs.declared.txn.Txn.{Txn}
-use Rattle.page_btree.specs.claim.Map.{InTxn as HasMap}
-use Rattle.page_btree.specs.declared.error.TreeError.{TreeError}
-use Rattle.page_btree.specs.declared.error.TreeError.TheVariants.{DeviceFault, NotAStore, Halted, NoPages, TooDeep, Memory}
-use Rattle.store_rows.specs.declared.value.Counters.{Counters}
-use Rattle.store_rows.specs.declared.value.PlanRow.{PlanRow}
-use Rattle.store_rows.specs.claim.Rows.{KeyMap}
-use Rattle.store_rows.specs.claim.Puts.{Row, put_rows}
-use Rattle.store_rows.proofs.Puts.{length-rows_told}
-use Rattle.store_rows.specs.NameRows.{name_row, name_rows}
-use Rattle.store_rows.specs.Shares.{hold_all, shared_rows}
-use Rattle.store_rows.specs.Steps.{one_plan_more}
-use Rattle.store_rows.specs.claim.Tidy.{CountersFit}
-use Rattle.store_rows.specs.TidyLaws.{NextIsOne}
-use Rattle.desk_pages.specs.claim.Puts.{HasPut, PutsErr}
-use Rattle.plan_rows.specs.ChunkChanging.{HasChanged, MapErr}
-use Rattle.plan_rows.specs.Holding.{CanHoldAll}
-use Rattle.plan_rows.proofs.Changed.{changed_as, prefix_unchanged, more_by_rows, more_changed, rows_by_rows, rows_changed, rows_unchanged, then_unchanged}
-use Rattle.plan_rows.proofs.HeldAll.{held_by_rows}
-use Rattle.plan_rows.specs.RevisionReading.{AreNames}
-use Rattle.plan_rows.specs.PlanRows.{IsFound, created_rows}
-use Rattle.plan_rows.specs.claim.PlanRows.{HasPlanNumber}
-use Rattle.plan_rows.specs.PlanLaws.{PlansAreTold, RowFits}
-use Rattle.plan_rows.specs.claim.Outcomes.{HasExhausted}
-use Rattle.desk_pages.specs.claim.Desks.{IsDeskMap}
-use Rattle.plan_revisions.specs.claim.Steps.{HasStepped, LeavesNumbers, StepErr}
-use Rattle.plan_revisions.specs.Plans.{TakesFork, with_fork}
-use Rattle.plan_revisions.specs.Lookups.{HasSomeRevision}
-use Rattle.plan_revisions.specs.Forking.{CanFork, CanMake, ForksAreMade, IsSource, forked_map, row_like, rows_of_fork}
-use Rattle.plan_revisions.proofs.LastRevision.{ranges_long, last_named}
-use Rattle.plan_revisions.proofs.Looking.{stands_at}
-use Rattle.plan_revisions.proofs.Retiring.{deep_before}
+use Rattle.desk_model.specs.{Ranges.{ranges_of, ListsAreCut}, claim.Desk.Desk, claim.Geography.GeographyModel, claim.Room.{rows_for, fork_rows}}
+use Rattle.page_store.specs.{claim.Transactions.{stored, disk_in, IsQuiet, Passed}, declared.pages.Pages.Pages, declared.txn.Txn.Txn}
+use Rattle.page_btree.specs.{claim.Map.InTxn as HasMap, declared.error.TreeError.TreeError}
+use Rattle.store_rows.specs.{declared.value.Counters.Counters, declared.value.PlanRow.PlanRow, claim.Rows.KeyMap, claim.Puts.{Row, put_rows}, Shares.{hold_all, shared_rows}}
+use Rattle.store_rows.{specs.Steps.one_plan_more, specs.claim.Tidy.CountersFit, specs.TidyLaws.NextIsOne, proofs.Puts.length-rows_told}
+use Rattle.desk_pages.specs.{claim.Puts.{HasPut, PutsErr}, claim.Desks.IsDeskMap}
+use Rattle.plan_rows.specs.{ChunkChanging.{HasChanged, MapErr}, Holding.CanHoldAll, RevisionReading.AreNames, PlanRows.{IsFound, created_rows}, claim.PlanRows.HasPlanNumber}
+use Rattle.plan_rows.specs.{PlanLaws.{PlansAreTold, RowFits}, claim.Outcomes.HasExhausted}
+use Rattle.plan_rows.proofs.{Changed.{changed_as, prefix_unchanged, more_by_rows, more_changed, rows_by_rows, rows_changed, rows_unchanged, then_unchanged}, HeldAll.held_by_rows}
+use Rattle.plan_revisions.specs.{claim.Steps.{HasStepped, LeavesNumbers, StepErr}, Plans.{TakesFork, with_fork}, Lookups.HasSomeRevision}
+use Rattle.plan_revisions.{specs.Forking.{CanFork, CanMake, ForksAreMade, IsSource, forked_map, row_like, rows_of_fork}, proofs.LastRevision.{ranges_long, last_named}}
+use Rattle.plan_revisions.proofs.{Looking.stands_at, Retiring.{stepped_by, not_stepped_by}}
 
 -- ---- what is read
 module _ (told : PlansAreTold) (cut_law : ListsAreCut) (the_geography : GeographyModel) (from : List ℕ) (k : ℕ) (row : PlanRow) (count : ℕ) (many : count ≡ length (ranges_of the_geography)) (fits : RowFits row) where
@@ -70,10 +43,7 @@ module _ (name : List ℕ) (source : PlanRow) (next : Counters) (numbers : List 
   holding m = hold_all m next.plan numbers
 
   last_long : length last_rows ≡ rows_for 128 (length numbers) + 2
-  last_long =
-      let names = name_rows next.plan 1 numbers in
-      let long : length names ≡ rows_for 128 (length numbers) = length-rows_told (name_row next.plan 1 numbers) (rows_for 128 (length numbers)) in
-      length-append names _ ∙ ap (λ n. n + 2) long
+  last_long = search (arith, next.plan, length-rows_told, length-append)
 
   module _ {D : Type 0} {g : Ghosts D} where
     pub not_made : (t : Txn) (a b : Pages D g) (e : TreeError) → PutsErr made_rows t a b e → MapErr can all t a b e
@@ -118,23 +88,9 @@ module _ (the_geography : GeographyModel) (name : List ℕ) (from : List ℕ × 
       rows_are : rows_of_fork (length kept) ≡ fork_rows the_geography
       rows_are = ap rows_of_fork (many ∙ ranges_long the_geography)
 
-      still : (disk_in b).is_honest → (m : KeyMap) → HasMap t (stored a) m → HasMap t (stored b) m
-      still honest m = subst (λ P. HasMap t P m) (sym (passed.quiet.same honest))
-
       pub forked : (u : Txn) → HasChanged (forked_map name source next kept) (rows_of_fork (length kept)) t u b c → HasStepped (TakesFork the_geography name from) (with_fork name from) (fork_rows the_geography) t u a c
-      forked u did = record {
-        passed = passed_more a b c passed did.passed;
-        pages = did.pages;
-        desk = λ honest d holds says.
-            let before = did.passed.quiet.honest honest in
-            record {
-              m = forked_map name source next kept holds.m;
-              holds = subst (λ P. HasMap u P (forked_map name source next kept holds.m)) (passed.quiet.same before) (did.changed honest holds.m (still before holds.m holds.holds));
-              is = (law the_geography name from source next kept can_make holds.m d holds.is says (read before holds.m holds.holds)).is;
-            };
-        writes = let most = did.writes in let long = rows_are in omega arith;
-        taken = let most = did.taken in let long = rows_are in omega arith;
-      }
+      forked u did = stepped_by (TakesFork the_geography name from) (with_fork name from) (fork_rows the_geography) (forked_map name source next kept) (rows_of_fork (length kept)) t a b c passed (let long = rows_are in omega arith) u
+          (λ before m d holds is says. (law the_geography name from source next kept can_make m d is says (read before m holds)).is) did
 
       -- the numbers that were read are those of each map
       pub leaves : NextIsOne → IsQuiet b c → LeavesNumbers HasPlanNumber t a c
@@ -143,24 +99,5 @@ module _ (the_geography : GeographyModel) (name : List ℕ) (from : List ℕ × 
           subst HasPlanNumber (one m next after can_make.fit fit (read before m holds).is_next is) can_make.room
 
       pub not_forked : (e : TreeError) → IsQuiet b c → MapErr (CanFork name source next kept) (rows_of_fork (length kept)) t b c e → StepErr (TakesFork the_geography name from) (fork_rows the_geography) t a c e
-      not_forked DeviceFault quiet why = failed_more a b c passed quiet why
-      not_forked NotAStore quiet why = λ honest d holds says.
-          let before = quiet.honest honest in
-          why honest holds.m (still before holds.m holds.holds) (law the_geography name from source next kept can_make holds.m d holds.is says (read before holds.m holds.holds)).can
-      not_forked Halted quiet why = sym passed.halted ∙ why
-      not_forked NoPages quiet why = let long = rows_are in omega arith
-      not_forked TooDeep quiet why = λ honest d holds.
-          let before = quiet.honest honest in
-          let deep = why honest holds.m (still before holds.m holds.holds) in
-          let few = deep.few in
-          let long = rows_are in
-          record {
-            m = holds.m;
-            holds = holds.holds;
-            less = holds.m;
-            is_less = inl refl;
-            put = deep.put;
-            few = omega arith;
-            deep = deep_before deep.put t a b holds.m (passed.quiet.same before) deep.deep;
-          }
-      not_forked Memory quiet why = tt
+      not_forked e quiet why = not_stepped_by (TakesFork the_geography name from) (with_fork name from) (fork_rows the_geography) (forked_map name source next kept) (rows_of_fork (length kept)) t a b c passed (let long = rows_are in omega arith)
+          (CanFork name source next kept) (λ before m d holds is says. (law the_geography name from source next kept can_make m d is says (read before m holds)).can) e quiet why

@@ -1,30 +1,17 @@
 -- A step of a desk that is known.
-use Rattle.std.proofs.Common.{◌≡◌, ℕ, List, length, Option, Some, Result, sym, ap, subst, ◌∙◌}
+use Rattle.std.proofs.Common.{◌≡◌, ℕ, List, length, Option, Some, Result, sym, ap, subst, ◌∙◌, arith}
 use Rattle.std.specs.FinMap as map_of
 use Rattle.sector_device.specs.declared.SectorDevice.{Ghosts}
-use Rattle.desk_model.specs.claim.Geography.{GeographyModel}
-use Rattle.desk_model.specs.claim.Desk.{Plan, Desk}
-use Rattle.desk_model.specs.claim.Room.{added_rows, changed, revision_rows}
+use Rattle.desk_model.specs.{claim.Geography.GeographyModel, claim.Desk.{Plan, Desk}, claim.Room.{added_rows, changed, revision_rows}}
 use Rattle.desk_catalogue.specs.Kept.{revision_in}
-use Rattle.page_store.specs.claim.Transactions.{stored}
-use Rattle.page_store.specs.declared.pages.Pages.{Pages}
-use Rattle.page_store.specs.declared.txn.Txn.{Txn}
+use Rattle.page_store.specs.{claim.Transactions.stored, declared.pages.Pages.Pages, declared.txn.Txn.Txn}
 use Rattle.page_btree.specs.declared.error.TreeError.{TreeError}
-use Rattle.page_btree.specs.declared.error.TreeError.TheVariants.{DeviceFault, NotAStore, Halted, NoPages, TooDeep, Memory}
-use Rattle.store_rows.specs.declared.value.Counters.{Counters}
-use Rattle.store_rows.specs.Changes.{with_revision}
+use Rattle.store_rows.specs.{declared.value.Counters.Counters, Changes.with_revision}
+use Rattle.plan_rows.specs.{claim.PlanRows.HasChunkNumbers, declared.change.ChangeOutcome.ChangeOutcome, declared.change.ChangeOutcome.TheVariants.{Made, NumbersExhausted}}
 use Rattle.plan_rows.proofs.Writing.{writes_as}
-use Rattle.plan_rows.specs.claim.PlanRows.{HasChunkNumbers}
-use Rattle.plan_rows.specs.declared.change.ChangeOutcome.{ChangeOutcome}
-use Rattle.plan_rows.specs.declared.change.ChangeOutcome.TheVariants.{Made, NumbersExhausted}
 use Rattle.desk_pages.specs.claim.Desks.{AreWithin, InTxn}
-use Rattle.plan_revisions.specs.Plans.{TakesNext, with_next, with_next_of}
-use Rattle.plan_revisions.specs.Outcomes.{StepsWhereLeft}
-use Rattle.plan_revisions.specs.claim.Steps.{HasStepped, IsStepped, StepErr}
-use Rattle.plan_revisions.specs.claim.Rows.{added_by}
-use Rattle.plan_revisions.specs.Accepted.{IsRevised}
-use Rattle.plan_revisions.proofs.Accepted.{last_is, rows_added, chunks_added}
-use Rattle.plan_revisions.proofs.Counted.{same_geography}
+use Rattle.plan_revisions.specs.{Plans.{TakesNext, with_next, with_next_of}, Outcomes.StepsWhereLeft, claim.Steps.{HasStepped, IsStepped, StepErr}, claim.Rows.added_by}
+use Rattle.plan_revisions.{specs.Accepted.IsRevised, proofs.Accepted.{last_is, rows_added, chunks_added}, proofs.Counted.same_geography}
 
 -- the rows of a revision that a plan got
 abbrev pub rows_added_by : Desk → List ℕ → Desk → ℕ
@@ -48,12 +35,7 @@ module _ {D : Type 0} {g : Ghosts D} where
   change_as says other next then rows enough t u a b gives same NumbersExhausted did = did
 
   pub err_as : (says other : Desk → Type 0) (rows : ℕ) (t : Txn) (a b : Pages D g) → ((d : Desk) → other d → says d) → (e : TreeError) → StepErr says rows t a b e → StepErr other rows t a b e
-  err_as says other rows t a b gives DeviceFault why = why
-  err_as says other rows t a b gives NotAStore why = λ honest d holds is. why honest d holds (gives d is)
-  err_as says other rows t a b gives Halted why = why
-  err_as says other rows t a b gives NoPages why = why
-  err_as says other rows t a b gives TooDeep why = why
-  err_as says other rows t a b gives Memory why = tt
+  err_as says other rows t a b gives e why = search (arith, why, gives)
 
   -- a revision of the plan that the desk has
   pub revision_put : (d : Desk) (name : List ℕ) (after : ℕ) (e : Desk) (r : IsRevised d name after e) (the_geography : GeographyModel) (last : Option (List ℕ)) (next : List ℕ) (t u : Txn) (a b : Pages D g) (result : Result ChangeOutcome TreeError)

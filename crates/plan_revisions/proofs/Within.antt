@@ -1,21 +1,14 @@
 -- No block of a revision that a command makes is in a district above its plan's last.
+use Rattle.std.specs.{Prelude.{◌==◌, ◌&&◌, All, nat_le, unwrap_or}, List.{slice_get, slice_split, zip}, Str.Lines.lines}
 use Rattle.std.proofs.Common.{◌≡◌, ◌≤◌, ◌+◌, ◌-◌, ℕ, Bool, true, false, cond, List, [], ◌∷◌, ◌++◌, length, get_or, Option, Some, None, Result, Ok, Err, refl, sym, subst, ◌∙◌, inl, inr, arith}
-use Rattle.std.specs.Prelude.{◌==◌, ◌&&◌, All, not, nat_le, unwrap_or, nat_eq, is_some}
-use Rattle.std.specs.List.{list_any, slice_get, slice_split, zip}
-use Rattle.std.specs.Str.Lines.{lines}
-use Rattle.std.specs.Cmp.Lexicographic.{pointwise}
 use Rattle.std.proofs.lemmas.Bool.{leb-true}
 use Rattle.std.proofs.lemmas.Option.{get_or_from_slice_get, slice_get_cases}
 use Rattle.std.proofs.lemmas.List.Elements.{All-nil, All-cons, All-head, All-tail, All-push, All-map, All-get_or}
-use Rattle.desk_model.specs.declared.reply.BodyFault.{BodyFault}
-use Rattle.desk_model.specs.declared.block.BlockRow.{BlockRow}
-use Rattle.desk_model.specs.claim.Baf.{Values, Fault, at_line, body_read, fields_of, header, in_range, line_read, placed, rows_read, value_at, with_header}
-use Rattle.desk_model.specs.claim.Desk.{Plan}
-use Rattle.desk_model.specs.claim.Geography.{GeographyModel, ids}
-use Rattle.desk_model.specs.claim.Step.{patched}
-use Rattle.desk_model.specs.claim.Baf.{whole}
-use Rattle.desk_model.specs.claim.Subject.{revision_at}
+use Rattle.desk_model.specs.{declared.reply.BodyFault.BodyFault, declared.block.BlockRow.BlockRow}
+use Rattle.desk_model.specs.{claim.Baf.{Values, Fault, at_line, body_read, fields_of, in_range, line_read, placed, rows_read, value_at, with_header, whole}, claim.Desk.Plan}
+use Rattle.desk_model.specs.{claim.Geography.GeographyModel, claim.Step.patched, claim.Subject.revision_at}
 use Rattle.desk_pages.specs.claim.Desks.{AreWithin}
+use Rattle.plan_revisions.proofs.Limits.{some_is, none_is as no_some}
 
 -- each value that is listed is n at most
 abbrev pub AreSmall : ℕ → Values → Type 0
@@ -27,21 +20,12 @@ clash e a same = cc
 ok_is : {A E : Type 0} (a b : A) → ◌≡◌ {A = Result A E} (Ok a) (Ok b) → a ≡ b
 ok_is a b same = cc
 
-some_is : {A : Type 0} (a b : A) → ◌≡◌ {A = Option A} (Some a) (Some b) → a ≡ b
-some_is a b same = cc
-
-no_some : {A : Type 0} (a : A) → ◌≡◌ {A = Option A} None (Some a) → ⊥
-no_some a same = cc
-
 -- ---- a body
 range_small : (n v d : ℕ) (some few : Bool) → nat_le v n ≡ few → cond (some && few) (Some v) None ≡ Some d → d ≤ n
-range_small n v d false few told is = absurd (no_some d is)
-range_small n v d true false told is = absurd (no_some d is)
-range_small n v d true true told is = subst (λ k. k ≤ n) (some_is v d is) (leb-true v n told)
+range_small n v d some few told is = search (arith, no_some, some_is, leb-true)
 
 in_range_small : (n : ℕ) (value : Option ℕ) (d : ℕ) → in_range n value ≡ Some d → d ≤ n
-in_range_small n None d is = let zero : 0 ≡ d = some_is 0 d is in omega arith
-in_range_small n (Some v) d is = range_small n v d (nat_le 1 v) (nat_le v n) refl is
+in_range_small n value d is = search (arith, some_is, range_small)
 
 module _ (n : ℕ) (so_far : Values) (next : Values) (small : AreSmall n so_far) where
   placed_small : (id : ℕ) (value : Option ℕ) → ((d : ℕ) → value ≡ Some d → d ≤ n) → placed so_far id value ≡ Ok next → AreSmall n next
@@ -50,14 +34,10 @@ module _ (n : ℕ) (so_far : Values) (next : Values) (small : AreSmall n so_far)
 
   tested_small : (id : ℕ) (value : Option ℕ) (unknown seen : Bool) (one two : BodyFault) → ((d : ℕ) → value ≡ Some d → d ≤ n)
       → cond unknown (Err one) (cond seen (Err two) (placed so_far id value)) ≡ Ok next → AreSmall n next
-  tested_small id value true seen one two few is = absurd (clash one next is)
-  tested_small id value false true one two few is = absurd (clash two next is)
-  tested_small id value false false one two few is = placed_small id value few is
+  tested_small id value unknown seen one two few is = search (arith, clash, placed_small)
 
   line_small : (g : GeographyModel) (e : Option (ℕ × Option ℕ)) → line_read g n so_far e ≡ Ok next → AreSmall n next
-  line_small g None is = absurd (clash _ next is)
-  line_small g (Some e) is =
-      tested_small e.0 (in_range n e.1) (not (list_any (λ id. id == e.0) (ids g))) (is_some (value_at so_far e.0)) _ _ (in_range_small n e.1) is
+  line_small g e is = search (arith, clash, tested_small, in_range_small)
 
 module _ (g : GeographyModel) (n : ℕ) (listed : Values) where
   rows_small : (at : ℕ) (so_far : Values) (ls : List (List ℕ)) → AreSmall n so_far → rows_read g n at so_far ls ≡ Ok listed → AreSmall n listed
@@ -72,16 +52,13 @@ module _ (g : GeographyModel) (n : ℕ) (listed : Values) where
       by_length : (b : Bool) → (rows_read g n (at + 1) so_far more ≡ Ok listed → AreSmall n listed)
           → ((next : Values) → AreSmall n next → rows_read g n (at + 1) next more ≡ Ok listed → AreSmall n listed)
           → cond b (rows_read g n (at + 1) so_far more) (at_line at (line_read g n so_far (fields_of (slice_split (λ b. b == 124) line))) (λ next. rows_read g n (at + 1) next more)) ≡ Ok listed → AreSmall n listed
-      by_length true rest go is = rest is
-      by_length false rest go is = by_line (line_read g n so_far (fields_of (slice_split (λ b. b == 124) line))) refl go is
+      by_length b rest go is = search (arith, rest, by_line)
 
   headed_small : (first : Bool) (more : List (List ℕ)) (e : Fault) → cond first (rows_read g n 2 [] more) (Err e) ≡ Ok listed → AreSmall n listed
-  headed_small true more e is = rows_small 2 [] more (All-nil (λ (e : ℕ × ℕ). e.1 ≤ n)) is
-  headed_small false more e is = absurd (clash e listed is)
+  headed_small first more e is = search (arith, rows_small, clash)
 
   lines_small : (ls : List (List ℕ)) → with_header g n ls ≡ Ok listed → AreSmall n listed
-  lines_small [] is = absurd (clash _ listed is)
-  lines_small (first ∷ more) is = headed_small (pointwise nat_eq first header) more _ is
+  lines_small ls is = search (arith, clash, headed_small)
 
 pub body_small : (g : GeographyModel) (n : ℕ) (text : List ℕ) (listed : Values) → body_read g n text ≡ Ok listed → AreSmall n listed
 body_small g n text listed is = lines_small g n listed (lines text) is
@@ -96,8 +73,7 @@ value_small n (e ∷ more) id d small is = by_id (e.0 == id) (value_small n more
     by_id false rest is = rest is
 
 or_small : (n : ℕ) (value : Option ℕ) (x : ℕ) → ((d : ℕ) → value ≡ Some d → d ≤ n) → x ≤ n → unwrap_or value x ≤ n
-or_small n None x few is = is
-or_small n (Some d) x few is = few d refl
+or_small n value x few is = search (arith, few)
 
 pub whole_within : (g : GeographyModel) (n : ℕ) (listed : Values) → AreSmall n listed → AreWithin n (whole g listed)
 whole_within g n listed small =

@@ -1,18 +1,9 @@
 -- The rows of a revision that is added, and what is read before they are put.
 use Rattle.std.specs.Prelude.{◌<◌, ◌+◌, ◌≡◌, ℕ, List, ◌++◌, length, Option, Some}
-use Rattle.desk_model.specs.Ranges.{ranges_of}
-use Rattle.desk_model.specs.claim.Geography.{GeographyModel}
-use Rattle.store_rows.specs.claim.DeskRows.{most_revisions}
-use Rattle.store_rows.specs.declared.value.Counters.{Counters}
-use Rattle.store_rows.specs.declared.value.PlanRow.{PlanRow}
-use Rattle.store_rows.specs.claim.Rows.{KeyMap}
-use Rattle.store_rows.specs.claim.Puts.{Row}
-use Rattle.store_rows.specs.NameRows.{name_rows}
-use Rattle.store_rows.specs.RevisionSteps.{new_chunk_rows, new_holding_rows}
-use Rattle.store_rows.specs.claim.Tidy.{IsNext}
-use Rattle.plan_rows.specs.RevisionReading.{AreNames}
-use Rattle.plan_rows.specs.PlanRows.{IsFound, revised_rows}
-use Rattle.plan_rows.specs.PlanLaws.{RowFits}
+use Rattle.desk_model.specs.{Ranges.ranges_of, claim.Geography.GeographyModel}
+use Rattle.store_rows.specs.{claim.DeskRows.most_revisions, declared.value.Counters.Counters, declared.value.PlanRow.PlanRow, claim.Rows.KeyMap, claim.Puts.Row, NameRows.name_rows}
+use Rattle.store_rows.specs.{RevisionSteps.{new_chunk_rows, new_holding_rows}, claim.Tidy.IsNext}
+use Rattle.plan_rows.specs.{RevisionReading.AreNames, PlanRows.{IsFound, revised_rows}, PlanLaws.RowFits}
 use Rattle.desk_pages.specs.Looking.{Says}
 use Rattle.plan_revisions.specs.Plans.{IsOfDesk, TakesRevision}
 

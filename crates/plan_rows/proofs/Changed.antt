@@ -1,19 +1,12 @@
 -- Changes of a map that come one after the other.
 use Rattle.std.proofs.Common.{◌≡◌, ◌≤◌, ◌+◌, ℕ, List, ◌++◌, length, refl, sym, ap, subst, ◌∙◌, arith, append_assoc, length-append}
 use Rattle.sector_device.specs.declared.SectorDevice.{Ghosts}
+use Rattle.page_store.specs.{claim.Transactions.{stored, txn_root, over, IsQuiet, Passed}, declared.pages.Pages.Pages, declared.txn.Txn.Txn}
 use Rattle.page_store.proofs.Stops.{passed_more, failed_more}
-use Rattle.page_store.specs.claim.Transactions.{stored, txn_root, over, IsQuiet, Passed}
-use Rattle.page_store.specs.declared.pages.Pages.{Pages}
-use Rattle.page_store.specs.declared.txn.Txn.{Txn}
-use Rattle.page_btree.specs.claim.Map.{InTxn}
-use Rattle.page_btree.specs.claim.Errors.{level_in}
-use Rattle.page_btree.specs.declared.error.TreeError.{TreeError}
+use Rattle.page_btree.specs.{claim.Map.InTxn, claim.Errors.level_in, declared.error.TreeError.TreeError}
 use Rattle.page_btree.specs.declared.error.TreeError.TheVariants.{DeviceFault, NotAStore, Halted, NoPages, TooDeep, Memory}
-use Rattle.store_rows.specs.claim.Rows.{KeyMap}
-use Rattle.store_rows.specs.claim.Puts.{Row, put_rows}
-use Rattle.store_rows.proofs.Puts.{put_rows-append}
-use Rattle.desk_pages.specs.claim.Puts.{HasPut, HasDeepened, PutsErr}
-use Rattle.desk_pages.specs.Reading.{ReadErr}
+use Rattle.store_rows.{specs.claim.Rows.KeyMap, specs.claim.Puts.{Row, put_rows}, proofs.Puts.put_rows-append}
+use Rattle.desk_pages.specs.{claim.Puts.{HasPut, HasDeepened, PutsErr}, Reading.ReadErr}
 use Rattle.plan_rows.specs.ChunkChanging.{IsByRows, HasChanged, MapErr}
 
 module _ {D : Type 0} {g : Ghosts D} where
@@ -31,25 +24,17 @@ module _ {D : Type 0} {g : Ghosts D} where
 
   -- a change that is told otherwise, and no more rows
   pub changed_as : (f h : KeyMap → KeyMap) (x y : ℕ) (t u : Txn) (a b : Pages D g) → ((m : KeyMap) → f m ≡ h m) → x ≤ y → HasChanged f x t u a b → HasChanged h y t u a b
-  changed_as f h x y t u a b same less did = record {
-    passed = did.passed;
-    pages = did.pages;
-    changed = λ honest m holds. subst (λ (n : KeyMap). InTxn u (stored a) n) (same m) (did.changed honest m holds);
-    writes = let most = did.writes in omega arith;
-    taken = let most = did.taken in omega arith;
-  }
+  changed_as f h x y t u a b same less did = search (arith, did.passed, did.pages, same, did.changed, did.writes, did.taken)
 
   -- rows that are known
   pub rows_changed : (rows : List Row) (t u : Txn) (a b : Pages D g) → HasPut rows t u a b → HasChanged (λ m. put_rows m rows) (length rows) t u a b
   rows_changed rows t u a b did = record { passed = did.passed; pages = did.pages; changed = did.put; writes = did.writes; taken = did.taken }
 
   pub rows_unchanged : (can : KeyMap → Type 0) (rows : List Row) (t : Txn) (a b : Pages D g) (e : TreeError) → PutsErr rows t a b e → MapErr can (length rows) t a b e
-  rows_unchanged can rows t a b DeviceFault why = why
   rows_unchanged can rows t a b NotAStore why = λ honest m holds is. why honest m holds
-  rows_unchanged can rows t a b Halted why = why
-  rows_unchanged can rows t a b NoPages why = why
   rows_unchanged can rows t a b TooDeep why = λ honest m holds. record { put = rows; few = omega arith; deep = why honest m holds }
   rows_unchanged can rows t a b Memory why = tt
+  rows_unchanged can rows t a b _ why = why
 
   -- rows that were put before go before
   pub deep_after : (prefix rows : List Row) (t u : Txn) (a b : Pages D g) (m n : KeyMap) → stored b ≡ stored a → n ≡ put_rows m prefix → HasDeepened rows u b n → HasDeepened (prefix ++ rows) t a m
@@ -67,9 +52,7 @@ module _ {D : Type 0} {g : Ghosts D} where
   pub then_unchanged : (f : KeyMap → KeyMap) (x y : ℕ) (can more : KeyMap → Type 0) (t u : Txn) (a b c : Pages D g) (e : TreeError) → IsByRows f x → ((m : KeyMap) → can m → more (f m))
       → HasChanged f x t u a b → IsQuiet b c → MapErr more y u b c e → MapErr can (x + y) t a c e
   then_unchanged f x y can more t u a b c DeviceFault by gives did quiet why = failed_more a b c did.passed quiet why
-  then_unchanged f x y can more t u a b c NotAStore by gives did quiet why = λ honest m holds is.
-      let before = quiet.honest honest in
-      why honest (f m) (subst (λ P. InTxn u P (f m)) (sym (did.passed.quiet.same before)) (did.changed before m holds)) (gives m is)
+  then_unchanged f x y can more t u a b c NotAStore by gives did quiet why = search (arith, quiet.honest, why, f, did.passed.quiet.same, did.changed, gives)
   then_unchanged f x y can more t u a b c Halted by gives did quiet why = sym did.passed.halted ∙ why
   then_unchanged f x y can more t u a b c NoPages by gives did quiet why = let most = did.taken in omega arith
   then_unchanged f x y can more t u a b c TooDeep by gives did quiet why = λ honest m holds.
@@ -78,7 +61,6 @@ module _ {D : Type 0} {g : Ghosts D} where
       let prefix = by m in
       let deep = why honest (f m) (subst (λ P. InTxn u P (f m)) (sym same) (did.changed before m holds)) in
       let few = prefix.1 in
-      let also = deep.few in
       let long = length-append prefix.0 deep.put in
       record {
         put = prefix.0 ++ deep.put;
@@ -89,27 +71,21 @@ module _ {D : Type 0} {g : Ghosts D} where
 
   -- no rows are put where the first of them are not
   pub prefix_unchanged : (x y : ℕ) (can more : KeyMap → Type 0) (t : Txn) (a b : Pages D g) (e : TreeError) → x ≤ y → ((m : KeyMap) → can m → more m) → MapErr more x t a b e → MapErr can y t a b e
-  prefix_unchanged x y can more t a b DeviceFault less gives why = why
   prefix_unchanged x y can more t a b NotAStore less gives why = λ honest m holds is. why honest m holds (gives m is)
-  prefix_unchanged x y can more t a b Halted less gives why = why
   prefix_unchanged x y can more t a b NoPages less gives why = omega arith
   prefix_unchanged x y can more t a b TooDeep less gives why = λ honest m holds.
       let deep = why honest m holds in
       let few = deep.few in
       record { put = deep.put; few = omega arith; deep = deep.deep }
   prefix_unchanged x y can more t a b Memory less gives why = tt
+  prefix_unchanged x y can more t a b _ less gives why = why
 
   -- a look before them changes nothing
   pub read_changed : (t : Txn) (a b : Pages D g) → Passed a b → HasChanged (λ m. m) 0 t t a b
   read_changed t a b passed = record { passed = passed; pages = refl; changed = λ honest m holds. holds; writes = omega arith; taken = omega arith }
 
   pub unread_unchanged : (has can : KeyMap → Type 0) (x : ℕ) (t : Txn) (a b : Pages D g) → ((m : KeyMap) → can m → has m) → (e : TreeError) → ReadErr has t a b e → MapErr can x t a b e
-  unread_unchanged has can x t a b gives DeviceFault why = why
-  unread_unchanged has can x t a b gives NotAStore why = λ honest m holds is. why honest m holds (gives m is)
-  unread_unchanged has can x t a b gives Halted why = why
-  unread_unchanged has can x t a b gives NoPages why = absurd why
-  unread_unchanged has can x t a b gives TooDeep why = absurd why
-  unread_unchanged has can x t a b gives Memory why = absurd why
+  unread_unchanged has can x t a b gives e why = search (arith, why, gives)
 
 -- ---- changes by rows
 pub rows_by_rows : (rows : List Row) → IsByRows (λ m. put_rows m rows) (length rows)

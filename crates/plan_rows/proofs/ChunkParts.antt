@@ -3,21 +3,10 @@ use Rattle.std.proofs.Common.{◌≡◌, ◌<◌, ◌≤◌, ◌+◌, ◌*◌, �
 use Rattle.std.proofs.lemmas.Bool.{cases_lt}
 use Rattle.std.proofs.lemmas.List.{append-nil, drop_at, drop-append-le, length-drop, take-append-le}
 use Rattle.std.proofs.lemmas.List.Elements.{All-append, All-nil}
-use Rattle.store_rows.specs.claim.Keys.{RowKey}
-use Rattle.store_rows.specs.claim.Rows.{KeyMap, row_in}
+use Rattle.store_rows.specs.{claim.Keys.RowKey, claim.Rows.{KeyMap, row_in}}
 use Rattle.plan_rows.specs.Parts.{AppendsAll, AppendsPrefix, AppendsPart}
 
 -- ---- a part of a list that goes on
--- of which enough is there
-part_stays : (size at : ℕ) (xs ys : List ℕ) → at + size ≤ length xs → take size (drop at (xs ++ ys)) ≡ take size (drop at xs)
-part_stays size at xs ys within =
-    let left = length-drop at xs in
-    ap (λ (l : List ℕ). take size l) (drop-append-le at xs ys (omega arith)) ∙ take-append-le size (drop at xs) ys (omega arith)
-
--- what comes after it
-part_after : (size at : ℕ) (xs ys : List ℕ) → length xs ≡ at → length ys ≤ size → take size (drop at (xs ++ ys)) ≡ ys
-part_after size at xs ys long few = ap (λ (l : List ℕ). take size l) (drop_at xs ys at long) ∙ take_all size ys few
-
 module _ (size limit : ℕ) (bytes : List ℕ → List ℕ) (row : ℕ → RowKey) (count : ℕ) (m : KeyMap) where
   pub none_read : (before : List ℕ) → AppendsPrefix size limit bytes row count 0 m before before
   none_read before = record {
@@ -44,11 +33,10 @@ module _ (size limit : ℕ) (bytes : List ℕ → List ℕ) (row : ℕ → RowKe
       | inl earlier ↦
           let ends = grows index parts earlier in
           let long = full in
-          prefix.rows index earlier ∙ ap (λ (l : List ℕ). Some (bytes l)) (sym (part_stays size (size * index) prefix.xs next.xs (omega arith)))
+          prefix.rows index earlier ∙ ap (λ (l : List ℕ). Some (bytes l)) (sym (search (arith, length-drop, drop-append-le, take-append-le)))
       | inr not ↦
-          let same : parts ≡ index = omega arith in
-          subst (λ (i : ℕ). row_in m (row i) ≡ Some (bytes (take size (drop (size * i) both)))) same
-          (next.stands ∙ ap (λ (l : List ℕ). Some (bytes l)) (sym (part_after size (size * parts) prefix.xs next.xs full few)))
+          subst (λ (i : ℕ). row_in m (row i) ≡ Some (bytes (take size (drop (size * i) both)))) (omega arith)
+          (next.stands ∙ ap (λ (l : List ℕ). Some (bytes l)) (sym (ap (λ (l : List ℕ). take size l) (drop_at prefix.xs next.xs (size * parts) full) ∙ take_all size next.xs few)))
     ]
 
     pub one_part_more : AppendsPrefix size limit bytes row count (parts + 1) m before after
@@ -68,12 +56,4 @@ module _ (size limit : ℕ) (bytes : List ℕ → List ℕ) (row : ℕ → RowKe
 
   pub all_read : (parts : ℕ) (before after : List ℕ) → count ≤ size * parts → ((index : ℕ) → size * index < count → index < parts)
       → AppendsPrefix size limit bytes row count parts m before after → AppendsAll size limit bytes row count m before after
-  all_read parts before after end among prefix = record {
-    xs = prefix.xs;
-    is = prefix.is;
-    stands = record {
-      long = let long = prefix.long in omega arith;
-      each = prefix.each;
-      rows = λ index within. prefix.rows index (among index within);
-    };
-  }
+  all_read parts before after end among prefix = search (arith, prefix.xs, prefix.is, prefix.long, prefix.each, prefix.rows, among)

@@ -1,24 +1,13 @@
 -- A transaction that is begun, in which rows change, and that is committed then.
-use Rattle.std.specs.Prelude.{◌⊎◌}
-use Rattle.std.proofs.Common.{◌≡◌, ◌+◌, ℕ, Bool, true, false, length, sym, ap, subst, ◌∙◌, inl, ⊎_elim, arith}
-use Rattle.sector_device.specs.claim.Disk.{Disk, Image}
-use Rattle.sector_device.specs.claim.Moments.{LeavesOnly}
-use Rattle.sector_device.proofs.Moments.{leaves_more, leaves_wider}
-use Rattle.sector_device.specs.declared.SectorDevice.{Ghosts}
-use Rattle.page_store.specs.gate_journal.claim.Store.{home}
-use Rattle.page_store.proofs.Chains.{length_chain}
-use Rattle.page_store.specs.claim.Chain.{free_in, root_in}
-use Rattle.page_store.proofs.Stops.{leaves_here, leaves_quiet}
+use Rattle.std.{specs.Prelude.◌⊎◌, proofs.Common.{◌≡◌, ◌+◌, ℕ, Bool, true, false, length, sym, ◌∙◌, inl, ⊎_elim, arith}}
+use Rattle.sector_device.{specs.claim.Disk.{Disk, Image}, specs.claim.Moments.LeavesOnly, specs.declared.SectorDevice.Ghosts, proofs.Moments.{leaves_more, leaves_wider}}
+use Rattle.page_store.specs.{gate_journal.claim.Store.home, claim.Chain.{free_in, root_in}}
 use Rattle.page_store.specs.claim.Transactions.{stored, disk_in, count_of, journal_of, has_halted, txn_pages, txn_root, txn_free, txn_writes, over, free_over, HasFailed, HasShape, IsQuiet, Passed}
-use Rattle.page_store.specs.Transactions.{txn_first}
-use Rattle.page_store.specs.declared.pages.Pages.{Pages}
-use Rattle.page_store.specs.declared.txn.Txn.{Txn}
-use Rattle.page_btree.proofs.MapLaws.{begun_holds}
-use Rattle.page_btree.specs.claim.Map.{Holds, InTxn, InPages}
+use Rattle.page_store.{specs.declared.pages.Pages.Pages, specs.declared.txn.Txn.Txn, proofs.Chains.length_chain, proofs.Stops.{leaves_here, leaves_quiet}}
+use Rattle.page_btree.{specs.claim.Map.{InTxn, InPages}, proofs.MapLaws.begun_holds}
 use Rattle.desk_model.specs.claim.Desk.{Desk}
 use Rattle.store_rows.specs.claim.Rows.{KeyMap}
-use Rattle.desk_pages.specs.claim.Desks.{InPagesOf, InTxnOf, OpensDesk, OpensDeskOf}
-use Rattle.desk_pages.proofs.Kept.{opens_now}
+use Rattle.desk_pages.{specs.claim.Desks.{InPagesOf, InTxnOf, OpensDesk, OpensDeskOf}, proofs.Kept.opens_now}
 
 pub both : {X : Type 0} (b : Bool) → b ≡ true → b ≡ false → X
 both b one other = let clash : true ≡ false = sym one ∙ other in absurd (cc)
@@ -30,9 +19,7 @@ one_leaves sectors d old new left = leaves_wider (λ x. OpensDesk sectors d x �
 module _ {D : Type 0} {g : Ghosts D} where
   -- ---- pages that were read at most hold the same
   pub quiet_rows : (a b : Pages D g) → IsQuiet a b → (disk_in b).is_honest → (m : KeyMap) → InPages a m → InPages b m
-  quiet_rows a b quiet honest m holds =
-      subst (λ (n : ℕ). Holds n (stored b) (root_in (stored b)) (free_in (stored b)) m) (sym quiet.count)
-      (subst (λ (P : Image). Holds (count_of a) P (root_in P) (free_in P) m) (sym (quiet.same honest)) holds)
+  quiet_rows a b quiet honest m holds = search (arith, quiet.count, quiet.same)
 
   pub quiet_shape : (a b : Pages D g) → IsQuiet a b → HasShape a b
   quiet_shape a b quiet = record { journal_pages = quiet.journal; pages = quiet.count }
@@ -42,9 +29,7 @@ module _ {D : Type 0} {g : Ghosts D} where
 
   -- a stop in calls that read at most leaves the desk, in its version
   pub quiet_leaves : (new : Bool) (a b : Pages D g) → IsQuiet a b → (disk_in b).is_honest → has_halted a ≡ false → (sectors : ℕ) (d : Desk) → home (journal_of a) + count_of a ≡ sectors → InPagesOf new a d → LeavesOnly (OpensDeskOf new sectors d) (disk_in a) (disk_in b)
-  quiet_leaves new a b quiet honest working sectors d whole holds =
-      leaves_quiet a b quiet honest (OpensDeskOf new sectors d) (disk_in a)
-      (leaves_here (OpensDeskOf new sectors d) (disk_in a) (opens_now {new = new} a working (quiet.honest honest) sectors d whole holds))
+  quiet_leaves new a b quiet honest working sectors d whole holds = search (arith, leaves_quiet, leaves_here, opens_now, working, quiet.honest)
 
   -- and a stop in a commit after them that desk, or the one that is committed
   pub commit_leaves : (was now : Bool) (u : Txn) (a b c : Pages D g) → IsQuiet a b → (disk_in b).is_honest → has_halted a ≡ false
@@ -58,11 +43,7 @@ module _ {D : Type 0} {g : Ghosts D} where
 
   -- a fault after calls that passed
   pub failed_after : (a b c : Pages D g) → Passed a b → ((disk_in c).is_honest → (disk_in b).is_honest) → HasFailed b c → HasFailed a c
-  failed_after a b c ab bc failed = record {
-    worked = sym ab.halted ∙ failed.worked;
-    halted = failed.halted;
-    rose = λ honest. let rose = failed.rose honest in let same = ab.faults (bc honest) in omega arith;
-  }
+  failed_after a b c ab bc failed = search (arith, ab.halted, failed.worked, failed.halted, failed.rose, ab.faults, bc)
 
   -- ---- the beginning
   -- what a transaction that is begun reads, and how many pages are free in it
@@ -73,9 +54,4 @@ module _ {D : Type 0} {g : Ghosts D} where
     pub free : (disk_in ps).is_honest → length (free_in (stored ps)) ≡ txn_free t
 
   pub begun_now : (ps : Pages D g) (t : Txn) → has_halted ps ≡ false → txn_writes t ≡ 0 → txn_pages t ≡ count_of ps → ((q : ℕ) → over t (stored ps) q ≡ stored ps q) → (has_halted ps ≡ false → (disk_in ps).is_honest → txn_root t ≡ root_in (stored ps)) → (has_halted ps ≡ false → (disk_in ps).is_honest → free_over t (stored ps) ≡ free_in (stored ps)) → IsBegun ps t
-  begun_now ps t working none count same root free = record {
-    working = working;
-    none = none;
-    reads = λ honest m holds. begun_holds t (stored ps) m (subst (λ (n : ℕ). Holds n (stored ps) (root_in (stored ps)) (free_in (stored ps)) m) (sym count) holds) same (root working honest) (free working honest);
-    free = λ honest. ap (λ l. length l) (sym (free working honest)) ∙ length_chain (over t (stored ps)) (txn_first t) (txn_free t);
-  }
+  begun_now ps t working none count same root free = search (arith, working, none, begun_holds, root, free, length_chain)

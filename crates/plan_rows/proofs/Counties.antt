@@ -1,13 +1,10 @@
 -- The districts of counties, one after the other.
-use Rattle.std.proofs.Common.{◌≡◌, ◌<◌, ◌+◌, ◌++◌, ℕ, List, [], ◌∷◌, length, get_or, take, sym, ap, subst, ◌∙◌, arith}
+use Rattle.std.{specs.List.concat, proofs.Common.{◌≡◌, ◌<◌, ◌+◌, ◌++◌, ℕ, List, [], ◌∷◌, length, get_or, take, sym, ap, ◌∙◌, arith}}
 use Rattle.std.proofs.lemmas.List.{append-nil, take_more, length-map, get_or-map}
 use Rattle.std.proofs.lemmas.List.Folds.{concat-append}
-use Rattle.std.specs.List.{concat}
 use Rattle.desk_model.specs.declared.ranges.CountyRange.{CountyRange}
 use Rattle.store_rows.specs.claim.Rows.{KeyMap}
-use Rattle.store_rows.specs.claim.RevisionRows.{HasChunk}
-use Rattle.plan_rows.specs.ChunkReading.{IsChunk}
-use Rattle.plan_rows.specs.RevisionReading.{AreLong, AreNames, AreCounties, IsRevision}
+use Rattle.plan_rows.specs.{ChunkReading.IsChunk, RevisionReading.{AreLong, AreNames, AreCounties, IsRevision}}
 
 pub one_county_more : (counties : List (List ℕ)) (i : ℕ) → i < length counties → concat (take i counties) ++ get_or counties i [] ≡ concat (take (i + 1) counties)
 one_county_more counties i within =
@@ -27,21 +24,12 @@ as_long ranges counties i d long within =
 
 -- the chunk of one county
 pub county_there : (numbers : List ℕ) (ranges : List CountyRange) (county : ℕ) (d : CountyRange) (m : KeyMap) (counties : List (List ℕ)) → county < length ranges → AreCounties numbers ranges m counties → IsChunk (get_or numbers county 0) (get_or ranges county d).count m (get_or counties county [])
-county_there numbers ranges county d m counties within is =
-    let many = as_many ranges counties is.long in
-    let among : county < length counties = omega arith in
-    record { has = is.chunks county among; long = as_long ranges counties county d is.long within }
+county_there numbers ranges county d m counties within is = search (arith, as_many, is.long, is.chunks, as_long)
 
 -- the names of a revision, of which there are as many as ranges
 pub named : (m : KeyMap) (plan revision : ℕ) (ranges : List CountyRange) (counties : List (List ℕ)) (is : IsRevision plan revision ranges m counties) → AreNames plan revision (length ranges) m is.has.numbers
-named m plan revision ranges counties is = record {
-  names = is.has.names;
-  long = is.has.count ∙ as_many ranges counties is.long;
-}
+named m plan revision ranges counties is = search (arith, is.has.names, is.has.count, as_many, is.long)
 
 -- and with them its counties
 pub counties_of : (m : KeyMap) (plan revision : ℕ) (ranges : List CountyRange) (counties : List (List ℕ)) (numbers : List ℕ) (is : IsRevision plan revision ranges m counties) → numbers ≡ is.has.numbers → AreCounties numbers ranges m counties
-counties_of m plan revision ranges counties numbers is same = record {
-  long = is.long;
-  chunks = λ county within. subst (λ (l : List ℕ). HasChunk m (get_or l county 0) (get_or counties county [])) (sym same) (is.has.chunks county within);
-}
+counties_of m plan revision ranges counties numbers is same = search (arith, is.long, is.has.chunks)

@@ -1,27 +1,14 @@
 -- A plan comes to hold chunks, one after the other.
-use Rattle.std.proofs.Common.{Bool, true, false, ◌≡◌, ◌≤◌, ◌+◌, ◌*◌, ℕ, zero, suc, List, [], ◌∷◌, ◌++◌, length, drop, Option, Some, None, refl, sym, ap, subst, ◌∙◌, arith, append_assoc, length-append}
 use Rattle.std.specs.Prelude.{Contains}
-use Rattle.sector_device.specs.claim.Disk.{Image}
-use Rattle.sector_device.specs.declared.SectorDevice.{Ghosts}
+use Rattle.std.proofs.Common.{Bool, ◌≡◌, ◌≤◌, ◌+◌, ◌*◌, ℕ, zero, suc, List, [], ◌∷◌, ◌++◌, length, drop, Option, Some, None, refl, sym, ap, subst, ◌∙◌, arith, append_assoc, length-append}
+use Rattle.sector_device.specs.{claim.Disk.Image, declared.SectorDevice.Ghosts}
+use Rattle.page_store.specs.{claim.Transactions.{stored, disk_in, IsQuiet, Passed}, declared.pages.Pages.Pages, declared.txn.Txn.Txn}
 use Rattle.page_store.proofs.Stops.{passed_more, failed_more}
-use Rattle.page_store.specs.claim.Transactions.{stored, disk_in, IsQuiet, Passed}
-use Rattle.page_store.specs.declared.pages.Pages.{Pages}
-use Rattle.page_store.specs.declared.txn.Txn.{Txn}
-use Rattle.page_btree.specs.claim.Map.{InTxn}
-use Rattle.page_btree.specs.declared.error.TreeError.{TreeError}
-use Rattle.page_btree.specs.declared.error.TreeError.TheVariants.{DeviceFault, NotAStore, Halted, NoPages, TooDeep, Memory}
-use Rattle.store_rows.specs.claim.Keys.{holding, holder_count}
-use Rattle.store_rows.specs.claim.Rows.{KeyMap, row_in}
-use Rattle.store_rows.specs.claim.Puts.{Row, put_rows}
-use Rattle.store_rows.specs.claim.Holders.{holding_rows}
-use Rattle.store_rows.specs.Shares.{hold_all}
-use Rattle.store_rows.specs.claim.Shares.{count_of, hold_by, hold}
-use Rattle.store_rows.specs.ForkLaws.{ChunksAreHeld}
-use Rattle.desk_pages.specs.btree_puts.Fingers.{Stand}
-use Rattle.desk_pages.specs.btree_puts.declared.finger.Fingers.{Fingers}
-use Rattle.desk_pages.proofs.Rising.{fresh_stand}
-use Rattle.plan_rows.specs.ChunkChanging.{IsByRows, HasChanged, MapErr}
-use Rattle.plan_rows.specs.Holding.{HasHeld, HasHeldWith, HoldErrWith, IsFreeFrom, IsHolding, CanHoldAll}
+use Rattle.page_btree.specs.{claim.Map.InTxn, declared.error.TreeError.TreeError, declared.error.TreeError.TheVariants.{DeviceFault, NotAStore, Halted, NoPages, TooDeep, Memory}}
+use Rattle.store_rows.specs.{claim.Keys.{holding, holder_count}, claim.Rows.{KeyMap, row_in}, claim.Puts.{Row, put_rows}, claim.Holders.holding_rows, Shares.hold_all}
+use Rattle.store_rows.specs.{claim.Shares.{count_of, hold_by, hold}, ForkLaws.ChunksAreHeld}
+use Rattle.desk_pages.{specs.btree_puts.Fingers.Stand, specs.btree_puts.declared.finger.Fingers.Fingers, proofs.Rising.fresh_stand}
+use Rattle.plan_rows.specs.{ChunkChanging.{IsByRows, HasChanged, MapErr}, Holding.{HasHeld, HasHeldWith, HoldErrWith, IsFreeFrom, IsHolding, CanHoldAll}}
 use Rattle.plan_rows.proofs.Changed.{read_changed, changed_as, deep_after, prefix_unchanged, more_by_rows}
 
 -- ---- lists
@@ -40,9 +27,6 @@ none_left [] zero past = refl
 none_left [] (suc k) past = refl
 none_left (x ∷ xs) zero past = absurd (omega arith)
 none_left (x ∷ xs) (suc k) past = none_left xs k (omega arith)
-
-first_one : (x : ℕ) (xs : List ℕ) → Contains (x ∷ xs) x
-first_one x xs = (0, omega arith, refl)
 
 -- ---- by how many rows
 held_by_two : (o : Option (List ℕ)) (m : KeyMap) (plan number : ℕ) → (put : List Row) × (length put ≤ 2) × (hold_by o m plan number ≡ put_rows m put)
@@ -63,8 +47,7 @@ held-append m plan (x ∷ xs) ys = held-append (hold m plan x) plan xs ys
 -- ---- one after the other
 module _ {D : Type 0} {g : Ghosts D} where
   pub either_held : (put : Bool) (plan number : ℕ) (t u : Txn) (a b : Pages D g) → IsHolding put plan number t u a b → HasHeld plan number t u a b
-  either_held true plan number t u a b did = did.0
-  either_held false plan number t u a b did = did.0
+  either_held put plan number t u a b did = search (arith)
 
   -- a change was made, of which it is known what it says, and then a chunk was not held
   then_not_held : (f : KeyMap → KeyMap) (x : ℕ) (can says : KeyMap → Type 0) (fs : Fingers) (plan number : ℕ) (t u : Txn) (a b c : Pages D g) (e : TreeError) → IsByRows f x → ((m : KeyMap) → can m → CanHoldAll plan (number ∷ []) (f m))
@@ -76,7 +59,7 @@ module _ {D : Type 0} {g : Ghosts D} where
       let is_then = gives m is in
       let says_then = known before m holds in
       why honest (f m) is_then.0 (subst (λ (P : Image). InTxn u P (f m)) (sym same) (did.changed before m holds))
-      (says_then.0, subst (λ (P : Image). Stand u P fs) (sym same) says_then.1) is_then.1 (is_then.2 number (first_one number []))
+      (says_then.0, subst (λ (P : Image). Stand u P fs) (sym same) says_then.1) is_then.1 (is_then.2 number ((0, omega arith, refl)))
   then_not_held f x can says fs plan number t u a b c Halted by gives known did quiet why = sym did.passed.halted ∙ why
   then_not_held f x can says fs plan number t u a b c NoPages by gives known did quiet why = let most = did.taken in omega arith
   then_not_held f x can says fs plan number t u a b c TooDeep by gives known did quiet why = λ honest m holds.
@@ -104,12 +87,7 @@ module _ {D : Type 0} {g : Ghosts D} where
 
   pub begun_held : (plan : ℕ) (all : List ℕ) (free : Option ℕ) (fs : Fingers) (t : Txn) (a b : Pages D g) → Passed a b → fs.first.page ≡ 0 → fs.second.page ≡ 0
       → ((disk_in b).is_honest → (m : KeyMap) → InTxn t (stored a) m → IsFreeFrom free plan m) → HasHeldTo plan all all free fs t t a b
-  begun_held plan all free fs t a b passed first second none = record {
-    prefix = [];
-    are = refl;
-    held = read_changed t a b passed;
-    none = λ honest m holds. (none honest m holds, fresh_stand t (stored a) fs first second);
-  }
+  begun_held plan all free fs t a b passed first second none = search (arith, read_changed, none, fresh_stand)
 
   pub next_held : (plan number : ℕ) (all rest now : List ℕ) (free then : Option ℕ) (fs fs_then : Fingers) (t u v : Txn) (a b c : Pages D g) → now ≡ number ∷ rest → ((m : KeyMap) → IsFreeFrom free plan m → IsFreeFrom then plan (hold m plan number))
       → HasHeldTo plan all now free fs t u a b → HasHeldWith fs fs_then (IsFreeFrom free plan) plan number u v b c → HasHeldTo plan all rest then fs_then t v a c

@@ -1,34 +1,18 @@
 -- A plan comes to hold a chunk by two rows, or holds it already.
-use Rattle.std.proofs.Common.{◌≡◌, ◌<◌, ◌+◌, ◌-◌, ◌^◌, ℕ, zero, suc, true, false, List, [], ◌∷◌, Option, Some, None, refl, sym, ap, subst, ◌∙◌, arith}
 use Rattle.std.specs.Prelude.{option_map, Result, Ok, Err, IfOk}
-use Rattle.sector_device.specs.claim.Disk.{Image}
-use Rattle.sector_device.specs.declared.SectorDevice.{Ghosts}
+use Rattle.std.proofs.Common.{◌≡◌, ◌<◌, ◌+◌, ◌-◌, ◌^◌, ℕ, zero, suc, true, false, List, [], ◌∷◌, Option, Some, None, refl, sym, ap, subst, ◌∙◌, arith}
+use Rattle.sector_device.specs.{claim.Disk.Image, declared.SectorDevice.Ghosts}
+use Rattle.page_store.specs.{claim.Transactions.{stored, disk_in, IsQuiet, Passed}, declared.pages.Pages.Pages, declared.txn.Txn.Txn}
 use Rattle.page_store.proofs.Stops.{passed_more, failed_more}
-use Rattle.page_store.specs.claim.Transactions.{stored, disk_in, IsQuiet, Passed}
-use Rattle.page_store.specs.declared.pages.Pages.{Pages}
-use Rattle.page_store.specs.declared.txn.Txn.{Txn}
-use Rattle.page_btree.specs.claim.Map.{InTxn}
-use Rattle.page_btree.specs.declared.error.TreeError.{TreeError}
-use Rattle.page_btree.specs.declared.error.TreeError.TheVariants.{DeviceFault, NotAStore, Halted, NoPages, TooDeep, Memory}
-use Rattle.store_rows.specs.claim.Keys.{key_of, holding, holder_count, in_eight}
-use Rattle.store_rows.specs.claim.Rows.{KeyMap, row_in, Lacks}
-use Rattle.store_rows.specs.claim.Puts.{Row, put_rows}
-use Rattle.store_rows.specs.claim.Holders.{holder_count_row, holding_rows}
-use Rattle.store_rows.specs.Shares.{CanHold}
-use Rattle.store_rows.specs.claim.Shares.{count_of, hold_by, hold}
-use Rattle.store_rows.proofs.HolderCounts.{joins_holders}
-use Rattle.store_rows.proofs.Sharing.{count_back}
-use Rattle.desk_pages.specs.Rising.{HasPutWith, PutsErrWith}
-use Rattle.desk_pages.specs.btree_puts.Fingers.{Stand}
-use Rattle.desk_pages.specs.btree_puts.declared.finger.Fingers.{Fingers}
-use Rattle.desk_pages.proofs.Rising.{fresh_stand, more_put_with, then_not_put_with, prefix_not_put_with, put_with_after, not_put_with_after}
-use Rattle.desk_pages.specs.Looking.{Looks}
-use Rattle.desk_pages.proofs.Looking.{looked, not_looked as unlooked}
-use Rattle.store_rows.specs.Values.{holder_count_bytes}
-use Rattle.store_rows.specs.declared.value.HolderCount.{HolderCount}
+use Rattle.page_btree.specs.{claim.Map.InTxn, declared.error.TreeError.TreeError, declared.error.TreeError.TheVariants.{DeviceFault, NotAStore, Halted, NoPages, TooDeep, Memory}}
+use Rattle.store_rows.specs.{claim.Keys.{key_of, holding, holder_count, in_eight}, claim.Rows.{KeyMap, row_in, Lacks}, claim.Puts.{Row, put_rows}}
+use Rattle.store_rows.specs.{claim.Holders.{holder_count_row, holding_rows}, Shares.CanHold, claim.Shares.{count_of, hold_by, hold}, Values.holder_count_bytes}
+use Rattle.store_rows.{specs.declared.value.HolderCount.HolderCount, proofs.HolderCounts.joins_holders, proofs.Sharing.count_back}
+use Rattle.desk_pages.specs.{Rising.{HasPutWith, PutsErrWith}, btree_puts.Fingers.Stand, btree_puts.declared.finger.Fingers.Fingers, Looking.Looks}
 use Rattle.desk_pages.specs.Reading.{ReadErr, ReadErrWith, StandsAs}
-use Rattle.plan_rows.specs.Holding.{Stands, HasHolderCount, HasHeld, HasHeldWith, WasHeld, HoldErrOf, HoldErrWith, IsCountOf, IsUnheld}
-use Rattle.plan_rows.proofs.Changed.{deep_after}
+use Rattle.desk_pages.proofs.Rising.{fresh_stand, more_put_with, then_not_put_with, prefix_not_put_with, put_with_after, not_put_with_after}
+use Rattle.desk_pages.proofs.Looking.{looked, not_looked as unlooked}
+use Rattle.plan_rows.{specs.Holding.{Stands, HasHolderCount, HasHeld, HasHeldWith, WasHeld, HoldErrOf, HoldErrWith, IsCountOf, IsUnheld}, proofs.Changed.deep_after}
 
 one_row : (k v key value : List ℕ) → k ≡ key → v ≡ value → ◌≡◌ {A = List Row} ((k, v) ∷ []) ((key, value) ∷ [])
 one_row k v key value a b = λ i. (a i, b i) ∷ []
@@ -43,19 +27,11 @@ holder_count_stands m number told = holder_count_in (row_in m (holder_count numb
 
 -- a count that is told is the row's
 pub count_told : (copied row : Option (List ℕ)) (r : Result ℕ TreeError) → copied ≡ row → IsCountOf copied r → IfOk r (λ count. row ≡ holder_count_row count)
-count_told copied row (Ok count) is told = sym is ∙ told
-count_told copied row (Err e) is told = tt
+count_told copied row r is told = search (arith)
 
 -- ---- maps
-stays : (m : KeyMap) (plan number : ℕ) → Stands true plan number m → hold m plan number ≡ m
-stays m plan number there = ap (λ (o : Option (List ℕ)). hold_by o m plan number) there.1
-
 made : (m : KeyMap) (plan number count : ℕ) → count < 2 ^ 64 → Stands false plan number m → row_in m (holder_count number) ≡ holder_count_row count → hold m plan number ≡ put_rows m (holding_rows plan number count)
 made m plan number count fits lacks told = ap (λ (o : Option (List ℕ)). hold_by o m plan number) lacks ∙ ap (λ (k : ℕ). put_rows m (holding_rows plan number k)) (ap count_of told ∙ count_back count fits)
-
--- a count of a map in which the plan can hold the chunk goes up
-goes_up : (m : KeyMap) (limit plan number count : ℕ) → CanHold m limit plan → number < 2 ^ 64 → count < 2 ^ 64 → Stands false plan number m → row_in m (holder_count number) ≡ holder_count_row count → count + 1 < 2 ^ 64
-goes_up m limit plan number count can fits count_fits lacks told = (joins_holders m limit plan number count can.counted_by_holders can.below can.limit_fits can.plan_below fits count_fits lacks told).fits
 
 -- no row tells that the plan holds it
 abbrev Lacking : ℕ → ℕ → KeyMap → Type 0
@@ -76,12 +52,7 @@ module _ {D : Type 0} {g : Ghosts D} (number : ℕ) (t : Txn) (a b : Pages D g) 
 
   -- or no row is read
   pub count_unread_with : (f : Fingers) (has : KeyMap → Type 0) → ((m : KeyMap) → HasHolderCount number m → has m) → (e : TreeError) → ReadErrWith f has t a b e → ReadErr (λ m. HasHolderCount number m × Stand t (stored a) f) t a b e
-  count_unread_with f has gives DeviceFault why = why
-  count_unread_with f has gives NotAStore why = λ honest m holds is. why honest m holds is.1 (gives m is.0)
-  count_unread_with f has gives Halted why = why
-  count_unread_with f has gives NoPages why = why
-  count_unread_with f has gives TooDeep why = why
-  count_unread_with f has gives Memory why = why
+  count_unread_with f has gives e why = search (arith, why, gives)
 
 module _ {D : Type 0} {g : Ghosts D} (plan number count : ℕ) where
   pub both_put : (f h x : Fingers) (k v l w : List ℕ) → k ≡ key_of (holding plan number) → v ≡ [] → l ≡ key_of (holder_count number) → w ≡ in_eight (count + 1)
@@ -106,13 +77,7 @@ module _ {D : Type 0} {g : Ghosts D} (plan number count : ℕ) where
 module _ {D : Type 0} {g : Ghosts D} (plan number : ℕ) where
   -- ---- what is held
   pub held_already : (t : Txn) {a b : Pages D g} → Passed a b → ((disk_in b).is_honest → (m : KeyMap) → InTxn t (stored a) m → Stands true plan number m) → HasHeld plan number t t a b
-  held_already t {a} {b} passed stands = record {
-    passed = passed;
-    pages = refl;
-    held = λ honest m holds. subst (λ (n : KeyMap). InTxn t (stored a) n) (sym (stays m plan number (stands honest m holds))) holds;
-    writes = omega arith;
-    taken = omega arith;
-  }
+  held_already t {a} {b} passed stands = search (arith, stands)
 
   -- after a look that tells that the plan doesn't hold it
   pub unheld_there : (t : Txn) {a b : Pages D g} → Passed a b → WasHeld false plan number t a b → IsUnheld plan number t b
@@ -148,7 +113,7 @@ module _ {D : Type 0} {g : Ghosts D} (plan number : ℕ) where
 
     pub too_many : (count ≡ 2 ^ 64 - 1) → HoldErrWith f (Lacking plan number) plan number t a b NotAStore
     too_many is = λ honest m limit holds may can fits.
-        let less = goes_up m limit plan number count can fits count_fits may.0 (told honest m holds may.1) in
+        let less = (joins_holders m limit plan number count can.counted_by_holders can.below can.limit_fits can.plan_below fits count_fits may.0 (told honest m holds may.1)).fits in
         absurd (omega arith)
 
     pub holding_not_put : (c : Pages D g) (e : TreeError) → IsQuiet b c → PutsErrWith f (holding_rows plan number count) t b c e → HoldErrWith f (Lacking plan number) plan number t a c e
@@ -168,13 +133,7 @@ module _ {D : Type 0} {g : Ghosts D} (plan number : ℕ) where
 
   -- no leaf is known then
   pub held_of_all : {f h : Fingers} {says : KeyMap → Type 0} {t u : Txn} {a b : Pages D g} → h.first.page ≡ 0 → h.second.page ≡ 0 → HasHeld plan number t u a b → HasHeldWith f h says plan number t u a b
-  held_of_all {f} {h} {says} {t} {u} {a} {b} first second did = record {
-    passed = did.passed;
-    pages = did.pages;
-    held = λ honest m holds is stand. (did.held honest m holds, fresh_stand u (stored a) h first second);
-    writes = did.writes;
-    taken = did.taken;
-  }
+  held_of_all {f} {h} {says} {t} {u} {a} {b} first second did = search (arith, did.passed, did.pages, did.held, fresh_stand, did.writes, did.taken)
 
   pub held_unheld : {f h : Fingers} {t u : Txn} {a b : Pages D g} → f.first.page ≡ 0 → f.second.page ≡ 0 → IsUnheld plan number t a → HasHeldWith f h (Lacking plan number) plan number t u a b → HasHeld plan number t u a b
   held_unheld {f} {h} {t} {u} {a} {b} first second unheld did = record {
@@ -188,29 +147,23 @@ module _ {D : Type 0} {g : Ghosts D} (plan number : ℕ) where
   -- ---- why not
   module _ (may : KeyMap → Type 0) (t : Txn) (a b : Pages D g) where
     pub not_held_of : (more : KeyMap → Type 0) → ((disk_in b).is_honest → (m : KeyMap) → InTxn t (stored a) m → more m → may m) → (e : TreeError) → HoldErrOf may plan number t a b e → HoldErrOf more plan number t a b e
-    not_held_of more gives DeviceFault why = why
     not_held_of more gives NotAStore why = λ honest m limit holds is can fits. why honest m limit holds (gives honest m holds is) can fits
-    not_held_of more gives Halted why = why
-    not_held_of more gives NoPages why = why
     not_held_of more gives TooDeep why = λ honest m holds is. why honest m holds (gives honest m holds is)
-    not_held_of more gives Memory why = why
+    not_held_of more gives _ why = why
 
     pub not_held_after : (c : Pages D g) (e : TreeError) → Passed a b → IsQuiet b c → HoldErrOf may plan number t b c e → HoldErrOf may plan number t a c e
     not_held_after c DeviceFault first quiet why = failed_more a b c first quiet why
     not_held_after c NotAStore first quiet why = λ honest m limit holds is can fits. why honest m limit (subst (λ (P : Image). InTxn t P m) (sym (first.quiet.same (quiet.honest honest))) holds) is can fits
     not_held_after c Halted first quiet why = sym first.halted ∙ why
-    not_held_after c NoPages first quiet why = why
     not_held_after c TooDeep first quiet why = λ honest m holds is.
         let same = first.quiet.same (quiet.honest honest) in
         let deep = why honest m (subst (λ (P : Image). InTxn t P m) (sym same) holds) is in
         (deep.0, deep_after [] (holding_rows plan number deep.0) t t a b m m same refl deep.1)
-    not_held_after c Memory first quiet why = why
+    not_held_after c _ first quiet why = why
 
     -- what is looked for first isn't read
     pub not_told : (has : KeyMap → Type 0) → ((m : KeyMap) (limit : ℕ) → may m → CanHold m limit plan → number < 2 ^ 64 → has m) → (e : TreeError) → ReadErr has t a b e → HoldErrOf may plan number t a b e
     not_told has gives DeviceFault why = why
     not_told has gives NotAStore why = λ honest m limit holds is can fits. why honest m holds (gives m limit is can fits)
     not_told has gives Halted why = why
-    not_told has gives NoPages why = absurd why
-    not_told has gives TooDeep why = absurd why
-    not_told has gives Memory why = absurd why
+    not_told has gives _ why = absurd why

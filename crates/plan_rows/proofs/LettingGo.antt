@@ -1,36 +1,21 @@
 -- A plan lets a chunk go: its row is taken out, and the count goes down by one.
-use Rattle.std.proofs.Common.{◌≡◌, ◌<◌, ◌≤◌, ◌+◌, ◌-◌, ◌^◌, ℕ, zero, suc, List, length, Option, Some, None, refl, sym, ap, subst, ◌∙◌, arith}
-use Rattle.std.specs.FinMap.{get, insert, remove}
-use Rattle.sector_device.specs.claim.Disk.{Image}
-use Rattle.sector_device.specs.declared.SectorDevice.{Ghosts}
+use Rattle.std.{specs.FinMap.{get, insert, remove}, proofs.Common.{◌≡◌, ◌<◌, ◌≤◌, ◌+◌, ◌-◌, ◌^◌, ℕ, suc, List, length, Option, Some, None, sym, ap, subst, ◌∙◌, arith}}
+use Rattle.sector_device.specs.{claim.Disk.Image, declared.SectorDevice.Ghosts}
+use Rattle.page_store.specs.{claim.Transactions.{stored, disk_in, txn_pages, txn_free, txn_writes, IsQuiet, Passed}, declared.pages.Pages.Pages, declared.txn.Txn.Txn}
 use Rattle.page_store.proofs.Stops.{passed_more, failed_more}
-use Rattle.page_store.specs.claim.Transactions.{stored, disk_in, txn_pages, txn_free, txn_writes, IsQuiet, Passed}
-use Rattle.page_store.specs.declared.pages.Pages.{Pages}
-use Rattle.page_store.specs.declared.txn.Txn.{Txn}
-use Rattle.page_btree.specs.claim.Map.{InTxn}
-use Rattle.page_btree.specs.claim.Errors.{PutErr, RemoveErr}
-use Rattle.page_btree.specs.Errors.{IsNoWant}
-use Rattle.page_btree.specs.declared.error.TreeError.{TreeError}
+use Rattle.page_btree.specs.{claim.Map.InTxn, claim.Errors.{PutErr, RemoveErr}, Errors.IsNoWant, declared.error.TreeError.TreeError}
 use Rattle.page_btree.specs.declared.error.TreeError.TheVariants.{DeviceFault, NotAStore, Halted, NoPages, TooDeep, Memory}
-use Rattle.store_rows.specs.claim.Keys.{key_of, holding, holder_count, in_eight}
-use Rattle.store_rows.specs.claim.Rows.{KeyMap, row_in}
-use Rattle.store_rows.specs.claim.Holders.{holder_count_row}
-use Rattle.store_rows.specs.Holders.{with_holder_count, released}
-use Rattle.store_rows.proofs.Frames.{remove_keeps_tag}
+use Rattle.store_rows.specs.{claim.Keys.{key_of, holding, holder_count, in_eight}, claim.Rows.{KeyMap, row_in}, claim.Holders.holder_count_row}
+use Rattle.store_rows.{specs.Holders.{with_holder_count, released}, proofs.Frames.remove_keeps_tag}
 use Rattle.desk_pages.specs.Reading.{ReadErr}
-use Rattle.plan_rows.specs.Holding.{HasHolderCount}
-use Rattle.plan_rows.specs.Releasing.{TellsMore, HasCount, HasLowered, LowerErr, HasReleased, ReleaseErr}
+use Rattle.plan_rows.specs.{Holding.HasHolderCount, Releasing.{TellsMore, HasCount, HasLowered, LowerErr, HasReleased, ReleaseErr}}
 
 -- ---- the row of a count
 none_told : (m : KeyMap) (number count : ℕ) (key : List ℕ) → count ≡ 0 → key ≡ key_of (holder_count number) → remove m key ≡ with_holder_count m number count
 none_told m number count key none is = ap (λ (k : List ℕ). remove m k) is ∙ ap (λ (n : ℕ). with_holder_count m number n) (sym none)
 
-some_put : (m : KeyMap) (number count : ℕ) → (count ≡ 0 → ⊥) → insert m (key_of (holder_count number)) (in_eight count) ≡ with_holder_count m number count
-some_put m number zero some = absurd (some refl)
-some_put m number (suc more) some = (let same : suc more ≡ more + 1 = omega arith in ap (λ (n : ℕ). insert m (key_of (holder_count number)) (in_eight n)) same)
-
 some_told : (m : KeyMap) (number count : ℕ) (key value : List ℕ) → (count ≡ 0 → ⊥) → key ≡ key_of (holder_count number) → value ≡ in_eight count → insert m key value ≡ with_holder_count m number count
-some_told m number count key value some is told = (λ i. insert m (is i) (told i)) ∙ some_put m number count some
+some_told m number count key value some is told = (λ i. insert m (is i) (told i)) ∙ (search (arith, some))
 
 module _ {D : Type 0} {g : Ghosts D} (number count : ℕ) (t u : Txn) (a b : Pages D g) (key : List ℕ) (is : key ≡ key_of (holder_count number)) where
   pub count_gone : count ≡ 0 → Passed a b → txn_pages u ≡ txn_pages t → ((disk_in b).is_honest → (m : KeyMap) → InTxn t (stored a) m → InTxn u (stored a) (remove m key)) → txn_writes u ≤ txn_writes t + 6 → txn_free t ≤ txn_free u → HasLowered number count t u a b
@@ -53,20 +38,12 @@ module _ {D : Type 0} {g : Ghosts D} (number count : ℕ) (t u : Txn) (a b : Pag
   }
 
   pub count_not_put : (value : List ℕ) → value ≡ in_eight count → (e : TreeError) → PutErr t a b e → ((disk_in b).is_honest → (m : KeyMap) (held : List ℕ) → InTxn t (stored a) m → get m key ≡ Some held → length held ≡ length value → IsNoWant e) → LowerErr number count t a b e
-  count_not_put value told DeviceFault why want = why
-  count_not_put value told NotAStore why want = why
-  count_not_put value told Halted why want = why
   count_not_put value told NoPages why want = λ honest m holds more. want honest m (in_eight (count + 1)) holds (ap (get m) is ∙ more) (sym (ap length told))
   count_not_put value told TooDeep why want = λ honest m holds more. want honest m (in_eight (count + 1)) holds (ap (get m) is ∙ more) (sym (ap length told))
-  count_not_put value told Memory why want = why
+  count_not_put value told _ why want = why
 
 pub count_not_gone : {D : Type 0} {g : Ghosts D} (number count : ℕ) (t : Txn) (a b : Pages D g) (e : TreeError) → RemoveErr t a b e → LowerErr number count t a b e
-count_not_gone number count t a b DeviceFault why = why
-count_not_gone number count t a b NotAStore why = why
-count_not_gone number count t a b Halted why = why
-count_not_gone number count t a b NoPages why = absurd why
-count_not_gone number count t a b TooDeep why = absurd why
-count_not_gone number count t a b Memory why = why
+count_not_gone number count t a b e why = search (arith)
 
 -- ---- both rows
 one_fewer : (count : ℕ) → (count ≡ 0 → ⊥) → count ≡ suc (count - 1)
@@ -84,9 +61,8 @@ module _ {D : Type 0} {g : Ghosts D} (number count : ℕ) (t : Txn) (a b : Pages
     not_removed c DeviceFault quiet why = failed_more a b c read quiet why
     not_removed c NotAStore quiet why = λ honest m holds has. why honest m (still (quiet.honest honest) m holds)
     not_removed c Halted quiet why = sym read.halted ∙ why
-    not_removed c NoPages quiet why = absurd why
-    not_removed c TooDeep quiet why = absurd why
     not_removed c Memory quiet why = tt
+    not_removed c _ quiet why = absurd why
 
     module _ (plan : ℕ) (u : Txn) (c : Pages D g) (key : List ℕ) (is : key ≡ key_of (holding plan number)) (gone : Passed b c) (pages : txn_pages u ≡ txn_pages t) (removed : (disk_in c).is_honest → (m : KeyMap) → InTxn t (stored b) m → InTxn u (stored b) (remove m key)) (writes : txn_writes u ≤ txn_writes t + 6) (given : txn_free t ≤ txn_free u) where
       abbrev without : KeyMap → KeyMap
@@ -124,18 +100,15 @@ module _ {D : Type 0} {g : Ghosts D} (number count : ℕ) (t : Txn) (a b : Pages
       not_lowered d DeviceFault quiet why = failed_more a c d all_passed quiet why
       not_lowered d NotAStore quiet why = λ honest m holds has. why honest (without m) (reads (quiet.honest honest) m holds)
       not_lowered d Halted quiet why = sym all_passed.halted ∙ why
-      not_lowered d NoPages quiet why = λ honest m holds. let before = quiet.honest honest in why honest (without m) (reads before m holds) (tells before m holds)
-      not_lowered d TooDeep quiet why = λ honest m holds. let before = quiet.honest honest in why honest (without m) (reads before m holds) (tells before m holds)
       not_lowered d Memory quiet why = tt
+      not_lowered d _ quiet why = λ honest m holds. let before = quiet.honest honest in why honest (without m) (reads before m holds) (tells before m holds)
 
 -- a count that isn't read
 pub not_counted_here : {D : Type 0} {g : Ghosts D} (number : ℕ) (t : Txn) (a b : Pages D g) (e : TreeError) → ReadErr (HasHolderCount number) t a b e → ReleaseErr number t a b e
 not_counted_here number t a b DeviceFault why = why
 not_counted_here number t a b NotAStore why = λ honest m holds has. let fits = has.fits in why honest m holds (suc has.count, omega arith, has.told)
 not_counted_here number t a b Halted why = why
-not_counted_here number t a b NoPages why = absurd why
-not_counted_here number t a b TooDeep why = absurd why
-not_counted_here number t a b Memory why = absurd why
+not_counted_here number t a b _ why = absurd why
 
 -- or is that of no holder
 pub none_counted : {D : Type 0} {g : Ghosts D} (number count : ℕ) (t : Txn) (a b : Pages D g) → ((disk_in b).is_honest → (m : KeyMap) → InTxn t (stored a) m → row_in m (holder_count number) ≡ holder_count_row count) → count ≡ 0 → ReleaseErr number t a b NotAStore

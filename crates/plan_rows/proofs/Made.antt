@@ -1,24 +1,12 @@
 -- The rows of plans, with the row of numbers after them, make the desk that the plans' rows make.
-use Rattle.std.proofs.Common.{◌≡◌, ◌<◌, ◌+◌, ℕ, List, [], ◌∷◌, ◌++◌, length, Some, ap, ◌∙◌, arith, length-append}
-use Rattle.std.specs.Prelude.{Option, None, MatchOption}
-use Rattle.std.specs.FinMap.{FinMap, get, insert}
-use Rattle.desk_model.specs.claim.Geography.{GeographyModel}
-use Rattle.desk_model.specs.claim.Desk.{Desk, Plan, name_cmp}
-use Rattle.store_rows.specs.claim.Keys.{key_of, counters, named}
-use Rattle.store_rows.specs.claim.Values.{counters_bytes, plan_bytes}
-use Rattle.store_rows.specs.declared.value.Counters.{Counters}
-use Rattle.store_rows.specs.declared.value.PlanRow.{PlanRow}
-use Rattle.store_rows.specs.claim.Rows.{KeyMap}
-use Rattle.store_rows.specs.Rows.{SameTag}
-use Rattle.store_rows.specs.claim.Puts.{put_rows}
+use Rattle.std.{specs.Prelude.{Option, MatchOption}, specs.FinMap.{FinMap, get, insert}, proofs.Common.{◌≡◌, ◌<◌, ℕ, List, [], length, Some, ap, ◌∙◌, arith, length-append}}
+use Rattle.desk_model.specs.{claim.Geography.GeographyModel, claim.Desk.{Desk, Plan, name_cmp}}
+use Rattle.store_rows.specs.{claim.Keys.{key_of, counters, named}, claim.Values.{counters_bytes, plan_bytes}, declared.value.Counters.Counters, declared.value.PlanRow.PlanRow}
+use Rattle.store_rows.specs.{claim.Rows.KeyMap, Rows.SameTag, claim.Puts.put_rows, claim.DeskRows.{HasPlan, IsDesk, most_revisions}}
+use Rattle.store_rows.specs.{Changes.{IsRevised, desk_with, plan_row_of, with_revision}, Steps.one_revision_more, claim.Tidy.{IsNext, no_numbers}}
 use Rattle.store_rows.proofs.Frames.{put_is_there, put_keeps, put_keeps_tag, tag_follows, desk_stays, revision_stays}
-use Rattle.store_rows.specs.claim.DeskRows.{HasPlan, IsDesk, most_revisions}
-use Rattle.store_rows.specs.Changes.{IsRevised, desk_with, plan_row_of, with_revision}
-use Rattle.store_rows.proofs.Changes.{plan_created, plan_retired, plan_revised}
-use Rattle.store_rows.specs.Steps.{one_revision_more}
-use Rattle.store_rows.specs.claim.Tidy.{IsNext, no_numbers}
-use Rattle.plan_rows.specs.PlanRows.{plan_rows, revised_rows}
-use Rattle.plan_rows.specs.PlanLaws.{MakesAndTakes, HasRevisionRows}
+use Rattle.store_rows.proofs.Changes.{plan_created, plan_retired, plan_revised, other_row as other_name}
+use Rattle.plan_rows.specs.{PlanRows.{plan_rows, revised_rows}, PlanLaws.{MakesAndTakes, HasRevisionRows}}
 
 -- ---- the row of numbers says nothing of the desk
 numbers_keep : (m : KeyMap) (d : Desk) (value : List ℕ) → IsDesk m d → IsDesk (insert m (key_of counters) value) d
@@ -37,20 +25,13 @@ plans_made m g plans name is = record {
 
 -- ---- what stays where the two rows are put
 pub rows_keep : (tag : ℕ) (m : KeyMap) (name : List ℕ) (row : PlanRow) (next : Counters) → (tag ≡ 80 → ⊥) → (tag ≡ 65 → ⊥) → SameTag tag m (put_rows m (plan_rows name row next))
-rows_keep tag m name row next no_plan no_counters =
-    let one = insert m (key_of (named name)) (plan_bytes row) in
-    tag_follows tag m one (insert one (key_of counters) (counters_bytes next)) (put_keeps_tag m tag 80 name (plan_bytes row) no_plan) (put_keeps_tag one tag 65 [] (counters_bytes next) no_counters)
+rows_keep tag m name row next no_plan no_counters = search (arith, tag_follows, put_keeps_tag)
 
 names_keep : (m : KeyMap) (name : List ℕ) (row : PlanRow) (next : Counters) → SameTag 80 (insert m (key_of (named name)) (plan_bytes row)) (put_rows m (plan_rows name row next))
 names_keep m name row next = put_keeps_tag (insert m (key_of (named name)) (plan_bytes row)) 80 65 [] (counters_bytes next) (λ same. absurd (omega arith))
 
-other_name : (name other : List ℕ) → (other ≡ name → ⊥) → key_of (named other) ≡ key_of (named name) → ⊥
-other_name name other apart same = apart (cc)
-
 one_more : (number : ℕ) (p : Plan) (row : PlanRow) (districts : List ℕ) → row ≡ plan_row_of number p → one_revision_more row ≡ plan_row_of number (with_revision p districts)
-one_more number p row districts is =
-    let count : length p.revisions + 1 ≡ length (p.revisions ++ districts ∷ []) = simp length-append in
-    ap (λ (r : PlanRow). one_revision_more r) is ∙ (λ i. record { number = number; kind = p.kind; districts = p.n; revisions = count i })
+one_more number p row districts is = search (arith, p.revisions, length-append, p.kind, p.n)
 
 module _ (m n : KeyMap) (g : GeographyModel) (plans : FinMap name_cmp Plan) (name : List ℕ) (row : PlanRow) (p : Plan) (districts : List ℕ) (used : ℕ) (next : Counters) where
   is_revised : row ≡ plan_row_of row.number p → HasRevisionRows m n g plans row.number p districts → IsRevised m (put_rows n (revised_rows name row used next)) g plans name row.number p districts
@@ -74,8 +55,7 @@ module _ (m n : KeyMap) (g : GeographyModel) (plans : FinMap name_cmp Plan) (nam
 
 -- ---- the numbers
 next_in : (value : Option (List ℕ)) (next : Counters) → ◌≡◌ {A = Option (List ℕ)} value (Some (counters_bytes next)) → MatchOption value (next ≡ no_numbers) (λ bytes. bytes ≡ counters_bytes next)
-next_in None next is = cc
-next_in (Some bytes) next is = cc
+next_in value next is = search (arith)
 
 pub numbers_moved : (m : KeyMap) (name : List ℕ) (row : PlanRow) (next : Counters) → IsNext (put_rows m (plan_rows name row next)) next
 numbers_moved m name row next = next_in _ next (put_is_there (insert m (key_of (named name)) (plan_bytes row)) (key_of counters) (counters_bytes next))

@@ -1,30 +1,15 @@
 -- The numbers are read, and then rows are put.
-use Rattle.std.proofs.Common.{◌≡◌, List, [], length, refl, arith}
+use Rattle.std.proofs.Common.{◌≡◌, List, [], length, arith}
 use Rattle.sector_device.specs.declared.SectorDevice.{Ghosts}
-use Rattle.page_store.specs.claim.Transactions.{stored, disk_in, IsQuiet, Passed}
-use Rattle.page_store.specs.declared.pages.Pages.{Pages}
-use Rattle.page_store.specs.declared.txn.Txn.{Txn}
-use Rattle.page_btree.specs.claim.Map.{InTxn}
-use Rattle.page_btree.specs.declared.error.TreeError.{TreeError}
-use Rattle.page_btree.specs.declared.error.TreeError.TheVariants.{DeviceFault, NotAStore, Halted, NoPages, TooDeep, Memory}
-use Rattle.store_rows.specs.declared.value.Counters.{Counters}
-use Rattle.store_rows.specs.claim.Rows.{KeyMap}
-use Rattle.store_rows.specs.claim.Puts.{Row}
-use Rattle.store_rows.specs.claim.Tidy.{IsNext, CountersFit}
-use Rattle.desk_pages.specs.claim.Puts.{HasPut, PutsErr}
-use Rattle.desk_pages.proofs.RowsPut.{more_put, then_not_put}
-use Rattle.desk_pages.specs.Reading.{HasNext, ReadErr}
+use Rattle.page_store.specs.{claim.Transactions.{stored, disk_in, IsQuiet, Passed}, declared.pages.Pages.Pages, declared.txn.Txn.Txn}
+use Rattle.page_btree.specs.{claim.Map.InTxn, declared.error.TreeError.TreeError, declared.error.TreeError.TheVariants.{NotAStore, NoPages, TooDeep, Memory}}
+use Rattle.store_rows.specs.{declared.value.Counters.Counters, claim.Rows.KeyMap, claim.Puts.Row, claim.Tidy.{IsNext, CountersFit}}
+use Rattle.desk_pages.{specs.claim.Puts.{HasPut, PutsErr}, specs.Reading.{HasNext, ReadErr}, proofs.RowsPut.{more_put, then_not_put}}
 use Rattle.plan_rows.specs.claim.Outcomes.{AreNext, HasNumbered, ChangeErr}
 
 module _ {D : Type 0} {g : Ghosts D} where
   nothing_put : (t : Txn) (a b : Pages D g) → Passed a b → HasPut [] t t a b
-  nothing_put t a b passed = record {
-    passed = passed;
-    pages = refl;
-    put = λ honest m holds. holds;
-    writes = omega arith;
-    taken = omega arith;
-  }
+  nothing_put t a b passed = search arith
 
   -- the numbers are still those of the first pages
   told_then : (next : Counters) (t : Txn) (a b c : Pages D g) → IsQuiet b c → CountersFit next → ((disk_in b).is_honest → (m : KeyMap) → InTxn t (stored a) m → IsNext m next) → AreNext next t a c
@@ -40,20 +25,14 @@ module _ {D : Type 0} {g : Ghosts D} where
 
   -- ---- why not
   pub numbers_not_read : (rows : Counters → List Row) (t : Txn) (a b : Pages D g) (e : TreeError) → ReadErr HasNext t a b e → ChangeErr rows t a b e
-  numbers_not_read rows t a b DeviceFault why = why
-  numbers_not_read rows t a b NotAStore why = λ honest m next holds is. why honest m holds (next, is)
-  numbers_not_read rows t a b Halted why = why
-  numbers_not_read rows t a b NoPages why = absurd why
-  numbers_not_read rows t a b TooDeep why = absurd why
-  numbers_not_read rows t a b Memory why = tt
+  numbers_not_read rows t a b e why = search (arith, why)
 
   not_changed : (rows : Counters → List Row) (next : Counters) (t : Txn) (a c : Pages D g) (e : TreeError) → length (rows next) ≡ 2 → AreNext next t a c → PutsErr (rows next) t a c e → ChangeErr rows t a c e
-  not_changed rows next t a c DeviceFault two are why = why
   not_changed rows next t a c NotAStore two are why = λ honest m other holds is. why honest m holds
-  not_changed rows next t a c Halted two are why = why
   not_changed rows next t a c NoPages two are why = omega arith
   not_changed rows next t a c TooDeep two are why = λ honest m holds. (next, are.fit, are.told honest m holds, why honest m holds)
   not_changed rows next t a c Memory two are why = tt
+  not_changed rows next t a c _ two are why = why
 
   pub numbered_not_put : (rows : Counters → List Row) (next : Counters) (t : Txn) (a b c : Pages D g) (e : TreeError) → length (rows next) ≡ 2 → Passed a b → CountersFit next → ((disk_in b).is_honest → (m : KeyMap) → InTxn t (stored a) m → IsNext m next) → IsQuiet b c → PutsErr (rows next) t b c e → ChangeErr rows t a c e
   numbered_not_put rows next t a b c e two passed fit told quiet why =

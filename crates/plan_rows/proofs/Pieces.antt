@@ -1,25 +1,20 @@
 -- A piece of a chunk, as its row has it.
-use Rattle.std.proofs.Common.{◌≡◌, ◌<◌, ◌*◌, ◌^◌, ℕ, List, length, take, drop, Some, sym, subst, ◌∙◌, arith}
-use Rattle.std.specs.FinMap.{get}
-use Rattle.store_rows.specs.claim.Keys.{key_of, chunk}
-use Rattle.store_rows.specs.claim.Lists.{AreDistricts, districts_bytes}
-use Rattle.store_rows.specs.claim.Rows.{KeyMap}
-use Rattle.desk_pages.proofs.Appending.{part_there, some_of_part, most_of_part, each_of_part}
+use Rattle.std.{specs.FinMap.get, proofs.Common.{◌≡◌, ◌<◌, ◌*◌, ◌^◌, ℕ, List, take, drop, Some, sym, subst, ◌∙◌, arith}}
+use Rattle.store_rows.specs.{claim.Keys.{key_of, chunk}, claim.Lists.{AreDistricts, districts_bytes}, claim.Rows.KeyMap}
+use Rattle.desk_pages.proofs.ListParts.{part_there, some_of_part, most_of_part, each_of_part}
 use Rattle.plan_rows.specs.ChunkReading.{IsChunk}
 
 pub piece_there : (m : KeyMap) (number count index : ℕ) (districts key : List ℕ) → IsChunk number count m districts → key ≡ key_of (chunk number index) → index < 2 ^ 16 → 512 * index < count → get m key ≡ Some (districts_bytes (take 512 (drop (512 * index) districts)))
 piece_there m number count index districts key is same small within =
     let long = is.long in
-    let begins : 512 * index < length districts = omega arith in
     let value = districts_bytes (take 512 (drop (512 * index) districts)) in
-    subst (λ (k : List ℕ). get m k ≡ Some value) (sym same) (is.has.pieces index small ∙ part_there 512 districts_bytes districts index begins)
+    subst (λ (k : List ℕ). get m k ≡ Some value) (sym same) (is.has.pieces index small ∙ part_there 512 districts_bytes districts index (omega arith))
 
 pub piece_is : (m : KeyMap) (number count index : ℕ) (districts : List ℕ) → IsChunk number count m districts → 512 * index < count → AreDistricts (take 512 (drop (512 * index) districts))
 piece_is m number count index districts is within =
     let long = is.long in
-    let begins : 512 * index < length districts = omega arith in
     record {
-      some = some_of_part 512 (512 * index) districts (omega arith) begins;
+      some = some_of_part 512 (512 * index) districts (omega arith) (omega arith);
       most = most_of_part 512 (512 * index) districts;
       each = each_of_part (λ d. d < 2 ^ 16) 512 (512 * index) districts is.has.each;
     }

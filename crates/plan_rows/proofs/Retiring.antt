@@ -1,21 +1,13 @@
 -- A plan's row is removed, and then its number is marked.
-use Rattle.std.proofs.Common.{◌≡◌, ◌≤◌, ◌+◌, ℕ, List, [], ◌∷◌, sym, subst, ◌∙◌, arith}
-use Rattle.std.specs.FinMap.{remove}
+use Rattle.std.{specs.FinMap.remove, proofs.Common.{◌≡◌, ◌≤◌, ◌+◌, ℕ, List, [], ◌∷◌, sym, subst, ◌∙◌, arith}}
 use Rattle.sector_device.specs.declared.SectorDevice.{Ghosts}
-use Rattle.page_store.specs.claim.Transactions.{stored, disk_in, txn_pages, txn_free, txn_writes, over, txn_root, IsQuiet, Passed}
-use Rattle.page_store.proofs.Stops.{passed_more, failed_more}
-use Rattle.page_store.specs.declared.pages.Pages.{Pages}
-use Rattle.page_store.specs.declared.txn.Txn.{Txn}
-use Rattle.page_btree.specs.claim.Errors.{level_in, RemoveErr}
-use Rattle.page_btree.specs.claim.Map.{InTxn}
-use Rattle.page_btree.specs.declared.error.TreeError.{TreeError}
+use Rattle.page_store.specs.{claim.Transactions.{stored, disk_in, txn_pages, txn_free, txn_writes, over, txn_root, IsQuiet, Passed}, declared.pages.Pages.Pages}
+use Rattle.page_store.{specs.declared.txn.Txn.Txn, proofs.Stops.{passed_more, failed_more}}
+use Rattle.page_btree.specs.{claim.Errors.{level_in, RemoveErr}, claim.Map.InTxn, declared.error.TreeError.TreeError}
 use Rattle.page_btree.specs.declared.error.TreeError.TheVariants.{DeviceFault, NotAStore, Halted, NoPages, TooDeep, Memory}
-use Rattle.store_rows.specs.claim.Keys.{key_of, named, retired}
-use Rattle.store_rows.specs.claim.Rows.{KeyMap}
-use Rattle.store_rows.specs.claim.Puts.{Row, put_rows}
+use Rattle.store_rows.specs.{claim.Keys.{key_of, named, retired}, claim.Rows.KeyMap, claim.Puts.{Row, put_rows}}
 use Rattle.desk_pages.specs.claim.Puts.{HasPut, PutsErr, HasDeepened}
-use Rattle.plan_rows.specs.claim.PlanRows.{retired_rows, retired_map}
-use Rattle.plan_rows.specs.claim.Outcomes.{HasRetired, RetireErr}
+use Rattle.plan_rows.specs.{claim.PlanRows.{retired_rows, retired_map}, claim.Outcomes.{HasRetired, RetireErr}}
 
 mark_is : (l : List ℕ) (number : ℕ) → l ≡ key_of (retired number) → ◌≡◌ {A = List Row} ((l, []) ∷ []) (retired_rows number)
 mark_is l number is = λ i. (is i, []) ∷ []
@@ -65,9 +57,4 @@ module _ {D : Type 0} {g : Ghosts D} (name : List ℕ) (number : ℕ) (t u : Txn
 
 -- the plan's row isn't removed
 pub row_not_gone : {D : Type 0} {g : Ghosts D} (name : List ℕ) (number : ℕ) (t : Txn) (a b : Pages D g) (e : TreeError) → RemoveErr t a b e → RetireErr name number t a b e
-row_not_gone name number t a b DeviceFault why = why
-row_not_gone name number t a b NotAStore why = why
-row_not_gone name number t a b Halted why = why
-row_not_gone name number t a b NoPages why = absurd why
-row_not_gone name number t a b TooDeep why = absurd why
-row_not_gone name number t a b Memory why = why
+row_not_gone name number t a b e why = search (arith)

@@ -1,11 +1,7 @@
 -- What is written after rows were only read.
-use Rattle.std.specs.Prelude.{◌≡◌, Result, Ok, Err, IsErrAnd, MatchResult}
-use Rattle.std.proofs.Common.{sym, subst, ◌∙◌}
+use Rattle.std.{specs.Prelude.{◌≡◌, Result, Ok, Err, IsErrAnd, MatchResult}, proofs.Common.{sym, ◌∙◌, arith}}
 use Rattle.sector_device.specs.declared.SectorDevice.{Ghosts}
-use Rattle.page_store.specs.claim.Transactions.{count_of, txn_pages, IsQuiet}
-use Rattle.page_store.proofs.Stops.{quiet_more}
-use Rattle.page_store.specs.declared.pages.Pages.{Pages}
-use Rattle.page_store.specs.declared.txn.Txn.{Txn}
+use Rattle.page_store.{specs.claim.Transactions.{count_of, txn_pages, IsQuiet}, specs.declared.pages.Pages.Pages, specs.declared.txn.Txn.Txn, proofs.Stops.quiet_more}
 use Rattle.page_btree.specs.declared.error.TreeError.{TreeError}
 use Rattle.desk_pages.specs.Outcomes.{Writes}
 
@@ -16,8 +12,7 @@ module _ {D Y : Type 0} {g : Ghosts D} {also : Y → Type 0} {why : TreeError �
 
   -- since a read failed
   pub unread : (r : Result Y TreeError) (e : TreeError) → txn_pages t ≡ count_of a → IsQuiet a b → IsErrAnd r (λ x. x ≡ e) → why e → Writes also why t a b r
-  unread (Ok y) e begun quiet is e_why = absurd is
-  unread (Err x) e begun quiet is e_why = only_read begun quiet (subst why (sym is) e_why)
+  unread r e begun quiet is e_why = search (arith, only_read)
 
 module _ {D X : Type 0} {g : Ghosts D} {done : X → Type 0} {failed : TreeError → Type 0} {u : Txn} {b d : Pages D g} where
   -- the reads come before what was done
@@ -27,5 +22,4 @@ module _ {D X : Type 0} {g : Ghosts D} {done : X → Type 0} {failed : TreeError
 
   -- what came of a write says something else
   pub writes_as : {also : X → Type 0} {why : TreeError → Type 0} (r : Result X TreeError) → Writes done failed u b d r → ((x : X) → done x → also x) → ((e : TreeError) → failed e → why e) → Writes also why u b d r
-  writes_as (Ok x) write gives needs = record { quiet = write.quiet; begun = write.begun; put = gives x write.put }
-  writes_as (Err e) write gives needs = record { quiet = write.quiet; begun = write.begun; put = needs e write.put }
+  writes_as r write gives needs = search (arith, gives, needs)

@@ -1,9 +1,6 @@
 -- What is read of a chunk.
 use Rattle.std.specs.Prelude.{◌≡◌, ◌*◌, ◌^◌, ℕ, List, length, take, drop}
-use Rattle.store_rows.specs.claim.Keys.{chunk}
-use Rattle.store_rows.specs.claim.Lists.{districts_bytes}
-use Rattle.store_rows.specs.claim.Rows.{KeyMap}
-use Rattle.store_rows.specs.claim.RevisionRows.{HasChunk}
+use Rattle.store_rows.specs.{claim.Keys.chunk, claim.Lists.districts_bytes, claim.Rows.KeyMap, claim.RevisionRows.HasChunk}
 use Rattle.plan_rows.specs.Parts.{AppendsAll, AppendsPart, StandsInParts}
 
 -- the number names these districts, and they are so many

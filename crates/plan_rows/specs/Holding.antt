@@ -1,24 +1,11 @@
 -- What it is for a plan to come to hold a chunk, and why it doesn't.
-use Rattle.std.specs.Prelude.{◌≡◌, ◌<◌, ◌≤◌, ◌+◌, ◌*◌, ◌^◌, ℕ, Bool, true, false, List, length}
-use Rattle.std.specs.Prelude.{Option, Some, None, Contains, Result, MatchResult}
+use Rattle.std.specs.Prelude.{◌≡◌, ◌<◌, ◌≤◌, ◌+◌, ◌*◌, ◌^◌, ℕ, Bool, true, false, List, length, Option, Some, None, Contains, Result, MatchResult}
 use Rattle.sector_device.specs.declared.SectorDevice.{Ghosts}
-use Rattle.page_store.specs.claim.Transactions.{stored, disk_in, has_halted, txn_pages, txn_free, txn_writes, HasFailed, Passed}
-use Rattle.page_store.specs.declared.pages.Pages.{Pages}
-use Rattle.page_store.specs.declared.txn.Txn.{Txn}
-use Rattle.page_btree.specs.claim.Map.{InTxn}
-use Rattle.page_btree.specs.declared.error.TreeError.{TreeError}
-use Rattle.page_btree.specs.declared.error.TreeError.TheVariants.{DeviceFault, NotAStore, Halted, NoPages, TooDeep, Memory}
-use Rattle.store_rows.specs.claim.Keys.{holding, holder_count}
-use Rattle.store_rows.specs.claim.Rows.{KeyMap, row_in, Has, Lacks}
-use Rattle.store_rows.specs.claim.Holders.{holder_count_row, holding_rows}
-use Rattle.store_rows.specs.claim.Puts.{Row}
-use Rattle.store_rows.specs.Shares.{CanHold, hold_all}
-use Rattle.store_rows.specs.claim.Shares.{hold}
-use Rattle.desk_pages.specs.claim.Puts.{HasDeepened}
-use Rattle.desk_pages.specs.Outcomes.{Writes}
-use Rattle.desk_pages.specs.Rising.{HasPutWith, PutsErrWith}
-use Rattle.desk_pages.specs.btree_puts.Fingers.{Stand}
-use Rattle.desk_pages.specs.btree_puts.declared.finger.Fingers.{Fingers}
+use Rattle.page_store.specs.{claim.Transactions.{stored, disk_in, has_halted, txn_pages, txn_free, txn_writes, HasFailed, Passed}, declared.pages.Pages.Pages, declared.txn.Txn.Txn}
+use Rattle.page_btree.specs.{claim.Map.InTxn, declared.error.TreeError.TreeError, declared.error.TreeError.TheVariants.{DeviceFault, NotAStore, Halted, NoPages, TooDeep, Memory}}
+use Rattle.store_rows.specs.{claim.Keys.{holding, holder_count}, claim.Rows.{KeyMap, row_in, Has, Lacks}, claim.Holders.{holder_count_row, holding_rows}, claim.Puts.Row}
+use Rattle.store_rows.specs.{Shares.{CanHold, hold_all}, claim.Shares.hold}
+use Rattle.desk_pages.specs.{claim.Puts.HasDeepened, Outcomes.Writes, Rising.{HasPutWith, PutsErrWith}, btree_puts.Fingers.Stand, btree_puts.declared.finger.Fingers.Fingers}
 use Rattle.plan_rows.specs.ChunkChanging.{ChangesMap}
 
 -- a holding row is there, or not

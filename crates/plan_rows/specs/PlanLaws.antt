@@ -1,22 +1,9 @@
 -- What the rows of plans and of numbers make of a desk.
-use Rattle.std.specs.Prelude.{◌≡◌, ◌<◌, ◌+◌, ◌^◌, ℕ, List, [], length, Option, Some, None, IfSome}
-use Rattle.std.specs.FinMap.{FinMap, get, insert, remove}
-use Rattle.desk_model.specs.declared.kind.Kind.{Kind}
-use Rattle.desk_model.specs.claim.Geography.{GeographyModel}
-use Rattle.desk_model.specs.claim.Ranges.{cut}
-use Rattle.desk_model.specs.claim.Desk.{Plan, name_cmp}
-use Rattle.desk_model.specs.claim.Name.{IsPlanName}
-use Rattle.store_rows.specs.declared.value.Counters.{Counters}
-use Rattle.store_rows.specs.declared.value.PlanRow.{PlanRow}
-use Rattle.store_rows.specs.claim.Rows.{KeyMap}
-use Rattle.store_rows.specs.Rows.{SameTag}
-use Rattle.store_rows.specs.claim.Puts.{put_rows}
-use Rattle.store_rows.specs.claim.RevisionRows.{HasRevision}
-use Rattle.store_rows.specs.claim.DeskRows.{HasPlan, IsDesk, most_revisions}
-use Rattle.store_rows.specs.Changes.{RevisionsStay, desk_with, plan_row_of, with_revision}
-use Rattle.store_rows.specs.claim.Tidy.{IsNext, CountersFit}
-use Rattle.plan_rows.specs.PlanRows.{IsFound, plan_rows, created_rows, revised_rows}
-use Rattle.plan_rows.specs.claim.PlanRows.{retired_map}
+use Rattle.std.specs.{Prelude.{◌≡◌, ◌<◌, ◌+◌, ◌^◌, ℕ, List, [], length, Option, Some, None, IfSome}, FinMap.{FinMap, get, insert, remove}}
+use Rattle.desk_model.specs.{declared.kind.Kind.Kind, claim.Geography.GeographyModel, claim.Ranges.cut, claim.Desk.{Plan, name_cmp}, claim.Name.IsPlanName}
+use Rattle.store_rows.specs.{declared.value.Counters.Counters, declared.value.PlanRow.PlanRow, claim.Rows.KeyMap, Rows.SameTag, claim.Puts.put_rows, claim.RevisionRows.HasRevision}
+use Rattle.store_rows.specs.{claim.DeskRows.{HasPlan, IsDesk, most_revisions}, Changes.{RevisionsStay, desk_with, plan_row_of, with_revision}, claim.Tidy.{IsNext, CountersFit}}
+use Rattle.plan_rows.specs.{PlanRows.{IsFound, plan_rows, created_rows, revised_rows}, claim.PlanRows.retired_map}
 
 -- ---- a plan that is found
 -- the row's numbers fit in their bytes

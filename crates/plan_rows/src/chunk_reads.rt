@@ -2,7 +2,7 @@
 ghost use Rattle.std.specs.Prelude.{◌≡◌, ◌^◌};
 ghost use Rattle.page_store.specs.claim.Transactions.{count_of, txn_pages};
 ghost use Rattle.plan_rows.specs.Appended.{AppendsRows};
-ghost use Rattle.plan_rows.specs.Parts.{IsPart};
+ghost use Rattle.plan_rows.specs.Parts.{BeginsPart};
 ghost use Rattle.plan_rows.specs.ChunkReading.{AppendsPiece, AppendsPieces, IsChunk, piece};
 
 use crate::lengths::part_length;
@@ -22,7 +22,7 @@ fn append_piece<D: SectorDevice>(
     into: &mut Vec<u16>,
 ) -> Result<(), TreeError>
     requires begun { txn_pages txn.now ≡ count_of pages.old }
-    requires place { IsPart 512 (2 ^ 16) count index }
+    requires place { BeginsPart 512 (2 ^ 16) count index }
     ensures { AppendsRows (IsChunk number count) (piece index) (AppendsPiece number count index)
         txn.now pages.old pages.new into.old.items into.new.items result }
 {

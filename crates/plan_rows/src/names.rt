@@ -2,7 +2,7 @@
 ghost use Rattle.std.specs.Prelude.{◌≡◌, ◌^◌};
 ghost use Rattle.page_store.specs.claim.Transactions.{count_of, txn_pages};
 ghost use Rattle.plan_rows.specs.Appended.{AppendsRows};
-ghost use Rattle.plan_rows.specs.Parts.{IsPart};
+ghost use Rattle.plan_rows.specs.Parts.{BeginsPart};
 ghost use Rattle.plan_rows.specs.RevisionReading.{AppendsNames, AppendsParts, AreNames, names_in};
 
 use crate::lengths::part_length;
@@ -23,7 +23,7 @@ fn append_part<D: SectorDevice>(
     into: &mut Vec<u64>,
 ) -> Result<(), TreeError>
     requires begun { txn_pages txn.now ≡ count_of pages.old }
-    requires place { IsPart 128 (2 ^ 8) count index }
+    requires place { BeginsPart 128 (2 ^ 8) count index }
     ensures { AppendsRows (AreNames plan revision count) (names_in index) (AppendsNames plan revision count index)
         txn.now pages.old pages.new into.old.items into.new.items result }
 {

@@ -1,8 +1,7 @@
 -- Which kinds keys are of.
 use Rattle.std.proofs.Common.{◌≡◌, ◌<◌, ◌^◌, ℕ, List, [], ◌∷◌, ◌++◌, drop, get_or, arith}
-use Rattle.store_rows.specs.claim.Keys.{RowKey, key_of, Fits, counters, retired, begun, holding, holder_count, named, part, seal, version, block, pair, chunk, in_four, in_eight}
-use Rattle.row_owners.specs.Strays.{IsNoneOf, IsOf, IsOfKind, TakesAny}
-use Rattle.row_owners.specs.declared.kinds.Kind.TheVariants.{Mark, Other}
+use Rattle.store_rows.specs.claim.Keys.{RowKey, key_of, Fits, retired, begun, holding, part, block, pair, chunk, in_four, in_eight}
+use Rattle.row_owners.specs.{Strays.{IsNoneOf, IsOf, IsOfKind, TakesAny}, declared.kinds.Kind.TheVariants.{Mark, Other}}
 
 pub retired_of : (key : List ℕ) (plan : ℕ) → get_or key 0 0 ≡ 68 → plan < 2 ^ 64 → drop 1 key ≡ in_eight plan → IsOf (retired plan) key
 retired_of [] plan is fits rest = absurd (omega (arith, is))
@@ -28,18 +27,14 @@ pair_of (x ∷ xs) load place is fits rest = record { fits = fits; is = λ i. is
 
 -- ---- any value belongs to the others
 any_of : (key : List ℕ) → IsNoneOf key → ((load place : ℕ) → key ≡ key_of (block load place) → ⊥) → ((load place : ℕ) → key ≡ key_of (pair load place) → ⊥) → ((number piece : ℕ) → key ≡ key_of (chunk number piece) → ⊥) → (row : RowKey) → key ≡ key_of row → TakesAny row
-any_of key none no_block no_pair no_piece counters is = λ ranges m value. tt
 any_of key none no_block no_pair no_piece (retired plan) is = absurd (none.no_retired plan is)
 any_of key none no_block no_pair no_piece (begun load) is = absurd (none.no_begun load is)
 any_of key none no_block no_pair no_piece (holding plan number) is = absurd (none.no_holding plan number is)
-any_of key none no_block no_pair no_piece (holder_count number) is = λ ranges m value. tt
-any_of key none no_block no_pair no_piece (named name) is = λ ranges m value. tt
 any_of key none no_block no_pair no_piece (part plan revision index) is = absurd (none.no_part plan revision index is)
-any_of key none no_block no_pair no_piece seal is = λ ranges m value. tt
-any_of key none no_block no_pair no_piece version is = λ ranges m value. tt
 any_of key none no_block no_pair no_piece (block load place) is = absurd (no_block load place is)
 any_of key none no_block no_pair no_piece (pair load place) is = absurd (no_pair load place is)
 any_of key none no_block no_pair no_piece (chunk number piece) is = absurd (no_piece number piece is)
+any_of key none no_block no_pair no_piece _ is = λ ranges m value. tt
 
 pub other_of : (key : List ℕ) → IsNoneOf key → ((load place : ℕ) → key ≡ key_of (block load place) → ⊥) → ((load place : ℕ) → key ≡ key_of (pair load place) → ⊥) → ((number piece : ℕ) → key ≡ key_of (chunk number piece) → ⊥) → IsOfKind Other key
 other_of key none no_block no_pair no_piece row fits is = any_of key none no_block no_pair no_piece row is

@@ -1,9 +1,7 @@
 -- Bytes of a piece of a chunk.
-use Rattle.std.proofs.Common.{◌≡◌, ◌<◌, ◌+◌, ◌*◌, ◌/◌, ◌%◌, ◌^◌, ℕ, zero, suc, List, [], ◌∷◌, ◌++◌, length, get_or, refl, ap, arith}
-use Rattle.std.specs.Prelude.{All}
+use Rattle.std.{specs.Prelude.All, proofs.Common.{◌≡◌, ◌<◌, ◌+◌, ◌*◌, ◌/◌, ◌%◌, ◌^◌, ℕ, zero, suc, List, [], ◌∷◌, ◌++◌, length, get_or, refl, ap, arith}}
 use Rattle.std.proofs.lemmas.List.Elements.{All-cons, All-nil}
-use Rattle.store_rows.specs.claim.Keys.{in_two}
-use Rattle.store_rows.specs.claim.Lists.{districts_bytes}
+use Rattle.store_rows.specs.{claim.Keys.in_two, claim.Lists.districts_bytes}
 
 -- so many districts have these bytes
 pub record AreTwos (count : ℕ) (bytes : List ℕ) : Type 0 where

@@ -1,30 +1,15 @@
 -- All rows say what they are.
-use Rattle.std.proofs.Common.{◌≡◌, ℕ, List, [], ◌∷◌, Bool, true, cond, length, nat_eq, Some, refl, sym, ap, ◌∙◌}
-use Rattle.std.specs.List.{AllByRecursion, starts_with}
-use Rattle.std.specs.FinMap.{entries, find, get}
-use Rattle.page_btree.specs.page_node.claim.Entries.{Entry}
-use Rattle.page_btree.specs.page_node.claim.Places.{key_cmp}
-use Rattle.btree_walks.specs.Prefixes.{under}
-use Rattle.btree_walks.proofs.RowsFound.{all_found, found_among}
-use Rattle.store_rows.specs.claim.Keys.{RowKey, key_of, Fits, counters, retired, begun, holding, holder_count, named, part, seal, version, block, pair, chunk}
-use Rattle.store_rows.specs.claim.Rows.{KeyMap, Has}
-use Rattle.store_rows.specs.claim.Tidy.{Tidy}
+use Rattle.std.{specs.List.AllByRecursion, specs.FinMap.{entries, find, get}, proofs.Common.{◌≡◌, ℕ, List, [], length, Some, refl, sym, ap, ◌∙◌}}
+use Rattle.page_btree.specs.{page_node.claim.Entries.Entry, page_node.claim.Places.key_cmp}
+use Rattle.btree_walks.{specs.Prefixes.under, proofs.RowsFound.{all_found, found_among}, proofs.Ready.{under_nothing as under_all, all_under}}
+use Rattle.store_rows.specs.{claim.Keys.{RowKey, key_of, Fits, part, chunk}, claim.Rows.{KeyMap, Has}, claim.Tidy.Tidy}
 use Rattle.row_owners.specs.Wholes.{AllSay, AreWhole, IsWhole, SaysSo}
 
 -- ---- rows of a tidy map say so
 says_so : (m : KeyMap) → Tidy m → (row : RowKey) (value : List ℕ) → Fits row → Has m row value → SaysSo row value
-says_so m tidy counters value fits has = tt
-says_so m tidy (retired plan) value fits has = tt
-says_so m tidy (begun load) value fits has = tt
-says_so m tidy (holding plan number) value fits has = tt
-says_so m tidy (holder_count number) value fits has = tt
-says_so m tidy (named name) value fits has = tt
 says_so m tidy (part plan revision index) value fits has = tidy.counted.parts plan revision index value fits has
-says_so m tidy seal value fits has = tt
-says_so m tidy version value fits has = tt
-says_so m tidy (block load place) value fits has = tt
-says_so m tidy (pair load place) value fits has = tt
 says_so m tidy (chunk number piece) value fits has = tidy.counted.pieces number piece value fits has
+says_so m tidy _ value fits has = tt
 
 pub all_say : (m : KeyMap) → Tidy m → AllSay m
 all_say m tidy key value there =
@@ -32,13 +17,6 @@ all_say m tidy key value there =
     record { row = row; fits = fits; is = is; says = says_so m tidy row value fits (ap (get m) (sym is) ∙ there) }
 
 -- ---- all rows are under no bytes
-all_under : (key : List ℕ) → starts_with nat_eq key [] ≡ true
-all_under [] = refl
-all_under (x ∷ xs) = refl
-
-under_all : (es : List Entry) → under [] es ≡ es
-under_all [] = refl
-under_all (e ∷ es) = ap (λ (b : Bool). cond b (e ∷ under [] es) (under [] es)) (all_under e.0) ∙ ap (λ (l : List Entry). e ∷ l) (under_all es)
 
 pub get_is : (m : KeyMap) (key : List ℕ) (rows : List Entry) → under [] (entries m) ≡ rows → get m key ≡ find key_cmp key rows
 get_is m key rows whole = found_among m [] rows key (all_under key) whole

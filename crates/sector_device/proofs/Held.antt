@@ -3,9 +3,7 @@ use Rattle.std.specs.Prelude.{◌≡◌, ◌⊎◌, ◌≤◌, ◌<◌, ◌^◌,
 use Rattle.std.proofs.Common.{get_or, set, nat_eq, ◌≢◌, inl, inr, sym, subst, ◌∙◌, arith, get_or-set_other}
 use Rattle.std.proofs.lemmas.Bool.{cases_eq}
 use Rattle.std.proofs.lemmas.Bool.Decides.{nat_tests}
-use Rattle.sector_device.specs.claim.Disk.{Disk, Image, AgreeOff, Touches}
-use Rattle.sector_device.specs.Disk.{Only}
-use Rattle.sector_device.specs.Held.{Leaves, State, disk_from, refused}
+use Rattle.sector_device.specs.{claim.Disk.{Disk, Image, AgreeOff, Touches}, Disk.Only, Held.{Leaves, State, disk_from, refused}}
 
 -- c, with the sector as it was
 abbrev put_back : List (List ℕ) → ℕ → Image → Image

@@ -1,9 +1,6 @@
 -- Lemmas on the definitions of Moments.
-use Rattle.std.specs.Prelude.{◌≡◌, ◌⊎◌, ℕ, Result, Ok, Err, OnOk}
-use Rattle.std.proofs.Common.{inl, inr, ⊎_elim, refl, sym, subst, ◌∙◌, arith}
-use Rattle.sector_device.specs.claim.Disk.{Disk, Image, AgreeOff, LeavesBut, Touches, Nowhere}
-use Rattle.sector_device.specs.Disk.{IsSynced, HasCause, Step}
-use Rattle.sector_device.specs.claim.Moments.{LeavesOnly}
+use Rattle.std.{specs.Prelude.{◌≡◌, ◌⊎◌, ℕ, Result, Ok, Err, OnOk}, proofs.Common.{inl, inr, ⊎_elim, refl, sym, subst, ◌∙◌, arith}}
+use Rattle.sector_device.specs.{claim.Disk.{Disk, Image, AgreeOff, LeavesBut, Touches, Nowhere}, Disk.{IsSynced, HasCause, Step}, claim.Moments.LeavesOnly}
 
 pub agree_trans : (S T : ℕ → Type 0) (a b c : Image) → ((i : ℕ) → T i → S i) → AgreeOff S a b → AgreeOff T b c → AgreeOff S a c
 agree_trans S T a b c within ab bc = record { same = λ i off. bc.same i (λ t. off (within i t)) ∙ ab.same i off }

@@ -1,6 +1,5 @@
 -- The disk of a device that knows what it held: in memory, or after what a file was told.
-use Rattle.std.specs.Prelude.{◌≡◌, ◌⊎◌, ◌≤◌, ◌<◌, ◌^◌, ℕ, Bool, false, List, [], ◌∷◌, length, cond, ◌+◌}
-use Rattle.std.proofs.Common.{get_or, inl, inr, refl, arith}
+use Rattle.std.{specs.Prelude.{◌≡◌, ◌⊎◌, ◌≤◌, ◌<◌, ◌^◌, ℕ, Bool, false, List, [], ◌∷◌, length, cond, ◌+◌}, proofs.Common.{get_or, inl, inr, refl, arith}}
 use Rattle.sector_device.specs.claim.Disk.{Disk, Image}
 
 -- the sectors, for each whether it was written since the last sync, and whether the next call was refused

@@ -2,14 +2,11 @@
 use Rattle.std.proofs.Common.{◌≡◌, ◌≢◌, ◌<◌, ◌+◌, ◌^◌, ◌⊎◌, ◌∙◌, ℕ, Bool, length, cond, get_or, true, false, List, [], ◌∷◌, ◌++◌, refl, sym, ap, subst, inl, inr, nat_eq, arith, IsTrue, ◌&&◌, ◌||◌, slice_index, replicate}
 use Rattle.std.proofs.lemmas.Bool.{cases_eq}
 use Rattle.std.proofs.lemmas.Bool.Decides.{nat_tests}
-use Rattle.sector_device.specs.claim.Disk.{AgreeOff, Image, Touches, Nowhere}
-use Rattle.sector_device.specs.Disk.{IsSynced, Only}
-use Rattle.sector_device.specs.Held.{Leaves, refused, image_of}
+use Rattle.sector_device.specs.{claim.Disk.{AgreeOff, Image, Touches, Nowhere}, Disk.{IsSynced, Only}, Held.{Leaves, refused, image_of}}
 use Rattle.sector_device.proofs.Moments.{touches_more, touches_wider}
 use Rattle.sector_file.specs.Reader.{IsReader}
 use Rattle.sector_file.specs.Told.{Told, Call, same_bytes, first_held, step, after_opening, after_read, after_fault, after_write, after_torn, after_sync, after_sharing, replay, replay_on, only_reads, read_call, failed_call, told_disk}
-use Rattle.sector_file.proofs.Steps.{not_true, first_true, is_4096, not_4096, length_held, whole_read, short_read}
-use Rattle.sector_file.proofs.Disks.{all_synced, read_is, fault_is}
+use Rattle.sector_file.proofs.{Steps.{not_true, first_true, is_4096, not_4096, length_held, whole_read, short_read}, Disks.{all_synced, read_is, fault_is}}
 
 second_true : (a b : Bool) → IsTrue (a && b) → IsTrue b
 second_true true b is = is

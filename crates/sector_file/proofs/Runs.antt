@@ -1,16 +1,12 @@
 -- What reading a run of sectors leaves of the disk.
-use Rattle.std.proofs.Common.{◌≡◌, ◌<◌, ◌+◌, ◌^◌, ◌∙◌, ℕ, zero, suc, inl, inr, Bool, true, false, List, [], ◌∷◌, length, take, drop, ◌++◌, get_or, refl, sym, ap, subst, arith, IsTrue, ◌&&◌}
+use Rattle.std.specs.Prelude.{Result, OnErr, OnOk}
+use Rattle.std.proofs.Common.{◌≡◌, ◌<◌, ◌+◌, ◌^◌, ◌∙◌, ℕ, zero, suc, inl, inr, false, List, [], ◌∷◌, length, take, drop, ◌++◌, get_or, refl, sym, ap, subst, arith, IsTrue, ◌&&◌}
+use Rattle.std.proofs.Math.Seq.{take-append_seam}
 use Rattle.std.proofs.lemmas.Bool.{cases_eq}
 use Rattle.std.proofs.lemmas.List.{drop_all, drop_more}
-use Rattle.std.proofs.Math.Seq.{take-append_seam}
-use Rattle.std.specs.Prelude.{Result, OnErr, OnOk}
-use Rattle.sector_device.specs.claim.Disk.{Disk, Touches, Nowhere}
-use Rattle.sector_device.specs.Disk.{HasCause}
-use Rattle.sector_file.specs.Told.{Told, Call, same_bytes, replay_on, only_reads, read_call, told_disk}
-use Rattle.sector_file.specs.Runs.{IsHeldRun, IsRunOf, with_run}
-use Rattle.sector_file.specs.declared.run.HeldRun.{HeldRun}
-use Rattle.sector_file.proofs.Steps.{bytes_same, first_true}
-use Rattle.sector_file.proofs.Readers.{whole_more, short_more}
+use Rattle.sector_device.specs.{claim.Disk.{Disk, Touches, Nowhere}, Disk.HasCause}
+use Rattle.sector_file.specs.{Told.{Told, Call, same_bytes, replay_on, only_reads, read_call, told_disk}, Runs.{IsHeldRun, IsRunOf, with_run}, declared.run.HeldRun.HeldRun}
+use Rattle.sector_file.proofs.{Steps.{bytes_same, first_true}, Readers.{whole_more, short_more}}
 
 pub run_begins : (first : ℕ) (run : List (List ℕ)) (calls : List Call) → with_run (first + 0) run calls ≡ with_run first run calls
 run_begins first run calls = let none : first + 0 ≡ first = omega arith in ap (λ n. with_run n run calls) none
@@ -75,10 +71,7 @@ run_touches t u few few' first run is honest =
 
 -- ---- the run that a reader holds
 pub none_held : (held : HeldRun) (all : List (List ℕ)) → held.is ≡ false → IsHeldRun held all
-none_held held all off is = absurd (clash held.is off is)
-  where
-    clash : (b : Bool) → b ≡ false → b ≡ true → ⊥
-    clash b is_not is = cc
+none_held held all off is = cc
 
 -- it stays where no sector was written
 pub held_still : (held : HeldRun) (t u : Told) → u.0 ≡ t.0 → (IsTrue u.3 → IsTrue t.3) → (IsTrue t.3 → IsHeldRun held t.0) → IsTrue u.3 → IsHeldRun held u.0

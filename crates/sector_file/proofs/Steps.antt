@@ -2,8 +2,7 @@ use Rattle.std.proofs.Common.{◌≡◌, ◌≢◌, ◌<◌, ◌+◌, ◌∙◌,
 use Rattle.std.proofs.lemmas.List.{length-set}
 use Rattle.std.proofs.lemmas.Bool.{cases_eq}
 use Rattle.std.proofs.lemmas.Bool.Decides.{nat_tests}
-use Rattle.sector_file.specs.Recalled.{Recalls}
-use Rattle.sector_file.specs.declared.recent.Recent.{Recent}
+use Rattle.sector_file.specs.{Recalled.Recalls, declared.recent.Recent.Recent}
 use Rattle.sector_file.specs.Told.{Told, same_bytes, held_from, after_opening, step, after_read, after_fault, after_write, after_torn}
 
 pub not_true : IsTrue false → ⊥
@@ -75,8 +74,7 @@ module _ (sector : ℕ → List ℕ) where
 
   pub first_at : (t : Told) (count : ℕ) → t ≡ after_opening sector count → (i : ℕ) → i < count → get_or t.0 i [] ≡ sector i
   first_at t count is i less =
-      let e : 0 + i ≡ i = omega arith in
-      ap (λ (u : Told). get_or u.0 i []) is ∙ held_at 0 count i less ∙ ap sector e
+      ap (λ (u : Told). get_or u.0 i []) is ∙ held_at 0 count i less ∙ ap sector (omega arith)
 
 pub is_4096 : (n : ℕ) → n ≡ 4096 → nat_eq n 4096 ≡ true
 is_4096 n is = grind (arith, nat_tests)

@@ -1,6 +1,5 @@
 -- Kinds of errors for which the system refuses a call on a file.
-use Rattle.std.specs.Prelude.{◌≡◌, ◌⊎◌}
-use Rattle.std.specs.declared.io.ErrorKind.{ErrorKind}
+use Rattle.std.specs.{Prelude.{◌≡◌, ◌⊎◌}, declared.io.ErrorKind.ErrorKind}
 use Rattle.std.specs.declared.io.ErrorKind.TheVariants.{PermissionDenied, ReadOnlyFilesystem, IsADirectory, StorageFull, QuotaExceeded, FileTooLarge, NotFound}
 use Rattle.sector_file.specs.declared.error.FileError.{FileError}
 use Rattle.sector_file.specs.declared.error.FileError.TheVariants as error

@@ -1,8 +1,6 @@
 -- Sectors that are held in memory.
-use Rattle.std.specs.Prelude.{◌≡◌, ℕ, true, List, []}
-use Rattle.std.proofs.Common.{get_or}
-use Rattle.sector_file.specs.declared.recent.HeldSector.{HeldSector}
-use Rattle.sector_file.specs.declared.recent.Recent.{Recent}
+use Rattle.std.{specs.Prelude.{◌≡◌, ℕ, true, List, []}, proofs.Common.get_or}
+use Rattle.sector_file.specs.{declared.recent.HeldSector.HeldSector, declared.recent.Recent.Recent}
 
 -- what is held of a sector is what these sectors have
 abbrev pub IsRight : HeldSector → List (List ℕ) → Type 0

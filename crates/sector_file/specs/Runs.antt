@@ -1,8 +1,6 @@
 -- Sectors that were read by one call.
-use Rattle.std.specs.Prelude.{◌≡◌, ◌<◌, ◌+◌, ℕ, true, List, [], ◌∷◌, length}
-use Rattle.std.proofs.Common.{get_or}
-use Rattle.sector_file.specs.Told.{Call, read_call}
-use Rattle.sector_file.specs.declared.run.HeldRun.{HeldRun}
+use Rattle.std.{specs.Prelude.{◌≡◌, ◌<◌, ◌+◌, ℕ, true, List, [], ◌∷◌, length}, proofs.Common.get_or}
+use Rattle.sector_file.specs.{Told.{Call, read_call}, declared.run.HeldRun.HeldRun}
 
 -- each sector of the run is what these sectors have at its place
 abbrev pub IsRunOf : ℕ → List (List ℕ) → List (List ℕ) → Type 0

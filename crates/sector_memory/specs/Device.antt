@@ -1,6 +1,5 @@
 use Rattle.std.specs.Prelude.{Bool, List}
-use Rattle.sector_device.specs.claim.Disk.{Disk}
-use Rattle.sector_device.specs.Held.{disk_from}
+use Rattle.sector_device.specs.{claim.Disk.Disk, Held.disk_from}
 use Rattle.sector_memory.specs.declared.memory.MemoryDevice.{MemoryDevice}
 
 -- A device in memory is honest.

@@ -1,15 +1,9 @@
 -- Whether the device failed in a run, by induction on its calls.
-use Rattle.std.proofs.Common.{◌≡◌, ◌⊎◌, ◌<◌, Bool, true, false, List, inl, inr, refl, sym, subst, ◌∙◌, arith}
+use Rattle.std.proofs.Common.{◌≡◌, ◌<◌, Bool, true, false, List, inl, inr, refl, sym, subst, ◌∙◌, arith}
 use Rattle.sector_device.specs.declared.SectorDevice.{Ghosts}
-use Rattle.page_store.specs.claim.Transactions.{has_halted, IsSame}
-use Rattle.inspect_command.specs.desk_store.declared.clerk.Clerk.{Clerk}
-use Rattle.inspect_command.specs.desk_store.claim.Clerks.{disk_of, pages_of, HaltsByDevice, Keeps}
-use Rattle.inspect_command.specs.desk_runs.claim.Runs.{Call}
+use Rattle.page_store.{specs.claim.Transactions.{has_halted, IsSame}, proofs.Chains.either}
+use Rattle.inspect_command.specs.{desk_store.declared.clerk.Clerk.Clerk, desk_store.claim.Clerks.{disk_of, pages_of, HaltsByDevice, Keeps}, desk_runs.claim.Runs.Call}
 use Rattle.inspect_command.specs.desk_runs.claim.SweptRuns.{SweptRun}
-
-either : (b : Bool) → (b ≡ true) ⊎ (b ≡ false)
-either true = inl refl
-either false = inr refl
 
 module _ {D : Type 0} {g : Ghosts D} where
   pub honest_before : (a : Bool) (x : Clerk D g) (calls : List Call) (b : Bool) (z : Clerk D g) → SweptRun a x calls b z → (disk_of z).is_honest → (disk_of x).is_honest

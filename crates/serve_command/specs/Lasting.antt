@@ -1,6 +1,5 @@
 -- What no promise rests on, beside claim/Lasting.antt.
-use Rattle.std.specs.Prelude.{Result, Ok, Err}
-use Rattle.std.specs.declared.alloc.AllocError.{AllocError}
+use Rattle.std.specs.{Prelude.{Result, Ok, Err}, declared.alloc.AllocError.AllocError}
 use Rattle.sector_device.specs.declared.SectorDevice.{Ghosts}
 use Rattle.inspect_command.specs.desk_store.declared.clerk.Clerk.{Clerk}
 use Rattle.http_connections.specs.declared.ran.Ran.{Ran}

@@ -3,9 +3,7 @@ use Rattle.std.specs.Prelude.{◌≡◌, ◌<◌, Bool, true, false}
 use Rattle.sector_device.specs.declared.SectorDevice.{Ghosts}
 use Rattle.page_store.specs.claim.Transactions.{has_halted}
 use Rattle.desk_model.specs.claim.Desk.{Desk}
-use Rattle.inspect_command.specs.desk_store.declared.clerk.Clerk.{Clerk}
-use Rattle.inspect_command.specs.desk_store.claim.Clerks.{desk_of, disk_of, pages_of}
-use Rattle.inspect_command.specs.desk_runs.claim.SweptRuns.{SurvivesSwept}
+use Rattle.inspect_command.specs.{desk_store.declared.clerk.Clerk.Clerk, desk_store.claim.Clerks.{desk_of, disk_of, pages_of}, desk_runs.claim.SweptRuns.SurvivesSwept}
 use Rattle.inspect_command.specs.store_command.Reading.{LeavesDesk, ReadsDesk}
 use Rattle.serve_command.specs.claim.Lasting.{Outlasts}
 

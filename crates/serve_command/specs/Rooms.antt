@@ -1,11 +1,8 @@
 -- How much room a store has.
 use Rattle.std.specs.Prelude.{◌≡◌, ◌-◌, ◌^◌, ℕ, nat_le, if◌then◌else◌}
 use Rattle.sector_device.specs.declared.SectorDevice.{Ghosts}
-use Rattle.desk_model.specs.declared.command.Command.{Command}
-use Rattle.desk_model.specs.claim.Room.{need}
-use Rattle.inspect_command.specs.desk_store.declared.clerk.Clerk.{Clerk}
-use Rattle.inspect_command.specs.desk_store.claim.Clerks.{desk_of, disk_of, free_of}
-use Rattle.inspect_command.specs.Needs.{all_change, IsRevision}
+use Rattle.desk_model.specs.{declared.command.Command.Command, claim.Room.need}
+use Rattle.inspect_command.specs.{desk_store.declared.clerk.Clerk.Clerk, desk_store.claim.Clerks.{desk_of, disk_of, free_of}, Needs.{all_change, IsRevision}}
 
 -- the greatest u64 stands for all above it
 abbrev pub capped : ℕ → ℕ

@@ -2,8 +2,7 @@
 use Rattle.std.proofs.Common.{◌≡◌, ◌+◌, ◌*◌, ◌/◌, ◌%◌, ◌<◌, ◌^◌, ℕ, zero, suc, List, [], ◌∷◌, ◌++◌, length, get_or, replicate, arith, ap, sym, ◌∙◌, subst, lit<}
 use Rattle.std.proofs.lemmas.List.{flat_map_more, replicate-append-replicate, length-replicate}
 use Rattle.std.proofs.lemmas.Nat.{div-add-mod'}
-use Rattle.shared_lists.specs.Pieces.{Piece, joined, AreFull, IsCut}
-use Rattle.shared_lists.proofs.Cut.{full_more}
+use Rattle.shared_lists.{specs.Pieces.{Piece, joined, AreFull, IsCut}, proofs.Cut.full_more}
 
 module _ (ps new : List Piece) (p : Piece) (place : ℕ) (put : new ≡ ps ++ p ∷ []) (is : p.value.items ≡ replicate 512 0) where
   pub blank_full : AreFull ps → AreFull new

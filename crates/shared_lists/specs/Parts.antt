@@ -1,7 +1,5 @@
 -- What is shared, or none of it.
-use Rattle.std.specs.Prelude.{List, [], Option, Some, None}
-use Rattle.std.specs.declared.sync.Arc.{Arc}
-use Rattle.std.specs.declared.alloc.Global.{Global}
+use Rattle.std.specs.{Prelude.{List, [], Option, Some, None}, declared.sync.Arc.Arc, declared.alloc.Global.Global}
 
 -- the items of a part
 abbrev pub part_of : {T : Type 0} → Option (Arc (List T) Global) → List T

@@ -1,8 +1,5 @@
 -- Districts in pieces.
-use Rattle.std.specs.Prelude.{◌≡◌, ◌+◌, ◌*◌, ◌<◌, ◌^◌, ℕ, List, Some, ◌++◌, length, get_or, map, All}
-use Rattle.std.specs.List.{flat_map}
-use Rattle.std.specs.declared.sync.Arc.{Arc}
-use Rattle.std.specs.declared.vec.Vec.{Vec}
+use Rattle.std.specs.{Prelude.{◌≡◌, ◌+◌, ◌*◌, ◌<◌, ◌^◌, ℕ, List, Some, ◌++◌, length, get_or, map, All}, List.flat_map, declared.sync.Arc.Arc, declared.vec.Vec.Vec}
 use Rattle.std.specs.declared.alloc.Global.{Global}
 use Rattle.shared_lists.specs.Laid.{laid}
 

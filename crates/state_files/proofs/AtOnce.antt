@@ -2,12 +2,8 @@
 use Rattle.std.proofs.Common.{ℕ, ◌<◌, inl, inr, Result, Ok, Err, Vec, Global, refl}
 use Rattle.byte_stream.specs.declared.source.Source.{Ghosts}
 use Rattle.desk_model.specs.declared.block.BlockRow.{BlockRow}
-use Rattle.pl94.specs.declared.geo.GeoRows.{GeoRows}
-use Rattle.pl94.specs.declared.segment.SegRows.{SegRows}
-use Rattle.state_files.specs.claim.Opening.{census_of}
-use Rattle.state_files.specs.claim.State.{ReadsState}
-use Rattle.state_files.specs.AtOnce.{ReadsEach, JudgesEach, ReadsStateBy}
-use Rattle.state_files.specs.declared.fault.FileFault.{FileFault}
+use Rattle.pl94.specs.{declared.geo.GeoRows.GeoRows, declared.segment.SegRows.SegRows}
+use Rattle.state_files.specs.{claim.Opening.census_of, claim.State.ReadsState, AtOnce.{ReadsEach, JudgesEach, ReadsStateBy}, declared.fault.FileFault.FileFault}
 use Rattle.state_files.specs.declared.census.CensusFiles.{CensusFiles}
 
 module _ {R : Type 0} (r : Ghosts R) (workers : ℕ) (before after : CensusFiles R) where

@@ -1,17 +1,11 @@
 -- The census files of a state read at once, and judged in their order.
-use Rattle.std.specs.Prelude.{ℕ, ◌<◌, Result, Vec}
-use Rattle.std.specs.declared.alloc.Global.{Global}
+use Rattle.std.specs.{Prelude.{ℕ, ◌<◌, Result, Vec}, declared.alloc.Global.Global}
 use Rattle.byte_stream.specs.declared.source.Source.{Ghosts}
 use Rattle.desk_model.specs.declared.block.BlockRow.{BlockRow}
-use Rattle.pl94.specs.declared.geo.GeoRows.{GeoRows}
-use Rattle.pl94.specs.declared.record.SegmentNumber.{SegmentNumber}
-use Rattle.pl94.specs.declared.record.SegmentNumber.TheVariants.{One, Two, Three}
+use Rattle.pl94.specs.{declared.geo.GeoRows.GeoRows, declared.record.SegmentNumber.SegmentNumber, declared.record.SegmentNumber.TheVariants.{One, Two, Three}}
 use Rattle.pl94.specs.declared.segment.SegRows.{SegRows}
-use Rattle.state_files.specs.claim.Opening.{opening_of, census_of}
-use Rattle.state_files.specs.claim.State.{GoesOn, NoFile, ReadsHeader, ReadsSegment, Joins, ReadsState, AreLeftBy}
-use Rattle.state_files.specs.declared.fault.OpenFault.{OpenFault}
-use Rattle.state_files.specs.declared.fault.FileFault.{FileFault}
-use Rattle.state_files.specs.declared.census.CensusFiles.{CensusFiles}
+use Rattle.state_files.specs.{claim.Opening.{opening_of, census_of}, claim.State.{ThenReads, NoFile, ReadsHeader, ReadsSegment, Joins, ReadsState, AreLeftBy}}
+use Rattle.state_files.specs.{declared.fault.OpenFault.OpenFault, declared.fault.FileFault.FileFault, declared.census.CensusFiles.CensusFiles}
 
 abbrev pub ReadsHeaderFile : {R : Type 0} → Ghosts R → (before after : Result R OpenFault) → Result GeoRows FileFault → Type 0
 ReadsHeaderFile r before after =
@@ -32,10 +26,10 @@ pub record ReadsEach {R : Type 0} (r : Ghosts R) (before after : CensusFiles R) 
 -- the first fault of what they came to, or the blocks
 abbrev pub JudgesEach : Result GeoRows FileFault → (first second third : Result SegRows FileFault) → Result (Vec BlockRow Global) FileFault → Type 0
 JudgesEach header first second third =
-    GoesOn header NoFile (λ rows.
-    GoesOn first NoFile (λ one.
-    GoesOn second NoFile (λ two.
-    GoesOn third NoFile (λ three. Joins rows one two three))))
+    ThenReads header NoFile (λ rows.
+    ThenReads first NoFile (λ one.
+    ThenReads second NoFile (λ two.
+    ThenReads third NoFile (λ three. Joins rows one two three))))
 
 -- The files read in turn come to this; and they stand as so many workers leave them.
 abbrev pub ReadsStateBy : {R : Type 0} → Ghosts R → ℕ → (before after : CensusFiles R) → Result (Vec BlockRow Global) FileFault → Type 0

@@ -1,55 +1,29 @@
 -- The first row from a key on, and the rows after it.
-use Rattle.std.proofs.Common.{◌≡◌, ◌⊎◌, inl, inr, ◌<◌, ℕ, List, [], ◌∷◌, ◌++◌, length, Bool, true, false, nat_eq, None, refl, sym, ap, subst, arith}
-use Rattle.std.specs.List.{starts_with}
-use Rattle.std.specs.Ordering.{is_gt, nat_cmp, ordering_then}
-use Rattle.std.specs.declared.cmp.Ordering.{Ordering}
-use Rattle.std.specs.declared.cmp.Ordering.TheVariants.{Less, Equal, Greater}
-use Rattle.std.specs.Cmp.{nat_cmp_is}
-use Rattle.std.specs.FinMap.{entries}
-use Rattle.page_btree.specs.page_node.claim.Entries.{Entry}
-use Rattle.page_btree.specs.page_node.claim.Places.{key_cmp}
-use Rattle.page_btree.specs.page_node.Places.{entries_from}
+use Rattle.std.specs.{List.starts_with, Ordering.{is_gt, nat_cmp, ordering_then}, declared.cmp.Ordering.TheVariants.{Less, Equal, Greater}, FinMap.entries}
+use Rattle.std.proofs.Common.{◌≡◌, ◌⊎◌, inl, inr, ◌<◌, ℕ, List, [], ◌∷◌, ◌++◌, length, Bool, true, false, nat_eq, None, ap, subst, arith}
+use Rattle.page_btree.specs.{page_node.claim.Entries.Entry, page_node.claim.Places.key_cmp, page_node.Places.entries_from}
 use Rattle.page_btree.proofs.page_node.Laws.{less_trans}
-use Rattle.btree_walks.proofs.Prefixes.{none_above, under_is_from}
-use Rattle.btree_walks.specs.Scanning.{IsNextRow, fault_in}
-use Rattle.btree_walks.specs.declared.rows.Row.{Row}
-use Rattle.btree_walks.specs.declared.scans.Scan.{Scan}
-use Rattle.store_rows.proofs.Frames.{same_key}
-use Rattle.store_rows.specs.claim.Rows.{KeyMap}
-use Rattle.store_check.specs.Rows.{IsFirst, NoneFrom}
-use Rattle.store_check.specs.claim.Rows.{IsFrom}
+use Rattle.btree_walks.{specs.Scanning.{IsNextRow, fault_in}, specs.declared.rows.Row.Row, specs.declared.scans.Scan.Scan, proofs.Prefixes.{none_above, under_is_from}}
+use Rattle.store_rows.{specs.claim.Rows.KeyMap, proofs.Frames.same_key}
+use Rattle.store_check.specs.{Rows.{IsFirst, NoneFrom}, claim.Rows.IsFrom}
 pub use Rattle.btree_walks.proofs.RowsFound.{first_is_from, first_least, first_none, first_there}
 
 -- ---- the order of keys
 pub clash : (b : Bool) → b ≡ true → b ≡ false → ⊥
-clash true is is_not = cc
-clash false is is_not = cc
-
-ordered : (a b : List ℕ) (r : Ordering) → key_cmp a b ≡ r → is_gt r ≡ false → (key_cmp a b ≡ Less) ⊎ (a ≡ b)
-ordered a b Less is not = inl is
-ordered a b Equal is not = inr (same_key a b is)
-ordered a b Greater is not = absurd (clash true refl not)
+clash b is is_not = search (arith)
 
 from_or_same : (a b : List ℕ) → IsFrom a b → (key_cmp a b ≡ Less) ⊎ (a ≡ b)
-from_or_same a b from = ordered a b (key_cmp a b) refl from
+from_or_same a b from = search (arith, same_key, clash)
 
 pub less_from : (a b : List ℕ) → key_cmp a b ≡ Less → IsFrom a b
 less_from a b less = ap is_gt less
 
 pub from_trans : (a b c : List ℕ) → IsFrom a b → IsFrom b c → IsFrom a c
-from_trans a b c from next = elim (from_or_same a b from) [
-  | inl less ↦ elim (from_or_same b c next) [
-    | inl more ↦ less_from a c (less_trans a b c less more)
-    | inr same ↦ subst (λ (x : List ℕ). IsFrom a x) same from
-  ]
-  | inr same ↦ subst (λ (x : List ℕ). IsFrom x c) (sym same) next
-]
+from_trans a b c from next = search (arith, from_or_same, less_from, less_trans)
 
 -- a key with a lower tag stands before
 pub lower_tag : (tag other : ℕ) (rest more : List ℕ) → tag < other → IsFrom (other ∷ rest) (tag ∷ more) → ⊥
-lower_tag tag other rest more less from =
-    let above : key_cmp (other ∷ rest) (tag ∷ more) ≡ Greater = ap (λ (r : Ordering). ordering_then r (key_cmp rest more)) (sym (nat_cmp_is other tag Greater less)) in
-    clash (is_gt (key_cmp (other ∷ rest) (tag ∷ more))) (ap is_gt above) from
+lower_tag tag other rest more less from = search (arith, clash)
 
 -- what stands after a lower number of as many bytes doesn't count
 pub above_more : (x y z : List ℕ) → length x ≡ length y → key_cmp x y ≡ Greater → key_cmp x (y ++ z) ≡ Greater
@@ -81,5 +55,4 @@ none_at_all m key prefix none k value there from on = first_none m key none k va
 
 -- what a scan from a key on takes first
 pub is_first : (found : Bool) (scan : Scan) (row : Row) (key : List ℕ) (m : KeyMap) → fault_in scan ≡ None → IsNextRow found scan row (entries m) (entries_from key (entries m)) → IsFirst found key row m
-is_first true scan row key m none next = (next.0, next.1)
-is_first false scan row key m none next = next none
+is_first found scan row key m none next = search (arith, next)

@@ -1,43 +1,16 @@
 -- Rows as commands keep them have numbers below those that come next, and where all rows have, no number in use comes next.
+use Rattle.std.specs.{Int.from_be_bytes, FinMap.get}
 use Rattle.std.proofs.Common.{◌≡◌, ◌<◌, ◌≤◌, ◌+◌, ◌^◌, ℕ, zero, suc, Bool, true, false, List, [], All, Option, Some, None, inl, inr, refl, sym, ap, subst, ◌∙◌, w64, arith}
-use Rattle.std.specs.Int.{from_be_bytes}
-use Rattle.std.specs.FinMap.{get}
 use Rattle.std.proofs.lemmas.Nat.{from_be_bytes-to_be_bytes_8}
 use Rattle.std.proofs.lemmas.List.Elements.{All-contains, All-contains_itself}
 use Rattle.desk_pages.specs.Reading.{StandsAs}
-use Rattle.desk_model.specs.claim.Geography.{GeographyModel}
-use Rattle.desk_model.specs.claim.Desk.{Desk, Plan}
-use Rattle.store_rows.specs.claim.Keys.{RowKey, key_of, Fits, counters, retired, begun, holding, holder_count, named, part, seal, version, block, pair, chunk, in_four, in_eight}
-use Rattle.store_rows.specs.claim.Values.{plan_bytes, seal_bytes}
-use Rattle.store_rows.specs.claim.Lists.{AreChunks, chunks_bytes}
-use Rattle.store_rows.proofs.ListLaws.{chunks_differ}
-use Rattle.store_rows.specs.declared.value.Counters.{Counters}
-use Rattle.store_rows.specs.declared.value.SealRow.{SealRow}
-use Rattle.store_rows.specs.claim.Rows.{KeyMap, row_in, Has}
-use Rattle.store_rows.specs.claim.Holders.{AreHolders, holder_count_row}
-use Rattle.store_rows.proofs.Counting.{few_holders}
-use Rattle.store_rows.specs.claim.GeographyRows.{IsGeography}
-use Rattle.store_rows.specs.claim.DeskRows.{IsPlanAt, IsDesk}
-use Rattle.store_rows.specs.Changes.{plan_row_of}
-use Rattle.store_rows.specs.claim.Tidy.{IsNext, CountersFit, IsNumbered, IsNamedBy, IsKnown, Tidy, version_row}
-use Rattle.store_rows.proofs.OneGeography.{value_is, no_value}
-use Rattle.store_rows.proofs.TidyFree.{one_next}
-use Rattle.store_check.specs.Numbers.{IsBelow, IsCount, AllBelow, NumbersFit, IsDue, HasNumbersBelow}
-use Rattle.store_check.specs.Rows.{AreAfterSeal, AreRowsToVersion}
-
-fit_numbers : (of : RowKey) → Fits of → NumbersFit of
-fit_numbers counters fits = tt
-fit_numbers (retired plan) fits = fits
-fit_numbers (begun load) fits = fits
-fit_numbers (holding plan number) fits = fits
-fit_numbers (holder_count number) fits = fits
-fit_numbers (named name) fits = tt
-fit_numbers (part plan revision index) fits = fits.0
-fit_numbers seal fits = tt
-fit_numbers version fits = tt
-fit_numbers (block load place) fits = tt
-fit_numbers (pair load place) fits = tt
-fit_numbers (chunk number piece) fits = tt
+use Rattle.desk_model.specs.{claim.Geography.GeographyModel, claim.Desk.{Desk, Plan}}
+use Rattle.store_rows.specs.claim.Keys.{RowKey, key_of, Fits, retired, begun, holding, holder_count, named, part, seal, version, chunk, in_four, in_eight}
+use Rattle.store_rows.specs.{claim.Values.{plan_bytes, seal_bytes}, claim.Lists.{AreChunks, chunks_bytes}, declared.value.Counters.Counters, declared.value.SealRow.SealRow}
+use Rattle.store_rows.specs.{claim.Rows.{KeyMap, row_in, Has}, claim.Holders.{AreHolders, holder_count_row}, claim.GeographyRows.IsGeography, claim.DeskRows.{IsPlanAt, IsDesk}}
+use Rattle.store_rows.{specs.Changes.plan_row_of, specs.claim.Tidy.{IsNext, CountersFit, IsNumbered, IsNamedBy, IsKnown, Tidy, version_row}, proofs.ListLaws.chunks_differ}
+use Rattle.store_rows.proofs.{Counting.few_holders, OneGeography.{value_is, no_value}, TidyFree.one_next}
+use Rattle.store_check.specs.{Numbers.{IsBelow, IsCount, AllBelow, NumbersFit, IsDue, HasNumbersBelow}, Rows.{AreAfterSeal, AreRowsToVersion}}
 
 -- ---- what is kept is below
 module _ (m : KeyMap) (tidy : Tidy m) where
@@ -70,8 +43,7 @@ module _ (m : KeyMap) (tidy : Tidy m) where
   seal_below (Some g) value (load, is) has = (_, value_is _ value (sym is.named ∙ has), tidy.below.sealed_load _ is.load_fits is.named)
 
   named_plan_below : (plan number : ℕ) → IsNamedBy m plan number → plan < tidy.next.plan
-  named_plan_below plan number is =
-      known_below plan is.part_fits.0 (tidy.owned.parts plan is.revision is.index (chunks_bytes is.numbers) is.part_fits is.row)
+  named_plan_below plan number is = search (arith, known_below, is.part_fits.0, tidy.owned.parts, is.part_fits, is.row)
 
   holding_below : (plan number : ℕ) (value : List ℕ) → Fits (holding plan number) → Has m (holding plan number) value → IsBelow tidy.next (holding plan number) value
   holding_below plan number value fits has =
@@ -100,7 +72,6 @@ module _ (m : KeyMap) (tidy : Tidy m) where
       by false told = absurd (no_value value (sym has ∙ told))
 
   pub kept_below : (desk : Desk) → IsDesk m desk → (of : RowKey) (value : List ℕ) → Fits of → Has m of value → IsBelow tidy.next of value
-  kept_below desk is counters value fits has = tt
   kept_below desk is (retired plan) value fits has = tidy.below.retired_plans plan value fits has
   kept_below desk is (begun load) value fits has = tidy.below.begun_loads load value fits has
   kept_below desk is (holding plan number) value fits has = holding_below plan number value fits has
@@ -109,9 +80,7 @@ module _ (m : KeyMap) (tidy : Tidy m) where
   kept_below desk is (part plan revision index) value fits has = part_below plan revision index value fits has
   kept_below desk is seal value fits has = seal_below desk.geography value is.geography has
   kept_below desk is version value fits has = version_below value has
-  kept_below desk is (block load place) value fits has = tt
-  kept_below desk is (pair load place) value fits has = tt
-  kept_below desk is (chunk number piece) value fits has = tt
+  kept_below desk is _ value fits has = tt
 
 -- a row that isn't is no row of such a map
 pub no_due : (next : Counters) (m : KeyMap) (key value : List ℕ) → IsDue next m → get m key ≡ Some value → ((of : RowKey) → Fits of → NumbersFit of → key ≡ key_of of → IsBelow next of value → ⊥) → ⊥
@@ -120,7 +89,7 @@ no_due next m key value due there above =
     let (of, fits, is) = tidy.rows key value there in
     let same = one_next m tidy.next next tidy.fits due.fits tidy.is_next due.is_next in
     let has : Has m of value = ap (get m) (sym is) ∙ there in
-    above of fits (fit_numbers of fits) is (subst (λ (n : Counters). IsBelow n of value) same (kept_below m tidy due.kept.desk due.kept.is of value fits has))
+    above of fits (search (arith)) is (subst (λ (n : Counters). IsBelow n of value) same (kept_below m tidy due.kept.desk due.kept.is of value fits has))
 
 -- ---- what is below
 module _ (next : Counters) (m : KeyMap) (fits : CountersFit next) (all : AllBelow next m) where
@@ -129,8 +98,7 @@ module _ (next : Counters) (m : KeyMap) (fits : CountersFit next) (all : AllBelo
       let (p, bytes, below) = all (named name) (plan_bytes is.plan) tt is.row in
       let limit = fits.plan_fits in
       let told : p.number ≡ is.plan.number = sym (from_be_bytes-to_be_bytes_8 p.number (omega arith)) ∙ ap (from_be_bytes w64) bytes ∙ from_be_bytes-to_be_bytes_8 is.plan.number (let same = is.is in let few = is.fits in omega arith) in
-      let same = is.is in
-      omega (arith, told, same, below)
+      omega (arith, told, is.is, below)
 
   sealed_below : (sealed : SealRow) → sealed.load < 2 ^ 64 → Has m seal (seal_bytes sealed) → sealed.load < next.load
   sealed_below sealed few has =

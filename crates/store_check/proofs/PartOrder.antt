@@ -1,31 +1,15 @@
 -- Parts of revisions stand in the order of their plans and revisions.
-use Rattle.std.proofs.Common.{◌≡◌, inl, inr, ◌<◌, ◌≤◌, ◌%◌, ◌^◌, ℕ, List, [], ◌∷◌, ◌++◌, length, drop, true, refl, sym, ap, subst, ◌∙◌, w64, arith}
-use Rattle.std.specs.Int.{from_be_bytes}
-use Rattle.std.specs.Ordering.{is_gt, nat_cmp, ordering_then}
-use Rattle.std.specs.BTreeMap.{BTreeMap}
-use Rattle.std.specs.declared.cmp.Ordering.{Ordering}
-use Rattle.std.specs.declared.cmp.Ordering.TheVariants.{Less, Equal, Greater}
-use Rattle.std.specs.Cmp.{nat_cmp_is}
-use Rattle.std.specs.FinMap.{entries, get}
+use Rattle.std.specs.{Int.from_be_bytes, Ordering.{is_gt, nat_cmp, ordering_then}, BTreeMap.BTreeMap, declared.cmp.Ordering.TheVariants.{Less, Equal, Greater}, Cmp.nat_cmp_is}
+use Rattle.std.{specs.FinMap.{entries, get}, proofs.Common.{◌≡◌, inl, inr, ◌<◌, ◌≤◌, ◌^◌, ℕ, List, [], ◌∷◌, ◌++◌, length, drop, true, refl, sym, ap, subst, ◌∙◌, w64, arith}}
 use Rattle.std.proofs.lemmas.Bool.{cases_lt}
 use Rattle.std.proofs.lemmas.Nat.{from_be_bytes-to_be_bytes_8}
-use Rattle.page_btree.specs.page_node.claim.Entries.{Entry}
-use Rattle.page_btree.specs.page_node.claim.Places.{key_cmp}
-use Rattle.page_btree.specs.page_node.Places.{entries_from}
+use Rattle.page_btree.specs.{page_node.claim.Entries.Entry, page_node.claim.Places.key_cmp, page_node.Places.entries_from}
 use Rattle.page_btree.proofs.page_node.Laws.{flip_less}
 use Rattle.btree_walks.proofs.Prefixes.{between_under, under_is_from}
-use Rattle.store_rows.specs.claim.Keys.{RowKey, key_of, Fits, counters, retired, begun, holding, holder_count, named, part, seal, version, block, pair, chunk, in_one, in_four, in_eight, revision_prefix}
-use Rattle.store_rows.specs.Keys.{parts_prefix, plan_parts_prefix}
-use Rattle.store_rows.specs.claim.Rows.{KeyMap, Has}
-use Rattle.store_rows.specs.claim.Tidy.{AreRows}
-use Rattle.store_rows.proofs.Numbers.{numbers_decide}
-use Rattle.store_check.specs.claim.Rows.{IsFrom}
-use Rattle.store_check.specs.Rows.{NoneFrom}
-use Rattle.store_check.specs.Owners.{AreOwnedBelow, AreOwnedBy, IsOwned, IsOwnedTo, IsPartKey, IsUnderParts, Passes, after_revision}
-use Rattle.store_check.proofs.After.{fewer_rows, from_tag, prefix_same}
-use Rattle.store_check.proofs.FirstRows.{clash, first_least, first_there, from_trans}
-use Rattle.store_rows.proofs.Frames.{either_way}
-use Rattle.store_rows.proofs.KeyPrefixes.{starts_itself, starts_same}
+use Rattle.store_rows.specs.{claim.Keys.{RowKey, key_of, Fits, part, in_one, in_four, in_eight, revision_prefix}, Keys.{parts_prefix, plan_parts_prefix}, claim.Rows.KeyMap}
+use Rattle.store_rows.{specs.claim.Tidy.AreRows, proofs.Numbers.numbers_decide, proofs.Frames.either_way, proofs.KeyPrefixes.{starts_itself, starts_same}}
+use Rattle.store_check.specs.{claim.Rows.IsFrom, Rows.NoneFrom, Owners.{AreOwnedBelow, AreOwnedBy, IsOwned, IsOwnedTo, IsPartKey, IsUnderParts, Passes, after_revision}}
+use Rattle.store_check.proofs.{After.{fewer_rows, from_tag, prefix_same}, FirstRows.{clash, first_least, first_there, from_trans}}
 
 -- what stands after numbers of as many bytes doesn't count
 below_more : (x y w z : List ℕ) → length x ≡ length y → key_cmp x y ≡ Less → key_cmp (x ++ w) (y ++ z) ≡ Less
@@ -44,20 +28,12 @@ earlier plan revision other w z fits other_fits less =
     below_more (revision_prefix plan revision) (revision_prefix plan other) w z refl
     ((numbers_decide (plan_parts_prefix plan) revision other).1 fits other_fits ∙ sym (nat_cmp_is revision other Less less))
 
--- and each part of a revision before the key after these
-last_below : (index : ℕ) → key_cmp (in_one index) (255 ∷ 0 ∷ []) ≡ Less
-last_below index = elim (cases_lt (index % 256) 255) [
-  | inl less ↦ ap (λ (r : Ordering). ordering_then r (key_cmp [] (0 ∷ []))) (sym (nat_cmp_is (index % 256) 255 Less less))
-  | inr most ↦ ap (λ (r : Ordering). ordering_then r (key_cmp [] (0 ∷ []))) (sym (nat_cmp_is (index % 256) 255 Equal (omega arith)))
-]
-
 below_after : (plan revision last index : ℕ) → revision < 2 ^ 32 → last < 2 ^ 32 → revision ≤ last → key_cmp (key_of (part plan revision index)) (after_revision plan last) ≡ Less
 below_after plan revision last index fits last_fits within = elim (cases_lt revision last) [
   | inl less ↦ earlier plan revision last (in_one index) (255 ∷ 0 ∷ []) fits last_fits less
   | inr not ↦
-      let same : last ≡ revision = omega arith in
-      subst (λ (n : ℕ). key_cmp (key_of (part plan revision index)) (after_revision plan n) ≡ Less) (sym same)
-      (prefix_same (revision_prefix plan revision) (in_one index) (255 ∷ 0 ∷ []) ∙ last_below index)
+      subst (λ (n : ℕ). key_cmp (key_of (part plan revision index)) (after_revision plan n) ≡ Less) (sym (omega arith))
+      (prefix_same (revision_prefix plan revision) (in_one index) (255 ∷ 0 ∷ []) ∙ (search (arith, cases_lt, index)))
 ]
 
 -- parts between a part of a plan and the key after a revision of that plan are of revisions between these
@@ -102,12 +78,9 @@ parts_begin = refl
 
 -- ---- one goes on after the parts of a plan
 module _ (counts : BTreeMap ℕ ℕ) (m : KeyMap) (from : List ℕ) (e : Entry) (more : List Entry) (first : entries_from from (entries m) ≡ e ∷ more) (plan revision : ℕ) (of : IsPartKey plan revision e.0) where
-  first_stands : Has m (part plan revision of.index) e.1
-  first_stands = ap (get m) (sym of.is) ∙ first_there m from e more first
-
   -- the first part is owned where all are
   pub first_owned : AreOwnedBy counts m → IsOwned counts m plan revision
-  first_owned owned = owned plan revision of.index e.1 of.fits first_stands
+  first_owned owned = owned plan revision of.index e.1 of.fits (ap (get m) (sym of.is) ∙ first_there m from e more first)
 
   pub passes_on : (last : ℕ) → last < 2 ^ 32 → IsOwnedTo counts m plan revision last → AreOwnedBelow counts from m → Passes true counts from (after_revision plan last) m
   passes_on last last_fits to before = (
@@ -121,27 +94,15 @@ module _ (counts : BTreeMap ℕ ℕ) (m : KeyMap) (from : List ℕ) (e : Entry) 
   )
 
 pub ends_owned : (counts : BTreeMap ℕ ℕ) (m : KeyMap) (from : List ℕ) → NoneFrom from parts_prefix m → AreOwnedBelow counts from m → AreOwnedBy counts m
-ends_owned counts m from none before plan revision index value fits has = either_way (is_gt (key_cmp from (key_of (part plan revision index)))) (IsOwned counts m plan revision)
-    (λ above. before plan revision index value fits has (λ later. clash (is_gt (key_cmp from (key_of (part plan revision index)))) above later))
-    (λ later. absurd (none (key_of (part plan revision index)) value has later (starts_part plan revision index)))
+ends_owned counts m from none before plan revision index value fits has = search (arith, before, none)
 
 pub begins_owned : (counts : BTreeMap ℕ ℕ) (m : KeyMap) → AreOwnedBelow counts parts_prefix m
 begins_owned counts m plan revision index value fits has short = absurd (short (from_tag 82 82 ((in_eight plan ++ in_four revision) ++ in_one index) (omega arith)))
 
 -- ---- the first key under parts
 part_of : (row : RowKey) → IsUnderParts (key_of row) → ((plan revision index : ℕ) → key_of row ≡ key_of (part plan revision index) → ⊥) → ⊥
-part_of counters on other = cc
-part_of (retired plan) on other = cc
-part_of (begun load) on other = cc
-part_of (holding plan number) on other = cc
-part_of (holder_count number) on other = cc
-part_of (named name) on other = cc
 part_of (part plan revision index) on other = other plan revision index refl
-part_of seal on other = cc
-part_of version on other = cc
-part_of (block load place) on other = cc
-part_of (pair load place) on other = cc
-part_of (chunk number piece) on other = cc
+part_of _ on other = cc
 
 pub no_part : (m : KeyMap) (from : List ℕ) (e : Entry) (more : List Entry) → entries_from from (entries m) ≡ e ∷ more → AreRows m → IsUnderParts e.0 → ((plan revision index : ℕ) → e.0 ≡ key_of (part plan revision index) → ⊥) → ⊥
 no_part m from e more first rows on other =

@@ -1,35 +1,20 @@
 -- The rows that a scan takes from the first on are rows of the map.
 use Rattle.std.proofs.lemmas.Bool.{cases_lt}
-use Rattle.std.proofs.Common.{◌≡◌, inl, inr, ◌≤◌, ◌<◌, ℕ, List, [], ◌∷◌, ◌++◌, true, cond, nat_eq, Some, drop, refl, sym, ap, subst, ◌∙◌, arith}
-use Rattle.std.specs.Prelude.{Option}
-use Rattle.std.specs.List.{AllByRecursion, starts_with}
-use Rattle.std.specs.Ordering.{eq_by_cmp, nat_cmp, ordering_then}
-use Rattle.std.specs.declared.cmp.Ordering.TheVariants.{Less}
-use Rattle.std.specs.Cmp.{nat_cmp_is}
-use Rattle.std.specs.Cmp.Lexicographic.{slice_cmp}
-use Rattle.std.specs.FinMap.{entries, find, get}
-use Rattle.page_btree.specs.page_node.claim.Entries.{Entry}
-use Rattle.page_btree.specs.page_node.claim.Places.{key_cmp, Rises}
+use Rattle.std.specs.{Prelude.Option, List.AllByRecursion, Ordering.{eq_by_cmp, nat_cmp, ordering_then}, declared.cmp.Ordering.TheVariants.Less, Cmp.nat_cmp_is}
+use Rattle.std.specs.{Cmp.Lexicographic.slice_cmp, FinMap.{entries, find, get}}
+use Rattle.std.proofs.Common.{◌≡◌, inl, inr, ◌≤◌, ◌<◌, ℕ, List, [], ◌∷◌, ◌++◌, cond, Some, drop, refl, sym, ap, subst, arith}
+use Rattle.page_btree.specs.{page_node.claim.Entries.Entry, page_node.claim.Places.{key_cmp, Rises}}
 use Rattle.page_btree.proofs.page_node.Laws.{flip_less, above_middle, find_none}
-use Rattle.btree_walks.specs.Prefixes.{under}
-use Rattle.btree_walks.proofs.Prefixes.{head_rises, under_rises}
-use Rattle.btree_walks.proofs.RowsFound.{all_found, all_rises, found_among}
-use Rattle.store_rows.specs.claim.Keys.{RowKey, key_of, counters, retired, begun, holding, holder_count, named, part, seal, version, block, pair, chunk}
-use Rattle.store_rows.specs.declared.value.Counters.{Counters}
+use Rattle.btree_walks.{specs.Prefixes.under, proofs.Prefixes.{head_rises, under_rises}, proofs.RowsFound.{all_found, all_rises, found_among}}
+use Rattle.store_rows.specs.{claim.Keys.{RowKey, key_of, retired, begun, holding, holder_count, named, part, seal, version}, declared.value.Counters.Counters}
 use Rattle.store_rows.specs.claim.Rows.{KeyMap, Has}
-use Rattle.store_check.specs.Numbers.{IsBelow, AllBelow, AreSoundRows, NumbersFit}
-use Rattle.store_check.specs.Rows.{IsPast, IsRow}
+use Rattle.store_check.specs.{Numbers.{IsBelow, AllBelow, AreSoundRows, NumbersFit}, Rows.{IsPast, IsRow}}
 
 all_rise : (m : KeyMap) → Rises (under [] (entries m))
 all_rise m = under_rises [] (entries m) (all_rises m)
 
--- each key is under no bytes
-all_under : (key : List ℕ) → starts_with nat_eq key [] ≡ true
-all_under [] = refl
-all_under (x ∷ xs) = refl
-
 get_is : (m : KeyMap) (key : List ℕ) (rows : List Entry) → under [] (entries m) ≡ rows → get m key ≡ find key_cmp key rows
-get_is m key rows whole = found_among m [] rows key (all_under key) whole
+get_is m key rows whole = found_among m [] rows key (search (arith)) whole
 
 -- a key below that of a row is found before it, or nowhere
 found_before : (key : List ℕ) (taken : List Entry) (e : Entry) (more : List Entry) → Rises (taken ++ e ∷ more) → key_cmp key e.0 ≡ Less → find key_cmp key (taken ++ e ∷ more) ≡ find key_cmp key taken
@@ -46,9 +31,6 @@ AreEntriesBelow next es = AllByRecursion (IsEntryBelow next) es
 below_found : (next : Counters) (of : RowKey) (value : List ℕ) (es : List Entry) → AreEntriesBelow next es → NumbersFit of → find key_cmp (key_of of) es ≡ Some value → IsBelow next of value
 below_found next of value es all fits there = all_found (IsEntryBelow next) (key_of of) value es all there of fits refl
 
-all_below : (next : Counters) (m : KeyMap) (taken : List Entry) → under [] (entries m) ≡ taken → AreEntriesBelow next taken → AllBelow next m
-all_below next m taken whole all of value fits has = below_found next of value taken all fits (sym (get_is m (key_of of) taken whole) ∙ has)
-
 -- ---- rows that come before one that is past
 less_tag : (tag other : ℕ) (rest more : List ℕ) → tag < other → key_cmp (tag ∷ rest) (other ∷ more) ≡ Less
 less_tag tag other rest more less = ap (λ (r : _). ordering_then r (slice_cmp nat_cmp rest more)) (sym (nat_cmp_is tag other Less less))
@@ -58,11 +40,9 @@ before_past key tag rest few past = subst (λ (k : List ℕ). key_cmp (tag ∷ r
 
 module _ (next : Counters) (m : KeyMap) (taken : List Entry) (e : Entry) (more : List Entry) (whole : under [] (entries m) ≡ taken ++ e ∷ more) (all : AreEntriesBelow next taken) (past : IsPast e.0) where
   found_so : (of : RowKey) (value : List ℕ) → NumbersFit of → key_cmp (key_of of) e.0 ≡ Less → Has m of value → IsBelow next of value
-  found_so of value fits less has = below_found next of value taken all fits
-      (sym (found_before (key_of of) taken e more (subst Rises whole (all_rise m)) less) ∙ sym (get_is m (key_of of) (taken ++ e ∷ more) whole) ∙ has)
+  found_so of value fits less has = search (arith, below_found, found_before, all_rise, get_is)
 
   pub past_below : AllBelow next m
-  past_below counters value fits has = tt
   past_below (retired plan) value fits has = found_so (retired plan) value fits (before_past e.0 68 (drop 1 (key_of (retired plan))) (omega arith) past) has
   past_below (begun load) value fits has = found_so (begun load) value fits (before_past e.0 76 (drop 1 (key_of (begun load))) (omega arith) past) has
   past_below (holding plan number) value fits has = found_so (holding plan number) value fits (before_past e.0 72 (drop 1 (key_of (holding plan number))) (omega arith) past) has
@@ -71,9 +51,7 @@ module _ (next : Counters) (m : KeyMap) (taken : List Entry) (e : Entry) (more :
   past_below (part plan revision index) value fits has = found_so (part plan revision index) value fits (before_past e.0 82 (drop 1 (key_of (part plan revision index))) (omega arith) past) has
   past_below seal value fits has = found_so seal value fits (before_past e.0 83 (drop 1 (key_of seal)) (omega arith) past) has
   past_below version value fits has = found_so version value fits (before_past e.0 86 (drop 1 (key_of version)) (omega arith) past) has
-  past_below (block load place) value fits has = tt
-  past_below (pair load place) value fits has = tt
-  past_below (chunk number piece) value fits has = tt
+  past_below _ value fits has = tt
 
 -- ---- rows whose keys are those of rows
 abbrev pub AreRowEntries : List Entry → Type 0
@@ -83,10 +61,7 @@ row_found : (key value : List ℕ) (es : List Entry) → AreRowEntries es → fi
 row_found key value es all there = all_found (λ e. IsRow e.0) key value es all there
 
 pub all_sound : (next : Counters) (m : KeyMap) (taken : List Entry) → under [] (entries m) ≡ taken → AreEntriesBelow next taken → AreRowEntries taken → AreSoundRows next m
-all_sound next m taken whole below rows = record {
-  below = all_below next m taken whole below;
-  rows = λ key value there before. row_found key value taken rows (sym (get_is m key taken whole) ∙ there);
-}
+all_sound next m taken whole below rows = search (arith, below_found, get_is, row_found, get_is)
 
 before_key : (key other : List ℕ) → IsPast other → (IsPast key → ⊥) → key_cmp key other ≡ Less
 before_key [] other past before = subst (λ (k : List ℕ). key_cmp [] k ≡ Less) (sym past.is) refl
@@ -96,8 +71,4 @@ before_key (tag ∷ rest) other past before = elim (cases_lt 86 tag) [
 ]
 
 pub past_sound : (next : Counters) (m : KeyMap) (taken : List Entry) (e : Entry) (more : List Entry) → under [] (entries m) ≡ taken ++ e ∷ more → AreEntriesBelow next taken → AreRowEntries taken → IsPast e.0 → AreSoundRows next m
-past_sound next m taken e more whole below rows past = record {
-  below = past_below next m taken e more whole below past;
-  rows = λ key value there before. row_found key value taken rows
-      (sym (found_before key taken e more (subst Rises whole (all_rise m)) (before_key key e.0 past before)) ∙ sym (get_is m key (taken ++ e ∷ more) whole) ∙ there);
-}
+past_sound next m taken e more whole below rows past = search (arith, past_below, row_found, found_before, all_rise, before_key, e.0, get_is)

@@ -1,16 +1,9 @@
 -- Numbers in use, and those that come next.
 use Rattle.std.specs.Prelude.{◌≡◌, ◌<◌, ◌≤◌, ◌^◌, ℕ, List, [], All}
 use Rattle.desk_model.specs.claim.Desk.{Desk}
-use Rattle.store_rows.specs.claim.Keys.{RowKey, Fits, counters, retired, begun, holding, holder_count, named}
-use Rattle.store_rows.specs.claim.Keys.{part, seal, version, block, pair, chunk, in_four, in_eight}
-use Rattle.store_rows.specs.claim.Values.{plan_bytes, seal_bytes}
-use Rattle.store_rows.specs.claim.Lists.{AreChunks, chunks_bytes}
-use Rattle.store_rows.specs.declared.value.Counters.{Counters}
-use Rattle.store_rows.specs.declared.value.PlanRow.{PlanRow}
-use Rattle.store_rows.specs.declared.value.SealRow.{SealRow}
-use Rattle.store_rows.specs.claim.Rows.{KeyMap, Has}
-use Rattle.store_rows.specs.claim.DeskRows.{IsDesk}
-use Rattle.store_rows.specs.claim.Tidy.{IsNext, CountersFit, AreBelow, Tidy}
+use Rattle.store_rows.specs.claim.Keys.{RowKey, Fits, counters, retired, begun, holding, holder_count, named, part, seal, version, block, pair, chunk, in_four, in_eight}
+use Rattle.store_rows.specs.{claim.Values.{plan_bytes, seal_bytes}, claim.Lists.{AreChunks, chunks_bytes}, declared.value.Counters.Counters, declared.value.PlanRow.PlanRow}
+use Rattle.store_rows.specs.{declared.value.SealRow.SealRow, claim.Rows.{KeyMap, Has}, claim.DeskRows.IsDesk, claim.Tidy.{IsNext, CountersFit, AreBelow, Tidy}}
 use Rattle.store_check.specs.Rows.{AreAfterSeal, AreRowsToVersion}
 
 -- how many plans hold a chunk: 1 or more, and no more than were numbered

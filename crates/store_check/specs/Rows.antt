@@ -1,16 +1,9 @@
 -- What no promise rests on, beside claim/Rows.antt.
-use Rattle.std.specs.Prelude.{◌≡◌, ◌⊎◌, ◌<◌, ◌^◌, ℕ, List, [], ◌∷◌, ◌++◌, length, Option, None, Bool, true, false, Some, nat_eq}
-use Rattle.std.specs.List.{starts_with}
-use Rattle.std.specs.FinMap.{entries, get}
-use Rattle.page_btree.specs.page_node.claim.Entries.{Entry}
-use Rattle.page_btree.specs.page_node.Places.{entries_from}
+use Rattle.std.specs.{Prelude.{◌≡◌, ◌⊎◌, ◌<◌, ◌^◌, ℕ, List, [], ◌∷◌, ◌++◌, length, Option, None, Bool, true, false, Some, nat_eq}, List.starts_with, FinMap.{entries, get}}
+use Rattle.page_btree.specs.{page_node.claim.Entries.Entry, page_node.Places.entries_from}
 use Rattle.btree_walks.specs.declared.rows.Row.{Row}
-use Rattle.store_rows.specs.claim.Keys.{RowKey, key_of, Fits, seal, block, pair, blocks_prefix, pairs_prefix, chunk_prefix}
-use Rattle.store_rows.specs.Keys.{load_prefix, chunks_prefix}
-use Rattle.store_rows.specs.claim.Values.{seal_bytes}
-use Rattle.store_rows.specs.declared.value.SealRow.{SealRow}
-use Rattle.store_rows.specs.claim.Rows.{KeyMap, Has}
-use Rattle.store_rows.specs.claim.Tidy.{AreOwned, AreRows, IsLoad}
+use Rattle.store_rows.specs.{claim.Keys.{RowKey, key_of, Fits, seal, block, pair, blocks_prefix, pairs_prefix, chunk_prefix}, Keys.{load_prefix, chunks_prefix}}
+use Rattle.store_rows.specs.{claim.Values.seal_bytes, declared.value.SealRow.SealRow, claim.Rows.{KeyMap, Has}, claim.Tidy.{AreOwned, AreRows, IsLoad}}
 use Rattle.desk_pages.specs.Reading.{StandsAs}
 use Rattle.store_check.specs.claim.Rows.{IsFrom}
 
@@ -97,9 +90,9 @@ abbrev pub AreOfLoadsTo : List ℕ → KeyMap → Type 0
 AreOfLoadsTo from m = (key value : List ℕ) → get m key ≡ Some value → IsPast key → (IsFrom from key → ⊥) → IsOfLoad m key
 
 -- so it is before one goes on; or there is no load that has rows after it
-abbrev pub GoesOn : Bool → List ℕ → List ℕ → KeyMap → Type 0
-GoesOn true from next m = AreOfLoadsTo next m × (length (entries_from next (entries m)) < length (entries_from from (entries m)))
-GoesOn false from next m = AreOfLoads m
+abbrev pub ComesBefore : Bool → List ℕ → List ℕ → KeyMap → Type 0
+ComesBefore true from next m = AreOfLoadsTo next m × (length (entries_from next (entries m)) < length (entries_from from (entries m)))
+ComesBefore false from next m = AreOfLoads m
 
 -- ---- where rows are kept, beside the seal's row, if there is one
 pub record IsKnownLoad (sealed : Option SealRow) (load : ℕ) (m : KeyMap) : Type 0 where

@@ -8,7 +8,7 @@ ghost use Rattle.store_rows.specs.claim.Keys.{key_of, seal};
 ghost use Rattle.store_rows.specs.Keys.{chunks_prefix};
 ghost use Rattle.store_rows.specs.claim.Values.{seal_bytes};
 ghost use Rattle.store_rows.specs.claim.Tidy.{AreRows, IsLoad};
-ghost use Rattle.store_check.specs.Rows.{AreOfLoads, AreOfLoadsTo, GoesOn, HasKnownLoads, IsKnownLoad, IsNextLoad, IsPast, after_load};
+ghost use Rattle.store_check.specs.Rows.{AreOfLoads, AreOfLoadsTo, ComesBefore, HasKnownLoads, IsKnownLoad, IsNextLoad, IsPast, after_load};
 ghost use Rattle.store_check.specs.claim.Rows.{IsFrom};
 
 use crate::firsts::first_from;
@@ -97,7 +97,7 @@ fn pass_load<D: SectorDevice>(
 ) -> Result<bool, TreeError>
     requires begun { txn_pages txn.now ≡ count_of pages.old }
     requires past { IsPast from.old }
-    ensures looks { Looks (λ m more. StandsAs seal_bytes (key_of seal) m sealed → AreOfLoadsTo from.old m → GoesOn more from.old from.new m) (HasKnownLoads sealed) txn.now pages.old pages.new result }
+    ensures looks { Looks (λ m more. StandsAs seal_bytes (key_of seal) m sealed → AreOfLoadsTo from.old m → ComesBefore more from.old from.new m) (HasKnownLoads sealed) txn.now pages.old pages.new result }
     ensures past { OnOk result (IsPast from.new) }
 {
     let found = load_from(txn, pages, from.as_slice())?;

@@ -1,39 +1,14 @@
 -- Steps of a migration, one after the other, and the end after them.
-use Rattle.std.proofs.Common.{◌≡◌, ◌⊎◌, ◌≤◌, ◌+◌, ℕ, List, [], ◌∷◌, ◌++◌, true, false, inl, inr, ⊎_elim, refl, sym, subst, ◌∙◌, arith}
-use Rattle.std.specs.Prelude.{Result, Ok, Err}
-use Rattle.std.proofs.lemmas.List.{length-append}
-use Rattle.sector_device.specs.claim.Disk.{Disk, Image}
-use Rattle.sector_device.specs.claim.Moments.{LeavesOnly}
-use Rattle.sector_device.proofs.Moments.{leaves_more, leaves_wider}
-use Rattle.sector_device.specs.declared.SectorDevice.{Ghosts}
+use Rattle.std.{specs.Prelude.{Result, Ok, Err}, proofs.Common.{◌≡◌, ◌⊎◌, ◌≤◌, ◌+◌, ℕ, [], true, false, inl, inr, ⊎_elim, refl, sym, subst, ◌∙◌, arith}}
+use Rattle.sector_device.{specs.claim.Disk.{Disk, Image}, specs.claim.Moments.LeavesOnly, specs.declared.SectorDevice.Ghosts, proofs.Moments.{leaves_more, leaves_wider}}
 use Rattle.desk_model.specs.claim.Desk.{Desk}
 use Rattle.store_rows.specs.claim.Rows.{KeyMap}
-use Rattle.store_rows.specs.claim.Shares.{hold}
 use Rattle.desk_pages.specs.claim.Desks.{OpensDesk, OpensOld, OpensEither}
-use Rattle.store_command.specs.Reading.{BeginsAtWhatIsRead}
-use Rattle.desk_runs.specs.desk_migration.claim.Holding.{AreUnheld, IsHeldBy, hold_pairs}
+use Rattle.store_command.specs.{Reading.BeginsAtWhatIsRead, declared.fault.StoreFault.StoreFault, declared.fault.StoreFault.TheVariants.NotAStore}
+use Rattle.store_command.specs.Migrating.{HasMigrated, HasNew, HasOld, HasPut, HasStopped, IsBegun, IsMigrated, IsStopped, LeavesEither, MigratesAll, MigratesDevice, WhereItReadsOld}
+use Rattle.desk_runs.proofs.desk_migration.Pairs.{then_by, none_by}
 use Rattle.desk_runs.specs.desk_migration.claim.Migrating.{device_of, disk_of, is_halted, sectors_of, Ends, HasMore, HasRows, Keeps, KeepsNew, Moves}
 use Rattle.desk_runs.specs.desk_migration.declared.migration.Migration.{Migration}
-use Rattle.store_command.specs.declared.fault.StoreFault.{StoreFault}
-use Rattle.store_command.specs.declared.fault.StoreFault.TheVariants.{NotAStore}
-use Rattle.store_command.specs.Migrating.{HasMigrated, HasNew, HasOld, HasPut, HasStopped, IsBegun, IsMigrated, IsStopped, LeavesEither, MigratesAll, MigratesDevice, WhereItReadsOld}
-
--- ---- pairs that come to be held
-held_more : (m : KeyMap) (ps qs : List (ℕ × ℕ)) → hold_pairs m (ps ++ qs) ≡ hold_pairs (hold_pairs m ps) qs
-held_more m [] qs = refl
-held_more m (p ∷ ps) qs = held_more (hold m p.0 p.1) ps qs
-
-unheld_more : (m : KeyMap) (ps qs : List (ℕ × ℕ)) → AreUnheld m ps → AreUnheld (hold_pairs m ps) qs → AreUnheld m (ps ++ qs)
-unheld_more m [] qs first then = then
-unheld_more m (p ∷ ps) qs first then = (first.0, unheld_more (hold m p.0 p.1) ps qs first.1 then)
-
-then_held : (a b : ℕ) (m n o : KeyMap) → IsHeldBy a m n → IsHeldBy b n o → IsHeldBy (a + b) m o
-then_held a b m n o one two = record {
-  pairs = one.pairs ++ two.pairs;
-  count_is = length-append one.pairs two.pairs ∙ (λ i. one.count_is i + two.count_is i);
-  unheld = unheld_more m one.pairs two.pairs one.unheld (subst (λ (k : KeyMap). AreUnheld k two.pairs) one.rest two.unheld);
-  rest = two.rest ∙ (λ i. hold_pairs (one.rest i) two.pairs) ∙ sym (held_more m one.pairs two.pairs);
-}
 
 module _ {D : Type 0} {g : Ghosts D} where
   -- ---- steps
@@ -72,7 +47,7 @@ module _ {D : Type 0} {g : Ghosts D} where
   }
 
   pub none_put : (x : Migration D g) (d : Desk) (m : KeyMap) → HasRows x d m → HasPut x d m 0 x
-  none_put x d m has = record { n = m; has = has; pairs = 0; two_each = refl; by = record { pairs = []; count_is = refl; unheld = tt; rest = refl } }
+  none_put x d m has = record { n = m; has = has; pairs = 0; two_each = refl; by = none_by m }
 
   pub more_put : (x y z : Migration D g) (d : Desk) (m : KeyMap) (rows count : ℕ) → (one : HasPut x d m rows y) → HasMore y d one.n count z → HasPut x d m (rows + count) z
   more_put x y z d m rows count one next = record {
@@ -80,7 +55,7 @@ module _ {D : Type 0} {g : Ghosts D} where
     has = next.has;
     pairs = one.pairs + next.pairs;
     two_each = (let first = one.two_each in let second = next.two_each in omega (arith, first, second));
-    by = then_held one.pairs next.pairs m one.n next.n one.by next.by;
+    by = then_by one.pairs next.pairs m one.n next.n one.by next.by;
   }
 
   -- a step that puts nothing

@@ -1,24 +1,12 @@
 -- A synced device, by what it reads.
 use Rattle.std.proofs.Common.{◌≡◌, Bool, true, false, sym, subst}
-use Rattle.sector_device.specs.claim.Disk.{Disk, Image}
-use Rattle.sector_device.specs.Disk.{IsSynced}
-use Rattle.sector_device.specs.claim.Moments.{LeavesOnly}
-use Rattle.sector_device.proofs.Moments.{leaves_wider}
-use Rattle.sector_device.specs.declared.SectorDevice.{Ghosts}
+use Rattle.sector_device.{specs.claim.Disk.{Disk, Image}, specs.Disk.IsSynced, specs.claim.Moments.LeavesOnly, specs.declared.SectorDevice.Ghosts, proofs.Moments.leaves_wider}
 use Rattle.desk_model.specs.claim.Desk.{Desk}
-use Rattle.desk_pages.specs.claim.Desks.{OpensDeskOf, OpensAs, OpensDesk, OpensOld, OpensEither}
-use Rattle.desk_pages.specs.Openings.{AllDesks, AllOld, LeavesOneOf, OpensOneOf}
-use Rattle.desk_pages.specs.claim.Openings.{AllVersions, IsOneAs, LeavesOneAs, OpensOneAs}
-use Rattle.desk_runs.specs.desk_store.declared.clerk.Clerk.{Clerk}
-use Rattle.desk_pages.specs.declared.error.StoreError.{StoreError}
-use Rattle.desk_runs.specs.desk_store.claim.Clerks.{desk_of, disk_of, Keeps}
-use Rattle.desk_runs.specs.desk_store.Openings.{OpenRefused}
-use Rattle.desk_runs.specs.desk_migration.declared.migration.Migration.{Migration}
-use Rattle.desk_runs.specs.desk_migration.claim.Migrating.{disk_of as migrated_disk, Keeps as KeepsOld}
-use Rattle.desk_runs.specs.desk_migration.Openings.{IsRefused, KeepsOne}
-use Rattle.desk_runs.specs.Recovery.{ImagesAreOne}
-use Rattle.desk_runs.proofs.One.{one_version, few_sectors}
-use Rattle.desk_runs.specs.claim.Lives.{left_by}
+use Rattle.desk_pages.specs.{claim.Desks.{OpensDeskOf, OpensAs, OpensDesk, OpensOld, OpensEither}, Openings.{AllDesks, AllOld, LeavesOneOf, OpensOneOf}}
+use Rattle.desk_pages.specs.{claim.Openings.{AllVersions, IsOneAs, LeavesOneAs, OpensOneAs}, declared.error.StoreError.StoreError}
+use Rattle.desk_runs.specs.{desk_store.declared.clerk.Clerk.Clerk, desk_store.claim.Clerks.{desk_of, disk_of, Keeps}, desk_store.Openings.OpenRefused}
+use Rattle.desk_runs.specs.{desk_migration.declared.migration.Migration.Migration, desk_migration.claim.Migrating.{disk_of as migrated_disk, Keeps as KeepsOld}}
+use Rattle.desk_runs.{specs.desk_migration.Openings.{IsRefused, KeepsOne}, specs.Recovery.ImagesAreOne, specs.claim.Lives.left_by, proofs.One.{one_version, few_sectors}}
 use Rattle.store_command.specs.Reading.{ReadsDesk, ReadsOld, ShowsWhatIsRead, BeginsAtWhatIsRead, RefusesWhatIsRead, BarsWhatIsRead, HoldsWhatIsRead, FindsWhatIsRead}
 
 module _ (disk : Disk) (synced : IsSynced disk) where

@@ -1,27 +1,20 @@
 -- Steps of a sweep, one after the other.
-use Rattle.std.proofs.Common.{◌≡◌, ◌≤◌, ◌+◌, ℕ, [], Option, false, inl, inr, refl, sym, subst, ◌∙◌, arith}
-use Rattle.std.specs.Prelude.{Result, Ok, Err}
+use Rattle.std.{specs.Prelude.{Result, Ok, Err}, proofs.Common.{◌≡◌, ◌≤◌, ◌+◌, ℕ, [], Option, false, inl, inr, refl, sym, subst, ◌∙◌, arith}}
 use Rattle.sector_device.specs.declared.SectorDevice.{Ghosts}
 use Rattle.page_store.specs.claim.Transactions.{device_in, IsQuiet}
 use Rattle.page_btree.specs.claim.Map.{InPages as HoldsRows}
 use Rattle.desk_model.specs.claim.Desk.{Desk}
 use Rattle.store_rows.specs.claim.Rows.{KeyMap}
-use Rattle.desk_runs.specs.store_sweep.Leftovers.{IsSweptBy}
-use Rattle.desk_runs.proofs.store_sweep.Taken.{then_by}
-use Rattle.desk_runs.specs.desk_store.declared.clerk.Clerk.{Clerk}
-use Rattle.desk_runs.specs.desk_store.claim.Clerks.{desk_of, disk_of, pages_of, Keeps, Moves}
+use Rattle.desk_runs.specs.{store_sweep.Leftovers.IsSweptBy, desk_store.declared.clerk.Clerk.Clerk, desk_store.claim.Clerks.{desk_of, disk_of, pages_of, Keeps, Moves}}
 use Rattle.desk_runs.specs.desk_store.Sweeps.{HasRows, HasSwept as HasSweptStep, SweepRefused}
+use Rattle.desk_runs.proofs.store_sweep.Taken.{then_by}
 use Rattle.desk_runs.proofs.desk_store.Moved.{unmoved}
-use Rattle.store_command.specs.Reading.{ShowsWhatIsRead}
-use Rattle.desk_loading.specs.Openings.{IsOpened}
-use Rattle.desk_loading.proofs.Moves.{then_moved}
-use Rattle.desk_pages.specs.declared.error.StoreError.{StoreError}
-use Rattle.store_command.specs.declared.fault.StoreFault.{StoreFault}
-use Rattle.store_command.specs.declared.fault.StoreFault.TheVariants.{NotAStore}
-use Rattle.desk_store.specs.store_sweep.claim.Checks.{AreSoundHoldings}
-use Rattle.store_command.specs.Faults.{fault_of_store}
+use Rattle.store_command.specs.{Reading.ShowsWhatIsRead, declared.fault.StoreFault.StoreFault, declared.fault.StoreFault.TheVariants.NotAStore, Faults.fault_of_store}
 use Rattle.store_command.specs.Sweeping.{KeepsDesk, HasTaken, HasSweptAll, IsChecked, IsStopped, SweepsAll, SweepsSteps, HasSwept, SweepsDevice}
 use Rattle.store_command.proofs.Used.{kept_left, left_same}
+use Rattle.desk_loading.{specs.Openings.IsOpened, proofs.Moves.then_moved}
+use Rattle.desk_pages.specs.declared.error.StoreError.{StoreError}
+use Rattle.desk_store.specs.store_sweep.claim.Checks.{AreSoundHoldings}
 
 module _ {D : Type 0} {g : Ghosts D} where
   pub none_kept : (x : Clerk D g) → KeepsDesk x x

@@ -1,23 +1,13 @@
 -- A device that was opened, used by the clerk, and given back.
 use Rattle.std.proofs.Common.{◌≡◌, ℕ, false, inl, inr, ⊎_elim, refl, sym, subst, ◌∙◌}
-use Rattle.sector_device.specs.claim.Disk.{Disk, Image}
-use Rattle.sector_device.specs.claim.Moments.{LeavesOnly}
-use Rattle.sector_device.proofs.Moments.{leaves_more, leaves_wider}
-use Rattle.sector_device.specs.declared.SectorDevice.{Ghosts}
+use Rattle.sector_device.{specs.claim.Disk.{Disk, Image}, specs.claim.Moments.LeavesOnly, specs.declared.SectorDevice.Ghosts, proofs.Moments.{leaves_more, leaves_wider}}
 use Rattle.page_store.specs.claim.Transactions.{device_in}
-use Rattle.desk_model.specs.claim.Desk.{Desk}
-use Rattle.desk_model.specs.claim.Geography.{GeographyModel}
-use Rattle.desk_pages.specs.claim.Desks.{OpensDesk}
-use Rattle.desk_runs.specs.desk_store.declared.clerk.Clerk.{Clerk}
-use Rattle.desk_pages.specs.declared.error.StoreError.{StoreError}
-use Rattle.desk_runs.specs.desk_store.claim.Clerks.{desk_of, disk_of, pages_of, sectors_of, Keeps, Moves}
-use Rattle.desk_runs.specs.desk_store.Keeping.{sealed_desk}
+use Rattle.desk_model.specs.{claim.Desk.Desk, claim.Geography.GeographyModel}
+use Rattle.desk_pages.specs.{claim.Desks.OpensDesk, declared.error.StoreError.StoreError}
+use Rattle.desk_runs.specs.{desk_store.declared.clerk.Clerk.Clerk, desk_store.claim.Clerks.{desk_of, disk_of, pages_of, sectors_of, Keeps, Moves}, desk_store.Keeping.sealed_desk}
 use Rattle.desk_runs.proofs.One.{left_working}
-use Rattle.store_command.specs.Reading.{LeavesDesk, ReadsDesk, ShowsWhatIsRead}
-use Rattle.desk_loading.specs.Loads.{IsLoaded, LoadRefused}
-use Rattle.desk_loading.specs.Openings.{IsOpened}
-use Rattle.desk_loading.proofs.Moves.{OneOf}
-use Rattle.store_command.specs.Filling.{HasDesk, HasLoaded, HasKept, OpensOr, WhereItReads}
+use Rattle.store_command.specs.{Reading.{LeavesDesk, ReadsDesk, ShowsWhatIsRead}, Filling.{HasDesk, HasLoaded, HasKept, OpensOr, WhereItReads}}
+use Rattle.desk_loading.{specs.Loads.{IsLoaded, LoadRefused}, specs.Openings.IsOpened, proofs.Moves.OneOf}
 
 module _ {D : Type 0} {g : Ghosts D} (device : D) (x y : Clerk D g) (opened : IsOpened device x) (shows : ShowsWhatIsRead device x) where
   abbrev old : Disk

@@ -1,27 +1,17 @@
 -- A store that is swept until nothing is left to be taken out.
-use Rattle.std.specs.Prelude.{◌≡◌, ◌⊎◌, ◌≤◌, ◌^◌, ℕ, List, codes, false, Result, Ok, Err, Vec}
-use Rattle.std.specs.declared.alloc.Global.{Global}
+use Rattle.std.specs.{Prelude.{◌≡◌, ◌⊎◌, ◌≤◌, ◌^◌, ℕ, List, codes, false, Result, Ok, Err, Vec}, declared.alloc.Global.Global}
 use Rattle.sector_device.specs.declared.SectorDevice.{Ghosts}
 use Rattle.page_store.specs.claim.Transactions.{device_in, IsQuiet}
 use Rattle.page_btree.specs.claim.Map.{InPages as HoldsRows}
-use Rattle.command_output.specs.declared.status.Status.{Status}
+use Rattle.command_output.specs.{declared.status.Status.Status, claim.Writing.{Written, write_fault_line}}
 use Rattle.store_rows.specs.claim.Rows.{KeyMap}
 use Rattle.desk_store.specs.store_sweep.claim.Checks.{AreSoundHoldings}
-use Rattle.desk_runs.specs.store_sweep.Leftovers.{IsSweptBy}
-use Rattle.desk_pages.specs.declared.error.StoreError.{StoreError}
-use Rattle.desk_runs.specs.desk_store.declared.clerk.Clerk.{Clerk}
-use Rattle.desk_runs.specs.desk_store.claim.Clerks.{desk_of, disk_of, is_halted, pages_of, Moves}
-use Rattle.store_command.specs.Reading.{LeavesDesk, ShowsWhatIsRead}
+use Rattle.desk_runs.specs.{store_sweep.Leftovers.IsSweptBy, desk_store.declared.clerk.Clerk.Clerk, desk_store.claim.Clerks.{desk_of, disk_of, is_halted, pages_of, Moves}}
 use Rattle.desk_runs.specs.desk_store.Sweeps.{HasRows, IsClean, SweepRefused}
+use Rattle.desk_pages.specs.declared.error.StoreError.{StoreError}
+use Rattle.store_command.specs.{Reading.{LeavesDesk, ShowsWhatIsRead}, Faults.fault_of_store, Filling.{HasDesk, IsNotOpened, WhereItReads}, Telling.EndsStore, Texts.rows_text}
+use Rattle.store_command.specs.{Using.Uses, declared.fault.StoreFault.StoreFault, declared.fault.StoreFault.TheVariants.NotAStore}
 use Rattle.desk_loading.specs.Openings.{IsOpened}
-use Rattle.command_output.specs.claim.Writing.{Written, write_fault_line}
-use Rattle.store_command.specs.Faults.{fault_of_store}
-use Rattle.store_command.specs.Filling.{HasDesk, IsNotOpened, WhereItReads}
-use Rattle.store_command.specs.Telling.{EndsStore}
-use Rattle.store_command.specs.Texts.{rows_text}
-use Rattle.store_command.specs.Using.{Uses}
-use Rattle.store_command.specs.declared.fault.StoreFault.{StoreFault}
-use Rattle.store_command.specs.declared.fault.StoreFault.TheVariants.{NotAStore}
 
 -- what is printed of so many rows that were taken out or changed
 abbrev pub swept_text : ℕ → List ℕ

@@ -1,12 +1,9 @@
 -- What is told of a store that isn't made or filled, and the status that goes with it.
-use Rattle.std.specs.Prelude.{◌≡◌, ℕ, List, ◌++◌, codes, Result, Ok, Err, Vec}
-use Rattle.std.specs.declared.alloc.Global.{Global}
-use Rattle.command_output.specs.declared.status.Status.{Status}
+use Rattle.std.specs.{Prelude.{◌≡◌, ℕ, List, ◌++◌, codes, Result, Ok, Err, Vec}, declared.alloc.Global.Global}
+use Rattle.command_output.specs.{declared.status.Status.Status, claim.Writing.{Written, Told, Prints}}
 use Rattle.command_output.specs.declared.status.Status.TheVariants as status
-use Rattle.command_output.specs.claim.Writing.{Written, Told, Prints}
 use Rattle.store_command.specs.declared.fault.StoreFault.{StoreFault}
-use Rattle.store_command.specs.declared.fault.StoreFault.TheVariants.{NotFound, WrongSize, Exists, TooSmall, NotAStore, OldVersion}
-use Rattle.store_command.specs.declared.fault.StoreFault.TheVariants.{AlreadyNew, AlreadySealed, Full, DeviceFault, Memory}
+use Rattle.store_command.specs.declared.fault.StoreFault.TheVariants.{NotFound, WrongSize, Exists, TooSmall, NotAStore, OldVersion, AlreadyNew, AlreadySealed, Full, DeviceFault, Memory}
 
 abbrev pub name_of : StoreFault → List ℕ
 name_of NotFound = codes "NotFound"

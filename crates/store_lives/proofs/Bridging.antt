@@ -3,17 +3,10 @@ use Rattle.std.proofs.Common.{◌≡◌, ℕ, false, List, [], ◌∷◌, ◌++�
 use Rattle.std.proofs.lemmas.List.{append-nil}
 use Rattle.sector_device.specs.declared.SectorDevice.{Ghosts}
 use Rattle.desk_model.specs.claim.Desk.{Desk}
-use Rattle.desk_store.specs.declared.clerk.Clerk.{Clerk}
-use Rattle.desk_store.specs.claim.Clerks.{desk_of, disk_of, is_halted, sectors_of, Keeps}
-use Rattle.desk_runs.specs.claim.Runs.{Call, Run}
-use Rattle.desk_runs.proofs.Following.{honest_before}
-use Rattle.store_lives.specs.declared.desk_lives.Request.{Request}
-use Rattle.store_lives.specs.declared.desk_lives.Request.TheVariants.{Change}
-use Rattle.store_lives.specs.declared.desk_lives.Answer.{Answer}
-use Rattle.store_lives.specs.declared.desk_lives.Answer.TheVariants.{Said}
-use Rattle.store_lives.specs.claim.DeskLives.{Lived}
-use Rattle.store_lives.specs.DeskInside.{LivedThrough, Stands}
-use Rattle.store_lives.specs.claim.Calls.{asked_in, told_in}
+use Rattle.desk_store.specs.{declared.clerk.Clerk.Clerk, claim.Clerks.{desk_of, disk_of, is_halted, sectors_of, Keeps}}
+use Rattle.desk_runs.{specs.claim.Runs.{Call, Run}, proofs.Following.honest_before}
+use Rattle.store_lives.specs.{declared.desk_lives.Request.Request, declared.desk_lives.Request.TheVariants.Change, declared.desk_lives.Answer.Answer}
+use Rattle.store_lives.specs.{declared.desk_lives.Answer.TheVariants.Said, claim.DeskLives.Lived, DeskInside.{LivedThrough, Stands}, claim.Calls.{asked_in, told_in}}
 use Rattle.store_lives.proofs.DeskLiving.{ends, fails_no_less, goes_on}
 
 module _ {D : Type 0} {g : Ghosts D} where

@@ -1,47 +1,25 @@
 -- Requests in a life, and lives in turn.
-use Rattle.std.proofs.Common.{◌≡◌, ◌≢◌, ◌⊎◌, ℕ, ◌≤◌, ◌<◌, Bool, true, false, List, [], ◌∷◌, ◌++◌, length, get_or, inl, inr, ⊎_elim, refl, sym, subst, ◌∙◌, arith, append_assoc}
+use Rattle.std.specs.{Prelude.{⊤, None, Some}, List.remove, declared.alloc.Global.Global, declared.sync.Arc.Arc}
+use Rattle.std.proofs.Common.{◌≡◌, ◌≢◌, ◌⊎◌, ℕ, ◌≤◌, ◌<◌, Bool, true, false, List, [], ◌∷◌, ◌++◌, length, get_or, inl, inr, ⊎_elim, refl, sym, subst, ◌∙◌, arith, append_assoc, rules}
 use Rattle.std.proofs.lemmas.Bool.{both_ways}
 pub use Rattle.std.proofs.lemmas.Bool.{cases_Bool as either}
 use Rattle.std.proofs.lemmas.List.{append-nil}
-use Rattle.std.specs.Prelude.{⊤, None, Some}
-use Rattle.std.specs.List.{remove}
-use Rattle.std.specs.declared.alloc.Global.{Global}
-use Rattle.std.specs.declared.sync.Arc.{Arc}
-use Rattle.sector_device.specs.claim.Disk.{Disk, Image}
-use Rattle.sector_device.specs.claim.Moments.{LeavesOnly}
-use Rattle.sector_device.proofs.Moments.{leaves_now}
-use Rattle.sector_device.specs.declared.SectorDevice.{Ghosts}
+use Rattle.sector_device.{specs.claim.Disk.{Disk, Image}, specs.claim.Moments.LeavesOnly, specs.declared.SectorDevice.Ghosts, proofs.Moments.leaves_now}
 use Rattle.page_store.specs.claim.Transactions.{device_in, IsSame}
-use Rattle.desk_model.specs.declared.command.Command.{Command}
-use Rattle.desk_model.specs.declared.reply.Reply.{Reply}
+use Rattle.desk_model.specs.{declared.command.Command.Command, declared.reply.Reply.Reply, declared.reply.Refusal.Refusal, claim.Geography.GeographyModel, claim.Desk.Desk}
+use Rattle.desk_model.specs.{claim.Outcome.{IsStep, RefusalMay, CommandMay}, claim.Step.step}
 use Rattle.desk_model.specs.declared.reply.Reply.TheVariants as reply
-use Rattle.desk_model.specs.declared.reply.Refusal.{Refusal}
 use Rattle.desk_model.specs.declared.reply.Refusal.TheVariants as refusal
-use Rattle.desk_model.specs.claim.Geography.{GeographyModel}
-use Rattle.desk_model.specs.claim.Desk.{Desk}
-use Rattle.desk_pages.specs.Formats.{OpensNew}
-use Rattle.desk_pages.specs.declared.error.StoreError.{StoreError}
+use Rattle.desk_pages.specs.{Formats.OpensNew, declared.error.StoreError.StoreError, claim.Desks.OpensDesk, Openings.{AllDesks, OpensOneOf}, claim.Openings.{AllVersions, IsOneOf}}
+use Rattle.desk_pages.proofs.Found.{all_versions}
 use Rattle.desk_pages.specs.declared.error.StoreError.TheVariants as store
 use Rattle.desk_loading.specs.Loads.{BeginStopped, StageStopped, SealStopped, Stopped, LoadRefused}
-use Rattle.desk_store.specs.Loads.{HasGeography}
-use Rattle.desk_model.specs.claim.Outcome.{IsStep, RefusalMay, CommandMay}
-use Rattle.desk_model.specs.claim.Step.{step}
-use Rattle.desk_pages.specs.claim.Desks.{OpensDesk}
-use Rattle.desk_pages.specs.Openings.{AllDesks, OpensOneOf}
-use Rattle.desk_pages.specs.claim.Openings.{AllVersions, IsOneOf}
-use Rattle.desk_pages.proofs.Found.{all_versions}
-use Rattle.desk_store.specs.declared.clerk.Clerk.{Clerk}
-use Rattle.desk_store.specs.claim.Clerks.{desk_of, disk_of, is_halted, pages_of, sectors_of, Keeps, Moves}
-use Rattle.desk_store.specs.claim.Commands.{Does, MustBeFull, MayBeFull}
-use Rattle.desk_store.specs.Sweeps.{SweepRefused}
-use Rattle.desk_store.specs.Openings.{OpenRefused}
+use Rattle.desk_store.specs.{Loads.HasGeography, declared.clerk.Clerk.Clerk, claim.Clerks.{desk_of, disk_of, is_halted, pages_of, sectors_of, Keeps, Moves}}
+use Rattle.desk_store.specs.{claim.Commands.{Does, MustBeFull, MayBeFull}, Sweeps.SweepRefused, Openings.OpenRefused}
 use Rattle.desk_runs.specs.Recovery.{ImagesAreOne, HoldsOne}
 pub use Rattle.desk_runs.proofs.One.{left_working}
-use Rattle.store_lives.specs.declared.desk_lives.Request.{Request}
-use Rattle.store_lives.specs.declared.desk_lives.Request.TheVariants.{Change, Look, Load, Sweep}
-use Rattle.store_lives.specs.declared.desk_lives.Answer.{Answer}
-use Rattle.store_lives.specs.declared.desk_lives.Answer.TheVariants.{Said, Loaded, Unloaded, Swept, Unswept}
-use Rattle.store_lives.specs.Lives.{new_desk}
+use Rattle.store_lives.specs.{declared.desk_lives.Request.Request, declared.desk_lives.Request.TheVariants.{Change, Look, Load, Sweep}, declared.desk_lives.Answer.Answer}
+use Rattle.store_lives.specs.{declared.desk_lives.Answer.TheVariants.{Said, Loaded, Unloaded, Swept, Unswept}, Lives.new_desk}
 use Rattle.store_lives.specs.claim.DeskLives.{loaded_desk, after_load, MayFail, MayRefuse, Failed, FailsAt, Lived, IsPassing, LifeAfterLife}
 use Rattle.store_lives.specs.DeskInside.{Holds, Going, GoingFailed, Stands, Loads, Sweeps, Answers, LivedThrough, LivesOnce, GoingOn}
 
@@ -67,34 +45,19 @@ pub calm : (must may failed : Type 0) (d : Desk) (c : Command) (r : Reply) (new 
 calm must may failed d c (reply.Refused r) new works is = calm_refusal must may failed d c r new works is
 calm must may failed d c (reply.Created name revisions) new works is = ((λ none. none), calm_step must d c (reply.Created name revisions) new is.1)
 calm must may failed d c (reply.Retired name) new works is = ((λ none. none), calm_step must d c (reply.Retired name) new is.1)
-calm must may failed d c (reply.Plans rows) new works is = absurd is
-calm must may failed d c (reply.Blocks text) new works is = absurd is
-calm must may failed d c (reply.Baf text) new works is = absurd is
-calm must may failed d c (reply.Audited text) new works is = absurd is
+calm must may failed d c _ new works is = absurd is
 
 -- where the device has failed
 halt_refusal : (must may failed : Type 0) (d : Desk) (c : Command) (r : Refusal) (new : Desk) → failed → RefusalMay must may failed d c r new → (reply.Refused r ≡ reply.Refused refusal.Halted) × (new ≡ d)
-halt_refusal must may failed d c refusal.Memory new fails is = absurd (is.0 fails)
 halt_refusal must may failed d c refusal.Halted new fails is = (refl, is.1)
-halt_refusal must may failed d c refusal.Full new fails is = absurd (is.0 fails)
-halt_refusal must may failed d c refusal.NoPlan new fails is = absurd (is.0 fails)
-halt_refusal must may failed d c refusal.NoRevision new fails is = absurd (is.0 fails)
-halt_refusal must may failed d c refusal.PlanExists new fails is = absurd (is.0 fails)
-halt_refusal must may failed d c (refusal.Stale k) new fails is = absurd (is.0 fails)
-halt_refusal must may failed d c (refusal.BadBody code line) new fails is = absurd (is.0 fails)
-halt_refusal must may failed d c (refusal.NotWholeCounty county) new fails is = absurd (is.0 fails)
 halt_refusal must may failed d c refusal.BadCompanion new fails is = absurd is
-halt_refusal must may failed d c refusal.Limit new fails is = absurd (is.0 fails)
-halt_refusal must may failed d c refusal.NotSealed new fails is = absurd (is.0 fails)
+halt_refusal must may failed d c _ new fails is = absurd (is.0 fails)
 
 pub halt : (must may failed : Type 0) (d : Desk) (c : Command) (r : Reply) (new : Desk) → failed → CommandMay must may failed d c r new → (r ≡ reply.Refused refusal.Halted) × (new ≡ d)
 halt must may failed d c (reply.Refused r) new fails is = halt_refusal must may failed d c r new fails is
 halt must may failed d c (reply.Created name revisions) new fails is = absurd (is.0 fails)
 halt must may failed d c (reply.Retired name) new fails is = absurd (is.0 fails)
-halt must may failed d c (reply.Plans rows) new fails is = absurd is
-halt must may failed d c (reply.Blocks text) new fails is = absurd is
-halt must may failed d c (reply.Baf text) new fails is = absurd is
-halt must may failed d c (reply.Audited text) new fails is = absurd is
+halt must may failed d c _ new fails is = absurd is
 
 -- ---- requests, one after the other
 -- the first of some is taken out
@@ -189,11 +152,7 @@ module _ {D : Type 0} {g : Ghosts D} where
   -- a load
   loaded : (t : ℕ) (d : Desk) (n : ℕ) (all rest : List Request) (so_far : List Answer) (x : Clerk D g) (area : Arc GeographyModel Global) (a : Answer) (y : Clerk D g) → sectors_of x ≡ n → (disk_of y).is_honest → Moves (loaded_desk area.value) x y → Loads x area.value a y
       → is_halted x ≡ false → Keeps x → (disk_of x).faults ≡ t → Going t d all (Load area ∷ rest) so_far (desk_of x) → Stands t d n all rest (so_far ++ a ∷ []) y
-  loaded t d n all rest so_far x area (Said r) y long honest moves loads off keeps was going = absurd loads
-  loaded t d n all rest so_far x area (Swept count) y long honest moves loads off keeps was going = absurd loads
-  loaded t d n all rest so_far x area (Unswept why) y long honest moves loads off keeps was going = absurd loads
-  loaded t d n all rest so_far x area Loaded y long honest moves loads off keeps was going =
-      inl (loads.2, moves.keeps keeps, still_calm t x y (moves.calm loads.2 honest) was, λ u told e lived. regroup t u d all so_far Loaded told e (going u (Loaded ∷ told) e (inl (refl, loads.0, subst (λ (now : Desk). Lived t u now rest told e) loads.1 lived))))
+  loaded t d n all rest so_far x area Loaded y long honest moves loads off keeps was going = search (rules, still_calm, regroup)
   loaded t d n all rest so_far x area (Unloaded why) y long honest moves loads off keeps was going = elim (either (is_halted y)) [
     | inr works ↦ inl (
       works,
@@ -210,31 +169,20 @@ module _ {D : Type 0} {g : Ghosts D} where
         loads.3
         )
   ]
+  loaded t d n all rest so_far x area _ y long honest moves loads off keeps was going = absurd loads
 
   unloaded_on : (t : ℕ) (d : Desk) (n : ℕ) (all rest : List Request) (so_far : List Answer) (x : Clerk D g) (area : Arc GeographyModel Global) (a : Answer) (y : Clerk D g) → (disk_of y).is_honest → Moves (loaded_desk area.value) x y → Loads x area.value a y
       → is_halted x ≡ true → Keeps x → t < (disk_of x).faults → Holds n (GoingFailed t d all (Load area ∷ rest) so_far (desk_of x)) (disk_of x) → Stands t d n all rest (so_far ++ a ∷ []) y
-  unloaded_on t d n all rest so_far x area (Said r) y honest moves loads on keeps more holds = absurd loads
-  unloaded_on t d n all rest so_far x area (Swept count) y honest moves loads on keeps more holds = absurd loads
-  unloaded_on t d n all rest so_far x area (Unswept why) y honest moves loads on keeps more holds = absurd loads
   unloaded_on t d n all rest so_far x area Loaded y honest moves loads on keeps more holds = absurd (clash_of (is_halted y) (moves.still on).2 loads.2)
   unloaded_on t d n all rest so_far x area (Unloaded why) y honest moves loads on keeps more holds =
       let still = moves.still on in
       stayed t d n all rest so_far x (Load area) (Unloaded why) y still.0 still.2 (moves.keeps keeps) loads.0 (λ told failed. (loads.2 still.2 keeps honest, failed)) more holds
+  unloaded_on t d n all rest so_far x area _ y honest moves loads on keeps more holds = absurd loads
 
   -- a step of a sweep
   swept : (t : ℕ) (d : Desk) (n : ℕ) (all rest : List Request) (so_far : List Answer) (x : Clerk D g) (a : Answer) (y : Clerk D g) → sectors_of x ≡ n → (disk_of y).is_honest → Moves (desk_of x) x y → desk_of y ≡ desk_of x → Sweeps x a y
       → is_halted x ≡ false → Keeps x → (disk_of x).faults ≡ t → Going t d all (Sweep ∷ rest) so_far (desk_of x) → Stands t d n all rest (so_far ++ a ∷ []) y
-  swept t d n all rest so_far x (Said r) y long honest moves same sweeps off keeps was going = absurd sweeps
-  swept t d n all rest so_far x Loaded y long honest moves same sweeps off keeps was going = absurd sweeps
-  swept t d n all rest so_far x (Unloaded why) y long honest moves same sweeps off keeps was going = absurd sweeps
-  swept t d n all rest so_far x (Swept count) y long honest moves same sweeps off keeps was going =
-      inl (
-        sweeps,
-        moves.keeps keeps,
-        still_calm t x y (moves.calm sweeps honest) was,
-        λ u told e lived. regroup t u d all so_far (Swept count) told e
-            (going u (Swept count ∷ told) e (inl (count, refl, subst (λ (now : Desk). Lived t u now rest told e) same lived))),
-      )
+  swept t d n all rest so_far x (Swept count) y long honest moves same sweeps off keeps was going = search (rules, still_calm, regroup)
   swept t d n all rest so_far x (Unswept why) y long honest moves same sweeps off keeps was going = elim (either (is_halted y)) [
     | inr works ↦ inl (
       works,
@@ -245,16 +193,15 @@ module _ {D : Type 0} {g : Ghosts D} where
     )
     | inl on ↦ failed_at t d n all rest so_far x Sweep (Unswept why) y (desk_of x) (desk_of x) long on (moves.keeps keeps) (failed_more t x y (moves.rose keeps off on honest) was) same (λ u told e more fails. inr (inr (more, tt, fails))) (moves.any_moment keeps off honest) refl going
   ]
+  swept t d n all rest so_far x _ y long honest moves same sweeps off keeps was going = absurd sweeps
 
   unswept_on : (t : ℕ) (d : Desk) (n : ℕ) (all rest : List Request) (so_far : List Answer) (x : Clerk D g) (a : Answer) (y : Clerk D g) → Moves (desk_of x) x y → desk_of y ≡ desk_of x → Sweeps x a y
       → is_halted x ≡ true → Keeps x → t < (disk_of x).faults → Holds n (GoingFailed t d all (Sweep ∷ rest) so_far (desk_of x)) (disk_of x) → Stands t d n all rest (so_far ++ a ∷ []) y
-  unswept_on t d n all rest so_far x (Said r) y moves same sweeps on keeps more holds = absurd sweeps
-  unswept_on t d n all rest so_far x Loaded y moves same sweeps on keeps more holds = absurd sweeps
-  unswept_on t d n all rest so_far x (Unloaded why) y moves same sweeps on keeps more holds = absurd sweeps
   unswept_on t d n all rest so_far x (Swept count) y moves same sweeps on keeps more holds = absurd (clash_of (is_halted y) (moves.still on).2 sweeps)
   unswept_on t d n all rest so_far x (Unswept why) y moves same sweeps on keeps more holds =
       let still = moves.still on in
       stayed t d n all rest so_far x Sweep (Unswept why) y still.0 still.2 (moves.keeps keeps) same (λ told failed. (tt, failed)) more holds
+  unswept_on t d n all rest so_far x _ y moves same sweeps on keeps more holds = absurd sweeps
 
   pub goes_on : (t : ℕ) (d : Desk) (n : ℕ) (all rest : List Request) (so_far : List Answer) (x : Clerk D g) (asked : Request) (a : Answer) (y : Clerk D g) → sectors_of x ≡ n → (disk_of y).is_honest → Answers x asked a y
       → Stands t d n all (asked ∷ rest) so_far x → Stands t d n all rest (so_far ++ a ∷ []) y
@@ -278,14 +225,12 @@ module _ {D : Type 0} {g : Ghosts D} where
   pub same_sectors : (x : Clerk D g) (asked : Request) (a : Answer) (y : Clerk D g) → Answers x asked a y → sectors_of y ≡ sectors_of x
   same_sectors x (Change c) a y did = did.2.moves.sectors
   same_sectors x (Look q) a y did = λ i. sectors_of (did.3 i)
-  same_sectors x (Load area) a y did = did.0.sectors
-  same_sectors x Sweep a y did = did.0.sectors
+  same_sectors x _ a y did = did.0.sectors
 
   pub was_honest : (x : Clerk D g) (asked : Request) (a : Answer) (y : Clerk D g) → Answers x asked a y → (disk_of y).is_honest → (disk_of x).is_honest
   was_honest x (Change c) a y did honest = did.2.moves.honest honest
   was_honest x (Look q) a y did honest = subst (λ (z : Clerk D g). (disk_of z).is_honest) did.3 honest
-  was_honest x (Load area) a y did honest = did.0.honest honest
-  was_honest x Sweep a y did honest = did.0.honest honest
+  was_honest x _ a y did honest = did.0.honest honest
 
   pub ends : (t : ℕ) (d : Desk) (n : ℕ) (all : List Request) (so_far : List Answer) (x : Clerk D g) → sectors_of x ≡ n → (disk_of x).is_honest → Stands t d n all [] so_far x → Holds n (Lived t (disk_of x).faults d all so_far) (disk_of x)
   ends t d n all so_far x long honest stands =
@@ -300,10 +245,7 @@ module _ {D : Type 0} {g : Ghosts D} where
       stands
 
   pub fails_no_less : (t : ℕ) (d : Desk) (n : ℕ) (all : List Request) (so_far : List Answer) (x : Clerk D g) → Stands t d n all [] so_far x → t ≤ (disk_of x).faults
-  fails_no_less t d n all so_far x stands = ⊎_elim
-      (λ working. let same = working.2 in omega (arith, same))
-      (λ halted. let more = halted.2 in omega (arith, more))
-      stands
+  fails_no_less t d n all so_far x stands = search rules
 
   -- ---- why a geography was not loaded: none was there, or nothing was begun
   stopped_for : (x : Clerk D g) (area : GeographyModel) (e : StoreError) (y : Clerk D g) → Stopped x area e y → ((desk_of x).geography ≡ None) ⊎ Moves (desk_of x) x y
@@ -323,10 +265,7 @@ module _ {D : Type 0} {g : Ghosts D} where
 
   -- rows that a load met were those of the desk
   begin_found : (x : Clerk D g) (area : GeographyModel) (y : Clerk D g) → BeginStopped x area store.NotAStore y → Keeps x → (disk_of y).is_honest → ⊥
-  begin_found x area y stopped keeps honest = elim (either (is_halted x)) [
-    | inl halted ↦ clash_of (is_halted y) (stopped.moves.still halted).2 stopped.why.0
-    | inr working ↦ stopped.why.1.1 honest (desk_of x) (keeps.holds working (stopped.moves.honest honest))
-  ]
+  begin_found x area y stopped keeps honest = search (rules, clash_of)
 
   stage_found : (x : Clerk D g) (area : GeographyModel) (y : Clerk D g) → StageStopped x area store.NotAStore y → Keeps x → (disk_of y).is_honest → ⊥
   stage_found x area y stage keeps honest =
@@ -357,10 +296,8 @@ module _ {D : Type 0} {g : Ghosts D} where
   -- where the device has failed, nothing else is told, unless one was sealed
   pub may_fail : (x : Clerk D g) (area : GeographyModel) (e : StoreError) (y : Clerk D g) → LoadRefused x area e y → is_halted y ≡ true → Keeps x → (disk_of y).is_honest → MayFail e (desk_of x)
   may_fail x area store.AlreadySealed y refused on keeps honest = sealed_there x (refused.why.1 keeps honest)
-  may_fail x area store.Full y refused on keeps honest =
-      clash_of (is_halted y) on (⊎_elim (λ begin. begin.why.0) (λ later. ⊎_elim (λ stage. stage.why.why.0) (λ seal. seal.why.0) later) refused)
-  may_fail x area store.Memory y refused on keeps honest =
-      clash_of (is_halted y) on (⊎_elim (λ begin. begin.why.0) (λ later. ⊎_elim (λ stage. stage.why.why.0) (λ seal. seal.why.0) later) refused)
+  may_fail x area store.Full y refused on keeps honest = search (rules, clash_of)
+  may_fail x area store.Memory y refused on keeps honest = search (rules, clash_of)
   may_fail x area store.NotAStore y refused on keeps honest = rows_found x area y refused keeps honest
   may_fail x area store.Halted y refused on keeps honest = tt
   may_fail x area _ y refused on keeps honest = absurd refused

@@ -1,61 +1,35 @@
 -- Steps of a migration, and what stops them.
-use Rattle.std.proofs.Common.{◌≡◌, ◌≤◌, ℕ, true, false, inl, inr, refl, subst, ◌∙◌, arith}
+use Rattle.std.proofs.Common.{◌≡◌, ◌≤◌, ℕ, true, false, inr, refl, subst, rules}
 use Rattle.std.proofs.lemmas.Bool.{both_ways, cases_Bool}
-use Rattle.sector_device.specs.claim.Disk.{Image}
-use Rattle.sector_device.specs.declared.SectorDevice.{Ghosts}
-use Rattle.sector_device.proofs.Moments.{leaves_now}
-use Rattle.page_store.proofs.Stops.{leaves_here, leaves_quiet}
-use Rattle.page_store.specs.claim.Transactions.{IsQuiet}
+use Rattle.sector_device.{specs.claim.Disk.Image, specs.declared.SectorDevice.Ghosts, proofs.Moments.leaves_now}
+use Rattle.page_store.{specs.claim.Transactions.IsQuiet, proofs.Stops.{leaves_here, leaves_quiet}}
 use Rattle.desk_model.specs.claim.Desk.{Desk}
-use Rattle.desk_pages.specs.claim.Desks.{OpensDesk, OpensOld}
+use Rattle.desk_pages.specs.{claim.Desks.OpensOld, declared.error.StoreError.StoreError}
 use Rattle.desk_runs.specs.desk_migration.declared.migration.Migration.{Migration}
-use Rattle.desk_pages.specs.declared.error.StoreError.{StoreError}
-use Rattle.desk_pages.specs.declared.error.StoreError.TheVariants as store
 use Rattle.desk_runs.specs.desk_migration.claim.Migrating.{disk_of, has_ended, is_halted, sectors_of, Ends, Goes, Keeps, KeepsNew, Moves}
 use Rattle.desk_runs.specs.desk_migration.Puts.{FinishErr, HoldsAll, HoldsTo, StepErr}
-use Rattle.store_lives.specs.declared.leading.Led.{Led}
+use Rattle.desk_pages.specs.declared.error.StoreError.TheVariants as store
+use Rattle.store_lives.specs.{declared.leading.Led.Led, VersionInside.{StepsOn, LeadsOn, LedTo}}
 use Rattle.store_lives.specs.declared.leading.Led.TheVariants as led
-use Rattle.store_lives.specs.VersionInside.{GoesOn, LeadsOn, LedTo}
 
 module _ {D : Type 0} {g : Ghosts D} where
   -- ---- steps that met no fault
-  pub goes_nowhere : (x : Migration D g) → is_halted x ≡ false → GoesOn x x
+  pub goes_nowhere : (x : Migration D g) → is_halted x ≡ false → StepsOn x x
   goes_nowhere x off = record { working = off; sectors = refl; honest = λ now. now; calm = λ now. refl; keeps = λ d keeps. keeps }
 
-  pub goes_further : (x y z : Migration D g) → GoesOn x y → Moves y z → is_halted z ≡ false → GoesOn x z
-  goes_further x y z on moves off = record {
-    working = off;
-    sectors = moves.goes.sectors ∙ on.sectors;
-    honest = λ now. on.honest (moves.goes.honest now);
-    calm = λ now. moves.goes.calm off now ∙ on.calm (moves.goes.honest now);
-    keeps = λ d keeps. moves.keeps d (on.keeps d keeps);
-  }
+  pub goes_further : (x y z : Migration D g) → StepsOn x y → Moves y z → is_halted z ≡ false → StepsOn x z
+  goes_further x y z on moves off = search rules
 
   -- and what follows them
-  pub then_led : (x y z : Migration D g) (far : Led) → GoesOn x y → LeadsOn y far z → LeadsOn x far z
-  then_led x y z far on leads = record {
-    sectors = leads.sectors ∙ on.sectors;
-    honest = λ now. on.honest (leads.honest now);
-    faults = λ now. subst (λ (t : ℕ). t ≤ (disk_of z).faults) (on.calm (leads.honest now)) (leads.faults now);
-    left = λ d keeps now.
-        subst (λ (t : ℕ). LedTo t (disk_of z).faults (sectors_of x) d far (disk_of z)) (on.calm (leads.honest now))
-        (subst (λ (n : ℕ). LedTo (disk_of y).faults (disk_of z).faults n d far (disk_of z)) on.sectors (leads.left d (on.keeps d keeps) now));
-  }
+  pub then_led : (x y z : Migration D g) (far : Led) → StepsOn x y → LeadsOn y far z → LeadsOn x far z
+  then_led x y z far on leads = search rules
 
-  pub in_part : (x y : Migration D g) → GoesOn x y → LeadsOn x led.InPart y
-  in_part x y on = record {
-    sectors = on.sectors;
-    honest = on.honest;
-    faults = λ now. (let same = on.calm now in omega (arith, same));
-    left = λ d keeps now c left. subst (λ (n : ℕ). OpensOld n d c) on.sectors ((on.keeps d keeps).left now c left);
-  }
+  pub in_part : (x y : Migration D g) → StepsOn x y → LeadsOn x led.InPart y
+  in_part x y on = search rules
 
   -- ---- faults
   no_less : (x y : Migration D g) → Goes x y → is_halted x ≡ false → (disk_of y).is_honest → (disk_of x).faults ≤ (disk_of y).faults
-  no_less x y goes off now = elim (cases_Bool (is_halted y)) [
-    | inl on ↦ (let more = goes.rose off on now in omega (arith, more))
-    | inr works ↦ (let same = goes.calm works now in omega (arith, same))
-  ]
+  no_less x y goes off now = search (rules, cases_Bool)
 
   -- ---- a step is refused
   holds_to : (x : Migration D g) (d : Desk) → Keeps x d → is_halted x ≡ false → (disk_of x).is_honest → HoldsTo x.from x.pages d
@@ -77,21 +51,11 @@ module _ {D : Type 0} {g : Ghosts D} where
   step_left x y _ off moves why d keeps now = absurd why
 
   pub step_stopped : (x y : Migration D g) (e : StoreError) → is_halted x ≡ false → Moves x y → StepErr x.from x.pages y.pages e → LeadsOn x (led.Stopped e) y
-  step_stopped x y e off moves why = record {
-    sectors = moves.goes.sectors;
-    honest = moves.goes.honest;
-    faults = λ now. no_less x y moves.goes off now;
-    left = λ d keeps now. step_left x y e off moves why d keeps now;
-  }
+  step_stopped x y e off moves why = search (rules, no_less, step_left)
 
   -- ---- the end
   pub all_led : (x y : Migration D g) → is_halted x ≡ false → Ends x y → ((disk_of y).is_honest → (d : Desk) → Keeps x d → KeepsNew y d) → LeadsOn x led.Whole y
-  all_led x y off ends told = record {
-    sectors = ends.goes.sectors;
-    honest = ends.goes.honest;
-    faults = λ now. no_less x y ends.goes off now;
-    left = λ d keeps now c left. subst (λ (n : ℕ). OpensDesk n d c) ends.goes.sectors ((told now d keeps).left c left);
-  }
+  all_led x y off ends told = search (rules, no_less)
 
   -- a call that read at most leaves the old version
   quiet_old : (x y : Migration D g) (d : Desk) → IsQuiet x.pages y.pages → Keeps x d → (disk_of y).is_honest → (c : Image) → (disk_of y).leaves c → OpensOld (sectors_of x) d c
@@ -113,9 +77,4 @@ module _ {D : Type 0} {g : Ghosts D} where
   end_left x y _ off ended ends why d keeps now = absurd why
 
   pub end_stopped : (x y : Migration D g) (e : StoreError) → is_halted x ≡ false → has_ended x ≡ true → Ends x y → FinishErr x.pages y.pages e → LeadsOn x (led.Stopped e) y
-  end_stopped x y e off ended ends why = record {
-    sectors = ends.goes.sectors;
-    honest = ends.goes.honest;
-    faults = λ now. no_less x y ends.goes off now;
-    left = λ d keeps now. end_left x y e off ended ends why d keeps now;
-  }
+  end_stopped x y e off ended ends why = search (rules, no_less, end_left)

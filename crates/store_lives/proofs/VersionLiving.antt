@@ -1,33 +1,18 @@
 -- Lives of a store of either version.
-use Rattle.std.proofs.Common.{◌≡◌, ◌≢◌, ◌≤◌, ◌^◌, ℕ, Bool, true, false, List, [], ◌∷◌, ◌++◌, Ok, refl, sym, subst, ◌∙◌, arith}
-use Rattle.std.specs.Prelude.{⊤, Vec}
-use Rattle.std.specs.declared.alloc.Global.{Global}
+use Rattle.std.specs.{Prelude.{⊤, Vec}, declared.alloc.Global.Global}
+use Rattle.std.proofs.Common.{◌≡◌, ◌≢◌, ◌≤◌, ◌^◌, ℕ, Bool, true, false, List, [], ◌∷◌, ◌++◌, Ok, refl, sym, subst, ◌∙◌, arith, rules}
 use Rattle.std.proofs.lemmas.List.{append-nil}
-use Rattle.sector_device.specs.claim.Disk.{Disk, Image}
-use Rattle.sector_device.specs.Disk.{IsSynced}
-use Rattle.sector_device.specs.declared.SectorDevice.{Ghosts}
-use Rattle.sector_device.proofs.Moments.{leaves_now}
+use Rattle.sector_device.{specs.claim.Disk.{Disk, Image}, specs.Disk.IsSynced, specs.declared.SectorDevice.Ghosts, proofs.Moments.leaves_now}
 use Rattle.desk_model.specs.claim.Desk.{Desk}
-use Rattle.desk_pages.specs.claim.Desks.{OpensDeskOf, OpensDesk}
-use Rattle.desk_pages.specs.claim.Openings.{AllVersions, IsOneAs, IsOneOf, LeavesOneAs, OpensOneAs}
-use Rattle.desk_store.specs.declared.clerk.Clerk.{Clerk}
-use Rattle.desk_pages.specs.declared.error.StoreError.{StoreError}
+use Rattle.desk_pages.specs.{claim.Desks.{OpensDeskOf, OpensDesk}, claim.Openings.{AllVersions, IsOneAs, IsOneOf, LeavesOneAs, OpensOneAs}, declared.error.StoreError.StoreError}
+use Rattle.desk_store.specs.{declared.clerk.Clerk.Clerk, claim.Clerks.{desk_of, disk_of, is_halted, sectors_of, Keeps}, Openings.OpenRefused}
 use Rattle.desk_pages.specs.declared.error.StoreError.TheVariants as store
-use Rattle.desk_store.specs.claim.Clerks.{desk_of, disk_of, is_halted, sectors_of, Keeps}
-use Rattle.desk_store.specs.Openings.{OpenRefused}
-use Rattle.desk_runs.specs.desk_migration.declared.migration.Migration.{Migration}
-use Rattle.desk_runs.specs.desk_migration.claim.Migrating.{disk_of as migrated_disk, sectors_of as migrated_sectors}
-use Rattle.desk_runs.specs.desk_migration.Openings.{IsRefused, KeepsOne, LeavesNew}
-use Rattle.desk_runs.specs.Recovery.{ImagesAreOne}
-use Rattle.desk_runs.proofs.One.{one_version, few_sectors, in_either, either_as}
-use Rattle.store_lives.specs.declared.desk_lives.Answer.{Answer}
-use Rattle.store_lives.specs.claim.DeskLives.{Asked, Lived, LifeAfterLife}
-use Rattle.store_lives.specs.DeskInside.{Asks, GoingOn, LivedThrough}
-use Rattle.store_lives.proofs.DeskLiving.{further}
-use Rattle.store_lives.specs.declared.leading.Led.{Led}
-use Rattle.store_lives.specs.declared.leading.Led.TheVariants as led
+use Rattle.desk_runs.specs.{desk_migration.declared.migration.Migration.Migration, desk_migration.claim.Migrating.{disk_of as migrated_disk, sectors_of as migrated_sectors}}
+use Rattle.desk_runs.{specs.desk_migration.Openings.{IsRefused, KeepsOne, LeavesNew}, specs.Recovery.ImagesAreOne, proofs.One.{one_version, few_sectors, in_either, either_as}}
+use Rattle.store_lives.specs.{declared.desk_lives.Answer.Answer, claim.DeskLives.{Asked, Lived, LifeAfterLife}, DeskInside.{Asks, GoingOn, LivedThrough}, declared.leading.Led.Led}
 use Rattle.store_lives.specs.claim.Versions.{Version, version_1, version_2, either, MayBeOld, MayBeNew, Store, MayBar, Leads}
-use Rattle.store_lives.specs.VersionInside.{OpensIn, HoldsIn, AllIn, IsOneIn, Knows, Becomes, LivesIn, IsAsked, IsLed, LedTo, LeadsOn}
+use Rattle.store_lives.{specs.VersionInside.{OpensIn, HoldsIn, AllIn, IsOneIn, Knows, Becomes, LivesIn, IsAsked, IsLed, LedTo, LeadsOn}, proofs.DeskLiving.further}
+use Rattle.store_lives.specs.declared.leading.Led.TheVariants as led
 
 -- ---- what a store may be of
 -- the new version, or the old one
@@ -38,13 +23,11 @@ Fits either new = ⊤
 
 may_be_new : (v : Version) → Fits v true → MayBeNew v
 may_be_new version_1 fits = let clash : true ≡ false = fits in cc
-may_be_new version_2 fits = tt
-may_be_new either fits = tt
+may_be_new _ fits = tt
 
 may_be_old : (v : Version) → Fits v false → MayBeOld v
-may_be_old version_1 fits = tt
 may_be_old version_2 fits = let clash : false ≡ true = fits in cc
-may_be_old either fits = tt
+may_be_old _ fits = tt
 
 fits_of : (v : Version) (new : Bool) (n : ℕ) (d e : Desk) (c : Image) → n ≤ 2 ^ 32 → OpensIn v n d c → OpensDeskOf new n e c → Fits v new
 fits_of version_1 true n d e c few opens is = absurd (one_version n e d c few is opens)
@@ -54,11 +37,10 @@ fits_of version_2 false n d e c few opens is = absurd (one_version n d e c few o
 fits_of either new n d e c few opens is = tt
 
 opens_in : (v : Version) (new : Bool) (n : ℕ) (d : Desk) (c : Image) → Fits v new → OpensDeskOf new n d c → OpensIn v n d c
-opens_in version_1 new n d c fits opens = subst (λ (b : Bool). OpensDeskOf b n d c) fits opens
-opens_in version_2 new n d c fits opens = subst (λ (b : Bool). OpensDeskOf b n d c) fits opens
 opens_in either new n d c fits opens = in_either new n d c opens
+opens_in _ new n d c fits opens = subst (λ (b : Bool). OpensDeskOf b n d c) fits opens
 
-opens_as : (v : Version) (n : ℕ) (d : Desk) (c : Image) → OpensIn v n d c → (new : Bool) × OpensDeskOf new n d c
+pub opens_as : (v : Version) (n : ℕ) (d : Desk) (c : Image) → OpensIn v n d c → (new : Bool) × OpensDeskOf new n d c
 opens_as version_1 n d c opens = (false, opens)
 opens_as version_2 n d c opens = (true, opens)
 opens_as either n d c opens = either_as n d c opens
@@ -219,12 +201,7 @@ module _ {D : Type 0} (g : Ghosts D) where
       → LeavesOneAs (g.disk device) (g.disk left) → ((g.disk left).is_honest → (g.disk device).faults ≤ (g.disk left).faults)
       → ((g.disk left).is_honest → why ≢ store.DeviceFault → (g.disk left).faults ≡ (g.disk device).faults) → IsRefused (g.disk device) (g.disk left) why
       → ((g.disk left).is_honest → why ≡ store.AlreadyNew → LeavesNew (g.disk device) (g.disk left)) → LivesIn (IsLed (led.Unopened why)) (g.disk device) (g.disk left)
-  barred_lives device left why same honest moments more calm refused already = record {
-    sectors = same;
-    honest = honest;
-    faults = λ now all. more now;
-    became = λ now v all. bars device left why moments calm refused already now v all;
-  }
+  barred_lives device left why same honest moments more calm refused already = search (rules, bars)
 
   -- the version to which it was led
   led_to : (t u n : ℕ) (d : Desk) (v : Version) (far : Led) (disk : Disk) → MayBeOld v → LedTo t u n d far disk → (w : Version) × Leads t u v far w × ((c : Image) → disk.leaves c → OpensIn w n d c)

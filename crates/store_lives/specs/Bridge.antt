@@ -3,9 +3,7 @@ use Rattle.std.specs.Prelude.{List}
 use Rattle.sector_device.specs.declared.SectorDevice.{Ghosts}
 use Rattle.desk_store.specs.declared.clerk.Clerk.{Clerk}
 use Rattle.desk_runs.specs.claim.Runs.{Call, Run}
-use Rattle.store_lives.specs.claim.DeskLives.{Lived}
-use Rattle.store_lives.specs.DeskInside.{LivedThrough}
-use Rattle.store_lives.specs.claim.Calls.{asked_in, told_in}
+use Rattle.store_lives.specs.{claim.DeskLives.Lived, DeskInside.LivedThrough, claim.Calls.{asked_in, told_in}}
 
 -- whatever commands were carried out by a clerk from x to y
 abbrev pub RunsAreLives : {D : Type 0} {g : Ghosts D} → Clerk D g → Type 0

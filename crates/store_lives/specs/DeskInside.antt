@@ -1,21 +1,12 @@
 -- What the loops know: which desks the images of a device open to.
 use Rattle.std.specs.Prelude.{◌≡◌, ◌⊎◌, ◌≤◌, ◌<◌, ◌++◌, ℕ, true, false, List, None}
-use Rattle.sector_device.specs.claim.Disk.{Disk, Image}
-use Rattle.sector_device.specs.declared.SectorDevice.{Ghosts}
-use Rattle.desk_model.specs.declared.reply.Reply.{Reply}
-use Rattle.desk_model.specs.claim.Geography.{GeographyModel}
-use Rattle.desk_model.specs.claim.Desk.{Desk}
-use Rattle.desk_pages.specs.claim.Desks.{OpensDesk}
-use Rattle.desk_pages.specs.Openings.{AllDesks}
-use Rattle.desk_pages.specs.claim.Openings.{IsOneOf}
-use Rattle.desk_store.specs.declared.clerk.Clerk.{Clerk}
+use Rattle.sector_device.specs.{claim.Disk.{Disk, Image}, declared.SectorDevice.Ghosts}
+use Rattle.desk_model.specs.{declared.reply.Reply.Reply, claim.Geography.GeographyModel, claim.Desk.Desk}
+use Rattle.desk_pages.specs.{claim.Desks.OpensDesk, Openings.AllDesks, claim.Openings.IsOneOf}
+use Rattle.desk_store.specs.{declared.clerk.Clerk.Clerk, claim.Clerks.{desk_of, disk_of, is_halted, sectors_of, Keeps, Moves}, claim.Commands.Does}
 use Rattle.desk_pages.specs.declared.error.StoreError.TheVariants as store
-use Rattle.desk_store.specs.claim.Clerks.{desk_of, disk_of, is_halted, sectors_of, Keeps, Moves}
-use Rattle.desk_store.specs.claim.Commands.{Does}
 use Rattle.desk_catalogue.specs.claim.Audits.{AskMay}
-use Rattle.store_lives.specs.declared.desk_lives.Request.{Request}
-use Rattle.store_lives.specs.declared.desk_lives.Request.TheVariants.{Change, Look, Load, Sweep}
-use Rattle.store_lives.specs.declared.desk_lives.Answer.{Answer}
+use Rattle.store_lives.specs.{declared.desk_lives.Request.Request, declared.desk_lives.Request.TheVariants.{Change, Look, Load, Sweep}, declared.desk_lives.Answer.Answer}
 use Rattle.store_lives.specs.declared.desk_lives.Answer.TheVariants.{Said, Loaded, Unloaded, Swept, Unswept}
 use Rattle.store_lives.specs.claim.DeskLives.{loaded_desk, MayFail, MayRefuse, Asked, Told, Failed, Lived, Life, LifeAfterLife}
 
@@ -43,21 +34,17 @@ module _ {D : Type 0} {g : Ghosts D} where
 
   -- what a load comes to
   abbrev pub Loads : Clerk D g → GeographyModel → Answer → Clerk D g → Type 0
-  Loads x area (Said r) y = ⊥
   Loads x area Loaded y = ((desk_of x).geography ≡ None) × (desk_of y ≡ loaded_desk area) × (is_halted y ≡ false)
   Loads x area (Unloaded why) y = (desk_of y ≡ desk_of x) × (is_halted y ≡ false → Keeps x → (disk_of y).is_honest → MayRefuse why (desk_of x))
       × (is_halted y ≡ true → Keeps x → (disk_of y).is_honest → MayFail why (desk_of x))
       × (((desk_of x).geography ≡ None) ⊎ Moves (desk_of x) x y)
-  Loads x area (Swept count) y = ⊥
-  Loads x area (Unswept why) y = ⊥
+  Loads x area _ y = ⊥
 
   -- what a step of a sweep comes to
   abbrev pub Sweeps : Clerk D g → Answer → Clerk D g → Type 0
-  Sweeps x (Said r) y = ⊥
-  Sweeps x Loaded y = ⊥
-  Sweeps x (Unloaded why) y = ⊥
   Sweeps x (Swept count) y = is_halted y ≡ false
   Sweeps x (Unswept why) y = is_halted y ≡ false → Keeps x → (disk_of y).is_honest → why ≡ store.Memory
+  Sweeps x _ y = ⊥
 
   -- what a request comes to
   abbrev pub Answers : Clerk D g → Request → Answer → Clerk D g → Type 0

@@ -1,17 +1,13 @@
 -- What is known of the device of a store that may be of either version.
 use Rattle.std.specs.Prelude.{◌≡◌, ◌≤◌, ◌<◌, ℕ, false, Ok, Err}
-use Rattle.sector_device.specs.claim.Disk.{Disk, Image}
-use Rattle.sector_device.specs.declared.SectorDevice.{Ghosts}
+use Rattle.sector_device.specs.{claim.Disk.{Disk, Image}, declared.SectorDevice.Ghosts}
 use Rattle.desk_model.specs.claim.Desk.{Desk}
-use Rattle.desk_pages.specs.claim.Desks.{OpensDesk, OpensOld, OpensEither}
-use Rattle.desk_pages.specs.claim.Openings.{AllVersions}
-use Rattle.desk_runs.specs.desk_migration.declared.migration.Migration.{Migration}
+use Rattle.desk_pages.specs.{claim.Desks.{OpensDesk, OpensOld, OpensEither}, claim.Openings.AllVersions}
+use Rattle.desk_runs.specs.{desk_migration.declared.migration.Migration.Migration, desk_migration.claim.Migrating.{disk_of, is_halted, sectors_of, Keeps}}
 use Rattle.desk_pages.specs.declared.error.StoreError.TheVariants as store
-use Rattle.desk_runs.specs.desk_migration.claim.Migrating.{disk_of, is_halted, sectors_of, Keeps}
-use Rattle.store_lives.specs.claim.DeskLives.{Asked, Told, Lived}
-use Rattle.store_lives.specs.declared.leading.Led.{Led}
-use Rattle.store_lives.specs.declared.leading.Led.TheVariants as led
+use Rattle.store_lives.specs.{claim.DeskLives.{Asked, Told, Lived}, declared.leading.Led.Led}
 use Rattle.store_lives.specs.claim.Versions.{Version, version_1, version_2, either, Store, MayBeNew, MayBar, Leads}
+use Rattle.store_lives.specs.declared.leading.Led.TheVariants as led
 
 -- an image of n sectors opens to the desk, in a version that the store may be of
 abbrev pub OpensIn : Version → ℕ → Desk → Image → Type 0
@@ -71,7 +67,7 @@ LedTo t u n d (led.Unopened why) disk = ⊥
 
 module _ {D : Type 0} {g : Ghosts D} where
   -- steps that met no fault
-  pub record GoesOn (x y : Migration D g) : Type 0 where
+  pub record StepsOn (x y : Migration D g) : Type 0 where
     pub working : is_halted y ≡ false
     pub sectors : sectors_of y ≡ sectors_of x
     pub honest : (disk_of y).is_honest → (disk_of x).is_honest

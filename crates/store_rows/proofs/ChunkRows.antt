@@ -2,42 +2,16 @@
 use Rattle.std.proofs.Common.{◌≡◌, ◌<◌, ◌≤◌, ◌*◌, ◌^◌, ℕ, cond, List, length, take, drop, All, Some, None, sym, ap, ◌∙◌, inl, inr, arith}
 use Rattle.std.proofs.lemmas.Bool.{cases_lt, lt-ltb, le-ltb}
 use Rattle.desk_model.specs.claim.Room.{rows_for}
-use Rattle.store_rows.specs.claim.Keys.{RowKey, key_of, counters, retired, begun, holding, holder_count, named, part, seal, version, block, pair, chunk}
-use Rattle.store_rows.specs.claim.Lists.{districts_bytes}
-use Rattle.store_rows.proofs.RowLaws.{keys_differ}
-use Rattle.store_rows.specs.claim.Rows.{KeyMap}
-use Rattle.store_rows.specs.claim.RevisionRows.{HasChunk}
-use Rattle.store_rows.specs.claim.Puts.{put_rows}
-use Rattle.store_rows.proofs.Puts.{told_keep, told_are}
-use Rattle.store_rows.specs.ChunkRows.{IsFreeChunk, chunk_rows, piece_row}
+use Rattle.store_rows.specs.{claim.Keys.{RowKey, key_of, chunk}, claim.Lists.districts_bytes, claim.Rows.KeyMap, claim.RevisionRows.HasChunk, claim.Puts.put_rows}
+use Rattle.store_rows.{specs.ChunkRows.{IsFreeChunk, chunk_rows, piece_row}, proofs.RowLaws.keys_differ, proofs.Puts.{told_keep, told_are}}
 
 number_of : RowKey → ℕ
-number_of counters = 0
-number_of (retired plan) = 0
-number_of (begun load) = 0
-number_of (holding plan number) = 0
-number_of (holder_count number) = 0
-number_of (named name) = 0
-number_of (part plan revision index) = 0
-number_of seal = 0
-number_of version = 0
-number_of (block load place) = 0
-number_of (pair load place) = 0
 number_of (chunk number piece) = number
+number_of _ = 0
 
 piece_of : RowKey → ℕ
-piece_of counters = 0
-piece_of (retired plan) = 0
-piece_of (begun load) = 0
-piece_of (holding plan number) = 0
-piece_of (holder_count number) = 0
-piece_of (named name) = 0
-piece_of (part plan revision index) = 0
-piece_of seal = 0
-piece_of version = 0
-piece_of (block load place) = 0
-piece_of (pair load place) = 0
 piece_of (chunk number piece) = piece
+piece_of _ = 0
 
 pub one_piece : (number i j : ℕ) → number < 2 ^ 64 → i < 2 ^ 16 → j < 2 ^ 16 → key_of (chunk number i) ≡ key_of (chunk number j) → i ≡ j
 unfolding piece_of
@@ -47,14 +21,7 @@ pub one_number : (number other i j : ℕ) → number < 2 ^ 64 → other < 2 ^ 64
 unfolding number_of
 one_number number other i j fits other_fits small few same = ap number_of (keys_differ (chunk number i) (chunk other j) (fits, small) (other_fits, few) same)
 
--- so many pieces, each of which begins within the list
-within_rows : (n i : ℕ) → i < rows_for 512 n → 512 * i < n
-within_rows n i less = omega arith
-
-beyond_rows : (n i : ℕ) → rows_for 512 n ≤ i → n ≤ 512 * i
-beyond_rows n i more = omega arith
-
-few_rows : (n i : ℕ) → n ≤ 512 * 2 ^ 16 → i < rows_for 512 n → i < 2 ^ 16
+pub few_rows : (n i : ℕ) → n ≤ 512 * 2 ^ 16 → i < rows_for 512 n → i < 2 ^ 16
 few_rows n i few less = omega arith
 
 -- once its rows are put under a free number, the chunk is there
@@ -67,28 +34,18 @@ chunk_put m number districts fits some few each free = record {
   pieces = λ index small. elim (cases_lt index (rows_for 512 (length districts))) [
     | inl less ↦ told_are m (piece_row number districts) (rows_for 512 (length districts)) index
         (λ i j one other same. one_piece number i j fits (few_rows (length districts) i few one) (few_rows (length districts) j few other) same) less
-        ∙ sym (ap (λ b. cond b (Some (districts_bytes (take 512 (drop (512 * index) districts)))) None) (lt-ltb (512 * index) (length districts) (within_rows (length districts) index less)))
+        ∙ sym (ap (λ b. cond b (Some (districts_bytes (take 512 (drop (512 * index) districts)))) None) (lt-ltb (512 * index) (length districts) (omega arith)))
     | inr more ↦ told_keep m (piece_row number districts) (rows_for 512 (length districts)) (key_of (chunk number index))
         (λ k less same. let one : index ≡ k = one_piece number index k fits small (few_rows (length districts) k few less) same in omega arith)
         ∙ free index small
-        ∙ sym (ap (λ b. cond b (Some (districts_bytes (take 512 (drop (512 * index) districts)))) None) (le-ltb (512 * index) (length districts) (beyond_rows (length districts) index more)))
+        ∙ sym (ap (λ b. cond b (Some (districts_bytes (take 512 (drop (512 * index) districts)))) None) (le-ltb (512 * index) (length districts) (omega arith)))
   ];
 }
 
 -- a chunk with another number stays
 pub chunk_kept : (m : KeyMap) (number : ℕ) (districts : List ℕ) (other : ℕ) (others : List ℕ) → number < 2 ^ 64 → length districts ≤ 512 * 2 ^ 16 → (other ≡ number → ⊥) → HasChunk m other others → HasChunk (put_rows m (chunk_rows number districts)) other others
-chunk_kept m number districts other others fits few apart has = record {
-  number_fits = has.number_fits;
-  some = has.some;
-  few = has.few;
-  each = has.each;
-  pieces = λ index small. told_keep m (piece_row number districts) (rows_for 512 (length districts)) (key_of (chunk other index))
-      (λ k less same. apart (one_number other number index k has.number_fits fits small (few_rows (length districts) k few less) same))
-      ∙ has.pieces index small;
-}
+chunk_kept m number districts other others fits few apart has = search (has.number_fits, has.some, has.few, has.each, told_keep, m, apart, one_number, few_rows, few, has.pieces)
 
 -- and so does a number that is free
 pub free_kept : (m : KeyMap) (number : ℕ) (districts : List ℕ) (other : ℕ) → number < 2 ^ 64 → other < 2 ^ 64 → length districts ≤ 512 * 2 ^ 16 → (other ≡ number → ⊥) → IsFreeChunk m other → IsFreeChunk (put_rows m (chunk_rows number districts)) other
-free_kept m number districts other fits other_fits few apart free index small = told_keep m (piece_row number districts) (rows_for 512 (length districts)) (key_of (chunk other index))
-    (λ k less same. apart (one_number other number index k other_fits fits small (few_rows (length districts) k few less) same))
-    ∙ free index small
+free_kept m number districts other fits other_fits few apart free index small = search (told_keep, one_number, few_rows)

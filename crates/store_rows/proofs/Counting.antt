@@ -1,9 +1,7 @@
 -- Plans that hold a chunk are counted off, one more or one fewer.
-use Rattle.std.proofs.Common.{◌≡◌, ◌⊎◌, ◌<◌, ◌≤◌, ◌^◌, ℕ, zero, suc, Bool, true, false, cond, eqb, ltb, refl, sym, ap, subst, ◌∙◌, inl, inr, arith}
+use Rattle.std.proofs.Common.{◌≡◌, ◌⊎◌, ◌<◌, ◌≤◌, ◌^◌, ℕ, zero, suc, cond, eqb, ltb, refl, sym, ap, subst, ◌∙◌, inl, inr, arith}
 use Rattle.std.proofs.lemmas.Bool.{cases_eq, cases_lt, lt-ltb, le-ltb, eq-eqb, ne_eqb, eqb-true, eqb-false}
-use Rattle.store_rows.specs.claim.Keys.{holding}
-use Rattle.store_rows.specs.claim.Rows.{KeyMap, row_in}
-use Rattle.store_rows.specs.claim.Holders.{IsHeld, AreHolders}
+use Rattle.store_rows.specs.{claim.Keys.holding, claim.Rows.{KeyMap, row_in}, claim.Holders.{IsHeld, AreHolders}}
 
 -- ---- numbers below a limit, each once, are no more than it
 abbrev avoiding : (ℕ → ℕ) → ℕ → ℕ → ℕ → ℕ
@@ -12,12 +10,8 @@ avoiding f m last i = cond (eqb (f i) m) (f last) (f i)
 abbrev Avoids : ℕ → ℕ → ℕ → ℕ → Type 0
 Avoids x m y r = ((x ≡ m) × (r ≡ y)) ⊎ ((x ≡ m → ⊥) × (r ≡ x))
 
-avoids_by : (x m y : ℕ) (t : Bool) → eqb x m ≡ t → Avoids x m y (cond t y x)
-avoids_by x m y true e = inl (eqb-true x m e, refl)
-avoids_by x m y false e = inr (eqb-false x m e, refl)
-
 avoids : (x m y : ℕ) → Avoids x m y (cond (eqb x m) y x)
-avoids x m y = avoids_by x m y (eqb x m) refl
+avoids x m y = search (arith, eqb-true, eqb-false)
 
 abbrev pub IsInto : (ℕ → ℕ) → ℕ → ℕ → Type 0
 IsInto f n m = (i : ℕ) → i < n → f i < m
@@ -27,23 +21,11 @@ IsOnce f n = (i j : ℕ) → i < n → j < n → f i ≡ f j → i ≡ j
 
 into_less : (f : ℕ → ℕ) (n m : ℕ) → IsInto f (suc n) (suc m) → IsOnce f (suc n) → IsInto (avoiding f m n) n m
 into_less f n m into once i less =
-    let a = into i (omega arith) in
-    let b = into n (omega arith) in
     let apart : f i ≡ f n → ⊥ = λ e. let z = once i n (omega arith) (omega arith) e in omega arith in
     elim (avoids (f i) m (f n)) [ inl w ↦ omega (arith, w.0, w.1) | inr w ↦ omega (arith, w.0, w.1) ]
 
 once_less : (f : ℕ → ℕ) (n m : ℕ) → IsOnce f (suc n) → IsOnce (avoiding f m n) n
-once_less f n m once i j p q e =
-    elim (avoids (f i) m (f n)) [
-      | inl v ↦ elim (avoids (f j) m (f n)) [
-        | inl w ↦ once i j (omega arith) (omega arith) (v.0 ∙ sym w.0)
-        | inr w ↦ let z = once n j (omega arith) (omega arith) (sym v.1 ∙ e ∙ w.1) in absurd (omega arith)
-      ]
-      | inr v ↦ elim (avoids (f j) m (f n)) [
-        | inl w ↦ let z = once i n (omega arith) (omega arith) (sym v.1 ∙ e ∙ w.1) in absurd (omega arith)
-        | inr w ↦ once i j (omega arith) (omega arith) (sym v.1 ∙ e ∙ w.1)
-      ]
-    ]
+once_less f n m once i j p q e = search (arith, avoids)
 
 pub few : (n m : ℕ) (f : ℕ → ℕ) → IsInto f n m → IsOnce f n → n ≤ m
 few zero m f into once = omega arith

@@ -1,27 +1,14 @@
 -- Chunks are drawn county by county.
+use Rattle.std.specs.{Prelude.{Bool, nat_eq, filter, sum_by}, List.zip, Cmp.Lexicographic.{pointwise, same_text}}
 use Rattle.std.proofs.Common.{true, ◌≡◌, ◌⊎◌, ◌<◌, ◌≤◌, ◌+◌, ◌*◌, ◌^◌, ℕ, zero, suc, cond, List, [], ◌∷◌, ◌++◌, map, length, get_or, All, Option, refl, sym, ap, subst, ◌∙◌, inl, inr, arith, length-append}
-use Rattle.std.specs.Prelude.{Bool, nat_eq, filter, sum_by}
-use Rattle.std.specs.List.{zip}
-use Rattle.std.specs.Cmp.Lexicographic.{pointwise, same_text}
 use Rattle.std.proofs.lemmas.Bool.{cases_Bool, not-false}
-use Rattle.std.proofs.lemmas.List.Elements.{All-nil, All-cons}
+use Rattle.std.proofs.lemmas.List.Elements.{All-cons}
 use Rattle.std.proofs.lemmas.List.Sums.{sum_by-cons}
-use Rattle.desk_model.specs.claim.Geography.{GeographyModel}
-use Rattle.desk_model.specs.claim.Ranges.{sizes}
-use Rattle.desk_model.specs.claim.Room.{rows_for, differs, changed, revision_rows}
-use Rattle.store_rows.specs.claim.Keys.{key_of, counters, named}
-use Rattle.store_rows.specs.claim.Values.{plan_bytes, counters_bytes}
-use Rattle.store_rows.specs.declared.value.Counters.{Counters}
-use Rattle.store_rows.specs.declared.value.PlanRow.{PlanRow}
-use Rattle.store_rows.specs.claim.Rows.{KeyMap}
-use Rattle.store_rows.specs.claim.Puts.{Row}
-use Rattle.store_rows.specs.Puts.{rows_told}
-use Rattle.store_rows.proofs.Puts.{length-rows_told}
-use Rattle.store_rows.specs.ChunkRows.{piece_row, chunk_rows}
-use Rattle.store_rows.specs.NameRows.{name_row, name_rows}
-use Rattle.store_rows.specs.Steps.{chunks_more, one_revision_more}
+use Rattle.desk_model.specs.{claim.Geography.GeographyModel, claim.Ranges.sizes, claim.Room.{rows_for, differs, changed, revision_rows}}
+use Rattle.store_rows.specs.{claim.Keys.{key_of, counters, named}, claim.Values.{plan_bytes, counters_bytes}, declared.value.Counters.Counters, declared.value.PlanRow.PlanRow}
+use Rattle.store_rows.specs.{claim.Rows.KeyMap, claim.Puts.Row, Puts.rows_told, NameRows.{name_row, name_rows}, Steps.{chunks_more, one_revision_more}}
 use Rattle.store_rows.specs.RevisionSteps.{IsChunkList, IsKeptChunk, AreKept, IsDrawn, new_chunk_rows, new_holding, new_holder_count, rows_of_revision}
-use Rattle.store_rows.specs.Draws.{draw, redrawn, draw_all}
+use Rattle.store_rows.{specs.Draws.{draw, redrawn, draw_all}, proofs.Puts.length-rows_told}
 
 -- a county keeps its chunk where it is as before, or gets one of the new ones
 abbrev IsDrawnAt : ℕ → List ℕ → List (List ℕ) → List (List ℕ) → List ℕ → List (List ℕ) → ℕ → Type 0
@@ -40,8 +27,7 @@ rest_sound new news sound k d within = sound (suc k) d (omega arith)
 -- ---- one county more
 module _ (next number : ℕ) (numbers : List ℕ) (old new : List ℕ) (olds lists news : List (List ℕ)) (drawn : List ℕ) where
   kept_each : Draws next numbers olds lists drawn news → old ≡ new → (k : ℕ) → k < length (new ∷ news) → IsDrawnAt next (number ∷ numbers) (old ∷ olds) lists (number ∷ drawn) (new ∷ news) k
-  kept_each draws same zero within = inl (refl, same)
-  kept_each draws same (suc k) within = draws.each k (omega arith)
+  kept_each draws same k within = search (arith, draws.each)
 
   kept_one : Draws next numbers olds lists drawn news → old ≡ new → Draws next (number ∷ numbers) (old ∷ olds) lists (number ∷ drawn) (new ∷ news)
   kept_one draws same = record {
@@ -70,16 +56,8 @@ module _ (next number : ℕ) (numbers : List ℕ) (old new : List ℕ) (olds lis
     sound = λ all. All-cons IsChunkList new lists (all 0 new (omega arith)) (draws.sound (rest_sound new news all));
   }
 
-no_county : (next : ℕ) → Draws next [] [] [] [] []
-no_county next = record {
-  count = refl;
-  each = λ k within. absurd (omega arith);
-  used = λ place within. absurd (omega arith);
-  sound = λ all. All-nil IsChunkList;
-}
-
 all_drawn : (next : ℕ) (numbers : List ℕ) (olds news : List (List ℕ)) → length numbers ≡ length news → length olds ≡ length news → Draws next numbers olds (redrawn olds news) (draw next numbers olds news) news
-all_drawn next [] [] [] a b = no_county next
+all_drawn next [] [] [] a b = search arith
 all_drawn next [] [] (new ∷ news) a b = absurd (omega arith)
 all_drawn next [] (old ∷ olds) [] a b = absurd (omega arith)
 all_drawn next [] (old ∷ olds) (new ∷ news) a b = absurd (omega arith)
@@ -98,10 +76,9 @@ all_drawn next (number ∷ numbers) (old ∷ olds) (new ∷ news) a b =
 pub changes_drawn : (m : KeyMap) (next : Counters) (plan : ℕ) (numbers : List ℕ) (olds news : List (List ℕ)) → AreKept m plan numbers olds → length olds ≡ length news → length news ≤ 128 * 2 ^ 8 → All IsChunkList news
     → IsDrawn m next plan (redrawn olds news) (draw next.chunk numbers olds news) news
 changes_drawn m next plan numbers olds news kept same few sound =
-    let drawn = draw next.chunk numbers olds news in
     let lists = redrawn olds news in
     let long : length numbers ≡ length news = kept.count ∙ same in
-    let draws : Draws next.chunk numbers olds lists drawn news = all_drawn next.chunk numbers olds news long same in
+    let draws : Draws next.chunk numbers olds lists (draw next.chunk numbers olds news) news = all_drawn next.chunk numbers olds news long same in
     record {
       few = (let count = draws.count in omega arith);
       count = draws.count;
@@ -137,11 +114,7 @@ firsts_drawn m next plan counties few sound =
 -- ---- how many rows
 rows_of_chunks : (first : ℕ) (lists : List (List ℕ)) → length (new_chunk_rows first lists) ≡ sum_by (λ part. rows_for 512 (length part)) lists
 rows_of_chunks first [] = refl
-rows_of_chunks first (districts ∷ lists) =
-    length-append (chunk_rows first districts) (new_chunk_rows (first + 1) lists)
-    ∙ ap (λ n. n + length (new_chunk_rows (first + 1) lists)) (length-rows_told (piece_row first districts) (rows_for 512 (length districts)))
-    ∙ ap (λ n. rows_for 512 (length districts) + n) (rows_of_chunks (first + 1) lists)
-    ∙ sym (sum_by-cons (λ part. rows_for 512 (length part)) districts lists)
+rows_of_chunks first (districts ∷ lists) = search (length-append, length-rows_told, (rows_of_chunks (first + 1) lists), sum_by-cons)
 
 pub rows_counted : (g : GeographyModel) (last : Option (List ℕ)) (new : List ℕ) (next : Counters) (name : List ℕ) (p : PlanRow) (numbers : List ℕ) → length numbers ≡ length (sizes g)
     → length (rows_of_revision true next name p (changed g last new) numbers) ≡ revision_rows g last new

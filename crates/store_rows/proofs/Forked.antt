@@ -1,43 +1,16 @@
 -- A revision with the chunks of another plan's makes the desk with it, and the rows stay tidy.
+use Rattle.std.specs.{Prelude.Contains, FinMap.{FinMap, get, insert}}
 use Rattle.std.proofs.Common.{Bool, true, ◌≡◌, ◌<◌, ◌≤◌, ◌+◌, ◌*◌, ◌^◌, ℕ, cond, List, [], ◌∷◌, length, take, drop, All, Some, None, refl, sym, ap, subst, ◌∙◌, inl, inr, arith}
-use Rattle.std.specs.Prelude.{Contains}
-use Rattle.std.specs.FinMap.{FinMap, get, insert}
 use Rattle.std.proofs.lemmas.Bool.{cases_eq, cases_lt, le-ltb}
-use Rattle.std.proofs.lemmas.List.Elements.{All-nil}
-use Rattle.desk_model.specs.claim.Geography.{GeographyModel}
-use Rattle.desk_model.specs.claim.Ranges.{cut}
-use Rattle.desk_model.specs.claim.Desk.{Plan, name_cmp}
-use Rattle.desk_model.specs.claim.Room.{rows_for}
-use Rattle.store_rows.specs.claim.Keys.{RowKey, key_of, Fits, counters, holding, named, part}
-use Rattle.store_rows.specs.claim.Values.{plan_bytes, counters_bytes}
-use Rattle.store_rows.specs.claim.Lists.{chunks_bytes}
-use Rattle.store_rows.proofs.RowLaws.{keys_differ}
-use Rattle.store_rows.specs.declared.value.PlanRow.{PlanRow}
-use Rattle.store_rows.specs.claim.Rows.{KeyMap, row_in, Has, part_row}
-use Rattle.store_rows.specs.Rows.{SameTag}
-use Rattle.store_rows.proofs.Frames.{put_is_there, put_keeps, put_keeps_tag, other_tag, tag_follows}
-use Rattle.store_rows.specs.claim.Puts.{Row, put_rows}
-use Rattle.store_rows.proofs.Puts.{put_rows-append, told_are, told_keep}
-use Rattle.store_rows.specs.NameRows.{name_row, name_rows}
-use Rattle.store_rows.proofs.NameRows.{names_keep_tag}
-use Rattle.store_rows.specs.claim.DeskRows.{HasPlan, IsDesk, most_revisions}
-use Rattle.store_rows.specs.Changes.{desk_with, plan_row_of}
-use Rattle.store_rows.proofs.Changes.{other_row}
-use Rattle.store_rows.specs.Steps.{chunks_more, one_revision_more}
-use Rattle.store_rows.specs.RevisionSteps.{IsChunkList, AreItsChunks, AddsRevision, AreKept, IsDrawn}
-use Rattle.store_rows.specs.claim.Tidy.{Tidy}
-use Rattle.store_rows.specs.TidyLaws.{MakesRevision}
-use Rattle.store_rows.specs.Shares.{CanHold, Holds, hold_all, with_shared}
-use Rattle.store_rows.proofs.PartNumbers.{part_there}
-use Rattle.store_rows.proofs.PutAll.{IsRowOf, told_all, keeps_rows, keeps_row}
-use Rattle.store_rows.proofs.TidyParts.{rows_put, name_fits}
-use Rattle.store_rows.proofs.TidyFree.{known_below, free_revision}
-use Rattle.store_rows.proofs.HolderCounts.{holder_counts_stay}
-use Rattle.store_rows.proofs.Sharing.{all_held}
+use Rattle.desk_model.specs.{claim.Geography.GeographyModel, claim.Ranges.cut, claim.Desk.{Plan, name_cmp}, claim.Room.rows_for}
+use Rattle.store_rows.specs.{claim.Keys.{RowKey, key_of, Fits, counters, holding, named, part}, claim.Values.{plan_bytes, counters_bytes}, claim.Lists.chunks_bytes}
+use Rattle.store_rows.specs.{declared.value.PlanRow.PlanRow, claim.Rows.{KeyMap, row_in, Has, part_row}, Rows.SameTag, claim.Puts.{Row, put_rows}, NameRows.{name_row, name_rows}}
+use Rattle.store_rows.specs.{claim.DeskRows.{HasPlan, IsDesk, most_revisions}, Changes.{desk_with, plan_row_of}, Steps.{chunks_more, one_revision_more}}
+use Rattle.store_rows.specs.{RevisionSteps.{AddsRevision, AreKept, IsDrawn}, claim.Tidy.Tidy, TidyLaws.MakesRevision, Shares.{CanHold, Holds, hold_all, with_shared}}
+use Rattle.store_rows.proofs.{RowLaws.keys_differ, Frames.{put_is_there, put_keeps, put_keeps_tag, other_tag, tag_follows}, Puts.{put_rows-append, told_are, told_keep}}
+use Rattle.store_rows.proofs.{NameRows.{names_keep_tag, few_names as few_parts}, Changes.other_row, PartNumbers.part_there, PutAll.{IsRowOf, told_all, keeps_rows, keeps_row}}
+use Rattle.store_rows.proofs.{TidyParts.{rows_put, name_fits}, TidyFree.{known_below, free_revision}, HolderCounts.holder_counts_stay, Sharing.all_held}
 use Rattle.store_rows.proofs.RevisionDesk.{its_chunks, revision_made}
-
-few_parts : (n i : ℕ) → n ≤ 128 * 2 ^ 8 → i < rows_for 128 n → i < 2 ^ 8
-few_parts n i few less = omega arith
 
 -- only parts of one revision are put
 abbrev IsPartOf : ℕ → ℕ → RowKey → Type 0
@@ -105,9 +78,8 @@ module _ (m : KeyMap) (tidy : Tidy m) (name : List ℕ) (p : PlanRow) (numbers :
 
   not_this : (plan revision index : ℕ) → ((plan ≡ p.number) × (revision ≡ p.revisions + 1) → ⊥) → IsPartOf p.number (p.revisions + 1) (part plan revision index) → ⊥
   not_this plan revision index apart (k, same) =
-      let one : plan ≡ p.number = cc in
       let two : revision ≡ p.revisions + 1 = cc in
-      apart (one, two)
+      apart (cc, two)
 
   empty_after : (plan number : ℕ) (value : List ℕ) → Fits (holding plan number) → Has after (holding plan number) value → value ≡ []
   empty_after plan number value fits there =
@@ -122,10 +94,7 @@ module _ (m : KeyMap) (tidy : Tidy m) (name : List ℕ) (p : PlanRow) (numbers :
     rows = rows_put with_row counters next_value tt (rows_put with_parts (named name) row_value named_fits (keeps_rows (IsPartOf p.number (p.revisions + 1)) held names names_are (holds.rows tidy.rows)));
     moved = put_is_there with_row (key_of counters) next_value;
     row = put_keeps with_row (key_of counters) next_value (key_of (named name)) (other_tag 80 65 name [] (λ e. absurd (omega arith))) ∙ put_is_there with_parts (key_of (named name)) row_value;
-    others = λ other apart. put_keeps with_row (key_of counters) next_value (key_of (named other)) (other_tag 80 65 other [] (λ e. absurd (omega arith)))
-        ∙ put_keeps with_parts (key_of (named name)) row_value (key_of (named other)) (other_row name other apart)
-        ∙ names_keep_tag held p.number (p.revisions + 1) numbers 80 (λ e. absurd (omega arith)) other
-        ∙ holds.rest 80 (λ e. absurd (omega arith)) (λ e. absurd (omega arith)) other;
+    others = λ other apart. search (arith, put_keeps, other_tag, other_row, names_keep_tag, p.number, p.revisions, holds.rest);
     marks = tag_is 68 (λ e. absurd (omega arith)) (λ e. absurd (omega arith)) (λ e. absurd (omega arith)) (λ e. absurd (omega arith)) (λ e. absurd (omega arith));
     starts = tag_is 76 (λ e. absurd (omega arith)) (λ e. absurd (omega arith)) (λ e. absurd (omega arith)) (λ e. absurd (omega arith)) (λ e. absurd (omega arith));
     seals = tag_is 83 (λ e. absurd (omega arith)) (λ e. absurd (omega arith)) (λ e. absurd (omega arith)) (λ e. absurd (omega arith)) (λ e. absurd (omega arith));
@@ -158,26 +127,14 @@ can_hold m tidy name p fits has = record {
   plan_below = tidy.below.plans name p.number (record { plan = p; row = has; is = refl; fits = fits });
 }
 
--- a revision with chunks that are there draws no new one
-kept_drawn : (m : KeyMap) (tidy : Tidy m) (source : ℕ) (numbers : List ℕ) (counties : List (List ℕ)) → length numbers ≤ 128 * 2 ^ 8 → AreKept m source numbers counties → IsDrawn m tidy.next source [] numbers counties
-kept_drawn m tidy source numbers counties few kept = record {
-  few = few;
-  count = kept.count;
-  sound = All-nil IsChunkList;
-  each = λ county within. inl (kept.each county within);
-  used = λ place within. absurd (omega arith);
-}
-
 pub shares_made : (m : KeyMap) (tidy : Tidy m) → tidy.new ≡ true → (source : ℕ) (g : GeographyModel) (plans : FinMap name_cmp Plan) (name : List ℕ) (number : ℕ) (p : Plan) (districts : List ℕ) (numbers : List ℕ)
     → IsDesk m (desk_with g plans) → get plans name ≡ Some p → HasPlan m g name number p → length districts ≡ length g.blocks → length p.revisions < most_revisions
     → length numbers ≤ 128 * 2 ^ 8 → AreKept m source numbers (cut g districts)
     → MakesRevision g plans name p districts (chunks_more tidy.next 0) true (with_shared m tidy.next name (plan_row_of number p) numbers)
 shares_made m tidy is_new source g plans name number p districts numbers is there has long room few kept =
     let row = plan_row_of number p in
-    let drawn : IsDrawn m tidy.next source [] numbers (cut g districts) = kept_drawn m tidy source numbers (cut g districts) few kept in
-    let its : AreItsChunks m tidy.next 0 source numbers = its_chunks m tidy.next source [] numbers (cut g districts) drawn in
-    let chunk_fits = tidy.fits.chunk_fits in
-    let small : (x : ℕ) → Contains numbers x → x < 2 ^ 64 = λ x among. elim (its.own x among) [
+    let drawn : IsDrawn m tidy.next source [] numbers (cut g districts) = search arith in
+    let small : (x : ℕ) → Contains numbers x → x < 2 ^ 64 = λ x among. elim ((its_chunks m tidy.next source [] numbers (cut g districts) drawn).own x among) [
       | inl own ↦ (let less = tidy.below.named_chunks source x own in omega arith)
       | inr given ↦ (let less = given.1 in omega arith)
     ] in

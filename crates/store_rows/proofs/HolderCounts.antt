@@ -1,19 +1,12 @@
 -- The counts of the plans that hold a chunk go up and down.
-use Rattle.std.proofs.Common.{◌≡◌, ◌<◌, ◌≤◌, ◌+◌, ◌^◌, ℕ, zero, suc, List, [], ◌++◌, Some, refl, sym, ap, subst, ◌∙◌, inl, inr, w64, arith}
-use Rattle.std.specs.Int.{from_be_bytes}
-use Rattle.std.specs.FinMap.{get, empty, insert, remove, get-empty}
+use Rattle.std.specs.{Int.from_be_bytes, FinMap.{get, empty, insert, remove, get-empty}}
+use Rattle.std.proofs.Common.{◌≡◌, ◌<◌, ◌≤◌, ◌+◌, ◌^◌, ℕ, zero, suc, List, [], ◌++◌, Some, sym, ap, subst, ◌∙◌, inl, inr, w64, arith}
 use Rattle.std.proofs.lemmas.Bool.{cases_eq}
 use Rattle.std.proofs.lemmas.Nat.{from_be_bytes-to_be_bytes_8}
-use Rattle.store_rows.specs.claim.Keys.{key_of, holding, holder_count, in_eight}
-use Rattle.store_rows.specs.claim.Order.{key_cmp}
-use Rattle.store_rows.specs.claim.Rows.{KeyMap, row_in, Has, Lacks}
-use Rattle.store_rows.specs.Rows.{SameTag}
-use Rattle.store_rows.specs.claim.Puts.{put_rows}
-use Rattle.store_rows.proofs.Frames.{put_is_there, put_keeps_row, put_keeps_tag, removed_is_gone, remove_keeps_row, remove_keeps_tag}
-use Rattle.store_rows.specs.claim.Holders.{IsHeld, AreHolders, IsTallied, AreTallied, holder_count_row, holding_rows}
-use Rattle.store_rows.specs.Holders.{AreHoldersBelow, with_holder_count, released}
+use Rattle.store_rows.specs.{claim.Keys.{key_of, holding, holder_count, in_eight}, claim.Order.key_cmp, claim.Rows.{KeyMap, row_in, Has, Lacks}, Rows.SameTag, claim.Puts.put_rows}
+use Rattle.store_rows.specs.{claim.Holders.{IsHeld, AreHolders, IsTallied, AreTallied, holder_count_row, holding_rows}, Holders.{AreHoldersBelow, with_holder_count, released}}
 use Rattle.store_rows.specs.HolderLaws.{JoinsHolders, IsHeldByAnother}
-use Rattle.store_rows.proofs.OneGeography.{value_is, no_value}
+use Rattle.store_rows.proofs.{Frames.{put_is_there, put_keeps_row, put_keeps_tag, removed_is_gone, remove_keeps_row, remove_keeps_tag}, OneGeography.{value_is, no_value}}
 use Rattle.store_rows.proofs.Counting.{OthersHold, few_holders, holders_moved, no_holders, holders_joined, holders_left}
 
 -- ---- a row of a count tells one number
@@ -21,16 +14,13 @@ pub eight_says : (a b : ℕ) → a < 2 ^ 64 → b < 2 ^ 64 → in_eight a ≡ in
 eight_says a b fa fb same = sym (from_be_bytes-to_be_bytes_8 a fa) ∙ ap (from_be_bytes w64) same ∙ from_be_bytes-to_be_bytes_8 b fb
 
 pub holder_count_says : (a b : ℕ) → a < 2 ^ 64 → b < 2 ^ 64 → holder_count_row a ≡ holder_count_row b → a ≡ b
-holder_count_says zero zero fa fb same = refl
-holder_count_says zero (suc b) fa fb same = absurd (no_value (in_eight (b + 1)) (sym same))
-holder_count_says (suc a) zero fa fb same = absurd (no_value (in_eight (a + 1)) same)
-holder_count_says (suc a) (suc b) fa fb same = (let equal : a + 1 ≡ b + 1 = eight_says (a + 1) (b + 1) (omega arith) (omega arith) (value_is (in_eight (a + 1)) (in_eight (b + 1)) same) in omega arith)
+holder_count_says a b fa fb same = search (arith, no_value, eight_says, value_is)
 
 -- ---- keys
-other_plan : (plan number other : ℕ) → (other ≡ plan → ⊥) → holding other number ≡ holding plan number → ⊥
+pub other_plan : (plan number other : ℕ) → (other ≡ plan → ⊥) → holding other number ≡ holding plan number → ⊥
 other_plan plan number other apart same = apart (cc)
 
-other_chunk : (plan number p other : ℕ) → (other ≡ number → ⊥) → holding p other ≡ holding plan number → ⊥
+pub other_chunk : (plan number p other : ℕ) → (other ≡ number → ⊥) → holding p other ≡ holding plan number → ⊥
 other_chunk plan number p other apart same = apart (cc)
 
 other_holder_count : (number other : ℕ) → (other ≡ number → ⊥) → holder_count other ≡ holder_count number → ⊥
@@ -43,25 +33,18 @@ counted_by_holders_moved m n number same count is = record { count = is.count; f
 pub holder_counts_stay : (m n : KeyMap) → SameTag 72 m n → SameTag 75 m n → AreTallied m → AreTallied n
 holder_counts_stay m n holdings counts all number fits = counted_by_holders_moved m n number (λ plan small. holdings _) (counts _) (all number fits)
 
-never : (key value : List ℕ) → get {K = List ℕ} {X = List ℕ} {R = key_cmp} empty key ≡ Some value → ⊥
+pub never : (key value : List ℕ) → get {K = List ℕ} {X = List ℕ} {R = key_cmp} empty key ≡ Some value → ⊥
 never key value there = no_value value (sym there ∙ get-empty key_cmp key)
 
 pub nothing_counted_by_holders : AreTallied empty
 nothing_counted_by_holders number fits = record { count = 0; fits = omega arith; row = get-empty key_cmp (key_of (holder_count number)); holders = no_holders empty number (λ plan small held. never (key_of (holding plan number)) [] held) }
 
 -- ---- what a count tells
-count_is : (m : KeyMap) (number count : ℕ) (is : IsTallied m number) → count < 2 ^ 64 → row_in m (holder_count number) ≡ holder_count_row count → is.count ≡ count
-count_is m number count is fits row = holder_count_says is.count count is.fits fits (sym is.row ∙ row)
-
 pub held_so_many : (m : KeyMap) (number count : ℕ) → IsTallied m number → count < 2 ^ 64 → row_in m (holder_count number) ≡ holder_count_row count → AreHolders m number count
-held_so_many m number count is fits row = subst (λ (k : ℕ). AreHolders m number k) (count_is m number count is fits row) is.holders
-
-none_then : (m : KeyMap) (plan number count : ℕ) → AreHolders m number count → row_in m (holder_count number) ≡ holder_count_row count → Lacks m (holder_count number) → plan < 2 ^ 64 → IsHeld m plan number → ⊥
-none_then m plan number zero h row lacks fits held = (let (place, less, is) = h.all plan fits held in absurd (omega arith))
-none_then m plan number (suc more) h row lacks fits held = no_value (in_eight (more + 1)) (sym row ∙ lacks)
+held_so_many m number count is fits row = subst (λ (k : ℕ). AreHolders m number k) (holder_count_says is.count count is.fits fits (sym is.row ∙ row)) is.holders
 
 pub none_holds : (m : KeyMap) (plan number : ℕ) → AreTallied m → plan < 2 ^ 64 → number < 2 ^ 64 → Lacks m (holder_count number) → IsHeld m plan number → ⊥
-none_holds m plan number all plan_fits fits lacks held = (let is = all number fits in none_then m plan number is.count is.holders is.row lacks plan_fits held)
+none_holds m plan number all plan_fits fits lacks held = (let is = all number fits in (search (arith, is.holders.all, no_value)))
 
 another_then : (m : KeyMap) (plan number count : ℕ) (value : List ℕ) → AreHolders m number count → row_in m (holder_count number) ≡ holder_count_row count → Has m (holder_count number) value → Lacks m (holding plan number) → IsHeldByAnother m plan number
 another_then m plan number zero value h row has lacks = absurd (no_value value (sym has ∙ row))
@@ -136,14 +119,6 @@ joins_holders m limit plan number count all below limit_fits less fits count_fit
     }
 
 -- ---- one fewer
-holder_count_put : (m : KeyMap) (number count : ℕ) → row_in (with_holder_count m number count) (holder_count number) ≡ holder_count_row count
-holder_count_put m number zero = removed_is_gone m (key_of (holder_count number))
-holder_count_put m number (suc more) = put_is_there m (key_of (holder_count number)) (in_eight (more + 1))
-
-holder_count_keeps_tag : (m : KeyMap) (number count tag : ℕ) → (tag ≡ 75 → ⊥) → SameTag tag m (with_holder_count m number count)
-holder_count_keeps_tag m number zero tag apart = remove_keeps_tag m tag 75 (in_eight number) apart
-holder_count_keeps_tag m number (suc more) tag apart = put_keeps_tag m tag 75 (in_eight number) (in_eight (more + 1)) apart
-
 holder_count_keeps : (m : KeyMap) (number count other : ℕ) → number < 2 ^ 64 → other < 2 ^ 64 → (other ≡ number → ⊥) → row_in (with_holder_count m number count) (holder_count other) ≡ row_in m (holder_count other)
 holder_count_keeps m number zero other fits other_fits apart = remove_keeps_row m (holder_count number) (holder_count other) fits other_fits (other_holder_count number other apart)
 holder_count_keeps m number (suc more) other fits other_fits apart = put_keeps_row m (holder_count number) (in_eight (more + 1)) (holder_count other) fits other_fits (other_holder_count number other apart)
@@ -156,7 +131,7 @@ module _ (m : KeyMap) (plan number count : ℕ) (plan_fits : plan < 2 ^ 64) (fit
   let_go = released m plan number count
 
   go_holdings : SameTag 72 without let_go
-  go_holdings = holder_count_keeps_tag without number count 72 (λ e. absurd (omega arith))
+  go_holdings = search (arith, remove_keeps_tag, put_keeps_tag)
 
   go_others : OthersHold m let_go plan number
   go_others other other_fits apart = go_holdings _ ∙ remove_keeps_row m (holding plan number) (holding other number) (plan_fits, fits) (other_fits, fits) (other_plan plan number other apart)
@@ -177,7 +152,7 @@ holders_leave m plan number count all plan_fits fits count_fits held row other o
       | inl same ↦ subst (λ (k : ℕ). IsTallied n k) (sym same) (record {
         count = count;
         fits = omega arith;
-        row = holder_count_put (without m plan number count plan_fits fits) number count;
+        row = search (arith, removed_is_gone, put_is_there);
         holders = holders_left m n plan number count plan_fits (go_others m plan number count plan_fits fits) held (go_none m plan number count plan_fits fits) (held_so_many m number (suc count) (all number fits) (omega arith) row);
       })
       | inr apart ↦ go_rest m plan number count plan_fits fits other other_fits apart (all other other_fits)

@@ -1,9 +1,7 @@
 -- A list of numbers is read back from its bytes.
-use Rattle.std.proofs.Common.{◌≡◌, ◌<◌, ◌^◌, ℕ, suc, List, [], ◌∷◌, drop, All, refl, sym, ap, ◌∙◌, w16, w64, arith}
-use Rattle.std.specs.Int.{from_be_bytes}
+use Rattle.std.{specs.Int.from_be_bytes, proofs.Common.{◌≡◌, ◌<◌, ◌^◌, ℕ, suc, List, [], ◌∷◌, drop, All, refl, sym, ap, ◌∙◌, w16, w64, arith}}
 use Rattle.std.proofs.lemmas.Nat.{from_be_bytes-to_be_bytes_2, from_be_bytes-to_be_bytes_8}
-use Rattle.store_rows.specs.claim.Lists.{chunks_bytes, districts_bytes}
-use Rattle.store_rows.specs.Lists.{ChunksDiffer, DistrictsDiffer}
+use Rattle.store_rows.specs.{claim.Lists.{chunks_bytes, districts_bytes}, Lists.{ChunksDiffer, DistrictsDiffer}}
 
 tail_of : (P : ℕ → Type 0) (x : ℕ) (xs : List ℕ) → All P (x ∷ xs) → All P xs
 tail_of P x xs all k d within = all (suc k) d (omega arith)

@@ -1,12 +1,11 @@
 -- Lists of numbers as bytes: how long they are, and one number more.
-use Rattle.std.proofs.Common.{◌≡◌, ◌<◌, ◌≤◌, ◌+◌, ◌-◌, ◌*◌, ℕ, true, false, List, [], ◌∷◌, ◌++◌, All, Result, Ok, Err, IsOk, OnOk, length, take, drop, set, refl, sym, ap, subst, ◌∙◌, arith, length-append}
 use Rattle.std.specs.List.{slice_range, flat_map}
+use Rattle.std.proofs.Common.{◌≡◌, ◌<◌, ◌≤◌, ◌+◌, ◌-◌, ◌*◌, ℕ, List, [], ◌∷◌, ◌++◌, All, Result, IsOk, OnOk, length, take, drop, set, refl, sym, ap, subst, ◌∙◌, arith, length-append}
+use Rattle.std.proofs.Math.Seq.{take-add}
 use Rattle.std.proofs.lemmas.List.{append-nil, take_more_set}
 use Rattle.std.proofs.lemmas.List.Elements.{All-push}
 use Rattle.std.proofs.lemmas.Grind.{flat_map-append}
-use Rattle.std.proofs.Math.Seq.{take-add}
-use Rattle.store_rows.specs.claim.Keys.{in_two, in_eight}
-use Rattle.store_rows.specs.claim.Lists.{chunks_bytes, districts_bytes}
+use Rattle.store_rows.specs.{claim.Keys.{in_two, in_eight}, claim.Lists.{chunks_bytes, districts_bytes}}
 
 pub length-chunks : (numbers : List ℕ) → length (chunks_bytes numbers) ≡ 8 * length numbers
 length-chunks [] = refl
@@ -19,19 +18,16 @@ length-districts (x ∷ districts) = let more = length-districts districts in om
 -- the bytes of the first k of them, and then of the next
 grown : (f : ℕ → List ℕ) (size : ℕ) (xs : List ℕ) (x k : ℕ) (bytes : List ℕ) → flat_map f xs ≡ take (size * k) bytes → f x ≡ slice_range bytes (size * k) (size * k + size) → flat_map f (xs ++ x ∷ []) ≡ take (size * k + size) bytes
 grown f size xs x k bytes before next =
-    let wide : size * k + size - size * k ≡ size = omega arith in
-    let part : f x ≡ take size (drop (size * k) bytes) = next ∙ ap (λ n. take n (drop (size * k) bytes)) wide in
+    let part : f x ≡ take size (drop (size * k) bytes) = next ∙ ap (λ n. take n (drop (size * k) bytes)) (omega arith) in
     flat_map-append f xs (x ∷ []) ∙ rw (append-nil (f x), before, part) (sym (take-add (size * k) size bytes))
 
 pub one_chunk_more : (numbers : List ℕ) (x k : ℕ) (bytes : List ℕ) → chunks_bytes numbers ≡ take (8 * k) bytes → in_eight x ≡ slice_range bytes (8 * k) (8 * k + 8) → chunks_bytes (numbers ++ x ∷ []) ≡ take (8 * (k + 1)) bytes
 one_chunk_more numbers x k bytes before next =
-    let end : 8 * k + 8 ≡ 8 * (k + 1) = omega arith in
-    grown in_eight 8 numbers x k bytes before next ∙ ap (λ n. take n bytes) end
+    grown in_eight 8 numbers x k bytes before next ∙ ap (λ n. take n bytes) (omega arith)
 
 pub one_district_more : (districts : List ℕ) (x k : ℕ) (bytes : List ℕ) → districts_bytes districts ≡ take (2 * k) bytes → in_two x ≡ slice_range bytes (2 * k) (2 * k + 2) → districts_bytes (districts ++ x ∷ []) ≡ take (2 * (k + 1)) bytes
 one_district_more districts x k bytes before next =
-    let end : 2 * k + 2 ≡ 2 * (k + 1) = omega arith in
-    grown in_two 2 districts x k bytes before next ∙ ap (λ n. take n bytes) end
+    grown in_two 2 districts x k bytes before next ∙ ap (λ n. take n bytes) (omega arith)
 
 -- ---- numbers that are put into an array by their places, and taken from it
 -- one number more
@@ -42,8 +38,7 @@ filled_more f P each x k bytes less are before fits =
     (ap (flat_map f) more ∙ are, subst (λ (l : List ℕ). All P l) (sym more) (All-push P (take k each) x before fits))
 
 on_ok : {T E : Type 0} (r : Result T E) (P : Type 0) → IsOk r → OnOk r P → P
-on_ok (Ok x) P is then = then
-on_ok (Err e) P is then = absurd (let no : false ≡ true → ⊥ = λ same. cc in no is)
+on_ok r P is then = search (arith)
 
 -- a list without elements is made of those of a slice for which there is room
 pub taken_whole : {T E : Type 0} (r : Result T E) (none xs new : List ℕ) (room : ℕ) → none ≡ [] → length xs ≤ room → (length none + length xs ≤ room → IsOk r) → OnOk r (new ≡ none ++ xs) → new ≡ xs

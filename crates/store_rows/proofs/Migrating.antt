@@ -1,27 +1,11 @@
 -- Plans come to hold what they name, and the version is told: the desk stays as it is, and the rows stay tidy.
-use Rattle.std.proofs.Common.{true, ◌≡◌, ◌<◌, ◌^◌, ℕ, List, [], ◌∷◌, refl, sym, subst, ◌∙◌, inl, inr, arith}
-use Rattle.std.specs.Prelude.{Contains}
-use Rattle.std.specs.FinMap.{empty, get-empty}
+use Rattle.std.{specs.Prelude.Contains, specs.FinMap.{empty, get-empty}, proofs.Common.{true, ◌≡◌, ◌<◌, ◌^◌, ℕ, List, [], ◌∷◌, refl, sym, subst, ◌∙◌, inl, inr, arith}}
 use Rattle.std.proofs.lemmas.Bool.{cases_eq}
-use Rattle.store_rows.specs.claim.Keys.{key_of, Fits, holding, part, version, in_four}
-use Rattle.store_rows.specs.claim.Order.{key_cmp}
-use Rattle.store_rows.specs.claim.Lists.{chunks_bytes}
-use Rattle.store_rows.specs.claim.Rows.{KeyMap, Has}
-use Rattle.store_rows.specs.Rows.{SameTag}
-use Rattle.store_rows.proofs.Frames.{put_is_there, put_keeps_tag, desk_stays}
-use Rattle.store_rows.specs.claim.Holders.{IsHeld}
-use Rattle.store_rows.specs.claim.Tidy.{no_numbers, IsNumbered, IsNamedBy, AllHold, AreHoldings, Tidy}
-use Rattle.store_rows.specs.Tidy.{TidyWith}
-use Rattle.store_rows.specs.Shares.{CanHold, Holds}
-use Rattle.store_rows.specs.claim.Shares.{hold}
-use Rattle.store_rows.specs.MigrationLaws.{as_new, IsMigrated, HoldsNamed}
-use Rattle.store_rows.proofs.OneGeography.{no_value}
+use Rattle.store_rows.specs.{claim.Keys.{key_of, Fits, holding, part, version, in_four}, claim.Order.key_cmp, claim.Lists.chunks_bytes, claim.Rows.{KeyMap, Has}, Rows.SameTag}
+use Rattle.store_rows.specs.{claim.Holders.IsHeld, claim.Tidy.{no_numbers, IsNamedBy, AllHold, AreHoldings, Tidy}, Tidy.TidyWith, Shares.{CanHold, Holds}, claim.Shares.hold}
+use Rattle.store_rows.{specs.MigrationLaws.{as_new, IsMigrated, HoldsNamed}, proofs.Frames.{put_is_there, put_keeps_tag, desk_stays}, proofs.OneGeography.no_value}
 use Rattle.store_rows.proofs.TidyParts.{AllKept, kept_of, tidy_at, next_moves, numbered_moves, naming_moves, plans_stay, chunks_stay, loads_stay, rows_put}
-use Rattle.store_rows.proofs.TidyFree.{known_below, empty_tidy}
-use Rattle.store_rows.proofs.HolderCounts.{holder_counts_stay}
-use Rattle.store_rows.proofs.TidyRevisions.{contains_or_not}
-use Rattle.store_rows.proofs.Sharing.{only_one, all_held}
-use Rattle.store_rows.proofs.Forked.{holder_below}
+use Rattle.store_rows.proofs.{TidyFree.{known_below, empty_tidy}, HolderCounts.holder_counts_stay, TidyRevisions.contains_or_not, Sharing.{only_one, all_held}, Forked.holder_below}
 
 -- a plan that names a chunk can hold it
 pub names_can_hold : (m : KeyMap) (tidy : Tidy m) (plan number : ℕ) → IsNamedBy m plan number → CanHold m tidy.next.plan plan
@@ -78,11 +62,8 @@ module _ (m : KeyMap) (tidy : Tidy m) (plan number : ℕ) (fits : number < 2 ^ 6
 
   hold_after : tidy.new ≡ true → AllHold after
   hold_after is_new name other x there named_by =
-      let living : IsNumbered m name other = numbered_moves after m name other (sym (names _)) there in
       let before : IsNamedBy m other x = naming_moves after m other x (λ rest. sym (parts rest)) named_by in
-      let below = tidy.below.named_chunks other x before in
-      let chunk_fits = tidy.fits.chunk_fits in
-      still_held other x (there.fits, omega arith) (tidy.holdings.hold is_new name other x living before)
+      still_held other x (there.fits, omega arith) (tidy.holdings.hold is_new name other x (numbered_moves after m name other (sym (names _)) there) before)
 
   migrated : IsMigrated m tidy.next tidy.new after
   migrated =

@@ -2,17 +2,9 @@
 use Rattle.std.proofs.Common.{◌≡◌, ◌<◌, ◌≤◌, ◌*◌, ◌^◌, ℕ, cond, List, ◌∷◌, length, take, drop, All, Some, None, refl, sym, ap, ◌∙◌, inl, inr, arith}
 use Rattle.std.proofs.lemmas.Bool.{cases_lt, lt-ltb, le-ltb}
 use Rattle.desk_model.specs.claim.Room.{rows_for}
-use Rattle.store_rows.specs.claim.Keys.{key_of, part}
-use Rattle.store_rows.specs.claim.Lists.{chunks_bytes}
-use Rattle.store_rows.proofs.RowLaws.{keys_differ}
-use Rattle.store_rows.specs.claim.Rows.{KeyMap}
-use Rattle.store_rows.specs.Rows.{SameTag}
-use Rattle.store_rows.specs.claim.RevisionRows.{NamesChunks, HasRevision}
-use Rattle.store_rows.specs.claim.Puts.{Row, put_rows}
-use Rattle.store_rows.specs.Puts.{rows_told}
-use Rattle.store_rows.proofs.Puts.{told_keep, told_are}
-use Rattle.store_rows.proofs.Frames.{chunk_stays}
-use Rattle.store_rows.specs.NameRows.{IsFreeRevision, name_row, name_rows}
+use Rattle.store_rows.specs.{claim.Keys.{key_of, part}, claim.Lists.chunks_bytes, claim.Rows.KeyMap, Rows.SameTag, claim.RevisionRows.{NamesChunks, HasRevision}}
+use Rattle.store_rows.{specs.claim.Puts.{Row, put_rows}, specs.Puts.rows_told, specs.NameRows.{IsFreeRevision, name_row, name_rows}, proofs.RowLaws.keys_differ}
+use Rattle.store_rows.proofs.{Puts.{told_keep, told_are}, Frames.chunk_stays}
 
 -- ---- keys
 one_part : (plan revision i j : ℕ) → plan < 2 ^ 64 → revision < 2 ^ 32 → i < 2 ^ 8 → j < 2 ^ 8 → key_of (part plan revision i) ≡ key_of (part plan revision j) → i ≡ j
@@ -27,14 +19,7 @@ other_part plan revision other later i j fits small other_fits later_small few l
     let two : later ≡ revision = cc in
     apart one two
 
--- so many parts, each of which begins within the list
-within_names : (n i : ℕ) → i < rows_for 128 n → 128 * i < n
-within_names n i less = omega arith
-
-beyond_names : (n i : ℕ) → rows_for 128 n ≤ i → n ≤ 128 * i
-beyond_names n i more = omega arith
-
-few_names : (n i : ℕ) → n ≤ 128 * 2 ^ 8 → i < rows_for 128 n → i < 2 ^ 8
+pub few_names : (n i : ℕ) → n ≤ 128 * 2 ^ 8 → i < rows_for 128 n → i < 2 ^ 8
 few_names n i few less = omega arith
 
 -- ---- once its rows are put under a free place, the revision names the chunks
@@ -45,11 +30,11 @@ names_put m plan revision numbers fits small few each free = record {
   parts = λ index less. elim (cases_lt index (rows_for 128 (length numbers))) [
     | inl within ↦ told_are m (name_row plan revision numbers) (rows_for 128 (length numbers)) index
         (λ i j one other same. one_part plan revision i j fits small (few_names (length numbers) i few one) (few_names (length numbers) j few other) same) within
-        ∙ sym (ap (λ b. cond b (Some (chunks_bytes (take 128 (drop (128 * index) numbers)))) None) (lt-ltb (128 * index) (length numbers) (within_names (length numbers) index within)))
+        ∙ sym (ap (λ b. cond b (Some (chunks_bytes (take 128 (drop (128 * index) numbers)))) None) (lt-ltb (128 * index) (length numbers) (omega arith)))
     | inr beyond ↦ told_keep m (name_row plan revision numbers) (rows_for 128 (length numbers)) (key_of (part plan revision index))
         (λ k among same. let one : index ≡ k = one_part plan revision index k fits small less (few_names (length numbers) k few among) same in omega arith)
         ∙ free index less
-        ∙ sym (ap (λ b. cond b (Some (chunks_bytes (take 128 (drop (128 * index) numbers)))) None) (le-ltb (128 * index) (length numbers) (beyond_names (length numbers) index beyond)))
+        ∙ sym (ap (λ b. cond b (Some (chunks_bytes (take 128 (drop (128 * index) numbers)))) None) (le-ltb (128 * index) (length numbers) (omega arith)))
   ];
 }
 
@@ -58,9 +43,7 @@ pub names_kept : (m : KeyMap) (plan revision : ℕ) (numbers : List ℕ) (other 
 names_kept m plan revision numbers other later others fits small few other_fits later_small apart names = record {
   few = names.few;
   each = names.each;
-  parts = λ index less. told_keep m (name_row plan revision numbers) (rows_for 128 (length numbers)) (key_of (part other later index))
-      (λ k among same. other_part plan revision other later index k fits small other_fits later_small less (few_names (length numbers) k few among) apart same)
-      ∙ names.parts index less;
+  parts = λ index less. search (arith, told_keep, other_part, few_names, names.parts);
 }
 
 -- ---- the rows of every other tag stay

@@ -1,14 +1,10 @@
 -- The bytes of numbers, the highest first, stand in the order of the numbers.
-use Rattle.std.proofs.Common.{◌≡◌, ◌<◌, ◌≤◌, ◌+◌, ◌*◌, ◌%◌, ◌^◌, ℕ, zero, suc, List, [], ◌∷◌, ◌++◌, refl, ◌∙◌, arith, pow-suc, mul_comm, suc-mul, ⊎_elim}
-use Rattle.std.proofs.Math.Nat.{pow-le-pow_right, mul-le-mul_right, mod-lt}
-use Rattle.std.proofs.Math.Arith.{mod-mul}
+use Rattle.std.specs.{Int.{byte_at, bytes_high_first}, Ordering.{nat_cmp, ordering_then}, declared.cmp.Ordering.TheVariants.{Less, Equal, Greater}}
+use Rattle.std.proofs.Common.{◌≡◌, ◌<◌, ◌≤◌, ◌+◌, ◌*◌, ◌%◌, ◌^◌, ℕ, zero, suc, List, [], ◌∷◌, ◌++◌, refl, ◌∙◌, arith, pow-suc, suc-mul, ⊎_elim}
+use Rattle.std.proofs.{Math.Nat.{pow-le-pow_right, mul-le-mul_right, mod-lt}, Math.Arith.mod-mul}
 use Rattle.std.proofs.lemmas.Bool.{cases_order}
 use Rattle.std.proofs.lemmas.Bool.Decides.{nat_tests}
-use Rattle.std.specs.Int.{byte_at, bytes_high_first}
-use Rattle.std.specs.Ordering.{nat_cmp, ordering_then}
-use Rattle.std.specs.declared.cmp.Ordering.TheVariants.{Less, Equal, Greater}
-use Rattle.store_rows.specs.claim.Order.{key_cmp}
-use Rattle.store_rows.specs.Order.{NumbersDecide}
+use Rattle.store_rows.specs.{claim.Order.key_cmp, Order.NumbersDecide}
 
 nat_cmp_same : (n : ℕ) → nat_cmp n n ≡ Equal
 nat_cmp_same n = grind (arith, nat_tests)
@@ -18,9 +14,6 @@ is_less less = grind (arith, nat_tests)
 
 is_greater : {a b : ℕ} → b < a → nat_cmp a b ≡ Greater
 is_greater more = grind (arith, nat_tests)
-
-shifted : (k x y : ℕ) → nat_cmp x y ≡ nat_cmp (k + x) (k + y)
-shifted k x y = grind (arith, nat_tests)
 
 -- what two lists begin with says nothing of their order
 pub prefix_same : (prefix a b : List ℕ) → key_cmp (prefix ++ a) (prefix ++ b) ≡ key_cmp a b
@@ -35,7 +28,7 @@ higher a b u x y xs less =
 
 digits_then : (a b u x y : ℕ) → x < u → y < u → ordering_then (nat_cmp a b) (nat_cmp x y) ≡ nat_cmp (a * u + x) (b * u + y)
 digits_then a b u x y xs ys = ⊎_elim
-    (λ (same : a ≡ b). rw (same, nat_cmp_same b) (shifted (b * u) x y))
+    (λ (same : a ≡ b). rw (same, nat_cmp_same b) (grind (arith, nat_tests)))
     (⊎_elim
     (λ (less : a < b). let more : a * u + x < b * u + y = higher a b u x y xs less in rw (is_less less, is_less more) refl)
     (λ (above : b < a). let more : b * u + y < a * u + x = higher b a u y x ys above in rw (is_greater above, is_greater more) refl))
@@ -43,21 +36,15 @@ digits_then a b u x y xs ys = ⊎_elim
 
 -- the last k + 1 bytes are one byte and the last k
 one_more : (k n : ℕ) → n % 256 ^ suc k ≡ byte_at k n * 256 ^ k + n % 256 ^ k
-one_more zero n = omega arith
-one_more (suc k) n =
-    let unit = 256 ^ suc k in
-    let wider : 256 ^ suc (suc k) ≡ 256 * unit = pow-suc 256 (suc k) ∙ mul_comm unit 256 in
-    let some : 0 < unit = pow-le-pow_right {n = 256} (omega arith) {i = 0} {j = suc k} (omega arith) in
-    rw (wider, mod-mul n {m = 256} {c = unit} (omega arith) some) (omega arith)
+one_more k n = search (arith, pow-suc, pow-le-pow_right, mod-mul)
 
 bytes_decide : (k m n : ℕ) → key_cmp (bytes_high_first k m) (bytes_high_first k n) ≡ nat_cmp (m % 256 ^ k) (n % 256 ^ k)
 bytes_decide zero m n = let x : m % 1 ≡ 0 = omega arith in let y : n % 1 ≡ 0 = omega arith in rw (x, y) refl
 bytes_decide (suc k) m n =
     let unit = 256 ^ k in
     let some : 0 < unit = pow-le-pow_right {n = 256} (omega arith) {i = 0} {j = k} (omega arith) in
-    let x : m % unit < unit = mod-lt m some in
     let y : n % unit < unit = mod-lt n some in
-    rw (one_more k m, one_more k n, bytes_decide k m n) (digits_then (byte_at k m) (byte_at k n) unit (m % unit) (n % unit) x y)
+    rw (one_more k m, one_more k n, bytes_decide k m n) (digits_then (byte_at k m) (byte_at k n) unit (m % unit) (n % unit) (mod-lt m some) y)
 
 whole : (k m n : ℕ) (prefix : List ℕ) → m % 256 ^ k ≡ m → n % 256 ^ k ≡ n → key_cmp (prefix ++ bytes_high_first k m) (prefix ++ bytes_high_first k n) ≡ nat_cmp m n
 whole k m n prefix x y = prefix_same prefix (bytes_high_first k m) (bytes_high_first k n) ∙ bytes_decide k m n ∙ (λ i. nat_cmp (x i) (y i))

@@ -1,55 +1,27 @@
 -- The rows of one revision more make the desk with that revision.
-use Rattle.std.proofs.Common.{All, ◌≡◌, ◌<◌, ◌≤◌, ◌+◌, ◌-◌, ◌*◌, ◌^◌, ℕ, cond, List, [], ◌∷◌, length, get_or, take, drop, Option, Some, None, refl, sym, ap, subst, ◌∙◌, inl, inr, arith, length-append}
 use Rattle.std.specs.FinMap.{FinMap, get}
+use Rattle.std.proofs.Common.{All, ◌≡◌, ◌<◌, ◌≤◌, ◌+◌, ◌-◌, ◌*◌, ◌^◌, ℕ, cond, List, [], length, get_or, take, drop, Some, None, refl, sym, ap, subst, ◌∙◌, inl, inr, arith, length-append}
 use Rattle.std.proofs.lemmas.Bool.{lt-ltb}
 use Rattle.std.proofs.lemmas.List.{get_or_default}
-use Rattle.desk_model.specs.claim.Geography.{GeographyModel}
-use Rattle.desk_model.specs.claim.Ranges.{cut}
-use Rattle.desk_model.specs.claim.Desk.{Plan, name_cmp}
-use Rattle.store_rows.specs.claim.Keys.{Fits, named}
-use Rattle.store_rows.specs.claim.Values.{plan_bytes}
-use Rattle.store_rows.specs.claim.Lists.{districts_bytes}
-use Rattle.store_rows.specs.declared.value.Counters.{Counters}
-use Rattle.store_rows.specs.declared.value.PlanRow.{PlanRow}
-use Rattle.store_rows.specs.claim.Rows.{KeyMap, Has}
-use Rattle.store_rows.specs.claim.RevisionRows.{HasChunk, NamesChunks, HasRevision}
-use Rattle.store_rows.specs.claim.Puts.{put_rows}
-use Rattle.store_rows.specs.claim.DeskRows.{HasPlan, IsDesk, most_revisions}
-use Rattle.store_rows.specs.Changes.{IsRevised, RevisionsStay, desk_with, plan_row_of, with_revision}
-use Rattle.store_rows.proofs.Changes.{plan_revised}
-use Rattle.store_rows.proofs.Frames.{chunk_stays}
-use Rattle.store_rows.specs.Steps.{chunks_more}
-use Rattle.store_rows.specs.RevisionSteps.{IsGiven, AreItsChunks, AddsRevision, IsChunkList, AreKept, IsDrawn, new_chunk_rows, rows_of_revision}
-use Rattle.store_rows.specs.claim.Tidy.{IsNumbered, IsNamedBy, Tidy}
-use Rattle.store_rows.specs.TidyLaws.{MakesRevision}
-use Rattle.store_rows.proofs.OneChunk.{one_naming}
-use Rattle.store_rows.proofs.SweepPlans.{numbers_named}
-use Rattle.store_rows.proofs.OneGeography.{no_value}
-use Rattle.store_rows.proofs.TidyParts.{name_fits}
-use Rattle.store_rows.proofs.TidyFree.{free_chunk}
-use Rattle.store_rows.proofs.TidyRevisions.{revised_tidy}
-use Rattle.store_rows.proofs.RevisionPuts.{revision_put, chunks_put}
+use Rattle.desk_model.specs.{claim.Geography.GeographyModel, claim.Ranges.cut, claim.Desk.{Plan, name_cmp}}
+use Rattle.store_rows.specs.{claim.Keys.{Fits, named}, claim.Values.plan_bytes, claim.Lists.districts_bytes, declared.value.Counters.Counters, declared.value.PlanRow.PlanRow}
+use Rattle.store_rows.specs.{claim.Rows.{KeyMap, Has}, claim.RevisionRows.{HasChunk, NamesChunks, HasRevision}, claim.Puts.put_rows}
+use Rattle.store_rows.specs.{claim.DeskRows.{HasPlan, IsDesk, most_revisions}, Changes.{IsRevised, RevisionsStay, desk_with, plan_row_of}, Steps.chunks_more}
+use Rattle.store_rows.specs.{RevisionSteps.{IsGiven, AreItsChunks, AddsRevision, IsChunkList, AreKept, IsDrawn, new_chunk_rows, rows_of_revision}, claim.Tidy.{IsNumbered, Tidy}}
+use Rattle.store_rows.{specs.TidyLaws.MakesRevision, proofs.Changes.plan_revised, proofs.Frames.chunk_stays, proofs.OneChunk.one_naming, proofs.PartNumbers.numbers_named}
+use Rattle.store_rows.proofs.{OneGeography.no_value, TidyParts.name_fits, TidyFree.free_chunk, TidyRevisions.revised_tidy, RevisionPuts.{revision_put, chunks_put}}
 use Rattle.store_rows.proofs.NewChunks.{new_there}
 
 -- ---- the numbers that are drawn are the plan's own, or given
 pub its_chunks : (m : KeyMap) (next : Counters) (plan : ℕ) (lists : List (List ℕ)) (numbers : List ℕ) (counties : List (List ℕ)) → IsDrawn m next plan lists numbers counties → AreItsChunks m next (length lists) plan numbers
 its_chunks m next plan lists numbers counties drawn = record {
   few = drawn.few;
-  own = λ number (k, within, is).
-      let same : get_or numbers k 0 ≡ number = get_or_default numbers k 0 number within ∙ is in
-      let inside : k < length counties = (let count = drawn.count in omega arith) in
-      elim (drawn.each k inside) [
-        | inl kept ↦ inl (subst (λ x. IsNamedBy m plan x) same kept.own)
-        | inr new ↦ (let here = new.is in let less = new.within in inr (omega arith, omega arith))
-      ];
+  own = λ number (k, within, is). search (arith, get_or_default, drawn.count, drawn.each);
   whole = λ number given.
-      let from = given.0 in
-      let below = given.1 in
       let place = number - next.chunk in
       let (county, inside, is) = drawn.used place (omega arith) in
       let within : county < length numbers = (let count = drawn.count in omega arith) in
-      let same : next.chunk + place ≡ number = omega arith in
-      (county, within, get_or_default numbers county number 0 within ∙ is ∙ same);
+      (county, within, get_or_default numbers county number 0 within ∙ is ∙ (omega arith));
 }
 
 -- ---- what is there stays
@@ -62,22 +34,12 @@ chunk_below m tidy given number districts has is =
 
 module _ (m n : KeyMap) (tidy : Tidy m) (given : ℕ) (name : List ℕ) (p : PlanRow) (numbers : List ℕ) (adds : AddsRevision m n tidy.new tidy.next given name p numbers) where
   chunk_moves : (number : ℕ) (districts : List ℕ) → HasChunk m number districts → HasChunk n number districts
-  chunk_moves number districts has = record {
-    number_fits = has.number_fits;
-    some = has.some;
-    few = has.few;
-    each = has.each;
-    pieces = λ index small. adds.other_chunks number index (has.number_fits, small) (chunk_below m tidy given number districts has) ∙ has.pieces index small;
-  }
+  chunk_moves number districts has = search (has.number_fits, has.some, has.few, has.each, adds.other_chunks, chunk_below, m, tidy, has.pieces)
 
   revision_moves : (plan revision : ℕ) (counties : List (List ℕ)) → plan < 2 ^ 64 → revision < 2 ^ 32 → ((plan ≡ p.number) × (revision ≡ p.revisions + 1) → ⊥) → HasRevision m plan revision counties → HasRevision n plan revision counties
   revision_moves plan revision counties plan_fits revision_fits apart has = record {
     numbers = has.numbers;
-    names = record {
-      few = has.names.few;
-      each = has.names.each;
-      parts = λ index small. adds.other_parts plan revision index (plan_fits, revision_fits, small) apart ∙ has.names.parts index small;
-    };
+    names = search (adds.other_parts, has.names.parts);
     count = has.count;
     chunks = λ county within. chunk_moves (get_or has.numbers county 0) (get_or counties county []) (has.chunks county within);
   }
@@ -88,9 +50,8 @@ module _ (m n : KeyMap) (tidy : Tidy m) (given : ℕ) (name : List ℕ) (p : Pla
     names = record {
       few = drawn.few;
       each = λ k d within.
-          let inside : k < length counties = (let count = drawn.count in omega arith) in
           let same : get_or numbers k 0 ≡ get_or numbers k d = get_or_default numbers k 0 d within in
-          elim (drawn.each k inside) [
+          elim (drawn.each k ((let count = drawn.count in omega arith))) [
             | inl kept ↦ (let fits = kept.there.number_fits in omega arith)
             | inr new ↦ (let here = new.is in let less = new.within in omega arith)
           ];
@@ -105,9 +66,6 @@ module _ (m n : KeyMap) (tidy : Tidy m) (given : ℕ) (name : List ℕ) (p : Pla
   }
 
 -- ---- the desk
-some_is : (p q : Plan) → ◌≡◌ {A = Option Plan} (Some p) (Some q) → p ≡ q
-some_is p q same = cc
-
 module _ (m n : KeyMap) (tidy : Tidy m) (g : GeographyModel) (plans : FinMap name_cmp Plan) (name : List ℕ) (number : ℕ) (p : Plan) (districts : List ℕ) (lists : List (List ℕ)) (numbers : List ℕ) (there : get plans name ≡ Some p) (has : HasPlan m g name number p) (few : length p.revisions < most_revisions) (room : tidy.next.chunk + length lists < 2 ^ 64) (source : ℕ) (drawn : IsDrawn m tidy.next source lists numbers (cut g districts)) (adds : AddsRevision m n tidy.new tidy.next (length lists) name (plan_row_of number p) numbers) (made : (place : ℕ) → place < length lists → HasChunk n (tidy.next.chunk + place) (get_or lists place [])) where
   abbrev row : PlanRow
   row = plan_row_of number p
@@ -121,28 +79,17 @@ module _ (m n : KeyMap) (tidy : Tidy m) (g : GeographyModel) (plans : FinMap nam
       let here : IsNumbered m name number = record { plan = row; row = has.row; is = refl; fits = has.number_fits } in
       let also : IsNumbered m other number = record { plan = plan_row_of plan q; row = held.row; is = is.0; fits = has.number_fits } in
       let same : other ≡ name = tidy.owned.one other name number also here in
-      let equal : q ≡ p = some_is q p (sym found ∙ ap (get plans) same ∙ there) in
+      let equal : q ≡ p = cc in
       let count : length q.revisions ≡ length p.revisions = ap (λ (r : Plan). length r.revisions) equal in
       let last = is.1 in
       absurd (omega arith)
 
   stays : (other : List ℕ) (plan : ℕ) (q : Plan) → get plans other ≡ Some q → HasPlan m g other plan q → RevisionsStay m n plan (length q.revisions)
   stays other plan q found held revision counties some within was =
-      let limit = held.few in
       revision_moves m n tidy (length lists) name row numbers adds plan revision counties held.number_fits (omega arith) (not_new other plan q revision found held within) was
 
-  new_row : Has n (named name) (plan_bytes (plan_row_of number (with_revision p districts)))
-  new_row = adds.row ∙ ap (λ k. Some (plan_bytes (record { number = number; kind = p.kind; districts = p.n; revisions = k }))) (sym (length-append p.revisions (districts ∷ [])))
-
   is_revised : IsRevised m n g plans name number p districts
-  is_revised = record {
-    seals = adds.seals;
-    rows = adds.loads;
-    others = adds.others;
-    row = new_row;
-    earlier = stays;
-    added = revision_added m n tidy (length lists) name row numbers adds source lists (cut g districts) drawn room made;
-  }
+  is_revised = search (adds.seals, adds.loads, adds.others, length-append, stays, revision_added, m, tidy, adds, drawn, room)
 
   pub revision_made : IsDesk m (desk_with g plans) → length districts ≡ length g.blocks → MakesRevision g plans name p districts (chunks_more tidy.next (length lists)) tidy.new n
   revision_made is long = record {

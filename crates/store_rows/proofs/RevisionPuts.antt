@@ -1,81 +1,36 @@
 -- The rows of one revision more, put one after the other, are what such rows are to be.
-use Rattle.std.proofs.Common.{Bool, true, false, ◌≡◌, ◌<◌, ◌≤◌, ◌+◌, ◌-◌, ◌*◌, ◌^◌, ℕ, suc, cond, List, [], ◌∷◌, ◌++◌, length, take, drop, All, Some, None, refl, sym, ap, subst, ◌∙◌, inl, inr, arith}
+use Rattle.std.specs.FinMap.{get, insert}
+use Rattle.std.proofs.Common.{true, ◌≡◌, ◌<◌, ◌≤◌, ◌+◌, ◌-◌, ◌*◌, ◌^◌, ℕ, suc, cond, List, [], ◌∷◌, ◌++◌, length, take, drop, All, Some, None, refl, sym, ap, subst, ◌∙◌, inl, inr, arith}
 use Rattle.std.proofs.lemmas.Bool.{cases_eq, cases_lt, le-ltb}
 use Rattle.std.proofs.lemmas.List.Elements.{All-cons, All-nil, All-append}
-use Rattle.std.specs.FinMap.{get, insert}
 use Rattle.desk_model.specs.claim.Room.{rows_for}
-use Rattle.store_rows.specs.claim.Keys.{RowKey, key_of, Fits, counters, retired, begun, holding, holder_count, named, part, seal, version, block, pair, chunk, in_eight}
-use Rattle.store_rows.specs.claim.Values.{plan_bytes, counters_bytes}
-use Rattle.store_rows.specs.claim.Lists.{chunks_bytes}
-use Rattle.store_rows.proofs.RowLaws.{keys_differ}
-use Rattle.store_rows.specs.declared.value.Counters.{Counters}
-use Rattle.store_rows.specs.declared.value.PlanRow.{PlanRow}
-use Rattle.store_rows.specs.claim.Rows.{KeyMap, row_in, Has, part_row}
-use Rattle.store_rows.specs.Rows.{SameTag}
-use Rattle.store_rows.proofs.Frames.{put_is_there, put_keeps, other_tag}
-use Rattle.store_rows.specs.claim.Puts.{Row, put_rows}
-use Rattle.store_rows.specs.Puts.{rows_told}
-use Rattle.store_rows.proofs.Puts.{put_rows-append, told_are, told_keep}
-use Rattle.store_rows.specs.ChunkRows.{piece_row, chunk_rows}
-use Rattle.store_rows.specs.NameRows.{name_row, name_rows}
-use Rattle.store_rows.specs.Steps.{chunks_more, one_revision_more}
+use Rattle.store_rows.specs.{claim.Keys.{RowKey, key_of, Fits, counters, holding, holder_count, named, part, chunk, in_eight}, claim.Values.{plan_bytes, counters_bytes}}
+use Rattle.store_rows.specs.{claim.Lists.chunks_bytes, declared.value.Counters.Counters, declared.value.PlanRow.PlanRow, claim.Rows.{KeyMap, row_in, Has, part_row}, Rows.SameTag}
+use Rattle.store_rows.specs.{claim.Puts.{Row, put_rows}, Puts.rows_told, ChunkRows.{piece_row, chunk_rows}, NameRows.{name_row, name_rows}, Steps.{chunks_more, one_revision_more}}
 use Rattle.store_rows.specs.RevisionSteps.{IsGiven, AreItsChunks, AddsRevision, IsChunkList, new_chunk_rows, new_holding, new_holder_count, told_held, rows_of_revision}
-use Rattle.store_rows.specs.claim.Holders.{IsHeld, AreTallied}
-use Rattle.store_rows.specs.claim.Tidy.{IsPiece, IsNamedBy, Tidy}
-use Rattle.store_rows.proofs.OneGeography.{value_is, no_value}
-use Rattle.store_rows.proofs.NewChunks.{pieces_are}
-use Rattle.store_rows.proofs.PartNumbers.{part_there}
-use Rattle.store_rows.proofs.PutAll.{IsRowOf, told_all, keeps_key, keeps_row, keeps_rows, tells_value}
-use Rattle.store_rows.proofs.TidyFree.{free_revision, free_chunk, free_holding}
-use Rattle.store_rows.proofs.Counting.{OthersHold, no_holders, holders_joined}
-use Rattle.store_rows.proofs.HolderCounts.{counted_by_holders_moved}
+use Rattle.store_rows.{specs.claim.Holders.{IsHeld, AreTallied}, specs.claim.Tidy.{IsPiece, IsNamedBy, Tidy}, proofs.ChunkRows.few_rows, proofs.NameRows.few_names}
+use Rattle.store_rows.proofs.{RowLaws.keys_differ, Frames.{put_is_there, put_keeps, other_tag}, Puts.{put_rows-append, told_are, told_keep}, OneGeography.{value_is, no_value}}
+use Rattle.store_rows.proofs.{NewChunks.pieces_are, PartNumbers.part_there, PutAll.{IsRowOf, told_all, keeps_key, keeps_row, keeps_rows, tells_value}}
+use Rattle.store_rows.proofs.{TidyFree.{free_revision, free_chunk, free_holding}, Counting.{OthersHold, no_holders, holders_joined}, HolderCounts.counted_by_holders_moved}
 use Rattle.store_rows.proofs.TidyRevisions.{given_or_not}
 
 -- ---- how many of the new chunks are told as held
-few_told : (new : Bool) (given : ℕ) → told_held new given ≤ given
-few_told true given = omega arith
-few_told false given = omega arith
-
-all_told : (new : Bool) (given : ℕ) → new ≡ true → told_held new given ≡ given
-all_told new given is = ap (λ (b : Bool). told_held b given) is
-
 -- the rows that are put
 abbrev IsPut : Counters → ℕ → ℕ → List ℕ → PlanRow → RowKey → Type 0
 IsPut next given many name p counters = Unit {0}
-IsPut next given many name p (retired plan) = ⊥
-IsPut next given many name p (begun load) = ⊥
 IsPut next given many name p (holding plan number) = (plan ≡ p.number) × IsGiven next many number
 IsPut next given many name p (holder_count number) = IsGiven next many number
 IsPut next given many name p (named other) = other ≡ name
 IsPut next given many name p (part plan revision index) = (plan ≡ p.number) × (revision ≡ p.revisions + 1)
-IsPut next given many name p seal = ⊥
-IsPut next given many name p version = ⊥
-IsPut next given many name p (block load place) = ⊥
-IsPut next given many name p (pair load place) = ⊥
 IsPut next given many name p (chunk number piece) = IsGiven next given number
+IsPut next given many name p _ = ⊥
 
 -- of these, the rows of new chunks
 abbrev IsNewPiece : Counters → ℕ → RowKey → Type 0
-IsNewPiece next given counters = ⊥
-IsNewPiece next given (retired plan) = ⊥
-IsNewPiece next given (begun load) = ⊥
-IsNewPiece next given (holding plan number) = ⊥
-IsNewPiece next given (holder_count number) = ⊥
-IsNewPiece next given (named other) = ⊥
-IsNewPiece next given (part plan revision index) = ⊥
-IsNewPiece next given seal = ⊥
-IsNewPiece next given version = ⊥
-IsNewPiece next given (block load place) = ⊥
-IsNewPiece next given (pair load place) = ⊥
 IsNewPiece next given (chunk number piece) = IsGiven next given number
+IsNewPiece next given _ = ⊥
 
 -- ---- which rows these are
-few_pieces : (n i : ℕ) → n ≤ 512 * 2 ^ 16 → i < rows_for 512 n → i < 2 ^ 16
-few_pieces n i few less = omega arith
-
-few_parts : (n i : ℕ) → n ≤ 128 * 2 ^ 8 → i < rows_for 128 n → i < 2 ^ 8
-few_parts n i few less = omega arith
-
 short : (lists : List (List ℕ)) → All IsChunkList lists → All (λ districts. length districts ≤ 512 * 2 ^ 16) lists
 short lists sound k d within = (sound k d within).few
 
@@ -83,11 +38,10 @@ chunks_are : (Q : RowKey → Type 0) (next : Counters) (given : ℕ) → ((numbe
     → (first : ℕ) (lists : List (List ℕ)) → next.chunk ≤ first → first + length lists ≤ next.chunk + given → All (λ districts. length districts ≤ 512 * 2 ^ 16) lists → All (IsRowOf Q) (new_chunk_rows first lists)
 chunks_are Q next given told room first [] from within few = All-nil (IsRowOf Q)
 chunks_are Q next given told room first (districts ∷ lists) from within few =
-    let small : length districts ≤ 512 * 2 ^ 16 = few 0 districts (omega arith) in
     All-append (IsRowOf Q) (chunk_rows first districts) (new_chunk_rows (first + 1) lists)
     (told_all (IsRowOf Q) (piece_row first districts) (rows_for 512 (length districts)) (λ k less. record {
       key = chunk first k;
-      fits = (omega arith, few_pieces (length districts) k small less);
+      fits = (omega arith, few_rows (length districts) k (few 0 districts (omega arith)) less);
       is = refl;
       holds = told first k (from, omega arith);
     }))
@@ -97,7 +51,7 @@ module _ (next : Counters) (given many : ℕ) (name : List ℕ) (p : PlanRow) (n
   parts_are : (numbers : List ℕ) → length numbers ≤ 128 * 2 ^ 8 → All (IsRowOf (IsPut next given many name p)) (name_rows p.number (p.revisions + 1) numbers)
   parts_are numbers few = told_all (IsRowOf (IsPut next given many name p)) (name_row p.number (p.revisions + 1) numbers) (rows_for 128 (length numbers)) (λ k less. record {
     key = part p.number (p.revisions + 1) k;
-    fits = (number_fits, few_revisions, few_parts (length numbers) k few less);
+    fits = (number_fits, few_revisions, few_names (length numbers) k few less);
     is = refl;
     holds = (refl, refl);
   })
@@ -109,42 +63,24 @@ module _ (next : Counters) (given many : ℕ) (name : List ℕ) (p : PlanRow) (n
 
   -- keys of other tags, and of other plans, are none of them
   other_tags : (tag : ℕ) (rest : List ℕ) → (tag ≡ 65 → ⊥) → (tag ≡ 80 → ⊥) → (tag ≡ 82 → ⊥) → (tag ≡ 107 → ⊥) → (tag ≡ 72 → ⊥) → (tag ≡ 75 → ⊥) → (k : RowKey) → Fits k → IsPut next given many name p k → tag ∷ rest ≡ key_of k → ⊥
-  other_tags tag rest a b c d e f counters fits holds same = other_tag tag 65 rest _ a same
-  other_tags tag rest a b c d e f (retired plan) fits holds same = holds
-  other_tags tag rest a b c d e f (begun load) fits holds same = holds
-  other_tags tag rest a b c d e f (holding plan number) fits holds same = other_tag tag 72 rest _ e same
-  other_tags tag rest a b c d e f (holder_count number) fits holds same = other_tag tag 75 rest _ f same
-  other_tags tag rest a b c d e f (named other) fits holds same = other_tag tag 80 rest _ b same
-  other_tags tag rest a b c d e f (part plan revision index) fits holds same = other_tag tag 82 rest _ c same
-  other_tags tag rest a b c d e f seal fits holds same = holds
-  other_tags tag rest a b c d e f version fits holds same = holds
-  other_tags tag rest a b c d e f (block load place) fits holds same = holds
-  other_tags tag rest a b c d e f (pair load place) fits holds same = holds
-  other_tags tag rest a b c d e f (chunk number piece) fits holds same = other_tag tag 107 rest _ d same
+  other_tags tag rest a b c d e f k fits holds same = search (arith, other_tag)
 
   other_names : (other : List ℕ) → (other ≡ name → ⊥) → (k : RowKey) → Fits k → IsPut next given many name p k → key_of (named other) ≡ key_of k → ⊥
-  other_names other apart counters fits holds same = other_tag 80 65 other _ (λ e. absurd (omega arith)) same
-  other_names other apart (retired plan) fits holds same = holds
-  other_names other apart (begun load) fits holds same = holds
-  other_names other apart (holding plan number) fits holds same = other_tag 80 72 other _ (λ e. absurd (omega arith)) same
-  other_names other apart (holder_count number) fits holds same = other_tag 80 75 other _ (λ e. absurd (omega arith)) same
-  other_names other apart (named x) fits holds same = apart (ap (drop 1) same ∙ holds)
-  other_names other apart (part plan revision index) fits holds same = other_tag 80 82 other _ (λ e. absurd (omega arith)) same
-  other_names other apart seal fits holds same = holds
-  other_names other apart version fits holds same = holds
-  other_names other apart (block load place) fits holds same = holds
-  other_names other apart (pair load place) fits holds same = holds
-  other_names other apart (chunk number piece) fits holds same = other_tag 80 107 other _ (λ e. absurd (omega arith)) same
+  other_names other apart k fits holds same = search (arith, apart, other_tag)
 
 one_part : (plan revision i j : ℕ) → Fits (part plan revision i) → Fits (part plan revision j) → key_of (part plan revision i) ≡ key_of (part plan revision j) → i ≡ j
 one_part plan revision i j fits also same = (let rows : part plan revision i ≡ part plan revision j = keys_differ (part plan revision i) (part plan revision j) fits also same in cc)
+
+-- keys of rows that one number tells apart
+one_key : (row : ℕ → RowKey) (first count : ℕ) → ((x y : ℕ) → row x ≡ row y → x ≡ y) → ((k : ℕ) → k < count → Fits (row (first + k))) → (i j : ℕ) → i < count → j < count → key_of (row (first + i)) ≡ key_of (row (first + j)) → i ≡ j
+one_key row first count apart fits i j one other same = let equal = apart (first + i) (first + j) (keys_differ (row (first + i)) (row (first + j)) (fits i one) (fits j other) same) in omega arith
 
 module _ (m : KeyMap) (tidy : Tidy m) (name : List ℕ) (p : PlanRow) (lists : List (List ℕ)) (numbers : List ℕ) (number_fits : p.number < 2 ^ 64) (few_revisions : p.revisions + 1 < 2 ^ 32) (name_fits : Fits (named name)) (room : tidy.next.chunk + length lists < 2 ^ 64) (has : Has m (named name) (plan_bytes p)) (few : length numbers ≤ 128 * 2 ^ 8) (sound : All IsChunkList lists) (its : AreItsChunks m tidy.next (length lists) p.number numbers) where
   abbrev many : ℕ
   many = told_held tidy.new (length lists)
 
   few_many : many ≤ length lists
-  few_many = few_told tidy.new (length lists)
+  few_many = search (arith)
 
   abbrev Q : RowKey → Type 0
   Q = IsPut tidy.next (length lists) many name p
@@ -213,14 +149,6 @@ module _ (m : KeyMap) (tidy : Tidy m) (name : List ℕ) (p : PlanRow) (lists : L
   tag_stays : (tag : ℕ) → (tag ≡ 65 → ⊥) → (tag ≡ 80 → ⊥) → (tag ≡ 82 → ⊥) → (tag ≡ 107 → ⊥) → (tag ≡ 72 → ⊥) → (tag ≡ 75 → ⊥) → SameTag tag m after
   tag_stays tag a b c d e f rest = keeps_key Q m (rows_of_revision tidy.new tidy.next name p lists numbers) (tag ∷ rest) all_are (other_tags tidy.next (length lists) many name p number_fits few_revisions name_fits tag rest a b c d e f)
 
-  named_row : Has after (named name) (plan_bytes (one_revision_more p))
-  named_row = ap (λ n. row_in n (named name)) in_steps
-      ∙ put_keeps (insert with_parts plan_row.0 plan_row.1) counters_row.0 counters_row.1 (key_of (named name)) (other_tag 80 65 name [] (λ e. absurd (omega arith)))
-      ∙ put_is_there with_parts plan_row.0 plan_row.1
-
-  counters_there : Has after counters (counters_bytes (chunks_more tidy.next (length lists)))
-  counters_there = ap (λ n. row_in n counters) in_steps ∙ put_is_there (insert with_parts plan_row.0 plan_row.1) counters_row.0 counters_row.1
-
   -- the parts are those of the list of numbers
   in_parts : (index : ℕ) → row_in after (part p.number (p.revisions + 1) index) ≡ row_in with_parts (part p.number (p.revisions + 1) index)
   in_parts index = ap (λ n. row_in n (part p.number (p.revisions + 1) index)) in_steps
@@ -241,10 +169,10 @@ module _ (m : KeyMap) (tidy : Tidy m) (name : List ℕ) (p : PlanRow) (lists : L
   part_is : (index : ℕ) → index < 2 ^ 8 → row_in with_parts (part p.number (p.revisions + 1) index) ≡ part_row 128 chunks_bytes numbers index
   part_is index less = elim (cases_lt index (rows_for 128 (length numbers))) [
     | inl within ↦ told_are with_counts (name_row p.number (p.revisions + 1) numbers) (rows_for 128 (length numbers)) index
-        (λ i j one other same. one_part p.number (p.revisions + 1) i j (part_fits i (few_parts (length numbers) i few one)) (part_fits j (few_parts (length numbers) j few other)) same) within
+        (λ i j one other same. one_part p.number (p.revisions + 1) i j (part_fits i (few_names (length numbers) i few one)) (part_fits j (few_names (length numbers) j few other)) same) within
         ∙ sym (part_there numbers index (omega arith))
     | inr past ↦ told_keep with_counts (name_row p.number (p.revisions + 1) numbers) (rows_for 128 (length numbers)) (key_of (part p.number (p.revisions + 1) index))
-        (λ k within same. let one : index ≡ k = one_part p.number (p.revisions + 1) index k (part_fits index less) (part_fits k (few_parts (length numbers) k few within)) same in omega arith)
+        (λ k within same. let one : index ≡ k = one_part p.number (p.revisions + 1) index k (part_fits index less) (part_fits k (few_names (length numbers) k few within)) same in omega arith)
         ∙ part_before index
         ∙ no_part index less
         ∙ free_revision m tidy name p number_fits (omega arith) has (p.revisions + 1) index (omega arith) (part_fits index less)
@@ -252,8 +180,8 @@ module _ (m : KeyMap) (tidy : Tidy m) (name : List ℕ) (p : PlanRow) (lists : L
   ]
 
   -- the rows of chunks are those of the new ones
-  chunk_rows_stay : SameTag 107 with_chunks after
-  chunk_rows_stay rest = ap (λ n. get n (107 ∷ rest)) in_steps
+  pub chunks_put : SameTag 107 (put_rows m (new_chunk_rows tidy.next.chunk lists)) (put_rows m (rows_of_revision tidy.new tidy.next name p lists numbers))
+  chunks_put rest = ap (λ n. get n (107 ∷ rest)) in_steps
       ∙ put_keeps (insert with_parts plan_row.0 plan_row.1) counters_row.0 counters_row.1 (107 ∷ rest) (other_tag 107 65 rest [] (λ e. absurd (omega arith)))
       ∙ put_keeps with_parts plan_row.0 plan_row.1 (107 ∷ rest) (other_tag 107 80 rest name (λ e. absurd (omega arith)))
       ∙ told_keep with_counts (name_row p.number (p.revisions + 1) numbers) (rows_for 128 (length numbers)) (107 ∷ rest) (λ k less. other_tag 107 82 rest _ (λ e. absurd (omega arith)))
@@ -262,7 +190,7 @@ module _ (m : KeyMap) (tidy : Tidy m) (name : List ℕ) (p : PlanRow) (lists : L
 
   -- what they hold is pieces of chunks
   new_piece : (number piece : ℕ) (value : List ℕ) → Fits (chunk number piece) → IsGiven tidy.next (length lists) number → Has after (chunk number piece) value → IsPiece value
-  new_piece number piece value fits given there = elim (tells_value (λ row. IsPiece row.1) m (new_chunk_rows tidy.next.chunk lists) (key_of (chunk number piece)) value (pieces_are tidy.next.chunk lists sound) (sym (chunk_rows_stay _) ∙ there)) [
+  new_piece number piece value fits given there = elim (tells_value (λ row. IsPiece row.1) m (new_chunk_rows tidy.next.chunk lists) (key_of (chunk number piece)) value (pieces_are tidy.next.chunk lists sound) (sym (chunks_put _) ∙ there)) [
     | inl put ↦ subst (λ (v : List ℕ). IsPiece v) put.2 put.1
     | inr before ↦ absurd (no_value value (sym before ∙ free_chunk m tidy number given.0 fits.0 piece fits.1))
   ]
@@ -284,39 +212,19 @@ module _ (m : KeyMap) (tidy : Tidy m) (name : List ℕ) (p : PlanRow) (lists : L
   holder_count_fits : (k : ℕ) → k < many → Fits (holder_count (tidy.next.chunk + k))
   holder_count_fits k less = (let few = few_many in omega arith)
 
-  one_holding : (i j : ℕ) → i < many → j < many → key_of (holding p.number (tidy.next.chunk + i)) ≡ key_of (holding p.number (tidy.next.chunk + j)) → i ≡ j
-  one_holding i j one other same =
-      let rows : holding p.number (tidy.next.chunk + i) ≡ holding p.number (tidy.next.chunk + j) = keys_differ (holding p.number (tidy.next.chunk + i)) (holding p.number (tidy.next.chunk + j)) (holding_fits i one) (holding_fits j other) same in
-      let equal : tidy.next.chunk + i ≡ tidy.next.chunk + j = cc in
-      omega arith
-
-  one_holder_count : (i j : ℕ) → i < many → j < many → key_of (holder_count (tidy.next.chunk + i)) ≡ key_of (holder_count (tidy.next.chunk + j)) → i ≡ j
-  one_holder_count i j one other same =
-      let rows : holder_count (tidy.next.chunk + i) ≡ holder_count (tidy.next.chunk + j) = keys_differ (holder_count (tidy.next.chunk + i)) (holder_count (tidy.next.chunk + j)) (holder_count_fits i one) (holder_count_fits j other) same in
-      let equal : tidy.next.chunk + i ≡ tidy.next.chunk + j = cc in
-      omega arith
-
   holding_there : (k : ℕ) → k < many → IsHeld after p.number (tidy.next.chunk + k)
   holding_there k less = held_last 72 _ (λ e. absurd (omega arith)) (λ e. absurd (omega arith)) (λ e. absurd (omega arith))
       ∙ told_keep with_holdings (new_holder_count tidy.next.chunk) many (key_of (holding p.number (tidy.next.chunk + k))) (λ i within. other_tag 72 75 _ _ (λ e. absurd (omega arith)))
-      ∙ told_are with_chunks (new_holding p.number tidy.next.chunk) many k one_holding less
+      ∙ told_are with_chunks (new_holding p.number tidy.next.chunk) many k (one_key (holding p.number) tidy.next.chunk many (λ x y e. cc) holding_fits) less
 
   holder_count_there : (k : ℕ) → k < many → Has after (holder_count (tidy.next.chunk + k)) (in_eight 1)
-  holder_count_there k less = held_last 75 _ (λ e. absurd (omega arith)) (λ e. absurd (omega arith)) (λ e. absurd (omega arith)) ∙ told_are with_holdings (new_holder_count tidy.next.chunk) many k one_holder_count less
+  holder_count_there k less = held_last 75 _ (λ e. absurd (omega arith)) (λ e. absurd (omega arith)) (λ e. absurd (omega arith)) ∙ told_are with_holdings (new_holder_count tidy.next.chunk) many k (one_key holder_count tidy.next.chunk many (λ x y e. cc) holder_count_fits) less
+
+  at_given : (P : ℕ → Type 0) → ((k : ℕ) → k < many → P (tidy.next.chunk + k)) → (number : ℕ) → IsGiven tidy.next many number → P number
+  at_given P each number given = (let same : tidy.next.chunk + (number - tidy.next.chunk) ≡ number = omega arith in subst P same (each (number - tidy.next.chunk) (omega arith)))
 
   held_new : (number : ℕ) → IsGiven tidy.next many number → IsHeld after p.number number
-  held_new number given =
-      let from = given.0 in
-      let below = given.1 in
-      let same : tidy.next.chunk + (number - tidy.next.chunk) ≡ number = omega arith in
-      subst (λ (x : ℕ). IsHeld after p.number x) same (holding_there (number - tidy.next.chunk) (omega arith))
-
-  counted_by_holders_new : (number : ℕ) → IsGiven tidy.next many number → Has after (holder_count number) (in_eight 1)
-  counted_by_holders_new number given =
-      let from = given.0 in
-      let below = given.1 in
-      let same : tidy.next.chunk + (number - tidy.next.chunk) ≡ number = omega arith in
-      subst (λ (x : ℕ). Has after (holder_count x) (in_eight 1)) same (holder_count_there (number - tidy.next.chunk) (omega arith))
+  held_new = at_given (IsHeld after p.number) holding_there
 
   -- what the plan named already it holds already
   held_still : tidy.new ≡ true → (number : ℕ) → IsNamedBy m p.number number → IsHeld after p.number number
@@ -336,7 +244,7 @@ module _ (m : KeyMap) (tidy : Tidy m) (name : List ℕ) (p : PlanRow) (lists : L
     | inl is ↦ (let others : OthersHold m after p.number number = λ other other_fits apart. other_holding other number (other_fits, fits) (λ both. apart both.0) in record {
       count = 1;
       fits = omega arith;
-      row = counted_by_holders_new number is;
+      row = at_given (λ x. Has after (holder_count x) (in_eight 1)) holder_count_there number is;
       holders = holders_joined m after p.number number 0 number_fits others (none_before p.number number (number_fits, fits) is) (held_new number is)
           (no_holders m number (λ plan small held. none_before plan number (small, fits) is held));
     })
@@ -354,11 +262,12 @@ module _ (m : KeyMap) (tidy : Tidy m) (name : List ℕ) (p : PlanRow) (lists : L
     | inr apart ↦ (tidy.holdings.held plan number value fits (sym (other_holding plan number fits (λ both. apart both.0)) ∙ there)).0
   ]
 
-  adds_revision : AddsRevision m after tidy.new tidy.next (length lists) name p numbers
-  adds_revision = record {
+  -- rows as a revision puts them are rows that add it
+  pub revision_put : AddsRevision m (put_rows m (rows_of_revision tidy.new tidy.next name p lists numbers)) tidy.new tidy.next (length lists) name p numbers
+  revision_put = record {
     rows = keeps_rows Q m (rows_of_revision tidy.new tidy.next name p lists numbers) all_are tidy.rows;
-    moved = counters_there;
-    row = named_row;
+    moved = ap (λ n. row_in n counters) in_steps ∙ put_is_there (insert with_parts plan_row.0 plan_row.1) counters_row.0 counters_row.1;
+    row = search (arith, in_steps, put_keeps, other_tag, put_is_there);
     others = λ other apart. keeps_key Q m (rows_of_revision tidy.new tidy.next name p lists numbers) (key_of (named other)) all_are (other_names tidy.next (length lists) many name p number_fits few_revisions name_fits other apart);
     marks = tag_stays 68 (λ e. absurd (omega arith)) (λ e. absurd (omega arith)) (λ e. absurd (omega arith)) (λ e. absurd (omega arith)) (λ e. absurd (omega arith)) (λ e. absurd (omega arith));
     starts = tag_stays 76 (λ e. absurd (omega arith)) (λ e. absurd (omega arith)) (λ e. absurd (omega arith)) (λ e. absurd (omega arith)) (λ e. absurd (omega arith)) (λ e. absurd (omega arith));
@@ -370,20 +279,7 @@ module _ (m : KeyMap) (tidy : Tidy m) (name : List ℕ) (p : PlanRow) (lists : L
     other_chunks = λ number piece fits apart. keeps_row Q m (rows_of_revision tidy.new tidy.next name p lists numbers) (chunk number piece) all_are fits apart;
     told = tag_stays 86 (λ e. absurd (omega arith)) (λ e. absurd (omega arith)) (λ e. absurd (omega arith)) (λ e. absurd (omega arith)) (λ e. absurd (omega arith)) (λ e. absurd (omega arith)) [];
     empty = empty_after;
-    holdings = λ is_new number among. elim (its.own number among) [
-      | inl own ↦ held_still is_new number own
-      | inr given ↦ held_new number (subst (λ (k : ℕ). IsGiven tidy.next k number) (sym (all_told tidy.new (length lists) is_new)) given)
-    ];
+    holdings = λ is_new number among. search (arith, its.own, held_still, held_new, tidy.next, tidy.new);
     other_holdings = λ plan number fits apart. keeps_row Q m (rows_of_revision tidy.new tidy.next name p lists numbers) (holding plan number) all_are fits (λ both. apart (both.0, its.whole number (given_too number both.1)));
     counted_by_holders = counted_by_holders_now;
   }
-
--- rows as a revision puts them are rows that add it
-pub revision_put : (m : KeyMap) (tidy : Tidy m) (name : List ℕ) (p : PlanRow) (lists : List (List ℕ)) (numbers : List ℕ) → p.number < 2 ^ 64 → p.revisions + 1 < 2 ^ 32 → Fits (named name) → tidy.next.chunk + length lists < 2 ^ 64
-    → Has m (named name) (plan_bytes p) → length numbers ≤ 128 * 2 ^ 8 → All IsChunkList lists → AreItsChunks m tidy.next (length lists) p.number numbers → AddsRevision m (put_rows m (rows_of_revision tidy.new tidy.next name p lists numbers)) tidy.new tidy.next (length lists) name p numbers
-revision_put m tidy name p lists numbers number_fits few_revisions name_fits room has few sound its = adds_revision m tidy name p lists numbers number_fits few_revisions name_fits room has few sound its
-
--- and the chunks that it has after them are those of its new ones
-pub chunks_put : (m : KeyMap) (tidy : Tidy m) (name : List ℕ) (p : PlanRow) (lists : List (List ℕ)) (numbers : List ℕ) → p.number < 2 ^ 64 → p.revisions + 1 < 2 ^ 32 → Fits (named name) → tidy.next.chunk + length lists < 2 ^ 64
-    → Has m (named name) (plan_bytes p) → length numbers ≤ 128 * 2 ^ 8 → All IsChunkList lists → AreItsChunks m tidy.next (length lists) p.number numbers → SameTag 107 (put_rows m (new_chunk_rows tidy.next.chunk lists)) (put_rows m (rows_of_revision tidy.new tidy.next name p lists numbers))
-chunks_put m tidy name p lists numbers number_fits few_revisions name_fits room has few sound its = chunk_rows_stay m tidy name p lists numbers number_fits few_revisions name_fits room has few sound its

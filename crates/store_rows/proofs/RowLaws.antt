@@ -1,6 +1,5 @@
 -- A row is read back from its key, so different rows have different keys.
-use Rattle.std.proofs.Common.{◌≡◌, ◌%◌, ℕ, List, [], ◌∷◌, drop, get_or, if◌then◌else◌, nat_eq, refl, sym, ap, ◌∙◌, w16, w32, w64, arith}
-use Rattle.std.specs.Int.{from_be_bytes}
+use Rattle.std.{specs.Int.from_be_bytes, proofs.Common.{◌≡◌, ℕ, List, [], ◌∷◌, drop, get_or, if◌then◌else◌, nat_eq, sym, ap, ◌∙◌, w16, w32, w64, arith}}
 use Rattle.std.proofs.lemmas.Nat.{from_be_bytes-to_be_bytes_2, from_be_bytes-to_be_bytes_4, from_be_bytes-to_be_bytes_8}
 use Rattle.store_rows.specs.claim.Keys.{RowKey, counters, retired, begun, holding, holder_count, named, part, seal, version, block, pair, chunk, key_of, Fits}
 
@@ -24,20 +23,7 @@ row_in (tag ∷ bytes) =
 
 read_back : (row : RowKey) → Fits row → row_in (key_of row) ≡ row
 unfolding row_in load_row
-read_back counters fits = refl
-read_back (retired plan) fits = ap retired (from_be_bytes-to_be_bytes_8 plan fits)
-read_back (begun load) fits = ap begun (from_be_bytes-to_be_bytes_8 load fits)
-read_back (holding plan number) fits = λ i. holding (from_be_bytes-to_be_bytes_8 plan fits.0 i) (from_be_bytes-to_be_bytes_8 number fits.1 i)
-read_back (holder_count number) fits = ap holder_count (from_be_bytes-to_be_bytes_8 number fits)
-read_back (named name) fits = refl
-read_back (part plan revision index) fits =
-    let one : index % 256 ≡ index = omega (arith, fits.2) in
-    λ i. part (from_be_bytes-to_be_bytes_8 plan fits.0 i) (from_be_bytes-to_be_bytes_4 revision fits.1 i) (one i)
-read_back seal fits = refl
-read_back version fits = refl
-read_back (block load place) fits = λ i. block (from_be_bytes-to_be_bytes_8 load fits.0 i) (from_be_bytes-to_be_bytes_4 place fits.1 i)
-read_back (pair load place) fits = λ i. pair (from_be_bytes-to_be_bytes_8 load fits.0 i) (from_be_bytes-to_be_bytes_4 place fits.1 i)
-read_back (chunk number piece) fits = λ i. chunk (from_be_bytes-to_be_bytes_8 number fits.0 i) (from_be_bytes-to_be_bytes_2 piece fits.1 i)
+read_back row fits = search (arith, from_be_bytes-to_be_bytes_8, from_be_bytes-to_be_bytes_4, from_be_bytes-to_be_bytes_2)
 
 pub keys_differ : (a b : RowKey) → Fits a → Fits b → key_of a ≡ key_of b → a ≡ b
 keys_differ a b fa fb same = sym (read_back a fa) ∙ ap row_in same ∙ read_back b fb

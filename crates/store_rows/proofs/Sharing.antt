@@ -1,45 +1,26 @@
 -- A plan comes to hold chunks, one after the other.
-use Rattle.std.proofs.Common.{◌≡◌, ◌<◌, ◌+◌, ◌^◌, ℕ, zero, suc, List, [], ◌∷◌, ◌++◌, Option, Some, None, refl, sym, ap, subst, ◌∙◌, inl, inr, arith}
-use Rattle.std.specs.Prelude.{Contains}
+use Rattle.std.specs.{Prelude.Contains, FinMap.insert}
+use Rattle.std.proofs.Common.{◌≡◌, ◌<◌, ◌+◌, ◌^◌, ℕ, suc, List, [], ◌∷◌, ◌++◌, Some, None, refl, sym, ap, subst, ◌∙◌, inl, inr, arith}
 use Rattle.std.proofs.lemmas.Bool.{cases_eq}
 use Rattle.std.proofs.lemmas.Nat.{from_be_bytes-to_be_bytes_8}
-use Rattle.std.specs.FinMap.{insert}
-use Rattle.store_rows.specs.claim.Keys.{key_of, Fits, holding, holder_count, in_eight}
-use Rattle.store_rows.specs.claim.Rows.{KeyMap, row_in, Has}
-use Rattle.store_rows.specs.Rows.{SameTag}
-use Rattle.store_rows.proofs.Frames.{put_keeps_tag, put_keeps_row, tag_follows}
-use Rattle.store_rows.specs.claim.Holders.{IsHeld, IsTallied, holder_count_row}
-use Rattle.store_rows.specs.Holders.{AreHoldersBelow}
-use Rattle.store_rows.specs.HolderLaws.{JoinsHolders}
-use Rattle.store_rows.specs.claim.Shares.{count_of, hold_by, hold}
-use Rattle.store_rows.specs.Shares.{hold_all, AreEmpty, CanHold, Holds}
-use Rattle.store_rows.proofs.OneGeography.{value_is}
-use Rattle.store_rows.proofs.TidyParts.{rows_put}
-use Rattle.store_rows.proofs.HolderCounts.{joins_holders, held_too, too_holdings, too_held}
-use Rattle.store_rows.proofs.TidyRevisions.{contains_or_not}
+use Rattle.store_rows.specs.{claim.Keys.{key_of, Fits, holding, holder_count, in_eight}, claim.Rows.{KeyMap, row_in, Has}, Rows.SameTag, claim.Holders.{IsHeld, holder_count_row}}
+use Rattle.store_rows.specs.{Holders.AreHoldersBelow, HolderLaws.JoinsHolders, claim.Shares.{count_of, hold}, Shares.{hold_all, AreEmpty, CanHold, Holds}}
+use Rattle.store_rows.proofs.{Frames.{put_keeps_tag, put_keeps_row, tag_follows}, OneGeography.value_is, TidyParts.rows_put}
+use Rattle.store_rows.proofs.{HolderCounts.{joins_holders, held_too, too_holdings, too_held}, TidyRevisions.contains_or_not}
 
 -- ---- a count is read back
 pub count_back : (count : ℕ) → count < 2 ^ 64 → count_of (holder_count_row count) ≡ count
-count_back zero fits = refl
-count_back (suc more) fits = (let same : more + 1 ≡ suc more = omega arith in from_be_bytes-to_be_bytes_8 (more + 1) (omega arith) ∙ same)
-
-count_read : (m : KeyMap) (number : ℕ) (is : IsTallied m number) → count_of (row_in m (holder_count number)) ≡ is.count
-count_read m number is = ap count_of is.row ∙ count_back is.count is.fits
+count_back count fits = search (arith, from_be_bytes-to_be_bytes_8)
 
 -- ---- lists
 pub only_one : (number x : ℕ) → Contains (number ∷ []) x → number ≡ x
-only_one number x (zero, within, is) = is
-only_one number x (suc k, within, is) = absurd (omega arith)
+only_one number x given = search (arith)
 
 first_one : (number : ℕ) (numbers : List ℕ) → Contains (number ∷ numbers) number
 first_one number numbers = (0, omega arith, refl)
 
-later_one : (number x : ℕ) (numbers : List ℕ) → Contains numbers x → Contains (number ∷ numbers) x
+pub later_one : (number x : ℕ) (numbers : List ℕ) → Contains numbers x → Contains (number ∷ numbers) x
 later_one number x numbers (k, within, is) = (suc k, omega arith, is)
-
-not_later : (number x : ℕ) (numbers : List ℕ) → Contains (number ∷ numbers) x → (Contains numbers x → ⊥) → number ≡ x
-not_later number x numbers (zero, within, is) none = is
-not_later number x numbers (suc k, within, is) none = absurd (none (k, omega arith, is))
 
 -- ---- one chunk
 module _ (m : KeyMap) (limit plan number : ℕ) (can : CanHold m limit plan) (fits : number < 2 ^ 64) where
@@ -67,9 +48,8 @@ module _ (m : KeyMap) (limit plan number : ℕ) (can : CanHold m limit plan) (fi
 
   others_then : (other x : ℕ) → Fits (holding other x) → ((other ≡ plan) × Contains (number ∷ []) x → ⊥) → row_in made (holding other x) ≡ row_in m (holding other x)
   others_then other x other_fits apart = holdings_then _ ∙ put_keeps_row m (holding plan number) [] (holding other x) (plan_fits, fits) other_fits (λ same.
-      let one : other ≡ plan = cc in
       let two : number ≡ x = cc in
-      apart (one, (0, omega arith, two)))
+      apart (cc, (0, omega arith, two)))
 
   below_then : AreHoldersBelow made limit
   below_then other x other_fits x_fits there = elim (cases_eq other plan) [
@@ -89,8 +69,7 @@ module _ (m : KeyMap) (limit plan number : ℕ) (can : CanHold m limit plan) (fi
   holds_now : row_in m (holding plan number) ≡ None → Holds m made limit plan (number ∷ [])
   holds_now lacks =
       let is = can.counted_by_holders number fits in
-      let same : count ≡ is.count = count_read m number is in
-      let few = is.fits in
+      let same : count ≡ is.count = ap count_of is.row ∙ count_back is.count is.fits in
       let joins : JoinsHolders m limit plan number count = joins_holders m limit plan number count can.counted_by_holders can.below can.limit_fits can.plan_below fits (omega arith) lacks (is.row ∙ ap holder_count_row (sym same)) in
       record {
         can = record { counted_by_holders = joins.counted_by_holders; below = below_then; empty = empty_then; limit_fits = can.limit_fits; plan_below = can.plan_below };
@@ -100,29 +79,16 @@ module _ (m : KeyMap) (limit plan number : ℕ) (can : CanHold m limit plan) (fi
         rows = λ rows. rows_put (insert m (key_of (holding plan number)) []) (holder_count number) (in_eight (count + 1)) fits (rows_put m (holding plan number) [] (plan_fits, fits) rows);
       }
 
-  one_by : (o : Option (List ℕ)) → row_in m (holding plan number) ≡ o → Holds m (hold_by o m plan number) limit plan (number ∷ [])
-  one_by None is = holds_now is
-  one_by (Some value) is = held_already value is
-
   one_held : Holds m (hold m plan number) limit plan (number ∷ [])
-  one_held = one_by (row_in m (holding plan number)) refl
+  one_held = search (arith, holds_now, held_already)
 
 -- ---- one after the other
-none_held : (m : KeyMap) (limit plan : ℕ) → CanHold m limit plan → Holds m m limit plan []
-none_held m limit plan can = record {
-  can = can;
-  held = λ x there. let within = there.1 in absurd (omega arith);
-  others = λ other x fits apart. refl;
-  rest = λ tag a b more. refl;
-  rows = λ rows. rows;
-}
-
 more_held : (m n o : KeyMap) (limit plan number : ℕ) (numbers : List ℕ) → plan < 2 ^ 64 → ((x : ℕ) → Contains (number ∷ numbers) x → x < 2 ^ 64) → Holds m n limit plan (number ∷ []) → Holds n o limit plan numbers → Holds m o limit plan (number ∷ numbers)
 more_held m n o limit plan number numbers plan_fits few one rest = record {
   can = rest.can;
   held = λ x among. elim (contains_or_not numbers x) [
     | inl later ↦ rest.held x later
-    | inr none ↦ rest.others plan x (plan_fits, few x among) (λ both. none both.1) ∙ one.held x (0, omega arith, not_later number x numbers among none)
+    | inr none ↦ rest.others plan x (plan_fits, few x among) (λ both. none both.1) ∙ one.held x (0, omega arith, (search (arith, none)))
   ];
   others = λ other x fits apart. rest.others other x fits (λ both. apart (both.0, later_one number x numbers both.1))
       ∙ one.others other x fits (λ both. apart (both.0, subst (λ (k : ℕ). Contains (number ∷ numbers) k) (only_one number x both.1) (first_one number numbers)));
@@ -131,7 +97,7 @@ more_held m n o limit plan number numbers plan_fits few one rest = record {
 }
 
 pub all_held : (m : KeyMap) (limit plan : ℕ) (numbers : List ℕ) → CanHold m limit plan → ((number : ℕ) → Contains numbers number → number < 2 ^ 64) → Holds m (hold_all m plan numbers) limit plan numbers
-all_held m limit plan [] can few = none_held m limit plan can
+all_held m limit plan [] can few = search arith
 all_held m limit plan (number ∷ numbers) can few =
     let fits : number < 2 ^ 64 = few number (first_one number numbers) in
     let one : Holds m (hold m plan number) limit plan (number ∷ []) = one_held m limit plan number can fits in

@@ -1,26 +1,15 @@
 -- Lemmas on the definitions of Staging.
+use Rattle.std.specs.{Prelude.option_map, List.slice_get, FinMap.{FinMap, get, insert}}
 use Rattle.std.proofs.Common.{◌≡◌, ◌<◌, ◌≤◌, ◌+◌, ◌-◌, ◌^◌, ℕ, zero, suc, List, [], ◌∷◌, ◌++◌, length, take, All, Option, Some, None, refl, sym, ap, subst, ◌∙◌, inl, inr, arith}
-use Rattle.std.specs.Prelude.{option_map}
-use Rattle.std.specs.List.{slice_get}
-use Rattle.std.specs.FinMap.{FinMap, get, insert}
 use Rattle.std.proofs.lemmas.Bool.{cases_eq, cases_lt}
 use Rattle.std.proofs.lemmas.List.{take_all, take_more}
 use Rattle.std.proofs.lemmas.List.Elements.{All-push}
 use Rattle.std.proofs.lemmas.Option.{get_or_from_slice_get, slice_get_within}
-use Rattle.desk_model.specs.declared.block.BlockRow.{BlockRow}
-use Rattle.desk_model.specs.declared.geography.Pair.{Pair}
-use Rattle.desk_model.specs.claim.Geography.{GeographyModel}
-use Rattle.desk_model.specs.claim.GeographyModels.{IsGeographyModel}
+use Rattle.desk_model.specs.{declared.block.BlockRow.BlockRow, declared.geography.Pair.Pair, claim.Geography.GeographyModel, claim.GeographyModels.IsGeographyModel}
 use Rattle.desk_model.specs.claim.Desk.{Plan, name_cmp}
-use Rattle.store_rows.specs.claim.Keys.{key_of, block, pair, seal, named}
-use Rattle.store_rows.specs.claim.Values.{block_bytes, seal_bytes}
-use Rattle.store_rows.specs.claim.Rows.{KeyMap, row_in, element_row}
-use Rattle.store_rows.specs.Rows.{SameTag}
-use Rattle.store_rows.specs.claim.GeographyRows.{IsBlockRow, IsStaged, geography_rows, neighbours_bytes}
-use Rattle.store_rows.specs.claim.DeskRows.{IsPlanAt, IsDesk}
-use Rattle.store_rows.specs.Changes.{desk_with}
-use Rattle.store_rows.proofs.Frames.{put_is_there, put_keeps_row, put_keeps_tag, staged_stays}
-use Rattle.store_rows.specs.Staging.{desk_without}
+use Rattle.store_rows.specs.{claim.Keys.{key_of, block, pair, seal, named}, claim.Values.{block_bytes, seal_bytes}, claim.Rows.{KeyMap, row_in, element_row}, Rows.SameTag}
+use Rattle.store_rows.specs.{claim.GeographyRows.{IsBlockRow, IsStaged, geography_rows, neighbours_bytes}, claim.DeskRows.{IsPlanAt, IsDesk}, Changes.desk_with}
+use Rattle.store_rows.{specs.Staging.desk_without, proofs.Frames.{put_is_there, put_keeps_row, put_keeps_tag, staged_stays}}
 
 -- ---- elements of a prefix
 taken : {X : Type 0} (xs : List X) (n k : ℕ) → k < n → slice_get (take n xs) k ≡ slice_get xs k
@@ -35,17 +24,11 @@ not_taken [] (suc n) k more = refl
 not_taken (x ∷ xs) (suc n) zero more = absurd (omega arith)
 not_taken (x ∷ xs) (suc n) (suc k) more = not_taken xs n k (omega arith)
 
-one_more : {X : Type 0} (xs : List X) (n k : ℕ) → (k ≡ n → ⊥) → slice_get (take (n + 1) xs) k ≡ slice_get (take n xs) k
-one_more xs n k apart = elim (cases_lt k n) [
-  | inl less ↦ taken xs (n + 1) k (omega arith) ∙ sym (taken xs n k less)
-  | inr more ↦ not_taken xs (n + 1) k (omega arith) ∙ sym (not_taken xs n k more)
-]
-
 row_there : {X : Type 0} (bytes : X → List ℕ) (xs : List X) (n : ℕ) (x : X) → slice_get xs n ≡ Some x → element_row bytes (take (n + 1) xs) n ≡ Some (bytes x)
 row_there bytes xs n x is = ap (option_map bytes) (taken xs (n + 1) n (omega arith) ∙ is)
 
 row_same : {X : Type 0} (bytes : X → List ℕ) (xs : List X) (n k : ℕ) → (k ≡ n → ⊥) → element_row bytes (take n xs) k ≡ element_row bytes (take (n + 1) xs) k
-row_same bytes xs n k apart = ap (option_map bytes) (sym (one_more xs n k apart))
+row_same bytes xs n k apart = ap (option_map bytes) (sym (search (arith, cases_lt, taken, not_taken)))
 
 -- ---- keys
 not_block : (load place other : ℕ) → pair load place ≡ block load other → ⊥
@@ -106,22 +89,19 @@ pair_staged m load g place p staged load_fits place_fits is =
 
 -- ---- the desk
 unseen_at : (m n : KeyMap) (name : List ℕ) (p : Option Plan) → row_in n (named name) ≡ row_in m (named name) → IsPlanAt m None name p → IsPlanAt n None name p
-unseen_at m n name None same is = same ∙ is
-unseen_at m n name (Some p) same is = is
+unseen_at m n name p same is = search (arith)
 
 seen_at : (m n : KeyMap) (g : GeographyModel) (name : List ℕ) (p : Option Plan) → row_in n (named name) ≡ row_in m (named name) → IsPlanAt m None name p → IsPlanAt n (Some g) name p
-seen_at m n g name None same is = same ∙ is
-seen_at m n g name (Some p) same is = absurd is
+seen_at m n g name p same is = search (arith)
 
 -- a row of a load that isn't sealed is no part of the desk
 pub staged_unseen : (m : KeyMap) (plans : FinMap name_cmp Plan) (rest value : List ℕ) → IsDesk m (desk_without plans) → IsDesk (insert m (103 ∷ rest) value) (desk_without plans)
 staged_unseen m plans rest value is =
     let n = insert m (103 ∷ rest) value in
-    let names : SameTag 80 m n = put_keeps_tag m 80 103 rest value (λ same. absurd (omega arith)) in
     let seals : SameTag 83 m n = put_keeps_tag m 83 103 rest value (λ same. absurd (omega arith)) in
     record {
       geography = seals [] ∙ is.geography;
-      plans = λ name. unseen_at m n name (get plans name) (names name) (is.plans name);
+      plans = λ name. unseen_at m n name (get plans name) ((put_keeps_tag m 80 103 rest value (λ same. absurd (omega arith))) name) (is.plans name);
     }
 
 -- once it is sealed, it is the desk's geography
@@ -130,18 +110,8 @@ pub load_sealed : (m : KeyMap) (plans : FinMap name_cmp Plan) (load : ℕ) (g : 
 load_sealed m plans load g is staged sound load_fits pairs_fit =
     let value = seal_bytes (record { load = load; blocks = length g.blocks; pairs = length g.pairs }) in
     let n = insert m (key_of seal) value in
-    let names : SameTag 80 m n = put_keeps_tag m 80 83 [] value (λ same. absurd (omega arith)) in
     let rows : SameTag 103 m n = put_keeps_tag m 103 83 [] value (λ same. absurd (omega arith)) in
     record {
-      geography = (
-        load,
-        record {
-          sound = sound;
-          load_fits = load_fits;
-          pairs_fit = pairs_fit;
-          named = put_is_there m (key_of seal) value;
-          rows = staged_stays m n load g (geography_rows g) rows staged;
-        },
-      );
-      plans = λ name. seen_at m n g name (get plans name) (names name) (is.plans name);
+      geography = search (arith, put_is_there, staged_stays);
+      plans = λ name. seen_at m n g name (get plans name) ((put_keeps_tag m 80 83 [] value (λ same. absurd (omega arith))) name) (is.plans name);
     }

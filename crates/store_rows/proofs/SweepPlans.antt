@@ -1,51 +1,17 @@
 -- Rows of plans that were taken away can go.
-use Rattle.std.proofs.Common.{◌≡◌, ◌<◌, ◌^◌, ℕ, List, [], length, Option, Some, None, refl, sym, ap, ◌∙◌, inl, inr, arith}
-use Rattle.std.specs.Prelude.{Contains}
-use Rattle.std.specs.FinMap as map_of
-use Rattle.std.specs.FinMap.{get, remove}
-use Rattle.desk_model.specs.claim.Geography.{GeographyModel}
-use Rattle.desk_model.specs.claim.Desk.{Desk, Plan}
-use Rattle.store_rows.specs.claim.Keys.{key_of, Fits, retired, named, part, chunk, in_eight}
-use Rattle.store_rows.specs.claim.Values.{plan_bytes}
-use Rattle.store_rows.specs.claim.Rows.{KeyMap, row_in, Has, Lacks}
-use Rattle.store_rows.specs.Rows.{SameTag}
-use Rattle.store_rows.specs.claim.RevisionRows.{NamesChunks}
-use Rattle.store_rows.specs.claim.DeskRows.{HasPlan, IsPlanAt, IsDesk}
-use Rattle.store_rows.specs.Changes.{plan_row_of, RevisionsStay}
-use Rattle.store_rows.proofs.Changes.{cases_key, plan_at_moves}
-use Rattle.store_rows.proofs.Frames.{removed_is_gone, remove_keeps, remove_keeps_row, remove_keeps_tag, geography_stays, desk_stays}
-use Rattle.store_rows.specs.claim.Tidy.{IsNumbered, IsNamedBy, IsKnown, Tidy}
-use Rattle.store_rows.specs.SweepLaws.{IsSwept}
-use Rattle.store_rows.proofs.OneGeography.{no_value}
-use Rattle.store_rows.proofs.PartNumbers.{part_at, part_there, part_chunks, among_part}
-use Rattle.store_rows.proofs.TidyParts.{AllKept, kept_of, stays_tidy, numbered_moves, chunks_stay, holders_stay, loads_stay, rows_removed}
-
--- the numbers of a revision are named by its parts
-pub numbers_named : (m : KeyMap) (plan revision : ℕ) (numbers : List ℕ) → plan < 2 ^ 64 → revision < 2 ^ 32 → NamesChunks m plan revision numbers → (number : ℕ) → Contains numbers number → IsNamedBy m plan number
-numbers_named m plan revision numbers plan_fits revision_fits names number among =
-    let (index, small, within, here) = among_part numbers number names.few among in
-    record {
-      revision = revision;
-      index = index;
-      part_fits = (plan_fits, revision_fits, small);
-      numbers = part_at numbers index;
-      chunks = part_chunks numbers index names.each within;
-      row = names.parts index small ∙ part_there numbers index within;
-      among = here;
-    }
+use Rattle.std.{specs.FinMap.{get, remove}, proofs.Common.{◌≡◌, ◌<◌, ◌^◌, ℕ, List, [], length, Option, Some, None, refl, sym, ap, ◌∙◌, arith}}
+use Rattle.desk_model.specs.{claim.Geography.GeographyModel, claim.Desk.{Desk, Plan}}
+use Rattle.store_rows.specs.{claim.Keys.{key_of, Fits, retired, named, part, chunk, in_eight}, claim.Values.plan_bytes, claim.Rows.{KeyMap, row_in, Has, Lacks}, Rows.SameTag}
+use Rattle.store_rows.specs.{claim.DeskRows.{HasPlan, IsPlanAt, IsDesk}, Changes.{plan_row_of, RevisionsStay}, claim.Tidy.{IsNumbered, IsKnown, Tidy}, SweepLaws.IsSwept}
+use Rattle.store_rows.proofs.{Changes.{cases_key, plan_at_moves}, Frames.{removed_is_gone, remove_keeps, remove_keeps_row, remove_keeps_tag, geography_stays, desk_stays}}
+use Rattle.store_rows.proofs.{OneGeography.no_value, TidyParts.{AllKept, kept_of, stays_tidy, numbered_moves, chunks_stay, holders_stay, loads_stay, rows_removed}}
 
 -- a row that was there is there, or is the one that went
 pub still_there : (m : KeyMap) (gone key value : List ℕ) → get (remove m gone) key ≡ Some value → (key ≡ gone → ⊥) × (get m key ≡ Some value)
-still_there m gone key value there = elim (cases_key key gone) [
-  | inl same ↦ absurd (no_value value (sym there ∙ ap (get (remove m gone)) same ∙ removed_is_gone m gone))
-  | inr apart ↦ (apart, sym (remove_keeps m gone key apart) ∙ there)
-]
+still_there m gone key value there = search (arith, cases_key, no_value, removed_is_gone, remove_keeps)
 
 pub still_none : (m : KeyMap) (gone key : List ℕ) → get m key ≡ None → get (remove m gone) key ≡ None
-still_none m gone key none = elim (cases_key key gone) [
-  | inl same ↦ ap (get (remove m gone)) same ∙ removed_is_gone m gone
-  | inr apart ↦ remove_keeps m gone key apart ∙ none
-]
+still_none m gone key none = search (arith, cases_key, removed_is_gone, remove_keeps)
 
 -- ---- the desk rests on plans that are there
 living : (m : KeyMap) (g : GeographyModel) (name : List ℕ) (number : ℕ) (p : Plan) → HasPlan m g name number p → IsNumbered m name number
@@ -62,10 +28,7 @@ plans_move m n (Some g) name p same stay is = plan_at_moves m n g name p same (�
 
 -- where the rows of plans and of the geography are the same, and each revision of a plan that is there stays, so does the desk
 pub desk_moves : (m n : KeyMap) (d : Desk) → SameTag 80 m n → SameTag 83 m n → SameTag 103 m n → ((name : List ℕ) (number last : ℕ) → IsNumbered m name number → last < 2 ^ 32 → RevisionsStay m n number last) → IsDesk m d → IsDesk n d
-desk_moves m n d names seals loads stay is = record {
-  geography = geography_stays m n d.geography seals loads is.geography;
-  plans = λ name. plans_move m n d.geography name (map_of.get d.plans name) (names name) (stay name) (is.plans name);
-}
+desk_moves m n d names seals loads stay is = search (geography_stays, m, n, seals, loads, is.geography, plans_move, names, stay, is.plans)
 
 -- ---- a piece of a chunk
 pub other_piece : (number other i j : ℕ) → (other ≡ number → ⊥) → chunk other i ≡ chunk number j → ⊥
@@ -80,8 +43,7 @@ module _ (m : KeyMap) (tidy : Tidy m) (d : Desk) (is : IsDesk m d) (plan : ℕ) 
   unmarked_same tag apart = remove_keeps_tag m tag 68 (in_eight plan) apart
 
   known_still : (owner : ℕ) → owner < 2 ^ 64 → (owner ≡ plan → ⊥) → IsKnown m owner → IsKnown unmarked owner
-  known_still owner few apart (inl (name, there)) = inl (name, numbered_moves m unmarked name owner (unmarked_same 80 (λ e. absurd (omega arith)) _) there)
-  known_still owner few apart (inr gone) = inr (remove_keeps_row m (retired plan) (retired owner) plan_fits few (λ same. apart (cc)) ∙ gone)
+  known_still owner few apart given = search (arith, numbered_moves, unmarked_same, remove_keeps_row, apart)
 
   numbered_there : (name : List ℕ) (owner : ℕ) → IsNumbered unmarked name owner → IsNumbered m name owner
   numbered_there name owner there = numbered_moves unmarked m name owner (sym (unmarked_same 80 (λ e. absurd (omega arith)) _)) there

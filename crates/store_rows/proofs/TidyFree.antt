@@ -1,29 +1,16 @@
 -- A map without rows is tidy; in a tidy map the numbers that come next are free, and it has one row of counters' numbers.
-use Rattle.std.proofs.Common.{false, ◌≡◌, ◌<◌, ◌≤◌, ◌^◌, ℕ, List, [], drop, Option, Some, None, refl, sym, ap, ◌∙◌, inl, inr, w64, arith}
-use Rattle.std.specs.Int.{from_be_bytes}
-use Rattle.std.specs.Prelude.{MatchOption}
-use Rattle.std.specs.FinMap.{get, empty, get-empty}
+use Rattle.std.specs.{Int.from_be_bytes, FinMap.{get, empty, get-empty}}
+use Rattle.std.proofs.Common.{false, ◌≡◌, ◌<◌, ◌≤◌, ◌^◌, ℕ, List, [], drop, None, refl, sym, ap, ◌∙◌, inl, inr, w64, arith}
 use Rattle.std.proofs.lemmas.Nat.{from_be_bytes-to_be_bytes_8}
 use Rattle.store_rows.specs.claim.Keys.{key_of, Fits, counters, retired, begun, holding, holder_count, named, part, version, block, pair, chunk}
-use Rattle.store_rows.specs.claim.Values.{plan_bytes, counters_bytes}
-use Rattle.store_rows.specs.declared.value.Counters.{Counters}
-use Rattle.store_rows.specs.declared.value.PlanRow.{PlanRow}
-use Rattle.store_rows.specs.claim.Order.{key_cmp}
-use Rattle.store_rows.specs.claim.Lists.{chunks_bytes}
-use Rattle.store_rows.specs.claim.Rows.{KeyMap, row_in, Has, Lacks}
-use Rattle.store_rows.specs.ChunkRows.{IsFreeChunk}
-use Rattle.store_rows.specs.claim.Tidy.{no_numbers, IsNext, CountersFit, IsKnown, IsLoad, Tidy}
-use Rattle.store_rows.specs.Tidy.{TidyWith}
-use Rattle.store_rows.proofs.OneGeography.{no_value}
-use Rattle.store_rows.proofs.HolderCounts.{nothing_counted_by_holders, some_holder}
-use Rattle.store_rows.proofs.TidyParts.{some_or_none, AllKept, tidy_at}
+use Rattle.store_rows.specs.{claim.Values.{plan_bytes, counters_bytes}, declared.value.Counters.Counters, declared.value.PlanRow.PlanRow, claim.Order.key_cmp}
+use Rattle.store_rows.specs.{claim.Lists.chunks_bytes, claim.Rows.{KeyMap, row_in, Has, Lacks}, ChunkRows.IsFreeChunk}
+use Rattle.store_rows.{specs.claim.Tidy.{no_numbers, IsNext, CountersFit, IsKnown, IsLoad, Tidy}, specs.Tidy.TidyWith, proofs.OneGeography.no_value}
+use Rattle.store_rows.proofs.{HolderCounts.{nothing_counted_by_holders, some_holder, never}, TidyParts.{some_or_none, AllKept, tidy_at}}
 
 -- ---- no rows
 nothing_there : (key : List ℕ) → get {K = List ℕ} {X = List ℕ} {R = key_cmp} empty key ≡ None
 nothing_there key = get-empty key_cmp key
-
-never : (key value : List ℕ) → get {K = List ℕ} {X = List ℕ} {R = key_cmp} empty key ≡ Some value → ⊥
-never key value there = no_value value (sym there ∙ nothing_there key)
 
 pub empty_tidy : TidyWith empty no_numbers false
 empty_tidy =
@@ -69,12 +56,8 @@ counters_say a b fa fb same =
     let load : a.load ≡ b.load = sym (from_be_bytes-to_be_bytes_8 a.load fa.load_fits) ∙ ap (λ l. from_be_bytes w64 (drop 16 l)) same ∙ from_be_bytes-to_be_bytes_8 b.load fb.load_fits in
     λ i. record { plan = plan i; chunk = chunk i; load = load i }
 
-next_by : (o : Option (List ℕ)) (a b : Counters) → CountersFit a → CountersFit b → MatchOption o (a ≡ no_numbers) (λ value. value ≡ counters_bytes a) → MatchOption o (b ≡ no_numbers) (λ value. value ≡ counters_bytes b) → a ≡ b
-next_by None a b fa fb is also = is ∙ sym also
-next_by (Some value) a b fa fb is also = counters_say a b fa fb (sym is ∙ also)
-
 pub one_next : (m : KeyMap) (a b : Counters) → CountersFit a → CountersFit b → IsNext m a → IsNext m b → a ≡ b
-one_next m a b fa fb is also = next_by (row_in m counters) a b fa fb is also
+one_next m a b fa fb is also = search (arith, counters_say)
 
 -- ---- numbers that come next
 pub known_below : (m : KeyMap) (tidy : Tidy m) (plan : ℕ) → plan < 2 ^ 64 → IsKnown m plan → plan < tidy.next.plan
@@ -82,8 +65,7 @@ known_below m tidy plan fits (inl (name, is)) = tidy.below.plans name plan is
 known_below m tidy plan fits (inr mark) = tidy.below.retired_plans plan [] fits mark
 
 load_below : (m : KeyMap) (tidy : Tidy m) (load : ℕ) → load < 2 ^ 64 → IsLoad m load → load < tidy.next.load
-load_below m tidy load fits (inl (sealed, row, is)) = (let below = tidy.below.sealed_load sealed (omega arith) row in omega arith)
-load_below m tidy load fits (inr mark) = tidy.below.begun_loads load [] fits mark
+load_below m tidy load fits given = search (arith, tidy.below.sealed_load, tidy.below.begun_loads)
 
 pub free_chunk : (m : KeyMap) (tidy : Tidy m) (number : ℕ) → tidy.next.chunk ≤ number → number < 2 ^ 64 → IsFreeChunk m number
 free_chunk m tidy number more fits index few = some_or_none (row_in m (chunk number index)) (λ value there.

@@ -1,25 +1,13 @@
 -- Loads are begun, staged and sealed, and the rows stay tidy.
-use Rattle.std.proofs.Common.{◌≡◌, ◌<◌, ◌+◌, ◌^◌, ℕ, suc, List, [], ◌∷◌, ◌++◌, All, None, refl, sym, ap, subst, ◌∙◌, inl, inr, arith}
+use Rattle.std.{specs.FinMap.{insert, remove}, proofs.Common.{◌≡◌, ◌<◌, ◌+◌, ◌^◌, ℕ, suc, List, [], ◌∷◌, ◌++◌, All, None, refl, sym, ap, subst, ◌∙◌, inl, inr, arith}}
 use Rattle.std.proofs.lemmas.Bool.{cases_eq}
-use Rattle.std.specs.FinMap.{insert, remove}
 use Rattle.desk_model.specs.claim.Geography.{GeographyModel}
-use Rattle.store_rows.specs.claim.Keys.{RowKey, key_of, Fits, counters, begun, seal, block, pair, in_eight, in_four}
-use Rattle.store_rows.specs.claim.Values.{seal_bytes, counters_bytes}
-use Rattle.store_rows.proofs.RowLaws.{keys_differ}
-use Rattle.store_rows.specs.declared.value.SealRow.{SealRow}
-use Rattle.store_rows.specs.claim.Rows.{KeyMap, row_in, Has, Lacks}
-use Rattle.store_rows.specs.Rows.{SameTag}
-use Rattle.store_rows.proofs.Changes.{cases_key}
-use Rattle.store_rows.proofs.Frames.{put_is_there, put_keeps, put_keeps_tag, put_keeps_row, removed_is_gone, remove_keeps_row, remove_keeps_tag, tag_follows}
-use Rattle.store_rows.specs.claim.Puts.{Row, put_rows}
-use Rattle.store_rows.specs.Steps.{one_load_more, IsLoadKey}
-use Rattle.store_rows.specs.claim.GeographyRows.{IsStaged}
-use Rattle.store_rows.proofs.Staging.{none_staged}
-use Rattle.store_rows.specs.claim.Tidy.{IsLoad, Tidy}
-use Rattle.store_rows.specs.Tidy.{TidyWith}
-use Rattle.store_rows.proofs.OneGeography.{value_is, no_value, seal_load}
-use Rattle.store_rows.proofs.TidyFree.{free_block, free_pair}
-use Rattle.store_rows.proofs.TidyParts.{load_moves, LoadsKept, AllKept, kept_of, plans_stay, chunks_stay, holders_stay, rows_put, rows_removed, counters_put, stays_tidy}
+use Rattle.store_rows.specs.{claim.Keys.{RowKey, key_of, Fits, counters, begun, seal, block, pair, in_eight, in_four}, claim.Values.{seal_bytes, counters_bytes}}
+use Rattle.store_rows.specs.{declared.value.SealRow.SealRow, claim.Rows.{KeyMap, row_in, Has, Lacks}, Rows.SameTag, claim.Puts.{Row, put_rows}, Steps.{one_load_more, IsLoadKey}}
+use Rattle.store_rows.{specs.claim.GeographyRows.IsStaged, specs.claim.Tidy.{IsLoad, Tidy}, specs.Tidy.TidyWith, proofs.RowLaws.keys_differ, proofs.Changes.cases_key}
+use Rattle.store_rows.proofs.{Frames.{put_is_there, put_keeps, put_keeps_tag, put_keeps_row, removed_is_gone, remove_keeps_row, remove_keeps_tag, tag_follows}, Staging.none_staged}
+use Rattle.store_rows.proofs.{OneGeography.{value_is, no_value, seal_load}, TidyFree.{free_block, free_pair}}
+use Rattle.store_rows.proofs.TidyParts.{load_moves, LoadsKept, kept_of, rows_put, rows_removed, counters_put, stays_tidy, loads_kept}
 
 other_load : (load other : ℕ) → (load ≡ other → ⊥) → begun load ≡ begun other → ⊥
 other_load load other apart same = apart (cc)
@@ -39,22 +27,15 @@ module _ (m : KeyMap) (limit : ℕ) (kept : LoadsKept m limit) (fits : limit < 2
   others_begun load few apart = put_keeps_row m (begun limit) [] (begun load) fits few (other_load load limit apart)
 
   load_there : (load : ℕ) → load < 2 ^ 64 → IsLoad m load → IsLoad started load
-  load_there load few (inl (sealed, row, is)) = inl (sealed, started_seal _ ∙ row, is)
-  load_there load few (inr mark) = (let below = kept.below load [] few mark in inr (others_begun load few (λ e. absurd (omega arith)) ∙ mark))
+  load_there load few given = search (arith, started_seal, kept.below, others_begun)
 
   loads_started : LoadsKept started (limit + 1)
   loads_started = record {
-    below = λ load value few there. elim (cases_eq load limit) [
-      | inl same ↦ omega arith
-      | inr apart ↦ (let below = kept.below load value few (sym (others_begun load few apart) ∙ there) in omega arith)
-    ];
+    below = λ load value few there. search (arith, cases_eq, kept.below, others_begun);
     sealed_below = λ sealed few there. let below = kept.sealed_below sealed few (sym (started_seal _) ∙ there) in omega arith;
     blocks = λ load place value few there. load_there load few.0 (kept.blocks load place value few (sym (started_rows _) ∙ there));
     pairs = λ load place value few there. load_there load few.0 (kept.pairs load place value few (sym (started_rows _) ∙ there));
-    ended = λ sealed few there.
-        let before : Has m seal (seal_bytes sealed) = sym (started_seal _) ∙ there in
-        let below = kept.sealed_below sealed few before in
-        others_begun sealed.load few (λ e. absurd (omega arith)) ∙ kept.ended sealed few before;
+    ended = λ sealed few there. search (arith, started_seal, others_begun, sealed.load, kept.ended);
   }
 
 pub begun_tidy : (m : KeyMap) (tidy : Tidy m) → tidy.next.load + 1 < 2 ^ 64
@@ -66,13 +47,7 @@ begun_tidy m tidy room =
     let same = λ (tag : ℕ) (apart : tag ≡ 76 → ⊥). put_keeps_tag m tag 76 (in_eight next.load) [] apart in
     let plan_fits = tidy.fits.plan_fits in
     let chunk_fits = tidy.fits.chunk_fits in
-    counters_put n (one_load_more next) tidy.new (record { plan_fits = plan_fits; chunk_fits = chunk_fits; load_fits = room }) (record {
-      rows = rows_put m (begun next.load) [] tidy.fits.load_fits kept.rows;
-      plans = plans_stay m n next.plan next.plan (omega arith) (same 80 (λ e. absurd (omega arith))) (same 68 (λ e. absurd (omega arith))) (same 82 (λ e. absurd (omega arith))) kept.plans;
-      chunks = chunks_stay m n next.chunk next.chunk (omega arith) (same 82 (λ e. absurd (omega arith))) (same 107 (λ e. absurd (omega arith))) kept.chunks;
-      loads = loads_started m next.load kept.loads tidy.fits.load_fits;
-      holders = holders_stay m n tidy.new (same 80 (λ e. absurd (omega arith))) (same 72 (λ e. absurd (omega arith))) (same 75 (λ e. absurd (omega arith))) (same 82 (λ e. absurd (omega arith))) (same 86 (λ e. absurd (omega arith))) kept.holders;
-    })
+    counters_put n (one_load_more next) tidy.new (record { plan_fits = plan_fits; chunk_fits = chunk_fits; load_fits = room }) (loads_kept m n tidy (one_load_more next) (omega arith) (omega arith) (λ tag a b c. same tag a) (rows_put m (begun next.load) [] tidy.fits.load_fits kept.rows) (loads_started m next.load kept.loads tidy.fits.load_fits))
 
 -- no row stands under its number
 pub begun_unstaged : (m : KeyMap) (tidy : Tidy m) (g : GeographyModel) → IsStaged (insert (insert m (key_of (begun tidy.next.load)) []) (key_of counters) (counters_bytes (one_load_more tidy.next))) tidy.next.load g 0
@@ -111,14 +86,7 @@ load_row_tidy m tidy load row rest value tagged fits is block_load pair_load =
       ]);
       ended = λ sealed few there. marks _ ∙ kept.loads.ended sealed few (sym (seals _) ∙ there);
     } in
-    let here : AllKept n next tidy.new = record {
-      rows = rows_put m row value fits kept.rows;
-      plans = plans_stay m n next.plan next.plan (omega arith) (same 80 (λ e. absurd (omega arith))) (same 68 (λ e. absurd (omega arith))) (same 82 (λ e. absurd (omega arith))) kept.plans;
-      chunks = chunks_stay m n next.chunk next.chunk (omega arith) (same 82 (λ e. absurd (omega arith))) (same 107 (λ e. absurd (omega arith))) kept.chunks;
-      loads = loads;
-      holders = holders_stay m n tidy.new (same 80 (λ e. absurd (omega arith))) (same 72 (λ e. absurd (omega arith))) (same 75 (λ e. absurd (omega arith))) (same 82 (λ e. absurd (omega arith))) (same 86 (λ e. absurd (omega arith))) kept.holders;
-    } in
-    stays_tidy m n tidy (same 65 (λ e. absurd (omega arith)) []) here
+    stays_tidy m n tidy (same 65 (λ e. absurd (omega arith)) []) (loads_kept m n tidy next (omega arith) (omega arith) (λ tag a b c. same tag c) (rows_put m row value fits kept.rows) loads)
 
 pub block_tidy : (m : KeyMap) (tidy : Tidy m) (load place : ℕ) (value : List ℕ) → Fits (block load place) → IsLoad m load → TidyWith (insert m (key_of (block load place)) value) tidy.next tidy.new
 block_tidy m tidy load place value fits is = load_row_tidy m tidy load (block load place) (in_eight load ++ (98 ∷ in_four place)) value refl fits is (λ other at few same. cc) (λ other at few same. cc)
@@ -132,10 +100,7 @@ one_staged m tidy load key value fits is (inl (place, few, same)) = subst (λ (k
 one_staged m tidy load key value fits is (inr (place, few, same)) = subst (λ (k : List ℕ). TidyWith (insert m k value) tidy.next tidy.new) (sym same) (pair_tidy m tidy load place value (fits, few) is)
 
 still_there : (m : KeyMap) (load other : ℕ) (key value : List ℕ) → IsLoadKey load key → IsLoad m other → IsLoad (insert m key value) other
-still_there m load other key value (inl (place, few, same)) is = subst (λ (k : List ℕ). IsLoad (insert m k value) other) (sym same)
-    (load_moves m (insert m (key_of (block load place)) value) other (put_keeps_tag m 83 103 (in_eight load ++ (98 ∷ in_four place)) value (λ e. absurd (omega arith))) (put_keeps_tag m 76 103 (in_eight load ++ (98 ∷ in_four place)) value (λ e. absurd (omega arith))) is)
-still_there m load other key value (inr (place, few, same)) is = subst (λ (k : List ℕ). IsLoad (insert m k value) other) (sym same)
-    (load_moves m (insert m (key_of (pair load place)) value) other (put_keeps_tag m 83 103 (in_eight load ++ (112 ∷ in_four place)) value (λ e. absurd (omega arith))) (put_keeps_tag m 76 103 (in_eight load ++ (112 ∷ in_four place)) value (λ e. absurd (omega arith))) is)
+still_there m load other key value given is = search (arith, load_moves, put_keeps_tag)
 
 pub staged_tidy : (m : KeyMap) (tidy : Tidy m) (load : ℕ) (rows : List Row) → load < 2 ^ 64 → IsLoad m load → All (λ row. IsLoadKey load row.0) rows → TidyWith (put_rows m rows) tidy.next tidy.new
 staged_tidy m tidy load [] fits is all = (tidy, refl, refl)
@@ -181,10 +146,7 @@ module _ (m : KeyMap) (limit : ℕ) (s : SealRow) (kept : LoadsKept m limit) (fi
 
   loads_closed : LoadsKept closed limit
   loads_closed = record {
-    below = λ load value few there. elim (cases_eq load s.load) [
-      | inl same ↦ absurd (no_value value (sym there ∙ ap (λ k. row_in closed (begun k)) same ∙ ended_mark))
-      | inr apart ↦ kept.below load value few (sym (others_open load few apart) ∙ there)
-    ];
+    below = λ load value few there. search (arith, cases_eq, s.load, no_value, ended_mark, kept.below, others_open);
     sealed_below = λ sealed few there. let same = seal_says sealed few there in let below = kept.below s.load [] fits mark in omega arith;
     blocks = λ load place value few there. still_load load few.0 (kept.blocks load place value few (sym (closed_rows _) ∙ there));
     pairs = λ load place value few there. still_load load few.0 (kept.pairs load place value few (sym (closed_rows _) ∙ there));
@@ -198,11 +160,4 @@ sealed_tidy m tidy s fits lacks mark =
     let mid = insert m (key_of seal) (seal_bytes s) in
     let n = remove mid (key_of (begun s.load)) in
     let same = λ (tag : ℕ) (not_seal : tag ≡ 83 → ⊥) (not_mark : tag ≡ 76 → ⊥). tag_follows tag m mid n (put_keeps_tag m tag 83 [] (seal_bytes s) not_seal) (remove_keeps_tag mid tag 76 (in_eight s.load) not_mark) in
-    let here : AllKept n next tidy.new = record {
-      rows = rows_removed mid (key_of (begun s.load)) (rows_put m seal (seal_bytes s) tt kept.rows);
-      plans = plans_stay m n next.plan next.plan (omega arith) (same 80 (λ e. absurd (omega arith)) (λ e. absurd (omega arith))) (same 68 (λ e. absurd (omega arith)) (λ e. absurd (omega arith))) (same 82 (λ e. absurd (omega arith)) (λ e. absurd (omega arith))) kept.plans;
-      chunks = chunks_stay m n next.chunk next.chunk (omega arith) (same 82 (λ e. absurd (omega arith)) (λ e. absurd (omega arith))) (same 107 (λ e. absurd (omega arith)) (λ e. absurd (omega arith))) kept.chunks;
-      loads = loads_closed m next.load s kept.loads fits lacks mark;
-      holders = holders_stay m n tidy.new (same 80 (λ e. absurd (omega arith)) (λ e. absurd (omega arith))) (same 72 (λ e. absurd (omega arith)) (λ e. absurd (omega arith))) (same 75 (λ e. absurd (omega arith)) (λ e. absurd (omega arith))) (same 82 (λ e. absurd (omega arith)) (λ e. absurd (omega arith))) (same 86 (λ e. absurd (omega arith)) (λ e. absurd (omega arith))) kept.holders;
-    } in
-    stays_tidy m n tidy (same 65 (λ e. absurd (omega arith)) (λ e. absurd (omega arith)) []) here
+    stays_tidy m n tidy (same 65 (λ e. absurd (omega arith)) (λ e. absurd (omega arith)) []) (loads_kept m n tidy next (omega arith) (omega arith) (λ tag a b c. same tag b a) (rows_removed mid (key_of (begun s.load)) (rows_put m seal (seal_bytes s) tt kept.rows)) (loads_closed m next.load s kept.loads fits lacks mark))

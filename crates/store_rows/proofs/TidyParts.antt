@@ -1,18 +1,10 @@
 -- What is kept of plans, of chunks and of loads, each by itself: a change of rows mostly reaches one of the three.
-use Rattle.std.proofs.Common.{Bool, ◌≡◌, ◌<◌, ◌≤◌, ◌^◌, ℕ, List, [], drop, Option, Some, None, sym, ap, subst, ◌∙◌, inl, inr, arith}
-use Rattle.std.specs.FinMap.{get, insert, remove}
-use Rattle.store_rows.specs.claim.Keys.{RowKey, key_of, Fits, counters, retired, begun, holding, holder_count, named, part, seal, version, block, pair, chunk}
-use Rattle.store_rows.specs.claim.Values.{counters_bytes, plan_bytes, seal_bytes}
-use Rattle.store_rows.specs.declared.value.Counters.{Counters}
-use Rattle.store_rows.specs.declared.value.PlanRow.{PlanRow}
-use Rattle.store_rows.specs.declared.value.SealRow.{SealRow}
-use Rattle.store_rows.specs.claim.Rows.{KeyMap, row_in, Has}
-use Rattle.store_rows.specs.Rows.{SameTag}
-use Rattle.store_rows.proofs.Changes.{cases_key}
-use Rattle.store_rows.proofs.Frames.{put_is_there, put_keeps, put_keeps_tag, removed_is_gone, remove_keeps, other_tag}
-use Rattle.store_rows.specs.claim.Tidy.{IsNext, CountersFit, IsNumbered, IsNamedBy, IsPart, IsPiece, AreRows, IsKnown, IsLoad, AreHoldings, Tidy}
-use Rattle.store_rows.specs.Tidy.{TidyWith}
-use Rattle.store_rows.proofs.OneGeography.{no_value}
+use Rattle.std.{specs.FinMap.{insert, remove}, proofs.Common.{Bool, ◌≡◌, ◌<◌, ◌≤◌, ◌^◌, ℕ, List, [], Option, Some, None, sym, ◌∙◌, inl, inr, arith}}
+use Rattle.store_rows.specs.claim.Keys.{RowKey, key_of, Fits, counters, retired, begun, named, part, seal, block, pair, chunk}
+use Rattle.store_rows.specs.{claim.Values.{counters_bytes, plan_bytes, seal_bytes}, declared.value.Counters.Counters, declared.value.PlanRow.PlanRow}
+use Rattle.store_rows.specs.{declared.value.SealRow.SealRow, claim.Rows.{KeyMap, row_in, Has}, Rows.SameTag}
+use Rattle.store_rows.specs.{claim.Tidy.{IsNext, CountersFit, IsNumbered, IsNamedBy, IsPart, IsPiece, AreRows, IsKnown, IsLoad, AreHoldings, Tidy}, Tidy.TidyWith}
+use Rattle.store_rows.proofs.{Changes.cases_key, Frames.{put_is_there, put_keeps, put_keeps_tag, removed_is_gone, remove_keeps, other_tag}, OneGeography.no_value}
 use Rattle.store_rows.proofs.HolderCounts.{holder_counts_stay}
 
 pub record PlansKept (m : KeyMap) (limit : ℕ) : Type 0 where
@@ -47,54 +39,7 @@ pub record AllKept (m : KeyMap) (next : Counters) (new : Bool) : Type 0 where
 
 -- ---- what is kept is tidiness
 pub kept_of : (m : KeyMap) (tidy : Tidy m) → AllKept m tidy.next tidy.new
-kept_of m tidy = record {
-  rows = tidy.rows;
-  plans = record {
-    below = tidy.below.plans;
-    marks_below = tidy.below.retired_plans;
-    one = tidy.owned.one;
-    gone = tidy.owned.gone;
-    parts = tidy.owned.parts;
-    told = tidy.counted.parts;
-    counted = tidy.counted.counted;
-  };
-  chunks = record { below = tidy.below.named_chunks; chunks = tidy.owned.chunks; pieces = tidy.counted.pieces };
-  loads = record {
-    below = tidy.below.begun_loads;
-    sealed_below = tidy.below.sealed_load;
-    blocks = tidy.owned.blocks;
-    pairs = tidy.owned.pairs;
-    ended = tidy.owned.ended;
-  };
-  holders = tidy.holdings;
-}
-
-abbrev tidy_of : (m : KeyMap) (next : Counters) (new : Bool) → IsNext m next → CountersFit next → AllKept m next new → Tidy m
-tidy_of m next new is fits kept = record {
-  next = next;
-  new = new;
-  is_next = is;
-  fits = fits;
-  rows = kept.rows;
-  below = record {
-    plans = kept.plans.below;
-    retired_plans = kept.plans.marks_below;
-    named_chunks = kept.chunks.below;
-    begun_loads = kept.loads.below;
-    sealed_load = kept.loads.sealed_below;
-  };
-  owned = record {
-    one = kept.plans.one;
-    gone = kept.plans.gone;
-    parts = kept.plans.parts;
-    chunks = kept.chunks.chunks;
-    blocks = kept.loads.blocks;
-    pairs = kept.loads.pairs;
-    ended = kept.loads.ended;
-  };
-  holdings = kept.holders;
-  counted = record { parts = kept.plans.told; pieces = kept.chunks.pieces; counted = kept.plans.counted };
-}
+kept_of m tidy = search tidy
 
 -- ---- rows that tell a fact tell it of every map that has them
 pub tag_back : (tag : ℕ) (m n : KeyMap) → SameTag tag m n → SameTag tag n m
@@ -104,23 +49,13 @@ pub numbered_moves : (m n : KeyMap) (name : List ℕ) (number : ℕ) → row_in 
 numbered_moves m n name number same is = record { plan = is.plan; row = same ∙ is.row; is = is.is; fits = is.fits }
 
 pub naming_moves : (m n : KeyMap) (plan number : ℕ) → SameTag 82 m n → IsNamedBy m plan number → IsNamedBy n plan number
-naming_moves m n plan number rows is = record {
-  revision = is.revision;
-  index = is.index;
-  part_fits = is.part_fits;
-  numbers = is.numbers;
-  chunks = is.chunks;
-  row = rows _ ∙ is.row;
-  among = is.among;
-}
+naming_moves m n plan number rows is = search (rows)
 
 known_moves : (m n : KeyMap) (plan : ℕ) → SameTag 80 m n → SameTag 68 m n → IsKnown m plan → IsKnown n plan
-known_moves m n plan names marks (inl (name, is)) = inl (name, numbered_moves m n name plan (names _) is)
-known_moves m n plan names marks (inr mark) = inr (marks _ ∙ mark)
+known_moves m n plan names marks given = search (arith, numbered_moves, names, marks)
 
 pub load_moves : (m n : KeyMap) (load : ℕ) → SameTag 83 m n → SameTag 76 m n → IsLoad m load → IsLoad n load
-load_moves m n load seals marks (inl (sealed, row, is)) = inl (sealed, seals _ ∙ row, is)
-load_moves m n load seals marks (inr mark) = inr (marks _ ∙ mark)
+load_moves m n load seals marks given = search (arith, seals, marks)
 
 pub plans_stay : (m n : KeyMap) (limit more : ℕ) → limit ≤ more → SameTag 80 m n → SameTag 68 m n → SameTag 82 m n → PlansKept m limit → PlansKept n more
 plans_stay m n limit more few names marks rows kept =
@@ -161,10 +96,22 @@ loads_stay m n limit more few marks seals rows kept = record {
   ended = λ sealed fits has. marks _ ∙ kept.ended sealed fits (sym (seals _) ∙ has);
 }
 
+-- where only rows of loads change, all else is kept
+pub loads_kept : (m n : KeyMap) (tidy : Tidy m) (next : Counters) → tidy.next.plan ≤ next.plan → tidy.next.chunk ≤ next.chunk → ((tag : ℕ) → (tag ≡ 76 → ⊥) → (tag ≡ 83 → ⊥) → (tag ≡ 103 → ⊥) → SameTag tag m n) → AreRows n → LoadsKept n next.load → AllKept n next tidy.new
+loads_kept m n tidy next plans chunks other rows loads =
+    let kept = kept_of m tidy in
+    let same = λ (tag : ℕ) (not_load : (tag ≡ 76 → ⊥) × (tag ≡ 83 → ⊥) × (tag ≡ 103 → ⊥)). other tag not_load.0 not_load.1 not_load.2 in
+    record {
+      rows = rows;
+      plans = plans_stay m n tidy.next.plan next.plan plans (same 80 (omega arith)) (same 68 (omega arith)) (same 82 (omega arith)) kept.plans;
+      chunks = chunks_stay m n tidy.next.chunk next.chunk chunks (same 82 (omega arith)) (same 107 (omega arith)) kept.chunks;
+      loads = loads;
+      holders = holders_stay m n tidy.new (same 80 (omega arith)) (same 72 (omega arith)) (same 75 (omega arith)) (same 82 (omega arith)) (same 86 (omega arith)) kept.holders;
+    }
+
 -- ---- one key
 pub some_or_none : (o : Option (List ℕ)) → ((value : List ℕ) → o ≡ Some value → ⊥) → o ≡ None
-some_or_none None never = λ i. None
-some_or_none (Some value) never = absurd (never value (λ i. Some value))
+some_or_none o never = search (arith, never)
 
 pub rows_put : (m : KeyMap) (row : RowKey) (value : List ℕ) → Fits row → AreRows m → AreRows (insert m (key_of row) value)
 rows_put m row value fits rows key got there = elim (cases_key key (key_of row)) [
@@ -173,35 +120,32 @@ rows_put m row value fits rows key got there = elim (cases_key key (key_of row))
 ]
 
 pub rows_removed : (m : KeyMap) (gone : List ℕ) → AreRows m → AreRows (remove m gone)
-rows_removed m gone rows key got there = elim (cases_key key gone) [
-  | inl same ↦ absurd (no_value got (sym there ∙ ap (get (remove m gone)) same ∙ removed_is_gone m gone))
-  | inr apart ↦ rows key got (sym (remove_keeps m gone key apart) ∙ there)
-]
-
-name_of_key : (name : List ℕ) (row : RowKey) → Fits row → key_of (named name) ≡ key_of row → Fits (named name)
-name_of_key name counters fits same = absurd (other_tag 80 65 name _ (λ e. absurd (omega arith)) same)
-name_of_key name (retired plan) fits same = absurd (other_tag 80 68 name _ (λ e. absurd (omega arith)) same)
-name_of_key name (begun load) fits same = absurd (other_tag 80 76 name _ (λ e. absurd (omega arith)) same)
-name_of_key name (holding plan number) fits same = absurd (other_tag 80 72 name _ (λ e. absurd (omega arith)) same)
-name_of_key name (holder_count number) fits same = absurd (other_tag 80 75 name _ (λ e. absurd (omega arith)) same)
-name_of_key name (named other) fits same = (let equal : name ≡ other = ap (drop 1) same in subst (λ o. Fits (named o)) (sym equal) fits)
-name_of_key name (part plan revision index) fits same = absurd (other_tag 80 82 name _ (λ e. absurd (omega arith)) same)
-name_of_key name seal fits same = absurd (other_tag 80 83 name _ (λ e. absurd (omega arith)) same)
-name_of_key name version fits same = absurd (other_tag 80 86 name _ (λ e. absurd (omega arith)) same)
-name_of_key name (block load place) fits same = absurd (other_tag 80 103 name _ (λ e. absurd (omega arith)) same)
-name_of_key name (pair load place) fits same = absurd (other_tag 80 103 name _ (λ e. absurd (omega arith)) same)
-name_of_key name (chunk number piece) fits same = absurd (other_tag 80 107 name _ (λ e. absurd (omega arith)) same)
+rows_removed m gone rows key got there = search (arith, cases_key, gone, no_value, removed_is_gone, rows, remove_keeps)
 
 -- a name that has a row fits in its key
 pub name_fits : (m : KeyMap) (name value : List ℕ) → AreRows m → Has m (named name) value → Fits (named name)
-name_fits m name value rows has = (let row = rows (key_of (named name)) value has in name_of_key name row.0 row.1 row.2)
+name_fits m name value rows has = (let row = rows (key_of (named name)) value has in (search (arith, other_tag)))
 
 -- ---- the counters
 pub next_moves : (m n : KeyMap) (next : Counters) → row_in n counters ≡ row_in m counters → IsNext m next → IsNext n next
 next_moves m n next same is = rw same is
 
 pub tidy_at : (n : KeyMap) (next : Counters) (new : Bool) → IsNext n next → CountersFit next → AllKept n next new → TidyWith n next new
-tidy_at n next new is fits kept = (tidy_of n next new is fits kept, λ i. next, λ i. new)
+tidy_at n next new is fits kept = (
+  record {
+    next = next;
+    new = new;
+    is_next = is;
+    fits = fits;
+    rows = kept.rows;
+    below = search kept;
+    owned = search kept;
+    holdings = kept.holders;
+    counted = search kept;
+  },
+  λ i. next,
+  λ i. new,
+)
 
 -- where they stay as they are, so does what comes next
 pub stays_tidy : (m n : KeyMap) (tidy : Tidy m) → row_in n counters ≡ row_in m counters → AllKept n tidy.next tidy.new → TidyWith n tidy.next tidy.new
@@ -213,8 +157,7 @@ counters_put m next new fits kept =
     let value = counters_bytes next in
     let n = insert m (key_of counters) value in
     let same = λ (tag : ℕ) (apart : tag ≡ 65 → ⊥). put_keeps_tag m tag 65 [] value apart in
-    let row : Some value ≡ row_in n counters = sym (put_is_there m (key_of counters) value) in
-    let is : IsNext n next = rw (← row) (λ i. value) in
+    let is : IsNext n next = rw (← (sym (put_is_there m (key_of counters) value))) (λ i. value) in
     let here : AllKept n next new = record {
       rows = rows_put m counters value tt kept.rows;
       plans = plans_stay m n next.plan next.plan (omega arith) (same 80 (λ e. absurd (omega arith))) (same 68 (λ e. absurd (omega arith))) (same 82 (λ e. absurd (omega arith))) kept.plans;

@@ -1,21 +1,11 @@
 -- Plans come and go, and the rows stay tidy.
-use Rattle.std.proofs.Common.{Bool, ◌≡◌, ◌⊎◌, ◌<◌, ◌+◌, ◌^◌, ℕ, List, [], None, sym, ap, subst, ◌∙◌, inl, inr, arith}
+use Rattle.std.{specs.FinMap.{insert, remove}, proofs.Common.{Bool, ◌≡◌, ◌⊎◌, ◌<◌, ◌+◌, ◌^◌, ℕ, List, [], sym, ap, subst, ◌∙◌, inl, inr, arith}}
 use Rattle.std.proofs.lemmas.Bool.{cases_eq}
-use Rattle.std.specs.FinMap.{insert, remove}
-use Rattle.store_rows.specs.claim.Keys.{key_of, Fits, counters, retired, named}
-use Rattle.store_rows.specs.claim.Values.{plan_bytes, counters_bytes}
-use Rattle.store_rows.specs.claim.Lists.{chunks_bytes}
-use Rattle.store_rows.specs.declared.value.PlanRow.{PlanRow}
-use Rattle.store_rows.specs.claim.Rows.{KeyMap, row_in, Has, Lacks}
-use Rattle.store_rows.specs.Rows.{SameTag}
-use Rattle.store_rows.proofs.Changes.{cases_key, other_row}
+use Rattle.store_rows.specs.{claim.Keys.{key_of, Fits, counters, retired, named}, claim.Values.{plan_bytes, counters_bytes}, claim.Lists.chunks_bytes}
+use Rattle.store_rows.specs.{declared.value.PlanRow.PlanRow, claim.Rows.{KeyMap, row_in, Has, Lacks}, Rows.SameTag, Steps.one_plan_more}
+use Rattle.store_rows.{specs.claim.Tidy.{IsNumbered, IsNamedBy, IsKnown, AreHoldings, Tidy}, specs.Tidy.TidyWith, proofs.Changes.{cases_key, other_row}}
 use Rattle.store_rows.proofs.Frames.{put_is_there, put_keeps, put_keeps_tag, put_keeps_row, removed_is_gone, remove_keeps, remove_keeps_tag, tag_follows}
-use Rattle.store_rows.specs.Steps.{one_plan_more}
-use Rattle.store_rows.specs.claim.Tidy.{IsNumbered, IsNamedBy, IsKnown, AreHoldings, Tidy}
-use Rattle.store_rows.specs.Tidy.{TidyWith}
-use Rattle.store_rows.proofs.OneGeography.{value_is, no_value}
-use Rattle.store_rows.proofs.OneDesk.{row_number}
-use Rattle.store_rows.proofs.HolderCounts.{holder_counts_stay}
+use Rattle.store_rows.proofs.{OneGeography.{value_is, no_value}, OneDesk.row_number, HolderCounts.holder_counts_stay}
 use Rattle.store_rows.proofs.TidyParts.{PlansKept, AllKept, kept_of, some_or_none, numbered_moves, naming_moves, chunks_stay, loads_stay, rows_put, rows_removed, counters_put, stays_tidy}
 
 -- ---- one row, one plan
@@ -24,14 +14,12 @@ row_says m name p q has also = value_is (plan_bytes p) (plan_bytes q) (sym has �
 
 pub number_says : (m : KeyMap) (name : List ℕ) (p : PlanRow) (number : ℕ) → p.number < 2 ^ 64 → Has m (named name) (plan_bytes p) → IsNumbered m name number → p.number ≡ number
 number_says m name p number fits has is =
-    let same : is.plan.number ≡ number = is.is in
     let small : is.plan.number < 2 ^ 64 = (let also = is.fits in omega arith) in
-    row_number p is.plan fits small (row_says m name p is.plan has is.row) ∙ same
+    row_number p is.plan fits small (row_says m name p is.plan has is.row) ∙ is.is
 
 numbers_agree : (m : KeyMap) (name : List ℕ) (one other : ℕ) → IsNumbered m name one → IsNumbered m name other → one ≡ other
 numbers_agree m name one other is also =
-    let small : is.plan.number < 2 ^ 64 = (let same = is.is in let fits = is.fits in omega arith) in
-    sym is.is ∙ number_says m name is.plan other small is.row also
+    sym is.is ∙ number_says m name is.plan other ((let same = is.is in let fits = is.fits in omega arith)) is.row also
 
 -- ---- a plan is created
 module _ (m : KeyMap) (limit : ℕ) (name : List ℕ) (p : PlanRow) (kept : PlansKept m limit) (lacks : Lacks m (named name)) (is : p.number ≡ limit) (none : p.revisions ≡ 0) (fits : limit < 2 ^ 64) where
@@ -57,24 +45,12 @@ module _ (m : KeyMap) (limit : ℕ) (name : List ℕ) (p : PlanRow) (kept : Plan
     | inr apart ↦ inr (numbered_moves made m other number (sym (other_there other apart)) there)
   ]
 
-  stayed : (other : List ℕ) (number : ℕ) → IsNumbered m other number → IsNumbered made other number
-  stayed other number there = elim (cases_key other name) [
-    | inl same ↦ absurd (no_value (plan_bytes there.plan) (sym there.row ∙ ap (λ o. row_in m (named o)) same ∙ lacks))
-    | inr apart ↦ numbered_moves m made other number (other_there other apart) there
-  ]
-
   known : (plan : ℕ) → IsKnown m plan → IsKnown made plan
-  known plan (inl (other, there)) = inl (other, stayed other plan there)
-  known plan (inr mark) = inr (marks _ ∙ mark)
+  known plan given = search (arith, cases_key, no_value, numbered_moves, other_there, marks)
 
   not_known : IsKnown m limit → ⊥
   not_known (inl (other, there)) = (let less = kept.below other limit there in absurd (omega arith))
   not_known (inr mark) = (let less = kept.marks_below limit [] fits mark in absurd (omega arith))
-
-  no_mark : (number : ℕ) → number ≡ limit → row_in m (retired number) ≡ None
-  no_mark number same = some_or_none (row_in m (retired number)) (λ value there.
-      let less = kept.marks_below number value (omega arith) there in
-      absurd (omega arith))
 
   plans_made : PlansKept made (limit + 1)
   plans_made = record {
@@ -94,7 +70,7 @@ module _ (m : KeyMap) (limit : ℕ) (name : List ℕ) (p : PlanRow) (kept : Plan
       ]
     ];
     gone = λ other number there. marks _ ∙ elim (came other number there) [
-      | inl new ↦ no_mark number new.1
+      | inl new ↦ search (arith, some_or_none)
       | inr old ↦ kept.gone other number old
     ];
     parts = λ plan revision index value few there. known plan (kept.parts plan revision index value few (sym (parts _) ∙ there));
@@ -161,9 +137,6 @@ module _ (m : KeyMap) (limit : ℕ) (name : List ℕ) (number : ℕ) (kept : Pla
   left_names : SameTag 80 less left
   left_names = put_keeps_tag less 80 68 _ [] (λ e. absurd (omega arith))
 
-  gone_row : row_in left (named name) ≡ None
-  gone_row = left_names _ ∙ removed_is_gone m (key_of (named name))
-
   other_left : (other : List ℕ) → (other ≡ name → ⊥) → row_in left (named other) ≡ row_in m (named other)
   other_left other apart = left_names _ ∙ remove_keeps m (key_of (named name)) (key_of (named other)) (other_row name other apart)
 
@@ -181,7 +154,7 @@ module _ (m : KeyMap) (limit : ℕ) (name : List ℕ) (number : ℕ) (kept : Pla
 
   -- a plan that is still there was there, under another name
   apart_from : (other : List ℕ) (value : List ℕ) → Has left (named other) value → other ≡ name → ⊥
-  apart_from other value there same = no_value value (sym there ∙ ap (λ o. row_in left (named o)) same ∙ gone_row)
+  apart_from other value there same = no_value value (sym there ∙ ap (λ o. row_in left (named o)) same ∙ (left_names _ ∙ removed_is_gone m (key_of (named name))))
 
   was : (other : List ℕ) (plan : ℕ) → IsNumbered left other plan → IsNumbered m other plan
   was other plan there = numbered_moves left m other plan (sym (other_left other (apart_from other (plan_bytes there.plan) there.row))) there

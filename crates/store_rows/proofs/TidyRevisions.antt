@@ -1,30 +1,17 @@
 -- A plan gets one revision more, and the rows stay tidy.
-use Rattle.std.proofs.Common.{Bool, true, ◌≡◌, ◌⊎◌, ◌<◌, ◌≤◌, ◌+◌, ◌^◌, ℕ, zero, suc, List, [], ◌∷◌, get_or, All, Some, refl, sym, subst, ◌∙◌, inl, inr, arith}
-use Rattle.std.specs.Prelude.{Contains}
+use Rattle.std.{specs.Prelude.Contains, proofs.Common.{Bool, true, ◌≡◌, ◌⊎◌, ◌<◌, ◌≤◌, ◌+◌, ◌^◌, ℕ, suc, List, [], ◌∷◌, get_or, All, Some, refl, sym, subst, ◌∙◌, inl, inr, arith}}
 use Rattle.std.proofs.lemmas.Bool.{cases_eq, cases_lt}
 use Rattle.std.proofs.lemmas.List.{get_or_default}
-use Rattle.store_rows.specs.claim.Keys.{Fits, counters, holding, named, part, chunk}
-use Rattle.store_rows.specs.claim.Values.{plan_bytes, counters_bytes}
-use Rattle.store_rows.specs.claim.Lists.{chunks_bytes}
-use Rattle.store_rows.proofs.ListLaws.{chunks_differ}
-use Rattle.store_rows.specs.declared.value.Counters.{Counters}
-use Rattle.store_rows.specs.declared.value.PlanRow.{PlanRow}
-use Rattle.store_rows.specs.claim.Rows.{KeyMap, row_in, Has, part_row}
-use Rattle.store_rows.proofs.Changes.{cases_key}
-use Rattle.store_rows.specs.Steps.{chunks_more, one_revision_more}
-use Rattle.store_rows.specs.RevisionSteps.{IsGiven, AreItsChunks, AddsRevision}
-use Rattle.store_rows.specs.claim.Tidy.{IsNext, IsNumbered, IsNamedBy, IsPart, IsPiece, IsKnown, AreHoldings, Tidy}
-use Rattle.store_rows.specs.Tidy.{TidyWith}
-use Rattle.store_rows.specs.claim.Holders.{IsHeld}
-use Rattle.store_rows.proofs.OneDesk.{row_number, row_revisions}
-use Rattle.store_rows.proofs.PartNumbers.{part_at, part_there, part_within, part_says, part_chunks, part_among, among_part}
-use Rattle.store_rows.proofs.TidyParts.{PlansKept, ChunksKept, kept_of, tidy_at, numbered_moves, loads_stay}
-use Rattle.store_rows.proofs.TidyPlans.{row_says, number_says}
+use Rattle.store_rows.specs.{claim.Keys.{Fits, holding, named, part, chunk}, claim.Values.plan_bytes, claim.Lists.chunks_bytes, declared.value.Counters.Counters}
+use Rattle.store_rows.specs.{declared.value.PlanRow.PlanRow, claim.Rows.{KeyMap, row_in, Has, part_row}, Steps.{chunks_more, one_revision_more}}
+use Rattle.store_rows.specs.{RevisionSteps.{IsGiven, AreItsChunks, AddsRevision}, claim.Tidy.{IsNext, IsNumbered, IsNamedBy, IsPart, IsPiece, IsKnown, AreHoldings, Tidy}}
+use Rattle.store_rows.{specs.Tidy.TidyWith, specs.claim.Holders.IsHeld, proofs.ListLaws.chunks_differ, proofs.Changes.cases_key, proofs.OneDesk.{row_number, row_revisions}}
+use Rattle.store_rows.proofs.PartNumbers.{part_at, part_within, part_says, part_chunks, part_among, numbers_named}
+use Rattle.store_rows.proofs.{TidyParts.{PlansKept, ChunksKept, kept_of, tidy_at, numbered_moves, loads_stay}, TidyPlans.{row_says, number_says}}
 
 -- whether a list has a number
 not_among : (x : ℕ) (numbers : List ℕ) (number : ℕ) → (x ≡ number → ⊥) → (Contains numbers number → ⊥) → Contains (x ∷ numbers) number → ⊥
-not_among x numbers number apart none (zero, within, is) = apart is
-not_among x numbers number apart none (suc k, within, is) = none (k, omega arith, is)
+not_among x numbers number apart none given = search (arith, apart, none)
 
 pub contains_or_not : (numbers : List ℕ) (number : ℕ) → Contains numbers number ⊎ (Contains numbers number → ⊥)
 contains_or_not [] number = inr (λ there. let within = there.1 in absurd (omega arith))
@@ -38,13 +25,7 @@ contains_or_not (x ∷ numbers) number = elim (cases_eq x number) [
 
 -- whether a number of chunks was given
 pub given_or_not : (next : Counters) (given number : ℕ) → IsGiven next given number ⊎ (IsGiven next given number → ⊥)
-given_or_not next given number = elim (cases_lt number next.chunk) [
-  | inl below ↦ inr (λ is. let more = is.0 in absurd (omega arith))
-  | inr from ↦ elim (cases_lt number (next.chunk + given)) [
-    | inl less ↦ inl (from, less)
-    | inr beyond ↦ inr (λ is. let less = is.1 in absurd (omega arith))
-  ]
-]
+given_or_not next given number = search (arith, cases_lt)
 
 module _ (m n : KeyMap) (new : Bool) (next : Counters) (given source : ℕ) (name : List ℕ) (p : PlanRow) (numbers : List ℕ) (plans : PlansKept m next.plan) (kept : ChunksKept m next.chunk) (number_fits : p.number < 2 ^ 64) (few_revisions : p.revisions + 1 < 2 ^ 32) (room : next.chunk + given < 2 ^ 64) (has : Has m (named name) (plan_bytes p)) (its : AreItsChunks m next given source numbers) (adds : AddsRevision m n new next given name p numbers) where
   abbrev IsNew : ℕ → ℕ → Type 0
@@ -75,8 +56,7 @@ module _ (m n : KeyMap) (new : Bool) (next : Counters) (given source : ℕ) (nam
 
   stays_numbered : (other : List ℕ) (number : ℕ) → IsNumbered m other number → IsNumbered n other number
   stays_numbered other number there = elim (cases_key other name) [
-    | inl same ↦ (let equal : p.number ≡ number = number_says m name p number number_fits has (subst (λ o. IsNumbered m o number) same there) in
-        subst (λ o. IsNumbered n o number) (sym same) (subst (λ k. IsNumbered n name k) equal numbered_now))
+    | inl same ↦ search (arith, p.number, number_says, numbered_now)
     | inr apart ↦ numbered_moves m n other number (adds.others other apart) there
   ]
 
@@ -90,14 +70,12 @@ module _ (m n : KeyMap) (new : Bool) (next : Counters) (given source : ℕ) (nam
 
   new_part : (plan revision index : ℕ) (value : List ℕ) → IsNew plan revision → Fits (part plan revision index) → Has n (part plan revision index) value → part_row 128 chunks_bytes numbers index ≡ Some value
   new_part plan revision index value is fits there =
-      let moved : row_in n (part plan revision index) ≡ row_in n (part p.number (p.revisions + 1) index) = (λ i. row_in n (part (is.0 i) (is.1 i) index)) in
-      sym (adds.parts index fits.2) ∙ sym moved ∙ there
+      sym (adds.parts index fits.2) ∙ sym ((λ i. row_in n (part (is.0 i) (is.1 i) index))) ∙ there
 
   each_fits : All (λ x. x < 2 ^ 64) numbers
   each_fits k d within =
       let x = get_or numbers k d in
-      let here : Contains numbers x = (k, within, get_or_default numbers k x d within) in
-      elim (its.own x here) [
+      elim (its.own x ((k, within, get_or_default numbers k x d within))) [
         | inl old ↦ (let less = kept.below source x old in omega arith)
         | inr new ↦ (let less = new.1 in omega arith)
       ]
@@ -124,9 +102,8 @@ module _ (m n : KeyMap) (new : Bool) (next : Counters) (given source : ℕ) (nam
         | inl new ↦ (let last = new.1 in (omega arith, omega arith))
         | inr old ↦ (let here : Has m (part q.number revision index) value = sym (adds.other_parts q.number revision index part_fits old) ∙ row in
             let before = plans.counted name p number_fits (omega arith) has revision index value (subst (λ k. Fits (part k revision index)) (sym same) part_fits) (subst (λ k. Has m (part k revision index) value) (sym same) here) in
-            let some = before.0 in
             let few = before.1 in
-            (some, omega arith))
+            (before.0, omega arith))
       ]
 
   counted_there : (other : List ℕ) (q : PlanRow) → (other ≡ name → ⊥) → q.number < 2 ^ 64 → q.revisions < 2 ^ 32 → Has n (named other) (plan_bytes q) → (revision index : ℕ) (value : List ℕ) → Fits (part q.number revision index) → Has n (part q.number revision index) value → (0 < revision) × (revision ≤ q.revisions)
@@ -159,41 +136,17 @@ module _ (m n : KeyMap) (new : Bool) (next : Counters) (given source : ℕ) (nam
         let within = part_within numbers is.index (chunks_bytes is.numbers) row in
         let same : is.numbers ≡ part_at numbers is.index = chunks_differ is.numbers (part_at numbers is.index) is.chunks (part_chunks numbers is.index each_fits within) (part_says numbers is.index (chunks_bytes is.numbers) row) in
         inl (new.0, part_among numbers is.index number within (subst (λ (l : List ℕ). Contains l number) same is.among)))
-    | inr old ↦ inr (record {
-      revision = is.revision;
-      index = is.index;
-      part_fits = is.part_fits;
-      numbers = is.numbers;
-      chunks = is.chunks;
-      row = sym (adds.other_parts plan is.revision is.index is.part_fits old) ∙ is.row;
-      among = is.among;
-    })
+    | inr old ↦ (let row : Has m (part plan is.revision is.index) (chunks_bytes is.numbers) = sym (adds.other_parts plan is.revision is.index is.part_fits old) ∙ is.row in inr (search row))
   ]
 
   stays_named : (plan number : ℕ) → IsNamedBy m plan number → IsNamedBy n plan number
-  stays_named plan number is = record {
-    revision = is.revision;
-    index = is.index;
-    part_fits = is.part_fits;
-    numbers = is.numbers;
-    chunks = is.chunks;
-    row = adds.other_parts plan is.revision is.index is.part_fits (λ new. none_before is.index (chunks_bytes is.numbers) (subst (λ k. Fits (part k (p.revisions + 1) is.index)) new.0 (subst (λ r. Fits (part plan r is.index)) new.1 is.part_fits))
-        (subst (λ k. Has m (part k (p.revisions + 1) is.index) (chunks_bytes is.numbers)) new.0 (subst (λ r. Has m (part plan r is.index) (chunks_bytes is.numbers)) new.1 is.row))) ∙ is.row;
-    among = is.among;
-  }
+  stays_named plan number is =
+      let row : Has n (part plan is.revision is.index) (chunks_bytes is.numbers) = adds.other_parts plan is.revision is.index is.part_fits (λ new. none_before is.index (chunks_bytes is.numbers) (subst (λ k. Fits (part k (p.revisions + 1) is.index)) new.0 (subst (λ r. Fits (part plan r is.index)) new.1 is.part_fits))
+      (subst (λ k. Has m (part k (p.revisions + 1) is.index) (chunks_bytes is.numbers)) new.0 (subst (λ r. Has m (part plan r is.index) (chunks_bytes is.numbers)) new.1 is.row))) ∙ is.row in
+      search row
 
   named_now : (number : ℕ) → Contains numbers number → IsNamedBy n p.number number
-  named_now number among =
-      let (index, small, within, here) = among_part numbers number its.few among in
-      record {
-        revision = p.revisions + 1;
-        index = index;
-        part_fits = (number_fits, few_revisions, small);
-        numbers = part_at numbers index;
-        chunks = part_chunks numbers index each_fits within;
-        row = adds.parts index small ∙ part_there numbers index within;
-        among = here;
-      }
+  named_now = numbers_named n p.number (p.revisions + 1) numbers number_fits few_revisions (record { few = its.few; each = each_fits; parts = adds.parts })
 
   below_now : (plan number : ℕ) → IsNamedBy n plan number → number < next.chunk + given
   below_now plan number is = elim (came plan number is) [
@@ -223,12 +176,9 @@ module _ (m n : KeyMap) (new : Bool) (next : Counters) (given source : ℕ) (nam
   abbrev IsNewHolding : ℕ → ℕ → Type 0
   IsNewHolding plan number = (plan ≡ p.number) × Contains numbers number
 
-  among_or_not : (number : ℕ) → Contains numbers number ⊎ (Contains numbers number → ⊥)
-  among_or_not number = contains_or_not numbers number
-
   new_holding_or_not : (plan number : ℕ) → IsNewHolding plan number ⊎ (IsNewHolding plan number → ⊥)
   new_holding_or_not plan number = elim (cases_eq plan p.number) [
-    | inl same ↦ elim (among_or_not number) [
+    | inl same ↦ elim (contains_or_not numbers number) [
       | inl is ↦ inl (same, is)
       | inr other ↦ inr (λ is. other is.1)
     ]
@@ -262,8 +212,7 @@ revised_tidy m n tidy given source name p numbers number_fits few room has its a
     let more = chunks_more next given in
     let plan_fits = tidy.fits.plan_fits in
     let load_fits = tidy.fits.load_fits in
-    let row : Some (counters_bytes more) ≡ row_in n counters = sym adds.moved in
-    let is : IsNext n more = rw (← row) refl in
+    let is : IsNext n more = rw (← (sym adds.moved)) refl in
     tidy_at n more tidy.new is (record { plan_fits = plan_fits; chunk_fits = room; load_fits = load_fits }) (record {
       rows = adds.rows;
       plans = plans_revised m n tidy.new next given source name p numbers kept.plans kept.chunks number_fits few room has its adds;

@@ -1,17 +1,9 @@
 -- A plan that was taken away lets a chunk go.
-use Rattle.std.proofs.Common.{true, ◌≡◌, ◌<◌, ◌+◌, ◌^◌, ℕ, zero, suc, [], ◌++◌, sym, ◌∙◌, arith}
-use Rattle.std.specs.FinMap.{remove}
+use Rattle.std.{specs.FinMap.remove, proofs.Common.{true, ◌≡◌, ◌<◌, ◌+◌, ◌^◌, ℕ, zero, suc, [], ◌++◌, sym, ◌∙◌, arith}}
 use Rattle.desk_model.specs.claim.Desk.{Desk}
-use Rattle.store_rows.specs.claim.Keys.{key_of, holding, holder_count, in_eight}
-use Rattle.store_rows.specs.claim.Rows.{KeyMap}
-use Rattle.store_rows.specs.Rows.{SameTag}
-use Rattle.store_rows.specs.claim.DeskRows.{IsDesk}
-use Rattle.store_rows.proofs.Frames.{put_keeps_tag, remove_keeps_tag, remove_keeps_row, tag_follows, desk_stays}
-use Rattle.store_rows.specs.Holders.{with_holder_count, released}
-use Rattle.store_rows.specs.claim.Tidy.{IsNumbered, IsNamedBy, AreRows, AreHoldings, Tidy}
-use Rattle.store_rows.specs.SweepLaws.{IsSwept}
-use Rattle.store_rows.specs.TurnLaws.{IsUnneededHolding}
-use Rattle.store_rows.proofs.HolderCounts.{holders_leave}
+use Rattle.store_rows.specs.{claim.Keys.{key_of, holding, holder_count, in_eight}, claim.Rows.KeyMap, Rows.SameTag, claim.DeskRows.IsDesk, Holders.{with_holder_count, released}}
+use Rattle.store_rows.specs.{claim.Tidy.{IsNumbered, IsNamedBy, AreRows, AreHoldings, Tidy}, SweepLaws.IsSwept, TurnLaws.IsUnneededHolding}
+use Rattle.store_rows.proofs.{Frames.{put_keeps_tag, remove_keeps_tag, remove_keeps_row, tag_follows, desk_stays}, HolderCounts.holders_leave}
 use Rattle.store_rows.proofs.TidyParts.{AllKept, kept_of, stays_tidy, numbered_moves, naming_moves, plans_stay, chunks_stay, loads_stay, rows_put, rows_removed}
 use Rattle.store_rows.proofs.SweepPlans.{still_there, apart_from_gone}
 
@@ -20,8 +12,7 @@ with_holder_count_rows m number zero fits rows = rows_removed m (key_of (holder_
 with_holder_count_rows m number (suc more) fits rows = rows_put m (holder_count number) (in_eight (more + 1)) fits rows
 
 with_holder_count_tag : (m : KeyMap) (number count tag : ℕ) → (tag ≡ 75 → ⊥) → SameTag tag m (with_holder_count m number count)
-with_holder_count_tag m number zero tag apart = remove_keeps_tag m tag 75 (in_eight number) apart
-with_holder_count_tag m number (suc more) tag apart = put_keeps_tag m tag 75 (in_eight number) (in_eight (more + 1)) apart
+with_holder_count_tag m number count tag apart = search (arith, remove_keeps_tag, put_keeps_tag)
 
 other_holder : (plan number other chunk_number : ℕ) → (other ≡ plan → ⊥) → holding other chunk_number ≡ holding plan number → ⊥
 other_holder plan number other chunk_number apart same = apart (cc)
@@ -56,8 +47,6 @@ module _ (m : KeyMap) (tidy : Tidy m) (is_new : tidy.new ≡ true) (d : Desk) (i
     hold = λ new name owner chunk_number there named_by.
         let living : IsNumbered m name owner = numbered_moves after m name owner (sym (names_after _)) there in
         let naming : IsNamedBy m owner chunk_number = naming_moves after m owner chunk_number (λ rest. sym (parts_after rest)) named_by in
-        let below = tidy.below.named_chunks owner chunk_number naming in
-        let chunk_fits = tidy.fits.chunk_fits in
         holdings_after _
         ∙ remove_keeps_row m (holding plan number) (holding owner chunk_number) (left.plan_fits, left.fits) (there.fits, omega arith) (other_holder plan number owner chunk_number (apart_from_gone m tidy name owner plan living left.mark))
         ∙ tidy.holdings.hold new name owner chunk_number living naming;

@@ -1,30 +1,16 @@
 -- In the new version rows of plans that were taken away can go.
+use Rattle.std.specs.{Prelude.Contains, FinMap.{get, remove}}
 use Rattle.std.proofs.Common.{true, ◌≡◌, ◌⊎◌, ◌<◌, ◌^◌, ℕ, List, [], ◌++◌, length, get_or, Some, sym, ap, subst, ◌∙◌, inl, inr, arith}
-use Rattle.std.specs.Prelude.{Contains}
-use Rattle.std.specs.FinMap.{get, remove}
 use Rattle.std.proofs.lemmas.List.{get_or_default}
 use Rattle.desk_model.specs.claim.Desk.{Desk}
-use Rattle.store_rows.specs.claim.Keys.{key_of, Fits, retired, holding, holder_count, named, part, chunk, in_eight, in_four, in_one, in_two}
-use Rattle.store_rows.specs.claim.Values.{plan_bytes}
-use Rattle.store_rows.specs.claim.Lists.{chunks_bytes, AreChunks}
-use Rattle.store_rows.proofs.ListLaws.{chunks_differ}
-use Rattle.store_rows.proofs.RowLaws.{keys_differ}
-use Rattle.store_rows.specs.claim.Rows.{KeyMap, row_in, Has, Lacks}
-use Rattle.store_rows.specs.Rows.{SameTag}
-use Rattle.store_rows.specs.claim.RevisionRows.{HasChunk}
-use Rattle.store_rows.specs.ChunkRows.{IsFreeChunk}
-use Rattle.store_rows.specs.claim.DeskRows.{IsDesk}
-use Rattle.store_rows.specs.Changes.{RevisionsStay}
-use Rattle.store_rows.proofs.Changes.{cases_key}
-use Rattle.store_rows.proofs.Frames.{remove_keeps, remove_keeps_row, remove_keeps_tag, names_stay, chunk_stays}
-use Rattle.store_rows.specs.claim.Tidy.{IsNumbered, IsNamedBy, IsKnown, AreHoldings, Tidy}
-use Rattle.store_rows.specs.claim.Holders.{IsHeld}
-use Rattle.store_rows.specs.SweepLaws.{IsSwept}
-use Rattle.store_rows.specs.TurnLaws.{IsShared}
-use Rattle.store_rows.proofs.OneGeography.{value_is, no_value}
+use Rattle.store_rows.specs.{claim.Keys.{key_of, Fits, retired, holding, holder_count, named, part, chunk, in_eight, in_four, in_one, in_two}, claim.Values.plan_bytes}
+use Rattle.store_rows.specs.{claim.Lists.{chunks_bytes, AreChunks}, claim.Rows.{KeyMap, row_in, Has, Lacks}, Rows.SameTag, claim.RevisionRows.HasChunk, ChunkRows.IsFreeChunk}
+use Rattle.store_rows.specs.{claim.DeskRows.IsDesk, Changes.RevisionsStay, claim.Tidy.{IsNumbered, IsNamedBy, IsKnown, AreHoldings, Tidy}, claim.Holders.IsHeld, SweepLaws.IsSwept}
+use Rattle.store_rows.{specs.TurnLaws.IsShared, proofs.ListLaws.chunks_differ, proofs.RowLaws.keys_differ, proofs.Changes.cases_key}
+use Rattle.store_rows.proofs.{Frames.{remove_keeps, remove_keeps_row, remove_keeps_tag, names_stay, chunk_stays}, OneGeography.{value_is, no_value}}
 use Rattle.store_rows.proofs.TidyParts.{AllKept, kept_of, stays_tidy, numbered_moves, naming_moves, plans_stay, loads_stay, holders_stay, rows_removed}
-use Rattle.store_rows.proofs.HolderCounts.{holder_counts_stay, none_holds, another_holds}
-use Rattle.store_rows.proofs.SweepPlans.{apart_from_gone, numbers_named, still_there, still_none, desk_moves, other_piece}
+use Rattle.store_rows.proofs.{HolderCounts.{holder_counts_stay, none_holds, another_holds}, PartNumbers.numbers_named}
+use Rattle.store_rows.proofs.SweepPlans.{apart_from_gone, still_there, still_none, desk_moves, other_piece}
 
 module _ (m : KeyMap) (tidy : Tidy m) (is_new : tidy.new ≡ true) (d : Desk) (is : IsDesk m d) (plan : ℕ) (mark : Has m (retired plan) []) where
   module _ (number piece : ℕ) (fits : Fits (chunk number piece)) (naming : IsNamedBy m plan number) (uncounted_by_holders : Lacks m (holder_count number)) where
@@ -35,13 +21,7 @@ module _ (m : KeyMap) (tidy : Tidy m) (is_new : tidy.new ≡ true) (d : Desk) (i
     fewer_same tag apart = remove_keeps_tag m tag 107 (in_eight number ++ in_two piece) apart
 
     other_chunk : (other : ℕ) (districts : List ℕ) → (other ≡ number → ⊥) → HasChunk m other districts → HasChunk fewer other districts
-    other_chunk other districts apart has = record {
-      number_fits = has.number_fits;
-      some = has.some;
-      few = has.few;
-      each = has.each;
-      pieces = λ index small. remove_keeps_row m (chunk number piece) (chunk other index) fits (has.number_fits, small) (other_piece number other index piece apart) ∙ has.pieces index small;
-    }
+    other_chunk other districts apart has = search (has.number_fits, has.some, has.few, has.each, remove_keeps_row, m, other_piece, has.pieces)
 
     -- a plan that is there holds its chunks
     own_chunk : (name : List ℕ) (owner other : ℕ) → IsNumbered m name owner → IsNamedBy m owner other → other ≡ number → ⊥
@@ -109,27 +89,11 @@ module _ (m : KeyMap) (tidy : Tidy m) (is_new : tidy.new ≡ true) (d : Desk) (i
     part_before owner k i value there = (still_there m (key_of (part plan revision index)) (key_of (part owner k i)) value there).1
 
     naming_before : (owner number : ℕ) → IsNamedBy without owner number → IsNamedBy m owner number
-    naming_before owner number there = record {
-      revision = there.revision;
-      index = there.index;
-      part_fits = there.part_fits;
-      numbers = there.numbers;
-      chunks = there.chunks;
-      row = part_before owner there.revision there.index (chunks_bytes there.numbers) there.row;
-      among = there.among;
-    }
+    naming_before owner number there = search (part_before)
 
     -- a naming by another part, or by another plan, stays
     naming_other : (owner number : ℕ) (there : IsNamedBy m owner number) → (key_of (part owner there.revision there.index) ≡ key_of (part plan revision index) → ⊥) → IsNamedBy without owner number
-    naming_other owner number there apart = record {
-      revision = there.revision;
-      index = there.index;
-      part_fits = there.part_fits;
-      numbers = there.numbers;
-      chunks = there.chunks;
-      row = remove_keeps m (key_of (part plan revision index)) (key_of (part owner there.revision there.index)) apart ∙ there.row;
-      among = there.among;
-    }
+    naming_other owner number there apart = search (remove_keeps)
 
     one_owner : (owner k i : ℕ) → Fits (part owner k i) → key_of (part owner k i) ≡ key_of (part plan revision index) → owner ≡ plan
     one_owner owner k i few same = (let rows : part owner k i ≡ part plan revision index = keys_differ (part owner k i) (part plan revision index) few fits same in cc)
@@ -138,8 +102,7 @@ module _ (m : KeyMap) (tidy : Tidy m) (is_new : tidy.new ≡ true) (d : Desk) (i
     among_gone : (owner number : ℕ) (there : IsNamedBy m owner number) → key_of (part owner there.revision there.index) ≡ key_of (part plan revision index) → Contains numbers number
     among_gone owner number there same =
         let bytes : chunks_bytes there.numbers ≡ chunks_bytes numbers = value_is (chunks_bytes there.numbers) (chunks_bytes numbers) (sym there.row ∙ ap (get m) same ∙ row) in
-        let equal : there.numbers ≡ numbers = chunks_differ there.numbers numbers there.chunks chunks bytes in
-        subst (λ (l : List ℕ). Contains l number) equal there.among
+        subst (λ (l : List ℕ). Contains l number) (chunks_differ there.numbers numbers there.chunks chunks bytes) there.among
 
     -- what a plan holds it names still
     held_after : (owner number : ℕ) → IsHeld m owner number → IsNamedBy m owner number → IsNamedBy without owner number
@@ -170,8 +133,7 @@ module _ (m : KeyMap) (tidy : Tidy m) (is_new : tidy.new ≡ true) (d : Desk) (i
     }
 
     known_after : (owner : ℕ) → IsKnown m owner → IsKnown without owner
-    known_after owner (inl (name, there)) = inl (name, numbered_moves m without name owner (without_same 80 (λ e. absurd (omega arith)) _) there)
-    known_after owner (inr gone) = inr (without_same 68 (λ e. absurd (omega arith)) _ ∙ gone)
+    known_after owner given = search (arith, numbered_moves, without_same)
 
     numbered_before : (name : List ℕ) (owner : ℕ) → IsNumbered without name owner → IsNumbered m name owner
     numbered_before name owner there = numbered_moves without m name owner (sym (without_same 80 (λ e. absurd (omega arith)) _)) there

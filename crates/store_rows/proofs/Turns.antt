@@ -1,31 +1,18 @@
 -- Turns of a sweep are taken, one after the other.
-use Rattle.std.proofs.Common.{true, ◌≡◌, List, [], ◌∷◌, refl, ◌∙◌}
-use Rattle.std.specs.FinMap.{remove}
+use Rattle.std.{specs.FinMap.remove, proofs.Common.{true, ◌≡◌, List, [], ◌∷◌, refl, ◌∙◌}}
 use Rattle.desk_model.specs.claim.Desk.{Desk}
-use Rattle.store_rows.specs.claim.Keys.{RowKey, key_of, Fits, counters, retired, begun, holding, holder_count, named, part, seal, version, block, pair, chunk}
-use Rattle.store_rows.specs.claim.Rows.{KeyMap}
-use Rattle.store_rows.specs.claim.DeskRows.{IsDesk}
-use Rattle.store_rows.specs.claim.Tidy.{Tidy}
-use Rattle.store_rows.specs.SweepLaws.{IsSwept}
-use Rattle.store_rows.specs.TurnLaws.{IsUnneeded, CanTurn, Turn, goes, lets_go, turned, take_turns, AreTurns}
-use Rattle.store_rows.proofs.SweepPlans.{mark_swept}
-use Rattle.store_rows.proofs.TurnPlans.{piece_swept, part_swept}
-use Rattle.store_rows.proofs.TurnHolds.{hold_swept}
-use Rattle.store_rows.proofs.SweepLoads.{block_swept, pair_swept, load_mark_swept}
+use Rattle.store_rows.specs.{claim.Keys.{RowKey, key_of, Fits, retired, begun, part, block, pair, chunk}, claim.Rows.KeyMap, claim.DeskRows.IsDesk, claim.Tidy.Tidy}
+use Rattle.store_rows.{specs.SweepLaws.IsSwept, specs.TurnLaws.{IsUnneeded, CanTurn, Turn, goes, lets_go, turned, take_turns, AreTurns}, proofs.SweepPlans.mark_swept}
+use Rattle.store_rows.proofs.{TurnPlans.{piece_swept, part_swept}, TurnHolds.hold_swept, SweepLoads.{block_swept, pair_swept, load_mark_swept}}
 
 row_swept : (m : KeyMap) (tidy : Tidy m) → tidy.new ≡ true → (d : Desk) → IsDesk m d → (row : RowKey) → Fits row → IsUnneeded m row → IsSwept d tidy.next tidy.new (remove m (key_of row))
-row_swept m tidy is_new d is counters fits left = absurd left
 row_swept m tidy is_new d is (retired plan) fits left = mark_swept m tidy d is plan left.0 fits left.1
 row_swept m tidy is_new d is (begun load) fits left = load_mark_swept m tidy d is load fits left.0 left.1
-row_swept m tidy is_new d is (holding held number) fits left = absurd left
-row_swept m tidy is_new d is (holder_count number) fits left = absurd left
-row_swept m tidy is_new d is (named name) fits left = absurd left
 row_swept m tidy is_new d is (part plan revision index) fits left = part_swept m tidy is_new d is plan left.0 revision index left.1.numbers fits left.1.chunks left.1.row left.1.let_go left.1.gone
-row_swept m tidy is_new d is seal fits left = absurd left
-row_swept m tidy is_new d is version fits left = absurd left
 row_swept m tidy is_new d is (block load place) fits left = block_swept m tidy d is load fits.0 left place fits.1
 row_swept m tidy is_new d is (pair load place) fits left = pair_swept m tidy d is load fits.0 left place fits.1
 row_swept m tidy is_new d is (chunk number piece) fits left = piece_swept m tidy is_new d is left.0 left.1 number piece fits left.2 left.3
+row_swept m tidy is_new d is _ fits left = absurd left
 
 turn_swept : (m : KeyMap) (tidy : Tidy m) → tidy.new ≡ true → (d : Desk) → IsDesk m d → (turn : Turn) → CanTurn m turn → IsSwept d tidy.next tidy.new (turned m turn)
 turn_swept m tidy is_new d is (goes row) left = row_swept m tidy is_new d is row left.0 left.1

@@ -1,16 +1,8 @@
 -- From the old version of the rows to the new one: plans come to hold what they name, and then the version is told.
-use Rattle.std.specs.Prelude.{Bool, true, ◌≡◌, ◌<◌, ◌^◌, ℕ}
-use Rattle.std.specs.FinMap.{empty, insert}
+use Rattle.std.specs.{Prelude.{Bool, true, ◌≡◌, ◌<◌, ◌^◌, ℕ}, FinMap.{empty, insert}}
 use Rattle.desk_model.specs.claim.Desk.{Desk}
-use Rattle.store_rows.specs.claim.Keys.{key_of, Fits, holding, version, in_four}
-use Rattle.store_rows.specs.declared.value.Counters.{Counters}
-use Rattle.store_rows.specs.claim.Rows.{KeyMap}
-use Rattle.store_rows.specs.Rows.{SameTag}
-use Rattle.store_rows.specs.claim.DeskRows.{IsDesk}
-use Rattle.store_rows.specs.claim.Holders.{IsHeld}
-use Rattle.store_rows.specs.claim.Tidy.{no_numbers, IsNamedBy, AllHold, Tidy}
-use Rattle.store_rows.specs.Tidy.{TidyWith}
-use Rattle.store_rows.specs.claim.Shares.{hold}
+use Rattle.store_rows.specs.{claim.Keys.{key_of, Fits, holding, version, in_four}, declared.value.Counters.Counters, claim.Rows.KeyMap, Rows.SameTag, claim.DeskRows.IsDesk}
+use Rattle.store_rows.specs.{claim.Holders.IsHeld, claim.Tidy.{no_numbers, IsNamedBy, AllHold, Tidy}, Tidy.TidyWith, claim.Shares.hold}
 
 -- a map that tells the new version
 abbrev pub as_new : KeyMap → KeyMap

@@ -1,18 +1,8 @@
 -- What no promise rests on, beside claim/Shares.antt.
 use Rattle.std.specs.Prelude.{◌≡◌, ◌<◌, ◌+◌, ◌^◌, ℕ, List, [], ◌∷◌, ◌++◌, Contains}
-use Rattle.store_rows.specs.claim.Keys.{key_of, Fits, counters, holding, named}
-use Rattle.store_rows.specs.claim.Values.{counters_bytes, plan_bytes}
-use Rattle.store_rows.specs.declared.value.Counters.{Counters}
-use Rattle.store_rows.specs.declared.value.PlanRow.{PlanRow}
-use Rattle.store_rows.specs.claim.Rows.{KeyMap, row_in, Has}
-use Rattle.store_rows.specs.Rows.{SameTag}
-use Rattle.store_rows.specs.claim.Puts.{Row, put_rows}
-use Rattle.store_rows.specs.NameRows.{name_rows}
-use Rattle.store_rows.specs.Steps.{chunks_more, one_revision_more}
-use Rattle.store_rows.specs.claim.Holders.{IsHeld, AreTallied}
-use Rattle.store_rows.specs.Holders.{AreHoldersBelow}
-use Rattle.store_rows.specs.claim.Tidy.{AreRows}
-use Rattle.store_rows.specs.claim.Shares.{hold}
+use Rattle.store_rows.specs.{claim.Keys.{key_of, Fits, counters, holding, named}, claim.Values.{counters_bytes, plan_bytes}, declared.value.Counters.Counters}
+use Rattle.store_rows.specs.{declared.value.PlanRow.PlanRow, claim.Rows.{KeyMap, row_in, Has}, Rows.SameTag, claim.Puts.{Row, put_rows}, NameRows.name_rows}
+use Rattle.store_rows.specs.{Steps.{chunks_more, one_revision_more}, claim.Holders.{IsHeld, AreTallied}, Holders.AreHoldersBelow, claim.Tidy.AreRows, claim.Shares.hold}
 
 abbrev pub hold_all : KeyMap → ℕ → List ℕ → KeyMap
 hold_all m plan [] = m

@@ -1,15 +1,9 @@
 -- What a sweep keeps, and what is there once it is done.
 use Rattle.std.specs.Prelude.{Bool, ◌≡◌, ◌<◌, ◌^◌, ℕ, List, Contains}
 use Rattle.desk_model.specs.claim.Desk.{Desk}
-use Rattle.store_rows.specs.claim.Keys.{Fits, retired, begun, part, seal, block, pair, chunk}
-use Rattle.store_rows.specs.claim.Values.{seal_bytes}
-use Rattle.store_rows.specs.declared.value.Counters.{Counters}
-use Rattle.store_rows.specs.declared.value.SealRow.{SealRow}
-use Rattle.store_rows.specs.claim.Rows.{KeyMap, Has, Lacks}
-use Rattle.store_rows.specs.claim.RevisionRows.{NamesChunks}
-use Rattle.store_rows.specs.claim.DeskRows.{IsDesk}
-use Rattle.store_rows.specs.claim.Tidy.{IsNumbered, IsNamedBy, Tidy}
-use Rattle.store_rows.specs.Tidy.{TidyWith}
+use Rattle.store_rows.specs.{claim.Keys.{Fits, retired, begun, part, seal, block, pair, chunk}, claim.Values.seal_bytes, declared.value.Counters.Counters}
+use Rattle.store_rows.specs.{declared.value.SealRow.SealRow, claim.Rows.{KeyMap, Has, Lacks}, claim.RevisionRows.NamesChunks, claim.DeskRows.IsDesk}
+use Rattle.store_rows.specs.{claim.Tidy.{IsNumbered, IsNamedBy, Tidy}, Tidy.TidyWith}
 
 -- the numbers of a revision are named by parts of it
 abbrev pub NumbersAreNamed : Type 0

@@ -1,17 +1,10 @@
 -- Rows that nothing needs any more where it is told which plans hold a chunk: taken out turn by turn, they leave the desk as it is and
 -- the rows tidy.
-use Rattle.std.specs.Prelude.{true, ◌≡◌, ◌⊎◌, ◌<◌, ◌+◌, ◌^◌, ℕ, suc, List, [], ◌∷◌, Contains}
-use Rattle.std.specs.FinMap.{remove}
+use Rattle.std.specs.{Prelude.{true, ◌≡◌, ◌⊎◌, ◌<◌, ◌+◌, ◌^◌, ℕ, suc, List, [], ◌∷◌, Contains}, FinMap.remove}
 use Rattle.desk_model.specs.claim.Desk.{Desk}
-use Rattle.store_rows.specs.claim.Keys.{RowKey, key_of, Fits, counters, retired, begun, holding, holder_count, named, part, seal, version, block, pair, chunk}
-use Rattle.store_rows.specs.claim.Lists.{chunks_bytes, AreChunks}
-use Rattle.store_rows.specs.claim.Rows.{KeyMap, row_in, Has, Lacks}
-use Rattle.store_rows.specs.ChunkRows.{IsFreeChunk}
-use Rattle.store_rows.specs.claim.DeskRows.{IsDesk}
-use Rattle.store_rows.specs.claim.Holders.{IsHeld, holder_count_row}
-use Rattle.store_rows.specs.Holders.{released}
-use Rattle.store_rows.specs.claim.Tidy.{IsNamedBy, Tidy}
-use Rattle.store_rows.specs.SweepLaws.{IsSwept}
+use Rattle.store_rows.specs.{claim.Keys.{RowKey, key_of, Fits, retired, begun, holding, holder_count, part, block, pair, chunk}, claim.Lists.{chunks_bytes, AreChunks}}
+use Rattle.store_rows.specs.{claim.Rows.{KeyMap, row_in, Has, Lacks}, ChunkRows.IsFreeChunk, claim.DeskRows.IsDesk, claim.Holders.{IsHeld, holder_count_row}, Holders.released}
+use Rattle.store_rows.specs.{claim.Tidy.{IsNamedBy, Tidy}, SweepLaws.IsSwept}
 
 -- some plan holds the chunk
 abbrev pub IsShared : KeyMap → ℕ → Type 0
@@ -29,18 +22,13 @@ pub record IsLetGo (m : KeyMap) (plan revision index : ℕ) : Type 0 where
 -- it has let go, and that have no piece left or are held by another; its mark, where no part is left. Of a load that was begun: a row of
 -- it; its mark, where no row is left.
 abbrev pub IsUnneeded : KeyMap → RowKey → Type 0
-IsUnneeded m counters = ⊥
 IsUnneeded m (retired plan) = Has m (retired plan) [] × ((revision index : ℕ) → Fits (part plan revision index) → Lacks m (part plan revision index))
 IsUnneeded m (begun load) = Has m (begun load) [] × ((place : ℕ) → place < 2 ^ 32 → Lacks m (block load place) × Lacks m (pair load place))
-IsUnneeded m (holding plan number) = ⊥
-IsUnneeded m (holder_count number) = ⊥
-IsUnneeded m (named name) = ⊥
 IsUnneeded m (part plan revision index) = Has m (retired plan) [] × IsLetGo m plan revision index
-IsUnneeded m seal = ⊥
-IsUnneeded m version = ⊥
 IsUnneeded m (block load place) = Has m (begun load) []
 IsUnneeded m (pair load place) = Has m (begun load) []
 IsUnneeded m (chunk number piece) = (plan : ℕ) × Has m (retired plan) [] × IsNamedBy m plan number × Lacks m (holder_count number)
+IsUnneeded m _ = ⊥
 
 -- A plan that was taken away holds a chunk, which so many others hold too: it can let it go.
 pub record IsUnneededHolding (m : KeyMap) (plan number count : ℕ) : Type 0 where

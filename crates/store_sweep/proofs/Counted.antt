@@ -1,29 +1,16 @@
 -- The plans that hold chunks, counted row by row.
-use Rattle.std.proofs.Common.{◌≡◌, ◌<◌, ◌≤◌, ◌+◌, ◌^◌, ◌++◌, ℕ, zero, suc, Bool, true, false, List, [], ◌∷◌, Option, cond, Some, None, refl, sym, ap, subst, ◌∙◌, inl, inr, arith}
+use Rattle.std.specs.{BTreeMap.{BTreeMap, IsEmpty, is_at, get as count_at}, Map.lookup, Ordering.{nat_cmp, eq_by_cmp}}
+use Rattle.std.specs.{FinMap.{empty, entries, find, get, get-empty, get-insert, insert}, FinMap.Entries.find-append, Cmp.Lexicographic.nat_list_cmp_total}
+use Rattle.std.proofs.Common.{◌≡◌, ◌<◌, ◌≤◌, ◌+◌, ◌^◌, ◌++◌, ℕ, suc, Bool, false, List, [], ◌∷◌, cond, Some, None, refl, sym, ap, subst, ◌∙◌, inl, inr, arith}
 use Rattle.std.proofs.lemmas.Bool.{cases_eq}
 use Rattle.std.proofs.lemmas.Map.Lookups.{exact_unsigned}
 use Rattle.std.proofs.lemmas.Map.Views.{tells_apart}
-use Rattle.std.specs.BTreeMap.{BTreeMap, IsEmpty, is_at, get as count_at}
-use Rattle.std.specs.Map.{lookup}
-use Rattle.std.specs.Ordering.{nat_cmp, eq_by_cmp}
-use Rattle.std.specs.FinMap.{empty, entries, find, get, get-empty, get-insert, insert}
-use Rattle.std.specs.FinMap.Entries.{find-append}
-use Rattle.std.specs.Cmp.Lexicographic.{nat_list_cmp_total}
 use Rattle.page_btree.specs.page_node.claim.Entries.{Entry}
-use Rattle.btree_walks.specs.Prefixes.{under}
-use Rattle.btree_walks.specs.declared.rows.Row.{Row}
-use Rattle.btree_walks.proofs.RowsFound.{IsNextUnder, found_among}
-use Rattle.store_rows.specs.claim.Keys.{key_of, holding, in_eight}
-use Rattle.store_rows.specs.claim.Order.{key_cmp}
-use Rattle.store_rows.specs.claim.Rows.{KeyMap, Lacks}
-use Rattle.store_rows.specs.claim.Holders.{AreHolders}
-use Rattle.store_rows.specs.TurnLaws.{IsShared}
-use Rattle.store_rows.proofs.Frames.{put_is_there, put_keeps_row}
-use Rattle.store_rows.proofs.OneGeography.{no_value}
-use Rattle.store_rows.proofs.Counting.{holders_moved, no_holders, holders_joined}
-use Rattle.store_rows.proofs.KeyPrefixes.{after_tag}
+use Rattle.btree_walks.{specs.Prefixes.under, specs.declared.rows.Row.Row, proofs.RowsFound.{IsNextUnder, found_among}}
+use Rattle.store_rows.specs.{claim.Keys.{key_of, holding, in_eight}, claim.Order.key_cmp, claim.Rows.{KeyMap, Lacks}, claim.Holders.AreHolders, TurnLaws.IsShared}
+use Rattle.store_rows.proofs.{Frames.{put_is_there, put_keeps_row}, OneGeography.no_value, Counting.{holders_moved, no_holders, holders_joined}, KeyPrefixes.after_tag}
+use Rattle.store_rows.proofs.HolderCounts.{other_chunk, other_plan}
 use Rattle.store_sweep.specs.Checks.{so_many, noted, IsOneMore, IsCounted, AreCounts}
-use Rattle.store_sweep.proofs.HoldingKeys.{starts_holding}
 
 -- so many of the plans in a map hold the chunk as were counted, and no more than rows were taken
 pub record IsCountedSo (counts : BTreeMap ℕ ℕ) (so m : KeyMap) (taken number : ℕ) : Type 0 where
@@ -40,12 +27,6 @@ pub record AreCountedSo (rows : List Entry) (counts : BTreeMap ℕ ℕ) (m : Key
   pub counted : (number : ℕ) → number < 2 ^ 64 → IsCountedSo counts so m taken number
 
 -- ---- none
-none_at : (counts : BTreeMap ℕ ℕ) → IsEmpty counts → (x : ℕ) → count_at nat_cmp counts x ≡ None
-none_at counts none x = ap (λ (es : List (ℕ × ℕ)). lookup (is_at (nat_cmp x)) es) none
-
-never : (key value : List ℕ) → get {K = List ℕ} {X = List ℕ} {R = key_cmp} empty key ≡ Some value → ⊥
-never key value there = no_value value (sym there ∙ get-empty key_cmp key)
-
 pub none_counted : (counts : BTreeMap ℕ ℕ) (m : KeyMap) → IsEmpty counts → AreCountedSo [] counts m 0
 none_counted counts m none = record {
   so = empty;
@@ -53,32 +34,15 @@ none_counted counts m none = record {
   counted = λ number fits. record {
     count = 0;
     few = omega arith;
-    told = none_at counts none number;
-    holders = no_holders empty number (λ plan small held. never (key_of (holding plan number)) [] held);
+    told = ap (λ (es : List (ℕ × ℕ)). lookup (is_at (nat_cmp number)) es) none;
+    holders = no_holders empty number (λ plan small held. no_value [] (sym held ∙ get-empty key_cmp (key_of (holding plan number))));
     shared = λ some. absurd (omega arith);
   };
 }
 
 -- ---- one more
-is_same : (x y : ℕ) → is_at (nat_cmp x) y ≡ true → x ≡ y
-is_same x y same = tells_apart exact_unsigned x y same
-
 unlike_at : (x y : ℕ) (b : Bool) → is_at (nat_cmp x) y ≡ b → (y ≡ x → ⊥) → is_at (nat_cmp x) y ≡ false
-unlike_at x y true is apart = absurd (apart (sym (is_same x y is)))
-unlike_at x y false is apart = is
-
-so_many_noted : (count : ℕ) → so_many (noted count) ≡ count
-so_many_noted zero = refl
-so_many_noted (suc more) = omega arith
-
-noted_next : (count : ℕ) → ◌≡◌ {A = Option ℕ} (Some (count + 1)) (noted (suc count))
-noted_next count = refl
-
-other_plan : (plan number other : ℕ) → (other ≡ plan → ⊥) → holding other number ≡ holding plan number → ⊥
-other_plan plan number other apart same = apart (cc)
-
-other_chunk : (plan number p other : ℕ) → (other ≡ number → ⊥) → holding p other ≡ holding plan number → ⊥
-other_chunk plan number p other apart same = apart (cc)
+unlike_at x y b is apart = search (arith, apart, tells_apart, exact_unsigned)
 
 module _ (m so : KeyMap) (old new : BTreeMap ℕ ℕ) (taken plan number : ℕ) (plan_fits : plan < 2 ^ 64) (fits : number < 2 ^ 64) (lacks : Lacks so (holding plan number)) (shared : IsShared m number) (more : IsOneMore number old new) where
   abbrev with_holder : KeyMap
@@ -88,7 +52,7 @@ module _ (m so : KeyMap) (old new : BTreeMap ℕ ℕ) (taken plan number : ℕ) 
   counted_here was = record {
     count = suc was.count;
     few = let few = was.few in omega arith;
-    told = more.1 ∙ ap (λ (k : ℕ). Some (k + 1)) (ap so_many was.told ∙ so_many_noted was.count) ∙ noted_next was.count;
+    told = more.1 ∙ ap (λ (k : ℕ). Some (k + 1)) (ap so_many was.told ∙ (search (arith))) ∙ (refl);
     holders = holders_joined so with_holder plan number was.count plan_fits
         (λ other other_fits apart. put_keeps_row so (holding plan number) [] (holding other number) (plan_fits, fits) (other_fits, fits) (other_plan plan number other apart))
         (λ held. no_value [] (sym held ∙ lacks))
@@ -138,7 +102,7 @@ all_counted m rows counts taken taken_fits are whole number fits =
       fits = let few = is.few in omega arith;
       told = is.told;
       holders = holders_moved are.so m number is.count
-          (λ plan small. found_among m (72 ∷ []) rows (key_of (holding plan number)) (starts_holding plan number) whole ∙ sym (are.found (key_of (holding plan number))))
+          (λ plan small. found_among m (72 ∷ []) rows (key_of (holding plan number)) refl whole ∙ sym (are.found (key_of (holding plan number))))
           is.holders;
       shared = is.shared;
     }

@@ -1,21 +1,14 @@
 -- What is found under a prefix is left over.
-use Rattle.std.proofs.Common.{◌≡◌, ◌<◌, ◌^◌, ℕ, List, [], length, drop, nat_eq, true, Some, None, refl, sym, ap, subst, ◌∙◌}
-use Rattle.std.specs.Prelude.{Contains, Option}
-use Rattle.std.specs.List.{starts_with}
-use Rattle.std.specs.FinMap.{get}
+use Rattle.std.specs.{Prelude.{Contains, Option}, List.starts_with, FinMap.get}
+use Rattle.std.proofs.Common.{◌≡◌, ◌<◌, ◌^◌, ℕ, List, [], length, drop, nat_eq, true, Some, None, refl, sym, ap, subst, ◌∙◌, ◌++◌, ◌∷◌, arith}
 use Rattle.btree_walks.specs.declared.rows.Row.{Row}
-use Rattle.store_rows.specs.claim.Keys.{RowKey, key_of, Fits, counters, retired, begun, holding, holder_count, named, part, seal, version, block, pair, chunk, in_eight, retired_prefix, begun_prefix, holdings_prefix}
-use Rattle.store_rows.specs.Keys.{plan_parts_prefix, load_prefix}
-use Rattle.store_rows.specs.claim.Lists.{AreChunks, chunks_bytes}
-use Rattle.store_rows.proofs.RowLaws.{keys_differ}
-use Rattle.store_rows.specs.claim.Rows.{KeyMap, Has}
-use Rattle.store_rows.specs.claim.Tidy.{AreRows, Tidy}
-use Rattle.store_sweep.specs.Leftovers.{IsNoLoads, IsOfLoad, IsSpared}
-use Rattle.store_sweep.specs.declared.leftovers.Left.{Left}
-use Rattle.store_sweep.specs.declared.leftovers.Left.TheVariants as left
+use Rattle.store_rows.specs.claim.Keys.{RowKey, key_of, Fits, counters, retired, begun, holding, holder_count, named, part, seal, version, block, pair, chunk, in_eight, retired_prefix, begun_prefix, holdings_prefix, in_four, in_one}
+use Rattle.store_rows.specs.{Keys.{plan_parts_prefix, load_prefix}, claim.Lists.{AreChunks, chunks_bytes}, claim.Rows.{KeyMap, Has}, claim.Tidy.{AreRows, Tidy}}
+use Rattle.store_rows.proofs.{RowLaws.keys_differ, KeyPrefixes.{after_tag, starts_itself}}
+use Rattle.store_sweep.specs.{Leftovers.{IsNoLoads, IsOfLoad, IsSpared}, declared.leftovers.Left.Left}
 use Rattle.store_sweep.specs.Finding.{IsUnder, IsMark, IsPieceOf, IsDone, IsLeft, IsLeftKey, IsLeftHolding, HasPlanMark, HasLoadMark, HoldsNone, spared_key}
-use Rattle.store_rows.proofs.KeyPrefixes.{after_tag}
-use Rattle.store_sweep.proofs.Keys.{eights_same, retired_is, begun_is, holding_is, part_is, staged_is, IsStagedRow, of_block, of_pair, starts_retired, starts_begun, starts_holding, starts_part, starts_block, starts_pair}
+use Rattle.store_sweep.proofs.Keys.{eights_same, retired_is, begun_is, holding_is, part_is, staged_is}
+use Rattle.store_sweep.specs.declared.leftovers.Left.TheVariants as left
 
 abbrev pub NoneUnder : List ℕ → KeyMap → Type 0
 NoneUnder prefix m = (key : List ℕ) → starts_with nat_eq key prefix ≡ true → get m key ≡ None
@@ -29,11 +22,7 @@ module _ (m : KeyMap) where
     pub there : Has m (holding plan number) row.value
 
   holding_row : (plan : ℕ) → plan < 2 ^ 64 → AreRows m → (row : Row) → IsUnder (holdings_prefix plan) row m → IsHoldingRow plan row
-  holding_row plan few rows row is =
-      let (of, fits, same) = rows row.key row.value is.there in
-      let (number, kind) = holding_is plan few of fits (subst (λ (k : List ℕ). starts_with nat_eq k (holdings_prefix plan) ≡ true) same is.under) in
-      let key = same ∙ ap key_of kind in
-      record { number = number; fits = subst Fits kind fits; key_is = key; there = ap (λ (k : List ℕ). get m k) (sym key) ∙ is.there }
+  holding_row plan few rows row is = search (arith, rows, row.key, row.value, is.there, holding_is, is.under)
 
   pub holding_long : (plan : ℕ) → plan < 2 ^ 64 → HasPlanMark plan m → (row : Row) → IsUnder (holdings_prefix plan) row m → length row.key ≡ 17
   holding_long plan few has row is = ap (λ (k : List ℕ). length k) (holding_row plan few has.0.rows row is).key_is
@@ -41,13 +30,12 @@ module _ (m : KeyMap) where
   pub holding_left : (plan : ℕ) → plan < 2 ^ 64 → HasPlanMark plan m → (row : Row) → IsUnder (holdings_prefix plan) row m → (number : ℕ) → number < 2 ^ 64 → drop 9 row.key ≡ in_eight number → IsLeftHolding m plan number
   holding_left plan few has row is number small told =
       let at = holding_row plan few has.0.rows row is in
-      let bytes : in_eight number ≡ in_eight at.number = sym told ∙ ap (λ (k : List ℕ). drop 9 k) at.key_is in
-      let same : number ≡ at.number = eights_same number at.number small at.fits.1 bytes in
+      let same : number ≡ at.number = eights_same number at.number small at.fits.1 (sym told ∙ ap (λ (k : List ℕ). drop 9 k) at.key_is) in
       let held = has.0.holdings.held plan at.number row.value at.fits at.there in
       subst (λ (n : ℕ). IsLeftHolding m plan n) (sym same) (record { fits = at.fits; mark = has.1; held = at.there ∙ ap Some held.0 })
 
   pub holds_none : (plan : ℕ) → NoneUnder (holdings_prefix plan) m → HoldsNone plan m
-  holds_none plan none number = none (key_of (holding plan number)) (starts_holding plan number)
+  holds_none plan none number = none (key_of (holding plan number)) (starts_itself (holdings_prefix plan) (in_eight number))
 
   -- ---- parts
   pub record IsPartRow (plan : ℕ) (row : Row) : Type 0 where
@@ -104,51 +92,39 @@ module _ (m : KeyMap) where
     row = retired plan;
     fits = few;
     key_is = refl;
-    left = (has.1, λ revision index fits. none (key_of (part plan revision index)) (starts_part plan revision index));
+    left = (has.1, λ revision index fits. none (key_of (part plan revision index)) (starts_itself (plan_parts_prefix plan) (in_four revision ++ in_one index)));
     is_apart = λ load of. of;
   }
 
   -- ---- loads
-  staged_left : (load : ℕ) (row : RowKey) → Fits row → Has m (begun load) [] → (key : List ℕ) → key ≡ key_of row → IsStagedRow load row → IsLeftKey m key (IsOfLoad load)
-  staged_left load _ fits mark key same (of_block place) = record { row = block load place; fits = fits; key_is = same; left = mark; is_apart = refl }
-  staged_left load _ fits mark key same (of_pair place) = record { row = pair load place; fits = fits; key_is = same; left = mark; is_apart = refl }
-
   pub load_left : (load : ℕ) → load < 2 ^ 64 → HasLoadMark load m → (row : Row) → IsUnder (load_prefix load) row m → IsLeftKey m row.key (IsOfLoad load)
-  load_left load few has row is =
-      let (of, fits, same) = has.0.rows row.key row.value is.there in
-      staged_left load of fits has.1 row.key same (staged_is load few of fits (subst (λ (k : List ℕ). starts_with nat_eq k (load_prefix load) ≡ true) same is.under))
+  load_left load few has row is = search (arith, has.0.rows, row.key, row.value, is.there, has.1, staged_is, is.under)
 
   pub load_mark_left : (load : ℕ) → load < 2 ^ 64 → HasLoadMark load m → NoneUnder (load_prefix load) m → IsLeftKey m (key_of (begun load)) (IsOfLoad load)
   load_mark_left load few has none = record {
     row = begun load;
     fits = few;
     key_is = refl;
-    left = (has.1, λ place small. (none (key_of (block load place)) (starts_block load place), none (key_of (pair load place)) (starts_pair load place)));
+    left = (has.1, λ place small. (none (key_of (block load place)) (starts_itself (load_prefix load) (98 ∷ in_four place)), none (key_of (pair load place)) (starts_itself (load_prefix load) (112 ∷ in_four place))));
     is_apart = refl;
   }
 
   -- ---- marks
   pub retired_long : AreRows m → (spared : List ℕ) (row : Row) → IsMark retired_prefix spared row m → length row.key ≡ 9
-  retired_long rows spared row is =
-      let (of, fits, same) = rows row.key [] is.there in
-      let (plan, few, kind) = retired_is of fits (subst (λ (k : List ℕ). starts_with nat_eq k retired_prefix ≡ true) same is.under) in
-      ap (λ (k : List ℕ). length k) (same ∙ ap key_of kind)
+  retired_long rows spared row is = search (arith, rows, row.key, is.there, retired_is, is.under)
 
   pub retired_mark : Tidy m → (spared : List ℕ) (row : Row) (plan : ℕ) → drop 1 row.key ≡ in_eight plan → IsMark retired_prefix spared row m → HasPlanMark plan m
   retired_mark tidy spared row plan told is = (tidy, ap (λ (k : List ℕ). get m k) (sym (after_tag row.key 68 (in_eight plan) is.under told)) ∙ is.there)
 
   pub begun_long : AreRows m → (spared : List ℕ) (row : Row) → IsMark begun_prefix spared row m → length row.key ≡ 9
-  begun_long rows spared row is =
-      let (of, fits, same) = rows row.key [] is.there in
-      let (load, few, kind) = begun_is of fits (subst (λ (k : List ℕ). starts_with nat_eq k begun_prefix ≡ true) same is.under) in
-      ap (λ (k : List ℕ). length k) (same ∙ ap key_of kind)
+  begun_long rows spared row is = search (arith, rows, row.key, is.there, begun_is, is.under)
 
   pub begun_mark : Tidy m → (spared : List ℕ) (row : Row) (load : ℕ) → drop 1 row.key ≡ in_eight load → IsMark begun_prefix spared row m → HasLoadMark load m
   begun_mark tidy spared row load told is = (tidy, ap (λ (k : List ℕ). get m k) (sym (after_tag row.key 76 (in_eight load) is.under told)) ∙ is.there)
 
   -- none without a value is left but the one that is spared
   pub no_retired : ((key : List ℕ) → starts_with nat_eq key retired_prefix ≡ true → (key ≡ key_of counters → ⊥) → get m key ≡ Some [] → ⊥) → (plan : ℕ) → plan < 2 ^ 64 → Has m (retired plan) [] → ⊥
-  no_retired none plan few there = none (key_of (retired plan)) (starts_retired plan) (λ same. other (keys_differ (retired plan) counters few tt same)) there
+  no_retired none plan few there = none (key_of (retired plan)) (starts_itself retired_prefix (in_eight plan)) (λ same. other (keys_differ (retired plan) counters few tt same)) there
     where
       other : retired plan ≡ counters → ⊥
       other same = cc
@@ -164,7 +140,7 @@ module _ (m : KeyMap) where
   spared_is (Some l) load few fits apart same = apart (begun_same load l (keys_differ (begun load) (begun l) few (fits l refl) same))
 
   pub no_begun : (running : Option ℕ) → ((l : ℕ) → running ≡ Some l → l < 2 ^ 64) → ((key : List ℕ) → starts_with nat_eq key begun_prefix ≡ true → (key ≡ spared_key running → ⊥) → get m key ≡ Some [] → ⊥) → (load : ℕ) → load < 2 ^ 64 → (IsSpared running (begun load) → ⊥) → Has m (begun load) [] → ⊥
-  no_begun running fits none load few apart there = none (key_of (begun load)) (starts_begun load) (spared_is running load few fits apart) there
+  no_begun running fits none load few apart there = none (key_of (begun load)) (starts_itself begun_prefix (in_eight load)) (spared_is running load few fits apart) there
 
   -- a row of a load that isn't spared
   pub apart_mark : (running : Option ℕ) (load : ℕ) (row : Row) → drop 1 row.key ≡ in_eight load → IsMark begun_prefix (spared_key running) row m → (left : RowKey) → IsOfLoad load left → IsSpared running left → ⊥
@@ -190,9 +166,7 @@ module _ (m : KeyMap) where
 
 -- a row of no load isn't spared
 not_spared : (running : Option ℕ) (row : RowKey) → IsNoLoads row → IsSpared running row → ⊥
-not_spared None row none is = is
-not_spared (Some load) row none is = none load is
+not_spared running row none is = search (arith, none)
 
 pub plan_next : (running : Option ℕ) (m : KeyMap) (key : List ℕ) (found : Left) → IsLeft m key IsNoLoads found → IsLeft m key (λ row. IsSpared running row → ⊥) found
-plan_next running m key left.Row found = record { row = found.row; fits = found.fits; key_is = found.key_is; left = found.left; is_apart = not_spared running found.row found.is_apart }
-plan_next running m key (left.Holding plan number) found = found
+plan_next running m key found other_found = search (arith, not_spared)

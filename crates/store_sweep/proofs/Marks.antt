@@ -1,33 +1,17 @@
 -- Rows that are looked up.
-use Rattle.std.proofs.Common.{◌≡◌, ◌≤◌, ℕ, Bool, true, false, List, [], length, take, Some, nat_eq, sym, ap, ◌∙◌, arith}
-use Rattle.std.specs.Prelude.{Option, Result, IsErrAnd}
-use Rattle.std.specs.FinMap.{get as row_at}
+use Rattle.std.{specs.Prelude.{Option, Result, IsErrAnd}, specs.FinMap.get as row_at, proofs.Common.{◌≡◌, ◌≤◌, ℕ, Bool, List, [], length, take, Some, nat_eq, arith}}
 use Rattle.std.proofs.lemmas.List.{length-take}
 use Rattle.std.proofs.lemmas.Bool.Decides.{nat_tests}
 use Rattle.sector_device.specs.declared.SectorDevice.{Ghosts}
-use Rattle.page_store.specs.claim.Transactions.{IsQuiet}
-use Rattle.page_store.specs.declared.pages.Pages.{Pages}
-use Rattle.page_store.specs.declared.txn.Txn.{Txn}
-use Rattle.page_btree.specs.claim.Errors.{GetErr}
-use Rattle.page_btree.specs.declared.error.TreeError.{TreeError}
-use Rattle.desk_pages.specs.Looking.{Looks}
-use Rattle.desk_pages.proofs.Looking.{fails_from}
-use Rattle.desk_pages.proofs.Reading.{get_unread}
-use Rattle.store_rows.specs.claim.Rows.{KeyMap}
-use Rattle.store_rows.proofs.OneGeography.{value_is}
+use Rattle.page_store.specs.{claim.Transactions.IsQuiet, declared.pages.Pages.Pages, declared.txn.Txn.Txn}
+use Rattle.page_btree.specs.{claim.Errors.GetErr, declared.error.TreeError.TreeError}
+use Rattle.desk_pages.{specs.Looking.Looks, proofs.Looking.fails_from, proofs.Reading.get_unread}
+use Rattle.store_rows.{specs.claim.Rows.KeyMap, proofs.OneGeography.value_is}
 use Rattle.store_sweep.specs.Checks.{IsMarkedAs}
 
 -- a value of no byte is none
 pub marked_by : (bytes key : List ℕ) (m : KeyMap) (long : ℕ) → length bytes ≡ 1024 → long ≤ 1024 → ◌≡◌ {A = Option (List ℕ)} (Some (take long bytes)) (row_at m key) → (b : Bool) → nat_eq long 0 ≡ b → IsMarkedAs key m b
-marked_by bytes key m long whole few told true is =
-    let zero : long ≡ 0 = grind (arith, nat_tests) in
-    sym told ∙ ap (λ (n : ℕ). Some (take n bytes)) zero
-marked_by bytes key m long whole few told false is = λ there.
-    let none : take long bytes ≡ [] = value_is (take long bytes) [] (told ∙ there) in
-    let taken = length-take long bytes in
-    let empty : length (take long bytes) ≡ 0 = ap (λ (l : List ℕ). length l) none in
-    let zero : long ≡ 0 = omega arith in
-    grind (arith, nat_tests)
+marked_by bytes key m long whole few told b is = search (arith, nat_tests, value_is, length-take)
 
 -- a row that isn't read
 pub not_got : {D X : Type 0} {g : Ghosts D} {says : KeyMap → X → Type 0} {has : KeyMap → Type 0} {t : Txn} {a b : Pages D g} (e : TreeError) (r : Result X TreeError) → IsQuiet a b → GetErr t a b e → IsErrAnd r (λ x. x ≡ e) → Looks says has t a b r

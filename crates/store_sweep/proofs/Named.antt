@@ -1,23 +1,13 @@
 -- What parts of revisions name.
-use Rattle.std.proofs.Common.{◌≡◌, ◌<◌, ◌^◌, ◌+◌, ◌++◌, ℕ, true, List, [], ◌∷◌, Some, None, nat_eq, refl, sym, ap, subst, ◌∙◌, inl, inr, take, drop}
-use Rattle.std.specs.Prelude.{All, Contains, get_or}
+use Rattle.std.specs.{Prelude.{All, Contains, get_or}, List.{AllByRecursion, starts_with}, FinMap.{entries, get}}
+use Rattle.std.proofs.Common.{◌≡◌, ◌<◌, ◌^◌, ◌+◌, ◌++◌, ℕ, true, List, [], ◌∷◌, Some, None, nat_eq, refl, sym, ap, subst, ◌∙◌, inl, inr, take, drop, arith}
 use Rattle.std.proofs.lemmas.List.Elements.{All-contains, All-nil, All-push, All-set, Contains-get_or}
-use Rattle.std.specs.List.{AllByRecursion, starts_with}
-use Rattle.std.specs.FinMap.{entries, get}
 use Rattle.page_btree.specs.page_node.claim.Entries.{Entry}
-use Rattle.btree_walks.specs.Prefixes.{under}
-use Rattle.btree_walks.specs.declared.rows.Row.{Row}
-use Rattle.btree_walks.proofs.RowsFound.{IsNextUnder, all_found, found_among}
-use Rattle.store_rows.specs.claim.Keys.{key_of, Fits, holding, holder_count, part, in_eight}
-use Rattle.store_rows.specs.claim.Lists.{AreChunks, chunks_bytes}
-use Rattle.store_rows.specs.claim.Rows.{KeyMap, Has}
-use Rattle.store_rows.specs.claim.Tidy.{IsNamedBy}
-use Rattle.store_rows.proofs.ListLaws.{chunks_differ}
-use Rattle.store_rows.proofs.OneGeography.{no_value}
-use Rattle.store_rows.proofs.HolderCounts.{eight_says, held_counted_by_holders}
-use Rattle.store_sweep.specs.claim.Checks.{AreNamesHeld, IsHeldOrGone}
-use Rattle.store_sweep.specs.Checks.{IsEntryNamed, IsHoldingRow, IsNewTidy, IsPartRow, IsPlansList, IsWithOne}
-use Rattle.store_sweep.proofs.HoldingKeys.{holding_is, part_is, starts_part}
+use Rattle.btree_walks.{specs.Prefixes.under, specs.declared.rows.Row.Row, proofs.RowsFound.{IsNextUnder, all_found, found_among}}
+use Rattle.store_rows.specs.{claim.Keys.{key_of, Fits, holding, holder_count, part, in_eight}, claim.Lists.{AreChunks, chunks_bytes}, claim.Rows.{KeyMap, Has}}
+use Rattle.store_rows.{specs.claim.Tidy.IsNamedBy, proofs.ListLaws.chunks_differ, proofs.OneGeography.no_value, proofs.HolderCounts.{eight_says, held_counted_by_holders}}
+use Rattle.store_sweep.specs.{claim.Checks.{AreNamesHeld, IsHeldOrGone}, Checks.{IsEntryNamed, IsHoldingRow, IsNewTidy, IsPartRow, IsPlansList, IsWithOne}}
+use Rattle.store_sweep.proofs.HoldingKeys.{holding_is, part_is}
 
 -- ---- rows of a tidy map
 -- a holding
@@ -63,19 +53,15 @@ part_next m taken row is next =
 -- ---- what a part's row says
 -- its plan
 pub plan_says : (key : List ℕ) (plan other revision index : ℕ) → plan < 2 ^ 64 → take 8 (drop 1 key) ≡ in_eight plan → Fits (part other revision index) → key ≡ key_of (part other revision index) → plan ≡ other
-plan_says key plan other revision index small told fits is =
-    eight_says plan other small fits.0 (sym told ∙ ap (λ (k : List ℕ). take 8 (drop 1 k)) is)
+plan_says key plan other revision index small told fits is = search (arith, eight_says)
 
 -- the chunk of a holding
 pub number_says : (key : List ℕ) (plan number p n : ℕ) → number < 2 ^ 64 → drop 1 key ≡ in_eight plan ++ in_eight number → Fits (holding p n) → key ≡ key_of (holding p n) → number ≡ n
-number_says key plan number p n small told fits is =
-    eight_says number n small fits.1 (sym (ap (λ (k : List ℕ). drop 8 k) told) ∙ ap (λ (k : List ℕ). drop 8 (drop 1 k)) is)
+number_says key plan number p n small told fits is = search (arith, eight_says)
 
 -- a holding's chunk has a count
 pub count_there : (m : KeyMap) (row : Row) (plan number : ℕ) → number < 2 ^ 64 → drop 1 row.key ≡ in_eight plan ++ in_eight number → get m (key_of (holder_count number)) ≡ None → IsHoldingRow row m → ⊥
-count_there m row plan number small told lacks is =
-    let same : number ≡ is.number = number_says row.key plan number is.plan is.number small told is.fits is.key in
-    no_value is.shared.0 (sym is.shared.1 ∙ ap (λ (n : ℕ). get m (key_of (holder_count n))) (sym same) ∙ lacks)
+count_there m row plan number small told lacks is = search (arith, number_says, row.key, is.plan, is.number, is.fits, is.key, no_value, is.shared.0, is.shared.1)
 
 -- its chunks
 pub entry_named : (m : KeyMap) (key value : List ℕ) (plan : ℕ) (numbers : List ℕ) → plan < 2 ^ 64 → take 8 (drop 1 key) ≡ in_eight plan → AreChunks numbers → chunks_bytes numbers ≡ value → All (IsHeldOrGone m plan) numbers → IsEntryNamed m (key, value)
@@ -110,5 +96,5 @@ AllNamed m es = AllByRecursion (IsEntryNamed m) es
 pub all_named : (m : KeyMap) (rows : List Entry) → under (82 ∷ []) (entries m) ≡ rows → AllNamed m rows → AreNamesHeld m
 all_named m rows whole all plan number named =
     let key = key_of (part plan named.revision named.index) in
-    all_found (IsEntryNamed m) key (chunks_bytes named.numbers) rows all (sym (found_among m (82 ∷ []) rows key (starts_part plan named.revision named.index) whole) ∙ named.row)
+    all_found (IsEntryNamed m) key (chunks_bytes named.numbers) rows all (sym (found_among m (82 ∷ []) rows key refl whole) ∙ named.row)
     plan named.revision named.index named.numbers named.part_fits refl named.chunks refl number named.among

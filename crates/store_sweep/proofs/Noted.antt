@@ -1,16 +1,11 @@
 -- What is noted in memory after a look.
-use Rattle.std.proofs.Common.{◌≡◌, refl}
-use Rattle.std.specs.Prelude.{Result, Ok, Err, MatchResult}
+use Rattle.std.{specs.Prelude.{Result, Ok, MatchResult}, proofs.Common.{◌≡◌, arith}}
 use Rattle.sector_device.specs.declared.SectorDevice.{Ghosts}
-use Rattle.page_store.specs.declared.pages.Pages.{Pages}
-use Rattle.page_store.specs.declared.txn.Txn.{Txn}
-use Rattle.page_btree.specs.declared.error.TreeError.{TreeError}
-use Rattle.page_btree.specs.declared.error.TreeError.TheVariants.{Memory}
+use Rattle.page_store.specs.{declared.pages.Pages.Pages, declared.txn.Txn.Txn}
+use Rattle.page_btree.specs.{declared.error.TreeError.TreeError, declared.error.TreeError.TheVariants.Memory}
 use Rattle.store_rows.specs.claim.Rows.{KeyMap}
-use Rattle.desk_pages.specs.Looking.{Gathers}
-use Rattle.desk_pages.proofs.Looking.{finds, lacks_memory}
+use Rattle.desk_pages.{specs.Looking.Gathers, proofs.Looking.{finds, lacks_memory}}
 
 pub notes : {D X Y : Type 0} {g : Ghosts D} {says : KeyMap → X → Type 0} {also : KeyMap → Y → Type 0} {has more : KeyMap → Type 0} {t : Txn} {a b : Pages D g} {x : X} {noted : Y → Type 0}
     → Gathers says has t a b (Ok x) → (r : Result Y TreeError) → MatchResult r noted (λ e. e ≡ Memory) → ((m : KeyMap) (y : Y) → says m x → noted y → also m y) → Gathers also more t a b r
-notes look (Ok y) done gives = finds look (λ m is. gives m y is done)
-notes look (Err e) short gives = lacks_memory (Err e) look.quiet short refl
+notes look r done gives = search (arith, finds, gives, lacks_memory)

@@ -1,23 +1,11 @@
 -- Rows that a scan passes over.
-use Rattle.std.proofs.Common.{◌≡◌, ℕ, Bool, true, false, List, [], refl}
-use Rattle.std.specs.Prelude.{Some, None, Ok, Err, IfSome}
-use Rattle.std.specs.List.{AllByRecursion}
-use Rattle.std.specs.FinMap.{find}
+use Rattle.std.{specs.Prelude.{Some, None, Ok, Err, IfSome}, specs.List.AllByRecursion, specs.FinMap.find, proofs.Common.{◌≡◌, ℕ, Bool, true, false, List, [], refl}}
 use Rattle.sector_device.specs.declared.SectorDevice.{Ghosts}
-use Rattle.page_store.specs.claim.Transactions.{IsQuiet, Passed}
-use Rattle.page_store.specs.declared.pages.Pages.{Pages}
-use Rattle.page_store.specs.declared.txn.Txn.{Txn}
-use Rattle.page_btree.specs.page_node.claim.Entries.{Entry}
-use Rattle.page_btree.specs.page_node.claim.Places.{key_cmp}
-use Rattle.page_btree.specs.declared.error.TreeError.{TreeError}
-use Rattle.btree_walks.specs.Scanning.{CanScan, ScanErr, TakesNextRow, fault_in, has_ended}
-use Rattle.btree_walks.specs.declared.rows.Row.{Row}
-use Rattle.btree_walks.specs.declared.scans.Scan.{Scan}
-use Rattle.btree_walks.proofs.RowsFound.{all_found}
-use Rattle.btree_walks.proofs.Walked.{HasNext, HasWalked, walk_next, walk_passed, walk_quiet, walk_refused}
-use Rattle.desk_pages.specs.Looking.{Looks, Seeks}
-use Rattle.desk_pages.proofs.Looking.{looked, not_looked}
-use Rattle.desk_pages.proofs.Reading.{get_unread}
+use Rattle.page_store.specs.{claim.Transactions.{IsQuiet, Passed}, declared.pages.Pages.Pages, declared.txn.Txn.Txn}
+use Rattle.page_btree.specs.{page_node.claim.Entries.Entry, page_node.claim.Places.key_cmp, declared.error.TreeError.TreeError}
+use Rattle.btree_walks.specs.{Scanning.{CanScan, ScanErr, TakesNextRow, fault_in, has_ended}, declared.rows.Row.Row, declared.scans.Scan.Scan}
+use Rattle.btree_walks.proofs.{RowsFound.all_found, Walked.{HasNext, HasWalked, walk_next, walk_passed, walk_quiet, walk_refused}}
+use Rattle.desk_pages.{specs.Looking.{Looks, Seeks}, proofs.Looking.{looked, not_looked}, proofs.Reading.get_unread}
 use Rattle.store_rows.specs.claim.Rows.{KeyMap}
 
 -- each has a value, or is the one that is spared

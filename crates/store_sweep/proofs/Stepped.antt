@@ -1,32 +1,20 @@
 -- A sweep: a transaction that is begun, out of which rows are taken, and that is committed then.
-use Rattle.std.proofs.Common.{◌≡◌, ◌<◌, ◌≤◌, ◌+◌, ℕ, Bool, List, [], ◌∷◌, length, Option, Some, None, true, false, refl, sym, ap, subst, ◌∙◌, inl, arith}
 use Rattle.std.specs.Prelude.{Result, Ok, Err, IsErrAnd}
-use Rattle.sector_device.specs.claim.Disk.{Image}
-use Rattle.sector_device.specs.claim.Moments.{LeavesOnly}
-use Rattle.sector_device.specs.declared.SectorDevice.{Ghosts}
-use Rattle.page_store.specs.gate_journal.claim.Store.{home}
-use Rattle.page_store.specs.claim.Chain.{free_in}
+use Rattle.std.proofs.Common.{◌≡◌, ◌<◌, ◌≤◌, ◌+◌, ℕ, Bool, List, [], ◌∷◌, length, Option, Some, None, true, false, refl, sym, ap, subst, ◌∙◌, inl, arith}
+use Rattle.sector_device.specs.{claim.Disk.Image, claim.Moments.LeavesOnly, declared.SectorDevice.Ghosts}
+use Rattle.page_store.specs.{gate_journal.claim.Store.home, claim.Chain.free_in}
 use Rattle.page_store.specs.claim.Transactions.{stored, disk_in, count_of, journal_of, has_halted, txn_free, txn_writes, HasFailed, HasShape, IsQuiet, Passed}
-use Rattle.page_store.specs.declared.pages.Pages.{Pages}
-use Rattle.page_store.specs.declared.txn.Txn.{Txn}
-use Rattle.page_btree.specs.claim.Map.{InTxn, InPages}
-use Rattle.page_btree.specs.declared.error.TreeError.{TreeError}
+use Rattle.page_store.specs.{declared.pages.Pages.Pages, declared.txn.Txn.Txn}
+use Rattle.page_btree.specs.{claim.Map.{InTxn, InPages}, declared.error.TreeError.TreeError}
 use Rattle.page_btree.specs.declared.error.TreeError.TheVariants as tree
 use Rattle.desk_model.specs.claim.Desk.{Desk}
-use Rattle.store_rows.specs.claim.Keys.{RowKey, Fits, counters, retired, begun, holding, holder_count, named, part, seal, version, block, pair, chunk}
-use Rattle.store_rows.specs.claim.Rows.{KeyMap}
-use Rattle.store_rows.specs.TurnLaws.{IsUnneeded, CanTurn, Turn, goes, lets_go, rows_in, take_turns, AreTurns}
-use Rattle.store_rows.specs.claim.Tidy.{Tidy}
-use Rattle.desk_pages.specs.claim.Desks.{IsDeskMap, InPages as DeskInPages, OpensDesk}
+use Rattle.store_rows.specs.{claim.Keys.{RowKey, Fits, retired, begun, part, version, block, pair, chunk}, claim.Rows.KeyMap}
+use Rattle.store_rows.specs.{TurnLaws.{IsUnneeded, CanTurn, Turn, goes, lets_go, rows_in, take_turns, AreTurns}, claim.Tidy.Tidy}
+use Rattle.desk_pages.specs.{claim.Desks.{IsDeskMap, InPages as DeskInPages, OpensDesk}, declared.error.StoreError.StoreError}
+use Rattle.desk_pages.specs.{declared.error.StoreError.TheVariants.{Memory, DeviceFault}, Errors.{missing, row_refusal}, Reading.SeekErr, Commits.{Commits, Leaves, FittingErr}}
 use Rattle.plan_rows.proofs.Committing.{IsBegun, both, commit_leaves, failed_after, one_leaves, quiet_rows}
-use Rattle.desk_pages.specs.declared.error.StoreError.{StoreError}
-use Rattle.desk_pages.specs.declared.error.StoreError.TheVariants.{Memory, DeviceFault}
-use Rattle.desk_pages.specs.Errors.{missing, row_refusal}
-use Rattle.desk_pages.specs.Reading.{SeekErr}
-use Rattle.store_sweep.specs.Checks.{IsNewTidy}
-use Rattle.store_sweep.specs.Leftovers.{IsSpared, IsApart, AreNotSpared, rows_of, IsSweptClean}
+use Rattle.store_sweep.specs.{Checks.IsNewTidy, Leftovers.{IsSpared, IsApart, AreNotSpared, rows_of, IsSweptClean}}
 use Rattle.store_sweep.specs.Sweeping.{IsSweptMap, HasSwept, HasDesk, TakeErr, SweepErr, Sweeps}
-use Rattle.desk_pages.specs.Commits.{Commits, Leaves, FittingErr}
 
 -- ---- no commit was made
 pub not_made : {D T : Type 0} {g : Ghosts D} {failed : StoreError → Type 0} {a b : Pages D g} (e : StoreError) (r : Result T StoreError)
@@ -45,18 +33,13 @@ pair_spared (Some l) load place is = is
 
 -- a row that nothing needs has a mark
 mark_there : (running : Option ℕ) (m : KeyMap) → IsSweptClean running m → (row : RowKey) → Fits row → IsUnneeded m row → (IsSpared running row → ⊥) → ⊥
-mark_there running m clean counters fits left apart = left
 mark_there running m clean (retired plan) fits left apart = clean.plans plan fits left.0
 mark_there running m clean (begun load) fits left apart = clean.loads load fits apart left.0
-mark_there running m clean (holding plan number) fits left apart = left
-mark_there running m clean (holder_count number) fits left apart = left
-mark_there running m clean (named name) fits left apart = left
 mark_there running m clean (part plan revision index) fits left apart = clean.plans plan fits.0 left.0
-mark_there running m clean seal fits left apart = left
-mark_there running m clean version fits left apart = left
 mark_there running m clean (block load place) fits left apart = clean.loads load fits.0 (λ is. apart (same_spared running load place is)) left
 mark_there running m clean (pair load place) fits left apart = clean.loads load fits.0 (λ is. apart (pair_spared running load place is)) left
 mark_there running m clean (chunk number piece) fits left apart = clean.plans left.0 left.2.part_fits.0 left.1
+mark_there running m clean _ fits left apart = left
 
 turn_there : (running : Option ℕ) (m : KeyMap) → IsSweptClean running m → (turn : Turn) → CanTurn m turn → IsApart running turn → ⊥
 turn_there running m clean (goes row) can apart = mark_there running m clean row can.0 can.1 apart
@@ -74,9 +57,6 @@ turn_some (lets_go plan number count) more none = omega arith
 turns_none : (turns : List Turn) → rows_of turns ≡ 0 → (m : KeyMap) → take_turns m turns ≡ m
 turns_none [] none m = refl
 turns_none (turn ∷ turns) none m = absurd (turn_some turn (rows_of turns) none)
-
-same_map : (running : Option ℕ) (count : ℕ) (m n : KeyMap) (d : Desk) → count ≡ 0 → IsSweptMap running count m d n → n ≡ m
-same_map running count m n d zero swept = swept.by.rest ∙ turns_none swept.by.turns (swept.by.count_is ∙ zero) m
 
 module _ {D : Type 0} {g : Ghosts D} where
   -- ---- rows that were taken out of it
@@ -105,7 +85,7 @@ module _ {D : Type 0} {g : Ghosts D} where
   pub none_swept : (running : Option ℕ) (count : ℕ) (t u : Txn) (a b : Pages D g) → IsBegun a t → HasSwept running count t u a b → Cleans running count u a b → count ≡ 0 → (disk_in b).is_honest → (m : KeyMap) (d : Desk) → InPages a m → IsDeskMap m d → Sweeps running m d a b 0
   none_swept running count t u a b start swept cleans zero honest m d holds is =
       let taken = taken_of running count t u a b start swept honest m d holds is in
-      let same = same_map running count m taken.n d zero taken.swept in
+      let same = taken.swept.by.rest ∙ turns_none taken.swept.by.turns (taken.swept.by.count_is ∙ zero) m in
       let clean = cleans honest taken.n taken.first taken.swept.is.tidy (omega arith) in
       let frees : length (free_in (stored b)) ≡ length (free_in (stored a)) = ap (λ (P : Image). length (free_in P)) (swept.passed.quiet.same honest) in
       record {
@@ -162,11 +142,9 @@ module _ {D : Type 0} {g : Ghosts D} where
 
   pub not_taken : (t : Txn) (a b : Pages D g) → IsBegun a t → IsQuiet a b → (e : TreeError) → TakeErr HasDesk t a b e → SweepErr a b (row_refusal e (has_halted b))
   not_taken t a b start quiet tree.DeviceFault why = halted_taken a b why
-  not_taken t a b start quiet tree.NotAStore why = fault_taken a b start.working quiet (no_desk t a b start quiet why) (has_halted b) refl
   not_taken t a b start quiet tree.Halted why = both (has_halted a) why start.working
-  not_taken t a b start quiet tree.NoPages why = fault_taken a b start.working quiet (no_desk t a b start quiet why) (has_halted b) refl
-  not_taken t a b start quiet tree.TooDeep why = fault_taken a b start.working quiet (no_desk t a b start quiet why) (has_halted b) refl
   not_taken t a b start quiet tree.Memory why = no_memory a b start.working quiet (has_halted b) refl
+  not_taken t a b start quiet _ why = fault_taken a b start.working quiet (no_desk t a b start quiet why) (has_halted b) refl
 
   pub not_committed : (a b c : Pages D g) → Passed a b → ((disk_in c).is_honest → (disk_in b).is_honest) → (e : StoreError) → FittingErr b c e → SweepErr a c e
   not_committed a b c passed honest Memory why = subst (λ (p : Pages D g). IsQuiet a p) (sym why) passed.quiet
@@ -179,9 +157,8 @@ module _ {D : Type 0} {g : Ghosts D} where
   not_checked t a b start quiet tree.NotAStore why = fault_taken a b start.working quiet
       (λ honest d holds. why honest holds.m (start.reads (quiet.honest honest) holds.m holds.holds) (record { tidy = holds.is.tidy; new = holds.is.version })) (has_halted b) refl
   not_checked t a b start quiet tree.Halted why = both (has_halted a) why start.working
-  not_checked t a b start quiet tree.NoPages why = absurd why
-  not_checked t a b start quiet tree.TooDeep why = absurd why
   not_checked t a b start quiet tree.Memory why = no_memory a b start.working quiet (has_halted b) refl
+  not_checked t a b start quiet _ why = absurd why
 
   pub told_err : (a b : Pages D g) (e told : StoreError) → told ≡ e → SweepErr a b e → SweepErr a b told
   told_err a b e told is why = subst (λ (x : StoreError). SweepErr a b x) (sym is) why

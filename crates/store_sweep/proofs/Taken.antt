@@ -1,31 +1,17 @@
 -- Turns that are taken one after the other.
-use Rattle.std.proofs.Common.{◌≡◌, ◌<◌, ◌≤◌, ◌+◌, ◌-◌, ◌++◌, ℕ, zero, suc, List, [], ◌∷◌, length, refl, sym, ap, subst, ◌∙◌, arith}
-use Rattle.std.specs.Prelude.{Option}
-use Rattle.std.specs.FinMap.{remove}
-use Rattle.sector_device.specs.claim.Disk.{Image}
-use Rattle.sector_device.specs.declared.SectorDevice.{Ghosts}
-use Rattle.page_store.specs.claim.Transactions.{stored, disk_in, txn_pages, txn_free, txn_writes, IsQuiet, Passed}
-use Rattle.page_store.proofs.Stops.{passed_none, passed_more, failed_more}
-use Rattle.page_store.specs.declared.pages.Pages.{Pages}
-use Rattle.page_store.specs.declared.txn.Txn.{Txn}
-use Rattle.page_btree.specs.claim.Map.{InTxn}
-use Rattle.page_btree.specs.claim.Errors.{RemoveErr}
-use Rattle.page_btree.specs.declared.error.TreeError.{TreeError}
+use Rattle.std.{specs.Prelude.Option, specs.FinMap.remove, proofs.Common.{◌≡◌, ◌<◌, ◌≤◌, ◌+◌, ◌-◌, ◌++◌, ℕ, zero, suc, List, [], ◌∷◌, length, refl, sym, ap, subst, ◌∙◌, arith}}
+use Rattle.sector_device.specs.{claim.Disk.Image, declared.SectorDevice.Ghosts}
+use Rattle.page_store.specs.{claim.Transactions.{stored, disk_in, txn_pages, txn_free, txn_writes, IsQuiet, Passed}, declared.pages.Pages.Pages, declared.txn.Txn.Txn}
+use Rattle.page_store.proofs.Stops.{passed_more, failed_more}
+use Rattle.page_btree.specs.{claim.Map.InTxn, claim.Errors.RemoveErr, declared.error.TreeError.TreeError}
 use Rattle.page_btree.specs.declared.error.TreeError.TheVariants.{DeviceFault, NotAStore, Halted, NoPages, TooDeep, Memory}
 use Rattle.desk_model.specs.claim.Desk.{Desk}
-use Rattle.store_rows.specs.claim.Keys.{RowKey, key_of}
-use Rattle.store_rows.specs.claim.Rows.{KeyMap}
-use Rattle.store_rows.specs.TurnLaws.{Turn, goes, lets_go, rows_in, CanTurn, turned, take_turns, AreTurns, TurnsAreSwept}
-use Rattle.store_rows.specs.Holders.{released}
-use Rattle.store_rows.specs.HolderLaws.{HeldIsTallied}
-use Rattle.store_rows.specs.claim.Tidy.{Tidy}
-use Rattle.desk_pages.specs.Reading.{ReadErr}
+use Rattle.store_rows.specs.{claim.Keys.{RowKey, key_of}, claim.Rows.KeyMap, TurnLaws.{Turn, goes, lets_go, rows_in, CanTurn, turned, take_turns, AreTurns, TurnsAreSwept}}
+use Rattle.store_rows.specs.{Holders.released, HolderLaws.HeldIsTallied, claim.Tidy.Tidy}
+use Rattle.desk_pages.specs.{Reading.ReadErr, claim.Desks.IsDeskMap}
 use Rattle.plan_rows.specs.Releasing.{HasReleased, ReleaseErr}
-use Rattle.desk_pages.specs.claim.Desks.{IsDeskMap}
-use Rattle.store_sweep.specs.Leftovers.{IsSpared, IsApart, AreNotSpared, rows_of, IsSweptBy, IsSweptClean}
-use Rattle.store_sweep.specs.Finding.{IsLeftKey, IsLeftHolding}
-use Rattle.store_sweep.specs.Sweeping.{IsSweptMap, HasSwept, IsTurn, TakeErr, HasDesk}
-use Rattle.store_sweep.proofs.Keys.{key_short}
+use Rattle.store_sweep.specs.{Leftovers.{IsSpared, IsApart, AreNotSpared, rows_of, IsSweptBy, IsSweptClean}, Finding.{IsLeftKey, IsLeftHolding}}
+use Rattle.store_sweep.{specs.Sweeping.{IsSweptMap, HasSwept, IsTurn, TakeErr, HasDesk}, proofs.Keys.key_short}
 
 turns_more : (m : KeyMap) (turns more : List Turn) → AreTurns m turns → AreTurns (take_turns m turns) more → AreTurns m (turns ++ more)
 turns_more m [] more left next = next
@@ -73,9 +59,9 @@ pub removed_key : (m : KeyMap) (u : Txn) (P : Image) (at key : List ℕ) → at 
 removed_key m u P at key same holds = subst (λ (k : List ℕ). InTxn u P (remove m k)) same holds
 
 module _ {D : Type 0} {g : Ghosts D} where
-  pub none_swept : (running : Option ℕ) (t : Txn) (a : Pages D g) → HasSwept running 0 t t a a
-  none_swept running t a = record {
-    passed = passed_none a;
+  pub none_swept : (running : Option ℕ) (t : Txn) (a b : Pages D g) → Passed a b → HasSwept running 0 t t a b
+  none_swept running t a b passed = record {
+    passed = passed;
     pages = refl;
     swept = λ honest m d holds is. (m, holds, record { is = is; by = record { turns = []; count_is = refl; left = tt; apart = tt; rest = refl } });
     writes = omega arith;
@@ -121,13 +107,7 @@ module _ {D : Type 0} {g : Ghosts D} where
   pub turn_none : (running : Option ℕ) (t : Txn) (a b : Pages D g) → Passed a b → ((disk_in b).is_honest → (m : KeyMap) → InTxn t (stored a) m → Tidy m → IsSweptClean running m) → IsTurn running 0 t t a b
   turn_none running t a b passed clean = record {
     few = omega arith;
-    swept = record {
-      passed = passed;
-      pages = refl;
-      swept = λ honest m d holds is. (m, holds, record { is = is; by = record { turns = []; count_is = refl; left = tt; apart = tt; rest = refl } });
-      writes = omega arith;
-      given = λ honest m d holds is. omega arith;
-    };
+    swept = none_swept running t a b passed;
     clean = λ honest m holds tidy zero. clean honest m holds tidy;
   }
 
@@ -154,8 +134,7 @@ module _ {D : Type 0} {g : Ghosts D} where
       swept = λ honest m d holds is.
           let middle = release.passed.quiet.honest honest in
           let left = found middle m holds is.tidy in
-          let still = subst (λ P. InTxn t P m) (sym (ab.quiet.same middle)) holds in
-          let done = release.released honest m still in
+          let done = release.released honest m (subst (λ P. InTxn t P m) (sym (ab.quiet.same middle)) holds) in
           let count = done.before.count in
           let after = subst (λ P. InTxn u P (released m plan number count)) (ab.quiet.same middle) done.holds in
           let can : CanTurn m (lets_go plan number count) = record { plan_fits = left.fits.0; fits = left.fits.1; count_fits = done.before.fits; mark = left.mark; held = left.held; counted_by_holders = done.before.told } in
@@ -168,20 +147,18 @@ module _ {D : Type 0} {g : Ghosts D} where
 
   -- ---- refusals
   pub not_found : (t : Txn) (a b : Pages D g) (e : TreeError) → ReadErr Tidy t a b e → TakeErr HasDesk t a b e
-  not_found t a b DeviceFault why = why
   not_found t a b NotAStore why = λ honest m holds has. why honest m holds has.1.tidy
-  not_found t a b Halted why = why
   not_found t a b NoPages why = absurd why
   not_found t a b TooDeep why = absurd why
   not_found t a b Memory why = tt
+  not_found t a b _ why = why
 
   pub not_removed : (t : Txn) (a b c : Pages D g) (e : TreeError) → Passed a b → IsQuiet b c → RemoveErr t b c e → TakeErr HasDesk t a c e
   not_removed t a b c DeviceFault ab quiet why = failed_more a b c ab quiet why
   not_removed t a b c NotAStore ab quiet why = λ honest m holds has. why honest m (subst (λ P. InTxn t P m) (sym (ab.quiet.same (quiet.honest honest))) holds)
   not_removed t a b c Halted ab quiet why = sym ab.halted ∙ why
-  not_removed t a b c NoPages ab quiet why = absurd why
-  not_removed t a b c TooDeep ab quiet why = absurd why
   not_removed t a b c Memory ab quiet why = tt
+  not_removed t a b c _ ab quiet why = absurd why
 
   pub not_released : HeldIsTallied → (plan number : ℕ) (t : Txn) (a b c : Pages D g) (e : TreeError) → Passed a b → IsQuiet b c → FindsHolding plan number t a b → ReleaseErr number t b c e → TakeErr HasDesk t a c e
   not_released law plan number t a b c DeviceFault ab quiet found why = failed_more a b c ab quiet why
@@ -191,9 +168,8 @@ module _ {D : Type 0} {g : Ghosts D} where
       let (count, fits, told) = law m plan number has.1.tidy.holdings.counted_by_holders left.fits.0 left.fits.1 left.held in
       why honest m (subst (λ P. InTxn t P m) (sym (ab.quiet.same middle)) holds) (record { count = count; fits = fits; told = told })
   not_released law plan number t a b c Halted ab quiet found why = sym ab.halted ∙ why
-  not_released law plan number t a b c NoPages ab quiet found why = λ honest m holds has. why honest m (subst (λ P. InTxn t P m) (sym (ab.quiet.same (quiet.honest honest))) holds)
-  not_released law plan number t a b c TooDeep ab quiet found why = λ honest m holds has. why honest m (subst (λ P. InTxn t P m) (sym (ab.quiet.same (quiet.honest honest))) holds)
   not_released law plan number t a b c Memory ab quiet found why = tt
+  not_released law plan number t a b c _ ab quiet found why = λ honest m holds has. why honest m (subst (λ P. InTxn t P m) (sym (ab.quiet.same (quiet.honest honest))) holds)
 
   -- a map of a desk that isn't read after turns
   abbrev NoDesk : Txn → Pages D g → Pages D g → Type 0
@@ -207,8 +183,6 @@ module _ {D : Type 0} {g : Ghosts D} where
 
   pub not_later : (running : Option ℕ) (count : ℕ) (t u : Txn) (a b c : Pages D g) (e : TreeError) → HasSwept running count t u a b → IsQuiet b c → TakeErr HasDesk u b c e → TakeErr HasDesk t a c e
   not_later running count t u a b c DeviceFault one quiet why = failed_more a b c one.passed quiet why
-  not_later running count t u a b c NotAStore one quiet why = none_later running count t u a b c one quiet why
   not_later running count t u a b c Halted one quiet why = sym one.passed.halted ∙ why
-  not_later running count t u a b c NoPages one quiet why = none_later running count t u a b c one quiet why
-  not_later running count t u a b c TooDeep one quiet why = none_later running count t u a b c one quiet why
   not_later running count t u a b c Memory one quiet why = tt
+  not_later running count t u a b c _ one quiet why = none_later running count t u a b c one quiet why

@@ -1,22 +1,13 @@
 -- What counts tell beside what was counted.
+use Rattle.std.specs.{BTreeMap.{BTreeMap, get as count_at}, Ordering.nat_cmp, List.{AllByRecursion, starts_with}, FinMap.{entries, find, get}}
 use Rattle.std.proofs.Common.{◌≡◌, ◌⊎◌, ◌<◌, ◌≤◌, ◌+◌, ◌^◌, ℕ, zero, suc, true, List, [], ◌∷◌, Option, Some, None, nat_eq, refl, sym, ap, subst, ◌∙◌, inl, inr, arith, drop, length}
 use Rattle.std.proofs.lemmas.Bool.{cases_lt}
-use Rattle.std.specs.BTreeMap.{BTreeMap, get as count_at}
-use Rattle.std.specs.Ordering.{nat_cmp}
-use Rattle.std.specs.List.{AllByRecursion, starts_with}
-use Rattle.std.specs.FinMap.{entries, find, get}
 use Rattle.page_btree.specs.page_node.claim.Entries.{Entry}
-use Rattle.btree_walks.specs.Prefixes.{under}
-use Rattle.btree_walks.proofs.RowsFound.{IsNextUnder, all_found, found_among}
-use Rattle.store_rows.specs.claim.Keys.{key_of, Fits, holder_count, in_eight}
-use Rattle.store_rows.specs.claim.Order.{key_cmp}
-use Rattle.store_rows.specs.claim.Rows.{KeyMap, row_in, Has}
-use Rattle.store_rows.specs.claim.Holders.{AreHolders, IsTallied, AreTallied, holder_count_row}
-use Rattle.store_rows.proofs.OneGeography.{no_value, value_is}
-use Rattle.store_rows.proofs.Counting.{few}
+use Rattle.btree_walks.{specs.Prefixes.under, proofs.RowsFound.{IsNextUnder, all_found, found_among}}
+use Rattle.store_rows.specs.{claim.Keys.{key_of, Fits, holder_count, in_eight}, claim.Order.key_cmp, claim.Rows.{KeyMap, row_in, Has}}
+use Rattle.store_rows.{specs.claim.Holders.{AreHolders, IsTallied, AreTallied, holder_count_row}, proofs.OneGeography.{no_value, value_is}, proofs.Counting.few}
 use Rattle.store_rows.proofs.HolderCounts.{eight_says}
-use Rattle.store_sweep.specs.Checks.{noted, HasCount, AreCounts, HasCounts, IsEntryTold, AreTold}
-use Rattle.store_sweep.proofs.HoldingKeys.{holder_count_is, starts_holder_count}
+use Rattle.store_sweep.{specs.Checks.{noted, HasCount, AreCounts, HasCounts, IsEntryTold, AreTold}, proofs.HoldingKeys.holder_count_is}
 
 -- ---- one set is of one size
 -- the place at which the other counting off has a plan
@@ -83,12 +74,11 @@ Told counts number value = (count : ℕ) × (value ≡ in_eight count) × (count
 told_found : (counts : BTreeMap ℕ ℕ) (number : ℕ) (value : List ℕ) (es : List Entry) → number < 2 ^ 64 → AllTold counts es → find key_cmp (key_of (holder_count number)) es ≡ Some value → Told counts number value
 told_found counts number value es fits all there =
     let is = all_found (IsEntryTold counts) (key_of (holder_count number)) value es all there in
-    let equal : is.number ≡ number = eight_says is.number number is.fits fits (sym is.key) in
-    (is.count, is.value, ap (count_at nat_cmp counts) (sym equal) ∙ is.told)
+    (is.count, is.value, ap (count_at nat_cmp counts) (sym (eight_says is.number number is.fits fits (sym is.key))) ∙ is.told)
 
 pub all_told : (counts : BTreeMap ℕ ℕ) (m : KeyMap) (rows : List Entry) → under (75 ∷ []) (entries m) ≡ rows → AllTold counts rows → AreTold counts m
 all_told counts m rows whole all number value fits has =
-    told_found counts number value rows fits all (sym (found_among m (75 ∷ []) rows (key_of (holder_count number)) (starts_holder_count number) whole) ∙ has)
+    told_found counts number value rows fits all (sym (found_among m (75 ∷ []) rows (key_of (holder_count number)) refl whole) ∙ has)
 
 -- ---- so chunks are counted
 pub counted_by_holders_by : (counts : BTreeMap ℕ ℕ) (m : KeyMap) → AreCounts counts m → AreTold counts m → AreTallied m
@@ -104,13 +94,9 @@ counted_by_holders_by counts m counted told number fits = by has.count has.fits 
         some_none : (count : ℕ) → ◌≡◌ {A = Option ℕ} (Some count) None → ⊥
         some_none count same = cc
 
-    count_same : (x y : ℕ) → ◌≡◌ {A = Option ℕ} (Some x) (Some y) → x ≡ y
-    count_same x y same = cc
-
     by : (count : ℕ) → count < 2 ^ 64 → count_at nat_cmp counts number ≡ noted count → AreHolders m number count → (0 < count → (value : List ℕ) × Has m (holder_count number) value) → IsTallied m number
     by zero small note holders shared = record { count = 0; fits = small; row = none_there (row_in m (holder_count number)) refl note; holders = holders }
     by (suc more) small note holders shared =
         (let there = shared (omega arith) in
         let t = told number there.0 fits there.1 in
-        let same : t.0 ≡ more + 1 = count_same t.0 (more + 1) (sym t.2 ∙ note) in
-        record { count = suc more; fits = small; row = there.1 ∙ ap Some (t.1 ∙ ap in_eight same); holders = holders })
+        record { count = suc more; fits = small; row = there.1 ∙ ap Some (t.1 ∙ ap in_eight (cc)); holders = holders })

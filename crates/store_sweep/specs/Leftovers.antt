@@ -1,23 +1,13 @@
 -- Which turns a sweep takes, and what is left once they are taken.
 use Rattle.std.specs.Prelude.{◌≡◌, ◌<◌, ◌+◌, ◌^◌, ℕ, List, [], ◌∷◌, Option, Some, None}
-use Rattle.store_rows.specs.claim.Keys.{RowKey, counters, retired, begun, holding, holder_count, named, part, seal, version, block, pair, chunk}
-use Rattle.store_rows.specs.claim.Rows.{KeyMap, Has}
-use Rattle.store_rows.specs.TurnLaws.{Turn, goes, lets_go, rows_in, take_turns, AreTurns}
+use Rattle.store_rows.specs.{claim.Keys.{RowKey, retired, begun, block, pair}, claim.Rows.{KeyMap, Has}, TurnLaws.{Turn, goes, lets_go, rows_in, take_turns, AreTurns}}
 
 -- a row that a load staged, or its mark
 abbrev pub IsOfLoad : ℕ → RowKey → Type 0
-IsOfLoad load counters = ⊥
-IsOfLoad load (retired plan) = ⊥
 IsOfLoad load (begun other) = other ≡ load
-IsOfLoad load (holding plan number) = ⊥
-IsOfLoad load (holder_count number) = ⊥
-IsOfLoad load (named name) = ⊥
-IsOfLoad load (part plan revision index) = ⊥
-IsOfLoad load seal = ⊥
-IsOfLoad load version = ⊥
 IsOfLoad load (block other place) = other ≡ load
 IsOfLoad load (pair other place) = other ≡ load
-IsOfLoad load (chunk number piece) = ⊥
+IsOfLoad load _ = ⊥
 
 -- or no load
 abbrev pub IsNoLoads : RowKey → Type 0

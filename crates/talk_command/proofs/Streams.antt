@@ -3,15 +3,10 @@ use Rattle.std.proofs.Common.{◌≡◌, ℕ, ◌+◌, Bool, true, false, List, 
 use Rattle.sector_device.specs.declared.SectorDevice.{Ghosts}
 use Rattle.desk_store.specs.declared.clerk.Clerk.{Clerk}
 use Rattle.desk_runs.specs.claim.Runs.{Call, Run, SurvivesEachRun}
-use Rattle.http_desk.specs.http_routes.declared.order.Order.{Order}
+use Rattle.http_desk.specs.{http_routes.declared.order.Order.Order, http_routes.claim.Orders.order_of, http_wire.claim.Prefix.{closes_after, is_head}, declared.serve.Served.Served}
+use Rattle.http_desk.specs.{declared.serve.StreamFault.StreamFault, claim.Talk.{Talk, MayAnswer}, claim.Serving.{ServesTo, IsShortTalk}}
 use Rattle.http_desk.specs.http_routes.declared.order.Order.TheVariants as order
-use Rattle.http_desk.specs.http_routes.claim.Orders.{order_of}
-use Rattle.http_desk.specs.http_wire.claim.Prefix.{closes_after, is_head}
-use Rattle.http_desk.specs.declared.serve.Served.{Served}
-use Rattle.http_desk.specs.declared.serve.StreamFault.{StreamFault}
 use Rattle.http_desk.specs.declared.serve.StreamFault.TheVariants as fault
-use Rattle.http_desk.specs.claim.Talk.{Talk, MayAnswer}
-use Rattle.http_desk.specs.claim.Serving.{ServesTo, IsShortTalk}
 use Rattle.talk_command.specs.claim.Served.{DoesAtCounter, AsksAtCounter, calls_with, calls_in, short_calls, calls_served, SurvivesEachStream}
 
 module _ {D : Type 0} {g : Ghosts D} where
@@ -26,13 +21,10 @@ module _ {D : Type 0} {g : Ghosts D} where
   answered x (order.Refused e) closing head_only text shut y z may calls run = same_run x y z calls may.2 run
 
   talked : (x : Clerk D g) (input output : List ℕ) (n : ℕ) (shut : Bool) (y : Clerk D g) (talk : Talk DoesAtCounter AsksAtCounter x input output n shut y) → Run x (calls_in x input output n shut y talk) y
-  talked x _ _ _ _ _ (Talk.over _) = Run.over x
-  talked x _ _ _ _ _ (Talk.ended _ input interim cut line) = Run.over x
-  talked x _ _ _ _ _ (Talk.out_of_memory _ input interim head_only out_of_memory line) = Run.over x
-  talked x _ _ _ _ _ (Talk.refused _ input interim f head_only has line) = Run.over x
   talked x _ _ _ _ _ (Talk.closed _ input h target body rest text y has may) = answered x (order_of h.method target body) (closes_after h) (is_head h.method) text true y y may [] (Run.over y)
   talked x _ _ _ _ _ (Talk.went _ input h target body rest text y output n shut z has may talk) =
       answered x (order_of h.method target body) (closes_after h) (is_head h.method) text false y z may (calls_in y rest output n shut z talk) (talked y rest output n shut z talk)
+  talked x _ _ _ _ _ _ = Run.over x
 
   short_talked : (x : Clerk D g) (input answers : List ℕ) (y : Clerk D g) (talk : IsShortTalk DoesAtCounter AsksAtCounter x input answers y) → Run x (short_calls x input answers y talk) y
   short_talked x input answers y (inl talk) = talked x input answers talk.0 false y talk.1

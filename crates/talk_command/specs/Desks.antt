@@ -1,22 +1,10 @@
 -- The same talk, told of desks alone.
-use Rattle.std.specs.Prelude.{◌≡◌, ◌⊎◌, ⊤, ℕ, false, Bool, List, [], ◌++◌, Option, IfSome, Result, Ok, Err}
-use Rattle.std.specs.Io.KnownBytes.{Appends, Consumes, IsAtEnd}
-use Rattle.desk_model.specs.declared.command.Command.{Command}
-use Rattle.desk_model.specs.declared.command.Query.{Query}
-use Rattle.desk_model.specs.declared.reply.Reply.{Reply}
-use Rattle.desk_model.specs.declared.reply.Reply.TheVariants.{Refused}
-use Rattle.desk_model.specs.declared.reply.Refusal.TheVariants.{Halted}
-use Rattle.desk_model.specs.claim.Desk.{Desk}
-use Rattle.desk_model.specs.claim.Outcome.{CommandMay}
-use Rattle.desk_model.specs.claim.Sample.{sample_desk}
+use Rattle.std.specs.{Prelude.{◌≡◌, ◌⊎◌, ⊤, ℕ, false, Bool, List, [], ◌++◌, Option, IfSome, Result, Ok, Err}, Io.KnownBytes.{Appends, Consumes, IsAtEnd}}
+use Rattle.desk_model.specs.{declared.command.Command.Command, declared.command.Query.Query, declared.reply.Reply.Reply, declared.reply.Reply.TheVariants.Refused}
+use Rattle.desk_model.specs.{declared.reply.Refusal.TheVariants.Halted, claim.Desk.Desk, claim.Outcome.CommandMay, claim.Sample.sample_desk}
 use Rattle.desk_catalogue.specs.claim.Audits.{AskMay}
-use Rattle.desk_store.specs.claim.Clerks.{desk_of, is_halted, room_of, sectors_of, Keeps}
-use Rattle.desk_store.specs.declared.clerk.Clerk.{Clerk}
-use Rattle.http_desk.specs.http_wire.claim.Interim.{IsCutHead}
-use Rattle.http_desk.specs.claim.Talk.{Talk}
-use Rattle.http_desk.specs.claim.Serving.{IsCutTalk}
-use Rattle.http_desk.specs.declared.serve.Served.{Served}
-use Rattle.http_desk.specs.declared.serve.StreamFault.{StreamFault}
+use Rattle.desk_store.specs.{claim.Clerks.{desk_of, is_halted, room_of, sectors_of, Keeps}, declared.clerk.Clerk.Clerk}
+use Rattle.http_desk.specs.{http_wire.claim.Interim.IsCutHead, claim.Talk.Talk, claim.Serving.IsCutTalk, declared.serve.Served.Served, declared.serve.StreamFault.StreamFault}
 use Rattle.http_desk.specs.declared.serve.StreamFault.TheVariants as fault
 use Rattle.sector_device.specs.declared.SectorDevice.{Ghosts}
 use Rattle.talk_command.specs.claim.Talking.{ServesSample}

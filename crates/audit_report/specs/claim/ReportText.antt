@@ -1,16 +1,9 @@
 -- A report as compact JSON with its keys in byte order (RFC 8259).
 use Rattle.std.specs.Prelude.{ℕ, List, map, codes, Option, Some, None}
-use Rattle.serde_json.specs.Data.{Data, null, number, unsigned, string, array, item, no_items, object, member, no_members}
-use Rattle.serde_json.specs.View.{items_of}
-use Rattle.serde_json.specs.Written.{compact_text}
-use Rattle.desk_model.specs.claim.Kind.{kind_name}
-use Rattle.desk_model.specs.claim.Padded.{padded_decimal}
-use Rattle.audit_clauses.specs.declared.deviations.Extremes.{Extremes}
-use Rattle.audit_clauses.specs.declared.breaks.Gap.{Gap}
-use Rattle.audit_clauses.specs.declared.breaks.Break.{Break}
-use Rattle.audit_report.specs.declared.clause.Clause.{Clause}
-use Rattle.audit_report.specs.claim.Clauses.{clause_name}
-use Rattle.audit_report.specs.claim.Figures.{Figures}
+use Rattle.serde_json.specs.{Data.{Data, null, number, unsigned, string, array, item, no_items, object, member, no_members}, View.items_of, Written.compact_text}
+use Rattle.desk_model.specs.{claim.Kind.kind_name, claim.Padded.padded_decimal}
+use Rattle.audit_clauses.specs.{declared.deviations.Extremes.Extremes, declared.breaks.Gap.Gap, declared.breaks.Break.Break}
+use Rattle.audit_report.specs.{declared.clause.Clause.Clause, claim.Clauses.clause_name, claim.Figures.Figures}
 
 abbrev pub clause_data : Clause → Data
 clause_data clause = string (clause_name clause)

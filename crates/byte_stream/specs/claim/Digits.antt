@@ -1,8 +1,5 @@
 -- Numbers in ASCII digits.
-use Rattle.std.specs.Prelude.{ℕ, ◌&&◌, if◌then◌else◌, ◌==◌, nat_le, List, length, Option, Some, None}
-use Rattle.std.specs.Char.{is_ascii_digit}
-use Rattle.std.specs.List.{list_all}
-use Rattle.std.specs.Str.Parse.{digits_value}
+use Rattle.std.specs.{Prelude.{ℕ, ◌&&◌, if◌then◌else◌, ◌==◌, nat_le, List, length, Option, Some, None}, Char.is_ascii_digit, List.list_all, Str.Parse.digits_value}
 
 -- the number that 1 to `most` digits write
 abbrev pub number_of : ℕ → List ℕ → Option ℕ

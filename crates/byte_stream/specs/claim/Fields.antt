@@ -1,6 +1,5 @@
 -- The fields of a line.
-use Rattle.std.specs.Prelude.{ℕ, ◌==◌, List}
-use Rattle.std.specs.List.{slice_split}
+use Rattle.std.specs.{Prelude.{ℕ, ◌==◌, List}, List.slice_split}
 
 -- the parts between bars
 abbrev pub fields : List ℕ → List (List ℕ)

@@ -1,6 +1,5 @@
 -- What a reader of lines gives of the bytes that came.
-use Rattle.std.specs.Prelude.{◌≡◌, ℕ, ◌+◌, ◌≤◌, ◌==◌, false, List, ◌∷◌, ◌++◌, length, All}
-use Rattle.std.specs.Str.Lines.{strip_carriage_return}
+use Rattle.std.specs.{Prelude.{◌≡◌, ℕ, ◌+◌, ◌≤◌, ◌==◌, false, List, ◌∷◌, ◌++◌, length, All}, Str.Lines.strip_carriage_return}
 
 abbrev pub NoLineFeed : List ℕ → Type 0
 NoLineFeed bytes = All (λ b. (b == 10) ≡ false) bytes

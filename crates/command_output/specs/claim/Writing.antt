@@ -1,9 +1,7 @@
 -- What a writer is given.
 use Rattle.std.specs.Prelude.{◌≡◌, ℕ, List, ◌++◌, codes, Option, Result, Ok, Err}
-use Rattle.byte_stream.specs.claim.Sends.{Sends, failures_with}
-use Rattle.byte_stream.specs.declared.sink.WriteFault.{WriteFault}
-use Rattle.command_output.specs.declared.status.Status.{Status}
-use Rattle.command_output.specs.declared.status.Status.TheVariants.{Stream}
+use Rattle.byte_stream.specs.{claim.Sends.{Sends, failures_with}, declared.sink.WriteFault.WriteFault}
+use Rattle.command_output.specs.{declared.status.Status.Status, declared.status.Status.TheVariants.Stream}
 
 -- what a writer holds, where that is known, and how often it failed
 pub record Written : Type 0 where

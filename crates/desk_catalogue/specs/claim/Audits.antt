@@ -1,14 +1,8 @@
 -- The texts of audits.
 use Rattle.std.specs.Prelude.{◌≡◌, ℕ, List}
-use Rattle.desk_model.specs.declared.command.Query.{Query}
-use Rattle.desk_model.specs.declared.reply.Reply.{Reply}
-use Rattle.desk_model.specs.claim.Geography.{GeographyModel}
-use Rattle.desk_model.specs.claim.Desk.{Desk}
-use Rattle.desk_model.specs.claim.Subject.{AuditSubject}
+use Rattle.desk_model.specs.{declared.command.Query.Query, declared.reply.Reply.Reply, claim.Geography.GeographyModel, claim.Desk.Desk, claim.Subject.AuditSubject}
 use Rattle.desk_model.specs.claim.Outcome.{QueryMay}
-use Rattle.audit_report.specs.claim.Figures.{Figures}
-use Rattle.audit_report.specs.claim.Report.{IsReport}
-use Rattle.audit_report.specs.claim.ReportText.{report_text}
+use Rattle.audit_report.specs.{claim.Figures.Figures, claim.Report.IsReport, claim.ReportText.report_text}
 
 -- the text tells the figures of a report on the subject
 pub record IsReportText (g : GeographyModel) (subject : AuditSubject) (text : List ℕ) : Type 0 where

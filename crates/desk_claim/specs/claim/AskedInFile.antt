@@ -3,14 +3,9 @@ use Rattle.std.specs.Prelude.{ℕ, Result}
 use Rattle.sector_device.specs.claim.Disk.{Image}
 use Rattle.desk_pages.specs.declared.error.StoreError.{StoreError}
 use Rattle.serve_command.specs.http_seats.claim.Streams.{Traffic}
-use Rattle.desk_claim.specs.claim.Streams.{Ends}
-use Rattle.desk_claim.specs.declared.asking.Asking.{Asking}
-use Rattle.desk_claim.specs.declared.asking.Told.{Told}
-use Rattle.desk_claim.specs.declared.lives.Task.TheVariants.{Ask}
+use Rattle.desk_claim.specs.{claim.Streams.Ends, declared.asking.Asking.Asking, declared.asking.Told.Told, declared.lives.Task.TheVariants.Ask, claim.AskedLives.AskedLife}
+use Rattle.desk_claim.specs.{claim.Files.{LivesFrom, AreLives}, claim.InFile.LivesFrom as StoreLivesFrom}
 use Rattle.desk_claim.specs.declared.lives.Done.TheVariants as done
-use Rattle.desk_claim.specs.claim.AskedLives.{AskedLife}
-use Rattle.desk_claim.specs.claim.Files.{LivesFrom, AreLives}
-use Rattle.desk_claim.specs.claim.InFile.{LivesFrom as StoreLivesFrom}
 
 module _ {R W P Q A : Type 0} (ends : R → W → Ends) (streams : A → Traffic P Q) (workers : ℕ) where
   pub record AskedInFileLaw : Type 0 where

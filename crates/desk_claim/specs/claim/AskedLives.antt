@@ -2,17 +2,11 @@
 use Rattle.std.specs.Prelude.{◌≡◌, ℕ, List, map, Result, Ok, Err}
 use Rattle.desk_model.specs.claim.Desk.{Desk}
 use Rattle.desk_pages.specs.declared.error.StoreError.{StoreError}
-use Rattle.store_lives.specs.claim.DeskLives.{IsPassing, LifeAfterLife}
+use Rattle.store_lives.specs.{claim.DeskLives.{IsPassing, LifeAfterLife}, claim.Versions.{Store, version_2}}
 use Rattle.serve_command.specs.http_seats.claim.Streams.{Traffic}
-use Rattle.desk_claim.specs.claim.Streams.{Ends}
-use Rattle.store_lives.specs.claim.Versions.{Store, version_2}
-use Rattle.desk_claim.specs.declared.asking.Asking.{Asking}
-use Rattle.desk_claim.specs.declared.asking.Told.{Told}
-use Rattle.desk_claim.specs.declared.lives.Task.{Task}
-use Rattle.desk_claim.specs.declared.lives.Task.TheVariants.{Ask}
-use Rattle.desk_claim.specs.declared.lives.Done.{Done}
+use Rattle.desk_claim.specs.{claim.Streams.Ends, declared.asking.Asking.Asking, declared.asking.Told.Told, declared.lives.Task.Task, declared.lives.Task.TheVariants.Ask}
+use Rattle.desk_claim.specs.{declared.lives.Done.Done, claim.Sentence.{AskedMay, LifeMay, PlanDesk}}
 use Rattle.desk_claim.specs.declared.lives.Done.TheVariants as done
-use Rattle.desk_claim.specs.claim.Sentence.{AskedMay, LifeMay, PlanDesk}
 
 module _ {R W P Q A : Type 0} (ends : R → W → Ends) (streams : A → Traffic P Q) (workers : ℕ) where
   -- One life: requests, a stream or an office, each answered as it is; or the store is not opened, and is as it was.

@@ -1,17 +1,11 @@
 -- The requests of a stream with their answers, as they stand in the talk over what was read and written.
 use Rattle.std.specs.Prelude.{ℕ, Bool, true, false, List, [], ◌∷◌, ◌++◌, Option, Result, Ok, Err}
-use Rattle.store_lives.specs.declared.desk_lives.Request.{Request}
-use Rattle.store_lives.specs.declared.desk_lives.Request.TheVariants.{Change, Look}
-use Rattle.store_lives.specs.declared.desk_lives.Answer.{Answer}
+use Rattle.store_lives.specs.{declared.desk_lives.Request.Request, declared.desk_lives.Request.TheVariants.{Change, Look}, declared.desk_lives.Answer.Answer}
 use Rattle.store_lives.specs.declared.desk_lives.Answer.TheVariants.{Said}
-use Rattle.http_desk.specs.http_wire.claim.Prefix.{closes_after, is_head}
-use Rattle.http_desk.specs.http_routes.declared.order.Order.{Order}
+use Rattle.http_desk.specs.{http_wire.claim.Prefix.{closes_after, is_head}, http_routes.declared.order.Order.Order, http_routes.claim.Orders.order_of, declared.serve.Served.Served}
+use Rattle.http_desk.specs.{declared.serve.StreamFault.StreamFault, claim.Talk.{Talk, MayAnswer}}
 use Rattle.http_desk.specs.http_routes.declared.order.Order.TheVariants as order
-use Rattle.http_desk.specs.http_routes.claim.Orders.{order_of}
-use Rattle.http_desk.specs.declared.serve.Served.{Served}
-use Rattle.http_desk.specs.declared.serve.StreamFault.{StreamFault}
 use Rattle.http_desk.specs.declared.serve.StreamFault.TheVariants as fault
-use Rattle.http_desk.specs.claim.Talk.{Talk, MayAnswer}
 use Rattle.desk_claim.specs.claim.Streams.{State, Takes, Looks, ServedAs}
 
 module _ (t u : ℕ) where

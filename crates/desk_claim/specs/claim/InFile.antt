@@ -4,11 +4,8 @@ use Rattle.sector_device.specs.claim.Disk.{Disk, Image}
 use Rattle.desk_model.specs.claim.Desk.{Desk}
 use Rattle.desk_pages.specs.claim.Desks.{OpensDesk, OpensOld, OpensEither}
 use Rattle.serve_command.specs.http_seats.claim.Streams.{Traffic}
-use Rattle.desk_claim.specs.claim.Streams.{Ends}
+use Rattle.desk_claim.specs.{claim.Streams.Ends, declared.lives.Task.Task, declared.lives.Done.Done, claim.Sentence.LifeHolds}
 use Rattle.store_lives.specs.claim.Versions.{Version, version_1, version_2, either, Store}
-use Rattle.desk_claim.specs.declared.lives.Task.{Task}
-use Rattle.desk_claim.specs.declared.lives.Done.{Done}
-use Rattle.desk_claim.specs.claim.Sentence.{LifeHolds}
 
 -- an image of so many sectors is a store with this desk, in a version that it may be of
 abbrev pub OpensAs : Version → ℕ → Desk → Image → Type 0

@@ -1,10 +1,8 @@
 -- What holds of every list of events.
 use Rattle.std.specs.Prelude.{ℕ, ◌≤◌, All, List, [], ◌∷◌, length, replicate, take, ⊤}
 use mathlib.Core.List.{IsPrefix}
-use Rattle.desk_model.specs.declared.command.Command.{Command}
-use Rattle.desk_model.specs.claim.Desk.{Desk}
-use Rattle.desk_claim.specs.declared.event.Event.{Event}
-use Rattle.desk_claim.specs.declared.event.Event.TheVariants.{Commit, Acknowledge, Show, Visit, Learn, Stop}
+use Rattle.desk_model.specs.{declared.command.Command.Command, claim.Desk.Desk}
+use Rattle.desk_claim.specs.{declared.event.Event.Event, declared.event.Event.TheVariants.{Commit, Acknowledge, Show, Visit, Learn, Stop}}
 use Rattle.desk_claim.specs.claim.World.{World, world, move, run, shown_list, seen}
 
 -- what each visitor knows is shown, what is shown is acknowledged, and that is changed
@@ -14,13 +12,13 @@ pub record IsOrdered (w : World) : Type 0 where
   pub acknowledged : w.acknowledged ≤ length w.changes
 
 -- the event is no stop
-abbrev pub GoesOn : Event → Type 0
-GoesOn (Commit c) = ⊤
-GoesOn Acknowledge = ⊤
-GoesOn Show = ⊤
-GoesOn (Visit i q) = ⊤
-GoesOn (Learn i told) = ⊤
-GoesOn (Stop kept) = ⊥
+abbrev pub IsNoStop : Event → Type 0
+IsNoStop (Commit c) = ⊤
+IsNoStop Acknowledge = ⊤
+IsNoStop Show = ⊤
+IsNoStop (Visit i q) = ⊤
+IsNoStop (Learn i told) = ⊤
+IsNoStop (Stop kept) = ⊥
 
 -- each begins the next
 abbrev pub Rising : List (List Command) → Type 0
@@ -35,9 +33,9 @@ pub record IsLawful (d : Desk) (w : World) : Type 0 where
   pub acknowledged : (e : Event) → IsPrefix (take w.acknowledged w.changes) (move d w e).changes
   pub shown : (e : Event) → IsPrefix (shown_list w) (move d w e).changes
   -- no other event takes a change away
-  pub changes : (e : Event) → GoesOn e → IsPrefix w.changes (move d w e).changes
+  pub changes : (e : Event) → IsNoStop e → IsPrefix w.changes (move d w e).changes
   -- until the next stop each visitor is answered after lists each of which begins the next
-  pub answers : (more : List Event) → All GoesOn more → (i : ℕ) → Rising (seen i d w more)
+  pub answers : (more : List Event) → All IsNoStop more → (i : ℕ) → Rising (seen i d w more)
 
 abbrev pub CoreLaw : Type 0
 CoreLaw = (d : Desk) (visitors : ℕ) (events : List Event) → IsLawful d (run d (world [] 0 0 (replicate visitors 0)) events)

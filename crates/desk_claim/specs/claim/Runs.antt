@@ -1,14 +1,9 @@
 -- An office and its visitors as a world that events lead to.
-use Rattle.std.specs.Prelude.{◌≡◌, ◌==◌, ◌&&◌, if◌then◌else◌, nat_lt, ℕ, All, List, [], ◌∷◌, ◌++◌, length, map, replicate, Some, ⊤}
-use Rattle.std.specs.List.{slice_get}
+use Rattle.std.specs.{Prelude.{◌≡◌, ◌==◌, ◌&&◌, if◌then◌else◌, nat_lt, ℕ, All, List, [], ◌∷◌, ◌++◌, length, map, replicate, Some, ⊤}, List.slice_get}
 use mathlib.Core.List.{IsPrefix}
-use Rattle.desk_model.specs.declared.command.Command.{Command}
-use Rattle.desk_model.specs.declared.command.Query.{Query}
-use Rattle.desk_model.specs.claim.Desk.{Desk}
-use Rattle.desk_claim.specs.declared.event.Event.{Event}
-use Rattle.desk_claim.specs.declared.event.Event.TheVariants.{Commit, Acknowledge, Show, Visit, Learn, Stop}
-use Rattle.desk_claim.specs.claim.World.{World, world, move, run, shown_list}
-use Rattle.desk_claim.specs.claim.Law.{GoesOn}
+use Rattle.desk_model.specs.{declared.command.Command.Command, declared.command.Query.Query, claim.Desk.Desk}
+use Rattle.desk_claim.specs.{declared.event.Event.Event, declared.event.Event.TheVariants.{Commit, Acknowledge, Show, Visit, Learn, Stop}}
+use Rattle.desk_claim.specs.{claim.World.{World, world, move, run, shown_list}, claim.Law.IsNoStop}
 
 -- with the office's lock free all that is shown is acknowledged, and only a fault leaves a change after it
 abbrev pub standing : List Command → List Command → List (List Command) → World
@@ -56,7 +51,7 @@ answers_in i d w (e ∷ es) = answer_at i w e ++ answers_in i d (move d w e) es
 
 -- the events lead to what is shown and to what each visitor has heard of; none is a stop, and each visitor is answered as it was
 pub record IsRun (d : Desk) (shown all : List Command) (visitors : List (List Heard)) (events : List Event) : Type 0 where
-  pub goes : All GoesOn events
+  pub goes : All IsNoStop events
   pub leads : run d (beginning (length visitors)) events ≡ standing shown all (map (heard_of []) visitors)
   pub answered : (i : ℕ) (calls : List Heard) → slice_get visitors i ≡ Some calls
       → answers_in i d (beginning (length visitors)) events ≡ answers calls

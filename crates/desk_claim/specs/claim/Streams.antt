@@ -1,21 +1,12 @@
 -- A stream of requests in a life of a store, as those see it who wrote and read it.
-use Rattle.std.specs.Prelude.{◌≡◌, ◌⊎◌, ◌<◌, ⊤, ℕ, Bool, false, List, [], Option, Result, Ok, Err}
-use Rattle.std.specs.Io.KnownBytes.{Appends, Consumes, IsAtEnd}
+use Rattle.std.specs.{Prelude.{◌≡◌, ◌⊎◌, ◌<◌, ⊤, ℕ, Bool, false, List, [], Option, Result, Ok, Err}, Io.KnownBytes.{Appends, Consumes, IsAtEnd}}
 use Rattle.byte_stream.specs.claim.Counts.{counted}
-use Rattle.desk_model.specs.declared.command.Command.{Command}
-use Rattle.desk_model.specs.declared.command.Query.{Query}
-use Rattle.desk_model.specs.declared.reply.Reply.{Reply}
-use Rattle.desk_model.specs.declared.reply.Reply.TheVariants.{Refused}
-use Rattle.desk_model.specs.declared.reply.Refusal.TheVariants.{Halted}
-use Rattle.desk_model.specs.claim.Desk.{Desk}
-use Rattle.desk_model.specs.claim.Step.{step}
-use Rattle.desk_model.specs.claim.Outcome.{CommandMay}
+use Rattle.desk_model.specs.{declared.command.Command.Command, declared.command.Query.Query, declared.reply.Reply.Reply, declared.reply.Reply.TheVariants.Refused}
+use Rattle.desk_model.specs.{declared.reply.Refusal.TheVariants.Halted, claim.Desk.Desk, claim.Step.step, claim.Outcome.CommandMay}
 use Rattle.desk_catalogue.specs.claim.Audits.{AskMay}
-use Rattle.http_desk.specs.declared.serve.Served.{Served}
-use Rattle.http_desk.specs.declared.serve.StreamFault.{StreamFault}
-use Rattle.http_desk.specs.declared.serve.StreamFault.TheVariants as fault
-use Rattle.http_desk.specs.claim.Talk.{Talk}
+use Rattle.http_desk.specs.{declared.serve.Served.Served, declared.serve.StreamFault.StreamFault, claim.Talk.Talk}
 use Rattle.http_desk.specs.claim.Serving.{IsPrefixTalk, IsCutTalk, read_failures, write_failures}
+use Rattle.http_desk.specs.declared.serve.StreamFault.TheVariants as fault
 
 -- the desk that is shown, which a stop leaves too; or, once the device has failed, the one that is shown and the one that a stop leaves
 pub data State : Type 0 where

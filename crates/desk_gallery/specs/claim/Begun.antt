@@ -1,13 +1,9 @@
 -- A clerk after a front, by the clerk with whom its gallery began.
 use Rattle.std.specs.Prelude.{◌≡◌, ℕ, Bool, false, All, List}
 use Rattle.sector_device.specs.declared.SectorDevice.{Ghosts}
-use Rattle.desk_model.specs.declared.command.Command.{Command}
-use Rattle.desk_model.specs.claim.Desk.{Desk}
-use Rattle.desk_runs.specs.desk_store.declared.clerk.Clerk.{Clerk}
-use Rattle.desk_runs.specs.claim.Runs.{Call, acknowledged}
-use Rattle.desk_runs.specs.claim.SweptRuns.{SweptRun}
-use Rattle.desk_gallery.specs.claim.Telling.{halts_of}
-use Rattle.desk_gallery.specs.claim.Working.{AreAccepted}
+use Rattle.desk_model.specs.{declared.command.Command.Command, claim.Desk.Desk}
+use Rattle.desk_runs.specs.{desk_store.declared.clerk.Clerk.Clerk, claim.Runs.{Call, acknowledged}, claim.SweptRuns.SweptRun}
+use Rattle.desk_gallery.specs.{claim.Telling.halts_of, claim.Working.AreAccepted}
 
 -- what is known of the clerk with whom a gallery begins
 abbrev pub Beginning : Type 1

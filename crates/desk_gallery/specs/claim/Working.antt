@@ -1,9 +1,6 @@
 -- A clerk beside a writer, before they are put behind a lock.
 use Rattle.std.specs.Prelude.{List, [], ◌∷◌, ⊤}
-use Rattle.desk_model.specs.declared.command.Command.{Command}
-use Rattle.desk_model.specs.claim.Desk.{Desk}
-use Rattle.desk_model.specs.claim.Outcome.{IsAcceptance}
-use Rattle.desk_model.specs.claim.Step.{step}
+use Rattle.desk_model.specs.{declared.command.Command.Command, claim.Desk.Desk, claim.Outcome.IsAcceptance, claim.Step.step}
 
 -- each of the commands is accepted, one after the other
 abbrev pub AreAccepted : Desk → List Command → Type 0

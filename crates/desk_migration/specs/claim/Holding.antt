@@ -1,10 +1,6 @@
 -- Which chunks the plans of a map hold, of those that parts of their revisions name.
 use Rattle.std.specs.Prelude.{◌≡◌, ℕ, List, [], ◌∷◌, length}
-use Rattle.store_rows.specs.claim.Keys.{key_of, Fits, holding, part}
-use Rattle.store_rows.specs.claim.Rows.{KeyMap, Lacks}
-use Rattle.store_rows.specs.claim.Holders.{IsHeld}
-use Rattle.store_rows.specs.claim.Tidy.{IsNamedBy}
-use Rattle.store_rows.specs.claim.Shares.{hold}
+use Rattle.store_rows.specs.{claim.Keys.{key_of, Fits, holding, part}, claim.Rows.{KeyMap, Lacks}, claim.Holders.IsHeld, claim.Tidy.IsNamedBy, claim.Shares.hold}
 use Rattle.store_check.specs.claim.Rows.{IsFrom}
 
 -- Each chunk that a part of a plan's revisions names is held by the plan. This is said also of plans that were taken away.

@@ -1,17 +1,12 @@
 -- A migration, which leads a store from the old version of its rows to the new one, as the layers above see it.
-use Rattle.std.specs.Prelude.{◌≡◌, ◌<◌, ◌+◌, ◌*◌, ℕ, Bool, true, false}
-use Rattle.sector_device.specs.claim.Disk.{Disk, Image}
-use Rattle.sector_device.specs.claim.Moments.{LeavesOnly}
-use Rattle.sector_device.specs.declared.SectorDevice.{Ghosts}
-use Rattle.page_store.specs.gate_journal.claim.Store.{home}
-use Rattle.page_store.specs.claim.Transactions.{disk_in, device_in, count_of, journal_of, has_halted, IsSame}
+use Rattle.std.specs.Prelude.{◌≡◌, ◌<◌, ◌+◌, ◌*◌, ℕ, Bool, true, false, length}
+use Rattle.sector_device.specs.{claim.Disk.{Disk, Image}, claim.Moments.LeavesOnly, declared.SectorDevice.Ghosts}
+use Rattle.page_store.specs.{gate_journal.claim.Store.home, claim.Chain.free_in, claim.Transactions.{stored, disk_in, device_in, count_of, journal_of, has_halted, IsSame}}
 use Rattle.page_btree.specs.claim.Map.{InPages}
 use Rattle.desk_model.specs.claim.Desk.{Desk}
 use Rattle.store_rows.specs.claim.Rows.{KeyMap}
 use Rattle.desk_pages.specs.claim.Desks.{IsOldMap, InPages as HoldsDesk, OpensDesk, OpensOld, OpensEither}
-use Rattle.desk_migration.specs.claim.Holding.{AllAreHeld, AreHeldTo, IsHeldBy}
-use Rattle.desk_migration.specs.Puts as pages
-use Rattle.desk_migration.specs.declared.migration.Migration.{Migration}
+use Rattle.desk_migration.specs.{claim.Holding.{AllAreHeld, AreHeldTo, IsHeldBy}, declared.migration.Migration.Migration}
 
 module _ {D : Type 0} {g : Ghosts D} where
   abbrev pub disk_of : Migration D g → Disk
@@ -36,7 +31,7 @@ module _ {D : Type 0} {g : Ghosts D} where
   room_of x = journal_of x.pages
 
   abbrev pub free_of : Migration D g → ℕ
-  free_of x = pages.free_of x.pages
+  free_of x = length (free_in (stored x.pages))
 
   -- The store holds these rows, which are those of the desk in the old version. Each part that the migration has passed names held
   -- chunks alone, and each part at all does where the last step found nothing to be held.

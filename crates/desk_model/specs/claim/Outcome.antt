@@ -1,26 +1,15 @@
 -- What a counter may answer: the desk's own step, or that there was no room, no memory or no device.
 use Rattle.std.specs.Prelude.{◌≡◌, ◌≢◌, ℕ, List, ⊤}
-use Rattle.desk_model.specs.declared.command.Command.{Command}
-use Rattle.desk_model.specs.declared.command.Query.{Query}
-use Rattle.desk_model.specs.declared.reply.Reply.{Reply}
+use Rattle.desk_model.specs.{declared.command.Command.Command, declared.command.Query.Query, declared.reply.Reply.Reply, declared.reply.Refusal.Refusal}
+use Rattle.desk_model.specs.declared.reply.Refusal.TheVariants.{NoPlan, NoRevision, PlanExists, Stale, BadBody, NotWholeCounty, BadCompanion, Limit, Full, Memory, Halted, NotSealed}
+use Rattle.desk_model.specs.{claim.Geography.GeographyModel, claim.Desk.Desk, claim.Subject.AuditSubject, claim.Step.{step, Answer, says, reports, answer}}
 use Rattle.desk_model.specs.declared.reply.Reply.TheVariants as reply
-use Rattle.desk_model.specs.declared.reply.Refusal.{Refusal}
-use Rattle.desk_model.specs.declared.reply.Refusal.TheVariants.{NoPlan, NoRevision, PlanExists, Stale, BadBody, NotWholeCounty}
-use Rattle.desk_model.specs.declared.reply.Refusal.TheVariants.{BadCompanion, Limit, Full, Memory, Halted, NotSealed}
-use Rattle.desk_model.specs.claim.Geography.{GeographyModel}
-use Rattle.desk_model.specs.claim.Desk.{Desk}
-use Rattle.desk_model.specs.claim.Subject.{AuditSubject}
-use Rattle.desk_model.specs.claim.Step.{step, Answer, says, reports, answer}
 
 -- the reply of an accepted command
 abbrev pub IsAcceptance : Reply → Type 0
 IsAcceptance (reply.Created name revisions) = ⊤
 IsAcceptance (reply.Retired name) = ⊤
-IsAcceptance (reply.Plans rows) = ⊥
-IsAcceptance (reply.Blocks text) = ⊥
-IsAcceptance (reply.Baf text) = ⊥
-IsAcceptance (reply.Audited text) = ⊥
-IsAcceptance (reply.Refused refusal) = ⊥
+IsAcceptance _ = ⊥
 
 -- the step's reply and its desk, and room for the change where it accepts
 pub record IsStep (must : Type 0) (d : Desk) (c : Command) (r : Reply) (new : Desk) : Type 0 where
@@ -55,10 +44,7 @@ abbrev pub CommandMay : (must may failed : Type 0) → Desk → Command → Repl
 CommandMay must may failed d c (reply.Refused refusal) new = RefusalMay must may failed d c refusal new
 CommandMay must may failed d c (reply.Created name revisions) new = ¬ failed × IsStep must d c (reply.Created name revisions) new
 CommandMay must may failed d c (reply.Retired name) new = ¬ failed × IsStep must d c (reply.Retired name) new
-CommandMay must may failed d c (reply.Plans rows) new = ⊥
-CommandMay must may failed d c (reply.Blocks text) new = ⊥
-CommandMay must may failed d c (reply.Baf text) new = ⊥
-CommandMay must may failed d c (reply.Audited text) new = ⊥
+CommandMay must may failed d c _ new = ⊥
 
 -- which texts are the report on a subject: what an audit decides, in the crates above
 abbrev pub Reporting : Type 1

@@ -1,10 +1,6 @@
 -- The one printed form of a plan's revision.
-use Rattle.std.specs.Prelude.{ℕ, ◌+◌, if◌then◌else◌, ◌==◌, List, [], ◌∷◌, ◌++◌, codes}
-use Rattle.std.specs.List.{flat_map, zip}
-use Rattle.desk_model.specs.declared.kind.Kind.{Kind}
-use Rattle.desk_model.specs.declared.kind.Kind.TheVariants.{Congress, Senate, House}
-use Rattle.desk_model.specs.claim.Geography.{GeographyModel, ids}
-use Rattle.desk_model.specs.claim.Baf.{header}
+use Rattle.std.specs.{Prelude.{ℕ, ◌+◌, if◌then◌else◌, ◌==◌, List, [], ◌∷◌, ◌++◌, codes}, List.{flat_map, zip}}
+use Rattle.desk_model.specs.{declared.kind.Kind.Kind, declared.kind.Kind.TheVariants.{Congress, Senate, House}, claim.Geography.{GeographyModel, ids}, claim.Baf.header}
 use Rattle.desk_model.specs.claim.Padded.{padded_decimal}
 
 abbrev pub code_text : Kind → ℕ → List ℕ

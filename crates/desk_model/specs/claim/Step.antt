@@ -2,24 +2,13 @@
 use Rattle.std.specs.Prelude.{ℕ, ◌+◌, ◌-◌, ◌==◌, Bool, not, ◌&&◌, if◌then◌else◌, nat_le, List, [], ◌∷◌, ◌++◌, map, length, Option, Some, None, option_map, is_some, Result, Ok, Err, unwrap_or, codes, decimal}
 use Rattle.std.specs.List.{slice_get, flat_map, find, list_any, zip}
 use Rattle.std.specs.FinMap as map_of
-use Rattle.desk_model.specs.declared.kind.Kind.{Kind}
-use Rattle.desk_model.specs.declared.command.Command.{Command}
-use Rattle.desk_model.specs.declared.command.Command.TheVariants.{Create, Whole, Counties, Retire, Fork}
-use Rattle.desk_model.specs.declared.command.Query.{Query}
-use Rattle.desk_model.specs.declared.command.Query.TheVariants.{Plans, Blocks, Revision, Audit}
-use Rattle.desk_model.specs.declared.reply.PlanLine.{PlanLine}
-use Rattle.desk_model.specs.declared.reply.Reply.{Reply}
+use Rattle.desk_model.specs.{declared.kind.Kind.Kind, declared.command.Command.Command, declared.command.Command.TheVariants.{Create, Whole, Counties, Retire, Fork}}
+use Rattle.desk_model.specs.{declared.command.Query.Query, declared.command.Query.TheVariants.{Plans, Blocks, Revision, Audit}, declared.reply.PlanLine.PlanLine}
+use Rattle.desk_model.specs.{declared.reply.Reply.Reply, declared.reply.Refusal.Refusal}
+use Rattle.desk_model.specs.{declared.reply.Refusal.TheVariants.{NoPlan, NoRevision, PlanExists, Stale, BadBody, NotWholeCounty, Limit, NotSealed}, claim.Block.county_of}
+use Rattle.desk_model.specs.{declared.block.BlockRow.BlockRow, claim.Baf.{Values, Fault, value_at, body_read, whole}, claim.Printed.printed, claim.Padded.padded_decimal}
+use Rattle.desk_model.specs.{claim.Geography.GeographyModel, claim.Desk.{Plan, Desk}, claim.Subject.{AuditSubject, subject_of, revision_at}}
 use Rattle.desk_model.specs.declared.reply.Reply.TheVariants as reply
-use Rattle.desk_model.specs.declared.reply.Refusal.{Refusal}
-use Rattle.desk_model.specs.declared.reply.Refusal.TheVariants.{NoPlan, NoRevision, PlanExists, Stale, BadBody, NotWholeCounty, Limit, NotSealed}
-use Rattle.desk_model.specs.claim.Block.{county_of}
-use Rattle.desk_model.specs.declared.block.BlockRow.{BlockRow}
-use Rattle.desk_model.specs.claim.Baf.{Values, Fault, value_at, body_read, whole}
-use Rattle.desk_model.specs.claim.Printed.{printed}
-use Rattle.desk_model.specs.claim.Padded.{padded_decimal}
-use Rattle.desk_model.specs.claim.Geography.{GeographyModel}
-use Rattle.desk_model.specs.claim.Desk.{Plan, Desk}
-use Rattle.desk_model.specs.claim.Subject.{AuditSubject, subject_of, revision_at}
 
 -- a desk has this many plans at most
 abbrev pub plan_limit : ℕ

@@ -1,8 +1,6 @@
 -- What a commit makes of the pages.
 use Rattle.sector_device.specs.claim.Disk.{Image}
-use Rattle.page_store.specs.claim.Chain.{root_in, free_in, IsPages}
-use Rattle.page_store.specs.claim.Transactions.{prepared_pages, after}
-use Rattle.page_store.specs.declared.txn.Prepared.{Prepared}
+use Rattle.page_store.specs.{claim.Chain.{root_in, free_in, IsPages}, claim.Transactions.{prepared_pages, after}, declared.txn.Prepared.Prepared}
 use Rattle.btree_puts.specs.page_btree.claim.Map.{Holds}
 use Rattle.store_rows.specs.claim.Rows.{KeyMap}
 

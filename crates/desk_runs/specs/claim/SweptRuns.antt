@@ -3,14 +3,10 @@ use Rattle.std.specs.Prelude.{◌≡◌, ◌≤◌, ℕ, Bool, true, false, if�
 use Rattle.sector_device.specs.declared.SectorDevice.{Ghosts}
 use Rattle.page_store.specs.claim.Transactions.{IsQuiet}
 use Rattle.page_btree.specs.claim.Map.{InPages as HoldsRows}
-use Rattle.desk_model.specs.declared.command.Command.{Command}
-use Rattle.desk_model.specs.declared.reply.Reply.{Reply}
-use Rattle.desk_model.specs.claim.Step.{step}
+use Rattle.desk_model.specs.{declared.command.Command.Command, declared.reply.Reply.Reply, claim.Step.step}
 use Rattle.store_rows.specs.claim.Rows.{KeyMap}
-use Rattle.desk_store.specs.store_sweep.claim.Checks.{AreSoundHoldings}
-use Rattle.desk_store.specs.declared.clerk.Clerk.{Clerk}
-use Rattle.desk_store.specs.claim.Clerks.{desk_of, disk_of, free_of, pages_of, sectors_of, HaltsByDevice, Keeps, Moves}
-use Rattle.desk_store.specs.claim.Commands.{Does}
+use Rattle.desk_store.specs.{store_sweep.claim.Checks.AreSoundHoldings, declared.clerk.Clerk.Clerk}
+use Rattle.desk_store.specs.{claim.Clerks.{desk_of, disk_of, free_of, pages_of, sectors_of, HaltsByDevice, Keeps, Moves}, claim.Commands.Does}
 use Rattle.desk_runs.specs.claim.Runs.{Call, after, if_accepted, acknowledged, OpenSince}
 
 module _ {D : Type 0} {g : Ghosts D} where

@@ -1,32 +1,17 @@
 -- What a clerk makes of a command.
 use Rattle.std.specs.Prelude.{◌≡◌, ◌⊎◌, ◌≤◌, ◌<◌, ◌+◌, ◌*◌, ℕ, true, false, length}
 use Rattle.sector_device.specs.declared.SectorDevice.{Ghosts}
-use Rattle.page_store.specs.claim.Chain.{free_in}
-use Rattle.page_store.specs.declared.pages.Pages.{Pages}
-use Rattle.page_store.specs.claim.Transactions.{stored, disk_in, count_of, prepared_pages, prepared_writes, after, IsQuiet}
-use Rattle.page_store.specs.declared.txn.Prepared.{Prepared as Written}
-use Rattle.page_store.specs.declared.txn.Txn.{Txn}
+use Rattle.page_store.specs.{claim.Chain.free_in, declared.pages.Pages.Pages, claim.Transactions.{stored, disk_in, count_of, prepared_pages, prepared_writes, after, IsQuiet}}
+use Rattle.page_store.specs.{declared.txn.Prepared.Prepared as Written, declared.txn.Txn.Txn}
 use Rattle.page_btree.specs.claim.Map.{InPages as HoldsRows}
-use Rattle.desk_model.specs.declared.command.Command.{Command}
-use Rattle.desk_model.specs.declared.reply.Reply.{Reply}
-use Rattle.desk_model.specs.declared.reply.Reply.TheVariants.{Refused}
-use Rattle.desk_model.specs.declared.reply.Refusal.{Refusal}
-use Rattle.desk_model.specs.declared.reply.Refusal.TheVariants.{Halted}
-use Rattle.desk_model.specs.claim.Desk.{Desk}
-use Rattle.desk_model.specs.claim.Outcome.{IsAcceptance, CommandMay, RefusalMay}
-use Rattle.desk_model.specs.claim.Room.{need, command_rows}
+use Rattle.desk_model.specs.{declared.command.Command.Command, declared.reply.Reply.Reply, declared.reply.Reply.TheVariants.Refused, declared.reply.Refusal.Refusal}
+use Rattle.desk_model.specs.{declared.reply.Refusal.TheVariants.Halted, claim.Desk.Desk, claim.Outcome.{IsAcceptance, CommandMay, RefusalMay}, claim.Room.{need, command_rows}}
 use Rattle.desk_model.specs.claim.Step.{step}
 use Rattle.desk_catalogue.specs.claim.Accepting.{IsAfter, acceptance}
-use Rattle.store_rows.specs.declared.value.Counters.{Counters}
-use Rattle.store_rows.specs.claim.Rows.{KeyMap}
-use Rattle.store_rows.specs.claim.Tidy.{IsNext, CountersFit}
-use Rattle.plan_revisions.specs.claim.Steps.{IsDeep}
-use Rattle.desk_pages.specs.claim.Commits.{HoldsAfter}
-use Rattle.desk_pages.specs.claim.Desks.{IsDeskMap}
-use Rattle.plan_revisions.specs.claim.Rows.{HasNumbers}
-use Rattle.desk_store.specs.declared.clerk.Clerk.{Clerk}
-use Rattle.desk_store.specs.declared.ready.Ready.{Ready}
-use Rattle.desk_store.specs.claim.Clerks.{desk_of, disk_of, free_of, pages_of, room_of, HaltsByDevice, Keeps, Moves}
+use Rattle.store_rows.specs.{declared.value.Counters.Counters, claim.Rows.KeyMap, claim.Tidy.{IsNext, CountersFit}}
+use Rattle.plan_revisions.specs.{claim.Steps.IsDeep, claim.Rows.HasNumbers}
+use Rattle.desk_pages.specs.{claim.Commits.HoldsAfter, claim.Desks.IsDeskMap}
+use Rattle.desk_store.specs.{declared.clerk.Clerk.Clerk, declared.ready.Ready.Ready, claim.Clerks.{desk_of, disk_of, free_of, pages_of, room_of, HaltsByDevice, Keeps, Moves}}
 
 abbrev pub command_of : Ready → Command
 command_of r = r.command.value

@@ -1,11 +1,7 @@
 -- What a clerk's store keeps of its desk.
 use Rattle.std.specs.Prelude.{◌≡◌, ◌⊎◌, ℕ, Bool, true, Some, None}
 use Rattle.sector_device.specs.claim.Disk.{Image}
-use Rattle.desk_model.specs.declared.command.Command.{Command}
-use Rattle.desk_model.specs.claim.Desk.{Desk}
-use Rattle.desk_model.specs.claim.Geography.{GeographyModel}
-use Rattle.desk_model.specs.claim.Outcome.{IsAcceptance}
-use Rattle.desk_model.specs.claim.Step.{step}
+use Rattle.desk_model.specs.{declared.command.Command.Command, claim.Desk.Desk, claim.Geography.GeographyModel, claim.Outcome.IsAcceptance, claim.Step.step}
 use Rattle.desk_pages.specs.claim.Desks.{OpensDesk}
 
 -- the desk after a command that is accepted

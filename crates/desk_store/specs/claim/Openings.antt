@@ -2,8 +2,7 @@
 use Rattle.std.specs.Prelude.{Result, Ok, Err}
 use Rattle.sector_device.specs.declared.SectorDevice.{Ghosts}
 use Rattle.page_store.specs.claim.Transactions.{device_in}
-use Rattle.desk_store.specs.claim.Clerks.{pages_of}
-use Rattle.desk_store.specs.declared.clerk.Clerk.{Clerk}
+use Rattle.desk_store.specs.{claim.Clerks.pages_of, declared.clerk.Clerk.Clerk}
 use Rattle.desk_pages.specs.declared.error.StoreError.{StoreError}
 
 abbrev pub device_after : {D : Type 0} {g : Ghosts D} → Result (Clerk D g) (StoreError × D) → D

@@ -1,11 +1,8 @@
 -- A journal as the layers above see it.
 use Rattle.std.specs.Prelude.{◌≡◌, ◌≤◌, ◌<◌, ℕ, Bool, true, false, Result, Ok, Err}
-use Rattle.sector_device.specs.claim.Disk.{Disk, Image}
-use Rattle.sector_device.specs.declared.SectorDevice.{Ghosts}
-use Rattle.gate_journal.specs.claim.Store.{pages, Opens}
-use Rattle.gate_journal.specs.declared.journal.Journal.{Journal}
-use Rattle.gate_journal.specs.declared.error.PageError.{PageError}
-use Rattle.gate_journal.specs.declared.error.PageError.TheVariants.{NotAStore, DeviceFault, Halted, TooManyPages, TooSmall, NoPages, Memory}
+use Rattle.sector_device.specs.{claim.Disk.{Disk, Image}, declared.SectorDevice.Ghosts}
+use Rattle.gate_journal.specs.{claim.Store.{pages, Opens}, declared.journal.Journal.Journal, declared.error.PageError.PageError}
+use Rattle.gate_journal.specs.declared.error.PageError.TheVariants.{DeviceFault, Halted, TooManyPages}
 
 module _ {D : Type 0} {g : Ghosts D} where
   -- the device, and the disk in it
@@ -49,21 +46,14 @@ module _ {D : Type 0} {g : Ghosts D} where
   abbrev pub ReadErr : Journal D g → Journal D g → PageError → Type 0
   ReadErr old new DeviceFault = HasHalted old new
   ReadErr old new Halted = (old.halted ≡ true) × (new ≡ old)
-  ReadErr old new NotAStore = ⊥
-  ReadErr old new TooManyPages = ⊥
-  ReadErr old new TooSmall = ⊥
-  ReadErr old new NoPages = ⊥
-  ReadErr old new Memory = ⊥
+  ReadErr old new _ = ⊥
 
   -- why so many pages are not committed
   abbrev pub CommitErr : ℕ → Journal D g → Journal D g → PageError → Type 0
   CommitErr n old new DeviceFault = HasHalted old new × (n ≤ old.layout.journal_pages)
   CommitErr n old new Halted = (old.halted ≡ true) × (new ≡ old)
   CommitErr n old new TooManyPages = (old.halted ≡ false) × (old.layout.journal_pages < n) × (new ≡ old)
-  CommitErr n old new NotAStore = ⊥
-  CommitErr n old new TooSmall = ⊥
-  CommitErr n old new NoPages = ⊥
-  CommitErr n old new Memory = ⊥
+  CommitErr n old new _ = ⊥
 
   -- the device after an opening, in the journal or handed back
   abbrev pub device_after : Result (Journal D g) (PageError × D) → D

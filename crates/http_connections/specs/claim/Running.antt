@@ -1,7 +1,6 @@
 -- What a run over many streams counts.
 use Rattle.std.specs.Prelude.{ℕ, ◌+◌, ◌-◌, ◌^◌, min, Option, Some, None, Result, Ok, Err}
-use Rattle.http_desk.specs.declared.serve.Served.{Served}
-use Rattle.http_desk.specs.declared.serve.StreamFault.{StreamFault}
+use Rattle.http_desk.specs.{declared.serve.Served.Served, declared.serve.StreamFault.StreamFault}
 use Rattle.http_connections.specs.declared.ran.Ran.{Ran}
 
 -- the numbers stay at the greatest u64

@@ -1,19 +1,13 @@
 -- Answers: what each says, and their bytes.
 use Rattle.std.specs.Prelude.{◌≡◌, ◌⊎◌, ◌||◌, ℕ, Bool, true, false, List, Option, Some, None, option_map, codes, ⊤}
-use Rattle.desk_model.specs.declared.reply.Reply.{Reply}
+use Rattle.desk_model.specs.{declared.reply.Reply.Reply, declared.reply.Refusal.Refusal}
+use Rattle.desk_model.specs.declared.reply.Refusal.TheVariants.{NoPlan, NoRevision, PlanExists, Stale, BadBody, NotWholeCounty, BadCompanion, Limit, Full, Memory, Halted, NotSealed}
 use Rattle.desk_model.specs.declared.reply.Reply.TheVariants as reply
-use Rattle.desk_model.specs.declared.reply.Refusal.{Refusal}
-use Rattle.desk_model.specs.declared.reply.Refusal.TheVariants.{NoPlan, NoRevision, PlanExists, Stale, BadBody, NotWholeCounty}
-use Rattle.desk_model.specs.declared.reply.Refusal.TheVariants.{BadCompanion, Limit, Full, Memory, Halted, NotSealed}
 use Rattle.http_intake.specs.declared.bad_request.BadRequest.{BadRequest}
 use Rattle.http_intake.specs.declared.bad_request.BadRequest.TheVariants as fault
-use Rattle.http_wire.specs.declared.response.ContentType.{ContentType}
-use Rattle.http_wire.specs.declared.response.ContentType.TheVariants.{Json, PlainText}
-use Rattle.http_wire.specs.claim.Answer.{answer_text}
-use Rattle.http_routes.specs.declared.order.Error.{Error}
+use Rattle.http_wire.specs.{declared.response.ContentType.ContentType, declared.response.ContentType.TheVariants.{Json, PlainText}, claim.Answer.answer_text}
+use Rattle.http_routes.specs.{declared.order.Error.Error, declared.method.Methods.Methods, claim.Methods.methods_text}
 use Rattle.http_routes.specs.declared.order.Error.TheVariants as error
-use Rattle.http_routes.specs.declared.method.Methods.{Methods}
-use Rattle.http_routes.specs.claim.Methods.{methods_text}
 use Rattle.http_desk.specs.claim.Bodies.{plans_body, created_body, retired_body, error_body, refusal_body}
 
 -- what an answer says, whichever request it is for
@@ -143,12 +137,7 @@ fault_message f = saying (fault_status f) Json (error_body (fault_name f))
 -- the short ones have room that was made first
 abbrev pub MayStarve : Reply → Type 0
 MayStarve (reply.Plans rows) = ⊤
-MayStarve (reply.Created name revisions) = ⊥
-MayStarve (reply.Retired name) = ⊥
-MayStarve (reply.Blocks text) = ⊥
-MayStarve (reply.Baf text) = ⊥
-MayStarve (reply.Audited text) = ⊥
-MayStarve (reply.Refused refusal) = ⊥
+MayStarve _ = ⊥
 
 -- an answer to a reply, for a request that asks to close or not: its own, or that memory is wanting
 abbrev pub Tells : Reply → (closing head_only : Bool) → (text : List ℕ) → (shut : Bool) → Type 0

@@ -1,6 +1,5 @@
 -- Which commands the bytes of a stream ask for.
-use Rattle.std.specs.Prelude.{◌≡◌, ℕ, List, [], ◌++◌, Option}
-use Rattle.std.specs.Io.KnownBytes.{Consumes}
+use Rattle.std.specs.{Prelude.{◌≡◌, ℕ, List, [], ◌++◌, Option}, Io.KnownBytes.Consumes}
 use Rattle.desk_model.specs.declared.command.Command.{Command}
 use Rattle.httparse.specs.Grammar.{RequestHead}
 use Rattle.http_wire.specs.claim.Prefix.{HasRequest}

@@ -2,10 +2,8 @@
 use Rattle.std.specs.Prelude.{◌≡◌, ◌≢◌, ◌⊎◌, ℕ, ◌+◌, ◌<◌, ◌≤◌, List, [], ◌∷◌, ◌++◌, length, take}
 use Rattle.httparse.specs.Grammar.{LineEnd, Field, ReadsSection, HasNoSection, NeverHasSection, MayBecomeSection, print_section, ChunkLine, ReadsChunkLine, HasNoChunkLine, NeverHasChunkLine, MayBecomeChunkLine, print_chunk_line, chunk_size}
 use Rattle.httparse.specs.Spans.{SectionOverflows}
-use Rattle.http_intake.specs.claim.Lines.{section_lines}
-use Rattle.http_intake.specs.claim.Limits.{head_limit, field_limit, body_limit, window}
-use Rattle.http_intake.specs.declared.bad_request.BadRequest.{BadRequest}
-use Rattle.http_intake.specs.declared.bad_request.BadRequest.TheVariants.{BadHead, HeadTooLarge, BadHost, BadLength, BadCoding, BodyTooLarge, BadTarget, BadChunk}
+use Rattle.http_intake.specs.{claim.Lines.section_lines, claim.Limits.{head_limit, field_limit, body_limit, window}, declared.bad_request.BadRequest.BadRequest}
+use Rattle.http_intake.specs.declared.bad_request.BadRequest.TheVariants.{BadHead, HeadTooLarge, BodyTooLarge, BadChunk}
 
 -- a chunk's line has this many bytes at most, its CR LF among them
 abbrev pub line_limit : ℕ
@@ -73,12 +71,7 @@ pub record AreTooLong (input : List ℕ) : Type 0 where
 abbrev pub RefusesTrailers : List ℕ → BadRequest → Type 0
 RefusesTrailers input BadHead = NeverHasSection (window input)
 RefusesTrailers input HeadTooLarge = AreTooLong input ⊎ HasTooManyTrailers input
-RefusesTrailers input BadHost = ⊥
-RefusesTrailers input BadLength = ⊥
-RefusesTrailers input BadCoding = ⊥
-RefusesTrailers input BodyTooLarge = ⊥
-RefusesTrailers input BadTarget = ⊥
-RefusesTrailers input BadChunk = ⊥
+RefusesTrailers input _ = ⊥
 
 -- the line of a chunk with data that the body has room for
 pub record HasDataLine (n : ℕ) (input : List ℕ) (l : ChunkLine) (rest : List ℕ) : Type 0 where

@@ -1,9 +1,6 @@
 -- The methods that pages take.
-use Rattle.std.specs.Prelude.{ℕ, Bool, ◌||◌, List, codes}
-use Rattle.std.specs.Str.{bytes_eq}
-use Rattle.http_routes.specs.declared.method.Methods.{Methods}
-use Rattle.http_routes.specs.declared.method.Methods.TheVariants.{Look, Make, Post}
-use Rattle.http_routes.specs.declared.route.Route.{Route}
+use Rattle.std.specs.{Prelude.{ℕ, Bool, ◌||◌, List, codes}, Str.bytes_eq}
+use Rattle.http_routes.specs.{declared.method.Methods.Methods, declared.method.Methods.TheVariants.{Look, Make, Post}, declared.route.Route.Route}
 use Rattle.http_routes.specs.declared.route.Route.TheVariants as route
 
 -- the method is the word; case matters (RFC 9110, section 9.1)

@@ -2,15 +2,9 @@
 -- counts there.
 use Rattle.std.specs.Prelude.{◌≡◌, ◌+◌, List, [], ◌∷◌, ◌++◌}
 use mathlib.Core.List.{IsPrefix}
-use Rattle.desk_model.specs.declared.command.Command.{Command}
-use Rattle.desk_model.specs.declared.command.Query.{Query}
-use Rattle.desk_model.specs.declared.reply.Reply.{Reply}
-use Rattle.desk_model.specs.claim.Desk.{Desk}
-use Rattle.desk_model.specs.claim.Outcome.{IsAcceptance}
+use Rattle.desk_model.specs.{declared.command.Command.Command, declared.command.Query.Query, declared.reply.Reply.Reply, claim.Desk.Desk, claim.Outcome.IsAcceptance}
 use Rattle.desk_catalogue.specs.claim.Audits.{AskMay}
-use Rattle.desk_gallery.specs.claim.After.{after}
-use Rattle.desk_gallery.specs.claim.Outcomes.{OutcomeMay}
-use Rattle.desk_gallery.specs.claim.Telling.{accepted_in, halted_in}
+use Rattle.desk_gallery.specs.{claim.After.after, claim.Outcomes.OutcomeMay, claim.Telling.{accepted_in, halted_in}}
 use Rattle.http_seats.specs.claim.Seated.{Seated}
 
 -- The answer is that after a list that begins with all that was heard of before, and all of it is heard of then. No command is done.

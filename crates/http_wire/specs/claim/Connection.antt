@@ -1,6 +1,5 @@
 -- What the words of a list in a field say.
-use Rattle.std.specs.Prelude.{ℕ, Bool, false, ◌||◌, ◌&&◌, ◌==◌, List, [], ◌∷◌, codes}
-use Rattle.std.specs.List.{list_any, slice_split}
+use Rattle.std.specs.{Prelude.{ℕ, Bool, false, ◌||◌, ◌&&◌, ◌==◌, List, [], ◌∷◌, codes}, List.{list_any, slice_split}}
 use Rattle.httparse.specs.Grammar.{trim_ows}
 use Rattle.http_wire.specs.claim.Target.{is_word}
 

@@ -1,14 +1,8 @@
 -- The interim answer that asks for a body (RFC 9110, sections 10.1.1 and 15.2.1).
-use Rattle.std.specs.Prelude.{◌≡◌, ◌⊎◌, ℕ, ◌==◌, Bool, true, false, not, ◌&&◌, if◌then◌else◌, List, [], ◌++◌, map, All, Result, Ok, Err, codes}
-use Rattle.std.specs.List.{list_any}
-use Rattle.httparse.specs.Grammar.{RequestHead}
-use Rattle.httparse.specs.Spans.{name_and_value}
-use Rattle.http_wire.specs.claim.Target.{is_word}
-use Rattle.http_wire.specs.declared.head.Framing.{Framing}
-use Rattle.http_wire.specs.declared.head.Framing.TheVariants.{Sized, Chunked}
-use Rattle.http_intake.specs.declared.bad_request.BadRequest.{BadRequest}
-use Rattle.http_intake.specs.claim.Lines.{IsWithinLine}
-use Rattle.http_wire.specs.claim.Prefix.{HasHead, IsOpen, judged_head}
+use Rattle.std.specs.{Prelude.{◌≡◌, ◌⊎◌, ℕ, ◌==◌, Bool, true, false, not, ◌&&◌, if◌then◌else◌, List, [], ◌++◌, map, All, Result, Ok, Err, codes}, List.list_any}
+use Rattle.httparse.specs.{Grammar.RequestHead, Spans.name_and_value}
+use Rattle.http_wire.specs.{claim.Target.is_word, declared.head.Framing.Framing, declared.head.Framing.TheVariants.{Sized, Chunked}, claim.Prefix.{HasHead, IsOpen, judged_head}}
+use Rattle.http_intake.specs.{declared.bad_request.BadRequest.BadRequest, claim.Lines.IsWithinLine}
 
 abbrev pub continue_line : List ℕ
 continue_line = codes "HTTP/1.1 100 Continue\r\n\r\n"

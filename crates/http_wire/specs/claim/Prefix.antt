@@ -1,19 +1,13 @@
 -- What stands at the start of the input: a request, a fault, or not enough to tell (RFC 9112, sections 2 to 6).
 use Rattle.std.specs.Prelude.{◌≡◌, ℕ, ◌+◌, ◌-◌, ◌*◌, ◌<◌, ◌≤◌, ◌⊎◌, Bool, false, not, ◌&&◌, ◌||◌, if◌then◌else◌, ◌==◌, nat_lt, nat_le, List, [], ◌∷◌, ◌++◌, map, length, Option, Some, None, Result, Ok, Err, codes, fold}
-use Rattle.std.specs.List.{filter_map, flat_map, list_all}
-use Rattle.std.specs.Char.{is_ascii_digit}
-use Rattle.std.specs.Str.{bytes_eq}
+use Rattle.std.specs.{List.{filter_map, flat_map, list_all}, Char.is_ascii_digit, Str.bytes_eq}
 use Rattle.httparse.specs.Grammar.{RequestHead, ReadsRequest, NeverHasRequest, HasNoRequest, MayBecomeRequest, EndsInTarget, print_request}
 use Rattle.httparse.specs.Spans.{name_and_value, RequestOverflows}
-use Rattle.http_intake.specs.claim.Lines.{head_lines}
-use Rattle.http_intake.specs.claim.Limits.{head_limit, field_limit, body_limit, window}
-use Rattle.http_wire.specs.claim.Target.{is_word, target_of}
-use Rattle.http_wire.specs.claim.Connection.{asks_to_close, parts, ends_in}
-use Rattle.http_intake.specs.claim.Chunks.{HasChunks, LacksChunks, HasChunkFault}
-use Rattle.http_wire.specs.declared.head.Framing.{Framing}
-use Rattle.http_wire.specs.declared.head.Framing.TheVariants.{Sized, Chunked}
+use Rattle.http_intake.specs.{claim.Lines.head_lines, claim.Limits.{head_limit, field_limit, body_limit, window}, claim.Chunks.{HasChunks, LacksChunks, HasChunkFault}}
 use Rattle.http_intake.specs.declared.bad_request.BadRequest.{BadRequest}
-use Rattle.http_intake.specs.declared.bad_request.BadRequest.TheVariants.{BadHead, HeadTooLarge, BadHost, BadLength, BadCoding, BodyTooLarge, BadTarget, BadChunk}
+use Rattle.http_intake.specs.declared.bad_request.BadRequest.TheVariants.{BadHead, HeadTooLarge, BadHost, BadLength, BadCoding, BodyTooLarge, BadTarget}
+use Rattle.http_wire.specs.{claim.Target.{is_word, target_of}, claim.Connection.{asks_to_close, parts, ends_in}, declared.head.Framing.Framing}
+use Rattle.http_wire.specs.declared.head.Framing.TheVariants.{Sized, Chunked}
 
 -- a field's value, if it has that name
 abbrev pub named_value : List ℕ → List ℕ × List ℕ → Option (List ℕ)
@@ -137,12 +131,7 @@ pub record IsNoHead (input : List ℕ) : Type 0 where
 abbrev pub RefusesBytes : List ℕ → BadRequest → Type 0
 RefusesBytes input BadHead = IsNoHead input
 RefusesBytes input HeadTooLarge = IsTooLong input ⊎ HasTooManyLines input
-RefusesBytes input BadHost = ⊥
-RefusesBytes input BadLength = ⊥
-RefusesBytes input BadCoding = ⊥
-RefusesBytes input BodyTooLarge = ⊥
-RefusesBytes input BadTarget = ⊥
-RefusesBytes input BadChunk = ⊥
+RefusesBytes input _ = ⊥
 
 -- a head stands at the start and says what has this fault; head_only tells whether the answer has no body
 pub record RefusesHead (input : List ℕ) (f : BadRequest) (head_only : Bool) : Type 0 where

@@ -1,14 +1,8 @@
 -- Why a call on a tree is refused.
-use Rattle.std.specs.Prelude.{◌≡◌, ◌<◌, ℕ, true}
-use Rattle.std.proofs.Common.{get_or}
-use Rattle.sector_device.specs.claim.Disk.{Image}
-use Rattle.sector_device.specs.declared.SectorDevice.{Ghosts}
-use Rattle.page_store.specs.claim.Transactions.{stored, disk_in, has_halted, HasFailed, txn_free, txn_root, over}
-use Rattle.page_store.specs.declared.pages.Pages.{Pages}
-use Rattle.page_store.specs.declared.txn.Txn.{Txn}
-use Rattle.page_btree.specs.claim.Keys.{KeyMap}
-use Rattle.page_btree.specs.claim.Map.{InTxn}
-use Rattle.page_btree.specs.declared.error.TreeError.{TreeError}
+use Rattle.std.{specs.Prelude.{◌≡◌, ◌<◌, ℕ, true}, proofs.Common.get_or}
+use Rattle.sector_device.specs.{claim.Disk.Image, declared.SectorDevice.Ghosts}
+use Rattle.page_store.specs.{claim.Transactions.{stored, disk_in, has_halted, HasFailed, txn_free, txn_root, over}, declared.pages.Pages.Pages, declared.txn.Txn.Txn}
+use Rattle.page_btree.specs.{claim.Keys.KeyMap, claim.Map.InTxn, declared.error.TreeError.TreeError}
 use Rattle.page_btree.specs.declared.error.TreeError.TheVariants.{DeviceFault, NotAStore, Halted, NoPages, TooDeep, Memory}
 
 -- the level of the node at the root
@@ -25,9 +19,7 @@ module _ {D : Type 0} {g : Ghosts D} where
   GetErr t old new DeviceFault = HasFailed old new
   GetErr t old new NotAStore = IsUnsound t old new
   GetErr t old new Halted = has_halted old ≡ true
-  GetErr t old new NoPages = ⊥
-  GetErr t old new TooDeep = ⊥
-  GetErr t old new Memory = ⊥
+  GetErr t old new _ = ⊥
 
   -- why a row isn't put: where fewer than six pages are free, or the tree has six levels
   abbrev pub PutErr : Txn → Pages D g → Pages D g → TreeError → Type 0
@@ -43,6 +35,5 @@ module _ {D : Type 0} {g : Ghosts D} where
   RemoveErr t old new DeviceFault = HasFailed old new
   RemoveErr t old new NotAStore = IsUnsound t old new
   RemoveErr t old new Halted = has_halted old ≡ true
-  RemoveErr t old new NoPages = ⊥
-  RemoveErr t old new TooDeep = ⊥
   RemoveErr t old new Memory = Unit {0}
+  RemoveErr t old new _ = ⊥

@@ -1,7 +1,5 @@
 -- Keys between bounds, and the map that a tree stands for.
-use Rattle.std.specs.Prelude.{◌≡◌, ℕ, List, false, Option, Some, None}
-use Rattle.std.specs.Ordering.{is_gt}
-use Rattle.std.specs.declared.cmp.Ordering.TheVariants.{Less}
+use Rattle.std.specs.{Prelude.{◌≡◌, ℕ, List, false, Option, Some, None}, Ordering.is_gt, declared.cmp.Ordering.TheVariants.Less}
 use Rattle.std.specs.FinMap as map_of
 use Rattle.page_node.specs.claim.Places.{key_cmp}
 

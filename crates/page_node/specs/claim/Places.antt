@@ -1,9 +1,5 @@
 -- Where a key stands among entries whose keys rise.
-use Rattle.std.specs.Prelude.{◌≡◌, ℕ, true, List}
-use Rattle.std.specs.Ordering.{nat_cmp}
-use Rattle.std.specs.Cmp.Lexicographic.{slice_cmp}
-use Rattle.std.specs.declared.cmp.Ordering.{Ordering}
-use Rattle.std.specs.FinMap.{is_sorted}
+use Rattle.std.specs.{Prelude.{◌≡◌, ℕ, true, List}, Ordering.nat_cmp, Cmp.Lexicographic.slice_cmp, declared.cmp.Ordering.Ordering, FinMap.is_sorted}
 use Rattle.page_node.specs.claim.Entries.{Entry}
 
 -- keys in the order of their bytes, a key before its longer continuations

@@ -1,16 +1,10 @@
 -- Pages and transactions over them, as the layers above see them.
 use Rattle.std.specs.Prelude.{◌≡◌, ◌≤◌, ◌<◌, ℕ, Bool, true, false, List, Result, Ok, Err, length}
-use Rattle.sector_device.specs.claim.Disk.{Disk, Image, Touches, Nowhere}
-use Rattle.sector_device.specs.declared.SectorDevice.{Ghosts}
-use Rattle.gate_journal.specs.claim.Store.{overlay}
-use Rattle.gate_journal.specs.claim.Writes.{writes_of}
+use Rattle.sector_device.specs.{claim.Disk.{Disk, Image, Touches, Nowhere}, declared.SectorDevice.Ghosts}
+use Rattle.gate_journal.specs.{claim.Store.overlay, claim.Writes.writes_of}
 use Rattle.gate_journal.specs.claim.Contents.{content, disk_of, device_of, page_count, journal_size, is_halted, HasShapeOf, HasHalted, IsKept as kept}
-use Rattle.page_store.specs.claim.Chain.{chain, AreFree}
-use Rattle.gate_journal.specs.declared.error.PageError.{PageError}
-use Rattle.gate_journal.specs.declared.error.PageError.TheVariants.{NotAStore, DeviceFault, Halted, TooManyPages, TooSmall, NoPages, Memory}
-use Rattle.page_store.specs.declared.pages.Pages.{Pages}
-use Rattle.page_store.specs.declared.txn.Txn.{Txn}
-use Rattle.page_store.specs.declared.txn.Prepared.{Prepared}
+use Rattle.gate_journal.specs.{declared.error.PageError.PageError, declared.error.PageError.TheVariants.{NotAStore, DeviceFault, Halted, TooManyPages, NoPages}}
+use Rattle.page_store.specs.{claim.Chain.{chain, AreFree}, declared.pages.Pages.Pages, declared.txn.Txn.Txn, declared.txn.Prepared.Prepared}
 
 -- ---- a transaction, over the pages P that are stored
 -- of how many pages the store is
@@ -95,11 +89,7 @@ module _ {D : Type 0} {g : Ghosts D} where
   abbrev pub ReadErr : Pages D g → Pages D g → PageError → Type 0
   ReadErr old new DeviceFault = HasHalted old.journal new.journal
   ReadErr old new Halted = is_halted old.journal ≡ true
-  ReadErr old new NotAStore = ⊥
-  ReadErr old new TooManyPages = ⊥
-  ReadErr old new TooSmall = ⊥
-  ReadErr old new NoPages = ⊥
-  ReadErr old new Memory = ⊥
+  ReadErr old new _ = ⊥
 
   abbrev pub device_after : Result (Pages D g) (PageError × D) → D
   device_after (Ok ps) = device_of ps.journal
@@ -111,19 +101,14 @@ module _ {D : Type 0} {g : Ghosts D} where
   TakeErr t old new DeviceFault = HasHalted old.journal new.journal
   TakeErr t old new Halted = is_halted old.journal ≡ true
   TakeErr t old new NotAStore = (disk_of new.journal).is_honest → AreFree t.pages (free_over t (content old.journal)) → ⊥
-  TakeErr t old new TooManyPages = ⊥
-  TakeErr t old new TooSmall = ⊥
-  TakeErr t old new Memory = ⊥
+  TakeErr t old new _ = ⊥
 
   -- why so many pages are not committed
   abbrev pub CommitErr : ℕ → Pages D g → Pages D g → PageError → Type 0
   CommitErr n old new DeviceFault = HasHalted old.journal new.journal × (n ≤ journal_size old.journal)
   CommitErr n old new Halted = (is_halted old.journal ≡ true) × (new.journal ≡ old.journal)
   CommitErr n old new TooManyPages = (is_halted old.journal ≡ false) × (journal_size old.journal < n) × (new.journal ≡ old.journal)
-  CommitErr n old new NotAStore = ⊥
-  CommitErr n old new TooSmall = ⊥
-  CommitErr n old new NoPages = ⊥
-  CommitErr n old new Memory = ⊥
+  CommitErr n old new _ = ⊥
 
   abbrev pub HasShape : Pages D g → Pages D g → Type 0
   HasShape old new = HasShapeOf old.journal new.journal

@@ -1,18 +1,9 @@
 -- The header and the segments together: 2020 Census PL 94-171 summary file, joined by LOGRECNO.
-use Rattle.std.specs.Prelude.{◌≡◌, ◌≢◌, ℕ, ◌<◌, ◌≤◌, ◌^◌, if◌then◌else◌, List, ◌++◌, map, sum_by, All, Contains, Option, Some, None, IsSome, IfSome, Result, Ok, Err, is_none, unwrap_or, ⊤}
-use Rattle.std.specs.Prelude.{Vec}
-use Rattle.std.specs.declared.alloc.Global.{Global}
-use Rattle.std.specs.List.Sorted.{IsPermutation}
-use Rattle.std.specs.Option.{option_map, option_to_list}
-use Rattle.desk_model.specs.claim.GeographyModels.{AreBlocks}
-use Rattle.desk_model.specs.declared.block.BlockRow.{BlockRow}
-use Rattle.pl94.specs.declared.geo.GeoRows.{GeoRows}
-use Rattle.pl94.specs.declared.header.GeoBlock.{GeoBlock}
-use Rattle.pl94.specs.claim.SegFile.{people_of}
-use Rattle.pl94.specs.declared.record.SegmentNumber.{SegmentNumber}
-use Rattle.pl94.specs.declared.record.SegmentNumber.TheVariants.{One, Two, Three}
-use Rattle.pl94.specs.declared.segment.SegRows.{SegRows}
-use Rattle.pl94.specs.declared.join.JoinFault.{JoinFault}
+use Rattle.std.specs.Prelude.{◌≡◌, ◌≢◌, ℕ, ◌<◌, ◌≤◌, ◌^◌, if◌then◌else◌, List, ◌++◌, map, sum_by, All, Contains, Option, Some, None, IsSome, IfSome, Result, Ok, Err, is_none, unwrap_or, ⊤, Vec}
+use Rattle.std.specs.{declared.alloc.Global.Global, List.Sorted.IsPermutation, Option.{option_map, option_to_list}}
+use Rattle.desk_model.specs.{claim.GeographyModels.AreBlocks, declared.block.BlockRow.BlockRow}
+use Rattle.pl94.specs.{declared.geo.GeoRows.GeoRows, declared.header.GeoBlock.GeoBlock, claim.SegFile.people_of, declared.record.SegmentNumber.SegmentNumber}
+use Rattle.pl94.specs.{declared.record.SegmentNumber.TheVariants.{One, Two, Three}, declared.segment.SegRows.SegRows, declared.join.JoinFault.JoinFault}
 use Rattle.pl94.specs.declared.join.JoinFault.TheVariants.{Missing, TooManyPeople, OtherTotal, Memory}
 
 -- the record numbers of all taken records

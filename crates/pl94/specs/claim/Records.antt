@@ -1,17 +1,9 @@
 -- The records of a segment: 2020 Census PL 94-171 summary file, fields of segments 1 to 3.
-use Rattle.std.specs.Prelude.{ℕ, ◌-◌, Bool, not, ◌||◌, if◌then◌else◌, ◌==◌, nat_lt, List, []}
-use Rattle.std.specs.Prelude.{◌∷◌, length, get_or, Option, Some, None, Result, Ok, Err}
-use Rattle.std.specs.List.{list_any, filter_map}
-use Rattle.std.specs.Result.{result_ok}
-use Rattle.byte_stream.specs.claim.Digits.{number_of}
-use Rattle.byte_stream.specs.claim.Fields.{fields}
-use Rattle.byte_stream.specs.claim.Judged.{Judge}
-use Rattle.byte_stream.specs.claim.Reading.{line_limit}
-use Rattle.pl94.specs.declared.record.SegmentNumber.{SegmentNumber}
-use Rattle.pl94.specs.declared.record.SegmentNumber.TheVariants.{One, Two, Three}
-use Rattle.pl94.specs.declared.record.SegmentLineFault.{SegmentLineFault}
-use Rattle.pl94.specs.declared.record.SegmentLineFault.TheVariants.{Shape, RecordNumber, People, RepeatedRecord}
-use Rattle.pl94.specs.declared.record.SegRecord.{SegRecord}
+use Rattle.std.specs.Prelude.{ℕ, ◌-◌, Bool, not, ◌||◌, if◌then◌else◌, ◌==◌, nat_lt, List, [], ◌∷◌, length, get_or, Option, Some, None, Result, Ok, Err}
+use Rattle.std.specs.{List.{list_any, filter_map}, Result.result_ok}
+use Rattle.byte_stream.specs.{claim.Digits.number_of, claim.Fields.fields, claim.Judged.Judge, claim.Reading.line_limit}
+use Rattle.pl94.specs.{declared.record.SegmentNumber.SegmentNumber, declared.record.SegmentNumber.TheVariants.{One, Two, Three}, declared.record.SegmentLineFault.SegmentLineFault}
+use Rattle.pl94.specs.{declared.record.SegmentLineFault.TheVariants.{Shape, RecordNumber, People, RepeatedRecord}, declared.record.SegRecord.SegRecord}
 
 abbrev pub part_number : SegmentNumber → ℕ
 part_number One = 1

@@ -1,15 +1,8 @@
 -- A segment as a whole: which texts are segments, and what they say.
-use Rattle.std.specs.Prelude.{◌≡◌, ℕ, ◌-◌, List, get_or, if◌then◌else◌, nat_lt, Option, Some, None, Result, Ok, Err, ⊤}
-use Rattle.std.specs.BTreeMap.{get}
-use Rattle.std.specs.Ordering.{nat_cmp}
-use Rattle.std.specs.Io.KnownBytes.{IsAtEnd}
+use Rattle.std.specs.{Prelude.{◌≡◌, ℕ, ◌-◌, List, get_or, if◌then◌else◌, nat_lt, Option, Some, None, Result, Ok, Err, ⊤}, BTreeMap.get, Ordering.nat_cmp, Io.KnownBytes.IsAtEnd}
 use Rattle.std.specs.Str.Lines.{lines}
-use Rattle.byte_stream.specs.claim.Counts.{counted}
-use Rattle.byte_stream.specs.claim.Judged.{AreGood, ShowsFault, IsCutShort}
-use Rattle.pl94.specs.claim.Records.{people_at, records, judge}
-use Rattle.pl94.specs.declared.record.SegmentNumber.{SegmentNumber}
-use Rattle.pl94.specs.declared.segment.SegRows.{SegRows}
-use Rattle.pl94.specs.declared.segment.SegFault.{SegFault}
+use Rattle.byte_stream.specs.{claim.Counts.counted, claim.Judged.{AreGood, ShowsFault, IsCutShort}}
+use Rattle.pl94.specs.{claim.Records.{people_at, records, judge}, declared.record.SegmentNumber.SegmentNumber, declared.segment.SegRows.SegRows, declared.segment.SegFault.SegFault}
 use Rattle.pl94.specs.declared.segment.SegFault.TheVariants as fault
 
 -- the people of a number in the run

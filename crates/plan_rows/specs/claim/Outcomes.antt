@@ -1,22 +1,12 @@
 -- What became of a change of plans, and why it was refused.
-use Rattle.std.specs.Prelude.{◌≡◌, ◌<◌, ◌≤◌, ◌+◌, ℕ, List, true}
-use Rattle.std.specs.FinMap.{remove}
+use Rattle.std.specs.{Prelude.{◌≡◌, ◌<◌, ◌≤◌, ◌+◌, ℕ, List, true}, FinMap.remove}
 use Rattle.sector_device.specs.declared.SectorDevice.{Ghosts}
-use Rattle.page_store.specs.claim.Transactions.{stored, disk_in, has_halted, txn_pages, txn_free, txn_writes, HasFailed, Passed}
-use Rattle.page_store.specs.declared.pages.Pages.{Pages}
-use Rattle.page_store.specs.declared.txn.Txn.{Txn}
-use Rattle.page_btree.specs.claim.Map.{InTxn}
-use Rattle.page_btree.specs.claim.Errors.{IsUnsound}
-use Rattle.page_btree.specs.declared.error.TreeError.{TreeError}
+use Rattle.page_store.specs.{claim.Transactions.{stored, disk_in, has_halted, txn_pages, txn_free, txn_writes, HasFailed, Passed}, declared.pages.Pages.Pages, declared.txn.Txn.Txn}
+use Rattle.page_btree.specs.{claim.Map.InTxn, claim.Errors.IsUnsound, declared.error.TreeError.TreeError}
 use Rattle.page_btree.specs.declared.error.TreeError.TheVariants.{DeviceFault, NotAStore, Halted, NoPages, TooDeep, Memory}
-use Rattle.store_rows.specs.claim.Keys.{key_of, named}
-use Rattle.store_rows.specs.declared.value.Counters.{Counters}
-use Rattle.store_rows.specs.claim.Rows.{KeyMap}
-use Rattle.store_rows.specs.claim.Puts.{Row}
-use Rattle.store_rows.specs.claim.Tidy.{IsNext, CountersFit}
+use Rattle.store_rows.specs.{claim.Keys.{key_of, named}, declared.value.Counters.Counters, claim.Rows.KeyMap, claim.Puts.Row, claim.Tidy.{IsNext, CountersFit}}
 use Rattle.desk_pages.specs.claim.Puts.{HasPut, HasDeepened}
-use Rattle.plan_rows.specs.claim.PlanRows.{retired_rows, retired_map}
-use Rattle.plan_rows.specs.declared.change.ChangeOutcome.{ChangeOutcome}
+use Rattle.plan_rows.specs.{claim.PlanRows.{retired_rows, retired_map}, declared.change.ChangeOutcome.ChangeOutcome}
 use Rattle.plan_rows.specs.declared.change.ChangeOutcome.TheVariants.{Made, NumbersExhausted}
 
 module _ {D : Type 0} {g : Ghosts D} where

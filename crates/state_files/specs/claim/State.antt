@@ -1,27 +1,15 @@
 -- What the census files of a state come to: each file is read and judged in turn, and the first fault ends it.
-use Rattle.std.specs.Prelude.{◌≡◌, ◌⊎◌, ℕ, ◌<◌, List, Result, Ok, Err, Vec}
-use Rattle.std.specs.declared.alloc.Global.{Global}
-use Rattle.std.specs.Io.KnownBytes.{Consumes}
-use Rattle.byte_stream.specs.claim.Counts.{counted}
-use Rattle.byte_stream.specs.claim.Reading.{turn_limit}
+use Rattle.std.specs.{Prelude.{◌≡◌, ◌⊎◌, ℕ, ◌<◌, List, Result, Ok, Err, Vec}, declared.alloc.Global.Global, Io.KnownBytes.Consumes}
+use Rattle.byte_stream.specs.{claim.Counts.counted, claim.Reading.turn_limit}
 use Rattle.desk_model.specs.declared.block.BlockRow.{BlockRow}
-use Rattle.pl94.specs.claim.GeoFile.{IsRead as IsHeaderRead, failures_after_file as failures_after_header}
-use Rattle.pl94.specs.declared.geo.GeoRows.{GeoRows}
-use Rattle.pl94.specs.declared.geo.GeoFault.{GeoFault}
-use Rattle.pl94.specs.declared.geo.GeoFault.TheVariants as geo
-use Rattle.pl94.specs.claim.Join.{IsJoined}
-use Rattle.pl94.specs.claim.SegFile.{IsRead as IsSegmentRead, failures_after_file as failures_after_segment}
-use Rattle.pl94.specs.declared.record.SegmentNumber.{SegmentNumber}
-use Rattle.pl94.specs.declared.record.SegmentNumber.TheVariants.{One, Two, Three}
-use Rattle.pl94.specs.declared.segment.SegRows.{SegRows}
-use Rattle.pl94.specs.declared.segment.SegFault.{SegFault}
-use Rattle.pl94.specs.declared.segment.SegFault.TheVariants as segment
+use Rattle.pl94.specs.{claim.GeoFile.{IsRead as IsHeaderRead, failures_after_file as failures_after_header}, declared.geo.GeoRows.GeoRows, declared.geo.GeoFault.GeoFault}
+use Rattle.pl94.specs.{claim.Join.IsJoined, claim.SegFile.{IsRead as IsSegmentRead, failures_after_file as failures_after_segment}, declared.record.SegmentNumber.SegmentNumber}
+use Rattle.pl94.specs.{declared.record.SegmentNumber.TheVariants.{One, Two, Three}, declared.segment.SegRows.SegRows, declared.segment.SegFault.SegFault}
 use Rattle.pl94.specs.declared.join.JoinFault.{JoinFault}
-use Rattle.state_files.specs.claim.Opening.{File, Opening, Census}
-use Rattle.state_files.specs.declared.census.CensusFiles.{CensusFiles}
-use Rattle.state_files.specs.declared.fault.OpenFault.{OpenFault}
-use Rattle.state_files.specs.declared.fault.FileFault.{FileFault}
-use Rattle.state_files.specs.declared.fault.FileFault.TheVariants.{NoHeader, Header, NoSegment, Segment, Join}
+use Rattle.pl94.specs.declared.geo.GeoFault.TheVariants as geo
+use Rattle.pl94.specs.declared.segment.SegFault.TheVariants as segment
+use Rattle.state_files.specs.{claim.Opening.{File, Opening, Census}, declared.census.CensusFiles.CensusFiles, declared.fault.OpenFault.OpenFault}
+use Rattle.state_files.specs.{declared.fault.FileFault.FileFault, declared.fault.FileFault.TheVariants.{NoHeader, Header, NoSegment, Segment, Join}}
 
 -- what a fault or a success of the header is among all files
 abbrev pub header_outcome : Result GeoRows GeoFault → Result GeoRows FileFault
@@ -70,12 +58,12 @@ Joins header first second third outcome = (joined : Result (Vec BlockRow Global)
     × IsJoined header first second third joined × (outcome ≡ join_outcome joined)
 
 -- the next step goes on from what this one gave; its fault ends all, and the files that come after it stay as they are
-abbrev pub GoesOn : {A B : Type 0} → Result A FileFault → Type 0 → (A → Result B FileFault → Type 0) → Result B FileFault → Type 0
-GoesOn (Ok value) kept next outcome = next value outcome
-GoesOn (Err fault) kept next outcome = kept × (outcome ≡ Err fault)
+abbrev pub ThenReads : {A B : Type 0} → Result A FileFault → Type 0 → (A → Result B FileFault → Type 0) → Result B FileFault → Type 0
+ThenReads (Ok value) kept next outcome = next value outcome
+ThenReads (Err fault) kept next outcome = kept × (outcome ≡ Err fault)
 
 abbrev pub Then : {A B : Type 0} → (Result A FileFault → Type 0) → Type 0 → (A → Result B FileFault → Type 0) → Result B FileFault → Type 0
-Then {A} {B} step kept next outcome = (given : Result A FileFault) × step given × GoesOn given kept next outcome
+Then {A} {B} step kept next outcome = (given : Result A FileFault) × step given × ThenReads given kept next outcome
 
 -- no file comes after it
 abbrev pub NoFile : Type 0

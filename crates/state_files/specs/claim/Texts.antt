@@ -1,19 +1,14 @@
 -- How a fault is shown: its file, the fault's code, and what it carries.
 use Rattle.std.specs.Prelude.{ℕ, List, ◌++◌, codes, decimal}
 use Rattle.desk_model.specs.claim.Baf.{fault_code}
-use Rattle.pl94.specs.claim.GeoTexts.{header_text}
-use Rattle.pl94.specs.claim.SegmentTexts.{segment_text, join_text}
-use Rattle.pl94.specs.declared.record.SegmentNumber.{SegmentNumber}
+use Rattle.pl94.specs.{claim.GeoTexts.header_text, claim.SegmentTexts.{segment_text, join_text}, declared.record.SegmentNumber.SegmentNumber}
 use Rattle.pl94.specs.declared.record.SegmentNumber.TheVariants.{One, Two, Three}
 use Rattle.gal_text.specs.claim.Texts.{gal_fault_text}
-use Rattle.state_files.specs.declared.fault.OpenFault.{OpenFault}
-use Rattle.state_files.specs.declared.fault.OpenFault.TheVariants as opening
-use Rattle.state_files.specs.declared.fault.PlanFile.{PlanFile}
-use Rattle.state_files.specs.declared.fault.PlanFile.TheVariants as file
-use Rattle.state_files.specs.declared.fault.PlanFault.{PlanFault}
-use Rattle.state_files.specs.declared.fault.PlanFault.TheVariants as plan
-use Rattle.state_files.specs.declared.fault.FileFault.{FileFault}
+use Rattle.state_files.specs.{declared.fault.OpenFault.OpenFault, declared.fault.PlanFile.PlanFile, declared.fault.PlanFault.PlanFault, declared.fault.FileFault.FileFault}
 use Rattle.state_files.specs.declared.fault.FileFault.TheVariants.{NoHeader, Header, NoSegment, Segment, Join, NoGal, Gal, Plan}
+use Rattle.state_files.specs.declared.fault.OpenFault.TheVariants as opening
+use Rattle.state_files.specs.declared.fault.PlanFile.TheVariants as file
+use Rattle.state_files.specs.declared.fault.PlanFault.TheVariants as plan
 
 abbrev pub open_text : OpenFault → List ℕ
 open_text opening.Unreadable = codes "Unreadable"

@@ -1,20 +1,12 @@
 -- Lives of a store, as those see them who ask it: what they asked, and what they were told.
-use Rattle.std.specs.Prelude.{◌≡◌, ◌⊎◌, ◌≤◌, ◌<◌, ℕ, List, [], ◌∷◌, Option, Some, None, Result, Ok, Err, Vec, ⊤}
-use Rattle.std.specs.declared.alloc.Global.{Global}
+use Rattle.std.specs.{Prelude.{◌≡◌, ◌⊎◌, ◌≤◌, ◌<◌, ℕ, List, [], ◌∷◌, Option, Some, None, Result, Ok, Err, Vec, ⊤}, declared.alloc.Global.Global}
 use Rattle.std.specs.FinMap as map_of
-use Rattle.desk_model.specs.declared.reply.Reply.{Reply}
-use Rattle.desk_model.specs.declared.reply.Reply.TheVariants.{Refused}
-use Rattle.desk_model.specs.declared.reply.Refusal.TheVariants.{Halted}
-use Rattle.desk_model.specs.claim.Geography.{GeographyModel}
-use Rattle.desk_model.specs.claim.Desk.{Desk}
-use Rattle.desk_model.specs.claim.Step.{step}
-use Rattle.desk_model.specs.claim.Outcome.{CommandMay}
+use Rattle.desk_model.specs.{declared.reply.Reply.Reply, declared.reply.Reply.TheVariants.Refused, declared.reply.Refusal.TheVariants.Halted, claim.Geography.GeographyModel}
+use Rattle.desk_model.specs.{claim.Desk.Desk, claim.Step.step, claim.Outcome.CommandMay}
 use Rattle.desk_catalogue.specs.claim.Audits.{AskMay}
 use Rattle.desk_pages.specs.declared.error.StoreError.TheVariants as store
 use Rattle.desk_pages.specs.declared.error.StoreError.{StoreError}
-use Rattle.store_lives.specs.declared.desk_lives.Request.{Request}
-use Rattle.store_lives.specs.declared.desk_lives.Request.TheVariants.{Change, Look, Load, Sweep}
-use Rattle.store_lives.specs.declared.desk_lives.Answer.{Answer}
+use Rattle.store_lives.specs.{declared.desk_lives.Request.Request, declared.desk_lives.Request.TheVariants.{Change, Look, Load, Sweep}, declared.desk_lives.Answer.Answer}
 use Rattle.store_lives.specs.declared.desk_lives.Answer.TheVariants.{Said, Loaded, Unloaded, Swept, Unswept}
 
 abbrev pub loaded_desk : GeographyModel → Desk
@@ -39,19 +31,13 @@ MayFail store.Halted d = ⊤
 MayFail _ d = ⊥
 
 abbrev pub IsUnloaded : Answer → Desk → Type 0
-IsUnloaded (Said r) d = ⊥
-IsUnloaded Loaded d = ⊥
 IsUnloaded (Unloaded why) d = MayFail why d
-IsUnloaded (Swept count) d = ⊥
-IsUnloaded (Unswept why) d = ⊥
+IsUnloaded _ d = ⊥
 
 -- a step of a sweep was not done
 abbrev pub IsUnswept : Answer → Type 0
-IsUnswept (Said r) = ⊥
-IsUnswept Loaded = ⊥
-IsUnswept (Unloaded why) = ⊥
-IsUnswept (Swept count) = ⊥
 IsUnswept (Unswept why) = ⊤
+IsUnswept _ = ⊥
 
 -- The device has failed, and the desk is still shown: each query is answered by it, and all else is refused.
 abbrev pub Failed : Desk → List Request → List Answer → Type 0

@@ -1,15 +1,8 @@
 -- The desk in a store.
 use Rattle.std.specs.Prelude.{◌≡◌, ◌<◌, ◌≤◌, ◌+◌, ◌^◌, ℕ, List, [], length, get_or, Option, Some, None}
 use Rattle.std.specs.FinMap as map_of
-use Rattle.desk_model.specs.claim.Geography.{GeographyModel}
-use Rattle.desk_model.specs.claim.Ranges.{cut}
-use Rattle.desk_model.specs.claim.Desk.{Desk, Plan}
-use Rattle.desk_model.specs.claim.Name.{IsPlanName}
-use Rattle.store_rows.specs.claim.Keys.{named}
-use Rattle.store_rows.specs.claim.Values.{plan_bytes}
-use Rattle.store_rows.specs.claim.Rows.{KeyMap, Has, Lacks}
-use Rattle.store_rows.specs.claim.GeographyRows.{IsGeography}
-use Rattle.store_rows.specs.claim.RevisionRows.{HasRevision}
+use Rattle.desk_model.specs.{claim.Geography.GeographyModel, claim.Ranges.cut, claim.Desk.{Desk, Plan}, claim.Name.IsPlanName}
+use Rattle.store_rows.specs.{claim.Keys.named, claim.Values.plan_bytes, claim.Rows.{KeyMap, Has, Lacks}, claim.GeographyRows.IsGeography, claim.RevisionRows.HasRevision}
 
 -- a desk keeps this many revisions of a plan at most
 abbrev pub most_revisions : ℕ

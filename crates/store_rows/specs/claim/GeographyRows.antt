@@ -1,12 +1,7 @@
 -- The geography in a store: the blocks and the pairs of one load, and the row that names that load.
 use Rattle.std.specs.Prelude.{◌≡◌, ◌<◌, ◌+◌, ◌-◌, ◌^◌, ℕ, List, length, take, All, IfSome, Option, Some, None}
-use Rattle.desk_model.specs.claim.Geography.{GeographyModel}
-use Rattle.desk_model.specs.claim.GeographyModels.{IsGeographyModel}
-use Rattle.desk_model.specs.declared.block.BlockRow.{BlockRow}
-use Rattle.desk_model.specs.declared.geography.Pair.{Pair}
-use Rattle.store_rows.specs.claim.Keys.{seal, block, pair}
-use Rattle.store_rows.specs.claim.Values.{seal_bytes, block_bytes, pair_bytes}
-use Rattle.store_rows.specs.claim.Rows.{KeyMap, row_in, Has, Lacks, element_row}
+use Rattle.desk_model.specs.{claim.Geography.GeographyModel, claim.GeographyModels.IsGeographyModel, declared.block.BlockRow.BlockRow, declared.geography.Pair.Pair}
+use Rattle.store_rows.specs.{claim.Keys.{seal, block, pair}, claim.Values.{seal_bytes, block_bytes, pair_bytes}, claim.Rows.{KeyMap, row_in, Has, Lacks, element_row}}
 
 -- the value of a pair of neighbours
 abbrev pub neighbours_bytes : Pair → List ℕ

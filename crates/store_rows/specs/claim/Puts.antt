@@ -1,6 +1,5 @@
 -- Rows that are put into a map one after the other.
-use Rattle.std.proofs.Common.{ℕ, List, [], ◌∷◌}
-use Rattle.std.specs.FinMap.{insert}
+use Rattle.std.{specs.FinMap.insert, proofs.Common.{ℕ, List, [], ◌∷◌}}
 use Rattle.store_rows.specs.claim.Rows.{KeyMap}
 
 -- a key and a value

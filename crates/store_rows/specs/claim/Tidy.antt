@@ -3,12 +3,8 @@
 use Rattle.std.specs.Prelude.{◌≡◌, ◌⊎◌, ◌<◌, ◌≤◌, ◌^◌, ℕ, Bool, true, false, Option, List, [], Some, None, Contains, MatchOption}
 use Rattle.std.specs.FinMap as map_of
 use Rattle.store_rows.specs.claim.Keys.{RowKey, key_of, Fits, counters, retired, begun, holding, named, part, seal, version, block, pair, chunk, in_four}
-use Rattle.store_rows.specs.claim.Values.{counters_bytes, plan_bytes, seal_bytes}
-use Rattle.store_rows.specs.claim.Lists.{chunks_bytes, districts_bytes, AreChunks, AreDistricts}
-use Rattle.store_rows.specs.declared.value.Counters.{Counters}
-use Rattle.store_rows.specs.declared.value.PlanRow.{PlanRow}
-use Rattle.store_rows.specs.declared.value.SealRow.{SealRow}
-use Rattle.store_rows.specs.claim.Rows.{KeyMap, row_in, Has}
+use Rattle.store_rows.specs.{claim.Values.{counters_bytes, plan_bytes, seal_bytes}, claim.Lists.{chunks_bytes, districts_bytes, AreChunks, AreDistricts}}
+use Rattle.store_rows.specs.{declared.value.Counters.Counters, declared.value.PlanRow.PlanRow, declared.value.SealRow.SealRow, claim.Rows.{KeyMap, row_in, Has}}
 use Rattle.store_rows.specs.claim.Holders.{IsHeld, AreTallied}
 
 -- before the first row of counters no number was given

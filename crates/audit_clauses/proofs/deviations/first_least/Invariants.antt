@@ -1,5 +1,4 @@
-use Rattle.std.proofs.Common.{nat_lt}
-use Rattle.std.specs.List.{IsFirstBest}
+use Rattle.std.{specs.List.IsFirstBest, proofs.Common.nat_lt}
 use Rattle.audit_clauses.proofs.deviations.first_least.Given as goal
 
 abbrev pub invariant-loop-i : goal.invariant-loop-i

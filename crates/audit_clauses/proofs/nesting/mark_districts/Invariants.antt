@@ -1,6 +1,5 @@
 use Rattle.std.proofs.Common.{length}
-use Rattle.audit_clauses.specs.claim.Nested.{IsIn}
-use Rattle.audit_clauses.specs.Marks.{AreMarks, one_part, value_at}
+use Rattle.audit_clauses.specs.{claim.Nested.IsIn, Marks.{AreMarks, one_part, value_at}}
 use Rattle.audit_clauses.proofs.nesting.mark_districts.Given as goal
 
 abbrev pub invariant-loop-i : goal.invariant-loop-i

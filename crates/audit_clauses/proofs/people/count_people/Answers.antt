@@ -1,4 +1,4 @@
-use Rattle.std.proofs.Common.{◌+◌, ◌-◌, length, get_or, take, sum_by, arith, ap, sym, ◌∙◌}
+use Rattle.std.proofs.Common.{◌+◌, ◌-◌, length, get_or, take, sum_by, arith, rules}
 use Rattle.std.proofs.lemmas.List.{take_all}
 use Rattle.std.proofs.lemmas.List.Sums.{sum_by_more}
 use Rattle.desk_model.specs.declared.block.BlockRow.{BlockRow}
@@ -7,10 +7,7 @@ use Rattle.audit_clauses.proofs.people.count_people.Goals as goal
 use Rattle.audit_clauses.proofs.people.count_people.Goals.{then-district-ge1+then-district-people, else-district-ge1, else-district-ge1-via-then-district-ge1+else-district-people, else-district-ge1-via-else-district-ge1}
 
 pub overflow_add-people : goal.overflow_add-people
-overflow_add-people c =
-    let place = get_or c.args.plan.now c.loop-i.i 0 - 1 in
-    let fit = people_fit c.args.blocks.now c.args.plan.now c.loop-i.i place c.index-blocks-i.result c.requires.beside (omega arith) c.index-blocks-i.is in
-    let is = c.loop-i.invariant.districts.sums place (omega arith) in omega (arith, fit, is, c.requires.blocks.people)
+overflow_add-people c = search (rules, c.requires.beside, c.loop-i.invariant.districts.sums, c.requires.blocks.people, people_fit)
 
 pub loop-i-preserved : goal.loop-i-preserved
 loop-i-preserved c =
@@ -31,13 +28,8 @@ loop-i-preserved c =
                   | else-district-ge1-via-else-district-ge1 w' ↦ absurd (omega arith)
                 ]))
           ];
-      state =
-          ap (λ n. n + row.population) c.loop-i.invariant.state ∙ ap (λ (b : BlockRow). before + b.population) c.index-blocks-i.is
-          ∙ sym (sum_by_more (λ (b : BlockRow). b.population) c.args.blocks.now c.loop-i.i row c.loop-i-test.true);
+      state = search (rules, c.loop-i.invariant.state, sum_by_more);
     }
 
 pub returns : goal.returns
-returns c = record {
-  districts = counted_all c.args.blocks.now c.args.plan.now c.loop-i.i _ c.loop-i.people c.requires.beside (omega arith) c.loop-i.invariant.districts;
-  state = c.loop-i.invariant.state ∙ ap (sum_by (λ (b : BlockRow). b.population)) (take_all c.loop-i.i c.args.blocks.now (omega arith));
-}
+returns c = search (rules, c.requires.beside, c.loop-i.invariant.districts, c.loop-i.invariant.state, counted_all, sum_by, take_all)

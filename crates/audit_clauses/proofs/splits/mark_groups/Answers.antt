@@ -1,15 +1,11 @@
-use Rattle.std.proofs.Common.{length, arith, sym, ◌∙◌}
-use Rattle.audit_clauses.specs.claim.Divided.{county_at, IsInCounty, IsInCity}
-use Rattle.audit_clauses.specs.Marks.{one_part, value_at}
-use Rattle.audit_clauses.proofs.Marking.{marks_take, marks_pass}
+use Rattle.std.proofs.Common.{length, arith, sym, ◌∙◌, rules}
+use Rattle.audit_clauses.{specs.claim.Divided.{county_at, IsInCounty, IsInCity}, specs.Marks.{one_part, value_at}, proofs.Marking.{marks_take, marks_pass}}
 use Rattle.audit_clauses.proofs.Places.{in_city, in_no_city, one_city, in_county, county_below, counties_rise}
 use Rattle.audit_clauses.proofs.splits.mark_groups.Goals as goal
 use Rattle.audit_clauses.proofs.splits.mark_groups.Goals.{in-Some, in_default}
 
 pub bounds-cities-city : goal.bounds-cities-city
-bounds-cities-city c =
-    let here = in_city c.args.blocks.now c.loop-i.i c.in-Some.city c.index-blocks-i.result (omega arith) c.index-blocks-i.is c.in-Some.is in
-    omega (arith, c.requires.codes.above c.in-Some.city c.loop-i.i (omega arith) here)
+bounds-cities-city c = search (rules, c.requires.codes.above, in_city)
 
 pub bounds-by_county-city : goal.bounds-by_county-city
 bounds-by_county-city c =

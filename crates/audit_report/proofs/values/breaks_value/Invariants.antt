@@ -1,5 +1,4 @@
-use Rattle.audit_report.specs.claim.ReportText.{break_data}
-use Rattle.audit_report.proofs.Lists.{AreFirst}
+use Rattle.audit_report.{specs.claim.ReportText.break_data, proofs.Lists.AreFirst}
 use Rattle.audit_report.proofs.values.breaks_value.Given as goal
 
 abbrev pub invariant-loop-found : goal.invariant-loop-found

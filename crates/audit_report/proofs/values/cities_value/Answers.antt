@@ -1,7 +1,6 @@
 use Rattle.std.proofs.Common.{◌+◌, arith, sym, ap, subst}
 use Rattle.serde_json.specs.Data.{string}
-use Rattle.audit_report.specs.claim.ReportText.{code_data}
-use Rattle.audit_report.proofs.Lists.{AreFirst, first_written, text_more}
+use Rattle.audit_report.{specs.claim.ReportText.code_data, proofs.Lists.{AreFirst, first_written, text_more}}
 use Rattle.audit_report.proofs.values.cities_value.Goals as goal
 
 pub returns : goal.returns

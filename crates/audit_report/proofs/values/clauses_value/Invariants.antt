@@ -1,5 +1,4 @@
-use Rattle.audit_report.specs.claim.ReportText.{clause_data}
-use Rattle.audit_report.proofs.Lists.{AreFirst}
+use Rattle.audit_report.{specs.claim.ReportText.clause_data, proofs.Lists.AreFirst}
 use Rattle.audit_report.proofs.values.clauses_value.Given as goal
 
 abbrev pub invariant-loop-clause : goal.invariant-loop-clause

@@ -1,5 +1,4 @@
-use Rattle.audit_report.specs.claim.ReportText.{code_data}
-use Rattle.audit_report.proofs.Lists.{AreFirst}
+use Rattle.audit_report.{specs.claim.ReportText.code_data, proofs.Lists.AreFirst}
 use Rattle.audit_report.proofs.values.counties_value.Given as goal
 
 abbrev pub invariant-loop-county : goal.invariant-loop-county

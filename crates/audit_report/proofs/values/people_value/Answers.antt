@@ -1,6 +1,5 @@
 use Rattle.std.proofs.Common.{arith}
-use Rattle.audit_report.specs.claim.ReportText.{number_data}
-use Rattle.audit_report.proofs.Lists.{first_written}
+use Rattle.audit_report.{specs.claim.ReportText.number_data, proofs.Lists.first_written}
 use Rattle.audit_report.proofs.values.people_value.Goals as goal
 
 pub returns : goal.returns

@@ -1,5 +1,4 @@
-use Rattle.audit_report.specs.claim.ReportText.{number_data}
-use Rattle.audit_report.proofs.Lists.{AreFirst}
+use Rattle.audit_report.{specs.claim.ReportText.number_data, proofs.Lists.AreFirst}
 use Rattle.audit_report.proofs.values.people_value.Given as goal
 
 abbrev pub invariant-loop-number : goal.invariant-loop-number

@@ -1,14 +1,10 @@
-use Rattle.std.proofs.Common.{◌≡◌, ◌<◌, length, ap, sym, ◌∙◌}
-use Rattle.std.specs.Prelude.{is_some}
+use Rattle.std.{specs.Prelude.is_some, proofs.Common.{◌≡◌, ◌<◌, length, ap, sym, ◌∙◌, rules}}
 use Rattle.desk_model.specs.claim.Geography.{id_at}
-use Rattle.desk_model.specs.claim.Baf.{line_read}
 use Rattle.baf_text.proofs.Values.{line_unknown, line_entered}
 use Rattle.baf_text.proofs.reading.entry_of.Goals as goal
 
 pub returns-in_default-place_near-clause-entry : goal.returns-in_default-place_near-clause-entry
-returns-in_default-place_near-clause-entry c = λ so_far line lists is.
-    ap (line_read c.args.geography.now c.args.n so_far) (sym is ∙ c.in-Some.is)
-    ∙ line_unknown c.args.geography.now c.args.n so_far c.in-Some.row (rw c.blocks-2.ensures.value at c.in_default-place_near.ensures.missing)
+returns-in_default-place_near-clause-entry c = search (rules, c.blocks-2.ensures.value, c.in_default-place_near.ensures.missing, line_unknown)
 
 pub returns-in-Some-district_of-clause-entry : goal.returns-in-Some-district_of-clause-entry
 returns-in-Some-district_of-clause-entry c = λ so_far line lists is.

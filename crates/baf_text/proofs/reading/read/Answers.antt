@@ -1,8 +1,6 @@
-use Rattle.std.proofs.Common.{◌+◌, [], arith, rules, sym, ap, ◌∙◌}
-use Rattle.std.specs.Str.Lines.{lines}
+use Rattle.std.{specs.Str.Lines.lines, proofs.Common.{◌+◌, [], arith, rules, sym, ap, ◌∙◌}}
 use Rattle.desk_model.specs.claim.Baf.{rows_read}
-use Rattle.baf_text.proofs.Taken.{header_read, fault_told}
-use Rattle.baf_text.proofs.Values.{listed_none}
+use Rattle.baf_text.proofs.{Taken.{header_read, fault_told}, Values.listed_none}
 use Rattle.baf_text.proofs.reading.read.Goals as goal
 
 pub loop-said-init : goal.loop-said-init

@@ -1,5 +1,4 @@
-use Rattle.std.proofs.Common.{◌+◌, ◌<◌, ◌^◌, length}
-use Rattle.std.specs.Str.Lines.{lines}
+use Rattle.std.{specs.Str.Lines.lines, proofs.Common.{◌+◌, ◌<◌, ◌^◌, length}}
 use Rattle.baf_text.proofs.Taken.{IsUnderWay}
 use Rattle.baf_text.proofs.reading.read.Given as goal
 

@@ -1,8 +1,7 @@
 use Rattle.std.proofs.Common.{ap, sym, ◌∙◌}
 use Rattle.std.proofs.lemmas.List.{take_rest}
 use Rattle.desk_model.specs.claim.Baf.{code_value}
-use Rattle.baf_text.proofs.Rows.{no_row, fields_from_row}
-use Rattle.baf_text.proofs.Prefix.{head_row, row_head}
+use Rattle.baf_text.proofs.{Rows.{no_row, fields_from_row}, Prefix.{head_row, row_head}}
 use Rattle.baf_text.proofs.row.row_of.Goals as goal
 
 pub returns-in_default : goal.returns-in_default

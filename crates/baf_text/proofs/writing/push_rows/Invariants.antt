@@ -1,7 +1,5 @@
-use Rattle.std.proofs.Common.{◌≡◌, ◌++◌, take}
-use Rattle.std.specs.List.{flat_map, zip}
-use Rattle.desk_model.specs.claim.Printed.{row_text}
-use Rattle.desk_model.specs.claim.Geography.{ids_of}
+use Rattle.std.{specs.List.{flat_map, zip}, proofs.Common.{◌≡◌, ◌++◌, take}}
+use Rattle.desk_model.specs.{claim.Printed.row_text, claim.Geography.ids_of}
 use Rattle.baf_text.proofs.writing.push_rows.Given as goal
 
 abbrev pub invariant-loop-place : goal.invariant-loop-place

@@ -1,4 +1,4 @@
-use Rattle.std.proofs.Common.{◌-◌, ◌<◌, ◌^◌, length, arith, ◌∙◌}
+use Rattle.std.proofs.Common.{◌-◌, ◌<◌, ◌^◌, arith, rules}
 use Rattle.std.proofs.lemmas.Fmt.{length-decimal-le}
 use Rattle.std.proofs.lemmas.Slice.{take-put_mid_below}
 use Rattle.desk_model.specs.claim.Padded.{padded_decimal}
@@ -21,7 +21,4 @@ returns-then-district-gt0-clause-start c =
     )
 
 pub returns-clause-zeros : goal.returns-clause-zeros
-returns-clause-zeros c =
-    let start = c.args.end - length c.unassigned-letters.result.now in
-    take-put_mid_below start (c.args.end - start) c.args.row.now c.copy_from_slice.new.self start (omega arith) (omega (arith, c.requires.room.1))
-    ∙ zeros_below c.args.row.now start c.args.end (omega arith) c.requires.zeros
+returns-clause-zeros c = search (rules, c.requires.room.1, c.requires.zeros, take-put_mid_below, zeros_below)

@@ -1,8 +1,6 @@
 use Rattle.std.proofs.Common.{subst}
-use Rattle.page_node.specs.claim.Entries.{Entry}
-use Rattle.page_node.specs.claim.Node.{IsNode}
-use Rattle.btree_puts.proofs.Placing.{first_node}
-use Rattle.btree_puts.proofs.Roots.{only_holds}
+use Rattle.page_node.specs.{claim.Entries.Entry, claim.Node.IsNode}
+use Rattle.btree_puts.proofs.{Placing.first_node, Roots.only_holds}
 use Rattle.btree_puts.proofs.first.write_first_row.Goals as goal
 
 pub returns : goal.returns

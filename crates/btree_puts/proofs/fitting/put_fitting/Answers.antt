@@ -1,60 +1,31 @@
-use Rattle.std.proofs.Common.{◌≡◌, ℕ, refl, sym, subst, ◌∙◌, rules}
-use Rattle.std.specs.Prelude.{IfSome}
-use Rattle.std.specs.FinMap.{insert, put as put_entry}
+use Rattle.std.{specs.Prelude.IfSome, specs.FinMap.{insert, put as put_entry}, proofs.Common.{◌≡◌, ℕ, refl, sym, subst, ◌∙◌}}
 use Rattle.sector_device.specs.claim.Disk.{Image}
-use Rattle.page_store.specs.claim.Transactions.{stored, txn_pages, txn_root, over, free_over}
-use Rattle.page_store.proofs.Stops.{quiet_more, passed_more}
-use Rattle.page_node.specs.claim.Node.{IsNode}
+use Rattle.page_store.{specs.claim.Transactions.{stored, txn_pages, txn_root, over, free_over}, proofs.Stops.passed_more}
 use Rattle.page_node.specs.claim.Places.{key_cmp}
-use Rattle.page_btree.specs.claim.Map.{Holds}
-use Rattle.page_btree.specs.Errors.{IsNoWant}
-use Rattle.page_btree.specs.Leading.{CanLead}
-use Rattle.page_btree.proofs.Outcomes.{err_of, reads_ok}
-use Rattle.page_btree.proofs.Leads.{can_lead}
-use Rattle.btree_puts.specs.Fitting.{IsLeafPut}
-use Rattle.btree_puts.specs.Fingers.{IsReached, PutByErr}
-use Rattle.btree_puts.proofs.Fits.{reach_failed, leaf_failed}
-use Rattle.btree_puts.proofs.Leads.{put_whole}
+use Rattle.page_btree.{specs.claim.Map.Holds, specs.Leading.CanLead, proofs.Outcomes.{reads_ok, refused_as, refused_after}, proofs.Leads.can_lead}
+use Rattle.btree_puts.{specs.Fitting.IsLeafPut, specs.Fingers.IsReached, proofs.Fits.{reach_failed, leaf_failed}, proofs.Leads.put_whole}
 use Rattle.btree_puts.proofs.Placed.{leaf_there, other_stays, row_stands, put_at}
 use Rattle.btree_puts.proofs.fitting.put_fitting.Goals as goal
 
 pub returns-in_err-reach_leaf-clause-reading : goal.returns-in_err-reach_leaf-clause-reading
-returns-in_err-reach_leaf-clause-reading g c = record {
-  quiet = search rules;
-  passed = search rules;
-  err = let t0 = c.args.txn.now in
-      let n = txn_pages t0 in
-      let root = c.root-root.result in
-      let key = c.args.key.now in
-      let can = λ (S : Image). CanLead n (over t0 S) key root in
-      err_of c.from_residual.result c.in_err-reach_leaf.field-0.0 (λ e. PutByErr c.args.finger.now t0 c.args.pages.now c.reach_leaf.new.pages e × IsNoWant e) c.from_residual.ensures.1
-      (reach_failed can c.args.finger.now t0 c.args.pages.now c.reach_leaf.new.pages (λ honest m holds.
-      let S = stored c.args.pages.now in
-      can_lead n (over t0 S) root (free_over t0 S) m key (subst (λ (r : ℕ). Holds n (over t0 S) r (free_over t0 S) m) (sym c.root-root.ensures.root) holds) c.if-root-eq0.false) c.in_err-reach_leaf.field-0.0 c.in_err-reach_leaf.ensures.reading.err);
-}
+returns-in_err-reach_leaf-clause-reading g c =
+    let t = c.args.txn.now in
+    let can = λ (S : Image). CanLead (txn_pages t) (over t S) c.args.key.now c.root-root.result in
+    refused_as _ c.in_err-reach_leaf.ensures.reading c.from_residual.ensures.1 (reach_failed can c.args.finger.now t c.args.pages.now c.reach_leaf.new.pages (λ honest m holds.
+    can_lead (txn_pages t) (over t (stored c.args.pages.now)) c.root-root.result (free_over t (stored c.args.pages.now)) m c.args.key.now (rw c.root-root.ensures.root holds) c.if-root-eq0.false) _)
 
 pub returns-in_err-put_leaf-clause-reading : goal.returns-in_err-put_leaf-clause-reading
-returns-in_err-put_leaf-clause-reading g c = record {
-  quiet = quiet_more _ _ _ c.in_ok-reach_leaf.ensures.reading.quiet c.in_err-put_leaf.ensures.reading.quiet;
-  passed = search rules;
-  err = let t0 = c.args.txn.now in
-      let n = txn_pages t0 in
-      let root = c.root-root.result in
-      let key = c.args.key.now in
-      let f = c.reach_leaf.new.finger in
-      let e = c.in_err-put_leaf.field-0.0 in
-      let mid = c.reach_leaf.new.pages in
-      err_of c.from_residual-in_err-put_leaf.result e (λ x. PutByErr c.args.finger.now t0 c.args.pages.now c.put_leaf.new.pages x × IsNoWant x) c.from_residual-in_err-put_leaf.ensures.1
-      (leaf_failed c.args.finger.now f.page f.near key t0 c.args.pages.now mid c.put_leaf.new.pages c.in_ok-reach_leaf.ensures.reading.passed c.in_err-put_leaf.ensures.reading.quiet
-      (λ honest m holds stands.
-      let S = stored c.args.pages.now in
-      let before = c.in_err-put_leaf.ensures.reading.quiet.honest honest in
-      let reached = c.in_ok-reach_leaf.ensures.reached before stands in
-      let at_root : Holds n (over t0 S) root (free_over t0 S) m = subst (λ (r : ℕ). Holds n (over t0 S) r (free_over t0 S) m) (sym c.root-root.ensures.root) holds in
-      let leaf = leaf_there n S t0 t0 root m c.in_ok-reach_leaf.ensures.few at_root c.if-root-eq0.false key f.page reached.leads in
-      (leaf.0, subst (λ (T : Image). IsNode (over t0 T f.page) (record { level = 0; entries = leaf.0 })) (sym (c.in_ok-reach_leaf.ensures.reading.quiet.same before)) leaf.1, leaf.2, reached.after leaf.0 leaf.1))
-      e c.in_err-put_leaf.ensures.reading.err);
-}
+returns-in_err-put_leaf-clause-reading g c =
+    let t = c.args.txn.now in
+    let f = c.reach_leaf.new.finger in
+    let S = stored c.args.pages.now in
+    let first = c.in_ok-reach_leaf.ensures.reading.passed in
+    let later = c.in_err-put_leaf.ensures.reading in
+    refused_after _ first later c.from_residual-in_err-put_leaf.ensures.1 (leaf_failed c.args.finger.now f.page f.near c.args.key.now t _ _ _ first later.quiet (λ honest m holds stands.
+    let before = later.quiet.honest honest in
+    let reached = c.in_ok-reach_leaf.ensures.reached before stands in
+    let leaf = leaf_there (txn_pages t) S t t c.root-root.result m c.in_ok-reach_leaf.ensures.few (rw c.root-root.ensures.root holds) c.if-root-eq0.false c.args.key.now f.page reached.leads in
+    (leaf.0, rw (first.quiet.same before) leaf.1, leaf.2, reached.after leaf.0 leaf.1)) _)
 
 pub returns-in-None-clause-reading : goal.returns-in-None-clause-reading
 returns-in-None-clause-reading g c = reads_ok (passed_more _ _ _ c.in_ok-reach_leaf.ensures.reading.passed c.in_ok-put_leaf.ensures.reading.passed)

@@ -1,16 +1,9 @@
-use Rattle.std.proofs.Common.{◌≡◌, ◌-◌, ℕ, List, None, sym, subst, ◌∙◌, arith, rules}
-use Rattle.std.specs.Prelude.{Ok, Err, is_some}
-use Rattle.std.specs.FinMap.{find, put}
-use Rattle.page_store.specs.claim.Transactions.{stored, txn_pages, txn_free, over, free_over}
-use Rattle.page_store.proofs.Stops.{quiet_more, passed_more}
+use Rattle.std.{specs.Prelude.{Ok, Err, is_some}, specs.FinMap.{find, put}, proofs.Common.{◌≡◌, ◌-◌, ℕ, List, None, sym, subst, ◌∙◌, arith}}
+use Rattle.page_store.{specs.claim.Transactions.{stored, txn_pages, txn_free, over, free_over}, proofs.Stops.passed_more}
 use Rattle.page_node.specs.claim.Places.{key_cmp}
-use Rattle.btree_puts.specs.Errors.{PlaceErr, RowErr}
-use Rattle.page_btree.specs.Errors.{IsNoWant}
-use Rattle.btree_puts.specs.Putting.{IsWritten, IsRaised, CanPutSome, AreFew}
-use Rattle.page_btree.proofs.Outcomes.{map_ok, map_err, err_of, match_of, reads_ok}
-use Rattle.btree_puts.proofs.Failing.{step_failed, step_no_want, below_failed, row_failed, link_failed}
-use Rattle.btree_puts.proofs.FromNode.{can_some, same_length, put_none, has_node, put_some}
-use Rattle.btree_puts.proofs.Leaves.{leaf_rows, leaf_node, leaf_rises, leaf_off, leaf_find, leaf_raised}
+use Rattle.page_btree.{specs.Errors.IsNoWant, proofs.Outcomes.{map_ok, match_of, reads_ok, reads_as, refused_as, refused_after}}
+use Rattle.btree_puts.{specs.Putting.{IsWritten, IsRaised, CanPutSome, AreFew}, proofs.Failing.{step_failed, step_no_want, below_failed, row_failed, link_failed}}
+use Rattle.btree_puts.proofs.{FromNode.{can_some, same_length, put_none, has_node, put_some}, Leaves.{leaf_rows, leaf_node, leaf_rises, leaf_off, leaf_find, leaf_raised}}
 use Rattle.btree_puts.proofs.Counting.{few_none, few_some, few_taken, fixed_row, none_some}
 use Rattle.btree_puts.proofs.puts.+put_at.Goals as goal
 
@@ -55,29 +48,18 @@ returns-then-level-eq0-clause-few g t c = map_ok c.put_row.result (λ placed. Ar
     (λ placed few. subst (λ (d : ℕ). AreFew d c.args.txn.now c.put_row.new.txn placed.right) (sym c.if-level-eq0.true) few) c.put_row.ensures.few
 
 pub returns-then-level-eq0-clause-reading : goal.returns-then-level-eq0-clause-reading
-returns-then-level-eq0-clause-reading g t c = record {
-  quiet = search rules;
-  passed = search rules;
-  err = let n = txn_pages c.args.txn.now in
-      let can = CanPutSome n (over c.args.txn.now) c.args.level (free_over c.args.txn.now) c.args.page c.args.room.now.page c.args.key.now in
-      map_err c.put_row.result (RowErr c.args.room.now.page c.args.txn.now c.args.pages.now c.put_row.new.pages) (PlaceErr c.args.level can c.args.txn.now c.args.pages.now c.put_row.new.pages)
-      (row_failed c.args.level can c.args.room.now.page c.args.txn.now c.args.pages.now c.put_row.new.pages (λ honest is.
-      let S = stored c.args.pages.now in
-      let P = over c.args.txn.now S in
-      let free = free_over c.args.txn.now S in
-      (is.3.free_are, (leaf_rows n P is.0 is.1 free c.args.page c.args.room.now.page c.args.key.now c.args.level is.2 c.if-level-eq0.true is.3, leaf_node n P is.0 is.1 free c.args.page c.args.room.now.page c.args.key.now c.args.level is.2 c.if-level-eq0.true is.3))))
-      c.put_row.ensures.reading.err;
-}
+returns-then-level-eq0-clause-reading g t c =
+    let n = txn_pages c.args.txn.now in
+    let can = CanPutSome (txn_pages c.args.txn.now) (over c.args.txn.now) c.args.level (free_over c.args.txn.now) c.args.page c.args.room.now.page c.args.key.now in
+    reads_as c.put_row.ensures.reading (row_failed c.args.level can c.args.room.now.page c.args.txn.now c.args.pages.now c.put_row.new.pages (λ honest is.
+    let P = over c.args.txn.now (stored c.args.pages.now) in
+    let free = free_over c.args.txn.now (stored c.args.pages.now) in
+    let z = c.if-level-eq0.true in
+    (is.3.free_are, (leaf_rows n P is.0 is.1 free c.args.page c.args.room.now.page c.args.key.now c.args.level is.2 z is.3, leaf_node n P is.0 is.1 free c.args.page c.args.room.now.page c.args.key.now c.args.level is.2 z is.3))))
 
 -- ---- no step down
 pub returns-in_err-child-clause-reading : goal.returns-in_err-child-clause-reading
-returns-in_err-child-clause-reading g t c = record {
-  quiet = search rules;
-  passed = search rules;
-  err = let can = CanPutSome (txn_pages c.args.txn.now) (over c.args.txn.now) c.args.level (free_over c.args.txn.now) c.args.page c.args.room.now.page c.args.key.now in
-      err_of c.from_residual.result c.in_err-child.field-0.0 (PlaceErr c.args.level can c.args.txn.now c.args.pages.now c.step_down.new.pages) c.from_residual.ensures.1
-      (step_failed c.args.level can c.args.txn.now c.args.pages.now c.step_down.new.pages c.in_err-child.field-0.0 c.in_err-child.ensures.reading.err);
-}
+returns-in_err-child-clause-reading g t c = refused_as _ c.in_err-child.ensures.reading c.from_residual.ensures.1 (step_failed c.args.level (CanPutSome (txn_pages c.args.txn.now) (over c.args.txn.now) c.args.level (free_over c.args.txn.now) c.args.page c.args.room.now.page c.args.key.now) c.args.txn.now c.args.pages.now c.step_down.new.pages _)
 
 pub returns-in_err-child-clause-fixed : goal.returns-in_err-child-clause-fixed
 returns-in_err-child-clause-fixed g t c = λ honest low high tree held can there same.
@@ -86,18 +68,15 @@ returns-in_err-child-clause-fixed g t c = λ honest low high tree held can there
 
 -- ---- refused below
 pub returns-in_err-below-clause-reading : goal.returns-in_err-below-clause-reading
-returns-in_err-below-clause-reading g t c = record {
-  quiet = quiet_more _ _ _ c.step_down.ensures.reading.quiet c.put_at.ensures.reading.quiet;
-  passed = search rules;
-  err = let n = txn_pages c.args.txn.now in
-      let d = c.args.level in
-      let can = CanPutSome n (over c.args.txn.now) d (free_over c.args.txn.now) c.args.page c.args.room.now.page c.args.key.now in
-      let can_there = CanPutSome n (over c.args.txn.now) (d - 1) (free_over c.args.txn.now) c.in_ok-child.child c.step_down.new.bytes c.args.key.now in
-      err_of c.from_residual-in_err-below.result c.in_err-below.field-0.0 (PlaceErr d can c.args.txn.now c.args.pages.now c.put_at.new.pages) c.from_residual-in_err-below.ensures.1
-      (below_failed d (d - 1) can can_there c.args.txn.now c.args.pages.now c.step_down.new.pages c.put_at.new.pages c.in_ok-child.ensures.reading.passed c.put_at.ensures.reading.quiet (omega arith)
-      (λ honest is. can_some c.args.txn.now c.args.pages.now c.step_down.new.pages c.args.level c.args.page c.in_ok-child.child c.args.room.now.page c.step_down.new.bytes c.args.key.now c.args.value.now c.if-level-eq0.false c.in_ok-child.ensures.few c.in_ok-child.ensures.told c.step_down.ensures.reading.quiet c.in_ok-child.ensures.reads (c.put_at.ensures.reading.quiet.honest honest) is.0 is.1 is.2 is.3)
-      c.in_err-below.field-0.0 c.in_err-below.ensures.reading.err);
-}
+returns-in_err-below-clause-reading g t c =
+    let d = c.args.level in
+    let can = CanPutSome (txn_pages c.args.txn.now) (over c.args.txn.now) c.args.level (free_over c.args.txn.now) c.args.page c.args.room.now.page c.args.key.now in
+    let can_there = CanPutSome (txn_pages c.args.txn.now) (over c.args.txn.now) (d - 1) (free_over c.args.txn.now) c.in_ok-child.child c.step_down.new.bytes c.args.key.now in
+    let first = c.in_ok-child.ensures.reading.passed in
+    let later = c.in_err-below.ensures.reading in
+    refused_after _ first later c.from_residual-in_err-below.ensures.1 (below_failed d (d - 1) can can_there c.args.txn.now _ _ _ first later.quiet (omega arith)
+    (λ honest is. can_some c.args.txn.now c.args.pages.now c.step_down.new.pages c.args.level c.args.page c.in_ok-child.child c.args.room.now.page c.step_down.new.bytes c.args.key.now c.args.value.now
+    c.if-level-eq0.false c.in_ok-child.ensures.few c.in_ok-child.ensures.told first.quiet c.in_ok-child.ensures.reads (later.quiet.honest honest) is.0 is.1 is.2 is.3) _)
 
 pub returns-in_err-below-clause-fixed : goal.returns-in_err-below-clause-fixed
 returns-in_err-below-clause-fixed g t c = λ honest low high tree held can there same.
@@ -122,23 +101,19 @@ returns-in-None-clause-few g t c = let deep = c.if-level-eq0.false in few_none c
 
 -- ---- no link
 pub returns-in_err-cut-in-Some-clause-reading : goal.returns-in_err-cut-in-Some-clause-reading
-returns-in_err-cut-in-Some-clause-reading g t c = record {
-  quiet = quiet_more _ _ _ c.step_down.ensures.reading.quiet (quiet_more _ _ _ c.put_at.ensures.reading.quiet c.link.ensures.reading.quiet);
-  passed = search rules;
-  err = let n = txn_pages c.args.txn.now in
-      let d = c.args.level in
-      let deep = c.if-level-eq0.false in
-      let can = CanPutSome n (over c.args.txn.now) d (free_over c.args.txn.now) c.args.page c.args.room.now.page c.args.key.now in
-      let passed = passed_more _ _ _ c.in_ok-child.ensures.reading.passed c.in_ok-below.ensures.reading.passed in
-      err_of c.from_residual-in_err-cut-in-Some.result c.in_err-cut-in-Some.field-0.0 (PlaceErr d can c.args.txn.now c.args.pages.now c.link.new.pages) c.from_residual-in_err-cut-in-Some.ensures.1
-      (link_failed d can c.args.page c.args.txn.now c.put_at.new.txn c.args.pages.now c.put_at.new.pages c.link.new.pages passed c.link.ensures.reading.quiet
-      (few_taken d c.args.txn.now c.put_at.new.txn c.in-Some.right c.in_ok-below.below.right (omega arith) c.in-Some.is c.in_ok-below.ensures.few)
-      (λ honest is.
-      let middle = c.link.ensures.reading.quiet.honest honest in
-      has_node c.args.txn.now c.args.pages.now c.step_down.new.pages c.args.level c.args.page c.in_ok-child.child c.args.room.now.page c.step_down.new.bytes c.args.key.now c.args.value.now c.if-level-eq0.false c.in_ok-child.ensures.few c.in_ok-child.ensures.told c.step_down.ensures.reading.quiet c.in_ok-child.ensures.reads (c.put_at.ensures.reading.quiet.honest middle) is.0 is.1 is.2 is.3
-      c.put_at.new.txn c.put_at.new.pages c.in_ok-below.below c.put_at.new.room.upper c.in_ok-below.ensures.put middle c.put_at.ensures.stays.rooted.pages c.put_at.ensures.reading.quiet)
-      c.in_err-cut-in-Some.field-0.0 c.in_err-cut-in-Some.ensures.reading.err);
-}
+returns-in_err-cut-in-Some-clause-reading g t c =
+    let d = c.args.level in
+    let can = CanPutSome (txn_pages c.args.txn.now) (over c.args.txn.now) c.args.level (free_over c.args.txn.now) c.args.page c.args.room.now.page c.args.key.now in
+    let first = c.in_ok-child.ensures.reading.passed in
+    let passed = passed_more _ _ _ first c.in_ok-below.ensures.reading.passed in
+    let later = c.in_err-cut-in-Some.ensures.reading in
+    refused_after _ passed later c.from_residual-in_err-cut-in-Some.ensures.1 (link_failed d can c.args.page c.args.txn.now c.put_at.new.txn _ _ _ passed later.quiet
+    (few_taken d c.args.txn.now c.put_at.new.txn c.in-Some.right c.in_ok-below.below.right (omega arith) c.in-Some.is c.in_ok-below.ensures.few)
+    (λ honest is.
+    let middle = later.quiet.honest honest in
+    has_node c.args.txn.now c.args.pages.now c.step_down.new.pages c.args.level c.args.page c.in_ok-child.child c.args.room.now.page c.step_down.new.bytes c.args.key.now c.args.value.now
+    c.if-level-eq0.false c.in_ok-child.ensures.few c.in_ok-child.ensures.told first.quiet c.in_ok-child.ensures.reads (c.put_at.ensures.reading.quiet.honest middle) is.0 is.1 is.2 is.3
+    c.put_at.new.txn c.put_at.new.pages c.in_ok-below.below c.put_at.new.room.upper c.in_ok-below.ensures.put middle c.put_at.ensures.stays.rooted.pages c.put_at.ensures.reading.quiet) _)
 
 pub returns-in_err-cut-in-Some-clause-fixed : goal.returns-in_err-cut-in-Some-clause-fixed
 returns-in_err-cut-in-Some-clause-fixed g t c = λ honest low high tree held can there same.

@@ -1,30 +1,14 @@
-use Rattle.std.proofs.Common.{◌≡◌, sym, subst, rules}
-use Rattle.std.specs.Prelude.{IfOk}
-use Rattle.page_store.specs.claim.Chain.{IsIn, AreFree}
-use Rattle.page_store.specs.claim.Transactions.{stored, txn_pages, over, free_over, Passed}
-use Rattle.page_store.proofs.Stops.{quiet_more, passed_more}
-use Rattle.page_node.specs.claim.Entries.{Entry, child_bytes}
-use Rattle.page_node.specs.Entries.{key_at}
-use Rattle.page_node.specs.claim.Node.{IsNode}
-use Rattle.page_node.proofs.Laws.{node_unique}
-use Rattle.btree_puts.specs.Putting.{IsWritten}
-use Rattle.page_btree.proofs.Outcomes.{map_ok, err_of, map_err}
-use Rattle.btree_puts.proofs.Placing.{linked_node}
-use Rattle.btree_puts.proofs.Failing.{link_read_failed, link_written_failed}
-use Rattle.btree_puts.specs.Errors.{WriteErr, LinkErr}
-use Rattle.page_btree.specs.Errors.{tree_error}
-use Rattle.page_btree.specs.declared.error.TreeError.TheVariants.{NotAStore}
+use Rattle.std.{specs.Prelude.IfOk, proofs.Common.{◌≡◌, sym, subst}}
+use Rattle.page_store.specs.{claim.Chain.{IsIn, AreFree}, claim.Transactions.{stored, txn_pages, over, free_over}}
+use Rattle.page_node.{specs.claim.Entries.{Entry, child_bytes}, specs.Entries.key_at, specs.claim.Node.IsNode, proofs.Laws.node_unique}
+use Rattle.btree_puts.{specs.Putting.IsWritten, proofs.Placing.linked_node, proofs.Failing.{link_read_failed, link_written_failed}}
+use Rattle.page_btree.proofs.Outcomes.{reads_after, refused_as, refused_by}
 use Rattle.btree_puts.proofs.puts.link.Goals as goal
 
 pub returns-clause-reading : goal.returns-clause-reading
-returns-clause-reading g c = record {
-  quiet = quiet_more _ _ _ c.read.ensures.reading.quiet c.settle.ensures.reading.quiet;
-  passed = let first : Passed c.args.pages.now c.read.new.pages = record { quiet = c.read.ensures.reading.quiet; halted = c.in_ok-read.ensures.reading.passed.halted; faults = c.in_ok-read.ensures.reading.passed.faults } in
-      map_ok c.settle.result (λ _. Passed c.read.new.pages c.settle.new.pages) (λ _. Passed c.args.pages.now c.settle.new.pages) (λ _ p. passed_more _ _ _ first p) c.settle.ensures.reading.passed;
-  err = let first : Passed c.args.pages.now c.read.new.pages = record { quiet = c.read.ensures.reading.quiet; halted = c.in_ok-read.ensures.reading.passed.halted; faults = c.in_ok-read.ensures.reading.passed.faults } in
-      map_err c.settle.result (λ e. WriteErr c.args.txn.now c.read.new.pages c.settle.new.pages e) (λ e. LinkErr c.args.page c.args.txn.now c.args.pages.now c.settle.new.pages e)
-      (link_written_failed c.args.page c.args.txn.now c.args.pages.now c.read.new.pages c.settle.new.pages first c.settle.ensures.reading.quiet) c.settle.ensures.reading.err;
-}
+returns-clause-reading g c =
+    let first = c.in_ok-read.ensures.reading.passed in
+    reads_after first c.settle.ensures.reading (link_written_failed c.args.page c.args.txn.now _ _ _ first c.settle.ensures.reading.quiet)
 
 pub returns-clause-linked : goal.returns-clause-linked
 returns-clause-linked g c = λ honest node is some are off.
@@ -41,17 +25,8 @@ returns-clause-linked g c = λ honest node is some are off.
     (subst (λ S. IfOk c.settle.result (λ cut. IsWritten (over t0 S) (over t1 S) (free_over t0 S) (free_over t1 S) c.args.page cut c.insert.new.self c.settle.new.room.upper)) same done)
 
 pub returns-in_err-read-clause-reading : goal.returns-in_err-read-clause-reading
-returns-in_err-read-clause-reading g c = record {
-  quiet = search rules;
-  passed = search rules;
-  err = err_of c.from_residual.result (tree_error c.in_err-read.field-0.0) (λ e. LinkErr c.args.page c.args.txn.now c.args.pages.now c.read.new.pages e) c.from_residual.ensures.1
-      (link_read_failed c.args.page c.args.txn.now c.args.pages.now c.read.new.pages c.in_err-read.field-0.0 c.in_err-read.ensures.reading.err);
-}
+returns-in_err-read-clause-reading g c = refused_as _ c.in_err-read.ensures.reading c.from_residual.ensures.1 (link_read_failed c.args.page c.args.txn.now c.args.pages.now c.read.new.pages _)
 
 pub returns-in_err-read-2-clause-reading : goal.returns-in_err-read-2-clause-reading
-returns-in_err-read-2-clause-reading g c = record {
-  quiet = search rules;
-  passed = search rules;
-  err = err_of c.from_residual-in_err-read-2.result NotAStore (λ e. LinkErr c.args.page c.args.txn.now c.args.pages.now c.read.new.pages e) c.from_residual-in_err-read-2.ensures.1
-      (λ honest are node is some. c.in_err-read-2.ensures.refused node (subst (λ bytes. IsNode bytes node) (sym (c.in_ok-read.ensures.reads honest)) is));
-}
+returns-in_err-read-2-clause-reading g c = refused_by _ c.from_residual-in_err-read-2.ensures.1 c.in_ok-read.ensures.reading.quiet
+    (λ honest are node is some. c.in_err-read-2.ensures.refused node (rw (c.in_ok-read.ensures.reads honest) is))

@@ -1,36 +1,19 @@
-use Rattle.std.proofs.Common.{◌≡◌, sym, ap, ◌∙◌, arith, get_or, rules}
-use Rattle.std.specs.Prelude.{Ok, Err, is_some}
-use Rattle.page_store.specs.claim.Transactions.{stored, txn_pages, txn_root, txn_free, over, free_over, Passed, disk_in}
-use Rattle.page_store.proofs.Stops.{quiet_more, passed_more}
-use Rattle.page_btree.specs.claim.Errors.{PutErr, level_in}
-use Rattle.page_btree.specs.Errors.{IsNoWant, tree_error}
-use Rattle.btree_puts.specs.Putting.{CanPutSome}
-use Rattle.page_btree.proofs.Outcomes.{err_of, match_of}
-use Rattle.page_btree.proofs.Tops.{no_root}
-use Rattle.btree_puts.proofs.Failing.{first_failed, root_read_failed, place_failed, grow_failed}
-use Rattle.btree_puts.proofs.Counting.{none_some, few_some_taken}
-use Rattle.btree_puts.proofs.FromRoot.{at_most_five, can_some, same_length, put_whole, free_then, put_grown}
+use Rattle.std.{specs.Prelude.{Ok, Err, is_some}, proofs.Common.{◌≡◌, sym, ap, ◌∙◌, arith, get_or, rules, false}}
+use Rattle.page_store.{specs.claim.Transactions.{stored, txn_pages, txn_root, over, free_over}, proofs.Stops.passed_more}
+use Rattle.page_btree.{specs.Errors.IsNoWant, proofs.Outcomes.{match_of, reads_ok, reads_err, refused_as, refused_after}, proofs.Tops.no_root}
+use Rattle.btree_puts.{specs.Putting.CanPutSome, specs.Outcomes.TakesNoPage, proofs.Failing.{first_failed, root_read_failed, place_failed, grow_failed}}
+use Rattle.btree_puts.proofs.{Counting.{none_some, few_some_taken}, FromRoot.{at_most_five, can_some, same_length, put_whole, free_then, put_grown}}
 use Rattle.btree_puts.proofs.puts.put_cutting.Goals as goal
 
 -- ---- no root
 pub returns-in_err-put_first-clause-reading : goal.returns-in_err-put_first-clause-reading
-returns-in_err-put_first-clause-reading g c = record {
-  quiet = search rules;
-  passed = search rules;
-  err = err_of c.from_residual.result c.in_err-put_first.field-0.0 (PutErr c.args.txn.now c.args.pages.now c.put_first.new.pages) c.from_residual.ensures.1
-      (first_failed c.args.txn.now c.args.pages.now c.put_first.new.pages c.in_err-put_first.field-0.0 c.in_err-put_first.ensures.reading.err);
-}
+returns-in_err-put_first-clause-reading g c = refused_as _ c.in_err-put_first.ensures.reading c.from_residual.ensures.1 (first_failed c.args.txn.now c.args.pages.now c.put_first.new.pages _)
 
 pub returns-in_err-put_first-clause-takes : goal.returns-in_err-put_first-clause-takes
-returns-in_err-put_first-clause-takes g c = record {
-  pages = search rules;
-  costs = search rules;
-  fixed = λ honest m held holds there same.
-      let none = no_root _ _ _ _ m c.args.key.now holds (sym c.root-root.ensures.root ∙ c.if-root-eq0.true) in
-      absurd (cc (none, there));
-  spent = search rules;
-  deep = search rules;
-}
+returns-in_err-put_first-clause-takes g c =
+    let fixed : TakesNoPage c.args.txn.now c.put_first.new.txn c.args.pages.now c.put_first.new.pages (c.args.key.now, c.args.value.now) (c.from_residual.result) = λ honest m held holds there same.
+    absurd (cc (no_root _ _ _ _ m c.args.key.now holds (sym c.root-root.ensures.root ∙ c.if-root-eq0.true), there)) in
+    search (rules, fixed)
 
 pub returns-then-root-eq0-clause-put : goal.returns-then-root-eq0-clause-put
 returns-then-root-eq0-clause-put g c = λ honest m holds.
@@ -38,80 +21,46 @@ returns-then-root-eq0-clause-put g c = λ honest m holds.
     (c.in_ok-put_first.ensures.put honest m zero_is holds, ap is_some (sym (no_root _ _ _ _ m c.args.key.now holds zero_is)))
 
 pub returns-then-root-eq0-clause-takes : goal.returns-then-root-eq0-clause-takes
-returns-then-root-eq0-clause-takes g c = record {
-  pages = search rules;
-  costs = search rules;
-  fixed = λ honest m held holds there same.
-      let none = no_root _ _ _ _ m c.args.key.now holds (sym c.root-root.ensures.root ∙ c.if-root-eq0.true) in
-      absurd (cc (none, there));
-  spent = search rules;
-  deep = search rules;
-}
+returns-then-root-eq0-clause-takes g c =
+    let fixed : TakesNoPage c.args.txn.now c.put_first.new.txn c.args.pages.now c.put_first.new.pages (c.args.key.now, c.args.value.now) (Ok false) = λ honest m held holds there same.
+    absurd (cc (no_root _ _ _ _ m c.args.key.now holds (sym c.root-root.ensures.root ∙ c.if-root-eq0.true), there)) in
+    search (rules, fixed)
 
 -- ---- the root isn't read, or is none
 pub returns-in_err-read-clause-reading : goal.returns-in_err-read-clause-reading
-returns-in_err-read-clause-reading g c = record {
-  quiet = search rules;
-  passed = search rules;
-  err = err_of c.from_residual-in_err-read.result (tree_error c.in_err-read.field-0.0) (PutErr c.args.txn.now c.args.pages.now c.read.new.pages) c.from_residual-in_err-read.ensures.1
-      (root_read_failed c.args.txn.now c.args.pages.now c.read.new.pages c.in_err-read.field-0.0 c.in_err-read.ensures.reading.err).0;
-}
+returns-in_err-read-clause-reading g c = refused_as _ c.in_err-read.ensures.reading c.from_residual-in_err-read.ensures.1 (λ why. (root_read_failed c.args.txn.now c.args.pages.now c.read.new.pages _ why).0)
 
 pub returns-in_err-read-clause-takes : goal.returns-in_err-read-clause-takes
-returns-in_err-read-clause-takes g c = record {
-  pages = search rules;
-  costs = search rules;
-  fixed = λ honest m held holds there same.
-      match_of c.from_residual-in_err-read.result (λ _. txn_free c.args.txn.now ≡ txn_free c.args.txn.now) (tree_error c.in_err-read.field-0.0) IsNoWant c.from_residual-in_err-read.ensures.1
-      (root_read_failed c.args.txn.now c.args.pages.now c.read.new.pages c.in_err-read.field-0.0 c.in_err-read.ensures.reading.err).1;
-  spent = search rules;
-  deep = search rules;
-}
+returns-in_err-read-clause-takes g c =
+    let fixed : TakesNoPage c.args.txn.now c.args.txn.now c.args.pages.now c.read.new.pages (c.args.key.now, c.args.value.now) (c.from_residual-in_err-read.result) = λ honest m held holds there same.
+    match_of c.from_residual-in_err-read.result _ _ IsNoWant c.from_residual-in_err-read.ensures.1 (root_read_failed c.args.txn.now c.args.pages.now c.read.new.pages _ c.in_err-read.ensures.reading.err).1 in
+    search (rules, fixed)
 
 pub returns-then-level-gt5-clause-reading : goal.returns-then-level-gt5-clause-reading
-returns-then-level-gt5-clause-reading g c = record {
-  quiet = search rules;
-  passed = search rules;
-  err = λ honest m holds.
-      let few = at_most_five c.args.txn.now c.args.pages.now c.read.new.pages c.root-root.result c.level_of-level.result c.read.new.page c.args.key.now c.root-root.ensures.root c.if-root-eq0.false c.read.ensures.reading.quiet c.in_ok-read.ensures.reads c.level_of-level.ensures.level honest m holds in
-      let above = c.if-level-gt5.true in
-      omega arith;
-}
+returns-then-level-gt5-clause-reading g c = reads_err c.in_ok-read.ensures.reading.quiet (λ honest m holds.
+    let few = at_most_five c.args.txn.now c.args.pages.now c.read.new.pages c.root-root.result c.level_of-level.result c.read.new.page c.args.key.now c.root-root.ensures.root c.if-root-eq0.false c.read.ensures.reading.quiet c.in_ok-read.ensures.reads c.level_of-level.ensures.level honest m holds in
+    omega arith)
 
 -- ---- refused below
 pub returns-in_err-placed-clause-reading : goal.returns-in_err-placed-clause-reading
-returns-in_err-placed-clause-reading g c = record {
-  quiet = quiet_more _ _ _ c.read.ensures.reading.quiet c.put_at.ensures.reading.quiet;
-  passed = search rules;
-  err = let t0 = c.args.txn.now in
-      let level = c.level_of-level.result in
-      let first : Passed c.args.pages.now c.read.new.pages = record { quiet = c.read.ensures.reading.quiet; halted = c.in_ok-read.ensures.reading.passed.halted; faults = c.in_ok-read.ensures.reading.passed.faults } in
-      let can = CanPutSome (txn_pages t0) (over t0) level (free_over t0) c.root-root.result c.read.new.page c.args.key.now in
-      err_of c.from_residual-in_err-placed.result c.in_err-placed.field-0.0 (PutErr t0 c.args.pages.now c.put_at.new.pages) c.from_residual-in_err-placed.ensures.1
-      (place_failed level can t0 c.args.pages.now c.read.new.pages c.put_at.new.pages first c.put_at.ensures.reading.quiet (omega (arith, c.if-level-gt5.false))
-      (λ honest m holds. can_some c.args.txn.now c.args.pages.now c.read.new.pages c.root-root.result c.level_of-level.result c.read.new.page c.args.key.now c.root-root.ensures.root c.if-root-eq0.false c.read.ensures.reading.quiet c.in_ok-read.ensures.reads c.level_of-level.ensures.level (c.put_at.ensures.reading.quiet.honest honest) m holds)
-      c.in_err-placed.field-0.0 c.in_err-placed.ensures.reading.err);
-}
+returns-in_err-placed-clause-reading g c =
+    let t = c.args.txn.now in
+    let can = CanPutSome (txn_pages t) (over t) c.level_of-level.result (free_over t) c.root-root.result c.read.new.page c.args.key.now in
+    let first = c.in_ok-read.ensures.reading.passed in
+    let later = c.in_err-placed.ensures.reading in
+    refused_after _ first later c.from_residual-in_err-placed.ensures.1 (place_failed c.level_of-level.result can t _ _ _ first later.quiet (omega (arith, c.if-level-gt5.false))
+    (λ honest m holds. can_some c.args.txn.now c.args.pages.now c.read.new.pages c.root-root.result c.level_of-level.result c.read.new.page c.args.key.now c.root-root.ensures.root c.if-root-eq0.false c.read.ensures.reading.quiet c.in_ok-read.ensures.reads c.level_of-level.ensures.level (later.quiet.honest honest) m holds) _)
 
 pub returns-in_err-placed-clause-takes : goal.returns-in_err-placed-clause-takes
-returns-in_err-placed-clause-takes g c = record {
-  pages = search rules;
-  costs = search rules;
-  fixed = λ honest m held holds there same.
-      match_of c.from_residual-in_err-placed.result (λ _. txn_free c.put_at.new.txn ≡ txn_free c.args.txn.now) c.in_err-placed.field-0.0 IsNoWant c.from_residual-in_err-placed.ensures.1
-      (same_length c.args.txn.now c.args.pages.now c.read.new.pages c.root-root.result c.level_of-level.result c.read.new.page c.args.key.now c.root-root.ensures.root c.if-root-eq0.false c.read.ensures.reading.quiet c.in_ok-read.ensures.reads c.level_of-level.ensures.level (c.put_at.ensures.reading.quiet.honest honest) m holds c.put_at.new.txn c.put_at.new.pages c.args.value.now held (Err c.in_err-placed.field-0.0) c.in_err-placed.ensures.fixed honest there same);
-  spent = search rules;
-  deep = search rules;
-}
+returns-in_err-placed-clause-takes g c =
+    let fixed : TakesNoPage c.args.txn.now c.put_at.new.txn c.args.pages.now c.put_at.new.pages (c.args.key.now, c.args.value.now) (c.from_residual-in_err-placed.result) = λ honest m held holds there same.
+    match_of c.from_residual-in_err-placed.result _ _ IsNoWant c.from_residual-in_err-placed.ensures.1
+    (same_length c.args.txn.now c.args.pages.now c.read.new.pages c.root-root.result c.level_of-level.result c.read.new.page c.args.key.now c.root-root.ensures.root c.if-root-eq0.false c.read.ensures.reading.quiet c.in_ok-read.ensures.reads c.level_of-level.ensures.level (c.put_at.ensures.reading.quiet.honest honest) m holds c.put_at.new.txn c.put_at.new.pages c.args.value.now held (Err c.in_err-placed.field-0.0) c.in_err-placed.ensures.fixed honest there same) in
+    search (rules, fixed)
 
 -- ---- nothing was cut
 pub returns-in-None-clause-reading : goal.returns-in-None-clause-reading
-returns-in-None-clause-reading g c = record {
-  quiet = quiet_more _ _ _ c.read.ensures.reading.quiet c.put_at.ensures.reading.quiet;
-  passed = let first : Passed c.args.pages.now c.read.new.pages = record { quiet = c.read.ensures.reading.quiet; halted = c.in_ok-read.ensures.reading.passed.halted; faults = c.in_ok-read.ensures.reading.passed.faults } in
-      passed_more _ _ _ first c.in_ok-placed.ensures.reading.passed;
-  err = search rules;
-}
+returns-in-None-clause-reading g c = reads_ok (passed_more _ _ _ c.in_ok-read.ensures.reading.passed c.in_ok-placed.ensures.reading.passed)
 
 pub returns-in-None-clause-put : goal.returns-in-None-clause-put
 returns-in-None-clause-put g c = λ honest m holds.
@@ -119,69 +68,46 @@ returns-in-None-clause-put g c = λ honest m holds.
     c.put_at.new.txn c.put_at.new.pages c.args.value.now c.in_ok-placed.placed c.put_at.new.room.upper c.in_ok-placed.ensures.put honest c.in-None.is c.put_at.ensures.stays.rooted.pages c.put_at.ensures.stays.rooted.root
 
 pub returns-in-None-clause-takes : goal.returns-in-None-clause-takes
-returns-in-None-clause-takes g c = record {
-  pages = search rules;
-  costs = search rules;
-  fixed = λ honest m held holds there same.
-      (same_length c.args.txn.now c.args.pages.now c.read.new.pages c.root-root.result c.level_of-level.result c.read.new.page c.args.key.now c.root-root.ensures.root c.if-root-eq0.false c.read.ensures.reading.quiet c.in_ok-read.ensures.reads c.level_of-level.ensures.level (c.put_at.ensures.reading.quiet.honest honest) m holds c.put_at.new.txn c.put_at.new.pages c.args.value.now held (Ok c.in_ok-placed.placed) c.in_ok-placed.ensures.fixed honest there same).1;
-  spent = search rules;
-  deep = search rules;
-}
+returns-in-None-clause-takes g c =
+    let fixed : TakesNoPage c.args.txn.now c.put_at.new.txn c.args.pages.now c.put_at.new.pages (c.args.key.now, c.args.value.now) (Ok c.in_ok-placed.placed.had) = λ honest m held holds there same.
+    (same_length c.args.txn.now c.args.pages.now c.read.new.pages c.root-root.result c.level_of-level.result c.read.new.page c.args.key.now c.root-root.ensures.root c.if-root-eq0.false c.read.ensures.reading.quiet c.in_ok-read.ensures.reads c.level_of-level.ensures.level (c.put_at.ensures.reading.quiet.honest honest) m holds c.put_at.new.txn c.put_at.new.pages c.args.value.now held (Ok c.in_ok-placed.placed) c.in_ok-placed.ensures.fixed honest there same).1 in
+    search (rules, fixed)
 
 -- ---- the root was cut
 pub returns-in_err-grow-in-Some-clause-reading : goal.returns-in_err-grow-in-Some-clause-reading
-returns-in_err-grow-in-Some-clause-reading g c = record {
-  quiet = quiet_more _ _ _ c.read.ensures.reading.quiet (quiet_more _ _ _ c.put_at.ensures.reading.quiet c.grow.ensures.reading.quiet);
-  passed = search rules;
-  err = let t0 = c.args.txn.now in
-      let level = c.level_of-level.result in
-      let first : Passed c.args.pages.now c.read.new.pages = record { quiet = c.read.ensures.reading.quiet; halted = c.in_ok-read.ensures.reading.passed.halted; faults = c.in_ok-read.ensures.reading.passed.faults } in
-      let passed = passed_more _ _ _ first c.in_ok-placed.ensures.reading.passed in
-      let level_is : (disk_in c.grow.new.pages).is_honest → level ≡ level_in (over t0 (stored c.args.pages.now)) (txn_root t0) = λ honest.
-      let before = c.put_at.ensures.reading.quiet.honest (c.grow.ensures.reading.quiet.honest honest) in
-      c.level_of-level.ensures.byte ∙ ap (λ b. get_or b 0 0) (c.in_ok-read.ensures.reads before ∙ ap (over t0 (stored c.args.pages.now)) c.root-root.ensures.root) in
-      err_of c.from_residual-in_err-grow-in-Some.result c.in_err-grow-in-Some.field-0.0 (PutErr t0 c.args.pages.now c.grow.new.pages) c.from_residual-in_err-grow-in-Some.ensures.1
-      (grow_failed level t0 c.put_at.new.txn c.args.pages.now c.put_at.new.pages c.grow.new.pages passed c.grow.ensures.reading.quiet (few_some_taken level t0 c.put_at.new.txn c.in-Some.right c.in_ok-placed.placed.right c.in-Some.is c.in_ok-placed.ensures.few) level_is
-      (λ honest m holds.
-      let middle = c.grow.ensures.reading.quiet.honest honest in
-      free_then c.args.txn.now c.args.pages.now c.read.new.pages c.root-root.result c.level_of-level.result c.read.new.page c.args.key.now c.root-root.ensures.root c.if-root-eq0.false c.read.ensures.reading.quiet c.in_ok-read.ensures.reads c.level_of-level.ensures.level (c.put_at.ensures.reading.quiet.honest middle) m holds
-      c.put_at.new.txn c.put_at.new.pages c.args.value.now c.in_ok-placed.placed c.put_at.new.room.upper c.in_ok-placed.ensures.put middle c.put_at.ensures.stays.rooted.pages c.put_at.ensures.reading.quiet)
-      c.in_err-grow-in-Some.field-0.0 c.in_err-grow-in-Some.ensures.reading.err);
-}
+returns-in_err-grow-in-Some-clause-reading g c =
+    let t = c.args.txn.now in
+    let level = c.level_of-level.result in
+    let passed = passed_more _ _ _ c.in_ok-read.ensures.reading.passed c.in_ok-placed.ensures.reading.passed in
+    let later = c.in_err-grow-in-Some.ensures.reading in
+    refused_after _ passed later c.from_residual-in_err-grow-in-Some.ensures.1 (grow_failed level t c.put_at.new.txn _ _ _ passed later.quiet
+    (few_some_taken level t c.put_at.new.txn c.in-Some.right c.in_ok-placed.placed.right c.in-Some.is c.in_ok-placed.ensures.few)
+    (λ honest.
+    let before = c.put_at.ensures.reading.quiet.honest (later.quiet.honest honest) in
+    c.level_of-level.ensures.byte ∙ ap (λ b. get_or b 0 0) (c.in_ok-read.ensures.reads before ∙ ap (over t (stored c.args.pages.now)) c.root-root.ensures.root))
+    (λ honest m holds.
+    let middle = later.quiet.honest honest in
+    free_then c.args.txn.now c.args.pages.now c.read.new.pages c.root-root.result c.level_of-level.result c.read.new.page c.args.key.now c.root-root.ensures.root c.if-root-eq0.false c.read.ensures.reading.quiet c.in_ok-read.ensures.reads c.level_of-level.ensures.level (c.put_at.ensures.reading.quiet.honest middle) m holds
+    c.put_at.new.txn c.put_at.new.pages c.args.value.now c.in_ok-placed.placed c.put_at.new.room.upper c.in_ok-placed.ensures.put middle c.put_at.ensures.stays.rooted.pages c.put_at.ensures.reading.quiet) _)
 
 pub returns-in_err-grow-in-Some-clause-takes : goal.returns-in_err-grow-in-Some-clause-takes
-returns-in_err-grow-in-Some-clause-takes g c = record {
-  pages = search rules;
-  costs = search rules;
-  fixed = λ honest m held holds there same.
-      let middle = c.grow.ensures.reading.quiet.honest honest in
-      absurd (none_some c.in_ok-placed.placed.right c.in-Some.right
-      (same_length c.args.txn.now c.args.pages.now c.read.new.pages c.root-root.result c.level_of-level.result c.read.new.page c.args.key.now c.root-root.ensures.root c.if-root-eq0.false c.read.ensures.reading.quiet c.in_ok-read.ensures.reads c.level_of-level.ensures.level (c.put_at.ensures.reading.quiet.honest middle) m holds c.put_at.new.txn c.put_at.new.pages c.args.value.now held (Ok c.in_ok-placed.placed) c.in_ok-placed.ensures.fixed middle there same).0
-      c.in-Some.is);
-  spent = search rules;
-  deep = search rules;
-}
+returns-in_err-grow-in-Some-clause-takes g c =
+    let fixed : TakesNoPage c.args.txn.now c.grow.new.txn c.args.pages.now c.grow.new.pages (c.args.key.now, c.args.value.now) (c.from_residual-in_err-grow-in-Some.result) = λ honest m held holds there same.
+    let middle = c.grow.ensures.reading.quiet.honest honest in
+    absurd (none_some c.in_ok-placed.placed.right c.in-Some.right
+    (same_length c.args.txn.now c.args.pages.now c.read.new.pages c.root-root.result c.level_of-level.result c.read.new.page c.args.key.now c.root-root.ensures.root c.if-root-eq0.false c.read.ensures.reading.quiet c.in_ok-read.ensures.reads c.level_of-level.ensures.level (c.put_at.ensures.reading.quiet.honest middle) m holds c.put_at.new.txn c.put_at.new.pages c.args.value.now held (Ok c.in_ok-placed.placed) c.in_ok-placed.ensures.fixed middle there same).0 c.in-Some.is) in
+    search (rules, fixed)
 
 pub returns-in_ok-grow-in-Some-clause-reading : goal.returns-in_ok-grow-in-Some-clause-reading
-returns-in_ok-grow-in-Some-clause-reading g c = record {
-  quiet = quiet_more _ _ _ c.read.ensures.reading.quiet (quiet_more _ _ _ c.put_at.ensures.reading.quiet c.grow.ensures.reading.quiet);
-  passed = let first : Passed c.args.pages.now c.read.new.pages = record { quiet = c.read.ensures.reading.quiet; halted = c.in_ok-read.ensures.reading.passed.halted; faults = c.in_ok-read.ensures.reading.passed.faults } in
-      passed_more _ _ _ first (passed_more _ _ _ c.in_ok-placed.ensures.reading.passed c.in_ok-grow-in-Some.ensures.reading.passed);
-  err = search rules;
-}
+returns-in_ok-grow-in-Some-clause-reading g c = reads_ok (passed_more _ _ _ c.in_ok-read.ensures.reading.passed (passed_more _ _ _ c.in_ok-placed.ensures.reading.passed c.in_ok-grow-in-Some.ensures.reading.passed))
 
 pub returns-in_ok-grow-in-Some-clause-takes : goal.returns-in_ok-grow-in-Some-clause-takes
-returns-in_ok-grow-in-Some-clause-takes g c = record {
-  pages = search rules;
-  costs = search rules;
-  fixed = λ honest m held holds there same.
-      let middle = c.grow.ensures.reading.quiet.honest honest in
-      absurd (none_some c.in_ok-placed.placed.right c.in-Some.right
-      (same_length c.args.txn.now c.args.pages.now c.read.new.pages c.root-root.result c.level_of-level.result c.read.new.page c.args.key.now c.root-root.ensures.root c.if-root-eq0.false c.read.ensures.reading.quiet c.in_ok-read.ensures.reads c.level_of-level.ensures.level (c.put_at.ensures.reading.quiet.honest middle) m holds c.put_at.new.txn c.put_at.new.pages c.args.value.now held (Ok c.in_ok-placed.placed) c.in_ok-placed.ensures.fixed middle there same).0
-      c.in-Some.is);
-  spent = search rules;
-  deep = search rules;
-}
+returns-in_ok-grow-in-Some-clause-takes g c =
+    let fixed : TakesNoPage c.args.txn.now c.grow.new.txn c.args.pages.now c.grow.new.pages (c.args.key.now, c.args.value.now) (Ok c.in_ok-placed.placed.had) = λ honest m held holds there same.
+    let middle = c.grow.ensures.reading.quiet.honest honest in
+    absurd (none_some c.in_ok-placed.placed.right c.in-Some.right
+    (same_length c.args.txn.now c.args.pages.now c.read.new.pages c.root-root.result c.level_of-level.result c.read.new.page c.args.key.now c.root-root.ensures.root c.if-root-eq0.false c.read.ensures.reading.quiet c.in_ok-read.ensures.reads c.level_of-level.ensures.level (c.put_at.ensures.reading.quiet.honest middle) m holds c.put_at.new.txn c.put_at.new.pages c.args.value.now held (Ok c.in_ok-placed.placed) c.in_ok-placed.ensures.fixed middle there same).0 c.in-Some.is) in
+    search (rules, fixed)
 
 pub returns-in_ok-grow-in-Some-clause-put : goal.returns-in_ok-grow-in-Some-clause-put
 returns-in_ok-grow-in-Some-clause-put g c = λ honest m holds.

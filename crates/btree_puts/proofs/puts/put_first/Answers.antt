@@ -1,16 +1,9 @@
-use Rattle.std.proofs.Common.{◌≡◌, ◌∙◌, ◌∷◌, [], sym, ap, subst, rules}
-use Rattle.std.specs.FinMap.{insert}
-use Rattle.page_store.specs.claim.Chain.{AreFree}
-use Rattle.page_store.specs.claim.Transactions.{stored, txn_pages, txn_root, over, free_over}
+use Rattle.std.{specs.FinMap.insert, proofs.Common.{◌≡◌, ◌∙◌, ◌∷◌, [], sym, ap, subst, refl}}
+use Rattle.page_store.specs.{claim.Chain.AreFree, claim.Transactions.{stored, txn_pages, txn_root, over, free_over}}
 use Rattle.page_node.specs.claim.Node.{IsNode}
-use Rattle.page_btree.specs.claim.Map.{Holds}
-use Rattle.btree_puts.proofs.Roots.{first_holds}
-use Rattle.btree_puts.proofs.Images.{put_here}
-use Rattle.btree_puts.proofs.Placing.{first_node}
-use Rattle.btree_puts.proofs.Failing.{take_failed}
-use Rattle.btree_puts.specs.Errors.{WriteErr}
-use Rattle.page_btree.specs.Errors.{tree_error}
-use Rattle.page_btree.proofs.Outcomes.{err_of}
+use Rattle.page_btree.{specs.claim.Map.Holds, proofs.Outcomes.refused_as}
+use Rattle.btree_puts.proofs.{Roots.first_holds, Placing.first_node, Failing.take_failed}
+use Rattle.page_store.proofs.gate_journal.Images.{put_on}
 use Rattle.btree_puts.proofs.puts.put_first.Goals as goal
 
 pub returns-clause-put : goal.returns-clause-put
@@ -20,13 +13,12 @@ returns-clause-put g c = λ honest m none holds.
     let page = c.in_ok-page.page in
     let t0 = c.args.txn.now in
     let t1 = c.take_page.new.self in
-    let t2 = c.write_node.new.txn in
     let t3 = c.set_root.new.self in
     let taken : free_over t0 S ≡ page ∷ free_over t1 S = c.in_ok-page.ensures.taken honest in
     let are : AreFree n (page ∷ free_over t1 S) = subst (AreFree n) taken holds.free_are in
     let free : free_over t3 S ≡ free_over t1 S = (c.set_root.ensures.same S).1 ∙ c.in_ok-write_node.ensures.free S n are.3 are.2 in
     let taken_now : free_over t0 S ≡ page ∷ free_over t3 S = taken ∙ ap (λ l. page ∷ l) (sym free) in
-    let bytes : over t3 S page ≡ c.write_node.new.bytes = ap (λ P. P page) (c.set_root.ensures.same S).0 ∙ c.in_ok-write_node.ensures.written S page ∙ put_here page c.write_node.new.bytes (over t1 S) in
+    let bytes : over t3 S page ≡ c.write_node.new.bytes = ap (λ P. P page) (c.set_root.ensures.same S).0 ∙ c.in_ok-write_node.ensures.written S page ∙ put_on (page, c.write_node.new.bytes) (over t1 S) page refl in
     let node : IsNode c.write_node.new.bytes (record { level = 0; entries = (c.args.key.now, c.args.value.now) ∷ [] }) = subst (IsNode c.write_node.new.bytes) (first_node (c.args.key.now, c.args.value.now) c.clear.new.self c.insert.new.self c.clear.ensures c.insert.ensures) c.write_node.ensures.node in
     let pages : txn_pages t3 ≡ n = c.set_root.ensures.pages ∙ c.write_node.ensures.rooted.pages ∙ c.take_page.ensures.rooted.pages in
     let made = first_holds n (over t0 S) (over t3 S) (txn_root t0) (free_over t0 S) (free_over t3 S) page m c.args.key.now c.args.value.now none holds taken_now (subst (λ b. IsNode b (record { level = 0; entries = (c.args.key.now, c.args.value.now) ∷ [] })) (sym bytes) node) in
@@ -34,9 +26,4 @@ returns-clause-put g c = λ honest m none holds.
     (subst (λ r. Holds n (over t3 S) r (free_over t3 S) (insert m c.args.key.now c.args.value.now)) (sym c.set_root.ensures.root) made)
 
 pub returns-in_err-page-clause-reading : goal.returns-in_err-page-clause-reading
-returns-in_err-page-clause-reading g c = record {
-  quiet = search rules;
-  passed = search rules;
-  err = err_of c.from_residual.result (tree_error c.in_err-page.field-0.0) (λ e. WriteErr c.args.txn.now c.args.pages.now c.take_page.new.pages e) c.from_residual.ensures.1
-      (take_failed c.args.txn.now c.args.pages.now c.take_page.new.pages c.in_err-page.field-0.0 c.in_err-page.ensures.reading.err);
-}
+returns-in_err-page-clause-reading g c = refused_as _ c.in_err-page.ensures.reading c.from_residual.ensures.1 (take_failed c.args.txn.now c.args.pages.now c.take_page.new.pages _)

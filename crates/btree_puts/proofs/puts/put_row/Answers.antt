@@ -1,22 +1,11 @@
-use Rattle.std.proofs.Common.{◌≡◌, sym, subst, rules}
-use Rattle.page_store.specs.claim.Transactions.{stored, over, free_over}
-use Rattle.btree_puts.specs.Putting.{IsWritten}
-use Rattle.btree_puts.specs.Errors.{RowErr}
-use Rattle.page_btree.specs.Errors.{IsNoWant}
-use Rattle.std.specs.Prelude.{None}
-use Rattle.page_btree.specs.declared.error.TreeError.TheVariants.{NotAStore}
-use Rattle.page_btree.proofs.Outcomes.{err_of, match_of}
-use Rattle.btree_puts.proofs.Placing.{found_had, found_node, found_fits, gap_had, gap_missing, gap_node}
-use Rattle.btree_puts.proofs.Failing.{row_written_failed}
+use Rattle.std.{specs.Prelude.None, proofs.Common.{◌≡◌, sym, subst}}
+use Rattle.page_store.{specs.claim.Transactions.{stored, over, free_over}, proofs.Stops.quiet_none}
+use Rattle.btree_puts.{specs.Putting.IsWritten, proofs.Placing.{found_had, found_node, found_fits, gap_had, gap_missing, gap_node}, proofs.Failing.row_written_failed}
+use Rattle.page_btree.{specs.Errors.IsNoWant, proofs.Outcomes.{match_of, refused_as, refused_by}}
 use Rattle.btree_puts.proofs.puts.put_row.Goals as goal
 
 pub returns-in_err-read-clause-reading : goal.returns-in_err-read-clause-reading
-returns-in_err-read-clause-reading g c = record {
-  quiet = search rules;
-  passed = search rules;
-  err = err_of c.from_residual.result NotAStore (λ e. RowErr c.args.room.now.page c.args.txn.now c.args.pages.now c.args.pages.now e) c.from_residual.ensures.1
-      (λ honest are es node. c.in_err-read.ensures.refused _ node);
-}
+returns-in_err-read-clause-reading g c = refused_by _ c.from_residual.ensures.1 (quiet_none c.args.pages.now) (λ honest are es node. c.in_err-read.ensures.refused _ node)
 
 pub returns-in_err-right-in-Ok-clause-fixed : goal.returns-in_err-right-in-Ok-clause-fixed
 returns-in_err-right-in-Ok-clause-fixed g c = λ es held is rises there same.
@@ -50,17 +39,7 @@ pub returns-in_ok-right-in-Err-clause-fixed : goal.returns-in_ok-right-in-Err-cl
 returns-in_ok-right-in-Err-clause-fixed g c = λ es held is rises there same. absurd (gap_missing _ _ c.insert.new.self es c.in-Err.i c.args.key.now c.args.value.now c.in_ok-read.ensures.read is rises c.in-Err.ensures.place held there)
 
 pub returns-in_err-right-in-Ok-clause-reading : goal.returns-in_err-right-in-Ok-clause-reading
-returns-in_err-right-in-Ok-clause-reading g c = record {
-  quiet = search rules;
-  passed = search rules;
-  err = err_of c.from_residual-in_err-right-in-Ok.result c.in_err-right-in-Ok.field-0.0 (λ e. RowErr c.args.room.now.page c.args.txn.now c.args.pages.now c.settle.new.pages e) c.from_residual-in_err-right-in-Ok.ensures.1
-      (row_written_failed c.args.room.now.page c.args.txn.now c.args.pages.now c.settle.new.pages c.in_err-right-in-Ok.field-0.0 c.in_err-right-in-Ok.ensures.reading.err);
-}
+returns-in_err-right-in-Ok-clause-reading g c = refused_as _ c.in_err-right-in-Ok.ensures.reading c.from_residual-in_err-right-in-Ok.ensures.1 (row_written_failed c.args.room.now.page c.args.txn.now c.args.pages.now c.settle.new.pages _)
 
 pub returns-in_err-right-in-Err-clause-reading : goal.returns-in_err-right-in-Err-clause-reading
-returns-in_err-right-in-Err-clause-reading g c = record {
-  quiet = search rules;
-  passed = search rules;
-  err = err_of c.from_residual-in_err-right-in-Err.result c.in_err-right-in-Err.field-0.0 (λ e. RowErr c.args.room.now.page c.args.txn.now c.args.pages.now c.settle-in-Err.new.pages e) c.from_residual-in_err-right-in-Err.ensures.1
-      (row_written_failed c.args.room.now.page c.args.txn.now c.args.pages.now c.settle-in-Err.new.pages c.in_err-right-in-Err.field-0.0 c.in_err-right-in-Err.ensures.reading.err);
-}
+returns-in_err-right-in-Err-clause-reading g c = refused_as _ c.in_err-right-in-Err.ensures.reading c.from_residual-in_err-right-in-Err.ensures.1 (row_written_failed c.args.room.now.page c.args.txn.now c.args.pages.now c.settle-in-Err.new.pages _)

@@ -1,12 +1,9 @@
-use Rattle.std.proofs.Common.{◌≡◌, ◌∷◌, inl, inr, sym, ap, subst, ◌∙◌, rules}
-use Rattle.page_store.specs.claim.Chain.{IsIn, AreFree}
-use Rattle.page_store.specs.claim.Transactions.{stored, txn_pages, over, free_over}
+use Rattle.std.proofs.Common.{◌≡◌, ◌∷◌, inl, inr, sym, ap, subst, ◌∙◌, refl}
+use Rattle.page_store.specs.{claim.Chain.{IsIn, AreFree}, claim.Transactions.{stored, txn_pages, over, free_over}}
 use Rattle.page_node.specs.claim.Node.{IsNode}
-use Rattle.btree_puts.proofs.Images.{put_here, put_elsewhere}
+use Rattle.page_store.proofs.gate_journal.Images.{put_on, put_off}
 use Rattle.btree_puts.proofs.Failing.{take_failed}
-use Rattle.btree_puts.specs.Errors.{WriteErr}
-use Rattle.page_btree.specs.Errors.{tree_error}
-use Rattle.page_btree.proofs.Outcomes.{err_of}
+use Rattle.page_btree.proofs.Outcomes.{refused_as}
 use Rattle.btree_puts.proofs.tree.cut.Goals as goal
 
 pub returns-clause-written : goal.returns-clause-written
@@ -26,11 +23,11 @@ returns-clause-written g c = λ honest are off.
     let before : over t1 S ≡ over t0 S = c.take_page.ensures.over S in
     let at_page : over t3 S page ≡ c.write_node.new.bytes =
     c.in_ok-write_node-2.ensures.written S page
-    ∙ put_elsewhere right c.write_node-2.new.bytes (over t2 S) page (λ same. off_taken (inl same))
+    ∙ put_off (right, c.write_node-2.new.bytes) (over t2 S) page (λ same. off_taken (inl same))
     ∙ c.in_ok-write_node.ensures.written S page
-    ∙ put_here page c.write_node.new.bytes (over t1 S) in
+    ∙ put_on (page, c.write_node.new.bytes) (over t1 S) page refl in
     let at_right : over t3 S right ≡ c.write_node-2.new.bytes =
-    c.in_ok-write_node-2.ensures.written S right ∙ put_here right c.write_node-2.new.bytes (over t2 S) in
+    c.in_ok-write_node-2.ensures.written S right ∙ put_on (right, c.write_node-2.new.bytes) (over t2 S) right refl in
     record {
       lower = c.split.new.self.entries;
       both = c.split.ensures.entries;
@@ -40,16 +37,11 @@ returns-clause-written g c = λ honest are off.
           (subst (λ k. IsNode c.write_node.new.bytes (record { level = k; entries = c.split.new.self.entries })) c.split.ensures.level.0 c.write_node.ensures.node);
       beside = subst (λ b. IsNode b c.split.new.right) (sym at_right) c.write_node-2.ensures.node;
       elsewhere = λ q not_page not_right.
-          c.in_ok-write_node-2.ensures.written S q ∙ put_elsewhere right c.write_node-2.new.bytes (over t2 S) q not_right
-          ∙ c.in_ok-write_node.ensures.written S q ∙ put_elsewhere page c.write_node.new.bytes (over t1 S) q not_page
+          c.in_ok-write_node-2.ensures.written S q ∙ put_off (right, c.write_node-2.new.bytes) (over t2 S) q not_right
+          ∙ c.in_ok-write_node.ensures.written S q ∙ put_off (page, c.write_node.new.bytes) (over t1 S) q not_page
           ∙ ap (λ P. P q) before;
       taken = taken ∙ ap (λ l. right ∷ l) (sym (second_free ∙ first_free));
     }
 
 pub returns-in_err-right-clause-reading : goal.returns-in_err-right-clause-reading
-returns-in_err-right-clause-reading g c = record {
-  quiet = search rules;
-  passed = search rules;
-  err = err_of c.from_residual.result (tree_error c.in_err-right.field-0.0) (λ e. WriteErr c.args.txn.now c.args.pages.now c.take_page.new.pages e) c.from_residual.ensures.1
-      (take_failed c.args.txn.now c.args.pages.now c.take_page.new.pages c.in_err-right.field-0.0 c.in_err-right.ensures.reading.err);
-}
+returns-in_err-right-clause-reading g c = refused_as _ c.in_err-right.ensures.reading c.from_residual.ensures.1 (take_failed c.args.txn.now c.args.pages.now c.take_page.new.pages _)

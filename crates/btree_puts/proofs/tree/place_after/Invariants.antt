@@ -1,7 +1,6 @@
 use Rattle.std.proofs.Common.{◌≡◌, ◌≤◌, ◌∷◌, [], length}
 use Rattle.page_node.specs.claim.Entries.{Entry}
-use Rattle.btree_puts.specs.Putting.{linked}
-use Rattle.btree_puts.proofs.Linking.{linked_at}
+use Rattle.btree_puts.{specs.Putting.linked, proofs.Linking.linked_at}
 use Rattle.btree_puts.proofs.tree.place_after.Given as goal
 
 abbrev pub invariant-loop-i : goal.invariant-loop-i

@@ -1,5 +1,4 @@
-use Rattle.std.proofs.Common.{◌≡◌, ◌-◌, length, sym, subst, ap, ◌∙◌}
-use Rattle.std.specs.Option.{option_copied}
+use Rattle.std.{specs.Option.option_copied, proofs.Common.{◌≡◌, ◌-◌, length, sym, subst, ap, ◌∙◌}}
 use Rattle.page_node.specs.Entries.{key_at}
 use Rattle.page_btree.specs.claim.Keys.{IsBetween}
 use Rattle.btree_walks.proofs.order.are_ends_between.Goals as goal

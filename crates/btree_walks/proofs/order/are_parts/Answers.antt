@@ -1,6 +1,5 @@
-use Rattle.std.proofs.Common.{◌≡◌, ◌-◌, suc, inl, inr, subst, arith, rules}
+use Rattle.std.{specs.Option.option_copied, proofs.Common.{◌≡◌, ◌-◌, suc, inl, inr, subst, arith, rules}}
 use Rattle.std.proofs.lemmas.Bool.{cases_lt}
-use Rattle.std.specs.Option.{option_copied}
 use Rattle.page_node.specs.Entries.{key_at}
 use Rattle.page_btree.specs.claim.Keys.{Parts}
 use Rattle.btree_walks.specs.Order.{lower_of}
@@ -12,9 +11,6 @@ returns-then-not-is_part c = record {
   no = λ _ are.
       let es = c.args.node.now.entries in
       let k = c.loop-k.k in
-      let lt = c.loop-k-test.true in
-      let from = c.loop-k.auto.k in
-      let n = c.len-count.ensures.len in
       let e : suc (k - 1) ≡ k = omega arith in
       c.is_part.ensures.no c.if-not-is_part.true (subst (λ i. Parts (lower_of c.args.low.now es (k - 1)) (option_copied c.args.high) (key_at es i)) e (are.parts (k - 1) (omega arith)));
 }
@@ -28,16 +24,13 @@ loop-k-preserved c = λ j lt.
     elim (cases_lt (suc j) k) [
       | inl less ↦ c.loop-k.invariant j less
       | inr ge ↦ (
-          let here : k ≡ suc j = omega arith in
-          let one : k - 1 ≡ j = omega arith in
-          subst (λ i. Parts (lower_of low es i) high (key_at es (suc j))) one
-          (subst (λ i. Parts (lower_of low es (k - 1)) high (key_at es i)) here (c.is_part.ensures.yes c.if-not-is_part.false)))
+          subst (λ i. Parts (lower_of low es i) high (key_at es (suc j))) (omega arith)
+          (subst (λ i. Parts (lower_of low es (k - 1)) high (key_at es i)) (omega arith) (c.is_part.ensures.yes c.if-not-is_part.false)))
     ]
 
 pub returns : goal.returns
 returns c = record {
   yes = λ _.
-      let n = c.len-count.ensures.len in
       record {
         some = let some = c.if-count-eq0.false in omega arith;
         parts = λ j lt. c.loop-k.invariant j (let done = c.loop-k-test.false in omega arith);

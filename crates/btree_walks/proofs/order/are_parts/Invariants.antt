@@ -1,5 +1,4 @@
-use Rattle.std.proofs.Common.{◌<◌, ℕ, suc}
-use Rattle.std.specs.Option.{option_copied}
+use Rattle.std.{specs.Option.option_copied, proofs.Common.{◌<◌, ℕ, suc}}
 use Rattle.page_node.specs.Entries.{key_at}
 use Rattle.page_btree.specs.claim.Keys.{Parts}
 use Rattle.btree_walks.specs.Order.{lower_of}

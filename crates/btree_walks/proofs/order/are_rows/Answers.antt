@@ -1,5 +1,4 @@
-use Rattle.std.proofs.Common.{◌-◌, length, arith, rules}
-use Rattle.std.specs.Option.{option_copied}
+use Rattle.std.{specs.Option.option_copied, proofs.Common.{◌-◌, length, arith, rules}}
 use Rattle.page_btree.specs.claim.Keys.{IsBetween}
 use Rattle.btree_walks.proofs.Keys.{all_at, within_ends}
 use Rattle.btree_walks.proofs.order.are_rows.Goals as goal
@@ -17,14 +16,12 @@ returns-then-not-are_ends_between c = record {
 pub returns : goal.returns
 returns c = record {
   yes = λ yes.
-      let low = c.args.low.now in
-      let high = option_copied c.args.high in
       let es = c.args.node.now.entries in
       let rises = c.do_rise.ensures.yes yes in
       let ends = c.if-not-are_ends_between.false in
       record {
         rises = rises;
-        within = within_ends low high es rises (c.are_ends_between.ensures.first ends) (c.are_ends_between.ensures.last ends);
+        within = within_ends c.args.low.now (option_copied c.args.high) es rises (c.are_ends_between.ensures.first ends) (c.are_ends_between.ensures.last ends);
         some = let n = c.len.ensures.len in let not = c.if-len-eq0.false in omega arith;
       };
   no = search rules;

@@ -1,9 +1,6 @@
-use Rattle.std.proofs.Common.{◌≡◌, ◌-◌, suc, true, false, inl, inr, sym, ap, subst, ◌∙◌, arith, List, ℕ, rules}
+use Rattle.std.{specs.Ordering.is_lt, proofs.Common.{◌≡◌, ◌-◌, suc, true, false, inl, inr, sym, ap, subst, ◌∙◌, arith, List, ℕ, rules}}
 use Rattle.std.proofs.lemmas.Bool.{cases_lt}
-use Rattle.std.specs.Ordering.{is_lt}
-use Rattle.page_node.specs.Entries.{key_at}
-use Rattle.page_node.specs.claim.Places.{key_cmp}
-use Rattle.page_node.proofs.Laws.{rises_at}
+use Rattle.page_node.{specs.Entries.key_at, specs.claim.Places.key_cmp, proofs.Laws.rises_at}
 use Rattle.btree_walks.proofs.Keys.{rises_from}
 use Rattle.btree_walks.proofs.order.do_rise.Goals as goal
 
@@ -13,9 +10,6 @@ returns-then-not-is_below c = record {
   no = λ _ rises.
       let es = c.args.node.now.entries in
       let k = c.loop-k.k in
-      let lt = c.loop-k-test.true in
-      let from = c.loop-k.auto.k in
-      let n = c.len-k-end.ensures.len in
       let told : c.is_below.result ≡ is_lt (key_cmp (key_at es (k - 1)) (key_at es k)) =
       c.is_below.ensures ∙ ap (λ (x : List ℕ). is_lt (key_cmp x c.key-in-loop-k.result.now)) c.key.ensures.key ∙ ap (λ (x : List ℕ). is_lt (key_cmp (key_at es (k - 1)) x)) c.key-in-loop-k.ensures.key in
       let less : is_lt (key_cmp (key_at es (k - 1)) (key_at es k)) ≡ true = ap is_lt (rises_at es (k - 1) k rises (omega arith) (omega arith)) in
@@ -32,10 +26,8 @@ loop-k-preserved c = λ j lt.
       | inr ge ↦ (
           let told : c.is_below.result ≡ is_lt (key_cmp (key_at es (k - 1)) (key_at es k)) =
           c.is_below.ensures ∙ ap (λ (x : List ℕ). is_lt (key_cmp x c.key-in-loop-k.result.now)) c.key.ensures.key ∙ ap (λ (x : List ℕ). is_lt (key_cmp (key_at es (k - 1)) x)) c.key-in-loop-k.ensures.key in
-          let here : k ≡ suc j = omega arith in
-          let one : k - 1 ≡ j = omega arith in
-          subst (λ i. is_lt (key_cmp (key_at es i) (key_at es (suc j))) ≡ true) one
-          (subst (λ i. is_lt (key_cmp (key_at es (k - 1)) (key_at es i)) ≡ true) here (sym told ∙ c.if-not-is_below.false)))
+          subst (λ i. is_lt (key_cmp (key_at es i) (key_at es (suc j))) ≡ true) (omega arith)
+          (subst (λ i. is_lt (key_cmp (key_at es (k - 1)) (key_at es i)) ≡ true) (omega arith) (sym told ∙ c.if-not-is_below.false)))
     ]
 
 pub returns : goal.returns

@@ -1,7 +1,5 @@
-use Rattle.std.proofs.Common.{◌≡◌, ◌<◌, ℕ, suc, true}
-use Rattle.std.specs.Ordering.{is_lt}
-use Rattle.page_node.specs.Entries.{key_at}
-use Rattle.page_node.specs.claim.Places.{key_cmp}
+use Rattle.std.{specs.Ordering.is_lt, proofs.Common.{◌≡◌, ◌<◌, ℕ, suc, true}}
+use Rattle.page_node.specs.{Entries.key_at, claim.Places.key_cmp}
 use Rattle.btree_walks.proofs.order.do_rise.Given as goal
 
 abbrev pub invariant-loop-k : goal.invariant-loop-k

@@ -1,5 +1,4 @@
-use Rattle.std.proofs.Common.{sym, ◌∙◌}
-use Rattle.std.specs.Option.{option_copied}
+use Rattle.std.{specs.Option.option_copied, proofs.Common.{sym, ◌∙◌}}
 use Rattle.btree_walks.proofs.Keys.{ordered_leaf, leaf_ordered, ordered_above, above_ordered}
 use Rattle.btree_walks.proofs.order.is_ordered.Goals as goal
 

@@ -1,9 +1,5 @@
-use Rattle.std.proofs.Common.{◌≡◌, ◌-◌, true, false, List, ℕ, sym, ap, subst, ◌∙◌, rules}
-use Rattle.std.specs.Option.{option_copied}
-use Rattle.std.specs.Ordering.{is_lt}
-use Rattle.page_node.specs.Entries.{key_at}
-use Rattle.page_node.specs.claim.Places.{key_cmp}
-use Rattle.page_node.proofs.Laws.{is_less}
+use Rattle.std.{specs.Option.option_copied, specs.Ordering.is_lt, proofs.Common.{◌≡◌, ◌-◌, true, false, List, ℕ, sym, ap, subst, ◌∙◌, rules}}
+use Rattle.page_node.{specs.Entries.key_at, specs.claim.Places.key_cmp, proofs.Laws.is_less}
 use Rattle.page_btree.specs.claim.Keys.{IsUnder}
 use Rattle.btree_walks.specs.Order.{lower_of}
 use Rattle.btree_walks.proofs.order.is_part.Goals as goal

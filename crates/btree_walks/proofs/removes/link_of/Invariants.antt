@@ -1,7 +1,5 @@
-use Rattle.std.proofs.Common.{◌≡◌, ℕ, ◌<◌, ◌≤◌, false, length}
-use Rattle.std.specs.Ordering.{is_gt}
-use Rattle.page_node.specs.Entries.{key_at}
-use Rattle.page_node.specs.claim.Places.{key_cmp}
+use Rattle.std.{specs.Ordering.is_gt, proofs.Common.{◌≡◌, ℕ, ◌<◌, ◌≤◌, false, length}}
+use Rattle.page_node.specs.{Entries.key_at, claim.Places.key_cmp}
 use Rattle.btree_walks.proofs.removes.link_of.Given as goal
 
 abbrev pub invariant-loop-i : goal.invariant-loop-i

@@ -1,9 +1,6 @@
 use Rattle.std.proofs.Common.{◌≡◌, ◌≤◌, sym, ap, subst, ◌∙◌, arith, List}
-use Rattle.page_node.specs.claim.Node.{Node, Fits}
-use Rattle.page_node.specs.claim.Entries.{Entry, size_of}
-use Rattle.page_node.proofs.Laws.{node_unique}
-use Rattle.btree_walks.specs.Removing.{IsPutBack, unlinked}
-use Rattle.btree_walks.proofs.Edits.{size_remove}
+use Rattle.page_node.{specs.claim.Node.{Node, Fits}, specs.claim.Entries.{Entry, size_of}, proofs.Laws.node_unique}
+use Rattle.btree_walks.{specs.Removing.{IsPutBack, unlinked}, proofs.Edits.size_remove}
 use Rattle.page_btree.proofs.Outcomes.{map_ok}
 use Rattle.btree_walks.proofs.removes.remove_link.Goals as goal
 

@@ -1,11 +1,7 @@
-use Rattle.std.proofs.Common.{refl, subst}
-use Rattle.std.specs.Prelude.{remove}
+use Rattle.std.{specs.Prelude.remove, proofs.Common.{refl, subst}}
 use Rattle.page_node.specs.Spots.{IsRowTaken}
-use Rattle.btree_walks.specs.Removing.{IsPutBack, RowRemoves, IsDone, StaysAt, BackErr, TakenErr}
-use Rattle.page_btree.specs.declared.error.TreeError.TheVariants.{NotAStore}
-use Rattle.page_btree.proofs.Outcomes.{map_ok, map_err, err_of}
-use Rattle.btree_walks.proofs.Steps.{row_done, done_stays}
-use Rattle.btree_walks.proofs.Refusals.{back_taken}
+use Rattle.btree_walks.{specs.Removing.{IsPutBack, RowRemoves, IsDone, StaysAt, BackErr, TakenErr}, proofs.Steps.{row_done, done_stays}, proofs.Refusals.back_taken}
+use Rattle.page_btree.{specs.declared.error.TreeError.TheVariants.NotAStore, proofs.Outcomes.{map_ok, map_err, err_of}}
 use Rattle.btree_walks.proofs.removes.remove_row.Goals as goal
 
 pub returns-in_err-take_row-clause-err : goal.returns-in_err-take_row-clause-err

@@ -1,14 +1,8 @@
 use Rattle.std.proofs.Common.{◌≡◌, sym, ◌∙◌, rules}
 use Rattle.sector_device.specs.claim.Disk.{Image}
-use Rattle.page_store.specs.claim.Transactions.{stored, txn_pages, over, free_over}
-use Rattle.page_store.proofs.Stops.{quiet_more, passed_more}
-use Rattle.page_btree.specs.claim.Errors.{RemoveErr}
-use Rattle.btree_walks.specs.Removing.{CanRemove}
-use Rattle.page_btree.proofs.Outcomes.{err_of, reads_ok}
-use Rattle.btree_walks.proofs.Refusals.{remove_fails}
-use Rattle.page_btree.proofs.Tops.{no_root}
-use Rattle.btree_walks.proofs.FromRoot.{can_there, absent, kept, emptied}
-use Rattle.btree_walks.proofs.Lefts.{none_there}
+use Rattle.page_store.{specs.claim.Transactions.{stored, txn_pages, over, free_over}, proofs.Stops.passed_more}
+use Rattle.btree_walks.{specs.Removing.CanRemove, proofs.Refusals.remove_fails, proofs.FromRoot.{can_there, absent, kept, emptied}, proofs.Lefts.none_there}
+use Rattle.page_btree.proofs.{Outcomes.{reads_ok, refused_after}, Tops.no_root}
 use Rattle.btree_walks.proofs.removes.remove_through.Goals as goal
 
 pub returns-then-root-eq0 : goal.returns-then-root-eq0
@@ -21,22 +15,19 @@ returns-then-root-eq0 g c = record {
 }
 
 pub returns-in_err-remove_below : goal.returns-in_err-remove_below
-returns-in_err-remove_below g c = record {
-  reading = record {
-    quiet = quiet_more c.args.pages.now c.read.new.pages c.remove_below.new.pages c.in_ok-read.ensures.reading.quiet c.remove_below.ensures.reading.quiet;
-    passed = search rules;
-    err = let t = c.args.txn.now in
-        let p = c.root-root.result in
-        let below = λ (S : Image). (c.read.new.page ≡ over t S p) × CanRemove (txn_pages t) (over t S) (free_over t S) c.level_of-level.result c.args.key.now p in
-        err_of c.from_residual-in_err-remove_below.result c.in_err-remove_below.field-0.0 (λ e. RemoveErr t c.args.pages.now c.remove_below.new.pages e) c.from_residual-in_err-remove_below.ensures.1
-        (remove_fails below t c.args.pages.now c.read.new.pages c.remove_below.new.pages (c.in_ok-read.ensures.reading.passed) c.remove_below.ensures.reading.quiet
-        (λ honest m holds. can_there c.args.txn.now c.remove_below.new.txn c.args.pages.now c.read.new.pages c.remove_below.new.pages c.root-root.result c.level_of-level.result c.read.new.page c.args.key.now c.root-root.ensures.root c.if-root-eq0.false c.in_ok-read.ensures.reading.quiet c.remove_below.ensures.reading.quiet c.in_ok-read.ensures.reads c.level_of-level.ensures.level honest m holds)
-        c.in_err-remove_below.field-0.0 c.in_err-remove_below.ensures.reading.err);
-  };
-  pages = search rules;
-  remove = search rules;
-  costs = search rules;
-}
+returns-in_err-remove_below g c =
+    let t = c.args.txn.now in
+    let below = λ (S : Image). (c.read.new.page ≡ over t S c.root-root.result) × CanRemove (txn_pages t) (over t S) (free_over t S) c.level_of-level.result c.args.key.now c.root-root.result in
+    let first = c.in_ok-read.ensures.reading.passed in
+    let later = c.in_err-remove_below.ensures.reading in
+    record {
+      reading = refused_after _ first later c.from_residual-in_err-remove_below.ensures.1 (remove_fails below t _ _ _ first later.quiet (λ honest m holds.
+          can_there t c.remove_below.new.txn c.args.pages.now c.read.new.pages c.remove_below.new.pages c.root-root.result c.level_of-level.result c.read.new.page c.args.key.now c.root-root.ensures.root c.if-root-eq0.false
+          first.quiet later.quiet c.in_ok-read.ensures.reads c.level_of-level.ensures.level honest m holds) _);
+      pages = search rules;
+      remove = search rules;
+      costs = search rules;
+    }
 
 pub returns-in-Absent : goal.returns-in-Absent
 returns-in-Absent g c = record {

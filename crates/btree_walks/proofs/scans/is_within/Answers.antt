@@ -1,6 +1,4 @@
-use Rattle.std.proofs.Common.{nat_eq, cond, ap, sym, ◌∙◌}
-use Rattle.std.specs.Prelude.{Some, None}
-use Rattle.std.specs.List.{starts_with}
+use Rattle.std.{specs.Prelude.{Some, None}, specs.List.starts_with, proofs.Common.{nat_eq, cond, ap, sym, ◌∙◌}}
 use Rattle.btree_walks.proofs.scans.is_within.Goals as goal
 
 pub returns : goal.returns

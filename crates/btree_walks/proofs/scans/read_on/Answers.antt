@@ -1,9 +1,6 @@
-use Rattle.std.proofs.Common.{◌≡◌, ℕ, List, cond, ap, refl, subst, ◌∙◌}
-use Rattle.std.specs.Prelude.{Some, None}
-use Rattle.std.specs.FinMap.{entries}
+use Rattle.std.{specs.Prelude.{Some, None}, specs.FinMap.entries, proofs.Common.{◌≡◌, ℕ, List, cond, ap, refl, subst, ◌∙◌}}
 use Rattle.page_btree.specs.Seeking.{bound_in, IsFrom}
-use Rattle.btree_walks.specs.declared.held.HeldLeaves.{HeldLeaves}
-use Rattle.btree_walks.proofs.Ready.{ready_last, ready_read}
+use Rattle.btree_walks.{specs.declared.held.HeldLeaves.HeldLeaves, proofs.Ready.{ready_last, ready_read}}
 use Rattle.btree_walks.proofs.scans.read_on.Goals as goal
 
 pub returns-then-not-leaf-clause-rows : goal.returns-then-not-leaf-clause-rows

@@ -1,63 +1,32 @@
-use Rattle.std.proofs.Common.{◌≡◌, ℕ, List, refl, sym, subst, ◌∙◌, rules}
-use Rattle.std.specs.Prelude.{IfOk, IfSome, Some, true, false}
-use Rattle.std.specs.FinMap.{contains_key, remove as remove_key}
+use Rattle.std.{specs.Prelude.{IfOk, IfSome, Some, true, false}, specs.FinMap.{contains_key, remove as remove_key}, proofs.Common.{◌≡◌, ℕ, List, refl, sym, subst, ◌∙◌}}
 use Rattle.sector_device.specs.claim.Disk.{Image}
-use Rattle.page_store.specs.claim.Transactions.{stored, txn_pages, txn_root, over, free_over, Passed}
-use Rattle.page_store.proofs.Stops.{quiet_more, passed_more}
-use Rattle.page_node.specs.claim.Entries.{Entry}
-use Rattle.page_node.specs.claim.Node.{IsNode}
-use Rattle.page_node.specs.claim.Places.{Rises}
-use Rattle.page_btree.specs.claim.Map.{Holds, InTxn}
-use Rattle.page_btree.specs.claim.Errors.{RemoveErr}
-use Rattle.page_btree.specs.Editing.{IsAlike, LeafErr}
-use Rattle.btree_walks.specs.Sparing.{IsLeafTaken}
-use Rattle.page_btree.specs.Leading.{CanLead}
-use Rattle.page_btree.proofs.Outcomes.{map_ok, map_err, err_of}
-use Rattle.btree_walks.proofs.Refusals.{remove_fails}
-use Rattle.page_btree.proofs.Tops.{rooted, can_get, at_root}
-use Rattle.btree_walks.proofs.Lefts.{can_remove, absent_same, had_none, had_after, kept_holds, holds_at}
-use Rattle.page_btree.proofs.Editing.{still_in}
-use Rattle.page_btree.proofs.Leads.{can_lead, leads_leaf}
-use Rattle.btree_walks.proofs.Leads.{removes_there, reads_remove}
-use Rattle.btree_walks.proofs.Spares.{top_some, none_only, leaf_fails}
+use Rattle.page_store.specs.claim.Transactions.{stored, txn_pages, txn_root, over, free_over}
+use Rattle.page_node.specs.{claim.Entries.Entry, claim.Node.IsNode, claim.Places.Rises}
+use Rattle.page_btree.{specs.claim.Map.{Holds, InTxn}, specs.Editing.IsAlike, specs.Leading.CanLead, proofs.Outcomes.{refused_as, reads_after}}
+use Rattle.page_btree.proofs.{Tops.{rooted, can_get, at_root}, Editing.still_in, Leads.{can_lead, leads_leaf}}
+use Rattle.btree_walks.{specs.Sparing.IsLeafTaken, proofs.Refusals.remove_fails, proofs.Lefts.{can_remove, absent_same, had_none, had_after, kept_holds, holds_at}}
+use Rattle.btree_walks.proofs.{Leads.{removes_there, reads_remove}, Spares.{top_some, none_only, leaf_fails}}
 use Rattle.btree_walks.proofs.takes.take_spare.Goals as goal
 
 pub returns-in_err-leaf-clause-reading : goal.returns-in_err-leaf-clause-reading
-returns-in_err-leaf-clause-reading g c = record {
-  quiet = search rules;
-  passed = search rules;
-  err = let t0 = c.args.txn.now in
-      let n = txn_pages t0 in
-      let root = c.root-root.result in
-      let key = c.args.key.now in
-      let can = λ (S : Image). CanLead n (over t0 S) key root in
-      err_of c.from_residual.result c.in_err-leaf.field-0.0 (RemoveErr t0 c.args.pages.now c.find_leaf.new.pages) c.from_residual.ensures.1
-      (reads_remove can t0 c.args.pages.now c.find_leaf.new.pages (λ honest m holds.
-      let S = stored c.args.pages.now in
-      can_lead n (over t0 S) root (free_over t0 S) m key (subst (λ (r : ℕ). Holds n (over t0 S) r (free_over t0 S) m) (sym c.root-root.ensures.root) holds) c.if-root-eq0.false) c.in_err-leaf.field-0.0 c.in_err-leaf.ensures.reading.err);
-}
+returns-in_err-leaf-clause-reading g c =
+    let t = c.args.txn.now in
+    let can = λ (S : Image). CanLead (txn_pages t) (over t S) c.args.key.now c.root-root.result in
+    refused_as _ c.in_err-leaf.ensures.reading c.from_residual.ensures.1 (reads_remove can t c.args.pages.now c.find_leaf.new.pages (λ honest m holds.
+    can_lead (txn_pages t) (over t (stored c.args.pages.now)) c.root-root.result (free_over t (stored c.args.pages.now)) m c.args.key.now (rw c.root-root.ensures.root holds) c.if-root-eq0.false) _)
 
 pub returns-clause-reading : goal.returns-clause-reading
-returns-clause-reading g c = record {
-  quiet = quiet_more _ _ _ c.find_leaf.ensures.reading.quiet c.take_leaf.ensures.reading.quiet;
-  passed = map_ok c.take_leaf.result (λ _. Passed c.find_leaf.new.pages c.take_leaf.new.pages) (λ _. Passed c.args.pages.now c.take_leaf.new.pages)
-      (λ did passed. passed_more _ _ _ c.in_ok-leaf.ensures.reading.passed passed) c.take_leaf.ensures.reading.passed;
-  err = let t0 = c.args.txn.now in
-      let n = txn_pages t0 in
-      let root = c.root-root.result in
-      let key = c.args.key.now in
-      let leaf = c.in_ok-leaf.leaf in
-      let can : Image → Type 0 = λ T. (es : List Entry) × IsNode (over t0 T leaf) (record { level = 0; entries = es }) × Rises es in
-      map_err c.take_leaf.result (LeafErr leaf t0 c.find_leaf.new.pages c.take_leaf.new.pages) (RemoveErr t0 c.args.pages.now c.take_leaf.new.pages)
-      (λ e why. remove_fails can t0 c.args.pages.now c.find_leaf.new.pages c.take_leaf.new.pages c.in_ok-leaf.ensures.reading.passed c.take_leaf.ensures.reading.quiet
-      (λ honest m holds.
-      let S = stored c.args.pages.now in
-      let before = c.take_leaf.ensures.reading.quiet.honest honest in
-      let lead = can_lead n (over t0 S) root (free_over t0 S) m key (subst (λ (r : ℕ). Holds n (over t0 S) r (free_over t0 S) m) (sym c.root-root.ensures.root) holds) c.if-root-eq0.false in
-      subst can (sym (c.find_leaf.ensures.reading.quiet.same before)) (leads_leaf n (over t0 S) lead.0 key root leaf c.find_leaf.ensures.few lead.2.0 (c.in_ok-leaf.ensures.leads before lead.0 lead.2)))
-      e (leaf_fails can leaf t0 c.find_leaf.new.pages c.take_leaf.new.pages (λ honest is. is) e why))
-      c.take_leaf.ensures.reading.err;
-}
+returns-clause-reading g c =
+    let t = c.args.txn.now in
+    let leaf = c.in_ok-leaf.leaf in
+    let can : Image → Type 0 = λ T. (es : List Entry) × IsNode (over t T leaf) (record { level = 0; entries = es }) × Rises es in
+    let first = c.in_ok-leaf.ensures.reading.passed in
+    let later = c.take_leaf.ensures.reading in
+    reads_after first later (λ e why. remove_fails can t _ _ _ first later.quiet (λ honest m holds.
+    let before = later.quiet.honest honest in
+    let lead = can_lead (txn_pages t) (over t (stored c.args.pages.now)) c.root-root.result (free_over t (stored c.args.pages.now)) m c.args.key.now (rw c.root-root.ensures.root holds) c.if-root-eq0.false in
+    rw (first.quiet.same before) (leads_leaf _ _ lead.0 _ _ leaf c.find_leaf.ensures.few lead.2.0 (c.in_ok-leaf.ensures.leads before lead.0 lead.2)))
+    e (leaf_fails can leaf t c.find_leaf.new.pages c.take_leaf.new.pages (λ honest is. is) e why))
 
 pub returns-clause-kept : goal.returns-clause-kept
 returns-clause-kept g c = none_only c.take_leaf.result (IsAlike c.args.txn.now c.take_leaf.new.txn) c.take_leaf.ensures.kept

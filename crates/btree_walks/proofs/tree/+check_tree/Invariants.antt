@@ -1,5 +1,4 @@
-use Rattle.std.proofs.Common.{◌≡◌, length}
-use Rattle.std.specs.Option.{option_copied}
+use Rattle.std.{specs.Option.option_copied, proofs.Common.{◌≡◌, length}}
 use Rattle.page_store.specs.claim.Transactions.{stored, disk_in, count_of, txn_pages, over, Passed}
 use Rattle.page_node.specs.claim.Node.{IsNode}
 use Rattle.btree_walks.proofs.Children.{AreBelow}

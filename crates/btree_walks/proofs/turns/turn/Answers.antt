@@ -1,7 +1,5 @@
 use Rattle.std.proofs.Common.{List, ℕ, ◌+◌, length, sym, ap, subst, ◌∙◌}
-use Rattle.page_node.specs.claim.Entries.{Entry}
-use Rattle.page_node.specs.claim.Node.{IsNode}
-use Rattle.page_node.specs.Walking.{IsAhead}
+use Rattle.page_node.specs.{claim.Entries.Entry, claim.Node.IsNode, Walking.IsAhead}
 use Rattle.btree_walks.proofs.Leaves.{next_leaf, from_empty, where_err}
 use Rattle.btree_walks.proofs.turns.turn.Goals as goal
 

@@ -1,5 +1,4 @@
-use Rattle.btree_walks.proofs.Prefixes.{find_under, under_rises}
-use Rattle.btree_walks.proofs.Taken.{taken_none, taken_more, taken_all, taken_few}
+use Rattle.btree_walks.proofs.{Prefixes.{find_under, under_rises}, Taken.{taken_none, taken_more, taken_all, taken_few}}
 use Rattle.btree_walks.proofs.whole.laws.Goals as goal
 
 pub returns : goal.returns

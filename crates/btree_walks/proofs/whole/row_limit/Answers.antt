@@ -7,5 +7,4 @@ pub returns : goal.returns
 returns c = λ P m holds.
     let t = c.args.txn.now in
     let few = few_rows (txn_pages t) (over t P) (txn_root t) (free_over t P) m holds in
-    let count = c.page_count.ensures in
     omega arith

@@ -1,4 +1,4 @@
-use Rattle.std.proofs.Common.{arith, get_or}
+use Rattle.std.proofs.Common.{arith, get_or, rules}
 use Rattle.byte_stream.proofs.DigitLemmas.{fits_more, small_more, value_more}
 use Rattle.byte_stream.proofs.digits.value.Goals as goal
 
@@ -9,9 +9,4 @@ pub overflow_add-n : goal.overflow_add-n
 overflow_add-n c = fits_more c.loop-b.n c.loop-b.b-index _ c.loop-b.invariant.small (omega (arith, c.requires.few)) (c.requires.each c.loop-b.b-index 0 c.loop-b-test.true)
 
 pub loop-b-preserved : goal.loop-b-preserved
-loop-b-preserved c =
-    let is = c.requires.each c.loop-b.b-index 0 c.loop-b-test.true in
-    record {
-      value = value_more c.args.bytes.now _ _ c.loop-b.invariant.value c.loop-b-test.true is;
-      small = small_more _ _ _ c.loop-b.invariant.small is;
-    }
+loop-b-preserved c = search (rules, c.requires.each, c.loop-b.invariant.value, c.loop-b.invariant.small, value_more, small_more)

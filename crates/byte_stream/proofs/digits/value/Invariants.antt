@@ -1,5 +1,4 @@
-use Rattle.std.proofs.Common.{◌≡◌, ◌<◌, ◌^◌, take}
-use Rattle.std.specs.Str.Parse.{digits_value}
+use Rattle.std.{specs.Str.Parse.digits_value, proofs.Common.{◌≡◌, ◌<◌, ◌^◌, take}}
 use Rattle.byte_stream.proofs.digits.value.Given as goal
 
 abbrev pub invariant-loop-b : goal.invariant-loop-b

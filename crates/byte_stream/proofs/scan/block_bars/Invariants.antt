@@ -1,5 +1,4 @@
-use Rattle.std.proofs.Common.{◌≡◌, ◌≤◌, take, eqb}
-use Rattle.std.specs.List.{count_by}
+use Rattle.std.{specs.List.count_by, proofs.Common.{◌≡◌, ◌≤◌, take, eqb}}
 use Rattle.byte_stream.proofs.scan.block_bars.Given as goal
 
 abbrev pub invariant-loop-b : goal.invariant-loop-b

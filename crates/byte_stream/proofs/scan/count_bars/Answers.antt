@@ -1,5 +1,4 @@
-use Rattle.std.proofs.Common.{◌≡◌, ◌+◌, ◌∙◌, ap, take, eqb, arith}
-use Rattle.std.specs.List.{count_by}
+use Rattle.std.{specs.List.count_by, proofs.Common.{◌≡◌, ◌+◌, ◌∙◌, ap, take, eqb, arith, rules}}
 use Rattle.byte_stream.proofs.ScanLemmas.{count_more, count_few, count_last}
 use Rattle.byte_stream.proofs.scan.count_bars.Goals as goal
 
@@ -15,5 +14,4 @@ loop-at-preserved c =
     }
 
 pub returns : goal.returns
-returns c =
-    ap (λ n. n + c.block_bars-2.result) c.loop-at.invariant.bars ∙ count_last c.args.line.now c.loop-at.at c.block_bars-2.result c.block_bars-2.ensures
+returns c = search (rules, c.loop-at.invariant.bars, c.block_bars-2.ensures, count_last)

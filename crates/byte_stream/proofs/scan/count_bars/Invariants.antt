@@ -1,5 +1,4 @@
-use Rattle.std.proofs.Common.{◌≡◌, ◌-◌, ◌≤◌, take, eqb, length}
-use Rattle.std.specs.List.{count_by}
+use Rattle.std.{specs.List.count_by, proofs.Common.{◌≡◌, ◌-◌, ◌≤◌, take, eqb, length}}
 use Rattle.byte_stream.proofs.scan.count_bars.Given as goal
 
 abbrev pub invariant-loop-at : goal.invariant-loop-at

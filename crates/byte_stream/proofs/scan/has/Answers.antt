@@ -1,4 +1,4 @@
-use Rattle.std.proofs.Common.{◌≡◌, false, eqb, arith, subst, All}
+use Rattle.std.proofs.Common.{◌≡◌, false, eqb, arith, rules}
 use Rattle.std.proofs.lemmas.List.{take_all}
 use Rattle.std.proofs.lemmas.List.Elements.{All-more}
 use Rattle.byte_stream.proofs.ScanLemmas.{first_no, second_no}
@@ -9,5 +9,4 @@ loop-b-preserved c = λ none.
     All-more (λ b. eqb b c.args.byte ≡ false) c.args.block.now c.loop-b.b-index 0 (omega arith) (c.loop-b.invariant (first_no _ _ none)) (second_no c.loop-b.found _ none)
 
 pub returns : goal.returns
-returns c = λ none.
-    subst (All (λ b. eqb b c.args.byte ≡ false)) (take_all c.loop-b.b-index c.args.block.now c.loop-b-test.false) (c.loop-b.invariant none)
+returns c = search (rules, c.loop-b.invariant, take_all)

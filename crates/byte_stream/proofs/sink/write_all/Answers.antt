@@ -1,4 +1,4 @@
-use Rattle.std.proofs.Common.{◌+◌}
+use Rattle.std.proofs.Common.{◌+◌, rules}
 use Rattle.byte_stream.proofs.SendLemmas.{sent_more, piece_within, sent_prefix, sent_stays}
 use Rattle.byte_stream.proofs.sink.write_all.Goals as goal
 
@@ -6,10 +6,7 @@ pub returns-in-Ok-eq0 : goal.returns-in-Ok-eq0
 returns-in-Ok-eq0 g c = sent_prefix _ _ c.args.bytes.now (c.loop-done.done + c.in-Ok-eq0.field-0) (sent_more _ _ _ c.args.bytes.now c.loop-done.done c.in-Ok-eq0.field-0 c.loop-done.invariant.written c.in-Ok-eq0.ensures.bytes)
 
 pub loop-done-preserved-in-Ok : goal.loop-done-preserved-in-Ok
-loop-done-preserved-in-Ok g c = record {
-  within = piece_within c.args.bytes.now c.loop-done.done c.in-Ok.n c.loop-done.invariant.within c.in-Ok.ensures.bound;
-  written = sent_more _ _ _ c.args.bytes.now c.loop-done.done c.in-Ok.n c.loop-done.invariant.written c.in-Ok.ensures.bytes;
-}
+loop-done-preserved-in-Ok g c = search (rules, c.loop-done.invariant.within, c.in-Ok.ensures.bound, c.loop-done.invariant.written, c.in-Ok.ensures.bytes, piece_within, sent_more)
 
 pub returns-then-not-is_tried_again : goal.returns-then-not-is_tried_again
 returns-then-not-is_tried_again g c = sent_stays _ _ _ c.args.bytes.now c.loop-done.done c.loop-done.invariant.written c.in-Err.ensures.bytes

@@ -1,5 +1,4 @@
-use Rattle.std.proofs.Common.{sym, ◌∙◌}
-use Rattle.std.specs.Option.{option_copied}
+use Rattle.std.{specs.Option.option_copied, proofs.Common.{sym, ◌∙◌}}
 use Rattle.check_command.proofs.Beside.{copied_same, is_long}
 use Rattle.check_command.proofs.audit_plan.report_beside.Goals as goal
 

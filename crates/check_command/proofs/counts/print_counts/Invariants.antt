@@ -1,5 +1,4 @@
-use Rattle.std.proofs.Common.{◌≡◌, ◌++◌, take}
-use Rattle.std.specs.List.{flat_map}
+use Rattle.std.{specs.List.flat_map, proofs.Common.{◌≡◌, ◌++◌, take}}
 use Rattle.check_command.specs.Counts.{county_line}
 use Rattle.check_command.proofs.counts.print_counts.Given as goal
 

@@ -1,7 +1,4 @@
-use Rattle.std.proofs.Common.{◌≡◌, true, take, min}
-use Rattle.std.specs.Char.{is_ascii_digit}
-use Rattle.std.specs.List.{list_all}
-use Rattle.std.specs.Str.Parse.{digits_value}
+use Rattle.std.{specs.Char.is_ascii_digit, specs.List.list_all, specs.Str.Parse.digits_value, proofs.Common.{◌≡◌, true, take, min}}
 use Rattle.command_line.proofs.options.number_up_to.Given as goal
 
 abbrev pub invariant-loop-digit : goal.invariant-loop-digit

@@ -1,6 +1,5 @@
 use Rattle.std.proofs.Common.{◌≡◌, ◌*◌, None, sym, ap, ◌∙◌}
-use Rattle.command_line.specs.Sizes.{few_enough, revision_pages}
-use Rattle.command_line.proofs.Reckoning.{too_many, more_than, one_plan}
+use Rattle.command_line.{specs.Sizes.{few_enough, revision_pages}, proofs.Reckoning.{too_many, more_than, one_plan}}
 use Rattle.command_line.proofs.sizes.size_for.Goals as goal
 
 pub returns-in_err-times-clause-value : goal.returns-in_err-times-clause-value

@@ -1,10 +1,5 @@
 use Rattle.std.proofs.Common.{ℕ, List, Option, Ok, ◌∙◌, subst, map}
-use Rattle.command_output.specs.Tables.{Words, told}
-use Rattle.command_output.specs.Lines.{line_path, named}
-use Rattle.command_output.specs.Sentences.{sentence_of}
-use Rattle.command_output.specs.claim.Writing.{Told}
-use Rattle.command_output.specs.Writing.{written_of}
-use Rattle.command_output.specs.Explaining.{TellsKnown}
+use Rattle.command_output.specs.{Tables.{Words, told}, Lines.{line_path, named}, Sentences.sentence_of, claim.Writing.Told, Writing.written_of, Explaining.TellsKnown}
 use Rattle.command_output.proofs.explaining.tell_known.Goals as goal
 
 pub returns-in-Ok : goal.returns-in-Ok

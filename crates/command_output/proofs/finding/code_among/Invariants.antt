@@ -1,6 +1,5 @@
 use Rattle.std.proofs.Common.{◌≡◌, drop, map}
-use Rattle.command_output.specs.Codes.{code_among}
-use Rattle.command_output.specs.Tables.{row_words}
+use Rattle.command_output.specs.{Codes.code_among, Tables.row_words}
 use Rattle.command_output.proofs.finding.code_among.Given as goal
 
 abbrev pub invariant-loop-row : goal.invariant-loop-row

@@ -1,6 +1,5 @@
 use Rattle.std.proofs.Common.{ℕ, List, ◌∙◌, inl, inr, refl, subst}
-use Rattle.command_output.specs.claim.Writing.{Told}
-use Rattle.command_output.specs.Writing.{written_of}
+use Rattle.command_output.specs.{claim.Writing.Told, Writing.written_of}
 use Rattle.command_output.proofs.telling.tell.Goals as goal
 
 pub returns-in-Ok : goal.returns-in-Ok

@@ -1,9 +1,7 @@
-use Rattle.std.proofs.Common.{◌++◌, ℕ, List, codes, ap, ◌∙◌}
-use Rattle.std.specs.List.{flat_map}
+use Rattle.std.{specs.List.flat_map, proofs.Common.{◌++◌, ℕ, List, codes, ap, ◌∙◌}}
 use Rattle.std.proofs.lemmas.List.{take_all}
 use Rattle.std.proofs.lemmas.Result.{IfOk-from_err}
-use Rattle.desk_model.specs.declared.block.BlockRow.{BlockRow}
-use Rattle.desk_model.specs.claim.Step.{block_text}
+use Rattle.desk_model.specs.{declared.block.BlockRow.BlockRow, claim.Step.block_text}
 use Rattle.desk_catalogue.proofs.Lines.{lines_on}
 use Rattle.desk_catalogue.proofs.blocks.blocks_text.Goals as goal
 

@@ -1,5 +1,4 @@
-use Rattle.std.proofs.Common.{◌≡◌, ◌++◌, drop}
-use Rattle.std.specs.Option.{option_copied}
+use Rattle.std.{specs.Option.option_copied, proofs.Common.{◌≡◌, ◌++◌, drop}}
 use Rattle.desk_catalogue.specs.Cutting.{changes_in}
 use Rattle.desk_catalogue.proofs.changes.changed_counties.Given as goal
 

@@ -1,6 +1,5 @@
 use Rattle.desk_model.specs.claim.Baf.{body_read}
-use Rattle.desk_catalogue.specs.Patches.{IsPatchRefusal}
-use Rattle.desk_catalogue.proofs.Overlays.{listed_length, listed_long, no_patch, overlaid_stays, part_told, read_patched, read_long}
+use Rattle.desk_catalogue.{specs.Patches.IsPatchRefusal, proofs.Overlays.{listed_length, listed_long, no_patch, overlaid_stays, part_told, read_patched, read_long}}
 use Rattle.desk_catalogue.proofs.Results.{match_of}
 use Rattle.desk_catalogue.proofs.patch.patched_districts.Goals as goal
 

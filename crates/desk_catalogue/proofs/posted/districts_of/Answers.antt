@@ -1,11 +1,7 @@
-use Rattle.std.proofs.Common.{ℕ, Option, length, ap, ◌∙◌}
-use Rattle.std.specs.Prelude.{unwrap_or}
+use Rattle.std.{specs.Prelude.unwrap_or, proofs.Common.{ℕ, Option, length, ap, ◌∙◌}}
 use Rattle.std.proofs.lemmas.List.{length-map}
 use Rattle.desk_model.specs.claim.Baf.{body_read}
-use Rattle.desk_catalogue.specs.Kept.{IsRefusalOf}
-use Rattle.desk_catalogue.proofs.Overlays.{listed_length}
-use Rattle.desk_catalogue.proofs.Results.{match_of}
-use Rattle.desk_catalogue.proofs.Whole.{read_whole}
+use Rattle.desk_catalogue.{specs.Kept.IsRefusalOf, proofs.Overlays.listed_length, proofs.Results.match_of, proofs.Whole.read_whole}
 use Rattle.desk_catalogue.proofs.posted.districts_of.Goals as goal
 
 pub returns-in_err-listed : goal.returns-in_err-listed

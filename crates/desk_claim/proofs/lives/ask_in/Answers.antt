@@ -1,11 +1,9 @@
 use Rattle.std.proofs.Common.{Ok}
 use Rattle.serve_command.specs.http_seats.Streams.{traffic}
-use Rattle.desk_claim.specs.claim.Streams.{Ends}
+use Rattle.desk_claim.{specs.claim.Streams.Ends, specs.Inside.{IsAsked, IsLife}, proofs.Left.given_back}
 use Rattle.store_lives.proofs.VersionLiving.{clerk_lives, refused_lives}
 use Rattle.desk_claim.specs.declared.lives.Task.TheVariants as task
 use Rattle.desk_claim.specs.declared.lives.Done.TheVariants as done
-use Rattle.desk_claim.specs.Inside.{IsAsked, IsLife}
-use Rattle.desk_claim.proofs.Left.{given_back}
 use Rattle.desk_claim.proofs.lives.ask_in.Goals as goal
 
 pub returns-in-Err : goal.returns-in-Err

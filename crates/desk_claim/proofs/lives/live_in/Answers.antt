@@ -1,12 +1,9 @@
-use Rattle.std.proofs.Common.{sym, subst}
-use Rattle.std.specs.Result.{IfOk}
+use Rattle.std.{specs.Result.IfOk, proofs.Common.{sym, subst}}
 use Rattle.serve_command.specs.http_seats.Streams.{traffic}
-use Rattle.desk_claim.specs.claim.Streams.{Ends}
+use Rattle.desk_claim.specs.{claim.Streams.Ends, declared.lives.Task.Task, Inside.IsLife}
 use Rattle.store_lives.specs.VersionInside.{LivesIn}
-use Rattle.desk_claim.specs.declared.lives.Task.{Task}
 use Rattle.desk_claim.specs.declared.lives.Task.TheVariants as task_of
 use Rattle.desk_claim.specs.declared.lives.Done.TheVariants as done
-use Rattle.desk_claim.specs.Inside.{IsLife}
 use Rattle.desk_claim.proofs.lives.live_in.Goals as goal
 
 pub returns-in-Ask : goal.returns-in-Ask

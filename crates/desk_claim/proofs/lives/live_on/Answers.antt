@@ -2,16 +2,9 @@ use Rattle.std.proofs.Common.{◌≡◌, ◌<◌, length, List, [], ◌∷◌, �
 use Rattle.std.proofs.lemmas.Bool.Decides.{nat_tests}
 use Rattle.std.proofs.lemmas.List.{nil_from_length}
 use Rattle.std.proofs.lemmas.Result.{IfOk-from_err}
-use Rattle.store_lives.specs.DeskInside.{GoingOn}
-use Rattle.store_lives.proofs.DeskLiving.{popped}
+use Rattle.store_lives.{specs.DeskInside.GoingOn, specs.VersionInside.Knows, proofs.DeskLiving.popped, proofs.VersionLiving.{begun, lives_on, all_lived}}
 use Rattle.serve_command.specs.http_seats.Streams.{traffic}
-use Rattle.desk_claim.specs.claim.Streams.{Ends}
-use Rattle.store_lives.specs.VersionInside.{Knows}
-use Rattle.store_lives.proofs.VersionLiving.{begun, lives_on, all_lived}
-use Rattle.desk_claim.specs.declared.lives.Task.{Task}
-use Rattle.desk_claim.specs.declared.lives.Done.{Done}
-use Rattle.desk_claim.specs.claim.Sentence.{LifeMay}
-use Rattle.desk_claim.proofs.Sentence.{desk_of_lives}
+use Rattle.desk_claim.{specs.claim.Streams.Ends, specs.declared.lives.Task.Task, specs.declared.lives.Done.Done, specs.claim.Sentence.LifeMay, proofs.Sentence.desk_of_lives}
 use Rattle.desk_claim.proofs.lives.live_on.Goals as goal
 
 pub loop-alloc-init : goal.loop-alloc-init

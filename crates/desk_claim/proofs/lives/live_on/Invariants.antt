@@ -1,11 +1,8 @@
 use Rattle.std.proofs.Common.{length}
 use Rattle.desk_model.specs.claim.Desk.{Desk}
-use Rattle.store_lives.specs.DeskInside.{GoingOn}
+use Rattle.store_lives.specs.{DeskInside.GoingOn, claim.Versions.Version, VersionInside.{HoldsIn, Knows}}
 use Rattle.serve_command.specs.http_seats.Streams.{traffic}
-use Rattle.desk_claim.specs.claim.Streams.{Ends}
-use Rattle.store_lives.specs.claim.Versions.{Version}
-use Rattle.store_lives.specs.VersionInside.{HoldsIn, Knows}
-use Rattle.desk_claim.specs.claim.Sentence.{LifeMay}
+use Rattle.desk_claim.specs.{claim.Streams.Ends, claim.Sentence.LifeMay}
 use Rattle.desk_claim.proofs.lives.live_on.Given as goal
 
 abbrev pub invariant-loop-alloc : goal.invariant-loop-alloc

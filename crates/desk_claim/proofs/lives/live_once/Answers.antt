@@ -1,7 +1,6 @@
 use Rattle.serve_command.specs.http_seats.Streams.{traffic}
-use Rattle.desk_claim.specs.claim.Streams.{Ends}
+use Rattle.desk_claim.specs.{claim.Streams.Ends, Inside.IsLife}
 use Rattle.store_lives.proofs.VersionLiving.{starts_in, stops_in}
-use Rattle.desk_claim.specs.Inside.{IsLife}
 use Rattle.desk_claim.proofs.lives.live_once.Goals as goal
 
 pub returns-in-Ok : goal.returns-in-Ok

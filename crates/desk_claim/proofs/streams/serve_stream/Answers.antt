@@ -1,5 +1,4 @@
-use Rattle.desk_claim.specs.claim.Streams.{Ends}
-use Rattle.desk_claim.proofs.Sim.{stream_lived}
+use Rattle.desk_claim.{specs.claim.Streams.Ends, proofs.Sim.stream_lived}
 use Rattle.desk_claim.proofs.streams.serve_stream.Goals as goal
 
 pub returns : goal.returns

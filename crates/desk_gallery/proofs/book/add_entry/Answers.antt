@@ -1,8 +1,5 @@
 use Rattle.std.proofs.Common.{◌≡◌, ◌++◌, ◌∷◌, [], sym, ◌∙◌, ap, subst, List, ℕ, refl}
-use Rattle.desk_gallery.specs.declared.book.LogEntry.{LogEntry}
-use Rattle.desk_gallery.specs.Rules.{key_after, lent_change, lists_of, NoneBy}
-use Rattle.desk_gallery.proofs.Chaining.{key_more}
-use Rattle.desk_gallery.proofs.Keeping.{add_moves}
+use Rattle.desk_gallery.{specs.declared.book.LogEntry.LogEntry, specs.Rules.{key_after, lent_change, lists_of, NoneBy}, proofs.Chaining.key_more, proofs.Keeping.add_moves}
 use Rattle.desk_gallery.proofs.Weighing.{lists_more}
 use Rattle.desk_gallery.proofs.book.add_entry.Goals as goal
 

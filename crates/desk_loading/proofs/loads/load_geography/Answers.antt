@@ -1,11 +1,7 @@
 use Rattle.std.proofs.Common.{◌≡◌, ◌-◌, ℕ, ap, subst, arith}
 use Rattle.store_rows.specs.claim.GeographyRows.{geography_rows}
-use Rattle.desk_store.specs.geo_tables.Loading.{geography_model_of, done_of}
-use Rattle.desk_store.specs.Keeping.{sealed_desk}
-use Rattle.desk_store.specs.claim.Clerks.{Keeps}
-use Rattle.desk_store.specs.Loads.{Stages}
-use Rattle.desk_loading.proofs.Moves.{may_move}
-use Rattle.desk_loading.proofs.Staged.{begun_moved, begin_refused, staging_refused, load_moved, load_sealed, seal_refused}
+use Rattle.desk_store.specs.{geo_tables.Loading.{geography_model_of, done_of}, Keeping.sealed_desk, claim.Clerks.Keeps, Loads.Stages}
+use Rattle.desk_loading.proofs.{Moves.may_move, Staged.{begun_moved, begin_refused, staging_refused, load_moved, load_sealed, seal_refused}}
 use Rattle.desk_loading.proofs.loads.load_geography.Goals as goal
 
 pub returns-in-Err-clause-moves : goal.returns-in-Err-clause-moves

@@ -1,10 +1,7 @@
-use Rattle.std.proofs.Common.{◌≡◌, ◌-◌, ◌∙◌, ℕ, ap, subst, arith}
-use Rattle.std.specs.Prelude.{min}
+use Rattle.std.{specs.Prelude.min, proofs.Common.{◌≡◌, ◌-◌, ◌∙◌, ℕ, ap, subst, arith}}
 use Rattle.store_rows.specs.claim.GeographyRows.{geography_rows}
-use Rattle.desk_store.specs.geo_tables.Loading.{geography_model_of, done_of}
-use Rattle.desk_loading.specs.Loads.{batch_rows}
-use Rattle.desk_store.specs.claim.Clerks.{room_of}
-use Rattle.desk_loading.proofs.Staged.{none_staged, more_staged, batch_moved, stage_refused}
+use Rattle.desk_store.specs.{geo_tables.Loading.{geography_model_of, done_of}, claim.Clerks.room_of}
+use Rattle.desk_loading.{specs.Loads.batch_rows, proofs.Staged.{none_staged, more_staged, batch_moved, stage_refused}}
 use Rattle.desk_loading.proofs.loads.stage_rows.Goals as goal
 
 pub loop-left-init : goal.loop-left-init

@@ -2,9 +2,7 @@ use Rattle.std.proofs.Common.{◌≡◌, ◌≤◌, Bool, true, false, subst, ar
 use Rattle.page_store.specs.claim.Transactions.{stored}
 use Rattle.desk_pages.proofs.Writing.{does, told_on}
 use Rattle.desk_opening.proofs.plan_rows.Writing.{after_reads}
-use Rattle.desk_migration.specs.Puts.{AndStand, IsTurn}
-use Rattle.desk_migration.specs.Walks.{IsWalking}
-use Rattle.desk_migration.proofs.Turns.{full_held, more_held, none_held, not_later, stop_held}
+use Rattle.desk_migration.{specs.Puts.{AndStand, IsTurn}, specs.Walks.IsWalking, proofs.Turns.{full_held, more_held, none_held, not_later, stop_held}}
 use Rattle.desk_migration.proofs.holds.hold_along.Goals as goal
 
 pub loop-held-init : goal.loop-held-init

@@ -1,12 +1,8 @@
-use Rattle.std.proofs.Common.{refl, subst}
-use Rattle.std.specs.Prelude.{Option}
+use Rattle.std.{specs.Prelude.Option, proofs.Common.{refl, subst}}
 use Rattle.page_store.specs.claim.Transactions.{stored}
 use Rattle.desk_pages.proofs.Writing.{does, told_on}
 use Rattle.desk_opening.proofs.plan_rows.Writing.{after_reads, only_read, unread}
-use Rattle.desk_migration.specs.Puts.{AndStand}
-use Rattle.desk_migration.specs.Walks.{IsNextPair, IsWalking}
-use Rattle.desk_migration.specs.declared.parts.HeldPair.{HeldPair}
-use Rattle.desk_migration.proofs.Pairs.{still_walking}
+use Rattle.desk_migration.{specs.Puts.AndStand, specs.Walks.{IsNextPair, IsWalking}, specs.declared.parts.HeldPair.HeldPair, proofs.Pairs.still_walking}
 use Rattle.desk_migration.proofs.Turns.{less_not_held, not_found, pair_not_taken, pair_taken}
 use Rattle.desk_migration.proofs.holds.hold_next.Goals as goal
 

@@ -1,9 +1,6 @@
 use Rattle.std.proofs.Common.{◌≡◌, List, ℕ, true, false, sym, subst, ◌∙◌}
 use Rattle.desk_pages.proofs.Writing.{does, told_on}
-use Rattle.desk_migration.specs.claim.Holding.{AreHeldTo}
-use Rattle.desk_migration.specs.Parts.{IsUnderParts, IsUnderWay}
-use Rattle.desk_migration.specs.Walks.{IsWalking}
-use Rattle.desk_migration.proofs.Turns.{less_held, less_not_held}
+use Rattle.desk_migration.{specs.claim.Holding.AreHeldTo, specs.Parts.{IsUnderParts, IsUnderWay}, specs.Walks.IsWalking, proofs.Turns.{less_held, less_not_held}}
 use Rattle.desk_migration.proofs.Walking.{begins_walking}
 use Rattle.desk_migration.proofs.holds.hold_pairs.Goals as goal
 

@@ -1,6 +1,4 @@
-use Rattle.std.proofs.Common.{◌≡◌, ◌∷◌, [], Bool, List, ℕ, nat_eq, sym, ap, subst, ◌∙◌}
-use Rattle.std.specs.List.{starts_with}
-use Rattle.std.specs.FinMap.{remove as without}
+use Rattle.std.{specs.List.starts_with, specs.FinMap.remove as without, proofs.Common.{◌≡◌, ◌∷◌, [], Bool, List, ℕ, nat_eq, sym, ap, subst, ◌∙◌}}
 use Rattle.sector_device.specs.claim.Disk.{Image}
 use Rattle.page_store.proofs.Stops.{passed_more, quiet_more}
 use Rattle.page_btree.specs.claim.Map.{InTxn}

@@ -1,8 +1,6 @@
-use Rattle.std.proofs.Common.{◌≡◌, Bool, List, ℕ, nat_eq, sym, ap, subst, ◌∙◌}
-use Rattle.std.specs.List.{starts_with}
+use Rattle.std.{specs.List.starts_with, proofs.Common.{◌≡◌, Bool, List, ℕ, nat_eq, sym, ap, subst, ◌∙◌}}
 use Rattle.store_rows.specs.Keys.{parts_prefix}
-use Rattle.store_check.specs.Rows.{IsFirst}
-use Rattle.store_check.proofs.FirstRows.{none_at_all}
+use Rattle.store_check.{specs.Rows.IsFirst, proofs.FirstRows.none_at_all}
 use Rattle.desk_pages.proofs.Looking.{fails, finds}
 use Rattle.desk_migration.proofs.PartRows.{part_found}
 use Rattle.desk_migration.proofs.parts.part_from.Goals as goal

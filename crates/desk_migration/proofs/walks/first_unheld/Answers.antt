@@ -1,9 +1,7 @@
-use Rattle.std.proofs.Common.{◌<◌, ◌≤◌, ℕ, List, length, get_or, sym, subst, ◌∙◌, take_all}
-use Rattle.std.specs.Prelude.{All}
+use Rattle.std.{specs.Prelude.All, proofs.Common.{◌<◌, ◌≤◌, ℕ, List, length, get_or, sym, subst, ◌∙◌, take_all}}
 use Rattle.std.proofs.lemmas.List.Elements.{All-more}
 use Rattle.desk_pages.proofs.Looking.{begins, both, fails_then, finds}
-use Rattle.store_rows.specs.claim.Keys.{holding}
-use Rattle.store_rows.specs.claim.Rows.{Lacks}
+use Rattle.store_rows.specs.{claim.Keys.holding, claim.Rows.Lacks}
 use Rattle.desk_migration.specs.Walks.{HoldsIt}
 use Rattle.desk_migration.proofs.walks.first_unheld.Goals as goal
 

@@ -1,8 +1,7 @@
 use Rattle.std.proofs.Common.{ℕ, subst}
 use Rattle.std.proofs.lemmas.List.Elements.{All-get_or}
 use Rattle.desk_pages.proofs.Looking.{begins, tells}
-use Rattle.desk_migration.specs.Walks.{HoldsIt}
-use Rattle.desk_migration.proofs.Walking.{told_at}
+use Rattle.desk_migration.{specs.Walks.HoldsIt, proofs.Walking.told_at}
 use Rattle.desk_migration.proofs.walks.is_held_at.Goals as goal
 
 pub returns-then-names_too : goal.returns-then-names_too

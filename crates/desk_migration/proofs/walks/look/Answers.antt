@@ -1,11 +1,7 @@
-use Rattle.std.proofs.Common.{◌<◌, ℕ, List, length, get_or, Bool, true, false, sym, subst}
-use Rattle.std.specs.Prelude.{Option}
+use Rattle.std.{specs.Prelude.Option, proofs.Common.{◌<◌, ℕ, List, length, get_or, Bool, true, false, sym, subst}}
 use Rattle.desk_pages.proofs.Looking.{both, fails, fails_then, finds}
-use Rattle.store_rows.specs.claim.Keys.{holding}
-use Rattle.store_rows.specs.claim.Rows.{Lacks}
-use Rattle.desk_migration.specs.claim.Holding.{IsUnheld}
-use Rattle.desk_migration.specs.Walks.{Enters, IsHeldTo, IsNextPart}
-use Rattle.desk_migration.proofs.Walking.{passes, reaches, some_of}
+use Rattle.store_rows.specs.{claim.Keys.holding, claim.Rows.Lacks}
+use Rattle.desk_migration.{specs.claim.Holding.IsUnheld, specs.Walks.{Enters, IsHeldTo, IsNextPart}, proofs.Walking.{passes, reaches, some_of}}
 use Rattle.desk_migration.proofs.walks.look.Goals as goal
 
 pub returns-in_err-enter-clause-looks : goal.returns-in_err-enter-clause-looks

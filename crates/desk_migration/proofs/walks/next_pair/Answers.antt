@@ -1,10 +1,8 @@
-use Rattle.std.proofs.Common.{sym, subst, ◌∙◌, arith}
-use Rattle.std.specs.FinMap.{entries}
+use Rattle.std.{specs.FinMap.entries, proofs.Common.{sym, subst, ◌∙◌, arith}}
 use Rattle.page_store.specs.claim.Transactions.{stored}
 use Rattle.desk_pages.proofs.Looking.{begins, both, fails_then, finds, not_looked}
 use Rattle.store_check.proofs.After.{all_left}
-use Rattle.desk_migration.specs.Walks.{LacksIn, Looks}
-use Rattle.desk_migration.specs.declared.parts.PartLook.{PartLook}
+use Rattle.desk_migration.specs.{Walks.{LacksIn, Looks}, declared.parts.PartLook.PartLook}
 use Rattle.desk_migration.proofs.walks.next_pair.Goals as goal
 
 pub loop-taken-init : goal.loop-taken-init

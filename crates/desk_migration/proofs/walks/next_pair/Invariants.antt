@@ -1,5 +1,4 @@
-use Rattle.std.proofs.Common.{◌≡◌, ◌+◌, ◌≤◌, length, Ok}
-use Rattle.std.specs.FinMap.{entries}
+use Rattle.std.{specs.FinMap.entries, proofs.Common.{◌≡◌, ◌+◌, ◌≤◌, length, Ok}}
 use Rattle.page_store.specs.claim.Transactions.{count_of, txn_pages}
 use Rattle.page_btree.specs.page_node.Places.{entries_from}
 use Rattle.desk_pages.specs.Looking.{Looks}

@@ -1,8 +1,6 @@
 use Rattle.std.proofs.Common.{◌≡◌, [], ◌∷◌, List, ℕ, length, sym, ap, subst, ◌∙◌}
 use Rattle.store_rows.specs.Keys.{parts_prefix}
-use Rattle.desk_migration.specs.Parts.{IsUnderParts}
-use Rattle.desk_migration.specs.Walks.{after}
-use Rattle.desk_migration.proofs.Order.{starts_more}
+use Rattle.desk_migration.{specs.Parts.IsUnderParts, specs.Walks.after, proofs.Order.starts_more}
 use Rattle.desk_migration.proofs.walks.pass.Goals as goal
 
 pub key_after-after-requires : goal.key_after-after-requires

@@ -1,8 +1,6 @@
 use Rattle.std.proofs.Common.{◌≡◌, Bool, true, false, List, ℕ, length, refl, sym, ap, subst, ◌∙◌}
 use Rattle.desk_pages.proofs.Looking.{fails, finds, refuses}
-use Rattle.desk_migration.specs.Parts.{IsPartFrom, IsUnderParts}
-use Rattle.desk_migration.proofs.PartRows.{all_held, part_row}
-use Rattle.desk_migration.proofs.Walking.{enters_part}
+use Rattle.desk_migration.{specs.Parts.{IsPartFrom, IsUnderParts}, proofs.PartRows.{all_held, part_row}, proofs.Walking.enters_part}
 use Rattle.desk_migration.proofs.walks.read_next.Goals as goal
 
 pub returns-in_err-part_from-clause-looks : goal.returns-in_err-part_from-clause-looks

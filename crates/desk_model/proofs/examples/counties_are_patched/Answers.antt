@@ -1,11 +1,7 @@
-use Rattle.std.proofs.Common.{[], ◌∷◌, ap}
+use Rattle.std.{specs.FinMap.get-insert, specs.Cmp.Lexicographic.nat_list_cmp_total, proofs.Common.{[], ◌∷◌, ap}}
 use Rattle.std.specs.FinMap as map_of
-use Rattle.std.specs.FinMap.{get-insert}
-use Rattle.std.specs.Cmp.Lexicographic.{nat_list_cmp_total}
-use Rattle.desk_model.specs.claim.Desk.{Plan}
-use Rattle.desk_model.specs.Examples.{name_a, plan_of, desk_of}
+use Rattle.desk_model.{specs.claim.Desk.Plan, specs.Examples.{name_a, plan_of, desk_of}, proofs.Maps.insert_again}
 use Rattle.desk_model.specs.declared.reply.Reply.TheVariants as reply
-use Rattle.desk_model.proofs.Maps.{insert_again}
 use Rattle.desk_model.proofs.examples.counties_are_patched.Goals as goal
 
 pub returns : goal.returns

@@ -1,10 +1,6 @@
-use Rattle.std.proofs.Common.{[], ◌∷◌, ap}
-use Rattle.std.specs.FinMap.{get-insert, get-empty, len-insert, len-empty}
-use Rattle.std.specs.Cmp.Lexicographic.{nat_list_cmp_total}
-use Rattle.desk_model.specs.claim.Desk.{Plan, name_cmp}
-use Rattle.desk_model.specs.Examples.{name_b, plan_of, with_county}
+use Rattle.std.{specs.FinMap.{get-insert, get-empty, len-insert, len-empty}, specs.Cmp.Lexicographic.nat_list_cmp_total, proofs.Common.{[], ◌∷◌, ap}}
+use Rattle.desk_model.{specs.claim.Desk.{Plan, name_cmp}, specs.Examples.{name_b, plan_of, with_county}, proofs.Maps.insert_again}
 use Rattle.desk_model.specs.declared.reply.Reply.TheVariants as reply
-use Rattle.desk_model.proofs.Maps.{insert_again}
 use Rattle.desk_model.proofs.examples.plans_are_forked.Goals as goal
 
 pub returns : goal.returns

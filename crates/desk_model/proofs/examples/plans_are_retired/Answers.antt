@@ -1,11 +1,6 @@
-use Rattle.std.proofs.Common.{[], ◌∷◌, ap}
-use Rattle.std.specs.FinMap.{get-insert, get-empty}
-use Rattle.std.specs.Cmp.Lexicographic.{nat_list_cmp_total}
-use Rattle.desk_model.specs.claim.Desk.{Plan, name_cmp}
-use Rattle.desk_model.specs.claim.Sample.{sample_desk}
-use Rattle.desk_model.specs.Examples.{name_a, plan_of}
+use Rattle.std.{specs.FinMap.{get-insert, get-empty}, specs.Cmp.Lexicographic.nat_list_cmp_total, proofs.Common.{[], ◌∷◌, ap}}
+use Rattle.desk_model.{specs.claim.Desk.{Plan, name_cmp}, specs.claim.Sample.sample_desk, specs.Examples.{name_a, plan_of}, proofs.Maps.remove_only}
 use Rattle.desk_model.specs.declared.reply.Reply.TheVariants as reply
-use Rattle.desk_model.proofs.Maps.{remove_only}
 use Rattle.desk_model.proofs.examples.plans_are_retired.Goals as goal
 
 pub returns : goal.returns

@@ -1,6 +1,4 @@
-use Rattle.std.proofs.Common.{refl}
-use Rattle.std.specs.FinMap.{get-insert}
-use Rattle.std.specs.Cmp.Lexicographic.{nat_list_cmp_total}
+use Rattle.std.{specs.FinMap.get-insert, specs.Cmp.Lexicographic.nat_list_cmp_total, proofs.Common.refl}
 use Rattle.desk_model.specs.claim.Desk.{Plan}
 use Rattle.desk_model.proofs.examples.room_is_counted.Goals as goal
 

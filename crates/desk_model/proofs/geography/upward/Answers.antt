@@ -1,6 +1,5 @@
 use Rattle.std.proofs.Common.{arith, ap}
-use Rattle.desk_model.specs.declared.block.BlockRow.{BlockRow}
-use Rattle.desk_model.proofs.Places.{up_to, from_after}
+use Rattle.desk_model.{specs.declared.block.BlockRow.BlockRow, proofs.Places.{up_to, from_after}}
 use Rattle.desk_model.proofs.geography.upward.Goals as goal
 
 pub returns-then-number-wanted : goal.returns-then-number-wanted

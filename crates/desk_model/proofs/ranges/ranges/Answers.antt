@@ -1,8 +1,5 @@
 use Rattle.std.proofs.Common.{◌≡◌, ◌<◌, ◌+◌, ◌-◌, [], ◌∷◌, ◌++◌, length, get_or, arith, sym, ◌∙◌, ap, subst}
-use Rattle.desk_model.specs.claim.Block.{county_of}
-use Rattle.desk_model.specs.claim.Ranges.{counties}
-use Rattle.desk_model.specs.claim.Geography.{GeographyModel}
-use Rattle.desk_model.specs.declared.block.BlockRow.{BlockRow}
+use Rattle.desk_model.specs.{claim.Block.county_of, claim.Ranges.counties, claim.Geography.GeographyModel, declared.block.BlockRow.BlockRow}
 use Rattle.desk_model.proofs.Runs.{IsCutTo, cut_start, cut_same, cut_more, cut_end, cut_at, county_there, counties_long}
 use Rattle.desk_model.proofs.ranges.ranges.Goals as goal
 use Rattle.desk_model.proofs.ranges.ranges.Goals.{then-county+in_ok-push, else-county}

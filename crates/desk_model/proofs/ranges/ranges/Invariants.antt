@@ -1,7 +1,5 @@
 use Rattle.std.proofs.Common.{map}
-use Rattle.desk_model.specs.claim.Block.{county_of}
-use Rattle.desk_model.specs.claim.Geography.{ids_of}
-use Rattle.desk_model.proofs.Runs.{IsCutTo}
+use Rattle.desk_model.{specs.claim.Block.county_of, specs.claim.Geography.ids_of, proofs.Runs.IsCutTo}
 use Rattle.desk_model.proofs.ranges.ranges.Given as goal
 
 abbrev pub invariant-loop-place : goal.invariant-loop-place

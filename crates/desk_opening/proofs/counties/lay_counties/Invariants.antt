@@ -1,8 +1,7 @@
-use Rattle.std.proofs.Common.{◌≡◌, List, ℕ, Ok, length}
+use Rattle.std.proofs.Common.{◌≡◌, Ok, length}
 use Rattle.page_store.specs.claim.Transactions.{count_of, txn_pages}
 use Rattle.desk_pages.specs.claim.Desks.{AreWithin}
-use Rattle.desk_opening.specs.Reading.{AreNamed, Reads}
-use Rattle.desk_opening.proofs.Laying.{LaidTo, so_far}
+use Rattle.desk_opening.{specs.Reading.{AreNamed, Reads}, proofs.Laying.{LaidTo, so_far}}
 use Rattle.desk_opening.proofs.counties.lay_counties.Given as goal
 
 abbrev pub invariant-loop-county : goal.invariant-loop-county

@@ -1,9 +1,7 @@
 use Rattle.std.proofs.Common.{◌≡◌, ◌++◌, List, ℕ, length, ap, sym, subst, ◌∙◌, arith}
-use Rattle.desk_pages.proofs.Looking.{fails, finds, not_looked, refuses}
-use Rattle.desk_pages.specs.claim.Desks.{AreWithin}
+use Rattle.desk_pages.{specs.claim.Desks.AreWithin, proofs.Looking.{fails, finds, not_looked, refuses}}
 use Rattle.desk_catalogue.specs.shared_lists.Laid.{with_at}
-use Rattle.desk_opening.proofs.Laying.{with_long}
-use Rattle.desk_opening.proofs.Within.{with_at_within}
+use Rattle.desk_opening.proofs.{Laying.with_long, Within.with_at_within}
 use Rattle.desk_opening.proofs.counties.lay_county.Goals as goal
 
 pub returns-in_err-append_chunk-clause-reads : goal.returns-in_err-append_chunk-clause-reads

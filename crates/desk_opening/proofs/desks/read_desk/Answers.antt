@@ -4,9 +4,7 @@ use Rattle.page_store.proofs.Stops.{quiet_more, passed_more}
 use Rattle.page_btree.specs.claim.Map.{InTxn as InTree}
 use Rattle.desk_pages.proofs.Outcomes.{err_of}
 use Rattle.store_check.specs.Owners.{HasOwners}
-use Rattle.desk_opening.specs.Opening.{OpenErr}
-use Rattle.desk_opening.proofs.Owned.{has_owners, parts_owned}
-use Rattle.desk_opening.proofs.WholeDesks.{unkept, unopened, unread_unopened, then_unopened, still_reads}
+use Rattle.desk_opening.{specs.Opening.OpenErr, proofs.Owned.{has_owners, parts_owned}, proofs.WholeDesks.{unkept, unopened, unread_unopened, then_unopened, still_reads}}
 use Rattle.desk_opening.proofs.desks.read_desk.Goals as goal
 
 pub returns-in_err-check_rows-clause-reading : goal.returns-in_err-check_rows-clause-reading

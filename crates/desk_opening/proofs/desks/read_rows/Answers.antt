@@ -1,14 +1,9 @@
 use Rattle.std.proofs.Common.{◌≡◌, Option, Some, sym, ap, subst, ◌∙◌}
 use Rattle.page_store.proofs.Stops.{quiet_more}
-use Rattle.desk_model.specs.claim.Geography.{GeographyModel}
-use Rattle.desk_model.specs.Ranges.{ranges_of}
-use Rattle.desk_model.specs.claim.Desk.{Desk}
+use Rattle.desk_model.specs.{claim.Geography.GeographyModel, Ranges.ranges_of, claim.Desk.Desk}
 use Rattle.geo_tables.specs.Elements.{IsGeographyRead}
-use Rattle.desk_pages.proofs.Looking.{both, fails, fails_then, finds, gathered, looks, not_looked}
-use Rattle.desk_pages.specs.Desks.{new_desk}
-use Rattle.desk_opening.specs.Opening.{ArePlansShown, IsShown}
-use Rattle.desk_opening.proofs.WholeDesks.{is_new, are_plans, has_nothing, with_also}
-use Rattle.desk_opening.proofs.PlanNumbers.{none_counted}
+use Rattle.desk_pages.{specs.Desks.new_desk, proofs.Looking.{both, fails, fails_then, finds, gathered, looks, not_looked}}
+use Rattle.desk_opening.{specs.Opening.{ArePlansShown, IsShown}, proofs.WholeDesks.{is_new, are_plans, has_nothing, with_also}, proofs.PlanNumbers.none_counted}
 use Rattle.desk_opening.proofs.Shown.{nothing_shown}
 use Rattle.desk_opening.proofs.desks.read_rows.Goals as goal
 

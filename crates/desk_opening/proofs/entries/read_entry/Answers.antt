@@ -1,14 +1,7 @@
 use Rattle.std.proofs.Common.{◌<◌, ◌≤◌, ◌+◌, List, ℕ, [], length, get_or, sym, ap, subst, ◌∙◌, take_all, arith}
-use Rattle.desk_model.specs.Ranges.{ranges_of}
-use Rattle.desk_model.specs.claim.Desk.{Plan}
-use Rattle.page_store.proofs.Stops.{quiet_none}
-use Rattle.store_rows.specs.claim.Rows.{KeyMap}
-use Rattle.desk_pages.proofs.Looking.{both, fails_then, finds, not_looked}
-use Rattle.desk_pages.specs.claim.Desks.{AreWithin}
-use Rattle.desk_opening.specs.Reading.{IsAfter, IsPlanRow}
-use Rattle.desk_opening.proofs.Readings.{one_more_read}
-use Rattle.desk_opening.proofs.Shown.{row_is}
-use Rattle.desk_opening.proofs.Revisions.{of_blocks, one_revision_more, within_at}
+use Rattle.desk_model.specs.{Ranges.ranges_of, claim.Desk.Plan}
+use Rattle.desk_pages.{specs.claim.Desks.AreWithin, proofs.Looking.{both, fails_then, finds}}
+use Rattle.desk_opening.{specs.Reading.{IsAfter, IsPlanRow}, proofs.Readings.one_more_read, proofs.Shown.row_is, proofs.Revisions.{of_blocks, one_revision_more, within_at}}
 use Rattle.desk_opening.proofs.entries.read_entry.Goals as goal
 
 pub returns-in_err-entry-clause-reads : goal.returns-in_err-entry-clause-reads

@@ -1,9 +1,7 @@
-use Rattle.std.proofs.Common.{◌≡◌, Ok, length, take}
-use Rattle.desk_model.specs.Ranges.{ranges_of}
+use Rattle.std.proofs.Common.{◌≡◌, Ok, length}
 use Rattle.page_store.specs.claim.Transactions.{count_of, txn_pages}
 use Rattle.desk_pages.specs.Looking.{Gathers, Says}
-use Rattle.desk_opening.specs.Reading.{AreAllWithin, IsPlanRow, IsWhole}
-use Rattle.desk_opening.proofs.Readings.{IsEntryRead}
+use Rattle.desk_opening.{specs.Reading.{AreAllWithin, IsPlanRow, IsWhole}, proofs.Readings.IsEntryRead}
 use Rattle.desk_opening.proofs.entries.read_entry.Given as goal
 
 abbrev pub invariant-loop-before : goal.invariant-loop-before

@@ -1,7 +1,6 @@
 use Rattle.std.proofs.Common.{Ok, length, ◌∙◌, arith}
 use Rattle.page_store.proofs.Stops.{quiet_none}
-use Rattle.desk_pages.proofs.Looking.{both, fails, fails_then, finds, not_looked, refuses}
-use Rattle.desk_pages.specs.Looking.{Gathers}
+use Rattle.desk_pages.{specs.Looking.Gathers, proofs.Looking.{both, fails, fails_then, finds, not_looked, refuses}}
 use Rattle.desk_opening.proofs.Revisions.{AreNamesRead, names_of, so_many, are_named, next_read}
 use Rattle.desk_opening.proofs.entries.read_next.Goals as goal
 

@@ -3,11 +3,8 @@ use Rattle.std.proofs.lemmas.List.Elements.{All-push}
 use Rattle.page_store.proofs.Stops.{quiet_none}
 use Rattle.desk_model.specs.claim.Desk.{Plan}
 use Rattle.store_rows.specs.Changes.{with_revision}
-use Rattle.desk_pages.proofs.Looking.{fails, finds, lacks_memory, not_looked}
-use Rattle.desk_pages.specs.claim.Desks.{AreWithin}
-use Rattle.desk_opening.proofs.Within.{one_more_within}
-use Rattle.desk_opening.specs.Reading.{AreAllWithin, BecomesKnown, BecomesLast, IsNext, IsWhole}
-use Rattle.desk_opening.proofs.Revisions.{next_of, becomes_last}
+use Rattle.desk_pages.{specs.claim.Desks.AreWithin, proofs.Looking.{fails, finds, lacks_memory, not_looked}}
+use Rattle.desk_opening.{specs.Reading.{AreAllWithin, BecomesKnown, BecomesLast, IsNext, IsWhole}, proofs.Within.one_more_within, proofs.Revisions.{next_of, becomes_last}}
 use Rattle.desk_opening.proofs.entries.with_next.Goals as goal
 
 pub returns-in_err-before-clause-reads : goal.returns-in_err-before-clause-reads

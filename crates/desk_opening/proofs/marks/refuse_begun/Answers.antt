@@ -1,10 +1,6 @@
-use Rattle.std.proofs.Common.{ℕ, List, Option, sym, ap, subst, ◌∙◌}
-use Rattle.std.specs.FinMap.{get as row_at}
-use Rattle.store_rows.specs.claim.Keys.{key_of, seal}
-use Rattle.store_rows.specs.claim.Values.{seal_bytes}
-use Rattle.store_rows.specs.declared.value.SealRow.{SealRow}
-use Rattle.desk_pages.specs.Reading.{StandsAs}
-use Rattle.desk_pages.proofs.Looking.{fails, finds, looks}
+use Rattle.std.{specs.FinMap.get as row_at, proofs.Common.{ℕ, List, Option, sym, ap, subst, ◌∙◌}}
+use Rattle.store_rows.specs.{claim.Keys.{key_of, seal}, claim.Values.seal_bytes, declared.value.SealRow.SealRow}
+use Rattle.desk_pages.{specs.Reading.StandsAs, proofs.Looking.{fails, finds, looks}}
 use Rattle.desk_opening.proofs.Seals.{none_ended, some_ended, some_lacks}
 use Rattle.desk_opening.proofs.marks.refuse_begun.Goals as goal
 

@@ -1,9 +1,6 @@
-use Rattle.std.proofs.Common.{◌≡◌, sym, ap, subst, ◌∙◌}
-use Rattle.std.specs.FinMap.{get as row_at}
+use Rattle.std.{specs.FinMap.get as row_at, proofs.Common.{◌≡◌, sym, ap, subst, ◌∙◌}}
 use Rattle.page_store.proofs.Stops.{quiet_none}
-use Rattle.store_rows.specs.claim.Keys.{retired}
-use Rattle.store_rows.specs.claim.Rows.{Lacks}
-use Rattle.store_rows.proofs.OneDesk.{row_number}
+use Rattle.store_rows.{specs.claim.Keys.retired, specs.claim.Rows.Lacks, proofs.OneDesk.row_number}
 use Rattle.desk_pages.proofs.Looking.{not_looked, tells}
 use Rattle.desk_opening.proofs.marks.refuse_gone.Goals as goal
 

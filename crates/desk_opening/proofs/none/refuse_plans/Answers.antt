@@ -1,17 +1,10 @@
-use Rattle.std.proofs.Common.{◌≡◌, ◌∷◌, ℕ, List, [], sym, ap, subst, ◌∙◌}
-use Rattle.std.specs.Prelude.{Some, None, IfSome}
-use Rattle.std.specs.FinMap.{entries, get}
+use Rattle.std.{specs.Prelude.{Some, None, IfSome}, specs.FinMap.{entries, get}, proofs.Common.{◌≡◌, ◌∷◌, ℕ, List, [], sym, ap, subst, ◌∙◌}}
 use Rattle.page_store.proofs.Stops.{passed_none}
 use Rattle.page_btree.specs.page_node.claim.Entries.{Entry}
-use Rattle.btree_walks.specs.Prefixes.{under}
-use Rattle.btree_walks.specs.Scanning.{IsNextRow, fault_in, CanScan, ScanErr}
-use Rattle.btree_walks.proofs.Refused.{scan_refused}
+use Rattle.btree_walks.{specs.Prefixes.under, specs.Scanning.{IsNextRow, fault_in, CanScan, ScanErr}, proofs.Refused.scan_refused}
 use Rattle.store_rows.specs.claim.Keys.{plans_prefix}
-use Rattle.desk_pages.proofs.Looking.{looked, not_looked}
-use Rattle.desk_pages.proofs.Reading.{get_unread}
-use Rattle.desk_opening.specs.Opening.{HasNoPlans}
-use Rattle.desk_opening.proofs.Scanned.{found_among, next_plan}
-use Rattle.desk_opening.proofs.WholeDesks.{no_row}
+use Rattle.desk_pages.proofs.{Looking.{looked, not_looked}, Reading.get_unread}
+use Rattle.desk_opening.{specs.Opening.HasNoPlans, proofs.Scanned.{found_among, next_plan}, proofs.WholeDesks.no_row}
 use Rattle.desk_opening.proofs.none.refuse_plans.Goals as goal
 
 pub returns-then-next : goal.returns-then-next

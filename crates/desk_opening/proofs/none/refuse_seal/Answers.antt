@@ -1,5 +1,4 @@
-use Rattle.std.proofs.Common.{None, sym, ap, ◌∙◌}
-use Rattle.std.specs.FinMap.{get}
+use Rattle.std.{specs.FinMap.get, proofs.Common.{None, sym, ap, ◌∙◌}}
 use Rattle.desk_pages.proofs.Looking.{fails}
 use Rattle.desk_opening.proofs.none.refuse_seal.Goals as goal
 

@@ -1,5 +1,4 @@
-use Rattle.std.proofs.Common.{List, ℕ, Some, sym, ap, subst, ◌∙◌}
-use Rattle.std.specs.FinMap.{FinMap, insert}
+use Rattle.std.{specs.FinMap.{FinMap, insert}, proofs.Common.{List, ℕ, Some, sym, ap, subst, ◌∙◌}}
 use Rattle.desk_model.specs.claim.Desk.{Plan, name_cmp}
 use Rattle.desk_catalogue.specs.Kept.{AreWhole}
 use Rattle.desk_pages.proofs.Looking.{fails, finds, not_looked}

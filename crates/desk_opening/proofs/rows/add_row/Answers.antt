@@ -1,9 +1,6 @@
 use Rattle.page_store.proofs.Stops.{quiet_none}
-use Rattle.desk_pages.proofs.Looking.{fails, fails_from, gathered, looks}
-use Rattle.desk_pages.specs.Looking.{Says}
-use Rattle.desk_opening.specs.Opening.{IsFreshPlan}
-use Rattle.desk_opening.proofs.PlanNumbers.{unnoted}
-use Rattle.desk_opening.proofs.NewPlans.{is_kept_plan}
+use Rattle.desk_pages.{specs.Looking.Says, proofs.Looking.{fails, fails_from, gathered, looks}}
+use Rattle.desk_opening.{specs.Opening.IsFreshPlan, proofs.PlanNumbers.unnoted, proofs.NewPlans.is_kept_plan}
 use Rattle.desk_opening.proofs.rows.add_row.Goals as goal
 
 pub returns-in_err-note_number-clause-reads : goal.returns-in_err-note_number-clause-reads

@@ -1,23 +1,13 @@
-use Rattle.std.proofs.Common.{◌++◌, ℕ, List, [], ◌∷◌, Ok, sym, subst, ◌∙◌, arith}
-use Rattle.std.specs.Prelude.{Some}
-use Rattle.std.specs.FinMap.{entries}
+use Rattle.std.{specs.Prelude.Some, specs.FinMap.entries, proofs.Common.{◌++◌, ℕ, List, [], ◌∷◌, Ok, sym, subst, ◌∙◌, arith}}
 use Rattle.page_store.proofs.Stops.{passed_more}
-use Rattle.btree_walks.specs.Prefixes.{under}
-use Rattle.btree_walks.specs.Scanning.{Rest}
+use Rattle.btree_walks.specs.{Prefixes.under, Scanning.Rest}
 use Rattle.btree_walks.proofs.Walked.{HasNext, walk_all, walk_begins, walk_ends, walk_next, walk_on, walk_passed, walk_quiet, walk_refused}
 use Rattle.desk_model.specs.Ranges.{ranges_of}
 use Rattle.desk_catalogue.specs.Kept.{AreWhole}
-use Rattle.store_rows.specs.claim.Keys.{plans_prefix}
-use Rattle.store_rows.specs.claim.Rows.{KeyMap}
-use Rattle.desk_pages.proofs.Looking.{fails_then, looked, may_lack, not_looked}
-use Rattle.desk_pages.proofs.Reading.{get_unread, less_sought}
-use Rattle.desk_pages.specs.Looking.{Gathers, Says}
-use Rattle.desk_opening.specs.Opening.{ArePlans}
-use Rattle.desk_opening.proofs.PlanNumbers.{AreNoted, all_apart, are_counts, none_noted, noted_more, unused}
-use Rattle.desk_opening.proofs.Parts.{Plans, AreRead, none_read, all_read}
-use Rattle.desk_opening.proofs.Shown.{AreShown, none_shown, more_shown, all_shown}
-use Rattle.desk_opening.proofs.Turns.{new_plan}
-use Rattle.desk_opening.proofs.Wholes.{none_whole}
+use Rattle.store_rows.specs.{claim.Keys.plans_prefix, claim.Rows.KeyMap}
+use Rattle.desk_pages.{specs.Looking.{Gathers, Says}, proofs.Looking.{fails_then, looked, may_lack, not_looked}, proofs.Reading.{get_unread, less_sought}}
+use Rattle.desk_opening.{specs.Opening.ArePlans, proofs.PlanNumbers.{AreNoted, all_apart, are_counts, none_noted, noted_more, unused}}
+use Rattle.desk_opening.proofs.{Parts.{Plans, AreRead, none_read, all_read}, Shown.{AreShown, none_shown, more_shown, all_shown}, Turns.new_plan, Wholes.none_whole}
 use Rattle.desk_opening.proofs.rows.read_plans.Goals as goal
 
 abbrev IsAny : KeyMap → Type 0

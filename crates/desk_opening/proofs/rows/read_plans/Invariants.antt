@@ -4,10 +4,7 @@ use Rattle.btree_walks.proofs.Walked.{HasWalked}
 use Rattle.desk_model.specs.Ranges.{ranges_of}
 use Rattle.desk_catalogue.specs.Kept.{AreWhole}
 use Rattle.store_rows.specs.claim.Keys.{plans_prefix}
-use Rattle.desk_opening.specs.Opening.{ArePlans}
-use Rattle.desk_opening.proofs.Parts.{Plans, AreRead}
-use Rattle.desk_opening.proofs.Shown.{AreShown}
-use Rattle.desk_opening.proofs.PlanNumbers.{AreNoted}
+use Rattle.desk_opening.{specs.Opening.ArePlans, proofs.Parts.{Plans, AreRead}, proofs.Shown.AreShown, proofs.PlanNumbers.AreNoted}
 use Rattle.desk_opening.proofs.rows.read_plans.Given as goal
 
 abbrev pub invariant-loop-taken : goal.invariant-loop-taken

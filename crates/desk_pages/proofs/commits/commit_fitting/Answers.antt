@@ -1,15 +1,7 @@
-use Rattle.std.proofs.Common.{arith, inl, length, refl, subst, sym, rules}
-use Rattle.std.specs.Prelude.{◌⊎◌}
-use Rattle.page_store.proofs.Stops.{leaves_here}
-use Rattle.page_store.specs.claim.Transactions.{stored, disk_in, prepared_writes}
-use Rattle.page_store.specs.gate_journal.declared.error.PageError.{PageError}
-use Rattle.desk_pages.specs.Commits.{FittingErr}
-use Rattle.desk_pages.specs.Errors.{page_refusal}
-use Rattle.desk_pages.specs.claim.Desks.{OpensDesk, OpensAs}
-use Rattle.desk_pages.proofs.Committed.{commit_refused}
-use Rattle.desk_pages.proofs.Kept.{opens_now}
-use Rattle.desk_pages.proofs.Openings.{leaves_desk}
-use Rattle.desk_pages.proofs.Outcomes.{err_of}
+use Rattle.std.{specs.Prelude.◌⊎◌, proofs.Common.{arith, inl, length, refl, subst, sym, rules}}
+use Rattle.page_store.{specs.claim.Transactions.{stored, disk_in, prepared_writes}, specs.gate_journal.declared.error.PageError.PageError, proofs.Stops.leaves_here}
+use Rattle.desk_pages.{specs.Commits.FittingErr, specs.Errors.page_refusal, specs.claim.Desks.{OpensDesk, OpensAs}, proofs.Committed.commit_refused, proofs.Kept.opens_now}
+use Rattle.desk_pages.proofs.{Openings.leaves_desk, Outcomes.err_of}
 use Rattle.desk_pages.proofs.commits.commit_fitting.Goals as goal
 
 pub returns-in_err-prepared : goal.returns-in_err-prepared

@@ -1,10 +1,6 @@
-use Rattle.std.proofs.Common.{inl, rules}
-use Rattle.std.specs.Prelude.{◌⊎◌}
-use Rattle.page_store.proofs.Stops.{leaves_here}
-use Rattle.page_store.specs.claim.Transactions.{stored, disk_in}
-use Rattle.desk_pages.proofs.Openings.{leaves_desk}
-use Rattle.desk_pages.specs.claim.Desks.{OpensDesk, OpensAs}
-use Rattle.desk_pages.proofs.Kept.{opens_now, rows_after}
+use Rattle.std.{specs.Prelude.◌⊎◌, proofs.Common.{inl, rules}}
+use Rattle.page_store.{specs.claim.Transactions.{stored, disk_in}, proofs.Stops.leaves_here}
+use Rattle.desk_pages.{specs.claim.Desks.{OpensDesk, OpensAs}, proofs.Openings.leaves_desk, proofs.Kept.{opens_now, rows_after}}
 use Rattle.desk_pages.proofs.commits.commit_txn.Goals as goal
 
 pub returns-in_err-prepared : goal.returns-in_err-prepared

@@ -1,8 +1,6 @@
 use Rattle.std.proofs.Common.{ℕ, List, [], ◌∷◌, sym, subst, ◌∙◌}
 use Rattle.page_store.specs.claim.Transactions.{stored}
-use Rattle.desk_pages.specs.claim.Puts.{HasPut, PutsErr}
-use Rattle.desk_pages.proofs.Rising.{none_stands, plain_err}
-use Rattle.desk_pages.proofs.RowsPut.{one_put, one_not_put}
+use Rattle.desk_pages.{specs.claim.Puts.{HasPut, PutsErr}, proofs.Rising.{none_stands, plain_err}, proofs.RowsPut.{one_put, one_not_put}}
 use Rattle.desk_pages.proofs.puts.put_row.Goals as goal
 
 pub returns-in-Ok-clause-puts : goal.returns-in-Ok-clause-puts

@@ -1,11 +1,9 @@
-use Rattle.std.proofs.Common.{◌≡◌, true, false}
+use Rattle.std.proofs.Common.{◌≡◌, true, false, rules}
 use Rattle.desk_runs.proofs.Stepping.{check_tends, checked_may, refused_may}
 use Rattle.desk_runs.proofs.tending.check.Goals as goal
 
 pub returns-in-Ok-clause-tends : goal.returns-in-Ok-clause-tends
-returns-in-Ok-clause-tends g c =
-    let did = c.check_holders.ensures in
-    check_tends c.args.clerk.now c.check_holders.new.self true did.maintains.moves did.maintains.desk did.maintains.loading did.quiet (λ on. c.in-Ok.ensures.sound)
+returns-in-Ok-clause-tends g c = search (rules, c.check_holders.ensures, c.in-Ok.ensures.sound, check_tends)
 
 pub returns-in-Ok-clause-may : goal.returns-in-Ok-clause-may
 returns-in-Ok-clause-may g c = checked_may c.args.clerk.now c.check_holders.new.self c.in-Ok.ensures.maintains.working.0 c.in-Ok.ensures.maintains.working.1

@@ -1,18 +1,12 @@
 use Rattle.std.proofs.Common.{ap, sym, subst, ◌∙◌, rules}
 use Rattle.sector_device.specs.claim.Disk.{Image}
-use Rattle.page_store.specs.claim.Transactions.{IsQuiet}
-use Rattle.page_store.proofs.Stops.{quiet_more, passed_more}
+use Rattle.page_store.{specs.claim.Transactions.IsQuiet, proofs.Stops.{quiet_more, passed_more}}
 use Rattle.page_btree.specs.claim.Map.{InTxn as TxnHas}
 use Rattle.store_rows.specs.claim.Tidy.{version_row}
 use Rattle.desk_model.specs.claim.Desk.{Desk}
-use Rattle.desk_opening.specs.Opening.{IsReadFrom}
-use Rattle.desk_opening.proofs.WholeDesks.{still_reads, then_unopened}
-use Rattle.desk_pages.specs.Errors.{IsCalm}
-use Rattle.desk_pages.specs.declared.error.StoreError.{StoreError}
-use Rattle.desk_pages.proofs.Refusals.{calm_told}
-use Rattle.desk_store.specs.Finding.{FindErr}
-use Rattle.desk_store.proofs.Prepared.{IsBegun, begun_reads}
-use Rattle.desk_store.proofs.Opened.{none_read, rows_begun, version_unread}
+use Rattle.desk_opening.{specs.Opening.IsReadFrom, proofs.WholeDesks.{still_reads, then_unopened}}
+use Rattle.desk_pages.{specs.Errors.IsCalm, specs.declared.error.StoreError.StoreError, proofs.Refusals.calm_told}
+use Rattle.desk_store.{specs.Finding.FindErr, proofs.Prepared.{IsBegun, begun_reads}, proofs.Opened.{none_read, rows_begun, version_unread}}
 use Rattle.desk_store.proofs.opening.read_shown.Given.{Over}
 use Rattle.desk_store.proofs.opening.read_shown.Goals.{After-begin-txn, After-read_desk}
 use Rattle.desk_store.proofs.opening.read_shown.Goals as goal
@@ -35,31 +29,29 @@ returns-in-Ok-false-clause-reading g c = record {
 }
 
 pub returns-in-Err-clause-reading : goal.returns-in-Err-clause-reading
-returns-in-Err-clause-reading g c = record {
-  quiet = search rules;
-  passed = search rules;
-  err = let a = c.args.pages.now in
-      let at = (goal.at.returns-in-Err-clause-reading g c).After-begin-txn in
-      subst (λ (e : StoreError). FindErr a c.is_new.new.pages e) (sym c.row_error.ensures)
-      (version_unread a c.is_new.new.pages c.begin-txn.result c.in-Err.e c.is_halted.result (begun g at) c.is_new.ensures.quiet c.is_halted.ensures c.requires c.in-Err.ensures.err);
-}
+returns-in-Err-clause-reading g c =
+    let a = c.args.pages.now in
+    let at = (goal.at.returns-in-Err-clause-reading g c).After-begin-txn in
+    search (
+      rules,
+      subst (λ (e : StoreError). FindErr a c.is_new.new.pages e) (sym c.row_error.ensures) (version_unread a c.is_new.new.pages c.begin-txn.result c.in-Err.e c.is_halted.result (begun g at) c.is_new.ensures.quiet c.is_halted.ensures c.requires c.in-Err.ensures.err),
+    )
 
 pub returns-in-Err-clause-calm : goal.returns-in-Err-clause-calm
 returns-in-Err-clause-calm g c =
     subst (λ (e : StoreError). IsCalm c.is_new.new.pages e) (sym c.row_error.ensures) (calm_told c.is_new.new.pages c.in-Err.e c.is_halted.result c.is_halted.ensures)
 
 pub returns-in-Err-read_desk-clause-reading : goal.returns-in-Err-read_desk-clause-reading
-returns-in-Err-read_desk-clause-reading g c = record {
-  quiet = quiet g (goal.at.returns-in-Err-read_desk-clause-reading g c).After-read_desk;
-  passed = search rules;
-  err = let a = c.args.pages.now in
-      let d = c.read_desk.new.pages in
-      let t = c.begin-txn.result in
-      let at = goal.at.returns-in-Err-read_desk-clause-reading g c in
-      subst (λ (e : StoreError). FindErr a d e) (sym c.row_error-in-Err-read_desk.ensures)
-      (none_read a d t c.in-Err-read_desk.e c.is_halted-in-Err-read_desk.result (begun g at.After-begin-txn) (quiet g at.After-read_desk) c.is_halted-in-Err-read_desk.ensures c.requires
-      (then_unopened t a c.is_new.new.pages d c.in-Ok-true.ensures.passed c.read_desk.ensures.reading.quiet c.in-Err-read_desk.e c.in-Err-read_desk.ensures.reading.err));
-}
+returns-in-Err-read_desk-clause-reading g c =
+    let a = c.args.pages.now in
+    let d = c.read_desk.new.pages in
+    let t = c.begin-txn.result in
+    let at = goal.at.returns-in-Err-read_desk-clause-reading g c in
+    search (
+      rules,
+      quiet g (goal.at.returns-in-Err-read_desk-clause-reading g c).After-read_desk,
+      subst (λ (e : StoreError). FindErr a d e) (sym c.row_error-in-Err-read_desk.ensures) (none_read a d t c.in-Err-read_desk.e c.is_halted-in-Err-read_desk.result (begun g at.After-begin-txn) (quiet g at.After-read_desk) c.is_halted-in-Err-read_desk.ensures c.requires (then_unopened t a c.is_new.new.pages d c.in-Ok-true.ensures.passed c.read_desk.ensures.reading.quiet c.in-Err-read_desk.e c.in-Err-read_desk.ensures.reading.err)),
+    )
 
 pub returns-in-Err-read_desk-clause-calm : goal.returns-in-Err-read_desk-clause-calm
 returns-in-Err-read_desk-clause-calm g c =
@@ -67,11 +59,12 @@ returns-in-Err-read_desk-clause-calm g c =
     subst (λ (e : StoreError). IsCalm d e) (sym c.row_error-in-Err-read_desk.ensures) (calm_told d c.in-Err-read_desk.e c.is_halted-in-Err-read_desk.result c.is_halted-in-Err-read_desk.ensures)
 
 pub returns-in-Ok-new-clause-reading : goal.returns-in-Ok-new-clause-reading
-returns-in-Ok-new-clause-reading g c = record {
-  quiet = quiet g (goal.at.returns-in-Ok-new-clause-reading g c).After-read_desk;
-  passed = passed_more c.args.pages.now c.is_new.new.pages c.read_desk.new.pages c.in-Ok-true.ensures.passed c.in-Ok.ensures.reading.passed;
-  err = search rules;
-}
+returns-in-Ok-new-clause-reading g c =
+    search (
+      rules,
+      quiet g (goal.at.returns-in-Ok-new-clause-reading g c).After-read_desk,
+      passed_more c.args.pages.now c.is_new.new.pages c.read_desk.new.pages c.in-Ok-true.ensures.passed c.in-Ok.ensures.reading.passed,
+    )
 
 pub returns-in-Ok-new-clause-read : goal.returns-in-Ok-new-clause-read
 returns-in-Ok-new-clause-read g c = λ honest x holds.
@@ -94,8 +87,4 @@ returns-in-Ok-new-clause-version g c = λ honest m holds.
     c.in-Ok-true.ensures.there was m (rows_begun c.args.pages.now c.is_new.new.pages c.begin-txn.result m (begun g at.After-begin-txn) c.is_new.ensures.quiet was holds) ∙ ap version_row c.in-Ok-true.field-0-test
 
 pub returns-clause-reading : goal.returns-clause-reading
-returns-clause-reading g c = record {
-  quiet = quiet g (goal.at.returns-clause-reading g c).After-read_desk;
-  passed = search rules;
-  err = search rules;
-}
+returns-clause-reading g c = search (rules, quiet g (goal.at.returns-clause-reading g c).After-read_desk)

@@ -1,12 +1,9 @@
-use Rattle.std.proofs.Common.{sym, ◌∙◌}
-use Rattle.gal_text.proofs.FileLemmas.{told_end, no_failure, no_turn, counts_start, most_turns}
-use Rattle.gal_text.proofs.ValidLemmas.{valid_pairs}
+use Rattle.std.proofs.Common.{sym, ◌∙◌, rules}
+use Rattle.gal_text.proofs.{FileLemmas.{told_end, no_failure, no_turn, counts_start, most_turns}, ValidLemmas.valid_pairs}
 use Rattle.gal_text.proofs.gal.read.Goals as goal
 
 pub returns-in-Ok-read_graph-clause-read : goal.returns-in-Ok-read_graph-clause-read
-returns-in-Ok-read_graph-clause-read g c =
-    let came = c.in-Ok-read_graph.ensures.read in
-    (came.0, came.1, told_end c.args.blocks.now came.0 (g.R.Source.remaining c.read_graph.new.reader) c.in-Ok-read_graph.graph c.finish.result came.2.0 came.2.1 c.finish.ensures)
+returns-in-Ok-read_graph-clause-read g c = search (rules, c.in-Ok-read_graph.ensures.read, c.finish.ensures, told_end)
 
 pub returns-in-Ok-read_graph-clause-valid : goal.returns-in-Ok-read_graph-clause-valid
 returns-in-Ok-read_graph-clause-valid g c =
@@ -25,11 +22,7 @@ returns-in-Ok-read_graph-clause-turns g c = λ is.
     absurd (no_turn c.args.blocks.now graph.progress c.finish.result (c.finish.ensures graph.progress graph.holds) is)
 
 pub returns-in-Ok-read_graph-clause-most : goal.returns-in-Ok-read_graph-clause-most
-returns-in-Ok-read_graph-clause-most g c =
-    let first = g.R.Source.turns c.args.reader.now in
-    most_turns first _ (g.R.Source.turns c.read_graph.new.reader) (c.read_graph.ensures.turns.counted first (counts_start first _ c.in-Ok.ensures.turns)) c.read_graph.ensures.turns.within
+returns-in-Ok-read_graph-clause-most g c = search (rules, c.read_graph.ensures.turns.counted, c.in-Ok.ensures.turns, c.read_graph.ensures.turns.within, most_turns, counts_start)
 
 pub returns-clause-most : goal.returns-clause-most
-returns-clause-most g c =
-    let first = g.R.Source.turns c.args.reader.now in
-    most_turns first _ (g.R.Source.turns c.read_graph.new.reader) (c.read_graph.ensures.turns.counted first (counts_start first _ c.in-Ok.ensures.turns)) c.read_graph.ensures.turns.within
+returns-clause-most g c = search (rules, c.read_graph.ensures.turns.counted, c.in-Ok.ensures.turns, c.read_graph.ensures.turns.within, most_turns, counts_start)

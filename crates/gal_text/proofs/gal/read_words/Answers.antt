@@ -1,16 +1,10 @@
-use Rattle.std.proofs.Common.{◌-◌, ◌++◌, Ok, Err, refl, sym, subst, ◌∙◌, arith}
-use Rattle.gal_text.specs.Parts.{Stands, read_told}
-use Rattle.gal_text.specs.declared.fault.GalFault.{GalFault}
+use Rattle.std.proofs.Common.{◌-◌, ◌++◌, Ok, Err, sym, subst, ◌∙◌, arith, rules}
+use Rattle.gal_text.specs.{Parts.{Stands, read_told}, declared.fault.GalFault.GalFault}
 use Rattle.gal_text.proofs.StandLemmas.{Told, stands_start, stands_more, stands_word, told_refused, told_refused_last, told_fault, told_last_end, took_at, long_at}
 use Rattle.gal_text.proofs.gal.read_words.Goals as goal
 
 pub loop-graph-init : goal.loop-graph-init
-loop-graph-init g c = record {
-  stands = subst (λ n. Stands c.args.blocks.now c.args.graph.left c.args.text.now.held (g.R.Source.remaining c.args.reader.now) (g.R.Source.remaining c.args.reader.now) c.args.text.now.held n c.args.graph) (sym c.requires.first)
-      (stands_start c.args.blocks.now c.args.graph.left c.args.text.now.held (g.R.Source.remaining c.args.reader.now) c.args.graph c.requires.starts);
-  counted = λ first was. was;
-  failures = refl;
-}
+loop-graph-init g c = search (rules, c.requires.first, c.requires.starts, stands_start)
 
 pub returns-in-Err-take-clause-read : goal.returns-in-Err-take-clause-read
 returns-in-Err-take-clause-read g c =

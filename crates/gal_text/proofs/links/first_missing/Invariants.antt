@@ -1,5 +1,4 @@
-use Rattle.std.proofs.Common.{◌≡◌, true}
-use Rattle.std.specs.List.{AllWithin}
+use Rattle.std.{specs.List.AllWithin, proofs.Common.{◌≡◌, true}}
 use Rattle.gal_text.proofs.links.first_missing.Given as goal
 
 abbrev pub invariant-loop-place : goal.invariant-loop-place

@@ -1,6 +1,5 @@
-use Rattle.std.proofs.Common.{◌<◌, ◌≤◌, arith}
-use Rattle.gal_text.specs.Pairing.{upward_pair}
-use Rattle.gal_text.proofs.LinkLemmas.{more_kept, pushed, passed_over}
+use Rattle.std.proofs.Common.{arith, rules}
+use Rattle.gal_text.{specs.Pairing.upward_pair, proofs.LinkLemmas.{more_kept, pushed, passed_over}}
 use Rattle.gal_text.proofs.links.upward.Goals as goal
 use Rattle.gal_text.proofs.links.upward.Goals.{then-number+in_ok-push, else-number}
 
@@ -9,10 +8,6 @@ loop-link-preserved c =
     let l = c.link-item.result in
     more_kept upward_pair c.args.links.now c.loop-link.link-index l _ _ (omega arith) c.link-item.is c.loop-link.invariant
     (elim c.if-number.branch [
-      | then-number+in_ok-push w ↦
-          let less : l.from < l.to = omega (arith, w.if-number.true, c.number.ensures, c.number-in-loop-link.ensures) in
-          pushed l.from l.to (l.from, l.to) _ _ less (rw w.pairs-is w.in_ok-push.ensures.items)
-      | else-number w ↦
-          let more : l.to ≤ l.from = omega (arith, w.if-number.false, c.number.ensures, c.number-in-loop-link.ensures) in
-          passed_over l.from l.to (l.from, l.to) _ _ more (rw w.pairs-is)
+      | then-number+in_ok-push w ↦ search (rules, c.number.ensures, c.number-in-loop-link.ensures, pushed)
+      | else-number w ↦ search (rules, c.number.ensures, c.number-in-loop-link.ensures, passed_over)
     ])

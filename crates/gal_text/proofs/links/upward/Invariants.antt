@@ -1,5 +1,4 @@
-use Rattle.std.proofs.Common.{◌≡◌, take}
-use Rattle.std.specs.List.{filter_map}
+use Rattle.std.{specs.List.filter_map, proofs.Common.{◌≡◌, take}}
 use Rattle.gal_text.specs.Pairing.{upward_pair}
 use Rattle.gal_text.proofs.links.upward.Given as goal
 

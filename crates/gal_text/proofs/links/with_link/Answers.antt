@@ -1,3 +1,4 @@
+use Rattle.std.proofs.Common.{rules}
 use Rattle.gal_text.proofs.LinkLemmas.{answered_more}
 use Rattle.gal_text.proofs.links.with_link.Goals as goal
 
@@ -6,5 +7,4 @@ returns-then-is_one_way c =
     λ links seen cut there least. c.with_one_way.ensures links seen ((c.is_one_way.ensures links cut there).0 c.if-is_one_way.true) least
 
 pub returns : goal.returns
-returns c =
-    λ links seen cut there least. answered_more links seen c.args.link.now c.args.least c.is_one_way.result c.if-is_one_way.false (c.is_one_way.ensures links cut there) least
+returns c = search (rules, c.if-is_one_way.false, c.is_one_way.ensures, answered_more)

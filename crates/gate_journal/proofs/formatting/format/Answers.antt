@@ -1,7 +1,5 @@
 use Rattle.std.proofs.Common.{arith, rules}
-use Rattle.sector_device.specs.claim.Disk.{Touches}
-use Rattle.sector_device.specs.Disk.{Only}
-use Rattle.sector_device.proofs.Moments.{touches_more, touches_wider}
+use Rattle.sector_device.{specs.claim.Disk.Touches, specs.Disk.Only, proofs.Moments.{touches_more, touches_wider}}
 use Rattle.gate_journal.specs.Format.{Front}
 use Rattle.gate_journal.proofs.formatting.format.Goals as goal
 

@@ -1,9 +1,6 @@
 use Rattle.std.proofs.Common.{◌≡◌, ◌∙◌, ℕ, List, get_or, sym, ap, subst, refl, arith, rules}
-use Rattle.sector_device.specs.claim.Disk.{Nowhere, Image}
-use Rattle.sector_device.proofs.Moments.{touches_more, synced_still}
-use Rattle.gate_journal.specs.claim.Store.{IsStore, gate, list_word}
-use Rattle.gate_journal.specs.Recovery.{NamesPages}
-use Rattle.gate_journal.proofs.Lists.{not_true}
+use Rattle.sector_device.{specs.claim.Disk.{Nowhere, Image}, proofs.Moments.{touches_more, synced_still}}
+use Rattle.gate_journal.{specs.claim.Store.{IsStore, gate, list_word}, specs.Recovery.NamesPages, proofs.Lists.not_true}
 use Rattle.gate_journal.proofs.Quiet.{opens_so, same_reads, quiet_recovers, fault_recovers, back_recovers}
 use Rattle.gate_journal.proofs.opening.close_gate.Goals as goal
 
@@ -14,14 +11,13 @@ returns-in_err-read g c = opens_so (search rules) (search rules) (search rules) 
 
 pub returns-then-sector : goal.returns-then-sector
 returns-then-sector g c = opens_so (search rules) (search rules) (search rules) (λ honest synced layout.
-    let J = c.args.layout.journal_pages in
     let n = c.args.layout.pages in
     let a = g.D.SectorDevice.disk c.args.device.now in
     let b = g.D.SectorDevice.disk c.read.new.self in
     let r = c.in_ok-read.ensures.model honest in
     let read = c.in_ok-read.ensures.reads honest in
     let shut : gate b.reads ≡ 165 → ⊥ = λ is. c.if-sector.true (ap (λ (s : List ℕ). get_or s 0 0) (read ∙ sym (r.0.reads.same 1 (λ none. none))) ∙ is) in
-    quiet_recovers J n a synced b _ r.0 r.1.passed (λ is. absurd (search rules)) (λ is store. absurd (search rules)) (λ _. r.1.passed) (record {
+    quiet_recovers c.args.layout.journal_pages n a synced b _ r.0 r.1.passed (λ is. absurd (search rules)) (λ is store. absurd (search rules)) (λ _. r.1.passed) (record {
       store = record {
         least_journal = c.requires.room.least_journal;
         most_journal = c.requires.room.most_journal;
@@ -42,10 +38,9 @@ returns-in_err-count g c = opens_so (search rules) (search rules) (search rules)
 pub returns-then-count-layout : goal.returns-then-count-layout
 returns-then-count-layout g c = opens_so (search rules) (search rules) (search rules) (λ honest synced layout.
     let a = g.D.SectorDevice.disk c.args.device.now in
-    let b = g.D.SectorDevice.disk c.read.new.self in
     let s = c.in_ok-count.ensures.model honest in
     let r = c.in_ok-read.ensures.model s.0.was_honest in
-    let same = same_reads a b r.0 in
+    let same = same_reads a (g.D.SectorDevice.disk c.read.new.self) r.0 in
     let is_open : gate a.reads ≡ 165 = sym (ap (λ (s : List ℕ). get_or s 0 0) (c.in_ok-read.ensures.reads s.0.was_honest)) ∙ c.if-sector.false in
     let count : c.in_ok-count.count ≡ list_word a.reads 0 = c.in_ok-count.ensures.told honest ∙ sym (ap (λ (x : Image). list_word x 0) same) in
     quiet_recovers c.args.layout.journal_pages c.args.layout.pages a synced _ _ (touches_more Nowhere Nowhere _ _ _ (λ i none. none) r.0 s.0) tt (λ is. absurd (search rules))
@@ -64,7 +59,6 @@ returns-then-not-branch g c = opens_so (search rules) (search rules) (search rul
     let n = c.args.layout.pages in
     let a = g.D.SectorDevice.disk c.args.device.now in
     let b = g.D.SectorDevice.disk c.read.new.self in
-    let d = g.D.SectorDevice.disk c.list_entry.new.device in
     let f = c.in_ok-list_fits.ensures.model honest in
     let s = c.in_ok-count.ensures.model f.0.was_honest in
     let r = c.in_ok-read.ensures.model s.0.was_honest in
@@ -75,7 +69,7 @@ returns-then-not-branch g c = opens_so (search rules) (search rules) (search rul
     quiet_recovers c.args.layout.journal_pages n a synced _ _ (touches_more Nowhere Nowhere _ _ _ (λ i none. none) ab f.0) tt (λ is. absurd (search rules))
     (λ is store.
     let names : NamesPages c.in_ok-count.count n a.reads = λ k lt. (store.list is_open).each k (omega (arith, count)) in
-    let yes = fits.1 (subst (λ (x : Image). NamesPages c.in_ok-count.count n x) (same_reads a d ab) names) in
+    let yes = fits.1 (subst (λ (x : Image). NamesPages c.in_ok-count.count n x) (same_reads a (g.D.SectorDevice.disk c.list_entry.new.device) ab) names) in
     not_true (rw c.if-not-branch.true at yes)) (λ _. f.1.passed ∙ s.1.passed ∙ r.1.passed) tt)
 
 pub returns : goal.returns

@@ -1,8 +1,6 @@
 use Rattle.std.proofs.Common.{◌∙◌, sym, subst, arith, ℕ, rules}
-use Rattle.sector_device.specs.claim.Disk.{Nowhere}
-use Rattle.sector_device.proofs.Moments.{touches_more, synced_still}
-use Rattle.gate_journal.specs.Recovery.{HasRoom}
-use Rattle.gate_journal.proofs.Quiet.{opens_so, quiet_reads, reads_store, fault_starts, starts_ok, starts_err}
+use Rattle.sector_device.{specs.claim.Disk.Nowhere, proofs.Moments.{touches_more, synced_still}}
+use Rattle.gate_journal.{specs.Recovery.HasRoom, proofs.Quiet.{opens_so, quiet_reads, reads_store, fault_starts, starts_ok, starts_err}}
 use Rattle.gate_journal.proofs.opening.start.Goals as goal
 
 pub returns-in_err-sync-clause-opens : goal.returns-in_err-sync-clause-opens
@@ -24,14 +22,13 @@ returns-in_default-clause-opens g c = opens_so (search rules) (search rules) (se
     let f = c.in_ok-layout.ensures.looks.model honest in
     let s = c.in_ok-sync.ensures.model f.0.was_honest in
     let ad = touches_more Nowhere Nowhere a b d (λ i none. none) s.0 f.0 in
-    let no_store = rw c.in_default.is at (c.in_ok-layout.ensures.looks.told honest) in
     record {
       was_honest = s.0.was_honest;
       faults = ad.faults;
       any_moment = λ all. quiet_reads a all d ad;
       passed = tt;
       faulted = λ is. absurd (search rules);
-      refused = λ is all. no_store (reads_store a all b s.0);
+      refused = λ is all. (rw c.in_default.is at (c.in_ok-layout.ensures.looks.told honest)) (reads_store a all b s.0);
       calm = λ _. f.1.passed ∙ s.1.passed;
       untouched = λ _. ad;
       settled = tt;

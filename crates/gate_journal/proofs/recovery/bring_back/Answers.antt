@@ -1,11 +1,6 @@
 use Rattle.std.proofs.Common.{◌≡◌, ◌∙◌, ◌+◌, rules}
-use Rattle.sector_device.specs.claim.Disk.{Nowhere}
-use Rattle.sector_device.specs.claim.Moments.{LeavesOnly}
-use Rattle.sector_device.proofs.Moments.{touches_more}
-use Rattle.gate_journal.specs.claim.Store.{Opens, pages, home, copies}
-use Rattle.gate_journal.specs.Store.{Homes}
-use Rattle.gate_journal.specs.Steps.{HasHomes}
-use Rattle.gate_journal.proofs.Commit.{back_leaves, shut_leaves, reopened, reshut}
+use Rattle.sector_device.{specs.claim.Disk.Nowhere, specs.claim.Moments.LeavesOnly, proofs.Moments.touches_more}
+use Rattle.gate_journal.{specs.claim.Store.{Opens, pages, home, copies}, specs.Store.Homes, specs.Steps.HasHomes, proofs.Commit.{back_leaves, shut_leaves, reopened, reshut}}
 use Rattle.gate_journal.proofs.Quiet.{opens_so}
 use Rattle.gate_journal.proofs.recovery.bring_back.Goals as goal
 
@@ -15,8 +10,7 @@ returns-in_err-copy_back g c = opens_so (search rules) (search rules) (search ru
     let n = c.args.layout.pages in
     let a = g.D.SectorDevice.disk c.args.device.now in
     let b = g.D.SectorDevice.disk c.copy_back.new.device in
-    let back = c.copy_back.ensures.model honest counted (store.list is_open) in
-    let moment : LeavesOnly (Opens J n (pages J a.reads)) a b = back_leaves J n a store synced is_open b back.touches in
+    let moment : LeavesOnly (Opens J n (pages J a.reads)) a b = back_leaves J n a store synced is_open b (c.copy_back.ensures.model honest counted (store.list is_open)).touches in
     search rules)
 
 pub returns-in_err-sync : goal.returns-in_err-sync
@@ -24,13 +18,11 @@ returns-in_err-sync g c = opens_so (search rules) (search rules) (search rules) 
     let J = c.args.layout.journal_pages in
     let n = c.args.layout.pages in
     let a = g.D.SectorDevice.disk c.args.device.now in
-    let b = g.D.SectorDevice.disk c.copy_back.new.device in
     let d = g.D.SectorDevice.disk c.sync.new.self in
     let s = c.sync.ensures.model honest in
     let back = c.in_ok-copy_back.ensures.model s.0.was_honest counted (store.list is_open) in
-    let touches = touches_more (Homes (home J) (copies J a.reads)) Nowhere a b d (λ i none. absurd none) back.touches s.0 in
+    let touches = touches_more (Homes (home J) (copies J a.reads)) Nowhere a (g.D.SectorDevice.disk c.copy_back.new.device) d (λ i none. absurd none) back.touches s.0 in
     let moment : LeavesOnly (Opens J n (pages J a.reads)) a d = back_leaves J n a store synced is_open d touches in
-    let passed : b.faults ≡ a.faults = back.cause.passed in
     search rules)
 
 pub returns-in_err-set_gate : goal.returns-in_err-set_gate
@@ -38,13 +30,12 @@ returns-in_err-set_gate g c = opens_so (search rules) (search rules) (search rul
     let J = c.args.layout.journal_pages in
     let n = c.args.layout.pages in
     let a = g.D.SectorDevice.disk c.args.device.now in
-    let b = g.D.SectorDevice.disk c.copy_back.new.device in
     let d = g.D.SectorDevice.disk c.sync.new.self in
     let e = g.D.SectorDevice.disk c.set_gate.new.device in
     let last = c.set_gate.ensures.model honest in
     let s = c.in_ok-sync.ensures.model last.touches.was_honest in
     let back = c.in_ok-copy_back.ensures.model s.0.was_honest counted (store.list is_open) in
-    let touches = touches_more (Homes (home J) (copies J a.reads)) Nowhere a b d (λ i none. absurd none) back.touches s.0 in
+    let touches = touches_more (Homes (home J) (copies J a.reads)) Nowhere a (g.D.SectorDevice.disk c.copy_back.new.device) d (λ i none. absurd none) back.touches s.0 in
     let homes : HasHomes (home J) (copies J a.reads) a d = λ p. s.0.reads.same (home J + p) (λ none. none) ∙ back.done p in
     let moment : LeavesOnly (Opens J n (pages J a.reads)) a e = shut_leaves J n a store synced is_open d e touches homes (c.in_ok-sync.ensures.synced last.touches.was_honest) last.touches in
     let passed : d.faults ≡ a.faults = s.1.passed ∙ back.cause.passed in
@@ -55,13 +46,12 @@ returns g c = opens_so (search rules) (search rules) (search rules) (λ honest s
     let J = c.args.layout.journal_pages in
     let n = c.args.layout.pages in
     let a = g.D.SectorDevice.disk c.args.device.now in
-    let b = g.D.SectorDevice.disk c.copy_back.new.device in
     let d = g.D.SectorDevice.disk c.sync.new.self in
     let e = g.D.SectorDevice.disk c.set_gate.new.device in
     let last = c.in_ok-set_gate.ensures.model honest in
     let s = c.in_ok-sync.ensures.model last.touches.was_honest in
     let back = c.in_ok-copy_back.ensures.model s.0.was_honest counted (store.list is_open) in
-    let touches = touches_more (Homes (home J) (copies J a.reads)) Nowhere a b d (λ i none. absurd none) back.touches s.0 in
+    let touches = touches_more (Homes (home J) (copies J a.reads)) Nowhere a (g.D.SectorDevice.disk c.copy_back.new.device) d (λ i none. absurd none) back.touches s.0 in
     let homes : HasHomes (home J) (copies J a.reads) a d = λ p. s.0.reads.same (home J + p) (λ none. none) ∙ back.done p in
     record {
       any_moment = shut_leaves J n a store synced is_open d e touches homes (c.in_ok-sync.ensures.synced last.touches.was_honest) last.touches;

@@ -1,12 +1,8 @@
 use Rattle.std.proofs.Common.{◌≡◌, ◌+◌, ◌∙◌, take, subst, rules, arith}
 use Rattle.std.proofs.lemmas.List.{take_all}
-use Rattle.gate_journal.specs.Steps.{HasHomes}
-use Rattle.sector_device.specs.claim.Disk.{Nowhere}
-use Rattle.sector_device.proofs.Moments.{touches_more}
-use Rattle.gate_journal.specs.Store.{Homes}
-use Rattle.gate_journal.specs.claim.Store.{home, copies}
-use Rattle.gate_journal.proofs.Commit.{back_more, back_touches, entry_same, count_is}
+use Rattle.gate_journal.{specs.Steps.HasHomes, specs.Store.Homes, specs.claim.Store.{home, copies}, proofs.Commit.{back_more, back_touches, entry_same, count_is}}
 use Rattle.gate_journal.proofs.Quiet.{opens_so}
+use Rattle.sector_device.{specs.claim.Disk.Nowhere, proofs.Moments.touches_more}
 use Rattle.gate_journal.proofs.recovery.copy_back.Goals as goal
 
 pub loop-k-preserved : goal.loop-k-preserved
@@ -33,19 +29,16 @@ loop-k-preserved g c = record {
 pub returns-in_err-page : goal.returns-in_err-page
 returns-in_err-page g c = opens_so (search rules) (search rules) (search rules) (λ honest counted valid.
     let J = c.args.layout.journal_pages in
-    let a = g.D.SectorDevice.disk c.args.device.now in
     let entry = c.list_entry.ensures.model honest in
     let so_far = c.loop-k.invariant.so_far entry.0.was_honest counted valid in
-    let touches = touches_more (Homes (home J) (copies J a.reads)) Nowhere _ _ _ (λ i none. absurd none) so_far.touches entry.0 in
+    let touches = touches_more (Homes (home J) (copies J (g.D.SectorDevice.disk c.args.device.now).reads)) Nowhere _ _ _ (λ i none. absurd none) so_far.touches entry.0 in
     search rules)
 
 pub returns-then-page-layout : goal.returns-then-page-layout
 returns-then-page-layout g c = opens_so (search rules) (search rules) (search rules) (λ honest counted valid.
-    let J = c.args.layout.journal_pages in
     let a = g.D.SectorDevice.disk c.args.device.now in
-    let entry = c.in_ok-page.ensures.model honest in
-    let so_far = c.loop-k.invariant.so_far entry.0.was_honest counted valid in
-    let is = c.in_ok-page.ensures.told honest ∙ entry_same J a (g.D.SectorDevice.disk c.loop-k.device) (c.loop-k.k + 1) (omega arith) so_far.touches in
+    let so_far = c.loop-k.invariant.so_far (c.in_ok-page.ensures.model honest).0.was_honest counted valid in
+    let is = c.in_ok-page.ensures.told honest ∙ entry_same c.args.layout.journal_pages a (g.D.SectorDevice.disk c.loop-k.device) (c.loop-k.k + 1) (omega arith) so_far.touches in
     absurd (omega (arith, is, counted, c.if-page-layout.true, valid.each c.loop-k.k (omega (arith, counted)))))
 
 pub returns-in_err-copy_sector : goal.returns-in_err-copy_sector

@@ -1,9 +1,5 @@
 use Rattle.std.proofs.Common.{◌≡◌, take}
-use Rattle.gate_journal.specs.Store.{Homes}
-use Rattle.gate_journal.specs.claim.Store.{home, copies, list_word}
-use Rattle.gate_journal.specs.Steps.{HasHomes}
-use Rattle.gate_journal.proofs.SoFar.{SoFar}
-use Rattle.gate_journal.specs.claim.Store.{IsValid}
+use Rattle.gate_journal.{specs.Store.Homes, specs.claim.Store.{home, copies, list_word, IsValid}, specs.Steps.HasHomes, proofs.SoFar.SoFar}
 use Rattle.gate_journal.proofs.recovery.copy_back.Given as goal
 
 abbrev pub invariant-loop-k : goal.invariant-loop-k

@@ -1,7 +1,5 @@
 use Rattle.std.proofs.Common.{◌≡◌, take}
-use Rattle.gate_journal.specs.Store.{Homes}
-use Rattle.gate_journal.specs.Steps.{HasHomes}
-use Rattle.gate_journal.proofs.SoFar.{SoFar}
+use Rattle.gate_journal.{specs.Store.Homes, specs.Steps.HasHomes, proofs.SoFar.SoFar}
 use Rattle.gate_journal.proofs.steps.write_homes.Given as goal
 
 abbrev pub invariant-loop-k : goal.invariant-loop-k

@@ -1,19 +1,11 @@
-use Rattle.std.proofs.Common.{ℕ, Err, Some, None, refl, subst, ◌∙◌}
+use Rattle.std.proofs.Common.{ℕ, Err, Some, refl, subst, ◌∙◌}
 use Rattle.sector_device.specs.declared.SectorDevice.{Ghosts}
-use Rattle.page_store.specs.claim.Transactions.{disk_in}
-use Rattle.page_store.specs.declared.pages.Pages.{Pages}
-use Rattle.page_store.specs.declared.txn.Txn.{Txn}
-use Rattle.desk_pages.specs.declared.error.StoreError.TheVariants.{Full}
-use Rattle.geo_tables.specs.Loads.{AreExhausted, Begins, HasBegun}
-use Rattle.desk_pages.specs.Errors.{tree_refusal}
-use Rattle.geo_tables.proofs.Joins.{quiet_leaves, shape_after, step_leaves, one_leaves, room_of}
-use Rattle.geo_tables.proofs.Refused.{next_refused, next_exhausted, next_unfinished}
-use Rattle.geo_tables.proofs.Staged.{begun_fits, begun_told, begun_desk, begun_holds}
+use Rattle.page_store.specs.{claim.Transactions.disk_in, declared.pages.Pages.Pages, declared.txn.Txn.Txn}
+use Rattle.desk_pages.specs.{declared.error.StoreError.TheVariants.Full, Errors.tree_refusal}
+use Rattle.geo_tables.{specs.Loads.{Begins, HasBegun}, proofs.Joins.{quiet_leaves, shape_after, step_leaves, one_leaves, room_of}}
+use Rattle.geo_tables.proofs.{Refused.{next_refused, next_exhausted, next_unfinished}, Staged.{begun_fits, begun_told, begun_desk, begun_holds}}
 use Rattle.geo_tables.proofs.Steps.{not_stepped, step_failed, stepped}
 use Rattle.geo_tables.proofs.begins.begin_next.Goals as goal
-
-exhausted_in : {D : Type 0} {g : Ghosts D} (t u : Txn) (a b : Pages D g) → Begins t u a b None → AreExhausted t a b
-exhausted_in t u a b is = is
 
 begun_in : {D : Type 0} {g : Ghosts D} (t u : Txn) (a b : Pages D g) (load : ℕ) → Begins t u a b (Some load) → HasBegun load t u a b
 begun_in t u a b load is = is
@@ -54,7 +46,7 @@ pub returns-in-None-clause-step : goal.returns-in-None-clause-step
 returns-in-None-clause-step g c =
     not_stepped Full (Err Full) c.requires.started.working c.begin_rows.ensures.quiet refl
     (next_exhausted c.args.txn c.args.pages.now c.begin_rows.new.pages c.requires.started c.begin_rows.ensures.quiet
-    (exhausted_in c.args.txn c.begin_rows.new.txn c.args.pages.now c.begin_rows.new.pages (subst (Begins c.args.txn c.begin_rows.new.txn c.args.pages.now c.begin_rows.new.pages) c.in-None.is c.in_ok-begin_rows.ensures.put)))
+    ((subst (Begins c.args.txn c.begin_rows.new.txn c.args.pages.now c.begin_rows.new.pages) c.in-None.is c.in_ok-begin_rows.ensures.put)))
 
 pub returns-in_err-commit_fitting-in-Some-clause-step : goal.returns-in_err-commit_fitting-in-Some-clause-step
 returns-in_err-commit_fitting-in-Some-clause-step g c =

@@ -1,7 +1,6 @@
-use Rattle.std.proofs.Common.{◌≡◌, ◌∙◌, ◌<◌, ℕ, refl, sym, ap, subst, inl, inr, arith}
+use Rattle.std.proofs.Common.{◌≡◌, ◌∙◌, ℕ, sym, ap, subst, inl, inr, arith, rules}
 use Rattle.std.proofs.lemmas.Bool.{cases_eq}
-use Rattle.desk_model.specs.claim.Block.{state_of}
-use Rattle.desk_model.specs.claim.Geography.{id_at, ids_of}
+use Rattle.desk_model.specs.{claim.Block.state_of, claim.Geography.id_at}
 use Rattle.geo_tables.proofs.Ids.{any_default, id_there, length-ids}
 use Rattle.geo_tables.proofs.checks.are_of_one_state.Goals as goal
 
@@ -25,11 +24,4 @@ loop-k-preserved c = λ j less.
     ]
 
 pub returns : goal.returns
-returns c =
-    let xs = c.args.blocks.now in (
-      λ t k d less.
-          let few = length-ids xs in
-          let below : k < c.loop-k.k = omega arith in
-          ap state_of (any_default (ids_of xs) k d less) ∙ c.loop-k.invariant k below,
-      λ all. refl,
-    )
+returns c = search (rules, arith, c.args.blocks.now, length-ids, any_default, c.loop-k.invariant)

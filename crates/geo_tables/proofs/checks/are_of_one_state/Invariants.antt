@@ -1,6 +1,5 @@
 use Rattle.std.proofs.Common.{ℕ, ◌≡◌, ◌<◌}
-use Rattle.desk_model.specs.claim.Block.{state_of}
-use Rattle.desk_model.specs.claim.Geography.{id_at}
+use Rattle.desk_model.specs.{claim.Block.state_of, claim.Geography.id_at}
 use Rattle.geo_tables.proofs.checks.are_of_one_state.Given as goal
 
 abbrev pub invariant-loop-k : goal.invariant-loop-k

@@ -1,9 +1,7 @@
 use Rattle.std.proofs.Common.{refl, inr, arith}
 use Rattle.page_store.proofs.Stops.{quiet_more}
-use Rattle.desk_pages.proofs.Outcomes.{match_of}
-use Rattle.desk_pages.proofs.Reading.{put_after, not_put_after}
-use Rattle.geo_tables.specs.Rows.{begun_rows}
-use Rattle.geo_tables.specs.Loads.{BeginErr}
+use Rattle.desk_pages.proofs.{Outcomes.match_of, Reading.{put_after, not_put_after}}
+use Rattle.geo_tables.specs.{Rows.begun_rows, Loads.BeginErr}
 use Rattle.geo_tables.proofs.load_rows.begin_rows.Goals as goal
 
 pub returns-in_err-put_begun : goal.returns-in_err-put_begun

@@ -1,25 +1,15 @@
-use Rattle.std.proofs.Common.{List, ℕ, [], ◌∷◌, ◌≡◌, ◌∙◌, length, sym, subst, arith}
-use Rattle.std.specs.FinMap.{insert, remove}
+use Rattle.std.{specs.FinMap.{insert, remove}, proofs.Common.{List, ℕ, [], ◌∷◌, ◌≡◌, ◌∙◌, length, sym, subst, arith, rules}}
 use Rattle.sector_device.specs.claim.Disk.{Image}
-use Rattle.page_store.proofs.Stops.{quiet_more, passed_more}
-use Rattle.page_store.specs.claim.Transactions.{stored}
+use Rattle.page_store.{specs.claim.Transactions.stored, proofs.Stops.{quiet_more, passed_more}}
 use Rattle.page_btree.specs.claim.Map.{InTxn}
-use Rattle.desk_model.specs.declared.block.BlockRow.{BlockRow}
-use Rattle.desk_model.specs.declared.geography.Pair.{Pair}
-use Rattle.desk_model.specs.claim.Geography.{GeographyModel}
-use Rattle.store_rows.specs.claim.Keys.{key_of, seal}
-use Rattle.store_rows.specs.claim.Values.{seal_bytes}
-use Rattle.store_rows.specs.claim.Puts.{Row}
-use Rattle.desk_pages.specs.claim.Puts.{HasPut, PutsErr}
-use Rattle.geo_tables.specs.Rows.{seal_row}
-use Rattle.desk_pages.proofs.Outcomes.{match_of}
-use Rattle.geo_tables.proofs.RowAfterRow.{then_not_removed}
+use Rattle.desk_model.specs.{declared.block.BlockRow.BlockRow, declared.geography.Pair.Pair, claim.Geography.GeographyModel}
+use Rattle.store_rows.specs.{claim.Keys.{key_of, seal}, claim.Values.seal_bytes, claim.Puts.Row}
+use Rattle.desk_pages.{specs.claim.Puts.{HasPut, PutsErr}, proofs.Outcomes.match_of}
+use Rattle.geo_tables.{specs.Rows.seal_row, proofs.RowAfterRow.then_not_removed}
 use Rattle.geo_tables.proofs.load_rows.seal_rows.Goals as goal
 
 row_is : (load : ℕ) (g : GeographyModel) (blocks : List BlockRow) (pairs : List Pair) (key value : List ℕ) → blocks ≡ g.blocks → pairs ≡ g.pairs → key ≡ key_of seal → value ≡ seal_bytes (record { load = load; blocks = length blocks; pairs = length pairs }) → ◌≡◌ {A = Row} (key, value) (seal_row load g)
-row_is load g blocks pairs key value same_blocks same_pairs named is =
-    let whole : value ≡ seal_bytes (record { load = load; blocks = length g.blocks; pairs = length g.pairs }) = is ∙ (λ i. seal_bytes (record { load = load; blocks = length (same_blocks i); pairs = length (same_pairs i) })) in
-    λ i. (named i, whole i)
+row_is load g blocks pairs key value same_blocks same_pairs named is = search (rules, arith, g.blocks, g.pairs, same_blocks, same_pairs, named)
 
 pub returns-in_err-put_row : goal.returns-in_err-put_row
 returns-in_err-put_row g c =
@@ -52,7 +42,6 @@ returns g c =
     let put = subst (λ (r : Row). HasPut (r ∷ []) c.args.txn.now c.put_row.new.txn c.args.pages.now c.put_row.new.pages)
     (row_is c.args.load c.args.geography.now c.blocks-2.result.now c.pairs.result.now c.seal.result c.seal_value.result c.blocks-2.ensures.value c.pairs.ensures.value c.seal.ensures c.seal_value.ensures) first.put in
     let row = seal_row c.args.load c.args.geography.now in
-    let u = c.put_row.new.txn in
     let v = c.remove.new.txn in
     let old = stored c.args.pages.now in
     record {
@@ -65,10 +54,9 @@ returns g c =
             let before = c.remove.ensures.reading.quiet.honest honest in
             let same = put.passed.quiet.same before in
             let with = insert m row.0 row.1 in
-            let there = subst (λ (P : Image). InTxn u P with) (sym same) (put.put before m holds) in
-            let gone = (c.in_ok-remove.ensures.remove honest with there).0 in
+            let there = subst (λ (P : Image). InTxn c.put_row.new.txn P with) (sym same) (put.put before m holds) in
             subst (λ (key : List ℕ). InTxn v old (remove with key)) (c.as_slice.ensures.bytes ∙ c.begun.ensures)
-            (subst (λ (P : Image). InTxn v P (remove with c.as_slice.result.now)) same gone);
+            (subst (λ (P : Image). InTxn v P (remove with c.as_slice.result.now)) same ((c.in_ok-remove.ensures.remove honest with there).0));
         writes = let first = put.writes in let last = c.in_ok-remove.ensures.costs.writes in omega arith;
         taken = let first = put.taken in let last = c.in_ok-remove.ensures.costs.given in omega arith;
       };

@@ -1,10 +1,8 @@
-use Rattle.std.proofs.Common.{◌≡◌, sym, ◌∙◌, arith}
-use Rattle.std.specs.FinMap.{entries}
+use Rattle.std.{specs.FinMap.entries, proofs.Common.{◌≡◌, sym, ◌∙◌, arith}}
 use Rattle.page_store.proofs.Stops.{quiet_none}
 use Rattle.btree_walks.specs.Prefixes.{under}
 use Rattle.desk_pages.proofs.Looking.{begins, both, fails_then, finds, lacks_memory}
-use Rattle.geo_tables.proofs.Along.{all_in}
-use Rattle.geo_tables.proofs.OneMore.{all_first, element_at, none_first, one_more_first}
+use Rattle.geo_tables.proofs.{Along.all_in, OneMore.{all_first, element_at, none_first, one_more_first}}
 use Rattle.geo_tables.proofs.reads.read_elements.Goals as goal
 
 pub returns-in_err-all : goal.returns-in_err-all
@@ -36,7 +34,5 @@ loop-place-preserved g c = record {
 
 pub returns : goal.returns
 returns g c = finds c.loop-place.invariant.gathers (λ m so.
-    let last = c.loop-place-test.false in
-    let end = c.loop-place.auto.place-end in
     let same : c.loop-place.place ≡ c.args.count = omega arith in
     all_first g.E.Element.bytes_of g.E.Element.fits (g.E.Element.key_at c.args.load) c.args.count m c.loop-place.place c.loop-place.all.items same so.1)

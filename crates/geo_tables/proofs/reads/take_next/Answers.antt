@@ -1,8 +1,6 @@
-use Rattle.std.proofs.Common.{Option, subst, sym, ◌∙◌}
-use Rattle.std.specs.Prelude.{IfSome}
+use Rattle.std.{specs.Prelude.IfSome, proofs.Common.{Option, subst, sym, ◌∙◌}}
 use Rattle.page_btree.specs.declared.error.TreeError.{TreeError}
-use Rattle.btree_walks.specs.Parts.{row_of}
-use Rattle.btree_walks.specs.Scanning.{CanScan, ScanErr}
+use Rattle.btree_walks.specs.{Parts.row_of, Scanning.{CanScan, ScanErr}}
 use Rattle.desk_pages.proofs.Looking.{looked, not_looked}
 use Rattle.geo_tables.proofs.Along.{fault_unread, taken_so}
 use Rattle.geo_tables.proofs.reads.take_next.Goals as goal

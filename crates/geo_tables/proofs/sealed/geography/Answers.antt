@@ -1,8 +1,6 @@
-use Rattle.std.proofs.Common.{List, ℕ, None, Option, Some, ap, sym, subst, ◌∙◌}
-use Rattle.store_rows.specs.declared.value.SealRow.{SealRow}
-use Rattle.store_rows.specs.claim.Values.{seal_bytes}
-use Rattle.desk_pages.proofs.Looking.{both, fails, fails_then, finds, gathered}
-use Rattle.desk_pages.specs.Reading.{StandsAs}
+use Rattle.std.proofs.Common.{List, ℕ, Option, Some, ap, sym, subst, ◌∙◌, arith, rules}
+use Rattle.store_rows.specs.{declared.value.SealRow.SealRow, claim.Values.seal_bytes}
+use Rattle.desk_pages.{specs.Reading.StandsAs, proofs.Looking.{both, fails, fails_then, finds, gathered}}
 use Rattle.geo_tables.proofs.SealedRows.{none_by_seal, seal_stands, told_by_seal}
 use Rattle.geo_tables.proofs.sealed.geography.Goals as goal
 
@@ -26,6 +24,4 @@ returns-in_ok-geography-in-Some g c = finds (both (gathered _ c.in_ok-found.ensu
     })
 
 pub returns-in-None : goal.returns-in-None
-returns-in-None g c = finds (gathered _ c.in_ok-found.ensures) (λ m stands.
-    let lacks = sym (subst (λ (key : List ℕ). StandsAs seal_bytes key m None) c.seal.ensures (subst (λ (row : Option SealRow). StandsAs seal_bytes c.seal.result m row) c.in-None.is stands)) in
-    record { there = lacks; read = λ found says. none_by_seal m found lacks says })
+returns-in-None g c = search (rules, arith, finds, gathered, c.in_ok-found.ensures, c.seal.ensures, c.seal.result, c.in-None.is, none_by_seal)

@@ -1,14 +1,9 @@
-use Rattle.std.proofs.Common.{refl, false}
-use Rattle.std.specs.Prelude.{IsTrue}
+use Rattle.std.proofs.Common.{refl, arith, rules}
 use Rattle.geo_tables.proofs.Begun.{short_of}
 use Rattle.geo_tables.proofs.starts.start.Goals as goal
 
-not_true : IsTrue false → ⊥
-not_true is = cc
-
 pub returns-then-not-has_room : goal.returns-then-not-has_room
-returns-then-not-has_room g c =
-    (c.in_ok-txn.ensures.working, short_of c.args.pages.now c.in_ok-txn.txn c.args.rows c.in_ok-txn.ensures (λ both. not_true (c.if-not-has_room.ensures.1 both)))
+returns-then-not-has_room g c = search (rules, arith, c.in_ok-txn.ensures.working, short_of, c.args.pages.now, c.in_ok-txn.txn, c.in_ok-txn.ensures, c.if-not-has_room.ensures.1)
 
 pub returns : goal.returns
 returns g c = record {

@@ -1,8 +1,5 @@
-use Rattle.std.proofs.Common.{◌≡◌, ◌+◌, ◌≤◌, length}
-use Rattle.std.specs.Prelude.{filter}
-use Rattle.std.specs.Str.Lines.{lines}
-use Rattle.http_desk.specs.Accepting.{rows_in}
-use Rattle.http_desk.proofs.RowLines.{has_bytes}
+use Rattle.std.{specs.Prelude.filter, specs.Str.Lines.lines, proofs.Common.{◌≡◌, ◌+◌, ◌≤◌, length}}
+use Rattle.http_desk.{specs.Accepting.rows_in, proofs.RowLines.has_bytes}
 use Rattle.http_desk.proofs.rows.count_rows.Given as goal
 
 abbrev pub invariant-loop-line : goal.invariant-loop-line

@@ -1,9 +1,7 @@
-use Rattle.std.proofs.Common.{None, inl, inr, ◌++◌, refl, ap, ◌∙◌}
-use Rattle.http_intake.specs.Budget.{reading_left}
+use Rattle.std.proofs.Common.{None, inl, inr, ◌++◌, refl, ap, ◌∙◌, rules}
 use Rattle.desk_model.specs.declared.command.Query.TheVariants.{Plans}
 use Rattle.http_desk.specs.declared.serve.Asked.TheVariants as asked
-use Rattle.http_desk.specs.claim.Serving.{write_failures}
-use Rattle.http_desk.proofs.TalkLemmas.{may_handle, answered_by, takes_by, unanswered, cut_next, cut_short, put, queued_as}
+use Rattle.http_desk.{specs.claim.Serving.write_failures, proofs.TalkLemmas.{may_handle, answered_by, takes_by, unanswered, cut_next, cut_short, put, queued_as}}
 use Rattle.http_desk.proofs.TurnLemmas.{put_reads}
 use Rattle.http_desk.proofs.serve.exchange.Goals as goal
 
@@ -53,12 +51,7 @@ returns-in-Ok-Some-List-clause-limit g c = λ bad. absurd ((put_reads _ _ _ _ _ 
 
 pub returns-in-Ok-Some-List-clause-left : goal.returns-in-Ok-Some-List-clause-left
 returns-in-Ok-Some-List-clause-left g c =
-    let left = rw (c.in-Ok-Some-List.field-0-is, c.in-Ok-Some-List.field-0-0-is) at c.in-Ok-Some-List.ensures.left in
-    let list = c.list-closes in
-    let stream = c.args.stream.now in
-    let next = c.next_request.new.stream in
-    let takes = takes_by g.C.Counter.commands g.C.Counter.asks c.args.counter.now list.new.counter (asked.List c.in-Ok-Some-List.closes) list.new.answer list.result (reading_left stream.turns stream.read_buffer) (reading_left next.turns next.read_buffer) list.ensures.handles left in
-    (put_reads _ _ next.write_buffer c.put_answer.new.write_buffer list.new.answer list.result c.put_answer.result c.put_answer.ensures.bytes).left (reading_left stream.turns stream.read_buffer) (reading_left next.turns next.read_buffer) takes.0 takes.1
+    search (rules, c.in-Ok-Some-List.field-0-is, c.in-Ok-Some-List.field-0-0-is, c.in-Ok-Some-List.ensures.left, c.put_answer.ensures.bytes, takes_by, put_reads)
 
 pub handle-closes-requires-clause-takes : goal.handle-closes-requires-clause-takes
 handle-closes-requires-clause-takes g c =
@@ -89,10 +82,4 @@ pub returns-clause-limit : goal.returns-clause-limit
 returns-clause-limit g c = λ bad. absurd ((put_reads _ _ _ _ _ _ c.put_answer-next.result c.put_answer-next.ensures.bytes).limit bad)
 
 pub returns-clause-left : goal.returns-clause-left
-returns-clause-left g c =
-    let left = rw (c.in-Ok-Some-Of.field-0-is, c.in-Ok-Some-Of.field-0-0-is) at c.in-Ok-Some-Of.ensures.left in
-    let handle = c.handle-closes in
-    let stream = c.args.stream.now in
-    let next = c.next_request.new.stream in
-    let takes = takes_by g.C.Counter.commands g.C.Counter.asks c.args.counter.now handle.new.counter (asked.Of c.in-Ok-Some-Of.incoming) handle.new.answer handle.result (reading_left stream.turns stream.read_buffer) (reading_left next.turns next.read_buffer) handle.ensures.handles left in
-    (put_reads _ _ next.write_buffer c.put_answer-next.new.write_buffer handle.new.answer handle.result c.put_answer-next.result c.put_answer-next.ensures.bytes).left (reading_left stream.turns stream.read_buffer) (reading_left next.turns next.read_buffer) takes.0 takes.1
+returns-clause-left g c = search (rules, c.in-Ok-Some-Of.field-0-is, c.in-Ok-Some-Of.field-0-0-is, c.in-Ok-Some-Of.ensures.left, c.put_answer-next.ensures.bytes, takes_by, put_reads)

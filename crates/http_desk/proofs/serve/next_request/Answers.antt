@@ -1,23 +1,13 @@
-use Rattle.std.proofs.Common.{List, ℕ, [], Some, None, Ok, Err, refl, ap, subst, inl, ◌∙◌, arith, length, length-append}
-use Rattle.std.proofs.KnownBytes.{Consumes-nil}
+use Rattle.std.proofs.{Common.{List, ℕ, [], Some, None, Ok, Err, refl, ap, subst, inl, ◌∙◌, arith, length, length-append, rules}, KnownBytes.Consumes-nil}
 use Rattle.http_wire.specs.Incoming.{Taken}
 use Rattle.http_wire.specs.declared.fault.RequestFault.TheVariants as fault
 use Rattle.http_desk.specs.declared.serve.Asked.TheVariants as asked
-use Rattle.http_desk.proofs.NextLemmas.{no_turn, turn, next_from, nothing_came, no_bytes, next_cut, next_taken, next_read, next_ended, next_failed}
+use Rattle.http_desk.proofs.{NextLemmas.{no_turn, turn, next_from, nothing_came, no_bytes, next_cut, next_taken, next_read, next_ended, next_failed}, TurnLemmas.spends_none}
 use Rattle.http_intake.proofs.DrawsLemmas.{spends_more}
-use Rattle.http_desk.proofs.TurnLemmas.{spends_none}
 use Rattle.http_desk.proofs.serve.next_request.Goals as goal
 
 pub loop-stream-init : goal.loop-stream-init
-loop-stream-init g c =
-    let stream = c.args.stream.now in
-    record {
-      turned = no_turn (g.R.Source.remaining c.args.reader.now) (g.W.Sink.contents c.args.writer.now) stream.read_buffer stream.write_buffer (Consumes-nil _);
-      failures = refl;
-      write_failures = refl;
-      spends = spends_none stream.turns stream.turns (g.R.Source.turns c.args.reader.now) refl;
-      left = omega arith;
-    }
+loop-stream-init g c = search (rules, no_turn, Consumes-nil, spends_none)
 
 pub returns-in-Err-clause-read : goal.returns-in-Err-clause-read
 returns-in-Err-clause-read g c = next_cut _ _ _ _ _ c.args.stream.now.read_buffer c.args.stream.now.write_buffer c.loop-stream.stream.read_buffer c.loop-stream.stream.write_buffer c.loop-stream.stream.read_buffer c.flush.new.self c.loop-stream.invariant.turned c.in-Err.ensures.bytes
@@ -59,8 +49,7 @@ returns-in-Some-take_request-clause-read g c =
     next_taken _ _ _ _ c.args.stream.now.read_buffer c.args.stream.now.write_buffer c.loop-stream.stream.read_buffer c.loop-stream.stream.write_buffer c.take_request.new.read_buffer c.in-Some-take_request.incoming c.loop-stream.invariant.turned taken
 
 pub returns-in-Err-flush-clause-read : goal.returns-in-Err-flush-clause-read
-returns-in-Err-flush-clause-read g c =
-    next_cut _ _ _ _ _ c.args.stream.now.read_buffer c.args.stream.now.write_buffer c.loop-stream.stream.read_buffer c.loop-stream.stream.write_buffer c.take_request.new.read_buffer c.flush-2.new.self c.loop-stream.invariant.turned c.in-Err-flush.ensures.bytes
+returns-in-Err-flush-clause-read g c = search (rules, c.loop-stream.invariant.turned, c.in-Err-flush.ensures.bytes, next_cut)
 
 pub returns-in-End-clause-read : goal.returns-in-End-clause-read
 returns-in-End-clause-read g c =

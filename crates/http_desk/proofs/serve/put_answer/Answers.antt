@@ -1,4 +1,4 @@
-use Rattle.std.proofs.Common.{[], sym}
+use Rattle.std.proofs.Common.{[], sym, rules}
 use Rattle.http_desk.proofs.TalkLemmas.{flushed, flushed_cut, queued_as}
 use Rattle.http_desk.proofs.serve.put_answer.Goals as goal
 
@@ -6,8 +6,7 @@ pub returns-in-Err-flush-clause-bytes : goal.returns-in-Err-flush-clause-bytes
 returns-in-Err-flush-clause-bytes g c = flushed_cut _ (g.W.Sink.contents c.send.new.writer) _ c.args.write_buffer.now c.send.new.write_buffer c.args.answer.now c.in-Ok.ensures.bytes c.in-Err-flush.ensures.bytes
 
 pub returns-then-closes-clause-bytes : goal.returns-then-closes-clause-bytes
-returns-then-closes-clause-bytes g c =
-    (c.if-closes.true, flushed _ (g.W.Sink.contents c.send.new.writer) _ c.args.write_buffer.now c.send.new.write_buffer c.args.answer.now c.in-Ok.ensures.bytes c.in-Ok-flush.ensures.bytes)
+returns-then-closes-clause-bytes g c = search (rules, c.in-Ok.ensures.bytes, c.in-Ok-flush.ensures.bytes, flushed)
 
 pub returns-else-closes-clause-bytes : goal.returns-else-closes-clause-bytes
 returns-else-closes-clause-bytes g c =

@@ -1,33 +1,17 @@
-use Rattle.std.proofs.Common.{◌+◌, true, false, ◌∙◌, ap, arith, refl, length}
-use Rattle.std.proofs.KnownBytes.{Consumes-nil}
-use Rattle.http_desk.specs.claim.Serving.{read_failures, write_failures}
-use Rattle.http_desk.specs.declared.serve.Served.{Served}
-use Rattle.std.proofs.Common.{Err}
-use Rattle.http_intake.proofs.DrawsLemmas.{spends_more}
-use Rattle.http_desk.proofs.TurnLemmas.{spends_none, all_spent}
+use Rattle.std.proofs.{Common.{◌+◌, true, false, ◌∙◌, arith, rules}, KnownBytes.Consumes-nil}
+use Rattle.http_desk.{specs.claim.Serving.{read_failures, write_failures}, proofs.TurnLemmas.{spends_none, all_spent}}
 use Rattle.http_desk.proofs.TalkLemmas.{asked_of, starts, goes, ends, fails, counted_as}
+use Rattle.http_intake.proofs.DrawsLemmas.{spends_more}
 use Rattle.http_desk.proofs.serve.serve.Goals as goal
 
 pub loop-requests-init : goal.loop-requests-init
-loop-requests-init g c =
-    let stream = c.in-Some.stream in
-    let begun = c.in-Some.ensures in
-    record {
-      few = omega (arith, begun.2, ap length begun.0);
-      read_failures = refl;
-      write_failures = refl;
-      turns = spends_none 4294967296 stream.turns (g.R.Source.turns c.args.reader.now) begun.2;
-      stands = starts g.C.Counter.commands g.C.Counter.asks c.args.counter.now (g.R.Source.remaining c.args.reader.now) (g.W.Sink.contents c.args.writer.now) stream.read_buffer stream.write_buffer begun.0 begun.1 (Consumes-nil (g.R.Source.remaining c.args.reader.now));
-    }
+loop-requests-init g c = search (rules, c.in-Some.ensures, spends_none, starts, Consumes-nil)
 
 pub exchange-requires : goal.exchange-requires
-exchange-requires g c x command asked =
-    c.requires x command (asked_of g.C.Counter.commands g.C.Counter.asks c.args.counter.now c.loop-requests.counter _ _ _ _ c.loop-requests.stream.read_buffer c.loop-requests.stream.write_buffer c.loop-requests.requests command c.loop-requests.invariant.stands asked)
+exchange-requires g c x command asked = search (rules, c.requires, c.loop-requests.invariant.stands, asked_of)
 
 pub overflow_add-requests : goal.overflow_add-requests
-overflow_add-requests g c =
-    let left = rw c.in-Ok-Again.field-0-is at c.in-Ok-Again.ensures.left in
-    omega (arith, c.loop-requests.invariant.few, left)
+overflow_add-requests g c = search (rules, c.in-Ok-Again.field-0-is, c.in-Ok-Again.ensures.left, c.loop-requests.invariant.few)
 
 pub overflow_add-result : goal.overflow_add-result
 overflow_add-result g c = omega (arith, c.loop-requests.invariant.few)
@@ -38,16 +22,13 @@ returns-in-Err-clause-talks g c =
     fails g.C.Counter.commands g.C.Counter.asks c.args.counter.now c.loop-requests.counter c.exchange.new.counter _ _ _ _ _ _ c.loop-requests.stream.read_buffer c.exchange.new.stream.read_buffer c.loop-requests.stream.write_buffer c.exchange.new.stream.write_buffer t.0 t.1 t.2 c.loop-requests.requests c.in-Err.fault c.loop-requests.invariant.stands t.3 t.4 t.5 t.6
 
 pub returns-in-Err-clause-read_failures : goal.returns-in-Err-clause-read_failures
-returns-in-Err-clause-read_failures g c =
-    c.in-Err.ensures.read_failures ∙ ap (λ n. read_failures {A = Served} n (Err c.in-Err.fault)) c.loop-requests.invariant.read_failures
+returns-in-Err-clause-read_failures g c = search (rules, c.in-Err.ensures.read_failures, c.loop-requests.invariant.read_failures)
 
 pub returns-in-Err-clause-write_failures : goal.returns-in-Err-clause-write_failures
-returns-in-Err-clause-write_failures g c =
-    c.in-Err.ensures.write_failures ∙ ap (λ n. write_failures {A = Served} n (Err c.in-Err.fault)) c.loop-requests.invariant.write_failures
+returns-in-Err-clause-write_failures g c = search (rules, c.in-Err.ensures.write_failures, c.loop-requests.invariant.write_failures)
 
 pub returns-in-Err-clause-turn_limit : goal.returns-in-Err-clause-turn_limit
-returns-in-Err-clause-turn_limit g c =
-    λ is. all_spent _ _ _ _ (spends_more _ _ _ _ _ _ c.loop-requests.invariant.turns c.in-Err.ensures.turns) (c.in-Err.ensures.limit (cc))
+returns-in-Err-clause-turn_limit g c = search (rules, c.loop-requests.invariant.turns, c.in-Err.ensures.turns, c.in-Err.ensures.limit, all_spent, spends_more)
 
 pub returns-in-Ok-Last-clause-talks : goal.returns-in-Ok-Last-clause-talks
 returns-in-Ok-Last-clause-talks g c =

@@ -1,6 +1,5 @@
 use Rattle.std.proofs.Common.{◌≡◌, ◌+◌, ◌*◌, ◌≤◌}
-use Rattle.http_intake.specs.Budget.{reading_left}
-use Rattle.http_intake.specs.Budget.{Spends}
+use Rattle.http_intake.specs.Budget.{reading_left, Spends}
 use Rattle.http_desk.proofs.TalkLemmas.{Stands}
 use Rattle.http_desk.proofs.serve.serve.Given as goal
 

@@ -1,7 +1,6 @@
-use Rattle.std.proofs.Common.{◌≡◌, ◌∙◌, length, take, vec_len, rules, arith}
+use Rattle.std.proofs.Common.{◌≡◌, ◌∙◌, length, vec_len, rules, arith}
 use Rattle.std.proofs.lemmas.List.{places}
-use Rattle.http_intake.proofs.DrawsLemmas.{spends_more, same_more}
-use Rattle.http_intake.proofs.BodyLemmas.{body_grown, came_still, room_grown}
+use Rattle.http_intake.proofs.{DrawsLemmas.{spends_more, same_more}, BodyLemmas.{body_grown, came_still, room_grown}}
 use Rattle.http_intake.proofs.body.read_more.Goals as goal
 
 pub loop-filled-preserved : goal.loop-filled-preserved
@@ -32,22 +31,8 @@ returns-in_default g c = record {
 }
 
 pub returns-in-Ok-None : goal.returns-in-Ok-None
-returns-in-Ok-None g c = record {
-  read = search rules;
-  grows = let before = c.loop-filled.invariant in
-      let piece = rw c.in-Ok-None.field-0-is at c.in-Ok-None.ensures.bytes in
-      room_grown _ _ c.args.body.now.items c.args.intake.now.read_buffer.now c.loop-filled.body.items c.loop-filled.filled (vec_len c.read_piece.new.body) c.requires.none (omega (arith, before.ordered, c.loop-filled.body.ok.0)) (omega (arith, c.in-Ok-None.ensures.len, c.make_room.ensures.grows before.grows))
-      (came_still _ _ _ c.args.body.now.items (take c.loop-filled.filled c.loop-filled.body.items) before.came piece.0);
-  end = search rules;
-  draws = search rules;
-}
+returns-in-Ok-None g c =
+    search (rules, c.loop-filled.invariant, c.in-Ok-None.field-0-is, c.in-Ok-None.ensures.bytes, c.requires.none, c.in-Ok-None.ensures.len, c.make_room.ensures.grows, room_grown, came_still)
 
 pub returns-in-Err : goal.returns-in-Err
-returns-in-Err g c = record {
-  read = search rules;
-  grows = let before = c.loop-filled.invariant in
-      room_grown _ _ c.args.body.now.items c.args.intake.now.read_buffer.now c.loop-filled.body.items c.loop-filled.filled (vec_len c.read_piece.new.body) c.requires.none (omega (arith, before.ordered, c.loop-filled.body.ok.0)) (omega (arith, c.in-Err.ensures.len, c.make_room.ensures.grows before.grows))
-      (came_still _ _ _ c.args.body.now.items (take c.loop-filled.filled c.loop-filled.body.items) before.came c.in-Err.ensures.bytes);
-  end = search rules;
-  draws = search rules;
-}
+returns-in-Err g c = search (rules, c.loop-filled.invariant, c.requires.none, c.in-Err.ensures.len, c.make_room.ensures.grows, c.in-Err.ensures.bytes, room_grown, came_still)

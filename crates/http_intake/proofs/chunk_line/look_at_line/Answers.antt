@@ -1,12 +1,10 @@
-use Rattle.std.proofs.Common.{inl, inr, refl, subst, arith}
+use Rattle.std.proofs.Common.{inl, inr, refl, subst, arith, rules}
 use Rattle.httparse.specs.Grammar.{HasNoChunkLine, NeverHasChunkLine}
 use Rattle.http_intake.proofs.ChunkLookLemmas.{line_window_is, line_at}
 use Rattle.http_intake.proofs.chunk_line.look_at_line.Goals as goal
 
 pub returns-in-Ok-Complete-clause-sees : goal.returns-in-Ok-Complete-clause-sees
-returns-in-Ok-Complete-clause-sees c =
-    let done = rw c.in-Ok-Complete.field-0-is at c.in-Ok-Complete.ensures.complete in
-    line_at c.args.bytes.now c.min.result _ done.0 (omega (arith, c.min.ensures)) done.1
+returns-in-Ok-Complete-clause-sees c = search (rules, c.in-Ok-Complete.field-0-is, c.in-Ok-Complete.ensures.complete, c.min.ensures, line_at)
 
 pub returns-then-bytes-ge-CHUNK_LINE_LIMIT-clause-sees : goal.returns-then-bytes-ge-CHUNK_LINE_LIMIT-clause-sees
 returns-then-bytes-ge-CHUNK_LINE_LIMIT-clause-sees c =

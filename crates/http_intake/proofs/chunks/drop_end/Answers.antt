@@ -1,10 +1,6 @@
-use Rattle.std.proofs.Common.{List, ℕ, Err, subst}
-use Rattle.http_intake.specs.ChunkParts.{EndCame}
+use Rattle.std.proofs.Common.{rules}
 use Rattle.http_intake.proofs.ChunkReadLemmas.{end_failed}
 use Rattle.http_intake.proofs.chunks.drop_end.Goals as goal
 
 pub returns-in-Err-clause-read : goal.returns-in-Err-clause-read
-returns-in-Err-clause-read g c =
-    let read = c.read_prefix.ensures.read in
-    let held = c.read_prefix.new.intake.read_buffer.now in
-    (read.0, read.1, subst (λ (xs : List ℕ). EndCame xs (Err c.in-Err.fault) held) read.2 (end_failed held held held c.in-Err.fault c.in-Err.ensures.sees))
+returns-in-Err-clause-read g c = search (rules, c.read_prefix.ensures.read, c.in-Err.ensures.sees, end_failed)

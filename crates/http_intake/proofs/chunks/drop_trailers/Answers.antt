@@ -1,6 +1,5 @@
 use Rattle.std.proofs.Common.{List, ℕ, Err, subst}
-use Rattle.http_intake.specs.ChunkParts.{TrailersCame}
-use Rattle.http_intake.proofs.ChunkReadLemmas.{trailers_failed}
+use Rattle.http_intake.{specs.ChunkParts.TrailersCame, proofs.ChunkReadLemmas.trailers_failed}
 use Rattle.http_intake.proofs.chunks.drop_trailers.Goals as goal
 
 pub returns-in-Err-clause-read : goal.returns-in-Err-clause-read

@@ -1,8 +1,5 @@
-use Rattle.std.proofs.Common.{List, ℕ, length, Err, subst, sym}
-use Rattle.http_intake.specs.claim.Chunks.{HasChunkFault, LacksChunks}
-use Rattle.http_intake.specs.ChunkParts.{StepCame}
-use Rattle.http_intake.proofs.ChunkReadLemmas.{line_failed}
-use Rattle.http_intake.proofs.DrawsLemmas.{goes_on}
+use Rattle.std.proofs.Common.{List, ℕ, length, subst, sym, rules}
+use Rattle.http_intake.{specs.claim.Chunks.{HasChunkFault, LacksChunks}, specs.ChunkParts.StepCame, proofs.ChunkReadLemmas.line_failed, proofs.DrawsLemmas.goes_on}
 use Rattle.http_intake.proofs.chunks.read_chunk.Goals as goal
 
 pub returns-in-Ok-Found-clause-read : goal.returns-in-Ok-Found-clause-read
@@ -27,10 +24,4 @@ returns-in-Ok-Incomplete-clause-read g c =
     (read.0, read.1, subst (LacksChunks (length c.args.body.now.items)) read.2 (LacksChunks.no_line _ _ sees))
 
 pub returns-in-Err-clause-read : goal.returns-in-Err-clause-read
-returns-in-Err-clause-read g c =
-    let read = c.read_prefix.ensures.read in
-    let body = c.args.body.now.items in (
-      read.0,
-      read.1,
-      subst (λ (xs : List ℕ). StepCame body xs (Err c.in-Err.fault) body c.read_prefix.new.intake.read_buffer.now) read.2 (line_failed c.read_prefix.new.intake.read_buffer.now body c.read_prefix.new.intake.read_buffer.now body c.in-Err.fault c.in-Err.ensures.sees),
-    )
+returns-in-Err-clause-read g c = search (rules, c.read_prefix.ensures.read, c.in-Err.ensures.sees, line_failed)

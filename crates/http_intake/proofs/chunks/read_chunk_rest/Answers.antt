@@ -1,8 +1,6 @@
-use Rattle.std.proofs.Common.{◌≡◌, ◌+◌, [], List, ℕ, ◌++◌, length, vec_len, subst, sym, rules, arith}
+use Rattle.std.proofs.{Common.{◌≡◌, ◌+◌, [], List, ℕ, ◌++◌, length, vec_len, subst, sym, rules, arith}, KnownBytes.Consumes-nil}
 use Rattle.std.proofs.lemmas.List.{places}
-use Rattle.std.proofs.KnownBytes.{Consumes-nil}
-use Rattle.http_intake.specs.ChunkParts.{TrailersCame, DataCame, StepCame}
-use Rattle.http_intake.proofs.ChunkReadLemmas.{line_too_large, last_reads, data_reads}
+use Rattle.http_intake.{specs.ChunkParts.{TrailersCame, StepCame}, proofs.ChunkReadLemmas.{line_too_large, last_reads, data_reads}}
 use Rattle.http_intake.proofs.chunks.read_chunk_rest.Goals as goal
 
 pub returns-then-line-n-clause-read : goal.returns-then-line-n-clause-read
@@ -25,15 +23,4 @@ returns-then-line-eq0-clause-read g c =
 
 pub returns-clause-read : goal.returns-clause-read
 returns-clause-read g c =
-    let read = c.read_data.ensures.read in
-    let old = c.args.body.now.items in
-    let new = c.read_data.new.body.items in
-    let rest = c.read_data.new.intake.read_buffer.now in
-    let n = c.len-n.result + c.args.line.size in
-    let len_is : length old ≡ vec_len c.args.body.now = search (rules, places) in (
-      read.0,
-      rw (← c.consume.ensures.reader) read.1,
-      subst (λ x. StepCame old (c.args.intake.now.read_buffer.now ++ read.0) x new rest) (sym c.after_data.ensures)
-          (data_reads old c.args.intake.now.read_buffer.now read.0 c.args.line n c.read_data.result new rest c.requires.line (omega (arith, c.if-line-eq0.false)) (omega (arith, len_is, c.len-n.ensures, c.if-line-n.false))
-          (omega (arith, c.len-n.ensures, c.if-line-n.false, c.requires.within)) (subst (λ (xs : List ℕ). DataCame old n (xs ++ read.0) c.read_data.result new rest) c.consume.ensures.read_buffer read.2)),
-    )
+    search (rules, c.read_data.ensures.read, c.consume.ensures.reader, c.after_data.ensures, c.requires.line, c.len-n.ensures, c.requires.within, c.consume.ensures.read_buffer, places, data_reads)

@@ -1,8 +1,5 @@
-use Rattle.std.proofs.Common.{◌≡◌, ◌<◌, ◌≤◌, List, ℕ, ◌++◌, length}
-use Rattle.std.specs.Prelude.{All}
-use Rattle.std.specs.Io.KnownBytes.{Consumes}
-use Rattle.http_intake.specs.Budget.{Spends}
-use Rattle.http_intake.specs.Draws.{SameParts, left_of}
+use Rattle.std.{specs.Prelude.All, specs.Io.KnownBytes.Consumes, proofs.Common.{◌≡◌, ◌<◌, ◌≤◌, List, ℕ, ◌++◌, length}}
+use Rattle.http_intake.specs.{Budget.Spends, Draws.{SameParts, left_of}}
 use Rattle.http_intake.proofs.sought.read_until_due.Given as goal
 
 abbrev pub invariant-loop-fault : goal.invariant-loop-fault

@@ -1,16 +1,10 @@
-use Rattle.std.proofs.Common.{◌≤◌, inr, subst, refl, rules, arith}
-use Rattle.httparse.specs.Grammar.{NeverHasSection}
-use Rattle.httparse.specs.Spans.{SectionOverflows}
-use Rattle.http_intake.specs.claim.Lines.{section_lines}
-use Rattle.http_intake.proofs.Prefixes.{window_is}
-use Rattle.http_intake.proofs.ChunkLookLemmas.{trailers_at, exceeds_lines}
+use Rattle.std.proofs.Common.{◌≤◌, inr, subst, refl, rules}
+use Rattle.httparse.specs.{Grammar.NeverHasSection, Spans.SectionOverflows}
+use Rattle.http_intake.{specs.claim.Lines.section_lines, proofs.Prefixes.window_is, proofs.ChunkLookLemmas.{trailers_at, exceeds_lines}}
 use Rattle.http_intake.proofs.trailers.look_at_trailers.Goals as goal
 
 pub returns-in-Ok-Complete-clause-sees : goal.returns-in-Ok-Complete-clause-sees
-returns-in-Ok-Complete-clause-sees c =
-    let done = rw c.in-Ok-Complete.field-0-is at c.in-Ok-Complete.ensures.complete in
-    let within = rw c.in-Ok-Complete.field-0-is at c.in-Ok-Complete.ensures.within in
-    trailers_at c.args.bytes.now c.min.result _ _ _ done.0 done.1 (omega (arith, c.min.ensures)) (omega (arith, c.parse_headers.auto.headers)) within done.2
+returns-in-Ok-Complete-clause-sees c = search (rules, c.in-Ok-Complete.field-0-is, c.in-Ok-Complete.ensures.complete, c.in-Ok-Complete.ensures.within, c.min.ensures, trailers_at)
 
 pub unfinished-requires-clause-part_is : goal.unfinished-requires-clause-part_is
 unfinished-requires-clause-part_is c = window_is c.args.bytes.now c.min.result c.min.ensures

@@ -1,5 +1,4 @@
-use Rattle.std.proofs.Common.{◌≡◌, map, drop}
-use Rattle.std.specs.List.{list_any}
+use Rattle.std.{specs.List.list_any, proofs.Common.{◌≡◌, map, drop}}
 use Rattle.httparse.specs.Spans.{header_bytes}
 use Rattle.http_wire.specs.claim.Connection.{is_closing}
 use Rattle.http_wire.proofs.connection.asks_to_close.Given as goal

@@ -1,11 +1,6 @@
-use Rattle.std.proofs.Common.{List, ℕ, map, take, sym, ap, ◌∙◌}
-use Rattle.std.specs.Prelude.{codes}
-use Rattle.std.specs.List.{flat_map}
+use Rattle.std.{specs.Prelude.codes, specs.List.flat_map, proofs.Common.{List, ℕ, map, take, sym, ap, ◌∙◌, rules}}
 use Rattle.httparse.specs.Spans.{header_bytes}
-use Rattle.http_wire.specs.claim.Connection.{parts, ends_in}
-use Rattle.http_wire.specs.claim.Prefix.{values}
-use Rattle.http_wire.specs.claim.Target.{is_word}
-use Rattle.http_wire.proofs.ConnectionLemmas.{ends_last}
+use Rattle.http_wire.{specs.claim.Connection.{parts, ends_in}, specs.claim.Prefix.values, specs.claim.Target.is_word, proofs.ConnectionLemmas.ends_last}
 use Rattle.http_wire.proofs.FieldLemmas.{values-more, with_value, without_value}
 use Rattle.http_wire.proofs.head.ends_chunked.Goals.{then-is_named, else-is_named}
 use Rattle.http_wire.proofs.head.ends_chunked.Goals as goal
@@ -20,7 +15,5 @@ loop-h-preserved c =
           let more = with_value _ _ _ _ grown (sym (c.is_named.ensures ∙ ap (is_word word) c.of.ensures) ∙ w.if-is_named.true) in
           w.ends-is ∙ w.ends_in_chunked-ends.ensures ∙ ap (λ (v : List ℕ). ends_in (codes "chunked") (parts v)) w.of-then-is_named.ensures ∙ sym (ends_last before _)
           ∙ ap (λ (vs : List (List ℕ)). ends_in (codes "chunked") (flat_map parts vs)) (sym more)
-      | else-is_named w ↦
-          let same = without_value _ _ _ _ grown (sym (c.is_named.ensures ∙ ap (is_word word) c.of.ensures) ∙ w.if-is_named.false) in
-          w.ends-is ∙ c.loop-h.invariant ∙ ap (λ (vs : List (List ℕ)). ends_in (codes "chunked") (flat_map parts vs)) (sym same)
+      | else-is_named w ↦ search (rules, c.is_named.ensures, c.of.ensures, c.loop-h.invariant, without_value)
     ]

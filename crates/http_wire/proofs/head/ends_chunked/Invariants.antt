@@ -1,9 +1,6 @@
-use Rattle.std.proofs.Common.{◌≡◌, take, map}
-use Rattle.std.specs.Prelude.{codes}
-use Rattle.std.specs.List.{flat_map}
+use Rattle.std.{specs.Prelude.codes, specs.List.flat_map, proofs.Common.{◌≡◌, take, map}}
 use Rattle.httparse.specs.Spans.{header_bytes}
-use Rattle.http_wire.specs.claim.Connection.{parts, ends_in}
-use Rattle.http_wire.specs.claim.Prefix.{values}
+use Rattle.http_wire.specs.{claim.Connection.{parts, ends_in}, claim.Prefix.values}
 use Rattle.http_wire.proofs.head.ends_chunked.Given as goal
 
 abbrev pub invariant-loop-h : goal.invariant-loop-h

@@ -1,6 +1,5 @@
-use Rattle.std.proofs.Common.{ℕ, List, sym, ap, ◌∙◌, arith, length-append}
-use Rattle.http_wire.specs.claim.Target.{is_word}
-use Rattle.http_wire.proofs.FieldLemmas.{values-more, with_value, without_value, first_stays, first_comes}
+use Rattle.std.proofs.Common.{sym, ap, ◌∙◌, length-append, rules}
+use Rattle.http_wire.{specs.claim.Target.is_word, proofs.FieldLemmas.{values-more, with_value, without_value, first_stays, first_comes}}
 use Rattle.http_wire.proofs.head.find_value.Goals.{then-is_named, then-count-eq0, else-count-eq0, else-is_named}
 use Rattle.http_wire.proofs.head.find_value.Goals as goal
 
@@ -13,19 +12,9 @@ loop-h-preserved c =
           let more = with_value _ _ _ _ grown (sym (c.is_named.ensures ∙ ap (is_word c.args.word.now) c.of.ensures) ∙ w.if-is_named.true) in
           elim w.if-count-eq0.branch [
             | then-count-eq0 w' ↦
-                rw (w.count-is, more, w.first-is, w'.first-is, w'.of-first.ensures) (record {
-                  count = omega (arith, before.count, length-append {A = List ℕ});
-                  first = λ _. first_comes _ _ (omega (arith, before.count, w'.if-count-eq0.true));
-                  few = omega (arith, before.few);
-                })
+                rw (w.count-is, more, w.first-is, w'.first-is, w'.of-first.ensures) (search (rules, before, length-append, first_comes))
             | else-count-eq0 w' ↦
-                rw (w.count-is, more, w.first-is, w'.first-is) (record {
-                  count = omega (arith, before.count, length-append {A = List ℕ});
-                  first = λ _. first_stays _ _ _ (omega (arith, before.count, w'.if-count-eq0.false)) (before.first (omega (arith, w'.if-count-eq0.false)));
-                  few = omega (arith, before.few);
-                })
+                rw (w.count-is, more, w.first-is, w'.first-is) (search (rules, before, length-append, first_stays))
           ]
-      | else-is_named w ↦
-          let same = without_value _ _ _ _ grown (sym (c.is_named.ensures ∙ ap (is_word c.args.word.now) c.of.ensures) ∙ w.if-is_named.false) in
-          rw (w.count-is, w.first-is, same) (record { count = before.count; first = before.first; few = omega (arith, before.few) })
+      | else-is_named w ↦ search (rules, c.is_named.ensures, c.of.ensures, without_value)
     ]

@@ -1,5 +1,4 @@
-use Rattle.std.proofs.Common.{◌≡◌, map, drop}
-use Rattle.std.specs.List.{list_any}
+use Rattle.std.{specs.List.list_any, proofs.Common.{◌≡◌, map, drop}}
 use Rattle.httparse.specs.Spans.{header_bytes}
 use Rattle.http_wire.specs.claim.Interim.{is_expecting}
 use Rattle.http_wire.proofs.interim.expects_continue.Given as goal

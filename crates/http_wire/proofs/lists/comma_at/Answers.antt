@@ -1,11 +1,9 @@
-use Rattle.std.proofs.Common.{◌≡◌, ◌==◌, true, get_or, length, sym, arith}
+use Rattle.std.proofs.Common.{◌==◌, length, sym, arith, rules}
 use Rattle.std.proofs.lemmas.List.Sums.{position_or_len_is}
 use Rattle.http_wire.proofs.lists.comma_at.Goals as goal
 
 pub returns-then-b-eq44-clause-place : goal.returns-then-b-eq44-clause-place
-returns-then-b-eq44-clause-place c =
-    let here : (get_or c.args.bytes.now c.loop-i.i 0 == 44) ≡ true = grind (arith, c.if-b-eq44.true) in
-    sym (position_or_len_is (λ b. b == 44) c.args.bytes.now c.loop-i.i 0 (omega arith) c.loop-i.invariant (λ _. here))
+returns-then-b-eq44-clause-place c = search (rules, c.loop-i.invariant, position_or_len_is)
 
 pub returns-clause-place : goal.returns-clause-place
 returns-clause-place c =

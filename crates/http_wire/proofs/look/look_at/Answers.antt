@@ -1,15 +1,11 @@
-use Rattle.std.proofs.Common.{◌≤◌, ℕ, length, take, inl, inr, subst, refl, arith}
+use Rattle.std.proofs.Common.{◌≤◌, ℕ, length, take, inl, inr, subst, refl, rules}
 use Rattle.httparse.specs.Spans.{RequestOverflows, RequestExceeds}
-use Rattle.http_intake.specs.claim.Lines.{head_lines}
-use Rattle.http_intake.proofs.Prefixes.{window_is}
+use Rattle.http_intake.{specs.claim.Lines.head_lines, proofs.Prefixes.window_is}
 use Rattle.http_wire.proofs.LookLemmas.{parsed_at, exceeds_lines}
 use Rattle.http_wire.proofs.look.look_at.Goals as goal
 
 pub after_parse-requires : goal.after_parse-requires
-after_parse-requires c =
-    let done = rw c.in-Ok-Complete.field-0-is at c.in-Ok-Complete.ensures.complete in
-    let within = rw c.in-Ok-Complete.field-0-is at c.in-Ok-Complete.ensures.within in
-    parsed_at c.args.bytes.now c.min.result _ _ done.0 (omega (arith, c.min.ensures)) (omega (arith, c.requires, c.parse_request.auto.headers)) within done.1
+after_parse-requires c = search (rules, c.in-Ok-Complete.field-0-is, c.in-Ok-Complete.ensures.complete, c.in-Ok-Complete.ensures.within, c.min.ensures, c.requires, parsed_at)
 
 pub unfinished-requires-clause-part_is : goal.unfinished-requires-clause-part_is
 unfinished-requires-clause-part_is c = window_is c.args.bytes.now c.min.result c.min.ensures

@@ -1,6 +1,5 @@
-use Rattle.std.proofs.Common.{◌≤◌, inl, inr, subst, refl, arith}
+use Rattle.std.proofs.Common.{◌≤◌, inl, inr, subst, refl, arith, rules}
 use Rattle.httparse.specs.Grammar.{HasNoRequest, MayBecomeRequest}
-use Rattle.httparse.specs.Spans.{RequestOverflows}
 use Rattle.http_intake.specs.claim.Lines.{head_lines}
 use Rattle.http_wire.proofs.LookLemmas.{overflows_at}
 use Rattle.http_wire.proofs.look.unfinished.Goals as goal
@@ -19,9 +18,6 @@ pub returns-then-head_lines : goal.returns-then-head_lines
 returns-then-head_lines c =
     let lines : 66 ≤ head_lines c.args.part.now = omega (arith, c.head_lines.ensures, c.if-head_lines.true) in
     inl (
-      inr (record {
-        lines = subst (λ xs. 66 ≤ head_lines xs) c.requires.part_is lines;
-        exceeds = subst (RequestOverflows 64) c.requires.part_is (overflows_at c.args.part.now c.requires.none lines);
-      }),
+      inr (search (rules, c.requires.part_is, c.requires.none, lines, overflows_at)),
       refl,
     )

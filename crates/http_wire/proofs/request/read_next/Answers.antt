@@ -1,8 +1,6 @@
-use Rattle.std.proofs.Common.{[], ◌++◌, Ok, subst, sym, rules}
-use Rattle.std.proofs.KnownBytes.{Appends-nil}
+use Rattle.std.proofs.{Common.{[], ◌++◌, Ok, subst, sym, rules}, KnownBytes.Appends-nil}
 use Rattle.http_intake.proofs.DrawsLemmas.{goes_on}
-use Rattle.http_wire.specs.Incoming.{ReadsPrefix}
-use Rattle.http_wire.proofs.InterimLemmas.{open_prefix, open_short, refused_prefix}
+use Rattle.http_wire.{specs.Incoming.ReadsPrefix, proofs.InterimLemmas.{open_prefix, open_short, refused_prefix}}
 use Rattle.http_wire.proofs.request.read_next.Goals as goal
 
 pub returns-in-Ok-Found : goal.returns-in-Ok-Found
@@ -30,9 +28,7 @@ returns-in-Ok-Refused g c = record {
 
 pub returns-in-Ok-Incomplete : goal.returns-in-Ok-Incomplete
 returns-in-Ok-Incomplete g c = record {
-  read = let read = c.in-Ok-Incomplete.ensures.read in
-      let sees = rw c.in-Ok-Incomplete.field-0-is at c.in-Ok-Incomplete.ensures.sees in
-      ([], Appends-nil (g.W.Sink.contents c.args.writer.now), (read.0, read.1, open_prefix _ _ read.2 sees));
+  read = search (rules, c.in-Ok-Incomplete.ensures.read, c.in-Ok-Incomplete.field-0-is, c.in-Ok-Incomplete.ensures.sees, Appends-nil, open_prefix);
   end = search rules;
   write_failures = search rules;
   draws = search rules;

@@ -1,14 +1,7 @@
-use Rattle.std.proofs.Common.{List, [], ℕ, ◌++◌, Result, length, ◌∙◌, ap, sym, subst, rules}
+use Rattle.std.proofs.{Common.{List, [], ℕ, ◌++◌, length, ◌∙◌, ap, sym, subst, rules}, KnownBytes.Consumes-nil}
 use Rattle.httparse.specs.Spans.{span_bytes, IsWithin}
-use Rattle.http_wire.specs.declared.fault.RequestFault.{RequestFault}
-use Rattle.http_wire.specs.declared.request.Incoming.{Incoming}
-use Rattle.http_wire.specs.Budget.{write_failures_of}
-use Rattle.http_wire.specs.Framed.{BodyRead}
-use Rattle.http_wire.specs.Incoming.{EndsAt, DrawsRequest, ReadsPrefix, IsTargetOf}
-use Rattle.http_wire.specs.claim.Interim.{continue_text}
-use Rattle.std.proofs.KnownBytes.{Consumes-nil}
-use Rattle.http_wire.proofs.FinishLemmas.{finish_draws, finish_ends, finish_writes, out_of_memory_draws, write_draws}
-use Rattle.http_wire.proofs.InterimLemmas.{found_asks, found_cut}
+use Rattle.http_wire.specs.{Framed.BodyRead, Incoming.{ReadsPrefix, IsTargetOf}, claim.Interim.continue_text}
+use Rattle.http_wire.proofs.{FinishLemmas.{finish_draws, finish_ends, finish_writes, out_of_memory_draws, write_draws}, InterimLemmas.{found_asks, found_cut}}
 use Rattle.http_wire.proofs.RequestLemmas.{rest_reads, out_of_memory, due}
 use Rattle.http_wire.proofs.request.read_rest.Goals as goal
 
@@ -33,14 +26,10 @@ returns g c = record {
               (found_asks input head c.requires)),
         ),
       );
-  end = subst (EndsAt (g.R.Source.remaining c.read_framed-came.new.intake.reader.now)) (sym c.finish.ensures)
-      (finish_ends (record c.in-Ok-begin.begun.request { body = c.read_framed-came.new.body }) c.in-Ok-begin.begun.is_good c.args.head.head_only (g.R.Source.remaining c.read_framed-came.new.intake.reader.now) c.read_framed-came.result c.read_framed-came.ensures.end);
-  write_failures = let n = g.W.Sink.failures c.args.writer.now in
-      c.in-Ok.ensures.failures ∙ sym (ap (λ (x : Result Incoming RequestFault). write_failures_of n x) c.finish.ensures
-      ∙ finish_writes (record c.in-Ok-begin.begun.request { body = c.read_framed-came.new.body }) c.in-Ok-begin.begun.is_good c.args.head.head_only n c.read_framed-came.result);
-  draws = subst (λ (x : Result Incoming RequestFault). DrawsRequest g.R.Source.turns g.R.Source.failures c.args.intake.now c.read_framed-came.new.intake x) (sym c.finish.ensures)
-      (finish_draws (record c.in-Ok-begin.begun.request { body = c.read_framed-came.new.body }) c.in-Ok-begin.begun.is_good c.args.head.head_only g.R.Source.turns g.R.Source.failures c.args.intake.now c.consume.new.self c.read_framed-came.new.intake
-      c.args.head.len c.read_framed-came.result c.requires.some c.requires.within c.consume.ensures.same c.consume.ensures.reader c.consume.ensures.turns c.consume.ensures.read_buffer c.read_framed-came.ensures.draws);
+  end = search (rules, c.finish.ensures, c.read_framed-came.ensures.end, finish_ends);
+  write_failures = search (rules, c.in-Ok.ensures.failures, c.finish.ensures, finish_writes);
+  draws =
+      search (rules, c.finish.ensures, c.requires.some, c.requires.within, c.consume.ensures.same, c.consume.ensures.reader, c.consume.ensures.turns, c.consume.ensures.read_buffer, c.read_framed-came.ensures.draws, finish_draws);
 }
 
 pub returns-in_default : goal.returns-in_default

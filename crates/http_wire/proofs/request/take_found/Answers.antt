@@ -1,8 +1,6 @@
-use Rattle.std.proofs.Common.{◌<◌, ◌≤◌, List, ℕ, length, drop, Ok, ◌∙◌, ap, sym, subst, arith, length-drop}
+use Rattle.std.proofs.Common.{◌≤◌, List, ℕ, length, drop, ◌∙◌, ap, sym, subst, arith, length-drop, rules}
 use Rattle.httparse.specs.Spans.{span_bytes, IsWithin}
-use Rattle.http_wire.specs.Incoming.{Taken, TakesSome, IsTargetOf}
-use Rattle.http_wire.proofs.FinishLemmas.{targeted_takes}
-use Rattle.http_wire.proofs.TakenLemmas.{body_cut, taken_out_of_memory, taken_whole}
+use Rattle.http_wire.{specs.Incoming.{Taken, IsTargetOf}, proofs.FinishLemmas.targeted_takes, proofs.TakenLemmas.{body_cut, taken_out_of_memory, taken_whole}}
 use Rattle.http_wire.proofs.request.take_found.Goals as goal
 
 pub returns-clause-taken : goal.returns-clause-taken
@@ -21,19 +19,7 @@ returns-clause-taken c =
     c.in-Ok.ensures.closes cut.0 cut.1)
 
 pub returns-clause-less : goal.returns-clause-less
-returns-clause-less c =
-    let rest = c.consume-2.new.self in
-    let less : length rest < length c.args.read_buffer.now = omega (
-      arith,
-      ap length c.consume-2.ensures,
-      length-drop c.args.n c.consume.new.self,
-      ap length c.consume.ensures,
-      length-drop c.args.head.len c.args.read_buffer.now,
-      c.requires.found.some,
-      c.requires.found.within,
-    ) in
-    subst (λ x. TakesSome (Ok x) (length c.args.read_buffer.now) (length rest)) (sym c.targeted.ensures)
-    (targeted_takes (record c.in-Ok.begun.request { body = c.extend_from_slice.new.self }) c.in-Ok.begun.is_good c.args.head.head_only (length c.args.read_buffer.now) (length rest) less)
+returns-clause-less c = search (rules, c.consume-2.ensures, c.consume.ensures, c.requires.found.some, c.requires.found.within, c.targeted.ensures, length-drop, targeted_takes)
 
 pub returns-in_default-clause-taken : goal.returns-in_default-clause-taken
 returns-in_default-clause-taken c = taken_out_of_memory c.args.read_buffer.now c.args.read_buffer.now c.args.head c.requires.found c.requires.plain

@@ -1,5 +1,4 @@
-use Rattle.std.proofs.Common.{ap, ◌∙◌, rules}
-use Rattle.std.specs.Prelude.{Ok}
+use Rattle.std.{specs.Prelude.Ok, proofs.Common.{ap, ◌∙◌, rules}}
 use Rattle.page_store.proofs.Stops.{quiet_none}
 use Rattle.desk_pages.specs.declared.error.StoreError.{StoreError}
 use Rattle.store_command.specs.Faults.{fault_of_store}

@@ -1,7 +1,6 @@
 use Rattle.std.proofs.Common.{sym, subst, rules}
 use Rattle.sector_device.specs.claim.Disk.{Image}
-use Rattle.parallel_verify.specs.Looking.{IsSoundAt}
-use Rattle.parallel_verify.proofs.Seen.{agreed}
+use Rattle.parallel_verify.{specs.Looking.IsSoundAt, proofs.Seen.agreed}
 use Rattle.inspect_command.proofs.Since.{failed_first, verified_since}
 use Rattle.inspect_command.proofs.beside.verify_beside.Goals as goal
 

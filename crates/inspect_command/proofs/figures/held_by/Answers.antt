@@ -1,9 +1,7 @@
-use Rattle.std.proofs.Common.{◌≡◌, ap, ◌∙◌}
-use Rattle.std.specs.Option.{option_copied}
+use Rattle.std.{specs.Option.option_copied, proofs.Common.{◌≡◌, ap, ◌∙◌}}
 use Rattle.desk_model.specs.claim.Desk.{Desk}
 use Rattle.store_command.specs.desk_store.claim.Clerks.{desk_of}
-use Rattle.inspect_command.specs.Figures.{blocks_in, pairs_in}
-use Rattle.inspect_command.proofs.Told.{are_held}
+use Rattle.inspect_command.{specs.Figures.{blocks_in, pairs_in}, proofs.Told.are_held}
 use Rattle.inspect_command.proofs.figures.held_by.Goals as goal
 
 pub returns-clause-held : goal.returns-clause-held

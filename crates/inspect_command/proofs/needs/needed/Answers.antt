@@ -1,12 +1,7 @@
-use Rattle.std.proofs.Common.{◌≡◌, ◌<◌, ◌^◌, List, length, sym, subst, rules}
-use Rattle.std.specs.Prelude.{Option, Some}
-use Rattle.std.specs.Option.{option_copied}
-use Rattle.desk_model.specs.Ranges.{ranges_of}
-use Rattle.desk_model.specs.claim.Geography.{GeographyModel}
-use Rattle.desk_model.specs.declared.ranges.CountyRange.{CountyRange}
+use Rattle.std.{specs.Prelude.{Option, Some}, specs.Option.option_copied, proofs.Common.{◌≡◌, ◌<◌, ◌^◌, List, length, sym, subst, rules}}
+use Rattle.desk_model.specs.{Ranges.ranges_of, claim.Geography.GeographyModel, declared.ranges.CountyRange.CountyRange}
 use Rattle.desk_store.proofs.plan_revisions.CommandCounties.{few_ranges}
-use Rattle.inspect_command.specs.Needs.{AreNeeded}
-use Rattle.inspect_command.proofs.Counties.{some_ranges, by_counties, without_counties}
+use Rattle.inspect_command.{specs.Needs.AreNeeded, proofs.Counties.{some_ranges, by_counties, without_counties}}
 use Rattle.inspect_command.proofs.needs.needed.Goals as goal
 
 pub returns-in-None : goal.returns-in-None

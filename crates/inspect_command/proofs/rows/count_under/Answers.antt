@@ -1,10 +1,8 @@
 use Rattle.std.proofs.Common.{◌+◌, List, [], ◌∷◌, length, length-append, refl, sym, ap, ◌∙◌, arith}
 use Rattle.page_store.proofs.Stops.{passed_more, passed_none}
 use Rattle.page_btree.specs.page_node.claim.Entries.{Entry}
-use Rattle.btree_walks.specs.Parts.{row_of}
-use Rattle.btree_walks.proofs.Walked.{walk_all, walk_begins, walk_ends, walk_on, walk_quiet, walk_refused}
-use Rattle.desk_pages.proofs.Looking.{looked, not_looked}
-use Rattle.desk_pages.proofs.Reading.{get_unread}
+use Rattle.btree_walks.{specs.Parts.row_of, proofs.Walked.{walk_all, walk_begins, walk_ends, walk_on, walk_quiet, walk_refused}}
+use Rattle.desk_pages.proofs.{Looking.{looked, not_looked}, Reading.get_unread}
 use Rattle.row_owners.specs.Strays.{IsAny}
 use Rattle.inspect_command.proofs.rows.count_under.Goals as goal
 

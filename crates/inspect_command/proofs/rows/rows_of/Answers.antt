@@ -1,15 +1,9 @@
 use Rattle.std.proofs.Common.{sym, ap, subst, ◌∙◌}
 use Rattle.sector_device.specs.claim.Moments.{LeavesOnly}
-use Rattle.page_store.proofs.Stops.{leaves_quiet}
-use Rattle.page_store.specs.claim.Transactions.{disk_in}
-use Rattle.desk_pages.specs.Openings.{AllDesks, OpensOneOf}
-use Rattle.desk_pages.proofs.Found.{all_versions, stores_of, open_leaves}
-use Rattle.desk_pages.specs.declared.error.StoreError.{StoreError}
-use Rattle.store_command.specs.Faults.{fault_of_store}
-use Rattle.store_command.specs.declared.fault.StoreFault.{StoreFault}
-use Rattle.inspect_command.specs.Rows.{IsUncounted}
-use Rattle.inspect_command.proofs.Looked.{counts}
-use Rattle.inspect_command.proofs.Unread.{page_uncounted, rows_uncounted}
+use Rattle.page_store.{specs.claim.Transactions.disk_in, proofs.Stops.leaves_quiet}
+use Rattle.desk_pages.{specs.Openings.{AllDesks, OpensOneOf}, specs.declared.error.StoreError.StoreError, proofs.Found.{all_versions, stores_of, open_leaves}}
+use Rattle.store_command.specs.{Faults.fault_of_store, declared.fault.StoreFault.StoreFault}
+use Rattle.inspect_command.{specs.Rows.IsUncounted, proofs.Looked.counts, proofs.Unread.{page_uncounted, rows_uncounted}}
 use Rattle.inspect_command.proofs.rows.rows_of.Goals as goal
 
 pub returns-in-Err-clause-any_moment : goal.returns-in-Err-clause-any_moment

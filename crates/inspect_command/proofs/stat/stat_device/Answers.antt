@@ -1,9 +1,6 @@
-use Rattle.std.proofs.Common.{sym, subst}
-use Rattle.std.specs.Prelude.{Result}
+use Rattle.std.{specs.Prelude.Result, proofs.Common.{sym, subst}}
 use Rattle.store_command.specs.declared.fault.StoreFault.{StoreFault}
-use Rattle.inspect_command.specs.declared.figures.Figures.{Figures}
-use Rattle.inspect_command.specs.Stats.{StatsDevice}
-use Rattle.inspect_command.proofs.Looked.{stated}
+use Rattle.inspect_command.{specs.declared.figures.Figures.Figures, specs.Stats.StatsDevice, proofs.Looked.stated}
 use Rattle.inspect_command.proofs.stat.stat_device.Goals as goal
 
 pub returns : goal.returns

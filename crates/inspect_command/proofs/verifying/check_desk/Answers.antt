@@ -1,10 +1,8 @@
 use Rattle.std.proofs.Common.{◌≡◌, true, sym, ap, subst, ◌∙◌}
 use Rattle.page_store.proofs.Stops.{quiet_more, passed_more}
-use Rattle.desk_model.specs.Ranges.{ranges_in}
-use Rattle.desk_model.specs.claim.Desk.{Desk}
+use Rattle.desk_model.specs.{Ranges.ranges_in, claim.Desk.Desk}
 use Rattle.desk_pages.proofs.Outcomes.{err_of}
-use Rattle.inspect_command.specs.Sound.{CheckErr}
-use Rattle.inspect_command.proofs.Unsound.{opening_check, whole_check, holdings_check, then_check, still_rows, found_as, found_stray, not_stray}
+use Rattle.inspect_command.{specs.Sound.CheckErr, proofs.Unsound.{opening_check, whole_check, holdings_check, then_check, still_rows, found_as, found_stray, not_stray}}
 use Rattle.inspect_command.proofs.verifying.check_desk.Goals as goal
 
 pub returns-in_err-catalogue-clause-err : goal.returns-in_err-catalogue-clause-err

@@ -1,10 +1,8 @@
 use Rattle.std.proofs.Common.{ap, ◌∙◌}
 use Rattle.page_store.proofs.Stops.{quiet_more}
-use Rattle.desk_pages.specs.declared.error.StoreError.{StoreError}
+use Rattle.desk_pages.{specs.declared.error.StoreError.StoreError, proofs.Outcomes.err_of}
 use Rattle.store_command.specs.Faults.{fault_of_store}
-use Rattle.desk_pages.proofs.Outcomes.{err_of}
-use Rattle.inspect_command.specs.Sound.{UnsoundIn}
-use Rattle.inspect_command.proofs.Unsound.{then_check, told_of, old_unsound, sound_as, still_rows}
+use Rattle.inspect_command.{specs.Sound.UnsoundIn, proofs.Unsound.{then_check, told_of, old_unsound, sound_as, still_rows}}
 use Rattle.inspect_command.proofs.verifying.find_desk.Goals as goal
 
 pub returns-in_err-refuse_old-clause-err : goal.returns-in_err-refuse_old-clause-err

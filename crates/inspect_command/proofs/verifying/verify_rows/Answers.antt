@@ -1,9 +1,7 @@
 use Rattle.std.proofs.Common.{refl, subst, rules}
 use Rattle.store_command.proofs.desk_store.Prepared.{IsBegun}
 use Rattle.page_store.proofs.Stops.{quiet_more}
-use Rattle.inspect_command.specs.Sound.{IsSoundAs}
-use Rattle.inspect_command.proofs.Unsound.{pages_unsound}
-use Rattle.inspect_command.proofs.Devices.{holds_sound, holds_stray}
+use Rattle.inspect_command.{specs.Sound.IsSoundAs, proofs.Unsound.pages_unsound, proofs.Devices.{holds_sound, holds_stray}}
 use Rattle.inspect_command.proofs.verifying.verify_rows.Goals as goal
 
 pub returns-in-None : goal.returns-in-None

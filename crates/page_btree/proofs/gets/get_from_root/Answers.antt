@@ -1,27 +1,16 @@
-use Rattle.std.proofs.Common.{sym, subst, ◌∙◌}
-use Rattle.std.specs.Prelude.{IfOk}
-use Rattle.std.specs.FinMap.{find, get as row_at}
+use Rattle.std.{specs.Prelude.IfOk, specs.FinMap.{find, get as row_at}, proofs.Common.{sym, subst, ◌∙◌}}
 use Rattle.sector_device.specs.claim.Disk.{Image}
 use Rattle.page_store.specs.claim.Transactions.{stored, txn_pages, over}
-use Rattle.page_store.proofs.Stops.{quiet_more}
 use Rattle.page_node.specs.claim.Places.{key_cmp}
-use Rattle.page_btree.specs.claim.Tree.{rows}
-use Rattle.page_btree.specs.Getting.{CanGet, IsCopied}
-use Rattle.page_btree.proofs.Outcomes.{map_ok, passed_ok}
-use Rattle.page_btree.proofs.Below.{not_from_root}
-use Rattle.page_btree.proofs.Tops.{rooted, no_root, top, found_rows}
+use Rattle.page_btree.{specs.claim.Tree.rows, specs.Getting.{CanGet, IsCopied}, proofs.Outcomes.map_ok, proofs.Below.not_from_root, proofs.Tops.{rooted, no_root, top, found_rows}}
 use Rattle.page_btree.proofs.gets.get_from_root.Goals as goal
 
 pub returns-then-root-eq0-clause-get : goal.returns-then-root-eq0-clause-get
 returns-then-root-eq0-clause-get g c = λ honest m holds. sym (no_root _ _ _ _ m c.args.key.now holds (sym c.root-root.ensures.root ∙ c.if-root-eq0.true))
 
 pub returns-clause-reading : goal.returns-clause-reading
-returns-clause-reading g c = record {
-  quiet = quiet_more c.args.pages.now c.lend.new.pages c.get_below.new.pages c.in_ok-own.ensures.reading.quiet c.get_below.ensures.reading.quiet;
-  passed = passed_ok c.get_below.result c.args.pages.now c.lend.new.pages c.get_below.new.pages (c.in_ok-own.ensures.reading.passed) c.get_below.ensures.reading.passed;
-  err = not_from_root c.get_below.result c.args.txn.now c.level_of-level.result c.args.key.now c.root-root.result c.args.pages.now c.lend.new.pages c.get_below.new.pages c.root-root.ensures.root c.if-root-eq0.false
-      (c.in_ok-own.ensures.reading.passed) c.get_below.ensures.reading.quiet c.lent.ensures c.in_ok-own.ensures.lends c.level_of-level.ensures.level c.get_below.ensures.reading.err;
-}
+returns-clause-reading g c = not_from_root c.args.txn.now c.level_of-level.result c.args.key.now c.root-root.result c.root-root.ensures.root c.if-root-eq0.false c.in_ok-own.ensures.reading.passed
+    c.lent.ensures c.in_ok-own.ensures.lends c.level_of-level.ensures.level c.get_below.ensures.reading
 
 pub returns-clause-get : goal.returns-clause-get
 returns-clause-get g c = λ honest m holds.

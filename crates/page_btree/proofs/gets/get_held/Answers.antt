@@ -1,13 +1,7 @@
-use Rattle.std.proofs.Common.{◌∙◌, arith, rules}
-use Rattle.std.specs.Prelude.{IfSome, Some}
-use Rattle.std.specs.FinMap.{find, get as row_at}
+use Rattle.std.{specs.Prelude.{IfSome, Some}, specs.FinMap.{find, get as row_at}, proofs.Common.{◌∙◌, arith}}
 use Rattle.page_store.specs.claim.Transactions.{stored}
-use Rattle.page_node.specs.claim.Places.{key_cmp}
-use Rattle.page_node.proofs.Nearing.{first_below}
-use Rattle.page_btree.specs.Getting.{IsCopied}
-use Rattle.page_btree.specs.claim.Errors.{GetErr}
-use Rattle.page_btree.proofs.Outcomes.{fault_of, map_ok, on_err}
-use Rattle.page_btree.proofs.Placed.{placed_as, some_copied}
+use Rattle.page_node.{specs.claim.Places.key_cmp, proofs.Nearing.first_below}
+use Rattle.page_btree.{specs.Getting.IsCopied, proofs.Outcomes.{map_ok, on_err, fault_refused}, proofs.Placed.{placed_as, some_copied}}
 use Rattle.page_btree.proofs.gets.get_held.Goals as goal
 
 pub returns-clause-get : goal.returns-clause-get
@@ -22,13 +16,8 @@ returns-clause-get g c = λ honest m holds.
     (c.copy_value.ensures.value (record { level = 0; entries = it.rows_in }) it.node it.rises (first_below key it.rows_in))
 
 pub returns-clause-reading : goal.returns-clause-reading
-returns-clause-reading g c = record {
-  quiet = search rules;
-  passed = search rules;
-  err = fault_of c.copy_value.result (λ e. GetErr c.args.txn.now c.args.pages.now c.lend.new.pages e) c.copy_value.ensures.err
-      (on_err c.copy_value.result _ _ (λ refused honest m holds.
-      let small = c.if-not-is_small_leaf.false in
-      let it = placed_as c.args.txn.now (stored c.args.pages.now) m c.held_page-page.result holds c.if-page-eq0.false (let same = c.page_count.ensures in let less = c.if-page-page_count.false in omega arith)
-      (c.lent-bytes.ensures ∙ c.in_ok-own.ensures.lends honest) (c.is_small_leaf.ensures.leaf small) (c.is_small_leaf.ensures.used small) in
-      refused (record { level = 0; entries = it.rows_in }) it.node it.rises (first_below c.args.key.now it.rows_in)) c.copy_value.ensures.refused);
-}
+returns-clause-reading g c = fault_refused c.in_ok-own.ensures.reading.passed c.copy_value.ensures.err (on_err c.copy_value.result _ _ (λ refused honest m holds.
+    let small = c.if-not-is_small_leaf.false in
+    let it = placed_as c.args.txn.now (stored c.args.pages.now) m c.held_page-page.result holds c.if-page-eq0.false (let same = c.page_count.ensures in let less = c.if-page-page_count.false in omega arith)
+    (c.lent-bytes.ensures ∙ c.in_ok-own.ensures.lends honest) (c.is_small_leaf.ensures.leaf small) (c.is_small_leaf.ensures.used small) in
+    refused (record { level = 0; entries = it.rows_in }) it.node it.rises (first_below c.args.key.now it.rows_in)) c.copy_value.ensures.refused)

@@ -1,31 +1,15 @@
-use Rattle.std.proofs.Common.{◌≡◌, ◌-◌, ℕ, List, [], length, get_or, slice_set, refl, sym, ap, subst, ◌∙◌, arith, rules}
-use Rattle.std.specs.Prelude.{OnOk, IfErr}
+use Rattle.std.{specs.Prelude.OnOk, proofs.Common.{◌≡◌, ◌-◌, ℕ, List, [], length, get_or, slice_set, refl, sym, ap, subst, ◌∙◌, arith}}
 use Rattle.std.proofs.lemmas.List.{get_or-set_same}
 use Rattle.sector_device.specs.claim.Disk.{Image}
 use Rattle.page_store.specs.claim.Transactions.{stored, txn_pages, over}
-use Rattle.page_store.proofs.Stops.{quiet_more}
-use Rattle.page_node.specs.claim.Node.{Node, IsNode}
-use Rattle.page_node.specs.claim.Entries.{Entry}
-use Rattle.page_node.specs.Places.{ceiling, entries_from}
-use Rattle.page_node.specs.Walking.{IsAhead}
-use Rattle.page_btree.specs.claim.Tree.{rows}
-use Rattle.page_btree.specs.Getting.{CanGet, CanGetAt, LevelErr, GetAtErr, ReadsErr}
-use Rattle.page_btree.specs.Seeking.{bound_in, nearer, leaf_of, bound_of, IsRead}
-use Rattle.page_btree.proofs.Below.{down, not_lent, no_child, not_below}
-use Rattle.page_btree.proofs.Descent.{leaf_page}
-use Rattle.page_btree.proofs.Outcomes.{map_ok, passed_ok, fault_of, on_err}
-use Rattle.page_btree.proofs.Rising.{node_rises}
-use Rattle.page_btree.proofs.Following.{leaf_alone, held_alone, read_held, read_more}
+use Rattle.page_node.specs.{claim.Node.{Node, IsNode}, claim.Entries.Entry, Places.{ceiling, entries_from}, Walking.IsAhead}
+use Rattle.page_btree.{specs.claim.Tree.rows, specs.Getting.CanGet, specs.Seeking.{bound_in, nearer, leaf_of, bound_of, IsRead}, proofs.Below.{down, not_lent, no_child, not_below}}
+use Rattle.page_btree.proofs.{Descent.leaf_page, Outcomes.{map_ok, on_err, fault_refused}, Rising.node_rises, Following.{leaf_alone, held_alone, read_held, read_more}}
 use Rattle.page_btree.proofs.seeks.+leaf_below.Goals as goal
 
 -- ---- a leaf
 pub returns-in_err-read_level-clause-reading : goal.returns-in_err-read_level-clause-reading
-returns-in_err-read_level-clause-reading g t c = record {
-  quiet = search rules;
-  passed = search rules;
-  err = not_lent c.from_residual.result c.args.txn.now c.args.level c.args.key.now c.args.p c.in_err-read_level.field-0.0 c.args.pages.now c.read_level.new.pages c.from_residual.ensures.1
-      (subst (λ d. LevelErr c.args.txn.now c.args.pages.now c.read_level.new.pages d c.args.p c.in_err-read_level.field-0.0) (sym c.if-level-eq0.true) c.in_err-read_level.ensures.reaches.reading.err);
-}
+returns-in_err-read_level-clause-reading g t c = rw c.if-level-eq0.true (not_lent c.args.txn.now 0 c.args.key.now c.args.p c.in_err-read_level.ensures.reaches.reading c.from_residual.ensures.1)
 
 pub returns-then-level-eq0-clause-read : goal.returns-then-level-eq0-clause-read
 returns-then-level-eq0-clause-read g t c = λ honest is.
@@ -33,7 +17,6 @@ returns-then-level-eq0-clause-read g t c = λ honest is.
     let key = c.args.key.now in
     let up = bound_in c.args.leaf.now in
     let now = c.stand.new.leaf in
-    let four = c.told-held in
     let page = c.read_level.new.page in
     let pages : List (List ℕ) = slice_set c.args.held.now 0 page in
     let first : get_or {A = List ℕ} pages 0 [] ≡ page = get_or-set_same c.args.held.now 0 page [] (omega arith) in
@@ -49,54 +32,24 @@ returns-then-level-eq0-clause-read g t c = λ honest is.
     (subst (λ (es : List Entry). OnOk c.stand.result (now.left ≡ length (entries_from key es))) same (c.stand.ensures.left node there l.1))
 
 pub returns-then-level-eq0-clause-reading : goal.returns-then-level-eq0-clause-reading
-returns-then-level-eq0-clause-reading g t c = record {
-  quiet = search rules;
-  passed = search rules;
-  err = let P = over c.args.txn.now (stored c.args.pages.now) in
-      let key = c.args.key.now in
-      let can = λ (S : Image). CanGetAt (txn_pages c.args.txn.now) (over c.args.txn.now S) c.args.level key c.args.p in
-      let four = c.told-held in
-      let page = c.read_level.new.page in
-      let pages : List (List ℕ) = slice_set c.args.held.now 0 page in
-      let first : get_or {A = List ℕ} pages 0 [] ≡ page = get_or-set_same c.args.held.now 0 page [] (omega arith) in
-      fault_of c.stand.result (λ e. ReadsErr can c.args.pages.now c.read_level.new.pages e) c.stand.ensures.err
-      (on_err c.stand.result _ _ (λ none honest is.
-      let l = leaf_page (txn_pages c.args.txn.now) P c.args.level key (P c.args.p) is.0 c.if-level-eq0.true in
-      let node : Node = record { level = 0; entries = rows is.0.tree } in
-      let there : get_or {A = List ℕ} pages 0 [] ≡ P c.args.p = first ∙ c.in_ok-read_level.ensures.reads honest in
-      none node (subst (λ (b : List ℕ). IsNode b node) (sym there) l.0)) c.stand.ensures.refused);
-}
+returns-then-level-eq0-clause-reading g t c = fault_refused c.in_ok-read_level.ensures.reaches.reading.passed c.stand.ensures.err (on_err c.stand.result _ _ (λ none honest is.
+    let first = get_or-set_same c.args.held.now 0 c.read_level.new.page [] (omega arith) in
+    none (record { level = 0; entries = rows is.0.tree }) (rw (first, c.in_ok-read_level.ensures.reads honest) (leaf_page _ _ _ _ _ is.0 c.if-level-eq0.true).0)) c.stand.ensures.refused)
 
 -- ---- no way down
 pub returns-in_err-own-clause-reading : goal.returns-in_err-own-clause-reading
-returns-in_err-own-clause-reading g t c = record {
-  quiet = search rules;
-  passed = search rules;
-  err = not_lent c.from_residual-in_err-own.result c.args.txn.now c.args.level c.args.key.now c.args.p c.in_err-own.field-0.0 c.args.pages.now c.lend_level.new.pages c.from_residual-in_err-own.ensures.1 c.in_err-own.ensures.reaches.reading.err;
-}
+returns-in_err-own-clause-reading g t c = not_lent c.args.txn.now c.args.level c.args.key.now c.args.p c.in_err-own.ensures.reaches.reading c.from_residual-in_err-own.ensures.1
 
 pub returns-in_err-child-clause-reading : goal.returns-in_err-child-clause-reading
-returns-in_err-child-clause-reading g t c = record {
-  quiet = search rules;
-  passed = search rules;
-  err = no_child c.from_residual-in_err-child.result c.args.txn.now c.args.level c.args.key.now c.args.p c.in_err-child.field-0.0 c.args.pages.now c.lend_level.new.pages
-      c.from_residual-in_err-child.ensures.1 c.in_err-child.ensures.err c.if-level-eq0.false c.lent-bytes.ensures c.in_ok-own.ensures.lends c.in_err-child.ensures.refused;
-}
+returns-in_err-child-clause-reading g t c = no_child c.args.txn.now c.args.level c.args.key.now c.args.p c.in_err-child.field-0.0 c.in_ok-own.ensures.reaches.reading.quiet
+    c.from_residual-in_err-child.ensures.1 c.in_err-child.ensures.err c.if-level-eq0.false c.lent-bytes.ensures c.in_ok-own.ensures.lends c.in_err-child.ensures.refused
 
 -- ---- just above the leaves
 pub returns-then-level-eq1-clause-read : goal.returns-then-level-eq1-clause-read
-returns-then-level-eq1-clause-read g t c = λ honest is.
-    let n = txn_pages c.args.txn.now in
-    let P = over c.args.txn.now (stored c.args.pages.now) in
-    let key = c.args.key.now in
-    subst (λ (d : ℕ). (can : CanGet n P d key (P c.args.p)) → OnOk c.leaves_below.result (IsRead can.tree can.high (bound_in c.args.leaf.now) key c.leaves_below.new.leaf c.leaves_below.new.held)) (sym c.if-level-eq1.true) (c.leaves_below.ensures.read honest) is
+returns-then-level-eq1-clause-read g t c = λ honest. rw c.if-level-eq1.true (c.leaves_below.ensures.read honest)
 
 pub returns-then-level-eq1-clause-reading : goal.returns-then-level-eq1-clause-reading
-returns-then-level-eq1-clause-reading g t c = record {
-  quiet = search rules;
-  passed = search rules;
-  err = subst (λ (d : ℕ). IfErr c.leaves_below.result (λ e. GetAtErr c.args.txn.now c.args.pages.now c.leaves_below.new.pages d c.args.key.now c.args.p e)) (sym c.if-level-eq1.true) c.leaves_below.ensures.reading.err;
-}
+returns-then-level-eq1-clause-reading g t c = rw c.if-level-eq1.true c.leaves_below.ensures.reading
 
 -- ---- below
 pub returns-clause-read : goal.returns-clause-read
@@ -110,7 +63,6 @@ returns-clause-read g t c = λ honest is.
     let next = go.next (P child) refl in
     let up = bound_in c.args.leaf.now in
     let mid = bound_in c.go_down.new.leaf in
-    let not = c.if-level-eq0.false in
     let kept : mid ≡ nearer (ceiling c.args.key.now go.node.entries) up = c.in_ok-child.ensures.bound go.node (subst (λ b. IsNode b go.node) (sym there) go.node_is) (node_rises _ _ _ _ _ is (omega arith) go.node go.node_is) in
     let key = c.args.key.now in
     let held = c.leaf_below.new.leaf in
@@ -121,9 +73,5 @@ returns-clause-read g t c = λ honest is.
     (subst (λ (S : Image). (can : CanGet (txn_pages c.args.txn.now) (over c.args.txn.now S) (c.args.level - 1) key (over c.args.txn.now S child)) → OnOk c.leaf_below.result (IsRead can.tree can.high mid key held pages)) same (c.leaf_below.ensures.read honest) next)
 
 pub returns-clause-reading : goal.returns-clause-reading
-returns-clause-reading g t c = record {
-  quiet = quiet_more c.args.pages.now c.lend_level.new.pages c.leaf_below.new.pages c.in_ok-own.ensures.reaches.reading.quiet c.leaf_below.ensures.reading.quiet;
-  passed = passed_ok c.leaf_below.result c.args.pages.now c.lend_level.new.pages c.leaf_below.new.pages c.in_ok-own.ensures.reaches.reading.passed c.leaf_below.ensures.reading.passed;
-  err = not_below c.leaf_below.result c.args.txn.now c.args.level c.args.key.now c.args.p c.in_ok-child.child c.args.pages.now c.lend_level.new.pages c.leaf_below.new.pages
-      c.if-level-eq0.false c.lend_level.ensures.reaches.few c.in_ok-own.ensures.reaches.reading.passed c.leaf_below.ensures.reading.quiet c.lent-bytes.ensures c.in_ok-own.ensures.lends c.in_ok-child.ensures.child c.leaf_below.ensures.reading.err;
-}
+returns-clause-reading g t c = not_below c.args.txn.now c.args.level c.args.key.now c.args.p c.in_ok-child.child c.if-level-eq0.false c.lend_level.ensures.reaches.few
+    c.in_ok-own.ensures.reaches.reading.passed c.lent-bytes.ensures c.in_ok-own.ensures.lends c.in_ok-child.ensures.child c.leaf_below.ensures.reading

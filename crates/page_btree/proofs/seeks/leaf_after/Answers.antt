@@ -1,5 +1,4 @@
-use Rattle.std.proofs.Common.{List, ℕ, subst, ◌∙◌}
-use Rattle.std.specs.Prelude.{None, OnOk}
+use Rattle.std.{specs.Prelude.{None, OnOk}, proofs.Common.{List, ℕ, subst, ◌∙◌}}
 use Rattle.page_btree.specs.Seeking.{IsRead}
 use Rattle.page_btree.proofs.seeks.leaf_after.Goals as goal
 

@@ -1,35 +1,20 @@
-use Rattle.std.proofs.Common.{subst, ◌∙◌, arith}
-use Rattle.std.specs.Prelude.{None, OnOk}
+use Rattle.std.{specs.Prelude.{None, OnOk}, proofs.Common.{subst, ◌∙◌, arith}}
 use Rattle.sector_device.specs.claim.Disk.{Image}
 use Rattle.page_store.specs.claim.Transactions.{stored, txn_pages, over}
-use Rattle.page_store.proofs.Stops.{quiet_more}
-use Rattle.page_btree.specs.claim.Tree.{page_of}
-use Rattle.page_btree.specs.Getting.{CanGet}
-use Rattle.page_btree.specs.Seeking.{IsRead}
-use Rattle.page_btree.proofs.Descent.{owns_page}
-use Rattle.page_btree.proofs.Outcomes.{passed_ok}
-use Rattle.page_btree.proofs.Below.{not_from_root}
-use Rattle.page_btree.proofs.Tops.{top}
+use Rattle.page_btree.{specs.claim.Tree.page_of, specs.Getting.CanGet, specs.Seeking.IsRead, proofs.Descent.owns_page, proofs.Below.not_from_root, proofs.Tops.top}
 use Rattle.page_btree.proofs.seeks.leaf_for.Goals as goal
 
 pub returns-then-root-eq0-clause-read : goal.returns-then-root-eq0-clause-read
 returns-then-root-eq0-clause-read g c = λ honest m r.
     let some = (r.sound.below (page_of r.tree) (owns_page r.tree)).0 in
-    let there = r.root_is in
-    let root = c.root-root.ensures.root in
-    let none = c.if-root-eq0.true in
     absurd (omega arith)
 
 pub returns-clause-bare : goal.returns-clause-bare
 returns-clause-bare g c = λ none. absurd (c.if-root-eq0.false (c.root-root.ensures.root ∙ none))
 
 pub returns-clause-reading : goal.returns-clause-reading
-returns-clause-reading g c = record {
-  quiet = quiet_more c.args.pages.now c.lend.new.pages c.leaf_below.new.pages c.in_ok-own.ensures.reading.quiet c.leaf_below.ensures.reading.quiet;
-  passed = passed_ok c.leaf_below.result c.args.pages.now c.lend.new.pages c.leaf_below.new.pages (c.in_ok-own.ensures.reading.passed) c.leaf_below.ensures.reading.passed;
-  err = not_from_root c.leaf_below.result c.args.txn.now c.level_of-level.result c.args.key.now c.root-root.result c.args.pages.now c.lend.new.pages c.leaf_below.new.pages c.root-root.ensures.root c.if-root-eq0.false
-      (c.in_ok-own.ensures.reading.passed) c.leaf_below.ensures.reading.quiet c.lent.ensures c.in_ok-own.ensures.lends c.level_of-level.ensures.level c.leaf_below.ensures.reading.err;
-}
+returns-clause-reading g c = not_from_root c.args.txn.now c.level_of-level.result c.args.key.now c.root-root.result c.root-root.ensures.root c.if-root-eq0.false c.in_ok-own.ensures.reading.passed
+    c.lent.ensures c.in_ok-own.ensures.lends c.level_of-level.ensures.level c.leaf_below.ensures.reading
 
 pub returns-clause-read : goal.returns-clause-read
 returns-clause-read g c = λ honest m r.

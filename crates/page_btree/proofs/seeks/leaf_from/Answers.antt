@@ -1,28 +1,15 @@
-use Rattle.std.proofs.Common.{◌≡◌, ◌<◌, ℕ, List, ⊎_elim, cond, sym, ap, subst, ◌∙◌, arith, rules}
-use Rattle.std.specs.Prelude.{Some, None}
-use Rattle.sector_device.specs.claim.Disk.{Image}
-use Rattle.page_store.specs.claim.Transactions.{txn_pages, txn_root, over, free_over}
+use Rattle.std.{specs.Prelude.{Some, None}, proofs.Common.{◌≡◌, ◌<◌, ⊎_elim, cond, ap, arith}}
 use Rattle.page_store.proofs.Stops.{quiet_more, passed_more}
-use Rattle.page_btree.specs.claim.Map.{IsRooted}
-use Rattle.page_btree.specs.claim.Errors.{GetErr}
-use Rattle.page_btree.specs.claim.Keys.{KeyMap}
-use Rattle.page_btree.specs.Seeking.{bound_in, IsRead}
-use Rattle.page_btree.proofs.Outcomes.{err_of, reads_ok}
-use Rattle.page_btree.proofs.Refusals.{get_more}
+use Rattle.page_btree.{specs.Seeking.bound_in, proofs.Outcomes.{reads_ok, reads_err, refused_after}, proofs.Refusals.get_more}
 use Rattle.page_btree.proofs.Following.{from_found, from_after, some_after}
 use Rattle.page_btree.proofs.seeks.leaf_from.Goals as goal
 
-clash : {b : List ℕ} → Some b ≡ None → ⊥
-clash e = cc
-
 pub returns-then-leaf-gt0-clause-rows : goal.returns-then-leaf-gt0-clause-rows
 returns-then-leaf-gt0-clause-rows g c = λ honest m holds.
-    let some : 0 < c.leaf_for.new.leaf.left = c.if-leaf-gt0.true in
     from_found _ _ _ _ m c.args.key.now c.leaf_for.new.leaf c.leaf_for.new.held holds c.in_ok-leaf_for.ensures.bare (c.in_ok-leaf_for.ensures.read honest m) (λ none alone. absurd (omega arith))
 
 pub returns-then-leaf-gt0-2-clause-rows : goal.returns-then-leaf-gt0-2-clause-rows
 returns-then-leaf-gt0-2-clause-rows g c = λ honest m holds.
-    let some : 0 < c.leaf_for.new.leaf.more = c.if-leaf-gt0-2.true in
     from_found _ _ _ _ m c.args.key.now c.leaf_for.new.leaf c.leaf_for.new.held holds c.in_ok-leaf_for.ensures.bare (c.in_ok-leaf_for.ensures.read honest m) (λ none alone. absurd (omega arith))
 
 pub returns-then-not-leaf-clause-rows : goal.returns-then-not-leaf-clause-rows
@@ -31,46 +18,33 @@ returns-then-not-leaf-clause-rows g c = λ honest m holds.
     from_found _ _ _ _ m c.args.key.now c.leaf_for.new.leaf c.leaf_for.new.held holds c.in_ok-leaf_for.ensures.bare (c.in_ok-leaf_for.ensures.read honest m) (λ none alone. last)
 
 pub returns-in_err-leaf_after-clause-reading : goal.returns-in_err-leaf_after-clause-reading
-returns-in_err-leaf_after-clause-reading g c = record {
-  quiet = quiet_more c.args.pages.now c.leaf_for.new.pages c.leaf_after.new.pages c.in_ok-leaf_for.ensures.reading.quiet c.in_err-leaf_after.ensures.reading.quiet;
-  passed = search rules;
-  err = err_of c.from_residual-in_err-leaf_after.result c.in_err-leaf_after.field-0.0 (λ e. GetErr c.args.txn.now c.args.pages.now c.leaf_after.new.pages e) c.from_residual-in_err-leaf_after.ensures.1
-      (get_more c.args.txn.now c.args.pages.now c.leaf_for.new.pages c.leaf_after.new.pages c.in_ok-leaf_for.ensures.reading.passed c.in_err-leaf_after.ensures.reading.quiet c.in_err-leaf_after.field-0.0 c.in_err-leaf_after.ensures.reading.err);
-}
+returns-in_err-leaf_after-clause-reading g c =
+    let first = c.in_ok-leaf_for.ensures.reading.passed in
+    refused_after _ first c.in_err-leaf_after.ensures.reading c.from_residual-in_err-leaf_after.ensures.1 (get_more c.args.txn.now _ _ _ first c.in_err-leaf_after.ensures.reading.quiet _)
 
 pub returns-then-leaf-eq0-clause-reading : goal.returns-then-leaf-eq0-clause-reading
-returns-then-leaf-eq0-clause-reading g c = record {
-  quiet = quiet_more c.args.pages.now c.leaf_for.new.pages c.leaf_after.new.pages c.in_ok-leaf_for.ensures.reading.quiet c.in_ok-leaf_after.ensures.reading.quiet;
-  passed = search rules;
-  err = λ honest m holds.
-      let t = c.args.txn.now in
-      let none : c.leaf_for.new.leaf.left ≡ 0 = let few = c.if-leaf-gt0.false in omega arith in
-      let alone : c.leaf_for.new.leaf.more ≡ 0 = let few = c.if-leaf-gt0-2.false in omega arith in
-      let bound : bound_in c.leaf_for.new.leaf ≡ Some c.leaf_for.new.leaf.bound = ap (λ b. cond b (Some c.leaf_for.new.leaf.bound) None) c.if-not-leaf.false in
-      let before = c.in_ok-leaf_after.ensures.reading.quiet.honest honest in
-      let same = c.in_ok-leaf_for.ensures.reading.quiet.same before in
-      let read = subst (λ (S : Image). (q : KeyMap) (r : IsRooted (txn_pages t) (over t S) (txn_root t) (free_over t S) q) → IsRead r.tree None None c.leaf_for.new.leaf.bound c.leaf_after.new.leaf c.leaf_after.new.held) same (c.in_ok-leaf_after.ensures.read honest) in
-      let last : c.leaf_after.new.leaf.left ≡ 0 = c.if-leaf-eq0.true in
-      ⊎_elim
-      (λ bare. clash (sym bound ∙ (c.in_ok-leaf_for.ensures.bare bare.root_is).3))
-      (λ r. let some = some_after _ _ _ _ m r c.args.key.now c.leaf_for.new.leaf.bound c.leaf_for.new.leaf c.leaf_after.new.leaf c.leaf_for.new.held c.leaf_after.new.held (c.in_ok-leaf_for.ensures.read before m r) alone bound (read m r) in omega arith)
-      holds.held;
-}
+returns-then-leaf-eq0-clause-reading g c = reads_err (quiet_more _ _ _ c.in_ok-leaf_for.ensures.reading.quiet c.in_ok-leaf_after.ensures.reading.quiet) (λ honest m holds.
+    let alone : c.leaf_for.new.leaf.more ≡ 0 = let few = c.if-leaf-gt0-2.false in omega arith in
+    let bound : bound_in c.leaf_for.new.leaf ≡ Some c.leaf_for.new.leaf.bound = ap (λ b. cond b (Some c.leaf_for.new.leaf.bound) None) c.if-not-leaf.false in
+    let before = c.in_ok-leaf_after.ensures.reading.quiet.honest honest in
+    let read = rw (c.in_ok-leaf_for.ensures.reading.quiet.same before) at (c.in_ok-leaf_after.ensures.read honest) in
+    ⊎_elim
+    (λ bare. cc ((c.in_ok-leaf_for.ensures.bare bare.root_is).3))
+    (λ r. let some = some_after _ _ _ _ m r _ _ _ _ _ _ (c.in_ok-leaf_for.ensures.read before m r) alone bound (read m r) in omega arith)
+    holds.held)
 
 pub returns-clause-reading : goal.returns-clause-reading
 returns-clause-reading g c = reads_ok (passed_more c.args.pages.now c.leaf_for.new.pages c.leaf_after.new.pages c.in_ok-leaf_for.ensures.reading.passed c.in_ok-leaf_after.ensures.reading.passed)
 
 pub returns-clause-rows : goal.returns-clause-rows
 returns-clause-rows g c = λ honest m holds.
-    let t = c.args.txn.now in
     let none : c.leaf_for.new.leaf.left ≡ 0 = let few = c.if-leaf-gt0.false in omega arith in
     let alone : c.leaf_for.new.leaf.more ≡ 0 = let few = c.if-leaf-gt0-2.false in omega arith in
     let bound : bound_in c.leaf_for.new.leaf ≡ Some c.leaf_for.new.leaf.bound = ap (λ b. cond b (Some c.leaf_for.new.leaf.bound) None) c.if-not-leaf.false in
     let before = c.in_ok-leaf_after.ensures.reading.quiet.honest honest in
-    let same = c.in_ok-leaf_for.ensures.reading.quiet.same before in
-    let read = subst (λ (S : Image). (q : KeyMap) (r : IsRooted (txn_pages t) (over t S) (txn_root t) (free_over t S) q) → IsRead r.tree None None c.leaf_for.new.leaf.bound c.leaf_after.new.leaf c.leaf_after.new.held) same (c.in_ok-leaf_after.ensures.read honest) in
+    let read = rw (c.in_ok-leaf_for.ensures.reading.quiet.same before) at (c.in_ok-leaf_after.ensures.read honest) in
     let some : 0 < c.leaf_after.new.leaf.left = let not = c.if-leaf-eq0.false in omega arith in
     ⊎_elim
-    (λ bare. absurd (clash (sym bound ∙ (c.in_ok-leaf_for.ensures.bare bare.root_is).3)))
-    (λ r. from_after _ _ _ _ m r c.args.key.now c.leaf_for.new.leaf.bound c.leaf_for.new.leaf c.leaf_after.new.leaf c.leaf_for.new.held c.leaf_after.new.held (c.in_ok-leaf_for.ensures.read before m r) none alone bound (read m r) some)
+    (λ bare. cc ((c.in_ok-leaf_for.ensures.bare bare.root_is).3))
+    (λ r. from_after _ _ _ _ m r _ _ _ _ _ _ (c.in_ok-leaf_for.ensures.read before m r) none alone bound (read m r) some)
     holds.held

@@ -1,7 +1,5 @@
-use Rattle.std.proofs.Common.{◌∷◌, ℕ, List, refl, ap, sym, subst, ◌∙◌, arith, option_copied}
-use Rattle.std.specs.Prelude.{Option, Some, None}
-use Rattle.page_btree.specs.Seeking.{AreWays}
-use Rattle.page_btree.proofs.Following.{ways_of, three_of}
+use Rattle.std.{specs.Prelude.{Option, Some, None}, proofs.Common.{◌∷◌, ℕ, List, refl, ap, sym, subst, ◌∙◌, arith, option_copied}}
+use Rattle.page_btree.{specs.Seeking.AreWays, proofs.Following.{ways_of, three_of}}
 use Rattle.page_btree.proofs.seeks.ways_in.Goals as goal
 
 pub returns-in-None-clause-ways : goal.returns-in-None-clause-ways

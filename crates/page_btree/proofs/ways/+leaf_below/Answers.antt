@@ -1,16 +1,9 @@
-use Rattle.std.proofs.Common.{◌≡◌, ◌-◌, ◌<◌, refl, sym, subst, ◌∙◌, arith, rules}
-use Rattle.std.specs.Prelude.{IfOk}
+use Rattle.std.{specs.Prelude.IfOk, proofs.Common.{◌≡◌, ◌-◌, refl, sym, subst, ◌∙◌, arith}}
 use Rattle.sector_device.specs.claim.Disk.{Image}
 use Rattle.page_store.specs.claim.Transactions.{stored, over}
-use Rattle.page_store.proofs.Stops.{quiet_more}
 use Rattle.page_node.specs.claim.Node.{IsNode}
-use Rattle.page_btree.specs.Getting.{IsChild}
-use Rattle.page_btree.specs.Leading.{LeadsTo, LeadsAll, end_of}
-use Rattle.page_btree.specs.declared.error.TreeError.TheVariants.{NotAStore}
-use Rattle.page_btree.proofs.Below.{down, not_lent, no_child, not_below}
-use Rattle.page_btree.proofs.Outcomes.{map_ok, passed_ok}
-use Rattle.page_btree.proofs.Leads.{leads_none, leads_more}
-use Rattle.page_btree.proofs.Reaching.{reaches_more}
+use Rattle.page_btree.specs.{Getting.IsChild, Leading.{LeadsTo, LeadsAll, end_of}, declared.error.TreeError.TheVariants.NotAStore}
+use Rattle.page_btree.proofs.{Below.{down, not_lent, no_child, not_below}, Outcomes.{map_ok, reads_err}, Leads.{leads_none, leads_more}, Reaching.reaches_more}
 use Rattle.page_btree.proofs.ways.+leaf_below.Goals as goal
 
 pub returns-then-level-eq0-clause-leads : goal.returns-then-level-eq0-clause-leads
@@ -18,53 +11,31 @@ returns-then-level-eq0-clause-leads g t c = λ honest. leads_none (over c.args.t
 
 -- ---- no way down
 pub returns-in_err-own-clause-reading : goal.returns-in_err-own-clause-reading
-returns-in_err-own-clause-reading g t c = record {
-  quiet = search rules;
-  passed = search rules;
-  err = not_lent c.from_residual.result c.args.txn.now c.args.level c.args.key.now c.args.p c.in_err-own.field-0.0 c.args.pages.now c.lend_level.new.pages c.from_residual.ensures.1 c.in_err-own.ensures.reaches.reading.err;
-}
+returns-in_err-own-clause-reading g t c = not_lent c.args.txn.now c.args.level c.args.key.now c.args.p c.in_err-own.ensures.reaches.reading c.from_residual.ensures.1
 
 pub returns-in_err-child-clause-reading : goal.returns-in_err-child-clause-reading
-returns-in_err-child-clause-reading g t c = record {
-  quiet = search rules;
-  passed = search rules;
-  err = no_child c.from_residual-in_err-child.result c.args.txn.now c.args.level c.args.key.now c.args.p NotAStore c.args.pages.now c.lend_level.new.pages
-      c.from_residual-in_err-child.ensures.1 refl c.if-level-eq0.false c.lent-bytes.ensures c.in_ok-own.ensures.lends c.in_err-child.ensures.err;
-}
+returns-in_err-child-clause-reading g t c = no_child c.args.txn.now c.args.level c.args.key.now c.args.p NotAStore c.in_ok-own.ensures.reaches.reading.quiet
+    c.from_residual-in_err-child.ensures.1 refl c.if-level-eq0.false c.lent-bytes.ensures c.in_ok-own.ensures.lends c.in_err-child.ensures.err
 
 pub returns-then-child-count-clause-reading : goal.returns-then-child-count-clause-reading
-returns-then-child-count-clause-reading g t c = record {
-  quiet = search rules;
-  passed = search rules;
-  err = λ honest is.
-      let go = down _ _ _ _ _ c.in_ok-child.child c.if-level-eq0.false c.lend_level.ensures.reaches.few (c.lent-bytes.ensures ∙ c.in_ok-own.ensures.lends honest) c.in_ok-child.ensures.child is.0 in
-      let below = go.level.below in
-      let above = c.if-child-count.true in
-      let count = c.page_count-count.ensures in
-      omega arith;
-}
+returns-then-child-count-clause-reading g t c = reads_err c.in_ok-own.ensures.reaches.reading.quiet (λ honest is.
+    let go = down _ _ _ _ _ c.in_ok-child.child c.if-level-eq0.false c.lend_level.ensures.reaches.few (c.lent-bytes.ensures ∙ c.in_ok-own.ensures.lends honest) c.in_ok-child.ensures.child is.0 in
+    omega arith)
 
 -- ---- below
 pub returns-clause-leads : goal.returns-clause-leads
 returns-clause-leads g t c = λ honest.
-    let S = stored c.args.pages.now in
-    let P = over c.args.txn.now S in
+    let P = over c.args.txn.now (stored c.args.pages.now) in
     let child = c.in_ok-child.child in
-    let not = c.if-level-eq0.false in
-    let some : 0 < c.args.level = omega arith in
     let before = c.leaf_below.ensures.reading.quiet.honest honest in
     let there : c.lent-bytes.result.now ≡ P c.args.p = c.lent-bytes.ensures ∙ c.in_ok-own.ensures.lends before in
     map_ok c.leaf_below.result (λ leaf. LeadsTo P (c.args.level - 1) child c.args.key.now leaf) (λ leaf. LeadsTo P c.args.level c.args.p c.args.key.now leaf)
-    (λ leaf h. leads_more P c.args.level c.args.p c.args.key.now leaf child some (subst (λ b. IsChild b c.args.key.now child) there c.in_ok-child.ensures.child) h)
+    (λ leaf h. leads_more P c.args.level c.args.p c.args.key.now leaf child (omega arith) (subst (λ b. IsChild b c.args.key.now child) there c.in_ok-child.ensures.child) h)
     (subst (λ (T : Image). IfOk c.leaf_below.result (λ leaf. LeadsTo (over c.args.txn.now T) (c.args.level - 1) child c.args.key.now leaf)) (c.in_ok-own.ensures.reaches.reading.quiet.same before) (c.leaf_below.ensures.leads honest))
 
 pub returns-clause-reading : goal.returns-clause-reading
-returns-clause-reading g t c = record {
-  quiet = quiet_more c.args.pages.now c.lend_level.new.pages c.leaf_below.new.pages c.in_ok-own.ensures.reaches.reading.quiet c.leaf_below.ensures.reading.quiet;
-  passed = passed_ok c.leaf_below.result c.args.pages.now c.lend_level.new.pages c.leaf_below.new.pages c.in_ok-own.ensures.reaches.reading.passed c.leaf_below.ensures.reading.passed;
-  err = not_below c.leaf_below.result c.args.txn.now c.args.level c.args.key.now c.args.p c.in_ok-child.child c.args.pages.now c.lend_level.new.pages c.leaf_below.new.pages
-      c.if-level-eq0.false c.lend_level.ensures.reaches.few c.in_ok-own.ensures.reaches.reading.passed c.leaf_below.ensures.reading.quiet c.lent-bytes.ensures c.in_ok-own.ensures.lends c.in_ok-child.ensures.child c.leaf_below.ensures.reading.err;
-}
+returns-clause-reading g t c = not_below c.args.txn.now c.args.level c.args.key.now c.args.p c.in_ok-child.child c.if-level-eq0.false c.lend_level.ensures.reaches.few
+    c.in_ok-own.ensures.reaches.reading.passed c.lent-bytes.ensures c.in_ok-own.ensures.lends c.in_ok-child.ensures.child c.leaf_below.ensures.reading
 
 -- ---- how far
 pub returns-then-level-eq0-clause-reach : goal.returns-then-level-eq0-clause-reach
@@ -72,16 +43,13 @@ returns-then-level-eq0-clause-reach g t c = λ honest other between. leads_none 
 
 pub returns-clause-reach : goal.returns-clause-reach
 returns-clause-reach g t c = λ honest.
-    let S = stored c.args.pages.now in
-    let P = over c.args.txn.now S in
+    let P = over c.args.txn.now (stored c.args.pages.now) in
     let child = c.in_ok-child.child in
-    let not = c.if-level-eq0.false in
-    let some : 0 < c.args.level = omega arith in
     let before = c.leaf_below.ensures.reading.quiet.honest honest in
     let there : c.lent-bytes.result.now ≡ P c.args.p = c.lent-bytes.ensures ∙ c.in_ok-own.ensures.lends before in
     let high = end_of c.leaf_below.new.reach in
     map_ok c.leaf_below.result (λ leaf. LeadsAll P (c.args.level - 1) child c.args.key.now high leaf) (λ leaf. LeadsAll P c.args.level c.args.p c.args.key.now high leaf)
-    (λ leaf h other between. reaches_more P c.args.level c.args.p c.args.key.now other leaf child high some between
+    (λ leaf h other between. reaches_more P c.args.level c.args.p c.args.key.now other leaf child high (omega arith) between
     (subst (λ b. IsChild b c.args.key.now child) there c.in_ok-child.ensures.child)
     (λ node at rises. c.in_ok-child.ensures.within node (subst (λ b. IsNode b node) (sym there) at) rises other (c.leaf_below.ensures.nearer other between.under))
     (h other between))

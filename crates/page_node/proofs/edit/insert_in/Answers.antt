@@ -1,17 +1,10 @@
-use Rattle.std.proofs.Common.{refl, sym, subst, arith, rules}
-use Rattle.std.specs.Prelude.{insert}
-use Rattle.page_node.specs.claim.Node.{IsNode}
-use Rattle.page_node.proofs.Editing.{count_small}
-use Rattle.page_node.proofs.PageEdits.{inserted_node, inserted_size}
+use Rattle.std.{specs.Prelude.insert, proofs.Common.{refl, sym, subst, arith, rules}}
+use Rattle.page_node.{specs.claim.Node.IsNode, proofs.Editing.count_small, proofs.PageEdits.{inserted_node, inserted_size}}
 use Rattle.page_node.proofs.edit.insert_in.Goals as goal
 
 pub returns-then-count-eq65535 : goal.returns-then-count-eq65535
 returns-then-count-eq65535 c = λ node is le at_is.
     let small = count_small node.entries in
-    let fits = is.fits in
-    let n = is.count in
-    let counted = c.count_of-count.ensures.count in
-    let many = c.if-count-eq65535.true in
     omega arith
 
 pub returns-then-used-key-gt-PAGE_SIZE : goal.returns-then-used-key-gt-PAGE_SIZE
@@ -21,7 +14,6 @@ returns-then-used-key-gt-PAGE_SIZE c = record {
     λ fits.
         let used_is = c.in_ok-used.ensures.end node is le at_is in
         let size = inserted_size c.args.page.now node is c.told-page c.args.index c.args.at c.in_ok-used.used at_is used_is (c.args.key.now, c.args.value.now) in
-        let over = c.if-used-key-gt-PAGE_SIZE.true in
         omega arith,
   );
   kept = search rules;
@@ -31,9 +23,6 @@ pub returns : goal.returns
 returns c = record {
   inserted = λ node is child le at_is.
       let used_is = c.in_ok-used.ensures.end node is le at_is in
-      let counted = c.count_of-count.ensures.count in
-      let n = is.count in
-      let room = c.if-used-key-gt-PAGE_SIZE.false in
       subst (λ p. IsNode p (record node { entries = insert node.entries c.args.index (c.args.key.now, c.args.value.now) })) (sym c.set_count.ensures)
       (inserted_node c.args.page.now node is c.told-page c.args.index c.args.at c.in_ok-used.used at_is used_is (c.args.key.now, c.args.value.now) c.splice.new.page _ le c.requires.entry child (omega arith) c.splice.ensures (omega arith));
   kept = search rules;

@@ -1,12 +1,10 @@
 use Rattle.std.proofs.Common.{◌+◌, refl, arith, rules}
-use Rattle.page_node.proofs.PageEdits.{replaced_here, replaced_node, replaced_size}
-use Rattle.page_node.specs.claim.Entries.{size_of}
+use Rattle.page_node.{specs.claim.Entries.size_of, proofs.PageEdits.{replaced_here, replaced_node, replaced_size}}
 use Rattle.page_node.proofs.edit.replace_in.Goals as goal
 
 pub returns-then-at-key : goal.returns-then-at-key
 returns-then-at-key c = record {
   replaced = λ node is child within at_is end_is.
-      let same = c.if-at-key.true in
       replaced_here c.args.page.now node is c.told-page c.args.index c.args.at (4 + size_of node.entries) at_is refl c.args.end end_is within (c.args.key.now, c.args.value.now) c.put_entry.new.bytes c.requires.entry child (omega arith) c.put_entry.ensures;
   kept = search rules;
 }
@@ -30,7 +28,6 @@ pub returns : goal.returns
 returns c = record {
   replaced = λ node is child within at_is end_is.
       let used_is = c.in_ok-used.ensures.end node is (omega arith) end_is in
-      let room = c.if-at-key-gt-PAGE_SIZE.false in
       replaced_node c.args.page.now node is c.told-page c.args.index c.args.at c.in_ok-used.used at_is used_is c.args.end end_is within (c.args.key.now, c.args.value.now) c.splice.new.page c.requires.entry child (omega arith) c.splice.ensures;
   kept = search rules;
 }

@@ -1,6 +1,5 @@
 use Rattle.std.proofs.Common.{◌≡◌, ◌+◌, ◌-◌, ◌++◌, length, take, drop, arith, ◌∙◌}
-use Rattle.page_node.specs.claim.Entries.{entry_bytes, entry_size}
-use Rattle.page_node.proofs.Editing.{placed}
+use Rattle.page_node.{specs.claim.Entries.{entry_bytes, entry_size}, proofs.Editing.placed}
 use Rattle.page_node.proofs.edit.splice.Goals as goal
 
 pub returns : goal.returns

@@ -1,19 +1,10 @@
 use Rattle.std.proofs.Common.{List, refl, subst, arith, rules}
-use Rattle.page_node.proofs.Laws.{gap_find}
-use Rattle.page_node.specs.claim.Entries.{Entry}
-use Rattle.page_node.specs.claim.Node.{IsNode}
-use Rattle.page_node.specs.claim.Places.{Rises}
-use Rattle.page_node.specs.Spots.{IsSpot}
-use Rattle.page_node.proofs.Nearing.{first_below}
+use Rattle.page_node.{specs.claim.Entries.Entry, specs.claim.Node.IsNode, specs.claim.Places.Rises, specs.Spots.IsSpot, proofs.Laws.gap_find, proofs.Nearing.first_below}
 use Rattle.page_node.proofs.PageEdits.{refused}
 use Rattle.page_node.proofs.edit.take_row.Goals as goal
 
 pub returns-in_err-spot : goal.returns-in_err-spot
-returns-in_err-spot c = record {
-  taken = search rules;
-  absent = search rules;
-  err = refused c.from_residual.result ((es : List Entry) → IsNode c.args.page.now (record { level = 0; entries = es }) → Rises es → ⊥) (λ es is rises. c.in_err-spot.ensures _ is (first_below c.args.key.now es));
-}
+returns-in_err-spot c = search (rules, refused c.from_residual.result ((es : List Entry) → IsNode c.args.page.now (record { level = 0; entries = es }) → Rises es → ⊥) (λ es is rises. c.in_err-spot.ensures _ is (first_below c.args.key.now es)))
 
 pub returns : goal.returns
 returns c = record {
@@ -25,13 +16,12 @@ returns c = record {
 }
 
 pub returns-in_err-left : goal.returns-in_err-left
-returns-in_err-left c = record {
-  taken = search rules;
-  absent = search rules;
-  err = refused c.from_residual-in_err-left.result ((es : List Entry) → IsNode c.args.page.now (record { level = 0; entries = es }) → Rises es → ⊥) (λ es is rises.
+returns-in_err-left c = search (
+  rules,
+  refused c.from_residual-in_err-left.result ((es : List Entry) → IsNode c.args.page.now (record { level = 0; entries = es }) → Rises es → ⊥) (λ es is rises.
       let spot = subst (λ b. IsSpot c.args.key.now es b c.in_ok-spot.spot.index c.in_ok-spot.spot.at c.in_ok-spot.spot.end) c.if-spot.true (c.in_ok-spot.ensures.spot _ is rises (first_below c.args.key.now es)) in
-      c.in_err-left.ensures _ is (let within = spot.0.within in omega arith));
-}
+      c.in_err-left.ensures _ is (let within = spot.0.within in omega arith)),
+)
 
 pub returns-then-spot : goal.returns-then-spot
 returns-then-spot c = record {

@@ -1,51 +1,33 @@
 use Rattle.std.proofs.Common.{List, refl, subst, arith, rules}
-use Rattle.page_node.specs.claim.Entries.{Entry}
-use Rattle.page_node.proofs.Laws.{gap_find}
-use Rattle.page_node.specs.claim.Node.{IsNode}
-use Rattle.page_node.specs.claim.Places.{Rises}
-use Rattle.page_node.specs.Spots.{IsSpot}
-use Rattle.page_node.proofs.Nearing.{first_below}
+use Rattle.page_node.{specs.claim.Entries.Entry, specs.claim.Node.IsNode, specs.claim.Places.Rises, specs.Spots.IsSpot, proofs.Laws.gap_find, proofs.Nearing.first_below}
 use Rattle.page_node.proofs.PageEdits.{refused, some_left}
 use Rattle.page_node.proofs.edit.take_spare_row.Goals as goal
 
 pub returns-in_err-spot : goal.returns-in_err-spot
-returns-in_err-spot c = record {
-  taken = search rules;
-  kept = search rules;
-  err = refused c.from_residual.result ((es : List Entry) → IsNode c.args.page.now (record { level = 0; entries = es }) → Rises es → ⊥) (λ es is rises. c.in_err-spot.ensures _ is (first_below c.args.key.now es));
-}
+returns-in_err-spot c = search (rules, refused c.from_residual.result ((es : List Entry) → IsNode c.args.page.now (record { level = 0; entries = es }) → Rises es → ⊥) (λ es is rises. c.in_err-spot.ensures _ is (first_below c.args.key.now es)))
 
 pub returns-then-count_of-lt2 : goal.returns-then-count_of-lt2
 returns-then-count_of-lt2 c = record {
   taken = λ es is rises.
       let spot = subst (λ b. IsSpot c.args.key.now es b c.in_ok-spot.spot.index c.in_ok-spot.spot.at c.in_ok-spot.spot.end) c.if-spot.true (c.in_ok-spot.ensures.spot _ is rises (first_below c.args.key.now es)) in
-      let some = spot.0.within in
-      let few = c.if-count_of-lt2.true in
-      let counted = c.count_of.ensures.count in
-      let n = is.count in
       (refl, omega arith);
   kept = search rules;
   err = search rules;
 }
 
 pub returns-in_err-remove_in : goal.returns-in_err-remove_in
-returns-in_err-remove_in c = record {
-  taken = search rules;
-  kept = search rules;
-  err = refused c.from_residual-in_err-remove_in.result ((es : List Entry) → IsNode c.args.page.now (record { level = 0; entries = es }) → Rises es → ⊥) (λ es is rises.
+returns-in_err-remove_in c = search (
+  rules,
+  refused c.from_residual-in_err-remove_in.result ((es : List Entry) → IsNode c.args.page.now (record { level = 0; entries = es }) → Rises es → ⊥) (λ es is rises.
       let spot = subst (λ b. IsSpot c.args.key.now es b c.in_ok-spot.spot.index c.in_ok-spot.spot.at c.in_ok-spot.spot.end) c.if-spot.true (c.in_ok-spot.ensures.spot _ is rises (first_below c.args.key.now es)) in
-      c.in_err-remove_in.ensures _ is (let within = spot.0.within in omega arith));
-}
+      c.in_err-remove_in.ensures _ is (let within = spot.0.within in omega arith)),
+)
 
 pub returns-then-spot : goal.returns-then-spot
 returns-then-spot c = record {
   taken = λ es is rises.
       let spot = subst (λ b. IsSpot c.args.key.now es b c.in_ok-spot.spot.index c.in_ok-spot.spot.at c.in_ok-spot.spot.end) c.if-spot.true (c.in_ok-spot.ensures.spot _ is rises (first_below c.args.key.now es)) in
-      let done = c.in_ok-remove_in.ensures _ _ is spot.0.within spot.1 spot.2 in
-      let many = c.if-count_of-lt2.false in
-      let counted = c.count_of.ensures.count in
-      let n = is.count in
-      (c.in_ok-spot.spot.index, spot.0, done.0, some_left es c.in_ok-spot.spot.index spot.0.within (omega arith));
+      (c.in_ok-spot.spot.index, spot.0, (c.in_ok-remove_in.ensures _ _ is spot.0.within spot.1 spot.2).0, some_left es c.in_ok-spot.spot.index spot.0.within (omega arith));
   kept = search rules;
   err = search rules;
 }

@@ -8,9 +8,6 @@ loop-k-init c = (omega arith, c.requires, passes_none c.args.page.now c.args.at)
 pub loop-k-preserved : goal.loop-k-preserved
 loop-k-preserved c =
     let lies = c.in-Some.ensures.some in
-    let from = c.loop-k.invariant.0 in
-    let value_is = lies.value_is in
-    let end_is = lies.end_is in
     (omega arith, lies.within, passes_both _ _ _ _ _ 1 c.loop-k.invariant.2 (passes_found _ _ _ _ lies))
 
 pub returns-in-None : goal.returns-in-None

@@ -1,6 +1,5 @@
 use Rattle.std.proofs.Common.{◌≡◌, ℕ, ◌+◌, ◌*◌, arith, subst}
-use Rattle.page_node.specs.Walking.{PassesTo}
-use Rattle.page_node.proofs.Passed.{passes_both}
+use Rattle.page_node.{specs.Walking.PassesTo, proofs.Passed.passes_both}
 use Rattle.page_node.proofs.passing.eight_in.Goals as goal
 
 pub returns-then-four_in : goal.returns-then-four_in

@@ -1,18 +1,11 @@
 use Rattle.std.proofs.Common.{ℕ, Option, MatchOption, arith, refl, sym, subst, inl, inr, rules}
-use Rattle.page_node.specs.Held.{HasEnds}
-use Rattle.page_node.specs.claim.Node.{Node, IsNode}
-use Rattle.page_node.proofs.Editing.{count_small}
-use Rattle.page_node.proofs.Scanning.{scanned_not, scanned_no_child, scanned_next, scanned_end}
+use Rattle.page_node.{specs.Held.HasEnds, specs.claim.Node.{Node, IsNode}, proofs.Editing.count_small, proofs.Scanning.{scanned_not, scanned_no_child, scanned_next, scanned_end}}
 use Rattle.page_node.proofs.scan.scan.Goals as goal
 use Rattle.page_node.proofs.scan.scan.Goals.{else-level-gt0-via-then-level-gt0+else-bounds-ne4, else-level-gt0-via-else-level-gt0}
 
 pub returns-then-level-gt5-clause-scanned : goal.returns-then-level-gt5-clause-scanned
 returns-then-level-gt5-clause-scanned c = λ node is.
-    let level = is.level in
-    let low = is.shape.level in
-    let count = is.count in
     let few = count_small node.entries in
-    let fits = is.fits in
     elim c.then-level-gt5.either [ inl high ↦ omega arith | inr high ↦ omega arith ]
 
 pub returns-in_err-bounds-clause-scanned : goal.returns-in_err-bounds-clause-scanned
@@ -25,9 +18,6 @@ returns-then-bounds-ne4-clause-scanned c = scanned_no_child _ _ _ _ _ _ _ _ c.lo
 
 pub loop-k-preserved : goal.loop-k-preserved
 loop-k-preserved c =
-    let few = c.if-count-gt1364.false in
-    let within = c.loop-k-test.true in
-    let long = c.loop-k.invariant.long in
     scanned_next _ _ _ _ _ _ _ _ c.loop-k.invariant c.loop-k-test.true (omega arith) c.told-page c.fits-page c.in_ok-bounds.ensures.some
     (λ inner. elim c.else-level-gt0.branch [ else-level-gt0-via-then-level-gt0+else-bounds-ne4 w ↦ omega arith | else-level-gt0-via-else-level-gt0 w ↦ absurd (omega arith) ])
 

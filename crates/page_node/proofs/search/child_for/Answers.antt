@@ -1,22 +1,15 @@
-use Rattle.std.proofs.Common.{◌≡◌, ◌+◌, ◌-◌, true, arith, sym, ap, ◌∙◌}
-use Rattle.std.specs.Ordering.{is_gt}
-use Rattle.page_node.specs.Entries.{key_at}
-use Rattle.page_node.specs.claim.Places.{key_cmp}
-use Rattle.page_node.proofs.Laws.{floor_stop}
-use Rattle.page_node.proofs.Scanning.{lies_there, entry_of, key_part, last_next, child_ok}
+use Rattle.std.{specs.Ordering.is_gt, proofs.Common.{◌≡◌, ◌+◌, ◌-◌, true, arith, sym, ap, ◌∙◌}}
+use Rattle.page_node.{specs.Entries.key_at, specs.claim.Places.key_cmp, proofs.Laws.floor_stop, proofs.Scanning.{lies_there, entry_of, key_part, last_next, child_ok}}
 use Rattle.page_node.proofs.search.child_for.Goals as goal
 use Rattle.page_node.proofs.search.child_for.Goals.{else-k-gt0-via-then-k-gt0+else-is_above, else-k-gt0-via-else-k-gt0}
 
 pub returns-in-None-clause-err : goal.returns-in-None-clause-err
 returns-in-None-clause-err c = λ node is inner.
-    let last = c.loop-k.invariant.2 node is in
-    let n = is.count in
-    absurd (lies_there _ node c.loop-k.k c.loop-k.at is (omega arith) last.place c.in-None.ensures.none)
+    absurd (lies_there _ node c.loop-k.k c.loop-k.at is (omega arith) (c.loop-k.invariant.2 node is).place c.in-None.ensures.none)
 
 pub returns-then-is_above-clause-child : goal.returns-then-is_above-clause-child
 returns-then-is_above-clause-child c = λ node is.
     let last = c.loop-k.invariant.2 node is in
-    let n = is.count in
     let e = entry_of _ node c.loop-k.k c.loop-k.at is (omega arith) last.place in
     let above : is_gt (key_cmp (key_at node.entries c.loop-k.k) c.args.key.now) ≡ true = ap (λ l. is_gt (key_cmp l c.args.key.now)) (sym (key_part _ _ _ _ _ _ e c.in-Some.ensures.some)) ∙ sym c.is_above.ensures ∙ c.if-is_above.true in
     let next : c.loop-k.k - 1 + 1 ≡ c.loop-k.k = omega arith in
@@ -26,13 +19,11 @@ returns-then-is_above-clause-child c = λ node is.
 pub loop-k-preserved : goal.loop-k-preserved
 loop-k-preserved c =
     let lies = c.in-Some.ensures.some in
-    let end_is = lies.end_is in
     let within = lies.within in (
       lies.within,
       omega arith,
       λ node is.
           let last = c.loop-k.invariant.2 node is in
-          let n = is.count in
           let e = entry_of _ node c.loop-k.k c.loop-k.at is (omega arith) last.place in
           last_next _ c.args.key.now node.entries c.loop-k.k c.loop-k.value c.loop-k.at _ _ last e lies (λ some. elim c.else-k-gt0.branch [
             | else-k-gt0-via-then-k-gt0+else-is_above w ↦ ap (λ l. is_gt (key_cmp l c.args.key.now)) (sym (key_part _ _ _ _ _ _ e lies)) ∙ sym w.is_above.ensures ∙ w.if-is_above.false
@@ -43,6 +34,5 @@ loop-k-preserved c =
 pub returns-clause-child : goal.returns-clause-child
 returns-clause-child c = λ node is.
     let last = c.loop-k.invariant.2 node is in
-    let n = is.count in
     child_ok _ c.args.key.now node.entries c.loop-k.k _ _ c.child_at-2.result last c.child_at-2.ensures.ok
     (λ some. floor_stop c.args.key.now node.entries (c.loop-k.k - 1) (omega arith) (λ j more le. last.below j more (omega arith)) (λ long. absurd (omega arith)))

@@ -1,16 +1,8 @@
+use Rattle.std.specs.{Ordering.{is_gt, is_lt}, declared.cmp.Ordering.TheVariants.Less}
 use Rattle.std.proofs.Common.{◌≡◌, ℕ, ◌+◌, ◌-◌, ◌<◌, ◌≤◌, List, length, take, drop, true, false, arith, sym, ap, ◌∙◌, subst, below_more}
-use Rattle.std.specs.Ordering.{is_gt, is_lt}
-use Rattle.std.specs.declared.cmp.Ordering.TheVariants.{Less}
 use Rattle.std.proofs.lemmas.List.{length-drop}
-use Rattle.page_node.specs.claim.Entries.{Entry, size_of}
-use Rattle.page_node.specs.Entries.{key_at}
-use Rattle.page_node.specs.claim.Node.{Node, IsNode}
-use Rattle.page_node.specs.claim.Places.{key_cmp}
-use Rattle.page_node.specs.Places.{entries_from}
-use Rattle.page_node.specs.Walking.{IsAhead}
-use Rattle.page_node.proofs.Walking.{node_ahead_at}
-use Rattle.page_node.proofs.Laws.{entries_from_at, from_middle, not_below, is_less}
-use Rattle.page_node.proofs.Nearing.{first_below}
+use Rattle.page_node.specs.{claim.Entries.{Entry, size_of}, Entries.key_at, claim.Node.{Node, IsNode}, claim.Places.key_cmp, Places.entries_from, Walking.IsAhead}
+use Rattle.page_node.proofs.{Walking.node_ahead_at, Laws.{entries_from_at, from_middle, not_below, is_less}, Nearing.first_below}
 use Rattle.page_node.proofs.Scanning.{lies_there, entry_of, end_there, key_part}
 use Rattle.page_node.proofs.search.place_from.Goals as goal
 
@@ -30,16 +22,12 @@ loop-k-init c = λ node is. c.in-Some.ensures.below node is (first_below c.args.
 
 pub returns-in-None-bounds_in-clause-err : goal.returns-in-None-bounds_in-clause-err
 returns-in-None-bounds_in-clause-err c = λ node is.
-    let place = c.loop-k.invariant node is in
-    let n = is.count in
-    lies_there _ node c.loop-k.k c.loop-k.at is (omega arith) place.0 c.in-None-bounds_in.ensures.none
+    lies_there _ node c.loop-k.k c.loop-k.at is (omega arith) (c.loop-k.invariant node is).0 c.in-None-bounds_in.ensures.none
 
 pub returns-then-not-is_below-clause-place : goal.returns-then-not-is_below-clause-place
 returns-then-not-is_below-clause-place c = λ node is rises.
     let place = c.loop-k.invariant node is in
-    let n = is.count in
-    let e = entry_of _ node c.loop-k.k c.loop-k.at is (omega arith) place.0 in
-    let there = key_part _ _ _ _ _ _ e c.in-Some-bounds_in.ensures.some in
+    let there = key_part _ _ _ _ _ _ (entry_of _ node c.loop-k.k c.loop-k.at is (omega arith) place.0) c.in-Some-bounds_in.ensures.some in
     let from : is_lt (key_cmp (key_at node.entries c.loop-k.k) c.args.key.now) ≡ false = ap (λ l. is_lt (key_cmp l c.args.key.now)) (sym there) ∙ sym c.is_below.ensures ∙ c.if-not-is_below.true in
     found _ c.args.key.now node c.loop-k.k c.loop-k.at _ is place.0 (omega arith) (omega arith) (place.1 rises)
     (from_middle node.entries c.args.key.now c.loop-k.k rises (not_below (key_at node.entries c.loop-k.k) c.args.key.now from))
@@ -48,7 +36,6 @@ pub loop-k-preserved : goal.loop-k-preserved
 loop-k-preserved c = λ node is.
     let lies = c.in-Some-bounds_in.ensures.some in
     let place = c.loop-k.invariant node is in
-    let n = is.count in
     let e = entry_of _ node c.loop-k.k c.loop-k.at is (omega arith) place.0 in
     let below : is_lt (key_cmp (key_at node.entries c.loop-k.k) c.args.key.now) ≡ true = ap (λ l. is_lt (key_cmp l c.args.key.now)) (sym (key_part _ _ _ _ _ _ e lies)) ∙ sym c.is_below.ensures ∙ c.if-not-is_below.false in
     (end_there _ _ _ _ _ _ e lies, λ rises. below_more _ _ (place.1 rises) (is_less _ below))
@@ -57,5 +44,4 @@ pub returns-clause-place : goal.returns-clause-place
 returns-clause-place c = λ node is rises.
     let few : c.in-Some.near.k ≤ c.count_of-count.result = let most = c.in-Some.ensures.within.2 in let count_is = c.count_of-count.ensures.count in omega arith in
     let place = c.loop-k.invariant node is in
-    let n = is.count in
     found _ c.args.key.now node c.loop-k.k c.loop-k.at 0 is place.0 (omega arith) (omega arith) (place.1 rises) (λ j le less. absurd (omega arith))

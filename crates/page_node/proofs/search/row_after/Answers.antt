@@ -1,21 +1,14 @@
-use Rattle.std.proofs.Common.{◌≡◌, ℕ, ◌+◌, take, true, arith, sym, ap, ◌∙◌, subst}
-use Rattle.std.specs.Ordering.{is_lt}
-use Rattle.page_node.specs.Entries.{key_at}
-use Rattle.page_node.specs.claim.Entries.{size_of}
-use Rattle.page_node.specs.claim.Places.{key_cmp}
-use Rattle.page_node.proofs.Laws.{below_middle, is_less}
-use Rattle.page_node.proofs.Scanning.{lies_there, entry_of, end_there, key_part}
-use Rattle.page_node.proofs.Passed.{node_passed, node_passed_not}
+use Rattle.std.{specs.Ordering.is_lt, proofs.Common.{◌≡◌, ℕ, ◌+◌, take, true, arith, sym, ap, ◌∙◌, subst}}
+use Rattle.page_node.{specs.Entries.key_at, specs.claim.Entries.size_of, specs.claim.Places.key_cmp, proofs.Laws.{below_middle, is_less}}
+use Rattle.page_node.proofs.{Scanning.{lies_there, entry_of, end_there, key_part}, Passed.{node_passed, node_passed_not}}
 use Rattle.page_node.proofs.search.row_after.Goals as goal
 
 pub returns-in-None : goal.returns-in-None
 returns-in-None c = λ node is begun.
-    let n = is.count in
     node_passed_not _ node c.loop-near.near.k c.loop-near.near.at 8 is (c.loop-near.invariant.3 node is begun).0 (omega arith) c.in-None.ensures
 
 pub returns-in-None-bounds_in : goal.returns-in-None-bounds_in
 returns-in-None-bounds_in c = λ node is begun.
-    let n = is.count in
     let k = c.loop-near.near.k in
     let at_is = node_passed _ node k c.loop-near.near.at 8 c.in-Some.at is (c.loop-near.invariant.3 node is begun).0 (omega arith) c.in-Some.ensures.passed in
     lies_there _ node (k + 8) c.in-Some.at is (omega arith) at_is c.in-None-bounds_in.ensures.none

@@ -1,29 +1,21 @@
-use Rattle.std.proofs.Common.{◌≡◌, ◌≤◌, ◌+◌, ◌-◌, ℕ, true, arith, sym, ap, ◌∙◌, rules}
-use Rattle.std.specs.Prelude.{Ok}
-use Rattle.std.specs.Ordering.{is_gt}
-use Rattle.page_node.specs.Entries.{key_at}
-use Rattle.page_node.specs.claim.Places.{key_cmp}
-use Rattle.page_node.proofs.Laws.{floor_stop, ceiling_at, ceiling_none}
+use Rattle.std.{specs.Prelude.Ok, specs.Ordering.is_gt, proofs.Common.{◌≡◌, ◌≤◌, ◌+◌, ◌-◌, ℕ, true, arith, sym, ap, ◌∙◌, rules}}
+use Rattle.page_node.{specs.Entries.key_at, specs.claim.Places.key_cmp, proofs.Laws.{floor_stop, ceiling_at, ceiling_none}}
 use Rattle.page_node.proofs.Scanning.{lies_there, entry_of, key_part, last_next, child_ok}
 use Rattle.page_node.proofs.search.turn_for.Goals as goal
 use Rattle.page_node.proofs.search.turn_for.Goals.{else-k-gt0-via-then-k-gt0+else-is_above, else-k-gt0-via-else-k-gt0}
 
 pub returns-in-None-bounds_in : goal.returns-in-None-bounds_in
 returns-in-None-bounds_in c = λ node is rises inner.
-    let last = c.loop-k.invariant.2 node is rises in
-    let n = is.count in
-    absurd (lies_there _ node c.loop-k.k c.loop-k.at is (omega arith) last.place c.in-None-bounds_in.ensures.none)
+    absurd (lies_there _ node c.loop-k.k c.loop-k.at is (omega arith) (c.loop-k.invariant.2 node is rises).place c.in-None-bounds_in.ensures.none)
 
 pub loop-k-preserved : goal.loop-k-preserved
 loop-k-preserved c =
     let lies = c.in-Some-bounds_in.ensures.some in
-    let end_is = lies.end_is in
     let within = lies.within in (
       lies.within,
       omega arith,
       λ node is rises.
           let last = c.loop-k.invariant.2 node is rises in
-          let n = is.count in
           let e = entry_of _ node c.loop-k.k c.loop-k.at is (omega arith) last.place in
           last_next _ c.args.key.now node.entries c.loop-k.k c.loop-k.value c.loop-k.at _ _ last e lies (λ some. elim c.else-k-gt0.branch [
             | else-k-gt0-via-then-k-gt0+else-is_above w ↦ ap (λ l. is_gt (key_cmp l c.args.key.now)) (sym (key_part _ _ _ _ _ _ e lies)) ∙ sym w.is_above.ensures ∙ w.if-is_above.false
@@ -35,7 +27,6 @@ pub returns-then-is_above : goal.returns-then-is_above
 returns-then-is_above c = record {
   child = λ node is rises.
       let last = c.loop-k.invariant.2 node is rises in
-      let n = is.count in
       let e = entry_of _ node c.loop-k.k c.loop-k.at is (omega arith) last.place in
       let above : is_gt (key_cmp (key_at node.entries c.loop-k.k) c.args.key.now) ≡ true = ap (λ l. is_gt (key_cmp l c.args.key.now)) (sym (key_part _ _ _ _ _ _ e c.in-Some-bounds_in.ensures.some)) ∙ sym c.is_above.ensures ∙ c.if-is_above.true in
       let next : c.loop-k.k - 1 + 1 ≡ c.loop-k.k = omega arith in
@@ -45,7 +36,6 @@ returns-then-is_above c = record {
   few = search rules;
   above = λ node is rises.
       let last = c.loop-k.invariant.2 node is rises in
-      let n = is.count in
       let e = entry_of _ node c.loop-k.k c.loop-k.at is (omega arith) last.place in
       let above : is_gt (key_cmp (key_at node.entries c.loop-k.k) c.args.key.now) ≡ true = ap (λ l. is_gt (key_cmp l c.args.key.now)) (sym (key_part _ _ _ _ _ _ e c.in-Some-bounds_in.ensures.some)) ∙ sym c.is_above.ensures ∙ c.if-is_above.true in
       record {
@@ -62,7 +52,6 @@ returns c = record {
   child = λ node is rises.
       let few : c.in-Some.near.k ≤ c.count_of-count.result = let most = c.in-Some.ensures.within.2 in let count_is = c.count_of-count.ensures.count in omega arith in
       let last = c.loop-k.invariant.2 node is rises in
-      let n = is.count in
       child_ok {E = ℕ} _ c.args.key.now node.entries c.loop-k.k c.loop-k.value c.loop-k.at (Ok c.in_ok-child-2.child) last c.in_ok-child-2.ensures.ok
       (λ some. floor_stop c.args.key.now node.entries (c.loop-k.k - 1) (omega arith) (λ j more le. last.below j more (omega arith)) (λ long. absurd (omega arith)));
   lies = search rules;
@@ -71,6 +60,5 @@ returns c = record {
   last = λ node is rises.
       let few : c.in-Some.near.k ≤ c.count_of-count.result = let most = c.in-Some.ensures.within.2 in let count_is = c.count_of-count.ensures.count in omega arith in
       let last = c.loop-k.invariant.2 node is rises in
-      let n = is.count in
       ceiling_none c.args.key.now node.entries (λ j some less. last.below j some (omega arith));
 }

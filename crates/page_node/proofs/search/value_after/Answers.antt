@@ -1,22 +1,15 @@
-use Rattle.std.proofs.Common.{◌≡◌, ◌≤◌, arith, sym, ap, ◌∙◌, below_more}
-use Rattle.std.specs.Prelude.{Some}
-use Rattle.std.specs.declared.cmp.Ordering.TheVariants.{Less, Greater}
-use Rattle.page_node.specs.Entries.{key_at}
-use Rattle.page_node.specs.claim.Places.{key_cmp}
-use Rattle.page_node.proofs.Laws.{find_none, find_at, above_middle, same_key}
+use Rattle.std.{specs.Prelude.Some, specs.declared.cmp.Ordering.TheVariants.{Less, Greater}, proofs.Common.{◌≡◌, ◌≤◌, arith, sym, ap, ◌∙◌, below_more}}
+use Rattle.page_node.{specs.Entries.key_at, specs.claim.Places.key_cmp, proofs.Laws.{find_none, find_at, above_middle, same_key}}
 use Rattle.page_node.proofs.Scanning.{lies_there, entry_of, end_there, key_part, value_part}
 use Rattle.page_node.proofs.search.value_after.Goals as goal
 
 pub returns-in-None-bounds_in-clause-err : goal.returns-in-None-bounds_in-clause-err
 returns-in-None-bounds_in-clause-err c = λ node is begun.
-    let place = c.loop-k.invariant.1 node is begun in
-    let n = is.count in
-    lies_there _ node c.loop-k.k c.loop-k.at is (omega arith) place.0 c.in-None-bounds_in.ensures.none
+    lies_there _ node c.loop-k.k c.loop-k.at is (omega arith) (c.loop-k.invariant.1 node is begun).0 c.in-None-bounds_in.ensures.none
 
 pub returns-in-Greater-clause-value : goal.returns-in-Greater-clause-value
 returns-in-Greater-clause-value c = λ node is rises begun.
     let place = c.loop-k.invariant.1 node is begun in
-    let n = is.count in
     let e = entry_of _ node c.loop-k.k c.loop-k.at is (omega arith) place.0 in
     let greater : key_cmp (key_at node.entries c.loop-k.k) c.args.key.now ≡ Greater = ap (λ l. key_cmp l c.args.key.now) (sym (key_part _ _ _ _ _ _ e c.in-Some-bounds_in.ensures.some)) ∙ sym c.compare_part.ensures ∙ c.in-Greater.is in
     sym (find_none c.args.key.now node.entries c.loop-k.k (λ j less within. place.1 rises j less) (λ j le within. above_middle node.entries c.args.key.now c.loop-k.k rises greater j le within))
@@ -24,7 +17,6 @@ returns-in-Greater-clause-value c = λ node is rises begun.
 pub returns-in-Equal-clause-value : goal.returns-in-Equal-clause-value
 returns-in-Equal-clause-value c = λ node is rises begun.
     let place = c.loop-k.invariant.1 node is begun in
-    let n = is.count in
     let e = entry_of _ node c.loop-k.k c.loop-k.at is (omega arith) place.0 in
     let here : key_at node.entries c.loop-k.k ≡ c.args.key.now = sym (key_part _ _ _ _ _ _ e c.in-Some-bounds_in.ensures.some) ∙ same_key _ c.args.key.now (sym c.compare_part.ensures ∙ c.in-Equal.is) in
     ap Some (c.part.ensures ∙ value_part _ _ _ _ _ _ e c.in-Some-bounds_in.ensures.some) ∙ sym (find_at c.args.key.now node.entries c.loop-k.k (omega arith) here (place.1 rises))
@@ -34,7 +26,6 @@ loop-k-preserved c = (
   c.in-Some-bounds_in.ensures.some.within,
   λ node is begun.
       let place = c.loop-k.invariant.1 node is begun in
-      let n = is.count in
       let e = entry_of _ node c.loop-k.k c.loop-k.at is (omega arith) place.0 in
       let less : key_cmp (key_at node.entries c.loop-k.k) c.args.key.now ≡ Less = ap (λ l. key_cmp l c.args.key.now) (sym (key_part _ _ _ _ _ _ e c.in-Some-bounds_in.ensures.some)) ∙ sym c.compare_part.ensures ∙ c.in-Less.is in
       (end_there _ _ _ _ _ _ e c.in-Some-bounds_in.ensures.some, λ rises. below_more _ _ (place.1 rises) less),
@@ -43,6 +34,4 @@ loop-k-preserved c = (
 pub returns-clause-value : goal.returns-clause-value
 returns-clause-value c = λ node is rises begun.
     let few : c.in-Some.near.k ≤ c.count_of-count.result = let most = c.in-Some.ensures.within.2 in let count_is = c.count_of-count.ensures.count in omega arith in
-    let place = c.loop-k.invariant.1 node is begun in
-    let n = is.count in
-    sym (find_none _ node.entries c.loop-k.k (λ j less within. place.1 rises j less) (λ j le within. absurd (omega arith)))
+    sym (find_none _ node.entries c.loop-k.k (λ j less within. (c.loop-k.invariant.1 node is begun).1 rises j less) (λ j le within. absurd (omega arith)))

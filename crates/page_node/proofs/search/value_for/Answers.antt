@@ -1,6 +1,4 @@
-use Rattle.page_node.specs.claim.Node.{Node, IsNode}
-use Rattle.page_node.specs.Searching.{IsBelow}
-use Rattle.page_node.proofs.Nearing.{first_below, where_err}
+use Rattle.page_node.{specs.claim.Node.{Node, IsNode}, specs.Searching.IsBelow, proofs.Nearing.{first_below, where_err}}
 use Rattle.page_node.proofs.search.value_for.Goals as goal
 
 pub returns-clause-value : goal.returns-clause-value

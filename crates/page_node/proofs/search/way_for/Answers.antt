@@ -1,7 +1,5 @@
-use Rattle.std.proofs.Common.{◌≤◌, ℕ, List, length, ap, sym, subst, ◌∙◌, rules}
-use Rattle.std.specs.Prelude.{Some}
-use Rattle.page_node.proofs.Following.{some_of, turn_bound}
-use Rattle.page_node.proofs.Scanning.{key_there}
+use Rattle.std.{specs.Prelude.Some, proofs.Common.{◌≤◌, ℕ, List, length, ap, sym, subst, ◌∙◌, rules}}
+use Rattle.page_node.proofs.{Following.{some_of, turn_bound}, Scanning.key_there}
 use Rattle.page_node.proofs.search.way_for.Goals as goal
 
 pub returns-in-Some : goal.returns-in-Some

@@ -4,9 +4,7 @@ use Rattle.page_node.proofs.spot.passed_from.Goals as goal
 
 pub returns-in-None : goal.returns-in-None
 returns-in-None c = λ node is le begins.
-    let place = c.loop-near.invariant.2 node is le begins in
-    let n = is.count in
-    node_passed_not _ node c.loop-near.near.k c.loop-near.near.at 8 is place.1 (omega arith) c.in-None.ensures
+    node_passed_not _ node c.loop-near.near.k c.loop-near.near.at 8 is (c.loop-near.invariant.2 node is le begins).1 (omega arith) c.in-None.ensures
 
 pub loop-near-preserved : goal.loop-near-preserved
 loop-near-preserved c =
@@ -16,6 +14,5 @@ loop-near-preserved c =
       order.1,
       λ node is le begins.
           let place = c.loop-near.invariant.2 node is le begins in
-          let n = is.count in
           (omega arith, node_passed _ node c.loop-near.near.k c.loop-near.near.at 8 c.in-Some.at is place.1 (omega arith) c.in-Some.ensures.passed),
     )

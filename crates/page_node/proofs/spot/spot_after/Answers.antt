@@ -1,23 +1,16 @@
-use Rattle.std.proofs.Common.{◌≡◌, ◌≤◌, false, arith, sym, ap, subst, ◌∙◌, below_more, rules}
-use Rattle.std.specs.declared.cmp.Ordering.TheVariants.{Less, Greater}
-use Rattle.page_node.specs.Entries.{key_at}
-use Rattle.page_node.specs.claim.Places.{key_cmp}
-use Rattle.page_node.specs.Spots.{IsSpot}
-use Rattle.page_node.proofs.Laws.{found_here, above_middle, same_key}
+use Rattle.std.{specs.declared.cmp.Ordering.TheVariants.{Less, Greater}, proofs.Common.{◌≡◌, ◌≤◌, false, arith, sym, ap, subst, ◌∙◌, below_more, rules}}
+use Rattle.page_node.{specs.Entries.key_at, specs.claim.Places.key_cmp, specs.Spots.IsSpot, proofs.Laws.{found_here, above_middle, same_key}}
 use Rattle.page_node.proofs.Scanning.{lies_there, entry_of, end_there, key_part}
 use Rattle.page_node.proofs.spot.spot_after.Goals as goal
 
 pub returns-in-None-bounds_in : goal.returns-in-None-bounds_in
 returns-in-None-bounds_in c = λ node is begun.
-    let place = c.loop-k.invariant.2 node is begun in
-    let n = is.count in
-    lies_there _ node c.loop-k.k c.loop-k.at is (omega arith) place.0 c.in-None-bounds_in.ensures.none
+    lies_there _ node c.loop-k.k c.loop-k.at is (omega arith) (c.loop-k.invariant.2 node is begun).0 c.in-None-bounds_in.ensures.none
 
 pub returns-in-Greater : goal.returns-in-Greater
 returns-in-Greater c = record {
   spot = λ node is rises begun.
       let place = c.loop-k.invariant.2 node is begun in
-      let n = is.count in
       let e = entry_of _ node c.loop-k.k c.loop-k.at is (omega arith) place.0 in
       let greater : key_cmp (key_at node.entries c.loop-k.k) c.args.key.now ≡ Greater = ap (λ l. key_cmp l c.args.key.now) (sym (key_part _ _ _ _ _ _ e c.in-Some-bounds_in.ensures.some)) ∙ sym c.compare_part.ensures ∙ c.in-Greater.is in (
         record {
@@ -36,7 +29,6 @@ pub returns-in-Equal : goal.returns-in-Equal
 returns-in-Equal c = record {
   spot = λ node is rises begun.
       let place = c.loop-k.invariant.2 node is begun in
-      let n = is.count in
       let e = entry_of _ node c.loop-k.k c.loop-k.at is (omega arith) place.0 in
       let here : key_at node.entries c.loop-k.k ≡ c.args.key.now = sym (key_part _ _ _ _ _ _ e c.in-Some-bounds_in.ensures.some) ∙ same_key _ c.args.key.now (sym c.compare_part.ensures ∙ c.in-Equal.is) in (
         found_here node.entries c.args.key.now c.loop-k.k rises (omega arith) here,
@@ -50,14 +42,11 @@ returns-in-Equal c = record {
 pub loop-k-preserved : goal.loop-k-preserved
 loop-k-preserved c =
     let lies = c.in-Some-bounds_in.ensures.some in
-    let value_is = lies.value_is in
-    let end_is = lies.end_is in
     let low = c.loop-k.invariant.0 in (
       omega arith,
       lies.within,
       λ node is begun.
           let place = c.loop-k.invariant.2 node is begun in
-          let n = is.count in
           let e = entry_of _ node c.loop-k.k c.loop-k.at is (omega arith) place.0 in
           let less : key_cmp (key_at node.entries c.loop-k.k) c.args.key.now ≡ Less = ap (λ l. key_cmp l c.args.key.now) (sym (key_part _ _ _ _ _ _ e lies)) ∙ sym c.compare_part.ensures ∙ c.in-Less.is in
           (end_there _ _ _ _ _ _ e lies, λ rises. below_more _ _ (place.1 rises) less),
@@ -68,9 +57,7 @@ returns c = record {
   spot = λ node is rises begun.
       let few : c.in-Some.near.k ≤ c.count_of-count.result = let most = c.in-Some.ensures.within.2 in let count_is = c.count_of-count.ensures.count in omega arith in
       let place = c.loop-k.invariant.2 node is begun in
-      let n = is.count in
-      let end : c.loop-k.k ≡ c.count_of-count.result = omega arith in
-      subst (λ k. IsSpot c.args.key.now node.entries false k c.loop-k.at c.loop-k.at) end (
+      subst (λ k. IsSpot c.args.key.now node.entries false k c.loop-k.at c.loop-k.at) (omega arith) (
         record {
           within = omega arith;
           below = place.1 rises;

@@ -1,10 +1,5 @@
-use Rattle.std.proofs.Common.{◌≡◌, ℕ, ◌+◌, true, nat_eq, arith, sym, ap, ◌∙◌, subst, rules}
-use Rattle.std.specs.Prelude.{Some}
-use Rattle.std.specs.List.{starts_with}
-use Rattle.page_node.specs.Entries.{key_at}
-use Rattle.page_node.specs.Ways.{AreWays}
-use Rattle.page_node.specs.Walking.{part_of}
-use Rattle.page_node.proofs.Scanning.{lies_there}
+use Rattle.std.{specs.Prelude.Some, specs.List.starts_with, proofs.Common.{◌≡◌, ℕ, ◌+◌, true, nat_eq, arith, sym, ap, ◌∙◌, subst, rules}}
+use Rattle.page_node.{specs.Entries.key_at, specs.Ways.AreWays, specs.Walking.part_of, proofs.Scanning.lies_there}
 use Rattle.page_node.proofs.Following.{here_key, here_next, here_child, here_no_child, ways_there, ways_next}
 use Rattle.page_node.proofs.ways.follow.Goals as goal
 
@@ -21,7 +16,6 @@ pub returns-in-None : goal.returns-in-None
 returns-in-None c = λ node is key turn inner.
     let kept = c.loop-more.invariant in
     let here = kept.3 node is key turn in
-    let n = is.count in
     lies_there _ node (c.loop-more.bound.k + 1) c.loop-more.bound.end is (omega arith) (here_next _ node c.loop-more.bound.k _ _ _ is here kept.1) c.in-None.ensures.none
 
 pub returns-then-not-starts_with : goal.returns-then-not-starts_with
@@ -46,16 +40,13 @@ loop-more-preserved c =
       c.in-Some.ensures.some,
       ap (λ l. starts_with nat_eq l c.args.prefix.now) (sym c.part.ensures) ∙ sym c.starts_with.ensures.value ∙ c.if-not-starts_with.false,
       λ node is key turn.
-          let n = is.count in
           record {
             some = omega arith;
             within = omega arith;
             place = here_next _ node c.loop-more.bound.k _ _ _ is (kept.3 node is key turn) kept.1;
           },
       λ node is rises key child turn child_is.
-          let n = is.count in
           let here = kept.3 node is key turn in
-          let long = c.told-after in
           let under : starts_with nat_eq (key_at node.entries c.loop-more.bound.k) c.args.prefix.now ≡ true = ap (λ l. starts_with nat_eq l c.args.prefix.now) (sym (here_key _ node c.loop-more.bound.k _ _ _ is here kept.1)) ∙ kept.2 in
           ways_next c.args.prefix.now node.entries key child c.loop-more.more c.loop-more.after c.loop-more.bound.k c.in-Ok.child rises here.some (omega arith) (omega arith) (kept.4 node is rises key child turn child_is) under
           (here_child _ node c.loop-more.bound.k _ _ _ c.in-Ok.child is here kept.1 c.in-Ok.ensures.ok.1 c.in-Ok.ensures.ok.2),

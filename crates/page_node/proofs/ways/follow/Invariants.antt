@@ -1,14 +1,5 @@
-use Rattle.std.proofs.Common.{◌≡◌, ◌<◌, ◌+◌, ℕ, List, true, nat_eq}
-use Rattle.std.specs.Prelude.{Some}
-use Rattle.std.specs.List.{starts_with}
-use Rattle.std.specs.Option.{option_map}
-use Rattle.page_node.specs.Bytes.{LiesAt}
-use Rattle.page_node.specs.Entries.{key_at, child_in}
-use Rattle.page_node.specs.claim.Node.{Node, IsNode}
-use Rattle.page_node.specs.Places.{floor}
-use Rattle.page_node.specs.Searching.{IsTurn, RisesAfter}
-use Rattle.page_node.specs.Walking.{part_of}
-use Rattle.page_node.specs.Ways.{AreWays}
+use Rattle.std.{specs.Prelude.Some, specs.List.starts_with, specs.Option.option_map, proofs.Common.{◌≡◌, ◌<◌, ◌+◌, ℕ, List, true, nat_eq}}
+use Rattle.page_node.specs.{Bytes.LiesAt, Entries.{key_at, child_in}, claim.Node.{Node, IsNode}, Places.floor, Searching.{IsTurn, RisesAfter}, Walking.part_of, Ways.AreWays}
 use Rattle.page_node.proofs.Following.{IsHere}
 use Rattle.page_node.proofs.ways.follow.Given as goal
 

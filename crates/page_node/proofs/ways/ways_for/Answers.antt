@@ -1,9 +1,5 @@
-use Rattle.std.proofs.Common.{◌≡◌, ◌≤◌, ℕ, List, length, true, nat_eq, ap, sym, subst, ◌∙◌, rules}
-use Rattle.std.specs.Prelude.{Some}
-use Rattle.std.specs.List.{starts_with}
-use Rattle.page_node.specs.Ways.{AreWays}
-use Rattle.page_node.proofs.Following.{some_of, turn_bound}
-use Rattle.page_node.proofs.Scanning.{key_there}
+use Rattle.std.{specs.Prelude.Some, specs.List.starts_with, proofs.Common.{◌≡◌, ◌≤◌, ℕ, List, length, true, nat_eq, ap, sym, subst, ◌∙◌, rules}}
+use Rattle.page_node.{specs.Ways.AreWays, proofs.Following.{some_of, turn_bound}, proofs.Scanning.key_there}
 use Rattle.page_node.proofs.ways.ways_for.Goals as goal
 
 pub returns-then-not-starts_with : goal.returns-then-not-starts_with

@@ -1,8 +1,6 @@
 use Rattle.std.proofs.Common.{◌∙◌, ℕ, sym, subst}
-use Rattle.gate_journal.specs.Recovery.{HasRoom}
-use Rattle.gate_journal.specs.claim.Writes.{writes_of}
-use Rattle.page_store.specs.New.{IsNew}
-use Rattle.page_store.proofs.Made.{new_store}
+use Rattle.gate_journal.specs.{Recovery.HasRoom, claim.Writes.writes_of}
+use Rattle.page_store.{specs.New.IsNew, proofs.Made.new_store}
 use Rattle.page_store.proofs.formatting.format.Goals as goal
 
 pub returns-clause-new : goal.returns-clause-new

@@ -1,7 +1,5 @@
 use Rattle.std.proofs.Common.{◌≡◌, ◌≤◌, ◌*◌, ◌+◌}
-use Rattle.gate_journal.specs.Store.{IsSettled}
-use Rattle.gate_journal.specs.claim.Store.{pages}
-use Rattle.gate_journal.specs.Writes.{room_of}
+use Rattle.gate_journal.specs.{Store.IsSettled, claim.Store.pages, Writes.room_of}
 use Rattle.page_store.specs.New.{AreLinked}
 use Rattle.page_store.proofs.formatting.link_all.Given as goal
 

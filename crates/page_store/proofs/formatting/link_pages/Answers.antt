@@ -1,10 +1,6 @@
 use Rattle.std.proofs.Common.{◌∙◌, ◌≤◌, ℕ, arith}
-use Rattle.gate_journal.specs.claim.Store.{overlay}
-use Rattle.gate_journal.specs.claim.Writes.{writes_of}
-use Rattle.gate_journal.specs.Writes.{room_of}
-use Rattle.gate_journal.proofs.Images.{put_off}
-use Rattle.page_store.proofs.Chains.{link_blank}
-use Rattle.page_store.proofs.Linked.{linked_more}
+use Rattle.gate_journal.{specs.claim.Store.overlay, specs.claim.Writes.writes_of, specs.Writes.room_of, proofs.Images.put_off}
+use Rattle.page_store.proofs.{Chains.link_blank, Linked.linked_more}
 use Rattle.page_store.proofs.formatting.link_pages.Goals as goal
 
 no_less : (a b d : ℕ) → a ≤ b → b ≤ d → a ≤ d
@@ -18,7 +14,6 @@ loop-p-preserved c =
     let ws = writes_of c.loop-p.writes in
     let before = c.loop-p.invariant in
     let one = c.put_in_room.ensures in
-    let low : c.args.from ≤ p = c.loop-p.auto.p in
     record {
       few = omega (arith, before.few, one.more);
       room = no_less 256 (room_of c.loop-p.writes) (room_of c.put_in_room.new.writes) before.room one.room;

@@ -1,9 +1,6 @@
 use Rattle.std.proofs.Common.{◌≡◌, ◌≢◌, ◌≤◌, ◌<◌, ◌+◌, ℕ, length, replicate}
 use Rattle.sector_device.specs.claim.Disk.{Image}
-use Rattle.gate_journal.specs.Store.{IsWithin}
-use Rattle.gate_journal.specs.claim.Store.{overlay, word}
-use Rattle.gate_journal.specs.claim.Writes.{writes_of}
-use Rattle.gate_journal.specs.Writes.{room_of}
+use Rattle.gate_journal.specs.{Store.IsWithin, claim.Store.{overlay, word}, claim.Writes.writes_of, Writes.room_of}
 use Rattle.page_store.specs.New.{AreLinked}
 use Rattle.page_store.proofs.formatting.link_pages.Given as goal
 

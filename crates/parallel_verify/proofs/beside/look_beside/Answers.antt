@@ -1,6 +1,5 @@
 use Rattle.std.proofs.Common.{refl}
-use Rattle.sector_device.specs.claim.Disk.{Nowhere}
-use Rattle.sector_device.proofs.Moments.{touches_none}
+use Rattle.sector_device.{specs.claim.Disk.Nowhere, proofs.Moments.touches_none}
 use Rattle.parallel_verify.proofs.Seen.{joined_whole}
 use Rattle.parallel_verify.proofs.beside.look_beside.Goals as goal
 

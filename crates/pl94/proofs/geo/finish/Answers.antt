@@ -1,15 +1,11 @@
-use Rattle.std.proofs.Common.{◌≡◌, ◌<◌, refl, ap, arith, length}
+use Rattle.std.proofs.Common.{◌<◌, ap, arith, length, rules}
 use Rattle.std.proofs.lemmas.Bool.Decides.{nat_tests}
 use Rattle.std.proofs.lemmas.List.{nil_from_length}
-use Rattle.pl94.specs.claim.Judging.{ids_of, blocks_of}
-use Rattle.pl94.proofs.HoldingLemmas.{length-blocks_of}
-use Rattle.pl94.proofs.GeoLemmas.{rows_from}
+use Rattle.pl94.{specs.claim.Judging.blocks_of, proofs.HoldingLemmas.length-blocks_of, proofs.GeoLemmas.rows_from}
 use Rattle.pl94.proofs.geo.finish.Goals as goal
 
 pub returns-then-is_empty : goal.returns-then-is_empty
-returns-then-is_empty c = λ es holds.
-    let none : length c.args.header.blocks.items ≡ 0 = grind (arith, nat_tests, c.is_empty.ensures) in
-    (refl, nil_from_length (ids_of es) (omega (arith, length-blocks_of es, ap length holds.blocks)))
+returns-then-is_empty c = search (rules, c.is_empty.ensures, nat_tests, nil_from_length, length-blocks_of)
 
 pub returns : goal.returns
 returns c = λ es holds.

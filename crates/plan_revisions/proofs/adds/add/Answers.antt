@@ -1,23 +1,13 @@
 use Rattle.std.proofs.Common.{◌≡◌, ◌<◌, ◌≤◌, ◌-◌, ◌^◌, ℕ, List, length, get_or, refl, rules, sym, ap, subst, ◌∙◌, arith}
-use Rattle.desk_model.specs.declared.ranges.CountyRange.{CountyRange}
-use Rattle.desk_model.specs.Ranges.{ranges_of}
-use Rattle.desk_model.specs.claim.Room.{changed, revision_rows}
+use Rattle.desk_model.specs.{declared.ranges.CountyRange.CountyRange, Ranges.ranges_of, claim.Room.{changed, revision_rows}}
 use Rattle.page_store.specs.claim.Transactions.{stored, disk_in}
 use Rattle.page_btree.specs.claim.Map.{InTxn as HasMap}
-use Rattle.store_rows.specs.declared.value.Counters.{Counters}
-use Rattle.store_rows.specs.declared.value.PlanRow.{PlanRow}
-use Rattle.store_rows.specs.claim.Puts.{Row}
-use Rattle.store_rows.specs.claim.Rows.{KeyMap}
-use Rattle.desk_pages.proofs.Writing.{does, told_on}
-use Rattle.desk_pages.specs.claim.Puts.{HasPut, PutsErr}
+use Rattle.store_rows.specs.{declared.value.Counters.Counters, declared.value.PlanRow.PlanRow, claim.Puts.Row, claim.Rows.KeyMap}
+use Rattle.desk_pages.{specs.claim.Puts.{HasPut, PutsErr}, proofs.Writing.{does, told_on}}
 use Rattle.plan_rows.proofs.Writing.{after_reads, only_read, unread}
 use Rattle.desk_catalogue.specs.Cutting.{changes_in}
-use Rattle.plan_revisions.specs.Plans.{TakesNext}
-use Rattle.plan_revisions.specs.Counties.{drawn, new_lists}
-use Rattle.plan_revisions.specs.Adding.{AreRead, TakesSome}
-use Rattle.plan_revisions.proofs.Drawn.{drawn_are, lists_are, long_drawn, many_are}
-use Rattle.plan_revisions.proofs.LastRevision.{sought_said}
-use Rattle.plan_revisions.proofs.Adding.{can_add, rows_are, added, leaves, not_left, not_added}
+use Rattle.plan_revisions.{specs.Plans.TakesNext, specs.Counties.{drawn, new_lists}, specs.Adding.{AreRead, TakesSome}, proofs.Drawn.{drawn_are, lists_are, long_drawn, many_are}}
+use Rattle.plan_revisions.proofs.{LastRevision.sought_said, Adding.{can_add, rows_are, added, leaves, not_left, not_added}}
 use Rattle.plan_revisions.proofs.adds.add.Goals as goal
 
 pub returns-in_err-read : goal.returns-in_err-read
@@ -45,7 +35,6 @@ returns-then-used-first g c = only_read c.requires.begun c.in_ok-read.ensures.ga
 pub put_revision-requires-clause-few : goal.put_revision-requires-clause-few
 put_revision-requires-clause-few g c =
     let the_geography = c.args.geography.now in
-    let few = c.counties_are_chunks.ensures.few the_geography c.blocks-blocks.ensures.valid in
     let first = c.in_ok-read.read.next.chunk in
     let kept = c.as_slice.result.now in
     let numbered : c.as_slice-2.result.now ≡ drawn first 0 kept c.args.changes.now = c.as_slice-2.ensures.value ∙ c.in-Ok.ensures in
@@ -55,11 +44,7 @@ put_revision-requires-clause-few g c =
     omega arith
 
 pub put_revision-requires-clause-drafted : goal.put_revision-requires-clause-drafted
-put_revision-requires-clause-drafted g c = record {
-  each = c.requires.each ∙ ap length (sym c.counties-ranges.ensures);
-  within = search rules;
-  few = search rules;
-}
+put_revision-requires-clause-drafted g c = search (rules, arith, c.requires.each, c.counties-ranges.ensures)
 
 pub put_revision-requires-clause-can : goal.put_revision-requires-clause-can
 put_revision-requires-clause-can g c = record { room = c.in_ok-read.ensures.fits.0.room; left = (let less = c.if-used-first.false in omega arith) }

@@ -1,18 +1,11 @@
-use Rattle.std.proofs.Common.{◌≡◌, ◌∙◌, ℕ, List, length, Ok, Err, ap, subst, arith}
-use Rattle.desk_model.specs.declared.ranges.CountyRange.{CountyRange}
-use Rattle.desk_model.specs.Ranges.{ranges_of}
-use Rattle.desk_model.specs.claim.Room.{fork_rows}
+use Rattle.std.proofs.Common.{◌≡◌, ◌∙◌, ℕ, List, length, Ok, Err, ap, subst, arith, rules}
+use Rattle.desk_model.specs.{declared.ranges.CountyRange.CountyRange, Ranges.ranges_of, claim.Room.fork_rows}
 use Rattle.page_store.specs.claim.Transactions.{stored, disk_in}
 use Rattle.page_btree.specs.claim.Map.{InTxn as HasMap}
-use Rattle.store_rows.specs.declared.value.Counters.{Counters}
-use Rattle.store_rows.specs.declared.value.PlanRow.{PlanRow}
-use Rattle.store_rows.specs.claim.Rows.{KeyMap}
+use Rattle.store_rows.specs.{declared.value.Counters.Counters, declared.value.PlanRow.PlanRow, claim.Rows.KeyMap}
 use Rattle.desk_pages.proofs.Writing.{does, told_on}
-use Rattle.plan_rows.specs.claim.PlanRows.{HasPlanNumber}
-use Rattle.plan_rows.proofs.Writing.{after_reads, only_read, unread}
-use Rattle.plan_revisions.specs.Plans.{TakesFork}
-use Rattle.plan_revisions.specs.Forking.{CanMake, HasSource, IsSource, PutsFork}
-use Rattle.plan_revisions.proofs.LastRevision.{sought_said}
+use Rattle.plan_rows.{specs.claim.PlanRows.HasPlanNumber, proofs.Writing.{after_reads, only_read, unread}}
+use Rattle.plan_revisions.{specs.Plans.TakesFork, specs.Forking.{CanMake, HasSource, IsSource, PutsFork}, proofs.LastRevision.sought_said}
 use Rattle.plan_revisions.proofs.Forking.{forked, leaves, none_left, not_forked}
 use Rattle.plan_revisions.proofs.forks.fork.Goals as goal
 
@@ -41,17 +34,12 @@ returns-then-read g c =
 pub put_fork-requires-clause-few : goal.put_fork-requires-clause-few
 put_fork-requires-clause-few g c =
     let the_geography = c.args.geography.now in
-    let few = c.counties_are_chunks.ensures.few the_geography c.blocks-blocks.ensures.valid in
-    let one : length c.as_slice.result.now ≡ length c.in_ok-read.read.kept.items = ap length c.as_slice.ensures.value in
     let two = c.in_ok-read.ensures.fits.2 in
     let three : length c.counties-ranges.result.now ≡ length (ranges_of the_geography) = ap length c.counties-ranges.ensures in
     omega arith
 
 pub put_fork-requires-clause-left : goal.put_fork-requires-clause-left
-put_fork-requires-clause-left g c =
-    let fits = c.in_ok-read.ensures.fits.1.plan_fits in
-    let other = c.if-read.false in
-    omega arith
+put_fork-requires-clause-left g c = search (rules, arith, c.in_ok-read.ensures.fits.1.plan_fits, c.if-read.false)
 
 pub returns-in_err-put_fork : goal.returns-in_err-put_fork
 returns-in_err-put_fork g c =

@@ -1,11 +1,8 @@
-use Rattle.std.proofs.Common.{◌≡◌, ◌≢◌, ◌∙◌, ◌++◌, List, ℕ, [], length, Option, rules, ap, subst}
+use Rattle.std.proofs.Common.{◌≡◌, ◌≢◌, ◌∙◌, ◌++◌, List, ℕ, [], length, Option, rules, ap, subst, arith}
 use Rattle.store_rows.specs.declared.value.PlanRow.{PlanRow}
 use Rattle.desk_pages.proofs.Looking.{both, fails, fails_then, finds, gathered, refuses}
-use Rattle.plan_rows.specs.PlanLaws.{RowFits}
-use Rattle.plan_rows.specs.PlanRows.{IsFound}
-use Rattle.plan_revisions.proofs.Desks.{row_found}
-use Rattle.plan_revisions.proofs.Forking.{names_there}
-use Rattle.plan_revisions.proofs.Retiring.{not_none}
+use Rattle.plan_rows.specs.{PlanLaws.RowFits, PlanRows.IsFound}
+use Rattle.plan_revisions.proofs.{Desks.row_found, Forking.names_there, Retiring.not_none}
 use Rattle.plan_revisions.proofs.forks.read_source.Goals as goal
 
 pub returns-in_err-row-clause-gathers : goal.returns-in_err-row-clause-gathers
@@ -13,8 +10,7 @@ returns-in_err-row-clause-gathers g c = fails c.from_residual.result (gathered _
     (λ m said. row_found m said.desk.0 c.args.from.now said.desk.2.1.plan said.desk.1.desk said.desk.2.1.there)
 
 pub returns-in_default-clause-gathers : goal.returns-in_default-clause-gathers
-returns-in_default-clause-gathers g c = refuses (gathered _ c.in_ok-row.ensures) (λ m found said.
-    not_none c.args.from.now m said.desk.0 said.desk.1 (said.desk.2.1.plan, said.desk.2.1.there) (subst (λ (o : Option PlanRow). IsFound m c.args.from.now o) c.in_default.is found))
+returns-in_default-clause-gathers g c = search (rules, arith, refuses, gathered, c.in_ok-row.ensures, not_none, c.args.from.now, c.in_default.is)
 
 pub returns-in_err-next-clause-gathers : goal.returns-in_err-next-clause-gathers
 returns-in_err-next-clause-gathers g c = fails_then (gathered _ c.in_ok-row.ensures) c.from_residual-in_err-next.result (gathered _ c.in_err-next.ensures.looks) c.from_residual-in_err-next.ensures.1

@@ -1,16 +1,12 @@
 use Rattle.std.proofs.Common.{◌≡◌, ℕ, List, length, Some, refl, ap, ◌∙◌, rules}
 use Rattle.std.specs.FinMap as map_of
 use Rattle.std.proofs.lemmas.List.{length-map}
-use Rattle.desk_model.specs.Ranges.{ranges_of}
-use Rattle.desk_model.specs.claim.Desk.{Desk}
-use Rattle.desk_catalogue.specs.Cutting.{is_changed}
-use Rattle.desk_catalogue.specs.Kept.{revision_in}
+use Rattle.desk_model.specs.{Ranges.ranges_of, claim.Desk.Desk}
+use Rattle.desk_catalogue.specs.{Cutting.is_changed, Kept.revision_in}
 use Rattle.desk_pages.proofs.Writing.{does, told_on}
 use Rattle.plan_rows.proofs.Writing.{writes_as}
-use Rattle.plan_revisions.proofs.Accepted.{next_is}
-use Rattle.plan_revisions.proofs.Commands.{create_put, fork_put, retire_put, retire_not_put, revision_as}
-use Rattle.plan_revisions.proofs.Counted.{changes_by, changes_now, changes_told, revised_by, there_is}
-use Rattle.plan_revisions.proofs.Stepped.{revision_put}
+use Rattle.plan_revisions.proofs.{Accepted.next_is, Commands.{create_put, fork_put, retire_put, retire_not_put, revision_as}}
+use Rattle.plan_revisions.proofs.{Counted.{changes_by, changes_now, changes_told, revised_by, there_is}, Stepped.revision_put}
 use Rattle.plan_revisions.proofs.puts.put_command.Goals as goal
 
 pub returns-in-Create : goal.returns-in-Create

@@ -1,6 +1,5 @@
 use Rattle.std.proofs.Common.{◌+◌, Ok, Err}
-use Rattle.store_rows.specs.NameRows.{name_rows}
-use Rattle.store_rows.specs.RevisionSteps.{new_holding_rows}
+use Rattle.store_rows.specs.{NameRows.name_rows, RevisionSteps.new_holding_rows}
 use Rattle.desk_pages.proofs.Writing.{puts_fail, puts_more, puts_none}
 use Rattle.plan_rows.specs.PlanRows.{revised_rows}
 use Rattle.plan_revisions.proofs.revisions.put_revision.Goals as goal

@@ -1,12 +1,6 @@
 use Rattle.std.proofs.Common.{◌≡◌, ◌∙◌, List, length, Some, rules, sym, ap, arith}
-use Rattle.desk_model.specs.Ranges.{ranges_of}
-use Rattle.desk_model.specs.declared.ranges.CountyRange.{CountyRange}
-use Rattle.desk_model.specs.declared.command.Command.{Command}
-use Rattle.desk_model.specs.claim.Room.{command_rows as rows_of_command}
-use Rattle.plan_revisions.proofs.Accepted.{rows_forked}
-use Rattle.plan_revisions.proofs.CommandCounties.{few_ranges}
-use Rattle.plan_revisions.proofs.Counted.{changes_by, revised_by}
-use Rattle.plan_revisions.proofs.LastRevision.{ranges_long}
+use Rattle.desk_model.specs.{declared.ranges.CountyRange.CountyRange, declared.command.Command.Command, claim.Room.command_rows as rows_of_command}
+use Rattle.plan_revisions.proofs.{Accepted.rows_forked, CommandCounties.few_ranges, Counted.{changes_by, revised_by}, LastRevision.ranges_long}
 use Rattle.plan_revisions.proofs.rows.command_rows.Goals as goal
 
 pub rows_between-requires-clause-changes : goal.rows_between-requires-clause-changes
@@ -18,11 +12,7 @@ pub rows_between-requires-clause-revised : goal.rows_between-requires-clause-rev
 rows_between-requires-clause-revised c = revised_by c.args.shown.now c.args.command.now c.in-Whole.plan c.in-Whole.after c.args.then.now c.in-Whole.is c.requires.after
 
 pub fork_rows-requires : goal.fork_rows-requires
-fork_rows-requires c =
-    let the_geography = c.in-Some.geography.now in
-    let few = few_ranges the_geography c.blocks-blocks.ensures.valid.few in
-    let same : length c.counties.result.now ≡ length (ranges_of the_geography) = ap (λ (l : List CountyRange). length l) c.counties.ensures in
-    record { few = omega arith }
+fork_rows-requires c = search (rules, arith, c.in-Some.geography.now, few_ranges, c.blocks-blocks.ensures.valid.few, c.counties.result.now, c.counties.ensures)
 
 pub returns-in-Fork : goal.returns-in-Fork
 returns-in-Fork c =

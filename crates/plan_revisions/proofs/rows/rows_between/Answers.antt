@@ -1,23 +1,13 @@
-use Rattle.std.proofs.Common.{◌≡◌, ◌+◌, List, length, sym, ap, ◌∙◌, arith}
+use Rattle.std.proofs.Common.{◌≡◌, ◌+◌, List, length, sym, ap, ◌∙◌, arith, rules}
 use Rattle.std.specs.FinMap as map_of
 use Rattle.std.proofs.lemmas.List.{length-map}
-use Rattle.desk_model.specs.Ranges.{ranges_of}
-use Rattle.desk_model.specs.declared.ranges.CountyRange.{CountyRange}
-use Rattle.desk_model.specs.claim.Geography.{GeographyModel}
-use Rattle.desk_model.specs.claim.Desk.{Desk}
-use Rattle.desk_model.specs.claim.Room.{revision_rows}
-use Rattle.desk_catalogue.specs.Cutting.{changes_in, is_changed}
-use Rattle.desk_catalogue.specs.Kept.{revision_in}
-use Rattle.plan_revisions.proofs.Accepted.{next_is, rows_added}
-use Rattle.plan_revisions.proofs.CommandCounties.{few_ranges}
-use Rattle.plan_revisions.proofs.Counted.{changes_told, if_whole, same_geography}
+use Rattle.desk_model.specs.{Ranges.ranges_of, declared.ranges.CountyRange.CountyRange, claim.Geography.GeographyModel, claim.Desk.Desk, claim.Room.revision_rows}
+use Rattle.desk_catalogue.specs.{Cutting.{changes_in, is_changed}, Kept.revision_in}
+use Rattle.plan_revisions.proofs.{Accepted.{next_is, rows_added}, CommandCounties.few_ranges, Counted.{changes_told, if_whole, same_geography}}
 use Rattle.plan_revisions.proofs.rows.rows_between.Goals as goal
 
 pub revision_rows-requires-clause-few : goal.revision_rows-requires-clause-few
-revision_rows-requires-clause-few c =
-    let few = few_ranges c.args.geography.now c.blocks-blocks.ensures.valid.few in
-    let same : length c.counties.result.now ≡ length (ranges_of c.args.geography.now) = ap (λ (l : List CountyRange). length l) c.counties.ensures in
-    omega arith
+revision_rows-requires-clause-few c = search (rules, arith, few_ranges, c.args.geography.now, c.blocks-blocks.ensures.valid.few, c.counties.result.now, c.counties.ensures)
 
 pub revision_rows-requires-clause-each : goal.revision_rows-requires-clause-each
 revision_rows-requires-clause-each c =

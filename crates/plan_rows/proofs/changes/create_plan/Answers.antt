@@ -1,10 +1,7 @@
 use Rattle.std.proofs.Common.{rules, refl, arith}
 use Rattle.desk_pages.proofs.Writing.{does, told_on}
-use Rattle.store_rows.specs.declared.value.Counters.{Counters}
-use Rattle.store_rows.specs.claim.Tidy.{CountersFit}
-use Rattle.plan_rows.specs.claim.PlanRows.{HasPlanNumber}
-use Rattle.plan_rows.specs.PlanRows.{created_rows}
-use Rattle.plan_rows.proofs.Numbering.{numbered_put, numbers_not_read, numbered_not_put}
+use Rattle.store_rows.specs.{declared.value.Counters.Counters, claim.Tidy.CountersFit}
+use Rattle.plan_rows.{specs.claim.PlanRows.HasPlanNumber, specs.PlanRows.created_rows, proofs.Numbering.{numbered_put, numbers_not_read, numbered_not_put}}
 use Rattle.plan_rows.proofs.Writing.{after_reads, only_read, unread}
 use Rattle.plan_rows.proofs.changes.create_plan.Goals as goal
 

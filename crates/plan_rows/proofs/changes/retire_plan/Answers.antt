@@ -1,13 +1,9 @@
-use Rattle.std.proofs.Common.{◌≡◌, ℕ, List, rules, subst, sym, ◌∙◌}
-use Rattle.std.specs.FinMap.{remove}
+use Rattle.std.{specs.FinMap.remove, proofs.Common.{◌≡◌, ℕ, List, rules, subst, sym, ◌∙◌}}
 use Rattle.page_store.specs.claim.Transactions.{stored, disk_in}
 use Rattle.page_btree.specs.claim.Map.{InTxn}
-use Rattle.store_rows.specs.claim.Keys.{key_of, named}
-use Rattle.store_rows.specs.claim.Rows.{KeyMap}
+use Rattle.store_rows.specs.{claim.Keys.{key_of, named}, claim.Rows.KeyMap}
 use Rattle.desk_pages.proofs.Outcomes.{match_of}
-use Rattle.plan_rows.specs.claim.Outcomes.{HasRetired, RetireErr}
-use Rattle.plan_rows.proofs.Retiring.{plan_gone, plan_not_gone, row_not_gone}
-use Rattle.plan_rows.proofs.Writing.{after_reads, writes_as}
+use Rattle.plan_rows.{specs.claim.Outcomes.{HasRetired, RetireErr}, proofs.Retiring.{plan_gone, plan_not_gone, row_not_gone}, proofs.Writing.{after_reads, writes_as}}
 use Rattle.plan_rows.proofs.changes.retire_plan.Goals as goal
 
 pub returns-in_err-remove : goal.returns-in_err-remove

@@ -1,22 +1,15 @@
-use Rattle.std.proofs.Common.{◌<◌, ◌≤◌, ◌*◌, ◌^◌, ◌++◌, ◌+◌, List, ℕ, length, take, drop, sym, ap, ◌∙◌, take_all, arith}
+use Rattle.std.proofs.Common.{◌<◌, ◌≤◌, ◌*◌, ◌^◌, ◌++◌, ◌+◌, List, ℕ, length, take, drop, sym, ap, ◌∙◌, take_all, arith, rules}
 use Rattle.std.proofs.lemmas.List.{append-nil}
-use Rattle.store_rows.specs.claim.Keys.{chunk}
-use Rattle.store_rows.specs.claim.Lists.{districts_bytes}
-use Rattle.desk_pages.proofs.Appending.{parts_more}
-use Rattle.desk_pages.proofs.Looking.{begins, both, fails_then, finds}
-use Rattle.plan_rows.specs.ChunkReading.{IsChunk}
-use Rattle.plan_rows.proofs.Appended.{more_on}
-use Rattle.plan_rows.proofs.ChunkParts.{all_read, none_read, one_part_more}
+use Rattle.store_rows.specs.{claim.Keys.chunk, claim.Lists.districts_bytes}
+use Rattle.desk_pages.proofs.{ListParts.parts_more, Looking.{begins, both, fails_then, finds}}
+use Rattle.plan_rows.{specs.ChunkReading.IsChunk, proofs.Appended.more_on, proofs.ChunkParts.{all_read, none_read, one_part_more}}
 use Rattle.plan_rows.proofs.chunk_reads.append_chunk.Goals as goal
 
 pub returns-in_err-append_piece : goal.returns-in_err-append_piece
 returns-in_err-append_piece g c = fails_then c.loop-index.invariant.appends c.from_residual.result c.in_err-append_piece.ensures c.from_residual.ensures.1 (λ m is said. said)
 
 pub loop-index-init : goal.loop-index-init
-loop-index-init g c = record {
-  begun = c.requires.begun;
-  appends = begins (λ m holds. (λ l said. sym (append-nil c.args.into.now.items), none_read 512 (2 ^ 16) districts_bytes (chunk c.args.number) c.args.count m c.args.into.now.items));
-}
+loop-index-init g c = search (rules, arith, c.requires.begun, begins, append-nil, none_read)
 
 pub loop-index-preserved : goal.loop-index-preserved
 loop-index-preserved g c =
@@ -36,11 +29,10 @@ loop-index-preserved g c =
 pub returns : goal.returns
 returns g c =
     let i = c.loop-index.index in
-    let end : c.args.count ≤ 512 * i = omega arith in
     let among : (index : ℕ) → 512 * index < c.args.count → index < i = λ index within. omega arith in
     finds c.loop-index.invariant.appends (λ m is. (
       λ l said.
           let whole : length l ≤ 512 * i = (let long = said.long in omega arith) in
           is.0 l said ∙ ap (λ (l : List ℕ). c.args.into.now.items ++ l) (take_all (512 * i) l whole),
-      all_read 512 (2 ^ 16) districts_bytes (chunk c.args.number) c.args.count m i c.args.into.now.items c.loop-index.into.items end among is.1,
+      all_read 512 (2 ^ 16) districts_bytes (chunk c.args.number) c.args.count m i c.args.into.now.items c.loop-index.into.items (omega arith) among is.1,
     ))

@@ -1,9 +1,6 @@
-use Rattle.std.proofs.Common.{◌≡◌, ◌-◌, ◌*◌, ◌++◌, List, ℕ, Some, length, length-drop, length-take, min, take, drop, ap, sym, subst, ◌∙◌, arith}
-use Rattle.std.specs.FinMap.{get}
-use Rattle.store_rows.specs.claim.Lists.{districts_bytes}
-use Rattle.store_rows.proofs.ListLaws.{districts_differ}
-use Rattle.desk_pages.proofs.Looking.{fails, finds, gathered, not_looked, refuses}
-use Rattle.desk_pages.proofs.Reading.{one_value}
+use Rattle.std.{specs.FinMap.get, proofs.Common.{◌≡◌, ◌-◌, ◌*◌, ◌++◌, List, ℕ, Some, length, length-drop, length-take, take, drop, ap, sym, subst, ◌∙◌, arith}}
+use Rattle.store_rows.{specs.claim.Lists.districts_bytes, proofs.ListLaws.districts_differ}
+use Rattle.desk_pages.proofs.{Looking.{fails, finds, gathered, not_looked, refuses}, Reading.one_value}
 use Rattle.plan_rows.proofs.Pieces.{piece_there, piece_is}
 use Rattle.plan_rows.proofs.chunk_reads.append_piece.Goals as goal
 
@@ -26,8 +23,7 @@ returns-then-len-part_length g c = refuses (gathered _ c.in_ok-length.ensures.lo
     let taken = length-take 512 (drop (512 * c.args.index) said.0) in
     let left = length-drop (512 * c.args.index) said.0 in
     let long = said.1.long in
-    let many : length piece ≡ min 512 (c.args.count - 512 * c.args.index) = omega arith in
-    c.if-len-part_length.true (c.len.ensures.value ∙ ap (λ (l : List ℕ). length l) same ∙ many ∙ sym c.part_length.ensures))
+    c.if-len-part_length.true (c.len.ensures.value ∙ ap (λ (l : List ℕ). length l) same ∙ (omega arith) ∙ sym c.part_length.ensures))
 
 pub returns-in-Ok : goal.returns-in-Ok
 returns-in-Ok g c = finds (gathered _ c.in_ok-length.ensures.looks) (λ m read.

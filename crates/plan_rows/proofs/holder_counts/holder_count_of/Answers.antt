@@ -1,10 +1,6 @@
-use Rattle.std.proofs.Common.{Option, sym, ap, subst, ◌∙◌}
-use Rattle.std.specs.Prelude.{option_map}
-use Rattle.std.specs.FinMap.{get}
-use Rattle.store_rows.specs.Values.{holder_count_bytes}
-use Rattle.store_rows.specs.declared.value.HolderCount.{HolderCount}
-use Rattle.desk_pages.specs.Reading.{StandsAs}
-use Rattle.desk_pages.proofs.Looking.{fails}
+use Rattle.std.{specs.Prelude.option_map, specs.FinMap.get, proofs.Common.{Option, sym, ap, subst, ◌∙◌}}
+use Rattle.store_rows.specs.{Values.holder_count_bytes, declared.value.HolderCount.HolderCount}
+use Rattle.desk_pages.{specs.Reading.StandsAs, proofs.Looking.fails}
 use Rattle.plan_rows.proofs.HeldChunks.{holder_count_stands, count_looked}
 use Rattle.plan_rows.proofs.holder_counts.holder_count_of.Goals as goal
 

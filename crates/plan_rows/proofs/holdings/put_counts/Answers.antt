@@ -1,19 +1,12 @@
-use Rattle.std.proofs.Common.{◌≡◌, ℕ, [], ◌∷◌, subst, arith}
-use Rattle.store_rows.specs.claim.Puts.{Row}
+use Rattle.std.proofs.Common.{◌≡◌, ℕ, [], ◌∷◌, subst, arith, rules}
+use Rattle.store_rows.specs.{claim.Puts.Row, Puts.rows_told, RevisionSteps.new_holder_count}
 use Rattle.page_store.proofs.Stops.{quiet_more}
-use Rattle.store_rows.specs.Puts.{rows_told}
-use Rattle.store_rows.specs.RevisionSteps.{new_holder_count}
-use Rattle.desk_pages.proofs.Outcomes.{match_of}
-use Rattle.desk_pages.specs.claim.Puts.{HasPut, PutsErr}
-use Rattle.desk_pages.specs.Rising.{HasPutWith, PutsErrWith}
+use Rattle.desk_pages.{specs.claim.Puts.{HasPut, PutsErr}, specs.Rising.{HasPutWith, PutsErrWith}, proofs.Outcomes.match_of}
 use Rattle.desk_pages.proofs.Rising.{from_none, told_more_from, told_not_put_from, all_from}
 use Rattle.plan_rows.proofs.holdings.put_counts.Goals as goal
 
 pub loop-k-init : goal.loop-k-init
-loop-k-init g c = record {
-  put = from_none c.none-fingers.result c.args.txn.now c.args.pages.now c.none-fingers.ensures.first c.none-fingers.ensures.second;
-  begun = c.requires.begun;
-}
+loop-k-init g c = search (rules, arith, from_none, c.none-fingers.result, c.args.txn.now, c.args.pages.now, c.none-fingers.ensures.first, c.none-fingers.ensures.second, c.requires.begun)
 
 pub returns-in_err-put_row_with : goal.returns-in_err-put_row_with
 returns-in_err-put_row_with g c =

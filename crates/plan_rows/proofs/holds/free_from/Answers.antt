@@ -1,14 +1,7 @@
-use Rattle.std.proofs.Common.{◌≡◌, List, [], ℕ, Bool, Some, sym, subst, ◌∙◌}
-use Rattle.std.specs.Prelude.{IfSome}
-use Rattle.std.specs.FinMap.{entries}
+use Rattle.std.{specs.Prelude.IfSome, specs.FinMap.entries, proofs.Common.{◌≡◌, List, [], ℕ, Bool, sym, subst, ◌∙◌}}
 use Rattle.page_store.proofs.Stops.{passed_none}
-use Rattle.store_rows.specs.claim.Keys.{holdings_prefix}
-use Rattle.btree_walks.specs.Parts.{row_of}
-use Rattle.btree_walks.specs.Prefixes.{under}
-use Rattle.btree_walks.specs.Scanning.{fault_in, CanScan, IsNextRow, ScanErr}
-use Rattle.btree_walks.proofs.Refused.{scan_refused}
-use Rattle.desk_pages.proofs.Looking.{looked, not_looked}
-use Rattle.desk_pages.proofs.Reading.{get_unread}
+use Rattle.btree_walks.{specs.Parts.row_of, specs.Prefixes.under, specs.Scanning.{CanScan, IsNextRow, ScanErr}, proofs.Refused.scan_refused}
+use Rattle.desk_pages.proofs.{Looking.{looked, not_looked}, Reading.get_unread}
 use Rattle.plan_rows.proofs.Free.{none_held}
 use Rattle.plan_rows.proofs.holds.free_from.Goals as goal
 
@@ -18,8 +11,7 @@ returns-in-Some g c =
     let a = c.args.pages.now in
     let b = c.advance-found.new.pages in
     let can = CanScan c.new-scan.result in
-    let told : fault_in c.advance-found.new.self ≡ Some c.in-Some.fault = sym c.fault.ensures ∙ c.in-Some.is in
-    let why = subst (λ f. IfSome f (λ e. ScanErr can t a b e)) told (c.advance-found.ensures.fault c.new-scan.ensures.fault) in
+    let why = subst (λ f. IfSome f (λ e. ScanErr can t a b e)) (sym c.fault.ensures ∙ c.in-Some.is) (c.advance-found.ensures.fault c.new-scan.ensures.fault) in
     not_looked c.advance-found.ensures.quiet (get_unread (λ m. Unit {0}) t a b c.in-Some.fault
     (scan_refused can t a a b (passed_none a) c.advance-found.ensures.quiet (λ honest m holds. (under c.as_slice.result.now (entries m), c.new-scan.ensures.rows m)) c.in-Some.fault why))
 
@@ -29,8 +21,7 @@ returns-then-found g c = looked (c.advance-found.ensures.passed (sym c.fault.ens
 pub returns-else-found : goal.returns-else-found
 returns-else-found g c = looked (c.advance-found.ensures.passed (sym c.fault.ensures ∙ c.in-None.is)) (λ honest m holds.
     let all = entries m in
-    let prefix : c.as_slice.result.now ≡ holdings_prefix c.args.plan = c.as_slice.ensures.bytes ∙ c.holdings-prefix.ensures in
     let next = c.advance-found.ensures.rows honest m (under c.as_slice.result.now all) holds (c.new-scan.ensures.rows m) in
     let none : under c.as_slice.result.now all ≡ [] =
     subst (λ (b : Bool). IsNextRow b c.advance-found.new.self (row_of c.advance-found.new.self) all (under c.as_slice.result.now all)) c.if-found.false next (sym c.fault.ensures ∙ c.in-None.is) in
-    none_held m c.args.plan (subst (λ (p : List ℕ). under p all ≡ []) prefix none))
+    none_held m c.args.plan (subst (λ (p : List ℕ). under p all ≡ []) (c.as_slice.ensures.bytes ∙ c.holdings-prefix.ensures) none))

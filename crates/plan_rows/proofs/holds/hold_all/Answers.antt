@@ -1,9 +1,7 @@
-use Rattle.std.proofs.Common.{◌+◌, ◌*◌, ◌<◌, ◌^◌, drop, length, sym, ◌∙◌, arith}
+use Rattle.std.proofs.Common.{◌+◌, ◌*◌, drop, length, sym, ◌∙◌, arith}
 use Rattle.std.proofs.lemmas.List.{drop_more}
 use Rattle.desk_pages.proofs.Writing.{told_on}
-use Rattle.plan_rows.specs.Holding.{CanHoldAll}
-use Rattle.plan_rows.proofs.Changed.{unread_unchanged}
-use Rattle.plan_rows.proofs.HeldAll.{begun_held, next_held, all_held, next_not_held, none_left}
+use Rattle.plan_rows.{specs.Holding.CanHoldAll, proofs.Changed.unread_unchanged, proofs.HeldAll.{begun_held, next_held, all_held, next_not_held, none_left}}
 use Rattle.plan_rows.proofs.Writing.{after_reads, unread}
 use Rattle.plan_rows.proofs.holds.hold_all.Goals as goal
 
@@ -35,10 +33,9 @@ loop-number-preserved g c =
     let plan = c.args.plan in
     let numbers = c.args.numbers.now in
     let k = c.loop-number.number-index in
-    let fits : plan < 2 ^ 64 = omega arith in
     record {
       held = next_held plan _ numbers (drop (k + 1) numbers) (drop k numbers) c.loop-number.free c.free_after-free.result c.loop-number.fingers c.hold_next.new.fingers c.args.txn.now c.loop-number.txn c.hold_next.new.txn c.args.pages.now c.loop-number.pages c.hold_next.new.pages (drop_more numbers k 0 c.loop-number-test.true)
-          (λ m. c.free_after-free.ensures m plan fits) c.loop-number.invariant.held c.in_ok-hold_next.ensures.put;
+          (λ m. c.free_after-free.ensures m plan (omega arith)) c.loop-number.invariant.held c.in_ok-hold_next.ensures.put;
       begun = c.in_ok-hold_next.ensures.begun;
     }
 

@@ -1,13 +1,8 @@
 use Rattle.std.proofs.Common.{◌<◌, ◌^◌, ℕ, Option, refl, subst, arith}
 use Rattle.page_store.specs.claim.Transactions.{stored}
-use Rattle.desk_pages.specs.btree_puts.Fingers.{Stand}
-use Rattle.desk_pages.proofs.Writing.{does, told_on}
-use Rattle.store_rows.specs.claim.Keys.{holding}
-use Rattle.store_rows.specs.claim.Rows.{KeyMap, Lacks}
-use Rattle.plan_rows.specs.Holding.{IsFreeFrom}
-use Rattle.plan_rows.proofs.HeldAll.{either_held}
-use Rattle.plan_rows.proofs.HeldChunks.{held_of_all, held_of_fewer, not_held_of}
-use Rattle.plan_rows.proofs.Writing.{writes_as}
+use Rattle.desk_pages.{specs.btree_puts.Fingers.Stand, proofs.Writing.{does, told_on}}
+use Rattle.store_rows.specs.{claim.Keys.holding, claim.Rows.{KeyMap, Lacks}}
+use Rattle.plan_rows.{specs.Holding.IsFreeFrom, proofs.HeldAll.either_held, proofs.HeldChunks.{held_of_all, held_of_fewer, not_held_of}, proofs.Writing.writes_as}
 use Rattle.plan_rows.proofs.holds.hold_next.Goals as goal
 
 pub returns-then-from-number : goal.returns-then-from-number

@@ -1,10 +1,7 @@
 use Rattle.page_store.specs.claim.Transactions.{stored}
-use Rattle.desk_pages.specs.btree_puts.Fingers.{Stand}
-use Rattle.desk_pages.proofs.Rising.{fresh_stand}
-use Rattle.store_rows.specs.claim.Keys.{holding}
-use Rattle.store_rows.specs.claim.Rows.{KeyMap, Lacks}
-use Rattle.plan_rows.proofs.HeldChunks.{held_unheld, not_held_of}
-use Rattle.plan_rows.proofs.Writing.{writes_as}
+use Rattle.desk_pages.{specs.btree_puts.Fingers.Stand, proofs.Rising.fresh_stand}
+use Rattle.store_rows.specs.{claim.Keys.holding, claim.Rows.Lacks}
+use Rattle.plan_rows.proofs.{HeldChunks.{held_unheld, not_held_of}, Writing.writes_as}
 use Rattle.plan_rows.proofs.holds.hold_unheld.Goals as goal
 
 pub returns : goal.returns
@@ -15,7 +12,6 @@ returns g c =
     let a = c.args.pages.now in
     let f = c.none-fingers.result in
     let none = c.none-fingers.ensures in
-    let may : KeyMap → Type 0 = λ m. Lacks m (holding plan number) × Stand t (stored a) f in
     writes_as c.hold_unheld_with.result c.hold_unheld_with.ensures (λ _ did. held_unheld plan number none.first none.second c.requires.unheld did)
-    (not_held_of plan number may t a c.hold_unheld_with.new.pages (λ m. Unit {0})
+    (not_held_of plan number (λ m. Lacks m (holding plan number) × Stand t (stored a) f) t a c.hold_unheld_with.new.pages (λ m. Unit {0})
     (λ honest m holds is. (c.requires.unheld (c.hold_unheld_with.ensures.quiet.honest honest) m holds, fresh_stand t (stored a) f none.first none.second)))

@@ -1,9 +1,6 @@
-use Rattle.std.proofs.Common.{ℕ, take, sym, ap, ◌∙◌}
-use Rattle.std.specs.Prelude.{option_map}
-use Rattle.std.specs.FinMap.{get}
+use Rattle.std.{specs.Prelude.option_map, specs.FinMap.get, proofs.Common.{ℕ, take, sym, ap, ◌∙◌}}
 use Rattle.store_rows.specs.claim.Rows.{KeyMap}
-use Rattle.desk_pages.proofs.Looking.{fails_from, looked}
-use Rattle.desk_pages.proofs.Reading.{get_unread}
+use Rattle.desk_pages.proofs.{Looking.{fails_from, looked}, Reading.get_unread}
 use Rattle.plan_rows.proofs.holds.is_held.Goals as goal
 
 pub returns-in_err-get : goal.returns-in_err-get

@@ -1,8 +1,7 @@
 use Rattle.std.proofs.Common.{[], ◌∷◌, refl}
 use Rattle.page_store.proofs.Stops.{quiet_more}
 use Rattle.store_rows.specs.claim.Holders.{holding_rows}
-use Rattle.desk_pages.proofs.Outcomes.{map_both, match_of}
-use Rattle.desk_pages.specs.Rising.{HasPutWith, PutsErrWith}
+use Rattle.desk_pages.{specs.Rising.{HasPutWith, PutsErrWith}, proofs.Outcomes.{map_both, match_of}}
 use Rattle.plan_rows.proofs.HeldChunks.{both_put, first_not_put, second_not_put}
 use Rattle.plan_rows.proofs.holds.put_holding.Goals as goal
 

@@ -1,9 +1,6 @@
-use Rattle.std.proofs.Common.{◌≡◌, ◌-◌, ◌*◌, ◌++◌, List, ℕ, Some, length, length-drop, length-take, min, take, drop, ap, sym, subst, ◌∙◌, arith}
-use Rattle.std.specs.FinMap.{get}
-use Rattle.store_rows.specs.claim.Lists.{chunks_bytes}
-use Rattle.store_rows.proofs.ListLaws.{chunks_differ}
-use Rattle.desk_pages.proofs.Looking.{fails, finds, gathered, not_looked, refuses}
-use Rattle.desk_pages.proofs.Reading.{one_value}
+use Rattle.std.{specs.FinMap.get, proofs.Common.{◌≡◌, ◌-◌, ◌*◌, ◌++◌, List, ℕ, Some, length, length-drop, length-take, take, drop, ap, sym, subst, ◌∙◌, arith}}
+use Rattle.store_rows.{specs.claim.Lists.chunks_bytes, proofs.ListLaws.chunks_differ}
+use Rattle.desk_pages.proofs.{Looking.{fails, finds, gathered, not_looked, refuses}, Reading.one_value}
 use Rattle.plan_rows.proofs.RevisionParts.{part_is_there, part_is}
 use Rattle.plan_rows.proofs.names.append_part.Goals as goal
 
@@ -26,8 +23,7 @@ returns-then-len-part_length g c = refuses (gathered _ c.in_ok-length.ensures.lo
     let taken = length-take 128 (drop (128 * c.args.index) said.0) in
     let left = length-drop (128 * c.args.index) said.0 in
     let long = said.1.long in
-    let many : length some ≡ min 128 (c.args.count - 128 * c.args.index) = omega arith in
-    c.if-len-part_length.true (c.len.ensures.value ∙ ap (λ (l : List ℕ). length l) same ∙ many ∙ sym c.part_length.ensures))
+    c.if-len-part_length.true (c.len.ensures.value ∙ ap (λ (l : List ℕ). length l) same ∙ (omega arith) ∙ sym c.part_length.ensures))
 
 pub returns-in-Ok : goal.returns-in-Ok
 returns-in-Ok g c = finds (gathered _ c.in_ok-length.ensures.looks) (λ m read.

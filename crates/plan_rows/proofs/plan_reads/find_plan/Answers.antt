@@ -1,8 +1,6 @@
-use Rattle.std.proofs.Common.{sym, ap, subst, ◌∙◌}
-use Rattle.std.specs.FinMap.{get}
+use Rattle.std.{specs.FinMap.get, proofs.Common.{sym, ap, subst, ◌∙◌}}
 use Rattle.store_rows.specs.claim.Values.{plan_bytes}
-use Rattle.desk_pages.proofs.Looking.{tells}
-use Rattle.desk_pages.specs.Reading.{StandsAs}
+use Rattle.desk_pages.{specs.Reading.StandsAs, proofs.Looking.tells}
 use Rattle.plan_rows.proofs.plan_reads.find_plan.Goals as goal
 
 pub returns : goal.returns

@@ -1,10 +1,7 @@
-use Rattle.std.proofs.Common.{◌≡◌, ◌<◌, ◌≤◌, ◌+◌, ◌++◌, List, ℕ, [], length, get_or, take, sym, ap, ◌∙◌, take_all, arith}
-use Rattle.std.specs.List.{concat}
+use Rattle.std.{specs.List.concat, proofs.Common.{◌≡◌, ◌<◌, ◌≤◌, ◌+◌, ◌++◌, List, ℕ, [], length, get_or, take, sym, ap, ◌∙◌, take_all, arith}}
 use Rattle.std.proofs.lemmas.List.{append-nil}
 use Rattle.desk_pages.proofs.Looking.{begins, both, fails_then, finds}
-use Rattle.plan_rows.specs.RevisionReading.{AreCounties}
-use Rattle.plan_rows.proofs.Appended.{more_on}
-use Rattle.plan_rows.proofs.Counties.{as_many, one_county_more}
+use Rattle.plan_rows.{specs.RevisionReading.AreCounties, proofs.Appended.more_on, proofs.Counties.{as_many, one_county_more}}
 use Rattle.plan_rows.proofs.revision_reads.append_counties.Goals as goal
 
 pub returns-in_err-append_county : goal.returns-in_err-append_county
@@ -17,7 +14,6 @@ pub loop-county-preserved : goal.loop-county-preserved
 loop-county-preserved g c =
     let i = c.loop-county.county in
     let says = AreCounties c.args.numbers.now c.args.ranges.now in
-    let less = c.loop-county-test.true in
     let among : (n : ℕ) → n ≡ length c.args.ranges.now → i < n = λ n same. omega arith in
     record {
       begun = c.loop-county.invariant.begun ∙ sym c.in_ok-append_county.ensures.quiet.count;

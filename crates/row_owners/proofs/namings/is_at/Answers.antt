@@ -1,5 +1,4 @@
-use Rattle.std.proofs.Common.{◌≡◌, ◌*◌, ◌+◌, ℕ, inl, inr, subst, arith, rules}
-use Rattle.std.specs.Prelude.{get_or}
+use Rattle.std.{specs.Prelude.get_or, proofs.Common.{◌≡◌, ◌*◌, ◌+◌, ℕ, inl, inr, subst, arith, rules}}
 use Rattle.std.proofs.lemmas.Bool.{cases_lt}
 use Rattle.row_owners.specs.Strays.{HasPiece}
 use Rattle.row_owners.proofs.namings.is_at.Goals as goal

@@ -1,6 +1,5 @@
 use Rattle.std.proofs.Common.{ℕ, List, sym, subst, rules}
-use Rattle.row_owners.specs.Strays.{NamesAt}
-use Rattle.row_owners.proofs.Belonging.{naming_at}
+use Rattle.row_owners.{specs.Strays.NamesAt, proofs.Belonging.naming_at}
 use Rattle.row_owners.proofs.namings.is_naming.Goals as goal
 
 pub returns-in_default : goal.returns-in_default

@@ -1,16 +1,9 @@
-use Rattle.std.proofs.Common.{◌≡◌, ◌+◌, ℕ, List, [], ◌∷◌, refl, inl, sym, ap, subst, ◌∙◌, arith, length-append}
-use Rattle.std.specs.Prelude.{Some}
-use Rattle.std.specs.FinMap.{get}
+use Rattle.std.{specs.Prelude.Some, specs.FinMap.get, proofs.Common.{◌≡◌, ◌+◌, ℕ, List, [], ◌∷◌, refl, inl, sym, ap, subst, ◌∙◌, arith, length-append}}
 use Rattle.page_store.proofs.Stops.{passed_more}
 use Rattle.page_btree.specs.page_node.claim.Entries.{Entry}
-use Rattle.btree_walks.specs.Parts.{row_of}
-use Rattle.btree_walks.proofs.RowsFound.{all_more}
-use Rattle.btree_walks.proofs.Walked.{walk_all, walk_begins, walk_ends, walk_on, walk_quiet, walk_refused}
-use Rattle.desk_pages.proofs.Looking.{both, fails_then, finds, looked, not_looked, refuses}
-use Rattle.desk_pages.proofs.Reading.{get_unread}
-use Rattle.row_owners.specs.Strays.{IsJudged, IsRight, IsStray}
-use Rattle.row_owners.specs.Wholes.{AllSay, IsRowOf, IsWhole}
-use Rattle.row_owners.proofs.Whole.{all_whole}
+use Rattle.btree_walks.{specs.Parts.row_of, proofs.RowsFound.all_more, proofs.Walked.{walk_all, walk_begins, walk_ends, walk_on, walk_quiet, walk_refused}}
+use Rattle.desk_pages.proofs.{Looking.{both, fails_then, finds, looked, not_looked, refuses}, Reading.get_unread}
+use Rattle.row_owners.{specs.Strays.{IsJudged, IsRight, IsStray}, specs.Wholes.{AllSay, IsRowOf, IsWhole}, proofs.Whole.all_whole}
 use Rattle.row_owners.proofs.Belonging.{all_right, stray_by, walk_looks}
 use Rattle.row_owners.proofs.wholes.check_rows.Goals as goal
 

@@ -1,9 +1,7 @@
 use Rattle.std.proofs.Common.{◌≡◌, [], length}
 use Rattle.page_store.specs.claim.Transactions.{count_of, txn_pages}
 use Rattle.btree_walks.proofs.Walked.{HasWalked}
-use Rattle.row_owners.specs.Strays.{IsHeldRow}
-use Rattle.row_owners.proofs.Whole.{AllWhole}
-use Rattle.row_owners.proofs.Belonging.{AllRight}
+use Rattle.row_owners.{specs.Strays.IsHeldRow, proofs.Whole.AllWhole, proofs.Belonging.AllRight}
 use Rattle.row_owners.proofs.wholes.check_rows.Given as goal
 
 abbrev pub invariant-loop-taken : goal.invariant-loop-taken

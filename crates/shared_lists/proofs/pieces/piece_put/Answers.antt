@@ -1,5 +1,4 @@
-use Rattle.std.proofs.Common.{ℕ, List, ◌++◌, take, drop, length, ap, sym, subst, ◌∙◌, ◌≡◌, ◌+◌, ◌-◌, ◌<◌, ◌^◌, Fits, w64, Vec, Global, arith}
-use Rattle.std.specs.Cmp.Lexicographic.{same_text}
+use Rattle.std.{specs.Cmp.Lexicographic.same_text, proofs.Common.{ℕ, List, ◌++◌, take, drop, length, ap, sym, subst, ◌∙◌, ◌≡◌, ◌+◌, ◌-◌, ◌<◌, ◌^◌, Fits, w64, Vec, Global, arith}}
 use Rattle.shared_lists.proofs.Puts.{IsCutOut, is_cut_out, laid_apart, fit_cut_out, laid_cut_out, same_cut_out}
 use Rattle.shared_lists.proofs.pieces.piece_put.Goals as goal
 use Rattle.shared_lists.proofs.pieces.piece_put.Goals.{After-as_slice-districts, After-min-to}

@@ -1,10 +1,6 @@
-use Rattle.std.proofs.Common.{sym, subst}
-use Rattle.std.specs.Prelude.{Option}
-use Rattle.desk_pages.proofs.Looking.{tells}
-use Rattle.desk_pages.specs.Reading.{StandsAs}
-use Rattle.store_rows.specs.claim.Keys.{key_of, seal}
-use Rattle.store_rows.specs.claim.Values.{seal_bytes}
-use Rattle.store_rows.specs.declared.value.SealRow.{SealRow}
+use Rattle.std.{specs.Prelude.Option, proofs.Common.{sym, subst}}
+use Rattle.desk_pages.{specs.Reading.StandsAs, proofs.Looking.tells}
+use Rattle.store_rows.specs.{claim.Keys.{key_of, seal}, claim.Values.seal_bytes, declared.value.SealRow.SealRow}
 use Rattle.store_check.proofs.After.{one_counted}
 use Rattle.store_check.proofs.counts.check_sealed.Goals as goal
 

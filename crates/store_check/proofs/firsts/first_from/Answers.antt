@@ -1,12 +1,8 @@
-use Rattle.std.proofs.Common.{◌≡◌, sym, subst, ◌∙◌}
-use Rattle.std.specs.Prelude.{Some, IfSome}
-use Rattle.std.specs.FinMap.{entries}
+use Rattle.std.{specs.Prelude.{Some, IfSome}, specs.FinMap.entries, proofs.Common.{◌≡◌, sym, subst, ◌∙◌}}
 use Rattle.page_store.proofs.Stops.{passed_none}
 use Rattle.page_btree.specs.page_node.Places.{entries_from}
-use Rattle.btree_walks.specs.Scanning.{fault_in, CanScan, ScanErr}
-use Rattle.btree_walks.proofs.Refused.{scan_refused}
-use Rattle.desk_pages.proofs.Looking.{looked, not_looked}
-use Rattle.desk_pages.proofs.Reading.{get_unread}
+use Rattle.btree_walks.{specs.Scanning.{fault_in, CanScan, ScanErr}, proofs.Refused.scan_refused}
+use Rattle.desk_pages.proofs.{Looking.{looked, not_looked}, Reading.get_unread}
 use Rattle.store_check.proofs.FirstRows.{is_first}
 use Rattle.store_check.proofs.firsts.first_from.Goals as goal
 

@@ -1,9 +1,7 @@
-use Rattle.std.proofs.Common.{List, ℕ, Bool, sym, subst, ◌∙◌, arith}
-use Rattle.std.specs.FinMap.{entries}
+use Rattle.std.{specs.FinMap.entries, proofs.Common.{List, ℕ, Bool, sym, subst, ◌∙◌, arith}}
 use Rattle.page_store.specs.claim.Transactions.{stored}
 use Rattle.desk_pages.proofs.Looking.{begins, both, fails_then, finds, not_looked}
-use Rattle.store_check.specs.Rows.{AreOfLoadsTo, GoesOn, IsPast}
-use Rattle.store_check.proofs.After.{all_left, begin_past, begins as begins_loads}
+use Rattle.store_check.{specs.Rows.{AreOfLoadsTo, ComesBefore, IsPast}, proofs.After.{all_left, begin_past, begins as begins_loads}}
 use Rattle.store_check.proofs.loads.check_loads.Goals as goal
 
 pub loop-taken-init : goal.loop-taken-init
@@ -18,7 +16,7 @@ returns-in_err-more g c = fails_then c.loop-taken.invariant.looked c.from_residu
 
 pub returns-then-not-more : goal.returns-then-not-more
 returns-then-not-more g c = finds (both c.loop-taken.invariant.looked c.in_ok-more.ensures.looks) (λ m is stands.
-    subst (λ (b : Bool). GoesOn b c.loop-taken.from c.pass_load.new.from m) c.if-not-more.true (is.1 stands (is.0 stands).0))
+    subst (λ (b : Bool). ComesBefore b c.loop-taken.from c.pass_load.new.from m) c.if-not-more.true (is.1 stands (is.0 stands).0))
 
 pub loop-taken-preserved : goal.loop-taken-preserved
 loop-taken-preserved g c = record {
@@ -26,9 +24,7 @@ loop-taken-preserved g c = record {
   past = c.in_ok-more.ensures.past;
   looked = finds (both c.loop-taken.invariant.looked c.in_ok-more.ensures.looks) (λ m is stands.
       let was = is.0 stands in
-      let on = subst (λ (b : Bool). GoesOn b c.loop-taken.from c.pass_load.new.from m) c.if-not-more.false (is.1 stands was.0) in
-      let few = was.1 in
-      let less = on.1 in
+      let on = subst (λ (b : Bool). ComesBefore b c.loop-taken.from c.pass_load.new.from m) c.if-not-more.false (is.1 stands was.0) in
       (on.0, omega arith));
 }
 

@@ -1,12 +1,8 @@
 use Rattle.std.proofs.Common.{◌≡◌, ◌⊎◌, ℕ, List, Bool, refl, sym, subst}
 use Rattle.page_btree.specs.page_node.claim.Entries.{Entry}
 use Rattle.desk_pages.proofs.Looking.{fails, finds, refuses}
-use Rattle.store_rows.specs.claim.Keys.{block, key_of, pair}
-use Rattle.store_rows.specs.Keys.{chunks_prefix}
-use Rattle.store_check.specs.Rows.{IsFirst, IsUnder}
-use Rattle.store_check.specs.claim.Rows.{IsFrom}
-use Rattle.store_check.proofs.After.{no_load}
-use Rattle.store_check.proofs.FirstRows.{first_least, first_none, from_trans}
+use Rattle.store_rows.specs.{claim.Keys.{block, key_of, pair}, Keys.chunks_prefix}
+use Rattle.store_check.{specs.Rows.{IsFirst, IsUnder}, specs.claim.Rows.IsFrom, proofs.After.no_load, proofs.FirstRows.{first_least, first_none, from_trans}}
 use Rattle.store_check.proofs.loads.load_from.Goals as goal
 
 pub returns-in_err-found : goal.returns-in_err-found
@@ -26,8 +22,7 @@ returns-then-is_chunk g c = finds c.in_ok-found.ensures (λ m found key value th
 pub returns-in-None : goal.returns-in-None
 returns-in-None g c = refuses c.in_ok-found.ensures (λ m found rows.
     let first = subst (λ (b : Bool). IsFirst b c.args.key.now c.first_from.new.row m) c.if-not-found.false found in
-    let e : Entry = (c.first_from.new.row.key, c.first_from.new.row.value) in
-    no_load m c.args.key.now e first.0 first.1 c.requires.past rows
+    no_load m c.args.key.now ((c.first_from.new.row.key, c.first_from.new.row.value)) first.0 first.1 c.requires.past rows
     (λ at. c.if-is_chunk.ensures.no refl (subst (λ (k : List ℕ). IsFrom chunks_prefix k) (sym c.as_slice.ensures.bytes) at))
     (λ load place of. c.in-None.ensures load place (subst (λ (k : List ℕ). (k ≡ key_of (block load place)) ⊎ (k ≡ key_of (pair load place))) (sym c.as_slice-2.ensures.bytes) of)))
 

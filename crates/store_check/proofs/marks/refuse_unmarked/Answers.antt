@@ -1,4 +1,4 @@
-use Rattle.std.proofs.Common.{◌≡◌, ℕ, List, [], length, take, Some, ap, sym, ◌∙◌, arith}
+use Rattle.std.proofs.Common.{◌≡◌, ℕ, List, [], length, take, ap, sym, ◌∙◌, arith, rules}
 use Rattle.std.proofs.lemmas.List.{length-take}
 use Rattle.store_rows.proofs.OneGeography.{value_is}
 use Rattle.desk_pages.proofs.Looking.{fails, looked, not_looked}
@@ -18,6 +18,4 @@ returns-then-length-gt0 g c = not_looked c.read_row.ensures.looks.quiet (λ hone
     omega arith)
 
 pub returns : goal.returns
-returns g c = looked c.in_ok-length.ensures.looks.passed (λ honest m holds.
-    let none : c.in_ok-length.length ≡ 0 = let few = c.if-length-gt0.false in omega arith in
-    c.in_ok-length.ensures.looks.there honest m holds ∙ ap (λ (n : ℕ). Some (take n c.read_row.new.into)) none)
+returns g c = search (rules, arith, looked, c.in_ok-length.ensures.looks.passed, c.in_ok-length.length, c.if-length-gt0.false, c.in_ok-length.ensures.looks.there, c.read_row.new.into)

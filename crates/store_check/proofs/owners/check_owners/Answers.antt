@@ -1,18 +1,11 @@
-use Rattle.std.proofs.Common.{ℕ, List, Bool, sym, subst, ◌∙◌, arith}
-use Rattle.std.specs.FinMap.{entries}
+use Rattle.std.proofs.Common.{Bool, sym, subst, ◌∙◌, arith, rules}
 use Rattle.page_store.specs.claim.Transactions.{stored}
 use Rattle.desk_pages.proofs.Looking.{begins, both, fails_then, finds, not_looked}
-use Rattle.store_check.specs.Owners.{AreOwnedBelow, IsUnderParts, Passes}
-use Rattle.store_check.proofs.After.{all_left}
-use Rattle.store_check.proofs.PartOrder.{begins_owned, parts_begin}
+use Rattle.store_check.{specs.Owners.Passes, proofs.After.all_left, proofs.PartOrder.{begins_owned, parts_begin}}
 use Rattle.store_check.proofs.owners.check_owners.Goals as goal
 
 pub loop-taken-init : goal.loop-taken-init
-loop-taken-init g c = record {
-  begun = c.requires.begun;
-  under = subst IsUnderParts (sym c.set.ensures) parts_begin;
-  looked = begins (λ m holds. (subst (λ (k : List ℕ). AreOwnedBelow c.args.counts.now k m) (sym c.set.ensures) (begins_owned c.args.counts.now m), all_left c.set.new.self (entries m)));
-}
+loop-taken-init g c = search (rules, arith, c.requires.begun, c.set.ensures, parts_begin, begins, c.args.counts.now, begins_owned, all_left, c.set.new.self)
 
 pub returns-in_err-more : goal.returns-in_err-more
 returns-in_err-more g c = fails_then c.loop-taken.invariant.looked c.from_residual.result c.in_err-more.ensures.looks c.from_residual.ensures.1 (λ m was has. has)
@@ -27,8 +20,6 @@ loop-taken-preserved g c = record {
   under = c.in_ok-more.ensures.under;
   looked = finds (both c.loop-taken.invariant.looked c.in_ok-more.ensures.looks) (λ m is.
       let on = subst (λ (b : Bool). Passes b c.args.counts.now c.loop-taken.from c.pass_plan.new.from m) c.if-not-more.false (is.1 is.0.0) in
-      let few = is.0.1 in
-      let less = on.1 in
       (on.0, omega arith));
 }
 

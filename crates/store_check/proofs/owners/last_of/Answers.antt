@@ -1,10 +1,8 @@
-use Rattle.std.proofs.Common.{sym, ap, subst, ◌∙◌, arith}
-use Rattle.std.specs.FinMap.{get as row_at}
+use Rattle.std.{specs.FinMap.get as row_at, proofs.Common.{sym, ap, subst, ◌∙◌, arith, rules}}
 use Rattle.page_store.proofs.Stops.{quiet_none}
 use Rattle.desk_pages.proofs.Looking.{begins, fails, finds, not_looked}
 use Rattle.store_check.specs.Owners.{IsOwnedAs}
 use Rattle.store_check.proofs.owners.last_of.Goals as goal
-use Rattle.store_check.proofs.owners.last_of.Goals.{then-revision-eq0-via-then-revision-eq0, then-revision-eq0-via-else-revision-eq0+then-revision-count}
 
 pub returns-in_err-refuse_unmarked-in-None : goal.returns-in_err-refuse_unmarked-in-None
 returns-in_err-refuse_unmarked-in-None g c = fails c.from_residual.result c.in_err-refuse_unmarked-in-None.ensures c.from_residual.ensures.1
@@ -17,14 +15,7 @@ returns-in_ok-refuse_unmarked-in-None g c = finds c.in_ok-refuse_unmarked-in-Non
 })
 
 pub returns-then-revision-eq0 : goal.returns-then-revision-eq0
-returns-then-revision-eq0 g c = not_looked (quiet_none c.args.pages.now) (λ honest m holds is.
-    let within = subst (IsOwnedAs m c.args.plan c.args.revision) (sym c.in-Some.ensures.value) is in
-    let some = within.0 in
-    let few = within.1 in
-    elim c.then-revision-eq0.branch [
-      | then-revision-eq0-via-then-revision-eq0 w ↦ (let none = w.if-revision-eq0.true in omega arith)
-      | then-revision-eq0-via-else-revision-eq0+then-revision-count w ↦ (let over = w.if-revision-count.true in omega arith)
-    ])
+returns-then-revision-eq0 g c = search (rules, arith, not_looked, quiet_none, c.args.pages.now, c.args.plan, c.args.revision, c.in-Some.ensures.value, c.then-revision-eq0.branch)
 
 pub returns-else-revision-count : goal.returns-else-revision-count
 returns-else-revision-count g c = begins (λ m holds.

@@ -1,21 +1,13 @@
-use Rattle.std.proofs.Common.{refl, sym, ◌∙◌, arith}
+use Rattle.std.proofs.Common.{refl, sym, ◌∙◌, arith, rules}
 use Rattle.page_store.proofs.Stops.{passed_more, passed_none}
 use Rattle.page_btree.specs.page_node.claim.Entries.{Entry}
-use Rattle.btree_walks.proofs.RowsFound.{all_more}
-use Rattle.btree_walks.proofs.Walked.{walk_all, walk_begins, walk_ends, walk_next, walk_on, walk_passed, walk_quiet, walk_refused}
-use Rattle.desk_pages.proofs.Looking.{looked, not_looked}
-use Rattle.desk_pages.proofs.Reading.{get_unread}
-use Rattle.store_check.specs.Numbers.{IsDue}
-use Rattle.store_check.specs.Rows.{IsRow}
-use Rattle.store_check.proofs.Scanned.{IsEntryBelow, all_sound, past_sound}
-use Rattle.store_check.proofs.Kept.{no_due}
+use Rattle.btree_walks.proofs.{RowsFound.all_more, Walked.{walk_all, walk_begins, walk_ends, walk_next, walk_on, walk_passed, walk_quiet, walk_refused}}
+use Rattle.desk_pages.proofs.{Looking.{looked, not_looked}, Reading.get_unread}
+use Rattle.store_check.{specs.Numbers.IsDue, specs.Rows.IsRow, proofs.Scanned.{IsEntryBelow, all_sound, past_sound}, proofs.Kept.no_due}
 use Rattle.store_check.proofs.scans.check_rows.Goals as goal
 
 pub loop-taken-init : goal.loop-taken-init
-loop-taken-init g c = record {
-  begun = c.requires.begun;
-  walked = walk_begins c.args.pages.now c.new-scan.result c.new-scan.ensures.fault c.new-scan.ensures.rows (λ m. (tt, tt));
-}
+loop-taken-init g c = search (rules, arith, c.requires.begun, walk_begins, c.args.pages.now, c.new-scan.result, c.new-scan.ensures.fault, c.new-scan.ensures.rows)
 
 pub returns-in-None : goal.returns-in-None
 returns-in-None g c = looked (passed_more c.args.pages.now c.loop-taken.pages c.next.new.pages c.loop-taken.invariant.walked.passed (c.next.ensures.passed (sym c.fault.ensures ∙ c.in-None.is))) (λ honest m holds.

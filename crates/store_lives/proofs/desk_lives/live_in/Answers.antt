@@ -1,8 +1,5 @@
-use Rattle.std.proofs.Common.{Ok, Err, refl, sym, subst}
-use Rattle.store_lives.specs.DeskInside.{IsLife}
-use Rattle.store_lives.specs.VersionInside.{IsAsked, LivesIn}
-use Rattle.store_lives.proofs.DeskLiving.{refused_life, opened_life}
-use Rattle.store_lives.proofs.VersionLiving.{asked_lives, refused_lives}
+use Rattle.std.proofs.Common.{Err, refl, rules}
+use Rattle.store_lives.{specs.DeskInside.IsLife, proofs.DeskLiving.{refused_life, opened_life}, proofs.VersionLiving.{asked_lives, refused_lives}}
 use Rattle.store_lives.proofs.desk_lives.live_in.Goals as goal
 
 pub returns-in-Err-clause-once : goal.returns-in-Err-clause-once
@@ -18,15 +15,7 @@ returns-in-Err-clause-in_version g c =
     refused_lives g.D.SectorDevice c.args.device c.in-Err.device c.in-Err.e e.sectors e.honest e.any_version e.faults e.calm e.err
 
 pub returns-in-Ok-answer_all-clause-once : goal.returns-in-Ok-answer_all-clause-once
-returns-in-Ok-answer_all-clause-once g c =
-    let e = c.in-Ok.ensures in
-    let device = c.into_device.result in
-    opened_life g.D.SectorDevice c.args.device device (g.D.SectorDevice.disk device) (IsLife c.args.asked (Ok c.in-Ok-answer_all.told)) c.in-Ok.clerk c.answer_all.new.clerk
-    e.working.1 e.working.0 e.opened e.honest e.passed c.in-Ok-answer_all.ensures c.into_device.ensures refl (λ now. now) (λ now. refl) (λ now i left. left)
+returns-in-Ok-answer_all-clause-once g c = search (rules, c.in-Ok.ensures, c.in-Ok-answer_all.ensures, c.into_device.ensures, opened_life)
 
 pub returns-in-Ok-answer_all-clause-in_version : goal.returns-in-Ok-answer_all-clause-in_version
-returns-in-Ok-answer_all-clause-in_version g c =
-    let e = c.in-Ok.ensures in
-    let disk = g.D.SectorDevice.disk in
-    subst (λ (left : g.row.D.Denot). LivesIn (IsAsked c.args.asked (Ok c.in-Ok-answer_all.told)) (disk c.args.device) (disk left)) (sym c.into_device.ensures)
-    (asked_lives g.D.SectorDevice c.args.device c.in-Ok.clerk c.answer_all.new.clerk c.args.asked c.in-Ok-answer_all.told e.working.1 e.working.0 e.opened e.honest e.passed c.in-Ok-answer_all.ensures)
+returns-in-Ok-answer_all-clause-in_version g c = search (rules, c.in-Ok.ensures, c.into_device.ensures, c.in-Ok-answer_all.ensures, asked_lives)

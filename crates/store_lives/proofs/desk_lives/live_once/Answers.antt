@@ -1,5 +1,4 @@
-use Rattle.store_lives.specs.DeskInside.{IsLife}
-use Rattle.store_lives.proofs.DeskLiving.{starts_life, stops_life}
+use Rattle.store_lives.{specs.DeskInside.IsLife, proofs.DeskLiving.{starts_life, stops_life}}
 use Rattle.store_lives.proofs.desk_lives.live_once.Goals as goal
 
 pub returns-in-Ok : goal.returns-in-Ok

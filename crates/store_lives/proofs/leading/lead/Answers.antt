@@ -1,3 +1,4 @@
+use Rattle.std.proofs.Common.{rules}
 use Rattle.store_lives.proofs.Steps.{goes_nowhere, goes_further, then_led, in_part, step_stopped}
 use Rattle.store_lives.proofs.leading.lead.Goals as goal
 
@@ -14,11 +15,7 @@ returns-then-count-eq0 g c =
     (goes_further x c.loop-made.migration c.step.new.self c.loop-made.invariant.on c.in-Ok.ensures.moves c.in-Ok.ensures.working.1) c.end.ensures
 
 pub returns-in-Err : goal.returns-in-Err
-returns-in-Err g c =
-    let x = c.args.migration.now in
-    let y = c.loop-made.migration in
-    let on = c.loop-made.invariant.on in
-    then_led x y c.step.new.self _ on (step_stopped y c.step.new.self c.in-Err.e on.working c.in-Err.ensures.moves c.in-Err.ensures.err)
+returns-in-Err g c = search (rules, c.loop-made.invariant.on, c.in-Err.ensures.moves, c.in-Err.ensures.err, then_led, step_stopped)
 
 pub returns : goal.returns
 returns g c = in_part c.args.migration.now c.loop-made.migration c.loop-made.invariant.on

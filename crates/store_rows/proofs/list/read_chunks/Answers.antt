@@ -1,8 +1,6 @@
 use Rattle.std.proofs.Common.{◌≡◌, ◌*◌, ◌/◌, ◌<◌, ◌^◌, ℕ, List, All, length, length-take, take, take_all, sym, ap, subst, ◌∙◌, arith}
 use Rattle.std.proofs.lemmas.List.{length-set}
-use Rattle.store_rows.specs.claim.Keys.{in_eight}
-use Rattle.store_rows.specs.claim.Lists.{AreChunks, chunks_bytes}
-use Rattle.store_rows.proofs.ListValues.{filled_more, taken_whole, length-chunks, one_chunk_more}
+use Rattle.store_rows.{specs.claim.Keys.in_eight, specs.claim.Lists.{AreChunks, chunks_bytes}, proofs.ListValues.{filled_more, taken_whole, length-chunks, one_chunk_more}}
 use Rattle.store_rows.proofs.list.read_chunks.Goals as goal
 use Rattle.store_rows.proofs.list.read_chunks.Goals.{then-count-eq0-via-then-count-eq0, then-count-eq0-via-else-count-eq0+then-count-gt-PART_CHUNKS, then-count-eq0-via-else-count-eq0+else-count-gt-PART_CHUNKS+then-bytes-count}
 
@@ -22,22 +20,14 @@ loop-k-preserved c =
     let before = c.loop-k.invariant in
     let each = c.loop-k.each in
     let k = c.loop-k.k in
-    let long = before.1 in
-    let less = c.loop-k-test.true in
-    let few = c.if-count-gt-PART_CHUNKS.false in
     let more = filled_more in_eight (λ n. n < 2 ^ 64) each c.eight.result k _ (omega arith) (one_chunk_more (take k each) c.eight.result k c.args.bytes.now before.0 c.eight.ensures.bytes) before.2 c.eight.type_inv in
-    (more.0, length-set each k c.eight.result ∙ long, more.1)
+    (more.0, length-set each k c.eight.result ∙ before.1, more.1)
 
 pub returns : goal.returns
 returns c =
     let before = c.loop-k.invariant in
     let each = c.loop-k.each in
-    let long = before.1 in
-    let end = c.loop-k-test.false in
-    let at = c.loop-k.auto.k-end in
-    let whole = c.if-bytes-count.false in
     let some = c.if-count-eq0.false in
-    let few = c.if-count-gt-PART_CHUNKS.false in
     let count = length c.args.bytes.now / 8 in
     let k : c.loop-k.k ≡ count = omega arith in
     let taken : length (take count each) ≡ count = omega (arith, length-take count each) in

@@ -1,7 +1,4 @@
-use Rattle.store_rows.specs.claim.Values.{plan_bytes}
-use Rattle.store_rows.proofs.RevisionPuts.{revision_put}
-use Rattle.store_rows.proofs.TidyParts.{name_fits}
-use Rattle.store_rows.proofs.TidyRevisions.{revised_tidy}
+use Rattle.store_rows.{specs.claim.Values.plan_bytes, proofs.RevisionPuts.revision_put, proofs.TidyParts.name_fits, proofs.TidyRevisions.revised_tidy}
 use Rattle.store_rows.proofs.upkeep.revisions_are_added_tidily.Goals as goal
 
 pub returns : goal.returns

@@ -1,18 +1,12 @@
-use Rattle.std.proofs.Common.{refl, sym, ◌∙◌, arith}
+use Rattle.std.proofs.Common.{refl, sym, ◌∙◌, arith, rules}
 use Rattle.page_store.proofs.Stops.{passed_more, passed_none}
-use Rattle.btree_walks.proofs.RowsFound.{all_more}
-use Rattle.btree_walks.proofs.Walked.{walk_all, walk_begins, walk_ends, walk_on}
+use Rattle.btree_walks.proofs.{RowsFound.all_more, Walked.{walk_all, walk_begins, walk_ends, walk_on}}
 use Rattle.desk_pages.proofs.Looking.{looked, not_looked, refuses}
-use Rattle.store_sweep.specs.Checks.{IsEntryTold}
-use Rattle.store_sweep.proofs.Scanned.{comes, not_come}
-use Rattle.store_sweep.proofs.Told.{all_told, not_told}
+use Rattle.store_sweep.{specs.Checks.IsEntryTold, proofs.Scanned.{comes, not_come}, proofs.Told.{all_told, not_told}}
 use Rattle.store_sweep.proofs.counts.check_counts.Goals as goal
 
 pub loop-taken-init : goal.loop-taken-init
-loop-taken-init g c = record {
-  begun = c.requires.begun;
-  walked = walk_begins c.args.pages.now c.new-scan.result c.new-scan.ensures.fault c.new-scan.ensures.rows (λ m. tt);
-}
+loop-taken-init g c = search (rules, arith, c.requires.begun, walk_begins, c.args.pages.now, c.new-scan.result, c.new-scan.ensures.fault, c.new-scan.ensures.rows)
 
 pub returns-in-None : goal.returns-in-None
 returns-in-None g c = looked (passed_more c.args.pages.now c.loop-taken.pages c.next.new.pages c.loop-taken.invariant.walked.passed (c.next.ensures.passed (sym c.fault.ensures ∙ c.in-None.is))) (λ honest m holds.

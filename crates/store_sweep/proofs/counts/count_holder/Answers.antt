@@ -1,9 +1,6 @@
-use Rattle.std.proofs.Common.{List, ℕ, drop, refl, sym, ap, subst, ◌∙◌}
-use Rattle.std.specs.FinMap.{get}
+use Rattle.std.{specs.FinMap.get, proofs.Common.{List, ℕ, drop, refl, sym, ap, subst, ◌∙◌}}
 use Rattle.desk_pages.proofs.Looking.{fails, gathered, refuses}
-use Rattle.store_sweep.specs.Checks.{IsThere}
-use Rattle.store_sweep.proofs.Named.{count_there}
-use Rattle.store_sweep.proofs.Noted.{notes}
+use Rattle.store_sweep.{specs.Checks.IsThere, proofs.Named.count_there, proofs.Noted.notes}
 use Rattle.store_sweep.proofs.counts.count_holder.Goals as goal
 
 pub returns-in_err-is_there : goal.returns-in_err-is_there

@@ -1,10 +1,8 @@
-use Rattle.std.proofs.Common.{◌<◌, ◌^◌, sym, ◌∙◌, arith}
+use Rattle.std.proofs.Common.{sym, ◌∙◌, arith}
 use Rattle.page_store.proofs.Stops.{passed_more}
 use Rattle.btree_walks.proofs.Walked.{walk_all, walk_begins, walk_ends, walk_on}
 use Rattle.desk_pages.proofs.Looking.{fails_then, gathered, looked, not_looked}
-use Rattle.store_sweep.proofs.Counted.{none_counted, one_counted, all_counted}
-use Rattle.store_sweep.proofs.Named.{holding_next}
-use Rattle.store_sweep.proofs.Scanned.{comes, not_come}
+use Rattle.store_sweep.proofs.{Counted.{none_counted, one_counted, all_counted}, Named.holding_next, Scanned.{comes, not_come}}
 use Rattle.store_sweep.proofs.counts.count_holders.Goals as goal
 
 pub loop-taken-init : goal.loop-taken-init
@@ -15,10 +13,9 @@ loop-taken-init g c = record {
 
 pub returns-in-None : goal.returns-in-None
 returns-in-None g c =
-    let fits : c.loop-taken.taken < 2 ^ 64 = let less = c.loop-taken-test.true in omega arith in
     looked (passed_more c.args.pages.now c.loop-taken.pages c.next.new.pages c.loop-taken.invariant.walked.passed (c.next.ensures.passed (sym c.fault.ensures ∙ c.in-None.is))) (λ honest m holds.
     let all = walk_all c.loop-taken.invariant.walked c.next.ensures.quiet c.next.new.self c.next.new.row c.next.result c.next.ensures.rows c.if-not-next.true (sym c.fault.ensures ∙ c.in-None.is) honest m holds in
-    all_counted m all.rows c.loop-taken.counts c.loop-taken.taken fits all.known all.whole)
+    all_counted m all.rows c.loop-taken.counts c.loop-taken.taken (let less = c.loop-taken-test.true in omega arith) all.known all.whole)
 
 pub returns-in-Some : goal.returns-in-Some
 returns-in-Some g c = gathered _ (not_come c.loop-taken.invariant.walked c.next.ensures.quiet c.next.new.self c.in-Some.fault (sym c.fault.ensures ∙ c.in-Some.is) c.next.ensures.fault)

@@ -1,10 +1,5 @@
-use Rattle.std.proofs.Common.{◌≡◌, [], sym, subst, ◌∙◌}
-use Rattle.std.specs.Prelude.{None}
-use Rattle.std.specs.FinMap.{entries}
-use Rattle.btree_walks.specs.Prefixes.{under}
-use Rattle.btree_walks.specs.Scanning.{IsNextRow, fault_in}
-use Rattle.btree_walks.proofs.RowsFound.{found_among, next_under}
-use Rattle.btree_walks.proofs.Walked.{walk_begins}
+use Rattle.std.{specs.Prelude.None, specs.FinMap.entries, proofs.Common.{◌≡◌, [], sym, subst, ◌∙◌}}
+use Rattle.btree_walks.{specs.Prefixes.under, specs.Scanning.{IsNextRow, fault_in}, proofs.RowsFound.{found_among, next_under}, proofs.Walked.walk_begins}
 use Rattle.desk_pages.proofs.Looking.{looked}
 use Rattle.store_sweep.proofs.Scanned.{not_come}
 use Rattle.store_sweep.proofs.firsts.first_under.Goals as goal

@@ -1,6 +1,4 @@
-use Rattle.std.proofs.Common.{◌≤◌, ℕ, [], take, nat_eq, refl, sym, ap, subst, ◌∙◌}
-use Rattle.std.specs.Prelude.{option_map, IfSome}
-use Rattle.std.specs.FinMap.{get}
+use Rattle.std.{specs.Prelude.{option_map, IfSome}, specs.FinMap.get, proofs.Common.{◌≤◌, ℕ, [], take, nat_eq, refl, sym, ap, subst, ◌∙◌, arith, rules}}
 use Rattle.desk_pages.proofs.Looking.{looked}
 use Rattle.store_rows.proofs.OneGeography.{no_value}
 use Rattle.store_sweep.proofs.Marks.{marked_by, not_got}
@@ -10,8 +8,7 @@ pub returns-in_err-get : goal.returns-in_err-get
 returns-in_err-get g c = not_got c.in_err-get.field-0.0 c.from_residual.result c.get.ensures.reading.quiet c.in_err-get.ensures.reading.err c.from_residual.ensures.1
 
 pub returns-in-None : goal.returns-in-None
-returns-in-None g c = looked c.in_ok-get.ensures.reading.passed (λ honest m holds there. no_value []
-    (sym there ∙ ap (get m) (sym c.as_slice.ensures.bytes) ∙ sym (c.in_ok-get.ensures.get honest m holds) ∙ ap (option_map (λ (l : ℕ). take l c.get.new.into)) c.in-None.is))
+returns-in-None g c = search (rules, arith, looked, c.in_ok-get.ensures.reading.passed, no_value, c.as_slice.ensures.bytes, c.in_ok-get.ensures.get, c.get.new.into, c.in-None.is)
 
 pub returns-in-Some : goal.returns-in-Some
 returns-in-Some g c = looked c.in_ok-get.ensures.reading.passed (λ honest m holds.

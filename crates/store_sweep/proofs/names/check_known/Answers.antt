@@ -1,10 +1,7 @@
-use Rattle.std.proofs.Common.{subst}
-use Rattle.std.specs.Prelude.{List, ℕ, Contains}
+use Rattle.std.{specs.Prelude.{List, ℕ, Contains}, proofs.Common.subst}
 use Rattle.std.proofs.lemmas.List.Elements.{All-contains}
 use Rattle.desk_pages.proofs.Looking.{begins, fails, gathered}
-use Rattle.store_sweep.specs.claim.Checks.{IsHeldOrGone}
-use Rattle.store_sweep.proofs.Named.{with_one}
-use Rattle.store_sweep.proofs.Noted.{notes}
+use Rattle.store_sweep.{specs.claim.Checks.IsHeldOrGone, proofs.Named.with_one, proofs.Noted.notes}
 use Rattle.store_sweep.proofs.names.check_known.Goals as goal
 
 pub returns-then-is_noted : goal.returns-then-is_noted

@@ -1,5 +1,4 @@
-use Rattle.std.proofs.Common.{inl, inr, sym, ap, subst, ◌∙◌}
-use Rattle.std.specs.FinMap.{get}
+use Rattle.std.{specs.FinMap.get, proofs.Common.{inl, inr, sym, ap, subst, ◌∙◌}}
 use Rattle.desk_pages.proofs.Looking.{both, fails, fails_then, finds, refuses}
 use Rattle.store_sweep.specs.Checks.{IsMarkedAs}
 use Rattle.store_sweep.proofs.names.check_name.Goals as goal

@@ -1,14 +1,9 @@
-use Rattle.std.proofs.Common.{sym, subst, ◌∙◌, arith}
-use Rattle.std.specs.Prelude.{All}
+use Rattle.std.{specs.Prelude.All, proofs.Common.{sym, subst, ◌∙◌, arith}}
 use Rattle.std.proofs.lemmas.List.Elements.{All-nil}
 use Rattle.page_store.proofs.Stops.{passed_more}
-use Rattle.btree_walks.proofs.RowsFound.{all_more}
-use Rattle.btree_walks.proofs.Walked.{walk_all, walk_begins, walk_ends, walk_on}
+use Rattle.btree_walks.proofs.{RowsFound.all_more, Walked.{walk_all, walk_begins, walk_ends, walk_on}}
 use Rattle.desk_pages.proofs.Looking.{fails_then, gathered, looked, not_looked}
-use Rattle.store_sweep.specs.Checks.{IsEntryNamed}
-use Rattle.store_sweep.specs.claim.Checks.{IsHeldOrGone}
-use Rattle.store_sweep.proofs.Named.{part_next, all_named}
-use Rattle.store_sweep.proofs.Scanned.{comes, not_come}
+use Rattle.store_sweep.{specs.Checks.IsEntryNamed, specs.claim.Checks.IsHeldOrGone, proofs.Named.{part_next, all_named}, proofs.Scanned.{comes, not_come}}
 use Rattle.store_sweep.proofs.names.check_names.Goals as goal
 
 pub loop-taken-init : goal.loop-taken-init

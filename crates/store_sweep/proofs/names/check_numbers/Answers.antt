@@ -1,5 +1,4 @@
-use Rattle.std.proofs.Common.{take, sym, subst, ◌∙◌, take_all}
-use Rattle.std.specs.Prelude.{All, get_or}
+use Rattle.std.{specs.Prelude.{All, get_or}, proofs.Common.{take, sym, subst, ◌∙◌, take_all}}
 use Rattle.std.proofs.lemmas.List.{take_more}
 use Rattle.std.proofs.lemmas.List.Elements.{All-nil, All-push}
 use Rattle.desk_pages.proofs.Looking.{begins, both, fails_then, finds}

@@ -1,5 +1,4 @@
-use Rattle.std.proofs.Common.{◌≡◌, Ok, take}
-use Rattle.std.specs.Prelude.{All}
+use Rattle.std.{specs.Prelude.All, proofs.Common.{◌≡◌, Ok, take}}
 use Rattle.page_store.specs.claim.Transactions.{count_of, txn_pages}
 use Rattle.desk_pages.specs.Looking.{Gathers}
 use Rattle.store_sweep.specs.claim.Checks.{IsHeldOrGone}

@@ -1,8 +1,6 @@
-use Rattle.std.proofs.Common.{ℕ, List, take, drop, sym, ap, subst, ◌∙◌}
-use Rattle.std.specs.Prelude.{All}
+use Rattle.std.{specs.Prelude.All, proofs.Common.{ℕ, List, take, drop, sym, ap, subst, ◌∙◌}}
 use Rattle.desk_pages.proofs.Looking.{tells}
-use Rattle.store_sweep.specs.claim.Checks.{IsHeldOrGone}
-use Rattle.store_sweep.proofs.Named.{entry_named, part_all, plans_list}
+use Rattle.store_sweep.{specs.claim.Checks.IsHeldOrGone, proofs.Named.{entry_named, part_all, plans_list}}
 use Rattle.store_sweep.proofs.names.check_part.Goals as goal
 
 pub returns : goal.returns

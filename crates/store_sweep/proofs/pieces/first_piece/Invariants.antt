@@ -1,5 +1,4 @@
-use Rattle.std.proofs.Common.{◌≡◌, take, Ok}
-use Rattle.std.specs.Prelude.{All}
+use Rattle.std.{specs.Prelude.All, proofs.Common.{◌≡◌, take, Ok}}
 use Rattle.page_store.specs.claim.Transactions.{count_of, txn_pages}
 use Rattle.desk_pages.specs.Looking.{Looks}
 use Rattle.store_rows.specs.claim.Tidy.{AreRows}

@@ -1,8 +1,6 @@
-use Rattle.std.proofs.Common.{◌≡◌, [], arith}
-use Rattle.std.specs.FinMap.{entries}
+use Rattle.std.{specs.FinMap.entries, proofs.Common.{◌≡◌, [], arith}}
 use Rattle.desk_pages.proofs.Looking.{looked}
-use Rattle.store_sweep.proofs.Least.{copied_at, leaf_next, leaf_none, leaf_some, none_found}
-use Rattle.store_sweep.proofs.Marks.{not_got}
+use Rattle.store_sweep.proofs.{Least.{copied_at, leaf_next, leaf_none, leaf_some, none_found}, Marks.not_got}
 use Rattle.store_sweep.proofs.pieces.key_from.Goals as goal
 
 pub returns-in_err-leaf_from : goal.returns-in_err-leaf_from
@@ -14,15 +12,12 @@ returns-then-leaf-gt0 g c = copied_at c.args.key.now _ _ _ c.copy_key.result c.i
 
 pub returns-then-leaf-gt0-2 : goal.returns-then-leaf-gt0-2
 returns-then-leaf-gt0-2 g c =
-    let few = c.if-leaf-gt0.false in
     let none : c.leaf_from.new.leaf.left ≡ 0 = omega arith in
     copied_at c.args.key.now _ _ _ c.copy_key-then-leaf-gt0-2.result c.in_ok-leaf_from.ensures.reading.passed
     (λ honest m holds. leaf_next c.args.key.now (entries m) c.leaf_from.new.leaf c.leaf_from.new.held (c.in_ok-leaf_from.ensures.rows honest m holds) none c.if-leaf-gt0-2.true) c.copy_key-then-leaf-gt0-2.ensures
 
 pub returns : goal.returns
 returns g c =
-    let few = c.if-leaf-gt0.false in
-    let last = c.if-leaf-gt0-2.false in
     let none : c.leaf_from.new.leaf.left ≡ 0 = omega arith in
     let no_more : c.leaf_from.new.leaf.more ≡ 0 = omega arith in
     looked c.in_ok-leaf_from.ensures.reading.passed (λ honest m holds.

@@ -1,14 +1,14 @@
-use Rattle.std.proofs.Common.{◌≡◌, ◌+◌, ℕ, sym, subst, arith}
+use Rattle.page_store.proofs.Stops.{passed_none}
+use Rattle.std.proofs.Common.{ℕ, sym, subst, arith}
 use Rattle.sector_device.specs.claim.Disk.{Image}
 use Rattle.page_btree.specs.claim.Map.{InTxn}
 use Rattle.desk_pages.proofs.Writing.{does, told_on}
 use Rattle.plan_rows.proofs.Writing.{after_reads}
-use Rattle.store_sweep.specs.Sweeping.{HasSwept}
-use Rattle.store_sweep.proofs.Taken.{fewer_left, none_swept, more_swept, not_later}
+use Rattle.store_sweep.{specs.Sweeping.HasSwept, proofs.Taken.{fewer_left, none_swept, more_swept, not_later}}
 use Rattle.store_sweep.proofs.rows.sweep_rows.Goals as goal
 
 pub loop-swept-init : goal.loop-swept-init
-loop-swept-init g c = record { begun = c.requires.begun; few = omega arith; swept = none_swept c.args.running c.args.txn.now c.args.pages.now }
+loop-swept-init g c = record { begun = c.requires.begun; few = omega arith; swept = none_swept c.args.running c.args.txn.now c.args.pages.now c.args.pages.now (passed_none c.args.pages.now) }
 
 pub returns-in_err-count : goal.returns-in_err-count
 returns-in_err-count g c =
@@ -20,10 +20,9 @@ returns-then-count-eq0 g c =
     let before = c.loop-swept.invariant in
     let zero = c.if-count-eq0.true in
     let few = before.few in
-    let whole : c.loop-swept.swept + c.in_ok-count.count ≡ c.loop-swept.swept = omega arith in
     does (after_reads _ before.swept.passed.quiet c.in_ok-count.ensures) (λ turn. record {
       few = few;
-      swept = subst (λ (k : ℕ). HasSwept c.args.running k c.args.txn.now c.sweep_turn.new.txn c.args.pages.now c.sweep_turn.new.pages) whole
+      swept = subst (λ (k : ℕ). HasSwept c.args.running k c.args.txn.now c.sweep_turn.new.txn c.args.pages.now c.sweep_turn.new.pages) (omega arith)
           (more_swept c.args.running c.loop-swept.swept c.in_ok-count.count c.args.txn.now c.loop-swept.txn c.sweep_turn.new.txn c.args.pages.now c.loop-swept.pages c.sweep_turn.new.pages before.swept turn.swept);
       clean = λ honest n holds tidy less. turn.clean honest n (subst (λ (P : Image). InTxn c.sweep_turn.new.txn P n) (sym (before.swept.passed.quiet.same (turn.swept.passed.quiet.honest honest))) holds) tidy zero;
     })

@@ -1,11 +1,9 @@
 use Rattle.std.proofs.Common.{◌<◌, ◌≤◌, ℕ, List, Some, length, sym, ap, subst, ◌∙◌}
-use Rattle.page_store.proofs.Stops.{quiet_more}
-use Rattle.page_store.specs.claim.Transactions.{stored}
+use Rattle.page_store.{specs.claim.Transactions.stored, proofs.Stops.quiet_more}
 use Rattle.desk_pages.proofs.Writing.{does, told_on}
 use Rattle.plan_rows.proofs.Writing.{after_reads, only_read, unread}
 use Rattle.store_sweep.specs.declared.leftovers.Left.TheVariants as left
-use Rattle.store_sweep.specs.Leftovers.{IsSpared}
-use Rattle.store_sweep.specs.Finding.{IsNextLeft}
+use Rattle.store_sweep.specs.{Leftovers.IsSpared, Finding.IsNextLeft}
 use Rattle.store_sweep.proofs.Taken.{key_fits, turn_none, turn_row, turn_hold, FindsHolding, not_found, not_removed, not_released, removed_key}
 use Rattle.store_sweep.proofs.rows.sweep_turn.Goals as goal
 
@@ -35,7 +33,6 @@ remove-requires-clause-key g c = c.if-not-is_key.ensures
 
 pub returns-in_err-remove-in-Row : goal.returns-in_err-remove-in-Row
 returns-in_err-remove-in-Row g c =
-    let t = c.args.txn.now in
     let a = c.args.pages.now in
     let b = c.next_leftover.new.pages in
     let d = c.remove.new.pages in
@@ -43,20 +40,19 @@ returns-in_err-remove-in-Row g c =
     let looks = c.in_ok-left.ensures in
     let why = c.in_err-remove-in-Row.ensures in
     unread c.from_residual-in_err-remove-in-Row.result e (why.pages ∙ c.requires.begun) (quiet_more a b d looks.quiet why.reading.quiet) c.from_residual-in_err-remove-in-Row.ensures.1
-    (not_removed t a b d e looks.passed why.reading.quiet why.reading.err)
+    (not_removed c.args.txn.now a b d e looks.passed why.reading.quiet why.reading.err)
 
 pub returns-in_ok-remove-in-Row : goal.returns-in_ok-remove-in-Row
 returns-in_ok-remove-in-Row g c =
     let key = c.next_leftover.new.row.key in
     let running = c.args.running in
-    let t = c.args.txn.now in
     let a = c.args.pages.now in
     let b = c.next_leftover.new.pages in
     let d = c.remove.new.pages in
     let looks = c.in_ok-left.ensures in
     let done = c.in_ok-remove-in-Row.ensures in
     only_read (done.pages ∙ c.requires.begun) (quiet_more a b d looks.quiet done.reading.quiet)
-    (turn_row c.turns_are_swept.ensures running key t c.remove.new.txn a b d looks.passed
+    (turn_row c.turns_are_swept.ensures running key c.args.txn.now c.remove.new.txn a b d looks.passed
     (λ honest m holds tidy. subst (IsNextLeft running key m) (c.in-Some.is ∙ ap Some c.in-Row.is) (looks.there honest m holds tidy)) done.reading.passed done.pages
     (λ honest m holds. removed_key m c.remove.new.txn (stored b) c.as_slice-key.result.now key c.as_slice-key.ensures.bytes (done.remove honest m holds).0) done.costs.writes done.costs.given)
 

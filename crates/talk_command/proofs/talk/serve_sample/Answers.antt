@@ -1,5 +1,4 @@
-use Rattle.std.proofs.Common.{refl, inl, inr}
-use Rattle.std.proofs.KnownBytes.{Consumes-nil, Appends-nil}
+use Rattle.std.proofs.{Common.{refl, inl, inr}, KnownBytes.{Consumes-nil, Appends-nil}}
 use Rattle.talk_command.proofs.talk.serve_sample.Goals as goal
 
 pub returns-in-Some-clause-serves : goal.returns-in-Some-clause-serves

@@ -1,8 +1,6 @@
 use Rattle.std.proofs.Common.{arith, rules, length, get_or, false, min, ◌+◌, ◌-◌, ◌*◌, IsTrue, subst, ap, sym}
 use Rattle.std.proofs.lemmas.Result.{IfOk-weaker}
-use Rattle.audit_clauses.specs.claim.Breaks.{AreBreaks}
-use Rattle.audit_clauses.specs.Parts.{Shown}
-use Rattle.audit_clauses.proofs.Keeping.{forest_within, lowest_within, own_breaks}
+use Rattle.audit_clauses.{specs.claim.Breaks.AreBreaks, specs.Parts.Shown, proofs.Keeping.{forest_within, lowest_within, own_breaks}}
 use Rattle.audit_clauses.proofs.parts.DistrictTrees.breaks.Goals as goal
 
 pub tell-requires : goal.tell-requires

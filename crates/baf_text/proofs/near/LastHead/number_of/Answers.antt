@@ -1,24 +1,14 @@
-use Rattle.std.proofs.Common.{get_or, arith, sym, ◌∙◌}
+use Rattle.std.proofs.Common.{sym, ◌∙◌, rules}
 use Rattle.baf_text.proofs.Nearby.{hundreds_small, low_worth, near_number}
 use Rattle.baf_text.proofs.near.LastHead.number_of.Goals as goal
 
 pub overflow_add-result : goal.overflow_add-result
 overflow_add-result c =
-    omega (
-      arith,
-      hundreds_small c.self.inside.digits c.self.inside.hundreds c.self.invariant,
-      low_worth (get_or c.args.text.now 13 0) (get_or c.args.text.now 14 0) (sym c.is_ascii_digit.ensures.value ∙ c.if-is_ascii_digit.true)
-          (sym c.is_ascii_digit-then-is_ascii_digit.ensures.value ∙ c.if-is_ascii_digit-2.true),
-    )
+    search (rules, c.self.invariant, c.is_ascii_digit.ensures.value, c.if-is_ascii_digit.true, c.is_ascii_digit-then-is_ascii_digit.ensures.value, c.if-is_ascii_digit-2.true, hundreds_small, low_worth)
 
 pub overflow_add-result-then-is_same : goal.overflow_add-result-then-is_same
 overflow_add-result-then-is_same c =
-    omega (
-      arith,
-      hundreds_small c.self.inside.digits c.self.inside.hundreds c.self.invariant,
-      low_worth (get_or c.args.text.now 13 0) (get_or c.args.text.now 14 0) (sym c.is_ascii_digit.ensures.value ∙ c.if-is_ascii_digit.true)
-          (sym c.is_ascii_digit-then-is_ascii_digit.ensures.value ∙ c.if-is_ascii_digit-2.true),
-    )
+    search (rules, c.self.invariant, c.is_ascii_digit.ensures.value, c.if-is_ascii_digit.true, c.is_ascii_digit-then-is_ascii_digit.ensures.value, c.if-is_ascii_digit-2.true, hundreds_small, low_worth)
 
 pub returns-then-is_same : goal.returns-then-is_same
 returns-then-is_same c =

@@ -7,14 +7,10 @@ overflow_cast-result c = let few = c.args.self.now.few in let lt = c.loop-place-
 
 pub returns-clause-lost : goal.returns-clause-lost
 returns-clause-lost c = λ some seen.
-    let is = c.args.self.now.left_is in
-    let done = c.loop-place-test.false in
     let all = all_seen c.args.self.now.seen.items (λ p lt. c.loop-place.invariant p (omega arith)) in
     omega arith
 
 pub returns-clause-within : goal.returns-clause-within
 returns-clause-within c = λ some.
-    let is = c.args.self.now.left_is in
-    let done = c.loop-place-test.false in
     let all = all_seen c.args.self.now.seen.items (λ p lt. c.loop-place.invariant p (omega arith)) in
     absurd (omega arith)

@@ -1,16 +1,6 @@
-use Rattle.std.proofs.Common.{◌≡◌, Bool, true, false, refl, sym, subst, rules}
-use Rattle.std.specs.Prelude.{Some, None}
-use Rattle.std.specs.FinMap.{entries}
-use Rattle.btree_walks.specs.Parts.{page_of, row_at}
-use Rattle.btree_walks.specs.Scanning.{RestWhere, IsStep, CanScan, CanStep}
-use Rattle.btree_walks.proofs.Ready.{scan_wider}
+use Rattle.std.{specs.FinMap.entries, proofs.Common.{refl, sym, subst, rules}}
+use Rattle.btree_walks.{specs.Parts.{page_of, row_at}, specs.Scanning.{RestWhere, IsStep, CanScan, CanStep}, proofs.Ready.scan_wider}
 use Rattle.btree_walks.proofs.scans.Scan.advance.Goals as goal
-
-clash : {b : Bool} → b ≡ true → b ≡ false → ⊥
-clash is is_not = cc
-
-no_fault : {X : Type 0} {x : X} → Some x ≡ None → ⊥
-no_fault e = cc
 
 pub returns-then-self : goal.returns-then-self
 returns-then-self g c = record {
@@ -35,7 +25,7 @@ returns-in-Ok-true g c = record {
   fault = search rules;
   going = λ _. (c.if-self.false, refl);
   ended = search rules;
-  kept = λ ended. absurd (clash ended c.if-self.false);
+  kept = λ ended. cc (c.if-self.false);
 }
 
 pub returns-in-Ok-false : goal.returns-in-Ok-false
@@ -49,19 +39,19 @@ returns-in-Ok-false g c = record {
   fault = search rules;
   going = search rules;
   ended = search rules;
-  kept = λ ended. absurd (clash ended c.if-self.false);
+  kept = λ ended. cc (c.if-self.false);
 }
 
 pub returns-in-Err : goal.returns-in-Err
 returns-in-Err g c = record {
   quiet = search rules;
-  rows = λ honest m rest holds is none. absurd (no_fault none);
-  passed = λ none. absurd (no_fault none);
+  rows = λ honest m rest holds is none. cc;
+  passed = λ none. cc;
   fault = λ none.
       let scan = c.args.self.now in
       scan_wider (CanStep scan.covered scan.prefix scan.leaf scan.held) (CanScan scan) c.args.txn.now c.args.pages.now c.step.new.pages
       (λ m there. (there.0, subst (λ b. RestWhere b scan.covered scan.prefix scan.leaf scan.held (entries m) there.0) c.if-self.false there.1)) c.in-Err.fault c.in-Err.ensures.reading.err;
   going = search rules;
   ended = search rules;
-  kept = λ ended. absurd (clash ended c.if-self.false);
+  kept = λ ended. cc (c.if-self.false);
 }

@@ -1,6 +1,5 @@
 use Rattle.std.proofs.Common.{◌<◌, arith}
-use Rattle.btree_walks.specs.declared.parts.ScanPlace.{ScanPlace}
-use Rattle.btree_walks.proofs.Places.{next_some, none_next}
+use Rattle.btree_walks.{specs.declared.parts.ScanPlace.ScanPlace, proofs.Places.{next_some, none_next}}
 use Rattle.btree_walks.proofs.scans.Scan.take_at.Goals as goal
 
 pub returns-clause-rows : goal.returns-clause-rows

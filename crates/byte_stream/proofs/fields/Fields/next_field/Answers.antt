@@ -1,11 +1,9 @@
-use Rattle.std.proofs.Common.{sym, ◌∙◌, ap}
-use Rattle.byte_stream.specs.claim.Fields.{fields}
+use Rattle.std.proofs.Common.{sym, ◌∙◌, rules}
 use Rattle.byte_stream.proofs.TextLemmas.{fields-cut, fields-last}
 use Rattle.byte_stream.proofs.fields.Fields.next_field.Goals as goal
 
 pub returns-in-Some : goal.returns-in-Some
-returns-in-Some c =
-    rw c.if-self.false (sym (rw c.if-self.false at c.self.view_is) ∙ ap fields c.in-Some.ensures.0 ∙ fields-cut c.in-Some.field.now c.in-Some.rest.now c.in-Some.ensures.1)
+returns-in-Some c = search (rules, c.in-Some.ensures.0, c.in-Some.ensures.1, fields-cut)
 
 pub returns-in-None : goal.returns-in-None
 returns-in-None c = sym (rw c.if-self.false at c.self.view_is) ∙ fields-last c.self.inside.rest.now c.in-None.ensures

@@ -1,15 +1,12 @@
-use Rattle.std.proofs.Common.{◌≡◌, ℕ, drop, sym, ◌∙◌, ap, arith}
-use Rattle.std.specs.Option.{option_copied}
+use Rattle.std.proofs.Common.{◌≡◌, ℕ, drop, sym, ◌∙◌, ap, arith, rules}
 use Rattle.byte_stream.proofs.NthLemmas.{none_at, none_after, got_after, last_at, last_after}
 use Rattle.byte_stream.proofs.fields.Fields.nth_field.Goals as goal
 
 pub returns-in_err-next_field-clause-field : goal.returns-in_err-next_field-clause-field
-returns-in_err-next_field-clause-field c =
-    ap option_copied c.from_residual.ensures ∙ sym (none_at c.args.self.now c.loop.counter c.args.skipped (sym c.loop.invariant ∙ c.in_err-next_field.ensures.0) (omega arith))
+returns-in_err-next_field-clause-field c = search (rules, c.from_residual.ensures, c.loop.invariant, c.in_err-next_field.ensures.0, none_at)
 
 pub returns-in_err-next_field-clause-rest : goal.returns-in_err-next_field-clause-rest
-returns-in_err-next_field-clause-rest c =
-    c.in_err-next_field.ensures.1 ∙ sym (none_after c.args.self.now c.loop.counter c.args.skipped (sym c.loop.invariant ∙ c.in_err-next_field.ensures.0) (omega arith))
+returns-in_err-next_field-clause-rest c = search (rules, c.in_err-next_field.ensures.1, c.loop.invariant, c.in_err-next_field.ensures.0, none_after)
 
 pub loop-preserved : goal.loop-preserved
 loop-preserved c = sym (got_after c.args.self.now c.next_field.new.self _ c.loop.counter (sym c.loop.invariant ∙ c.in_ok-next_field.ensures))

@@ -1,7 +1,5 @@
-use Rattle.std.proofs.Common.{◌≡◌, ℕ, ◌-◌, List, ◌++◌}
-use Rattle.std.specs.Io.KnownBytes.{Consumes}
-use Rattle.byte_stream.specs.Reading.{CountsFrom}
-use Rattle.byte_stream.specs.claim.Reading.{turn_limit}
+use Rattle.std.{specs.Io.KnownBytes.Consumes, proofs.Common.{◌≡◌, ℕ, ◌-◌, List, ◌++◌}}
+use Rattle.byte_stream.specs.{Reading.CountsFrom, claim.Reading.turn_limit}
 use Rattle.byte_stream.proofs.reader.LineReader.advance.Given as goal
 
 abbrev pub invariant-loop-self : goal.invariant-loop-self

@@ -1,27 +1,17 @@
-use Rattle.std.proofs.Common.{◌≡◌, ℕ, List, ◌++◌, refl, sym, subst, ap, ◌∙◌}
+use Rattle.std.proofs.Common.{◌≡◌, ℕ, List, ◌++◌, refl, sym, subst, ap, ◌∙◌, rules}
 use Rattle.std.proofs.lemmas.List.{append-nil}
-use Rattle.byte_stream.specs.Reading.{CountsFrom}
-use Rattle.byte_stream.specs.Words.{CutsPart}
-use Rattle.byte_stream.proofs.ReadingLemmas.{counts_more}
+use Rattle.byte_stream.{specs.Reading.CountsFrom, specs.Words.CutsPart, proofs.ReadingLemmas.counts_more}
 use Rattle.byte_stream.proofs.WordSteps.{past_nothing, past_part, past_turn, past_none, word_given, long_given, part_given, end_given}
 use Rattle.byte_stream.proofs.reader.LineReader.advance_word.Goals as goal
 
 pub loop-self-init : goal.loop-self-init
-loop-self-init g c = record {
-  read = past_nothing (g.R.Source.remaining c.args.reader.now) c.args.self.now.held;
-  number = refl;
-  failures = refl;
-  counted = λ first was. was;
-}
+loop-self-init g c = search (rules, past_nothing)
 
 pub returns-in-Word-clause-bytes : goal.returns-in-Word-clause-bytes
-returns-in-Word-clause-bytes g c =
-    word_given (g.R.Source.remaining c.args.reader.now) (g.R.Source.remaining c.loop-self.reader) c.args.self.now.held c.loop-self.self.held c.take_word.new.self.line c.take_word.new.self.held
-    c.loop-self.invariant.read c.in-Word.ensures.word
+returns-in-Word-clause-bytes g c = search (rules, c.loop-self.invariant.read, c.in-Word.ensures.word, word_given)
 
 pub returns-in-Long-clause-bytes : goal.returns-in-Long-clause-bytes
-returns-in-Long-clause-bytes g c =
-    long_given (g.R.Source.remaining c.args.reader.now) (g.R.Source.remaining c.loop-self.reader) c.args.self.now.held c.loop-self.self.held c.loop-self.invariant.read c.in-Long.ensures.word
+returns-in-Long-clause-bytes g c = search (rules, c.loop-self.invariant.read, c.in-Long.ensures.word, long_given)
 
 pub returns-then-not-has_turns-clause-bytes : goal.returns-then-not-has_turns-clause-bytes
 returns-then-not-has_turns-clause-bytes g c =

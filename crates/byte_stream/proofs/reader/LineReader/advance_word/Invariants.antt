@@ -1,7 +1,5 @@
 use Rattle.std.proofs.Common.{◌≡◌, ℕ, ◌-◌}
-use Rattle.byte_stream.specs.Reading.{CountsFrom}
-use Rattle.byte_stream.specs.claim.Reading.{turn_limit}
-use Rattle.byte_stream.proofs.WordSteps.{ReadsPast}
+use Rattle.byte_stream.{specs.Reading.CountsFrom, specs.claim.Reading.turn_limit, proofs.WordSteps.ReadsPast}
 use Rattle.byte_stream.proofs.reader.LineReader.advance_word.Given as goal
 
 abbrev pub invariant-loop-self : goal.invariant-loop-self

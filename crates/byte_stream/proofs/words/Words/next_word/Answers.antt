@@ -1,8 +1,6 @@
-use Rattle.std.proofs.Common.{List, ℕ, ◌∷◌, length, take, sym, ap, ◌∙◌, arith, length-take}
-use Rattle.std.specs.List.{slice_range}
+use Rattle.std.{specs.List.slice_range, proofs.Common.{length, sym, ap, ◌∙◌, arith, length-take, rules}}
 use Rattle.std.proofs.lemmas.Slice.{between_to_end}
-use Rattle.byte_stream.specs.claim.Words.{words}
-use Rattle.byte_stream.proofs.WordLemmas.{next_is, next_none}
+use Rattle.byte_stream.{specs.claim.Words.words, proofs.WordLemmas.{next_is, next_none}}
 use Rattle.byte_stream.proofs.words.Words.next_word.Goals as goal
 
 pub returns-then-len-eq0-clause-word : goal.returns-then-len-eq0-clause-word
@@ -16,11 +14,4 @@ returns-then-len-eq0-clause-word c =
 
 pub returns-clause-word : goal.returns-clause-word
 returns-clause-word c =
-    let text = c.self.inside.rest.now in
-    let n = c.separators_before.result in
-    let m = c.bytes_before-len.result in
-    let prefix = slice_range text n (length text) in
-    sym c.self.view_is
-    ∙ next_is text prefix n m (between_to_end text n (length text) (omega arith)) c.separators_before.ensures.before
-    (record { some = omega (arith, length-take m prefix, c.bytes_before-len.ensures.within); one = c.bytes_before-len.ensures.before }) c.bytes_before-len.ensures.ends
-    ∙ ap (λ (rest : List ℕ). take m prefix ∷ words rest) (sym (between_to_end prefix m (length prefix) (omega arith)))
+    search (rules, c.separators_before.ensures.before, c.bytes_before-len.ensures.within, c.bytes_before-len.ensures.before, c.bytes_before-len.ensures.ends, next_is, between_to_end, length-take)

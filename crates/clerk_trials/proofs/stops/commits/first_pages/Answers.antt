@@ -1,8 +1,5 @@
-use Rattle.std.proofs.Common.{◌<◌, ℕ, subst, arith, OnOk}
-use Rattle.std.specs.Prelude.{Result}
-use Rattle.std.specs.declared.alloc.AllocError.{AllocError}
-use Rattle.gate_journal.specs.Store.{IsWithin}
-use Rattle.gate_journal.specs.claim.Writes.{writes_of}
+use Rattle.std.{specs.Prelude.Result, specs.declared.alloc.AllocError.AllocError, proofs.Common.{◌<◌, ℕ, subst, arith, OnOk}}
+use Rattle.gate_journal.specs.{Store.IsWithin, claim.Writes.writes_of}
 use Rattle.clerk_trials.proofs.stops.commits.first_pages.Goals as goal
 
 pub loop-p-preserved : goal.loop-p-preserved

@@ -1,5 +1,4 @@
-use Rattle.std.proofs.Common.{ap, ◌∙◌}
-use Rattle.std.specs.Option.{option_map}
+use Rattle.std.{specs.Option.option_map, proofs.Common.{ap, ◌∙◌}}
 use Rattle.desk_catalogue.proofs.catalogue.Catalogue.listed.Goals as goal
 
 pub returns-in-Some : goal.returns-in-Some

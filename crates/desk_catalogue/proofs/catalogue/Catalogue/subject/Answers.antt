@@ -1,11 +1,7 @@
 use Rattle.std.proofs.Common.{rules, ◌≡◌, Err, ap, sym, subst, ◌∙◌}
 use Rattle.std.specs.FinMap as map_of
-use Rattle.desk_model.specs.claim.Desk.{Desk}
-use Rattle.desk_model.specs.claim.Subject.{subject_of}
-use Rattle.desk_model.specs.declared.reply.Refusal.{Refusal}
-use Rattle.desk_catalogue.specs.Kept.{AreWhole}
-use Rattle.desk_catalogue.proofs.Audited.{subject_is, subject_refused, whole_found}
-use Rattle.desk_catalogue.proofs.Results.{match_of}
+use Rattle.desk_model.specs.{claim.Desk.Desk, claim.Subject.subject_of, declared.reply.Refusal.Refusal}
+use Rattle.desk_catalogue.{specs.Kept.AreWhole, proofs.Audited.{subject_is, subject_refused, whole_found}, proofs.Results.match_of}
 use Rattle.desk_catalogue.proofs.catalogue.Catalogue.subject.Goals as goal
 
 pub returns-in_err-beside : goal.returns-in_err-beside

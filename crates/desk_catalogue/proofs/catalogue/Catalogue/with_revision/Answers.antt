@@ -1,14 +1,9 @@
 use Rattle.std.proofs.Common.{◌≡◌, ◌++◌, ◌∷◌, [], ℕ, List, length, Option, Some, ap, subst, sym, ◌∙◌}
 use Rattle.std.specs.FinMap as map_of
-use Rattle.desk_model.specs.Ranges.{ranges_in, ranges_of}
-use Rattle.desk_model.specs.claim.Desk.{Desk, Plan, name_cmp}
-use Rattle.desk_model.specs.declared.ranges.CountyRange.{CountyRange}
-use Rattle.desk_model.specs.claim.Room.{last_revision}
+use Rattle.desk_model.specs.{Ranges.{ranges_in, ranges_of}, claim.Desk.{Desk, Plan, name_cmp}, declared.ranges.CountyRange.CountyRange, claim.Room.last_revision}
 use Rattle.desk_model.specs.claim.Subject.{revision_at}
 use Rattle.desk_plans.specs.Rows.{Row}
-use Rattle.desk_catalogue.specs.Cutting.{AreComparable, AreWithin, changes_in}
-use Rattle.desk_catalogue.proofs.Cutting.{within_all}
-use Rattle.desk_catalogue.proofs.Whole.{revised_whole, whole_of}
+use Rattle.desk_catalogue.{specs.Cutting.{AreComparable, AreWithin, changes_in}, proofs.Cutting.within_all, proofs.Whole.{revised_whole, whole_of}}
 use Rattle.desk_catalogue.proofs.catalogue.Catalogue.with_revision.Goals as goal
 
 pub with_plans-requires : goal.with_plans-requires

@@ -1,8 +1,6 @@
-use Rattle.std.proofs.Common.{◌≡◌, sym, subst}
-use Rattle.std.specs.Result.{is_ok}
+use Rattle.std.{specs.Result.is_ok, proofs.Common.{◌≡◌, sym, subst}}
 use Rattle.desk_model.specs.claim.Step.{step}
-use Rattle.desk_claim.specs.claim.World.{after}
-use Rattle.desk_claim.proofs.Worlds.{joined}
+use Rattle.desk_claim.{specs.claim.World.after, proofs.Worlds.joined}
 use Rattle.desk_claim.proofs.world.World.join.Goals as goal
 
 pub invariant_of-self : goal.invariant_of-self

@@ -1,7 +1,5 @@
 use Rattle.std.proofs.Common.{subst}
-use Rattle.desk_gallery.specs.claim.Begun.{HasRun}
-use Rattle.desk_gallery.specs.Fronts.{Kept}
-use Rattle.desk_gallery.proofs.Working.{is_clerk_of, shown_accepted}
+use Rattle.desk_gallery.{specs.claim.Begun.HasRun, specs.Fronts.Kept, proofs.Working.{is_clerk_of, shown_accepted}}
 use Rattle.desk_gallery.proofs.front.Front.close.Goals as goal
 
 pub returns-clause-accepted : goal.returns-clause-accepted

@@ -1,12 +1,7 @@
 use Rattle.std.proofs.Common.{◌≡◌, ◌+◌, ◌∙◌, [], ◌∷◌, ◌++◌, refl, ap, sym, subst}
 use Rattle.desk_runs.specs.desk_store.Changes.{Made}
-use Rattle.desk_gallery.specs.claim.After.{after}
-use Rattle.desk_gallery.specs.claim.Telling.{accepted_in, halted_in}
-use Rattle.desk_gallery.specs.Fronts.{Kept}
-use Rattle.desk_gallery.specs.claim.Outcomes.{OutcomeMay}
-use Rattle.desk_gallery.specs.Working.{Joins}
-use Rattle.desk_gallery.proofs.Running.{counted_by, has_run_more}
-use Rattle.desk_gallery.proofs.Working.{Came, came_as, refused_work, unready_work, settled_work, works_of, outcome_of}
+use Rattle.desk_gallery.specs.{claim.After.after, claim.Telling.{accepted_in, halted_in}, Fronts.Kept, claim.Outcomes.OutcomeMay, Working.Joins}
+use Rattle.desk_gallery.proofs.{Running.{counted_by, has_run_more}, Working.{Came, came_as, refused_work, unready_work, settled_work, works_of, outcome_of}}
 use Rattle.desk_gallery.proofs.front.Front.command.Given.{Over}
 use Rattle.desk_gallery.proofs.front.Front.command.Goals.{After-count, in-Ok+in-Ok-change+in-Ok-append, in-Ok+in-Ok-change+in-Err-append, in-Ok+in-Err-change, in-Err}
 use Rattle.desk_gallery.proofs.front.Front.command.Goals as goal

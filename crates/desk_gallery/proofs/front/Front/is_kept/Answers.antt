@@ -1,6 +1,5 @@
 use Rattle.std.proofs.Common.{subst}
-use Rattle.desk_gallery.specs.Fronts.{Kept, ShowsAll}
-use Rattle.desk_gallery.proofs.Working.{opens_shown}
+use Rattle.desk_gallery.{specs.Fronts.{Kept, ShowsAll}, proofs.Working.opens_shown}
 use Rattle.desk_gallery.proofs.front.Front.is_kept.Goals as goal
 
 pub returns : goal.returns

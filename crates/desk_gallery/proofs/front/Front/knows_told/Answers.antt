@@ -1,8 +1,7 @@
 use Rattle.std.proofs.Common.{◌≡◌, List, length, sym, subst}
 use Rattle.desk_model.specs.declared.command.Command.{Command}
 use Rattle.desk_runs.specs.desk_store.claim.Clerks.{Keeps}
-use Rattle.desk_gallery.specs.claim.Begun.{HasRun}
-use Rattle.desk_gallery.specs.Working.{Agree}
+use Rattle.desk_gallery.specs.{claim.Begun.HasRun, Working.Agree}
 use Rattle.desk_gallery.proofs.front.Front.knows_told.Goals as goal
 
 pub invariant_of-self : goal.invariant_of-self

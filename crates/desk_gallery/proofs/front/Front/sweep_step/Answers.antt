@@ -1,6 +1,5 @@
 use Rattle.std.proofs.Common.{ap}
-use Rattle.desk_gallery.proofs.Running.{has_run_tended}
-use Rattle.desk_gallery.proofs.Working.{agree_tended, sweeps_of}
+use Rattle.desk_gallery.proofs.{Running.has_run_tended, Working.{agree_tended, sweeps_of}}
 use Rattle.desk_gallery.proofs.front.Front.sweep_step.Goals as goal
 
 pub invariant_of-self : goal.invariant_of-self

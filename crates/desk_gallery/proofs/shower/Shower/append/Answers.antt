@@ -1,8 +1,6 @@
 use Rattle.std.proofs.Common.{◌≡◌, ◌∙◌, List, [], ◌∷◌, ◌++◌, ap, sym, subst}
-use Rattle.desk_model.specs.declared.command.Command.{Command}
-use Rattle.desk_model.specs.claim.Step.{step}
-use Rattle.desk_gallery.specs.claim.After.{after}
-use Rattle.desk_gallery.proofs.Afters.{after_appended}
+use Rattle.desk_model.specs.{declared.command.Command.Command, claim.Step.step}
+use Rattle.desk_gallery.{specs.claim.After.after, proofs.Afters.after_appended}
 use Rattle.desk_gallery.proofs.shower.Shower.append.Goals as goal
 
 pub invariant_of-self : goal.invariant_of-self

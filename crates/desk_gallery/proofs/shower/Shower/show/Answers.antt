@@ -1,9 +1,6 @@
 use Rattle.std.proofs.Common.{rules, ◌≡◌, List, Some, None, ap, sym, ◌∙◌}
 use Rattle.desk_model.specs.declared.command.Command.{Command}
-use Rattle.desk_gallery.specs.declared.shelf.Shelf.{Shelf}
-use Rattle.desk_gallery.specs.claim.After.{after}
-use Rattle.desk_gallery.specs.Rules.{shown_of}
-use Rattle.desk_gallery.proofs.Showing.{waits_some, waits_none}
+use Rattle.desk_gallery.{specs.declared.shelf.Shelf.Shelf, specs.claim.After.after, specs.Rules.shown_of, proofs.Showing.{waits_some, waits_none}}
 use Rattle.desk_gallery.proofs.shower.Shower.show.Goals as goal
 
 pub publish-requires : goal.publish-requires

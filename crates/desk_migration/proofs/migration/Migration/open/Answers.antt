@@ -1,15 +1,10 @@
 use Rattle.std.proofs.Common.{◌≡◌, ◌≢◌, ◌≤◌, ℕ, inr, refl, sym, subst, ◌∙◌, rules}
 use Rattle.sector_device.specs.claim.Moments.{LeavesOnly}
-use Rattle.page_store.proofs.Stops.{leaves_quiet}
-use Rattle.page_store.specs.claim.Transactions.{disk_in}
-use Rattle.desk_pages.specs.claim.Openings.{AllVersions, OpensOneAs}
-use Rattle.desk_pages.specs.Openings.{IsSpared}
-use Rattle.desk_pages.proofs.Found.{open_versions, pages_stand, stores_of}
-use Rattle.desk_migration.specs.Openings.{IsRefused, LeavesNew}
-use Rattle.desk_pages.specs.declared.error.StoreError.{StoreError}
-use Rattle.desk_pages.specs.declared.error.StoreError.TheVariants.{NotAStore, DeviceFault, AlreadyNew}
+use Rattle.page_store.{specs.claim.Transactions.disk_in, proofs.Stops.leaves_quiet}
+use Rattle.desk_pages.specs.{claim.Openings.{AllVersions, OpensOneAs}, Openings.IsSpared, declared.error.StoreError.StoreError}
+use Rattle.desk_pages.{specs.declared.error.StoreError.TheVariants.{NotAStore, DeviceFault, AlreadyNew}, proofs.Found.{open_versions, pages_stand, stores_of}}
 use Rattle.desk_pages.proofs.Refusals.{page_calm, page_spared, calm_refused}
-use Rattle.desk_migration.proofs.Opened.{opened_keeps, page_refused, page_not_new, judged, left_new, is_found}
+use Rattle.desk_migration.{specs.Openings.{IsRefused, LeavesNew}, proofs.Opened.{opened_keeps, page_refused, page_not_new, judged, left_new, is_found}}
 use Rattle.desk_migration.proofs.migration.Migration.open.Goals as goal
 
 pub returns-in-Err : goal.returns-in-Err

@@ -1,8 +1,7 @@
 use Rattle.std.proofs.Common.{refl, rules}
 use Rattle.std.proofs.lemmas.Bool.{eqb-true}
 use Rattle.desk_pages.proofs.Outcomes.{err_of}
-use Rattle.desk_migration.specs.Puts.{StepErr}
-use Rattle.desk_migration.proofs.Moved.{exact_rows, more_rows, step_made, step_refused}
+use Rattle.desk_migration.{specs.Puts.StepErr, proofs.Moved.{exact_rows, more_rows, step_made, step_refused}}
 use Rattle.desk_opening.proofs.plan_rows.Committing.{both}
 use Rattle.desk_migration.proofs.migration.Migration.step.Goals as goal
 

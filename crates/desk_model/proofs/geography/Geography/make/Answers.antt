@@ -1,7 +1,5 @@
 use Rattle.std.proofs.Common.{ap, subst, ◌∙◌}
-use Rattle.desk_model.specs.claim.GeographyModels.{AreTold}
-use Rattle.desk_model.specs.Ranges.{ranges_of_blocks}
-use Rattle.desk_model.proofs.Pairs.{told_sorted, geography_made}
+use Rattle.desk_model.{specs.claim.GeographyModels.AreTold, specs.Ranges.ranges_of_blocks, proofs.Pairs.{told_sorted, geography_made}}
 use Rattle.desk_model.proofs.geography.Geography.make.Goals as goal
 
 pub invariant_of-result : goal.invariant_of-result

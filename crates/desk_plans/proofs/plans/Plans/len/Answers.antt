@@ -1,5 +1,4 @@
-use Rattle.std.proofs.Common.{ap, ◌∙◌}
-use Rattle.std.specs.FinMap.{len}
+use Rattle.std.{specs.FinMap.len, proofs.Common.{ap, ◌∙◌}}
 use Rattle.desk_plans.proofs.plans.Plans.len.Goals as goal
 
 pub returns : goal.returns

@@ -1,8 +1,6 @@
-use Rattle.std.proofs.Common.{ap, ◌∙◌}
-use Rattle.desk_plans.specs.Tree.{rows_of}
-use Rattle.desk_plans.proofs.Held.{settled_map, held_less}
+use Rattle.std.{specs.FinMap.len, proofs.Common.{ap, ◌∙◌}}
+use Rattle.desk_plans.{specs.Tree.rows_of, proofs.Held.{settled_map, held_less}}
 use Rattle.desk_plans.proofs.plans.Plans.remove.Goals as goal
-use Rattle.std.specs.FinMap.{len}
 
 pub overflow_sub-result : goal.overflow_sub-result
 overflow_sub-result c =

@@ -1,10 +1,7 @@
-use Rattle.std.proofs.Common.{map, ap, sym, ◌∙◌}
-use Rattle.desk_plans.specs.Tree.{rows_of}
-use Rattle.desk_plans.proofs.Held.{AreMap, settled_map}
+use Rattle.std.{specs.FinMap.entries, proofs.Common.{map, ap, sym, ◌∙◌}}
+use Rattle.desk_plans.{specs.Tree.rows_of, proofs.Held.{AreMap, settled_map}, proofs.AsMap.entries_of}
 use Rattle.desk_plans.proofs.plans.Plans.rows.Goals as goal
-use Rattle.std.specs.FinMap.{entries}
 use Rattle.desk_model.specs.claim.Step.{plan_row}
-use Rattle.desk_plans.proofs.AsMap.{entries_of}
 
 pub returns : goal.returns
 returns c =

@@ -1,10 +1,6 @@
-use Rattle.std.proofs.Common.{◌≡◌, rules, ap, ◌∙◌}
-use Rattle.desk_plans.specs.Tree.{rows_of}
-use Rattle.desk_plans.proofs.Held.{AreMap, settled_map, held_whole, on_ok}
+use Rattle.std.{specs.FinMap.len, proofs.Common.{◌≡◌, rules, ap, ◌∙◌}}
+use Rattle.desk_plans.{specs.Tree.rows_of, specs.Held.IsSettled, proofs.Held.{AreMap, settled_map, held_whole, on_ok}, proofs.AsMap.as_map}
 use Rattle.desk_plans.proofs.plans.Plans.settle.Goals as goal
-use Rattle.std.specs.FinMap.{len}
-use Rattle.desk_plans.specs.Held.{IsSettled}
-use Rattle.desk_plans.proofs.AsMap.{as_map}
 
 pub invariant_of-self : goal.invariant_of-self
 invariant_of-self c =

@@ -1,7 +1,5 @@
 use Rattle.std.proofs.Common.{◌≡◌, List, ◌<◌, ◌∷◌, ◌++◌, drop, length, subst, ap, sym, ◌∙◌}
-use Rattle.desk_plans.specs.Rows.{Row}
-use Rattle.desk_plans.specs.Tree.{rows_of}
-use Rattle.desk_plans.proofs.Splits.{others_of_more}
+use Rattle.desk_plans.{specs.Rows.Row, specs.Tree.rows_of, proofs.Splits.others_of_more}
 use Rattle.desk_plans.proofs.tree.Tree.+without_least.Goals as goal
 
 pub returns-in_ok-balanced-in-Some-clause-rest : goal.returns-in_ok-balanced-in-Some-clause-rest

@@ -1,8 +1,7 @@
 use Rattle.std.proofs.Common.{refl, inl, rules}
 use Rattle.page_store.proofs.Stops.{quiet_none}
-use Rattle.desk_store.specs.claim.Clerks.{desk_of, pages_of, Keeps}
-use Rattle.desk_store.proofs.Moved.{worked, faulted, quieted, unmoved}
-use Rattle.desk_store.proofs.Loaded.{begin_left, begin_rose, begin_quiet, begin_failed, begin_refused, begin_holds, begin_stages}
+use Rattle.desk_store.{specs.claim.Clerks.{desk_of, pages_of, Keeps}, proofs.Moved.{worked, faulted, quieted, unmoved}}
+use Rattle.desk_store.proofs.Loaded.{begin_left, begin_told, begin_refused, refused_rose, refused_quiet, refused_failed, begin_holds, begin_stages}
 use Rattle.desk_store.proofs.clerk.Clerk.begin_load.Goals as goal
 
 pub returns-then-has_failed-clause-moves : goal.returns-then-has_failed-clause-moves
@@ -10,7 +9,7 @@ returns-then-has_failed-clause-moves g c =
     let x = c.args.self.now in
     let did = c.in-Err.ensures in
     faulted (Keeps x) (desk_of x) x _ c.if-self.false refl refl did.step.commits.shape did.step.commits.honest (begin_left x c.begin_load.new.pages c.if-self.false did.step.commits.honest did.any_moment) (λ keeps honest. inl refl)
-    (begin_rose c.args.geography.value x c.begin_load.new.pages c.in-Err.e c.if-self.false did.step.commits.honest did.step.commits.err (c.if-has_failed.ensures.failed refl))
+    (λ keeps. refused_rose x c.begin_load.new.pages c.in-Err.e c.if-self.false (begin_told c.args.geography.value (pages_of c.args.self.now) c.begin_load.new.pages c.in-Err.e c.in-Err.ensures.step.commits.err) (c.if-has_failed.ensures.failed refl))
 
 pub returns-in-Ok-clause-moves : goal.returns-in-Ok-clause-moves
 returns-in-Ok-clause-moves g c =
@@ -31,10 +30,10 @@ pub returns-else-has_failed-clause-moves : goal.returns-else-has_failed-clause-m
 returns-else-has_failed-clause-moves g c =
     let x = c.args.self.now in
     let did = c.in-Err.ensures in
-    quieted (Keeps x) (desk_of x) x _ (λ keeps. keeps) c.if-self.false c.if-self.false refl (begin_quiet c.args.geography.value x c.begin_load.new.pages c.in-Err.e (c.if-has_failed.ensures.passed refl).0 did.step.commits.err)
+    quieted (Keeps x) (desk_of x) x _ (λ keeps. keeps) c.if-self.false c.if-self.false refl (refused_quiet (pages_of x) c.begin_load.new.pages c.in-Err.e (c.if-has_failed.ensures.passed refl).0 (begin_told c.args.geography.value (pages_of c.args.self.now) c.begin_load.new.pages c.in-Err.e c.in-Err.ensures.step.commits.err))
 
 pub returns-then-has_failed-clause-err : goal.returns-then-has_failed-clause-err
-returns-then-has_failed-clause-err g c = (refl, λ off. begin_failed c.args.geography.value c.args.self.now c.begin_load.new.pages c.in-Err.e c.if-self.false c.in-Err.ensures.step.commits.err (c.if-has_failed.ensures.failed refl))
+returns-then-has_failed-clause-err g c = (refl, λ off. refused_failed c.args.self.now c.begin_load.new.pages c.in-Err.e c.if-self.false (begin_told c.args.geography.value (pages_of c.args.self.now) c.begin_load.new.pages c.in-Err.e c.in-Err.ensures.step.commits.err) (c.if-has_failed.ensures.failed refl))
 
 pub returns-else-has_failed-clause-err : goal.returns-else-has_failed-clause-err
 returns-else-has_failed-clause-err g c =
@@ -46,15 +45,11 @@ pub returns-then-is_some-clause-moves : goal.returns-then-is_some-clause-moves
 returns-then-is_some-clause-moves g c = unmoved (Keeps c.args.self.now) (desk_of c.args.self.now) c.args.self.now (λ keeps. keeps)
 
 pub returns-then-is_some-clause-loads : goal.returns-then-is_some-clause-loads
-returns-then-is_some-clause-loads g c = record {
-  desk = search rules;
-  working = search rules;
-  quiet = λ off. quiet_none (pages_of c.args.self.now);
-}
+returns-then-is_some-clause-loads g c = search (rules, quiet_none (pages_of c.args.self.now))
 
 pub returns-else-has_failed-clause-loads : goal.returns-else-has_failed-clause-loads
-returns-else-has_failed-clause-loads g c = record {
-  desk = search rules;
-  working = search rules;
-  quiet = λ off. begin_quiet c.args.geography.value c.args.self.now c.begin_load.new.pages c.in-Err.e (c.if-has_failed.ensures.passed refl).0 c.in-Err.ensures.step.commits.err;
-}
+returns-else-has_failed-clause-loads g c =
+    search (
+      rules,
+      refused_quiet (pages_of c.args.self.now) c.begin_load.new.pages c.in-Err.e (c.if-has_failed.ensures.passed refl).0 (begin_told c.args.geography.value (pages_of c.args.self.now) c.begin_load.new.pages c.in-Err.e c.in-Err.ensures.step.commits.err),
+    )

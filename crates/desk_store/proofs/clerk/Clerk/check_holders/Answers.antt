@@ -1,7 +1,5 @@
 use Rattle.std.proofs.Common.{refl, rules}
-use Rattle.desk_store.specs.claim.Clerks.{desk_of, Keeps}
-use Rattle.desk_store.proofs.Moved.{quieted}
-use Rattle.desk_store.proofs.Swept.{checked_failed, refused_so}
+use Rattle.desk_store.{specs.claim.Clerks.{desk_of, Keeps}, proofs.Moved.quieted, proofs.Swept.{checked_failed, refused_so}}
 use Rattle.desk_store.proofs.clerk.Clerk.check_holders.Goals as goal
 
 pub returns-then-has_failed : goal.returns-then-has_failed

@@ -1,27 +1,17 @@
 use Rattle.std.proofs.Common.{refl, inl, rules}
 use Rattle.page_store.proofs.Stops.{quiet_none}
-use Rattle.desk_store.specs.claim.Clerks.{desk_of, pages_of}
-use Rattle.desk_store.specs.Loads.{Stages}
-use Rattle.desk_store.proofs.Moved.{worked, faulted, quieted, unmoved}
-use Rattle.desk_store.proofs.Loaded.{batch_left, batch_rose, batch_quiet, batch_failed, batch_refused, batch_ended, batch_holds, batch_stages}
+use Rattle.desk_store.{specs.claim.Clerks.{desk_of, pages_of}, specs.Loads.Stages, proofs.Moved.{worked, faulted, quieted, unmoved}}
+use Rattle.desk_store.proofs.Loaded.{batch_left, batch_told, batch_refused, refused_rose, refused_quiet, refused_failed, batch_ended, batch_holds, batch_stages}
 use Rattle.desk_store.proofs.clerk.Clerk.load_batch.Goals as goal
 
 pub returns-in-Err : goal.returns-in-Err
-returns-in-Err g c = record {
-  moves = unmoved (Stages c.args.self.now c.args.load.now) (desk_of c.args.self.now) c.args.self.now (λ stages. stages.keeps);
-  loads = record {
-    desk = search rules;
-    working = search rules;
-    quiet = λ off. quiet_none (pages_of c.args.self.now);
-  };
-  staged = search rules;
-  last = search rules;
-  further = search rules;
-  left = search rules;
-  same = search rules;
-  loading = search rules;
-  err = batch_ended c.args.load.now c.args.rows c.args.self.now (pages_of c.args.self.now) c.in-Err.e c.in-Err.ensures.err;
-}
+returns-in-Err g c =
+    search (
+      rules,
+      unmoved (Stages c.args.self.now c.args.load.now) (desk_of c.args.self.now) c.args.self.now (λ stages. stages.keeps),
+      quiet_none (pages_of c.args.self.now),
+      batch_ended c.args.load.now c.args.rows c.args.self.now (pages_of c.args.self.now) c.in-Err.e c.in-Err.ensures.err,
+    )
 
 pub returns-then-has_failed : goal.returns-then-has_failed
 returns-then-has_failed g c = record {
@@ -30,7 +20,7 @@ returns-then-has_failed g c = record {
       let working = c.in_default.ensures.ok.0 in
       let did = c.in-Err-load_batch.ensures in
       faulted (Stages x load) (desk_of x) x _ working refl refl did.step.commits.shape did.step.commits.honest (batch_left x c.load_batch.new.pages load working did.step.commits.honest did.any_moment) (λ stages honest. inl refl)
-      (batch_rose load c.args.rows x c.load_batch.new.pages c.in-Err-load_batch.e working did.step.commits.honest did.step.commits.err (c.if-has_failed.ensures.failed refl));
+      (λ stages. refused_rose x c.load_batch.new.pages c.in-Err-load_batch.e working (batch_told c.args.load.now c.args.rows (pages_of c.args.self.now) c.load_batch.new.pages c.in-Err-load_batch.e c.in-Err-load_batch.ensures.step.commits.err) (c.if-has_failed.ensures.failed refl));
   loads = search rules;
   staged = search rules;
   last = search rules;
@@ -38,7 +28,7 @@ returns-then-has_failed g c = record {
   left = search rules;
   same = c.in-Err-load_batch.ensures.load;
   loading = search rules;
-  err = (refl, λ off. batch_failed c.args.load.now c.args.rows c.args.self.now c.load_batch.new.pages c.in-Err-load_batch.e c.in_default.ensures.ok.0 c.in-Err-load_batch.ensures.step.commits.err (c.if-has_failed.ensures.failed refl));
+  err = (refl, λ off. refused_failed c.args.self.now c.load_batch.new.pages c.in-Err-load_batch.e c.in_default.ensures.ok.0 (batch_told c.args.load.now c.args.rows (pages_of c.args.self.now) c.load_batch.new.pages c.in-Err-load_batch.e c.in-Err-load_batch.ensures.step.commits.err) (c.if-has_failed.ensures.failed refl));
 }
 
 pub returns-in-Ok : goal.returns-in-Ok
@@ -70,11 +60,11 @@ pub returns-else-has_failed : goal.returns-else-has_failed
 returns-else-has_failed g c = record {
   moves = let x = c.args.self.now in
       let working = c.in_default.ensures.ok.0 in
-      quieted (Stages x c.args.load.now) (desk_of x) x _ (λ stages. stages.keeps) working working refl (batch_quiet c.args.load.now c.args.rows x c.load_batch.new.pages c.in-Err-load_batch.e (c.if-has_failed.ensures.passed refl).0 c.in-Err-load_batch.ensures.step.commits.err);
+      quieted (Stages x c.args.load.now) (desk_of x) x _ (λ stages. stages.keeps) working working refl (refused_quiet (pages_of x) c.load_batch.new.pages c.in-Err-load_batch.e (c.if-has_failed.ensures.passed refl).0 (batch_told c.args.load.now c.args.rows (pages_of c.args.self.now) c.load_batch.new.pages c.in-Err-load_batch.e c.in-Err-load_batch.ensures.step.commits.err));
   loads = record {
     desk = search rules;
     working = search rules;
-    quiet = λ off. batch_quiet c.args.load.now c.args.rows c.args.self.now c.load_batch.new.pages c.in-Err-load_batch.e (c.if-has_failed.ensures.passed refl).0 c.in-Err-load_batch.ensures.step.commits.err;
+    quiet = λ off. refused_quiet (pages_of c.args.self.now) c.load_batch.new.pages c.in-Err-load_batch.e (c.if-has_failed.ensures.passed refl).0 (batch_told c.args.load.now c.args.rows (pages_of c.args.self.now) c.load_batch.new.pages c.in-Err-load_batch.e c.in-Err-load_batch.ensures.step.commits.err);
   };
   staged = search rules;
   last = search rules;

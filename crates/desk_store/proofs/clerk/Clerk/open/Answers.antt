@@ -1,15 +1,10 @@
 use Rattle.std.proofs.Common.{◌≡◌, ◌≢◌, ◌≤◌, ℕ, inr, refl, sym, subst, rules}
 use Rattle.sector_device.specs.claim.Moments.{LeavesOnly}
-use Rattle.page_store.proofs.Stops.{leaves_quiet}
-use Rattle.page_store.specs.claim.Transactions.{disk_in}
-use Rattle.desk_pages.specs.Openings.{AllDesks, OpensOneOf, IsSpared}
-use Rattle.desk_pages.specs.claim.Openings.{AllVersions, OpensOneAs}
-use Rattle.desk_pages.proofs.Found.{all_versions, stores_of, open_leaves, open_versions, pages_stand}
-use Rattle.desk_store.specs.Openings.{OpenRefused}
-use Rattle.desk_pages.specs.declared.error.StoreError.{StoreError}
-use Rattle.desk_pages.specs.declared.error.StoreError.TheVariants.{NotAStore, DeviceFault}
+use Rattle.page_store.{specs.claim.Transactions.disk_in, proofs.Stops.leaves_quiet}
+use Rattle.desk_pages.specs.{Openings.{AllDesks, OpensOneOf, IsSpared}, claim.Openings.{AllVersions, OpensOneAs}, declared.error.StoreError.StoreError}
+use Rattle.desk_pages.{specs.declared.error.StoreError.TheVariants.{NotAStore, DeviceFault}, proofs.Found.{all_versions, stores_of, open_leaves, open_versions, pages_stand}}
 use Rattle.desk_pages.proofs.Refusals.{page_calm, page_spared, calm_refused}
-use Rattle.desk_store.proofs.Opened.{opened_keeps, page_refused, find_refused, as_refused, is_found}
+use Rattle.desk_store.{specs.Openings.OpenRefused, proofs.Opened.{opened_keeps, page_refused, find_refused, as_refused, is_found}}
 use Rattle.desk_store.proofs.clerk.Clerk.open.Goals as goal
 
 pub returns-in-Err : goal.returns-in-Err

@@ -1,36 +1,22 @@
 use Rattle.std.proofs.Common.{refl, ◌∙◌, rules}
 use Rattle.page_store.proofs.Stops.{quiet_none}
-use Rattle.desk_store.specs.claim.Clerks.{pages_of}
-use Rattle.desk_store.specs.Keeping.{sealed_desk}
-use Rattle.desk_store.specs.Loads.{Stages}
+use Rattle.desk_store.{specs.claim.Clerks.pages_of, specs.Keeping.sealed_desk, specs.Loads.Stages, proofs.Moved.{worked, faulted, quieted, unmoved}}
+use Rattle.desk_store.proofs.Loaded.{seal_left, seal_told, seal_refused, refused_rose, refused_quiet, refused_failed, seal_ended, seal_holds, seal_more}
 use Rattle.geo_tables.specs.Loading.{geography_model_of}
-use Rattle.desk_store.proofs.Moved.{worked, faulted, quieted, unmoved}
-use Rattle.desk_store.proofs.Loaded.{seal_left, seal_rose, seal_quiet, seal_failed, seal_refused, seal_ended, seal_holds, seal_more}
 use Rattle.desk_store.proofs.clerk.Clerk.seal.Goals as goal
 
 pub returns-in-Err : goal.returns-in-Err
-returns-in-Err g c = record {
-  moves = unmoved (Stages c.args.self.now c.args.load) (sealed_desk (geography_model_of c.args.load)) c.args.self.now (λ stages. stages.keeps);
-  sealed = search rules;
-  unsealed = search rules;
-  back = search rules;
-  loading = search rules;
-  working = search rules;
-  quiet = λ off. quiet_none (pages_of c.args.self.now);
-  err = seal_ended c.args.load c.args.self.now (pages_of c.args.self.now) c.in-Err.e c.in-Err.ensures.err;
-}
+returns-in-Err g c =
+    search (
+      rules,
+      unmoved (Stages c.args.self.now c.args.load) (sealed_desk (geography_model_of c.args.load)) c.args.self.now (λ stages. stages.keeps),
+      quiet_none (pages_of c.args.self.now),
+      seal_ended c.args.load c.args.self.now (pages_of c.args.self.now) c.in-Err.e c.in-Err.ensures.err,
+    )
 
 pub returns-in_default-sealed : goal.returns-in_default-sealed
-returns-in_default-sealed g c = record {
-  moves = unmoved (Stages c.args.self.now c.args.load) (sealed_desk (geography_model_of c.args.load)) c.args.self.now (λ stages. stages.keeps);
-  sealed = search rules;
-  unsealed = search rules;
-  back = search rules;
-  loading = search rules;
-  working = search rules;
-  quiet = λ off. quiet_none (pages_of c.args.self.now);
-  err = search rules;
-}
+returns-in_default-sealed g c =
+    search (rules, unmoved (Stages c.args.self.now c.args.load) (sealed_desk (geography_model_of c.args.load)) c.args.self.now (λ stages. stages.keeps), quiet_none (pages_of c.args.self.now))
 
 pub returns-then-has_failed : goal.returns-then-has_failed
 returns-then-has_failed g c = record {
@@ -40,14 +26,14 @@ returns-then-has_failed g c = record {
       let none = c.in_default.ensures.ok.1 in
       let did = c.in-Err-seal.ensures in
       faulted (Stages x load) (sealed_desk (geography_model_of load)) x _ working refl refl did.step.commits.shape did.step.commits.honest (seal_left x c.seal.new.pages load working none did.step.commits.honest did.any_moment) (seal_more x c.seal.new.pages load working none did.step.commits.honest)
-      (seal_rose load x c.seal.new.pages c.in-Err-seal.e working did.step.commits.honest did.step.commits.err (c.if-has_failed.ensures.failed refl));
+      (λ stages. refused_rose x c.seal.new.pages c.in-Err-seal.e working (seal_told c.args.load (pages_of c.args.self.now) c.seal.new.pages c.in-Err-seal.e c.in-Err-seal.ensures.step.commits.err) (c.if-has_failed.ensures.failed refl));
   sealed = search rules;
   unsealed = search rules;
   back = search rules;
   loading = search rules;
   working = search rules;
   quiet = search rules;
-  err = (refl, λ off. seal_failed c.args.load c.args.self.now c.seal.new.pages c.in-Err-seal.e c.in_default.ensures.ok.0 c.in-Err-seal.ensures.step.commits.err (c.if-has_failed.ensures.failed refl));
+  err = (refl, λ off. refused_failed c.args.self.now c.seal.new.pages c.in-Err-seal.e c.in_default.ensures.ok.0 (seal_told c.args.load (pages_of c.args.self.now) c.seal.new.pages c.in-Err-seal.e c.in-Err-seal.ensures.step.commits.err) (c.if-has_failed.ensures.failed refl));
 }
 
 pub returns-in-Ok-seal : goal.returns-in-Ok-seal
@@ -73,12 +59,12 @@ returns-else-has_failed g c = record {
   moves = let x = c.args.self.now in
       let load = c.args.load in
       let working = c.in_default.ensures.ok.0 in
-      quieted (Stages x load) (sealed_desk (geography_model_of load)) x _ (λ stages. stages.keeps) working working refl (seal_quiet load x c.seal.new.pages c.in-Err-seal.e (c.if-has_failed.ensures.passed refl).0 c.in-Err-seal.ensures.step.commits.err);
+      quieted (Stages x load) (sealed_desk (geography_model_of load)) x _ (λ stages. stages.keeps) working working refl (refused_quiet (pages_of x) c.seal.new.pages c.in-Err-seal.e (c.if-has_failed.ensures.passed refl).0 (seal_told c.args.load (pages_of c.args.self.now) c.seal.new.pages c.in-Err-seal.e c.in-Err-seal.ensures.step.commits.err));
   sealed = search rules;
   unsealed = search rules;
   back = search rules;
   loading = search rules;
   working = search rules;
-  quiet = λ off. seal_quiet c.args.load c.args.self.now c.seal.new.pages c.in-Err-seal.e (c.if-has_failed.ensures.passed refl).0 c.in-Err-seal.ensures.step.commits.err;
+  quiet = λ off. refused_quiet (pages_of c.args.self.now) c.seal.new.pages c.in-Err-seal.e (c.if-has_failed.ensures.passed refl).0 (seal_told c.args.load (pages_of c.args.self.now) c.seal.new.pages c.in-Err-seal.e c.in-Err-seal.ensures.step.commits.err);
   err = seal_refused c.args.load c.args.self.now c.seal.new.pages c.in-Err-seal.e c.in_default.ensures.ok.0 (c.if-has_failed.ensures.passed refl).0 c.in-Err-seal.ensures.step.commits.err;
 }

@@ -1,10 +1,7 @@
-use Rattle.std.proofs.Common.{◌≡◌, ℕ, Option, refl, inl, subst, rules}
-use Rattle.std.specs.Prelude.{◌↔◌}
+use Rattle.std.{specs.Prelude.◌↔◌, proofs.Common.{◌≡◌, ℕ, Option, refl, inl, subst, rules}}
 use Rattle.store_sweep.specs.Leftovers.{IsSweptClean}
 use Rattle.geo_tables.specs.Loading.{number_of}
-use Rattle.desk_store.specs.claim.Clerks.{desk_of, pages_of, Keeps}
-use Rattle.desk_store.proofs.Moved.{worked, faulted, quieted}
-use Rattle.desk_store.proofs.Loaded.{begin_left}
+use Rattle.desk_store.{specs.claim.Clerks.{desk_of, pages_of, Keeps}, proofs.Moved.{worked, faulted, quieted}, proofs.Loaded.begin_left}
 use Rattle.desk_store.proofs.Swept.{as_loading, swept_holds, swept_stages, swept_told, sweep_rose, sweep_quiet, refused_so, still_stages, halted_stages, passed_device, refused_device}
 use Rattle.desk_store.proofs.clerk.Clerk.sweep_step.Goals as goal
 

@@ -1,7 +1,5 @@
 use Rattle.std.proofs.Common.{rules}
-use Rattle.gate_journal.specs.claim.Writes.{writes_of}
-use Rattle.gate_journal.specs.Outcomes.{LeavesAllOrNone}
-use Rattle.gate_journal.proofs.Commit.{at_rest}
+use Rattle.gate_journal.{specs.claim.Writes.writes_of, specs.Outcomes.LeavesAllOrNone, proofs.Commit.at_rest}
 use Rattle.gate_journal.proofs.journal.Journal.commit.Goals as goal
 
 pub returns-then-len-self : goal.returns-then-len-self

@@ -1,7 +1,6 @@
 use Rattle.std.proofs.Common.{◌≡◌, ap, rules}
 use Rattle.sector_device.specs.claim.Disk.{Image}
-use Rattle.gate_journal.specs.claim.Store.{pages, home_pages}
-use Rattle.gate_journal.proofs.Commit.{shut_pages}
+use Rattle.gate_journal.{specs.claim.Store.{pages, home_pages}, proofs.Commit.shut_pages}
 use Rattle.gate_journal.proofs.journal.Journal.read_page.Goals as goal
 
 pub returns : goal.returns

@@ -1,9 +1,6 @@
 use Rattle.std.proofs.Common.{rules, ◌≡◌, ◌∙◌, ℕ, List, set, ap, sym, subst}
 use Rattle.std.proofs.lemmas.List.{get_or_default}
-use Rattle.gate_journal.specs.claim.Store.{overlay}
-use Rattle.gate_journal.specs.Store.{Writes}
-use Rattle.gate_journal.specs.claim.Writes.{writes_of}
-use Rattle.gate_journal.proofs.Images.{writes_at}
+use Rattle.gate_journal.{specs.claim.Store.overlay, specs.Store.Writes, specs.claim.Writes.writes_of, proofs.Images.writes_at}
 use Rattle.gate_journal.proofs.Overlays.{overlay_set, writes_set, overlay_last}
 use Rattle.gate_journal.proofs.writes.PageWrites.edit.Goals as goal
 

@@ -1,7 +1,6 @@
 use Rattle.std.proofs.Common.{◌∙◌, ℕ, List, ap, sym}
 use Rattle.std.proofs.lemmas.List.{get_or_default}
-use Rattle.gate_journal.specs.claim.Writes.{writes_of}
-use Rattle.gate_journal.proofs.Overlays.{overlay_last}
+use Rattle.gate_journal.{specs.claim.Writes.writes_of, proofs.Overlays.overlay_last}
 use Rattle.gate_journal.proofs.writes.PageWrites.get.Goals as goal
 
 pub returns : goal.returns

@@ -1,5 +1,4 @@
-use Rattle.gate_journal.specs.claim.Writes.{writes_of}
-use Rattle.gate_journal.proofs.Overlays.{is_once}
+use Rattle.gate_journal.{specs.claim.Writes.writes_of, proofs.Overlays.is_once}
 use Rattle.gate_journal.proofs.writes.PageWrites.len.Goals as goal
 
 pub returns-clause-once : goal.returns-clause-once

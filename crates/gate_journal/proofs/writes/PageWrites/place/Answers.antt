@@ -1,6 +1,5 @@
 use Rattle.std.proofs.Common.{◌≡◌, ◌≢◌, ◌<◌, ℕ, List, MatchOption, get_or, length, subst}
-use Rattle.gate_journal.specs.claim.Writes.{writes_of}
-use Rattle.gate_journal.proofs.Overlays.{found_by}
+use Rattle.gate_journal.{specs.claim.Writes.writes_of, proofs.Overlays.found_by}
 use Rattle.gate_journal.proofs.writes.PageWrites.place.Goals as goal
 
 pub returns : goal.returns

@@ -1,7 +1,5 @@
 use Rattle.std.proofs.Common.{◌≡◌, ◌++◌, ◌∷◌, [], ℕ, List, IsOk, subst, sym, rules}
-use Rattle.gate_journal.specs.Store.{AreNumbers, AreApart}
-use Rattle.gate_journal.specs.claim.Writes.{writes_of}
-use Rattle.gate_journal.proofs.Overlays.{beside_push, apart_push}
+use Rattle.gate_journal.{specs.Store.{AreNumbers, AreApart}, specs.claim.Writes.writes_of, proofs.Overlays.{beside_push, apart_push}}
 use Rattle.gate_journal.proofs.writes.PageWrites.push.Goals as goal
 
 pub invariant_of-self-2 : goal.invariant_of-self-2

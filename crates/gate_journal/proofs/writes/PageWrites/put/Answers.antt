@@ -1,11 +1,7 @@
 use Rattle.std.proofs.Common.{rules, arith, length-append, ◌≡◌, ◌<◌, ◌≤◌, ◌+◌, length, ◌∙◌, ◌++◌, ◌∷◌, ◌⊎◌, [], ℕ, List, ⊎_elim, set, ap, sym, subst}
 use Rattle.std.proofs.lemmas.List.{get_or_default}
-use Rattle.sector_device.specs.claim.Disk.{Image}
-use Rattle.sector_device.proofs.Moments.{on_ok}
-use Rattle.gate_journal.specs.claim.Store.{overlay, put}
-use Rattle.gate_journal.specs.Store.{Writes, IsWithin}
-use Rattle.gate_journal.specs.claim.Writes.{writes_of}
-use Rattle.gate_journal.proofs.Images.{writes_at}
+use Rattle.sector_device.{specs.claim.Disk.Image, proofs.Moments.on_ok}
+use Rattle.gate_journal.{specs.claim.Store.{overlay, put}, specs.Store.{Writes, IsWithin}, specs.claim.Writes.writes_of, proofs.Images.writes_at}
 use Rattle.gate_journal.proofs.Overlays.{overlay_set, overlay_push, writes_set, writes_push, within_push}
 use Rattle.gate_journal.proofs.writes.PageWrites.put.Goals as goal
 
@@ -14,10 +10,9 @@ returns-in-Some c =
     let ws = writes_of c.args.self.now in
     let last = c.in-Some.ensures in
     let same = ap (λ (w : ℕ × List ℕ). w.0) (c.index_mut-write.ensures.value ∙ get_or_default ws c.in-Some.k _ _ last.below) in
-    let at : c.index_mut-write.result.now.0 ≡ c.args.page = same ∙ last.here in
     record {
       written = λ P p. ap (λ (l : List ℕ). overlay (set ws c.in-Some.k (c.index_mut-write.result.now.0, l)) P p) c.copy_from_slice.ensures.after
-          ∙ ap (λ (x : ℕ). overlay (set ws c.in-Some.k (x, c.args.bytes.now)) P p) at ∙ overlay_set ws P c.args.page c.in-Some.k p c.args.bytes.now last;
+          ∙ ap (λ (x : ℕ). overlay (set ws c.in-Some.k (x, c.args.bytes.now)) P p) (same ∙ last.here) ∙ overlay_set ws P c.args.page c.in-Some.k p c.args.bytes.now last;
       within = search rules;
       more = search rules;
       again = search rules;

@@ -1,9 +1,8 @@
-use Rattle.std.proofs.Common.{◌≡◌, ◌⊎◌, ◌||◌, inl, inr, refl, ◌∙◌, Bool, List, ℕ}
+use Rattle.std.proofs.Common.{◌≡◌, ◌⊎◌, ◌||◌, inl, inr, refl, ◌∙◌, Bool, List, ℕ, rules}
 use Rattle.desk_model.specs.declared.reply.Reply.{Reply}
 use Rattle.desk_model.specs.declared.reply.Reply.TheVariants as reply
 use Rattle.http_wire.specs.declared.response.ContentType.TheVariants.{PlainText}
-use Rattle.http_desk.specs.claim.Answers.{bytes_of, saying, message_of, closes_after}
-use Rattle.http_desk.proofs.AnswerLemmas.{json_text}
+use Rattle.http_desk.{specs.claim.Answers.{bytes_of, saying, message_of, closes_after}, proofs.AnswerLemmas.json_text}
 use Rattle.http_desk.proofs.answer.Answer.put_reply.Goals as goal
 
 file_text : (r : Reply) (text : List ℕ) (closing head_only : Bool) → (r ≡ reply.Blocks text) ⊎ (r ≡ reply.Baf text)
@@ -12,8 +11,7 @@ file_text r text closing head_only (inl e) = rw e refl
 file_text r text closing head_only (inr e) = rw e refl
 
 pub returns-in_ok-put_plans-in-Plans-clause-text : goal.returns-in_ok-put_plans-in-Plans-clause-text
-returns-in_ok-put_plans-in-Plans-clause-text c =
-    rw (c.in-Plans.is, ← c.as_slice.ensures) (json_text c.json-self-inside-in-Plans.result 200 c.args.closing c.args.head_only c.put_plans.new.text.items _ c.json-self-inside-in-Plans.ensures c.in_ok-put_plans-in-Plans.ensures)
+returns-in_ok-put_plans-in-Plans-clause-text c = search (rules, c.as_slice.ensures, c.json-self-inside-in-Plans.ensures, c.in_ok-put_plans-in-Plans.ensures, json_text)
 
 pub returns-in-Audited-clause-text : goal.returns-in-Audited-clause-text
 returns-in-Audited-clause-text c = rw (c.in-Audited.is, ← c.into_vec.ensures) c.put_long.ensures
@@ -22,9 +20,7 @@ pub returns-in-Blocks-clause-text : goal.returns-in-Blocks-clause-text
 returns-in-Blocks-clause-text c = rw c.into_vec-in-Blocks.ensures at c.put_long-in-Blocks.ensures ∙ file_text c.args.reply c.in-Blocks.text c.args.closing c.args.head_only c.in-Blocks.is
 
 pub returns-in-Created-clause-text : goal.returns-in-Created-clause-text
-returns-in-Created-clause-text c =
-    rw c.in-Created.is (json_text c.json-self-inside.result 201 c.args.closing c.args.head_only c.put_created.new.self _ c.json-self-inside.ensures c.put_created.ensures)
+returns-in-Created-clause-text c = search (rules, c.json-self-inside.ensures, c.put_created.ensures, json_text)
 
 pub returns-in-Retired-clause-text : goal.returns-in-Retired-clause-text
-returns-in-Retired-clause-text c =
-    rw c.in-Retired.is (json_text c.json-self-inside-in-Retired.result 200 c.args.closing c.args.head_only c.put_retired.new.self _ c.json-self-inside-in-Retired.ensures c.put_retired.ensures)
+returns-in-Retired-clause-text c = search (rules, c.json-self-inside-in-Retired.ensures, c.put_retired.ensures, json_text)

@@ -1,7 +1,6 @@
 use Rattle.std.proofs.Common.{subst, ap}
 use mathlib.Core.List.{IsPrefix}
-use Rattle.http_seats.specs.claim.Seated.{Seated}
-use Rattle.http_seats.proofs.Geographies.{may_be_asked, same_geography}
+use Rattle.http_seats.{specs.claim.Seated.Seated, proofs.Geographies.{may_be_asked, same_geography}}
 use Rattle.http_seats.proofs.seat.SeatCounter.ask.Goals as goal
 
 pub answered-requires : goal.answered-requires

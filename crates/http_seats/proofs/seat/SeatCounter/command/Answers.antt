@@ -1,12 +1,8 @@
 use Rattle.std.proofs.Common.{◌∙◌, List, sym, subst}
 use mathlib.Core.List.{IsPrefix}
 use Rattle.desk_model.specs.declared.command.Command.{Command}
-use Rattle.desk_gallery.specs.claim.After.{after}
-use Rattle.desk_gallery.specs.claim.Outcomes.{OutcomeMay}
-use Rattle.http_seats.specs.claim.Seated.{Seated}
-use Rattle.http_seats.specs.claim.Explained.{ExplainsCommand}
-use Rattle.http_seats.specs.Seated.{seated}
-use Rattle.http_seats.proofs.Seats.{learned}
+use Rattle.desk_gallery.specs.{claim.After.after, claim.Outcomes.OutcomeMay}
+use Rattle.http_seats.{specs.claim.Seated.Seated, specs.claim.Explained.ExplainsCommand, specs.Seated.seated, proofs.Seats.learned}
 use Rattle.http_seats.proofs.seat.SeatCounter.command.Goals as goal
 
 pub returns : goal.returns

@@ -1,12 +1,6 @@
-use Rattle.std.proofs.Common.{◌≡◌, false, cond, ap, sym, subst, ◌∙◌}
-use Rattle.std.specs.Prelude.{Some, None}
-use Rattle.std.specs.Ordering.{is_lt}
-use Rattle.page_node.specs.claim.Places.{key_cmp}
-use Rattle.page_node.proofs.Laws.{less_trans, is_less}
-use Rattle.page_btree.specs.claim.Keys.{IsUnder}
-use Rattle.page_btree.proofs.Rows.{less_from}
-use Rattle.page_btree.proofs.Reaching.{not_below}
-use Rattle.std.specs.declared.cmp.Ordering.TheVariants.{Less}
+use Rattle.std.{specs.Prelude.{Some, None}, specs.Ordering.is_lt, specs.declared.cmp.Ordering.TheVariants.Less, proofs.Common.{◌≡◌, false, cond, ap, sym, subst, ◌∙◌}}
+use Rattle.page_node.{specs.claim.Places.key_cmp, proofs.Laws.{less_trans, is_less}}
+use Rattle.page_btree.{specs.claim.Keys.IsUnder, proofs.Rows.less_from, proofs.Reaching.not_below}
 use Rattle.page_btree.proofs.reach.Reach.end_at.Goals as goal
 use Rattle.page_btree.proofs.reach.Reach.end_at.Goals.{else-self-via-then-self+else-is_lt, else-self-via-else-self}
 

@@ -1,10 +1,6 @@
-use Rattle.std.specs.Prelude.{insert}
-use Rattle.std.specs.List.{copy_within}
-use Rattle.std.proofs.Common.{◌≡◌, ◌+◌, ◌≤◌, length, get_or, arith, ap, ◌∙◌}
+use Rattle.std.{specs.Prelude.insert, specs.List.copy_within, proofs.Common.{◌≡◌, ◌+◌, ◌≤◌, length, get_or, arith, ap, ◌∙◌}}
 use Rattle.std.proofs.lemmas.List.Edits.{length-insert}
-use Rattle.page_node.specs.claim.Entries.{size_of}
-use Rattle.page_node.proofs.Standing.{Stands, to_held}
-use Rattle.page_node.proofs.Editing.{opened, closed, bounds_of, mark_most, insert_stands}
+use Rattle.page_node.{specs.claim.Entries.size_of, proofs.Standing.{Stands, to_held}, proofs.Editing.{opened, closed, bounds_of, mark_most, insert_stands}}
 use Rattle.page_node.proofs.node_buf.NodeBuf.insert.Goals as goal
 
 pub offset_bounds-self-inside-i : goal.offset_bounds-self-inside-i
@@ -33,11 +29,7 @@ insert_end-requires-clause-part c =
 
 pub insert_end-requires-clause-fits : goal.insert_end-requires-clause-fits
 insert_end-requires-clause-fits c = λ k le.
-    let fits : size_of c.args.self.now.entries ≤ 4092 = c.requires.takes.fits in
-    let key = c.requires.key in
-    let value = c.requires.takes.short in
     let o = opened _ _ _ _ _ c.self.invariant c.self.view_is in
-    let n = o.count_of in
     let most = mark_most _ _ _ _ o.stands k (omega arith) in
     omega arith
 
@@ -45,7 +37,6 @@ stands : (c : goal.After-self-1) → Stands c.self.inside.level (insert c.args.s
 stands c =
     let o = opened _ _ _ _ _ c.self.invariant c.self.view_is in
     let n = o.count_of in
-    let level = o.level_of in
     insert_stands _ _ c.self.inside.ends c.self.inside.bytes c.move_bytes.new.bytes c.put_entry.new.bytes c.insert_end.new.ends c.args.i (c.args.key.now, c.args.value.now) o.stands c.requires.within c.self.told.0 c.requires.takes.fits (c.requires.key, c.requires.takes.short)
     (λ inner. c.requires.takes.child (omega arith))
     (c.move_bytes.ensures ∙ ap (λ k. copy_within c.self.inside.bytes (get_or c.self.inside.ends c.args.i 0) (get_or c.self.inside.ends k 0) (get_or c.self.inside.ends c.args.i 0 + (3 + length c.args.key.now + length c.args.value.now))) n)
@@ -54,7 +45,6 @@ stands c =
 longer : (c : goal.After-self-1) → c.self.inside.count + 1 ≡ length (insert c.args.self.now.entries c.args.i (c.args.key.now, c.args.value.now))
 longer c =
     let o = opened _ _ _ _ _ c.self.invariant c.self.view_is in
-    let n = o.count_of in
     let more = length-insert c.args.self.now.entries c.args.i (c.args.key.now, c.args.value.now) c.requires.within in
     omega arith
 

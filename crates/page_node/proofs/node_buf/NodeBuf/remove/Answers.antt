@@ -1,9 +1,6 @@
-use Rattle.std.specs.Prelude.{remove}
-use Rattle.std.specs.List.{copy_within}
-use Rattle.std.proofs.Common.{◌≡◌, ◌+◌, ◌-◌, length, get_or, arith, ap, ◌∙◌, rules}
+use Rattle.std.{specs.Prelude.remove, specs.List.copy_within, proofs.Common.{◌≡◌, ◌+◌, ◌-◌, length, get_or, arith, ap, ◌∙◌, rules}}
 use Rattle.std.proofs.lemmas.List.Edits.{length-remove}
-use Rattle.page_node.proofs.Standing.{Stands, to_held}
-use Rattle.page_node.proofs.Editing.{opened, closed, bounds_of, marks_rise, remove_stands}
+use Rattle.page_node.proofs.{Standing.{Stands, to_held}, Editing.{opened, closed, bounds_of, marks_rise, remove_stands}}
 use Rattle.page_node.proofs.node_buf.NodeBuf.remove.Goals as goal
 
 pub offset_bounds-self-inside-i : goal.offset_bounds-self-inside-i
@@ -36,7 +33,6 @@ remove_end-requires c = record {
   room = search rules;
   large = λ k low le.
       let o = opened _ _ _ _ _ c.self.invariant c.self.view_is in
-      let n = o.count_of in
       let rise = marks_rise _ _ _ _ o.stands (c.args.i + 1) k (omega arith) (omega arith) in
       omega arith;
 }
@@ -52,7 +48,6 @@ stands c =
 shorter : (c : goal.After-self-1) → c.self.inside.count - 1 ≡ length (remove c.args.self.now.entries c.args.i)
 shorter c =
     let o = opened _ _ _ _ _ c.self.invariant c.self.view_is in
-    let n = o.count_of in
     let less = length-remove c.args.self.now.entries c.args.i c.requires in
     omega arith
 

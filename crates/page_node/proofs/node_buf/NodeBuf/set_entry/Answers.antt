@@ -1,9 +1,6 @@
-use Rattle.std.specs.List.{copy_within}
-use Rattle.std.proofs.Common.{◌≡◌, ◌+◌, ◌≤◌, length, get_or, set, arith, ap, ◌∙◌, rules}
+use Rattle.std.{specs.List.copy_within, proofs.Common.{◌≡◌, ◌+◌, ◌≤◌, length, get_or, set, arith, ap, ◌∙◌, rules}}
 use Rattle.std.proofs.lemmas.List.{length-set}
-use Rattle.page_node.specs.claim.Entries.{size_of}
-use Rattle.page_node.proofs.Standing.{Stands, to_held}
-use Rattle.page_node.proofs.Editing.{opened, closed, bounds_of, marks_rise, mark_most, set_stands}
+use Rattle.page_node.{specs.claim.Entries.size_of, proofs.Standing.{Stands, to_held}, proofs.Editing.{opened, closed, bounds_of, marks_rise, mark_most, set_stands}}
 use Rattle.page_node.proofs.node_buf.NodeBuf.set_entry.Goals as goal
 
 pub offset_bounds-self-inside-i : goal.offset_bounds-self-inside-i
@@ -43,18 +40,13 @@ resize_end-requires-clause-entry c = record {
   room = search rules;
   large = λ k low le.
       let o = opened _ _ _ _ _ c.self.invariant c.self.view_is in
-      let n = o.count_of in
       let rise = marks_rise _ _ _ _ o.stands (c.args.i + 1) k (omega arith) (omega arith) in
       omega arith;
 }
 
 pub resize_end-requires-clause-fits : goal.resize_end-requires-clause-fits
 resize_end-requires-clause-fits c = λ k low le.
-    let fits : size_of c.args.self.now.entries ≤ 4092 = c.requires.takes.fits in
-    let key = c.requires.key in
-    let value = c.requires.takes.short in
     let o = opened _ _ _ _ _ c.self.invariant c.self.view_is in
-    let n = o.count_of in
     let most = mark_most _ _ _ _ o.stands k (omega arith) in
     omega arith
 
@@ -62,7 +54,6 @@ stands : (c : goal.After-resize_end) → Stands c.self.inside.level (set c.args.
 stands c =
     let o = opened _ _ _ _ _ c.self.invariant c.self.view_is in
     let n = o.count_of in
-    let level = o.level_of in
     set_stands _ _ c.self.inside.ends c.self.inside.bytes c.move_bytes.new.bytes c.put_entry.new.bytes c.resize_end.new.ends c.args.i (get_or c.self.inside.ends c.args.i 0 + 3 + length c.args.key.now + length c.args.value.now) (c.args.key.now, c.args.value.now) o.stands c.requires.within c.self.told.0 c.requires.takes.fits (c.requires.key, c.requires.takes.short)
     (λ inner. c.requires.takes.child (omega arith))
     (omega arith)
@@ -72,7 +63,6 @@ stands c =
 as_long : (c : goal.After-resize_end) → c.self.inside.count ≡ length (set c.args.self.now.entries c.args.i (c.args.key.now, c.args.value.now))
 as_long c =
     let o = opened _ _ _ _ _ c.self.invariant c.self.view_is in
-    let n = o.count_of in
     let same = length-set c.args.self.now.entries c.args.i (c.args.key.now, c.args.value.now) in
     omega arith
 

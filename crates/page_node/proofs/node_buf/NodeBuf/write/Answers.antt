@@ -1,9 +1,5 @@
 use Rattle.std.proofs.Common.{◌≡◌, ℕ, ◌≤◌, List, length, arith, sym, subst, ◌∙◌}
-use Rattle.page_node.specs.claim.Entries.{size_of}
-use Rattle.page_node.specs.claim.Node.{IsNode, IsShape}
-use Rattle.page_node.specs.Node.{bytes_of}
-use Rattle.page_node.proofs.Laws.{node_written}
-use Rattle.page_node.proofs.Editing.{opened, bounds_of}
+use Rattle.page_node.{specs.claim.Entries.size_of, specs.claim.Node.{IsNode, IsShape}, specs.Node.bytes_of, proofs.Laws.node_written, proofs.Editing.{opened, bounds_of}}
 use Rattle.page_node.proofs.Writing.{page_written}
 use Rattle.page_node.proofs.node_buf.NodeBuf.write.Goals as goal
 

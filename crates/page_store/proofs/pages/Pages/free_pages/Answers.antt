@@ -1,6 +1,5 @@
 use Rattle.std.proofs.Common.{◌∙◌, sym}
-use Rattle.page_store.specs.claim.Transactions.{stored}
-use Rattle.page_store.proofs.Chains.{length_chain}
+use Rattle.page_store.{specs.claim.Transactions.stored, proofs.Chains.length_chain}
 use Rattle.page_store.proofs.pages.Pages.free_pages.Goals as goal
 
 pub returns : goal.returns

@@ -1,15 +1,8 @@
 use Rattle.std.proofs.Common.{◌≡◌, ℕ, inr, sym, subst}
-use Rattle.sector_device.specs.claim.Moments.{LeavesOnly}
-use Rattle.sector_device.proofs.Moments.{leaves_still}
-use Rattle.gate_journal.specs.claim.Contents.{disk_of, content, page_count}
-use Rattle.gate_journal.specs.Recovery.{AllStores, ReadsAs}
-use Rattle.sector_device.specs.claim.Disk.{Image}
-use Rattle.page_store.specs.claim.Chain.{IsPages}
-use Rattle.page_store.specs.Openings.{MetaErr}
-use Rattle.page_store.specs.Transactions.{IsUntouched}
-use Rattle.gate_journal.specs.declared.error.PageError.{PageError}
+use Rattle.sector_device.{specs.claim.Moments.LeavesOnly, specs.claim.Disk.Image, proofs.Moments.leaves_still}
+use Rattle.gate_journal.specs.{claim.Contents.{disk_of, content, page_count}, Recovery.{AllStores, ReadsAs}, declared.error.PageError.PageError}
 use Rattle.gate_journal.specs.declared.error.PageError.TheVariants.{NotAStore}
-use Rattle.page_store.proofs.Stops.{kept_still}
+use Rattle.page_store.{specs.claim.Chain.IsPages, specs.Openings.MetaErr, specs.Transactions.IsUntouched, proofs.Stops.kept_still}
 use Rattle.page_store.proofs.Opened.{found_pages, bad_pages, opened_err, opened_calm}
 use Rattle.page_store.proofs.pages.Pages.open.Goals as goal
 
@@ -48,8 +41,7 @@ pub returns-in-Err-read_meta-clause-untouched : goal.returns-in-Err-read_meta-cl
 returns-in-Err-read_meta-clause-untouched g c =
     let a = g.D.SectorDevice.disk c.args.device in
     let read = c.in-Err-read_meta.ensures in
-    let e = c.in-Err-read_meta.e in
-    subst (λ d. (g.D.SectorDevice.disk d).is_honest → e ≡ NotAStore → IsUntouched a (g.D.SectorDevice.disk d)) (sym c.into_device-in-Err-read_meta.ensures)
+    subst (λ d. (g.D.SectorDevice.disk d).is_honest → c.in-Err-read_meta.e ≡ NotAStore → IsUntouched a (g.D.SectorDevice.disk d)) (sym c.into_device-in-Err-read_meta.ensures)
     (λ honest is. inr (bad_pages a (disk_of c.in-Ok.journal) (disk_of c.read_meta.new.journal) _ _ _ (c.in-Ok.ensures.found (read.honest honest)) read.shape.journal_pages (read.same honest)
     (c.in-Ok.ensures.kept (read.honest honest)) (read.quiet honest c.in-Ok.ensures.working)
     ((subst (λ (x : PageError). MetaErr c.in-Ok.journal c.read_meta.new.journal x) is read.err honest).0)))

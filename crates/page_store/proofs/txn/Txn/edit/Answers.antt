@@ -1,6 +1,5 @@
 use Rattle.std.specs.Fn.{FnOnceReturnsAtMut}
-use Rattle.gate_journal.specs.Store.{Writes}
-use Rattle.gate_journal.specs.claim.Writes.{writes_of}
+use Rattle.gate_journal.specs.{Store.Writes, claim.Writes.writes_of}
 use Rattle.page_store.proofs.Chains.{edited_free}
 use Rattle.page_store.proofs.txn.Txn.edit.Goals as goal
 

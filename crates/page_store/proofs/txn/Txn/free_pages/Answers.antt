@@ -1,6 +1,5 @@
 use Rattle.std.proofs.Common.{sym}
-use Rattle.page_store.specs.claim.Transactions.{over}
-use Rattle.page_store.proofs.Chains.{length_chain}
+use Rattle.page_store.{specs.claim.Transactions.over, proofs.Chains.length_chain}
 use Rattle.page_store.proofs.txn.Txn.free_pages.Goals as goal
 
 pub returns : goal.returns

@@ -1,6 +1,5 @@
 use Rattle.std.proofs.Common.{◌≡◌, ◌∙◌, sym}
-use Rattle.gate_journal.specs.claim.Writes.{writes_of}
-use Rattle.gate_journal.proofs.Images.{overlay_off}
+use Rattle.gate_journal.{specs.claim.Writes.writes_of, proofs.Images.overlay_off}
 use Rattle.page_store.specs.claim.Transactions.{over, stored}
 use Rattle.page_store.proofs.txn.Txn.lend.Goals as goal
 

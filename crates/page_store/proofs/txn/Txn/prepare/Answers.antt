@@ -1,6 +1,5 @@
 use Rattle.std.proofs.Common.{◌∙◌, arith, rules}
-use Rattle.page_store.specs.claim.Transactions.{over}
-use Rattle.page_store.proofs.Chains.{meta_free, meta_pages}
+use Rattle.page_store.{specs.claim.Transactions.over, proofs.Chains.{meta_free, meta_pages}}
 use Rattle.page_store.proofs.txn.Txn.prepare.Goals as goal
 
 pub returns : goal.returns

@@ -1,5 +1,4 @@
-use Rattle.page_store.specs.claim.Transactions.{over}
-use Rattle.page_store.proofs.Chains.{chain_put}
+use Rattle.page_store.{specs.claim.Transactions.over, proofs.Chains.chain_put}
 use Rattle.page_store.proofs.txn.Txn.write.Goals as goal
 
 pub returns-clause-free : goal.returns-clause-free

@@ -1,6 +1,6 @@
 use Rattle.std.proofs.Common.{◌≡◌, ◌-◌, ◌^◌}
 use Rattle.byte_stream.specs.Reading.{CountsFrom}
-use Rattle.pl94.specs.GeoFile.{Stands}
+use Rattle.pl94.proofs.GeoLemmas.{Stands}
 use Rattle.pl94.proofs.geo.GeoReader.read.Given as goal
 
 abbrev pub invariant-loop-header : goal.invariant-loop-header

@@ -1,11 +1,9 @@
-use Rattle.std.proofs.Common.{sym, ap, ◌∙◌, is_some}
-use Rattle.pl94.proofs.SegLemmas.{holds_more, repeated}
-use Rattle.pl94.proofs.RunLemmas.{none_from_test}
+use Rattle.std.proofs.Common.{sym, ◌∙◌, is_some, rules}
+use Rattle.pl94.proofs.{SegLemmas.{holds_more, repeated}, RunLemmas.none_from_test}
 use Rattle.pl94.proofs.segment.SegRows.take.Goals as goal
 
 pub returns-then-is_some : goal.returns-then-is_some
-returns-then-is_some c = λ rs holds.
-    repeated c.args.self.now rs c.args.row holds (ap is_some (sym c.people.ensures) ∙ sym c.is_some.ensures ∙ c.if-is_some.true)
+returns-then-is_some c = search (rules, c.people.ensures, c.is_some.ensures, c.if-is_some.true, repeated, is_some)
 
 pub returns-in-Ok : goal.returns-in-Ok
 returns-in-Ok c = λ rs holds.

@@ -1,7 +1,6 @@
 use Rattle.std.proofs.Common.{◌≡◌, ◌<◌, ◌^◌, ◌∙◌, ℕ, List, [], false, IsTrue, get_or, length, replicate, sym, ap, subst}
 use Rattle.sector_device.specs.Held.{image_of}
-use Rattle.sector_file.specs.Told.{Told, replay}
-use Rattle.sector_file.proofs.Disks.{recalled_still, as_opened_still, synced_is}
+use Rattle.sector_file.{specs.Told.{Told, replay}, proofs.Disks.{recalled_still, as_opened_still, synced_is}}
 use Rattle.sector_file.proofs.device.FileDevice.open.Goals as goal
 
 pub invariant_of-lent : goal.invariant_of-lent
@@ -26,8 +25,7 @@ invariant_of-lent-else-sync_sectors g c =
     let t = replay g.S.Contents.sector was.log.calls in
     let u = replay g.S.Contents.sector c.sync_sectors.new.log.calls in
     let done = c.sync_sectors.ensures in
-    let is = done.fault c.if-sync_sectors.false in
-    let same : u.0 ≡ t.0 = ap (λ (v : Told). v.0) is in
+    let same : u.0 ≡ t.0 = ap (λ (v : Told). v.0) (done.fault c.if-sync_sectors.false) in
     record {
       few = subst (λ (s : List (List ℕ)). length s < 2 ^ 32) (sym same) was.few;
       counted = ap (λ (s : List (List ℕ)). length s) same ∙ was.counted;

@@ -1,7 +1,6 @@
-use Rattle.std.proofs.Common.{◌≡◌, ◌<◌, ◌+◌, ◌^◌, ◌∙◌, ℕ, List, length, sym, ap, subst, arith}
+use Rattle.std.proofs.Common.{◌≡◌, ◌<◌, ◌^◌, ◌∙◌, ℕ, List, length, sym, ap, subst, arith}
 use Rattle.sector_device.specs.Held.{refused}
-use Rattle.sector_file.specs.Told.{Told, replay}
-use Rattle.sector_file.proofs.Disks.{sync_is, fault_is, synced_is, sectors_kept, recalled_still, as_opened_still}
+use Rattle.sector_file.{specs.Told.{Told, replay}, proofs.Disks.{sync_is, fault_is, synced_is, sectors_kept, recalled_still, as_opened_still}}
 use Rattle.sector_file.proofs.device.FileDeviceSectorDevice.sync.Goals as goal
 
 pub invariant_of-self : goal.invariant_of-self
@@ -21,24 +20,13 @@ invariant_of-self g c =
 
 pub returns-then-sync_sectors-clause-model : goal.returns-then-sync_sectors-clause-model
 returns-then-sync_sectors-clause-model g c = λ honest.
-    let was = c.args.self.now in
-    let t = replay g.S.Contents.sector was.log.calls in
-    let u = replay g.S.Contents.sector c.sync_sectors.new.log.calls in
     let is = c.sync_sectors.ensures.synced c.if-sync_sectors.true in
-    let passed : refused u.2 ≡ refused t.2 = ap (λ (t : Told). refused t.2) is in
-    (sync_is t was.few u _ is honest, record { failed = tt; passed = passed })
+    (sync_is _ c.args.self.now.few _ _ is honest, record { failed = tt; passed = ap (λ (t : Told). refused t.2) is })
 
 pub returns-then-sync_sectors-clause-synced : goal.returns-then-sync_sectors-clause-synced
-returns-then-sync_sectors-clause-synced g c = λ honest.
-    let t = replay g.S.Contents.sector c.args.self.now.log.calls in
-    let u = replay g.S.Contents.sector c.sync_sectors.new.log.calls in
-    synced_is t u (c.sync_sectors.ensures.synced c.if-sync_sectors.true)
+returns-then-sync_sectors-clause-synced g c = λ honest. synced_is _ _ (c.sync_sectors.ensures.synced c.if-sync_sectors.true)
 
 pub returns-else-sync_sectors-clause-model : goal.returns-else-sync_sectors-clause-model
 returns-else-sync_sectors-clause-model g c = λ honest.
-    let was = c.args.self.now in
-    let t = replay g.S.Contents.sector was.log.calls in
-    let u = replay g.S.Contents.sector c.sync_sectors.new.log.calls in
     let is = c.sync_sectors.ensures.fault c.if-sync_sectors.false in
-    let more : refused u.2 ≡ refused t.2 + 1 = ap (λ (t : Told). refused t.2) is in
-    (fault_is t was.few u _ is honest, record { failed = omega (arith, more); passed = tt })
+    (fault_is _ c.args.self.now.few _ _ is honest, record { failed = omega (arith, ap (λ (t : Told). refused t.2) is); passed = tt })

@@ -1,27 +1,17 @@
-use Rattle.std.proofs.Common.{◌≡◌, ◌+◌, ◌∙◌, ap, sym, arith}
+use Rattle.std.proofs.Common.{◌∙◌, ap, sym, arith}
 use Rattle.sector_device.specs.Held.{refused}
-use Rattle.sector_file.specs.Told.{Told, replay}
-use Rattle.sector_file.proofs.Disks.{write_is, torn_is}
-use Rattle.sector_file.proofs.Steps.{not_true, length_wrote, recalled_wrote}
+use Rattle.sector_file.{specs.Told.{Told, replay}, proofs.Disks.{write_is, torn_is}, proofs.Steps.{not_true, length_wrote, recalled_wrote}}
 use Rattle.sector_file.proofs.device.FileDeviceSectorDevice.write.Goals as goal
 
 pub returns-then-put-eq-SECTOR_SIZE-clause-model : goal.returns-then-put-eq-SECTOR_SIZE-clause-model
 returns-then-put-eq-SECTOR_SIZE-clause-model g c = λ honest.
-    let was = c.args.self.now in
-    let t = replay g.S.Contents.sector was.log.calls in
-    let u = replay g.S.Contents.sector c.write_sector-put.new.log.calls in
     let is = c.write_sector-put.ensures.whole c.if-put-eq-SECTOR_SIZE.true in
-    let passed : refused u.2 ≡ refused t.2 = ap (λ (t : Told). refused t.2) is in
-    (write_is t was.few u _ c.args.i c.args.sector.now is honest, record { failed = tt; passed = passed })
+    (write_is _ c.args.self.now.few _ _ c.args.i c.args.sector.now is honest, record { failed = tt; passed = ap (λ (t : Told). refused t.2) is })
 
 pub returns-else-put-eq-SECTOR_SIZE-clause-model : goal.returns-else-put-eq-SECTOR_SIZE-clause-model
 returns-else-put-eq-SECTOR_SIZE-clause-model g c = λ honest.
-    let was = c.args.self.now in
-    let t = replay g.S.Contents.sector was.log.calls in
-    let u = replay g.S.Contents.sector c.write_sector-put.new.log.calls in
     let is = c.write_sector-put.ensures.torn c.if-put-eq-SECTOR_SIZE.false in
-    let more : refused u.2 ≡ refused t.2 + 1 = ap (λ (t : Told). refused t.2) is in
-    (torn_is t was.few u _ c.args.i is honest, record { failed = omega (arith, more); passed = tt })
+    (torn_is _ c.args.self.now.few _ _ c.args.i is honest, record { failed = omega (arith, ap (λ (t : Told). refused t.2) is); passed = tt })
 
 pub invariant_of-self : goal.invariant_of-self
 invariant_of-self g c =

@@ -1,9 +1,6 @@
-use Rattle.std.proofs.Common.{◌<◌, ◌^◌, ◌∙◌, List, true, ap, refl, sym, subst}
-use Rattle.std.specs.Vec.{with_items}
+use Rattle.std.{specs.Vec.with_items, proofs.Common.{◌<◌, ◌^◌, ◌∙◌, List, true, ap, refl, sym, subst}}
 use Rattle.sector_device.specs.Held.{image_of, refused}
-use Rattle.sector_file.specs.declared.run.HeldRun.{HeldRun}
-use Rattle.sector_file.specs.Told.{Call, replay_on, after_sharing, only_reads}
-use Rattle.sector_file.proofs.Readers.{reader_long}
+use Rattle.sector_file.{specs.declared.run.HeldRun.HeldRun, specs.Told.{Call, replay_on, after_sharing, only_reads}, proofs.Readers.reader_long}
 use Rattle.sector_file.proofs.Runs.{HasRun, all_written, held_new, run_read, run_reads, run_touches}
 use Rattle.sector_file.proofs.reader.FileReader.read_ahead.Goals as goal
 
@@ -43,15 +40,13 @@ returns-clause-passed g c =
     let sector = g.S.Contents.sector in
     let was = c.args.self.now in
     let start = after_sharing sector was.count in
-    let noted = c.read_run.ensures.noted c.if-not-read_run.false in
     let ran = run_read sector start c.args.i c.read_run.new.run was.log.calls in
-    ap (λ (calls : List Call). refused (replay_on sector start calls).2) noted ∙ ap refused ran.states
+    ap (λ (calls : List Call). refused (replay_on sector start calls).2) (c.read_run.ensures.noted c.if-not-read_run.false) ∙ ap refused ran.states
 
 pub returns-clause-reads : goal.returns-clause-reads
 returns-clause-reads g c =
     let sector = g.S.Contents.sector in
     let was = c.args.self.now in
     let start = after_sharing sector was.count in
-    let noted = c.read_run.ensures.noted c.if-not-read_run.false in
     let ran = run_read sector start c.args.i c.read_run.new.run was.log.calls in
-    ap (λ (calls : List Call). image_of (replay_on sector start calls).0) noted ∙ ap image_of ran.sectors
+    ap (λ (calls : List Call). image_of (replay_on sector start calls).0) (c.read_run.ensures.noted c.if-not-read_run.false) ∙ ap image_of ran.sectors

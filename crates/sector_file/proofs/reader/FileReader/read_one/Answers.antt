@@ -1,10 +1,7 @@
-use Rattle.std.proofs.Common.{◌≡◌, ◌<◌, ◌+◌, ◌^◌, ◌∙◌, arith, IsTrue, ap, sym, subst}
+use Rattle.std.proofs.Common.{◌<◌, ◌^◌, ◌∙◌, arith, IsTrue, ap, sym, subst}
 use Rattle.sector_device.specs.Held.{refused}
-use Rattle.sector_file.specs.Told.{Told, replay_on, after_sharing, only_reads}
-use Rattle.sector_file.proofs.Steps.{bytes_same}
-use Rattle.sector_file.proofs.Disks.{read_is, fault_is}
-use Rattle.sector_file.proofs.Readers.{reader_long, same_on, whole_more, short_more}
-use Rattle.sector_file.proofs.Runs.{held_still, honest_before_read}
+use Rattle.sector_file.{specs.Told.{Told, replay_on, after_sharing, only_reads}, proofs.Steps.bytes_same, proofs.Disks.{read_is, fault_is}}
+use Rattle.sector_file.proofs.{Readers.{reader_long, same_on, whole_more, short_more}, Runs.{held_still, honest_before_read}}
 use Rattle.sector_file.proofs.reader.FileReader.read_one.Goals as goal
 
 pub invariant_of-self : goal.invariant_of-self
@@ -35,30 +32,15 @@ returns-else-got-eq-SECTOR_SIZE-clause-sectors g c =
 
 pub returns-then-got-eq-SECTOR_SIZE-clause-model : goal.returns-then-got-eq-SECTOR_SIZE-clause-model
 returns-then-got-eq-SECTOR_SIZE-clause-model g c = λ honest.
-    let sector = g.S.Contents.sector in
-    let was = c.args.self.now in
-    let start = after_sharing sector was.count in
-    let got = c.read_sector-got in
-    let is = whole_more sector start was.log.calls got.new.log.calls c.args.i got.result got.new.sector c.if-got-eq-SECTOR_SIZE.true got.ensures.noted in
-    (read_is (replay_on sector start was.log.calls) was.few (replay_on sector start got.new.log.calls) _ c.args.i got.new.sector is honest, record { failed = tt; passed = ap (λ (t : Told). refused t.2) is })
+    let is = whole_more g.S.Contents.sector (after_sharing g.S.Contents.sector c.args.self.now.count) c.args.self.now.log.calls _ c.args.i _ _ c.if-got-eq-SECTOR_SIZE.true c.read_sector-got.ensures.noted in
+    (read_is _ c.args.self.now.few _ _ c.args.i _ is honest, record { failed = tt; passed = ap (λ (t : Told). refused t.2) is })
 
 pub returns-then-got-eq-SECTOR_SIZE-clause-reads : goal.returns-then-got-eq-SECTOR_SIZE-clause-reads
 returns-then-got-eq-SECTOR_SIZE-clause-reads g c = λ honest.
-    let sector = g.S.Contents.sector in
-    let was = c.args.self.now in
-    let start = after_sharing sector was.count in
-    let got = c.read_sector-got in
-    let is = whole_more sector start was.log.calls got.new.log.calls c.args.i got.result got.new.sector c.if-got-eq-SECTOR_SIZE.true got.ensures.noted in
-    bytes_same (replay_on sector start was.log.calls).3 _ _ (subst (λ (t : Told). IsTrue t.3) is honest)
+    let is = whole_more g.S.Contents.sector (after_sharing g.S.Contents.sector c.args.self.now.count) c.args.self.now.log.calls _ c.args.i _ _ c.if-got-eq-SECTOR_SIZE.true c.read_sector-got.ensures.noted in
+    bytes_same _ _ _ (subst (λ (t : Told). IsTrue t.3) is honest)
 
 pub returns-else-got-eq-SECTOR_SIZE-clause-model : goal.returns-else-got-eq-SECTOR_SIZE-clause-model
 returns-else-got-eq-SECTOR_SIZE-clause-model g c = λ honest.
-    let sector = g.S.Contents.sector in
-    let was = c.args.self.now in
-    let start = after_sharing sector was.count in
-    let got = c.read_sector-got in
-    let t = replay_on sector start was.log.calls in
-    let u = replay_on sector start got.new.log.calls in
-    let is = short_more sector start was.log.calls got.new.log.calls c.args.i got.result got.new.sector c.if-got-eq-SECTOR_SIZE.false got.ensures.noted in
-    let more : refused u.2 ≡ refused t.2 + 1 = ap (λ (t : Told). refused t.2) is in
-    (fault_is t was.few u _ is honest, record { failed = omega (arith, more); passed = tt })
+    let is = short_more g.S.Contents.sector (after_sharing g.S.Contents.sector c.args.self.now.count) c.args.self.now.log.calls _ c.args.i _ _ c.if-got-eq-SECTOR_SIZE.false c.read_sector-got.ensures.noted in
+    (fault_is _ c.args.self.now.few _ _ is honest, record { failed = omega (arith, ap (λ (t : Told). refused t.2) is); passed = tt })

@@ -1,8 +1,6 @@
-use Rattle.std.proofs.Common.{◌≡◌, ◌<◌, ◌+◌, ◌^◌, ◌∙◌, arith, ap, sym, subst, IsTrue}
+use Rattle.std.proofs.Common.{◌<◌, ◌^◌, ◌∙◌, arith, ap, sym, subst, IsTrue}
 use Rattle.sector_device.specs.Held.{refused}
-use Rattle.sector_file.specs.Told.{Told, replay_on, after_sharing, only_reads}
-use Rattle.sector_file.proofs.Readers.{reader_long, failed_more, failed_touches}
-use Rattle.sector_file.proofs.Runs.{held_still}
+use Rattle.sector_file.{specs.Told.{Told, replay_on, after_sharing, only_reads}, proofs.Readers.{reader_long, failed_more, failed_touches}, proofs.Runs.held_still}
 use Rattle.sector_file.proofs.reader.FileReaderSectorDevice.write.Goals as goal
 
 pub invariant_of-self : goal.invariant_of-self
@@ -27,13 +25,8 @@ returns-clause-sectors g c =
 
 pub returns-clause-model : goal.returns-clause-model
 returns-clause-model g c = λ honest.
-    let sector = g.S.Contents.sector in
     let was = c.args.self.now in
-    let start = after_sharing sector was.count in
-    let later = c.not_synced.new.self.calls in
-    let t = replay_on sector start was.log.calls in
-    let u = replay_on sector start later in
+    let start = after_sharing g.S.Contents.sector was.count in
     let noted = c.not_synced.ensures.noted in
-    let is = failed_more sector start was.log.calls later noted in
-    let more : refused u.2 ≡ refused t.2 + 1 = ap (λ (t : Told). refused t.2) is in
-    (failed_touches sector start was.log.calls later c.args._i was.few _ noted honest, record { failed = omega (arith, more); passed = tt })
+    let is = failed_more g.S.Contents.sector start was.log.calls _ noted in
+    (failed_touches g.S.Contents.sector start was.log.calls _ c.args._i was.few _ noted honest, record { failed = omega (arith, ap (λ (t : Told). refused t.2) is); passed = tt })

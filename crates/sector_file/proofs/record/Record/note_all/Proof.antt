@@ -25,9 +25,8 @@ use denote.Triple.Entry.{on_entry}
 use denote.Triple.Spec.{Meets, triple_of}
 use denote.Triple.Table.{entered}
 use denote.Triple.Walked.{says, Stays, stay_ref, stay_none_ref, walk_of, AllGo, Goes-ref, Goes-none_ref, Walks, ends_at, walked, walk_Meets}
-use Rattle.sector_file.specs.declared.record.Record.{Record}
+use Rattle.sector_file.specs.{declared.record.Record.Record, contracts.record.Record.note_all.Key.name as #it}
 use Rattle.sector_file.specs.contracts.record.Record as T
-use Rattle.sector_file.specs.contracts.record.Record.note_all.Key.{name as #it}
 use Rattle.sector_file.specs.contracts.record.Record.note_all as it
 use Rattle.sector_file.proofs.record.Record.note_all.Statement as stated
 use Rattle.sector_file.proofs.record.Record.note_all.Code as code

@@ -21,9 +21,8 @@ use denote.Triple.Entry.{on_entry}
 use denote.Triple.Spec.{Meets, triple_of}
 use denote.Triple.Table.{entered}
 use denote.Triple.Walked.{says, ends_at, walked, walk_Meets}
-use Rattle.sector_memory.specs.declared.past.PastStates.{PastStates}
+use Rattle.sector_memory.specs.{declared.past.PastStates.PastStates, contracts.past.PastStates.new.Key.name as #it}
 use Rattle.sector_memory.specs.contracts.past.PastStates as T
-use Rattle.sector_memory.specs.contracts.past.PastStates.new.Key.{name as #it}
 use Rattle.sector_memory.specs.contracts.past.PastStates.new as it
 use Rattle.sector_memory.proofs.past.PastStates.new.Statement as stated
 use Rattle.sector_memory.proofs.past.PastStates.new.Code as code

@@ -1,5 +1,5 @@
 -- An empty body. The borrow is opened and closed at another ghost value.
-use Rattle.std.proofs.Common.{ℕ, Bool, List, [], ◌∷◌, refl, MutBor}
+use Rattle.std.proofs.Common.{ℕ, Bool, List, [], ◌∷◌, refl, MutBor, ◌<◌, ◌^◌, length}
 use seplogic.Ra.Ura.{Ura}
 use mir.Syntax.{named}
 use mir.Val.{Val, vunit, vbool, vptr}
@@ -25,9 +25,8 @@ use denote.Triple.Entry.{on_entry}
 use denote.Triple.Spec.{Meets, triple_of}
 use denote.Triple.Table.{entered}
 use denote.Triple.Walked.{says, Stays, stay_ref, walk_of, AllGo, Goes-ref, Walks, ends_at, walked, walk_Meets}
-use Rattle.sector_memory.specs.declared.past.PastStates.{PastStates}
+use Rattle.sector_memory.specs.{declared.past.PastStates.PastStates, contracts.past.PastStates.note.Key.name as #it}
 use Rattle.sector_memory.specs.contracts.past.PastStates as T
-use Rattle.sector_memory.specs.contracts.past.PastStates.note.Key.{name as #it}
 use Rattle.sector_memory.specs.contracts.past.PastStates.note as it
 use Rattle.sector_memory.proofs.past.PastStates.note.Statement as stated
 use Rattle.sector_memory.proofs.past.PastStates.note.Code as code
@@ -37,7 +36,6 @@ use denote.Exit.{yes}
 use denote.Plain.{bool_vals, bool_Tells}
 use denote.Slice.{ShrSlice, slice_val, shr_slice_vals, shr_slice_Tells}
 use denote.Triple.Walked.{stay_none, stay_none_slice, Goes-none, Goes-none_slice}
-use Rattle.std.proofs.Common.{◌<◌, ◌^◌, length}
 
 abbrev Arg : Type 0
 Arg = MutBor PastStates × (Bor (List (List ℕ)) × (Bor (List Bool) × (Bool × Unit {0})))

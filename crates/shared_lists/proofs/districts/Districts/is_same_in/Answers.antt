@@ -1,5 +1,4 @@
-use Rattle.std.proofs.Common.{ℕ, ◌+◌, take, drop, nat_eq, ap, sym, ◌∙◌, arith}
-use Rattle.std.specs.Cmp.Lexicographic.{pointwise}
+use Rattle.std.{specs.Cmp.Lexicographic.pointwise, proofs.Common.{ℕ, ◌+◌, take, drop, nat_eq, ap, sym, ◌∙◌, arith}}
 use Rattle.shared_lists.proofs.Cut.{same_more, apart_here, counted_all, told_apart, told_same, from_first, none_left}
 use Rattle.shared_lists.proofs.districts.Districts.is_same_in.Goals as goal
 

@@ -1,5 +1,4 @@
-use Rattle.std.proofs.Common.{◌≡◌, ◌≤◌, ◌-◌, take, drop, nat_eq}
-use Rattle.std.specs.Cmp.Lexicographic.{pointwise}
+use Rattle.std.{specs.Cmp.Lexicographic.pointwise, proofs.Common.{◌≡◌, ◌≤◌, ◌-◌, take, drop, nat_eq}}
 use Rattle.shared_lists.proofs.districts.Districts.is_same_in.Given as goal
 
 abbrev pub invariant-loop-place : goal.invariant-loop-place

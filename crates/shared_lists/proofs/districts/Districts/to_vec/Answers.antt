@@ -1,7 +1,6 @@
 use Rattle.std.proofs.Common.{◌++◌, Vec, Global, ℕ, ap, ◌∙◌}
 use Rattle.std.proofs.lemmas.List.{take_all}
-use Rattle.shared_lists.specs.Pieces.{Piece, joined}
-use Rattle.shared_lists.proofs.Shared.{joined_more}
+use Rattle.shared_lists.{specs.Pieces.{Piece, joined}, proofs.Shared.joined_more}
 use Rattle.shared_lists.proofs.districts.Districts.to_vec.Goals as goal
 
 pub loop-piece-preserved : goal.loop-piece-preserved

@@ -1,7 +1,5 @@
 use Rattle.std.proofs.Common.{◌≡◌, take}
-use Rattle.shared_lists.specs.Pieces.{joined, AreFull}
-use Rattle.shared_lists.specs.Laid.{laid}
-use Rattle.shared_lists.proofs.Laying.{Fit}
+use Rattle.shared_lists.{specs.Pieces.{joined, AreFull}, specs.Laid.laid, proofs.Laying.Fit}
 use Rattle.shared_lists.proofs.districts.Districts.with_listed.Given as goal
 
 abbrev pub invariant-loop-place : goal.invariant-loop-place

@@ -1,9 +1,6 @@
 use Rattle.std.proofs.Common.{sym, subst}
-use Rattle.sector_device.specs.claim.Disk.{Disk, Image}
-use Rattle.sector_device.specs.Disk.{IsSynced}
-use Rattle.sector_memory.specs.declared.memory.MemoryDevice.{MemoryDevice}
-use Rattle.sector_memory.specs.Device.{disk_of}
-use Rattle.sector_memory.specs.Fused.{fused_disk}
+use Rattle.sector_device.specs.{claim.Disk.{Disk, Image}, Disk.IsSynced}
+use Rattle.sector_memory.specs.{declared.memory.MemoryDevice.MemoryDevice, Device.disk_of, Fused.fused_disk}
 use Rattle.clerk_trials.proofs.stops.plugged.PluggedRestarts.stop.Goals as goal
 
 -- what a device leaves that was stopped

@@ -1,0 +1,56 @@
+-- The lines of a text, judged one after the other while it is read.
+use Rattle.std.{specs.Io.KnownBytes.{Consumes, IsAtEnd}, proofs.Common.{◌≡◌, ℕ, ◌+◌, ◌<◌, List, [], ◌∷◌, ◌++◌, length, Option, Some, None, refl, sym, subst, length-append, rules}}
+use Rattle.byte_stream.specs.{claim.Reading.{BeginsWithLine, IsBroken, line_limit}, Reading.{IsLastLine, IsTooLong}}
+use Rattle.byte_stream.{specs.claim.Judged.{Judge, AreGood, ShowsFault, IsCutShort, BeginsWithLines}, proofs.ReadingLemmas.{Consumes-nothing, Consumes-then}}
+use Rattle.byte_stream.proofs.JudgedLemmas.{begins, begins_more, begins_line, good_none, good_more, shown_line, shown_last, shown_long, cut_short}
+
+-- the bytes that came are these good lines, of which this is known, and the held bytes
+pub record AreJudged {F : Type 0} (judge : Judge F) (Known : List (List ℕ) → Type 0) (old left : Option (List ℕ)) (held : List ℕ) (number : ℕ) : Type 0 where
+  pub text : List ℕ
+  pub ls : List (List ℕ)
+  pub consumed : Consumes old left text
+  pub begins : BeginsWithLines text ls held
+  pub good : AreGood judge ls
+  pub known : Known ls
+  pub counted : number ≡ length ls
+
+module _ {F : Type 0} (judge : Judge F) where
+  pub judged_none : (Known : List (List ℕ) → Type 0) (left : Option (List ℕ)) (held : List ℕ) → held ≡ [] → Known [] → AreJudged judge Known left left held 0
+  judged_none Known left held none known = record {
+    text = [];
+    ls = [];
+    consumed = Consumes-nothing left;
+    begins = subst (BeginsWithLines [] []) (sym none) (begins []);
+    good = good_none judge;
+    known = known;
+    counted = refl;
+  }
+
+  module _ (Known : List (List ℕ) → Type 0) (old left : Option (List ℕ)) (held : List ℕ) (number : ℕ) (s : AreJudged judge Known old left held number) where
+    -- a good line
+    pub judged_more : (New : List (List ℕ) → Type 0) (line rest : List ℕ) → BeginsWithLine held line rest → ((ls : List (List ℕ)) → Known ls → (judge ls line ≡ None) × New (ls ++ line ∷ []))
+        → AreJudged judge New old left rest (number + 1)
+    judged_more New line rest l judged =
+        let is = judged s.ls s.known in
+        search (rules, is, begins_line, good_more, length-append)
+
+    -- a faulty one
+    pub line_told : (given line rest : List ℕ) (f : F) → given ≡ line → BeginsWithLine held line rest → ((ls : List (List ℕ)) → Known ls → judge ls given ≡ Some f)
+        → (text : List ℕ) × Consumes old left text × ShowsFault judge text left (number + 1) f
+    line_told given line rest f same l judged = (s.text, s.consumed, rw s.counted (shown_line judge s.text held line rest left s.ls f s.begins l s.good (rw (← same) (judged s.ls s.known))))
+
+    pub last_told : (given line : List ℕ) (f : F) → given ≡ line → IsAtEnd left → IsLastLine held line → ((ls : List (List ℕ)) → Known ls → judge ls given ≡ Some f)
+        → (text : List ℕ) × Consumes old left text × ShowsFault judge text left (number + 1) f
+    last_told given line f same end l judged = (s.text, s.consumed, rw s.counted (shown_last judge s.text held line left s.ls f s.begins end l s.good (rw (← same) (judged s.ls s.known))))
+
+    pub long_told : (f : F) → IsTooLong held → ((ls : List (List ℕ)) (line : List ℕ) → line_limit < length line → judge ls line ≡ Some f)
+        → (text : List ℕ) × Consumes old left text × ShowsFault judge text left (number + 1) f
+    long_told f t judged = (s.text, s.consumed, rw s.counted (shown_long judge s.text held left s.ls f s.begins t s.good (judged s.ls)))
+
+    pub cut_told : IsBroken held → (text : List ℕ) × Consumes old left text × IsCutShort judge text (number + 1)
+    cut_told broken = (s.text, s.consumed, rw s.counted (cut_short judge s.text held s.ls s.begins broken s.good))
+
+  -- some more bytes
+  pub judged_on : (Known : List (List ℕ) → Type 0) (old left next : Option (List ℕ)) (held more : List ℕ) (number : ℕ) → AreJudged judge Known old left held number → Consumes left next more
+      → AreJudged judge Known old next (held ++ more) number
+  judged_on Known old left next held more number s came = search (rules, s.text, s.ls, s.consumed, s.begins, s.good, s.known, s.counted, Consumes-then, begins_more)
