@@ -1,5 +1,5 @@
 -- Counts and filters that aren't empty.
-use Rattle.std.proofs.Common.{◌≡◌, ℕ, ◌+◌, ◌-◌, ◌<◌, ◌≤◌, Bool, true, false, cond, eqb, zero, suc, List, [], ◌∷◌, length, get_or, filter, count_by, All, Contains, ap, ◌∙◌, arith, ⊎_elim, eq-eqb}
+use Rattle.std.proofs.Common.{rules, ◌≡◌, ℕ, ◌+◌, ◌-◌, ◌<◌, ◌≤◌, Bool, true, false, cond, eqb, zero, suc, List, [], ◌∷◌, length, get_or, filter, count_by, All, Contains, ap, ◌∙◌, arith, ⊎_elim, eq-eqb}
 use Rattle.std.proofs.lemmas.Bool.{cases_Bool, eqb-true}
 use Rattle.std.proofs.lemmas.List.Sums.{sum_by-cons}
 use Rattle.std.proofs.lemmas.List.Elements.{All-filter, filter_passes}
@@ -39,17 +39,13 @@ filter_at p (x ∷ xs) (suc k) less passes =
 
 -- a district that passes leaves the filtered districts not empty
 pub filter_from_district : (p : ℕ → Bool) (n d : ℕ) → 1 ≤ d → d ≤ n → p d ≡ true → 0 < length (filter p (districts n))
-filter_from_district p n d from to passes =
-    let at : get_or (districts n) (d - 1) 0 ≡ d = get_or-range_with_len 1 n (d - 1) 0 (omega arith) ∙ (let e : 1 + (d - 1) ≡ d = omega arith in e) in
-    filter_at p (districts n) (d - 1) (omega (arith, length-range_with_len 1 n)) (ap p at ∙ passes)
+filter_from_district p n d from to passes = search (arith, get_or-range_with_len 1 n (d - 1) 0 (omega arith), filter_at, length-range_with_len 1 n)
 
 abbrev pub IsOneOf : ℕ → ℕ → Type 0
 IsOneOf n d = (1 ≤ d) × (d ≤ n)
 
 all_districts : (n : ℕ) → All (IsOneOf n) (districts n)
-all_districts n k d less =
-    let inside : k < n = omega (arith, length-range_with_len 1 n) in
-    let e = get_or-range_with_len 1 n k d inside in rw e (omega arith, omega arith)
+all_districts n k d less = search (rules, length-range_with_len, get_or-range_with_len)
 
 -- the first of the filtered districts is a district and passes
 pub first_filtered : (p : ℕ → Bool) (n : ℕ) → 0 < length (filter p (districts n)) → (d : ℕ) × IsOneOf n d × (p d ≡ true)

@@ -1,6 +1,6 @@
 -- The pieces that are left when one is taken, and the breaks of all parts.
 use Rattle.std.specs.{Prelude.Vec, declared.alloc.Global.Global}
-use Rattle.std.proofs.Common.{◌≡◌, ◌≢◌, ℕ, ◌+◌, ◌-◌, ◌*◌, ◌/◌, ◌%◌, ◌<◌, ◌≤◌, min, List, ◌++◌, length, get_or, set, remove, sym, ap, ◌∙◌, subst, arith, ⊎_elim}
+use Rattle.std.proofs.Common.{rules, ◌≡◌, ◌≢◌, ℕ, ◌+◌, ◌-◌, ◌*◌, ◌/◌, ◌%◌, ◌<◌, ◌≤◌, min, List, ◌++◌, length, get_or, set, remove, sym, ap, ◌∙◌, subst, arith, ⊎_elim}
 use Rattle.std.proofs.Math.Nat.{mul-le-mul_left, div-add-mod, mod-lt}
 use Rattle.std.proofs.lemmas.Bool.{cases_lt, cases_eq}
 use Rattle.std.proofs.lemmas.List.{get_or_default, length-set, get_or-set_same, get_or-set_other}
@@ -12,20 +12,13 @@ use Rattle.audit_report.specs.declared.work.Found.TheVariants as found
 
 -- of two pieces of one worker the one before has the lower place
 place_before : (workers p q : ℕ) → 0 < workers → p % workers ≡ q % workers → p < q → p / workers < q / workers
-place_before workers p q some same less =
-    ⊎_elim (λ (before : p / workers < q / workers). before)
-    (λ (past : q / workers ≤ p / workers). absurd (omega (arith, same, less, div-add-mod p workers, div-add-mod q workers, mul-le-mul_left {m = q / workers} {n = p / workers} workers past)))
-    (cases_lt (p / workers) (q / workers))
+place_before workers p q some same less = search (rules, div-add-mod, mul-le-mul_left, cases_lt)
 
 held_still : (a : Audit) (piece place out : ℕ) (old new : List Found) → place < out → out < length old → new ≡ remove old out → IsHeld a piece place old → IsHeld a piece place new
-held_still a piece place out old new before within is was = record {
-  within = let long : length new + 1 ≡ length old = ap (λ l. length l + 1) is ∙ length-remove old out within in omega (arith, long);
-  is = λ d. rw (is, get_or-remove_below old out d place before within) (was.is d);
-}
+held_still a piece place out old new before within is was = search (rules, length-remove, get_or-remove_below)
 
 pub taken_is : (a : Audit) (workers piece : ℕ) (old new : List (Vec Found Global)) (found : Found) → AreShares a (piece + 1) workers old → IsTaken piece workers old new found → IsFound a piece found
-taken_is a workers piece old new found held taken =
-    subst (IsFound a piece) (taken.was taken.share found) ((held.each piece taken.share (omega arith)).is found)
+taken_is a workers piece old new found held taken = search (arith, taken.was taken.share found)
 
 pub taken_left : (a : Audit) (workers piece : ℕ) (old new : List (Vec Found Global)) (found : Found) → 0 < workers → AreShares a (piece + 1) workers old → IsTaken piece workers old new found
     → AreShares a piece workers new
@@ -66,9 +59,7 @@ taken_by piece workers old share left found there is found_is left_is =
 
 pub found_at : (a : Audit) (pieces workers piece : ℕ) (shares : List (Vec Found Global)) (share : Vec Found Global) (x : Found) → piece < pieces → AreShares a pieces workers shares
     → share ≡ get_or shares (piece % workers) share → x ≡ get_or share.items (piece / workers) x → IsFound a piece x
-found_at a pieces workers piece shares share x less held share_is x_is =
-    let e : x ≡ get_or (get_or shares (piece % workers) share).items (piece / workers) x = x_is ∙ ap (λ (v : Vec Found Global). get_or v.items (piece / workers) x) share_is in
-    subst (IsFound a piece) (sym e) ((held.each piece share less).is x)
+found_at a pieces workers piece shares share x less held share_is x_is = search rules
 
 pub nesting_there : (a : Audit) (x : Found) → IsFound a 2 x → ((y : Unnested) → x ≡ found.Nesting y → ⊥) → ⊥
 nesting_there a (found.Nesting x) is not_it = not_it x (λ i. found.Nesting x)
@@ -94,14 +85,9 @@ breaks_more follow a piece so_far x from of was is =
     let low : min (16 * (piece - 3)) a.count ≡ 16 * (piece - 3) = omega arith in
     let step : 16 * (piece - 3) + 16 ≡ 16 * (piece + 1 - 3) = omega arith in
     let before : AreBreaks a.geography a.plan 1 (16 * (piece - 3)) so_far = subst (λ m. AreBreaks a.geography a.plan 1 m so_far) low was in
-    let next : AreBreaks a.geography a.plan (16 * (piece - 3) + 1) (min (16 * (piece + 1 - 3)) a.count) (breaks_in x) =
-    subst (λ m. AreBreaks a.geography a.plan (16 * (piece - 3) + 1) (min m a.count) (breaks_in x)) step (breaks_found a piece x from is) in
+    let next : AreBreaks a.geography a.plan (16 * (piece - 3) + 1) (min (16 * (piece + 1 - 3)) a.count) (breaks_in x) = search (rules, breaks_found) in
     follow a.geography a.plan 1 (16 * (piece - 3)) (min (16 * (piece + 1 - 3)) a.count) so_far (breaks_in x) (omega arith) (omega arith) before next
 
 pub breaks_all : (a : Audit) (pieces piece : ℕ) (breaks : List Break) → AreNumberedBelow a.count pieces → pieces ≤ piece
     → AreBreaks a.geography a.plan 1 (min (16 * (piece - 3)) a.count) breaks → AreBreaks a.geography a.plan 1 a.count breaks
-breaks_all a pieces piece breaks numbered past are =
-    let beyond : a.count ≤ 16 * (piece - 3) = ⊎_elim (λ (of : 16 * (piece - 3) < a.count). absurd (omega (arith, (numbered piece).1 of))) (λ (far : a.count ≤ 16 * (piece - 3)). far)
-    (cases_lt (16 * (piece - 3)) a.count) in
-    let all : min (16 * (piece - 3)) a.count ≡ a.count = omega arith in
-    subst (λ m. AreBreaks a.geography a.plan 1 m breaks) all are
+breaks_all a pieces piece breaks numbered past are = search (arith, cases_lt (16 * (piece - 3)) a.count)

@@ -1,6 +1,6 @@
 -- The broken clauses, one by one.
 use Rattle.std.specs.List.Sorted.{IsStrictlyIncreasing}
-use Rattle.std.proofs.Common.{◌≡◌, ℕ, ◌+◌, ◌<◌, ◌≤◌, Bool, true, false, IsTrue, zero, suc, List, [], ◌∷◌, ◌++◌, length, map, All, Contains, refl, ap, sym, ◌∙◌, subst, arith, ⊎_elim}
+use Rattle.std.proofs.Common.{rules, ◌≡◌, ℕ, ◌+◌, ◌<◌, Bool, true, false, IsTrue, zero, suc, List, [], ◌∷◌, ◌++◌, length, map, All, Contains, refl, ap, sym, ◌∙◌, arith, ⊎_elim}
 use Rattle.std.proofs.lemmas.Bool.{cases_lt, cases_Bool, false≢true}
 use Rattle.std.proofs.lemmas.List.{append-nil, length-map, map_push, get_or-map}
 use Rattle.std.proofs.lemmas.List.Elements.{All-push, All-nil, All-weaker, Contains-push, Contains-append_left}
@@ -16,12 +16,7 @@ pub record AreNamed (Holds : Clause → Type 0) (count : ℕ) (clauses : List Cl
   pub all : (c : Clause) → rank c < count → Holds c → Contains clauses c
 
 pub named_none : (Holds : Clause → Type 0) → AreNamed Holds 0 []
-named_none Holds = record {
-  rising = λ k less. absurd (omega arith);
-  below = All-nil (λ (c : Clause). rank c < 0);
-  listed = All-nil Holds;
-  all = λ c less holds. absurd (omega arith);
-}
+named_none Holds = search (rules, All-nil)
 
 pub clause_at : ℕ → Clause
 clause_at zero = Complete
@@ -51,19 +46,12 @@ named_push Holds count clauses clause is holds was = record {
   below = All-push (λ (c : Clause). rank c < count + 1) clauses clause
       (All-weaker (λ (c : Clause). rank c < count) (λ (c : Clause). rank c < count + 1) (λ c less. omega arith) clauses was.below) (omega arith);
   listed = All-push Holds clauses clause was.listed holds;
-  all = λ c less has. ⊎_elim (λ (before : rank c < count). Contains-append_left clauses (clause ∷ []) c (was.all c before has))
-      (λ (after : count ≤ rank c). let e : clause ≡ c = same_rank clause c (omega arith) in rw (← e) (Contains-push clauses clause)) (cases_lt (rank c) count);
+  all = λ c less has. search (arith, Contains-append_left, same_rank, Contains-push clauses clause, cases_lt);
 }
 
 named_pass : (Holds : Clause → Type 0) (count : ℕ) (clauses : List Clause) (clause : Clause) → rank clause ≡ count → ¬ Holds clause → AreNamed Holds count clauses
     → AreNamed Holds (count + 1) clauses
-named_pass Holds count clauses clause is not_here was = record {
-  rising = was.rising;
-  below = All-weaker (λ (c : Clause). rank c < count) (λ (c : Clause). rank c < count + 1) (λ c less. omega arith) clauses was.below;
-  listed = was.listed;
-  all = λ c less has. ⊎_elim (λ (before : rank c < count). was.all c before has)
-      (λ (after : count ≤ rank c). let e : clause ≡ c = same_rank clause c (omega arith) in absurd (not_here (subst Holds (sym e) has))) (cases_lt (rank c) count);
-}
+named_pass Holds count clauses clause is not_here was = search (rules, All-weaker, same_rank, cases_lt)
 
 -- the next clause is judged
 pub named_more : (Holds : Clause → Type 0) (count : ℕ) (clauses : List Clause) (told : Bool) (clause : Clause) → rank clause ≡ count → (IsTrue told → Holds clause) → (Holds clause → IsTrue told)
@@ -78,8 +66,4 @@ rank_below Complete = omega arith
 rank_below _ = omega arith
 
 pub named_all : (Holds : Clause → Type 0) (clauses : List Clause) → AreNamed Holds 6 clauses → AreExactlyClauses Holds clauses
-named_all Holds clauses was = record {
-  rising = was.rising;
-  listed = was.listed;
-  all = λ c has. was.all c (rank_below c) has;
-}
+named_all Holds clauses was = search (rules, rank_below)

@@ -1,5 +1,5 @@
 -- A plan has one report.
-use Rattle.std.proofs.Common.{◌≡◌, ℕ, ◌<◌, ◌≤◌, List, [], ◌∷◌, length, map, get_or, Option, Some, None, MatchOption, Contains, refl, sym, ap, ◌∙◌, arith, ⊎_elim}
+use Rattle.std.proofs.Common.{rules, ◌≡◌, ℕ, ◌<◌, List, [], ◌∷◌, length, map, get_or, Option, Some, None, MatchOption, Contains, refl, sym, ap, ◌∙◌}
 use Rattle.std.proofs.lemmas.Bool.{cases_lt}
 use Rattle.std.proofs.lemmas.List.{length-map, get_or-map}
 use Rattle.std.proofs.lemmas.List.Elements.{All-contains, Contains-get_or}
@@ -31,28 +31,16 @@ clauses_same Holds one other law are too =
     sym (from_ranks one) ∙ ap (map clause_at) ranks ∙ from_ranks other
 
 numbers_same : (Holds : ℕ → Type 0) (one other : List ℕ) → RisingListsAreOne → AreExactly Holds one → AreExactly Holds other → one ≡ other
-numbers_same Holds one other law are too =
-    law one other are.rising too.rising (λ n has. too.all n (All-contains Holds one n are.listed has)) (λ n has. are.all n (All-contains Holds other n too.listed has))
+numbers_same Holds one other law are too = search (rules, All-contains)
 
 most_same : (populations : List ℕ) (d e : ℕ) → IsFirstMostPopulous populations d → IsFirstMostPopulous populations e → d ≡ e
-most_same populations d e one other =
-    ⊎_elim (λ (less : d < e). absurd (omega (arith, other.first d one.district less, one.most e other.district)))
-    (λ (from : e ≤ d).
-    ⊎_elim (λ (less : e < d). absurd (omega (arith, one.first e other.district less, other.most d one.district))) (λ (to : d ≤ e). omega arith) (cases_lt e d))
-    (cases_lt d e)
+most_same populations d e one other = search (rules, cases_lt)
 
 least_same : (populations : List ℕ) (d e : ℕ) → IsFirstLeastPopulous populations d → IsFirstLeastPopulous populations e → d ≡ e
-least_same populations d e one other =
-    ⊎_elim (λ (less : d < e). absurd (omega (arith, other.first d one.district less, one.least e other.district)))
-    (λ (from : e ≤ d).
-    ⊎_elim (λ (less : e < d). absurd (omega (arith, one.first e other.district less, other.least d one.district))) (λ (to : d ≤ e). omega arith) (cases_lt e d))
-    (cases_lt d e)
+least_same populations d e one other = search (rules, cases_lt)
 
 extremes_same : (populations : List ℕ) (x y : Extremes) → AreExtremes populations x → AreExtremes populations y → x ≡ y
-extremes_same populations x y one other =
-    let most = most_same populations x.most y.most one.most other.most in
-    let least = least_same populations x.least y.least one.least other.least in
-    λ i. record { most = most i; least = least i }
+extremes_same populations x y one other = search (rules, most_same, least_same)
 
 breaks_from : (populations : List ℕ) (e : Extremes) → AreExtremes populations e → RangeBreaks populations
 breaks_from populations e is = record { most = e.most; least = e.least; most_is = is.most.district; least_is = is.least.district; exceeds = is.exceeds }
@@ -75,9 +63,8 @@ nesting_same n plan (Some c) one other law is too = numbers_same (BreaksNesting 
 
 divided_same : (n : ℕ) (plan : List ℕ) (congress one other : Option (List ℕ)) → RisingListsAreOne → IsDividedBy n plan congress one → IsDividedBy n plan congress other → one ≡ other
 divided_same n plan None one other law is too = is ∙ sym too
-divided_same n plan (Some c) None other law is too = absurd is
-divided_same n plan (Some c) (Some one) None law is too = absurd too
 divided_same n plan (Some c) (Some one) (Some other) law is too = ap Some (numbers_same (BreaksNesting n plan c) one other law is too)
+divided_same n plan (Some c) _ _ law is too = search rules
 
 pub one_report : BreaksAreOneList → RisingListsAreOne → ReportIsOne
 one_report breaks law g k n plan beside one other are too =

@@ -1,6 +1,6 @@
 -- From the pieces to the report.
 use Rattle.std.specs.{Option.option_copied, Borrow.Bor}
-use Rattle.std.proofs.Common.{◌≡◌, ℕ, ◌<◌, ◌≤◌, Bool, IsTrue, List, [], length, get_or, filter, Option, Some, None, option_map, is_some, MatchOption, refl, ap, sym, ◌∙◌, arith, ⊎_elim}
+use Rattle.std.proofs.Common.{rules, ◌≡◌, ℕ, ◌<◌, ◌≤◌, Bool, IsTrue, List, [], length, get_or, filter, Option, Some, None, option_map, is_some, MatchOption, refl, ap, sym, ◌∙◌, arith, ⊎_elim}
 use Rattle.std.proofs.lemmas.Bool.{cases_lt, lt-ltb, ltb-true, false≢true, some_since, and_from}
 use Rattle.std.proofs.lemmas.List.{length-map}
 use Rattle.std.proofs.lemmas.List.FromFn.{length-map-range_with_len}
@@ -39,9 +39,7 @@ none_listed xs none listed = false≢true (ap is_listed (sym none) ∙ listed)
 
 deviating_from : (populations : List ℕ) (total : ℕ) (listed : List ℕ) → listed ≡ filter (deviates populations total) (districts (length populations)) → IsTrue (is_listed listed)
     → CongressBreaks populations total
-deviating_from populations total listed is some =
-    let first = first_filtered (deviates populations total) (length populations) (omega (arith, ap length is, ltb-true 0 (length listed) some)) in
-    record { district = first.0; is = first.1; deviates = ltb-true _ _ first.2 }
+deviating_from populations total listed is some = search (rules, first_filtered, total, ltb-true)
 
 congress_holds : (k : Kind) (populations : List ℕ) (total : ℕ) (listed : List ℕ) → listed ≡ congress_of k populations total → IsTrue (is_listed listed)
     → IsTrue (is_congress k) × CongressBreaks populations total
@@ -51,8 +49,7 @@ congress_holds _ populations total listed is some = absurd (none_listed listed i
 congress_tells : (k : Kind) (populations : List ℕ) (total : ℕ) (listed : List ℕ) → listed ≡ congress_of k populations total → IsTrue (is_congress k) → CongressBreaks populations total
     → IsTrue (is_listed listed)
 congress_tells kind.Congress populations total listed is applies breaks =
-    let some = filter_from_district (deviates populations total) (length populations) breaks.district breaks.is.0 breaks.is.1 (lt-ltb _ _ breaks.deviates) in
-    lt-ltb 0 (length listed) (omega (arith, ap length is, some))
+    search (arith, filter_from_district (deviates populations total) (length populations) breaks.district breaks.is.0 breaks.is.1 (lt-ltb _ _ breaks.deviates), lt-ltb)
 congress_tells _ populations total listed is applies breaks = absurd (false≢true applies)
 
 apart : (g : GeographyModel) (plan : List ℕ) (d : ℕ) (gap : Option Gap) → MatchOption gap ((a : ℕ) → ¬ IsIn plan d a) (IsGap g plan d) → ¬ HoldsTogether g.pairs plan d

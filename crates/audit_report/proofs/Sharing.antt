@@ -1,6 +1,6 @@
 -- What a worker found so far, and all workers together.
 use Rattle.std.specs.{Prelude.Vec, declared.alloc.AllocError.AllocError, declared.alloc.Global.Global}
-use Rattle.std.proofs.Common.{◌≡◌, ℕ, ◌+◌, ◌-◌, ◌*◌, ◌/◌, ◌%◌, ◌<◌, ◌≤◌, min, Bool, List, [], ◌∷◌, ◌++◌, length, map, get_or, Result, Ok, IfOk, sym, ap, ◌∙◌, subst, arith, ⊎_elim}
+use Rattle.std.proofs.Common.{rules, ◌≡◌, ℕ, ◌+◌, ◌-◌, ◌*◌, ◌/◌, ◌%◌, ◌<◌, ◌≤◌, min, Bool, List, [], ◌∷◌, ◌++◌, length, map, get_or, Result, Ok, IfOk, sym, ap, ◌∙◌, subst, arith, ⊎_elim}
 use Rattle.std.proofs.Math.Nat.{add_comm, add-mul, mul-le-mul_right, div-add-mod, mod-lt, mul_comm}
 use Rattle.std.proofs.lemmas.Bool.{cases_lt}
 use Rattle.std.proofs.lemmas.Nat.{mod-mul-add}
@@ -18,12 +18,7 @@ next_more a workers worker piece held x was is = record {
         within = omega (arith, length_push held x);
         is = λ d. rw (get_or_append_left held (x ∷ []) d place before) ((was.each place before).is d);
       })
-      (λ (last : length held ≤ place).
-      let at : length held ≡ place = omega (arith, less, length_push held x) in
-      record {
-        within = less;
-        is = λ d. rw (get_or_push held x d place at) (subst (λ p. IsFound a p x) (was.next ∙ ap (λ n. worker + n * workers) at) is);
-      })
+      (λ (last : length held ≤ place). search (rules, length_push, get_or_push))
       (cases_lt place (length held));
 }
 
@@ -69,5 +64,4 @@ next_is_own a workers worker piece held own was =
 
 pub breaks_of_piece : (a : Audit) (own : List Bool) (shown : Shown) (piece : ℕ) (v : Vec Break Global) → 3 ≤ piece → shown ≡ shown_of a own
     → AreBreaks shown.geography shown.plan (16 * (piece - 3) + 1) (min (16 * (piece - 3) + 16) shown.count) v.items → IsFound a piece (found.Breaks v)
-breaks_of_piece a own shown piece v after is are =
-    (after, subst (λ (s : Shown). AreBreaks s.geography s.plan (16 * (piece - 3) + 1) (min (16 * (piece - 3) + 16) s.count) v.items) is are)
+breaks_of_piece a own shown piece v after is are = search rules

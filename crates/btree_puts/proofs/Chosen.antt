@@ -1,10 +1,10 @@
 -- The child that a key belongs to, and what a put into it does to all children.
 use Rattle.std.specs.{Prelude.{Option, Some, is_some}, Ordering.is_gt, FinMap.find}
-use Rattle.std.proofs.Common.{◌≡◌, ◌++◌, inl, inr, ⊎_elim, ℕ, List, [], ◌∷◌, Bool, true, false, cond, refl, sym, ap, subst, ◌∙◌, arith}
+use Rattle.std.proofs.Common.{rules, ◌≡◌, ◌++◌, inl, inr, ⊎_elim, ℕ, List, [], ◌∷◌, Bool, true, false, cond, refl, sym, ap, ◌∙◌, arith}
 use Rattle.sector_device.specs.claim.Disk.{Image}
 use Rattle.page_store.specs.claim.Chain.{IsIn}
 use Rattle.page_node.specs.{claim.Entries.{Entry, child_bytes}, Entries.key_at, claim.Places.key_cmp, Places.floor}
-use Rattle.page_btree.specs.claim.Keys.{IsBetween, Parts}
+use Rattle.page_btree.specs.claim.Keys.{IsBetween}
 use Rattle.page_btree.specs.claim.Tree.{Tree, Forest, one, more, page_of, first_key, links, rows, forest_rows, owns, forest_owns, IsTree, AreTrees, IsApart, AreApart}
 use Rattle.page_btree.proofs.{Rows.{put_left, put_right, find_left, find_right, key_before}, MapLaws.{tree_same, trees_same}, Within.{rows_after, rows_before}, Booleans.either}
 use Rattle.page_btree.proofs.Descent.{floor_links, key_of_links}
@@ -35,7 +35,6 @@ module _ (P Q : Image) (d : ℕ) (low : List ℕ) (high : Option (List ℕ)) (fr
       let before = rows_before P d (first_key f) high key f trees.2 (key_before (first_key f) key above) in
       let stays : (q : ℕ) → forest_owns f q → Q q ≡ P q = λ q own. done.frame q (λ o. apart.1 q o own) (λ taken. used q (inr own) taken.0) in
       let off : (q : ℕ) → forest_owns g q → forest_owns f q → ⊥ = λ q there own. ⊎_elim (λ o. apart.1 q o own) (λ taken. used q (inr own) taken.0) (done.owned q there) in
-      let n = join_size g f in
       record {
         trees = join_trees Q d low high g f done.trees trees.1 (trees_same P Q d (first_key f) high f stays trees.2);
         apart = join_apart g f done.apart apart.2 off;
@@ -45,7 +44,7 @@ module _ (P Q : Image) (d : ℕ) (low : List ℕ) (high : Option (List ℕ)) (fr
         frame = λ q out none. done.frame q (λ o. out (inl o)) none;
         fewer = done.fewer;
         rest = done.rest;
-        whole = omega arith;
+        whole = omega (arith, join_size g f);
       }
 
   -- a later one did
@@ -53,13 +52,8 @@ module _ (P Q : Image) (d : ℕ) (low : List ℕ) (high : Option (List ℕ)) (fr
       → IsPut P Q d (first_key f) high free left key value had f g → IsPut P Q d low high free left key value had (more k t f) (more k t g)
   put_later k t f g trees apart used from same done =
       let after = rows_after P d low (first_key f) key t trees.0 from in
-      let stays : (q : ℕ) → owns t q → Q q ≡ P q = λ q own. done.frame q (λ o. apart.1 q own o) (λ taken. used q (inl own) taken.0) in
       record {
-        trees = (
-          subst (λ (b : List ℕ). IsTree Q d low (Some b) t) (sym same) (tree_same P Q d low (Some (first_key f)) t stays trees.0),
-          subst (λ (b : List ℕ). Parts low high b) (sym same) trees.1,
-          subst (λ (b : List ℕ). AreTrees Q d b high g) (sym same) done.trees,
-        );
+        trees = search (rules, tree_same);
         apart = (apart.0, (λ q own there. ⊎_elim (λ o. apart.1 q own o) (λ taken. used q (inl own) taken.0) (done.owned q there)), done.apart);
         rows_are = ap (λ l. rows t ++ l) done.rows_are ∙ sym (put_right key value (rows t) (forest_rows f) after);
         had_is = done.had_is ∙ ap is_some (sym (find_right key (rows t) (forest_rows f) after));

@@ -1,8 +1,7 @@
 -- Pages written and taken by calls that follow one another.
-use Rattle.std.{specs.Prelude.{Option, Some, None, Result, Ok, Err, IfOk, MatchResult}, proofs.Common.{◌≡◌, ◌<◌, ◌≤◌, ◌+◌, ◌-◌, ℕ, subst, arith}}
+use Rattle.std.{specs.Prelude.{Option, Some, None}, proofs.Common.{◌≡◌, ◌<◌, ◌≤◌, ◌+◌, ◌-◌, ℕ, subst, arith}}
 use Rattle.page_store.specs.{claim.Transactions.txn_free, declared.txn.Txn.Txn}
-use Rattle.btree_puts.specs.{Putting.AreFew, declared.puts.Placed.Placed}
-use Rattle.page_btree.specs.{Errors.IsNoWant, declared.error.TreeError.TreeError}
+use Rattle.btree_puts.specs.Putting.{AreFew}
 
 pub few_none : (d : ℕ) (t u : Txn) (right : Option ℕ) → 0 < d → right ≡ None → AreFew (d - 1) t u right → AreFew d t u right
 few_none d t u None some is few = let a = few.0 in let b = few.1 in (omega arith, omega arith, few.2)
@@ -15,19 +14,8 @@ few_then d t u v q (Some r) some few more = let a = few.0 in let b = few.1 in le
 pub few_some : (d : ℕ) (t u v : Txn) (q : ℕ) (right cut : Option ℕ) → 0 < d → right ≡ Some q → AreFew (d - 1) t u right → AreFew 0 u v cut → AreFew d t v cut
 few_some d t u v q right cut some is few more = few_then d t u v q cut some (subst (AreFew (d - 1) t u) is few) more
 
-few_left : (d : ℕ) (t u : Txn) (q : ℕ) → 0 < d → AreFew (d - 1) t u (Some q) → txn_free t ≤ txn_free u + d
-few_left d t u q some few = let b = few.1 in omega arith
-
 pub few_taken : (d : ℕ) (t u : Txn) (q : ℕ) (right : Option ℕ) → 0 < d → right ≡ Some q → AreFew (d - 1) t u right → txn_free t ≤ txn_free u + d
-few_taken d t u q right some is few = few_left d t u q some (subst (AreFew (d - 1) t u) is few)
-
-pub few_whole : (t u : Txn) (right : Option ℕ) → right ≡ None → AreFew 0 t u right → txn_free u ≡ txn_free t
-few_whole t u None is few = let b = few.1 in let c = few.2 in omega arith
-few_whole t u (Some q) is few = cc
-
-pub fixed_row : (r : Result Placed TreeError) (t u : Txn) → IfOk r (λ p. AreFew 0 t u p.right) → MatchResult r (λ p. p.right ≡ None) IsNoWant → MatchResult r (λ p. (p.right ≡ None) × (txn_free u ≡ txn_free t)) IsNoWant
-fixed_row (Ok p) t u few is = (is, few_whole t u p.right is few)
-fixed_row (Err e) t u few is = is
+few_taken d t u q right some is few = let b = (subst (AreFew (d - 1) t u) is few).1 in omega arith
 
 pub none_some : (right : Option ℕ) (q : ℕ) → right ≡ None → right ≡ Some q → ⊥
 none_some None q none some = cc

@@ -1,6 +1,6 @@
 -- A step down to the child of a key, and up again.
 use Rattle.std.specs.{Prelude.{Option, Some, None, option_map}, Ordering.is_gt, FinMap.find}
-use Rattle.std.proofs.Common.{◌≡◌, ◌≢◌, ◌<◌, ◌≤◌, ◌-◌, ◌^◌, inl, inr, ℕ, List, [], ◌∷◌, Bool, true, false, cond, refl, sym, ap, subst, ◌∙◌, arith}
+use Rattle.std.proofs.Common.{rules, ◌≡◌, ◌≢◌, ◌<◌, ◌≤◌, ◌-◌, ◌^◌, inl, inr, ℕ, List, [], ◌∷◌, Bool, true, false, cond, refl, sym, ap, subst, ◌∙◌, arith}
 use Rattle.sector_device.specs.claim.Disk.{Image}
 use Rattle.page_store.specs.claim.Chain.{IsIn, AreFree}
 use Rattle.page_node.specs.{claim.Entries.{Entry, child_bytes}, Entries.{key_at, child_in}, claim.Node.{Node, IsNode}, claim.Places.key_cmp, Places.floor}
@@ -8,7 +8,6 @@ use Rattle.page_node.proofs.Laws.{child_written}
 use Rattle.page_btree.specs.{claim.Keys.IsBetween, claim.Tree.{Tree, Forest, leaf, inner, one, page_of, rows, links, forest_owns}, claim.Map.IsSound}
 use Rattle.page_btree.proofs.Descent.{owns_page}
 use Rattle.btree_puts.{specs.Putting.{IsPut, IsWritten, IsRaised, StandsAt, CanPut, linked, after_child}, proofs.Chosen.{HasChild, chosen}, proofs.Raised.raise}
-use Rattle.btree_puts.proofs.Roots.{level_there}
 
 after_none : (key : List ℕ) (es : List Entry) → after_child key [] es ≡ es
 after_none key [] = refl
@@ -19,11 +18,7 @@ linked_none key [] = refl
 linked_none key (e ∷ es) = ap (λ (l : List Entry). e ∷ l) (after_none key es)
 
 some_same : (x y : ℕ) → Some x ≡ Some y → x ≡ y
-some_same x y e = ap (λ (o : Option ℕ). or_zero o) e
-  where
-    or_zero : Option ℕ → ℕ
-    or_zero None = 0
-    or_zero (Some z) = z
+some_same x y e = search rules
 
 -- the node at a page has children, and a key belongs to one of them
 pub record HasBelow (n : ℕ) (P : Image) (d : ℕ) (low : List ℕ) (high : Option (List ℕ)) (free : List ℕ) (page : ℕ) (key value : List ℕ) (t : Tree) : Type 0 where
@@ -46,15 +41,7 @@ go_down n P d low high free page key value (inner p f) deep stands between =
       node = subst (λ (x : ℕ). IsNode (P x) (record { level = d; entries = links f })) same stands.tree_is.1;
       sound = subst (λ (x : ℕ). IsSound n free (inner x f)) same stands.sound;
       has = has;
-      stands = record {
-        tree_is = has.stands;
-        page_is = refl;
-        sound = record {
-          apart = has.apart;
-          below = λ q own. stands.sound.below q (inr (has.owned q own));
-          used = λ q own. stands.sound.used q (inr (has.owned q own));
-        };
-      };
+      stands = search rules;
     }
 
 module _ (n : ℕ) (P : Image) (d : ℕ) (low : List ℕ) (high : Option (List ℕ)) (free : List ℕ) (page : ℕ) (key value : List ℕ) (t : Tree) (few : n ≤ 2 ^ 32) (b : HasBelow n P d low high free page key value t) where
@@ -83,30 +70,21 @@ module _ (n : ℕ) (P : Image) (d : ℕ) (low : List ℕ) (high : Option (List �
 
     finish : (R : Image) (last : List ℕ) (k : List ℕ) (new : List Entry) (right : Option ℕ) (upper : Node) (h : Forest) → IsPut P Q (d - 1) low high free left key value had b.forest h → links h ≡ linked key new (links b.forest)
         → IsWritten Q R left last page right (record { level = d; entries = linked key new (links b.forest) }) upper → IsRaised P R d low high free last key value had k page t right upper
-    finish R last k new right upper h done same w =
-        subst (λ u. IsRaised P R d low high free last key value had k page u right upper) (sym b.is)
-        (raise P Q R n d low high free left last key value had k page b.forest h b.positive b.sound free_are done right upper
-        (subst (λ es. IsWritten Q R left last page right (record { level = d; entries = es }) upper) (sym same) w))
+    finish R last k new right upper h done same w = search (rules, raise)
 
     -- the child is one as before: nothing is written above
     pub finish_none : (k : List ℕ) (upper above : Node) → IsRaised P Q (d - 1) b.has.its_low b.has.its_high free left key value had b.has.its_key (page_of b.has.child) b.has.child None upper → IsRaised P Q d low high free left key value had k page t None above
     finish_none k upper above up =
         let same : links up.trees ≡ (b.has.its_key, child_bytes (page_of b.has.child)) ∷ [] = ap links up.shape.1 ∙ ap (λ (x : ℕ). (b.has.its_key, child_bytes x) ∷ []) up.shape.2 in
         let back = b.has.back Q left had up.trees [] up.is_put same in
-        finish Q left k [] None above back.0 back.1 back.2 (record {
-          holds = subst (λ es. IsNode (Q page) (record { level = d; entries = es })) (sym (linked_none key (links b.forest))) (node_stays None upper up);
-          elsewhere = λ q off. refl;
-          none = refl;
-        })
+        search (finish, linked_none, node_stays)
 
     -- the child became two: its node has a link more
     pub finish_some : (R : Image) (last : List ℕ) (k : List ℕ) (q : ℕ) (upper : Node) (right : Option ℕ) (above : Node) → IsRaised P Q (d - 1) b.has.its_low b.has.its_high free left key value had b.has.its_key (page_of b.has.child) b.has.child (Some q) upper
         → IsWritten Q R left last page right (record { level = d; entries = linked key ((key_at upper.entries 0, child_bytes q) ∷ []) (links b.forest) }) above → IsRaised P R d low high free last key value had k page t right above
     finish_some R last k q upper right above up w =
         let new : List Entry = (key_at upper.entries 0, child_bytes q) ∷ [] in
-        let same : links up.trees ≡ (b.has.its_key, child_bytes (page_of b.has.child)) ∷ new =
-        ap links up.shape.2 ∙ ap (λ (x : ℕ). (b.has.its_key, child_bytes x) ∷ (key_at upper.entries 0, child_bytes (page_of up.shape.1)) ∷ []) up.shape.3
-        ∙ ap (λ (x : ℕ). (b.has.its_key, child_bytes (page_of b.has.child)) ∷ (key_at upper.entries 0, child_bytes x) ∷ []) up.shape.4 in
+        let same : links up.trees ≡ (b.has.its_key, child_bytes (page_of b.has.child)) ∷ new = search rules in
         let back = b.has.back Q left had up.trees new up.is_put same in
         finish R last k new right above back.0 back.1 back.2 w
 
@@ -131,27 +109,17 @@ module _ (n : ℕ) (P : Image) (d : ℕ) (low : List ℕ) (high : Option (List �
 
     module _ (bytes_below : List ℕ) (reads : bytes_below ≡ P child) where
       pub level_below : (es : List Entry) × IsNode bytes_below (record { level = d - 1; entries = es })
-      level_below =
-          let there = level_there P (d - 1) here.has.its_low here.has.its_high here.has.child here.has.stands in
-          (there.0, subst (λ b. IsNode b (record { level = d - 1; entries = there.0 })) (ap P child_is ∙ sym reads) there.1)
+      level_below = search (rules, child_is)
 
       pub can_below : CanPut n P (d - 1) here.has.its_low here.has.its_high free child bytes_below key here.has.child
-      can_below = record {
-        reads = reads;
-        stands = record { tree_is = here.stands.tree_is; page_is = child_is; sound = here.stands.sound };
-        free_are = can.free_are;
-        between = here.has.between;
-      }
+      can_below = search (rules, child_is)
 
       module _ (Q : Image) (left : List ℕ) (had : Bool) (right : Option ℕ) (upper : Node) (done : (l : List ℕ) (h : Option (List ℕ)) (u : Tree) → CanPut n P (d - 1) l h free child bytes_below key u → (k : List ℕ) → IsRaised P Q (d - 1) l h free left key value had k child u right upper) where
         raised : (r : Option ℕ) → right ≡ r → IsRaised P Q (d - 1) here.has.its_low here.has.its_high free left key value had here.has.its_key (page_of here.has.child) here.has.child r upper
-        raised r is = subst (λ r. IsRaised P Q (d - 1) here.has.its_low here.has.its_high free left key value had here.has.its_key (page_of here.has.child) here.has.child r upper) is
-            (subst (λ (p : ℕ). IsRaised P Q (d - 1) here.has.its_low here.has.its_high free left key value had here.has.its_key p here.has.child right upper) (sym child_is)
-            (done here.has.its_low here.has.its_high here.has.child can_below here.has.its_key))
+        raised r is = search (rules, child_is)
 
         pub through_none : right ≡ None → (above : Node) (k : List ℕ) → IsRaised P Q d low high free left key value had k page t right above
-        through_none is above k = subst (λ r. IsRaised P Q d low high free left key value had k page t r above) (sym is)
-            (finish_none n P d low high free page key value t few here Q left had can.free_are k upper above (raised None is))
+        through_none is above k = search (rules, finish_none n P d low high free page key value t few here Q left had can.free_are k upper above (raised None is))
 
         pub free_then : AreFree n left × (IsIn page left → ⊥)
         free_then = left_free n P d low high free page key value t few here Q left had can.free_are right upper (raised right refl)

@@ -1,10 +1,10 @@
 -- A put that edits a leaf in its place.
-use Rattle.std.{specs.Prelude.{Result, Option, Some, None, IfOk, IfSome, MatchOption}, specs.FinMap.put as put_entry, proofs.Common.{◌≡◌, ℕ, List, Ok, Err, refl, sym, subst, ◌∙◌}}
+use Rattle.std.{specs.Prelude.{Result, Option, Some, IfOk, IfSome, MatchOption}, proofs.Common.{◌≡◌, ℕ, List, Ok, refl, subst, ◌∙◌}}
 use Rattle.sector_device.specs.claim.Disk.{Image}
 use Rattle.page_btree.specs.gate_journal.Writes.{IsEdited}
 use Rattle.page_btree.proofs.gate_journal.Images.{put_on, put_off}
 use Rattle.page_store.specs.{claim.Chain.{IsIn, AreFree}, claim.Transactions.{over, free_over}, Transactions.{txn_list, IsWritten}, declared.txn.Txn.Txn}
-use Rattle.page_node.specs.{claim.Entries.Entry, claim.Node.IsNode, claim.Places.{key_cmp, Rises}, Searching.IsBelow, Spots.IsRowPut, declared.edit.RowPut.RowPut}
+use Rattle.page_node.specs.{claim.Entries.Entry, claim.Node.IsNode, claim.Places.Rises, Searching.IsBelow, Spots.IsRowPut, declared.edit.RowPut.RowPut}
 use Rattle.page_node.specs.declared.search.RowNear.{RowNear}
 use Rattle.btree_puts.specs.Fitting.{IsLeafPut}
 
@@ -13,16 +13,8 @@ pub leaf_put : {E : Type 0} (told : Option (Result (Option RowPut) E)) (A : Type
     → ((P : Image) (n : ℕ) → AreFree n (free_over t0 P) → (IsIn page (free_over t0 P) → ⊥) → free_over t1 P ≡ free_over t0 P)
     → ((a b : List ℕ) (r : Result (Option RowPut) E) → step a r b → (es : List Entry) → IsNode a (record { level = 0; entries = es }) → Rises es → IsBelow key es from.k from.at → IfOk r (λ did. IsRowPut a b key value es did))
     → IfSome told (λ r. IfOk r (λ did. IfSome did (λ put. (S : Image) → IsLeafPut t0 t1 S page from key value put)))
-leaf_put None A step t0 t1 page from key value edited free steps = tt
-leaf_put (Some (Err e)) A step t0 t1 page from key value edited free steps = tt
-leaf_put (Some (Ok None)) A step t0 t1 page from key value edited free steps = tt
 leaf_put (Some (Ok (Some put))) A step t0 t1 page from key value edited free steps = λ S es is rises begun.
     let e = edited.1 in
     let done = steps e.before e.after _ e.steps es (subst (λ b. IsNode b (record { level = 0; entries = es })) (e.before_is S) is) rises begun in
-    let there : over t1 S page ≡ e.after = e.put_is S page ∙ put_on (page, e.after) (over t0 S) page refl in (
-      done.1,
-      subst (λ b. IsNode b (record { level = 0; entries = put_entry key_cmp key value es })) (sym there) done.0,
-      done.2,
-      λ q other. e.put_is S q ∙ put_off (page, e.after) (over t0 S) q other,
-      λ n are off. free S n are off,
-    )
+    let there : over t1 S page ≡ e.after = e.put_is S page ∙ put_on (page, e.after) (over t0 S) page refl in search (done.2, e.put_is, put_off)
+leaf_put _ A step t0 t1 page from key value edited free steps = tt

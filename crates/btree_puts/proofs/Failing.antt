@@ -1,33 +1,22 @@
 -- A refusal below, told above.
-use Rattle.std.proofs.Common.{◌≡◌, ◌≤◌, ◌<◌, ◌+◌, ℕ, List, sym, subst, ◌∙◌, arith, length}
+use Rattle.std.proofs.Common.{rules, ◌≡◌, ◌≤◌, ◌<◌, ◌+◌, ℕ, List, sym, ◌∙◌, arith, length}
 use Rattle.sector_device.specs.{claim.Disk.Image, declared.SectorDevice.Ghosts}
 use Rattle.page_store.specs.{claim.Chain.AreFree, claim.Transactions.{stored, disk_in, txn_pages, txn_root, txn_free, over, free_over, IsQuiet, Passed, ReadErr, TakeErr}}
 use Rattle.page_store.{specs.gate_journal.declared.error.PageError.PageError, specs.declared.pages.Pages.Pages, specs.declared.txn.Txn.Txn, proofs.Stops.failed_more}
 use Rattle.page_store.specs.gate_journal.declared.error.PageError.TheVariants as page
-use Rattle.page_node.specs.{claim.Entries.Entry, claim.Node.{Node, IsNode}}
+use Rattle.page_node.specs.claim.Node.{Node, IsNode}
 use Rattle.page_btree.specs.{Errors.{tree_error, IsNoWant}, claim.Errors.{PutErr, level_in}, claim.Keys.KeyMap, claim.Map.InTxn, declared.error.TreeError.TreeError}
 use Rattle.page_btree.{specs.declared.error.TreeError.TheVariants.NoPages, proofs.Refusals.{by_case, by_read}}
 use Rattle.btree_puts.specs.Errors.{StepErr, PlaceErr, RowErr, LinkErr, WriteErr, GrowErr}
 
 module _ {D : Type 0} {g : Ghosts D} where
   pub step_failed : (level : ℕ) (can : Image → Type 0) (t : Txn) (old new : Pages D g) (e : TreeError) → StepErr can old new e → PlaceErr level can t old new e
-  step_failed level can t old new = by_case (λ e. StepErr can old new e) (λ e. PlaceErr level can t old new e)
-      (λ why. why) (λ why. why) (λ why. why) (λ why. absurd why) (λ why. why) (λ _. tt)
-
-  pub step_no_want : (can : Image → Type 0) (old new : Pages D g) (e : TreeError) → StepErr can old new e → IsNoWant e
-  step_no_want can old new = by_case (λ e. StepErr can old new e) (λ e. IsNoWant e)
-      (λ _. tt) (λ _. tt) (λ _. tt) (λ why. why) (λ why. why) (λ _. tt)
+  step_failed level can t old new = search rules
 
   pub below_failed : (level below : ℕ) (can can_below : Image → Type 0) (t : Txn) (old mid new : Pages D g) → Passed old mid → IsQuiet mid new → below ≤ level → ((disk_in new).is_honest → can (stored old) → can_below (stored mid))
       → (e : TreeError) → PlaceErr below can_below t mid new e → PlaceErr level can t old new e
   below_failed level below can can_below t old mid new passed quiet le also = by_case (λ e. PlaceErr below can_below t mid new e) (λ e. PlaceErr level can t old new e)
       (failed_more old mid new passed quiet) (λ why honest is. why honest (also honest is)) (λ why. sym passed.halted ∙ why) (λ (why : PlaceErr below can_below t mid new NoPages). omega arith) (λ why. why) (λ _. tt)
-
-  pub row_failed : (level : ℕ) (can : Image → Type 0) (bytes : List ℕ) (t : Txn) (old new : Pages D g)
-      → ((disk_in new).is_honest → can (stored old) → AreFree (txn_pages t) (free_over t (stored old)) × ((es : List Entry) × IsNode bytes (record { level = 0; entries = es })))
-      → (e : TreeError) → RowErr bytes t old new e → PlaceErr level can t old new e
-  row_failed level can bytes t old new has = by_case (λ e. RowErr bytes t old new e) (λ e. PlaceErr level can t old new e)
-      (λ why. why) (λ why honest is. let h = has honest is in why honest h.0 h.1.0 h.1.1) (λ why. why) (λ (why : RowErr bytes t old new NoPages). omega arith) (λ why. why) (λ _. tt)
 
   pub link_failed : (level : ℕ) (can : Image → Type 0) (p : ℕ) (t u : Txn) (old mid new : Pages D g) → Passed old mid → IsQuiet mid new → txn_free t ≤ txn_free u + level
       → ((disk_in new).is_honest → can (stored old) → AreFree (txn_pages u) (free_over u (stored mid)) × ((node : Node) × IsNode (over u (stored mid) p) node × (0 < length node.entries)))
@@ -43,20 +32,17 @@ module _ {D : Type 0} {g : Ghosts D} where
   take_failed t old new _ why = why
 
   pub row_written_failed : (bytes : List ℕ) (t : Txn) (old new : Pages D g) (e : TreeError) → WriteErr t old new e → RowErr bytes t old new e
-  row_written_failed bytes t old new = by_case (λ e. WriteErr t old new e) (λ e. RowErr bytes t old new e)
-      (λ why. why) (λ why honest are es is. why honest are) (λ why. why) (λ why. why) (λ why. why) (λ _. tt)
+  row_written_failed bytes t old new = search by_case
 
   pub link_read_failed : (p : ℕ) (t : Txn) (old new : Pages D g) (e : PageError) → ReadErr old new e → LinkErr p t old new (tree_error e)
   link_read_failed p t old new = by_read (λ e. LinkErr p t old new e) old new (λ why. why) (λ why. why)
 
   pub link_written_failed : (p : ℕ) (t : Txn) (old mid new : Pages D g) → Passed old mid → IsQuiet mid new → (e : TreeError) → WriteErr t mid new e → LinkErr p t old new e
-  link_written_failed p t old mid new passed quiet = by_case (λ e. WriteErr t mid new e) (λ e. LinkErr p t old new e)
-      (failed_more old mid new passed quiet) (λ why honest are node is some. why honest (subst (λ S. AreFree (txn_pages t) (free_over t S)) (sym (passed.quiet.same (quiet.honest honest))) are)) (λ why. sym passed.halted ∙ why) (λ why. why) (λ why. why) (λ _. tt)
+  link_written_failed p t old mid new passed quiet = search rules
 
   -- ---- of a put at the root
   pub first_failed : (t : Txn) (old new : Pages D g) (e : TreeError) → WriteErr t old new e → PutErr t old new e
-  first_failed t old new = by_case (λ e. WriteErr t old new e) (λ e. PutErr t old new e)
-      (λ why. why) (λ why honest m holds. why honest holds.free_are) (λ why. why) (λ (why : WriteErr t old new NoPages). omega arith) (λ why. absurd why) (λ _. tt)
+  first_failed t old new = search rules
 
   pub root_read_failed : (t : Txn) (old new : Pages D g) (e : PageError) → ReadErr old new e → PutErr t old new (tree_error e) × IsNoWant (tree_error e)
   root_read_failed t old new = by_read (λ e. PutErr t old new e × IsNoWant e) old new (λ why. (why, tt)) (λ why. (why, tt))

@@ -1,8 +1,7 @@
 -- A put that edits a leaf alone, told above.
-use Rattle.std.proofs.Common.{◌≡◌, ℕ, List, sym, subst, ◌∙◌, arith}
+use Rattle.std.proofs.Common.{rules, ℕ, List, sym, ◌∙◌, arith}
 use Rattle.sector_device.specs.{claim.Disk.Image, declared.SectorDevice.Ghosts}
-use Rattle.page_store.specs.{claim.Transactions.{stored, disk_in, txn_root, over, IsQuiet, Passed}, declared.pages.Pages.Pages, declared.txn.Txn.Txn}
-use Rattle.page_store.proofs.Stops.{failed_more}
+use Rattle.page_store.{specs.claim.Transactions.{stored, disk_in, over, IsQuiet, Passed}, specs.declared.pages.Pages.Pages, specs.declared.txn.Txn.Txn, proofs.Stops.failed_more}
 use Rattle.page_node.specs.{claim.Entries.Entry, claim.Node.IsNode, claim.Places.Rises, Searching.IsBelow, declared.search.RowNear.RowNear}
 use Rattle.btree_puts.specs.{Fitting.LeafPutErr, Fingers.{StandsIn, PutByErr, GetWhereErr}, declared.finger.Finger.Finger}
 use Rattle.page_btree.specs.{claim.Keys.KeyMap, Getting.ReadsErr, claim.Errors.{GetErr, PutErr, level_in}, Errors.IsNoWant, claim.Map.InTxn, Editing.IsAlike}
@@ -12,8 +11,7 @@ module _ {D : Type 0} {g : Ghosts D} where
   -- ---- refusals
   -- a finger forbids no reason
   pub by_err : (was : Finger) (t : Txn) (old new : Pages D g) → (e : TreeError) → PutErr t old new e → PutByErr was t old new e
-  by_err was t old new = by_case (λ e. PutErr t old new e) (λ e. PutByErr was t old new e)
-      (λ why. why) (λ why honest m is stands. why honest m is) (λ why. why) (λ why. why) (λ why. why) (λ _. tt)
+  by_err was t old new = search rules
 
   -- a look-up
   pub get_where_err : (can says : Image → Type 0) (t : Txn) (old new : Pages D g) → ((disk_in new).is_honest → (m : KeyMap) → InTxn t (stored old) m → says (stored old) → can (stored old)) → (e : TreeError) → ReadsErr can old new e → GetWhereErr says t old new e
@@ -21,12 +19,10 @@ module _ {D : Type 0} {g : Ghosts D} where
       (λ why. why) (λ why honest m is stands. why honest (has honest m is stands)) (λ why. why) (λ why. why) (λ why. why) (λ why. why)
 
   pub get_fewer_err : (says fewer : Image → Type 0) (t : Txn) (old new : Pages D g) → (fewer (stored old) → says (stored old)) → (e : TreeError) → GetWhereErr says t old new e → GetWhereErr fewer t old new e
-  get_fewer_err says fewer t old new gives = by_case (λ e. GetWhereErr says t old new e) (λ e. GetWhereErr fewer t old new e)
-      (λ why. why) (λ why honest m is stands. why honest m is (gives stands)) (λ why. why) (λ why. why) (λ why. why) (λ why. why)
+  get_fewer_err says fewer t old new gives = search rules
 
   pub get_any_err : (says : Image → Type 0) (t : Txn) (old new : Pages D g) → (e : TreeError) → GetErr t old new e → GetWhereErr says t old new e
-  get_any_err says t old new = by_case (λ e. GetErr t old new e) (λ e. GetWhereErr says t old new e)
-      (λ why. why) (λ why honest m is stands. why honest m is) (λ why. why) (λ why. why) (λ why. why) (λ why. why)
+  get_any_err says t old new = search rules
 
   -- the leaf isn't found
   pub reach_failed : (can : Image → Type 0) (was : Finger) (t : Txn) (old new : Pages D g) → ((disk_in new).is_honest → (m : KeyMap) → InTxn t (stored old) m → can (stored old)) → (e : TreeError) → ReadsErr can old new e → PutByErr was t old new e × IsNoWant e
@@ -42,8 +38,7 @@ module _ {D : Type 0} {g : Ghosts D} where
 
   -- a call after one that changed nothing
   pub put_failed_more : (t : Txn) (old mid new : Pages D g) → Passed old mid → IsQuiet mid new → (e : TreeError) → PutErr t mid new e → PutErr t old new e
-  put_failed_more t old mid new passed quiet = by_case (λ e. PutErr t mid new e) (λ e. PutErr t old new e)
-      (failed_more old mid new passed quiet) (λ why honest m is. why honest m (subst (λ T. InTxn t T m) (sym (passed.quiet.same (quiet.honest honest))) is)) (λ why. sym passed.halted ∙ why) (λ why. why) (λ why honest. subst (λ T. level_in (over t T) (txn_root t) ≡ 5) (passed.quiet.same (quiet.honest honest)) (why honest)) (λ _. tt)
+  put_failed_more t old mid new passed quiet = search rules
 
   -- or after one that left the transaction alike
   pub put_failed_alike : (t u : Txn) (old new : Pages D g) → IsAlike t u → (e : TreeError) → PutErr u old new e → PutErr t old new e

@@ -14,16 +14,14 @@ module _ {D : Type 0} {g : Ghosts D} (t : Txn) (old mid : Pages D g) (level page
   at = here (txn_pages t) (over t (stored old)) level low high (free_over t (stored old)) page bytes key value tree few can deep
 
   can_child : CanPutIn t (stored mid) (level - 1) at.has.its_low at.has.its_high child below key at.has.child
-  can_child = subst (λ (T : Image). CanPutIn t T (level - 1) at.has.its_low at.has.its_high child below key at.has.child) (sym (quiet.same honest))
-      (can_below (txn_pages t) (over t (stored old)) level low high (free_over t (stored old)) page bytes key value tree few can deep child told below (reads honest))
+  can_child = search (quiet.same, can_below)
 
   pub can_some : CanPutSome (txn_pages t) (over t) (level - 1) (free_over t) child below key (stored mid)
   can_some = (at.has.its_low, at.has.its_high, at.has.child, can_child)
 
   pub same_length : (u : Txn) (new : Pages D g) (held : List ℕ) (result : Result Placed TreeError) → TakesNoPageAt t u mid new (level - 1) child below (key, value) result → (disk_in new).is_honest → find key_cmp key (rows tree) ≡ Some held → length held ≡ length value
       → MatchResult result (λ placed. (placed.right ≡ None) × (txn_free u ≡ txn_free t)) (λ e. IsNoWant e)
-  same_length u new held result fixed after there same =
-      fixed after at.has.its_low at.has.its_high at.has.child held can_child (find_below (txn_pages t) (over t (stored old)) level low high (free_over t (stored old)) page key value tree few at ∙ there) same
+  same_length u new held result fixed after there same = search (can_child, find_below)
 
   module _ (u : Txn) (new : Pages D g) (placed : Placed) (upper : Node) (put : PutsRowAt t u mid new (level - 1) child below (key, value) upper (Ok placed)) (after : (disk_in new).is_honest) where
     done : (l : List ℕ) (h : Option (List ℕ)) (x : Tree) → CanPutIn t (stored old) (level - 1) l h child below key x → (k : List ℕ) → IsRaisedBy t u (stored old) (level - 1) l h (key, value) placed k child x upper

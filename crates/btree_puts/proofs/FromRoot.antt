@@ -6,7 +6,7 @@ use Rattle.page_store.specs.declared.txn.Txn.{Txn}
 use Rattle.page_node.specs.{Entries.key_at, claim.Node.{Node, IsNode}}
 use Rattle.page_btree.specs.{claim.Keys.KeyMap, claim.Map.{Holds, InTxn}, claim.Tree.Tree, Errors.IsNoWant, declared.error.TreeError.TreeError}
 use Rattle.btree_puts.specs.{Putting.{CanPutSome, IsRaised}, Outcomes.{CanPutIn, IsGrownBy, TakesNoPageAt, PutsRowAt}, declared.puts.Placed.Placed}
-use Rattle.btree_puts.proofs.Roots.{rooted, level_few, root_can, find_there, after_whole, after_grown, left_are}
+use Rattle.btree_puts.proofs.Roots.{rooted, root_can, find_there, after_whole, after_grown, left_are}
 
 module _ {D : Type 0} {g : Ghosts D} (t : Txn) (old mid : Pages D g) (root level : ℕ) (bytes key : List ℕ) (root_is : root ≡ txn_root t) (some : root ≢ 0) (quiet : IsQuiet old mid) (reads : (disk_in mid).is_honest → bytes ≡ over t (stored old) root) (level_is : (node : Node) → IsNode bytes node → level ≡ node.level) (honest : (disk_in mid).is_honest) (m : KeyMap) (holds : InTxn t (stored old) m) where
   at_root : Holds (txn_pages t) (over t (stored old)) root (free_over t (stored old)) m
@@ -14,9 +14,6 @@ module _ {D : Type 0} {g : Ghosts D} (t : Txn) (old mid : Pages D g) (root level
 
   abbrev tree : Tree
   tree = (rooted (txn_pages t) (over t (stored old)) root (free_over t (stored old)) m key bytes level at_root some (reads honest) level_is).tree
-
-  pub at_most_five : level ≤ 5
-  at_most_five = level_few (txn_pages t) (over t (stored old)) root (free_over t (stored old)) m key bytes level at_root some (reads honest) level_is
 
   can : CanPutIn t (stored mid) level [] None root bytes key tree
   can = subst (λ (T : Image). CanPutIn t T level [] None root bytes key tree) (sym (quiet.same honest)) (root_can (txn_pages t) (over t (stored old)) root (free_over t (stored old)) m key bytes level at_root some (reads honest) level_is)

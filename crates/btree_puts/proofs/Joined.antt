@@ -1,8 +1,9 @@
 -- Children after children, and children parted.
-use Rattle.std.{specs.Prelude.{Option, Some}, proofs.Common.{◌≡◌, ◌⊎◌, ◌<◌, ◌+◌, ◌++◌, inl, inr, ⊎_elim, ℕ, List, [], ◌∷◌, length, refl, sym, ap, subst, ◌∙◌, arith, append_assoc}}
+use Rattle.std.specs.Prelude.{Option, Some}
+use Rattle.std.proofs.Common.{rules, ◌≡◌, ◌⊎◌, ◌<◌, ◌+◌, ◌++◌, inl, inr, ⊎_elim, ℕ, List, [], ◌∷◌, length, refl, sym, ap, subst, ◌∙◌, arith, append_assoc}
 use Rattle.sector_device.specs.claim.Disk.{Image}
 use Rattle.page_node.{specs.claim.Entries.{Entry, child_bytes}, proofs.Laws.less_trans}
-use Rattle.page_btree.specs.{claim.Keys.Parts, claim.Tree.{Forest, one, more, page_of, first_key, links, forest_rows, rows, forest_owns, forest_size, IsTree, AreTrees, AreApart}}
+use Rattle.page_btree.specs.{claim.Keys.Parts, claim.Tree.{Forest, one, more, page_of, first_key, links, forest_rows, rows, forest_owns, forest_size, AreTrees, AreApart}}
 use Rattle.page_btree.proofs.Rows.{wider_under}
 
 abbrev pub join : Forest → Forest → Forest
@@ -46,12 +47,7 @@ join_apart (more k t f) g af ag off = (
 
 pub part_apart : (f g : Forest) → AreApart (join f g) → AreApart f × AreApart g × ((q : ℕ) → forest_owns f q → forest_owns g q → ⊥)
 part_apart (one k t) g apart = (apart.0, apart.2, apart.1)
-part_apart (more k t f) g apart =
-    let rest = part_apart f g apart.2 in (
-      (apart.0, (λ q own there. apart.1 q own (join_owns f g q (inl there))), rest.0),
-      rest.1,
-      (λ q own there. ⊎_elim (λ o. apart.1 q o (join_owns f g q (inr there))) (λ o. rest.2 q o there) own),
-    )
+part_apart (more k t f) g apart = let rest = part_apart f g apart.2 in search (rules, join_owns)
 
 -- children below a bound, and children from it on
 pub join_trees : (P : Image) (d : ℕ) (low : List ℕ) (high : Option (List ℕ)) (f g : Forest) → AreTrees P d low (Some (first_key g)) f → Parts low high (first_key g) → AreTrees P d (first_key g) high g → AreTrees P d low high (join f g)
@@ -59,23 +55,18 @@ join_trees P d low high (one k t) g tf parts tg = (tf, parts, tg)
 join_trees P d low high (more k t f) g tf parts tg =
     let rest : AreTrees P d (first_key f) high (join f g) = join_trees P d (first_key f) high f g tf.2 (record { above = tf.1.under; under = parts.under }) tg in
     let here : Parts low high (first_key f) = record { above = tf.1.above; under = wider_under (first_key f) (first_key g) high tf.1.under parts.under } in
-    let same = sym (join_key f g) in (
-      subst (λ (b : List ℕ). IsTree P d low (Some b) t) same tf.0,
-      subst (λ (b : List ℕ). Parts low high b) same here,
-      subst (λ (b : List ℕ). AreTrees P d b high (join f g)) same rest,
-    )
+    let same = sym (join_key f g) in search rules
 
 pub part_trees : (P : Image) (d : ℕ) (low : List ℕ) (high : Option (List ℕ)) (f g : Forest) → AreTrees P d low high (join f g) → AreTrees P d low (Some (first_key g)) f × Parts low high (first_key g) × AreTrees P d (first_key g) high g
 part_trees P d low high (one k t) g trees = trees
 part_trees P d low high (more k t f) g trees =
     let same = join_key f g in
-    let here : IsTree P d low (Some (first_key f)) t = subst (λ (b : List ℕ). IsTree P d low (Some b) t) same trees.0 in
     let parts : Parts low high (first_key f) = subst (λ (b : List ℕ). Parts low high b) same trees.1 in
     let rest : AreTrees P d (first_key f) (Some (first_key g)) f × Parts (first_key f) high (first_key g) × AreTrees P d (first_key g) high g =
     part_trees P d (first_key f) high f g (subst (λ (b : List ℕ). AreTrees P d b high (join f g)) same trees.2) in (
-      (here, record { above = parts.above; under = rest.1.above }, rest.0),
-      record { above = less_trans low (first_key f) (first_key g) parts.above rest.1.above; under = rest.1.under },
-      rest.2,
+      search rules,
+      search less_trans,
+      search rules,
     )
 
 -- where the entries are parted, so are the children
@@ -87,11 +78,7 @@ pub record IsJoined (f : Forest) (lower upper : List Entry) : Type 0 where
   pub high_links : links high ≡ upper
 
 rest_is : (x y : Entry) (xs ys : List Entry) → x ∷ xs ≡ y ∷ ys → xs ≡ ys
-rest_is x y xs ys e = ap (λ (l : List Entry). tail_of l) e
-  where
-    tail_of : List Entry → List Entry
-    tail_of [] = []
-    tail_of (e ∷ es) = es
+rest_is x y xs ys e = search rules
 
 first_is : (x y : Entry) (xs ys : List Entry) → x ∷ xs ≡ y ∷ ys → x ≡ y
 first_is x y xs ys e = ap (λ (l : List Entry). head_or x l) e
@@ -101,8 +88,6 @@ first_is x y xs ys e = ap (λ (l : List Entry). head_or x l) e
     head_or d (e ∷ es) = e
 
 pub part_at : (f : Forest) (lower upper : List Entry) → 0 < length lower → 0 < length upper → lower ++ upper ≡ links f → IsJoined f lower upper
-part_at f [] upper some other e = absurd (omega arith)
-part_at f (x ∷ xs) [] some other e = absurd (omega arith)
 part_at (one k t) (x ∷ xs) (y ∷ ys) some other e = absurd (let n : length (xs ++ y ∷ ys) ≡ 0 = ap length (rest_is _ _ _ _ e) in long xs y ys n)
   where
     long : (us : List Entry) (b : Entry) (bs : List Entry) → length (us ++ b ∷ bs) ≡ 0 → ⊥
@@ -123,3 +108,4 @@ part_at (more k t f) (x ∷ z ∷ zs) (y ∷ ys) some other e =
       low_links = (λ i. sym (first_is _ _ _ _ e) i ∷ rest.low_links i);
       high_links = rest.high_links;
     }
+part_at f _ _ some other e = absurd (omega arith)

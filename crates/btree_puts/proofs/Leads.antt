@@ -1,9 +1,9 @@
 -- A put into the leaf that a key belongs to, told above.
 use Rattle.std.specs.{Prelude.{Option, None, is_some}, FinMap.{insert, contains_key, find, put}}
-use Rattle.std.proofs.Common.{◌≡◌, ◌≢◌, ◌<◌, ◌≤◌, ◌-◌, ◌^◌, ℕ, zero, suc, List, [], Bool, refl, sym, ap, subst, ◌∙◌, arith}
+use Rattle.std.proofs.Common.{rules, ◌≡◌, ◌≢◌, ◌<◌, ◌≤◌, ◌-◌, ◌^◌, ℕ, zero, suc, List, [], Bool, refl, subst, arith}
 use Rattle.sector_device.specs.claim.Disk.{Image}
 use Rattle.page_store.specs.{claim.Transactions.{over, free_over}, declared.txn.Txn.Txn, claim.Chain.{IsIn, AreFree}}
-use Rattle.page_node.{specs.claim.Entries.Entry, specs.claim.Places.{key_cmp, Rises}, specs.claim.Node.{Node, IsNode}, proofs.Laws.node_unique}
+use Rattle.page_node.specs.{claim.Entries.Entry, claim.Places.{key_cmp, Rises}, claim.Node.{Node, IsNode}}
 use Rattle.page_btree.specs.{claim.Keys.KeyMap, claim.Tree.Tree, claim.Map.{Holds, IsRooted}, Getting.CanGetAt, Leading.LeadsTo}
 use Rattle.page_btree.proofs.Tops.{rooted, can_get, at_root}
 use Rattle.btree_puts.{specs.Putting.{IsRaised, IsWhole, CanPut}, proofs.EmptyLeaf.nothing, proofs.Down.through_none}
@@ -40,9 +40,7 @@ module _ (n : ℕ) (S : Image) (t0 t1 : Txn) (key value : List ℕ) (had : Bool)
     r = rooted n (over t0 S) root (free_over t0 S) m holds some
 
     level_is : (node : Node) → IsNode (over t0 S root) node → r.level ≡ node.level
-    level_is node at =
-        let there = at_root n (over t0 S) root (free_over t0 S) m r r.level refl in
-        sym there.level_is ∙ ap (λ (x : Node). x.level) (node_unique (over t0 S root) there.node node there.node_is at)
+    level_is node at = search rules
 
     pub put_whole : ((d : ℕ) → CanGetAt n (over t0 S) d key root → LeadsTo (over t0 S) d root key leaf) → Holds n (over t1 S) root (free_over t1 S) (insert m key value) × (had ≡ contains_key m key)
     put_whole leads =

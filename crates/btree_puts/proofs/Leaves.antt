@@ -1,10 +1,10 @@
 -- A leaf was written, whole or cut, with a row put.
 use Rattle.std.specs.{Prelude.{Option, Some, None, is_some}, List.AllByRecursion, FinMap.{find, put}, Ordering.is_gt, declared.cmp.Ordering.TheVariants.Less}
-use Rattle.std.proofs.Common.{◌≡◌, ◌<◌, ◌+◌, ◌++◌, inl, inr, ⊎_elim, ℕ, List, [], ◌∷◌, length, Bool, false, refl, sym, ap, subst, ◌∙◌, arith}
+use Rattle.std.proofs.Common.{rules, ◌≡◌, ◌<◌, ◌+◌, ◌++◌, inl, ℕ, List, [], ◌∷◌, length, Bool, false, refl, sym, ap, subst, ◌∙◌, arith}
 use Rattle.sector_device.specs.claim.Disk.{Image}
 use Rattle.page_store.specs.claim.Chain.{IsIn, AreFree}
 use Rattle.page_node.specs.{claim.Entries.Entry, Entries.key_at, claim.Node.{Node, IsNode}, claim.Places.{key_cmp, Rises}}
-use Rattle.page_btree.specs.{claim.Keys.{IsBetween, Parts}, claim.Tree.{Tree, leaf, inner, one, more, rows, IsLeaf}, claim.Map.IsSound}
+use Rattle.page_btree.specs.{claim.Keys.{IsBetween, Parts}, claim.Tree.{Tree, leaf, inner, one, more, IsLeaf}, claim.Map.IsSound}
 use Rattle.page_btree.proofs.{Rows.{all_prefix, all_rest, from_then, rises_put, rises_prefix, rises_rest, rises_under, rises_from, all_put, some_put}, Within.AreBetween}
 use Rattle.btree_puts.specs.Putting.{IsTaken, IsWhole, IsCut, IsWritten, IsRaised, CanPut}
 
@@ -39,60 +39,24 @@ module _ (P Q : Image) (n : ℕ) (low : List ℕ) (high : Option (List ℕ)) (fr
       let e : length left ≡ length free = ap length w.none in
       record {
         trees = one k (leaf p (put key_cmp key value es));
-        is_put = record {
-          trees = (
-            refl,
-            record {
-              node = w.holds;
-              rises = rises_put key value es is.rises;
-              within = all_put (IsBetween low high) key value es between is.within;
-              some = some_put key value es;
-            },
-          );
-          apart = tt;
-          rows_are = refl;
-          had_is = had_is;
-          owned = λ q own. inl own;
-          frame = λ q out none. w.elsewhere q out;
-          fewer = λ q there. subst (IsIn q) w.none there;
-          rest = λ m are. subst (AreFree m) (sym w.none) are;
-          whole = omega arith;
-        };
+        is_put =
+            search (arith, rises_put key value es is.rises, all_put (IsBetween low high) key value es between is.within, some_put key value es);
         shape = (leaf p (put key_cmp key value es), refl, refl);
       }
 
-  leaf_parts : (had : Bool) (q : ℕ) (upper : Node) (y : Entry) (ys : List Entry) → upper.entries ≡ y ∷ ys → had ≡ is_some (find key_cmp key es) → IsCut P Q free left p q (record { level = 0; entries = put key_cmp key value es }) upper → IsRaised P Q 0 low high free left key value had k p (leaf p es) (Some q) upper
-  leaf_parts had q upper y ys entries had_is w =
+  leaf_cut : (had : Bool) (q : ℕ) (upper : Node) (entries : List Entry) → upper.entries ≡ entries → had ≡ is_some (find key_cmp key es) → IsCut P Q free left p q (record { level = 0; entries = put key_cmp key value es }) upper → IsRaised P Q 0 low high free left key value had k p (leaf p es) (Some q) upper
+  leaf_cut had q upper [] entries had_is w = absurd (let n : length upper.entries ≡ 0 = ap length entries in let some = w.some.1 in omega arith)
+  leaf_cut had q upper (y ∷ ys) entries had_is w =
       let both : w.lower ++ (y ∷ ys) ≡ put key_cmp key value es = ap (λ l. w.lower ++ l) (sym entries) ∙ w.both in
       let rises : Rises (w.lower ++ (y ∷ ys)) = subst Rises (sym both) (rises_put key value es is.rises) in
       let parts = part_rows low high w.lower y ys w.some.0 rises (subst (AreBetween low high) (sym both) (all_put (IsBetween low high) key value es between is.within)) in
       let node : upper ≡ record { level = 0; entries = y ∷ ys } = λ i. record { level = w.level i; entries = entries i } in
       let taken : IsTaken free left q = (subst (IsIn q) (sym w.taken) (inl refl), (subst (AreFree n) w.taken free_are).2) in
-      let not_same : q ≡ p → ⊥ = λ same. sound.used q same taken.0 in
-      let e : length free ≡ length left + 1 = ap length w.taken ∙ omega arith in
       record {
         trees = more k (leaf p w.lower) (one y.0 (leaf q (y ∷ ys)));
-        is_put = record {
-          trees = (
-            (refl, record { node = w.holds; rises = rises_prefix w.lower (y ∷ ys) rises; within = parts.below; some = w.some.0 }),
-            parts.parts,
-            (refl, record { node = subst (IsNode (Q q)) node w.beside; rises = rises_rest w.lower (y ∷ ys) rises; within = parts.above; some = omega arith }),
-          );
-          apart = (tt, (λ x own there. not_same (sym there ∙ own)), tt);
-          rows_are = both;
-          had_is = had_is;
-          owned = λ x own. ⊎_elim (λ same. inl same) (λ same. inr (subst (IsTaken free left) (sym same) taken)) own;
-          frame = λ x out none. w.elsewhere x out (λ same. none (subst (IsTaken free left) (sym same) taken));
-          fewer = λ x there. subst (IsIn x) (sym w.taken) (inr there);
-          rest = λ m are. (subst (AreFree m) w.taken are).3;
-          whole = omega arith;
-        };
+        is_put = search (rules, rises_prefix, rises_rest);
         shape = (leaf p w.lower, leaf q (y ∷ ys), ap (λ b. more k (leaf p w.lower) (one b (leaf q (y ∷ ys)))) (ap (λ l. key_at l 0) (sym entries)), refl, refl);
       }
-
-  leaf_cut : (had : Bool) (q : ℕ) (upper : Node) (entries : List Entry) → upper.entries ≡ entries → had ≡ is_some (find key_cmp key es) → IsCut P Q free left p q (record { level = 0; entries = put key_cmp key value es }) upper → IsRaised P Q 0 low high free left key value had k p (leaf p es) (Some q) upper
-  leaf_cut had q upper [] entries had_is w = absurd (let n : length upper.entries ≡ 0 = ap length entries in let some = w.some.1 in omega arith)
-  leaf_cut had q upper (y ∷ ys) entries had_is w = leaf_parts had q upper y ys entries had_is w
 
   pub raise_leaf : (had : Bool) (right : Option ℕ) (upper : Node) → had ≡ is_some (find key_cmp key es) → IsWritten P Q free left p right (record { level = 0; entries = put key_cmp key value es }) upper → IsRaised P Q 0 low high free left key value had k p (leaf p es) right upper
   raise_leaf had None upper had_is w = leaf_whole had upper had_is w
@@ -102,10 +66,7 @@ module _ (P Q : Image) (n : ℕ) (low : List ℕ) (high : Option (List ℕ)) (fr
 module _ (n : ℕ) (P : Image) (low : List ℕ) (high : Option (List ℕ)) (free : List ℕ) (page : ℕ) (bytes key : List ℕ) where
   -- its rows
   pub leaf_here : (d : ℕ) (t : Tree) → d ≡ 0 → CanPut n P d low high free page bytes key t → (es : List Entry) × (t ≡ leaf page es) × IsLeaf P low high page es × IsNode bytes (record { level = 0; entries = es }) × IsSound n free (leaf page es)
-  leaf_here d (leaf p es) zero_is can =
-      let same = can.stands.page_is in
-      let is : IsLeaf P low high page es = subst (λ (x : ℕ). IsLeaf P low high x es) same can.stands.tree_is.1 in
-      (es, ap (λ (x : ℕ). leaf x es) same, is, subst (λ b. IsNode b (record { level = 0; entries = es })) (sym can.reads) is.node, subst (λ (x : ℕ). IsSound n free (leaf x es)) same can.stands.sound)
+  leaf_here d (leaf p es) zero_is can = search rules
   leaf_here d (inner p f) zero_is can = absurd (let some = can.stands.tree_is.0 in omega arith)
 
   module _ (d : ℕ) (t : Tree) (zero_is : d ≡ 0) (can : CanPut n P d low high free page bytes key t) where
@@ -121,12 +82,7 @@ module _ (n : ℕ) (P : Image) (low : List ℕ) (high : Option (List ℕ)) (free
     pub leaf_off : IsIn page free → ⊥
     leaf_off = (leaf_here d t zero_is can).4.used page refl
 
-    pub leaf_find : find key_cmp key (rows t) ≡ find key_cmp key leaf_rows
-    leaf_find = ap (λ u. find key_cmp key (rows u)) (leaf_here d t zero_is can).1
-
     pub leaf_raised : (Q : Image) (left value : List ℕ) (had : Bool) (right : Option ℕ) (upper : Node) → (had ≡ is_some (find key_cmp key leaf_rows)) × IsWritten P Q free left page right (record { level = 0; entries = put key_cmp key value leaf_rows }) upper → (k : List ℕ) → IsRaised P Q d low high free left key value had k page t right upper
     leaf_raised Q left value had right upper w k =
         let h = leaf_here d t zero_is can in
-        subst (λ u. IsRaised P Q d low high free left key value had k page u right upper) (sym h.1)
-        (subst (λ (x : ℕ). IsRaised P Q x low high free left key value had k page (leaf page h.0) right upper) (sym zero_is)
-        (raise_leaf P Q n low high free left key value k page h.0 h.2 h.4 can.free_are can.between had right upper w.0 w.1))
+        search (rules, raise_leaf)

@@ -1,5 +1,5 @@
 -- Fingers before and after an edit of a leaf.
-use Rattle.std.{specs.Prelude.Option, specs.Ordering.is_gt, specs.FinMap.{find, get}, proofs.Common.{◌∙◌, ◌≡◌, ◌≢◌, ◌<◌, ◌≤◌, ◌^◌, ℕ, List, false, refl, sym, ap, subst}}
+use Rattle.std.{specs.Prelude.Option, specs.Ordering.is_gt, specs.FinMap.{find, get}, proofs.Common.{rules, ◌∙◌, ◌≡◌, ◌≢◌, ◌<◌, ◌≤◌, ◌^◌, ℕ, List, false, refl, sym, ap, subst}}
 use Rattle.sector_device.specs.claim.Disk.{Image}
 use Rattle.page_store.specs.{claim.Transactions.{txn_pages, txn_root, over, free_over}, declared.txn.Txn.Txn}
 use Rattle.page_node.specs.{claim.Entries.Entry, Entries.key_at, claim.Node.{Node, IsNode}, claim.Places.{key_cmp, Rises}, Searching.IsBelow, declared.edit.RowPut.RowPut}
@@ -47,24 +47,13 @@ module _ (n : ℕ) (S : Image) (t0 t1 : Txn) (root : ℕ) (m : KeyMap) (few : n 
 
     -- a finger at another leaf stands
     pub other_stays : (other : Finger) → other.page ≢ leaf → root ≡ txn_root t0 → root ≡ txn_root t1 → StandsIn t0 S other → StandsIn t1 S other
-    other_stays other differs root0 root1 stands some_page =
-        let P = over t0 S in
-        let Q = over t1 S in
-        let placed = stands some_page in
-        let all : LeadsAll P (level_in P root) root other.low (end_of other.reach) other.page = subst (λ (q : ℕ). LeadsAll P (level_in P q) q other.low (end_of other.reach) other.page) (sym root0) placed.leads in
-        record {
-          leads = subst (λ (q : ℕ). LeadsAll Q (level_in Q q) q other.low (end_of other.reach) other.page) root1 (all_stays other.low (end_of other.reach) other.page all);
-          after = λ gs is. placed.after gs (subst (λ b. IsNode b (record { level = 0; entries = gs })) (same other.page differs) is);
-        }
+    other_stays other differs root0 root1 stands some_page = search (rules, all_stays)
 
     -- and the finger that was reached stands at the row
     pub row_stands : (f : Finger) (key : List ℕ) → f.page ≡ leaf → f.low ≡ key → root ≡ txn_root t1 → LeadsAll (over t0 S) (level_in (over t0 S) root) root key (end_of f.reach) leaf → IsBelow key fs f.near.k f.near.at → StandsIn t1 S f
     row_stands f key page_is low_is root1 all later some_page =
-        let Q = over t1 S in
         record {
-          leads = subst (λ (q : ℕ). LeadsAll Q (level_in Q q) q f.low (end_of f.reach) f.page) root1
-              (subst (λ (p : ℕ). LeadsAll Q (level_in Q root) root f.low (end_of f.reach) p) (sym page_is)
-              (subst (λ k. LeadsAll Q (level_in Q root) root k (end_of f.reach) leaf) (sym low_is) (all_stays key (end_of f.reach) leaf all)));
+          leads = search (rules, all_stays);
           after = λ gs is.
               let there : IsNode (over t1 S leaf) (record { level = 0; entries = gs }) = subst (λ (p : ℕ). IsNode (over t1 S p) (record { level = 0; entries = gs })) page_is is in
               let same_rows : fs ≡ gs = ap (λ (x : Node). x.entries) (node_unique (over t1 S leaf) (record { level = 0; entries = fs }) (record { level = 0; entries = gs }) after there) in
@@ -89,6 +78,6 @@ known_found t S m f key few holds some below between placed =
     let at : CanGetAt n P r.level key root = (can_get n P root free m r key (P root) r.level refl refl, at_root n P root free m r r.level refl) in
     let leads : LeadsTo P r.level root key f.page = subst (λ (k : ℕ). LeadsTo P k root key f.page) (root_level n P r.level key root at) (placed.leads key between) in
     let leaf = leads_leaf n P r.level key root f.page few at.0 leads in (
-      (leaf.0, leaf.1, leaf.2, further f.low key leaf.0 f.near.k f.near.at between.from (placed.after leaf.0 leaf.1), below),
+      search (further, f.near.k, placed.after),
       leads_found n P r.level key root f.page leaf.0 few at.0 leads leaf.1 ∙ found_rows n P root free m r key,
     )

@@ -1,16 +1,11 @@
 -- A row found or put among a leaf's.
-use Rattle.std.specs.{Prelude.{Option, Some, None, is_some}, FinMap.{find, put}}
-use Rattle.std.proofs.Common.{◌≡◌, ◌<◌, ℕ, zero, suc, List, [], ◌∷◌, length, set, insert, slice_set, true, false, sym, ap, subst, ◌∙◌, arith}
+use Rattle.std.specs.{Prelude.{Some, is_some}, FinMap.{find, put}}
+use Rattle.std.proofs.Common.{rules, ◌≡◌, ◌<◌, ℕ, zero, suc, List, [], ◌∷◌, length, set, insert, slice_set, true, false, sym, ap, subst, ◌∙◌, arith}
 use Rattle.page_node.specs.{claim.Entries.{Entry, size_of}, Entries.{key_at, value_at}, claim.Node.{Node, IsNode, Fits}, claim.Places.{key_cmp, Rises}, Places.{IsFound, IsGap}}
 use Rattle.page_node.proofs.Laws.{node_unique, found_put, gap_put, found_find, gap_find}
-use Rattle.btree_puts.specs.Putting.{linked}
 
 some_is : (x y : List ℕ) → Some x ≡ Some y → x ≡ y
-some_is x y e = ap (λ (o : Option (List ℕ)). or_none o) e
-  where
-    or_none : Option (List ℕ) → List ℕ
-    or_none None = []
-    or_none (Some z) = z
+some_is x y e = search rules
 
 -- a value of the same length takes the room of the one before
 size_same : (es : List Entry) (i : ℕ) (value : List ℕ) → i < length es → length (value_at es i) ≡ length value → size_of (set es i (key_at es i, value)) ≡ size_of es
@@ -39,10 +34,7 @@ module _ (bytes : List ℕ) (node new : Node) (es : List Entry) (i : ℕ) (key v
     found_node = set_is ∙ ap (λ (l : List Entry). record { level = 0; entries = l }) (sym (found_put key value es i found))
 
     pub found_fits : (held : List ℕ) → find key_cmp key es ≡ Some held → length held ≡ length value → Fits new
-    found_fits held there same =
-        let value_is : value_at es i ≡ held = some_is _ _ (sym (found_find key es i found) ∙ there) in
-        let size : size_of new.entries ≡ size_of es = ap (λ (n : Node). size_of n.entries) set_is ∙ size_same es i value found.within (ap length value_is ∙ same) in
-        omega arith
+    found_fits held there same = search (rules, some_is, found_find, found, set_is, size_same)
 
   module _ (at : Rises node.entries → IsGap key node.entries i) where
     gap : IsGap key es i
@@ -60,16 +52,3 @@ module _ (bytes : List ℕ) (node new : Node) (es : List Entry) (i : ℕ) (key v
 -- a leaf of one row
 pub first_node : (e : Entry) (cleared new : Node) → cleared ≡ record { level = 0; entries = [] } → new ≡ record cleared { entries = insert cleared.entries 0 e } → new ≡ record { level = 0; entries = e ∷ [] }
 first_node e cleared new is made = made ∙ ap (λ (n : Node). record n { entries = insert n.entries 0 e }) is
-
--- a node of two entries
-pub second_node : (level : ℕ) (e f d c : Entry) (cleared one two : Node) → e ≡ d → f ≡ c → cleared ≡ record { level = level; entries = [] }
-    → one ≡ record cleared { entries = insert cleared.entries 0 e } → two ≡ record one { entries = insert one.entries 1 f } → two ≡ record { level = level; entries = d ∷ c ∷ [] }
-second_node level e f d c cleared one two first second is made more =
-    more ∙ ap (λ (n : Node). record n { entries = insert n.entries 1 f }) (made ∙ ap (λ (n : Node). record n { entries = insert n.entries 0 e }) is)
-    ∙ (λ i. record { level = level; entries = first i ∷ second i ∷ [] })
-
--- a node with a link more
-pub linked_node : (key : List ℕ) (e f : Entry) (node read new : Node) (i : ℕ) → read ≡ node → e ≡ f → new ≡ record read { entries = insert read.entries i e } → ((x : Entry) → insert read.entries i x ≡ linked key (x ∷ []) read.entries) → new ≡ record node { entries = linked key (f ∷ []) node.entries }
-linked_node key e f node read new i is same made place =
-    made ∙ ap (λ (l : List Entry). record read { entries = l }) (place e) ∙ ap (λ (n : Node). record n { entries = linked key (e ∷ []) n.entries }) is
-    ∙ ap (λ (x : Entry). record node { entries = linked key (x ∷ []) node.entries }) same

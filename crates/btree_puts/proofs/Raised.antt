@@ -1,39 +1,16 @@
 -- A node above was written, whole or cut, after a put into its children; and a leaf was.
-use Rattle.std.{specs.Prelude.{Option, Some, None}, proofs.Common.{◌≡◌, ◌⊎◌, ◌<◌, ◌+◌, ◌-◌, inl, inr, ⊎_elim, ℕ, List, ◌∷◌, length, Bool, refl, sym, ap, subst, ◌∙◌, arith}}
+use Rattle.std.{specs.Prelude.{Option, Some, None}, proofs.Common.{rules, ◌≡◌, ◌⊎◌, ◌<◌, ◌+◌, ◌-◌, inl, inr, ⊎_elim, ℕ, List, ◌∷◌, length, Bool, refl, sym, ap, subst, ◌∙◌, arith}}
 use Rattle.sector_device.specs.claim.Disk.{Image}
 use Rattle.page_store.specs.claim.Chain.{IsIn, AreFree}
 use Rattle.page_node.specs.{Entries.key_at, claim.Node.{Node, IsNode}}
 use Rattle.page_btree.specs.{claim.Tree.{Forest, inner, one, more, first_key, links, forest_rows, owns, forest_owns, forest_size, AreTrees, AreApart}, claim.Map.IsSound}
 use Rattle.page_btree.proofs.MapLaws.{trees_same}
-use Rattle.btree_puts.specs.Putting.{IsPut, IsTaken, IsWhole, IsCut, IsWritten, IsRaised}
-use Rattle.btree_puts.proofs.Joined.{join, join_rows, join_size, join_owns, part_apart, part_trees, part_at, IsJoined}
+use Rattle.btree_puts.{specs.Putting.{IsPut, IsTaken, IsCut, IsWritten, IsRaised}, proofs.Joined.{join, join_rows, join_size, join_owns, part_apart, part_trees, part_at, IsJoined}}
 
 module _ (P Q R : Image) (n d : ℕ) (low : List ℕ) (high : Option (List ℕ)) (free left last : List ℕ) (key value : List ℕ) (had : Bool) (k : List ℕ) (p : ℕ) (f h : Forest) (positive : 0 < d) (sound : IsSound n free (inner p f)) (free_are : AreFree n free) (done : IsPut P Q (d - 1) low high free left key value had f h) where
   -- the node's page is none of its new children's
   off : forest_owns h p → ⊥
   off own = ⊎_elim (λ o. sound.apart.0 o) (λ taken. sound.used p (inl refl) taken.0) (done.owned p own)
-
-  raise_whole : (upper : Node) → IsWhole Q R left last p (record { level = d; entries = links h }) → IsRaised P R d low high free last key value had k p (inner p f) None upper
-  raise_whole upper w =
-      let e : length last ≡ length left = ap length w.none in
-      let moved : IsTaken free left ≡ IsTaken free last = ap (IsTaken free) (sym w.none) in
-      let back : (q : ℕ) → IsTaken free last q → IsTaken free left q = λ q taken. (taken.0, λ there. taken.1 (subst (IsIn q) (sym w.none) there)) in
-      let forth : (q : ℕ) → IsTaken free left q → IsTaken free last q = λ q taken. (taken.0, λ there. taken.1 (subst (IsIn q) w.none there)) in
-      record {
-        trees = one k (inner p h);
-        is_put = record {
-          trees = (positive, w.holds, trees_same Q R (d - 1) low high h (λ q own. w.elsewhere q (λ is. off (subst (forest_owns h) is own))) done.trees);
-          apart = (off, done.apart);
-          rows_are = done.rows_are;
-          had_is = done.had_is;
-          owned = λ q own. ⊎_elim (λ is. inl (inl is)) (λ o. ⊎_elim (λ was. inl (inr was)) (λ taken. inr (forth q taken)) (done.owned q o)) own;
-          frame = λ q out none. w.elsewhere q (λ is. out (inl is)) ∙ done.frame q (λ o. out (inr o)) (λ taken. none (forth q taken));
-          fewer = λ q there. done.fewer q (subst (IsIn q) w.none there);
-          rest = λ n are. subst (AreFree n) (sym w.none) (done.rest n are);
-          whole = omega arith;
-        };
-        shape = (inner p h, refl, refl);
-      }
 
   module _ (q : ℕ) (upper : Node) (w : IsCut Q R left last p q (record { level = d; entries = links h }) upper) where
     in_left : IsIn q left
@@ -51,9 +28,6 @@ module _ (P Q R : Image) (n d : ℕ) (low : List ℕ) (high : Option (List ℕ))
     -- the new page is none of theirs either
     new_off : forest_owns h q → ⊥
     new_off own = ⊎_elim (λ o. sound.used q (inr o) is_taken.0) (λ taken. taken.1 in_left) (done.owned q own)
-
-    not_same : q ≡ p → ⊥
-    not_same is = sound.used q (inl is) is_taken.0
 
     raise_parts : IsJoined h w.lower upper.entries → IsRaised P R d low high free last key value had k p (inner p f) (Some q) upper
     raise_parts j =
@@ -79,7 +53,7 @@ module _ (P Q R : Image) (n d : ℕ) (low : List ℕ) (high : Option (List ℕ))
             apart = (
               ((λ own. off (under p (inl own))), apart.0),
               (λ x own there. ⊎_elim
-                  (λ is. ⊎_elim (λ same. not_same (sym same ∙ is)) (λ o. off (under p (inr (subst (forest_owns j.high) is o)))) there)
+                  (λ is. ⊎_elim (λ same. (sound.used q (inl (sym same ∙ is)) is_taken.0)) (λ o. off (under p (inr (subst (forest_owns j.high) is o)))) there)
                   (λ o. ⊎_elim (λ same. new_off (under q (inl (subst (forest_owns j.low) same o)))) (λ u. apart.2 x o u) there)
                   own),
               ((λ own. new_off (under q (inr own))), apart.1),
@@ -106,5 +80,13 @@ module _ (P Q R : Image) (n d : ℕ) (low : List ℕ) (high : Option (List ℕ))
     raise_cut = raise_parts (part_at h w.lower upper.entries w.some.0 w.some.1 w.both)
 
   pub raise : (right : Option ℕ) (upper : Node) → IsWritten Q R left last p right (record { level = d; entries = links h }) upper → IsRaised P R d low high free last key value had k p (inner p f) right upper
-  raise None upper w = raise_whole upper w
+  raise None upper w =
+      let e : length last ≡ length left = ap length w.none in
+      let moved : IsTaken free left ≡ IsTaken free last = ap (IsTaken free) (sym w.none) in
+      let forth : (q : ℕ) → IsTaken free left q → IsTaken free last q = λ q taken. (taken.0, λ there. taken.1 (subst (IsIn q) w.none there)) in
+      record {
+        trees = one k (inner p h);
+        is_put = search (rules, trees_same);
+        shape = (inner p h, refl, refl);
+      }
   raise (Some q) upper w = raise_cut q upper w

@@ -1,10 +1,10 @@
 -- A put at the root.
 use Rattle.std.specs.{Prelude.{Option, Some, None, is_some}, Cmp.Lexicographic.nat_list_cmp_total}
 use Rattle.std.specs.FinMap.{empty, entries, entries-insert, get-entries, get, insert, contains_key, find, put}
-use Rattle.std.proofs.Common.{◌≡◌, ◌≢◌, ◌<◌, ◌≤◌, ◌+◌, inl, inr, ⊎_elim, ℕ, List, [], ◌∷◌, length, Bool, refl, sym, ap, subst, ◌∙◌, arith}
+use Rattle.std.proofs.Common.{rules, ◌≡◌, ◌≢◌, ◌<◌, ◌≤◌, ◌+◌, inl, inr, ⊎_elim, ℕ, List, [], ◌∷◌, length, Bool, refl, sym, ap, subst, ◌∙◌, arith}
 use Rattle.sector_device.specs.claim.Disk.{Image}
 use Rattle.page_store.{specs.claim.Chain.{IsIn, AreFree}, proofs.Chains.below_free}
-use Rattle.page_node.specs.{claim.Entries.{Entry, child_bytes}, Entries.key_at, claim.Node.{Node, IsNode}, claim.Places.key_cmp}
+use Rattle.page_node.specs.{claim.Entries.Entry, Entries.key_at, claim.Node.{Node, IsNode}, claim.Places.key_cmp}
 use Rattle.page_btree.specs.{claim.Keys.KeyMap, claim.Tree.{Tree, Forest, leaf, inner, one, more, page_of, rows, forest_rows, links, forest_owns, IsTree, AreTrees}}
 use Rattle.page_btree.{specs.claim.Map.{Holds, IsRooted}, specs.Map.IsOnlyRow, proofs.MapLaws.{trees_same, no_entries}, proofs.Descent.owns_page}
 use Rattle.page_btree.proofs.Tops.{rooted as has_tree, every_key}
@@ -96,10 +96,7 @@ module _ (n : ℕ) (P Q : Image) (root : ℕ) (free left : List ℕ) (m : KeyMap
       let off : forest_owns g top → ⊥ = λ own. g_used g done top own in_left in
       let are : AreFree n (top ∷ last) = subst (AreFree n) grown.taken (done.rest n free_are) in
       let trees : AreTrees R r.level [] None g = trees_same Q R r.level [] None g (λ q own. grown.elsewhere q (λ is. off (subst (forest_owns g) is own))) done.trees in
-      let node : IsNode (R top) (record { level = r.level + 1; entries = links g }) = subst (λ (a : ℕ). IsNode (R top) (record { level = r.level + 1; entries = ([], child_bytes a) ∷ (bound, child_bytes (page_of u)) ∷ [] })) (sym here)
-      (subst (λ (b : ℕ). IsNode (R top) (record { level = r.level + 1; entries = ([], child_bytes root) ∷ (bound, child_bytes b) ∷ [] })) (sym there) grown.holds) in
-      let a = done.whole in
-      let b = r.whole in
+      let node : IsNode (R top) (record { level = r.level + 1; entries = links g }) = search rules in
       let e : length left ≡ length last + 1 = ap length grown.taken ∙ omega arith in
       let new : IsRooted n R top last (insert m key value) = record {
         tree = inner top g;
@@ -133,20 +130,8 @@ module _ (n : ℕ) (P : Image) (root : ℕ) (free : List ℕ) (m : KeyMap) (key 
       let there = level_there P rooted.level [] None rooted.tree rooted.stands in
       level_is (record { level = rooted.level; entries = there.0 }) (subst (λ b. IsNode b (record { level = rooted.level; entries = there.0 })) (ap P rooted.root_is ∙ sym reads) there.1)
 
-  pub level_few : level ≤ 5
-  level_few = let a = level_same in let b = rooted.few in omega arith
-
   pub root_can : CanPut n P level [] None free root bytes key rooted.tree
-  root_can = record {
-    reads = reads;
-    stands = record {
-      tree_is = subst (λ (d : ℕ). IsTree P d [] None rooted.tree) (sym level_same) rooted.stands;
-      page_is = rooted.root_is;
-      sound = rooted.sound;
-    };
-    free_are = holds.free_are;
-    between = every_key key;
-  }
+  root_can = search (rules, level_same)
 
   pub find_there : get m key ≡ find key_cmp key (rows rooted.tree)
   find_there = get-entries m key ∙ ap (find key_cmp key) (sym rooted.rows_are)

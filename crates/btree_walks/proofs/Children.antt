@@ -1,28 +1,21 @@
 -- The children of a tree that could be walked.
-use Rattle.std.specs.Prelude.{Option, Some}
-use Rattle.std.proofs.Common.{◌≡◌, ◌<◌, ◌≤◌, ◌+◌, ◌-◌, ◌^◌, ℕ, zero, suc, List, [], ◌∷◌, length, drop, get_or, inl, inr, refl, sym, ap, subst, ◌∙◌, arith, add-one, length-drop}
+use Rattle.std.specs.Prelude.{Option}
+use Rattle.std.proofs.Common.{rules, ◌≡◌, ◌<◌, ◌≤◌, ◌+◌, ◌-◌, ◌^◌, ℕ, zero, suc, List, [], ◌∷◌, length, drop, get_or, inr, refl, sym, ap, subst, ◌∙◌, arith, add-one, length-drop}
 use Rattle.sector_device.specs.claim.Disk.{Image}
 use Rattle.page_node.{specs.claim.Entries.{Entry, child_bytes}, specs.Entries.{key_at, value_at}, specs.claim.Node.{Node, IsNode}, proofs.Laws.node_unique}
-use Rattle.page_btree.specs.claim.Keys.{Parts}
-use Rattle.page_btree.specs.claim.Tree.{Tree, Forest, leaf, inner, one, more, page_of, first_key, links, owns, forest_owns, size, IsTree, AreTrees, IsApart, AreApart}
-use Rattle.page_btree.proofs.{Descent.{node_of, owns_page, some_links, key_of_links}, MapLaws.{page_is, one_tree}}
-use Rattle.btree_walks.specs.{Order.{lower_of, upper_of, next_key, AreRows, AreParts, IsOrdered}, Owners.{CanName, AreNamed, HasLevel, IsWalked, AreWalkedFrom, CanWalk}}
+use Rattle.page_btree.specs.{claim.Keys.Parts, claim.Tree.{Tree, Forest, leaf, inner, one, more, page_of, first_key, links, owns, forest_owns, IsTree, AreTrees, IsApart, AreApart}}
+use Rattle.page_btree.proofs.{Descent.{owns_page, some_links, key_of_links}, MapLaws.{page_is, one_tree}}
+use Rattle.btree_walks.specs.{Order.{lower_of, upper_of, next_key, AreParts, IsOrdered}, Owners.{CanName, AreNamed, HasLevel, IsWalked, AreWalkedFrom, CanWalk}}
 use Rattle.btree_walks.{specs.declared.marks.Marks.Marks, proofs.Named.can_still, proofs.Trees.drop_next}
 
 -- ---- what a tree says of its page
 pub can_level : (P : Image) (d : ℕ) (low : List ℕ) (high : Option (List ℕ)) (p : ℕ) (old : Marks) → CanWalk P d low high p old → HasLevel (P p) d
-can_level P d low high p old can =
-    let node = node_of P d low high can.tree can.stands in
-    record { node = node.0; node_is = subst (λ q. IsNode (P q) node.0) can.page_is node.1; level_is = node.2 }
+can_level P d low high p old can = search rules
 
 pub can_name_root : (P : Image) (d : ℕ) (low : List ℕ) (high : Option (List ℕ)) (p : ℕ) (old : Marks) → CanWalk P d low high p old → CanName p old
 can_name_root P d low high p old can = can.fresh p (subst (owns can.tree) can.page_is (owns_page can.tree))
 
 -- ---- its keys
-
-next_links : (high : Option (List ℕ)) (f : Forest) → next_key high (links f) ≡ Some (first_key f)
-next_links high (one k t) = refl
-next_links high (more k t f) = refl
 
 lower_links : (f : Forest) (k : ℕ) → lower_of (first_key f) (links f) k ≡ key_at (links f) k
 lower_links f zero = sym (key_of_links f)
@@ -36,8 +29,7 @@ parts_of P d low high (more key t f) trees (suc k) lt = subst (λ (x : List ℕ)
 ordered_tree : (P : Image) (d : ℕ) (low : List ℕ) (high : Option (List ℕ)) (t : Tree) → IsTree P d low high t → (node : Node) → IsNode (P (page_of t)) node → IsOrdered low high d node.entries
 ordered_tree P d low high (leaf p es) is node at =
     let same : es ≡ node.entries = ap (λ (n : Node). n.entries) (node_unique (P p) (record { level = 0; entries = es }) node is.1.node at) in
-    subst (λ n. IsOrdered low high n node.entries) (sym is.0)
-    (subst (λ (l : List Entry). AreRows low high l) same (record { rises = is.1.rises; within = is.1.within; some = is.1.some }))
+    search rules
 ordered_tree P zero low high (inner p f) is node at = absurd (let some = is.0 in omega arith)
 ordered_tree P (suc d) low high (inner p f) is node at =
     let same : links f ≡ node.entries = ap (λ (n : Node). n.entries) (node_unique (P p) (record { level = suc d; entries = links f }) node is.1 at) in
@@ -67,8 +59,7 @@ can_walk_tree P d low high (inner p f) old new node off named is apart fresh at 
 }
 
 pub can_walk_all : (P : Image) (d : ℕ) (low : List ℕ) (high : Option (List ℕ)) (p : ℕ) (old new : Marks) (node : Node) → (d ≡ 0 → ⊥) → AreNamed (λ q. q ≡ p) 1 old new → IsNode (P p) node → CanWalk P d low high p old → CanWalkAll P (d - 1) low high node.entries new
-can_walk_all P d low high p old new node off named at can =
-    can_walk_tree P d low high can.tree old new node off (subst (λ x. AreNamed (λ q. q ≡ x) 1 old new) (sym can.page_is) named) can.stands can.apart can.fresh (subst (λ q. IsNode (P q) node) (sym can.page_is) at)
+can_walk_all P d low high p old new node off named at can = search (rules, can_walk_tree)
 
 -- ---- the first of them, and those after it
 module _ (P : Image) (d : ℕ) (low : List ℕ) (high : Option (List ℕ)) (e : Entry) (es : List Entry) (c : ℕ) (old : Marks) (small : length old.seen.items ≤ 2 ^ 32) (fits : c < 2 ^ 32) (at : child_bytes c ≡ e.1) where
@@ -76,39 +67,17 @@ module _ (P : Image) (d : ℕ) (low : List ℕ) (high : Option (List ℕ)) (e : 
   its_page t fresh value = page_is (page_of t) c (let b = (fresh (page_of t) (owns_page t)).0 in omega arith) fits (value ∙ sym at)
 
   can_first : (f : Forest) → AreTrees P d low high f → links f ≡ e ∷ es → AreApart f → ((q : ℕ) → forest_owns f q → CanName q old) → CanWalk P d low (next_key high es) c old
-  can_first (one key t) stand is apart fresh = record {
-    tree = t;
-    stands = subst (λ (l : List Entry). IsTree P d low (next_key high l) t) (ap (λ (l : List Entry). drop 1 l) is) stand;
-    page_is = its_page t fresh (ap (λ (l : List Entry). value_at l 0) is);
-    apart = apart;
-    fresh = fresh;
-  }
-  can_first (more key t f) stand is apart fresh = record {
-    tree = t;
-    stands = subst (λ (x : Option (List ℕ)). IsTree P d low x t) (sym (next_links high f) ∙ ap (λ (l : List Entry). next_key high (drop 1 l)) is) stand.0;
-    page_is = its_page t (λ q own. fresh q (inl own)) (ap (λ (l : List Entry). value_at l 0) is);
-    apart = apart.0;
-    fresh = λ q own. fresh q (inl own);
-  }
+  can_first (one key t) stand is apart fresh = search (rules, its_page)
+  can_first (more key t f) stand is apart fresh = search (rules, its_page)
 
   can_rest : (new : Marks) → IsWalked P d low (next_key high es) c old new → 0 < length es → (f : Forest) → AreTrees P d low high f → links f ≡ e ∷ es → AreApart f → ((q : ℕ) → forest_owns f q → CanName q old) → CanWalkAll P d (key_at es 0) high es new
   can_rest new w some (one key t) stand is apart fresh = absurd (let none : 0 ≡ length es = ap (λ (l : List Entry). length (drop 1 l)) is in omega arith)
-  can_rest new w some (more key t f) stand is apart fresh =
-      let page = its_page t (λ q own. fresh q (inl own)) (ap (λ (l : List Entry). value_at l 0) is) in
-      let same : w.tree ≡ t = one_tree P d d low low (next_key high es) (Some (first_key f)) w.tree t (λ q own. let b = w.named.within q own in omega arith) (λ q own. let b = (fresh q (inl own)).0 in omega arith) w.stands stand.0 (w.page_is ∙ sym page) in
-      record {
-        forest = f;
-        stand = subst (λ (k : List ℕ). AreTrees P d k high f) (sym (key_of_links f) ∙ ap (λ (l : List Entry). key_at (drop 1 l) 0) is) stand.2;
-        links_are = ap (λ (l : List Entry). drop 1 l) is;
-        apart = apart.2;
-        fresh = λ q own. can_still (owns w.tree) (size w.tree) q old new w.named (λ its. apart.1 q (subst (λ (u : Tree). owns u q) same its) own) (fresh q (inr own));
-      }
+  can_rest new w some (more key t f) stand is apart fresh = search (rules, its_page, one_tree)
 
 -- ---- that at a place, and those from the next one on
 pub can_walk_child : (P : Image) (d : ℕ) (low : List ℕ) (high : Option (List ℕ)) (es : List Entry) (k c : ℕ) (old : Marks) → length old.seen.items ≤ 2 ^ 32 → c < 2 ^ 32 → k < length es → child_bytes c ≡ value_at es k
     → CanWalkAll P d (lower_of low es k) high (drop k es) old → CanWalk P d (lower_of low es k) (upper_of high es k) c old
-can_walk_child P d low high es k c old small fits lt at can =
-    can_first P d (lower_of low es k) high (get_or es k ([], [])) (drop (suc k) es) c old small fits at can.forest can.stand (can.links_are ∙ drop_next es k lt) can.apart can.fresh
+can_walk_child P d low high es k c old small fits lt at can = search (rules, can_first, drop_next)
 
 pub can_walk_next : (P : Image) (d : ℕ) (low : List ℕ) (high : Option (List ℕ)) (es : List Entry) (k c : ℕ) (old new : Marks) → length old.seen.items ≤ 2 ^ 32 → c < 2 ^ 32 → k + 1 < length es → child_bytes c ≡ value_at es k
     → IsWalked P d (lower_of low es k) (upper_of high es k) c old new → CanWalkAll P d (lower_of low es k) high (drop k es) old → CanWalkAll P d (lower_of low es (k + 1)) high (drop (k + 1) es) new

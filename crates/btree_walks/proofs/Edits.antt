@@ -3,7 +3,7 @@ use Rattle.std.specs.{Prelude.{insert, remove, Option, Some, None}, List.AllByRe
 use Rattle.std.specs.declared.cmp.Ordering.TheVariants.{Less, Equal, Greater}
 use Rattle.std.specs.FinMap.{is_sorted, find, put, entries, get, same_entries_map, from_sorted, entries-from_sorted, entries-insert, get-insert, get-remove, same_map, get_tied, slice_cmp-IsAntisymmetric, nat_cmp-IsAntisymmetric, get-from_sorted, get-entries}
 use Rattle.std.specs.FinMap.Entries.{by_order, below_all, find-put}
-use Rattle.std.proofs.Common.{◌≡◌, ℕ, zero, suc, ◌+◌, ◌<◌, ◌≤◌, List, [], ◌∷◌, length, get_or, Bool, true, false, cond, refl, sym, ap, subst, ◌∙◌, arith}
+use Rattle.std.proofs.Common.{rules, ◌≡◌, ℕ, zero, suc, ◌+◌, ◌<◌, ◌≤◌, List, [], ◌∷◌, length, get_or, Bool, true, false, cond, refl, sym, ap, subst, ◌∙◌, arith}
 use Rattle.std.specs.FinMap as map
 use Rattle.std.proofs.lemmas.Cmp.{tied_itself}
 use Rattle.std.proofs.lemmas.List.Edits.{get_or-remove_below, get_or-remove_above}
@@ -30,20 +30,11 @@ size_remove (e ∷ es) (suc i) = let rest = size_remove es i in omega arith
 
 -- the place is then a gap
 gap_remove : (key : List ℕ) (es : List Entry) (i : ℕ) → IsFound key es i → IsGap key (remove es i) i
-gap_remove key es i found =
-    let few = length_remove es i found.within in
-    record {
-      within = omega arith;
-      below = λ j less. ap (λ (e : Entry). key_cmp e.0 key) (get_or-remove_below es i ([], []) j less found.within) ∙ found.below j less;
-      above = λ j le within. ap (λ (e : Entry). key_cmp e.0 key) (get_or-remove_above es i ([], []) j le found.within) ∙ found.above (j + 1) (omega arith) (omega arith);
-    }
+gap_remove key es i found = search (rules, length_remove, get_or-remove_below, get_or-remove_above)
 
 -- put back, it is as it was
 pub put_remove : (key : List ℕ) (es : List Entry) (i : ℕ) → IsFound key es i → put key_cmp key (value_at es i) (remove es i) ≡ es
-put_remove key es i found =
-    gap_put key (value_at es i) (remove es i) i (gap_remove key es i found)
-    ∙ ap (λ (k : List ℕ). insert (remove es i) i (k, value_at es i)) (sym found.here)
-    ∙ insert_remove es i ([], []) found.within
+put_remove key es i found = search (rules, gap_put key (value_at es i) (remove es i) i (gap_remove key es i found), insert_remove es i ([], []) found.within)
 
 pub none_removed : (key : List ℕ) (es : List Entry) (i : ℕ) → IsFound key es i → find key_cmp key (remove es i) ≡ None
 none_removed key es i found = gap_find key (remove es i) i (gap_remove key es i found)

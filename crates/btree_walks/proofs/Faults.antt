@@ -1,8 +1,8 @@
 -- What isn't so of the page that is told, by cases.
-use Rattle.std.{specs.Prelude.{Option, None, Result, IfErr, IsErrAnd}, proofs.Common.{◌≡◌, ◌<◌, ◌+◌, ◌++◌, ℕ, List, [], ◌∷◌, length, refl, sym, ap, subst, ◌∙◌}}
+use Rattle.std.{specs.Prelude.{Option, None, Result, IfErr, IsErrAnd}, proofs.Common.{rules, ◌≡◌, ◌<◌, ◌+◌, ◌++◌, ℕ, List, [], ◌∷◌, length, refl, sym, subst}}
 use Rattle.page_btree.proofs.Outcomes.{err_of}
 use Rattle.btree_walks.specs.{declared.error.PagesError.PagesError, declared.error.PagesError.TheVariants.Unsound, Order.{lower_of, upper_of}, Errors.pages_error}
-use Rattle.btree_walks.specs.{Owners.{linked, named_free, after}, Faults.{IsWay, IsPlace, IsNamedIn, IsWrongPage, TellsOf, IsUnnamed}, declared.error.PageFault.PageFault}
+use Rattle.btree_walks.specs.{Owners.{named_free, after}, Faults.{IsWay, IsPlace, IsNamedIn, IsWrongPage, TellsOf, IsUnnamed}, declared.error.PageFault.PageFault}
 use Rattle.btree_walks.specs.{declared.error.PageFaultKind.PageFaultKind, declared.error.PageFaultKind.TheVariants.{BeyondTheEnd, NamedTwice}, declared.marks.Marks.Marks}
 use Rattle.btree_walks.proofs.Lists.{AreListed, after_in}
 use Rattle.sector_device.specs.claim.Disk.{Image}
@@ -32,13 +32,7 @@ name_told r n P p fault told named is = err_of r (Unsound fault) (TellsOf n P) t
 way_more : (P : Image) (page level : ℕ) (low : List ℕ) (high : Option (List ℕ)) (way : List ℕ) (end end_level : ℕ) (end_low : List ℕ) (end_high : Option (List ℕ)) (node : Node) (k child below : ℕ)
     → IsWay P page level low high way end end_level end_low end_high → IsNode (P end) node → node.level ≡ end_level → end_level ≡ below + 1 → k < length node.entries → child_bytes child ≡ value_at node.entries k
     → IsWay P page level low high (way ++ k ∷ []) child below (lower_of end_low node.entries k) (upper_of end_high node.entries k)
-way_more P page level low high [] end end_level end_low end_high node k child below leads is same down within at = (
-  node,
-  subst (λ (q : ℕ). IsNode (P q) node) (sym leads.0) is,
-  same ∙ sym leads.1,
-  within,
-  (child, at, (below, leads.1 ∙ down, (refl, refl, ap (λ (l : List ℕ). lower_of l node.entries k) leads.2, ap (λ (h : Option (List ℕ)). upper_of h node.entries k) leads.3))),
-)
+way_more P page level low high [] end end_level end_low end_high node k child below leads is same down within at = search rules
 way_more P page level low high (j ∷ way) end end_level end_low end_high node k child below leads is same down within at = (
   leads.0,
   leads.1,
@@ -74,10 +68,7 @@ place_root P p level is told = record {
 
 -- ---- the list of free pages
 pub listed_at : (P : Image) (first k count p : ℕ) (old mid : Marks) → AreListed P first k p old mid → k < count → first ≡ word (P 0) 1 → count ≡ word (P 0) 2 → IsIn p (named_free P)
-listed_at P first k count p old mid was lt first_is count_is =
-    subst (λ (c : ℕ). IsIn p (linked P (word (P 0) 1) c)) count_is
-    (subst (λ (f : ℕ). IsIn p (linked P f count)) first_is (subst (λ (q : ℕ). IsIn q (linked P first count)) (sym was.next_is) (after_in P first k count lt)))
+listed_at P first k count p old mid was lt first_is count_is = search (rules, after_in P first k count lt)
 
 pub goes_on : (P : Image) (first k count next : ℕ) (old mid : Marks) → AreListed P first k next old mid → k ≡ count → first ≡ word (P 0) 1 → count ≡ word (P 0) 2 → next ≡ after P (word (P 0) 1) (word (P 0) 2)
-goes_on P first k count next old mid was all first_is count_is =
-    was.next_is ∙ ap (λ (c : ℕ). after P first c) (all ∙ count_is) ∙ ap (λ (f : ℕ). after P f (word (P 0) 2)) first_is
+goes_on P first k count next old mid was all first_is count_is = search rules

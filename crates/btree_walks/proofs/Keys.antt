@@ -4,7 +4,7 @@ use Rattle.std.proofs.Common.{◌≡◌, ◌<◌, ◌≤◌, ◌+◌, ◌-◌, �
 use Rattle.std.proofs.lemmas.Bool.{cases_lt}
 use Rattle.page_node.{specs.claim.Entries.Entry, specs.Entries.key_at, specs.claim.Places.{key_cmp, Rises}, proofs.Laws.{less_trans, is_less, rises_at, is_lower}}
 use Rattle.page_btree.{specs.claim.Keys.{IsBetween, IsUnder}, proofs.Booleans.{first_so, second_so, both_so}, proofs.Rows.wider_under}
-use Rattle.btree_walks.specs.Order.{lower_of, upper_of, AreRows, AreParts, IsOrdered}
+use Rattle.btree_walks.specs.Order.{lower_of, upper_of, AreParts, IsOrdered}
 
 -- ---- at each place
 pub all_from : (F : Entry → Type 0) (es : List Entry) → ((k : ℕ) → k < length es → F (get_or es k ([], []))) → AllByRecursion F es
@@ -23,8 +23,6 @@ below_more x y (e ∷ es) less h = both_so (is_lt (key_cmp x e.0)) (below_all ke
     (below_more x y es less (second_so (is_lt (key_cmp y e.0)) (below_all key_cmp y es) h))
 
 pub rises_from : (es : List Entry) → ((k : ℕ) → suc k < length es → is_lt (key_cmp (key_at es k) (key_at es (suc k))) ≡ true) → Rises es
-rises_from [] h = refl
-rises_from (e ∷ []) h = refl
 rises_from (e ∷ f ∷ es) h =
     let less = h 0 (omega arith) in
     let rest : Rises (f ∷ es) = rises_from (f ∷ es) (λ k lt. h (suc k) (omega arith)) in
@@ -32,6 +30,7 @@ rises_from (e ∷ f ∷ es) h =
     (both_so (is_lt (key_cmp e.0 f.0)) (below_all key_cmp e.0 es) less
     (below_more e.0 f.0 es (is_less (key_cmp e.0 f.0) less) (first_so (below_all key_cmp f.0 es) (is_sorted key_cmp es) rest)))
     rest
+rises_from _ h = refl
 
 -- ---- keys between the first and the last
 
@@ -46,8 +45,7 @@ under_last high es k rises last lt = elim (cases_lt (suc k) (length es)) [
 ]
 
 pub within_ends : (low : List ℕ) (high : Option (List ℕ)) (es : List Entry) → Rises es → IsBetween low high (key_at es 0) → IsBetween low high (key_at es (length es - 1)) → AllByRecursion (λ e. IsBetween low high e.0) es
-within_ends low high es rises first last =
-    all_from (λ e. IsBetween low high e.0) es (λ k lt. record { from = from_first low es k rises first.from lt; under = under_last high es k rises last.under lt })
+within_ends low high es rises first last = search (all_from, from_first, under_last)
 
 -- ---- bounds
 pub lower_first : (low : List ℕ) (es : List Entry) (k : ℕ) → k ≡ 0 → low ≡ lower_of low es k
@@ -58,10 +56,9 @@ lower_some low es zero off = absurd (off refl)
 lower_some low es (suc k) off = refl
 
 next_at : (high : Option (List ℕ)) (es : List Entry) (k : ℕ) → suc k < length es → Some (key_at es (suc k)) ≡ upper_of high es k
-next_at high [] k lt = absurd (omega arith)
-next_at high (e ∷ []) k lt = absurd (omega arith)
 next_at high (e ∷ f ∷ es) zero lt = refl
 next_at high (e ∷ f ∷ es) (suc k) lt = next_at high (f ∷ es) k (omega arith)
+next_at high _ k lt = absurd (omega arith)
 
 pub upper_some : (high : Option (List ℕ)) (es : List Entry) (k : ℕ) → k + 1 < length es → Some (key_at es (k + 1)) ≡ upper_of high es k
 upper_some high es k lt = ap (λ n. Some (key_at es n)) (add-one k) ∙ next_at high es k (omega arith)
@@ -75,16 +72,6 @@ upper_last high (e ∷ f ∷ es) zero le = absurd (omega arith)
 upper_last high (e ∷ f ∷ es) (suc k) le = upper_last high (f ∷ es) k (omega arith)
 
 -- ---- order of a level
-pub ordered_leaf : (low : List ℕ) (high : Option (List ℕ)) (d : ℕ) (es : List Entry) → d ≡ 0 → AreRows low high es → IsOrdered low high d es
-ordered_leaf low high d es none is = subst (λ n. IsOrdered low high n es) (sym none) is
-
-pub leaf_ordered : (low : List ℕ) (high : Option (List ℕ)) (d : ℕ) (es : List Entry) → d ≡ 0 → IsOrdered low high d es → AreRows low high es
-leaf_ordered low high d es none is = subst (λ n. IsOrdered low high n es) none is
-
-pub ordered_above : (low : List ℕ) (high : Option (List ℕ)) (d : ℕ) (es : List Entry) → (d ≡ 0 → ⊥) → AreParts low high es → IsOrdered low high d es
-ordered_above low high zero es off is = absurd (off refl)
-ordered_above low high (suc d) es off is = is
-
 pub above_ordered : (low : List ℕ) (high : Option (List ℕ)) (d : ℕ) (es : List Entry) → (d ≡ 0 → ⊥) → IsOrdered low high d es → AreParts low high es
 above_ordered low high zero es off is = absurd (off refl)
 above_ordered low high (suc d) es off is = is

@@ -1,6 +1,6 @@
 -- Leaves that are held one after the other.
 use Rattle.std.specs.{Prelude.{Result, Ok, Err, OnErr}, Ordering.is_gt}
-use Rattle.std.proofs.Common.{◌≡◌, ◌<◌, ◌+◌, ◌-◌, ℕ, zero, suc, List, [], ◌∷◌, ◌++◌, length, drop, get_or, Bool, true, false, cond, refl, ap, subst, ◌∙◌, arith}
+use Rattle.std.proofs.Common.{rules, ◌≡◌, ◌<◌, ◌+◌, ◌-◌, ℕ, zero, suc, List, [], ◌∷◌, ◌++◌, length, drop, get_or, Bool, true, false, cond, refl, ap, subst, ◌∙◌, arith}
 use Rattle.page_node.specs.{claim.Entries.Entry, claim.Node.IsNode, claim.Places.{Rises, key_cmp}, Places.entries_from}
 use Rattle.page_btree.specs.Seeking.{AreLeaves}
 
@@ -19,16 +19,7 @@ pub next_leaf : (k more : ℕ) (pages : List (List ℕ)) (rows : List Entry) →
 next_leaf k zero pages rows some are = absurd (omega arith)
 next_leaf zero (suc m) [] rows some are = absurd are
 next_leaf (suc k) (suc m) [] rows some are = absurd are
-next_leaf zero (suc m) (page ∷ pages) rows some are = record {
-  here = are.0;
-  others = are.1;
-  rows_are = are.2;
-  node = are.3;
-  rises = are.4;
-  some = are.5;
-  others_are = let less : m ≡ suc m - 1 = omega arith in subst (λ (n : ℕ). AreLeaves n pages are.1) less are.6;
-  within = omega arith;
-}
+next_leaf zero (suc m) (page ∷ pages) rows some are = search rules
 next_leaf (suc k) (suc m) (page ∷ pages) rows some are =
     let next = next_leaf k (suc m) pages rows some are in
     record {

@@ -1,6 +1,6 @@
 -- Where a remove begins, and the map that it leaves.
-use Rattle.std.specs.{Prelude.{Option, Some, None, is_some}, FinMap.{find, put, is_sorted, get, get-entries, entries, entries_sorted, contains_key}}
-use Rattle.std.proofs.Common.{◌≡◌, inl, inr, ℕ, List, [], true, false, refl, sym, ap, subst, ◌∙◌, arith}
+use Rattle.std.specs.{Prelude.{Option, Some, None, is_some}, FinMap.{find, is_sorted, get, get-entries, entries, entries_sorted, contains_key}}
+use Rattle.std.proofs.Common.{rules, ◌≡◌, ℕ, List, [], true, false, sym, ap, subst, ◌∙◌, arith}
 use Rattle.std.specs.FinMap as map
 use Rattle.sector_device.specs.claim.Disk.{Image}
 use Rattle.page_store.specs.claim.Chain.{AreFree}
@@ -27,46 +27,18 @@ module _ (n : ℕ) (P Q : Image) (root : ℕ) (free left : List ℕ) (m : KeyMap
   rises_map = true_is (is_sorted key_cmp (entries m)) (entries_sorted m)
 
   rows_after : (level : ℕ) (u : Option Tree) → IsRemoved n P Q level [] None free left key r.tree u → entries (map.remove m key) ≡ rows_left u
-  rows_after level u done =
-      let whole : put key_cmp key done.less.value (rows_left u) ≡ entries m = done.less.rows_are ∙ r.rows_are in
-      remove_rows m key done.less.value (rows_left u) (rises_unput key done.less.value (rows_left u) (subst Rises (sym whole) rises_map)) done.less.none whole
+  rows_after level u done = search (rules, remove_rows, rises_unput, rises_map)
 
   pub had_after : (level : ℕ) (u : Option Tree) → IsRemoved n P Q level [] None free left key r.tree u → contains_key m key ≡ true
   had_after level u done = ap is_some (sym (found_rows n P root free m r key) ∙ ap (find key_cmp key) (sym done.less.rows_are) ∙ found_put key done.less.value (rows_left u))
 
   -- a smaller tree at the root
   pub kept_holds : (level : ℕ) (t : Tree) → level ≡ r.level → IsRemoved n P Q level [] None free left key r.tree (Some t) → Holds n Q root left (map.remove m key)
-  kept_holds level t same done =
-      let few = r.few in
-      record {
-        free_are = done.less.free_are;
-        held = inr (record {
-          tree = t;
-          level = level;
-          few = omega arith;
-          stands = done.stands.0;
-          root_is = done.stands.2 ∙ r.root_is;
-          sound = record {
-            apart = done.stands.1;
-            below = λ q own. r.sound.below q (done.less.owned q own).0;
-            used = λ q own. (done.less.owned q own).1;
-          };
-          rows_are = sym (rows_after level (Some t) done);
-          whole = omega arith;
-        });
-      }
+  kept_holds level t same done = search (arith, rows_after level (Some t) done)
 
   -- none is left
   pub emptied_holds : (level : ℕ) → IsRemoved n P Q level [] None free left key r.tree None → Holds n Q 0 left (map.remove m key)
-  emptied_holds level done =
-      record {
-        free_are = done.less.free_are;
-        held = inl (record {
-          root_is = refl;
-          none = rows_after level None done;
-          whole = omega arith;
-        });
-      }
+  emptied_holds level done = search (arith, rows_after level None done)
 
   -- the key isn't there
   pub absent_same : find key_cmp key (rows r.tree) ≡ None → map.remove m key ≡ m
@@ -76,14 +48,8 @@ module _ (n : ℕ) (P Q : Image) (root : ℕ) (free left : List ℕ) (m : KeyMap
   had_none none = ap is_some (sym (found_rows n P root free m r key) ∙ none)
 
 pub holds_at : (n k : ℕ) (P Q : Image) (root top : ℕ) (free left : List ℕ) (m : KeyMap) → k ≡ n → Q ≡ P → top ≡ root → left ≡ free → Holds n P root free m → Holds k Q top left m
-holds_at n k P Q root top free left m same_n same_P same_root same_free holds =
-    subst (λ (x : ℕ). Holds x Q top left m) (sym same_n)
-    (subst (λ (X : Image). Holds n X top left m) (sym same_P)
-    (subst (λ (x : ℕ). Holds n P x left m) (sym same_root) (subst (λ (l : List ℕ). Holds n P root l m) (sym same_free) holds)))
+holds_at n k P Q root top free left m same_n same_P same_root same_free holds = search rules
 
 -- nothing to take away
 pub none_there : (n : ℕ) (P : Image) (root : ℕ) (free : List ℕ) (m : KeyMap) (key : List ℕ) → Holds n P root free m → get m key ≡ None → Holds n P root free (map.remove m key) × (false ≡ contains_key m key)
-none_there n P root free m key holds none = (
-  subst (λ (k : KeyMap). Holds n P root free k) (sym (remove_none m key (sym (get-entries m key) ∙ none))) holds,
-  sym (ap is_some none),
-)
+none_there n P root free m key holds none = search (rules, remove_none m key (sym (get-entries m key) ∙ none))

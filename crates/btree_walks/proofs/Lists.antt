@@ -1,17 +1,16 @@
 -- The list of free pages, read one after the other.
-use Rattle.std.proofs.Common.{◌≡◌, ◌⊎◌, ◌<◌, ◌+◌, ℕ, zero, suc, List, [], ◌∷◌, ◌++◌, length, inl, inr, refl, sym, ap, subst, ◌∙◌, arith, add-one}
+use Rattle.std.proofs.Common.{rules, ◌≡◌, ◌⊎◌, ◌<◌, ◌+◌, ℕ, zero, suc, List, [], ◌∷◌, ◌++◌, length, inl, inr, refl, sym, ap, subst, ◌∙◌, arith, add-one}
 use Rattle.sector_device.specs.claim.Disk.{Image}
 use Rattle.gate_journal.specs.claim.Store.{word}
 use Rattle.page_store.{specs.claim.Chain.{is_blank, chain, IsIn, AreFree}, proofs.Chains.{below_free, first_blank, counts}}
 use Rattle.btree_walks.specs.{Owners.{linked, after, IsSeen, IsBlank, CanName, AreNamed, IsFreeList, CanList}, declared.marks.Marks.Marks}
-use Rattle.btree_walks.proofs.Named.{named_none, named_more, named_as, can_still}
+use Rattle.btree_walks.proofs.Named.{named_more, named_as}
 
 -- blank pages that are linked are the chain of free ones
 pub blank_chain : (P : Image) (first count : ℕ) → ((q : ℕ) → IsIn q (linked P first count) → IsBlank (P q)) → chain P first count ≡ linked P first count
 blank_chain P first zero blank = refl
 blank_chain P first (suc count) blank =
-    let rest = blank_chain P (word (P first) 0) count (λ q there. blank q (inr there)) in
-    λ i. (counts (is_blank (P first)) first (blank first (inl refl))) i ∷ rest i
+    λ i. (counts (is_blank (P first)) first (blank first (inl refl))) i ∷ (blank_chain P (word (P first) 0) count (λ q there. blank q (inr there))) i
 
 -- and those of a chain of free pages are blank
 pub free_chain : (n : ℕ) (P : Image) (first count : ℕ) → AreFree n (chain P first count) → (q : ℕ) → IsIn q (linked P first count) → IsBlank (P q)
@@ -72,12 +71,7 @@ pub record AreListed (P : Image) (first k next : ℕ) (old new : Marks) : Type 0
   pub blank : (q : ℕ) → IsIn q (linked P first k) → IsBlank (P q)
 
 pub none_listed : (P : Image) (first : ℕ) (old : Marks) → AreListed P first 0 first old old
-none_listed P first old = record {
-  next_is = refl;
-  named = named_none old;
-  free = λ seen. tt;
-  blank = λ q no. absurd no;
-}
+none_listed P first old = search rules
 
 pub more_listed : (P : Image) (first k page next : ℕ) (old mid new : Marks) → AreListed P first k page old mid → AreNamed (λ q. q ≡ page) 1 mid new → next ≡ word (P page) 0 → IsBlank (P page) → AreListed P first (k + 1) next old new
 more_listed P first k page next old mid new was named next_is blank =
@@ -95,30 +89,16 @@ more_listed P first k page next old mid new was named next_is blank =
           (let off : page ≡ 0 → ⊥ = λ none. named.fresh page refl (was.named.kept page (subst (IsSeen old) (sym none) seen)) in pos page off)
           (subst (λ n. page < n) was.named.long (named.within page refl))
           (λ there. named.fresh page refl (was.named.here page there)));
-      blank = λ q is. elim (in_push q (linked P first k) page (subst (IsIn q) (sym linked_is) is)) [
-        | inl there ↦ was.blank q there
-        | inr e ↦ subst (λ p. IsBlank (P p)) (sym e) blank
-      ];
+      blank = λ q is. search (rules, in_push);
     })
 
 -- all of them
 pub all_listed : (P : Image) (first k count next : ℕ) (old new : Marks) → AreListed P first k next old new → k ≡ count → next ≡ 0 → IsFreeList P first count old new
-all_listed P first k count next old new was all ends = subst (λ n. IsFreeList P first n old new) all (record {
-  named = was.named;
-  free = was.free;
-  blank = was.blank;
-  ends = sym was.next_is ∙ ends;
-})
+all_listed P first k count next old new was all ends = search rules
 
 -- one that could be listed can be named
 pub can_name : (P : Image) (first k count page : ℕ) (old mid : Marks) → AreListed P first k page old mid → k < count → CanList P first count old → CanName page mid × IsBlank (P page)
-can_name P first k count page old mid was lt can =
-    let there : IsIn page (linked P first count) = subst (λ q. IsIn q (linked P first count)) (sym was.next_is) (after_in P first k count lt) in
-    let both = below_free (length old.seen.items) (linked P first count) page can.free there in (
-      can_still (λ q. IsIn q (linked P first k)) k page old mid was.named
-          (λ again. after_off (length old.seen.items) P first k count lt can.free (subst (λ q. IsIn q (linked P first k)) was.next_is again)) (both.1, can.fresh page there),
-      can.blank page there,
-    )
+can_name P first k count page old mid was lt can = search (rules, after_in P first k count lt, below_free, after_off)
 
 pub ends_with : (P : Image) (first k count next : ℕ) (old new : Marks) → AreListed P first k next old new → k ≡ count → CanList P first count old → next ≡ 0
 ends_with P first k count next old new was all can = was.next_is ∙ ap (λ n. after P first n) all ∙ can.ends

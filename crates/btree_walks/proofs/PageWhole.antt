@@ -1,37 +1,22 @@
 -- All pages of a store.
-use Rattle.std.{specs.Prelude.None, specs.FinMap.empty, proofs.Common.{◌≡◌, ◌<◌, ◌≤◌, ◌^◌, ℕ, [], length, inl, inr, refl, sym, ap, subst, ◌∙◌, arith}}
+use Rattle.std.{specs.Prelude.None, specs.FinMap.empty, proofs.Common.{rules, ◌≡◌, ◌<◌, ◌≤◌, ◌^◌, ℕ, [], length, inl, inr, refl, sym, ap, subst, ◌∙◌, arith}}
 use Rattle.sector_device.specs.claim.Disk.{Image}
 use Rattle.gate_journal.specs.claim.Store.{word}
 use Rattle.page_store.{specs.claim.Chain.{IsIn, AreFree, root_in, free_in}, proofs.Chains.{length_chain, below_free}}
-use Rattle.page_btree.{specs.claim.Tree.{page_of, owns, size}, proofs.MapLaws.{no_entries, one_tree}, proofs.Descent.owns_page}
+use Rattle.page_btree.{specs.claim.Tree.{owns, size}, proofs.MapLaws.{no_entries, one_tree}, proofs.Descent.owns_page}
 use Rattle.btree_walks.specs.{Owners.{linked, AreOwned, IsSeen, AreNamed, IsFreeList, CanList, IsRootWalked, CanWalkRoot}, Faults.{IsOffTree, IsWrongPage}}
 use Rattle.btree_walks.{specs.declared.error.PageFaultKind.TheVariants.Lost, specs.declared.marks.Marks.Marks, proofs.Lists.{pos, blank_chain, free_chain}}
 use Rattle.btree_walks.proofs.Rising.{map_of_tree, rows_of_map}
 
 pub some_pages : (n : ℕ) (P : Image) → AreOwned n P → 0 < n
-some_pages n P (m, own) = elim own.holds.held [
-  | inl bare ↦ (let whole = bare.whole in omega arith)
-  | inr r ↦ (let whole = r.whole in omega arith)
-]
+some_pages n P (m, own) = search arith
 
 -- page 0 was named, then the free pages, then those of the tree
 module _ (n : ℕ) (P : Image) (a b c d : Marks) (long : length a.seen.items ≡ n) (none : (q : ℕ) → IsSeen a q → ⊥) (left : a.left ≡ n)
     (meta : AreNamed (λ q. q ≡ 0) 1 a b) where
   -- why they can be named
   pub can_list : AreOwned n P → CanList P (word (P 0) 1) (word (P 0) 2) b
-  can_list (m, own) =
-      let names = linked P (word (P 0) 1) (word (P 0) 2) in
-      let blank = free_chain n P (word (P 0) 1) (word (P 0) 2) own.holds.free_are in
-      let free : AreFree n names = subst (AreFree n) (blank_chain P (word (P 0) 1) (word (P 0) 2) blank) own.holds.free_are in
-      record {
-        free = subst (λ k. AreFree k names) (sym long ∙ sym meta.long) free;
-        fresh = λ q there seen. elim (meta.only q seen) [
-          | inl e ↦ (let some = (below_free n names q free there).0 in absurd (omega arith))
-          | inr before ↦ none q before
-        ];
-        blank = blank;
-        ends = own.ends;
-      }
+  can_list (m, own) = search (arith, free_chain n P (word (P 0) 1) (word (P 0) 2) own.holds.free_are, blank_chain, below_free)
 
   module _ (list : IsFreeList P (word (P 0) 1) (word (P 0) 2) b c) where
     seen_meta : IsSeen c 0
@@ -76,21 +61,10 @@ module _ (n : ℕ) (P : Image) (a b c d : Marks) (long : length a.seen.items ≡
       are_owned all = elim walked [
         | inl none_is ↦ (
           empty,
-          record {
-            holds = record {
-              free_are = free_are;
-              held = inl (record {
-                root_is = none_is.0;
-                none = no_entries;
-                whole = let same : d.left ≡ c.left = ap (λ (m : Marks). m.left) none_is.1 in
-                    let x = meta.count_is in let y = list.named.count_is in let z = free_long in omega arith;
-              });
-            };
-            ends = list.ends;
-          },
+          search (arith, free_are, no_entries, free_long),
         )
         | inr w ↦ (
-          map_of_tree w.2.tree,
+          search map_of_tree,
           record {
             holds = record {
               free_are = free_are;
@@ -119,14 +93,7 @@ module _ (n : ℕ) (P : Image) (a b c d : Marks) (long : length a.seen.items ≡
 
       -- one that wasn't named is lost
       pub is_lost : (p : ℕ) → p < length d.seen.items → (IsSeen d p → ⊥) → IsWrongPage n P p Lost
-      is_lost p within off =
-          let kept : (q : ℕ) → IsSeen c q → IsSeen d q = kept_by walked in
-          let same : length d.seen.items ≡ length c.seen.items = long_by walked in (
-            omega arith,
-            λ e. off (kept p (subst (IsSeen c) (sym e) seen_meta)),
-            λ there. off (kept p (list.named.here p there)),
-            off_by walked,
-          )
+      is_lost p within off = search (arith, kept_by walked)
         where
           kept_by : IsRootWalked P (root_in P) c d → (q : ℕ) → IsSeen c q → IsSeen d q
           kept_by (inl none_is) q seen = subst (λ (k : Marks). IsSeen k q) (sym none_is.1) seen
@@ -145,14 +112,8 @@ module _ (n : ℕ) (P : Image) (a b c d : Marks) (long : length a.seen.items ≡
       none_lost few (m, own) =
           let x = meta.count_is in let y = list.named.count_is in let z = free_long in
           elim walked [
-            | inl none_is ↦ (
-                let same : d.left ≡ c.left = ap (λ (k : Marks). k.left) none_is.1 in
-                elim own.holds.held [
-                  | inl bare ↦ (let whole = bare.whole in omega arith)
-                  | inr r ↦ (let some = (r.sound.below (page_of r.tree) (owns_page r.tree)).0 in let is = r.root_is in let no = none_is.0 in absurd (omega arith))
-                ])
+            | inl none_is ↦ search rules
             | inr w ↦ (
-                let t = w.2.named.count_is in
                 elim own.holds.held [
                   | inl bare ↦ absurd (w.2.named.fresh 0 (subst (owns w.2.tree) (w.2.page_is ∙ bare.root_is) (owns_page w.2.tree)) seen_meta)
                   | inr r ↦ (

@@ -1,17 +1,12 @@
 -- A place in a scan's leaf.
-use Rattle.std.{specs.Prelude.{Option, Some, None, IfSome, IfNone}, proofs.Common.{◌≡◌, ◌<◌, ◌+◌, ℕ, List, ◌∷◌, Bool, true, false, cond, refl, sym, subst, arith}}
+use Rattle.std.{specs.Prelude.{Option, Some, None, IfSome, IfNone}, proofs.Common.{rules, ◌≡◌, ◌<◌, ◌+◌, ℕ, List, ◌∷◌, Bool, true, false, cond, refl, sym, subst, arith}}
 use Rattle.page_node.specs.{claim.Entries.Entry, Walking.IsAhead}
-use Rattle.btree_walks.specs.{Scanning.{Rest, RestWhere, IsReady, IsNextRow, IsTakenRow, is_open, FitsIn, leaf_at, moved_to, stood_at}, Parts.{page_of, row_at, row_in}}
-use Rattle.btree_walks.specs.{declared.parts.Parts.Parts, declared.parts.ScanPlace.ScanPlace, declared.rows.Row.Row, declared.scans.Scan.Scan}
-use Rattle.btree_walks.proofs.Ready.{IsHead, head_of, covered_step}
+use Rattle.btree_walks.specs.{Scanning.{Rest, IsReady, IsNextRow, IsTakenRow, is_open, FitsIn, leaf_at, stood_at}, Parts.{page_of, row_at, row_in}, declared.parts.Parts.Parts}
+use Rattle.btree_walks.{specs.declared.parts.ScanPlace.ScanPlace, specs.declared.rows.Row.Row, specs.declared.scans.Scan.Scan, proofs.Ready.{IsHead, head_of, covered_step}}
 
 goes_on : (ended covered : Bool) → cond ended false covered ≡ true → ended ≡ false
 goes_on true covered going = cc
 goes_on false covered going = refl
-
-is_covered : (ended covered : Bool) → cond ended false covered ≡ true → covered ≡ true
-is_covered true covered going = cc
-is_covered false covered going = going
 
 -- where rows are left at a place, its scan's leaf has them
 open_of : (scan : Scan) (place : ScanPlace) → FitsIn scan place → 0 < place.left → is_open scan ≡ true
@@ -22,16 +17,10 @@ open_of scan place fits some = by (is_open scan) fits
     by false none = let left = none refl in absurd (omega arith)
 
 ready_at : (scan : Scan) (place : ScanPlace) (all rest : List Entry) → is_open scan ≡ true → Rest (stood_at scan place) all rest → IsReady true scan.prefix (leaf_at scan.leaf place) scan.held all rest
-ready_at scan place all rest going is =
-    let moved : Rest (moved_to scan place) all rest = subst (λ (b : Bool). Rest (cond b (moved_to scan place) scan) all rest) going is in
-    subst (λ (b : Bool). RestWhere false b scan.prefix (leaf_at scan.leaf place) scan.held all rest) (is_covered scan.ended scan.covered going)
-    (subst (λ (b : Bool). RestWhere b scan.covered scan.prefix (leaf_at scan.leaf place) scan.held all rest) (goes_on scan.ended scan.covered going) moved)
+ready_at scan place all rest going is = search rules
 
 rest_at : (scan : Scan) (place : ScanPlace) (all rest : List Entry) → is_open scan ≡ true → IsReady true scan.prefix (leaf_at scan.leaf place) scan.held all rest → Rest (stood_at scan place) all rest
-rest_at scan place all rest going is =
-    let moved : Rest (moved_to scan place) all rest = subst (λ (b : Bool). RestWhere b scan.covered scan.prefix (leaf_at scan.leaf place) scan.held all rest) (sym (goes_on scan.ended scan.covered going))
-    (subst (λ (b : Bool). RestWhere false b scan.prefix (leaf_at scan.leaf place) scan.held all rest) (sym (is_covered scan.ended scan.covered going)) is) in
-    subst (λ (b : Bool). Rest (cond b (moved_to scan place) scan) all rest) (sym going) moved
+rest_at scan place all rest going is = search rules
 
 -- a row is ahead there
 pub head_at : (scan : Scan) (place : ScanPlace) (all rest : List Entry) → FitsIn scan place → 0 < place.left → Rest (stood_at scan place) all rest → IsHead true scan.prefix (leaf_at scan.leaf place) scan.held all rest
@@ -54,6 +43,4 @@ next_some None scan page old new all rest lies fits some is taken less = tt
 -- the bytes there are no row
 pub none_next : (r : Option Parts) (scan : Scan) (page : List ℕ) (old : ScanPlace) → page ≡ page_of scan.held → 0 < old.left → IfNone r ((e : Entry) (es : List Entry) → IsAhead page old.at (e ∷ es) → ⊥) → IfNone r ((all rest : List Entry) → FitsIn scan old → Rest (stood_at scan old) all rest → ⊥)
 none_next (Some parts) scan page old lies some none = tt
-none_next None scan page old lies some none = λ all rest fits is.
-    let h = head_at scan old all rest fits some is in
-    none h.e h.es (subst (λ (p : List ℕ). IsAhead p old.at (h.e ∷ h.es)) (sym lies) h.ahead)
+none_next None scan page old lies some none = λ all rest fits is. search (rules, head_at scan old all rest fits some is)

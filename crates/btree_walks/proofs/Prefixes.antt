@@ -2,12 +2,11 @@
 use Rattle.std.specs.{Prelude.{None, T}, List.{starts_with, AllByRecursion}, Ordering.{nat_cmp, is_gt, is_lt, ordering_then}, Cmp.nat_cmp_is, declared.cmp.Ordering.Ordering}
 use Rattle.std.specs.{declared.cmp.Ordering.TheVariants.{Less, Equal, Greater}, FinMap.{find, is_sorted}}
 use Rattle.std.specs.FinMap.Entries.{below_all, where_key, find-where_key, is_sorted-where_key}
-use Rattle.std.proofs.Common.{◌≡◌, ◌⊎◌, ◌<◌, ◌≤◌, inl, inr, ℕ, List, [], ◌∷◌, ◌++◌, length, length-append, Bool, true, false, cond, ◌&&◌, nat_eq, refl, sym, ap, subst, ◌∙◌, arith}
+use Rattle.std.proofs.Common.{rules, ◌≡◌, ◌⊎◌, ◌<◌, ◌≤◌, inl, inr, ℕ, List, [], ◌∷◌, ◌++◌, length, length-append, Bool, true, false, cond, ◌&&◌, nat_eq, refl, sym, ap, subst, ◌∙◌, arith}
 use Rattle.std.proofs.lemmas.Bool.{eqb-true}
 use Rattle.std.proofs.lemmas.List.Elements.{filter-append}
 use Rattle.std.proofs.lemmas.Bool.Decides.{nat_tests}
 use Rattle.page_node.{specs.claim.Entries.Entry, specs.claim.Places.{key_cmp, Rises}, specs.Places.{is_from, entries_from}, proofs.Laws.{is_less, same_key, flip_greater}}
-use Rattle.page_node.proofs.Scanning.{above_true}
 use Rattle.btree_walks.specs.Prefixes.{AllFrom, AllUnder, is_under, under}
 use Rattle.page_btree.proofs.{Booleans.{either, first_so, second_so}, Seeking.from_all}
 use Rattle.page_store.proofs.Chains.{both_ways as clash}
@@ -29,13 +28,7 @@ under_is_from (p ∷ ps) (x ∷ xs) h =
     ap (λ (r : Ordering). is_gt (ordering_then r (key_cmp ps xs))) tied ∙ under_is_from ps xs (second_so (nat_eq p x) (starts_with nat_eq xs ps) h)
 
 compared : (a b : ℕ) → (a < b) ⊎ ((a ≡ b) ⊎ (b < a))
-compared a b = elim (either (nat_eq a b)) [
-  | inl same ↦ inr (inl (eqb-true a b same))
-  | inr other ↦ elim (either (is_lt (nat_cmp a b))) [
-    | inl less ↦ inl (grind (arith, nat_tests))
-    | inr not ↦ inr (inr (grind (arith, nat_tests)))
-  ]
-]
+compared a b = search (rules, either)
 
 unlike : (a b : ℕ) → a < b → nat_eq a b ≡ false
 unlike a b less = grind (arith, nat_tests)
@@ -49,11 +42,7 @@ none_above [] x y from off less = off
 none_above (p ∷ ps) [] y from off less = cc
 none_above (p ∷ ps) (x ∷ xs) [] from off less = refl
 none_above (p ∷ ps) (x ∷ xs) (y ∷ ys) from off less = elim (compared p x) [
-  | inl below ↦ elim (compared x y) [
-    | inl rises ↦ ap (λ (b : Bool). b && starts_with nat_eq ys ps) (unlike p y (omega arith))
-    | inr (inl same) ↦ ap (λ (b : Bool). b && starts_with nat_eq ys ps) (unlike p y (omega arith))
-    | inr (inr falls) ↦ absurd (greater (sym (ap (λ (r : Ordering). ordering_then r (key_cmp xs ys)) (sym (nat_cmp_is x y Greater falls))) ∙ less))
-  ]
+  | inl below ↦ search (rules, compared)
   | inr (inl tied) ↦ elim (compared x y) [
     | inl rises ↦ ap (λ (b : Bool). b && starts_with nat_eq ys ps) (unlike p y (omega arith))
     | inr (inl same) ↦ not_both (nat_eq p y) (starts_with nat_eq ys ps) (none_above ps xs ys
@@ -77,10 +66,7 @@ pub under_from : (prefix : List ℕ) (es : List Entry) → under prefix (entries
 under_from prefix [] = refl
 under_from prefix (e ∷ es) = elim (either (is_gt (key_cmp prefix e.0))) [
   | inl above ↦
-      let off : is_under prefix e ≡ false = elim (either (is_under prefix e)) [
-        | inl on ↦ absurd (clash (is_gt (key_cmp prefix e.0)) above (under_is_from prefix e.0 on))
-        | inr none ↦ none
-      ] in
+      let off : is_under prefix e ≡ false = search (rules, under_is_from) in
       ap (λ (b : Bool). under prefix (cond (cond b false true) (e ∷ entries_from prefix es) (entries_from prefix es))) above
       ∙ under_from prefix es
       ∙ sym (ap (λ (b : Bool). cond b (e ∷ under prefix es) (under prefix es)) off)
@@ -134,10 +120,7 @@ AllBelow key es = AllByRecursion (λ e. is_gt (key_cmp key e.0) ≡ true) es
 
 -- a key from the start on, below one that begins with it, begins with it
 pub between_under : (prefix x bound : List ℕ) → is_gt (key_cmp prefix x) ≡ false → is_gt (key_cmp bound x) ≡ true → starts_with nat_eq bound prefix ≡ true → starts_with nat_eq x prefix ≡ true
-between_under prefix x bound from above on = elim (either (starts_with nat_eq x prefix)) [
-  | inl there ↦ there
-  | inr off ↦ absurd (clash (starts_with nat_eq bound prefix) on (none_above prefix x bound from off (flip_greater bound x (above_true (key_cmp bound x) above))))
-]
+between_under prefix x bound from above on = search (rules, either, nat_eq, clash, none_above, flip_greater)
 
 pub all_between : (prefix bound : List ℕ) (es : List Entry) → AllFrom prefix es → AllBelow bound es → starts_with nat_eq bound prefix ≡ true → AllUnder prefix es
 all_between prefix bound [] from below on = tt
@@ -151,10 +134,7 @@ fewer_from : (bound key : List ℕ) (es : List Entry) → length (entries_from b
 fewer_from bound key [] = omega arith
 fewer_from bound key (e ∷ es) =
     let rest = fewer_from bound key es in
-    elim (is_from key e) as (λ b. length (entries_from bound (cond b (e ∷ entries_from key es) (entries_from key es))) ≤ length (cond (is_from bound e) (e ∷ entries_from bound es) (entries_from bound es))) [
-      | true ↦ elim (is_from bound e) as (λ b. length (cond b (e ∷ entries_from bound (entries_from key es)) (entries_from bound (entries_from key es))) ≤ length (cond b (e ∷ entries_from bound es) (entries_from bound es))) [ true ↦ omega arith | false ↦ rest ]
-      | false ↦ elim (is_from bound e) as (λ b. length (entries_from bound (entries_from key es)) ≤ length (cond b (e ∷ entries_from bound es) (entries_from bound es))) [ true ↦ omega arith | false ↦ rest ]
-    ]
+    search rules
 
 none_from : (bound : List ℕ) (es : List Entry) → length (entries_from bound es) ≡ 0 → AllBelow bound es
 none_from bound [] none = tt

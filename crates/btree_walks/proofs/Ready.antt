@@ -1,16 +1,16 @@
 -- A leaf before the rows that are still to come.
 use Rattle.std.specs.{Prelude.{Option, Some, None}, List.starts_with, FinMap.{entries, entries_sorted}}
-use Rattle.std.proofs.Common.{◌≡◌, ◌<◌, ◌+◌, ℕ, List, [], ◌∷◌, ◌++◌, length, nat_eq, Bool, true, false, cond, refl, sym, ap, subst, ◌∙◌, zero, suc, drop, get_or, append_assoc, arith}
+use Rattle.std.proofs.Common.{rules, ◌≡◌, ◌<◌, ◌+◌, ℕ, List, [], ◌∷◌, ◌++◌, length, nat_eq, Bool, true, false, cond, refl, sym, ap, subst, ◌∙◌, zero, suc, drop, get_or, append_assoc, arith}
 use Rattle.std.proofs.lemmas.List.Elements.{All-nil}
 use Rattle.std.proofs.lemmas.List.{nil_from_length}
 use Rattle.sector_device.specs.declared.SectorDevice.{Ghosts}
 use Rattle.page_store.specs.{declared.pages.Pages.Pages, declared.txn.Txn.Txn}
 use Rattle.page_node.specs.{claim.Entries.{Entry, IsEntry}, claim.Places.Rises, Places.entries_from, Walking.IsAhead}
 use Rattle.page_btree.specs.{claim.Keys.KeyMap, claim.Errors.GetErr, Seeking.{bound_in, IsNext, IsFrom, AreLeaves}, declared.seeks.Leaf.Leaf, declared.error.TreeError.TreeError}
-use Rattle.page_btree.proofs.{Refusals.by_case, Booleans.true_is}
-use Rattle.btree_walks.specs.{Prefixes.{under, AllFrom, AllUnder}, Parts.page_of, Turning.IsTurned, Scanning.{IsReady, Rest, RestWhere, IsWithin, IsStep, IsTakenRow, ScanErr}}
+use Rattle.page_btree.proofs.Booleans.{true_is}
+use Rattle.btree_walks.specs.{Prefixes.{under, AllFrom, AllUnder}, Parts.page_of, Turning.IsTurned, Scanning.{IsReady, Rest, IsWithin, IsStep, IsTakenRow, ScanErr}}
 use Rattle.btree_walks.specs.{declared.held.HeldLeaves.HeldLeaves, declared.rows.Row.Row, declared.scans.Scan.Scan}
-use Rattle.btree_walks.proofs.Prefixes.{under_from, under_is_from, none_under, rises_from_key, all_from_key, head_rises, all_between, prefix_from, below_bound}
+use Rattle.btree_walks.proofs.Prefixes.{under_from, under_is_from, none_under, rises_from_key, all_from_key, all_between, prefix_from, below_bound}
 
 pub no_others : (more : ℕ) (pages : List (List ℕ)) (rows : List Entry) → more ≡ 0 → AreLeaves more pages rows → rows ≡ []
 no_others zero pages rows none are = are
@@ -63,10 +63,7 @@ ready_from key m leaf held at left more bound = record {
 -- a scan that stands before them
 module _ (scan : Scan) (prefix : List ℕ) (prefix_is : scan.prefix ≡ prefix) (uncovered : scan.covered ≡ false) (going : scan.ended ≡ false) (m : KeyMap) (rest : List Entry) where
   stands : IsReady false prefix scan.leaf scan.held (entries m) rest → Rest scan (entries m) rest
-  stands ready =
-      subst (λ (b : Bool). RestWhere b scan.covered scan.prefix scan.leaf scan.held (entries m) rest) (sym going)
-      (subst (λ (b : Bool). IsReady b scan.prefix scan.leaf scan.held (entries m) rest) (sym uncovered)
-      (subst (λ (p : List ℕ). IsReady false p scan.leaf scan.held (entries m) rest) (sym prefix_is) ready))
+  stands ready = search rules
 
 pub rest_new : (scan : Scan) (prefix : List ℕ) → scan.prefix ≡ prefix → scan.covered ≡ false → scan.ended ≡ false → scan.leaf.at ≡ 0 → scan.leaf.left ≡ 0 → scan.leaf.more ≡ 0 → bound_in scan.leaf ≡ Some prefix
     → (m : KeyMap) → Rest scan (entries m) (under prefix (entries m))
@@ -78,10 +75,7 @@ rest_from scan key prefix_is uncovered going at left more bound m = stands scan 
 
 -- no row is left
 none_left : (covered : Bool) (prefix : List ℕ) (leaf : Leaf) (held : HeldLeaves) (all rest : List Entry) (is : IsReady covered prefix leaf held all rest) → leaf.left ≡ 0 → leaf.more ≡ 0 → is.after ≡ [] → rest ≡ []
-none_left covered prefix leaf held all rest is none alone last =
-    let here : is.here ≡ [] = nil_from_length is.here (sym is.left_is ∙ none) in
-    let others : is.others ≡ [] = no_others leaf.more (drop (held.which + 1) held.pages) is.others alone is.others_are in
-    is.rest_are ∙ (λ i. under prefix (here i ++ (others i ++ last i)))
+none_left covered prefix leaf held all rest is none alone last = search (rules, nil_from_length)
 
 pub ready_last : (covered : Bool) (prefix : List ℕ) (leaf : Leaf) (held : HeldLeaves) (all rest : List Entry) → IsReady covered prefix leaf held all rest → bound_in leaf ≡ None → leaf.left ≡ 0 → leaf.more ≡ 0 → rest ≡ []
 ready_last covered prefix leaf held all rest is bound none alone = none_left covered prefix leaf held all rest is none alone (subst (λ (b : Option (List ℕ)). IsNext b all is.after) bound is.next)
@@ -120,22 +114,7 @@ ready_turn covered prefix old leaf before held all rest is none there bound =
     let here : is.here ≡ [] = nil_from_length is.here (sym is.left_is ∙ none) in
     let rows = there.rows_are in
     let same : is.here ++ (is.others ++ is.after) ≡ there.here ++ (there.others ++ is.after) = (λ i. here i ++ (rows i ++ is.after)) ∙ append_assoc there.here there.others is.after in
-    let left = there.left_is in (
-      record {
-        here = there.here;
-        others = there.others;
-        after = is.after;
-        ahead = there.ahead;
-        left_is = there.left_is;
-        others_are = there.others_are;
-        next = subst (λ (b : Option (List ℕ)). IsNext b all is.after) (sym bound) is.next;
-        rest_are = is.rest_are ∙ ap (under prefix) same;
-        rises = subst (λ (es : List Entry). Rises es) same is.rises;
-        from = subst (λ (es : List Entry). AllFrom prefix es) same is.from;
-        covers = λ on. subst (λ (es : List Entry). AllUnder prefix es) (λ i. here i ++ rows i) (is.covers on);
-      },
-      λ nothing. absurd (omega arith),
-    )
+    let left = there.left_is in search rules
 
 -- a row is taken
 pub record IsHead (covered : Bool) (prefix : List ℕ) (leaf : Leaf) (held : HeldLeaves) (all rest : List Entry) : Type 0 where
@@ -151,39 +130,10 @@ head_of covered prefix leaf held all rest is some = by is.here is.left_is is.ahe
   where
     by : (here : List Entry) → leaf.left ≡ length here → IsAhead (page_of held) leaf.at here → rest ≡ under prefix (here ++ (is.others ++ is.after)) → Rises (here ++ (is.others ++ is.after)) → AllFrom prefix (here ++ (is.others ++ is.after)) → (covered ≡ true → AllUnder prefix (here ++ is.others)) → IsHead covered prefix leaf held all rest
     by [] left ahead rest_are rises from covers = absurd (omega arith)
-    by (e ∷ es) left ahead rest_are rises from covers =
-        let later = es ++ (is.others ++ is.after) in
-        let parts = head_rises e later rises in
-        record {
-          e = e;
-          es = es;
-          ahead = ahead;
-          on = λ c. (covers c).0;
-          goes = λ on next there less same bound. (
-            under prefix later,
-            rest_are ∙ ap (λ (b : Bool). cond b (e ∷ under prefix later) (under prefix later)) on,
-            record {
-              here = es;
-              others = is.others;
-              after = is.after;
-              ahead = there;
-              left_is = omega arith;
-              others_are = subst (λ (n : ℕ). AreLeaves n (drop (held.which + 1) held.pages) is.others) (sym same) is.others_are;
-              next = subst (λ (b : Option (List ℕ)). IsNext b all is.after) (sym bound) is.next;
-              rest_are = refl;
-              rises = parts.1;
-              from = from.1;
-              covers = λ c. (covers c).1;
-            },
-          );
-          ends = λ off. rest_are ∙ ap (λ (b : Bool). cond b (e ∷ under prefix later) (under prefix later)) off ∙ none_under prefix e later from.0 off parts.0;
-        }
+    by (e ∷ es) left ahead rest_are rises from covers = search (rules, none_under)
 
 pub step_of : (covered : Bool) (prefix : List ℕ) (leaf next : Leaf) (held : HeldLeaves) (row : Row) (all rest : List Entry) (h : IsHead covered prefix leaf held all rest) (found : Bool) → IsTakenRow h.e h.es row (page_of held) next.at → next.left + 1 ≡ leaf.left → next.more ≡ leaf.more → bound_in next ≡ bound_in leaf → found ≡ starts_with nat_eq row.key prefix → IsStep found covered prefix next held row all rest
-step_of covered prefix leaf next held row all rest h true taken less same bound is =
-    let on : starts_with nat_eq h.e.0 prefix ≡ true = ap (λ (k : List ℕ). starts_with nat_eq k prefix) (sym taken.key_is) ∙ sym is in
-    let g = h.goes on next taken.ahead less same bound in
-    (g.0, g.1 ∙ (λ i. (sym taken.key_is i, sym taken.value_is i) ∷ g.0), g.2)
+step_of covered prefix leaf next held row all rest h true taken less same bound is = search rules
 step_of covered prefix leaf next held row all rest h false taken less same bound is = h.ends (ap (λ (k : List ℕ). starts_with nat_eq k prefix) (sym taken.key_is) ∙ sym is)
 
 -- the row of a covered leaf
@@ -193,9 +143,7 @@ covered_step covered prefix leaf next held row all rest h is taken less same bou
 -- ---- refusals
 module _ {D : Type 0} {g : Ghosts D} where
   pub scan_fails : (can : KeyMap → Type 0) (t : Txn) (old new : Pages D g) (e : TreeError) → GetErr t old new e → ScanErr can t old new e
-  scan_fails can t old new = by_case (λ e. GetErr t old new e) (λ e. ScanErr can t old new e)
-      (λ why. why) (λ why honest m is there. why honest m is) (λ why. why) (λ why. why) (λ why. why) (λ why. why)
+  scan_fails can t old new = search rules
 
   pub scan_wider : (can more : KeyMap → Type 0) (t : Txn) (old new : Pages D g) → ((m : KeyMap) → more m → can m) → (e : TreeError) → ScanErr can t old new e → ScanErr more t old new e
-  scan_wider can more t old new f = by_case (λ e. ScanErr can t old new e) (λ e. ScanErr more t old new e)
-      (λ why. why) (λ why honest m is there. why honest m is (f m there)) (λ why. why) (λ why. why) (λ why. why) (λ why. why)
+  scan_wider can more t old new f = search rules

@@ -1,5 +1,5 @@
 -- A refusal of a remove below, told above.
-use Rattle.std.proofs.Common.{◌<◌, ℕ, List, sym, ◌∙◌, length}
+use Rattle.std.proofs.Common.{rules, ◌<◌, ℕ, List, sym, ◌∙◌, length}
 use Rattle.sector_device.specs.{claim.Disk.Image, declared.SectorDevice.Ghosts}
 use Rattle.page_store.specs.{claim.Chain.{IsIn, AreFree}, claim.Transactions.{stored, disk_in, txn_pages, free_over, IsQuiet, Passed}, declared.pages.Pages.Pages}
 use Rattle.page_store.{specs.declared.txn.Txn.Txn, proofs.Stops.failed_more}
@@ -27,25 +27,20 @@ pub record HasRows (t : Txn) (S : Image) (p : ℕ) (bytes : List ℕ) : Type 0 w
   pub off : IsIn p (free_over t S) → ⊥
 
 pub back_taken : (t : Txn) (p : ℕ) (page : List ℕ) (e : TreeError) → BackErr t p e → TakenErr t p page e
-back_taken t p page = by_case (λ e. BackErr t p e) (λ e. TakenErr t p page e)
-    (λ why. absurd why) (λ why P es is rises above are off. why P above are off) (λ why. why) (λ why. why) (λ why. why) (λ _. tt)
+back_taken t p page = search by_case
 
 module _ {D : Type 0} {g : Ghosts D} where
   pub level_fails : (can below : Image → Type 0) (old new : Pages D g) → ((disk_in new).is_honest → can (stored old) → below (stored old)) → (e : TreeError) → ReadsErr below old new e → BelowErr can old new e
-  level_fails can below old new also = by_case (λ e. ReadsErr below old new e) (λ e. BelowErr can old new e)
-      (λ why. why) (λ why honest is. why honest (also honest is)) (λ why. why) (λ why. why) (λ why. why) (λ _. tt)
+  level_fails can below old new also = search rules
 
   pub below_more : (can below : Image → Type 0) (old mid new : Pages D g) → Passed old mid → IsQuiet mid new → ((disk_in new).is_honest → can (stored old) → below (stored mid)) → (e : TreeError) → BelowErr below mid new e → BelowErr can old new e
-  below_more can below old mid new passed quiet also = by_case (λ e. BelowErr below mid new e) (λ e. BelowErr can old new e)
-      (failed_more old mid new passed quiet) (λ why honest is. why honest (also honest is)) (λ why. sym passed.halted ∙ why) (λ why. why) (λ why. why) (λ _. tt)
+  below_more can below old mid new passed quiet also = search rules
 
   pub link_fails : (can : Image → Type 0) (t : Txn) (p : ℕ) (bytes : List ℕ) (old new : Pages D g) → ((disk_in new).is_honest → can (stored old) → HasNode t (stored old) p bytes) → (e : TreeError) → LinkErr t p bytes e → BelowErr can old new e
-  link_fails can t p bytes old new has = by_case (λ e. LinkErr t p bytes e) (λ e. BelowErr can old new e)
-      (λ why. absurd why) (λ why honest is. let h = has honest is in why (stored old) h.node h.node_is h.some h.above h.are h.off) (λ why. absurd why) (λ why. why) (λ why. why) (λ _. tt)
+  link_fails can t p bytes old new has = search rules
 
   pub row_fails : (can : Image → Type 0) (t : Txn) (p : ℕ) (bytes : List ℕ) (old new : Pages D g) → ((disk_in new).is_honest → can (stored old) → HasRows t (stored old) p bytes) → (e : TreeError) → TakenErr t p bytes e → BelowErr can old new e
-  row_fails can t p bytes old new has = by_case (λ e. TakenErr t p bytes e) (λ e. BelowErr can old new e)
-      (λ why. absurd why) (λ why honest is. let h = has honest is in why (stored old) h.rows h.node_is h.rises h.above h.are h.off) (λ why. absurd why) (λ why. why) (λ why. why) (λ _. tt)
+  row_fails can t p bytes old new has = search rules
 
   pub remove_fails : (below : Image → Type 0) (t : Txn) (old mid new : Pages D g) → Passed old mid → IsQuiet mid new → ((disk_in new).is_honest → (m : KeyMap) → InTxn t (stored old) m → below (stored mid)) → (e : TreeError) → BelowErr below mid new e → RemoveErr t old new e
   remove_fails below t old mid new passed quiet also = by_case (λ e. BelowErr below mid new e) (λ e. RemoveErr t old new e)

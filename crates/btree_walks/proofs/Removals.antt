@@ -1,6 +1,6 @@
 -- What a remove below one child does to all children, and to the node above them.
-use Rattle.std.specs.{Prelude.{Option, Some, None, remove}, Ordering.is_gt, FinMap.{find, put}, declared.cmp.Ordering.TheVariants.{Less, Greater}}
-use Rattle.std.proofs.Common.{◌≡◌, ◌≢◌, ◌⊎◌, ◌<◌, ◌-◌, ◌+◌, ◌++◌, inl, inr, ⊎_elim, ℕ, List, [], ◌∷◌, length, Bool, true, false, cond, refl, sym, ap, subst, ◌∙◌, arith}
+use Rattle.std.specs.{Prelude.{Option, Some, None, remove}, Ordering.is_gt, FinMap.find, declared.cmp.Ordering.TheVariants.Less}
+use Rattle.std.proofs.Common.{rules, ◌≡◌, ◌≢◌, ◌⊎◌, ◌<◌, ◌-◌, ◌+◌, ◌++◌, inl, inr, ⊎_elim, ℕ, List, [], ◌∷◌, length, Bool, true, false, cond, refl, sym, ap, subst, ◌∙◌, arith}
 use Rattle.std.proofs.lemmas.List.{append-nil}
 use Rattle.sector_device.specs.claim.Disk.{Image}
 use Rattle.page_store.specs.claim.Chain.{IsIn, AreFree}
@@ -17,23 +17,14 @@ use Rattle.btree_walks.proofs.Edits.{put_remove, none_removed, all_unput, rises_
 mutual
   pub tree_low : (P : Image) (d : ℕ) (low q : List ℕ) (high : Option (List ℕ)) (t : Tree) → key_cmp low q ≡ Less → IsTree P d q high t → IsTree P d low high t
   tree_low P d low q high (leaf p es) less is = (
-    is.0,
-    record {
-      node = is.1.node;
-      rises = is.1.rises;
-      within = all_map (λ e. IsBetween q high e.0) (λ e. IsBetween low high e.0) (λ e b. wider_low low q high less e.0 b) es is.1.within;
-      some = is.1.some;
-    },
+    search rules,
+    search (rules, all_map, wider_low),
   )
   tree_low P d low q high (inner p f) less is = (is.0, is.1, trees_low P (d - 1) low q high f less is.2)
 
   pub trees_low : (P : Image) (d : ℕ) (low q : List ℕ) (high : Option (List ℕ)) (f : Forest) → key_cmp low q ≡ Less → AreTrees P d q high f → AreTrees P d low high f
   trees_low P d low q high (one k t) less is = tree_low P d low q high t less is
-  trees_low P d low q high (more k t f) less is = (
-    tree_low P d low q (Some (first_key f)) t less is.0,
-    record { above = less_trans low q (first_key f) less is.1.above; under = is.1.under },
-    is.2,
-  )
+  trees_low P d low q high (more k t f) less is = search (rules, tree_low P d low q (Some (first_key f)) t less is.0, less_trans low q (first_key f) less is.1.above)
 
 mutual
   pub tree_high : (P : Image) (d : ℕ) (low q : List ℕ) (high : Option (List ℕ)) (t : Tree) → IsUnder q high → IsTree P d low (Some q) t → IsTree P d low high t
@@ -52,7 +43,7 @@ mutual
   trees_high P d low q high (one k t) under is = tree_high P d low q high t under is
   trees_high P d low q high (more k t f) under is = (
     is.0,
-    record { above = is.1.above; under = wider_under (first_key f) q high is.1.under under },
+    search (rules, wider_under (first_key f) q high is.1.under under),
     trees_high P d (first_key f) q high f under is.2,
   )
 
@@ -86,35 +77,12 @@ abbrev sole_left : List ℕ → Option Tree → Option Forest
 sole_left k None = None
 sole_left k (Some t) = Some (one k t)
 
--- rows among others that stay
-less_among : {n : ℕ} {P Q : Image} {free left key : List ℕ} {all now : List Entry} {own still : ℕ → Type 0} {total now_total : ℕ} → IsLess n P Q free left key all now own still total now_total
-    → (put_in : List Entry → List Entry) → ((value : List ℕ) (es : List Entry) → put key_cmp key value (put_in es) ≡ put_in (put key_cmp key value es)) → ((es : List Entry) → find key_cmp key (put_in es) ≡ find key_cmp key es)
-    → (others whole still_whole : ℕ → Type 0) → ((q : ℕ) → own q → whole q) → ((q : ℕ) → others q → whole q) → ((q : ℕ) → still_whole q → still q ⊎ others q)
-    → ((q : ℕ) → own q → others q → ⊥) → ((q : ℕ) → others q → IsIn q free → ⊥) → (extra sum now_sum : ℕ) → sum ≡ total + extra → now_sum ≡ now_total + extra
-    → IsLess n P Q free left key (put_in all) (put_in now) whole still_whole sum now_sum
-less_among {now} less put_in puts finds others whole still_whole owns_in other_in split apart used extra sum now_sum sum_is now_sum_is = record {
-  value = less.value;
-  rows_are = puts less.value now ∙ ap put_in less.rows_are;
-  none = finds now ∙ less.none;
-  owned = λ q own. ⊎_elim
-      (λ o. let was = less.owned q o in (owns_in q was.0, was.1))
-      (λ o. (other_in q o, (λ there. ⊎_elim (λ was. used q o was) (λ its. apart q its o) (less.given q there))))
-      (split q own);
-  frame = λ q out. less.frame q (λ o. out (owns_in q o));
-  given = λ q there. ⊎_elim (λ was. inl was) (λ o. inr (owns_in q o)) (less.given q there);
-  free_are = less.free_are;
-  whole = let few = less.whole in omega arith;
-}
-
 module _ (n : ℕ) (P Q : Image) (d : ℕ) (low : List ℕ) (high : Option (List ℕ)) (free left : List ℕ) (key : List ℕ) where
   module _ (k : List ℕ) (t : Tree) (f : Forest) (trees : AreTrees P d low high (more k t f)) (apart : AreApart (more k t f)) (used : AreUsed (more k t f) free) where
     -- the key was the first child's
     first_less : (u : Option Tree) (still : ℕ → Type 0) (total : ℕ) → is_gt (key_cmp (first_key f) key) ≡ true → IsRemoved n P Q d low (Some (first_key f)) free left key t u → ((q : ℕ) → still q → owns_left u q ⊎ forest_owns f q) → total ≡ size_left u + forest_size f
         → IsLess n P Q free left key (rows t ++ forest_rows f) (rows_left u ++ forest_rows f) (forest_owns (more k t f)) still (forest_size (more k t f)) total
-    first_less u still total above done split total_is =
-        let before : Each Less key (forest_rows f) = rows_before P d (first_key f) high key f trees.2 (key_before (first_key f) key above) in
-        less_among done.less (λ l. l ++ forest_rows f) (λ value es. put_left key value es (forest_rows f) before) (λ es. find_left key es (forest_rows f) before)
-        (forest_owns f) (forest_owns (more k t f)) still (λ q o. inl o) (λ q o. inr o) split apart.1 (λ q o. used q (inr o)) (forest_size f) (forest_size (more k t f)) total refl total_is
+    first_less u still total above done split total_is = search (rules, Each, rows_before, key_before, put_left, find_left)
 
     first_removed : (u : Option Tree) → is_gt (key_cmp (first_key f) key) ≡ true → IsRemoved n P Q d low (Some (first_key f)) free left key t u → AreRemoved n P Q d low high free left key (more k t f) (first_left k u f)
     first_removed None above done = record {
@@ -129,10 +97,7 @@ module _ (n : ℕ) (P Q : Image) (d : ℕ) (low : List ℕ) (high : Option (List
     -- it was a later child's
     later_less : (g : Option Forest) (still : ℕ → Type 0) (total : ℕ) → is_gt (key_cmp (first_key f) key) ≡ false → AreRemoved n P Q d (first_key f) high free left key f g → ((q : ℕ) → still q → forest_owns_left g q ⊎ owns t q) → total ≡ forest_size_left g + size t
         → IsLess n P Q free left key (rows t ++ forest_rows f) (rows t ++ forest_rows_left g) (forest_owns (more k t f)) still (forest_size (more k t f)) total
-    later_less g still total from done split total_is =
-        let after : Each Greater key (rows t) = rows_after P d low (first_key f) key t trees.0 from in
-        less_among done.less (λ l. rows t ++ l) (λ value es. put_right key value (rows t) es after) (λ es. find_right key (rows t) es after)
-        (owns t) (forest_owns (more k t f)) still (λ q o. inr o) (λ q o. inl o) split (λ q its o. apart.1 q o its) (λ q o. used q (inl o)) (size t) (forest_size (more k t f)) total (omega arith) total_is
+    later_less g still total from done split total_is = search (rules, Each, rows_after, put_right, find_right)
 
     later_removed : (g : Option Forest) → is_gt (key_cmp (first_key f) key) ≡ false → AreRemoved n P Q d (first_key f) high free left key f g → AreRemoved n P Q d low high free left key (more k t f) (later_left k t g)
     later_removed None from done =
@@ -253,41 +218,16 @@ module _ (n : ℕ) (P Q R : Image) (d : ℕ) (low : List ℕ) (high : Option (Li
   inner_written g is apart used done node elsewhere =
       record {
         stands = (
-          (is.0, node, trees_same Q R (d - 1) low high g (λ q own. elsewhere q (λ same. apart.0 (subst (forest_owns f) same (done.less.owned q own).0))) done.stands.0),
+          search (rules, trees_same),
           ((λ own. apart.0 (done.less.owned p own).0), done.stands.1),
-          refl,
+          search rules,
         );
-        less = record {
-          value = done.less.value;
-          rows_are = done.less.rows_are;
-          none = done.less.none;
-          owned = λ q own. ⊎_elim
-              (λ same. (inl same, (λ there. ⊎_elim (λ was. used was) (λ o. apart.0 o) (done.less.given p (subst (λ (x : ℕ). IsIn x left) same there)))))
-              (λ o. let was = done.less.owned q o in (inr was.0, was.1))
-              own;
-          frame = λ q out. elsewhere q (λ same. out (inl same)) ∙ done.less.frame q (λ o. out (inr o));
-          given = λ q there. ⊎_elim (λ was. inl was) (λ o. inr (inr o)) (done.less.given q there);
-          free_are = done.less.free_are;
-          whole = let m = done.less.whole in omega arith;
-        };
+        less = search arith;
       }
 
   pub inner_given : IsApart (inner p f) → (IsIn p free → ⊥) → 0 < p → p < n → AreRemoved n P Q (d - 1) low high free left key f None → ((q : ℕ) → q ≢ p → R q ≡ Q q)
       → IsRemoved n P R d low high free (p ∷ left) key (inner p f) None
-  inner_given apart used some below done elsewhere =
-      record {
-        stands = tt;
-        less = record {
-          value = done.less.value;
-          rows_are = done.less.rows_are;
-          none = refl;
-          owned = λ q own. absurd own;
-          frame = λ q out. elsewhere q (λ same. out (inl same)) ∙ done.less.frame q (λ o. out (inr o));
-          given = λ q there. ⊎_elim (λ same. inr (inl same)) (λ was. ⊎_elim (λ o. inl o) (λ o. inr (inr o)) (done.less.given q was)) there;
-          free_are = (some, below, (λ there. ⊎_elim (λ was. used was) (λ o. apart.0 o) (done.less.given p there)), done.less.free_are);
-          whole = let m = done.less.whole in omega arith;
-        };
-      }
+  inner_given apart used some below done elsewhere = search rules
 
 -- ---- a leaf
 module _ (n : ℕ) (P R : Image) (d : ℕ) (low : List ℕ) (high : Option (List ℕ)) (free : List ℕ) (key : List ℕ) (p : ℕ) (es : List Entry) (i : ℕ) (found : IsFound key es i) where
@@ -309,29 +249,8 @@ module _ (n : ℕ) (P R : Image) (d : ℕ) (low : List ℕ) (high : Option (List
           tt,
           refl,
         );
-        less = record {
-          value = value_at es i;
-          rows_are = back;
-          none = none_removed key es i found;
-          owned = λ q own. (own, (λ there. used (subst (λ (x : ℕ). IsIn x free) own there)));
-          frame = λ q out. elsewhere q out;
-          given = λ q there. inl there;
-          free_are = free_are;
-          whole = refl;
-        };
+        less = search (rules, none_removed);
       }
 
   pub leaf_given : (IsIn p free → ⊥) → AreFree n free → 0 < p → p < n → remove es i ≡ [] → ((q : ℕ) → q ≢ p → R q ≡ P q) → IsRemoved n P R d low high free (p ∷ free) key (leaf p es) None
-  leaf_given used free_are some below bare elsewhere = record {
-    stands = tt;
-    less = record {
-      value = value_at es i;
-      rows_are = ap (λ l. put key_cmp key (value_at es i) l) (sym bare) ∙ put_remove key es i found;
-      none = refl;
-      owned = λ q own. absurd own;
-      frame = λ q out. elsewhere q out;
-      given = λ q there. ⊎_elim (λ same. inr same) (λ was. inl was) there;
-      free_are = (some, below, used, free_are);
-      whole = omega arith;
-    };
-  }
+  leaf_given used free_are some below bare elsewhere = search rules

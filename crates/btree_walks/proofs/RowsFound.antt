@@ -18,7 +18,6 @@ all_found P key value [] all there = absurd (cc)
 all_found P key value (e ∷ es) all there = elim (cases_Bool (eq_by_cmp key_cmp key e.0)) [
   | inl same ↦
       let keys : e.0 ≡ key = sym (same_key key e.0 (is_equal (key_cmp key e.0) same)) in
-      let told = sym (ap (λ (b : Bool). cond b (Some e.1) (find key_cmp key es)) same) ∙ there in
       let values : e.1 ≡ value = cc in
       subst P (λ i. (keys i, values i)) all.0
   | inr other ↦ all_found P key value es all.1 (sym (ap (λ (b : Bool). cond b (Some e.1) (find key_cmp key es)) other) ∙ there)

@@ -1,6 +1,6 @@
 -- A remove that edits a leaf alone, told above.
 use Rattle.std.specs.Prelude.{Bool, true, false, Result, Option, Some, None, IfOk, IfSome, MatchOption, remove}
-use Rattle.std.proofs.Common.{◌≡◌, ℕ, List, Ok, Err, refl, sym, subst, ◌∙◌, arith}
+use Rattle.std.proofs.Common.{rules, ◌≡◌, ℕ, List, Ok, Err, refl, sym, subst, ◌∙◌, arith}
 use Rattle.sector_device.specs.{claim.Disk.Image, declared.SectorDevice.Ghosts}
 use Rattle.page_store.specs.{claim.Chain.{IsIn, AreFree}, claim.Transactions.{stored, disk_in, over, free_over, IsQuiet, Passed}, Transactions.{txn_list, IsWritten}}
 use Rattle.page_store.{specs.declared.pages.Pages.Pages, specs.declared.txn.Txn.Txn, proofs.Stops.failed_more}
@@ -28,15 +28,11 @@ module _ (n : ℕ) (S : Image) (t0 t1 : Txn) (d : ℕ) (low : List ℕ) (high : 
       let used = sound_p.used p refl in
       let left : Tree = leaf p (remove es told.0) in
       let done : IsRemoved n (over t0 S) (over t1 S) 0 low high (free_over t0 S) (free_over t1 S) key (leaf p es) (Some left) =
-      subst (λ (l : List ℕ). IsRemoved n (over t0 S) (over t1 S) 0 low high (free_over t0 S) l key (leaf p es) (Some left)) (sym (told.5 n are used))
-      (leaf_written n (over t0 S) (over t1 S) 0 low high (free_over t0 S) key p es told.0 told.1 at_0 used are told.2 told.3 told.4) in
-      subst (λ (x : ℕ). RemovesAt n (over t0 S) (over t1 S) d low high (free_over t0 S) (free_over t1 S) key (leaf x es) Kept) (sym same)
-      (subst (λ (k : ℕ). RemovesAt n (over t0 S) (over t1 S) k low high (free_over t0 S) (free_over t1 S) key (leaf p es) Kept) (sym none) (left, done))
+      search (told.5 n are used, leaf_written n (over t0 S) (over t1 S) 0 low high (free_over t0 S) key p es told.0 told.1 at_0 used are told.2 told.3 told.4) in
+      search rules
 
 pub leaf_takes : (n : ℕ) (S : Image) (t0 t1 : Txn) (d : ℕ) (key : List ℕ) (p : ℕ) (can : CanRemove n (over t0 S) (free_over t0 S) d key p) → d ≡ 0 → (had : Bool) → IsLeafTaken t0 t1 S p key had → Removes (over t1 S) (free_over t1 S) can (did_take had)
-leaf_takes n S t0 t1 d key p can none had told =
-    let l = leaf_there n (over t0 S) (free_over t0 S) d key p can none in
-    takes_at n S t0 t1 d can.low can.high key p none can.free_are can.tree had can.tree_is can.page_is can.sound (told (rows can.tree) l.0 l.1)
+leaf_takes n S t0 t1 d key p can none had told = search (leaf_there n (over t0 S) (free_over t0 S) d key p can none, takes_at)
 
 -- in its place
 pub leaf_taken : {E : Type 0} (told : Option (Result (Option Bool) E)) (A : Type 0) (step : List ℕ → Result (Option Bool) E → List ℕ → Type 0) (t0 t1 : Txn) (page : ℕ) (key : List ℕ)
@@ -72,8 +68,7 @@ steps_up n S t0 d low high key p child t s t1 false done = s.absent done
 pub top_some : {E : Type 0} (r : Result (Option Bool) E) (A B : Bool → Type 0) (C : Type 0) → (A true → B true) → (A false → C → B false) → IfOk r (λ d. IfSome d A) → IfOk r (λ d. (d ≡ Some true → ⊥) → C) → IfOk r (λ d. IfSome d B)
 top_some (Ok (Some true)) A B C f g a k = f a
 top_some (Ok (Some false)) A B C f g a k = g a (k (λ e. cc))
-top_some (Ok None) A B C f g a k = tt
-top_some (Err e) A B C f g a k = tt
+top_some _ A B C f g a k = tt
 
 pub none_only : {E : Type 0} (r : Result (Option Bool) E) (C : Type 0) → IfOk r (λ d. (d ≡ Some true → ⊥) → C) → IfOk r (λ d. d ≡ None → C)
 none_only (Ok (Some b)) C k = λ none. cc
@@ -84,8 +79,7 @@ none_only (Err e) C k = tt
 module _ {D : Type 0} {g : Ghosts D} where
   pub leaf_fails : (can : Image → Type 0) (page : ℕ) (t : Txn) (old new : Pages D g) → ((disk_in new).is_honest → can (stored old) → (es : List Entry) × IsNode (over t (stored old) page) (record { level = 0; entries = es }) × Rises es)
       → (e : TreeError) → LeafErr page t old new e → BelowErr can old new e
-  leaf_fails can page t old new has = by_case (λ e. LeafErr page t old new e) (λ e. BelowErr can old new e)
-      (λ why. why) (λ why honest is. let h = has honest is in why honest h.0 h.1 h.2) (λ why. why) (λ why. why) (λ why. why) (λ _. tt)
+  leaf_fails can page t old new has = search rules
 
   -- a call after one that left the transaction alike
   pub remove_failed_more : (t u : Txn) (old mid new : Pages D g) → IsAlike t u → Passed old mid → IsQuiet mid new → (e : TreeError) → RemoveErr u mid new e → RemoveErr t old new e

@@ -1,11 +1,11 @@
 -- A remove at a leaf, and one step above it.
 use Rattle.std.specs.{Prelude.{Option, Some, None, remove, Result, Ok, Err, IfOk}, Option.option_map, FinMap.find}
-use Rattle.std.proofs.Common.{◌≡◌, ◌≢◌, inl, inr, ⊎_elim, ℕ, ◌-◌, ◌<◌, ◌≤◌, ◌^◌, List, length, refl, sym, ap, subst, ◌∙◌, arith}
+use Rattle.std.proofs.Common.{rules, ◌≡◌, ◌≢◌, inl, inr, ℕ, ◌-◌, ◌<◌, ◌≤◌, ◌^◌, List, length, refl, sym, ap, subst, ◌∙◌, arith}
 use Rattle.sector_device.specs.claim.Disk.{Image}
 use Rattle.page_store.specs.{claim.Chain.{IsIn, AreFree}, claim.Transactions.{txn_pages, over, free_over}, declared.txn.Txn.Txn}
 use Rattle.page_node.specs.{claim.Entries.Entry, Entries.child_in, claim.Node.{Node, IsNode}, claim.Places.{key_cmp, Rises}, Places.{IsFound, floor}}
 use Rattle.page_btree.specs.{claim.Keys.IsBetween, claim.Tree.{Tree, Forest, leaf, inner, IsTree, page_of, links, rows, owns}, claim.Map.IsSound, Getting.{CanGet, IsLevel}}
-use Rattle.page_btree.proofs.Descent.{named, node_of, owns_page, at_leaf, some_links}
+use Rattle.page_btree.proofs.Descent.{named, node_of, owns_page, some_links}
 use Rattle.btree_walks.specs.{Removing.{IsRemoved, AreRemoved, CanRemove, RemovesAt, Removes, RowRemoves, IsPutBack, IsDone, StaysAt, unlinked}, declared.removes.Removed.Removed}
 use Rattle.btree_walks.{specs.declared.removes.Removed.TheVariants.{Absent, Kept, Emptied}, proofs.Refusals.HasRows}
 use Rattle.btree_walks.proofs.Removals.{links_left, owner_of, inner_written, inner_given, leaf_written, leaf_given}
@@ -24,8 +24,7 @@ module _ (n : ℕ) (S : Image) (t0 t1 : Txn) (low : List ℕ) (high : Option (Li
   leaf_removes es Emptied is sound are done =
       let used = sound.used p refl in
       let there = sound.below p refl in
-      subst (λ (l : List ℕ). IsRemoved n (over t0 S) (over t1 S) 0 low high (free_over t0 S) l key (leaf p es) None) (sym (done.2.1 S n are used))
-      (leaf_given n (over t0 S) (over t1 S) 0 low high (free_over t0 S) key p es done.0 done.1 used are there.0 there.1 done.2.0 elsewhere)
+      search (done.2.1 S n are used, leaf_given n (over t0 S) (over t1 S) 0 low high (free_over t0 S) key p es done.0 done.1 used are there.0 there.1 done.2.0 elsewhere)
 
   row_at : (t : Tree) (d : ℕ) (did : Removed) → d ≡ 0 → IsTree (over t0 S) d low high t → page_of t ≡ p → IsSound n (free_over t0 S) t → AreFree n (free_over t0 S)
       → RowRemoves t0 t1 p key (rows t) did
@@ -35,8 +34,7 @@ module _ (n : ℕ) (S : Image) (t0 t1 : Txn) (low : List ℕ) (high : Option (Li
       let sound_p : IsSound n (free_over t0 S) (leaf p es) = subst (λ (x : ℕ). IsSound n (free_over t0 S) (leaf x es)) same sound in
       let at_0 : IsTree (over t0 S) 0 low high (leaf p es) = subst (λ (k : ℕ). IsTree (over t0 S) k low high (leaf p es)) none at_p in
       let done = leaf_removes es did at_0 sound_p are told in
-      subst (λ (x : ℕ). RemovesAt n (over t0 S) (over t1 S) d low high (free_over t0 S) (free_over t1 S) key (leaf x es) did) (sym same)
-      (subst (λ (k : ℕ). RemovesAt n (over t0 S) (over t1 S) k low high (free_over t0 S) (free_over t1 S) key (leaf p es) did) (sym none) done)
+      search rules
   row_at (inner q f) d did none is same sound are told = absurd (let some = is.0 in omega arith)
 
 -- what a row's remove is below its page
@@ -45,9 +43,7 @@ pub row_removes : (n : ℕ) (S : Image) (t0 t1 : Txn) (d : ℕ) (key : List ℕ)
 row_removes n S t0 t1 d key p did can none elsewhere told = row_at n S t0 t1 can.low can.high key p elsewhere can.tree d did none can.tree_is can.page_is can.sound can.free_are told
 
 pub leaf_there : (n : ℕ) (P : Image) (free : List ℕ) (d : ℕ) (key : List ℕ) (p : ℕ) (can : CanRemove n P free d key p) → d ≡ 0 → IsNode (P p) (record { level = 0; entries = rows can.tree }) × Rises (rows can.tree)
-leaf_there n P free d key p can none =
-    let there = at_leaf P d can.low can.high can.tree none can.tree_is in
-    (subst (λ (q : ℕ). IsNode (P q) (record { level = 0; entries = rows can.tree })) can.page_is there.0, there.1)
+leaf_there n P free d key p can none = search rules
 
 -- ---- above the leaves
 -- what is done to the child for a key is done to the tree
@@ -78,10 +74,7 @@ module _ (n : ℕ) (S : Image) (t0 : Txn) (d : ℕ) (low : List ℕ) (high : Opt
         (subst (λ es. IsNode (over t2 S p) (record { level = d; entries = es })) (sym same) (back.1 S)) elsewhere),
   )
   put_back_as t1 t2 Emptied (Some g) done same back elsewhere off are = absurd (let some = some_links g in let short = ap length (same ∙ back.0) in omega arith)
-  put_back_as t1 t2 Emptied None done same back elsewhere off are =
-      let there = sound.below p (inl refl) in
-      subst (λ (l : List ℕ). IsRemoved n (over t0 S) (over t2 S) d low high (free_over t0 S) l key (inner p f) None) (sym (back.1 S n are off))
-      (inner_given n (over t0 S) (over t1 S) (over t2 S) d low high (free_over t0 S) (free_over t1 S) key p f sound.apart (sound.used p (inl refl)) there.0 there.1 done elsewhere)
+  put_back_as t1 t2 Emptied None done same back elsewhere off are = search (rules, back.1 S n are off, inner_given)
 
   -- a child stays at its page: so does the node
   kept_as : (t1 : Txn) (g : Option Forest) → AreRemoved n (over t0 S) (over t1 S) (d - 1) low high (free_over t0 S) (free_over t1 S) key f g → links_left g ≡ links f
@@ -107,27 +100,15 @@ module _ (n : ℕ) (S : Image) (t0 : Txn) (d : ℕ) (low : List ℕ) (high : Opt
         high = owner.its_high;
         tree_is = owner.stands;
         page_is = sym same;
-        sound = record {
-          apart = owner.apart;
-          below = λ q own. sound.below q (inr (owner.owned q own));
-          used = λ q own. sound.used q (inr (owner.owned q own));
-        };
+        sound = search rules;
         free_are = are;
         between = owner.between;
       } in
-      let stays : (t1 : Txn) → IsRemoved n (over t0 S) (over t1 S) (d - 1) owner.its_low owner.its_high (free_over t0 S) (free_over t1 S) key c None → (over t1 S p ≡ over t0 S p) × (IsIn p (free_over t1 S) → ⊥) × AreFree n (free_over t1 S) = λ t1 done. (
-        done.less.frame p (λ own. sound.apart.0 (owner.owned p own)),
-        (λ there. ⊎_elim (λ was. sound.used p (inl refl) was) (λ own. sound.apart.0 (owner.owned p own)) (done.less.given p there)),
-        done.less.free_are,
-      ) in
+      let stays : (t1 : Txn) → IsRemoved n (over t0 S) (over t1 S) (d - 1) owner.its_low owner.its_high (free_over t0 S) (free_over t1 S) key c None → (over t1 S p ≡ over t0 S p) × (IsIn p (free_over t1 S) → ⊥) × AreFree n (free_over t1 S) =
+      λ t1 done. search rules in
       record {
         can = can;
-        level = record {
-          node = node.0;
-          node_is = subst (λ (q : ℕ). IsNode (over t0 S q) node.0) (sym same) node.1;
-          level_is = node.2;
-          below = omega arith;
-        };
+        level = search rules;
         node = record { level = d; entries = links f };
         node_is = is.1;
         some = some_links f;
@@ -141,9 +122,7 @@ module _ (n : ℕ) (S : Image) (t0 : Txn) (d : ℕ) (low : List ℕ) (high : Opt
 step_at : (n : ℕ) (S : Image) (t0 : Txn) (d : ℕ) (low : List ℕ) (high : Option (List ℕ)) (key : List ℕ) (p child : ℕ) (t : Tree) → 0 < d → n ≤ 2 ^ 32 → IsTree (over t0 S) d low high t → page_of t ≡ p → IsSound n (free_over t0 S) t → AreFree n (free_over t0 S) → IsBetween low high key
     → ((node : Node) → IsNode (over t0 S p) node → option_map child_in (floor key node.entries) ≡ Some child) → StepsDown n S t0 d low high key p child t
 step_at n S t0 d low high key p child (leaf q es) some few is same sound are between told = absurd (let none = is.0 in omega arith)
-step_at n S t0 d low high key p child (inner q f) some few is same sound are between told =
-    subst (λ (x : ℕ). StepsDown n S t0 d low high key p child (inner x f)) (sym same)
-    (step_down_at n S t0 d low high key p f (subst (λ (x : ℕ). IsTree (over t0 S) d low high (inner x f)) same is) (subst (λ (x : ℕ). IsSound n (free_over t0 S) (inner x f)) same sound) child few are between told)
+step_at n S t0 d low high key p child (inner q f) some few is same sound are between told = search (rules, step_down_at)
 
 pub step_down : (n : ℕ) (S : Image) (t0 : Txn) (d : ℕ) (key : List ℕ) (p child : ℕ) (can : CanRemove n (over t0 S) (free_over t0 S) d key p) → 0 < d → n ≤ 2 ^ 32
     → ((node : Node) → IsNode (over t0 S p) node → option_map child_in (floor key node.entries) ≡ Some child) → StepsDown n S t0 d can.low can.high key p child can.tree
@@ -156,28 +135,13 @@ row_done t0 t1 p key es i node same found Kept back = (i, found, subst (λ (n : 
 row_done t0 t1 p key es i node same found Emptied back = (i, found, subst (λ (n : Node). IsPutBack t0 t1 p n Emptied) same back)
 
 pub as_get : (n : ℕ) (P : Image) (free : List ℕ) (d : ℕ) (key : List ℕ) (p : ℕ) (page : List ℕ) → CanRemove n P free d key p → page ≡ P p → CanGet n P d key page
-as_get n P free d key p page can there = record {
-  tree = can.tree;
-  low = can.low;
-  high = can.high;
-  tree_is = can.tree_is;
-  page_is = there ∙ ap P (sym can.page_is);
-  below = λ q own. (can.sound.below q own).1;
-  between = can.between;
-}
+as_get n P free d key p page can there = search rules
 
 pub has_rows : (S : Image) (t : Txn) (d : ℕ) (key : List ℕ) (p : ℕ) (page : List ℕ) → CanRemove (txn_pages t) (over t S) (free_over t S) d key p → page ≡ over t S p → d ≡ 0 → HasRows t S p page
 has_rows S t d key p page can there none =
     let own : owns can.tree p = subst (owns can.tree) can.page_is (owns_page can.tree) in
     let l = leaf_there (txn_pages t) (over t S) (free_over t S) d key p can none in
-    record {
-      rows = rows can.tree;
-      node_is = subst (λ b. IsNode b (record { level = 0; entries = rows can.tree })) (sym there) l.0;
-      rises = l.1;
-      above = (can.sound.below p own).0;
-      are = can.free_are;
-      off = can.sound.used p own;
-    }
+    search rules
 
 pub both_ok : {T E : Type 0} (r : Result T E) (A B : T → Type 0) → IfOk r A → IfOk r B → IfOk r (λ x. A x × B x)
 both_ok (Ok x) A B a b = (a, b)

@@ -1,5 +1,5 @@
 -- Lemmas on the definitions of Taken.
-use Rattle.std.{specs.Prelude.None, proofs.Common.{◌≡◌, ℕ, List, [], ◌∷◌, ◌++◌, true, false, refl, sym, ap, ◌∙◌, append_assoc, ◌≤◌, cond, length, length-append, arith}}
+use Rattle.std.{specs.Prelude.None, proofs.Common.{rules, ◌≡◌, ℕ, List, [], ◌∷◌, ◌++◌, true, false, refl, ap, ◌∙◌, append_assoc, ◌≤◌, cond, length, length-append, arith}}
 use Rattle.std.proofs.lemmas.List.{append-nil}
 use Rattle.page_node.specs.claim.Entries.{Entry}
 use Rattle.btree_walks.specs.{Prefixes.{under, is_under}, Scanning.{Rest, IsNextRow, fault_in}, declared.rows.Row.Row, declared.scans.Scan.Scan, Taken.HasTaken}
@@ -9,11 +9,7 @@ taken_none prefix scan all rest = record { rest = under prefix all; rest_are = r
 
 -- one more
 pub taken_more : (prefix : List ℕ) (taken : List Entry) (old new : Scan) (row : Row) (all : List Entry) (h : HasTaken prefix taken old all) → IsNextRow true new row all h.rest → HasTaken prefix (taken ++ (row.key, row.value) ∷ []) new all
-taken_more prefix taken old new row all h next = record {
-  rest = next.0;
-  rest_are = next.2;
-  whole = h.whole ∙ ap (λ (l : List Entry). taken ++ l) next.1 ∙ sym (append_assoc taken ((row.key, row.value) ∷ []) next.0);
-}
+taken_more prefix taken old new row all h next = search (rules, append_assoc)
 
 -- no more: they are all
 pub taken_all : (prefix : List ℕ) (taken : List Entry) (old new : Scan) (row : Row) (all : List Entry) (h : HasTaken prefix taken old all) → IsNextRow false new row all h.rest → fault_in new ≡ None → under prefix all ≡ taken
@@ -27,8 +23,4 @@ under_few prefix (e ∷ es) =
     elim (is_under prefix e) as (λ b. length (cond b (e ∷ under prefix es) (under prefix es)) ≤ length (e ∷ es)) [ true ↦ omega arith | false ↦ omega arith ]
 
 pub taken_few : (prefix : List ℕ) (taken : List Entry) (scan : Scan) (all : List Entry) → HasTaken prefix taken scan all → length taken ≤ length all
-taken_few prefix taken scan all h =
-    let few = under_few prefix all in
-    let both : length (under prefix all) ≡ length (taken ++ h.rest) = ap (λ (l : List Entry). length l) h.whole in
-    let sum = length-append taken h.rest in
-    omega arith
+taken_few prefix taken scan all h = search (arith, under_few prefix all, length-append taken h.rest)

@@ -1,13 +1,12 @@
 -- A tree whose children were walked.
 use Rattle.std.specs.Prelude.{Option, Some}
-use Rattle.std.proofs.Common.{◌≡◌, ◌⊎◌, ◌<◌, ◌≤◌, ◌+◌, ◌-◌, ℕ, suc, List, [], ◌∷◌, length, drop, get_or, refl, sym, ap, subst, ◌∙◌, arith, add-one, length-drop}
+use Rattle.std.proofs.Common.{rules, ◌≡◌, ◌<◌, ◌≤◌, ◌+◌, ◌-◌, ℕ, suc, List, [], ◌∷◌, length, drop, get_or, refl, sym, ap, subst, ◌∙◌, arith, add-one, length-drop}
 use Rattle.std.proofs.lemmas.List.{drop_more}
 use Rattle.sector_device.specs.claim.Disk.{Image}
 use Rattle.page_node.specs.{claim.Entries.{Entry, child_bytes}, Entries.{key_at, value_at}, claim.Node.{Node, IsNode}}
-use Rattle.page_btree.specs.{claim.Keys.Parts, claim.Tree.{Forest, leaf, inner, one, more, first_key, links, owns, forest_owns, size, forest_size, IsTree, AreTrees}}
-use Rattle.page_btree.proofs.MapLaws.{key_of}
+use Rattle.page_btree.{specs.claim.Keys.Parts, specs.claim.Tree.{Forest, leaf, inner, one, more, first_key, links, owns, forest_owns, size, forest_size}, proofs.MapLaws.key_of}
 use Rattle.btree_walks.specs.{Order.{lower_of, upper_of, next_key, AreRows, AreParts}, Owners.{AreNamed, IsWalked, AreWalked, AreWalkedFrom}, declared.marks.Marks.Marks}
-use Rattle.btree_walks.proofs.{Named.{named_more, named_as}, Lists.pos as above}
+use Rattle.btree_walks.proofs.{Named.named_more, Lists.pos as above}
 
 -- ---- children, from a place on
 pub drop_next : (es : List Entry) (k : ℕ) → k < length es → drop k es ≡ get_or es k ([], []) ∷ drop (suc k) es
@@ -28,14 +27,9 @@ walked_one P d low high e p old new w child = record {
 
 walked_more : (P : Image) (d : ℕ) (low : List ℕ) (high : Option (List ℕ)) (e f : Entry) (es : List Entry) (p : ℕ) (old mid new : Marks) → IsWalked P d low (Some f.0) p old mid → AreWalked P d f.0 high (f ∷ es) mid new → child_bytes p ≡ e.1 → Parts low high f.0 → AreWalked P d low high (e ∷ f ∷ es) old new
 walked_more P d low high e f es p old mid new w rest child parts =
-    let first : f.0 ≡ first_key rest.forest = sym (first_of_links rest.forest f es rest.links_are) in
     record {
       forest = more e.0 w.tree rest.forest;
-      stand = (
-        subst (λ (k : List ℕ). IsTree P d low (Some k) w.tree) first w.stands,
-        subst (λ (k : List ℕ). Parts low high k) first parts,
-        subst (λ (k : List ℕ). AreTrees P d k high rest.forest) first rest.stand,
-      );
+      stand = search rules;
       links_are = ap (λ (v : List ℕ). (e.0, v) ∷ links rest.forest) (ap child_bytes w.page_is ∙ child) ∙ ap (λ (l : List Entry). e ∷ l) rest.links_are;
       apart = (w.apart, λ q own there. rest.named.fresh q there (w.named.here q own), rest.apart);
       named = named_more (owns w.tree) (forest_owns rest.forest) (size w.tree) (forest_size rest.forest) old mid new w.named rest.named;
@@ -47,10 +41,8 @@ walked_before : (P : Image) (d : ℕ) (low : List ℕ) (high : Option (List ℕ)
     → (rest : List Entry) → drop (suc k) es ≡ rest → AreWalked P d (lower_of low es k) high (get_or es k ([], []) ∷ rest) old new
 walked_before P d low high es k p old mid new lt w was child parts [] none =
     let long : length es ≤ suc k = let l = length-drop (suc k) es in let z : length (drop (suc k) es) ≡ 0 = ap (λ (x : List Entry). length x) none in omega arith in
-    let same : new ≡ mid = was.none (omega arith) in
     walked_one P d (lower_of low es k) high (get_or es k ([], [])) p old new
-    (subst (λ (m : Marks). IsWalked P d (lower_of low es k) high p old m) (sym same)
-    (subst (λ (l : List Entry). IsWalked P d (lower_of low es k) (next_key high l) p old mid) none w))
+    (search rules)
     child
 walked_before P d low high es k p old mid new lt w was child parts (f ∷ rest) some =
     let within : suc k < length es = let l = length-drop (suc k) es in let z : length (drop (suc k) es) ≡ suc (length rest) = ap (λ (x : List Entry). length x) some in omega arith in
@@ -68,9 +60,6 @@ walked_next P d low high es k p old mid new lt w was child parts = record {
   some = λ _. subst (λ (l : List Entry). AreWalked P d (lower_of low es k) high l old new) (sym (drop_next es k lt))
       (walked_before P d low high es k p old mid new lt w (subst (λ (n : ℕ). AreWalkedFrom P d low high es n mid new) (add-one k) was) child parts.parts (drop (suc k) es) refl);
 }
-
-pub walked_none : (P : Image) (d : ℕ) (low : List ℕ) (high : Option (List ℕ)) (es : List Entry) (k : ℕ) (old : Marks) → k ≡ length es → AreWalkedFrom P d low high es k old old
-walked_none P d low high es k old all = record { none = λ _. refl; some = λ lt. absurd (omega arith) }
 
 -- ---- a whole tree
 
@@ -94,6 +83,5 @@ walked_inner P d low high p node old mid new off is level some named was =
       stands = (above d off, subst (IsNode (P p)) same is, w.stand);
       page_is = refl;
       apart = (λ there. w.named.fresh p there (named.here p refl), w.apart);
-      named = named_as (λ q. (q ≡ p) ⊎ forest_owns w.forest q) (λ q. (q ≡ p) ⊎ forest_owns w.forest q) (1 + forest_size w.forest) (forest_size w.forest + 1) old new
-          (λ q x. x) (λ q x. x) (omega arith) (named_more (λ q. q ≡ p) (forest_owns w.forest) 1 (forest_size w.forest) old mid new named w.named);
+      named = search rules;
     }

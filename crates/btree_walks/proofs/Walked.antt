@@ -1,14 +1,13 @@
 -- Loops over a scan: rows under a prefix were taken in turn, and something is known of them.
 use Rattle.std.specs.{Prelude.{Some, None, IfSome}, FinMap.entries}
-use Rattle.std.proofs.Common.{◌≡◌, ◌≤◌, ◌<◌, ◌+◌, ℕ, List, [], ◌∷◌, ◌++◌, Bool, true, false, length, length-append, refl, sym, ap, subst, ◌∙◌, arith}
+use Rattle.std.proofs.Common.{rules, ◌≡◌, ◌≤◌, ◌<◌, ◌+◌, ℕ, List, [], ◌∷◌, ◌++◌, Bool, true, false, length, length-append, sym, ap, subst, ◌∙◌, arith}
 use Rattle.sector_device.specs.{claim.Disk.Image, declared.SectorDevice.Ghosts}
 use Rattle.page_store.specs.{claim.Transactions.{stored, disk_in, IsQuiet, Passed}, declared.pages.Pages.Pages, declared.txn.Txn.Txn}
-use Rattle.page_store.proofs.Stops.{passed_more, passed_none, quiet_more}
+use Rattle.page_store.proofs.Stops.{passed_more, quiet_more}
 use Rattle.page_node.specs.claim.Entries.{Entry}
 use Rattle.page_btree.specs.{claim.Errors.GetErr, claim.Keys.KeyMap, claim.Map.InTxn, declared.error.TreeError.TreeError}
 use Rattle.btree_walks.specs.{Prefixes.under, Scanning.{CanScan, IsNextRow, Rest, ScanErr, TakesNextRow, fault_in, has_ended}, Taken.HasTaken, declared.rows.Row.Row}
-use Rattle.btree_walks.{specs.declared.scans.Scan.Scan, proofs.Refused.scan_refused, proofs.RowsFound.{IsNextUnder, next_under}}
-use Rattle.btree_walks.proofs.Taken.{taken_all, taken_few, taken_more, taken_none}
+use Rattle.btree_walks.{specs.declared.scans.Scan.Scan, proofs.Refused.scan_refused, proofs.RowsFound.{IsNextUnder, next_under}, proofs.Taken.{taken_few, taken_more}}
 
 -- the rows taken before the next one, and what is known of them
 pub record HasNext (prefix : List ℕ) (Known : KeyMap → List Entry → Type 0) (m : KeyMap) (row : Row) : Type 0 where
@@ -32,11 +31,7 @@ module _ {D : Type 0} {g : Ghosts D} where
     pub taken : (disk_in now).is_honest → (m : KeyMap) → InTxn t (stored old) m → (rows : List Entry) × (length rows ≡ count) × HasTaken prefix rows scan (entries m) × Known m rows
 
   pub walk_begins : {prefix : List ℕ} {Known : KeyMap → List Entry → Type 0} {t : Txn} (pages : Pages D g) (scan : Scan) → fault_in scan ≡ None → ((m : KeyMap) → Rest scan (entries m) (under prefix (entries m))) → ((m : KeyMap) → Known m []) → HasWalked prefix Known t pages pages scan 0
-  walk_begins {prefix} pages scan fault rest known = record {
-    passed = passed_none pages;
-    fault = fault;
-    taken = λ honest m holds. ([], refl, taken_none prefix scan (entries m) (rest m), known m);
-  }
+  walk_begins {prefix} pages scan fault rest known = search rules
 
   module _ {prefix : List ℕ} {Known : KeyMap → List Entry → Type 0} {t : Txn} {old now : Pages D g} {was : Scan} {count : ℕ} (walked : HasWalked prefix Known t old now was count) where
     -- it took fewer rows than a map can have
@@ -66,9 +61,7 @@ module _ {D : Type 0} {g : Ghosts D} where
 
         -- none comes
         pub walk_all : found ≡ false → fault_in is ≡ None → (disk_in new).is_honest → (m : KeyMap) → InTxn t (stored old) m → HasAll prefix Known m
-        walk_all told none honest m holds =
-            let rows = taken_so false told honest m holds in
-            record { rows = rows.0; known = rows.3; whole = taken_all prefix rows.0 was is row (entries m) rows.2 rows.4 none }
+        walk_all told none honest m holds = search rules
 
         next_of : (m : KeyMap) (rows : List Entry) (h : HasTaken prefix rows was (entries m)) → Known m rows → IsNextRow true is row (entries m) h.rest → HasNext prefix Known m row
         next_of m rows h known next =

@@ -7,7 +7,7 @@ use Rattle.page_node.specs.{claim.Entries.child_bytes, Entries.value_at, claim.N
 use Rattle.page_btree.specs.claim.Tree.{Tree, IsTree, page_of, owns}
 use Rattle.btree_walks.specs.{Order.{lower_of, upper_of, IsOrdered}, Owners.{IsBlank, named_free, after}, declared.error.PageFaultKind.PageFaultKind}
 use Rattle.btree_walks.specs.declared.error.PageFaultKind.TheVariants.{BeyondTheEnd, NamedTwice, NotFree, ListGoesOn, NotANode, WrongLevel, KeysOutOfOrder, Lost}
-use Rattle.btree_walks.specs.{declared.error.PagesError.PagesError, declared.error.PagesError.TheVariants.Unsound}
+use Rattle.btree_walks.specs.{declared.error.PagesError.PagesError, declared.error.PagesError.TheVariants.{Unsound, DeviceFault, Halted, Memory}}
 
 -- ---- where the tree has a page
 -- the way leads from a page of a level and with bounds of its keys to another one, by the children that nodes name at places
@@ -50,7 +50,9 @@ IsWrongPage n P page Lost = (page < n) × (page ≡ 0 → ⊥) × (IsIn page (na
 -- the same of what isn't found sound, if a page is told
 abbrev pub TellsOf : ℕ → Image → PagesError → Type 0
 TellsOf n P (Unsound fault) = IsWrongPage n P fault.page fault.kind
-TellsOf n P _ = Unit {0}
+TellsOf n P DeviceFault = Unit {0}
+TellsOf n P Halted = Unit {0}
+TellsOf n P Memory = Unit {0}
 
 -- why a page can't be named
 abbrev pub IsUnnamed : ℕ → ℕ → PageFaultKind → Type 0

@@ -101,12 +101,14 @@ Removes {n = n} {P = P} {free = free} {d = d} {key = key} Q left can did = Remov
 -- where the key isn't there the transaction stays as it is
 abbrev pub StaysAt : Txn → Txn → Removed → Type 0
 StaysAt old new Absent = new ≡ old
-StaysAt old new _ = Unit {0}
+StaysAt old new Kept = Unit {0}
+StaysAt old new Emptied = Unit {0}
 
 -- something was removed
 abbrev pub IsDone : Removed → Type 0
 IsDone Absent = ⊥
-IsDone _ = Unit {0}
+IsDone Kept = Unit {0}
+IsDone Emptied = Unit {0}
 
 -- a node that has an entry less was written, or was empty and its page given back
 abbrev pub IsPutBack : Txn → Txn → ℕ → Node → Removed → Type 0

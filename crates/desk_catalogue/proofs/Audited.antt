@@ -1,17 +1,16 @@
 -- What an audit judges and what it answers, by what was found.
-use Rattle.std.{specs.Prelude.IfSome, proofs.Common.{◌≡◌, ℕ, List, length, Option, Some, None, Result, Ok, Err, refl, ap, sym, subst, ◌∙◌}}
+use Rattle.std.{specs.Prelude.IfSome, proofs.Common.{rules, ◌≡◌, ℕ, List, length, Option, Some, None, Result, Ok, Err, refl, ap, sym, subst, ◌∙◌}}
 use Rattle.std.specs.FinMap as map_of
 use Rattle.desk_model.specs.{declared.command.Query.TheVariants.Audit, declared.companions.Companions.Companions, declared.kind.Kind.Kind, declared.reply.Refusal.Refusal}
 use Rattle.desk_model.specs.{declared.reply.Reply.TheVariants.{Audited, Refused}, claim.Desk.{Plan, Desk, name_cmp}, claim.Geography.GeographyModel, claim.Outcome.IsAnswer}
-use Rattle.desk_model.specs.{claim.Step.{Answer, answer, answer_at, audit_of}, claim.Subject.{AuditSubject, revision_at, companions_of, subject_with, subject_at, subject_of}}
+use Rattle.desk_model.specs.{claim.Step.{Answer, answer, answer_at, audit_of}, claim.Subject.{AuditSubject, revision_at, companions_of, subject_with, subject_of}}
 use Rattle.audit_report.specs.Audits.{IsAuditable}
-use Rattle.desk_catalogue.{specs.Made.IsSubject, specs.Kept.{AreWhole, IsWhole, revision_in}, specs.claim.Audits.IsReportText, proofs.Whole.revision_whole}
+use Rattle.desk_catalogue.{specs.Made.IsSubject, specs.Kept.{AreWhole, IsWhole}, specs.claim.Audits.IsReportText, proofs.Whole.revision_whole}
 
 module _ (d : Desk) (o : Option Plan) (p : Plan) (k : ℕ) (districts : List ℕ) (asked : Companions (List ℕ × ℕ)) (kind : Kind) (plan : o ≡ Some p) (revision : Some districts ≡ revision_at p k)
     (is_kind : kind ≡ p.kind) where
   with_found : subject_of d o k asked ≡ subject_with p districts (companions_of d kind asked)
-  with_found = ap (λ (x : Option Plan). subject_of d x k asked) plan ∙ ap (λ (x : Option (List ℕ)). subject_at d p x asked) (sym revision)
-      ∙ ap (λ (x : Kind). subject_with p districts (companions_of d x asked)) (sym is_kind)
+  with_found = search rules
 
   pub subject_is : (n : ℕ) (beside : Companions (List ℕ)) → n ≡ p.n → companions_of d kind asked ≡ Ok beside
       → subject_of d o k asked ≡ Ok (record { kind = kind; n = n; districts = districts; beside = beside })
@@ -23,8 +22,7 @@ module _ (d : Desk) (o : Option Plan) (p : Plan) (k : ℕ) (districts : List ℕ
 -- the districts of a revision that is there
 pub whole_found : (geography : Option GeographyModel) (plans : map_of.FinMap name_cmp Plan) (name : List ℕ) (p : Plan) (k : ℕ) (districts : List ℕ) → AreWhole geography plans
     → map_of.get plans name ≡ Some p → Some districts ≡ revision_at p k → IsWhole geography (Some districts)
-whole_found geography plans name p k districts were found there =
-    subst (IsWhole geography) (ap (λ (o : Option Plan). revision_in o k) found ∙ sym there) (revision_whole geography plans were name k)
+whole_found geography plans name p k districts were found there = search (rules, revision_whole geography plans were name k)
 
 -- each companion that is whole
 whole_long : (geography : Option GeographyModel) (g : GeographyModel) (o : Option (List ℕ)) → geography ≡ Some g → IsWhole geography o → IfSome o (λ d. length d ≡ length g.blocks)
@@ -33,11 +31,7 @@ whole_long geography g (Some d) is whole = whole g d is refl
 
 module _ (d : Desk) (g : GeographyModel) (name : List ℕ) (k : ℕ) (asked : Companions (List ℕ × ℕ)) (there : d.geography ≡ Some g) where
   pub may_be_audited : (s : AuditSubject) → IsSubject d name k asked s → IsAuditable g s.kind s.n s.districts s.beside
-  may_be_audited s is = record {
-    plan_is = record { count = record { some = is.few.0; few = is.few.1 }; beside = is.whole g s.districts there refl };
-    companions_beside = record { senate = whole_long d.geography g s.beside.senate there is.beside.senate; congress = whole_long d.geography g s.beside.congress there is.beside.congress };
-    companions_taken = is.beside.taken;
-  }
+  may_be_audited s is = search (rules, whole_long)
 
   answer_is : (subject : Result AuditSubject Refusal) → subject_of d (map_of.get d.plans name) k asked ≡ subject → answer d (Audit name k asked.senate asked.congress) ≡ audit_of g subject
   answer_is subject is = ap (λ (x : Option GeographyModel). answer_at x d (Audit name k asked.senate asked.congress)) there ∙ ap (audit_of g) is

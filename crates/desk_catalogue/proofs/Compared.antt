@@ -1,11 +1,8 @@
 -- Two lists of districts compared.
-use Rattle.std.{specs.Prelude.nat_eq, specs.Cmp.Lexicographic.{pointwise, same_text}, proofs.Common.{◌≡◌, ℕ, Bool, true, List, length, take, drop, sym, ◌∙◌, arith}}
+use Rattle.std.{specs.Prelude.nat_eq, specs.Cmp.Lexicographic.pointwise, proofs.Common.{rules, ◌≡◌, ℕ, Bool, true, List, length, take, drop}}
 use Rattle.std.proofs.lemmas.List.{take_all}
 
 -- lists that are as long as each other, and the same at all places
 pub same_lists : (xs ys : List ℕ) (n p q : ℕ) (b : Bool) → n ≡ length xs → p ≡ length xs → q ≡ length ys → p ≡ q
     → b ≡ pointwise nat_eq (take n (drop 0 xs)) (take n (drop 0 ys)) → b ≡ true → xs ≡ ys
-same_lists xs ys n p q b long one other alike is told =
-    sym (take_all n xs (omega (arith, long)))
-    ∙ same_text (take n (drop 0 xs)) (take n (drop 0 ys)) (sym told ∙ is)
-    ∙ take_all n ys (omega (arith, long, one, other, alike))
+same_lists xs ys n p q b long one other alike is told = search (rules, take_all)

@@ -1,12 +1,12 @@
 -- The rows of a revision, county by county.
-use Rattle.std.specs.{Prelude.{filter, if◌then◌else◌, cond, IfSome}, List.zip}
-use Rattle.std.proofs.Common.{◌≡◌, ◌<◌, ◌≤◌, ◌+◌, ◌-◌, ◌*◌, ℕ, zero, suc, Bool, List, [], ◌∷◌, length, map, take, drop, get_or, Option, Some, None, sum_by, refl, sym, ap, subst, min, ◌∙◌, inl, inr, arith}
+use Rattle.std.specs.{Prelude.{filter, if◌then◌else◌, IfSome}, List.zip}
+use Rattle.std.proofs.Common.{rules, ◌≡◌, ◌<◌, ◌≤◌, ◌+◌, ◌-◌, ◌*◌, ℕ, zero, suc, Bool, List, [], ◌∷◌, length, map, take, drop, get_or, Option, Some, None, sum_by, refl, sym, ap, ◌∙◌, arith}
 use Rattle.std.proofs.Math.Nat.{min-le_right}
 use Rattle.std.proofs.lemmas.Bool.{cases_Bool}
 use Rattle.std.proofs.lemmas.List.{drop-drop, drop_all, drop_more, length-take, length-drop, length-map}
 use Rattle.std.proofs.lemmas.List.Sums.{sum_by-cons}
-use Rattle.desk_model.specs.{claim.Ranges.{parts, sizes}, Ranges.{laid, ranges_of, ListsAreCut}, claim.Geography.{GeographyModel, ids}, declared.block.BlockRow.BlockRow}
-use Rattle.desk_model.specs.{claim.Room.{rows_for, differs, changed, revision_rows}, declared.ranges.CountyRange.CountyRange}
+use Rattle.desk_model.specs.{claim.Ranges.{parts, sizes}, Ranges.{laid, ranges_of, ListsAreCut}, claim.Geography.GeographyModel, claim.Room.{rows_for, differs, revision_rows}}
+use Rattle.desk_model.specs.declared.ranges.CountyRange.{CountyRange}
 use Rattle.desk_catalogue.{specs.Cutting.{part, AreWithin, changes_in, range_rows}, proofs.Cutting.changed_rows}
 
 abbrev rows_in : List (List ℕ) → ℕ
@@ -47,14 +47,7 @@ none_more : (k : ℕ) → 0 + k ≡ k
 none_more k = omega arith
 
 changed_cons : (a b : List ℕ) (l m : List (List ℕ)) → rows_in (changed_parts (a ∷ l) (b ∷ m)) ≡ (if differs (a, b) then rows_for 512 (length b) + 2 else 0) + rows_in (changed_parts l m)
-changed_cons a b l m = elim (cases_Bool (differs (a, b))) [
-  | inl same ↦ ap (λ t. rows_in (map (λ (e : List ℕ × List ℕ). e.1) (cond t ((a, b) ∷ filter differs (zip l m)) (filter differs (zip l m))))) same
-      ∙ more_rows b (changed_parts l m)
-      ∙ sym (ap (λ t. cond t (rows_for 512 (length b) + 2) 0 + rows_in (changed_parts l m)) same)
-  | inr apart ↦ ap (λ t. rows_in (map (λ (e : List ℕ × List ℕ). e.1) (cond t ((a, b) ∷ filter differs (zip l m)) (filter differs (zip l m))))) apart
-      ∙ sym (none_more (rows_in (changed_parts l m)))
-      ∙ sym (ap (λ t. cond t (rows_for 512 (length b) + 2) 0 + rows_in (changed_parts l m)) apart)
-]
+changed_cons a b l m = search (rules, cases_Bool, more_rows, none_more)
 
 some_rows : (ns : List ℕ) (first : ℕ) (last new : List ℕ) → Fit ns first last → Fit ns first new → changed_rows (changes_in (Some last) new (laid first ns)) (laid first ns) ≡ rows_in (changed_parts (parts ns (drop first last)) (parts ns (drop first new)))
 some_rows [] first last new old fit = refl
@@ -73,11 +66,8 @@ in_turn g ps = omega arith
 -- the rows of a revision of a geography
 pub rows_told : ListsAreCut → (g : GeographyModel) (last : Option (List ℕ)) (new : List ℕ) → length new ≡ length g.blocks → IfSome last (λ l. length l ≡ length g.blocks)
     → 2 + rows_for 128 (length (ranges_of g)) + changed_rows (changes_in last new (ranges_of g)) (ranges_of g) ≡ revision_rows g last new
-rows_told are_cut g None new long old =
-    (λ i. 2 + rows_for 128 (laid_long 0 (sizes g) i) + all_rows (sizes g) 0 new (are_cut g new long).lengths i) ∙ in_turn g (changed g None new)
-rows_told are_cut g (Some last) new long old =
-    (λ i. 2 + rows_for 128 (laid_long 0 (sizes g) i) + some_rows (sizes g) 0 last new (are_cut g last old).lengths (are_cut g new long).lengths i)
-    ∙ in_turn g (changed g (Some last) new)
+rows_told are_cut g None new long old = search (rules, laid_long, all_rows, in_turn)
+rows_told are_cut g (Some last) new long old = search (rules, laid_long, some_rows, in_turn)
 
 -- the rows from a county on are its own and those of the counties after it
 pub rows_at : (changes : List Bool) (ranges : List CountyRange) (place : ℕ) (b : Bool) (d : CountyRange) → place < length changes → place < length ranges
@@ -94,9 +84,7 @@ nothing_left changes ranges place past = ap (λ (cs : List CountyRange). changed
 
 -- ---- within
 next_within : (n : ℕ) (ns : List ℕ) (first : ℕ) (xs : List ℕ) → Fit (n ∷ ns) first xs → first ≤ length xs → first + n ≤ length xs
-next_within n ns first xs fit from =
-    let long : min n (length xs - first) ≡ n = ap (λ k. min n k) (sym (length-drop first xs)) ∙ sym (length-take n (drop first xs)) ∙ head_fits n ns first xs fit in
-    omega (arith, min-le_right n (length xs - first))
+next_within n ns first xs fit from = search (rules, length-drop, length-take, head_fits, min-le_right)
 
 within_laid : (ns : List ℕ) (first : ℕ) (xs : List ℕ) → Fit ns first xs → first ≤ length xs → AreWithin (length xs) (laid first ns)
 within_laid [] first xs fit from k d less = absurd (omega arith)
@@ -104,6 +92,4 @@ within_laid (n ∷ ns) first xs fit from zero d less = next_within n ns first xs
 within_laid (n ∷ ns) first xs fit from (suc k) d less = within_laid ns (first + n) xs (rest_fits n ns first xs fit) (next_within n ns first xs fit from) k d (omega arith)
 
 pub ranges_within : ListsAreCut → (g : GeographyModel) → AreWithin (length g.blocks) (ranges_of g)
-ranges_within are_cut g =
-    let same : length (ids g) ≡ length g.blocks = length-map g.blocks (λ (b : BlockRow). b.id) in
-    subst (λ n. AreWithin n (ranges_of g)) same (within_laid (sizes g) 0 (ids g) (are_cut g (ids g) same).lengths (omega arith))
+ranges_within are_cut g = search (rules, length-map, within_laid)

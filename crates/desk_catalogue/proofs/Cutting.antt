@@ -1,6 +1,6 @@
 -- Lemmas on the definitions of Cutting.
-use Rattle.std.specs.Prelude.{◌≡◌, ◌+◌, ◌<◌, ◌≤◌, ◌++◌, ℕ, Bool, List, [], ◌∷◌, Option, Some, None, length, get_or, drop, IfSome}
-use Rattle.std.proofs.{Common.{suc, ap, subst, sym, ◌∙◌, arith, append_assoc}, Math.Seq.drop-cons}
+use Rattle.std.{specs.Prelude.{◌≡◌, ◌+◌, ◌<◌, ◌≤◌, ◌++◌, ℕ, Bool, List, [], ◌∷◌, Option, Some, None, length, get_or, drop, IfSome}, proofs.Common.{rules, subst, sym, append_assoc}}
+use Rattle.std.proofs.Math.Seq.{drop-cons}
 use Rattle.desk_model.specs.declared.ranges.CountyRange.{CountyRange}
 use Rattle.desk_catalogue.specs.Cutting.{AreWithin, range_rows, changes_in, is_changed}
 
@@ -23,8 +23,4 @@ within_all (Some l) n ranges long within = subst (λ m. AreWithin m ranges) (sym
 -- one county more is told
 pub changes_on : (last : Option (List ℕ)) (new : List ℕ) (ranges : List CountyRange) (k : ℕ) (d : CountyRange) (changes more all : List Bool) (told : Bool) → k < length ranges
     → changes ++ changes_in last new (drop k ranges) ≡ all → told ≡ is_changed last new (get_or ranges k d) → more ≡ changes ++ told ∷ [] → more ++ changes_in last new (drop (k + 1) ranges) ≡ all
-changes_on last new ranges k d changes more all told less was is are =
-    let next : k + 1 ≡ suc k = omega arith in
-    let rest = changes_in last new (drop (suc k) ranges) in
-    ap (λ n. more ++ changes_in last new (drop n ranges)) next ∙ ap (λ (m : List Bool). m ++ rest) are ∙ append_assoc changes (told ∷ []) rest
-    ∙ ap (λ (b : Bool). changes ++ b ∷ rest) is ∙ ap (λ (cs : List CountyRange). changes ++ changes_in last new cs) (sym (drop-cons ranges k d less)) ∙ was
+changes_on last new ranges k d changes more all told less was is are = search (rules, append_assoc, drop-cons)

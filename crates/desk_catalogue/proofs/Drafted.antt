@@ -1,6 +1,6 @@
 -- Which counties a revision changes that a plan got.
 use Rattle.std.specs.{Prelude.{◌==◌, IfErr, MatchResult}, FinMap.get-insert, List.slice_get, Ordering.is_eq, Cmp.Lexicographic.nat_list_cmp_total}
-use Rattle.std.proofs.Common.{◌≡◌, ◌+◌, ◌-◌, ℕ, suc, Bool, false, cond, List, [], ◌∷◌, ◌++◌, length, Option, Some, None, Result, Ok, Err, IfOk, IfSome, refl, sym, ap, ◌∙◌, inl, inr, arith}
+use Rattle.std.proofs.Common.{rules, ◌≡◌, ◌+◌, ◌-◌, ℕ, suc, Bool, false, cond, List, [], ◌∷◌, ◌++◌, length, Option, Some, None, Result, Ok, Err, IfOk, IfSome, refl, sym, ap, ◌∙◌, arith}
 use Rattle.std.specs.FinMap as map_of
 use Rattle.std.proofs.lemmas.Cmp.{tied_itself}
 use Rattle.std.proofs.lemmas.List.{get_or_past}
@@ -13,10 +13,7 @@ use Rattle.desk_catalogue.specs.{Drafts.{IsDrafted, changes_between, changes_of}
 
 -- ---- lists as long as one another are the same after their end
 pub stays_within : (last new : List ℕ) (end : ℕ) → length last ≡ end → length new ≡ end → StaysOutside 0 end last new
-stays_within last new end old now k outside = elim outside [
-  | inl before ↦ absurd (omega arith)
-  | inr later ↦ get_or_past new k 0 (omega arith) ∙ sym (get_or_past last k 0 (omega arith))
-]
+stays_within last new end old now k outside = search (rules, get_or_past)
 
 pub all_stay : (last : Option (List ℕ)) (new : List ℕ) (end n : ℕ) → IfSome last (λ l. length l ≡ n) → length new ≡ n → end ≡ n → IfSome last (λ l. StaysOutside 0 end l new)
 all_stay None new end n old now is = tt
@@ -34,12 +31,7 @@ pub no_zero : (n : ℕ) → (suc n == 0) ≡ false
 no_zero n = grind (arith, nat_tests)
 
 at_next : (p : Plan) (districts : List ℕ) (k : ℕ) → k ≡ suc (length p.revisions) → revision_at (with_next p districts) k ≡ Some districts
-at_next p districts k is =
-    let back : suc (length p.revisions) - 1 ≡ length p.revisions = omega arith in
-    ap (λ n. revision_at (with_next p districts) n) is
-    ∙ ap (λ b. cond b None (slice_get (p.revisions ++ districts ∷ []) (suc (length p.revisions) - 1))) (no_zero (length p.revisions))
-    ∙ ap (λ n. slice_get (p.revisions ++ districts ∷ []) n) back
-    ∙ end_of p.revisions districts
+at_next p districts k is = search (arith, no_zero (length p.revisions), end_of p.revisions districts)
 
 pub put_there : (plans : map_of.FinMap name_cmp Plan) (name : List ℕ) (p : Plan) → map_of.get (map_of.insert plans name p) name ≡ Some p
 put_there plans name p = get-insert nat_list_cmp_total plans name p name ∙ ap (λ b. cond b (Some p) (map_of.get plans name)) (ap is_eq (tied_itself nat_list_cmp_total name))
@@ -47,12 +39,7 @@ put_there plans name p = get-insert nat_list_cmp_total plans name p name ∙ ap 
 pub changes_are : (d : Desk) (name : List ℕ) (after : ℕ) (row : Row) (districts : List ℕ) (e : Desk) (ranges : List CountyRange) (changes : List Bool) → IsRevisable d name after row
     → e ≡ record d { plans = map_of.insert d.plans row.0 (record row.1 { revisions = row.1.revisions ++ districts ∷ [] }) } → changes ≡ changes_in (last_revision row.1) districts ranges
     → changes ≡ changes_between (revision_in (map_of.get d.plans name) after) (revision_in (map_of.get e.plans name) (after + 1)) ranges
-changes_are d name after row districts e ranges changes revisable is are =
-    let last : revision_in (map_of.get d.plans name) after ≡ last_revision row.1 = ap (λ (o : Option Plan). revision_in o after) revisable.found ∙ ap (λ n. revision_at row.1 n) revisable.last in
-    let there : map_of.get e.plans name ≡ Some (with_next row.1 districts) = ap (λ (x : Desk). map_of.get x.plans name) is ∙ ap (λ (n : List ℕ). map_of.get (map_of.insert d.plans n (with_next row.1 districts)) name) revisable.named ∙ put_there d.plans name (with_next row.1 districts) in
-    let counted = revisable.last in
-    let next : revision_in (map_of.get e.plans name) (after + 1) ≡ Some districts = ap (λ (o : Option Plan). revision_in o (after + 1)) there ∙ at_next row.1 districts (after + 1) (omega arith) in
-    are ∙ λ i. changes_between (sym last i) (sym next i) ranges
+changes_are d name after row districts e ranges changes revisable is are = search (rules, put_there, at_next)
 
 pub drafted : (r : Result Draft Refusal) (d : Desk) (name : List ℕ) (after : ℕ) (row : Row) (districts : List ℕ) (ranges : List CountyRange) → IsRevisable d name after row
     → IfOk r (λ draft. draft.catalogue ≡ record d { plans = map_of.insert d.plans row.0 (record row.1 { revisions = row.1.revisions ++ districts ∷ [] }) })

@@ -1,6 +1,6 @@
 -- Blocks side by side: where two of one county differ, and where all agree.
 use Rattle.std.specs.{Prelude.{is_some, not}, List.Any}
-use Rattle.std.proofs.Common.{◌≡◌, ◌≢◌, ℕ, zero, suc, ◌+◌, ◌-◌, ◌<◌, ◌≤◌, Bool, true, false, List, length, get_or, Option, Some, None, IsSome, arith, refl, ap, sym, ◌∙◌, ◌⊎◌, inl, inr, ⊎_elim}
+use Rattle.std.proofs.Common.{rules, ◌≡◌, ◌≢◌, ℕ, zero, suc, ◌+◌, ◌-◌, ◌<◌, ◌≤◌, Bool, true, false, List, length, get_or, Option, Some, None, IsSome, arith, refl, ap, sym, ◌∙◌, ◌⊎◌, inl, inr, ⊎_elim}
 use Rattle.std.proofs.Math.Bool.{beq}
 use Rattle.std.proofs.lemmas.List.{get_or-map, get_or_past, length-map}
 use Rattle.std.proofs.lemmas.Grind.{get_or_default_zero}
@@ -33,17 +33,13 @@ part_span first part listed is k (inl less) = is.there k ∙ before first part k
 part_span first part listed is k (inr more) = is.there k ∙ there first part k (omega arith) ∙ get_or_past part (k - first) None (omega arith)
 
 pub span_starts : (blocks : List BlockRow) (listed : List (Option ℕ)) (span : ℕ × ℕ) (place : ℕ) → IsSpan span listed → (place ≤ span.0) ⊎ (place ≤ 1) → Agree blocks listed place
-span_starts blocks listed span place none (inl low) = λ k inside _.
-    ap is_some (none k (inl (omega (arith, inside, low)))) ∙ sym (ap is_some (none (k + 1) (inl (omega (arith, inside, low)))))
+span_starts blocks listed span place none (inl low) = λ k inside _. search rules
 span_starts blocks listed span place none (inr low) = λ k inside _. absurd (omega (arith, inside, low))
 
 pub span_ends : (blocks : List BlockRow) (listed : List (Option ℕ)) (span : ℕ × ℕ) (place : ℕ) → IsSpan span listed → Agree blocks listed place → (length blocks ≤ place) ⊎ (span.1 < place)
     → Agree blocks listed (length blocks)
 span_ends blocks listed span place none agree (inl past) = λ k inside. agree k (omega (arith, inside, past))
-span_ends blocks listed span place none agree (inr past) = λ k inside same. ⊎_elim
-    (λ (before : k + 1 < place). agree k before same)
-    (λ (after : place ≤ k + 1). ap is_some (none k (inr (omega (arith, after, past)))) ∙ sym (ap is_some (none (k + 1) (inr (omega (arith, after, past))))))
-    (cases_lt (k + 1) place)
+span_ends blocks listed span place none agree (inr past) = λ k inside same. search (rules, before, cases_lt)
 
 module _ (blocks : List BlockRow) (listed : List (Option ℕ)) (valid : AreBlocks blocks) where
   same_state : (i j : ℕ) → i < length blocks → j < length blocks → state_of (id_at blocks i) ≡ state_of (id_at blocks j)
@@ -88,9 +84,7 @@ module _ (g : GeographyModel) (values : Values) (valid : AreBlocks g.blocks) (la
   mark_at place within = ap is_some (get_or-map (value_at values) (ids g) place 0 None (rw length-map within))
 
   place_of : (P : ℕ → Type 0) → Any P (ids g) → (place : ℕ) × (place < length g.blocks) × P (id_at g.blocks place)
-  place_of P (place, id, inside, there, is) =
-      let number : id ≡ id_at g.blocks place = sym there ∙ get_or_default_zero (ids g) place id inside in
-      (place, rw length-map at inside, rw number at is)
+  place_of P (place, id, inside, there, is) = search (rules, there, get_or_default_zero, length-map)
 
   number_of : (P : ℕ → Type 0) (place : ℕ) → place < length g.blocks → P (id_at g.blocks place) → Any P (ids g)
   number_of P place within is = (place, id_at g.blocks place, rw length-map within, get_or_default_zero (ids g) place (id_at g.blocks place) (rw length-map within), is)
@@ -123,10 +117,9 @@ module _ (g : GeographyModel) (values : Values) (valid : AreBlocks g.blocks) (la
 
   either : (a b : Bool) (i j : ℕ) → i < length g.blocks → j < length g.blocks → county_at g.blocks i ≡ county_at g.blocks j
       → is_listed_at (listed_of g values) i ≡ a → is_listed_at (listed_of g values) j ≡ b → a ≢ b → IsInPart g values (county_at g.blocks j)
-  either true true i j first second same one other differ = absurd (differ refl)
   either true false i j first second same one other differ = in_part i j first second same one other
   either false true i j first second same one other differ = rw same at (in_part j i second first (sym same) other one)
-  either false false i j first second same one other differ = absurd (differ refl)
+  either _ _ i j first second same one other differ = absurd (differ refl)
 
   pub county_is : (place : ℕ) → Agree g.blocks (listed_of g values) (place + 1) → place + 1 < length g.blocks → county_at g.blocks place ≡ county_at g.blocks (place + 1)
       → is_listed_at (listed_of g values) place ≢ is_listed_at (listed_of g values) (place + 1) → partly_listed g values ≡ Some (county_at g.blocks (place + 1))
@@ -148,9 +141,7 @@ module _ (g : GeographyModel) (values : Values) (valid : AreBlocks g.blocks) (la
 
   differ_from : (a b x y : Bool) → not (beq a b) ≡ true → a ≡ x → b ≡ y → y ≢ x
   differ_from true true x y told one other same = absurd (cc)
-  differ_from false false x y told one other same = absurd (cc)
-  differ_from true false x y told one other same = absurd (cc)
-  differ_from false true x y told one other same = absurd (cc)
+  differ_from _ _ x y told one other same = absurd (cc)
 
   pub county_there : (blocks : List BlockRow) (listed : List (Option ℕ)) (place : ℕ) (row before : BlockRow) (county other : ℕ) (a b : Bool) → blocks ≡ g.blocks → listed ≡ listed_of g values
       → Agree blocks listed place → 1 ≤ place → place < length blocks → county ≡ county_of (get_or blocks place row).id → other ≡ county_of (get_or blocks (place - 1) before).id
@@ -166,25 +157,17 @@ module _ (g : GeographyModel) (values : Values) (valid : AreBlocks g.blocks) (la
 
 -- the walk goes on where two blocks side by side are of two counties, or both are listed or both not
 same_from : (a b x y : Bool) → not (beq a b) ≡ false → a ≡ x → b ≡ y → y ≡ x
-same_from true true x y told one other = sym other ∙ one
-same_from false false x y told one other = sym other ∙ one
 same_from true false x y told one other = absurd (cc)
 same_from false true x y told one other = absurd (cc)
+same_from _ _ x y told one other = sym other ∙ one
 
 module _ (blocks : List BlockRow) (listed : List (Option ℕ)) (place : ℕ) (agree : Agree blocks listed place) (from : 1 ≤ place) where
   agree_next : (county_at blocks (place - 1) ≡ county_at blocks place → is_listed_at listed (place - 1) ≡ is_listed_at listed place) → Agree blocks listed (place + 1)
-  agree_next step k inside same = elim (cases_lt (k + 1) place) [
-    | inl less ↦ agree k less same
-    | inr more ↦
-        let here : k ≡ place - 1 = omega (arith, inside, more) in
-        let next : k + 1 ≡ place = omega (arith, inside, more) in
-        ap (is_listed_at listed) here ∙ step (ap (county_at blocks) (sym here) ∙ same ∙ ap (county_at blocks) next) ∙ ap (is_listed_at listed) (sym next)
-  ]
+  agree_next step k inside same = search (rules, cases_lt)
 
   pub agree_alike : (a b : Bool) → a ≡ is_listed_at listed place → b ≡ is_listed_at listed (place - 1) → not (beq a b) ≡ false → Agree blocks listed (place + 1)
   agree_alike a b mark mark_before told = agree_next (λ _. same_from a b _ _ told mark mark_before)
 
   pub agree_apart : (row after : BlockRow) (county other : ℕ) → place < length blocks → county ≡ county_of (get_or blocks place row).id → other ≡ county_of (get_or blocks (place - 1) after).id
       → other ≢ county → Agree blocks listed (place + 1)
-  agree_apart row after county other within one two differ = agree_next (λ same. absurd (differ
-      (two ∙ sym (ap county_of (get_or-map (λ b. b.id) blocks (place - 1) after 0 (omega (arith, within)))) ∙ same ∙ ap county_of (get_or-map (λ b. b.id) blocks place row 0 within) ∙ sym one)))
+  agree_apart row after county other within one two differ = search (rules, agree_next, get_or-map)

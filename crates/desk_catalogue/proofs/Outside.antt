@@ -1,9 +1,9 @@
 -- Counties outside of the places in which two lists differ.
-use Rattle.std.specs.{Prelude.{nat_eq, not}, Cmp.Lexicographic.pointwise}
+use Rattle.std.specs.{Prelude.nat_eq, Cmp.Lexicographic.pointwise}
 use Rattle.std.proofs.Common.{◌≡◌, ◌⊎◌, ◌<◌, ◌≤◌, ◌+◌, ◌-◌, ℕ, true, false, List, [], ◌∷◌, length, drop, Some, refl, sym, ap, min, ◌∙◌, inl, inr, arith}
 use Rattle.std.proofs.lemmas.List.{ext_get_or, get_or-take, get_or-drop, length-take, length-drop}
 use Rattle.std.proofs.lemmas.Bool.Decides.{nat_tests}
-use Rattle.desk_model.specs.{claim.Room.differs, declared.ranges.CountyRange.CountyRange}
+use Rattle.desk_model.specs.declared.ranges.CountyRange.{CountyRange}
 use Rattle.desk_catalogue.specs.Cutting.{StaysOutside, is_changed, part}
 
 -- a list is the same as itself
@@ -29,5 +29,4 @@ parts_same first end c last new old_long new_long stays outside =
     few n long = omega arith
 
 pub unchanged : (first end : ℕ) (c : CountyRange) (last new : List ℕ) → c.first + c.count ≤ length last → c.first + c.count ≤ length new → StaysOutside first end last new → (c.first + c.count ≤ first) ⊎ (end ≤ c.first) → is_changed (Some last) new c ≡ false
-unchanged first end c last new old_long new_long stays outside =
-    ap (λ (l : List ℕ). differs (part c last, l)) (parts_same first end c last new old_long new_long stays outside) ∙ ap not (all_same (part c last))
+unchanged first end c last new old_long new_long stays outside = search (parts_same first end c last new old_long new_long stays outside, all_same (part c last))

@@ -1,6 +1,6 @@
 -- Listed districts over the last ones.
 use Rattle.std.specs.{Prelude.unwrap_or, List.zip}
-use Rattle.std.proofs.Common.{◌≡◌, ℕ, zero, suc, ◌+◌, ◌-◌, ◌<◌, ◌≤◌, List, [], ◌∷◌, map, length, get_or, Option, Some, None, Result, Ok, Err, IsOkAnd, IfSome, arith, refl, ap, sym, ◌∙◌, ◌⊎◌, inl, inr}
+use Rattle.std.proofs.Common.{rules, ◌≡◌, ℕ, zero, suc, ◌+◌, ◌-◌, ◌<◌, ◌≤◌, List, [], ◌∷◌, map, length, get_or, Option, Some, None, Result, Ok, Err, IsOkAnd, IfSome, arith, refl, ap, sym, ◌∙◌, ◌⊎◌}
 use Rattle.std.proofs.lemmas.Bool.{lt-ltb, le-ltb}
 use Rattle.std.proofs.lemmas.List.{get_or_past, length-map}
 use Rattle.std.proofs.lemmas.Slice.Zip.{length-zip}
@@ -21,14 +21,13 @@ there first part k more = rw (le-ltb k first more) refl
 laid_from : (first : ℕ) (part listed : List (Option ℕ)) (place : ℕ) (last : List ℕ) → length last ≡ length listed → ((k : ℕ) → get_or listed k None ≡ part_at first part (place + k))
     → laid first part place last ≡ map (λ (e : Option ℕ × ℕ). unwrap_or e.0 e.1) (zip listed last)
 laid_from first part [] place [] long is = refl
-laid_from first part [] place (d ∷ last) long is = absurd (omega arith)
-laid_from first part (o ∷ listed) place [] long is = absurd (omega arith)
 laid_from first part (o ∷ listed) place (d ∷ last) long is =
     let here : o ≡ part_at first part place = is zero ∙ ap (part_at first part) (omega arith) in
     let first_is : unwrap_or (part_at first part place) d ≡ unwrap_or o d = ap (λ (e : Option ℕ). unwrap_or e d) (sym here) in
     let rest = laid_from first part listed (suc place) last (omega arith) (λ k. is (suc k) ∙ ap (part_at first part) (omega arith)) in
     ap (λ (more : List ℕ). unwrap_or (part_at first part place) d ∷ more) rest
     ∙ ap (λ (n : ℕ). n ∷ map (λ (e : Option ℕ × ℕ). unwrap_or e.0 e.1) (zip listed last)) first_is
+laid_from first part _ place _ long is = absurd (omega arith)
 
 pub laid_over : (first : ℕ) (part listed : List (Option ℕ)) (last : List ℕ) → IsListedPart first part listed → length last ≡ length listed → laid first part 0 last ≡ overlaid listed (Some last)
 laid_over first part listed last is long = laid_from first part listed 0 last long (λ k. is.there k ∙ ap (part_at first part) (omega arith))
@@ -36,10 +35,9 @@ laid_over first part listed last is long = laid_from first part listed 0 last lo
 -- where nothing is listed of a place, its district stays
 unlisted : (listed : List (Option ℕ)) (last : List ℕ) (k : ℕ) → length last ≡ length listed → get_or listed k None ≡ None → get_or (overlaid listed (Some last)) k 0 ≡ get_or last k 0
 unlisted [] [] k long none = refl
-unlisted [] (d ∷ last) k long none = absurd (omega arith)
-unlisted (o ∷ listed) [] k long none = absurd (omega arith)
 unlisted (o ∷ listed) (d ∷ last) zero long none = ap (λ (x : Option ℕ). unwrap_or x d) none
 unlisted (o ∷ listed) (d ∷ last) (suc k) long none = unlisted listed last k (omega arith) none
+unlisted _ _ k long none = absurd (omega arith)
 
 pub overlaid_stays : (listed : List (Option ℕ)) (last : Option (List ℕ)) (first end : ℕ) (districts : List ℕ) → IfSome last (λ d. length d ≡ length listed) → ((k : ℕ) → (k < first) ⊎ (end ≤ k) → get_or listed k None ≡ None)
     → districts ≡ overlaid listed last → IfSome last (λ l. StaysOutside first end l districts)
@@ -48,16 +46,12 @@ overlaid_stays listed (Some last) first end districts long none is = λ k outsid
 
 -- nothing is listed outside of a part
 pub none_outside : (first : ℕ) (part listed : List (Option ℕ)) → IsListedPart first part listed → (k : ℕ) → (k < first) ⊎ (first + length part ≤ k) → get_or listed k None ≡ None
-none_outside first part listed is k outside = elim outside [
-  | inl less ↦ is.there k ∙ before first part k less
-  | inr more ↦ is.there k ∙ there first part k (omega arith) ∙ get_or_past part (k - first) None (omega arith)
-]
+none_outside first part listed is k outside = search (rules, before, there, get_or_past)
 
 in_pairs : (values : Values) (blocks : List BlockRow) (last : List ℕ) → map (λ (e : Option ℕ × ℕ). unwrap_or e.0 e.1) (zip (map (value_at values) (ids_of blocks)) last)
     ≡ map (λ (e : BlockRow × ℕ). unwrap_or (value_at values e.0.id) e.1) (zip blocks last)
-in_pairs values [] last = refl
-in_pairs values (b ∷ blocks) [] = refl
 in_pairs values (b ∷ blocks) (d ∷ last) = ap (λ (more : List ℕ). unwrap_or (value_at values b.id) d ∷ more) (in_pairs values blocks last)
+in_pairs values _ _ = refl
 
 overlaid_is : (g : GeographyModel) (values : Values) (last : Option (List ℕ)) → overlaid (listed_of g values) last ≡ patched g values last
 overlaid_is g values None = in_turn values g.blocks
@@ -68,8 +62,7 @@ pub read_patched : (reading : Result Values Fault) (g : GeographyModel) (listed 
     → IsOkAnd reading (λ values. listed ≡ listed_of g values) → ((values : Values) → listed ≡ listed_of g values → told ≡ partly_listed g values) → told ≡ None
     → districts ≡ overlaid listed last → IsOkAnd reading (λ values. (partly_listed g values ≡ None) × (districts ≡ patched g values last))
 read_patched (Err f) g listed last districts told said tells none is = said
-read_patched (Ok values) g listed last districts told said tells none is =
-    (sym (tells values said) ∙ none, is ∙ ap (λ (ds : List (Option ℕ)). overlaid ds last) said ∙ overlaid_is g values last)
+read_patched (Ok values) g listed last districts told said tells none is = search (rules, overlaid_is)
 
 as_long : (g : GeographyModel) (values : Values) (last : Option (List ℕ)) → IfSome last (λ d. length d ≡ length g.blocks) → length (patched g values last) ≡ length g.blocks
 as_long g values None same = length-map g.blocks _
@@ -79,17 +72,13 @@ as_long g values (Some last) same = length-map (zip g.blocks last) _ ∙ length-
 pub read_long : (reading : Result Values Fault) (g : GeographyModel) (listed : List (Option ℕ)) (last : Option (List ℕ)) (districts : List ℕ) → IsOkAnd reading (λ values. listed ≡ listed_of g values)
     → IfSome last (λ d. length d ≡ length g.blocks) → districts ≡ overlaid listed last → length districts ≡ length g.blocks
 read_long (Err f) g listed last districts said same is = absurd said
-read_long (Ok values) g listed last districts said same is =
-    ap length (is ∙ ap (λ (ds : List (Option ℕ)). overlaid ds last) said ∙ overlaid_is g values last) ∙ as_long g values last same
+read_long (Ok values) g listed last districts said same is = search (rules, overlaid_is, as_long)
 
 -- so is the list that was read
 pub listed_long : (reading : Result Values Fault) (g : GeographyModel) (listed : List (Option ℕ)) (last : Option (List ℕ)) → IsOkAnd reading (λ values. listed ≡ listed_of g values)
     → IfSome last (λ d. length d ≡ length g.blocks) → IfSome last (λ d. length d ≡ length listed)
-listed_long (Err f) g listed last said same = absurd said
 listed_long (Ok values) g listed None said same = tt
-listed_long (Ok values) g listed (Some last) said same =
-    let long : length listed ≡ length g.blocks = ap length said ∙ length-map (ids g) (value_at values) ∙ length-map g.blocks (λ (b : BlockRow). b.id) in
-    same ∙ sym long
+listed_long _ g listed _ said same = search (rules, length-map)
 
 pub listed_length : (reading : Result Values Fault) (g : GeographyModel) (listed : List (Option ℕ)) → IsOkAnd reading (λ values. listed ≡ listed_of g values) → length listed ≡ length g.blocks
 listed_length (Err f) g listed said = absurd said

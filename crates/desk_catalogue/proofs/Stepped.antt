@@ -1,11 +1,10 @@
 -- What the desk's step makes of a post to a plan that may have one more revision.
-use Rattle.std.specs.Prelude.{◌==◌, not, if◌then◌else◌, nat_le, IsOkAnd}
-use Rattle.std.proofs.Common.{◌≡◌, ◌+◌, ℕ, Bool, true, false, List, [], ◌∷◌, ◌++◌, length, Option, Some, Result, Ok, Err, IfOk, ◌<◌, refl, ap, sym, subst, ◌∙◌, arith}
+use Rattle.std.{specs.Prelude.{◌==◌, nat_le, IsOkAnd}, proofs.Common.{rules, ◌≡◌, ℕ, true, false, List, Option, Some, Result, Ok, Err, IfOk, ◌<◌, refl, ap, sym, ◌∙◌, arith}}
 use Rattle.std.specs.FinMap as map_of
 use Rattle.std.proofs.lemmas.Bool.Decides.{nat_tests}
-use Rattle.desk_model.specs.{declared.command.Command.Command, declared.command.Command.TheVariants.{Counties, Whole}, declared.reply.Reply.TheVariants.Created}
-use Rattle.desk_model.specs.{declared.reply.Refusal.Refusal, declared.reply.Refusal.TheVariants.{Stale, BadBody, NotWholeCounty, Limit, Memory}}
-use Rattle.desk_model.specs.{claim.Baf.{Values, Fault, body_read, whole}, claim.Desk.{Plan, Desk}, claim.Geography.GeographyModel, claim.Outcome.IsStep}
+use Rattle.desk_model.specs.{declared.command.Command.Command, declared.command.Command.TheVariants.{Counties, Whole}, declared.reply.Refusal.Refusal}
+use Rattle.desk_model.specs.{declared.reply.Refusal.TheVariants.{BadBody, NotWholeCounty, Memory}, claim.Baf.{Values, Fault, body_read, whole}, claim.Desk.{Plan, Desk}}
+use Rattle.desk_model.specs.{claim.Geography.GeographyModel, claim.Outcome.IsStep}
 use Rattle.desk_model.specs.claim.Step.{Outcome, refused, revised, on_revisions, whole_read, patch_read, county_patched, partly_listed, step, step_at, revision_limit}
 use Rattle.desk_model.specs.declared.reply.Reply.TheVariants as reply
 use Rattle.desk_plans.specs.Rows.{Row}
@@ -20,12 +19,7 @@ below_limit n less = grind (arith, nat_tests)
 
 module _ (d : Desk) (g : GeographyModel) (name : List ℕ) (after : ℕ) (body : List ℕ) (row : Row) (there : d.geography ≡ Some g) (may : IsRevisable d name after row) where
   goes : (go : Plan → Outcome) → on_revisions d (map_of.get d.plans name) after go ≡ go row.1
-  goes go =
-      let few : length row.1.revisions < revision_limit = subst (λ n. n < revision_limit) may.last may.few in
-      ap (λ (o : Option Plan). on_revisions d o after go) may.found
-      ∙ ap (λ (b : Bool). if not b then refused d (Stale (length row.1.revisions)) else if nat_le revision_limit (length row.1.revisions) then refused d Limit else go row.1)
-      (same_count after (length row.1.revisions) may.last)
-      ∙ ap (λ (b : Bool). if b then refused d Limit else go row.1) (below_limit (length row.1.revisions) few)
+  goes go = search (rules, same_count, below_limit)
 
   step_reads : step d (Whole name after body) ≡ whole_read g d name row.1 (body_read g row.1.n body)
   step_reads = ap (λ (o : Option GeographyModel). step_at o d (Whole name after body)) there ∙ goes (λ p. whole_read g d name p (body_read g p.n body))
@@ -37,20 +31,10 @@ module _ (d : Desk) (g : GeographyModel) (name : List ℕ) (after : ℕ) (body :
   pub whole_after : (r : Result Draft Refusal) (districts : List ℕ) → IsOkAnd (body_read g row.1.n body) (λ values. districts ≡ whole g values)
       → IfOk r (λ draft. draft.catalogue ≡ with_revision_of d row districts) → IfOk r (λ draft. IsAfter d (Whole name after body) draft.catalogue)
   whole_after (Err e) districts said is = tt
-  whole_after (Ok draft) districts said is =
-      let stepped = step_reads ∙ reads districts (body_read g row.1.n body) said in record {
-        reply = ap (λ (o : Outcome). o.0) stepped ∙ ap (λ n. Created name (n + 1)) (sym may.last);
-        few = let few = may.few in omega arith;
-        desk = is ∙ ap (λ (n : List ℕ). record d { plans = map_of.insert d.plans n (record row.1 { revisions = row.1.revisions ++ districts ∷ [] }) }) may.named
-            ∙ sym (ap (λ (o : Outcome). o.1) stepped);
-      }
+  whole_after (Ok draft) districts said is = search (rules, step_reads, reads)
 
   refuses : (c : Command) (refusal : Refusal) → step d c ≡ refused d refusal → IsStep ⊥ d c (reply.Refused refusal) d
-  refuses c refusal is = record {
-    reply = sym (ap (λ (o : Outcome). o.0) is);
-    desk = sym (ap (λ (o : Outcome). o.1) is);
-    room = λ _ no. no;
-  }
+  refuses c refusal is = search rules
 
   pub whole_refused : (refusal : Refusal) → IsRefusalOf (body_read g row.1.n body) refusal → StepRefuses d (Whole name after body) refusal
   whole_refused (BadBody code line) is = (λ no. no, refuses (Whole name after body) (BadBody code line) (step_reads ∙ ap (whole_read g d name row.1) is))
@@ -66,7 +50,5 @@ module _ (d : Desk) (g : GeographyModel) (name : List ℕ) (after : ℕ) (body :
 
   pub counties_refused : (refusal : Refusal) → IsPatchRefusal g (body_read g row.1.n body) refusal → StepRefuses d (Counties name after body) refusal
   counties_refused (BadBody code line) is = (λ no. no, refuses (Counties name after body) (BadBody code line) (step_patches ∙ ap (patch_read g d name row.1) is))
-  counties_refused (NotWholeCounty county) is =
-      (λ no. no, refuses (Counties name after body) (NotWholeCounty county) (step_patches ∙ in_part (body_read g row.1.n body) county is))
   counties_refused Memory is = (λ no. no, refl)
-  counties_refused _ is = absurd is
+  counties_refused _ is = search (refuses, step_patches, in_part)

@@ -65,8 +65,7 @@ revision_more g revisions districts is were = All-append (λ (d : List ℕ). len
 -- a plan with one revision more
 pub revised_whole : (geography : Option GeographyModel) (plans : map_of.FinMap name_cmp Plan) (name : List ℕ) (p : Plan) (districts : List ℕ) → AreWhole geography plans
     → map_of.get plans name ≡ Some p → IsWhole geography (Some districts) → AreWhole geography (map_of.insert plans name (record p { revisions = p.revisions ++ districts ∷ [] }))
-revised_whole geography plans name p districts was found is =
-    inserted_whole geography plans name (record p { revisions = p.revisions ++ districts ∷ [] }) was (λ g there. revision_more g p.revisions districts (is g districts there refl) (was g name p there found))
+revised_whole geography plans name p districts was found is = search (inserted_whole, revision_more)
 
 -- a plan with a revision of another plan alone
 pub forked_whole : (geography : Option GeographyModel) (plans : map_of.FinMap name_cmp Plan) (name source : List ℕ) (p : Plan) (k : ℕ) (districts : List ℕ) → AreWhole geography plans

@@ -44,10 +44,7 @@ pub none_less : (tag : ℕ) (m : KeyMap) → IsLess tag m m
 none_less tag m = record { others = λ other apart rest. refl; rows = λ key value there. there }
 
 pub more_less : (tag : ℕ) (m n k : KeyMap) → IsLess tag m n → IsLess tag n k → IsLess tag m k
-more_less tag m n k one next = record {
-  others = λ other apart rest. next.others other apart rest ∙ one.others other apart rest;
-  rows = λ key value there. one.rows key value (next.rows key value there);
-}
+more_less tag m n k one next = search (next.others, one.others, one.rows, next.rows)
 
 -- ---- all three tags
 module _ (m n k l : KeyMap) (held : IsLess 72 m n) (none_held : NoneOf 72 n) (told : IsLess 75 n k) (none_told : NoneOf 75 k) (versions : IsLess 86 k l) (none_versions : NoneOf 86 l) where
@@ -101,11 +98,7 @@ module _ (m n k l : KeyMap) (held : IsLess 72 m n) (none_held : NoneOf 72 n) (to
 
 -- what a transaction reads then
 pub turned_txn : (t u v : Txn) (P : Image) (d : Desk) (m : KeyMap) → IsMapOf true m d → (one : IsWithout 72 t P m) → (two : IsWithout 75 u P one.n) → IsWithout 86 v P two.n → InTxnOf false v P d
-turned_txn t u v P d m is one two three = record {
-  m = three.n;
-  holds = three.reads;
-  is = turned m one.n two.n three.n one.less one.none two.less two.none three.less three.none true d is;
-}
+turned_txn t u v P d m is one two three = search (three.reads, turned, one.less, one.none, two.less, two.none, three.less)
 
 module _ {D : Type 0} {g : Ghosts D} where
   -- one tag after the other
@@ -123,9 +116,7 @@ module _ {D : Type 0} {g : Ghosts D} where
 
   -- ---- and it is committed
   pub back_reads : (t u : Txn) (a b : Pages D g) → IsBegun a t → IsQuiet a b → ((disk_in b).is_honest → (d : Desk) → InTxnOf true t (stored a) d → InTxnOf false u (stored a) d) → (disk_in b).is_honest → (d : Desk) → InPages a d → InTxnOf false u (stored b) d
-  back_reads t u a b start quiet old honest d holds =
-      let reads : InTxnOf true t (stored a) d = record { m = holds.m; holds = start.reads (quiet.honest honest) holds.m holds.holds; is = holds.is } in
-      subst (λ (P : Image). InTxnOf false u P d) (sym (quiet.same honest)) (old honest d reads)
+  back_reads t u a b start quiet old honest d holds = search (holds.m, start.reads, quiet.honest, holds.holds, holds.is, quiet.same)
 
   pub back_quiet : (a b : Pages D g) → IsQuiet a b → (disk_in b).is_honest → has_halted a ≡ false → (sectors : ℕ) (d : Desk) → home (journal_of a) + count_of a ≡ sectors → InPages a d → LeavesOnly (OpensEither sectors d) (disk_in a) (disk_in b)
   back_quiet a b quiet honest working sectors d whole holds =

@@ -1,9 +1,9 @@
 -- Steps and the end at a migration.
 use Rattle.std.specs.Prelude.{◌↔◌, Result, Ok, Err, OnOk, IfErr, IsErr}
-use Rattle.std.proofs.Common.{◌≡◌, ◌⊎◌, ◌+◌, ℕ, zero, suc, true, false, List, refl, sym, ap, subst, ◌∙◌, inl, inr, arith}
+use Rattle.std.proofs.Common.{rules, ◌≡◌, ◌⊎◌, ℕ, zero, suc, true, false, List, refl, sym, ap, subst, ◌∙◌, inl, inr, arith}
 use Rattle.sector_device.{specs.claim.Disk.Image, specs.claim.Moments.LeavesOnly, specs.declared.SectorDevice.Ghosts, proofs.Moments.leaves_now}
-use Rattle.page_store.specs.{gate_journal.claim.Store.home, gate_journal.claim.Contents.is_halted as journal_halted, claim.Transactions.{HasShape, IsQuiet, IsSame}}
-use Rattle.page_store.{specs.declared.pages.Pages.Pages, proofs.Chains.either}
+use Rattle.page_store.specs.{gate_journal.claim.Contents.is_halted as journal_halted, claim.Transactions.{HasShape, IsQuiet, IsSame}, declared.pages.Pages.Pages}
+use Rattle.page_store.proofs.Chains.{either}
 use Rattle.page_btree.specs.claim.Map.{InPages}
 use Rattle.desk_model.specs.claim.Desk.{Desk}
 use Rattle.store_rows.specs.claim.Rows.{KeyMap}
@@ -21,14 +21,7 @@ zero_or (suc n) = inr (λ is. absurd (omega arith))
 
 module _ {D : Type 0} {g : Ghosts D} where
   pub goes_on : (x y : Migration D g) → HasShape x.pages y.pages → ((disk_of y).is_honest → (disk_of x).is_honest) → (is_halted x ≡ true → IsSame x.pages y.pages) → TellsFaults x.pages y.pages → Goes x y
-  goes_on x y shape honest still faults = record {
-    sectors = λ i. home (shape.journal_pages i) + shape.pages i;
-    room = shape.journal_pages;
-    honest = honest;
-    still = still;
-    rose = faults.rose;
-    calm = faults.calm;
-  }
+  goes_on x y shape honest still faults = search (shape.journal_pages, faults.rose)
 
   still_halted : (x y : Migration D g) → is_halted x ≡ true → IsSame x.pages y.pages → is_halted y ≡ true
   still_halted x y halted same = ap (λ j. journal_halted j) same ∙ halted
@@ -117,10 +110,7 @@ module _ {D : Type 0} {g : Ghosts D} where
   not_stepped_rows x y _ d why from ended honest keeps working works is_honest = absurd why
 
   working_before : (x y : Migration D g) → Goes x y → is_halted y ≡ false → is_halted x ≡ false
-  working_before x y goes works = elim (either (is_halted x)) [
-    | inl halted ↦ both (is_halted y) (still_halted x y halted (goes.still halted)) works
-    | inr working ↦ working
-  ]
+  working_before x y goes works = search (rules, either, both, still_halted)
 
   pub not_stepped : (x y : Migration D g) (e : StoreError) → Goes x y → LeavesOld x y → StepErr x.from x.pages y.pages e → y.from ≡ x.from → has_ended y ≡ has_ended x → Moves x y
   not_stepped x y e goes leaves why from ended = record {
@@ -151,9 +141,7 @@ module _ {D : Type 0} {g : Ghosts D} where
 
   -- all is of the new version then
   pub kept_new : (x y : Migration D g) → has_ended x ≡ true → Goes x y → is_halted x ≡ false → is_halted y ≡ false → ((disk_of y).is_honest → (d : Desk) → HoldsAll x.pages d → HoldsDesk y.pages d) → (disk_of y).is_honest → (d : Desk) → Keeps x d → KeepsNew y d
-  kept_new x y ended goes working works told honest d keeps =
-      let holds = told honest d (holds_all x d ended keeps working (goes.honest honest)) in
-      record { holds = holds; left = λ c left. opens_now {new = true} y.pages works honest (sectors_of y) d refl holds c left }
+  kept_new x y ended goes working works told honest d keeps = search (holds_all, goes.honest, opens_now)
 
   not_ended_rows : (x y : Migration D g) (e : StoreError) (d : Desk) → has_ended x ≡ true → FinishErr x.pages y.pages e → y.from ≡ x.from → has_ended y ≡ has_ended x → ((disk_of y).is_honest → (disk_of x).is_honest) → Keeps x d → is_halted x ≡ false → is_halted y ≡ false → (disk_of y).is_honest → (m : KeyMap) × HasRows y d m
   not_ended_rows x y Full d on why from ended honest keeps working works is_honest = quiet_has x y d why.0 from ended honest keeps working is_honest
@@ -167,9 +155,7 @@ module _ {D : Type 0} {g : Ghosts D} where
   pub not_ended : (x y : Migration D g) (e : StoreError) → has_ended x ≡ true → Goes x y → FinishErr x.pages y.pages e → y.from ≡ x.from → has_ended y ≡ has_ended x → is_halted y ≡ false → (d : Desk) → Keeps x d → Keeps y d
   not_ended x y e on goes why from ended works d keeps = record {
     holds = λ off honest. not_ended_rows x y e d on why from ended goes.honest keeps (working_before x y goes works) works honest;
-    left = λ honest c left.
-        let (m, has) = not_ended_rows x y e d on why from ended goes.honest keeps (working_before x y goes works) works honest in
-        opens_now {new = false} y.pages works honest (sectors_of y) d refl (record { m = m; holds = has.holds; is = has.is }) c left;
+    left = λ honest c left. search (not_ended_rows x y e d on why from ended goes.honest keeps (working_before x y goes works) works honest, opens_now);
   }
 
   -- ---- calls

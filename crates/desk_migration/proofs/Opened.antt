@@ -1,5 +1,5 @@
 -- What an opening finds.
-use Rattle.std.proofs.Common.{◌≡◌, ℕ, Bool, true, false, refl, sym, subst, ◌∙◌, arith}
+use Rattle.std.proofs.Common.{rules, ◌≡◌, ℕ, Bool, true, false, refl, sym, subst, ◌∙◌, arith}
 use Rattle.sector_device.{specs.claim.Disk.{Disk, Image}, specs.declared.SectorDevice.Ghosts, proofs.Moments.leaves_now}
 use Rattle.page_store.specs.{gate_journal.Recovery.{HasRoom, Found}, claim.Transactions.{stored, disk_in, count_of, journal_of, has_halted, IsQuiet, IsKept, Passed}}
 use Rattle.page_store.specs.{Transactions.OpenErr, declared.pages.Pages.Pages, declared.txn.Txn.Txn, gate_journal.declared.error.PageError.PageError}
@@ -36,9 +36,7 @@ module _ {D : Type 0} {g : Ghosts D} where
   ReadsVersion new t b c = (disk_in c).is_honest → (m : KeyMap) → InTxn t (stored b) m → row_in m version ≡ version_row new
 
   pub of_version : (new : Bool) (t : Txn) (a b c : Pages D g) → IsBegun a t → Passed a b → IsQuiet b c → ReadsVersion new t b c → (disk_in c).is_honest → AreOfVersion new (count_of a) (stored a)
-  of_version new t a b c start ab quiet told honest m holds =
-      let middle = quiet.honest honest in
-      told honest m (subst (λ (P : Image). InTxn t P m) (sym (ab.quiet.same middle)) (start.reads (ab.quiet.honest middle) m holds))
+  of_version new t a b c start ab quiet told honest m holds = search (quiet.honest, ab.quiet.same, start.reads, ab.quiet.honest)
 
   pub read_from : (t : Txn) (a b : Pages D g) (d : Desk) → IsBegun a t → IsQuiet a b → ((disk_in b).is_honest → (m : KeyMap) → InTxn t (stored a) m → IsReadFrom m d) → (disk_in b).is_honest → AreRead (count_of a) (stored a)
   read_from t a b d start quiet read honest m holds = (d, read honest m (start.reads (quiet.honest honest) m holds))
@@ -83,14 +81,12 @@ module _ {D : Type 0} {g : Ghosts D} where
   version_of new told ps d holds are = sym holds.is.version ∙ one_version holds.is.tidy.new told (sym holds.is.tidy.holdings.told ∙ are holds.m holds.holds)
     where
       one_version : (a b : Bool) → version_row a ≡ version_row b → a ≡ b
-      one_version true true same = refl
-      one_version false false same = refl
       one_version true false same = cc
       one_version false true same = cc
+      one_version _ _ same = refl
 
   version_after : (new : Bool) (a b : Pages D g) → IsQuiet a b → (disk_in b).is_honest → AreOfVersion new (count_of a) (stored a) → AreOfVersion new (count_of b) (stored b)
-  version_after new a b quiet honest are =
-      subst (λ (P : Image). AreOfVersion new (count_of b) P) (sym (quiet.same honest)) (subst (λ (n : ℕ). AreOfVersion new n (stored a)) (sym quiet.count) are)
+  version_after new a b quiet honest are = search rules
 
   read_after : (a b : Pages D g) → IsQuiet a b → (disk_in b).is_honest → AreRead (count_of a) (stored a) → AreRead (count_of b) (stored b)
   read_after a b quiet honest are =
@@ -98,11 +94,7 @@ module _ {D : Type 0} {g : Ghosts D} where
 
   module _ (old : Disk) (a : Pages D g) (found : (disk_in a).is_honest → Found (journal_of a) (count_of a) old (disk_in a)) where
     pub is_found : (x : Migration D g) → IsQuiet a x.pages → ((disk_of x).is_honest → AreOfVersion false (count_of a) (stored a)) → ((disk_of x).is_honest → AreRead (count_of a) (stored a)) → (disk_of x).is_honest → IsFound old x
-    is_found x quiet are read honest = record {
-      pages = found_after old a x.pages found quiet honest;
-      version = version_after false a x.pages quiet honest (are honest);
-      read = read_after a x.pages quiet honest (read honest);
-    }
+    is_found x quiet are read honest = search (found_after, version_after, read_after)
 
     module _ (room : HasRoom old.sectors (journal_of a) (count_of a)) where
       -- what is opened keeps its desk

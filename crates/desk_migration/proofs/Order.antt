@@ -1,7 +1,7 @@
 -- The key that comes next after another one.
 use Rattle.std.specs.{List.starts_with, Ordering.{is_gt, nat_cmp, ordering_then}, declared.cmp.Ordering.Ordering, declared.cmp.Ordering.TheVariants.{Less, Equal, Greater}}
 use Rattle.std.specs.{Cmp.nat_cmp_is, Cmp.Lexicographic.nat_list_cmp_total, FinMap.{entries, get}}
-use Rattle.std.proofs.Common.{Some, ◌≡◌, ◌⊎◌, inl, inr, ◌<◌, ℕ, List, [], ◌∷◌, ◌++◌, length, true, false, cond, nat_eq, refl, sym, ap, ◌∙◌, arith}
+use Rattle.std.proofs.Common.{rules, Some, ◌≡◌, ◌⊎◌, inl, inr, ◌<◌, ℕ, List, [], ◌∷◌, ◌++◌, length, true, false, nat_eq, refl, sym, ap, ◌∙◌, arith}
 use Rattle.std.proofs.lemmas.Cmp.{tied_itself}
 use Rattle.page_btree.specs.{page_node.claim.Entries.Entry, page_node.claim.Places.key_cmp, page_node.Places.entries_from}
 use Rattle.page_btree.proofs.page_node.Laws.{flip_less}
@@ -13,13 +13,11 @@ use Rattle.desk_migration.specs.Walks.{after}
 
 -- ---- what a key begins with
 pub starts_more : (key more prefix : List ℕ) → starts_with nat_eq key prefix ≡ true → starts_with nat_eq (key ++ more) prefix ≡ true
-starts_more [] [] [] on = refl
-starts_more [] (x ∷ more) [] on = refl
-starts_more (b ∷ key) more [] on = refl
 starts_more [] more (a ∷ prefix) on = cc
 starts_more (b ∷ key) more (a ∷ prefix) on =
     let both = and_parts (nat_eq a b) (starts_with nat_eq key prefix) on in
     and_from (nat_eq a b) (starts_with nat_eq (key ++ more) prefix) both.0 (starts_more key more prefix both.1)
+starts_more _ _ [] on = refl
 
 -- ---- the order of keys
 ordered : (a b : List ℕ) (r : Ordering) → key_cmp a b ≡ r → is_gt r ≡ false → (key_cmp a b ≡ Less) ⊎ (a ≡ b)
@@ -57,23 +55,14 @@ module _ (m : KeyMap) (from : List ℕ) (e : Entry) (more : List Entry) (first :
   from_next = from_trans from e.0 next (first_is_from m from e more first) (less_from e.0 next (below_after e.0))
 
   pub fewer_after : length (entries_from next (entries m)) < length (entries_from from (entries m))
-  fewer_after =
-      let same : entries_from next (entries m) ≡ entries_from next (e ∷ more) = sym (fewer from next (entries m) from_next) ∙ ap (entries_from next) first in
-      let gone : entries_from next (e ∷ more) ≡ entries_from next more = ap (λ (r : Ordering). cond (cond (is_gt r) false true) (e ∷ entries_from next more) (entries_from next more)) (flip_less e.0 next (below_after e.0)) in
-      let few = few_from next more in
-      let one : length (entries_from next (entries m)) ≡ length (entries_from next more) = ap (λ (l : List Entry). length l) (same ∙ gone) in
-      let all : length (entries_from from (entries m)) ≡ length (e ∷ more) = ap (λ (l : List Entry). length l) first in
-      omega arith
+  fewer_after = search (rules, fewer, from_next, flip_less, e.0, below_after, few_from)
 
 -- ---- a row is the first one from its own key on
 from_itself : (key : List ℕ) → IsFrom key key
 from_itself key = ap is_gt (tied_itself nat_list_cmp_total key)
 
 not_apart : (a b : List ℕ) → IsFrom a b → IsFrom b a → a ≡ b
-not_apart a b one other = elim (from_or_same a b one) [
-  | inl less ↦ absurd (clash (is_gt (key_cmp b a)) (ap is_gt (flip_less a b less)) other)
-  | inr same ↦ same
-]
+not_apart a b one other = search (rules, from_or_same, clash, flip_less)
 
 pub first_itself : (m : KeyMap) (key value : List ℕ) → get m key ≡ Some value → (more : List Entry) × (entries_from key (entries m) ≡ (key, value) ∷ more)
 first_itself m key value there = by (entries_from key (entries m)) refl

@@ -1,5 +1,5 @@
 -- Plans that come to hold chunks, one pair after the other.
-use Rattle.std.{specs.FinMap.get, proofs.Common.{take, ◌≡◌, ◌+◌, ℕ, List, [], ◌∷◌, ◌++◌, length, Bool, refl, sym, ap, subst, ◌∙◌, arith, length-append}}
+use Rattle.std.{specs.FinMap.get, proofs.Common.{rules, take, ◌≡◌, ◌+◌, ℕ, List, [], ◌∷◌, ◌++◌, length, Bool, refl, sym, ap, subst, ◌∙◌, arith, length-append}}
 use Rattle.std.proofs.lemmas.List.Elements.{All-weaker}
 use Rattle.desk_model.specs.claim.Desk.{Desk}
 use Rattle.store_rows.specs.{claim.Rows.KeyMap, claim.Tidy.{IsNamedBy, Tidy}, claim.Shares.hold, MigrationLaws.{HoldsNamed, NamedIsHeld}}
@@ -49,12 +49,7 @@ still_within law m tidy plan number is walk within =
     }
 
 pub still_walking : NamedIsHeld → (m : KeyMap) (plan number : ℕ) → IsUnheld m plan number → (walk : Walk) → IsWalking walk m → IsWalking walk (hold m plan number)
-still_walking law m plan number is walk was = record {
-  tidy = tidy_held law m was.tidy plan number is;
-  done = still_done law m was.tidy plan number is walk.from was.done;
-  within = λ on. still_within law m was.tidy plan number is walk (was.within on);
-  seen = still_each law m was.tidy plan number is walk.seen.plan walk.seen.numbers.items was.seen;
-}
+still_walking law m plan number is walk was = search (tidy_held, was.tidy, still_done, walk.from, was.done, still_within, was.within, still_each, walk.seen.plan)
 
 map_held : NamedIsHeld → (m : KeyMap) (new : Bool) (d : Desk) (plan number : ℕ) → IsUnheld m plan number → IsMapOf new m d → IsMapOf new (hold m plan number) d
 map_held law m new d plan number is of =
@@ -78,12 +73,7 @@ hold_more [] more m = refl
 hold_more (pair ∷ pairs) more m = hold_more pairs more (hold m pair.0 pair.1)
 
 pub then_by : (count more : ℕ) (m n k : KeyMap) → IsHeldBy count m n → IsHeldBy more n k → IsHeldBy (count + more) m k
-then_by count more m n k one next = record {
-  pairs = one.pairs ++ next.pairs;
-  count_is = let both = length-append one.pairs next.pairs in let first = one.count_is in let last = next.count_is in omega arith;
-  unheld = unheld_more one.pairs next.pairs m one.unheld (subst (λ (x : KeyMap). AreUnheld x next.pairs) one.rest next.unheld);
-  rest = next.rest ∙ ap (λ (x : KeyMap). hold_pairs x next.pairs) one.rest ∙ hold_more one.pairs next.pairs m;
-}
+then_by count more m n k one next = search (rules, one.pairs, next.pairs, length-append, one.count_is, next.count_is, unheld_more, one.unheld, next.unheld, hold_more)
 
 pub none_by : (m : KeyMap) → IsHeldBy 0 m m
 none_by m = record { pairs = []; count_is = refl; unheld = tt; rest = refl }

@@ -1,7 +1,6 @@
 -- Parts of revisions, and the chunks that they name.
-use Rattle.std.specs.{Prelude.Contains, Int.from_be_bytes, List.starts_with, Ordering.is_gt, FinMap.get}
-use Rattle.std.proofs.Common.{◌≡◌, inl, inr, ◌<◌, ◌^◌, ℕ, List, ◌++◌, length, take, drop, Bool, true, false, nat_eq, Some, sym, ap, subst, ◌∙◌, w64, arith}
-use Rattle.std.proofs.lemmas.Nat.{from_be_bytes-to_be_bytes_8}
+use Rattle.std.specs.{Prelude.Contains, List.starts_with, Ordering.is_gt, FinMap.get}
+use Rattle.std.proofs.Common.{rules, ◌≡◌, inl, inr, ◌<◌, ◌^◌, ℕ, List, ◌++◌, length, take, drop, Bool, true, false, nat_eq, Some, sym, ap, subst, ◌∙◌, arith}
 use Rattle.std.proofs.lemmas.List.Elements.{All-contains}
 use Rattle.page_btree.specs.page_node.claim.Places.{key_cmp}
 use Rattle.btree_walks.specs.declared.rows.Row.{Row}
@@ -37,8 +36,7 @@ part_row m from row tidy found =
 
 -- what its bytes tell
 told_plan : (plan other revision index : ℕ) (key : List ℕ) → plan < 2 ^ 64 → other < 2 ^ 64 → key ≡ key_of (part other revision index) → in_eight plan ≡ take 8 (drop 1 key) → plan ≡ other
-told_plan plan other revision index key fits other_fits is told =
-    sym (from_be_bytes-to_be_bytes_8 plan fits) ∙ ap (from_be_bytes w64) (told ∙ ap (λ (k : List ℕ). take 8 (drop 1 k)) is) ∙ from_be_bytes-to_be_bytes_8 other other_fits
+told_plan plan other revision index key fits other_fits is told = search rules
 
 pub plan_is : (row : Row) (of : IsPartRow row) (plan : ℕ) → plan < 2 ^ 64 → in_eight plan ≡ take 8 (drop 1 row.key) → plan ≡ of.plan
 plan_is row of plan fits told = told_plan plan of.plan of.revision of.index row.key fits of.fits.0 of.key_is told
@@ -71,9 +69,7 @@ module _ (m : KeyMap) (tidy : Tidy m) (from : List ℕ) (row : Row) (first : IsF
 
   -- no part stands between them
   pub part_reached : AreHeldTo row.key m
-  part_reached plan number is short = either_way (is_gt (key_cmp from (part_key m plan number is))) (IsHeld m plan number)
-      (λ above. done plan number is (λ later. clash (is_gt (key_cmp from (part_key m plan number is))) above later))
-      (λ later. absurd (short (first_least m from (row.key, row.value) first.0 first.1 (part_key m plan number is) (chunks_bytes is.numbers) is.row later)))
+  part_reached plan number is short = search (rules, either_way, clash, first_least, first.0, first.1)
 
   module _ (of : IsPartRow row) where
     -- a part with the same key is the same

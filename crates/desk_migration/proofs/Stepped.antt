@@ -1,5 +1,6 @@
 -- A step: a transaction that is begun, in which pairs come to be held, and that is committed then.
-use Rattle.std.{specs.Prelude.{Result, IsErrAnd}, proofs.Common.{◌≡◌, ◌⊎◌, ◌<◌, ◌≤◌, ◌+◌, ◌*◌, ℕ, true, false, List, Ok, Err, refl, sym, subst, ◌∙◌, inl, inr, ⊎_elim, arith}}
+use Rattle.std.specs.Prelude.{Result, IsErrAnd}
+use Rattle.std.proofs.Common.{rules, ◌≡◌, ◌⊎◌, ◌<◌, ◌≤◌, ◌+◌, ◌*◌, ℕ, true, false, List, Ok, Err, refl, sym, subst, ◌∙◌, inl, inr, ⊎_elim, arith}
 use Rattle.sector_device.{specs.claim.Disk.Image, specs.claim.Moments.LeavesOnly, specs.declared.SectorDevice.Ghosts, proofs.Moments.leaves_wider}
 use Rattle.page_store.specs.{gate_journal.claim.Store.home, claim.Transactions.{stored, disk_in, count_of, journal_of, has_halted, txn_writes, IsQuiet, IsSame, Passed}}
 use Rattle.page_store.{specs.declared.pages.Pages.Pages, specs.declared.txn.Txn.Txn, proofs.Stops.quiet_none}
@@ -25,14 +26,7 @@ module _ {D : Type 0} {g : Ghosts D} where
   -- a call that read at most, and came to nothing
   pub quiet_steps : {A : Type 0} (a b : Pages D g) (r : Result A StoreError) (e : StoreError) → IsQuiet a b → (has_halted a ≡ true → (r ≡ Err Halted) × IsSame a b) → IsErrAnd r (λ x. x ≡ e) → Steps a b r
   quiet_steps a b (Ok x) e quiet still is = absurd is
-  quiet_steps a b (Err x) e quiet still is = record {
-    shape = quiet_shape a b quiet;
-    honest = quiet.honest;
-    kept = λ honest. tt;
-    faults = quiet_faults a b quiet;
-    ok = tt;
-    still = still;
-  }
+  quiet_steps a b (Err x) e quiet still is = search (quiet_shape, quiet.honest)
 
   pub halted_steps : {A : Type 0} (a : Pages D g) → Steps {A = A} a a (Err Halted)
   halted_steps {A} a = quiet_steps {A = A} a a (Err Halted) Halted (quiet_none a) (λ halted. (refl, refl)) refl
@@ -42,16 +36,10 @@ module _ {D : Type 0} {g : Ghosts D} where
 
   pub commit_faults : (a b c : Pages D g) → Passed a b → ((disk_in c).is_honest → (disk_in b).is_honest) → (e : StoreError) → FittingErr b c e → TellsFaults a c
   commit_faults a b c ab bc Memory why = subst (λ (p : Pages D g). TellsFaults a p) (sym why) (quiet_faults a b ab.quiet)
-  commit_faults a b c ab bc DeviceFault why =
-      let failed = failed_after a b c ab bc why in
-      record { rose = λ working halted honest. failed.rose honest; calm = λ works honest. both (has_halted c) failed.halted works }
-  commit_faults a b c ab bc _ why = absurd why
+  commit_faults a b c ab bc _ why = search (rules, failed_after)
 
   pub no_faults : (a b c : Pages D g) → Passed a b → ((disk_in c).is_honest → (disk_in b).is_honest) → has_halted c ≡ false → ((disk_in c).is_honest → (disk_in c).faults ≡ (disk_in b).faults) → TellsFaults a c
-  no_faults a b c ab bc works passed = record {
-    rose = λ working halted honest. both (has_halted c) halted works;
-    calm = λ still honest. passed honest ∙ ab.faults (bc honest);
-  }
+  no_faults a b c ab bc works passed = search rules
 
   -- ---- pairs that came to be held
   module _ (law : NamedIsHeld) (count : ℕ) (from next : List ℕ) (t u : Txn) (a b : Pages D g) (start : IsBegun a t) (held : HasHeld (count < 8) count from next t u a b) where
@@ -69,14 +57,7 @@ module _ {D : Type 0} {g : Ghosts D} where
     pub taken_of : (disk_in b).is_honest → (m : KeyMap) (d : Desk) → InPages a m → IsOldMap m d → AreHeldTo from m → IsTaken m d
     taken_of honest m d holds is done =
         let was = held_of honest m holds (record { tidy = is.tidy; done = done }) in
-        record {
-          n = was.n;
-          reads = subst (λ (P : Image). InTxn u P was.n) (sym (held.passed.quiet.same honest)) was.reads;
-          is = map_by law count m was.n false d was.by is;
-          by = was.by;
-          done = was.done;
-          all = was.all;
-        }
+        search (held.passed.quiet.same, was.reads, map_by, was.by, was.done)
 
     pub taken_writes : count ≤ 8 → txn_writes u ≤ 207
     taken_writes few = let writes = held.writes in let none = start.none in omega arith

@@ -1,5 +1,5 @@
 -- Pairs that come to be held one after the other within a transaction.
-use Rattle.std.{specs.Prelude.{Option, Some}, proofs.Common.{◌≡◌, ◌<◌, ◌+◌, ◌++◌, ℕ, false, List, [], refl, sym, ap, subst, ◌∙◌, arith}}
+use Rattle.std.{specs.Prelude.{Option, Some}, proofs.Common.{rules, ◌≡◌, ◌<◌, ◌+◌, ◌++◌, ℕ, false, List, [], refl, sym, ap, subst, ◌∙◌, arith}}
 use Rattle.sector_device.specs.{claim.Disk.Image, declared.SectorDevice.Ghosts}
 use Rattle.page_store.specs.{claim.Transactions.{stored, disk_in, txn_root, over, IsQuiet, Passed}, declared.pages.Pages.Pages, declared.txn.Txn.Txn}
 use Rattle.page_store.proofs.Stops.{passed_none, passed_more, failed_more}
@@ -183,9 +183,7 @@ module _ {D : Type 0} {g : Ghosts D} where
   less_held ended count has more then less t u a b gives leaves one = record {
     passed = one.passed;
     pages = one.pages;
-    held = λ honest m reads known.
-        let was = one.held honest m reads (gives m known) in
-        record { n = was.n; reads = was.reads; by = was.by; done = leaves was.n was.done; all = was.all };
+    held = λ honest m reads known. search (rules, one.held honest m reads (gives m known));
     writes = one.writes;
     taken = one.taken;
   }

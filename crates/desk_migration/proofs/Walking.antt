@@ -1,27 +1,22 @@
 -- Steps of a walk over parts of revisions.
 use Rattle.std.specs.{Prelude.IfSome, FinMap.{entries, get}}
-use Rattle.std.proofs.Common.{◌≡◌, ◌<◌, ℕ, List, [], ◌∷◌, length, take, get_or, Bool, true, false, Option, Some, refl, sym, ap, subst, ◌∙◌}
-use Rattle.std.proofs.lemmas.List.Elements.{All-nil, Contains-get_or}
+use Rattle.std.proofs.Common.{rules, ◌≡◌, ◌<◌, ℕ, List, [], length, take, get_or, Bool, true, false, Option, Some, sym, subst, ◌∙◌}
+use Rattle.std.proofs.lemmas.List.Elements.{Contains-get_or}
 use Rattle.page_btree.specs.page_node.Places.{entries_from}
 use Rattle.btree_walks.specs.declared.rows.Row.{Row}
-use Rattle.store_rows.specs.{claim.Keys.{key_of, Fits, holding, part}, claim.Lists.chunks_bytes, claim.Rows.{KeyMap, Lacks}, claim.Tidy.IsNamedBy}
+use Rattle.store_rows.specs.{claim.Keys.{Fits, holding, part}, claim.Lists.chunks_bytes, claim.Rows.{KeyMap, Lacks}}
 use Rattle.store_check.proofs.FirstRows.{first_there}
 use Rattle.desk_opening.specs.plan_rows.Holding as chunk
 use Rattle.desk_migration.specs.{claim.Holding.{AreHeldTo, IsUnheld}, Outcomes.{IsReadAs, IsToldAt}, Parts.{IsPartFrom, IsPartRow, IsUnderWay}}
-use Rattle.desk_migration.specs.{Walks.{after, HoldsEach, HoldsIt, IsNextPart, IsWalking}, declared.parts.Part.Part, declared.walks.Walk.Walk}
-use Rattle.desk_migration.proofs.{Order.{fewer_after, first_itself}, PartRows.{named_fits, part_passed, part_reached, part_row, read_as, stands_held}}
+use Rattle.desk_migration.specs.{Walks.{after, HoldsEach, IsNextPart, IsWalking}, declared.parts.Part.Part, declared.walks.Walk.Walk}
+use Rattle.desk_migration.proofs.{Order.{fewer_after, first_itself}, PartRows.{part_passed, part_reached, part_row, read_as, stands_held}}
 
 never_both : {X : Type 0} (b : Bool) → b ≡ true → b ≡ false → X
 never_both b one other = let clash : true ≡ false = sym one ∙ other in absurd (cc)
 
 -- ---- the beginning
 pub begins_walking : (m : KeyMap) (from : List ℕ) (walk : Walk) → walk.from ≡ from → walk.is_within ≡ false → walk.seen.numbers.items ≡ [] → IsUnderWay from m → IsWalking walk m
-begins_walking m from walk same outside none way = record {
-  tidy = way.tidy;
-  done = subst (λ (k : List ℕ). AreHeldTo k m) (sym same) way.done;
-  within = λ on. never_both walk.is_within on outside;
-  seen = subst (λ (l : List ℕ). HoldsEach walk.seen.plan l m) (sym none) (All-nil (HoldsIt walk.seen.plan m));
-}
+begins_walking m from walk same outside none way = search (rules, way.tidy, way.done, never_both, walk.is_within, walk.seen.plan)
 
 -- ---- going into a part
 pub enters_part : (m : KeyMap) (old new : Walk) (row : Row) → IsWalking old m → IsPartFrom true old.from row m → IsReadAs row new.part → new.from ≡ row.key → new.is_within ≡ true → new.place ≡ 0 → new.seen ≡ old.seen → IsWalking new m × IsNextPart old new m
@@ -32,24 +27,14 @@ enters_part m old new row walking found read from within place seen =
       record {
         tidy = walking.tidy;
         done = subst (λ (k : List ℕ). AreHeldTo k m) (sym from) (part_reached m walking.tidy old.from row found.0 walking.done);
-        within = λ on. record {
-          revision = of.revision;
-          index = of.index;
-          fits = subst (λ (p : ℕ). Fits (part p of.revision of.index)) (sym plans) of.fits;
-          key_is = from ∙ of.key_is ∙ ap (λ (p : ℕ). key_of (part p of.revision of.index)) (sym plans);
-          chunks = read.chunks;
-          row = ap (get m) from ∙ there ∙ ap Some (sym read.value);
-          held = subst (λ (k : ℕ). HoldsEach new.part.plan (take k new.part.numbers.items) m) (sym place) (All-nil (HoldsIt new.part.plan m));
-        };
+        within = λ on. search (rules, of.revision, of.index, of.fits, of.key_is, read.chunks, new.part.plan);
         seen = subst (λ (p : Part). HoldsEach p.plan p.numbers.items m) (sym seen) walking.seen;
       },
-      record { within = within; more = found.0.0; first = found.0.1 ∙ (λ i. (sym from i, sym read.value i) ∷ found.0.0) },
+      search (rules, found.0.0),
     )
 
 pub stays_within : (m : KeyMap) (walk : Walk) → walk.is_within ≡ true → IsWalking walk m → IsWalking walk m × IsNextPart walk walk m
-stays_within m walk on walking =
-    let first = first_itself m walk.from (chunks_bytes walk.part.numbers.items) (walking.within on).row in
-    (walking, record { within = on; more = first.0; first = first.1 })
+stays_within m walk on walking = search (rules, first_itself, walk.from)
 
 -- ---- within a part
 abbrev pub at_place : Walk → ℕ → Walk
@@ -59,33 +44,7 @@ module _ (m : KeyMap) (walk : Walk) (walking : IsWalking walk m) (on : walk.is_w
   -- a chunk at a place isn't held, and those before it are
   pub reaches : (place : ℕ) → HoldsEach walk.part.plan (take place walk.part.numbers.items) m → place < length walk.part.numbers.items → Lacks m (holding walk.part.plan (get_or walk.part.numbers.items place 0))
       → IsWalking (at_place walk place) m × IsUnheld m walk.part.plan (get_or walk.part.numbers.items place 0)
-  reaches place held less lacks =
-      let within = walking.within on in
-      let named : IsNamedBy m walk.part.plan (get_or walk.part.numbers.items place 0) = record {
-        revision = within.revision;
-        index = within.index;
-        part_fits = within.fits;
-        numbers = walk.part.numbers.items;
-        chunks = within.chunks;
-        row = ap (get m) (sym within.key_is) ∙ within.row;
-        among = Contains-get_or walk.part.numbers.items place 0 less;
-      } in (
-        record {
-          tidy = walking.tidy;
-          done = walking.done;
-          within = λ again. record {
-            revision = within.revision;
-            index = within.index;
-            fits = within.fits;
-            key_is = within.key_is;
-            chunks = within.chunks;
-            row = within.row;
-            held = held;
-          };
-          seen = walking.seen;
-        },
-        record { named = named; fits = named_fits m walk.part.plan (get_or walk.part.numbers.items place 0) named; lacks = lacks },
-      )
+  reaches place held less lacks = search (rules, walking.within, walk.part.plan, Contains-get_or, walking.tidy, walking.done, walking.seen)
 
   -- each chunk is held
   pub passes : (old new : Walk) → IsNextPart old walk m → HoldsEach walk.part.plan walk.part.numbers.items m → new.from ≡ after walk.from → new.is_within ≡ false → new.seen ≡ walk.part
@@ -93,16 +52,7 @@ module _ (m : KeyMap) (walk : Walk) (walking : IsWalking walk m) (on : walk.is_w
   passes old new next held from outside seen =
       let within = walking.within on in
       let row : Row = record { key = walk.from; value = chunks_bytes walk.part.numbers.items } in
-      let of : IsPartRow row = record {
-        plan = walk.part.plan;
-        revision = within.revision;
-        index = within.index;
-        fits = within.fits;
-        key_is = within.key_is;
-        numbers = walk.part.numbers.items;
-        chunks = within.chunks;
-        value_is = refl;
-      } in
+      let of : IsPartRow row = search (walk.part.plan, within.revision, within.index, within.fits, within.key_is) in
       let first = first_itself m walk.from row.value within.row in (
         record {
           tidy = walking.tidy;

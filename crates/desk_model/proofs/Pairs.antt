@@ -1,7 +1,7 @@
 -- Pairs of places in their order.
-use Rattle.std.specs.{Cmp.{IsTotalOrder, IsEquivalence, unsigned_ties}, List.dedup, List.Sorted.{IsSorted, IsStrictlySortedBy, IsStrictlyIncreasing}}
-use Rattle.std.specs.{Ordering.{nat_cmp, ordering_then, eq_by_cmp, is_eq}, declared.cmp.Ordering.Ordering, declared.cmp.Ordering.TheVariants.{Less, Equal, Greater}}
-use Rattle.std.proofs.Common.{◌≡◌, ℕ, zero, suc, ◌≤◌, ◌+◌, ◌<◌, ◌⊎◌, inl, inr, Bool, true, ◌↔◌, IsTrue, ◌&&◌, eqb, List, [], ◌∷◌, ◌++◌, length, get_or, take, Contains, refl, sym, ap, subst, ◌∙◌, arith, ⊎_elim}
+use Rattle.std.specs.{Cmp.{IsTotalOrder, IsEquivalence}, List.dedup, List.Sorted.{IsSorted, IsStrictlySortedBy, IsStrictlyIncreasing}}
+use Rattle.std.specs.{Ordering.{nat_cmp, ordering_then, eq_by_cmp, is_eq}, declared.cmp.Ordering.Ordering, declared.cmp.Ordering.TheVariants.{Less, Equal}}
+use Rattle.std.proofs.Common.{rules, ◌≡◌, ℕ, zero, suc, ◌≤◌, ◌+◌, ◌<◌, ◌⊎◌, inl, inr, Bool, true, ◌↔◌, IsTrue, ◌&&◌, eqb, List, [], ◌∷◌, ◌++◌, length, get_or, take, Contains, refl, sym, ap, subst, ◌∙◌, arith, ⊎_elim}
 use Rattle.std.proofs.lemmas.Bool.{lt-ltb, cases_lt}
 use Rattle.std.proofs.lemmas.Cmp.{nat_cmp_total, nat_eq_equiv, on_total, then_total, on_equiv, and_equiv, ranked}
 use Rattle.std.proofs.lemmas.List.{take_more, take_all, get_or_default}
@@ -26,28 +26,20 @@ both_equal Less q = refl
 both_equal _ q = refl
 
 pub pair_ties : (p q : Pair) → pair_eq p q ≡ eq_by_cmp pair_cmp p q
-pair_ties p q =
-    ap (λ (b : Bool). b && eqb p.second q.second) (unsigned_ties p.first q.first)
-    ∙ ap (λ (b : Bool). is_eq (nat_cmp p.first q.first) && b) (unsigned_ties p.second q.second)
-    ∙ both_equal (nat_cmp p.first q.first) (nat_cmp p.second q.second)
+pair_ties p q = search (rules, both_equal)
 
 before_by : (p q : Pair) (o r : Ordering) → o ≡ nat_cmp p.first q.first → r ≡ nat_cmp p.second q.second → ordering_then o r ≡ Less → IsTrue (is_before p q)
 before_by p q Less r is also less = rw (lt-ltb p.first q.first (ranked p.first q.first Less is)) refl
-before_by p q Equal r is also less =
-    let same : p.first ≡ q.first = ranked p.first q.first Equal is in
-    let second : p.second < q.second = ranked p.second q.second Less (sym less ∙ also) in
-    grind (arith, same, lt-ltb p.second q.second second)
-before_by p q Greater r is also less = absurd (cc)
+before_by p q _ r is also less = search (rules, lt-ltb)
 
 pub before_from_less : (p q : Pair) → pair_cmp p q ≡ Less → IsTrue (is_before p q)
 before_from_less p q less = before_by p q (nat_cmp p.first q.first) (nat_cmp p.second q.second) refl refl less
 
 pub rising_from_sorted : (ps : List Pair) → IsStrictlySortedBy pair_cmp ps → AreRising ps
 unfolding IsStrictlySortedBy
-rising_from_sorted [] sorted k d inside = absurd (omega arith)
-rising_from_sorted (p ∷ []) sorted k d inside = absurd (omega arith)
 rising_from_sorted (p ∷ q ∷ ps) sorted zero d inside = before_from_less p q (All-from_recursion (λ r. pair_cmp p r ≡ Less) (q ∷ ps) sorted.0 0 d (omega arith))
 rising_from_sorted (p ∷ q ∷ ps) sorted (suc k) d inside = let e : suc k + 1 ≡ suc (k + 1) = omega arith in rw e (rising_from_sorted (q ∷ ps) sorted.1 k d (omega arith))
+rising_from_sorted _ sorted k d inside = absurd (omega arith)
 
 pub deduped_rising : (ps : List Pair) → IsSorted pair_cmp ps → AreRising (dedup pair_eq ps)
 deduped_rising ps sorted = rising_from_sorted (dedup pair_eq ps) (IsStrictlySortedBy-dedup pair_total pair_ties ps sorted)
@@ -59,9 +51,8 @@ pub pair_exact : CmpEqualImpliesEq pair_cmp
 pair_exact p q same = by_parts p q (nat_cmp p.first q.first) (nat_cmp p.second q.second) refl refl same
   where
     by_parts : (p q : Pair) (o r : Ordering) → o ≡ nat_cmp p.first q.first → r ≡ nat_cmp p.second q.second → ordering_then o r ≡ Equal → p ≡ q
-    by_parts p q Less r is also same = absurd (cc)
     by_parts p q Equal r is also same = λ i. record { first = ranked p.first q.first Equal is i; second = ranked p.second q.second Equal (sym same ∙ also) i }
-    by_parts p q Greater r is also same = absurd (cc)
+    by_parts p q _ r is also same = absurd (cc)
 
 pub pair_eq_is : (p q : Pair) → pair_eq p q ≡ true → p ≡ q
 pair_eq_is p q same = tells_apart pair_exact p q (sym (pair_ties p q) ∙ same)
@@ -73,24 +64,13 @@ same_pair p q first second = λ i. record { first = first i; second = second i }
 
 module _ (blocks : List BlockRow) (rising : IsStrictlyIncreasing (ids_of blocks)) where
   one_place : (i j : ℕ) → i < length blocks → j < length blocks → id_at blocks i ≡ id_at blocks j → i ≡ j
-  one_place i j first second same = ⊎_elim
-      (λ (less : i < j). absurd (omega (arith, rises blocks rising i j less second, same)))
-      (λ (most : j ≤ i). ⊎_elim
-      (λ (more : j < i). absurd (omega (arith, rises blocks rising j i more first, same)))
-      (λ (over : i ≤ j). omega arith)
-      (cases_lt j i))
-      (cases_lt i j)
+  one_place i j first second same = search (rules, rises, cases_lt)
 
   same_way : (p q : Pair) → IsPair (length blocks) p → IsPair (length blocks) q → pair_ids blocks p ≡ pair_ids blocks q → p ≡ q
-  same_way p q one other same = same_pair p q
-      (one_place p.first q.first one.first other.first (ap (λ (t : ℕ × ℕ). t.0) same))
-      (one_place p.second q.second one.second other.second (ap (λ (t : ℕ × ℕ). t.1) same))
+  same_way p q one other same = search (rules, same_pair, one_place)
 
   other_way : (p q : Pair) → IsPair (length blocks) p → IsPair (length blocks) q → pair_ids blocks p ≡ turned (pair_ids blocks q) → ⊥
-  other_way p q one other same =
-      let first : p.first ≡ q.second = one_place p.first q.second one.first other.second (ap (λ (t : ℕ × ℕ). t.0) same) in
-      let second : p.second ≡ q.first = one_place p.second q.first one.second other.first (ap (λ (t : ℕ × ℕ). t.1) same) in
-      omega (arith, one.rises, other.rises, first, second)
+  other_way p q one other same = search (rules, one_place)
 
   is_it : (p q : Pair) (t : ℕ × ℕ) → IsPair (length blocks) p → IsPair (length blocks) q → (t ≡ pair_ids blocks p) ⊎ (t ≡ turned (pair_ids blocks p))
       → (t ≡ pair_ids blocks q) ⊎ (t ≡ turned (pair_ids blocks q)) → p ≡ q

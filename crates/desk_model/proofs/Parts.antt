@@ -1,6 +1,6 @@
 -- Counties that are listed in part, and the first block that is left out.
 use Rattle.std.specs.{Prelude.{not, ◌&&◌, ◌==◌, is_some, option_map}, List.{position_or_len, Any}}
-use Rattle.std.proofs.Common.{◌≡◌, ℕ, ◌<◌, ◌≤◌, true, false, length, get_or, Option, Some, None, IsSome, ◌⊎◌, inl, inr, arith, refl, ap, sym, ◌∙◌, ⊎_elim}
+use Rattle.std.proofs.Common.{rules, ◌≡◌, ℕ, ◌<◌, ◌≤◌, true, false, length, get_or, Option, Some, None, IsSome, ◌⊎◌, inl, inr, arith, refl, ap, sym, ◌∙◌, ⊎_elim}
 use Rattle.std.proofs.lemmas.List.{get_or-map, length-map}
 use Rattle.std.proofs.lemmas.List.Folds.{find_at, list_any_at, Any-from_list_any}
 use Rattle.std.proofs.lemmas.List.Sums.{fails_before_first, passes_at_first}
@@ -60,9 +60,7 @@ module _ (g : GeographyModel) (listed : Values) (valid : AreBlocks g.blocks) whe
   block_with P (place, id, inside, there, is) =
       let within : place < length g.blocks = rw length-map at inside in
       ⊎_elim
-      (λ found.
-      let number : id ≡ found.0.id = sym there ∙ get_or_default_zero (ids g) place id inside ∙ number_at place found.0 within found.3 in
-      (place, found.0, within, found.3, rw number at is))
+      (λ found. search (rules, get_or_default_zero, number_at))
       (λ past. absurd (omega (arith, within, past.0)))
       (slice_get_cases g.blocks place).1
 
@@ -119,9 +117,7 @@ module _ (g : GeographyModel) (listed : Values) (valid : AreBlocks g.blocks) whe
 
   -- and where there is one, there is such a block
   is_first : (county : ℕ) → IsInPart g listed county → IsFirst (partly_listed g listed)
-  is_first county part =
-      let (k, row, left, is) = left_of county part in
-      ⊎_elim (λ none. let from : first ≤ k = from_first k row left in absurd (omega (arith, from, left.within, none.0))) (λ told. told) first_is
+  is_first county part = search (arith, left_of county part, from_first, first_is)
 
   least_from : (county : ℕ) → partly_listed g listed ≡ Some county → IsLeastInPart g listed county
   least_from county says = ⊎_elim

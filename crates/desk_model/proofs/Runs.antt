@@ -1,6 +1,6 @@
 -- How lists are cut at the counties.
 use Rattle.std.specs.{List.concat, List.Sorted.IsStrictlyIncreasing}
-use Rattle.std.proofs.Common.{◌≡◌, ◌≢◌, ℕ, zero, suc, ◌+◌, ◌-◌, ◌<◌, ◌≤◌, Bool, true, false, cond, eqb, List, [], ◌∷◌, ◌++◌, map, length, take, drop, get_or, All, refl, sym, ap, subst, ◌∙◌, arith, append_assoc, take-append-drop, length-append, length-drop, length-take-le, drop-cons, add-one, ⊎_elim}
+use Rattle.std.proofs.Common.{rules, ◌≡◌, ◌≢◌, ℕ, zero, suc, ◌+◌, ◌-◌, ◌<◌, ◌≤◌, Bool, true, false, cond, eqb, List, [], ◌∷◌, ◌++◌, map, length, take, drop, get_or, All, refl, sym, ap, subst, ◌∙◌, arith, append_assoc, take-append-drop, length-append, length-drop, length-take-le, drop-cons, add-one, ⊎_elim}
 use Rattle.std.proofs.Math.Seq.{take-append_seam, drop-append_seam}
 use Rattle.std.proofs.lemmas.Bool.{ne_eqb, eq-eqb, cases_lt}
 use Rattle.std.proofs.lemmas.List.Elements.{All-push}
@@ -26,33 +26,21 @@ stepped : (cs : List ℕ) (first place : ℕ) → place < length cs → runs_fro
 stepped cs first place inside = rw (drop-cons cs place 0, add-one place) refl
 
 pub cut_same : (cs : List ℕ) (all : List CountyRange) (first place : ℕ) → IsCutTo cs all first place → place < length cs → get_or cs place 0 ≡ get_or cs first 0 → IsCutTo cs all first (place + 1)
-cut_same cs all first place was inside same = record {
-  before = omega (arith, was.before);
-  here = ap (λ rest. all ++ laid first rest) (more ∙ sym (stepped cs first place inside ∙ ap (λ b. cond b (runs_from (get_or cs first 0) (place - first + 1) (drop (place + 1) cs)) ((place - first) ∷ runs_from (get_or cs place 0) 1 (drop (place + 1) cs))) (eq-eqb _ _ same))) ∙ was.here;
-}
+cut_same cs all first place was inside same = search (rules, more, stepped, eq-eqb)
   where
     more : runs_from (get_or cs first 0) (place + 1 - first) (drop (place + 1) cs) ≡ runs_from (get_or cs first 0) (place - first + 1) (drop (place + 1) cs)
     more = let e : place + 1 - first ≡ place - first + 1 = omega (arith, was.before) in ap (λ n. runs_from (get_or cs first 0) n (drop (place + 1) cs)) e
 
 pub cut_more : (cs : List ℕ) (all : List CountyRange) (first place : ℕ) → IsCutTo cs all first place → place < length cs → get_or cs place 0 ≢ get_or cs first 0
     → IsCutTo cs (all ++ cut_at first (place - first) ∷ []) place (place + 1)
-cut_more cs all first place was inside apart = record {
-  before = omega arith;
-  here = append_assoc all (cut_at first (place - first) ∷ []) _ ∙ ap (λ rest. all ++ rest) (joined ∙ ap (laid first) (sym (stepped cs first place inside ∙ ap (λ b. cond b (runs_from (get_or cs first 0) (place - first + 1) (drop (place + 1) cs)) ((place - first) ∷ runs_from (get_or cs place 0) 1 (drop (place + 1) cs))) (ne_eqb _ _ apart)))) ∙ was.here;
-}
+cut_more cs all first place was inside apart = search (rules, append_assoc, joined, stepped, ne_eqb)
   where
     joined : (cut_at first (place - first) ∷ []) ++ laid place (runs_from (get_or cs place 0) (place + 1 - place) (drop (place + 1) cs))
         ≡ laid first ((place - first) ∷ runs_from (get_or cs place 0) 1 (drop (place + 1) cs))
-    joined =
-        let one : place + 1 - place ≡ 1 = omega arith in
-        let sum : first + (place - first) ≡ place = omega (arith, was.before) in
-        rw (one, sum) refl
+    joined = search rules
 
 pub cut_end : (cs : List ℕ) (all : List CountyRange) (first place : ℕ) → IsCutTo cs all first place → length cs ≤ place → place ≤ length cs → all ++ cut_at first (length cs - first) ∷ [] ≡ laid 0 (runs cs)
-cut_end cs all first place was most least =
-    let same : place ≡ length cs = omega arith in
-    let none : drop place cs ≡ [] = nothing (drop place cs) (omega (arith, length-drop place cs)) in
-    ap (λ n. all ++ cut_at first (n - first) ∷ []) (sym same) ∙ ap (λ rest. all ++ laid first (runs_from (get_or cs first 0) (place - first) rest)) (sym none) ∙ was.here
+cut_end cs all first place was most least = search (arith, nothing (drop place cs) (omega (arith, length-drop place cs)))
   where
     nothing : (xs : List ℕ) → length xs ≡ 0 → xs ≡ []
     nothing [] e = refl
@@ -91,9 +79,7 @@ lengths_runs [] xs long = refl
 lengths_runs (c ∷ cs) xs long = lengths_from c 1 cs xs (omega arith)
 
 pub lists_cut : ListsAreCut
-lists_cut g xs long =
-    let same : length xs ≡ length (counties g) = rw (length-map, length-map) long in
-    record { whole = whole_runs (counties g) xs same; lengths = lengths_runs (counties g) xs same }
+lists_cut g xs long = search (length-map, long, whole_runs, lengths_runs)
 
 -- ---- counties
 
@@ -138,11 +124,7 @@ alone c prefix of = record {
     only (suc k) d inside = absurd (omega arith)
 
 with_prefix : (c d : ℕ) (prefix : List ℕ) (ps : List (List ℕ)) → IsOf c prefix → c < d → ClimbFrom d ps → ClimbFrom c (prefix ∷ ps)
-with_prefix c d prefix ps of less from = record {
-  some = omega arith;
-  head = of.all 0 0 of.some;
-  are = record { one = each; rising = rising };
-}
+with_prefix c d prefix ps of less from = search (rules, each, rising)
   where
     each : All IsOneCounty (prefix ∷ ps)
     each zero e inside = one_county c prefix of

@@ -1,11 +1,11 @@
 -- The counties of a revision, laid one after the other over the districts of the one before.
 use Rattle.std.specs.List.{concat}
-use Rattle.std.proofs.Common.{◌≡◌, ◌<◌, ◌≤◌, ◌+◌, ◌-◌, ◌++◌, ℕ, zero, suc, List, [], ◌∷◌, length, get_or, take, take_all, drop, map, refl, sym, ap, subst, ◌∙◌, arith, append_assoc, length-append, length-drop, length-take, inl, inr}
+use Rattle.std.proofs.Common.{rules, ◌≡◌, ◌<◌, ◌≤◌, ◌+◌, ◌-◌, ◌++◌, ℕ, zero, suc, List, [], ◌∷◌, length, get_or, take, take_all, drop, map, refl, sym, ap, subst, ◌∙◌, arith, append_assoc, length-append, length-drop, inl, inr}
 use Rattle.std.proofs.Math.Seq.{take-add}
 use Rattle.std.proofs.lemmas.List.{append-nil, drop-append-le, drop-drop, drop_all, drop_at}
 use Rattle.std.proofs.lemmas.List.Elements.{All-drop, All-take}
 use Rattle.std.proofs.lemmas.List.{length-take-le, take_at, take-append-drop, take-append-le}
-use Rattle.desk_model.specs.{claim.Ranges.{cut, sizes}, Ranges.{laid, ListsAreCut}, declared.ranges.CountyRange.CountyRange}
+use Rattle.desk_model.specs.{Ranges.{laid, ListsAreCut}, declared.ranges.CountyRange.CountyRange}
 use Rattle.desk_catalogue.specs.shared_lists.Laid.{with_at}
 use Rattle.store_rows.specs.{claim.Rows.KeyMap, claim.RevisionRows.HasChunk}
 use Rattle.std.proofs.lemmas.Bool.{cases_lt}
@@ -14,12 +14,7 @@ use Rattle.plan_rows.specs.ChunkReading.{HasPieces}
 
 -- ---- a part in the place of its own
 pub with_long : (first : ℕ) (part ds : List ℕ) → first + length part ≤ length ds → length (with_at first part ds) ≡ length ds
-with_long first part ds within =
-    let prefix = length-take first ds in
-    let back = length-drop (first + length part) ds in
-    let one = length-append (take first ds) (part ++ drop (first + length part) ds) in
-    let two = length-append part (drop (first + length part) ds) in
-    omega arith
+with_long first part ds within = search (rules, length-drop, length-append)
 
 module _ (p n : ℕ) (all before : List ℕ) (within : p + n ≤ length all) where
   prefix_long : length (take p all) ≡ p
@@ -32,11 +27,7 @@ module _ (p n : ℕ) (all before : List ℕ) (within : p + n ≤ length all) whe
   later = drop_at (take p all) (drop p before) p prefix_long
 
   after_more : drop (p + length (take n (drop p all))) (take p all ++ drop p before) ≡ drop (p + n) before
-  after_more =
-      ap (λ k. drop (p + k) (take p all ++ drop p before)) part_long
-      ∙ sym (drop-drop n p (take p all ++ drop p before))
-      ∙ ap (λ (l : List ℕ). drop n l) later
-      ∙ drop-drop n p before
+  after_more = search (part_long, drop-drop n p (take p all ++ drop p before), later, drop-drop n p before)
 
   -- a part is laid after those before it
   laid_more : with_at p (take n (drop p all)) (take p all ++ drop p before) ≡ take (p + n) all ++ drop (p + n) before
@@ -47,10 +38,7 @@ module _ (p n : ℕ) (all before : List ℕ) (within : p + n ≤ length all) whe
 
 -- a part that stands there already changes nothing
 in_place : (p n : ℕ) (ds : List ℕ) → p + n ≤ length ds → with_at p (take n (drop p ds)) ds ≡ ds
-in_place p n ds within =
-    ap (λ (l : List ℕ). with_at p (take n (drop p ds)) l) (sym (take-append-drop p ds))
-    ∙ laid_more p n ds ds within
-    ∙ take-append-drop (p + n) ds
+in_place p n ds within = search (take-append-drop p ds, laid_more p n ds ds within, take-append-drop (p + n) ds)
 
 -- ---- what stands at a place of what a part was laid over
 module _ (p : ℕ) (part ds : List ℕ) (within : p + length part ≤ length ds) where
@@ -59,16 +47,10 @@ module _ (p : ℕ) (part ds : List ℕ) (within : p + length part ≤ length ds)
 
   -- before it
   kept_prefix : (at n : ℕ) (rest : List ℕ) → at + n ≤ p → take n (drop at (take p ds ++ rest)) ≡ take n (drop at (take p ds))
-  kept_prefix at n rest before =
-      let long = prefix_at in
-      let left = length-drop at (take p ds) in
-      ap (λ (l : List ℕ). take n l) (drop-append-le at (take p ds) rest (omega arith)) ∙ take-append-le n (drop at (take p ds)) rest (omega arith)
+  kept_prefix at n rest before = search (rules, prefix_at, length-drop, drop-append-le, take-append-le)
 
   pub before_part : (at n : ℕ) → at + n ≤ p → take n (drop at (with_at p part ds)) ≡ take n (drop at ds)
-  before_part at n before =
-      kept_prefix at n (part ++ drop (p + length part) ds) before
-      ∙ sym (kept_prefix at n (drop p ds) before)
-      ∙ ap (λ (l : List ℕ). take n (drop at l)) (take-append-drop p ds)
+  before_part at n before = search (kept_prefix at n (part ++ drop (p + length part) ds) before, kept_prefix at n (drop p ds) before, take-append-drop p ds)
 
   -- itself
   pub at_part : take (length part) (drop p (with_at p part ds)) ≡ part
@@ -87,9 +69,7 @@ module _ (p : ℕ) (part ds : List ℕ) (within : p + length part ≤ length ds)
   after_part at n after =
       let more = at - (p + length part) in
       let is : (p + length part) + more ≡ at = omega arith in
-      ap (λ k. take n (drop k (with_at p part ds))) (sym is)
-      ∙ ap (λ (l : List ℕ). take n l) (sym (drop-drop more (p + length part) (with_at p part ds)) ∙ ap (λ (l : List ℕ). drop more l) end_at ∙ drop-drop more (p + length part) ds)
-      ∙ ap (λ k. take n (drop k ds)) is
+      search (drop-drop more (p + length part) (with_at p part ds), end_at, drop-drop more (p + length part) ds)
 
 -- ---- a county that the revision before has too
 pub known_stays : (n number : ℕ) (c : CountyRange) (last : List ℕ) (county : ℕ) (districts : List ℕ) (m : KeyMap) (chunk : List ℕ)
@@ -114,15 +94,13 @@ place_more zero (c ∷ ranges) d within = omega arith
 place_more (suc k) (c ∷ ranges) d within = let rest = place_more k ranges d (omega arith) in omega arith
 
 never_past : (k : ℕ) (ranges : List CountyRange) → place_at k ranges ≤ place_at (length ranges) ranges
-never_past zero ranges = omega arith
-never_past (suc k) [] = omega arith
 never_past (suc k) (c ∷ ranges) = let rest = never_past k ranges in omega arith
+never_past _ _ = omega arith
 
 place_rises : (j k : ℕ) (ranges : List CountyRange) → j ≤ k → place_at j ranges ≤ place_at k ranges
-place_rises zero k ranges less = omega arith
 place_rises (suc j) zero ranges less = absurd (omega arith)
-place_rises (suc j) (suc k) [] less = omega arith
 place_rises (suc j) (suc k) (c ∷ ranges) less = let rest = place_rises j k ranges (omega arith) in omega arith
+place_rises _ _ _ less = omega arith
 
 first_at : (first : ℕ) (ns : List ℕ) (k : ℕ) (d : CountyRange) → k < length (laid first ns)
     → (get_or (laid first ns) k d).first ≡ first + place_at k (laid first ns)
@@ -151,11 +129,7 @@ module _ (lists : ListsAreCut) (ranges : List CountyRange) (count : ℕ) (are : 
   all_placed : (xs : List ℕ) → length xs ≡ count → place_at (length ranges) ranges ≡ length xs
   all_placed xs whole =
       let cut_up = lists are.the_geography xs (whole ∙ are.blocks) in
-      ap (λ (cs : List CountyRange). place_at (length cs) cs) are.are
-      ∙ laid_total 0 (sizes are.the_geography)
-      ∙ ap total (sym cut_up.lengths)
-      ∙ sym (joined_long (cut are.the_geography xs))
-      ∙ ap (λ (l : List ℕ). length l) cut_up.whole
+      search (rules, laid_total, joined_long)
 
   pub all_laid : (all before : List ℕ) (k : ℕ) → length before ≡ count → length all ≡ length before → k ≡ length ranges
       → so_far ranges all before k ≡ all
@@ -170,20 +144,13 @@ module _ (lists : ListsAreCut) (ranges : List CountyRange) (count : ℕ) (are : 
     here = get_or ranges k d
 
     begins : here.first ≡ place_at k ranges
-    begins =
-        let at : here.first ≡ 0 + place_at k ranges
-        = subst (λ (cs : List CountyRange). k < length cs → (get_or cs k d).first ≡ 0 + place_at k cs) (sym are.are) (first_at 0 (sizes are.the_geography) k d) within in
-        omega arith
+    begins = search (rules, first_at)
 
     ends : here.first + here.count ≡ place_at (suc k) ranges
     ends = let at = begins in let more = place_more k ranges d within in omega arith
 
     pub county_fits : (xs : List ℕ) → length xs ≡ count → here.first + here.count ≤ length xs
-    county_fits xs whole =
-        let end = ends in
-        let past = never_past (suc k) ranges in
-        let all = all_placed xs whole in
-        omega arith
+    county_fits xs whole = search (rules, ends, never_past, all_placed)
 
     module _ (n : ℕ) (names last before all districts : List ℕ) (number : ℕ) (m : KeyMap) (whole : length before ≡ count)
         (said : AreNamed n ranges names last before m all) (each : length names ≡ length ranges) (numbered : number ≡ get_or names k 0)
@@ -198,9 +165,7 @@ module _ (lists : ListsAreCut) (ranges : List CountyRange) (count : ℕ) (are : 
       from_first = laid_so ∙ ap (λ p. take p all ++ drop p before) (sym begins)
 
       still_before : take here.count (drop here.first districts) ≡ take here.count (drop here.first before)
-      still_before =
-          ap (λ (l : List ℕ). take here.count (drop here.first l)) from_first
-          ∙ ap (λ (l : List ℕ). take here.count l) (later here.first here.count all before fits)
+      still_before = search (from_first, later here.first here.count all before fits)
 
       -- so the next county is this one's chunk
       pub is_county : IsCounty n number here last k districts m chunk_of
@@ -219,11 +184,7 @@ module _ (lists : ListsAreCut) (ranges : List CountyRange) (count : ℕ) (are : 
 
       -- and with it one county more is laid
       pub county_more : with_at here.first chunk_of districts ≡ so_far ranges all before (k + 1)
-      county_more =
-          let next : suc k ≡ k + 1 = omega arith in
-          ap (λ (l : List ℕ). with_at here.first chunk_of l) from_first
-          ∙ laid_more here.first here.count all before fits
-          ∙ ap (λ p. take p all ++ drop p before) (ends ∙ ap (λ n. place_at n ranges) next)
+      county_more = search (rules, from_first, laid_more, fits, ends)
 
 -- ---- the first counties were read, and the others stand as before
 pub record LaidTo (ranges : List CountyRange) (names last before : List ℕ) (m : KeyMap) (k : ℕ) (districts : List ℕ) : Type 0 where
@@ -241,41 +202,23 @@ module _ (lists : ListsAreCut) (ranges : List CountyRange) (count : ℕ) (are : 
   at county = get_or ranges county no_cut
 
   apart : (i j : ℕ) → i < j → j < length ranges → (at i).first + (at i).count ≤ (at j).first
-  apart i j less inside =
-      let end = ends lists ranges count are i no_cut (omega arith) in
-      let start = begins lists ranges count are j no_cut inside in
-      let rises = place_rises (suc i) j ranges (omega arith) in
-      omega arith
+  apart i j less inside = search (ends lists ranges count are i no_cut (omega arith), begins lists ranges count are j no_cut inside, place_rises (suc i) j ranges (omega arith))
 
   module _ (number : ℕ) (numbered : number ≡ get_or names k 0) where
     -- the county stays
     stays_so : k < length last → get_or last k 0 ≡ number → after ≡ districts → LaidTo ranges names last before m (k + 1) after
     stays_so known same is = record {
-      read = λ read county less inside. elim (cases_lt county k) [
-        | inl earlier ↦ subst (λ (l : List ℕ). HasPieces (get_or names county 0) (at county).count m (part_of (at county) l)) (sym is) (laid_so.read read county earlier inside)
-        | inr not ↦
-            let here : k ≡ county = omega arith in
-            subst (λ (i : ℕ). HasPieces (get_or names i 0) (at i).count m (part_of (at i) after)) here
-            (subst (λ (n : ℕ). HasPieces n (at k).count m (part_of (at k) after)) (same ∙ numbered)
-            (subst (λ (l : List ℕ). HasPieces (get_or last k 0) (at k).count m l) (sym (ap (λ (l : List ℕ). part_of (at k) l) is ∙ laid_so.rest k (omega arith) within))
-            (read k known within)))
-      ];
+      read = λ read county less inside. search (arith, cases_lt county k);
       rest = λ county from inside. ap (λ (l : List ℕ). part_of (at county) l) is ∙ laid_so.rest county (omega arith) inside;
     }
 
     -- or is read
     module _ (laid : IsLaid number (at k) districts m after) where
       fits_so : (at k).first + length laid.chunk ≤ length districts
-      fits_so =
-          let many = laid.pieces.long in
-          let all = county_fits lists ranges count are k no_cut within districts long in
-          omega arith
+      fits_so = search (laid.pieces.long, county_fits)
 
       here_so : part_of (at k) after ≡ laid.chunk
-      here_so =
-          ap (λ (l : List ℕ). part_of (at k) l) laid.is
-          ∙ ap (λ n. take n (drop (at k).first (with_at (at k).first laid.chunk districts))) (sym laid.pieces.long)
-          ∙ at_part (at k).first laid.chunk districts fits_so
+      here_so = search (rules, at_part, fits_so)
 
       reads_so : LaidTo ranges names last before m (k + 1) after
       reads_so = record {
@@ -289,12 +232,7 @@ module _ (lists : ListsAreCut) (ranges : List CountyRange) (count : ℕ) (are : 
               (subst (λ (n : ℕ). HasPieces n (at k).count m (part_of (at k) after)) numbered
               (subst (λ (l : List ℕ). HasPieces number (at k).count m l) (sym here_so) laid.pieces))
         ];
-        rest = λ county from inside.
-            let many = laid.pieces.long in
-            let ordered = apart k county (omega arith) inside in
-            ap (λ (l : List ℕ). part_of (at county) l) laid.is
-            ∙ after_part (at k).first laid.chunk districts fits_so (at county).first (at county).count (omega arith)
-            ∙ laid_so.rest county (omega arith) inside;
+        rest = λ county from inside. search (rules, apart, after_part, fits_so);
       }
 
     pub laid_one_more : IsCountyRead number (at k) last k districts m after → LaidTo ranges names last before m (k + 1) after

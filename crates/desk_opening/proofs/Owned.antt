@@ -29,7 +29,4 @@ module _ (m : KeyMap) (counts : BTreeMap ℕ ℕ) (are : AreCounts m counts) whe
         (within.0, subst (λ (n : ℕ). revision ≤ n) of.counts within.1)
 
     pub has_owners : HasOwners counts m
-    has_owners = record {
-      rows = is.tidy.rows;
-      owned = λ plan revision index value fits has. kept_part plan revision index value fits has (count_at nat_cmp counts plan) refl;
-    }
+    has_owners = search kept_part

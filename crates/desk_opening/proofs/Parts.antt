@@ -2,7 +2,7 @@
 use Rattle.std.specs.{Prelude.{Option, is_some, MatchOption}, Ordering.eq_by_cmp, Cmp.Lexicographic.nat_list_cmp_total}
 use Rattle.std.specs.FinMap.{FinMap, empty, entries, find, get, insert, len, remove, empty_of_len, get-empty, get-entries, get-insert, get-remove, len-entries, len-insert, len-remove, same_map, slice_cmp-IsAntisymmetric, nat_cmp-IsAntisymmetric}
 use Rattle.std.specs.FinMap.Entries.{find-append}
-use Rattle.std.proofs.Common.{◌≡◌, ◌<◌, ◌≤◌, ◌+◌, ◌-◌, ℕ, zero, suc, cond, List, [], ◌∷◌, ◌++◌, length, Some, None, refl, sym, ap, subst, ◌∙◌, inl, inr, arith}
+use Rattle.std.proofs.Common.{rules, ◌≡◌, ◌<◌, ◌≤◌, ◌+◌, ◌-◌, ℕ, zero, suc, cond, List, [], ◌∷◌, ◌++◌, length, Some, None, refl, sym, ap, subst, ◌∙◌, inl, inr, arith}
 use Rattle.page_btree.specs.page_node.claim.Entries.{Entry}
 use Rattle.btree_walks.specs.Prefixes.{under}
 use Rattle.desk_model.specs.{claim.Geography.GeographyModel, claim.Desk.{Plan, name_cmp}, claim.Step.plan_limit}
@@ -31,12 +31,7 @@ abbrev pub AreAmong : Plans → Plans → Type 0
 AreAmong a b = (name : List ℕ) (p : Plan) → get a name ≡ Some p → get b name ≡ Some p
 
 still_among : (a b : Plans) (name : List ℕ) → AreAmong a b → AreAmong (remove a name) (remove b name)
-still_among a b name among other p there = elim (cases_key other name) [
-  | inl same ↦
-      let clash : ◌≡◌ {A = Option Plan} None (Some p) = sym (gone a name) ∙ ap (get (remove a name)) (sym same) ∙ there in
-      absurd (cc)
-  | inr apart ↦ left b name other apart ∙ among other p (sym (left a name other apart) ∙ there)
-]
+still_among a b name among other p there = search (rules, gone, left)
 
 one_fewer : (m : Plans) (name : List ℕ) (p : Plan) → get m name ≡ Some p → len (remove m name) + 1 ≡ len m
 one_fewer m name p there =
@@ -84,10 +79,6 @@ same_then : (o : Option (List ℕ)) (a b : Option Plan) (row : List ℕ) → o �
 same_then None a b row there is = absurd (cc)
 same_then (Some other) a b row there is = is
 
-told_there : (o : Option (List ℕ)) (a b : Option Plan) (p : Plan) → MatchOption o (a ≡ None) (λ _. a ≡ b) → a ≡ Some p → b ≡ Some p
-told_there None a b p is there = absurd (cc)
-told_there (Some row) a b p is there = sym is ∙ there
-
 pub none_read : (all : Plans) → AreRead [] empty all
 none_read all = record { each = λ name. get-empty name_cmp name }
 
@@ -95,15 +86,9 @@ module _ (taken : List Entry) (plans all : Plans) (read : AreRead taken plans al
   pub not_read : (name : List ℕ) → find key_cmp (key_of (named name)) taken ≡ None → get plans name ≡ None
   not_read name new = none_yet _ (get plans name) (get all name) new (read.each name)
 
-  are_among : AreAmong plans all
-  are_among name p there = told_there _ (get plans name) (get all name) p (read.each name) there
-
   module _ (name : List ℕ) (p : Plan) (new : find key_cmp (key_of (named name)) taken ≡ None) (there : get all name ≡ Some p) where
     more_among : AreAmong (insert plans name p) all
-    more_among other q is = elim (cases_key other name) [
-      | inl same ↦ ap (get all) same ∙ there ∙ sym (put_there plans name p) ∙ ap (get (insert plans name p)) (sym same) ∙ is
-      | inr apart ↦ are_among other q (sym (put_keeps plans name p other apart) ∙ is)
-    ]
+    more_among other q is = search (rules, cases_key other name, put_there plans name p, put_keeps)
 
     -- there is room for one plan more
     pub has_room : len all ≤ plan_limit → len plans < plan_limit

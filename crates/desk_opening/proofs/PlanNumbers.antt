@@ -1,7 +1,7 @@
 -- Numbers of plans, each once, with the counts of their revisions.
 use Rattle.std.specs.{Prelude.Contains, BTreeMap.{BTreeMap, IsEmpty, is_at, get as count_at}, Map.lookup, Cmp.{eq_by_cmp_equiv, nat_cmp_total}, Int.from_be_bytes}
 use Rattle.std.specs.{Ordering.{eq_by_cmp, nat_cmp}, FinMap.{entries, find, get}}
-use Rattle.std.proofs.Common.{◌≡◌, ◌⊎◌, ◌<◌, ◌^◌, ℕ, zero, suc, cond, List, [], ◌∷◌, ◌++◌, Bool, true, Option, Some, None, inl, inr, w64, refl, sym, ap, subst, ◌∙◌, arith, append_assoc}
+use Rattle.std.proofs.Common.{rules, ◌≡◌, ◌⊎◌, ◌<◌, ◌^◌, ℕ, zero, suc, cond, List, [], ◌∷◌, ◌++◌, Bool, true, Option, Some, None, inl, inr, w64, refl, sym, ap, subst, ◌∙◌, arith, append_assoc}
 use Rattle.std.proofs.lemmas.Map.Lookups.{exact_unsigned}
 use Rattle.std.proofs.lemmas.Map.Views.{tells_apart}
 use Rattle.std.proofs.lemmas.Nat.{from_be_bytes-to_be_bytes_8}
@@ -91,11 +91,7 @@ none_at : (counts : BTreeMap ℕ ℕ) → IsEmpty counts → (x : ℕ) → count
 none_at counts empty x = ap (λ (es : List (ℕ × ℕ)). lookup (is_at (nat_cmp x)) es) empty
 
 pub none_noted : (counts : BTreeMap ℕ ℕ) → IsEmpty counts → AreNoted [] counts
-none_noted counts empty = record {
-  among = λ x count there. absurd (some_or_none count (sym there ∙ none_at counts empty x));
-  all = λ x there. absurd (none_in x there);
-  apart = tt;
-}
+none_noted counts empty = search rules
 
 -- ---- a map with one number more
 is_same : (x y : ℕ) → is_at (nat_cmp x) y ≡ true → x ≡ y
@@ -105,18 +101,7 @@ at_itself : (x y : ℕ) → x ≡ y → is_at (nat_cmp x) y ≡ true
 at_itself x y same = subst (λ (n : ℕ). is_at (nat_cmp x) n ≡ true) same ((eq_by_cmp_equiv nat_cmp_total).refl x)
 
 among_more : (rows : List Entry) (e : Entry) (x count : ℕ) → IsAmong rows x count → IsAmong (rows ++ e ∷ []) x count
-among_more rows e x count at = record {
-  before = at.before;
-  row = at.row;
-  after = at.after ++ e ∷ [];
-  whole = ap (λ (l : List Entry). l ++ e ∷ []) at.whole ∙ append_assoc at.before (at.row ∷ at.after) (e ∷ []);
-  plan = at.plan;
-  value = at.value;
-  is = at.is;
-  fits = at.fits;
-  counts = at.counts;
-  count_fits = at.count_fits;
-}
+among_more rows e x count at = search (rules, append_assoc)
 
 pub noted_more : (rows : List Entry) (row : Row) (old new : BTreeMap ℕ ℕ) → AreNoted rows old → IsNoted row old new → AreNoted (rows ++ (row.key, row.value) ∷ []) new
 noted_more rows row old new noted now = record {
@@ -184,11 +169,7 @@ one_key a b va vb (e ∷ es) apart there also same = either_way (eq_by_cmp key_c
 
 -- where these are all rows of plans, each number is that of one
 pub all_apart : (m : KeyMap) (rows : List Entry) (counts : BTreeMap ℕ ℕ) → under plans_prefix (entries m) ≡ rows → AreNoted rows counts → ArePlansApart m
-all_apart m rows counts all noted name other number is also =
-    let one : number_in (plan_bytes is.plan) ≡ number = number_is is.plan (let same = is.is in let few = is.fits in omega arith) ∙ is.is in
-    let two : number_in (plan_bytes also.plan) ≡ number = number_is also.plan (let same = also.is in let few = also.fits in omega arith) ∙ also.is in
-    let keys = one_key (key_of (named name)) (key_of (named other)) (plan_bytes is.plan) (plan_bytes also.plan) rows noted.apart (found_among m rows name all ∙ is.row) (found_among m rows other all ∙ also.row) (one ∙ sym two) in
-    cc
+all_apart m rows counts all noted name other number is also = search (arith, number_is, one_key, found_among m rows name all, found_among m rows other all)
 
 -- ---- a row whose number was noted is none of a desk's
 numbered_at : (m : KeyMap) (g : GeographyModel) (name value : List ℕ) (o : Option Plan) → IsPlanAt m (Some g) name o → Has m (named name) value → IsNumbered m name (number_in value)
@@ -245,8 +226,6 @@ none_counted m counts empty none = record {
 
 -- what isn't noted isn't read
 pub unnoted : {D : Type 0} {g : Ghosts D} (the_geography : GeographyModel) (plans : Plans) (row : Row) (counts : BTreeMap ℕ ℕ) (t : Txn) (a : Pages D g) (e : TreeError) → NoteErr row counts e → SeekErr (Unit {0}) (Says (IsFreshPlan the_geography plans counts row)) t a a e
-unnoted the_geography plans row counts t a NotAStore why = λ honest m holds is.
-    let kept = is_kept_plan the_geography plans row m is.0 is.1.new in
-    why kept.plan kept.fits kept.value (is.1.unused kept.plan kept.fits kept.value)
+unnoted the_geography plans row counts t a NotAStore why = λ honest m holds is. search (rules, is_kept_plan the_geography plans row m is.0 is.1.new)
 unnoted the_geography plans row counts t a Memory why = tt
 unnoted the_geography plans row counts t a _ why = absurd why

@@ -1,5 +1,5 @@
 -- The revisions of a plan are what their rows say.
-use Rattle.std.proofs.Common.{◌≡◌, ◌<◌, ◌+◌, ◌++◌, ℕ, List, [], ◌∷◌, length, take, get_or, sym, subst, inl, inr, arith, length-append}
+use Rattle.std.proofs.Common.{rules, ◌≡◌, ◌<◌, ◌+◌, ◌++◌, ℕ, List, [], ◌∷◌, length, take, get_or, sym, subst, inl, inr, arith, length-append}
 use Rattle.std.proofs.lemmas.Bool.{cases_lt}
 use Rattle.std.proofs.lemmas.List.{get_or_append_left, get_or_at}
 use Rattle.desk_model.specs.{declared.ranges.CountyRange.CountyRange, Ranges.ranges_of, claim.Geography.GeographyModel, claim.Desk.Plan}
@@ -37,10 +37,7 @@ module _ (number : ℕ) (ranges : List CountyRange) (m : KeyMap) (last : List �
   ]
 
   made : ReadSoFar number ranges m names (with_revision p read.districts)
-  made = record {
-    read = shown_at;
-    last_read = λ before is. subst (λ (l : List ℕ). AreChunksRead names l ranges m) (sym (last_is p read.districts before is)) chunks;
-  }
+  made = search (rules, shown_at, last_is)
 
   pub one_more_read : ReadSoFar number ranges m names next
   one_more_read = subst (λ (q : Plan). ReadSoFar number ranges m names q) (sym read.is) made

@@ -1,12 +1,11 @@
 -- A revision of a geography's blocks, county by county.
-use Rattle.std.specs.{Prelude.{false, ◌==◌, Option, None, IfSome}, List.slice_get}
-use Rattle.std.proofs.Common.{◌≡◌, ◌<◌, ◌+◌, ◌-◌, ℕ, zero, suc, List, [], ◌∷◌, ◌++◌, length, get_or, take, drop, Some, cond, refl, sym, ap, subst, ◌∙◌, arith, length-append}
+use Rattle.std.specs.Prelude.{false, ◌==◌, Option, IfSome}
+use Rattle.std.proofs.Common.{rules, ◌≡◌, ◌<◌, ◌+◌, ◌-◌, ℕ, zero, suc, List, [], ◌∷◌, ◌++◌, length, get_or, take, drop, Some, refl, sym, ap, subst, ◌∙◌, arith, length-append}
 use Rattle.std.proofs.lemmas.Bool.Decides.{nat_tests}
-use Rattle.std.proofs.lemmas.List.Elements.{All-get_or}
 use Rattle.std.proofs.lemmas.List.{take_more, drop-drop}
-use Rattle.desk_model.specs.{claim.Geography.GeographyModel, claim.Ranges.{cut, parts, sizes}, Ranges.{ranges_of, laid}, declared.ranges.CountyRange.CountyRange, claim.Desk.Plan}
+use Rattle.desk_model.specs.{claim.Geography.GeographyModel, claim.Ranges.parts, Ranges.{ranges_of, laid}, declared.ranges.CountyRange.CountyRange, claim.Desk.Plan}
 use Rattle.desk_model.specs.claim.Subject.{revision_at}
-use Rattle.store_rows.specs.{declared.value.PlanRow.PlanRow, claim.Rows.KeyMap, Changes.with_revision, claim.RevisionRows.HasChunk}
+use Rattle.store_rows.specs.{declared.value.PlanRow.PlanRow, claim.Rows.KeyMap, Changes.with_revision}
 use Rattle.plan_rows.specs.RevisionReading.{AppendsParts, AreNames, HasParts}
 use Rattle.desk_pages.specs.claim.Desks.{AreWithin}
 use Rattle.desk_opening.specs.Reading.{AreChunksRead, AreKnown, AreNamed, BecomesKnown, BecomesLast, IsAfter, IsLast, IsNext, IsOfBlocks, IsPlanRow, IsRevisionRead, IsTold, NamesLast}
@@ -26,22 +25,12 @@ part_at (n ∷ ns) first xs (suc k) c less = ap (λ (l : List ℕ). get_or (part
 -- as many as there are counties
 pub names_of : (g : GeographyModel) (ranges : List CountyRange) (plan revision : ℕ) (m : KeyMap) (districts : List ℕ) → ranges ≡ ranges_of g
     → (is : IsOfBlocks g plan revision m districts) → AreNames plan revision (length ranges) m is.has.numbers
-names_of g ranges plan revision m districts same is =
-    let count = is.has.count in
-    let laid_as = laid_long 0 (sizes g) in
-    let parted = parts_long (sizes g) districts in
-    let many : length ranges ≡ length (ranges_of g) = ap (λ (l : List CountyRange). length l) same in
-    record { names = is.has.names; long = omega arith }
+names_of g ranges plan revision m districts same is = search (rules, laid_long, parts_long)
 
 -- name its districts
 now_known : (g : GeographyModel) (plan revision : ℕ) (m : KeyMap) (names districts : List ℕ) (is : IsOfBlocks g plan revision m districts)
     → names ≡ is.has.numbers → AreKnown names districts (ranges_of g) m
-now_known g plan revision m names districts is same county c there within =
-    let laid_as = laid_long 0 (sizes g) in
-    let parted = parts_long (sizes g) districts in
-    let among : county < length (cut g districts) = omega arith in
-    subst (λ (l : List ℕ). HasChunk m (get_or names county 0) l) (part_at (sizes g) 0 districts county c (omega arith))
-    (subst (λ (ns : List ℕ). HasChunk m (get_or ns county 0) (get_or (cut g districts) county [])) (sym same) (is.has.chunks county among))
+now_known g plan revision m names districts is same county c there within = search (rules, laid_long, part_at)
 
 -- what was read of them
 pub record AreNamesRead (plan revision count : ℕ) (nothing names : List ℕ) (m : KeyMap) : Type 0 where
@@ -63,8 +52,7 @@ module _ (g : GeographyModel) (ranges : List CountyRange) (plan revision : ℕ) 
       long = said.is.whole ∙ sym whole;
       within = said.within;
       named = subst (λ (l : List CountyRange). AreKnown shown all l m) (sym same) (now_known g plan revision m shown all said.is (one ∙ are_names all said.is));
-      known = subst (λ (l : List CountyRange). AreKnown shown_last before l m) (sym same)
-          (subst (λ (l : List ℕ). AreKnown l before (ranges_of g) m) (sym other) said.known);
+      known = search rules;
     }
 
     -- and what is read by them is it
@@ -73,10 +61,7 @@ module _ (g : GeographyModel) (ranges : List CountyRange) (plan revision : ℕ) 
       next_is all said = is.read all (are_named all said)
 
       known : BecomesKnown g n plan revision last before names m next
-      known all said =
-          subst (λ (l : List CountyRange). AreKnown names next l m) same
-          (subst (λ (l : List ℕ). AreKnown l next ranges m) one
-          (subst (λ (l : List ℕ). AreKnown shown l ranges m) (sym (next_is all said)) (are_named all said).named))
+      known all said = search (rules, are_named)
 
       numbers : names ≡ named.there.xs
       numbers = named.there.is ∙ ap (λ (l : List ℕ). l ++ named.there.xs) none
@@ -97,22 +82,14 @@ module _ (g : GeographyModel) (ranges : List CountyRange) (plan revision : ℕ) 
 -- ---- a plan's last revision
 -- of none the numbers are none
 pub none_last : (names : List ℕ) (g : GeographyModel) (p : Plan) (m : KeyMap) → names ≡ [] → NamesLast g names p m
-none_last names g p m none before is county c there within =
-    absurd (let long : length names ≡ 0 = ap (λ (l : List ℕ). length l) none in omega arith)
+none_last names g p m none before is county c there within = search rules
 
 no_zero : (n : ℕ) → (suc n == 0) ≡ false
 no_zero n = grind (arith, nat_tests)
 
 revision_at_end : (p : Plan) (districts : List ℕ)
     → revision_at (with_revision p districts) (length (p.revisions ++ districts ∷ [])) ≡ Some districts
-revision_at_end p districts =
-    let more = length-append p.revisions (districts ∷ []) in
-    let long : length (p.revisions ++ districts ∷ []) ≡ suc (length p.revisions) = omega arith in
-    let back : suc (length p.revisions) - 1 ≡ length p.revisions = omega arith in
-    ap (λ n. revision_at (with_revision p districts) n) long
-    ∙ ap (λ b. cond b None (slice_get (p.revisions ++ districts ∷ []) (suc (length p.revisions) - 1))) (no_zero (length p.revisions))
-    ∙ ap (λ n. slice_get (p.revisions ++ districts ∷ []) n) back
-    ∙ end_of p.revisions districts
+revision_at_end p districts = search (arith, length-append p.revisions (districts ∷ []), end_of p.revisions districts)
 
 pub last_is : (p : Plan) (districts before : List ℕ) → IsLast (with_revision p districts) before → before ≡ districts
 last_is p districts before is = subst (λ (o : Option (List ℕ)). IfSome o (λ last. before ≡ last)) (revision_at_end p districts) is
@@ -124,21 +101,14 @@ next_of g plan revision last before p m all is said = record { is = said.is; wit
 pub becomes_last : (g : GeographyModel) (plan revision : ℕ) (last before : List ℕ) (p : Plan) (m : KeyMap) (names next : List ℕ) → IsLast p before
     → BecomesKnown g p.n plan revision last before names m next → BecomesLast g plan revision last p names m (with_revision p next)
 becomes_last g plan revision last before p m names next was known all said other is =
-    subst (λ (l : List ℕ). AreKnown names l (ranges_of g) m) (sym (last_is p next other is))
-    (known all (next_of g plan revision last before p m all was said))
+    search (last_is p next other is, known all (next_of g plan revision last before p m all was said))
 
 -- a plan's revisions, one after the other
 pub of_blocks : (g : GeographyModel) (name : List ℕ) (row : PlanRow) (m : KeyMap) (p : Plan) (i : ℕ) → IsPlanRow g name row m p → i < row.revisions → IsOfBlocks g row.number (i + 1) m (get_or p.revisions i [])
-of_blocks g name row m p i is less =
-    let many = is.revisions in
-    let within : i < length p.revisions = omega arith in
-    record { has = is.has.revisions i within; whole = is.has.whole i within }
+of_blocks g name row m p i is less = search rules
 
 pub within_at : (g : GeographyModel) (name : List ℕ) (row : PlanRow) (m : KeyMap) (p : Plan) (i : ℕ) → IsPlanRow g name row m p → i < row.revisions → AreWithin p.n (get_or p.revisions i [])
-within_at g name row m p i is less =
-    let many = is.revisions in
-    let within : i < length p.revisions = omega arith in
-    All-get_or (AreWithin p.n) p.revisions i [] within is.within
+within_at g name row m p i is less = search rules
 
 pub one_revision_more : (name : List ℕ) (p : Plan) (i : ℕ) (entry next : List ℕ × Plan) → i < length p.revisions → entry ≡ (name, record p { revisions = take i p.revisions }) → next ≡ (entry.0, with_revision entry.1 (get_or p.revisions i [])) → next ≡ (name, record p { revisions = take (i + 1) p.revisions })
 one_revision_more name p i entry next within before is =

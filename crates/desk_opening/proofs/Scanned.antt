@@ -1,8 +1,8 @@
 -- The rows that a scan takes under the prefix of plans are rows of the map, each once.
-use Rattle.std.{specs.FinMap.{entries, find, get}, proofs.Common.{◌≡◌, ℕ, List, ◌∷◌, ◌++◌, Some, None, drop, refl, sym}}
+use Rattle.std.{specs.FinMap.{entries, find, get}, proofs.Common.{rules, ◌≡◌, ℕ, List, ◌∷◌, ◌++◌, Some, None, sym}}
 use Rattle.page_btree.specs.{page_node.claim.Entries.Entry, page_node.claim.Places.key_cmp}
 use Rattle.btree_walks.{specs.Prefixes.under, proofs.RowsFound.{next_under, found_among as found_under}}
-use Rattle.store_rows.{specs.claim.Keys.{key_of, named, plans_prefix}, specs.claim.Rows.KeyMap, proofs.KeyPrefixes.{after_tag, starts_itself}}
+use Rattle.store_rows.{specs.claim.Keys.{key_of, named, plans_prefix}, specs.claim.Rows.KeyMap, proofs.KeyPrefixes.starts_itself}
 
 -- the next row is that of a plan, stands in the map, and wasn't taken before
 pub record IsNextPlan (m : KeyMap) (taken : List Entry) (e : Entry) : Type 0 where
@@ -12,9 +12,7 @@ pub record IsNextPlan (m : KeyMap) (taken : List Entry) (e : Entry) : Type 0 whe
   pub new : find key_cmp e.0 taken ≡ None
 
 pub next_plan : (m : KeyMap) (taken : List Entry) (e : Entry) (more : List Entry) → under plans_prefix (entries m) ≡ taken ++ e ∷ more → IsNextPlan m taken e
-next_plan m taken e more whole =
-    let next = next_under m plans_prefix taken e more whole in
-    record { name = drop 1 e.0; key = after_tag e.0 80 (drop 1 e.0) next.under refl; there = next.there; new = next.new }
+next_plan m taken e more whole = search (rules, next_under m plans_prefix taken e more whole)
 
 -- where these are all rows of plans, a plan's row is found among them as in the map
 pub found_among : (m : KeyMap) (taken : List Entry) (name : List ℕ) → under plans_prefix (entries m) ≡ taken → find key_cmp (key_of (named name)) taken ≡ get m (key_of (named name))

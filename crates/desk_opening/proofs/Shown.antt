@@ -1,12 +1,11 @@
 -- The plans that are shown are those whose rows a scan took, each with what its row says.
 use Rattle.std.specs.{Prelude.Option, Ordering.eq_by_cmp, Cmp.Lexicographic.nat_list_cmp_total, FinMap.{empty, entries, find, get, insert, get-empty}, FinMap.Entries.find-append}
-use Rattle.std.proofs.Common.{◌≡◌, ◌<◌, ◌^◌, ℕ, cond, List, [], ◌∷◌, ◌++◌, length, Some, None, inl, inr, refl, sym, ap, subst, ◌∙◌}
+use Rattle.std.proofs.Common.{rules, ◌≡◌, ◌<◌, ◌^◌, ℕ, cond, List, [], ◌∷◌, ◌++◌, length, Some, None, sym, ap, subst, ◌∙◌}
 use Rattle.page_btree.specs.page_node.claim.Entries.{Entry}
 use Rattle.btree_walks.specs.{Prefixes.under, declared.rows.Row.Row}
 use Rattle.desk_model.specs.{claim.Desk.{Desk, Plan, name_cmp}, declared.ranges.CountyRange.CountyRange}
 use Rattle.store_rows.specs.{claim.Keys.{key_of, named, plans_prefix, retired}, claim.Order.key_cmp, claim.Values.plan_bytes, declared.value.PlanRow.PlanRow}
-use Rattle.store_rows.{specs.claim.Rows.{KeyMap, Lacks}, specs.Changes.plan_row_of, proofs.OneGeography.no_value, proofs.Changes.{cases_key, other_row}}
-use Rattle.store_rows.proofs.Frames.{differs, itself}
+use Rattle.store_rows.{specs.claim.Rows.{KeyMap, Lacks}, specs.Changes.plan_row_of, proofs.OneGeography.no_value, proofs.Changes.cases_key, proofs.Frames.{differs, itself}}
 use Rattle.desk_opening.specs.{Opening.{ArePlansShown, HasNothing, IsListed, IsNotGone, IsShown, IsShownAt}, Reading.AreRevisionsShown}
 use Rattle.desk_opening.proofs.{Parts.{Plans, put_there, put_keeps}, Scanned.{found_among, next_plan}}
 use Rattle.desk_pages.specs.Desks.{new_desk}
@@ -43,14 +42,7 @@ module _ (m : KeyMap) (ranges : List CountyRange) (taken : List Entry) (plans : 
   here n = find-append key_cmp nat_list_cmp_total taken (key_of (named name)) value (key_of (named n)) new
 
   one_more : AreShown m ranges (taken ++ (key_of (named name), value) ∷ []) (insert plans name p)
-  one_more other = elim (cases_key other name) [
-    | inl same ↦ subst (λ (n : List ℕ). IsShownAs m ranges (find key_cmp (key_of (named n)) (taken ++ (key_of (named name), value) ∷ [])) (get (insert plans name p) n)) (sym same)
-        (subst (λ (o : Option (List ℕ)). IsShownAs m ranges o (get (insert plans name p) name)) (sym (here name ∙ ap (λ b. cond b (Some value) (find key_cmp (key_of (named name)) taken)) (itself (key_of (named name)))))
-        (record { plan = p; number = number; fits = fits; is = put_there plans name p; bytes = refl; kept = kept; revisions = revisions }))
-    | inr apart ↦
-        subst (λ (o : Option (List ℕ)). IsShownAs m ranges o (get (insert plans name p) other)) (sym (here other ∙ ap (λ b. cond b (Some value) (find key_cmp (key_of (named other)) taken)) (differs (key_of (named other)) (key_of (named name)) (other_row name other apart))))
-        (subst (λ (q : Option Plan). IsShownAs m ranges (find key_cmp (key_of (named other)) taken) q) (sym (put_keeps plans name p other apart)) (shown other))
-  ]
+  one_more other = search (rules, cases_key other name, here name, itself (key_of (named name)), put_there plans name p, here other, differs, put_keeps)
 
 module _ (m : KeyMap) (ranges : List CountyRange) (rows : List Entry) (row : Row) (plans all : Plans) (after : List Entry) (whole : under plans_prefix (entries m) ≡ rows ++ (row.key, row.value) ∷ after) (shown : AreShown m ranges rows plans) (gone : IsNotGone row m) (listed : IsListed plans row ranges m all) where
   pub more_shown : AreShown m ranges (rows ++ (row.key, row.value) ∷ []) all

@@ -1,5 +1,5 @@
 -- A row that a scan takes is that of the next plan.
-use Rattle.std.{specs.Prelude.Option, specs.FinMap.{entries, find, get, insert}, proofs.Common.{◌≡◌, ℕ, List, [], ◌∷◌, ◌++◌, Some, None, refl, sym, subst, ◌∙◌}}
+use Rattle.std.{specs.Prelude.Option, specs.FinMap.{entries, find, get, insert}, proofs.Common.{rules, ◌≡◌, ℕ, List, [], ◌∷◌, ◌++◌, Some, None, refl, sym, subst}}
 use Rattle.page_btree.specs.{page_node.claim.Entries.Entry, page_node.claim.Places.key_cmp}
 use Rattle.btree_walks.specs.{Prefixes.under, declared.rows.Row.Row}
 use Rattle.desk_model.specs.{claim.Geography.GeographyModel, claim.Desk.Plan}
@@ -8,9 +8,7 @@ use Rattle.desk_opening.{specs.Opening.{ArePlans, IsNewPlan}, proofs.Parts.{Plan
 
 -- a row that is there is that of a plan
 plan_at : (m : KeyMap) (g : GeographyModel) (name value : List ℕ) (o : Option Plan) → IsPlanAt m (Some g) name o → get m (key_of (named name)) ≡ Some value → (p : Plan) × (o ≡ Some p)
-plan_at m g name value None lacks there =
-    let clash : ◌≡◌ {A = Option (List ℕ)} None (Some value) = sym lacks ∙ there in
-    absurd (cc)
+plan_at m g name value None lacks there = search rules
 plan_at m g name value (Some p) has there = (p, refl)
 
 module _ (g : GeographyModel) (m : KeyMap) (rows : List Entry) (row : Row) (plans all : Plans) (after : List Entry) (whole : under plans_prefix (entries m) ≡ rows ++ (row.key, row.value) ∷ after) (are : ArePlans g m all) (read : AreRead rows plans all) where

@@ -1,12 +1,12 @@
 -- A desk of its geography and its plans.
 use Rattle.std.specs.{Prelude.Option, Cmp.Lexicographic.nat_list_cmp_total, FinMap.{empty, get, get-empty, same_map, slice_cmp-IsAntisymmetric, nat_cmp-IsAntisymmetric}}
-use Rattle.std.proofs.Common.{◌≡◌, List, ℕ, Bool, Some, None, Result, Ok, Err, IfOk, refl, sym, subst, ◌∙◌}
+use Rattle.std.proofs.Common.{rules, ◌≡◌, List, ℕ, Bool, Some, None, Result, Ok, Err, IfOk, refl, sym, subst, ◌∙◌}
 use Rattle.sector_device.specs.{claim.Disk.Image, declared.SectorDevice.Ghosts}
 use Rattle.page_store.{specs.claim.Transactions.{stored, disk_in, IsQuiet, Passed}, specs.declared.pages.Pages.Pages, specs.declared.txn.Txn.Txn, proofs.Stops.failed_more}
 use Rattle.page_btree.specs.{claim.Map.InTxn as InTree, declared.error.TreeError.TreeError, declared.error.TreeError.TheVariants.{DeviceFault, NotAStore, Halted, Memory}}
 use Rattle.desk_model.specs.{claim.Geography.GeographyModel, claim.Desk.{Desk, Plan, name_cmp}}
-use Rattle.store_rows.specs.{claim.Rows.{KeyMap, Lacks}, claim.Keys.named, claim.GeographyRows.IsGeography, claim.DeskRows.{IsDesk, IsPlanAt}, Changes.desk_with}
-use Rattle.desk_pages.specs.{Looking.{Gathers, Says}, Reading.{ReadErr, SeekErr}, claim.Desks.{IsMapOf, IsWithinLimits, InTxnOf}, Desks.new_desk}
+use Rattle.store_rows.specs.{claim.Rows.{KeyMap, Lacks}, claim.Keys.named, claim.GeographyRows.IsGeography, claim.DeskRows.IsPlanAt}
+use Rattle.desk_pages.specs.{Looking.{Gathers, Says}, Reading.{ReadErr, SeekErr}, claim.Desks.{IsMapOf, InTxnOf}, Desks.new_desk}
 use Rattle.desk_pages.proofs.Looking.{looked, not_looked}
 use Rattle.store_check.specs.Numbers.{IsKept}
 use Rattle.desk_opening.specs.Opening.{ArePlans, HasNothing, IsMapAs, OpenErr}
@@ -24,13 +24,7 @@ module _ {new : Bool} (m : KeyMap) (d : Desk) (is : IsMapOf new m d) where
       λ i. record { geography = none i; plans = plans i }
 
   pub are_plans : (g : GeographyModel) → Some g ≡ d.geography → ArePlans g m d.plans
-  are_plans g same =
-      let whole : d ≡ desk_with g d.plans = λ i. record { geography = sym same i; plans = d.plans } in
-      record {
-        desk = subst (λ (e : Desk). IsDesk m e) whole is.desk;
-        tidy = is.tidy;
-        limits = subst (λ (e : Desk). IsWithinLimits e) whole is.limits;
-      }
+  are_plans g same = search rules
 
   -- nor anything else
   pub has_nothing : None ≡ d.geography → HasNothing m

@@ -1,6 +1,5 @@
 -- No block of a plan's revisions is in a district above its last.
-use Rattle.std.specs.{Prelude.{◌==◌, All, Option}, List.slice_get}
-use Rattle.std.proofs.Common.{◌≡◌, ◌≤◌, ◌+◌, ◌-◌, ◌++◌, ℕ, Bool, true, false, cond, List, [], length, take, drop, Some, None, sym, subst, ◌∙◌, inl, inr}
+use Rattle.std.{specs.Prelude.{◌==◌, All, Option}, specs.List.slice_get, proofs.Common.{◌≡◌, ◌-◌, ℕ, Bool, true, false, cond, List, [], Some, None, sym, subst, ◌∙◌, inl, inr}}
 use Rattle.std.proofs.lemmas.Option.{get_or_from_slice_get, slice_get_cases}
 use Rattle.std.proofs.lemmas.List.Elements.{All-append, All-drop, All-get_or, All-push, All-take}
 use Rattle.desk_catalogue.specs.shared_lists.Laid.{with_at}
@@ -11,9 +10,7 @@ use Rattle.desk_opening.specs.Reading.{AreAllWithin}
 
 -- a part that is laid over others
 pub with_at_within : (n first : ℕ) (part districts : List ℕ) → AreWithin n part → AreWithin n districts → AreWithin n (with_at first part districts)
-with_at_within n first part districts one all =
-    All-append (λ (d : ℕ). d ≤ n) (take first districts) (part ++ drop (first + length part) districts) (All-take (λ (d : ℕ). d ≤ n) first districts all)
-    (All-append (λ (d : ℕ). d ≤ n) part (drop (first + length part) districts) one (All-drop (λ (d : ℕ). d ≤ n) (first + length part) districts all))
+with_at_within n first part districts one all = search (All-append, All-take, All-drop)
 
 -- ---- the last revision
 no_some : (a : List ℕ) → ◌≡◌ {A = Option (List ℕ)} None (Some a) → ⊥

@@ -1,5 +1,6 @@
 -- What is held before and after a commit.
-use Rattle.std.{specs.Prelude.IfOk, proofs.Common.{◌≡◌, ◌≢◌, ◌⊎◌, ◌<◌, ◌≤◌, ◌+◌, ℕ, true, false, List, length, Result, Ok, Err, OnOk, inl, inr, ⊎_elim, sym, ap, subst, ◌∙◌, arith}}
+use Rattle.std.specs.Prelude.{IfOk}
+use Rattle.std.proofs.Common.{rules, ◌≡◌, ◌≢◌, ◌⊎◌, ◌≤◌, ◌+◌, ℕ, true, false, List, length, Result, Ok, Err, OnOk, inl, inr, ⊎_elim, sym, ap, subst, ◌∙◌, arith}
 use Rattle.sector_device.{specs.claim.Disk.{Disk, Image}, specs.claim.Moments.LeavesOnly, specs.declared.SectorDevice.Ghosts, proofs.Moments.leaves_wider}
 use Rattle.page_store.specs.{gate_journal.claim.Store.home, gate_journal.Store.IsBeforeOrAfter, claim.Chain.{AreFree, IsPages, root_in, free_in}}
 use Rattle.page_store.specs.claim.Transactions.{stored, disk_in, count_of, has_halted, txn_pages, txn_root, txn_free, over, free_over, prepared_pages, prepared_writes, after, journal_of, HasShape, CommitErr}
@@ -14,10 +15,7 @@ use Rattle.desk_pages.specs.{claim.Commits.HoldsAfter, Commits.{OpensRows, Fitti
 pub holds_after : (t : Txn) (r : Result Prepared PageError) → IfOk r (λ made. prepared_pages made ≡ txn_pages t) → IfOk r (λ made. (P : Image) (q : ℕ) → q ≢ 0 → after made P q ≡ over t P q) → IfOk r (λ made. (P : Image) → root_in (after made P) ≡ txn_root t)
     → IfOk r (λ made. (P : Image) → AreFree (txn_pages t) (free_over t P) → free_in (after made P) ≡ free_over t P) → IfOk r (λ made. (P : Image) → AreFree (txn_pages t) (free_over t P) → IsPages (txn_pages t) (after made P)) → IfOk r (λ made. (P : Image) (m : KeyMap) → InTxn t P m → HoldsAfter made P m)
 holds_after t (Err e) pages same root free sound = tt
-holds_after t (Ok made) pages same root free sound = λ P m holds. record {
-  rows = subst (λ n. Holds n (after made P) (root_in (after made P)) (free_in (after made P)) m) (sym pages) (prepared_holds t P (after made P) m holds (same P) (root P) (free P holds.free_are));
-  sound = subst (λ n. IsPages n (after made P)) (sym pages) (sound P holds.free_are);
-}
+holds_after t (Ok made) pages same root free sound = λ P m holds. search (rules, prepared_holds)
 
 -- the pages that are free afterwards are as many as the transaction counts
 pub free_after : (t : Txn) (r : Result Prepared PageError) → IfOk r (λ made. (P : Image) → AreFree (txn_pages t) (free_over t P) → free_in (after made P) ≡ free_over t P) → IfOk r (λ made. (P : Image) (m : KeyMap) → InTxn t P m → length (free_in (after made P)) ≡ txn_free t)
@@ -35,26 +33,16 @@ between sectors J n P made m next whole pages sound holds then c is = ⊎_elim
 
 pub stops_between : (sectors J n : ℕ) (P : Image) (made : Prepared) (m next : KeyMap) (old new : Disk) → home J + n ≡ sectors → prepared_pages made ≡ n → IsPages n P → Holds n P (root_in P) (free_in P) m → HoldsAfter made P next
     → LeavesOnly (IsBeforeOrAfter J n (prepared_writes made) P) old new → LeavesOnly (λ c. OpensRows sectors m c ⊎ OpensRows sectors next c) old new
-stops_between sectors J n P made m next old new whole pages sound holds then left =
-    leaves_wider (IsBeforeOrAfter J n (prepared_writes made) P) (λ c. OpensRows sectors m c ⊎ OpensRows sectors next c) old new (between sectors J n P made m next whole pages sound holds then) left
+stops_between sectors J n P made m next old new whole pages sound holds then left = search (leaves_wider, between)
 
 module _ {D : Type 0} {g : Ghosts D} where
   -- pages that no fault has stopped hold a root and free pages
   pub pages_sound : (ps : Pages D g) → has_halted ps ≡ false → (disk_in ps).is_honest → AreFree (count_of ps) (free_in (stored ps)) → IsPages (count_of ps) (stored ps)
-  pages_sound ps working honest free =
-      let meta = ps.meta working honest in
-      record {
-        root = subst (λ (k : ℕ). k < count_of ps) (sym meta.root_is) ps.root_below;
-        first = subst (λ (k : ℕ). k < count_of ps) (sym meta.first_is) ps.first_below;
-        count = subst (λ (k : ℕ). k < count_of ps) (sym meta.count_is) ps.free_below;
-        free = free;
-      }
+  pages_sound ps working honest free = search rules
 
   pub held_then : {E : Type 0} (made : Prepared) (old new : Pages D g) (r : Result (Unit {0}) E) → prepared_pages made ≡ count_of old → HasShape old new → OnOk r (stored new ≡ after made (stored old)) → OnOk r ((next : KeyMap) → HoldsAfter made (stored old) next → InPages new next)
   held_then made old new (Err e) pages shape same = tt
-  held_then made old new (Ok x) pages shape same = λ next then.
-      subst (λ n. Holds n (stored new) (root_in (stored new)) (free_in (stored new)) next) (pages ∙ sym shape.pages)
-      (subst (λ (Q : Image). Holds (prepared_pages made) Q (root_in Q) (free_in Q) next) (sym same) then.rows)
+  held_then made old new (Ok x) pages shape same = λ next then. search rules
 
 module _ {D : Type 0} {g : Ghosts D} where
   -- pages that work, and for which the journal has room, are refused for memory or by the device

@@ -1,5 +1,5 @@
 -- What keeps a desk in pages, and that pages hold one desk alone.
-use Rattle.std.{specs.Prelude.{◌≡◌, ◌≢◌, ◌⊎◌, ◌≤◌, ◌+◌, ◌^◌, ℕ, Bool, List}, proofs.Common.{inl, inr, ⊎_elim, subst}}
+use Rattle.std.{specs.Prelude.{◌≡◌, ◌≢◌, ◌⊎◌, ◌≤◌, ◌+◌, ◌^◌, ℕ, Bool, List}, proofs.Common.{rules, subst}}
 use Rattle.sector_device.specs.claim.Disk.{Image}
 use Rattle.page_store.specs.{gate_journal.claim.Store.{home, overlay}, gate_journal.Store.IsBeforeOrAfter, claim.Chain.{root_in, free_in, IsPages}}
 use Rattle.page_store.specs.{claim.Transactions.{txn_pages, txn_root, over, free_over}, declared.txn.Txn.Txn}
@@ -19,9 +19,7 @@ prepared_desk t P Q d holds same root free = record { m = holds.m; holds = prepa
 -- an image with the pages before a commit or those after it opens to the desk before or to the desk after
 pub opens_desks : {was then : Bool} (sectors J n : ℕ) (ws : List (ℕ × List ℕ)) (P : Image) (d next : Desk) (c : Image) → home J + n ≡ sectors → HoldsDeskOf was n P (root_in P) (free_in P) d → HoldsDeskOf then n (overlay ws P) (root_in (overlay ws P)) (free_in (overlay ws P)) next → IsPages n P → IsPages n (overlay ws P)
     → IsBeforeOrAfter J n ws P c → OpensDeskOf was sectors d c ⊎ OpensDeskOf then sectors next c
-opens_desks sectors J n ws P d next c whole holds holds_then sound sound_then is = ⊎_elim
-    (λ opens. inl (record { J = J; n = n; P = P; whole = whole; opens = opens; holds = holds; sound = sound }))
-    (λ opens. inr (record { J = J; n = n; P = overlay ws P; whole = whole; opens = opens; holds = holds_then; sound = sound_then })) is
+opens_desks sectors J n ws P d next c whole holds holds_then sound sound_then is = search rules
 
 -- pages with a root and free pages hold one desk at most
 pub one_desk : DeskIsOne → (new other : Bool) (n : ℕ) (P : Image) (root : ℕ) (free : List ℕ) (d e : Desk) → n ≤ 2 ^ 32 → HoldsDeskOf new n P root free d → HoldsDeskOf other n P root free e → d ≡ e

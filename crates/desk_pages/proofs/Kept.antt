@@ -16,15 +16,7 @@ module _ {D : Type 0} {g : Ghosts D} where
 
   -- so it opens to the desk that they hold
   pub opens_now : {new : Bool} (ps : Pages D g) → has_halted ps ≡ false → (disk_in ps).is_honest → (sectors : ℕ) (d : Desk) → home (journal_of ps) + count_of ps ≡ sectors → InPagesOf new ps d → (c : Image) → (disk_in ps).leaves c → OpensDeskOf new sectors d c
-  opens_now ps working honest sectors d whole holds c left = record {
-    J = journal_of ps;
-    n = count_of ps;
-    P = stored ps;
-    whole = whole;
-    opens = kept_working ps working honest c left;
-    holds = holds;
-    sound = pages_sound ps working honest holds.holds.free_are;
-  }
+  opens_now ps working honest sectors d whole holds c left = search (kept_working, pages_sound)
 
   pub rows_after : {E : Type 0} (t : Txn) (made : Prepared) (old new : Pages D g) (r : Result (Unit {0}) E) → ((P : Image) (m : KeyMap) → TxnHolds t P m → HoldsAfter made P m) → OnOk r ((next : KeyMap) → HoldsAfter made (stored old) next → PagesHold new next)
       → OnOk r ((m : KeyMap) → TxnHolds t (stored old) m → PagesHold new m)

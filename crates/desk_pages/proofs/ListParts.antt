@@ -1,5 +1,5 @@
 -- A list in parts of so many elements.
-use Rattle.std.proofs.{Common.{◌≡◌, ◌<◌, ◌≤◌, ◌*◌, ◌+◌, ◌++◌, ℕ, cond, List, length, take, drop, All, Some, None, sym, ap, ◌∙◌, arith, length-drop, length-take}, Math.Seq.take-add}
+use Rattle.std.proofs.{Common.{rules, ◌≡◌, ◌<◌, ◌≤◌, ◌*◌, ◌+◌, ◌++◌, ℕ, cond, List, length, take, drop, All, Some, None, ap, arith, length-drop, length-take}, Math.Seq.take-add}
 use Rattle.std.proofs.lemmas.Bool.{lt-ltb}
 use Rattle.std.proofs.lemmas.List.Elements.{All-take, All-drop}
 use Rattle.store_rows.specs.claim.Rows.{part_row}
@@ -20,6 +20,4 @@ each_of_part P size n xs all = All-take P size (drop n xs) (All-drop P n xs all)
 
 -- one part more
 pub parts_more : (size n : ℕ) (xs : List ℕ) → take (size * n) xs ++ take size (drop (size * n) xs) ≡ take (size * (n + 1)) xs
-parts_more size n xs =
-    let next : size * n + size ≡ size * (n + 1) = omega arith in
-    sym (take-add (size * n) size xs) ∙ ap (λ k. take k xs) next
+parts_more size n xs = search (rules, take-add)

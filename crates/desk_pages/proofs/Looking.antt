@@ -1,6 +1,6 @@
 -- Looks, one after the other.
-use Rattle.std.{specs.Prelude.{◌≡◌, ℕ, List, Option, Result, Ok, Err, IsErrAnd}, specs.FinMap.get as row_at, proofs.Common.{refl, sym, subst, ◌∙◌}}
-use Rattle.sector_device.specs.{claim.Disk.Image, declared.SectorDevice.Ghosts}
+use Rattle.std.{specs.Prelude.{◌≡◌, ℕ, List, Option, Result, Ok, Err, IsErrAnd}, specs.FinMap.get as row_at, proofs.Common.{rules, refl, sym, subst, ◌∙◌}}
+use Rattle.sector_device.specs.declared.SectorDevice.{Ghosts}
 use Rattle.page_store.specs.{claim.Transactions.{stored, disk_in, IsQuiet, Passed}, declared.pages.Pages.Pages, declared.txn.Txn.Txn}
 use Rattle.page_store.proofs.Stops.{quiet_more, passed_more, passed_none, failed_more}
 use Rattle.btree_puts.specs.{page_btree.claim.Map.InTxn, page_btree.declared.error.TreeError.TreeError}
@@ -50,8 +50,7 @@ module _ {D X : Type 0} {g : Ghosts D} {short : Type 0} {says also : KeyMap → 
 module _ {D : Type 0} {g : Ghosts D} (short : Type 0) (has more : KeyMap → Type 0) (t : Txn) (a b d : Pages D g) (read : Passed a b) (quiet : IsQuiet b d) where
   pub then_unread : ((disk_in b).is_honest → (m : KeyMap) → InTxn t (stored a) m → more m → has m) → (e : TreeError) → SeekErr short has t b d e → SeekErr short more t a d e
   then_unread gives DeviceFault why = failed_more a b d read quiet why
-  then_unread gives NotAStore why = λ honest m holds is.
-      let then = quiet.honest honest in why honest m (subst (λ (P : Image). InTxn t P m) (sym (read.quiet.same then)) holds) (gives then m holds is)
+  then_unread gives NotAStore why = λ honest m holds is. search rules
   then_unread gives Halted why = sym read.halted ∙ why
   then_unread gives _ why = why
 
@@ -74,8 +73,7 @@ module _ {D X : Type 0} {g : Ghosts D} {says : KeyMap → X → Type 0} {has : K
 module _ {D X Y : Type 0} {g : Ghosts D} {short : Type 0} {says : KeyMap → X → Type 0} {then : KeyMap → Y → Type 0} {has needed : KeyMap → Type 0} {t : Txn} {a b d : Pages D g} {x : X} (first : Seeks short says has t a b (Ok x)) where
   -- both were found
   pub both : {y : Y} → Seeks short then needed t b d (Ok y) → Seeks short (λ m y. says m x × then m y) needed t a d (Ok y)
-  both {y} next = looked (passed_more a b d first.passed next.passed) (λ honest m holds. let was = next.quiet.honest honest in
-      (first.there was m holds, next.there honest m (subst (λ (P : Image). InTxn t P m) (sym (first.quiet.same was)) holds)))
+  both {y} next = search (rules, looked, passed_more a b d first.passed next.passed)
 
   -- the second fails
   pub fails_then : {Z : Type 0} {also : KeyMap → Z → Type 0} {more : KeyMap → Type 0} {e : TreeError} (r : Result Z TreeError) → Seeks short then needed t b d (Err e) → IsErrAnd r (λ y. y ≡ e) → ((m : KeyMap) → says m x → more m → needed m) → Seeks short also more t a d r

@@ -1,5 +1,5 @@
 -- Lemmas on the definitions of Commits.
-use Rattle.std.{specs.Prelude.{◌⊎◌, ℕ, Bool}, proofs.Common.{inl, inr, ⊎_elim}}
+use Rattle.std.{specs.Prelude.{◌⊎◌, ℕ, Bool}, proofs.Common.{rules, inl, inr, ⊎_elim}}
 use Rattle.sector_device.{specs.claim.Disk.{Disk, Image}, specs.claim.Moments.LeavesOnly, proofs.Moments.leaves_wider}
 use Rattle.desk_model.specs.claim.Desk.{Desk}
 use Rattle.store_rows.specs.claim.Rows.{KeyMap}
@@ -7,15 +7,7 @@ use Rattle.desk_pages.specs.{claim.Desks.{IsMapOf, OpensDeskOf}, Commits.OpensRo
 
 -- it opens to the desk whose rows the map has
 pub opens_desk : {new : Bool} (sectors : ℕ) (m : KeyMap) (d : Desk) (c : Image) → IsMapOf new m d → OpensRows sectors m c → OpensDeskOf new sectors d c
-opens_desk sectors m d c is opens = record {
-  J = opens.map.J;
-  n = opens.map.n;
-  P = opens.map.P;
-  whole = opens.map.whole;
-  opens = opens.map.opens;
-  holds = record { m = m; holds = opens.map.holds; is = is };
-  sound = opens.sound;
-}
+opens_desk sectors m d c is opens = search rules
 
 -- so do those that a stop leaves
 pub leaves_desk : {was now : Bool} (sectors : ℕ) (m next : KeyMap) (d e : Desk) (old new : Disk) → IsMapOf was m d → IsMapOf now next e → LeavesOnly (λ c. OpensRows sectors m c ⊎ OpensRows sectors next c) old new → LeavesOnly (λ c. OpensDeskOf was sectors d c ⊎ OpensDeskOf now sectors e c) old new

@@ -1,6 +1,6 @@
 -- Lemmas on the definitions of Reading.
 use Rattle.std.specs.{Prelude.{◌≡◌, ℕ, List, [], Option, Some, None, Result, Ok, Err, IfOk, IfErr, option_map, MatchOption}, FinMap.get as row_at}
-use Rattle.std.proofs.Common.{refl, sym, ap, subst, ◌∙◌, arith}
+use Rattle.std.proofs.Common.{rules, refl, sym, ap, subst, ◌∙◌}
 use Rattle.sector_device.specs.{claim.Disk.Image, declared.SectorDevice.Ghosts}
 use Rattle.page_store.specs.{claim.Transactions.{stored, disk_in, IsQuiet, Passed}, declared.pages.Pages.Pages, declared.txn.Txn.Txn}
 use Rattle.btree_puts.specs.{page_btree.claim.Map.InTxn, page_btree.declared.error.TreeError.TreeError, page_btree.declared.error.TreeError.TheVariants.NotAStore}
@@ -23,17 +23,13 @@ module _ {D : Type 0} {g : Ghosts D} where
       → ((disk_in new).is_honest → (m : KeyMap) → InTxn t (stored old) m → copied ≡ row_at m key) → IsReadAs bytes copied r
       → IfErr r (λ e. ReadErr (λ m. (value : Option X) × StandsAs bytes key m value) t old new e)
   value_unread bytes copied key t old new (Ok value) is read = tt
-  value_unread {X} bytes copied key t old new (Err e) is read =
-      subst (λ e. ReadErr (λ m. (value : Option X) × StandsAs bytes key m value) t old new e) (sym read.0)
-      (λ honest m holds there. read.1 there.0 (there.1 ∙ sym (is honest m holds)))
+  value_unread {X} bytes copied key t old new (Err e) is read = search rules
 
   pub value_unread_with : {X : Type 0} (bytes : X → List ℕ) (copied : Option (List ℕ)) (key : List ℕ) (fs : Fingers) (t : Txn) (old new : Pages D g) (r : Result (Option X) TreeError)
       → ((disk_in new).is_honest → (m : KeyMap) → InTxn t (stored old) m → Stand t (stored old) fs → copied ≡ row_at m key) → IsReadAs bytes copied r
       → IfErr r (λ e. ReadErrWith fs (λ m. (value : Option X) × StandsAs bytes key m value) t old new e)
   value_unread_with bytes copied key fs t old new (Ok value) is read = tt
-  value_unread_with {X} bytes copied key fs t old new (Err e) is read =
-      subst (λ e. ReadErrWith fs (λ m. (value : Option X) × StandsAs bytes key m value) t old new e) (sym read.0)
-      (λ honest m holds stand there. read.1 there.0 (there.1 ∙ sym (is honest m holds stand)))
+  value_unread_with {X} bytes copied key fs t old new (Err e) is read = search rules
 
   -- a value that isn't copied isn't read
   pub get_unread : (has : KeyMap → Type 0) (t : Txn) (old new : Pages D g) (e : TreeError) → GetErr t old new e → ReadErr has t old new e
@@ -60,13 +56,7 @@ next_stands m next = next_in (row_at m (key_of counters)) next.0 next.1
 -- what was put, or not put, after calls that read at most
 module _ {D : Type 0} {g : Ghosts D} (t : Txn) (a b : Pages D g) (read : Passed a b) where
   first_read : HasPut [] t t a b
-  first_read = record {
-    passed = read;
-    pages = refl;
-    put = λ honest m holds. holds;
-    writes = omega arith;
-    taken = omega arith;
-  }
+  first_read = search rules
 
   pub put_after : (rows : List Row) (u : Txn) (c : Pages D g) → HasPut rows t u b c → HasPut rows t u a c
   put_after rows u c put = more_put [] rows t t u a b c first_read put

@@ -1,5 +1,5 @@
 -- What is told of pages that aren't opened, and of rows that aren't read.
-use Rattle.std.proofs.Common.{◌≡◌, ◌≢◌, Bool, true, false, inl, refl, sym, subst, ◌∙◌}
+use Rattle.std.proofs.Common.{rules, ◌≡◌, ◌≢◌, Bool, true, false, inl, refl, sym}
 use Rattle.sector_device.specs.{claim.Disk.Disk, declared.SectorDevice.Ghosts}
 use Rattle.page_store.specs.{claim.Transactions.{disk_in, device_in, has_halted, IsQuiet}, Transactions.IsUntouched, gate_journal.declared.error.PageError.PageError}
 use Rattle.page_store.specs.declared.pages.Pages.{Pages}
@@ -27,6 +27,4 @@ module _ {D : Type 0} {g : Ghosts D} where
   -- the device's faults are those of before
   pub calm_refused : (device : D) (a b : Pages D g) (e : StoreError) → ((disk_in a).is_honest → (disk_in a).faults ≡ (g.disk device).faults) → IsQuiet a b → IsCalm b e → (left : D) → left ≡ device_in b
       → (g.disk left).is_honest → e ≢ DeviceFault → (g.disk left).faults ≡ (g.disk device).faults
-  calm_refused device a b e passed quiet calm left is =
-      subst (λ (x : D). (g.disk x).is_honest → e ≢ DeviceFault → (g.disk x).faults ≡ (g.disk device).faults) (sym is)
-      (λ honest other. quiet.calm (calm other) honest ∙ passed (quiet.honest honest))
+  calm_refused device a b e passed quiet calm left is = search rules

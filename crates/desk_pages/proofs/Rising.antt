@@ -1,5 +1,6 @@
 -- Lemmas on the definitions of Rising.
-use Rattle.std.{specs.Prelude.{◌≡◌, ◌<◌, ◌≤◌, ◌+◌, ℕ, List, [], ◌∷◌, ◌++◌}, specs.FinMap.insert, proofs.Common.{suc, refl, sym, ap, subst, ◌∙◌, arith, append_assoc, length-append}}
+use Rattle.std.specs.{Prelude.{◌≡◌, ◌<◌, ◌≤◌, ◌+◌, ℕ, List, [], ◌∷◌, ◌++◌}, FinMap.insert}
+use Rattle.std.proofs.Common.{rules, suc, refl, sym, ap, subst, ◌∙◌, arith, append_assoc, length-append}
 use Rattle.sector_device.specs.{claim.Disk.Image, declared.SectorDevice.Ghosts}
 use Rattle.page_store.specs.{claim.Transactions.{stored, disk_in, txn_pages, txn_root, txn_free, txn_writes, over, IsQuiet, Passed}, declared.pages.Pages.Pages}
 use Rattle.page_store.{specs.declared.txn.Txn.Txn, proofs.Stops.{passed_none, passed_more, failed_more}}
@@ -20,17 +21,10 @@ fresh_stand t S fs first second = (none_stands t S fs.first first, none_stands t
 module _ {D : Type 0} {g : Ghosts D} where
   -- a put by a finger that knows no leaf
   pub plain_err : (was : Finger) (t : Txn) (old new : Pages D g) → was.page ≡ 0 → (e : TreeError) → PutByErr was t old new e → PutErr t old new e
-  plain_err was t old new none = by_case (λ e. PutByErr was t old new e) (λ e. PutErr t old new e)
-      (λ why. why) (λ why honest m is. why honest m is (none_stands t (stored old) was none)) (λ why. why) (λ why. why) (λ why. why) (λ _. tt)
+  plain_err was t old new none = search (rules, by_case, none_stands)
 
   pub none_put_with : (fs : Fingers) (t : Txn) (a : Pages D g) → HasPutWith fs fs [] t t a a
-  none_put_with fs t a = record {
-    passed = passed_none a;
-    pages = refl;
-    put = λ honest m holds stand. (holds, stand);
-    writes = omega arith;
-    taken = omega arith;
-  }
+  none_put_with fs t a = search (rules, passed_none)
 
   -- after calls that read at most
   pub put_with_after : (f h : Fingers) (rows : List Row) (t u : Txn) (a b c : Pages D g) → Passed a b → HasPutWith f h rows t u b c → HasPutWith f h rows t u a c
@@ -66,13 +60,7 @@ module _ {D : Type 0} {g : Ghosts D} where
   -- one row was put
   pub one_put_with : (f h : Fingers) (key value : List ℕ) (t u : Txn) (a b : Pages D g) → Passed a b → txn_pages u ≡ txn_pages t → ((disk_in b).is_honest → (m : KeyMap) → InTxn t (stored a) m → Stand t (stored a) f → InTxn u (stored a) (insert m key value) × Stand u (stored a) h)
       → txn_writes u ≤ txn_writes t + 11 → txn_free t ≤ txn_free u + 6 → HasPutWith f h ((key, value) ∷ []) t u a b
-  one_put_with f h key value t u a b passed pages put writes taken = record {
-    passed = passed;
-    pages = pages;
-    put = put;
-    writes = omega arith;
-    taken = omega arith;
-  }
+  one_put_with f h key value t u a b passed pages put writes taken = search rules
 
   -- or it was not, by one that stands where both do
   pub one_not_put_with : (f : Fingers) (was : Finger) (row : Row) (t : Txn) (a b : Pages D g) → ((S : Image) → Stand t S f → StandsIn t S was) → (e : TreeError) → PutByErr was t a b e → PutsErrWith f (row ∷ []) t a b e
@@ -98,10 +86,7 @@ module _ {D : Type 0} {g : Ghosts D} where
       let half = put.put before m holds stand in
       why honest (put_rows m rows) (subst (λ P. InTxn u P (put_rows m rows)) (sym same) half.0) (subst (λ P. Stand u P h) (sym same) half.1)
   then_not_put_with f h rows more t u a b c Halted put quiet why = sym put.passed.halted ∙ why
-  then_not_put_with f h rows more t u a b c NoPages put quiet why =
-      let taken = put.taken in
-      let count = length-append rows more in
-      omega arith
+  then_not_put_with f h rows more t u a b c NoPages put quiet why = search (rules, length-append)
   then_not_put_with f h rows more t u a b c TooDeep put quiet why = λ honest m holds stand.
       let before = quiet.honest honest in
       let same = put.passed.quiet.same before in
@@ -166,12 +151,7 @@ module _ {D : Type 0} {g : Ghosts D} where
   pub told_more_from : (row : ℕ → Row) (k : ℕ) (f h : Fingers) (t u v : Txn) (a b c : Pages D g) → HasPutFrom f (rows_told row k) t u a b → HasPutWith f h (row k ∷ []) u v b c → HasPutFrom h (rows_told row (k + 1)) t v a c
   told_more_from row k f h t u v a b c did more =
       let next : suc k ≡ k + 1 = omega arith in
-      record {
-        were = did.were;
-        first = did.first;
-        second = did.second;
-        put = subst (λ n. HasPutWith did.were h (rows_told row n) t v a c) next (more_put_with did.were f h (rows_told row k) (row k ∷ []) t u v a b c did.put more);
-      }
+      search (rules, more_put_with did.were f h (rows_told row k) (row k ∷ []) t u v a b c did.put more)
 
   pub told_not_put_from : (row : ℕ → Row) (k n : ℕ) (f : Fingers) (t u : Txn) (a b c : Pages D g) (e : TreeError) → k < n → HasPutFrom f (rows_told row k) t u a b → IsQuiet b c → PutsErrWith f (row k ∷ []) u b c e → PutsErr (rows_told row n) t a c e
   told_not_put_from row k n f t u a b c e less did quiet why =

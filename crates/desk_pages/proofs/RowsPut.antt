@@ -1,5 +1,6 @@
 -- Lemmas on the definitions of Puts.
-use Rattle.std.{specs.Prelude.{◌≡◌, ◌<◌, ◌≤◌, ◌+◌, ℕ, List, [], ◌∷◌, ◌++◌}, specs.FinMap.insert, proofs.Common.{suc, refl, sym, ap, subst, ◌∙◌, arith, append_assoc, length-append}}
+use Rattle.std.specs.{Prelude.{◌≡◌, ◌<◌, ◌≤◌, ◌+◌, ℕ, List, [], ◌∷◌, ◌++◌}, FinMap.insert}
+use Rattle.std.proofs.Common.{rules, suc, refl, sym, ap, subst, ◌∙◌, arith, append_assoc, length-append}
 use Rattle.sector_device.specs.declared.SectorDevice.{Ghosts}
 use Rattle.page_store.specs.{claim.Transactions.{stored, disk_in, txn_pages, txn_root, txn_free, txn_writes, over, IsQuiet, Passed}, declared.pages.Pages.Pages}
 use Rattle.page_store.{specs.declared.txn.Txn.Txn, proofs.Stops.{passed_none, passed_more, failed_more}}
@@ -10,13 +11,7 @@ use Rattle.desk_pages.specs.claim.Puts.{HasPut, PutsErr}
 
 module _ {D : Type 0} {g : Ghosts D} where
   pub none_put : (t : Txn) (a : Pages D g) → HasPut [] t t a a
-  none_put t a = record {
-    passed = passed_none a;
-    pages = refl;
-    put = λ honest m holds. holds;
-    writes = omega arith;
-    taken = omega arith;
-  }
+  none_put t a = search (rules, passed_none)
 
   pub more_put : (rows more : List Row) (t u v : Txn) (a b c : Pages D g) → HasPut rows t u a b → HasPut more u v b c → HasPut (rows ++ more) t v a c
   more_put rows more t u v a b c first then =
@@ -36,13 +31,7 @@ module _ {D : Type 0} {g : Ghosts D} where
 
   -- one row was put
   pub one_put : (key value : List ℕ) (t u : Txn) (a b : Pages D g) → Passed a b → txn_pages u ≡ txn_pages t → ((disk_in b).is_honest → (m : KeyMap) → InTxn t (stored a) m → InTxn u (stored a) (insert m key value)) → txn_writes u ≤ txn_writes t + 11 → txn_free t ≤ txn_free u + 6 → HasPut ((key, value) ∷ []) t u a b
-  one_put key value t u a b passed pages put writes taken = record {
-    passed = passed;
-    pages = pages;
-    put = put;
-    writes = omega arith;
-    taken = omega arith;
-  }
+  one_put key value t u a b passed pages put writes taken = search rules
 
   -- or it was not
   pub one_not_put : (row : Row) (t : Txn) (a b : Pages D g) (e : TreeError) → PutErr t a b e → PutsErr (row ∷ []) t a b e
@@ -67,10 +56,7 @@ module _ {D : Type 0} {g : Ghosts D} where
   then_not_put rows more t u a b c DeviceFault put quiet why = failed_more a b c put.passed quiet why
   then_not_put rows more t u a b c NotAStore put quiet why = λ honest m holds. why honest (put_rows m rows) (held_then rows t u a b put (quiet.honest honest) m holds)
   then_not_put rows more t u a b c Halted put quiet why = sym put.passed.halted ∙ why
-  then_not_put rows more t u a b c NoPages put quiet why =
-      let taken = put.taken in
-      let count = length-append rows more in
-      omega arith
+  then_not_put rows more t u a b c NoPages put quiet why = search (rules, length-append)
   then_not_put rows more t u a b c TooDeep put quiet why = λ honest m holds.
       let before = quiet.honest honest in
       let deep = why honest (put_rows m rows) (held_then rows t u a b put before m holds) in
@@ -79,8 +65,7 @@ module _ {D : Type 0} {g : Ghosts D} where
         rest = deep.rest;
         are = append_assoc rows deep.prefix deep.rest ∙ ap (λ l. rows ++ l) deep.are;
         txn = deep.txn;
-        holds = subst (λ P. InTxn deep.txn P (put_rows m (rows ++ deep.prefix))) (put.passed.quiet.same before)
-            (subst (λ n. InTxn deep.txn (stored b) n) (sym (put_rows-append m rows deep.prefix)) deep.holds);
+        holds = search (rules, put.passed.quiet.same, put_rows-append);
         deep = subst (λ P. level_in (over deep.txn P) (txn_root deep.txn) ≡ 5) (put.passed.quiet.same before) deep.deep;
       }
   then_not_put rows more t u a b c Memory put quiet why = tt
@@ -109,5 +94,4 @@ module _ {D : Type 0} {g : Ghosts D} where
 
   pub told_not_put : (row : ℕ → Row) (k n : ℕ) (t u : Txn) (a b c : Pages D g) (e : TreeError) → k < n → HasPut (rows_told row k) t u a b → IsQuiet b c → PutsErr (row k ∷ []) u b c e → PutsErr (rows_told row n) t a c e
   told_not_put row k n t u a b c e less put quiet why =
-      let rest = told_prefix row (suc k) n (omega arith) in
-      subst (λ rows. PutsErr rows t a c e) rest.1 (prefix_not_put (rows_told row (suc k)) rest.0 t a c e (then_not_put (rows_told row k) (row k ∷ []) t u a b c e put quiet why))
+      search (arith, told_prefix row (suc k) n (omega arith), prefix_not_put, then_not_put (rows_told row k) (row k ∷ []) t u a b c e put quiet why)

@@ -1,10 +1,10 @@
 -- Rows that are put, call by call.
-use Rattle.std.{specs.Prelude.{◌≡◌, ◌<◌, ◌+◌, ℕ, List, ◌++◌, [], ◌∷◌, Result, Ok, Err, IsErrAnd}, proofs.Common.{sym, subst}}
+use Rattle.std.{specs.Prelude.{◌≡◌, ◌<◌, ◌+◌, ℕ, List, ◌++◌, [], ◌∷◌, Result, Ok, Err, IsErrAnd}, proofs.Common.{rules, sym, subst}}
 use Rattle.sector_device.specs.declared.SectorDevice.{Ghosts}
 use Rattle.page_store.{specs.claim.Transactions.{count_of, txn_pages, IsQuiet}, specs.declared.pages.Pages.Pages, specs.declared.txn.Txn.Txn, proofs.Stops.{quiet_more, quiet_none}}
 use Rattle.btree_puts.specs.page_btree.declared.error.TreeError.{TreeError}
 use Rattle.store_rows.specs.{Puts.rows_told, claim.Puts.Row}
-use Rattle.desk_pages.{specs.claim.Puts.PutsErr, specs.Outcomes.{PutsRows, Writes}, proofs.RowsPut.{more_put, none_put, prefix_not_put, then_not_put, told_more, told_not_put}}
+use Rattle.desk_pages.{specs.Outcomes.{PutsRows, Writes}, proofs.RowsPut.{more_put, none_put, prefix_not_put, then_not_put, told_more, told_not_put}}
 
 module _ {D X Y : Type 0} {g : Ghosts D} {done : X → Type 0} {failed : TreeError → Type 0} {u : Txn} {a b : Pages D g} {also : Y → Type 0} {why : TreeError → Type 0} where
   -- what was done says something else
@@ -26,8 +26,7 @@ module _ {D X Y : Type 0} {g : Ghosts D} {done : X → Type 0} {failed : TreeErr
 -- rows were put, and more rows
 pub puts_more : {D T S : Type 0} {g : Ghosts D} {t u v : Txn} {a b d : Pages D g} {rows more : List Row} {x : T} (r : Result S TreeError)
     → PutsRows rows t u a b (Ok x) → PutsRows more u v b d r → PutsRows (rows ++ more) t v a d r
-puts_more {D} {T} {S} {g} {t} {u} {v} {a} {b} {d} {rows} {more} r first next =
-    then_does r first next (λ y was is. more_put rows more t u v a b d was is) (λ e was quiet why. then_not_put rows more t u a b d e was quiet why)
+puts_more {D} {T} {S} {g} {t} {u} {v} {a} {b} {d} {rows} {more} r first next = search (then_does, more_put, then_not_put)
 
 -- they were not, and so no more of them
 pub puts_none : {D T : Type 0} {g : Ghosts D} {t u : Txn} {a b : Pages D g} {rows : List Row} {e : TreeError} (more : List Row) → PutsRows {T = T} rows t u a b (Err e) → PutsRows {T = T} (rows ++ more) t u a b (Err e)
@@ -43,11 +42,7 @@ module _ {D T S : Type 0} {g : Ghosts D} {t u v : Txn} {a b d : Pages D g} (row 
 
   pub told_fail : {y : TreeError} {Z : Type 0} (n : ℕ) (r : Result Z TreeError) → k < n → PutsRows (rows_told row k) t u a b (Ok x) → PutsRows {T = S} (row k ∷ []) u v b d (Err y) → IsErrAnd r (λ x. x ≡ y) → PutsRows (rows_told row n) t v a d r
   told_fail {y} {Z} n (Ok z) less first next is = absurd is
-  told_fail {y} {Z} n (Err e) less first next is = record {
-    quiet = quiet_more a b d first.quiet next.quiet;
-    begun = next.begun;
-    put = subst (PutsErr (rows_told row n) t a d) (sym is) (told_not_put row k n t u a b d y less first.put next.quiet next.put);
-  }
+  told_fail {y} {Z} n (Err e) less first next is = search (rules, quiet_more a b d first.quiet next.quiet, told_not_put row k n t u a b d y less first.put next.quiet next.put)
 
 -- the rows are these
 pub puts_as : {D T : Type 0} {g : Ghosts D} {t u : Txn} {a b : Pages D g} {rows more : List Row} {r : Result T TreeError} → rows ≡ more → PutsRows rows t u a b r → PutsRows more t u a b r

@@ -1,13 +1,11 @@
 -- What became of a command.
-use Rattle.std.proofs.Common.{◌≡◌, ◌⊎◌, ◌+◌, ℕ, Bool, true, false, length, inl, inr, ⊎_elim, sym, ap, subst, ◌∙◌, arith}
+use Rattle.std.proofs.Common.{rules, ◌≡◌, ◌⊎◌, ◌+◌, ℕ, Bool, true, false, length, inl, inr, ⊎_elim, sym, ap, subst, ◌∙◌, arith}
 use Rattle.sector_device.{specs.claim.Disk.Image, specs.claim.Moments.LeavesOnly, specs.declared.SectorDevice.Ghosts, proofs.Moments.{leaves_more, leaves_now}}
-use Rattle.page_store.specs.{gate_journal.claim.Store.home, claim.Chain.{root_in, free_in}, claim.Transactions.{stored, count_of}}
-use Rattle.page_store.proofs.{Stops.{leaves_here, leaves_quiet}, Chains.either}
-use Rattle.page_btree.specs.claim.Map.{Holds}
+use Rattle.page_store.{specs.gate_journal.claim.Store.home, specs.claim.Chain.free_in, proofs.Stops.{leaves_here, leaves_quiet}, proofs.Chains.either}
 use Rattle.desk_model.specs.{declared.command.Command.Command, declared.command.Command.TheVariants.Fork, declared.reply.Reply.Reply, declared.reply.Reply.TheVariants.Refused}
-use Rattle.desk_model.specs.{declared.reply.Refusal.Refusal, claim.Desk.Desk, claim.Outcome.{IsAcceptance, CommandMay}, claim.Room.need, claim.Step.step}
+use Rattle.desk_model.specs.{declared.reply.Refusal.Refusal, claim.Desk.Desk, claim.Outcome.{IsAcceptance, CommandMay}, claim.Room.need}
 use Rattle.desk_catalogue.specs.claim.Accepting.{IsAfter, acceptance}
-use Rattle.desk_pages.specs.{Desks.HoldsDesk, claim.Desks.{InPages, OpensDesk}}
+use Rattle.desk_pages.specs.claim.Desks.{InPages, OpensDesk}
 use Rattle.plan_revisions.specs.claim.Rows.{HasNumbers}
 use Rattle.desk_store.specs.{claim.Keeping.{IsLeft, OpensOneMore}, claim.Clerks.{desk_of, disk_of, pages_of, sectors_of, free_of, HaltsByDevice, Keeps, Reads, Moves}}
 use Rattle.desk_store.specs.{claim.Commands.{command_of, after_of, IsExhausted, MustBeFull, MayBeFull, PrepareErr, IsReady, Commits, Does}, declared.clerk.Clerk.Clerk}
@@ -42,23 +40,16 @@ module _ {D : Type 0} {g : Ghosts D} where
       (leaves_here (Either x next) (disk_of x) (λ c leaves. inl (left_working x.halted (sectors_of x) (desk_of x) c working (keeps.left (reads.quiet.honest honest) c leaves))))
 
   was_working : (x y : Clerk D g) → Reads x y → y.halted ≡ false → x.halted ≡ false
-  was_working x y reads works = elim (either x.halted) [
-    | inl on ↦ absurd (let clash : true ≡ false = sym (reads.halts on) ∙ works in cc)
-    | inr off ↦ off
-  ]
+  was_working x y reads works = search (rules, either)
 
   still_holds : (x y : Clerk D g) → Reads x y → (disk_of y).is_honest → InPages (pages_of x) (desk_of x) → InPages (pages_of y) (desk_of y)
-  still_holds x y reads honest holds =
-      subst (λ (d : Desk). InPages (pages_of y) d) (sym reads.desk)
-      (subst (λ (P : Image). HoldsDesk (count_of (pages_of y)) P (root_in P) (free_in P) (desk_of x)) (sym (reads.quiet.same honest))
-      (subst (λ (n : ℕ). HoldsDesk n (stored (pages_of x)) (root_in (stored (pages_of x))) (free_in (stored (pages_of x))) (desk_of x)) (sym reads.quiet.count) holds))
+  still_holds x y reads honest holds = search (rules, reads.quiet.same honest)
 
   -- the numbers of its rows are what they were
   still_exhausted : (x y : Clerk D g) (c q : Command) → Reads x y → q ≡ c → (disk_of y).is_honest → IsExhausted x c → IsExhausted y q
   still_exhausted x y c q reads is honest exhausted = record {
     m = exhausted.m;
-    holds = subst (λ (P : Image). Holds (count_of (pages_of y)) P (root_in P) (free_in P) exhausted.m) (sym (reads.quiet.same honest))
-        (subst (λ (n : ℕ). Holds n (stored (pages_of x)) (root_in (stored (pages_of x))) (free_in (stored (pages_of x))) exhausted.m) (sym reads.quiet.count) exhausted.holds);
+    holds = search rules;
     next = exhausted.next;
     fit = exhausted.fit;
     is_next = exhausted.is_next;
@@ -75,29 +66,15 @@ module _ {D : Type 0} {g : Ghosts D} where
   }
 
   pub reads_move : (next : Desk) (x y : Clerk D g) → Reads x y → Moves next x y
-  reads_move next x y reads = record {
-    sectors = sectors_same x y reads;
-    room = reads.quiet.journal;
-    honest = reads.quiet.honest;
-    any_moment = reads_left next x y reads;
-    keeps = still_keeps x y reads;
-    still = λ on. (reads.still on, reads.desk, reads.halts on);
-    rose = reads.rose;
-    calm = λ works honest. reads.quiet.calm (y.working works) honest;
-  }
+  reads_move next x y reads =
+      search (sectors_same, reads.quiet.journal, reads.quiet.honest, reads_left, still_keeps, reads.still, reads.desk, reads.halts, reads.rose, reads.quiet.calm, y.working)
 
   -- the pages halt where the device fails
   pub reads_device : (x y : Clerk D g) → Reads x y → HaltsByDevice x y
   reads_device x y reads = record { rose = reads.quiet.rose; calm = reads.quiet.calm }
 
   device_more : (x y z : Clerk D g) → Reads x y → y.halted ≡ false → ((disk_of z).is_honest → (disk_of y).is_honest) → HaltsByDevice y z → HaltsByDevice x z
-  device_more x y z reads works was_honest then = record {
-    rose = λ off on honest.
-        let rises = then.rose (y.working works) on honest in
-        let same = reads.quiet.calm (y.working works) (was_honest honest) in
-        omega (arith, rises, same);
-    calm = λ off honest. then.calm off honest ∙ reads.quiet.calm (y.working works) (was_honest honest);
-  }
+  device_more x y z reads works was_honest then = search rules
 
   pub moves_more : (next : Desk) (x y z : Clerk D g) → Reads x y → y.halted ≡ false → Moves next y z → Moves next x z
   moves_more next x y z reads works moves =
@@ -112,26 +89,13 @@ module _ {D : Type 0} {g : Ghosts D} where
             leaves_more (Either x next) (disk_of x) (disk_of y) (disk_of z) (reads_left next x y reads keeps working (moves.honest honest)) then;
         keeps = λ keeps. moves.keeps (still_keeps x y reads keeps);
         still = λ on. absurd (let clash : true ≡ false = sym (reads.halts on) ∙ works in cc);
-        rose = λ keeps working on honest.
-            let rises = moves.rose (still_keeps x y reads keeps) works on honest in
-            let same = reads.quiet.calm (y.working works) (moves.honest honest) in
-            omega (arith, rises, same);
+        rose = λ keeps working on honest. search (rules, still_keeps);
         calm = λ off honest. moves.calm off honest ∙ reads.quiet.calm (y.working works) (moves.honest honest);
       }
 
   -- a command that was refused before its commit
   pub refused_does : (x y : Clerk D g) (c : Command) (r : Refusal) → Reads x y → y.loading ≡ x.loading → PrepareErr x c r y → Does x c (Refused r) y
-  refused_does x y c r reads loading why = record {
-    loading = loading;
-    device = reads_device x y reads;
-    moves = reads_move (step (desk_of x) c).1 x y reads;
-    outcome = why;
-    free = λ keeps honest accepted. absurd accepted;
-    numbers = λ honest accepted. absurd accepted;
-    spared = λ honest works other. free_same x y reads honest;
-    shown = λ other. reads.desk;
-    quiet = λ works other. reads.quiet;
-  }
+  refused_does x y c r reads loading why = search (rules, reads_device, reads_move, free_same)
 
   -- one that was made ready, and then committed or not
   pub committed_does : (x y z : Clerk D g) (c : Command) (r : Ready) (reply : Reply) → Reads x y → y.loading ≡ x.loading → IsReady y r → command_of r ≡ c → (MustBeFull x c → ⊥) → y.halted ≡ false → Commits y r reply z → Does x c reply z

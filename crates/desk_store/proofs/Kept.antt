@@ -1,7 +1,7 @@
 -- What a clerk's store keeps.
-use Rattle.std.proofs.Common.{◌≡◌, ◌⊎◌, ◌+◌, ℕ, true, false, inl, inr, ⊎_elim, refl, sym, subst}
+use Rattle.std.proofs.Common.{rules, ◌≡◌, ◌⊎◌, ◌+◌, ℕ, true, false, inl, inr, ⊎_elim, refl, sym, subst}
 use Rattle.sector_device.{specs.claim.Disk.{Disk, Image}, specs.claim.Moments.LeavesOnly, specs.declared.SectorDevice.Ghosts, proofs.Moments.leaves_now}
-use Rattle.page_store.specs.{gate_journal.claim.Store.home, claim.Transactions.{stored, disk_in, count_of, journal_of, has_halted, IsKept}, declared.pages.Pages.Pages}
+use Rattle.page_store.specs.{gate_journal.claim.Store.home, claim.Transactions.{disk_in, count_of, journal_of, has_halted, IsKept}, declared.pages.Pages.Pages}
 use Rattle.desk_model.specs.{declared.command.Command.Command, declared.command.Command.TheVariants.Create, claim.Desk.Desk, claim.Outcome.IsAcceptance, claim.Step.step}
 use Rattle.desk_catalogue.specs.claim.Accepting.{IsAfter, acceptance}
 use Rattle.desk_pages.{specs.claim.Desks.{InPages, OpensDesk}, proofs.Committed.pages_sound}
@@ -18,15 +18,7 @@ accepted_is d c e after = subst IsAcceptance (sym after.reply) (acceptance_is c)
 module _ {D : Type 0} {g : Ghosts D} where
   -- what a stop leaves of pages that are kept opens to the desk that they hold
   pub kept_opens : (ps : Pages D g) (d : Desk) → has_halted ps ≡ false → (disk_in ps).is_honest → IsKept ps → InPages ps d → (c : Image) → (disk_in ps).leaves c → OpensDesk (home (journal_of ps) + count_of ps) d c
-  kept_opens ps d working honest kept holds c leaves = record {
-    J = journal_of ps;
-    n = count_of ps;
-    P = stored ps;
-    whole = refl;
-    opens = kept c leaves;
-    holds = holds;
-    sound = pages_sound ps working honest holds.holds.free_are;
-  }
+  kept_opens ps d working honest kept holds c leaves = search (rules, pages_sound)
 
 -- a stop in a call that halts leaves the desk before it or the desk after the change
 pub left_halted : (sectors : ℕ) (d e : Desk) (old new : Disk) → IsOneMore d e → LeavesOnly (λ c. OpensDesk sectors d c ⊎ OpensDesk sectors e c) old new → (c : Image) → new.leaves c → IsLeft true sectors d c

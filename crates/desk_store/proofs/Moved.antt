@@ -1,5 +1,5 @@
 -- Calls that commit, and calls that came to nothing.
-use Rattle.std.proofs.Common.{◌≡◌, ◌⊎◌, ◌<◌, ◌+◌, ℕ, Bool, true, false, inl, ⊎_elim, refl, sym, subst, ◌∙◌}
+use Rattle.std.proofs.Common.{rules, ◌≡◌, ◌⊎◌, ◌<◌, ◌+◌, ℕ, Bool, true, false, inl, ⊎_elim, sym, subst, ◌∙◌}
 use Rattle.sector_device.{specs.claim.Disk.Image, specs.claim.Moments.LeavesOnly, specs.declared.SectorDevice.Ghosts, proofs.Moments.leaves_now}
 use Rattle.page_store.specs.{gate_journal.claim.Store.home, claim.Transactions.{disk_in, HasShape, IsKept, IsQuiet}, declared.pages.Pages.Pages}
 use Rattle.page_store.proofs.Stops.{quiet_none}
@@ -58,35 +58,12 @@ module _ {D : Type 0} {g : Ghosts D} where
       }
 
   as_if : (sound : Type 0) (next : Desk) (x y : Clerk D g) → (sound → Keeps x) → Reads x y → MovesIf sound next x y
-  as_if sound next x y gives reads =
-      let moves = reads_move next x y reads in
-      record {
-        sectors = moves.sectors;
-        room = moves.room;
-        honest = moves.honest;
-        any_moment = λ is. moves.any_moment (gives is);
-        keeps = λ is. moves.keeps (gives is);
-        still = moves.still;
-        rose = λ is. moves.rose (gives is);
-        calm = moves.calm;
-      }
+  as_if sound next x y gives reads = search (rules, reads_move next x y reads)
 
   -- nothing was committed, and no fault came
   pub quieted : (sound : Type 0) (next : Desk) (x y : Clerk D g) → (sound → Keeps x) → x.halted ≡ false → y.halted ≡ false → desk_of y ≡ desk_of x → IsQuiet (pages_of x) (pages_of y) → MovesIf sound next x y
-  quieted sound next x y gives working works desk quiet = as_if sound next x y gives (record {
-    quiet = quiet;
-    desk = desk;
-    halts = λ on. absurd (let clash : true ≡ false = sym on ∙ working in cc);
-    still = λ on. absurd (let clash : true ≡ false = sym on ∙ working in cc);
-    rose = λ keeps off on. absurd (let clash : true ≡ false = sym on ∙ works in cc);
-  })
+  quieted sound next x y gives working works desk quiet = as_if sound next x y gives (search rules)
 
   -- nothing happened
   pub unmoved : (sound : Type 0) (next : Desk) (x : Clerk D g) → (sound → Keeps x) → MovesIf sound next x x
-  unmoved sound next x gives = as_if sound next x x gives (record {
-    quiet = quiet_none (pages_of x);
-    desk = refl;
-    halts = λ on. on;
-    still = λ on. refl;
-    rose = λ keeps off on. absurd (let clash : true ≡ false = sym on ∙ off in cc);
-  })
+  unmoved sound next x gives = as_if sound next x x gives (search (rules, quiet_none))

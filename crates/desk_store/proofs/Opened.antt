@@ -1,17 +1,17 @@
 -- What an opening finds.
-use Rattle.std.proofs.Common.{◌≡◌, ◌<◌, ℕ, Bool, true, false, inl, inr, refl, sym, ap, subst, ◌∙◌, arith}
+use Rattle.std.proofs.Common.{rules, ◌≡◌, ◌<◌, ℕ, Bool, true, false, inl, inr, refl, sym, ap, subst, ◌∙◌, arith}
 use Rattle.sector_device.specs.{claim.Disk.{Disk, Image}, declared.SectorDevice.Ghosts}
-use Rattle.page_store.specs.{gate_journal.claim.Store.pages, gate_journal.Recovery.{HasRoom, Found}, claim.Chain.{root_in, free_in}}
+use Rattle.page_store.specs.{gate_journal.claim.Store.pages, gate_journal.Recovery.{HasRoom, Found}}
 use Rattle.page_store.specs.{claim.Transactions.{stored, disk_in, count_of, journal_of, has_halted, HasFailed, IsQuiet, IsKept}, Transactions.OpenErr, declared.pages.Pages.Pages}
 use Rattle.page_store.{specs.gate_journal.declared.error.PageError.PageError, specs.declared.txn.Txn.Txn, proofs.Stops.kept_quiet}
 use Rattle.page_store.specs.gate_journal.declared.error.PageError.TheVariants as page
 use Rattle.desk_model.specs.claim.Desk.{Desk}
-use Rattle.page_btree.specs.{declared.error.TreeError.TreeError, claim.Map.{Holds, InPages as HasRows, InTxn as TxnHas}}
+use Rattle.page_btree.specs.{declared.error.TreeError.TreeError, claim.Map.{InPages as HasRows, InTxn as TxnHas}}
 use Rattle.page_btree.specs.declared.error.TreeError.TheVariants as tree
 use Rattle.store_rows.{specs.claim.Keys.{version, in_four}, specs.claim.Rows.{KeyMap, row_in, Has, Lacks}, specs.claim.Tidy.version_row, proofs.OneGeography.no_value}
 use Rattle.plan_revisions.specs.desk_pages.Reading.{ReadErr as RowErr}
 use Rattle.desk_opening.specs.Opening.{HasVersion, IsReadFrom, OpenErr as ReadErr}
-use Rattle.desk_pages.specs.{claim.Desks.{HoldsDeskOf, IsMapOf, InPagesOf, InPages, OpensDesk, OpensDeskOf}, Desks.InPagesAs, Openings.{AllDesks, HasPages}}
+use Rattle.desk_pages.specs.{claim.Desks.{IsMapOf, InPagesOf, InPages, OpensDesk, OpensDeskOf}, Desks.InPagesAs, Openings.{AllDesks, HasPages}}
 use Rattle.desk_pages.specs.{claim.Openings.{AllVersions, IsOneOf}, Errors.{missing, page_refusal, row_refusal}, declared.error.StoreError.StoreError}
 use Rattle.desk_pages.specs.declared.error.StoreError.TheVariants.{NotAStore, DeviceFault, Memory, OldVersion}
 use Rattle.desk_pages.proofs.Found.{page_stores_of, found_desk, found_after, pages_left, rows_before}
@@ -56,14 +56,10 @@ new_tells m d is = is.tidy.holdings.told ∙ ap version_row is.version
 
 module _ {D : Type 0} {g : Ghosts D} where
   quiet_holds : (a b : Pages D g) (d : Desk) → IsQuiet a b → (disk_in b).is_honest → InPages a d → InPages b d
-  quiet_holds a b d quiet honest holds =
-      subst (λ (P : Image). HoldsDeskOf true (count_of b) P (root_in P) (free_in P) d) (sym (quiet.same honest))
-      (subst (λ (n : ℕ). HoldsDeskOf true n (stored a) (root_in (stored a)) (free_in (stored a)) d) (sym quiet.count) holds)
+  quiet_holds a b d quiet honest holds = search (rules, quiet.same honest)
 
   held_before : (a b : Pages D g) (d : Desk) → IsQuiet a b → (disk_in b).is_honest → InPages b d → InPages a d
-  held_before a b d quiet honest holds =
-      subst (λ (P : Image). HoldsDeskOf true (count_of a) P (root_in P) (free_in P) d) (quiet.same honest)
-      (subst (λ (n : ℕ). HoldsDeskOf true n (stored b) (root_in (stored b)) (free_in (stored b)) d) quiet.count holds)
+  held_before a b d quiet honest holds = search (rules, quiet.same honest)
 
   -- a transaction that was begun reads the rows that are held
   pub rows_begun : (a b : Pages D g) (t : Txn) (m : KeyMap) → IsBegun a t → IsQuiet a b → (disk_in b).is_honest → HasRows a m → TxnHas t (stored a) m
@@ -124,12 +120,7 @@ module _ {D : Type 0} {g : Ghosts D} where
       J = journal_of b;
       n = count_of b;
       found = found_after old a b found quiet honest;
-      none = λ m holds.
-          let it = found_after old a b found quiet honest in
-          let same : pages (journal_of b) it.was ≡ stored a = sym it.same ∙ quiet.same honest in
-          none honest m
-          (subst (λ (n : ℕ). Holds n (stored a) (root_in (stored a)) (free_in (stored a)) m) quiet.count
-          (subst (λ (P : Image). Holds (count_of b) P (root_in P) (free_in P) m) same holds));
+      none = λ m holds. search (rules, found_after old a b found quiet honest);
     },
     λ all.
         let was = found (quiet.honest honest) in

@@ -1,10 +1,10 @@
 -- A command whose pages are made ready.
-use Rattle.std.proofs.Common.{◌≡◌, ◌⊎◌, ◌≤◌, ◌+◌, ℕ, Bool, true, false, List, length, inl, inr, ⊎_elim, refl, sym, ap, subst, ◌∙◌, arith}
+use Rattle.std.proofs.Common.{rules, ◌≡◌, ◌⊎◌, ◌≤◌, ◌+◌, ℕ, Bool, true, false, List, length, inl, inr, refl, sym, ap, subst, ◌∙◌, arith}
 use Rattle.sector_device.specs.{claim.Disk.Image, declared.SectorDevice.Ghosts}
 use Rattle.page_store.specs.claim.Chain.{free_in, root_in}
 use Rattle.page_store.specs.claim.Transactions.{stored, disk_in, count_of, has_halted, txn_pages, txn_writes, txn_free, txn_root, over, free_over, prepared_pages, prepared_writes, after, IsQuiet}
 use Rattle.page_store.{specs.Transactions.txn_first, specs.declared.pages.Pages.Pages, specs.declared.txn.Txn.Txn, specs.declared.txn.Prepared.Prepared, proofs.Chains.length_chain}
-use Rattle.page_btree.specs.{claim.Map.{Holds, InTxn as TxnHas, InPages as HoldsRows}, declared.error.TreeError.TreeError}
+use Rattle.page_btree.specs.{claim.Map.{InTxn as TxnHas, InPages as HoldsRows}, declared.error.TreeError.TreeError}
 use Rattle.page_btree.{specs.declared.error.TreeError.TheVariants.{DeviceFault, NotAStore, Halted, NoPages, TooDeep, Memory}, proofs.MapLaws.begun_holds}
 use Rattle.store_rows.specs.claim.Rows.{KeyMap}
 use Rattle.desk_model.specs.{declared.command.Command.Command, claim.Desk.Desk, claim.Outcome.{IsFull, RefusalMay}, claim.Room.{need, command_rows}}
@@ -12,8 +12,7 @@ use Rattle.desk_catalogue.specs.claim.Accepting.{IsAfter}
 use Rattle.plan_revisions.specs.{plan_rows.claim.Outcomes.HasExhausted, plan_rows.declared.change.ChangeOutcome.ChangeOutcome}
 use Rattle.plan_revisions.specs.{plan_rows.declared.change.ChangeOutcome.TheVariants.{Made, NumbersExhausted}, claim.Steps.{HasStepped, IsStepped, LeavesNumbers, StepErr}}
 use Rattle.plan_revisions.{specs.claim.Rows.HasNumbers, proofs.Accepted.{rows_some, geography_stays}}
-use Rattle.desk_pages.specs.{claim.Commits.HoldsAfter, Desks.HoldsDesk, claim.Desks.{IsDeskMap, HoldsDeskOf, InPages, InPagesOf, InTxn, InTxnOf}}
-use Rattle.desk_pages.proofs.DeskLaws.{begun_desk}
+use Rattle.desk_pages.{specs.claim.Commits.HoldsAfter, specs.claim.Desks.{IsDeskMap, HoldsDeskOf, InPages, InPagesOf, InTxn, InTxnOf}, proofs.DeskLaws.begun_desk}
 use Rattle.desk_store.specs.{claim.Clerks.{desk_of, disk_of, pages_of, room_of, Keeps, Reads}, declared.ready.Ready.Ready}
 use Rattle.desk_store.specs.{claim.Commands.{command_of, after_of, written_of, IsReady, HasRoom, MustBeFull, MayBeFull}, Faults.{is_fault, refusal_of}, declared.clerk.Clerk.Clerk}
 use Rattle.desk_store.proofs.Kept.{accepted_is}
@@ -40,9 +39,7 @@ module _ {D : Type 0} {g : Ghosts D} where
       begun_desk t (stored a) d there begun.over_is (begun.root honest) (begun.free honest)
 
   pub begun_rows : (a : Pages D g) (t : Txn) (m : KeyMap) → IsBegun a t → (disk_in a).is_honest → HoldsRows a m → TxnHas t (stored a) m
-  begun_rows a t m begun honest holds =
-      let there : Holds (txn_pages t) (stored a) (root_in (stored a)) (free_in (stored a)) m = subst (λ (n : ℕ). Holds n (stored a) (root_in (stored a)) (free_in (stored a)) m) (sym begun.pages) holds in
-      begun_holds t (stored a) m there begun.over_is (begun.root honest) (begun.free honest)
+  begun_rows a t m begun honest holds = search (rules, begun_holds)
 
   -- its free pages are the store's
   begun_free : (a : Pages D g) (t : Txn) → IsBegun a t → (disk_in a).is_honest → txn_free t ≡ length (free_in (stored a))
@@ -50,22 +47,16 @@ module _ {D : Type 0} {g : Ghosts D} where
 
   -- a call that read at most leaves what is held
   still_held : (a b : Pages D g) (d : Desk) → IsQuiet a b → (disk_in b).is_honest → InPages b d → InPages a d
-  still_held a b d quiet honest holds =
-      subst (λ (n : ℕ). HoldsDesk n (stored a) (root_in (stored a)) (free_in (stored a)) d) quiet.count
-      (subst (λ (P : Image). HoldsDesk (count_of b) P (root_in P) (free_in P) d) (quiet.same honest) holds)
+  still_held a b d quiet honest holds = search (rules, quiet.same honest)
 
   -- so do the rows
   still_rows : (a b : Pages D g) (m : KeyMap) → IsQuiet a b → (disk_in b).is_honest → HoldsRows b m → HoldsRows a m
-  still_rows a b m quiet honest holds =
-      subst (λ (n : ℕ). Holds n (stored a) (root_in (stored a)) (free_in (stored a)) m) quiet.count
-      (subst (λ (P : Image). Holds (count_of b) P (root_in P) (free_in P) m) (quiet.same honest) holds)
+  still_rows a b m quiet honest holds = search rules
 
   -- the desk that it holds
   next_held : (x y : Clerk D g) (c : Command) (e : Desk) (t u : Txn) (made : Prepared) → desk_of y ≡ desk_of x → IsBegun (pages_of x) t → IsQuiet (pages_of x) (pages_of y) → HasStepped (λ d. d ≡ desk_of x) (λ d. e) (command_rows (desk_of x) c) t u (pages_of x) (pages_of y)
       → IsReadied u made → Keeps y → y.halted ≡ false → (disk_of y).is_honest → InTxn u (stored (pages_of x)) e
-  next_held x y c e t u made same begun quiet stepped readied keeps working honest =
-      let before = still_held (pages_of x) (pages_of y) (desk_of x) quiet honest (subst (λ (d : Desk). InPages (pages_of y) d) same (keeps.holds working honest)) in
-      stepped.desk honest (desk_of x) (begun_reads (pages_of x) t (desk_of x) begun (quiet.honest honest) before) refl
+  next_held x y c e t u made same begun quiet stepped readied keeps working honest = search (still_held, keeps.holds, stepped.desk, begun_reads, quiet.honest)
 
   -- what was put is ready
   pub made_ready : (x y : Clerk D g) (c : Command) (e : Desk) (t u : Txn) (r : Ready) → desk_of y ≡ desk_of x → IsAfter (desk_of x) c e → HasRoom x (command_rows (desk_of x) c) → IsBegun (pages_of x) t → IsQuiet (pages_of x) (pages_of y) → txn_pages u ≡ count_of (pages_of y)
@@ -141,22 +132,14 @@ module _ {D : Type 0} {g : Ghosts D} where
 
   pub fault_reads : (x y : Clerk D g) (c : Command) (t : Txn) (error : TreeError) → x.halted ≡ false → y.halted ≡ true → desk_of y ≡ desk_of x → IsBegun (pages_of x) t → IsQuiet (pages_of x) (pages_of y) → StepErr (λ d. d ≡ desk_of x) (command_rows (desk_of x) c) t (pages_of x) (pages_of y) error
       → (is_fault error ≡ true) ⊎ (has_halted (pages_of y) ≡ true) → Reads x y
-  fault_reads x y c t error working halts same begun quiet why fault = record {
-    quiet = quiet;
-    desk = same;
-    halts = λ on. halts;
-    still = λ on. absurd (let clash : true ≡ false = sym on ∙ working in cc);
-    rose = λ keeps off on honest. quiet.rose (x.working working) (⊎_elim (has_failed x (pages_of y) c t error working keeps honest begun quiet why) (λ (failed : has_halted (pages_of y) ≡ true). failed) fault) honest;
-  }
+  fault_reads x y c t error working halts same begun quiet why fault = search (rules, has_failed)
 
   -- ---- of the desk that is shown, by another name
   pub made_of : (s d : Desk) (c : Command) (e : Desk) (t u : Txn) (a b : Pages D g) (change : ChangeOutcome) → s ≡ d → change ≡ Made → IsStepped (λ z. z ≡ s) (λ z. e) (command_rows s c) (HasNumbers s c) t u a b change → HasStepped (λ z. z ≡ d) (λ z. e) (command_rows d c) t u a b × LeavesNumbers (HasNumbers d c) t a b
-  made_of s d c e t u a b change same is did = subst (λ (z : Desk). HasStepped (λ x. x ≡ z) (λ x. e) (command_rows z c) t u a b × LeavesNumbers (HasNumbers z c) t a b) same
-      (subst (λ (x : ChangeOutcome). IsStepped (λ z. z ≡ s) (λ z. e) (command_rows s c) (HasNumbers s c) t u a b x) is did)
+  made_of s d c e t u a b change same is did = search rules
 
   pub exhausted_of : (s d : Desk) (c : Command) (e : Desk) (t u : Txn) (a b : Pages D g) (change : ChangeOutcome) → s ≡ d → change ≡ NumbersExhausted → IsStepped (λ z. z ≡ s) (λ z. e) (command_rows s c) (HasNumbers s c) t u a b change → HasExhausted (HasNumbers d c) t u a b
-  exhausted_of s d c e t u a b change same is did = subst (λ (z : Desk). HasExhausted (HasNumbers z c) t u a b) same
-      (subst (λ (x : ChangeOutcome). IsStepped (λ z. z ≡ s) (λ z. e) (command_rows s c) (HasNumbers s c) t u a b x) is did)
+  exhausted_of s d c e t u a b change same is did = search rules
 
   pub error_of : (s d : Desk) (c : Command) (t : Txn) (a b : Pages D g) (error : TreeError) → s ≡ d → StepErr (λ z. z ≡ s) (command_rows s c) t a b error → StepErr (λ z. z ≡ d) (command_rows d c) t a b error
   error_of s d c t a b error same why = subst (λ (z : Desk). StepErr (λ x. x ≡ z) (command_rows z c) t a b error) same why

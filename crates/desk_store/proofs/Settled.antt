@@ -1,5 +1,5 @@
 -- A clerk whose catalogue was settled: what is shown stays, and so does the clerk.
-use Rattle.std.{specs.Arc.arc_with_value, proofs.Common.{◌≡◌, Bool, true, false, sym, ap, subst}, proofs.Props.props}
+use Rattle.std.{specs.Arc.arc_with_value, proofs.Common.{rules, ◌≡◌, Bool, true, false, sym, subst}, proofs.Props.props}
 use Rattle.sector_device.specs.declared.SectorDevice.{Ghosts}
 use Rattle.page_store.specs.{claim.Transactions.has_halted, declared.pages.Pages.Pages}
 use Rattle.desk_model.specs.{claim.Desk.Desk, claim.Outcome.RefusalMay, declared.command.Command.Command, declared.reply.Refusal.Refusal}
@@ -13,8 +13,7 @@ module _ {D : Type 0} {g : Ghosts D} where
   -- a clerk with the same fields is the same
   pub same_clerk : (x : Clerk D g) (w : x.halted ≡ false → has_halted (pages_of x) ≡ false)
       → record { pages = x.pages; catalogue = x.catalogue; loading = x.loading; halted = x.halted; working = w } ≡ x
-  same_clerk x w =
-      ap (λ (p : x.halted ≡ false → has_halted (pages_of x) ≡ false). record { pages = x.pages; catalogue = x.catalogue; loading = x.loading; halted = x.halted; working = p }) (working_prop x.halted (pages_of x) w x.working)
+  same_clerk x w = search (rules, working_prop x.halted (pages_of x) w x.working)
 
   -- one whose catalogue was written over with an equal one is the same
   pub settled_clerk : (x : Clerk D g) (d : Desk) → d ≡ x.catalogue.value → (w : x.halted ≡ false → has_halted (pages_of x) ≡ false)

@@ -1,15 +1,14 @@
 -- Sweeps at a clerk.
-use Rattle.std.specs.FinMap.{remove}
-use Rattle.std.proofs.Common.{◌≡◌, ◌⊎◌, ◌<◌, ◌+◌, ◌^◌, ℕ, zero, suc, Bool, true, false, List, [], ◌∷◌, ◌++◌, Option, Some, inl, inr, ⊎_elim, refl, sym, ap, subst, ◌∙◌, arith}
+use Rattle.std.proofs.Common.{rules, ◌≡◌, ◌⊎◌, ◌<◌, ◌^◌, ℕ, zero, suc, Bool, true, false, List, [], ◌∷◌, Option, Some, ⊎_elim, refl, sym, ap, subst, ◌∙◌, arith}
 use Rattle.sector_device.specs.declared.SectorDevice.{Ghosts}
-use Rattle.page_store.specs.{gate_journal.declared.journal.Journal.Journal, claim.Transactions.{disk_in, has_halted, IsQuiet, IsSame}, declared.pages.Pages.Pages}
+use Rattle.page_store.specs.{claim.Transactions.{disk_in, has_halted, IsQuiet, IsSame}, declared.pages.Pages.Pages}
 use Rattle.page_btree.specs.claim.Map.{InPages as HoldsRows}
 use Rattle.desk_model.specs.{claim.Geography.GeographyModel, claim.Desk.Desk}
-use Rattle.store_rows.specs.{claim.Keys.{RowKey, key_of, Fits, begun, holding, seal, block, pair, in_eight}, Holders.released, claim.Rows.{KeyMap, row_in}, Rows.SameTag}
+use Rattle.store_rows.specs.{claim.Keys.{RowKey, key_of, Fits, begun, seal, block, pair, in_eight}, Holders.released, claim.Rows.{KeyMap, row_in}, Rows.SameTag}
 use Rattle.store_rows.{specs.claim.GeographyRows.IsStaged, specs.TurnLaws.{Turn, goes, lets_go, IsUnneeded, CanTurn, turned, take_turns, AreTurns}, proofs.RowLaws.keys_differ}
 use Rattle.store_rows.proofs.Frames.{remove_keeps, put_keeps_tag, remove_keeps_tag, tag_follows}
 use Rattle.geo_tables.specs.{Loading.{HoldsLoad, number_of, geography_model_of, done_of}, declared.load.Load.Load}
-use Rattle.desk_pages.specs.{claim.Desks.{IsDeskMap, InPages}, declared.error.StoreError.StoreError, declared.error.StoreError.TheVariants.{Memory, NotAStore, DeviceFault, Halted}}
+use Rattle.desk_pages.specs.{claim.Desks.{IsDeskMap, InPages}, declared.error.StoreError.StoreError, declared.error.StoreError.TheVariants.{Memory, NotAStore, Halted}}
 use Rattle.store_sweep.specs.{Leftovers.{IsOfLoad, IsApart, AreNotSpared, IsSweptBy, IsSweptClean}, Sweeping.{SweepErr, Sweeps}}
 use Rattle.desk_opening.proofs.plan_rows.Committing.{quiet_rows}
 use Rattle.desk_store.specs.{claim.Clerks.{desk_of, disk_of, pages_of, HaltsByDevice, Keeps, Reads, Moves}, Loads.{Stages, IsLast}, Failures.is_failure}
@@ -18,12 +17,8 @@ use Rattle.desk_store.{specs.Sweeps.{HasRows, HasSwept, SweepRefused}, specs.dec
 -- ---- turns leave the rows of a load
 -- a plan that lets a chunk go leaves the rows with other tags
 released_keeps : (m : KeyMap) (plan number count tag : ℕ) → (tag ≡ 72 → ⊥) → (tag ≡ 75 → ⊥) → SameTag tag m (released m plan number count)
-released_keeps m plan number zero tag holds counts =
-    let gone = remove m (key_of (holding plan number)) in
-    tag_follows tag m gone (released m plan number zero) (remove_keeps_tag m tag 72 (in_eight plan ++ in_eight number) holds) (remove_keeps_tag gone tag 75 (in_eight number) counts)
-released_keeps m plan number (suc more) tag holds counts =
-    let gone = remove m (key_of (holding plan number)) in
-    tag_follows tag m gone (released m plan number (suc more)) (remove_keeps_tag m tag 72 (in_eight plan ++ in_eight number) holds) (put_keeps_tag gone tag 75 (in_eight number) (in_eight (more + 1)) counts)
+released_keeps m plan number zero tag holds counts = search (tag_follows, remove_keeps_tag)
+released_keeps m plan number (suc more) tag holds counts = search (tag_follows, remove_keeps_tag, put_keeps_tag)
 
 let_go_kept : (load plan number count : ℕ) (m : KeyMap) (row : RowKey) → IsOfLoad load row → row_in (released m plan number count) row ≡ row_in m row
 let_go_kept load plan number count m (begun other) of = released_keeps m plan number count 76 (λ same. absurd (omega (arith, same))) (λ same. absurd (omega (arith, same))) (in_eight other)
@@ -32,8 +27,7 @@ let_go_kept load plan number count m (pair other place) of = released_keeps m pl
 let_go_kept load plan number count m _ of = absurd of
 
 turn_kept : (load : ℕ) (turn : Turn) (m : KeyMap) (row : RowKey) → Fits row → IsOfLoad load row → CanTurn m turn → IsApart (Some load) turn → row_in (turned m turn) row ≡ row_in m row
-turn_kept load (goes r) m row fits of can apart =
-    remove_keeps m (key_of r) (key_of row) (λ same. apart (subst (λ (k : RowKey). IsOfLoad load k) (keys_differ row r fits can.0 same) of))
+turn_kept load (goes r) m row fits of can apart = search (rules, remove_keeps, keys_differ)
 turn_kept load (lets_go plan number count) m row fits of can apart = let_go_kept load plan number count m row of
 
 of_load_kept : (load : ℕ) (turns : List Turn) (m : KeyMap) (row : RowKey) → Fits row → IsOfLoad load row → AreTurns m turns → AreNotSpared (Some load) turns → row_in (take_turns m turns) row ≡ row_in m row
@@ -81,14 +75,7 @@ module _ {D : Type 0} {g : Ghosts D} where
       }
 
   load_still : (a b : Pages D g) (d : Desk) (load : Load) → IsQuiet a b → (disk_in b).is_honest → HoldsLoad a d load → HoldsLoad b d load
-  load_still a b d load quiet honest holds = record {
-    m = holds.m;
-    holds = quiet_rows a b quiet honest holds.m holds.holds;
-    is = holds.is;
-    staged = holds.staged;
-    mark = holds.mark;
-    unsealed = holds.unsealed;
-  }
+  load_still a b d load quiet honest holds = search quiet_rows
 
   -- ---- a step that was made
   pub swept_holds : (x : Clerk D g) (b : Pages D g) (running : Option ℕ) (count : ℕ) → x.halted ≡ false → ((disk_in b).is_honest → (disk_of x).is_honest) → ((disk_in b).is_honest → Swept running count (pages_of x) b) → Keeps x → (disk_in b).is_honest → InPages b (desk_of x)
@@ -117,68 +104,41 @@ module _ {D : Type 0} {g : Ghosts D} where
   -- ---- one that was refused
   pub sweep_rose : (x : Clerk D g) (b : Pages D g) (e : StoreError) → x.halted ≡ false → ((disk_in b).is_honest → (disk_of x).is_honest) → SweepErr (pages_of x) b e → (is_failure e ≡ true) ⊎ (has_halted b ≡ true) → Keeps x → (disk_in b).is_honest → (disk_of x).faults < (disk_in b).faults
   sweep_rose x b Memory working met why on keeps honest = ⊎_elim (λ clash. absurd (cc)) (λ halted. why.rose (x.working working) halted honest) on
-  sweep_rose x b DeviceFault working met why on keeps honest = elim why [
-    | inl failed ↦ failed.rose honest
-    | inr none ↦ absurd (none honest)
-  ]
   sweep_rose x b NotAStore working met why on keeps honest = absurd (why.2 honest (desk_of x) (keeps.holds working (met honest)))
   sweep_rose x b Halted working met why on keeps honest = absurd (let clash : true ≡ false = sym why.0 ∙ x.working working in cc)
-  sweep_rose x b _ working met why on keeps honest = absurd why
+  sweep_rose x b _ working met why on keeps honest = search rules
 
   pub sweep_quiet : (a b : Pages D g) (e : StoreError) → is_failure e ≡ false → SweepErr a b e → IsQuiet a b
   sweep_quiet a b Memory off why = why
   sweep_quiet a b NotAStore off why = why.0
-  sweep_quiet a b DeviceFault off why = absurd (cc)
-  sweep_quiet a b Halted off why = absurd (cc)
-  sweep_quiet a b _ off why = absurd why
+  sweep_quiet a b _ off why = search rules
 
   -- ---- the pages halt where the device fails
   quiet_device : (x y : Clerk D g) → IsQuiet (pages_of x) (pages_of y) → HaltsByDevice x y
   quiet_device x y quiet = record { rose = quiet.rose; calm = quiet.calm }
 
   pub same_device : (x y : Clerk D g) → IsSame (pages_of x) (pages_of y) → HaltsByDevice x y
-  same_device x y same = record {
-    rose = λ off on. absurd (let clash : true ≡ false = sym on ∙ ap (λ (j : Journal D g). j.halted) same ∙ off in cc);
-    calm = λ off honest. ap (λ (j : Journal D g). (g.disk j.device).faults) same;
-  }
+  same_device x y same = search rules
 
   pub passed_device : (x y : Clerk D g) → has_halted (pages_of y) ≡ false → ((disk_of y).is_honest → (disk_of y).faults ≡ (disk_of x).faults) → HaltsByDevice x y
-  passed_device x y works passed = record {
-    rose = λ off on. absurd (let clash : true ≡ false = sym on ∙ works in cc);
-    calm = λ off honest. passed honest;
-  }
+  passed_device x y works passed = search rules
 
   pub refused_device : (x y : Clerk D g) (e : StoreError) → SweepErr (pages_of x) (pages_of y) e → HaltsByDevice x y
   refused_device x y Memory why = quiet_device x y why
   refused_device x y NotAStore why = quiet_device x y why.0
-  refused_device x y DeviceFault why = elim why [
-    | inl failed ↦ record {
-      rose = λ off on honest. failed.rose honest;
-      calm = λ off honest. absurd (let clash : true ≡ false = sym failed.halted ∙ off in cc);
-    }
-    | inr none ↦ record { rose = λ off on honest. absurd (none honest); calm = λ off honest. absurd (none honest) }
-  ]
   refused_device x y Halted why = same_device x y why.1
-  refused_device x y _ why = absurd why
+  refused_device x y _ why = search rules
 
   -- and as a refusal of the clerk, who goes on
   pub refused_so : (x : Clerk D g) (b : Pages D g) (e : StoreError) (halted : Bool) → x.halted ≡ false → halted ≡ false → is_failure e ≡ false → SweepErr (pages_of x) b e → SweepRefused x e halted b
   refused_so x b Memory halted working works off why = (works, why)
   refused_so x b NotAStore halted working works off why = (working, works, why.0, λ honest holds. why.2 honest (desk_of x) holds)
-  refused_so x b DeviceFault halted working works off why = absurd (cc)
-  refused_so x b Halted halted working works off why = absurd (cc)
-  refused_so x b _ halted working works off why = absurd why
+  refused_so x b _ halted working works off why = search rules
 
   -- a check that met a fault read at most
   pub checked_failed : (x y : Clerk D g) (e : StoreError) → x.halted ≡ false → desk_of y ≡ desk_of x → IsQuiet (pages_of x) (pages_of y) → SweepErr (pages_of x) (pages_of y) e → (is_failure e ≡ true) ⊎ (has_halted (pages_of y) ≡ true) → Moves (desk_of x) x y
   checked_failed x y e working desk quiet why on =
-      let reads : Reads x y = record {
-        quiet = quiet;
-        desk = desk;
-        halts = λ was. absurd (let clash : true ≡ false = sym was ∙ working in cc);
-        still = λ was. absurd (let clash : true ≡ false = sym was ∙ working in cc);
-        rose = λ keeps off now honest. sweep_rose x (pages_of y) e working quiet.honest why on keeps honest;
-      } in
+      let reads : Reads x y = search (rules, sweep_rose) in
       reads_move (desk_of x) x y reads
 
   -- a load that is under way stays so where nothing was committed, and where the clerk halts
@@ -189,7 +149,4 @@ module _ {D : Type 0} {g : Ghosts D} where
   }
 
   pub halted_stages : (y : Clerk D g) (load : Load) → y.halted ≡ true → Keeps y → Stages y load
-  halted_stages y load on later = record {
-    keeps = later;
-    holds = λ off is_honest. absurd (let clash : true ≡ false = sym on ∙ off in cc);
-  }
+  halted_stages y load on later = search rules

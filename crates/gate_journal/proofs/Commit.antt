@@ -1,5 +1,5 @@
 -- What a stop leaves in each step of a commit.
-use Rattle.std.proofs.Common.{◌≡◌, ◌≢◌, ◌≤◌, ◌<◌, ◌+◌, ℕ, zero, suc, List, [], length, take, get_or, ◌/◌, inl, inr, refl, sym, subst, ap, ◌∙◌, arith}
+use Rattle.std.proofs.Common.{rules, ◌≡◌, ◌≢◌, ◌≤◌, ◌<◌, ◌+◌, ℕ, zero, suc, List, [], length, take, get_or, ◌/◌, inl, inr, refl, sym, subst, ap, ◌∙◌, arith}
 use Rattle.sector_device.specs.{claim.Disk.{Disk, Image, AgreeOff, Nowhere, Touches}, Disk.{Only, IsSynced}, claim.Moments.LeavesOnly}
 use Rattle.sector_device.proofs.Moments.{leaves_from, leaves_more, touches_none, touches_more}
 use Rattle.gate_journal.specs.claim.Store.{first_copy, list_word, copies_from, copies, home, gate, overlay, home_pages, pages, IsValid, IsStore, Opens}
@@ -97,11 +97,7 @@ module _ (J n : ℕ) (ws : List (ℕ × List ℕ)) (fits : length ws ≤ J) (wit
               gate_homes_to = (λ i p. same_homes J d.reads e.reads de.reads p i) ∙ d_homes
 
           pub resettled : HasGate 0 e → IsSettled J n e
-          resettled shut = record {
-            store = store_on (Only 1) d e (λ s. omega arith) d_store de (gate_stages d e d_stages de);
-            closed = zero_shut e.reads shut.stands;
-            synced = shut.synced;
-          }
+          resettled shut = search (rules, store_on, d_store, gate_stages, d_stages, zero_shut)
 
 -- nothing was written
 pub at_rest : (J n : ℕ) (ws : List (ℕ × List ℕ)) (a : Disk) → a.is_honest → IsSettled J n a → LeavesOnly (IsBeforeOrAfter J n ws (pages J a.reads)) a a
@@ -126,11 +122,7 @@ copies_stage J c = copies_from_stage (list_word c 0) refl
     nth at k (suc n) (suc j) lt = let e : k + 1 + j ≡ k + suc j = omega arith in nth at (k + 1) n j (omega arith) ∙ ap (λ (m : ℕ). (list_word c (m + 1), c (at + m))) e
 
     copies_from_stage : (n : ℕ) → n ≡ list_word c 0 → Stages J (copies_from c (first_copy J) 0 n) c
-    copies_from_stage n is = record {
-      count = sym is ∙ sym (long (first_copy J) 0 n);
-      page = λ k lt. let below : k < n = omega (arith, lt, long (first_copy J) 0 n) in let e : 0 + k ≡ k = omega arith in ap (λ (m : ℕ). list_word c (m + 1)) (sym e) ∙ sym (ap (λ (w : ℕ × List ℕ). w.0) (nth (first_copy J) 0 n k below));
-      copy = λ k lt. let below : k < n = omega (arith, lt, long (first_copy J) 0 n) in let e : 0 + k ≡ k = omega arith in ap (λ (m : ℕ). c (first_copy J + m)) (sym e) ∙ sym (ap (λ (w : ℕ × List ℕ). w.1) (nth (first_copy J) 0 n k below));
-    }
+    copies_from_stage n is = search (rules, long, nth)
 
 module _ (J : ℕ) (a : Disk) where
   abbrev ws : List (ℕ × List ℕ)
@@ -211,11 +203,7 @@ module _ (J n : ℕ) (a : Disk) (store : IsStore J n a.reads) (synced : IsSynced
         (while_closing J n was (home_pages J a.reads) b.reads x short within back_store back_stages homes agree)))
 
     pub reshut : Touches (Only 1) b c → HasGate 0 c → IsSettled J n c
-    reshut bc shut = record {
-      store = store_on J n was short within (pages J a.reads) (Only 1) b c (λ s. omega arith) back_store bc (stages_same J was (Only 1) b.reads c.reads short (λ i is s. omega arith) bc.reads back_stages);
-      closed = zero_shut c.reads shut.stands;
-      synced = shut.synced;
-    }
+    reshut bc shut = search (rules, store_on, short, within, back_store, stages_same, back_stages, zero_shut)
 
   pub reopened : (b c : Disk) → HasHomes (home J) was a b → Touches (Only 1) b c → HasGate 0 c → pages J c.reads ≡ pages J a.reads
   reopened b c homes bc shut = sym (shut_pages J c.reads (zero_shut c.reads shut.stands)) ∙ (λ i p. (same_homes J b.reads c.reads bc.reads p ∙ homes p) i) ∙ opened_pages

@@ -1,5 +1,5 @@
 -- What images stand for while a commit goes on.
-use Rattle.std.proofs.Common.{◌≡◌, ◌≢◌, ◌≤◌, ◌<◌, ◌+◌, ◌*◌, ◌/◌, ◌%◌, ℕ, zero, suc, Bool, true, false, List, [], ◌∷◌, length, take, inl, inr, ⊎_elim, refl, sym, subst, ap, ◌∙◌, arith, get_or, cond, nat_eq, add-one}
+use Rattle.std.proofs.Common.{rules, ◌≡◌, ◌≢◌, ◌≤◌, ◌<◌, ◌+◌, ◌*◌, ◌/◌, ◌%◌, ℕ, zero, suc, Bool, true, false, List, [], ◌∷◌, length, take, inl, inr, ⊎_elim, refl, subst, ap, ◌∙◌, arith, get_or, cond, nat_eq, add-one}
 use Rattle.std.proofs.lemmas.Bool.{cases_eq}
 use Rattle.std.proofs.lemmas.Bool.Decides.{nat_tests}
 use Rattle.sector_device.specs.{claim.Disk.{Disk, Image, AgreeOff}, Disk.Only}
@@ -9,10 +9,7 @@ use Rattle.gate_journal.specs.Store.{IsWithin, Writes, Homes, Stages, Staging, I
 
 -- ---- overlays
 put_same : (w : ℕ × List ℕ) (P Q : Image) (p : ℕ) → (p ≢ w.0 → P p ≡ Q p) → put w P p ≡ put w Q p
-put_same w P Q p same = elim (cases_eq p w.0) [
-  | inl here ↦ let G : Type 0 = put w P p ≡ put w Q p in let it : G = grind (arith, nat_tests) in it
-  | inr off ↦ let e = same off in let G : Type 0 = put w P p ≡ put w Q p in let it : G = grind (arith, nat_tests) in it
-]
+put_same w P Q p same = search (rules, cases_eq, nat_tests, same)
 
 pub put_on : (w : ℕ × List ℕ) (P : Image) (p : ℕ) → p ≡ w.0 → put w P p ≡ w.1
 put_on w P p is = grind (arith, nat_tests)
@@ -50,11 +47,7 @@ copies_are c at k (w ∷ ws) page copy =
 
 pub copies_staged : (J : ℕ) (ws : List (ℕ × List ℕ)) (c : Image) → Stages J ws c → copies J c ≡ ws
 unfolding copies
-copies_staged J ws c staged =
-    ap (λ (n : ℕ). copies_from c (first_copy J) 0 n) staged.count
-    ∙ copies_are c (first_copy J) 0 ws
-    (λ j m lt is. let e : m ≡ j = omega arith in ap (λ (n : ℕ). list_word c (n + 1)) e ∙ staged.page j lt)
-    (λ j m lt is. let e : m ≡ first_copy J + j = omega arith in ap c e ∙ staged.copy j lt)
+copies_staged J ws c staged = search (rules, copies_are)
 
 pub list_word_same : (b c : Image) (k : ℕ) → c (2 + k / 1024) ≡ b (2 + k / 1024) → list_word c k ≡ list_word b k
 unfolding list_word
@@ -62,11 +55,7 @@ list_word_same b c k same = ap (λ (s : List ℕ). word s (k % 1024)) same
 
 -- the list and the copies stay where no sector of theirs is touched
 pub stages_same : (J : ℕ) (ws : List (ℕ × List ℕ)) (S : ℕ → Type 0) (b c : Image) → length ws ≤ J → ((i : ℕ) → S i → Staging J i → ⊥) → AgreeOff S b c → Stages J ws b → Stages J ws c
-stages_same J ws S b c fits apart agree staged = record {
-  count = word_at 0 (omega arith) ∙ staged.count;
-  page = λ k lt. word_at (k + 1) (omega arith) ∙ staged.page k lt;
-  copy = λ k lt. agree.same (first_copy J + k) (λ s. apart (first_copy J + k) s (omega arith, omega arith)) ∙ staged.copy k lt;
-}
+stages_same J ws S b c fits apart agree staged = search (rules, word_at)
   where
     word_at : (k : ℕ) → k ≤ J → list_word c k ≡ list_word b k
     word_at k le = list_word_same b c k (agree.same (2 + k / 1024) (λ s. apart (2 + k / 1024) s (omega arith, omega arith)))
@@ -77,26 +66,14 @@ gate_same S b c apart agree = ap (λ (s : List ℕ). get_or s 0 0) (agree.same 1
 
 -- an image of the same store, where the header was not touched and the list is good
 pub store_same : (J n : ℕ) (S : ℕ → Type 0) (b c : Image) → (S 0 → ⊥) → AgreeOff S b c → IsStore J n b → (gate c ≡ 165 → IsValid J n c) → IsStore J n c
-store_same J n S b c apart agree store list = record {
-  least_journal = store.least_journal;
-  most_journal = store.most_journal;
-  least_pages = store.least_pages;
-  header = agree.same 0 apart ∙ store.header;
-  list = list;
-}
+store_same J n S b c apart agree store list = search rules
 
 -- a list of writes within the pages is good
 pub staged_valid : (J n : ℕ) (ws : List (ℕ × List ℕ)) (c : Image) → length ws ≤ J → IsWithin ws n → Stages J ws c → IsValid J n c
-staged_valid J n ws c fits within staged = record {
-  count = omega (arith, staged.count);
-  each = λ k lt. let below : k < length ws = omega (arith, staged.count) in omega (arith, staged.page k below, within k below);
-}
+staged_valid J n ws c fits within staged = search rules
 
 pub while_staging : (J n : ℕ) (b c : Image) → IsStore J n b → gate b ≢ 165 → AgreeOff (Staging J) b c → Opens J n (home_pages J b) c
-while_staging J n b c store shut agree = record {
-  store = store_same J n (Staging J) b c (λ s. omega arith) agree store (λ is. absurd (shut (sym same ∙ is)));
-  each = λ p. pages_shut J c p (λ is. shut (sym same ∙ is)) ∙ agree.same (home J + p) (λ s. omega arith);
-}
+while_staging J n b c store shut agree = search (rules, store_same, same, pages_shut)
   where
     same : gate c ≡ gate b
     same = gate_same (Staging J) b c (λ s. omega arith) agree
@@ -154,14 +131,7 @@ overlay_more ws k P p lt = rw add-one (overlay_suc ws k P p lt)
 -- the page that is written, and each other
 pub homes_more : (at : ℕ) (ws : List (ℕ × List ℕ)) (k : ℕ) (a b c : Image) → k < length ws → ((p : ℕ) → b (at + p) ≡ overlay (take k ws) (λ q. a (at + q)) p) → AgreeOff (Only (at + (get_or ws k (0, [])).0)) b c → c (at + (get_or ws k (0, [])).0) ≡ (get_or ws k (0, [])).1
     → (p : ℕ) → c (at + p) ≡ overlay (take (k + 1) ws) (λ q. a (at + q)) p
-homes_more at ws k a b c lt homes agree written p =
-    let w = get_or ws k (0, []) in
-    let P : Image = λ q. a (at + q) in
-    let more : overlay (take (k + 1) ws) P p ≡ put w (overlay (take k ws) P) p = overlay_more ws k P p lt in
-    elim (cases_eq p w.0) [
-      | inl here ↦ ap (λ (q : ℕ). c (at + q)) here ∙ written ∙ sym (more ∙ put_on w (overlay (take k ws) P) p here)
-      | inr off ↦ agree.same (at + p) (λ is. off (omega arith)) ∙ homes p ∙ sym (more ∙ put_off w (overlay (take k ws) P) p off)
-    ]
+homes_more at ws k a b c lt homes agree written p = search (rules, overlay_more, cases_eq, put_on, put_off)
 
 pub writes_at : (ws : List (ℕ × List ℕ)) (k : ℕ) → k < length ws → Writes ws (get_or ws k (0, [])).0
 writes_at [] k lt = absurd (omega arith)
@@ -174,20 +144,11 @@ list_word_at x k i at = ap (λ (n : ℕ). word (x n) (k % 1024)) at
 
 -- one sector of the list more
 pub list_more : (ws : List (ℕ × List ℕ)) (s : ℕ) (b c : Disk) → HasList ws (1024 * s) b → AgreeOff (Only (2 + s)) b.reads c.reads → ((j : ℕ) → j < 1024 → 1024 * s + j ≤ length ws → word (c.reads (2 + s)) j ≡ want ws (1024 * s + j)) → HasList ws (1024 * (s + 1)) c
-list_more ws s b c has agree written k lt le = elim (cases_eq (k / 1024) s) [
-  | inl here ↦
-      let is : 1024 * s + k % 1024 ≡ k = omega arith in
-      list_word_at c.reads k (2 + s) (omega arith) ∙ written (k % 1024) (omega arith) (omega arith) ∙ ap (λ (n : ℕ). want ws n) is
-  | inr off ↦ list_word_same b.reads c.reads k (agree.same (2 + k / 1024) (λ is. off (omega arith))) ∙ has k (omega arith) le
-]
+list_more ws s b c has agree written k lt le = search (rules, cases_eq, list_word_at, list_word_same)
 
 -- the list and the copies, once both are written
 pub staged_by : (J : ℕ) (ws : List (ℕ × List ℕ)) (b c : Disk) → length ws ≤ J → HasList ws (length ws + 1) b → AgreeOff (Span (first_copy J) (length ws)) b.reads c.reads → HasCopies (first_copy J) ws (length ws) c → Stages J ws c.reads
-staged_by J ws b c fits listed agree copied = record {
-  count = word_of 0 (omega arith);
-  page = λ k lt. word_of (k + 1) (omega arith) ∙ want_next k;
-  copy = λ k lt. copied k lt;
-}
+staged_by J ws b c fits listed agree copied = search (rules, word_of, want_next)
   where
     word_of : (k : ℕ) → k ≤ length ws → list_word c.reads k ≡ want ws k
     word_of k le = list_word_same b.reads c.reads k (agree.same (2 + k / 1024) (λ span. omega arith)) ∙ listed k (omega arith) le

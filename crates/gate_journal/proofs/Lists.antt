@@ -15,10 +15,7 @@ not_true is = cc
 pub names_more : (c : Image) (s count n : ℕ) (sector : List ℕ) → sector ≡ c (2 + s) → SectorNames (1024 * s) count n sector 1024 → ((k : ℕ) → k < 1024 * s → 1 ≤ k → k ≤ count → list_word c k < n)
     → (k : ℕ) → k < 1024 * (s + 1) → 1 ≤ k → k ≤ count → list_word c k < n
 names_more c s count n sector is names before k lt some le = elim (cases_eq (k / 1024) s) [
-  | inl here ↦
-      let at : 1024 * s + k % 1024 ≡ k = omega arith in
-      let small : word sector (k % 1024) < n = names (k % 1024) (omega arith) (omega arith) (omega arith) in
-      omega (arith, small, word_in c k s here, ap (λ (x : List ℕ). word x (k % 1024)) is)
+  | inl here ↦ search (arith, word_in c k s here)
   | inr off ↦ before k (omega arith) some le
 ]
 

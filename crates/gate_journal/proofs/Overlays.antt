@@ -1,5 +1,5 @@
 -- Writes in a list, and what they leave of a page.
-use Rattle.std.proofs.Common.{Option, Some, None, MatchOption, ◌≡◌, ◌≢◌, ◌⊎◌, ◌<◌, ℕ, zero, suc, List, [], ◌∷◌, ◌++◌, length, get_or, set, inl, inr, refl, sym, ap, subst, ◌∙◌, arith, length-append}
+use Rattle.std.proofs.Common.{rules, Option, Some, None, MatchOption, ◌≡◌, ◌≢◌, ◌⊎◌, ◌<◌, ℕ, zero, suc, List, [], ◌∷◌, ◌++◌, length, get_or, set, inl, inr, refl, sym, ap, subst, ◌∙◌, arith, length-append}
 use Rattle.std.proofs.{Math.ListN.get_or-append, Math.Seq.get_or-append_seam}
 use Rattle.std.proofs.lemmas.Bool.{cases_eq, cases_lt}
 use Rattle.sector_device.specs.claim.Disk.{Image}
@@ -35,10 +35,8 @@ overlay_at ws P Q q same = overlay_same ws P Q q (λ off. same)
 -- other bytes there
 pub overlay_set : (ws : List (ℕ × List ℕ)) (P : Image) (p k q : ℕ) (bytes : List ℕ) → IsLast ws p k → overlay (set ws k (p, bytes)) P q ≡ put (p, bytes) (overlay ws P) q
 overlay_set [] P p k q bytes is = let lt = is.below in absurd (omega arith)
-overlay_set (w ∷ ws) P p zero q bytes is = elim (cases_eq q p) [
-  | inl here ↦ ap (λ (x : ℕ). overlay ws (put (p, bytes) P) x) here ∙ overlay_off ws (put (p, bytes) P) p (no_more w ws p is) ∙ put_on (p, bytes) P p refl ∙ sym (put_on (p, bytes) (overlay ws (put w P)) q here)
-  | inr off ↦ overlay_at ws (put (p, bytes) P) (put w P) q (put_off (p, bytes) P q off ∙ sym (put_off w P q (λ e. off (e ∙ is.here)))) ∙ sym (put_off (p, bytes) (overlay ws (put w P)) q off)
-]
+overlay_set (w ∷ ws) P p zero q bytes is =
+    search (rules, cases_eq q p, overlay_off ws (put (p, bytes) P) p (no_more w ws p is), put_on (p, bytes) P p refl, put_on, overlay_at, put_off)
 overlay_set (w ∷ ws) P p (suc k) q bytes is = overlay_set ws (put w P) p k q bytes (last_after w ws p k is)
 
 -- a write at the end
@@ -56,12 +54,7 @@ module _ (ns : List ℕ) (ws : List (ℕ × List ℕ)) (beside : AreNumbers ns w
 
   -- where a number is found, the write is the only one of its page
   found_last : (p k : ℕ) → AreApart ns → k < length ns → get_or ns k 0 ≡ p → IsLast ws p k
-  found_last p k apart lt is =
-      record {
-        below = omega arith;
-        here = at_place k p lt is;
-        later = λ j gt below. λ same. apart k j gt (omega arith) (is ∙ sym (beside.each j below ∙ same));
-      }
+  found_last p k apart lt is = search (rules, at_place)
 
   found_none : (p : ℕ) → ((j : ℕ) → j < length ns → get_or ns j 0 ≢ p) → Writes ws p → ⊥
   found_none p none = let long = beside.long in none_writes ws p (λ j lt same. none j (omega arith) (beside.each j lt ∙ same))
@@ -78,10 +71,7 @@ module _ (ns : List ℕ) (ws : List (ℕ × List ℕ)) (beside : AreNumbers ns w
   not_there p off j lt is = let long = beside.long in off (subst (λ (q : ℕ). Writes ws q) (at_place j p lt is) (writes_at ws j (omega arith)))
 
   pub beside_push : (p : ℕ) (bytes : List ℕ) → AreNumbers (ns ++ p ∷ []) (ws ++ (p, bytes) ∷ [])
-  beside_push p bytes = let long = beside.long in record {
-    long = simp length-append (omega arith);
-    each = λ k lt. each_more k lt;
-  }
+  beside_push p bytes = search (rules, length-append, each_more)
     where
       each_more : (k : ℕ) → k < length (ws ++ (p, bytes) ∷ []) → get_or (ns ++ p ∷ []) k 0 ≡ (get_or (ws ++ (p, bytes) ∷ []) k (0, [])).0
       each_more k lt = let long = beside.long in elim (cases_lt k (length ws)) [

@@ -1,5 +1,5 @@
 -- What an opening may leave.
-use Rattle.std.proofs.Common.{◌≡◌, ◌⊎◌, ◌≤◌, ◌<◌, ℕ, Result, Ok, Err, OnOk, OnErr, IsErrOf, IfOk, IfErr, IsErrAnd, inl, inr, ⊎_elim, refl, sym, subst, ap, ◌∙◌, arith}
+use Rattle.std.proofs.Common.{rules, ◌≡◌, ◌⊎◌, ◌≤◌, ◌<◌, ℕ, Result, Ok, Err, OnOk, OnErr, IsErrOf, IfOk, IfErr, IsErrAnd, refl, sym, subst, ◌∙◌, arith}
 use Rattle.sector_device.specs.{claim.Disk.{Disk, Image, AgreeOff, Nowhere, Touches, LeavesBut}, Disk.{IsSynced, HasCause}, claim.Moments.LeavesOnly}
 use Rattle.sector_device.proofs.Moments.{leaves_from, leaves_more, leaves_wider, now_but, cause_after, on_ok, touches_more}
 use Rattle.gate_journal.specs.{claim.Store.{header_of, pages, IsStore, Opens}, Store.{IsStoreOf, IsSettled}}
@@ -29,32 +29,21 @@ no_fewer a b (Err x) cause = let e = cause.failed in omega arith
 -- nothing was written since the opening began
 module _ (a : Disk) (all : AllStores a) where
   here : (c : Image) → a.leaves c → ReadsAs a c
-  here c leaves =
-      let is = all c leaves in
-      record { was = c; left = leaves; J = is.J; n = is.n; whole = is.whole; store = is.store; opens = record { store = is.store; each = λ p. refl } }
+  here c leaves = search rules
 
   there : (c : Image) → LeavesBut Nowhere a c → ReadsAs a c
   there c but = subst (λ (x : Image). ReadsAs a x) (agreed but.0 c but.2) (here but.0 but.1)
 
   pub quiet_reads : (b : Disk) → Touches Nowhere a b → LeavesOnly (ReadsAs a) a b
-  quiet_reads b ab = record {
-    later = ab.later;
-    each = λ c left. ⊎_elim (λ was. here c (a.only_now c was)) (λ but. there c but) (ab.since a.moment c (omega arith) left);
-    before = λ t c le left. ⊎_elim (λ was. inl was) (λ but. inr (there c but)) (ab.since t c le left);
-  }
+  quiet_reads b ab = search (rules, ab.later, here, a.only_now, there)
 
   -- what is read then is a store
   pub reads_store : (b : Disk) → Touches Nowhere a b → IsStoreOf b.sectors b.reads
-  reads_store b ab =
-      let but = now_but Nowhere a b ab b.reads b.as_read in
-      let is = all but.0 but.1 in
-      record { J = is.J; n = is.n; whole = is.whole ∙ sym ab.sectors; store = subst (λ (x : Image). IsStore is.J is.n x) (agreed but.0 b.reads but.2) is.store }
+  reads_store b ab = search (rules, now_but, b.as_read, agreed)
 
 -- the pages that are read are those of an image that a stop might have left
 pub quiet_found : (J n : ℕ) (a b d : Disk) → Touches Nowhere a b → b.reads 0 ≡ header_of J n → pages J d.reads ≡ pages J b.reads → Found J n a d
-quiet_found J n a b d ab header same =
-    let but = now_but Nowhere a b ab b.reads b.as_read in
-    record { was = but.0; left = but.1; header = sym (but.2.same 0 (λ none. none)) ∙ header; same = same ∙ sym (ap (λ (x : Image). pages J x) (agreed but.0 b.reads but.2)) }
+quiet_found J n a b d ab header same = search (rules, now_but, agreed)
 
 module _ (J n : ℕ) (a : Disk) (synced : IsSynced a) where
   -- nothing was written since the gate was read
@@ -62,18 +51,7 @@ module _ (J n : ℕ) (a : Disk) (synced : IsSynced a) where
   quiet_opens b store ab = leaves_from (Opens J n (pages J a.reads)) Nowhere a b synced ab (λ c agree. subst (λ (x : Image). Opens J n (pages J a.reads) x) (agreed a.reads c agree) (record { store = store; each = λ p. refl }))
 
   pub quiet_recovers : {T : Type 0} (b : Disk) (r : Result T PageError) → Touches Nowhere a b → OnOk r (b.faults ≡ a.faults) → (IsErrOf r DeviceFault → a.faults < b.faults) → (IsErrOf r NotAStore → IsStore J n a.reads → ⊥) → (IsErrOf r NotAStore → b.faults ≡ a.faults) → OnOk r (IsSettled J n b) → Recovers J n a b r
-  quiet_recovers b r ab passed faulted refused calm settled = record {
-    was_honest = ab.was_honest;
-    faults = ab.faults;
-    any_moment = λ store. quiet_opens b store ab;
-    passed = passed;
-    faulted = faulted;
-    refused = refused;
-    calm = calm;
-    untouched = λ _. ab;
-    settled = settled;
-    after = always r (ap (λ (x : Image). pages J x) (sym (same_reads a b ab)));
-  }
+  quiet_recovers b r ab passed faulted refused calm settled = search (rules, quiet_opens, always, same_reads)
 
   pub fault_recovers : {T : Type 0} (b : Disk) (r : Result T PageError) → IsErrAnd r (λ e. e ≡ DeviceFault) → Touches Nowhere a b → a.faults < b.faults → Recovers J n a b r
   fault_recovers b (Ok x) is ab rose = absurd is
@@ -84,33 +62,11 @@ module _ (J n : ℕ) (a : Disk) (synced : IsSynced a) where
   back_recovers d e r ad passed re =
       let same = same_reads a d ad in
       let cause = cause_after a d e r passed re.cause in
-      record {
-        was_honest = ad.was_honest;
-        faults = no_fewer a e r cause;
-        any_moment = λ store. leaves_more (Opens J n (pages J a.reads)) a d e (quiet_opens d store ad) (subst (λ (x : Image). LeavesOnly (Opens J n (pages J x)) d e) (sym same) re.any_moment);
-        passed = cause.passed;
-        faulted = λ is. at_err r DeviceFault is cause.failed;
-        refused = λ is store. not_both r re.only is;
-        calm = λ is. absurd (not_both r re.only is);
-        untouched = λ is. absurd (not_both r re.only is);
-        settled = re.settled;
-        after = on_ok r (λ p. p ∙ ap (λ (x : Image). pages J x) (sym same)) re.after;
-      }
+      search (rules, no_fewer, leaves_more, quiet_opens, at_err, not_both, on_ok)
 
 pub fault_starts : (a b : Disk) (r : Result Layout PageError) → IsErrAnd r (λ e. e ≡ DeviceFault) → Touches Nowhere a b → a.faults < b.faults → Starts a b r
 fault_starts a b (Ok x) is ab rose = absurd is
-fault_starts a b (Err e) is ab rose = record {
-  was_honest = ab.was_honest;
-  faults = ab.faults;
-  any_moment = λ all. quiet_reads a all b ab;
-  passed = tt;
-  faulted = λ _. rose;
-  refused = λ was all. not_both (Err e) is was;
-  calm = λ was. absurd (not_both (Err e) is was);
-  untouched = λ _. ab;
-  settled = tt;
-  found = tt;
-}
+fault_starts a b (Err e) is ab rose = search (rules, quiet_reads, not_both)
 
 -- after the header was read
 module _ (a d e : Disk) (l : Layout) (ad : Touches Nowhere a d) (passed : d.faults ≡ a.faults) (room : HasRoom d.sectors l.journal_pages l.pages) (layout : HasLayout d.reads l) where
@@ -118,35 +74,13 @@ module _ (a d e : Disk) (l : Layout) (ad : Touches Nowhere a d) (passed : d.faul
   store_at all = is_laid_out d.sectors d.reads l.journal_pages l.pages room layout (reads_store a all d ad)
 
   reads_as : AllStores a → (c : Image) → Opens l.journal_pages l.pages (pages l.journal_pages d.reads) c → ReadsAs a c
-  reads_as all c opens =
-      let but = now_but Nowhere a d ad d.reads d.as_read in
-      let same : d.reads ≡ but.0 = sym (agreed but.0 d.reads but.2) in
-      record {
-        was = but.0;
-        left = but.1;
-        J = l.journal_pages;
-        n = l.pages;
-        whole = room.whole ∙ ad.sectors;
-        store = subst (λ (x : Image). IsStore l.journal_pages l.pages x) same (store_at all);
-        opens = subst (λ (x : Image). Opens l.journal_pages l.pages (pages l.journal_pages x) c) same opens;
-      }
+  reads_as all c opens = search (rules, now_but, agreed, store_at)
 
   moments : {T : Type 0} (r : Result T PageError) → Recovers l.journal_pages l.pages d e r → AllStores a → LeavesOnly (ReadsAs a) a e
   moments r de all = leaves_more (ReadsAs a) a d e (quiet_reads a all d ad) (leaves_wider (Opens l.journal_pages l.pages (pages l.journal_pages d.reads)) (ReadsAs a) d e (reads_as all) (de.any_moment (store_at all)))
 
   pub starts_ok : {T : Type 0} (x : T) → Recovers l.journal_pages l.pages d e (Ok x) → Starts a e (Ok l)
-  starts_ok x de = record {
-    was_honest = ad.was_honest;
-    faults = omega (arith, ad.faults, de.faults);
-    any_moment = moments (Ok x) de;
-    passed = de.passed ∙ passed;
-    faulted = λ is. let never : Ok l ≡ Err DeviceFault = is in cc;
-    refused = λ is all. let never : Ok l ≡ Err NotAStore = is in cc;
-    calm = λ is. let never : Ok l ≡ Err NotAStore = is in cc;
-    untouched = λ is. let never : Ok l ≡ Err NotAStore = is in cc;
-    settled = de.settled;
-    found = quiet_found l.journal_pages l.pages a d e ad layout de.after;
-  }
+  starts_ok x de = search (arith, moments (Ok x) de, quiet_found l.journal_pages l.pages a d e ad layout de.after)
 
   pub starts_err : {T : Type 0} (x : PageError) (r : Result Layout PageError) → IsErrAnd r (λ y. y ≡ x) → Recovers {T = T} l.journal_pages l.pages d e (Err x) → Starts a e r
   starts_err {T = T} x (Ok y) is de = absurd is

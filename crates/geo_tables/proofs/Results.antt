@@ -3,6 +3,3 @@ use Rattle.std.{specs.Prelude.Result, proofs.Common.{OnOk, arith}}
 
 pub ok_then : {T E : Type 0} (r : Result T E) (A B : Type 0) → (A → B) → OnOk r A → OnOk r B
 ok_then r A B go is = search (arith, go)
-
-pub ok_of : {T E : Type 0} (r : Result T E) (B : Type 0) → B → OnOk r B
-ok_of r B is = search (arith)

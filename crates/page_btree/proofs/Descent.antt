@@ -1,6 +1,6 @@
 -- The child that a key belongs to, for a look-up.
 use Rattle.std.specs.{Prelude.{Option, Some, None}, Option.option_map, List.All, Ordering.{is_gt, eq_by_cmp}, FinMap.find}
-use Rattle.std.proofs.Common.{◌≡◌, inl, inr, ℕ, suc, ◌-◌, ◌<◌, ◌≤◌, ◌^◌, List, [], ◌∷◌, length, Bool, cond, refl, sym, ap, subst, ◌∙◌, arith}
+use Rattle.std.proofs.Common.{rules, ◌≡◌, inl, inr, ℕ, suc, ◌-◌, ◌<◌, ◌≤◌, ◌^◌, List, [], ◌∷◌, length, Bool, cond, refl, sym, ap, subst, ◌∙◌, arith}
 use Rattle.sector_device.specs.claim.Disk.{Image}
 use Rattle.page_node.specs.{claim.Entries.{Entry, IsEntry, child_bytes}, Entries.{child_in, key_at}, claim.Node.{Node, IsNode}, claim.Places.{key_cmp, Rises}}
 use Rattle.page_node.{specs.Places.{floor, ceiling}, proofs.Laws.{child_written, flip_less}}
@@ -63,9 +63,7 @@ child_of P d low high key (more k t f) trees between = elim (either (is_gt (key_
     found = sym (find_left key (rows t) (forest_rows f) (rows_before P d (first_key f) high key f trees.2 (key_before (first_key f) key above)));
     wider = wider_high low (first_key f) high trees.1.under;
     leaf_is = λ x within. sym (ap (λ (b : Bool). cond b (leaf_of t x) (forest_leaf f x)) (ap is_gt (flip_less x (first_key f) within.under)));
-    bound_is = λ x within up.
-        ap (λ c. bound_of t (nearer c up) x) (ceiling_links k key t f ∙ ap (λ (b : Bool). cond b (Some (first_key f)) (ceiling key (links f))) above)
-        ∙ sym (ap (λ (b : Bool). cond b (bound_of t (Some (first_key f)) x) (forest_bound f up x)) (ap is_gt (flip_less x (first_key f) within.under)));
+    bound_is = λ x within up. search (rules, ceiling_links, flip_less);
     owned = λ q own. inl own;
   }
   | inr from ↦
@@ -79,10 +77,7 @@ child_of P d low high key (more k t f) trees between = elim (either (is_gt (key_
         found = rest.found ∙ sym (find_right key (rows t) (forest_rows f) (rows_after P d low (first_key f) key t trees.0 from));
         wider = λ x within. wider_low low (first_key f) high trees.1.above x (rest.wider x within);
         leaf_is = λ x within. rest.leaf_is x within ∙ sym (ap (λ (b : Bool). cond b (leaf_of t x) (forest_leaf f x)) (rest.wider x within).from);
-        bound_is = λ x within up.
-            ap (λ c. bound_of rest.child (nearer c up) x) (ceiling_links k key t f ∙ ap (λ (b : Bool). cond b (Some (first_key f)) (ceiling key (links f))) from)
-            ∙ rest.bound_is x within up
-            ∙ sym (ap (λ (b : Bool). cond b (bound_of t (Some (first_key f)) x) (forest_bound f up x)) (rest.wider x within).from);
+        bound_is = λ x within up. search (rules, ceiling_links);
         owned = λ q own. inr (rest.owned q own);
       }
 ]
@@ -102,9 +97,7 @@ at_leaf P d low high (leaf p es) none is = (is.1.node, is.1.rises)
 at_leaf P d low high (inner p f) none is = absurd (let some = is.0 in omega arith)
 
 pub leaf_page : (n : ℕ) (P : Image) (d : ℕ) (key page : List ℕ) (can : CanGet n P d key page) → d ≡ 0 → IsNode page (record { level = 0; entries = rows can.tree }) × Rises (rows can.tree)
-leaf_page n P d key page can none =
-    let there = at_leaf P d can.low can.high can.tree none can.tree_is in
-    (subst (λ bytes. IsNode bytes (record { level = 0; entries = rows can.tree })) (sym can.page_is) there.0, there.1)
+leaf_page n P d key page can none = search (rules, at_leaf)
 
 -- above it: the node's links name a page, at which the look-up goes on
 pub record LeadsDown (n : ℕ) (P : Image) (d : ℕ) (key page : List ℕ) (t : Tree) (low : List ℕ) (high : Option (List ℕ)) (child : ℕ) : Type 0 where
@@ -118,9 +111,7 @@ pub record LeadsDown (n : ℕ) (P : Image) (d : ℕ) (key page : List ℕ) (t : 
   pub bound_is : (bytes : List ℕ) (is : bytes ≡ P child) (x : List ℕ) → IsBetween (next bytes is).low (next bytes is).high x → (up : Option (List ℕ)) → bound_of (next bytes is).tree (nearer (ceiling key node.entries) up) x ≡ bound_of t up x
 
 pub named : (f : Option (List ℕ)) (page child : ℕ) → f ≡ Some (child_bytes page) → page < 2 ^ 32 → option_map child_in f ≡ Some child → child ≡ page
-named f page child is few told =
-    let there : Some child ≡ Some page = sym told ∙ ap (option_map child_in) is ∙ ap Some (child_written page few) in
-    cc
+named f page child is few told = search (rules, child_written)
 
 -- what `child_for` names, in a node above the leaves
 pub goes_on : (n : ℕ) (P : Image) (d : ℕ) (key page : List ℕ) (can : CanGet n P d key page) (child : ℕ) → 0 < d → n ≤ 2 ^ 32 → IsChild page key child → LeadsDown n P d key page can.tree can.low can.high child

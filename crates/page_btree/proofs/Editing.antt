@@ -1,8 +1,8 @@
 -- A transaction that an edit of a leaf alone left alike.
-use Rattle.std.{specs.Prelude.{Option, Some, None, IfSome}, proofs.Common.{ℕ, sym, subst}}
+use Rattle.std.{specs.Prelude.{Option, Some, None, IfSome}, proofs.Common.rules}
 use Rattle.sector_device.specs.claim.Disk.{Image}
-use Rattle.page_store.specs.{claim.Transactions.{txn_pages, txn_root, over, free_over}, declared.txn.Txn.Txn}
-use Rattle.page_btree.specs.{claim.Keys.KeyMap, claim.Map.{Holds, InTxn}, Editing.IsAlike}
+use Rattle.page_store.specs.declared.txn.Txn.{Txn}
+use Rattle.page_btree.specs.{claim.Keys.KeyMap, claim.Map.InTxn, Editing.IsAlike}
 
 pub some_of : {T : Type 0} (o : Option T) (A B : T → Type 0) → ((x : T) → A x → B x) → IfSome o A → IfSome o B
 some_of (Some x) A B f h = f x h
@@ -10,8 +10,4 @@ some_of None A B f h = tt
 
 -- ---- a transaction that is alike
 pub still_in : (t u : Txn) (S : Image) (m : KeyMap) → IsAlike t u → InTxn t S m → InTxn u S m
-still_in t u S m alike is =
-    subst (λ (n : ℕ). Holds n (over u S) (txn_root u) (free_over u S) m) (sym alike.pages)
-    (subst (λ P. Holds (txn_pages t) P (txn_root u) (free_over u S) m) (sym (alike.over_is S))
-    (subst (λ (r : ℕ). Holds (txn_pages t) (over t S) r (free_over u S) m) (sym alike.root)
-    (subst (λ free. Holds (txn_pages t) (over t S) (txn_root t) free m) (sym (alike.free_is S)) is)))
+still_in t u S m alike is = search rules

@@ -1,6 +1,6 @@
 -- Leaves that follow one another under a node, and a leaf that was read with them.
 use Rattle.std.specs.{Prelude.{Option, Some, None, Result, Ok, Err, OnOk}, Option.option_map, Ordering.is_gt, FinMap.entries}
-use Rattle.std.proofs.Common.{◌≡◌, ◌≤◌, ◌<◌, ◌+◌, ◌^◌, inl, inr, ⊎_elim, ℕ, zero, suc, List, [], ◌∷◌, ◌++◌, length, drop, get_or, slice_set, Bool, false, cond, refl, ap, sym, subst, ◌∙◌, arith, append_assoc}
+use Rattle.std.proofs.Common.{rules, ◌≡◌, ◌≤◌, ◌<◌, ◌+◌, ◌^◌, inl, inr, ⊎_elim, ℕ, zero, suc, List, [], ◌∷◌, ◌++◌, length, drop, get_or, slice_set, Bool, false, cond, refl, ap, sym, subst, ◌∙◌, arith, append_assoc}
 use Rattle.std.proofs.lemmas.List.{get_or-set_same, get_or-set_other, nil_from_length}
 use Rattle.std.proofs.lemmas.List.Elements.{All-nil}
 use Rattle.std.proofs.lemmas.Bool.Decides.{leb_tells}
@@ -23,11 +23,8 @@ ways_of prefix es key child (suc k) (b ∷ after) bound few told =
     (told.0, next.key, next.key_is, ways_of prefix es next.key b k after bound (omega arith) next.rest)
 
 pub three_of : (l : List ℕ) → length l ≡ 3 → l ≡ get_or l 0 0 ∷ get_or l 1 0 ∷ get_or l 2 0 ∷ []
-three_of [] three = absurd (omega arith)
-three_of (x ∷ []) three = absurd (omega arith)
-three_of (x ∷ y ∷ []) three = absurd (omega arith)
 three_of (x ∷ y ∷ z ∷ []) three = refl
-three_of (x ∷ y ∷ z ∷ w ∷ l) three = absurd (omega arith)
+three_of _ three = absurd (omega arith)
 
 -- ---- their pages
 -- one more of them was read
@@ -96,12 +93,8 @@ ways_level n P low high f is below few (suc k) key between (c ∷ children) boun
     ways_level n P low high f is below few k b (between_more low key b high between.from (above_key P 0 low high key b f is ways.2)) children bound ways.3 j (omega arith)
 
 ways_follow : (n : ℕ) (P : Image) (p : ℕ) (low : List ℕ) (high up : Option (List ℕ)) (f : Forest) → AreTrees P 0 low high f → ((q : ℕ) → forest_owns f q → q < n) → n ≤ 2 ^ 32 → (k : ℕ) (key : List ℕ) → IsBetween low high key → (children : List ℕ) (bound : Option (List ℕ)) → AreWays k key (links f) children bound → (pages : List (List ℕ)) → k < length pages → ((j : ℕ) → j ≤ k → get_or pages j [] ≡ P (get_or children j 0)) → Follows (inner p f) high up key k (drop 1 pages) (nearer bound up)
-ways_follow n P p low high up f is below few k key between [] bound ways pages long reads = absurd ways
 ways_follow n P p low high up f is below few zero key between (c ∷ children) bound ways pages long reads =
     ap (λ x. nearer x up) (sym ways.1) ∙ sym ((there_for n P low high key f c is below few between ways.0).bound up)
-ways_follow n P p low high up f is below few (suc k) key between (c ∷ children) bound ways [] long reads = absurd (omega arith)
-ways_follow n P p low high up f is below few (suc k) key between (c ∷ children) bound ways (page ∷ []) long reads = absurd (omega arith)
-ways_follow n P p low high up f is below few (suc k) key between (c ∷ []) bound ways (page ∷ next ∷ pages) long reads = absurd ways.3
 ways_follow n P p low high up f is below few (suc k) key between (c ∷ d ∷ children) bound ways (page ∷ next ∷ pages) long reads =
     let b = ways.1 in
     let higher = above_key P 0 low high key b f is ways.2 in
@@ -116,6 +109,8 @@ ways_follow n P p low high up f is below few (suc k) key between (c ∷ d ∷ ch
       there.some,
       ways_follow n P p low high up f is below few k b within (d ∷ children) bound ways.3 (next ∷ pages) (omega arith) (λ j le. reads (suc j) (omega arith)),
     )
+ways_follow n P p low high up f is below few (suc k) key between (c ∷ children) bound ways _ long reads = absurd (omega arith)
+ways_follow n P p low high up f is below few _ key between _ bound ways _ long reads = search rules
 
 -- the leaf that is in the first page, and those after it
 pub record IsHeld (t : Tree) (high up : Option (List ℕ)) (key : List ℕ) (held : Leaf) (pages : List (List ℕ)) : Type 0 where
@@ -173,11 +168,7 @@ held_alone n P d key page can none up held pages alone bound at rises = step can
   where
     step : (t : Tree) (low : List ℕ) (high : Option (List ℕ)) → IsTree P d low high t → IsNode (get_or {A = List ℕ} pages 0 []) (record { level = 0; entries = rows t }) → Rises (rows t) → IsHeld t high up key held pages
     step (inner p f) low high is at rises = absurd (let some = is.0 in omega arith)
-    step (leaf p es) low high is at rises = record {
-      node = at;
-      rises = rises;
-      follows = subst (λ (k : ℕ). Follows (leaf p es) high up key k (drop 1 pages) (bound_in held)) (sym alone) bound;
-    }
+    step (leaf p es) low high is at rises = search rules
 
 -- ---- up through the levels
 follows_more : (u t : Tree) (low : List ℕ) (near high mid up : Option (List ℕ)) → ((x : List ℕ) → IsBetween low near x → IsBetween low high x) → ((x : List ℕ) → IsBetween low near x → leaf_of u x ≡ leaf_of t x) → ((x : List ℕ) → IsBetween low near x → bound_of u mid x ≡ bound_of t up x) → (k : ℕ) (key : List ℕ) → IsBetween low near key → (pages : List (List ℕ)) (bound : Option (List ℕ)) → Follows u near mid key k pages bound → Follows t high up key k pages bound

@@ -1,9 +1,9 @@
 -- The leaf that a key belongs to, told above.
-use Rattle.std.proofs.Common.{◌≡◌, ◌≢◌, ◌<◌, ◌≤◌, ◌-◌, ◌^◌, ℕ, zero, suc, List, refl, sym, subst, arith}
+use Rattle.std.proofs.Common.{rules, ◌≡◌, ◌≢◌, ◌<◌, ◌≤◌, ◌-◌, ◌^◌, ℕ, zero, suc, List, refl, sym, subst, arith}
 use Rattle.sector_device.specs.claim.Disk.{Image}
 use Rattle.page_node.specs.{claim.Entries.Entry, claim.Node.IsNode, claim.Places.Rises}
-use Rattle.page_btree.specs.{claim.Keys.KeyMap, claim.Tree.rows, claim.Map.Holds, Getting.{CanGet, IsChild}, Leading.{LeadsTo, CanLead}}
-use Rattle.page_btree.proofs.{Tops.{rooted, can_get, at_root}, Descent.{leaf_page, goes_on}}
+use Rattle.page_btree.{specs.claim.Keys.KeyMap, specs.claim.Map.Holds, specs.Getting.{CanGet, IsChild}, specs.Leading.{LeadsTo, CanLead}, proofs.Tops.{rooted, can_get, at_root}}
+use Rattle.page_btree.proofs.Descent.{leaf_page, goes_on}
 
 pub leads_none : (P : Image) (d page : ℕ) (key : List ℕ) → d ≡ 0 → LeadsTo P d page key page
 leads_none P d page key none = subst (λ d. LeadsTo P d page key page) (sym none) refl
@@ -15,14 +15,10 @@ leads_more P (suc d) page key leaf child some told rest =
 
 -- the leaf is one
 pub leads_leaf : (n : ℕ) (P : Image) (d : ℕ) (key : List ℕ) (page leaf : ℕ) → n ≤ 2 ^ 32 → CanGet n P d key (P page) → LeadsTo P d page key leaf → (es : List Entry) × IsNode (P leaf) (record { level = 0; entries = es }) × Rises es
-leads_leaf n P zero key page leaf few can is =
-    let l = leaf_page n P 0 key (P page) can refl in
-    (rows can.tree, subst (λ (q : ℕ). IsNode (P q) (record { level = 0; entries = rows can.tree })) (sym is) l.0, l.1)
+leads_leaf n P zero key page leaf few can is = search (rules, leaf_page)
 leads_leaf n P (suc d) key page leaf few can (child, told, rest) =
     let go = goes_on n P (suc d) key (P page) can child (omega arith) few told in
     leads_leaf n P d key child leaf few (subst (λ k. CanGet n P k key (P child)) (omega arith) (go.next (P child) refl)) rest
 
 pub can_lead : (n : ℕ) (P : Image) (root : ℕ) (free : List ℕ) (m : KeyMap) (key : List ℕ) → Holds n P root free m → root ≢ 0 → CanLead n P key root
-can_lead n P root free m key holds some =
-    let r = rooted n P root free m holds some in
-    (r.level, r.few, (can_get n P root free m r key (P root) r.level refl refl, at_root n P root free m r r.level refl))
+can_lead n P root free m key holds some = search (rooted n P root free m holds some, can_get, at_root)

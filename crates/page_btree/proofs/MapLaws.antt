@@ -1,6 +1,6 @@
 -- What keeps a map, and that pages hold one map alone.
-use Rattle.std.specs.Prelude.{◌≡◌, ◌≢◌, ◌⊎◌, ◌<◌, ◌≤◌, ◌+◌, ◌-◌, ◌*◌, ◌^◌, ℕ, List, [], ◌∷◌, length, Option, Some, None}
-use Rattle.std.{specs.FinMap.{entries, empty, len-entries, len-empty, same_entries_map}, proofs.Common.{inl, inr, ⊎_elim, refl, sym, ap, subst, ◌∙◌, arith, length-append}}
+use Rattle.std.specs.Prelude.{◌≡◌, ◌≢◌, ◌⊎◌, ◌<◌, ◌≤◌, ◌+◌, ◌-◌, ◌*◌, ◌^◌, ℕ, List, [], ◌∷◌, length, Option, Some}
+use Rattle.std.{specs.FinMap.{entries, empty, len-entries, len-empty, same_entries_map}, proofs.Common.{rules, inl, inr, ⊎_elim, refl, sym, ap, subst, ◌∙◌, arith, length-append}}
 use Rattle.std.proofs.lemmas.List.{nil_from_length}
 use Rattle.sector_device.specs.claim.Disk.{Image}
 use Rattle.page_store.specs.{gate_journal.claim.Store.{home, overlay}, gate_journal.Store.IsBeforeOrAfter, claim.Chain.{IsPages, root_in, free_in}}
@@ -14,15 +14,7 @@ use Rattle.page_btree.{specs.claim.Map.{Holds, InTxn}, specs.Map.OpensMap, proof
 -- pages that agree on a tree's own hold it both
 mutual
   pub tree_same : (P Q : Image) (d : ℕ) (low : List ℕ) (high : Option (List ℕ)) (t : Tree) → ((q : ℕ) → owns t q → Q q ≡ P q) → IsTree P d low high t → IsTree Q d low high t
-  tree_same P Q d low high (leaf p es) same is = (
-    is.0,
-    record {
-      node = subst (λ bytes. IsNode bytes (record { level = 0; entries = es })) (sym (same p refl)) is.1.node;
-      rises = is.1.rises;
-      within = is.1.within;
-      some = is.1.some;
-    },
-  )
+  tree_same P Q d low high (leaf p es) same is = search rules
   tree_same P Q d low high (inner p f) same is = (
     is.0,
     subst (λ bytes. IsNode bytes (record { level = d; entries = links f })) (sym (same p (inl refl))) is.1,
@@ -41,22 +33,12 @@ mutual
 pub holds_same : (n : ℕ) (P Q : Image) (root : ℕ) (free : List ℕ) (m : KeyMap) → ((q : ℕ) → q ≢ 0 → Q q ≡ P q) → Holds n P root free m → Holds n Q root free m
 holds_same n P Q root free m same holds = record {
   free_are = holds.free_are;
-  held = ⊎_elim (λ bare. inl bare) (λ r. inr (record {
-    tree = r.tree;
-    level = r.level;
-    few = r.few;
-    stands = tree_same P Q r.level [] None r.tree (λ q own. same q (λ is. let some = (r.sound.below q own).0 in omega arith)) r.stands;
-    root_is = r.root_is;
-    sound = r.sound;
-    rows_are = r.rows_are;
-    whole = r.whole;
-  })) holds.held;
+  held = search (rules, tree_same);
 }
 
 -- a commit's pages hold what the transaction reads
 pub prepared_holds : (t : Txn) (P Q : Image) (m : KeyMap) → InTxn t P m → ((q : ℕ) → q ≢ 0 → Q q ≡ over t P q) → root_in Q ≡ txn_root t → free_in Q ≡ free_over t P → Holds (txn_pages t) Q (root_in Q) (free_in Q) m
-prepared_holds t P Q m holds same root free =
-    subst (λ (r : ℕ). Holds (txn_pages t) Q r (free_in Q) m) (sym root) (subst (λ (f : List ℕ). Holds (txn_pages t) Q (txn_root t) f m) (sym free) (holds_same (txn_pages t) (over t P) Q (txn_root t) (free_over t P) m same holds))
+prepared_holds t P Q m holds same root free = search (rules, holds_same (txn_pages t) (over t P) Q (txn_root t) (free_over t P) m same holds)
 
 -- and a new transaction reads what the pages hold
 pub begun_holds : (t : Txn) (P : Image) (m : KeyMap) → Holds (txn_pages t) P (root_in P) (free_in P) m → ((q : ℕ) → over t P q ≡ P q) → txn_root t ≡ root_in P → free_over t P ≡ free_in P → InTxn t P m
@@ -66,19 +48,14 @@ begun_holds t P m holds same root free =
 -- an image with the pages before a commit or those after it opens to the map before or to the map after
 pub opens_maps : (sectors J n : ℕ) (ws : List (ℕ × List ℕ)) (P : Image) (m next : KeyMap) (c : Image) → home J + n ≡ sectors → Holds n P (root_in P) (free_in P) m → Holds n (overlay ws P) (root_in (overlay ws P)) (free_in (overlay ws P)) next
     → IsBeforeOrAfter J n ws P c → OpensMap sectors m c ⊎ OpensMap sectors next c
-opens_maps sectors J n ws P m next c whole holds holds_then is = ⊎_elim
-    (λ opens. inl (record { J = J; n = n; P = P; whole = whole; opens = opens; holds = holds }))
-    (λ opens. inr (record { J = J; n = n; P = overlay ws P; whole = whole; opens = opens; holds = holds_then })) is
+opens_maps sectors J n ws P m next c whole holds holds_then is = search rules
 
 pub no_entries : entries (empty {X = List ℕ} {R = key_cmp}) ≡ []
 no_entries = nil_from_length (entries empty) (sym (len-entries {R = key_cmp} empty) ∙ len-empty key_cmp (List ℕ))
 
 -- a new store holds the map without rows
 pub new_holds : (n : ℕ) (P : Image) → root_in P ≡ 0 → IsPages n P → length (free_in P) + 1 ≡ n → Holds n P (root_in P) (free_in P) empty
-new_holds n P root sound whole = record {
-  free_are = sound.free;
-  held = inl (record { root_is = root; none = no_entries; whole = whole });
-}
+new_holds n P root sound whole = search (rules, no_entries)
 
 -- ---- one map
 pub page_is : (p q : ℕ) → p < 2 ^ 32 → q < 2 ^ 32 → child_bytes p ≡ child_bytes q → p ≡ q
@@ -107,12 +84,8 @@ mutual
   one_tree P d e low low' high high' (leaf p es) (leaf q fs) small small' is is' same =
       let rows : es ≡ fs = ap (λ (n : Node). n.entries) (node_unique (P q) (record { level = 0; entries = es }) (record { level = 0; entries = fs }) (subst (λ (x : ℕ). IsNode (P x) (record { level = 0; entries = es })) same is.1.node) is'.1.node) in
       λ i. leaf (same i) (rows i)
-  one_tree P d e low low' high high' (leaf p es) (inner q f) small small' is is' same = absurd (
-      let level : 0 ≡ e = ap (λ (n : Node). n.level) (node_unique (P q) (record { level = 0; entries = es }) (record { level = e; entries = links f }) (subst (λ (x : ℕ). IsNode (P x) (record { level = 0; entries = es })) same is.1.node) is'.1) in
-      let some = is'.0 in omega arith)
-  one_tree P d e low low' high high' (inner p f) (leaf q fs) small small' is is' same = absurd (
-      let level : d ≡ 0 = ap (λ (n : Node). n.level) (node_unique (P q) (record { level = d; entries = links f }) (record { level = 0; entries = fs }) (subst (λ (x : ℕ). IsNode (P x) (record { level = d; entries = links f })) same is.1) is'.1.node) in
-      let some = is.0 in omega arith)
+  one_tree P d e low low' high high' (leaf p es) (inner q f) small small' is is' same = search (rules, node_unique)
+  one_tree P d e low low' high high' (inner p f) (leaf q fs) small small' is is' same = search (rules, node_unique)
   one_tree P d e low low' high high' (inner p f) (inner q g) small small' is is' same =
       let node = node_unique (P q) (record { level = d; entries = links f }) (record { level = e; entries = links g }) (subst (λ (x : ℕ). IsNode (P x) (record { level = d; entries = links f })) same is.1) is'.1 in
       let below : f ≡ g = one_forest P (d - 1) (e - 1) low low' high high' f g (λ x own. small x (inr own)) (λ x own. small' x (inr own)) is.2 is'.2 (ap (λ (n : Node). n.entries) node) in
@@ -120,9 +93,7 @@ mutual
 
   pub one_forest : (P : Image) (d e : ℕ) (low low' : List ℕ) (high high' : Option (List ℕ)) (f g : Forest) → AllSmall f → AllSmall g → AreTrees P d low high f → AreTrees P e low' high' g → links f ≡ links g → f ≡ g
   one_forest P d e low low' high high' (one k t) (one q u) small small' is is' same =
-      let key : k ≡ q = ap key_of same in
-      let here : t ≡ u = one_tree P d e low low' high high' t u small small' is is' (page_is (page_of t) (page_of u) (small _ (owns_page t)) (small' _ (owns_page u)) (ap value_of same)) in
-      λ i. one (key i) (here i)
+      search (rules, one_tree P d e low low' high high' t u small small' is is' (page_is (page_of t) (page_of u) (small _ (owns_page t)) (small' _ (owns_page u)) (ap value_of same)))
   one_forest P d e low low' high high' (one k t) (more q u g) small small' is is' same = absurd (let n : 0 ≡ length (links g) = ap (λ (l : List Entry). length (rest_of l)) same in let some = some_links g in omega arith)
   one_forest P d e low low' high high' (more k t f) (one q u) small small' is is' same = absurd (let n : length (links f) ≡ 0 = ap (λ (l : List Entry). length (rest_of l)) same in let some = some_links f in omega arith)
   one_forest P d e low low' high high' (more k t f) (more q u g) small small' is is' same =
@@ -133,16 +104,7 @@ mutual
 
 -- pages with a root and free pages hold one map at most
 pub one_map : (n : ℕ) (P : Image) (root : ℕ) (free : List ℕ) (m m' : KeyMap) → n ≤ 2 ^ 32 → Holds n P root free m → Holds n P root free m' → m ≡ m'
-one_map n P root free m m' few holds holds' = same_entries_map m m' (elim holds.held [
-  | inl a ↦ elim holds'.held [
-    | inl b ↦ a.none ∙ sym b.none
-    | inr b ↦ absurd (let low = (b.sound.below (page_of b.tree) (owns_page b.tree)).0 in let is = b.root_is in let none = a.root_is in omega arith)
-  ]
-  | inr a ↦ elim holds'.held [
-    | inl b ↦ absurd (let low = (a.sound.below (page_of a.tree) (owns_page a.tree)).0 in let is = a.root_is in let none = b.root_is in omega arith)
-    | inr b ↦ sym a.rows_are ∙ ap rows (one_tree P a.level b.level [] [] None None a.tree b.tree (λ q own. let x = (a.sound.below q own).1 in omega arith) (λ q own. let x = (b.sound.below q own).1 in omega arith) a.stands b.stands (a.root_is ∙ sym b.root_is)) ∙ b.rows_are
-  ]
-])
+one_map n P root free m m' few holds holds' = same_entries_map m m' (search (rules, owns_page, one_tree))
 
 -- ---- few rows
 
@@ -163,8 +125,5 @@ mutual
 pub few_rows : (n : ℕ) (P : Image) (root : ℕ) (free : List ℕ) (m : KeyMap) → Holds n P root free m → length (entries m) ≤ 1364 * n
 few_rows n P root free m holds = ⊎_elim
     (λ bare. let none : length (entries m) ≡ 0 = ap (λ (es : List Entry). length es) bare.none in omega arith)
-    (λ r.
-    let same : length (rows r.tree) ≡ length (entries m) = ap (λ (es : List Entry). length es) r.rows_are in
-    let few = few_in P r.level [] None r.tree r.stands in
-    omega arith)
+    (λ r. search (rules, few_in))
     holds.held

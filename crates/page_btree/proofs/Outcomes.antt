@@ -66,11 +66,7 @@ module _ {D : Type 0} {g : Ghosts D} where
   reads_as {why} {more} {r = r} is f = record { quiet = is.quiet; passed = is.passed; err = map_err r why more f is.err }
 
   pub reads_after : {T E : Type 0} {why more : E → Type 0} {old mid new : Pages D g} {r : Result T E} → Passed old mid → ReadsOnly why mid new r → ((e : E) → why e → more e) → ReadsOnly more old new r
-  reads_after {why} {more} {old} {mid} {new} {r} passed is f = record {
-    quiet = quiet_more old mid new passed.quiet is.quiet;
-    passed = passed_ok r old mid new passed is.passed;
-    err = map_err r why more f is.err;
-  }
+  reads_after {why} {more} {old} {mid} {new} {r} passed is f = search (quiet_more, passed_ok, map_err)
 
   -- a part of a call that reads no page met the one fault that it can
   pub fault_refused : {T : Type 0} {refused : TreeError → Type 0} {old new : Pages D g} {r : Result T TreeError} → Passed old new → IfErr r (λ e. e ≡ NotAStore) → OnErr r (refused NotAStore) → ReadsOnly refused old new r

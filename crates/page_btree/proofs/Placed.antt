@@ -6,7 +6,7 @@ use Rattle.std.proofs.lemmas.Bool.{cases_eq}
 use Rattle.std.proofs.lemmas.List.{length-append}
 use Rattle.sector_device.specs.claim.Disk.{Image}
 use Rattle.page_store.specs.{gate_journal.claim.Store.word, claim.Chain.{is_blank, chain, IsIn, AreFree}, claim.Transactions.{txn_pages, over, free_over}, declared.txn.Txn.Txn}
-use Rattle.page_store.proofs.Chains.{counts, first_blank, room_left}
+use Rattle.page_store.proofs.Chains.{room_left}
 use Rattle.page_node.{specs.claim.Entries.Entry, specs.claim.Node.{Node, IsNode}, specs.claim.Places.{key_cmp, Rises}, proofs.Laws.same_key}
 use Rattle.page_btree.specs.claim.Keys.{KeyMap, IsBetween}
 use Rattle.page_btree.specs.claim.Tree.{Tree, Forest, leaf, inner, one, more, first_key, links, rows, forest_rows, owns, forest_owns, size, forest_size, IsTree, AreTrees, IsApart, AreApart}
@@ -32,9 +32,7 @@ both_free n (x ∷ xs) ys a b off = (a.0, a.1, (λ there. ⊎_elim a.2 (off x (i
 -- a free page has no bytes but its link
 free_blank : (n : ℕ) (P : Image) (q first count : ℕ) → AreFree n (chain P first count) → IsIn q (chain P first count) → is_blank (P q) ≡ true
 free_blank n P q first zero free there = absurd there
-free_blank n P q first (suc count) free (inl here) =
-    let blank = first_blank n P first (suc count) (omega arith) free in
-    ap (λ (p : ℕ). is_blank (P p)) (here ∙ counts (is_blank (P first)) first blank) ∙ blank
+free_blank n P q first (suc count) free (inl here) = search arith
 free_blank n P q first (suc count) free (inr there) = free_blank n P q (word (P first) 0) count free.3 there
 
 -- ---- those of a tree
@@ -144,10 +142,7 @@ placed t S m p holds some below none used =
     let not_free : IsIn p free → ⊥ = λ there. used (free_blank n P p _ _ holds.free_are there) in
     let positive : 0 < p = omega arith in
     elim holds.held [
-      | inl bare ↦
-          let few = room_left n p free positive below holds.free_are not_free in
-          let whole = bare.whole in
-          absurd (omega (arith, few, whole))
+      | inl bare ↦ search (arith, room_left n p free positive below holds.free_are not_free)
       | inr r ↦ elim (is_there p (pages_of r.tree)) [
         | inl own ↦ subst (λ (all : List Entry). IsPlaced (P p) all) r.rows_are (in_tree P r.level [] None r.tree r.stands p (owns_it p r.tree own) none)
         | inr off ↦

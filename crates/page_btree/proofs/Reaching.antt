@@ -1,10 +1,10 @@
 -- Keys that belong to one leaf.
-use Rattle.std.specs.{Prelude.{Option, Some}, Option.option_map, Ordering.{is_gt, is_lt}, Cmp.Lexicographic.nat_list_cmp_total, FinMap.find}
-use Rattle.std.proofs.Common.{◌≡◌, ◌≢◌, ◌-◌, ◌<◌, ◌≤◌, ◌^◌, ℕ, zero, suc, List, [], ◌∷◌, Bool, true, false, cond, inl, inr, refl, sym, ap, subst, ◌∙◌, arith, get_or}
+use Rattle.std.specs.{Prelude.{Option, Some}, Ordering.{is_gt, is_lt}, Cmp.Lexicographic.nat_list_cmp_total, FinMap.find}
+use Rattle.std.proofs.Common.{rules, ◌≡◌, ◌≢◌, ◌-◌, ◌<◌, ◌≤◌, ◌^◌, ℕ, zero, suc, List, [], ◌∷◌, Bool, true, false, cond, refl, sym, ap, subst, ◌∙◌, arith}
 use Rattle.std.proofs.lemmas.Bool.{cases_eq}
 use Rattle.sector_device.specs.claim.Disk.{Image}
-use Rattle.page_node.specs.{claim.Entries.Entry, Entries.child_in, claim.Node.{Node, IsNode}, claim.Places.key_cmp, Places.{floor, floor_from, ceiling, ceiling_from}}
-use Rattle.page_node.{specs.Searching.RisesAfter, proofs.Laws.{flip_less, node_unique, not_greater as reversed}}
+use Rattle.page_node.specs.{claim.Entries.Entry, claim.Node.{Node, IsNode}, claim.Places.key_cmp, Places.{floor, floor_from, ceiling, ceiling_from}, Searching.RisesAfter}
+use Rattle.page_node.proofs.Laws.{flip_less, node_unique, not_greater as reversed}
 use Rattle.page_btree.specs.{claim.Keys.{IsBetween, IsUnder}, claim.Errors.level_in, Getting.{CanGet, CanGetAt, IsChild}, Leading.LeadsTo, claim.Tree.rows}
 use Rattle.page_btree.proofs.{Descent.{node_of, leaf_page, goes_on}, Leads.leads_more, Seeking.lower_of}
 
@@ -43,8 +43,7 @@ pub reaches_more : (P : Image) (d page : ℕ) (key other : List ℕ) (leaf child
     → IsChild (P page) key child
     → ((node : Node) → IsNode (P page) node → RisesAfter node.entries → IsUnder other (ceiling key node.entries))
     → LeadsTo P (d - 1) child other leaf → LeadsTo P d page other leaf
-reaches_more P d page key other leaf child high some between told within rest =
-    leads_more P d page other leaf child some (λ node at rises. ap (option_map child_in) (floor_reaches key other node.entries between.from (within node at rises)) ∙ told node at rises) rest
+reaches_more P d page key other leaf child high some between told within rest = search (rules, leads_more, floor_reaches)
 
 -- ---- an edit of a leaf
 -- the level of a root is that of its tree
@@ -53,11 +52,7 @@ root_level n P d key root can = can.1.node_is.level ∙ can.1.level_is
 
 -- a page above the leaves is no leaf
 above_leaf : (n : ℕ) (P : Image) (d : ℕ) (key : List ℕ) (page leaf : ℕ) (es : List Entry) → CanGet n P (suc d) key (P page) → IsNode (P leaf) (record { level = 0; entries = es }) → page ≢ leaf
-above_leaf n P d key page leaf es can at is =
-    let node = node_of P (suc d) can.low can.high can.tree can.tree_is in
-    let here : IsNode (P leaf) node.0 = subst (λ b. IsNode b node.0) (sym can.page_is ∙ ap P is) node.1 in
-    let none : node.0.level ≡ 0 = ap (λ (x : Node). x.level) (node_unique (P leaf) node.0 (record { level = 0; entries = es }) here at) in
-    omega arith
+above_leaf n P d key page leaf es can at is = search (rules, node_of, node_unique)
 
 -- where pages differ in a leaf alone, the ways down are the same
 pub leads_stays : (n : ℕ) (P Q : Image) (d : ℕ) (key : List ℕ) (page leaf other : ℕ) (es : List Entry) → n ≤ 2 ^ 32 → CanGet n P d key (P page) → IsNode (P leaf) (record { level = 0; entries = es }) → ((q : ℕ) → q ≢ leaf → Q q ≡ P q) → LeadsTo P d page key other → LeadsTo Q d page key other
@@ -72,10 +67,7 @@ leads_stays n P Q (suc d) key page leaf other es few can at same (child, told, r
 
 -- and so is the root's level, where the leaf stays one
 pub level_stays : (P Q : Image) (root leaf : ℕ) (es fs : List Entry) → IsNode (P leaf) (record { level = 0; entries = es }) → IsNode (Q leaf) (record { level = 0; entries = fs }) → ((q : ℕ) → q ≢ leaf → Q q ≡ P q) → level_in Q root ≡ level_in P root
-level_stays P Q root leaf es fs before after same = elim (cases_eq root leaf) [
-  | inl is ↦ ap (λ q. get_or (Q q) 0 0) is ∙ after.level ∙ sym before.level ∙ ap (λ q. get_or (P q) 0 0) (sym is)
-  | inr other ↦ ap (λ b. get_or b 0 0) (same root other)
-]
+level_stays P Q root leaf es fs before after same = search (rules, cases_eq)
 
 -- ---- a look-up
 -- what a leaf says of a key that belongs to it is what the tree says

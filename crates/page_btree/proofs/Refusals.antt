@@ -1,5 +1,5 @@
 -- A refusal of a look-up below, told above.
-use Rattle.std.{specs.Prelude.{Result, IsErrAnd}, proofs.Common.{◌≡◌, true, Err, sym, subst, ◌∙◌}}
+use Rattle.std.{specs.Prelude.{Result, IsErrAnd}, proofs.Common.{rules, ◌≡◌, true, Err, sym, subst, ◌∙◌}}
 use Rattle.sector_device.specs.{claim.Disk.Image, declared.SectorDevice.Ghosts}
 use Rattle.page_store.specs.{claim.Transactions.{stored, disk_in, has_halted, HasFailed, IsQuiet, Passed, ReadErr}, Reading.ReadsOnly}
 use Rattle.page_store.{specs.gate_journal.declared.error.PageError.PageError, specs.declared.pages.Pages.Pages, specs.declared.txn.Txn.Txn, proofs.Stops.failed_more}
@@ -24,8 +24,7 @@ module _ {D : Type 0} {g : Ghosts D} where
   by_read B old new failed halted _ why = absurd why
 
   pub reads_more : (can below : Image → Type 0) (old mid new : Pages D g) → Passed old mid → IsQuiet mid new → ((disk_in new).is_honest → can (stored old) → below (stored mid)) → (e : TreeError) → ReadsErr below mid new e → ReadsErr can old new e
-  reads_more can below old mid new passed quiet also e why = by_case (λ x. ReadsErr below mid new x) (λ x. ReadsErr can old new x) (failed_more old mid new passed quiet)
-      (λ none honest is. none honest (also honest is)) (λ halted. sym passed.halted ∙ halted) (λ no. no) (λ no. no) (λ no. no) e why
+  reads_more can below old mid new passed quiet also e why = search (rules, by_case, failed_more old mid new passed quiet)
 
   pub get_fails : (below : Image → Type 0) (t : Txn) (old mid new : Pages D g) → Passed old mid → IsQuiet mid new → ((disk_in new).is_honest → (m : KeyMap) → InTxn t (stored old) m → below (stored mid)) → (e : TreeError) → ReadsErr below mid new e → GetErr t old new e
   get_fails below t old mid new passed quiet also e why = by_case (λ x. ReadsErr below mid new x) (λ x. GetErr t old new x) (failed_more old mid new passed quiet)

@@ -2,7 +2,7 @@
 use Rattle.std.specs.{Prelude.{Option, Some, None, T}, Ordering.{is_gt, is_eq, is_lt, eq_by_cmp}, Cmp.Lexicographic.nat_list_cmp_total, List.AllByRecursion}
 use Rattle.std.specs.{declared.cmp.Ordering.Ordering, declared.cmp.Ordering.TheVariants.{Less, Equal, Greater}, FinMap.{find, put, is_sorted}}
 use Rattle.std.specs.FinMap.Entries.{by_order, below_all, is_sorted-put}
-use Rattle.std.proofs.Common.{◌≡◌, ◌<◌, ℕ, List, [], ◌∷◌, ◌++◌, length, Bool, true, false, cond, refl, sym, ap, subst, ◌∙◌, arith}
+use Rattle.std.proofs.Common.{rules, ◌≡◌, ◌<◌, ℕ, List, [], ◌∷◌, ◌++◌, length, Bool, true, false, cond, refl, sym, ap, subst, ◌∙◌, arith}
 use Rattle.std.proofs.lemmas.Cmp.{tied_itself}
 use Rattle.page_node.{specs.claim.Entries.Entry, specs.claim.Places.{key_cmp, Rises}, proofs.Laws.{flip_less, flip_greater, less_trans, same_key, is_less}}
 use Rattle.page_node.proofs.Scanning.{above_true}
@@ -131,5 +131,4 @@ all_put P key value (e ∷ es) here h =
 
 pub some_put : (key value : List ℕ) (es : List Entry) → 0 < length (put key_cmp key value es)
 some_put key value [] = omega arith
-some_put key value (e ∷ es) =
-    elim (key_cmp key e.0) as (λ o. 0 < length (by_order o ((key, value) ∷ e ∷ es) ((e.0, value) ∷ es) (e ∷ put key_cmp key value es))) [ Less ↦ omega arith | Equal ↦ omega arith | Greater ↦ omega arith ]
+some_put key value (e ∷ es) = search rules

@@ -1,5 +1,5 @@
 -- Where a look-up begins.
-use Rattle.std.{specs.Prelude.None, specs.FinMap.{find, get, get-entries}, proofs.Common.{◌≡◌, ◌≢◌, ⊎_elim, ℕ, List, [], ◌∷◌, refl, sym, ap, subst, ◌∙◌, arith}}
+use Rattle.std.{specs.Prelude.None, specs.FinMap.{find, get, get-entries}, proofs.Common.{rules, ◌≡◌, ◌≢◌, ⊎_elim, ℕ, List, [], ◌∷◌, refl, sym, ap, subst, ◌∙◌, arith}}
 use Rattle.sector_device.specs.claim.Disk.{Image}
 use Rattle.page_node.specs.{claim.Node.{Node, IsNode}, claim.Places.key_cmp}
 use Rattle.page_btree.specs.{claim.Keys.{KeyMap, IsBetween}, claim.Tree.{IsTree, page_of, rows}, claim.Map.{IsRooted, Holds}, Getting.{CanGet, IsLevel}}
@@ -22,9 +22,7 @@ no_root n P root free m key holds none = get-entries m key ∙ ap (find key_cmp 
 
 -- the level that the root's page says
 pub level_there : (n : ℕ) (P : Image) (root : ℕ) (free : List ℕ) (m : KeyMap) (r : IsRooted n P root free m) (bytes : List ℕ) (level : ℕ) → bytes ≡ P root → ((node : Node) → IsNode bytes node → level ≡ node.level) → level ≡ r.level
-level_there n P root free m r bytes level there told =
-    let node = node_of P r.level [] None r.tree r.stands in
-    told node.0 (subst (λ b. IsNode b node.0) (sym (there ∙ ap P (sym r.root_is))) node.1) ∙ node.2
+level_there n P root free m r bytes level there told = search (rules, node_of)
 
 abbrev pub can_get : (n : ℕ) (P : Image) (root : ℕ) (free : List ℕ) (m : KeyMap) (r : IsRooted n P root free m) (key bytes : List ℕ) (level : ℕ) → bytes ≡ P root → level ≡ r.level → CanGet n P level key bytes
 can_get n P root free m r key bytes level there same = record {
@@ -49,12 +47,4 @@ found_rows n P root free m r key = ap (find key_cmp key) r.rows_are ∙ sym (get
 
 -- the root's page, as one of its level
 pub at_root : (n : ℕ) (P : Image) (root : ℕ) (free : List ℕ) (m : KeyMap) (r : IsRooted n P root free m) (level : ℕ) → level ≡ r.level → IsLevel n P level root
-at_root n P root free m r level same =
-    let node = node_of P r.level [] None r.tree r.stands in
-    let below = (r.sound.below (page_of r.tree) (owns_page r.tree)).1 in
-    record {
-      node = node.0;
-      node_is = subst (λ (q : ℕ). IsNode (P q) node.0) r.root_is node.1;
-      level_is = node.2 ∙ sym same;
-      below = omega arith;
-    }
+at_root n P root free m r level same = search (arith, node_of P r.level [] None r.tree r.stands, owns_page r.tree)

@@ -1,12 +1,12 @@
 -- What the edits of a buffer leave.
 use Rattle.std.specs.{Prelude.{insert, remove}, List.{All, copy_within}}
-use Rattle.std.proofs.Common.{◌≡◌, ℕ, ◌+◌, ◌-◌, ◌*◌, ◌<◌, ◌≤◌, List, [], ◌∷◌, ◌++◌, length, take, drop, get_or, set, refl, sym, ap, subst, ◌∙◌, arith, suc, inl, inr}
+use Rattle.std.proofs.Common.{rules, ◌≡◌, ℕ, ◌+◌, ◌-◌, ◌*◌, ◌<◌, ◌≤◌, List, [], ◌∷◌, ◌++◌, length, take, drop, get_or, set, refl, sym, ap, subst, ◌∙◌, arith, suc, inl, inr}
 use Rattle.std.proofs.lemmas.Bool.{cases_eq}
 use Rattle.std.proofs.lemmas.List.{take-take, drop-drop, length-take-le, length-drop, append-nil, set_split}
 use Rattle.std.proofs.lemmas.List.Elements.{All-nil, All-cons, All-take, All-drop}
 use Rattle.page_node.specs.{claim.Entries.{Entry, IsEntry, entry_bytes, entry_size, body_of, size_of}, claim.Node.Node, Bytes.with_entry, Held.{held_node, IsHeld}}
 use Rattle.page_node.proofs.EntryLists.{size-parts, size-take_more, prefix_at, rest_at, length-read}
-use Rattle.page_node.proofs.Standing.{Stands, nothing, edited, edited_bytes, edited_stands, size-edited, length-edited, size-take_from, moved_is, written_is, size_is, from_held, view_of}
+use Rattle.page_node.proofs.Standing.{Stands, nothing, edited, edited_bytes, edited_stands, size-edited, length-edited, size-take_from, moved_is, written_is, size_is, view_of}
 
 pub count_small : (es : List Entry) → 3 * length es ≤ size_of es
 count_small [] = omega arith
@@ -25,23 +25,18 @@ module _ (level : ℕ) (es : List Entry) (marks bytes : List ℕ) (s : Stands le
 -- bytes from one place on move to another, and an entry is written before them
 pub placed : (bytes moved new : List ℕ) (at from used to : ℕ) (e : Entry) → moved ≡ copy_within bytes from used to → new ≡ with_entry moved at e → at + entry_size e ≡ to → to ≤ length bytes
     → new ≡ take at bytes ++ (entry_bytes e ++ (take (used - from) (drop from bytes) ++ drop (to + (used - from)) bytes))
-placed bytes moved new at from used to e is_moved is_new sum long =
-    is_new
-    ∙ ap (λ b. with_entry b at e) (is_moved ∙ moved_is bytes from used to)
-    ∙ written_is bytes at to e (take (used - from) (drop from bytes) ++ drop (to + (used - from)) bytes) sum long
+placed bytes moved new at from used to e is_moved is_new sum long = search (rules, moved_is, written_is)
 
 -- the bytes of an edit, by the places
 pub edited_at : (level : ℕ) (es : List Entry) (marks bytes new : List ℕ) (i j : ℕ) (mid : List Entry) (added tail : List ℕ) → Stands level es marks bytes → i ≤ length es → j ≤ length es → 4 ≤ length bytes → added ≡ body_of mid
     → new ≡ take (get_or marks i 0) bytes ++ (added ++ (take (get_or marks (length es) 0 - get_or marks j 0) (drop (get_or marks j 0) bytes) ++ tail))
     → take (size_of (edited es i j mid)) (drop 4 new) ≡ body_of (edited es i j mid)
 edited_at level es marks bytes new i j mid added tail s i_in j_in long is_added is =
-    let at = s.places i i_in in
-    let from = s.places j j_in in
     let used = size_is level es marks bytes s in
     let parts = size-parts j es in
     let rest : get_or marks (length es) 0 - get_or marks j 0 ≡ size_of (drop j es) = omega arith in
     edited_bytes es bytes new i j mid added tail s.body long is_added
-    (is ∙ (λ x. take (at x) bytes ++ (added ++ (take (rest x) (drop (from x) bytes) ++ tail))))
+    (is ∙ (λ x. take ((s.places i i_in) x) bytes ++ (added ++ (take (rest x) (drop ((s.places j j_in) x) bytes) ++ tail))))
 
 pub single : (P : Entry → Type 0) (e : Entry) → P e → All P (e ∷ [])
 single P e holds = All-cons P e [] holds (All-nil P)
@@ -53,7 +48,6 @@ pub insert_stands : (level : ℕ) (es : List Entry) (marks bytes moved new new_m
     → Stands level (insert es i e) new_marks new
 insert_stands level es marks bytes moved new new_marks i e s within long fits entry child is_moved is_new kept shifted =
     let few = count_small es in
-    let most = mark_most level es marks bytes s i within in
     let n = length-edited es i i (e ∷ []) within in
     let size = size-edited es i i (e ∷ []) in
     let parts = size-parts i es in
@@ -61,11 +55,7 @@ insert_stands level es marks bytes moved new new_marks i e s within long fits en
     (edited_at level es marks bytes new i i (e ∷ []) (entry_bytes e) _ s within within (omega arith) (sym (append-nil (entry_bytes e)))
     (placed bytes moved new (get_or marks i 0) (get_or marks i 0) (get_or marks (length es) 0) (get_or marks i 0 + entry_size e) e is_moved is_new refl (omega arith)))
     kept
-    (λ m le inside.
-    let sum : m + 1 ≡ i + 1 + (m - i) = omega arith in
-    let there = shifted m le inside in
-    let P : ℕ → Type 0 = λ q. get_or new_marks q 0 + get_or marks i 0 ≡ get_or marks i 0 + size_of (e ∷ []) + get_or marks m 0 in
-    subst P sum (omega arith))
+    (λ m le inside. search rules)
 
 pub remove_stands : (level : ℕ) (es : List Entry) (marks bytes new new_marks : List ℕ) (i : ℕ) → Stands level es marks bytes → i < length es → length bytes ≡ 5200
     → new ≡ copy_within bytes (get_or marks (i + 1) 0) (get_or marks (length es) 0) (get_or marks i 0)
@@ -178,10 +168,7 @@ pub record Opened (level count : ℕ) (marks bytes : List ℕ) (node : Node) : T
   pub level_of : level ≡ node.level
 
 pub opened : (level count : ℕ) (marks bytes : List ℕ) (node : Node) → IsHeld level count marks bytes → held_node level count bytes ≡ node → Opened level count marks bytes node
-opened level count marks bytes node held is =
-    let P : Node → Type 0 = λ n. Opened level count marks bytes n in
-    let n = length-read count (drop 4 bytes) in
-    subst P is (record { stands = from_held level count marks bytes (held_node level count bytes) held refl; count_of = sym n; level_of = refl })
+opened level count marks bytes node held is = search (rules, length-read)
 
 pub closed : (level : ℕ) (es : List Entry) (marks bytes : List ℕ) (count other : ℕ) → Stands level es marks bytes → count ≡ length es → level ≡ other → held_node level count bytes ≡ record { level = other; entries = es }
 closed level es marks bytes count other s is level_is = view_of level es marks bytes count s is ∙ (λ x. record { level = level_is x; entries = es })
@@ -195,13 +182,4 @@ pub record Bounds (level : ℕ) (es : List Entry) (marks : List ℕ) (count i : 
   pub small : 3 * length es ≤ size_of es
 
 pub bounds_of : (level : ℕ) (es : List Entry) (marks bytes : List ℕ) (count i : ℕ) → Stands level es marks bytes → count ≡ length es → i ≤ length es → Bounds level es marks count i
-bounds_of level es marks bytes count i s is within =
-    let parts = size-parts i es in
-    record {
-      used = ap (λ k. get_or marks k 0) is ∙ size_is level es marks bytes s;
-      at = s.places i within;
-      prefix = omega arith;
-      room = s.room;
-      few = s.few;
-      small = count_small es;
-    }
+bounds_of level es marks bytes count i s is within = search (arith, size-parts i es, size_is level es marks bytes s, count_small es)

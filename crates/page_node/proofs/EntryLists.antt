@@ -51,9 +51,7 @@ read_body (e ∷ es) rest =
     ∙ ap (λ l. e ∷ l) (read_body es rest)
 
 pub read_at : (es : List Entry) (bytes : List ℕ) → take (size_of es) bytes ≡ body_of es → read_from (length es) bytes ≡ es
-read_at es bytes body =
-    ap (read_from (length es)) (sym (take-append-drop (size_of es) bytes) ∙ ap (λ b. b ++ drop (size_of es) bytes) body)
-    ∙ read_body es (drop (size_of es) bytes)
+read_at es bytes body = search (take-append-drop (size_of es) bytes, read_body es (drop (size_of es) bytes))
 
 -- ---- a part of them
 pub size-parts : (i : ℕ) (es : List Entry) → size_of (take i es) + size_of (drop i es) ≡ size_of es

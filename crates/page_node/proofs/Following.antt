@@ -1,8 +1,7 @@
 -- Children that follow one another.
 use Rattle.std.specs.{Prelude.{Option, Some, IfSome}, Option.option_map, List.starts_with, Ordering.is_gt, declared.cmp.Ordering.Ordering}
 use Rattle.std.specs.declared.cmp.Ordering.TheVariants.{Greater}
-use Rattle.std.proofs.Common.{◌≡◌, ◌≢◌, ◌⊎◌, ℕ, zero, suc, ◌+◌, ◌-◌, ◌<◌, ◌≤◌, List, [], ◌∷◌, length, take, drop, set, true, false, nat_eq, refl, sym, ap, ◌∙◌, subst, arith, inl, inr}
-use Rattle.std.proofs.lemmas.Bool.{cases_eq}
+use Rattle.std.proofs.Common.{rules, ◌≡◌, ◌≢◌, ◌⊎◌, ℕ, zero, suc, ◌+◌, ◌<◌, ◌≤◌, List, [], ◌∷◌, length, take, drop, set, true, false, nat_eq, refl, sym, ap, ◌∙◌, subst, arith, inl, inr}
 use Rattle.page_node.specs.{Bytes.LiesAt, claim.Entries.{Entry, size_of}, Entries.{key_at, value_at, child_in}, claim.Node.{Node, IsNode}, claim.Places.key_cmp}
 use Rattle.page_node.specs.{Places.{floor, ceiling}, Searching.{IsTurn, RisesAfter}, Walking.part_of, Ways.AreWays}
 use Rattle.page_node.proofs.{Laws.{flip_less, flip_greater, floor_stop, ceiling_at}, Nearing.after_at, Scanning.{entry_of, end_there, key_part, value_part}, Standing.nothing}
@@ -11,15 +10,7 @@ use Rattle.page_node.proofs.{Laws.{flip_less, flip_greater, floor_stop, ceiling_
 ways_suc : (prefix : List ℕ) (es : List Entry) (key : List ℕ) (child more : ℕ) (after b : List ℕ) (next : ℕ) → more < length after → AreWays prefix es key child more after (Some b)
     → starts_with nat_eq b prefix ≡ true → option_map child_in (floor b es) ≡ Some next → AreWays prefix es key child (suc more) (set after more next) (ceiling b es)
 ways_suc prefix es key child more [] b next long ways under next_is = absurd (omega arith)
-ways_suc prefix es key child zero (c ∷ rest) b next long ways under next_is = (
-  ways.0,
-  record {
-    key = b;
-    key_is = sym ways.1;
-    under = under;
-    rest = (next_is, refl);
-  },
-)
+ways_suc prefix es key child zero (c ∷ rest) b next long ways under next_is = search rules
 ways_suc prefix es key child (suc more) (c ∷ rest) b next long ways under next_is =
     let f = ways.1 in (
       ways.0,
@@ -33,9 +24,7 @@ ways_suc prefix es key child (suc more) (c ∷ rest) b next long ways under next
 
 pub ways_more : (prefix : List ℕ) (es : List Entry) (key : List ℕ) (child more : ℕ) (after b : List ℕ) (next : ℕ) → more < length after → AreWays prefix es key child more after (Some b)
     → starts_with nat_eq b prefix ≡ true → option_map child_in (floor b es) ≡ Some next → AreWays prefix es key child (more + 1) (set after more next) (ceiling b es)
-ways_more prefix es key child more after b next long ways under next_is =
-    let one : suc more ≡ more + 1 = omega arith in
-    subst (λ (n : ℕ). AreWays prefix es key child n (set after more next) (ceiling b es)) one (ways_suc prefix es key child more after b next long ways under next_is)
+ways_more prefix es key child more after b next long ways under next_is = search (rules, ways_suc)
 
 -- what is told of an optional value, where there is one
 pub some_of : {A : Type 0} (P : A → Type 0) (o : Option A) (x : A) → o ≡ Some x → IfSome o P → P x
@@ -49,18 +38,14 @@ pub record IsHere (es : List Entry) (k at : ℕ) : Type 0 where
 
 -- the key of a turn is where it lies
 pub turn_bound : (page key : List ℕ) (node : Node) (k at value end : ℕ) → IsNode page node → IsTurn key node.entries k at → LiesAt page at value end → ceiling key node.entries ≡ Some (part_of page (at + 3) value)
-turn_bound page key node k at value end is turn lies =
-    turn.above ∙ ap Some (sym (key_part page node.entries k at value end (entry_of page node k at is turn.within turn.place) lies))
+turn_bound page key node k at value end is turn lies = search (rules, key_part, entry_of)
 
 itself : (x : List ℕ) (r : Ordering) → key_cmp x x ≡ r → is_gt r ≡ false
 itself x Greater is = let less = flip_greater x x is in let both = sym is ∙ less in cc
 itself x _ is = refl
 
 up_to : (es : List Entry) (k : ℕ) → RisesAfter es → k < length es → (j : ℕ) → 0 < j → j ≤ k → is_gt (key_cmp (key_at es j) (key_at es k)) ≡ false
-up_to es k rises within j some le = elim (cases_eq j k) [
-  | inl same ↦ subst (λ (i : ℕ). is_gt (key_cmp (key_at es i) (key_at es k)) ≡ false) (sym same) (itself (key_at es k) (key_cmp (key_at es k) (key_at es k)) refl)
-  | inr other ↦ ap is_gt (after_at es j k rises some (omega arith) within)
-]
+up_to es k rises within j some le = search (rules, itself, after_at)
 
 above_here : (es : List Entry) (k : ℕ) → RisesAfter es → 0 < k → k + 1 < length es → key_cmp (key_at es (k + 1)) (key_at es k) ≡ Greater
 above_here es k rises some within = flip_less (key_at es k) (key_at es (k + 1)) (after_at es k (k + 1) rises some (omega arith) within)
@@ -76,8 +61,7 @@ ceiling_here es k rises some within = ceiling_at (key_at es k) es (k + 1) (omega
 pub ways_next : (prefix : List ℕ) (es : List Entry) (key : List ℕ) (child more : ℕ) (after : List ℕ) (k next : ℕ) → RisesAfter es → 0 < k → k + 1 < length es → more < length after → AreWays prefix es key child more after (Some (key_at es k))
     → starts_with nat_eq (key_at es k) prefix ≡ true → next ≡ child_in (value_at es k) → AreWays prefix es key child (more + 1) (set after more next) (Some (key_at es (k + 1)))
 ways_next prefix es key child more after k next rises some within long ways under next_is =
-    let child_is : option_map child_in (floor (key_at es k) es) ≡ Some next = ap (option_map child_in) (floor_here es k rises some within) ∙ ap Some (sym next_is) in
-    subst (λ (bound : Option (List ℕ)). AreWays prefix es key child (more + 1) (set after more next) bound) (ceiling_here es k rises some within) (ways_more prefix es key child more after (key_at es k) next long ways under child_is)
+    search (rules, floor_here es k rises some within, ceiling_here es k rises some within, ways_more)
 
 -- ---- an entry that was found, at its place in the page
 pub here_key : (page : List ℕ) (node : Node) (k at value end : ℕ) → IsNode page node → IsHere node.entries k at → LiesAt page at value end → part_of page (at + 3) value ≡ key_at node.entries k
@@ -88,9 +72,7 @@ here_next page node k at value end is here lies = end_there page node.entries k 
 
 pub here_child : (page : List ℕ) (node : Node) (k at value end child : ℕ) → IsNode page node → IsHere node.entries k at → LiesAt page at value end → value + 4 ≡ end → child ≡ child_in (take 4 (drop value page)) → child ≡ child_in (value_at node.entries k)
 here_child page node k at value end child is here lies long child_is =
-    let four : 4 ≡ end - value = omega arith in
-    let part = value_part page node.entries k at value end (entry_of page node k at is here.within here.place) lies in
-    child_is ∙ ap child_in (ap (λ n. take n (drop value page)) four ∙ part)
+    search (arith, value_part page node.entries k at value end (entry_of page node k at is here.within here.place) lies)
 
 pub here_no_child : (page : List ℕ) (node : Node) (k at value end : ℕ) → IsNode page node → IsHere node.entries k at → LiesAt page at value end → 0 < node.level → (value ≡ 0) ⊎ (value + 4 ≢ end) → ⊥
 here_no_child page node k at value end is here lies inner why =
@@ -101,5 +83,4 @@ here_no_child page node k at value end is here lies inner why =
 
 pub ways_there : (page prefix : List ℕ) (node : Node) (key : List ℕ) (child more : ℕ) (after : List ℕ) (k at value end : ℕ) → IsNode page node → IsHere node.entries k at → LiesAt page at value end
     → AreWays prefix node.entries key child more after (Some (key_at node.entries k)) → AreWays prefix node.entries key child more after (Some (part_of page (at + 3) value))
-ways_there page prefix node key child more after k at value end is here lies ways =
-    subst (λ (b : List ℕ). AreWays prefix node.entries key child more after (Some b)) (sym (here_key page node k at value end is here lies)) ways
+ways_there page prefix node key child more after k at value end is here lies ways = search (rules, here_key)

@@ -2,21 +2,19 @@
 use Rattle.std.specs.{Prelude.{insert, Option, Some, None}, Ordering.{is_gt, is_lt, is_eq, ordering_reverse, eq_by_cmp}, Cmp.Lexicographic.nat_list_cmp_total}
 use Rattle.std.specs.{declared.cmp.Ordering.Ordering, declared.cmp.Ordering.TheVariants.{Less, Equal, Greater}}
 use Rattle.std.specs.{FinMap.{is_sorted, find, put, slice_cmp-IsAntisymmetric, nat_cmp-IsAntisymmetric}, FinMap.Entries.below_all}
-use Rattle.std.proofs.Common.{◌≡◌, ℕ, ◌+◌, ◌-◌, ◌^◌, ◌<◌, ◌≤◌, List, [], ◌∷◌, length, drop, set, replicate, Bool, true, false, cond, ◌&&◌, refl, sym, ap, subst, ◌∙◌, arith, zero, suc, ◌⊎◌, inl, inr}
+use Rattle.std.proofs.Common.{rules, ◌≡◌, ℕ, ◌+◌, ◌-◌, ◌^◌, ◌<◌, ◌≤◌, List, [], ◌∷◌, length, drop, set, replicate, Bool, true, false, cond, ◌&&◌, refl, sym, ap, subst, ◌∙◌, arith, zero, suc, ◌⊎◌, inl, inr}
 use Rattle.std.proofs.lemmas.Bool.{cases_eq}
 use Rattle.std.proofs.lemmas.Cmp.{tied_itself}
 use Rattle.std.proofs.lemmas.List.{take_at}
 use Rattle.std.proofs.lemmas.Nat.{from_be_bytes-to_be_bytes_4}
-use Rattle.page_node.specs.{claim.Entries.{Entry, body_of, size_of, child_bytes}, Entries.{key_at, value_at, read_from, child_in}}
-use Rattle.page_node.specs.{claim.Node.{Node, IsNode, IsShape, Fits, count_in}, Node.bytes_of, claim.Places.{key_cmp, Rises}}
-use Rattle.page_node.{specs.Places.{IsFound, IsGap, floor, floor_from, ceiling, ceiling_from, is_from, entries_from}, proofs.EntryLists.{length-body, read_at}, proofs.Node.node_in}
+use Rattle.page_node.specs.{claim.Entries.{Entry, body_of, size_of, child_bytes}, Entries.{key_at, value_at, child_in}, claim.Node.{Node, IsNode, IsShape, Fits}, Node.bytes_of}
+use Rattle.page_node.specs.{claim.Places.{key_cmp, Rises}, Places.{IsFound, IsGap, floor, floor_from, ceiling, ceiling_from, is_from, entries_from}}
+use Rattle.page_node.proofs.{EntryLists.{length-body, read_at}, Node.node_in}
 
 -- ---- nodes
 -- a page stands for one node at most
 pub node_is : (page : List ℕ) (node : Node) → IsNode page node → node_in page ≡ node
-node_is page node is =
-    let entries : read_from (count_in page) (drop 4 page) ≡ node.entries = ap (λ n. read_from n (drop 4 page)) is.count ∙ read_at node.entries (drop 4 page) is.body in
-    λ i. record { level = is.level i; entries = entries i }
+node_is page node is = search (rules, read_at)
 
 pub node_unique : (page : List ℕ) (m n : Node) → IsNode page m → IsNode page n → m ≡ n
 node_unique page m n one other = sym (node_is page m one) ∙ node_is page n other
@@ -66,10 +64,9 @@ below_at x (e ∷ es) (suc j) h within = below_at x es j (second_so (is_lt (key_
 
 -- a key stands below each later one
 pub rises_at : (es : List Entry) (i j : ℕ) → Rises es → i < j → j < length es → key_cmp (key_at es i) (key_at es j) ≡ Less
-rises_at [] i j rises less within = absurd (omega arith)
-rises_at (e ∷ es) i zero rises less within = absurd (omega arith)
 rises_at (e ∷ es) zero (suc j) rises less within = below_at e.0 es j (first_so (below_all key_cmp e.0 es) (is_sorted key_cmp es) rises) (omega arith)
 rises_at (e ∷ es) (suc i) (suc j) rises less within = rises_at es i j (second_so (below_all key_cmp e.0 es) (is_sorted key_cmp es) rises) (omega arith) (omega arith)
+rises_at _ i _ rises less within = absurd (omega arith)
 
 lt_or_same : (j m : ℕ) → j ≤ m → (j < m) ⊎ (j ≡ m)
 lt_or_same j m le = elim (cases_eq j m) [ inl same ↦ inr same | inr other ↦ inl (omega arith) ]
@@ -83,18 +80,10 @@ below_middle es key m rises within less j le = elim (lt_or_same j m le) [
 
 -- and where one is above, so are those after it
 pub above_middle : (es : List Entry) (key : List ℕ) (m : ℕ) → Rises es → key_cmp (key_at es m) key ≡ Greater → (j : ℕ) → m ≤ j → j < length es → key_cmp (key_at es j) key ≡ Greater
-above_middle es key m rises greater j le within = elim (lt_or_same m j le) [
-  | inl after ↦ flip_less key (key_at es j) (less_trans key (key_at es m) (key_at es j) (flip_greater (key_at es m) key greater) (rises_at es m j rises after within))
-  | inr same ↦ ap (λ k. key_cmp (key_at es k) key) (sym same) ∙ greater
-]
+above_middle es key m rises greater j le within = search (rules, lt_or_same, flip_less, less_trans, flip_greater, rises_at)
 
 pub found_here : (es : List Entry) (key : List ℕ) (m : ℕ) → Rises es → m < length es → key_at es m ≡ key → IsFound key es m
-found_here es key m rises within here = record {
-  within = within;
-  here = here;
-  below = λ j less. ap (key_cmp (key_at es j)) (sym here) ∙ rises_at es j m rises less within;
-  above = λ j less long. ap (key_cmp (key_at es j)) (sym here) ∙ flip_less (key_at es m) (key_at es j) (rises_at es m j rises less long);
-}
+found_here es key m rises within here = search (rules, rises_at, flip_less)
 
 -- ---- what maps say
 ties_not : (x key : List ℕ) (r : Ordering) → key_cmp x key ≡ r → is_eq (ordering_reverse r) ≡ false → eq_by_cmp key_cmp key x ≡ false
@@ -200,9 +189,8 @@ ceiling_from_at key (e ∷ es) (suc i) within below above =
     ∙ ceiling_from_at key es i (omega arith) (λ j less. below (suc j) (omega arith)) above
 
 pub ceiling_at : (key : List ℕ) (es : List Entry) (i : ℕ) → 0 < i → i < length es → ((j : ℕ) → 0 < j → j < i → is_gt (key_cmp (key_at es j) key) ≡ false) → is_gt (key_cmp (key_at es i) key) ≡ true → ceiling key es ≡ Some (key_at es i)
-ceiling_at key [] i some within below above = absurd (omega arith)
-ceiling_at key (e ∷ es) zero some within below above = absurd (omega arith)
 ceiling_at key (e ∷ es) (suc i) some within below above = ceiling_from_at key es i (omega arith) (λ j less. below (suc j) (omega arith) (omega arith)) above
+ceiling_at key _ _ some within below above = absurd (omega arith)
 
 ceiling_from_none : (key : List ℕ) (es : List Entry) → ((j : ℕ) → j < length es → is_gt (key_cmp (key_at es j) key) ≡ false) → ceiling_from key es ≡ None
 ceiling_from_none key [] below = refl
@@ -239,10 +227,7 @@ entries_from_at key (e ∷ es) (suc k) within below from =
 
 -- where one isn't below the key, none after it is
 pub from_middle : (es : List Entry) (key : List ℕ) (k : ℕ) → Rises es → is_gt (key_cmp key (key_at es k)) ≡ false → (j : ℕ) → k ≤ j → j < length es → is_gt (key_cmp key (key_at es j)) ≡ false
-from_middle es key k rises from j le within = elim (lt_or_same k j le) [
-  | inl after ↦ is_lower key (key_at es k) (key_at es j) (key_cmp key (key_at es k)) refl from (rises_at es k j rises after within)
-  | inr same ↦ ap (λ q. is_gt (key_cmp key (key_at es q))) (sym same) ∙ from
-]
+from_middle es key k rises from j le within = search (rules, is_lower, rises_at)
 
 pub not_greater : (r : Ordering) → is_lt r ≡ false → is_gt (ordering_reverse r) ≡ false
 not_greater Less h = cc

@@ -1,8 +1,8 @@
 -- A search that looks at a few keys of those that rise.
 use Rattle.std.specs.{Ordering.is_gt, Prelude.{Result, Ok, Err, OnErr}, declared.cmp.Ordering.Ordering, declared.cmp.Ordering.TheVariants.{Less, Equal, Greater}}
-use Rattle.std.proofs.Common.{◌≡◌, ℕ, ◌+◌, ◌-◌, ◌<◌, List, [], ◌∷◌, length, take, drop, false, zero, suc, refl, sym, ap, ◌∙◌, subst, arith, inl, inr}
+use Rattle.std.proofs.Common.{rules, ◌≡◌, ℕ, ◌+◌, ◌<◌, List, ◌∷◌, length, false, suc, refl, sym, ap, ◌∙◌, subst, arith, inl, inr}
 use Rattle.std.proofs.lemmas.Bool.{cases_eq}
-use Rattle.page_node.specs.{claim.Entries.Entry, Entries.{key_at, value_at}, claim.Places.key_cmp, Searching.{IsBelow, IsLast, RisesAfter}, Bytes.LiesAt}
+use Rattle.page_node.specs.{claim.Entries.Entry, Entries.key_at, claim.Places.key_cmp, Searching.{IsBelow, IsLast, RisesAfter}, Bytes.LiesAt}
 use Rattle.page_node.proofs.{Laws.{rises_at, less_trans, same_key}, Scanning.{IsEntryOf, end_there, value_part}}
 
 lower_of : (x y z : List ℕ) (r : Ordering) → key_cmp x y ≡ Less → key_cmp y z ≡ r → is_gt r ≡ false → is_gt (key_cmp x z) ≡ false
@@ -11,10 +11,8 @@ lower_of x y z Equal less is from = ap (λ k. is_gt (key_cmp x k)) (sym (same_ke
 lower_of x y z Greater less is from = cc
 
 pub after_at : (es : List Entry) (j k : ℕ) → RisesAfter es → 0 < j → j < k → k < length es → key_cmp (key_at es j) (key_at es k) ≡ Less
-after_at [] j k rises some less within = absurd (omega arith)
-after_at (e ∷ es) zero k rises some less within = absurd (omega arith)
-after_at (e ∷ es) (suc j) zero rises some less within = absurd (omega arith)
 after_at (e ∷ es) (suc j) (suc k) rises some less within = rises_at es j k rises (omega arith) (omega arith)
+after_at _ _ _ rises some less within = absurd (omega arith)
 
 -- after an entry whose key isn't above, none of the entries before is
 pub last_after : (page key : List ℕ) (es : List Entry) (k at value end : ℕ) → IsEntryOf page es k at → LiesAt page at value end → RisesAfter es → k < length es → is_gt (key_cmp (key_at es k) key) ≡ false → IsLast page key es (k + 1) value end
@@ -26,8 +24,7 @@ last_after page key es k at value end e lies rises within from =
         | inr other ↦ lower_of (key_at es j) (key_at es k) key (key_cmp (key_at es k) key) (after_at es j k rises some (omega arith) within) refl from
       ];
       none = λ none. absurd (omega arith);
-      some = λ _. let P : ℕ → Type 0 = λ q. (0 < value) × (value + length (value_at es q) ≡ end) × (take (end - value) (drop value page) ≡ value_at es q) in
-          subst P (sym (omega arith)) (omega arith, (omega arith), value_part page es k at value end e lies);
+      some = λ _. search (rules, value_part);
     }
 
 -- no entry is before the first

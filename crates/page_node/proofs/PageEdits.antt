@@ -23,20 +23,14 @@ after_head (a ∷ b ∷ c ∷ d ∷ page) count = refl
 
 level_headed : (page : List ℕ) (count : ℕ) → get_or (headed page count) 0 0 ≡ get_or page 0 0
 level_headed [] count = refl
-level_headed (a ∷ []) count = refl
-level_headed (a ∷ b ∷ []) count = refl
-level_headed (a ∷ b ∷ c ∷ []) count = refl
-level_headed (a ∷ b ∷ c ∷ d ∷ page) count = refl
+level_headed _ count = refl
 
 halves : (n : ℕ) → 256 * (n / 256) + n % 256 ≡ n
 halves n = omega arith
 
 count_headed : (page : List ℕ) (count : ℕ) → 4 ≤ length page → count_in (headed page count) ≡ count
-count_headed [] count long = absurd (omega arith)
-count_headed (a ∷ []) count long = absurd (omega arith)
-count_headed (a ∷ b ∷ []) count long = absurd (omega arith)
-count_headed (a ∷ b ∷ c ∷ []) count long = absurd (omega arith)
 count_headed (a ∷ b ∷ c ∷ d ∷ page) count long = halves count
+count_headed _ count long = absurd (omega arith)
 
 -- ---- the head of a page whose prefix stays
 first_stays : (page rest : List ℕ) (n : ℕ) → 4 ≤ length page → get_or (take (4 + n) page ++ rest) 0 0 ≡ get_or page 0 0
@@ -44,11 +38,8 @@ first_stays [] rest n long = absurd (omega arith)
 first_stays (a ∷ page) rest n long = ap (λ l. get_or (l ++ rest) 0 0) (take-add 4 n (a ∷ page))
 
 count_stays : (page rest : List ℕ) (n : ℕ) → 4 ≤ length page → count_in (take (4 + n) page ++ rest) ≡ count_in page
-count_stays [] rest n long = absurd (omega arith)
-count_stays (a ∷ []) rest n long = absurd (omega arith)
-count_stays (a ∷ b ∷ []) rest n long = absurd (omega arith)
-count_stays (a ∷ b ∷ c ∷ []) rest n long = absurd (omega arith)
 count_stays (a ∷ b ∷ c ∷ d ∷ page) rest n long = ap (λ l. count_in (l ++ rest)) (take-add 4 n (a ∷ b ∷ c ∷ d ∷ page))
+count_stays _ rest n long = absurd (omega arith)
 
 prefix_long : (page rest : List ℕ) (n : ℕ) → 4 ≤ length page → 4 ≤ length (take (4 + n) page ++ rest)
 prefix_long [] rest n long = absurd (omega arith)

@@ -1,5 +1,6 @@
 -- Entries that are passed over.
-use Rattle.std.proofs.{Common.{◌≡◌, ℕ, ◌+◌, ◌*◌, ◌/◌, ◌%◌, ◌<◌, ◌≤◌, List, [], ◌∷◌, length, take, drop, sym, ap, ◌∙◌, subst, arith, true, nat_eq, true-eqb}, Math.Seq.take-add}
+use Rattle.std.proofs.Common.{rules, ◌≡◌, ℕ, ◌+◌, ◌*◌, ◌/◌, ◌%◌, ◌<◌, ◌≤◌, List, [], ◌∷◌, length, take, drop, sym, ap, ◌∙◌, subst, arith, true, nat_eq, true-eqb}
+use Rattle.std.proofs.Math.Seq.{take-add}
 use mathlib.Core.Bool.{◌&&◌}
 use Rattle.std.proofs.lemmas.Bool.{and_parts}
 use Rattle.std.proofs.lemmas.List.{drop-drop, length-drop}
@@ -9,11 +10,7 @@ use Rattle.page_node.{specs.Walking.{IsAhead, PassesTo}, proofs.EntryLists.{size
 
 -- after some of those that stand ahead the others do
 ahead_at : (page : List ℕ) (at n : ℕ) (es : List Entry) → IsAhead page at es → IsAhead page (at + size_of (take n es)) (drop n es)
-ahead_at page at n es is = record {
-  body = ap (take (size_of (drop n es))) (sym (drop-drop (size_of (take n es)) at page)) ∙ rest_at n es (drop at page) is.body;
-  entries = All-drop IsEntry n es is.entries;
-  within = let within = is.within in let parts = size-parts n es in omega arith;
-}
+ahead_at page at n es is = search (arith, drop-drop (size_of (take n es)) at page, rest_at n es (drop at page) is.body, All-drop IsEntry n es is.entries, size-parts n es)
 
 taken_more : (m n : ℕ) (es : List Entry) → size_of (take (m + n) es) ≡ size_of (take m es) + size_of (take n (drop m es))
 taken_more m n es = ap size_of (take-add m n es) ∙ size-append (take m es) (take n (drop m es))
@@ -26,7 +23,6 @@ pub passes_both : (page : List ℕ) (at mid end m n : ℕ) → PassesTo page at 
 passes_both page at mid end m n first then es is long =
     let left = length-drop m es in
     let rest : IsAhead page mid (drop m es) = subst (λ (place : ℕ). IsAhead page place (drop m es)) (sym (first es is (omega arith))) (ahead_at page at m es is) in
-    let end_is = then (drop m es) rest (omega arith) in
     let sum = taken_more m n es in
     omega arith
 
@@ -37,10 +33,7 @@ head_of page at = 65536 * key_length (drop at page) + value_length (drop at page
 -- one that has this head
 pub passes_alike : (page : List ℕ) (at head size : ℕ) → size ≡ 3 + head / 65536 + head % 65536 → head_of page at ≡ head → PassesTo page at 1 (at + size)
 passes_alike page at head size size_is alike [] is long = absurd (omega arith)
-passes_alike page at head size size_is alike (e ∷ es) is long =
-    let lengths = ahead_lengths page at e es is in
-    let narrow = (is.entries 0 ([], []) (omega arith)).1 in
-    omega arith
+passes_alike page at head size size_is alike (e ∷ es) is long = search (rules, ahead_lengths)
 
 pub passes_four : (page : List ℕ) (at head size a b c d : ℕ) → size ≡ 3 + head / 65536 + head % 65536
     → a ≡ head_of page at → b ≡ head_of page (at + size) → c ≡ head_of page (at + 2 * size) → d ≡ head_of page (at + 3 * size)
@@ -60,14 +53,10 @@ passes_four page at head size a b c d size_is a_is b_is c_is d_is all =
 -- one that is found to lie there
 pub passes_found : (page : List ℕ) (at value end : ℕ) → LiesAt page at value end → PassesTo page at 1 end
 passes_found page at value end lies [] is long = absurd (omega arith)
-passes_found page at value end lies (e ∷ es) is long =
-    let lengths = ahead_lengths page at e es is in
-    omega arith
+passes_found page at value end lies (e ∷ es) is long = search (rules, ahead_lengths)
 
 pub passes_not : (page : List ℕ) (at mid k : ℕ) (es : List Entry) → PassesTo page at k mid → IsAhead page at es → k < length es → LiesNot page mid → ⊥
-passes_not page at mid k es passed is long not_there =
-    let left = length-drop k es in
-    first_lies (drop k es) (subst (λ (place : ℕ). IsAhead page place (drop k es)) (sym (passed es is (omega arith))) (ahead_at page at k es is)) (omega arith)
+passes_not page at mid k es passed is long not_there = search (arith, length-drop k es, first_lies, ahead_at page at k es is)
   where
     first_lies : (rest : List Entry) → IsAhead page mid rest → 0 < length rest → ⊥
     first_lies [] ahead some = absurd (omega arith)
@@ -75,13 +64,7 @@ passes_not page at mid k es passed is long not_there =
 
 -- from an entry of a node on
 pub node_passed : (page : List ℕ) (node : Node) (k at n end : ℕ) → IsNode page node → at ≡ 4 + size_of (take k node.entries) → k + n ≤ length node.entries → PassesTo page at n end → end ≡ 4 + size_of (take (k + n) node.entries)
-node_passed page node k at n end is place long passed =
-    let left = length-drop k node.entries in
-    let end_is = passed (drop k node.entries) (node_ahead_at page node k at is place) (omega arith) in
-    let sum = taken_more k n node.entries in
-    omega arith
+node_passed page node k at n end is place long passed = search (rules, length-drop, node_ahead_at, taken_more)
 
 pub node_passed_not : (page : List ℕ) (node : Node) (k at n : ℕ) → IsNode page node → at ≡ 4 + size_of (take k node.entries) → k + n ≤ length node.entries → ((es : List Entry) → IsAhead page at es → n ≤ length es → ⊥) → ⊥
-node_passed_not page node k at n is place long none =
-    let left = length-drop k node.entries in
-    none (drop k node.entries) (node_ahead_at page node k at is place) (omega arith)
+node_passed_not page node k at n is place long none = search (arith, length-drop k node.entries, node_ahead_at page node k at is place)

@@ -1,11 +1,10 @@
 -- A page's entries, read one after the other.
 use Rattle.std.specs.{List.All, Prelude.{false, true, Result, Ok, Err, IfOk, Some}, Option.option_map, Ordering.is_gt, declared.cmp.Ordering.Ordering}
 use Rattle.std.specs.declared.cmp.Ordering.TheVariants.{Greater}
-use Rattle.std.proofs.Common.{◌≡◌, ◌≢◌, ℕ, ◌+◌, ◌-◌, ◌*◌, ◌/◌, ◌%◌, ◌<◌, ◌≤◌, List, [], ◌∷◌, ◌++◌, length, take, drop, get_or, set, refl, sym, ap, subst, ◌∙◌, arith, suc, length-take, inl, inr, get_or-set_other, get_or-set_same}
+use Rattle.std.proofs.Common.{rules, ◌≡◌, ◌≢◌, ℕ, ◌+◌, ◌-◌, ◌*◌, ◌/◌, ◌%◌, ◌<◌, ◌≤◌, List, [], ◌∷◌, ◌++◌, length, take, drop, get_or, set, refl, sym, ap, subst, ◌∙◌, arith, suc, length-take}
 use Rattle.std.proofs.Math.Seq.{take-add}
-use Rattle.std.proofs.lemmas.Bool.{cases_eq}
-use Rattle.std.proofs.lemmas.List.{take_all, drop-drop, take-append-le, drop-append-le, drop_more, length-take-le, length-drop, append-nil, get_or-drop, take_more, length-set}
-use Rattle.std.proofs.lemmas.List.Elements.{All-more, All-same}
+use Rattle.std.proofs.lemmas.List.{take_all, drop-drop, take-append-le, drop-append-le, drop_more, length-take-le, length-drop, get_or-drop, take_more, length-set}
+use Rattle.std.proofs.lemmas.List.Elements.{All-more}
 use Rattle.page_node.specs.claim.Entries.{Entry, IsEntry, entry_bytes, entry_size, body_of, size_of}
 use Rattle.page_node.specs.{Entries.{key_at, value_at, first_of, after, read_from, key_length, value_length, child_in}, claim.Node.{Node, IsNode, count_in}}
 use Rattle.page_node.specs.{Held.{held_node, IsHeld}, Bytes.{LiesAt, LiesNot}, claim.Places.key_cmp, Places.floor, Searching.IsLast}
@@ -13,9 +12,6 @@ use Rattle.page_node.proofs.EntryLists.{body-append, length-body, length-read, v
 use Rattle.page_node.proofs.Standing.{Stands, nothing, entry_there, end_below, to_held, view_of}
 
 -- ---- the first entry of bytes
-pub take_three : (k a b c : ℕ) (xs : List ℕ) → take (3 + k) (a ∷ b ∷ c ∷ xs) ≡ a ∷ b ∷ c ∷ take k xs
-take_three k a b c xs = take-add 3 k (a ∷ b ∷ c ∷ xs)
-
 pub record Lying (bytes : List ℕ) : Type 0 where
   pub key : length (first_of bytes).0 ≡ key_length bytes
   pub value : length (first_of bytes).1 ≡ value_length bytes
@@ -25,23 +21,8 @@ halves : (b c : ℕ) → c < 256 → ((256 * b + c) / 256 ≡ b) × ((256 * b + 
 halves b c few = (omega arith, omega arith)
 
 pub lying : (bytes : List ℕ) → ((i : ℕ) → get_or bytes i 0 < 256) → 3 + key_length bytes + value_length bytes ≤ length bytes → Lying bytes
-lying [] small long = absurd (omega arith)
-lying (a ∷ []) small long = absurd (omega arith)
-lying (a ∷ b ∷ []) small long = absurd (omega arith)
-lying (a ∷ b ∷ c ∷ xs) small long =
-    let n : ℕ = 256 * b + c in
-    let bytes : List ℕ = a ∷ b ∷ c ∷ xs in
-    let parts = halves b c (small 2) in
-    let key : length (take a xs) ≡ a = length-take-le a xs (omega arith) in
-    let later : drop (3 + a) bytes ≡ drop a xs = drop_three a a b c xs in
-    let rest = length-drop a xs in
-    let value : length (take n (drop (3 + a) bytes)) ≡ n = ap (λ l. length (take n l)) later ∙ length-take-le n (drop a xs) (omega arith) in
-    record {
-      key = key;
-      value = value;
-      whole = ap (λ k. take k bytes) (omega arith) ∙ take_three (a + n) a b c xs ∙ ap (λ l. a ∷ b ∷ c ∷ l) (take-add a n xs)
-          ∙ sym (λ x. key x ∷ (ap (λ m. m / 256) value ∙ parts.0) x ∷ (ap (λ m. m % 256) value ∙ parts.1) x ∷ (take a xs ++ take n (later x)));
-    }
+lying (a ∷ b ∷ c ∷ xs) small long = search (arith, halves b c (small 2), length-take-le a xs (omega arith), drop_three a a b c xs, length-drop a xs, length-take-le, take-add)
+lying _ small long = absurd (omega arith)
 
 -- ---- an entry of a page's node
 pub record IsEntryOf (page : List ℕ) (es : List Entry) (k at : ℕ) : Type 0 where
@@ -70,23 +51,17 @@ entry_of page node k at is within place =
 
 -- an entry that is one of the node's is found to lie in the page
 pub lies_there : (page : List ℕ) (node : Node) (k at : ℕ) → IsNode page node → k < length node.entries → at ≡ 4 + size_of (take k node.entries) → LiesNot page at → ⊥
-lies_there page node k at is within place not_there =
-    let e = entry_of page node k at is within place in
-    not_there (omega arith) (omega arith) (omega arith)
+lies_there page node k at is within place not_there = search (arith, entry_of page node k at is within place)
 
 -- where it ends, and what its parts are
 pub end_there : (page : List ℕ) (es : List Entry) (k at value end : ℕ) → IsEntryOf page es k at → LiesAt page at value end → end ≡ 4 + size_of (take (k + 1) es)
-end_there page es k at value end e lies =
-    omega arith
+end_there page es k at value end e lies = omega arith
 
 pub key_there : (page : List ℕ) (at value end : ℕ) → LiesAt page at value end → take (value - (at + 3)) (drop (at + 3) page) ≡ (first_of (drop at page)).0
-key_there page at value end lies =
-    ap (λ n. take n (drop (at + 3) page)) (omega arith) ∙ ap (take (key_length (drop at page))) (sym (drop-drop 3 at page))
+key_there page at value end lies = search (arith, drop-drop 3 at page)
 
 pub value_there : (page : List ℕ) (at value end : ℕ) → LiesAt page at value end → take (end - value) (drop value page) ≡ (first_of (drop at page)).1
-value_there page at value end lies =
-    let sum : value ≡ at + (3 + key_length (drop at page)) = omega arith in
-    ap (λ n. take n (drop value page)) (omega arith) ∙ ap (take (value_length (drop at page))) (ap (λ n. drop n page) sum ∙ sym (drop-drop (3 + key_length (drop at page)) at page))
+value_there page at value end lies = search (rules, drop-drop)
 
 -- ---- a page's entries, as far as k
 pub record IsScanned (level count : ℕ) (page marks : List ℕ) (k at : ℕ) : Type 0 where
@@ -128,17 +103,10 @@ scanned_next level count page marks k at value end s within room size small lies
       within = lies.within;
       at_is = new_at;
       rest = later ∙ ap (read_from (count - (k + 1))) (drop-drop (3 + key_length (drop at page) + value_length (drop at page)) at page ∙ ap (λ m. drop m page) sum);
-      body = ap (λ m. take m (drop 4 page)) more
-          ∙ take-add (size_of (take k all)) (entry_size e) (drop 4 page)
-          ∙ (λ x. s.body x ++ entry_body x)
-          ∙ ap (λ b. body_of (take k all) ++ b) (sym (append-nil (entry_bytes e)))
-          ∙ sym (ap body_of taken ∙ body-append (take k all) (e ∷ []));
+      body = search (rules, take-add, body-append);
       entries = All-more IsEntry all k nothing inside s.entries (subst IsEntry (sym here) lies.entry);
       children = λ inner. All-more (λ (f : Entry). length f.1 ≡ 4) all k nothing inside (s.children inner) (let P : Entry → Type 0 = λ f. length f.1 ≡ 4 in let four = child inner in subst P (sym here) (wide ∙ omega arith));
-      places = λ j le. elim (cases_eq j (k + 1)) [
-        | inl same ↦ let P : ℕ → Type 0 = λ q. get_or (set marks (k + 1) end) q 0 ≡ 4 + size_of (take q all) in subst P (sym same) (get_or-set_same marks (k + 1) end 0 room ∙ new_at)
-        | inr other ↦ get_or-set_other marks (k + 1) j end 0 other ∙ s.places j (omega arith)
-      ];
+      places = λ j le. search rules;
     }
   where
     head_is : {x y : Entry} {xs ys : List Entry} → x ∷ xs ≡ y ∷ ys → x ≡ y
@@ -149,10 +117,7 @@ scanned_next level count page marks k at value end s within room size small lies
 
 -- the entries of a node that the page stands for
 pub scanned_place : (level count : ℕ) (page marks : List ℕ) (k at : ℕ) (node : Node) → IsScanned level count page marks k at → count ≡ count_in page → IsNode page node → (at ≡ 4 + size_of (take k node.entries)) × (count ≡ length node.entries)
-scanned_place level count page marks k at node s counted is =
-    let long : count ≡ length node.entries = counted ∙ is.count in
-    let same : read_from count (drop 4 page) ≡ node.entries = ap (λ n. read_from n (drop 4 page)) long ∙ read_at node.entries (drop 4 page) is.body in
-    (s.at_is ∙ ap (λ l. 4 + size_of (take k l)) same, long)
+scanned_place level count page marks k at node s counted is = search (rules, read_at)
 
 pub scanned_not : (level count : ℕ) (page marks : List ℕ) (k at : ℕ) → IsScanned level count page marks k at → k < count → count ≡ count_in page → LiesNot page at → (node : Node) → IsNode page node → ⊥
 scanned_not level count page marks k at s within counted not_there node is =
@@ -165,34 +130,14 @@ scanned_no_child level count page marks k at value end s within counted is_level
     differs (omega arith)
 
 pub scanned_all : (level count : ℕ) (page marks : List ℕ) (at : ℕ) → IsScanned level count page marks count at → level ≤ 5 → count ≤ 1364 → IsHeld level count marks page
-scanned_all level count page marks at s low few =
-    let all : List Entry = read_from count (drop 4 page) in
-    let n = length-read count (drop 4 page) in
-    let same : take count all ≡ all = take_all count all (omega arith) in
-    let at_is : at ≡ 4 + size_of all = s.at_is ∙ ap (λ l. 4 + size_of l) same in
-    record {
-      shape = record {
-        level = low;
-        entries = All-same IsEntry all (take count all) (sym same) s.entries;
-        children = λ inner. All-same (λ (e : Entry). length e.1 ≡ 4) all (take count all) (sym same) (s.children inner);
-      };
-      few = omega arith;
-      body = let P : List Entry → Type 0 = λ l. take (size_of l) (drop 4 page) ≡ body_of l in subst P same s.body;
-      room = omega arith;
-      places = s.places;
-    }
+scanned_all level count page marks at s low few = search (rules, length-read, take_all)
 
 pub scanned_end : (level count : ℕ) (page marks : List ℕ) (k at : ℕ) → IsScanned level count page marks k at → k ≡ count → level ≤ 5 → count ≤ 1364 → IsHeld level count marks page
 scanned_end level count page marks k at s is low few = let P : ℕ → Type 0 = λ q. IsScanned level count page marks q at in scanned_all level count page marks at (subst P is s) low few
 
 -- ---- a page in a buffer
 pub held_size : (level count : ℕ) (marks page : List ℕ) → length page ≡ 4096 → IsHeld level count marks page → size_of (read_from count (drop 4 page)) ≤ 4092
-held_size level count marks page long held =
-    let n = size_of (read_from count (drop 4 page)) in
-    let a : length (take n (drop 4 page)) ≡ n = ap length held.body ∙ length-body (read_from count (drop 4 page)) in
-    let b = length-take n (drop 4 page) in
-    let c = length-drop 4 page in
-    omega arith
+held_size level count marks page long held = search (rules, length-body, length-take)
 
 pub page_stands : (level count : ℕ) (marks page rest : List ℕ) → length page ≡ 4096 → IsHeld level count marks page → Stands level (read_from count (drop 4 page)) marks (page ++ rest)
 page_stands level count marks page rest long held =
@@ -210,19 +155,11 @@ page_stands level count marks page rest long held =
     }
 
 pub page_node : (level count : ℕ) (marks page : List ℕ) (node : Node) → length page ≡ 4096 → IsHeld level count marks page → level ≡ get_or page 0 0 → count ≡ count_in page → node ≡ record { level = level; entries = read_from count (drop 4 page) } → IsNode page node
-page_node level count marks page node long held is_level counted is =
-    subst (IsNode page) (sym is) (record {
-      level = sym is_level;
-      count = sym counted ∙ sym (length-read count (drop 4 page));
-      body = held.body;
-      shape = held.shape;
-      fits = held_size level count marks page long held;
-    })
+page_node level count marks page node long held is_level counted is = search (rules, length-read count (drop 4 page), held_size level count marks page long held)
 
 pub read_held : (count level : ℕ) (marks page moved rest : List ℕ) → moved ≡ page → length page ≡ 4096 → IsHeld level count marks page → IsHeld level count marks (moved ++ rest)
 read_held count level marks page moved rest same long held =
-    let P : List ℕ → Type 0 = λ b. IsHeld level count marks (b ++ rest) in
-    subst P (sym same) (to_held level (read_from count (drop 4 page)) marks (page ++ rest) count (page_stands level count marks page rest long held) (sym (length-read count (drop 4 page))))
+    search (rules, to_held level (read_from count (drop 4 page)) marks (page ++ rest) count (page_stands level count marks page rest long held) (sym (length-read count (drop 4 page))))
 
 pub read_node : (count : ℕ) (marks page moved rest : List ℕ) → moved ≡ page → length page ≡ 4096 → IsHeld (get_or page 0 0) count marks page → count ≡ count_in page → IsNode page (held_node (get_or page 0 0) count (moved ++ rest))
 read_node count marks page moved rest same long held counted =
@@ -239,30 +176,13 @@ pub value_part : (page : List ℕ) (es : List Entry) (k at value end : ℕ) → 
 value_part page es k at value end e lies = value_there page at value end lies ∙ ap (λ (f : Entry). f.1) e.first
 
 pub last_next : (page key : List ℕ) (es : List Entry) (k value at new_value end : ℕ) → IsLast page key es k value at → IsEntryOf page es k at → LiesAt page at new_value end → (0 < k → is_gt (key_cmp (key_at es k) key) ≡ false) → IsLast page key es (k + 1) new_value end
-last_next page key es k value at new_value end l e lies here =
-    record {
-      place = end_there page es k at new_value end e lies;
-      below = λ j some less. elim (cases_eq j k) [
-        | inl same ↦ let P : ℕ → Type 0 = λ q. is_gt (key_cmp (key_at es q) key) ≡ false in subst P (sym same) (here (omega arith))
-        | inr other ↦ l.below j some (omega arith)
-      ];
-      none = λ none. absurd (omega arith);
-      some = λ _. let P : ℕ → Type 0 = λ q. (0 < new_value) × (new_value + length (value_at es q) ≡ end) × (take (end - new_value) (drop new_value page) ≡ value_at es q) in
-          subst P (sym (omega arith)) (omega arith, (omega arith), value_part page es k at new_value end e lies);
-    }
+last_next page key es k value at new_value end l e lies here = search (rules, value_part)
 
 -- the child that was found, and why none was
 pub child_ok : {E : Type 0} (page key : List ℕ) (es : List Entry) (k value at : ℕ) (r : Result ℕ E) → IsLast page key es k value at → IfOk r (λ child. (0 < value) × (value + 4 ≡ at) × (child ≡ child_in (take 4 (drop value page))))
     → (0 < k → floor key es ≡ Some (value_at es (k - 1))) → IfOk r (λ child. option_map child_in (floor key es) ≡ Some child)
 child_ok page key es k value at (Err e) l ok known = tt
-child_ok page key es k value at (Ok child) l ok known = elim (cases_eq k 0) [
-  | inl zero_is ↦ let none = l.none zero_is in let some = ok.0 in absurd (omega arith)
-  | inr other ↦
-      let last = l.some (omega arith) in
-      let four : 4 ≡ at - value = omega arith in
-      let same : take 4 (drop value page) ≡ value_at es (k - 1) = ap (λ n. take n (drop value page)) four ∙ last.2 in
-      ap (option_map child_in) (known (omega arith)) ∙ ap Some (sym (ok.2 ∙ ap child_in same))
-]
+child_ok page key es k value at (Ok child) l ok known = search rules
 
 pub above_true : (r : Ordering) → is_gt r ≡ true → r ≡ Greater
 above_true Greater h = refl

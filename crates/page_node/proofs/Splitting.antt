@@ -2,7 +2,7 @@
 use Rattle.std.{specs.List.All, proofs.Common.{◌≡◌, ℕ, ◌+◌, ◌-◌, ◌*◌, ◌<◌, ◌≤◌, List, [], ◌∷◌, length, take, drop, get_or, sym, ap, ◌∙◌, arith}}
 use Rattle.std.proofs.lemmas.List.{length-take-le, length-drop}
 use Rattle.std.proofs.lemmas.List.Elements.{All-head, All-tail}
-use Rattle.page_node.{specs.claim.Entries.{Entry, IsEntry, size_of}, specs.Entries.read_from, proofs.EntryLists.size-parts, proofs.Standing.{Stands, nothing, entries_are, size_is}}
+use Rattle.page_node.{specs.claim.Entries.{Entry, IsEntry, size_of}, specs.Entries.read_from, proofs.EntryLists.size-parts, proofs.Standing.{Stands, entries_are, size_is}}
 use Rattle.page_node.proofs.Editing.{left_stands, right_stands, mark_step}
 
 pub size_few : (es : List Entry) → All IsEntry es → size_of es ≤ 1099 * length es
@@ -15,7 +15,6 @@ size_few (e ∷ es) all =
 pub cut_steps : (level : ℕ) (es : List Entry) (marks bytes : List ℕ) (count : ℕ) → Stands level es marks bytes → count ≡ length es → (k : ℕ) → k < count → (get_or marks k 0 ≤ get_or marks (k + 1) 0) × (get_or marks (k + 1) 0 ≤ get_or marks k 0 + 1099)
 cut_steps level es marks bytes count s is k less =
     let step = mark_step level es marks bytes s k (omega arith) in
-    let entry = s.shape.entries k nothing (omega arith) in
     (omega arith, omega arith)
 
 pub record IsSplit (level : ℕ) (es : List Entry) (count cut : ℕ) (marks bytes right_marks right_bytes : List ℕ) : Type 0 where

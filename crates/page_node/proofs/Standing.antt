@@ -1,6 +1,6 @@
 -- Entries that stand in bytes, with the places where they end.
 use Rattle.std.specs.List.{All, copy_within}
-use Rattle.std.proofs.Common.{◌≡◌, ℕ, ◌+◌, ◌-◌, ◌<◌, ◌≤◌, List, [], ◌++◌, length, take, drop, get_or, sym, ap, subst, ◌∙◌, arith, append_assoc, length-append, take-append-drop, ◌⊎◌, inl, inr}
+use Rattle.std.proofs.Common.{rules, ◌≡◌, ℕ, ◌+◌, ◌-◌, ◌<◌, ◌≤◌, List, [], ◌++◌, length, take, drop, get_or, sym, ap, subst, ◌∙◌, arith, append_assoc, length-append, take-append-drop, ◌⊎◌, inl, inr}
 use Rattle.std.proofs.Math.Seq.{take-append-add, take-add}
 use Rattle.std.proofs.lemmas.List.{take_at, take_all, drop_at, drop-drop, take-take, take-append-le, drop_more, length-take-le, length-drop}
 use Rattle.std.proofs.lemmas.List.Elements.{All-append, All-take, All-drop}
@@ -17,17 +17,7 @@ pub record Stands (level : ℕ) (es : List Entry) (marks bytes : List ℕ) : Typ
 
 -- what a buffer holds
 pub from_held : (level count : ℕ) (marks bytes : List ℕ) (node : Node) → IsHeld level count marks bytes → held_node level count bytes ≡ node → Stands node.level node.entries marks bytes
-from_held level count marks bytes node held is =
-    let P : Node → Type 0 = λ n. Stands n.level n.entries marks bytes in
-    let n = length-read count (drop 4 bytes) in
-    let few = held.few in
-    subst P is (record {
-      shape = held.shape;
-      few = (omega arith);
-      body = held.body;
-      room = held.room;
-      places = λ k le. held.places k (omega arith);
-    })
+from_held level count marks bytes node held is = search (rules, length-read)
 
 pub count_is : (level count : ℕ) (bytes : List ℕ) (node : Node) → held_node level count bytes ≡ node → count ≡ length node.entries
 count_is level count bytes node is = sym (length-read count (drop 4 bytes)) ∙ ap (λ (n : Node). length n.entries) is
@@ -40,20 +30,7 @@ pub view_of : (level : ℕ) (es : List Entry) (marks bytes : List ℕ) (count : 
 view_of level es marks bytes count s is = ap (λ l. record { level = level; entries = l }) (entries_are level es marks bytes count s is)
 
 pub to_held : (level : ℕ) (es : List Entry) (marks bytes : List ℕ) (count : ℕ) → Stands level es marks bytes → count ≡ length es → IsHeld level count marks bytes
-to_held level es marks bytes count s is =
-    let same : es ≡ read_from count (drop 4 bytes) = sym (entries_are level es marks bytes count s is) in
-    let P : List Entry → Type 0 = λ l. IsShape (record { level = level; entries = l }) in
-    let Q : List Entry → Type 0 = λ l. take (size_of l) (drop 4 bytes) ≡ body_of l in
-    let R : List Entry → Type 0 = λ l. size_of l ≤ 5191 in
-    let S : List Entry → Type 0 = λ l. (k : ℕ) → k ≤ count → get_or marks k 0 ≡ 4 + size_of (take k l) in
-    let few = s.few in
-    record {
-      shape = subst P same s.shape;
-      few = omega arith;
-      body = subst Q same s.body;
-      room = subst R same s.room;
-      places = subst S same (λ k le. s.places k (omega arith));
-    }
+to_held level es marks bytes count s is = search (arith, entries_are level es marks bytes count s is)
 
 -- ---- one entry
 abbrev pub nothing : Entry
@@ -67,9 +44,7 @@ entry_there es bytes i body within =
     let here : take n from ≡ body_of (drop i es) = ap (take n) (sym (drop-drop (size_of (take i es)) 4 bytes)) ∙ rest_at i es (drop 4 bytes) body in
     let more : List ℕ = body_of rest ++ drop n from in
     let all : from ≡ entry_bytes (get_or es i nothing) ++ more =
-    sym (take-append-drop n from)
-    ∙ ap (λ b. b ++ drop n from) (here ∙ ap body_of (drop_more es i nothing within))
-    ∙ append_assoc (entry_bytes (get_or es i nothing)) (body_of rest) (drop n from) in
+    search (rules, take-append-drop n from, drop_more es i nothing within, append_assoc (entry_bytes (get_or es i nothing)) (body_of rest) (drop n from)) in
     (more, all)
 
 pub end_below : (es : List Entry) (i : ℕ) → i < length es → size_of (take i es) + entry_size (get_or es i nothing) ≤ size_of es
@@ -110,10 +85,7 @@ module _ (level : ℕ) (es : List Entry) (marks bytes : List ℕ) (s : Stands le
   key_read = ap (take (key_length (drop (get_or marks i 0) bytes))) (sym (drop-drop 3 (get_or marks i 0) bytes)) ∙ ap (λ (e : Entry). e.0) first_is
 
   pub value_read : take (value_length (drop (get_or marks i 0) bytes)) (drop (get_or marks i 0 + 3 + key_length (drop (get_or marks i 0) bytes)) bytes) ≡ value_at es i
-  value_read =
-      let at : ℕ = get_or marks i 0 in
-      let k : ℕ = key_length (drop at bytes) in
-      ap (take (value_length (drop at bytes))) (ap (λ n. drop n bytes) (omega arith) ∙ sym (drop-drop (3 + k) at bytes)) ∙ ap (λ (e : Entry). e.1) first_is
+  value_read = search (rules, drop-drop, first_is)
 
   pub key_short : length (key_at es i) ≤ 72
   key_short = (s.shape.entries i nothing within).0
@@ -132,35 +104,23 @@ pub size-edited : (es : List Entry) (i j : ℕ) (mid : List Entry) → size_of (
 size-edited es i j mid = size-append (take i es) (mid ++ drop j es) ∙ (let n = size-append mid (drop j es) in omega arith)
 
 pub length-edited : (es : List Entry) (i j : ℕ) (mid : List Entry) → i ≤ length es → length (edited es i j mid) ≡ i + length mid + (length es - j)
-length-edited es i j mid le =
-    let a = length-append (take i es) (mid ++ drop j es) in
-    let b = length-append mid (drop j es) in
-    let c = length-take-le i es le in
-    let d = length-drop j es in
-    omega arith
+length-edited es i j mid le = search (rules, length-append, length-drop)
 
 pub All-edited : (P : Entry → Type 0) (es : List Entry) (i j : ℕ) (mid : List Entry) → All P es → All P mid → All P (edited es i j mid)
 All-edited P es i j mid all new = All-append P (take i es) (mid ++ drop j es) (All-take P i es all) (All-append P mid (drop j es) new (All-drop P j es all))
 
 pub edited_prefix : (es : List Entry) (i j : ℕ) (mid : List Entry) (k : ℕ) → i ≤ length es → k ≤ i → take k (edited es i j mid) ≡ take k es
-edited_prefix es i j mid k le low =
-    let n = length-take-le i es le in
-    take-append-le k (take i es) (mid ++ drop j es) (omega arith) ∙ take-take k i es low
+edited_prefix es i j mid k le low = search (length-take-le, take-append-le, take-take)
 
 pub size-take_from : (es : List Entry) (j m : ℕ) → j ≤ m → size_of (take m es) ≡ size_of (take j es) + size_of (take (m - j) (drop j es))
-size-take_from es j m le =
-    ap (λ n. size_of (take n es)) (omega arith) ∙ ap size_of (take-add j (m - j) es) ∙ size-append (take j es) (take (m - j) (drop j es))
+size-take_from es j m le = search (arith, take-add j (m - j) es, size-append (take j es) (take (m - j) (drop j es)))
 
 pub edited_back : (es : List Entry) (i j : ℕ) (mid : List Entry) (m : ℕ) → i ≤ length es → j ≤ m → size_of (take (i + length mid + (m - j)) (edited es i j mid)) + size_of (take j es) ≡ size_of (take i es) + size_of mid + size_of (take m es)
 edited_back es i j mid m le high =
-    let n = length-take-le i es le in
     let r : ℕ = m - j in
     let prefix : take (i + length mid + r) (edited es i j mid) ≡ take i es ++ (mid ++ take r (drop j es)) =
-    ap (λ k. take k (edited es i j mid)) (omega arith)
-    ∙ take-append-add (take i es) (mid ++ drop j es) (length mid + r)
-    ∙ ap (λ l. take i es ++ l) (take-append-add mid (drop j es) r) in
-    let a : size_of (take (i + length mid + r) (edited es i j mid)) ≡ size_of (take i es) + (size_of mid + size_of (take r (drop j es))) =
-    ap size_of prefix ∙ size-append (take i es) (mid ++ take r (drop j es)) ∙ ap (λ k. size_of (take i es) + k) (size-append mid (take r (drop j es))) in
+    search (rules, take-append-add (take i es) (mid ++ drop j es) (length mid + r), take-append-add mid (drop j es) r) in
+    let a : size_of (take (i + length mid + r) (edited es i j mid)) ≡ size_of (take i es) + (size_of mid + size_of (take r (drop j es))) = search (rules, size-append) in
     let b = size-take_from es j m high in
     omega arith
 
@@ -174,21 +134,11 @@ pub edited_bytes : (es : List Entry) (bytes new : List ℕ) (i j : ℕ) (mid : L
 edited_bytes es bytes new i j mid added tail body long is_added is_new =
     let pre : List ℕ = body_of (take i es) in
     let post : List ℕ = body_of (drop j es) in
-    let old : List ℕ = drop 4 bytes in
-    let after : take (size_of (drop j es)) (drop (4 + size_of (take j es)) bytes) ≡ post =
-    ap (take (size_of (drop j es))) (sym (drop-drop (size_of (take j es)) 4 bytes)) ∙ rest_at j es old body in
-    let ahead : take (4 + size_of (take i es)) bytes ≡ take 4 bytes ++ pre =
-    take-add 4 (size_of (take i es)) bytes ∙ ap (λ b. take 4 bytes ++ b) (prefix_at i es old body) in
-    let all : new ≡ take 4 bytes ++ (pre ++ (body_of mid ++ (post ++ tail))) =
-    is_new
-    ∙ (λ x. ahead x ++ (is_added x ++ (after x ++ tail)))
-    ∙ append_assoc (take 4 bytes) pre (body_of mid ++ (post ++ tail)) in
-    let cut : drop 4 new ≡ pre ++ (body_of mid ++ (post ++ tail)) =
-    ap (drop 4) all ∙ drop_at (take 4 bytes) (pre ++ (body_of mid ++ (post ++ tail))) 4 (length-take-le 4 bytes long) in
-    let joined : pre ++ (body_of mid ++ (post ++ tail)) ≡ body_of (edited es i j mid) ++ tail =
-    ap (λ b. pre ++ b) (sym (append_assoc (body_of mid) post tail))
-    ∙ sym (append_assoc pre (body_of mid ++ post) tail)
-    ∙ ap (λ b. b ++ tail) (sym (body-edited es i j mid)) in
+    let after : take (size_of (drop j es)) (drop (4 + size_of (take j es)) bytes) ≡ post = search (rules, rest_at) in
+    let ahead : take (4 + size_of (take i es)) bytes ≡ take 4 bytes ++ pre = search (take-add, prefix_at) in
+    let all : new ≡ take 4 bytes ++ (pre ++ (body_of mid ++ (post ++ tail))) = search rules in
+    let cut : drop 4 new ≡ pre ++ (body_of mid ++ (post ++ tail)) = search rules in
+    let joined : pre ++ (body_of mid ++ (post ++ tail)) ≡ body_of (edited es i j mid) ++ tail = search (append_assoc, body-edited) in
     ap (take (size_of (edited es i j mid))) (cut ∙ joined) ∙ take_at (body_of (edited es i j mid)) tail _ (length-body (edited es i j mid))
 
 -- the places of an edit
@@ -203,8 +153,6 @@ edited_places es marks new i j mid ordered within one places kept moved k le = e
       let n = length-edited es i j mid (omega arith) in
       let m : ℕ = k - (i + length mid) + j in
       let sum : k ≡ i + length mid + (m - j) = omega arith in
-      let there = moved m (omega arith) (omega arith) in
-      let at_i = places i (omega arith) in
       let at_j = places j within in
       let at_m = places m (omega arith) in
       let back = edited_back es i j mid m (omega arith) (omega arith) in
@@ -222,17 +170,8 @@ pub edited_stands : (level : ℕ) (es : List Entry) (marks bytes new_marks new :
     → ((k : ℕ) → k ≤ i → get_or new_marks k 0 ≡ get_or marks k 0)
     → ((m : ℕ) → j ≤ m → m ≤ length es → get_or new_marks (i + length mid + (m - j)) 0 + get_or marks j 0 ≡ get_or marks i 0 + size_of mid + get_or marks m 0)
     → Stands level (edited es i j mid) new_marks new
-edited_stands level es marks bytes new_marks new i j mid s ordered within one entries children few room body kept moved = record {
-  shape = record {
-    level = s.shape.level;
-    entries = All-edited IsEntry es i j mid s.shape.entries entries;
-    children = λ inner. All-edited (λ e. length e.1 ≡ 4) es i j mid (s.shape.children inner) (children inner);
-  };
-  few = few;
-  body = body;
-  room = room;
-  places = edited_places es marks new_marks i j mid ordered within one s.places kept moved;
-}
+edited_stands level es marks bytes new_marks new i j mid s ordered within one entries children few room body kept moved =
+    search (All-edited IsEntry es i j mid s.shape.entries entries, All-edited, s.shape.children, edited_places es marks new_marks i j mid ordered within one s.places kept moved)
 
 -- ---- the bytes that the edits write
 -- bytes moved from one place to another

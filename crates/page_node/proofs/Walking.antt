@@ -1,5 +1,5 @@
 -- Lemmas on the definitions of Walking.
-use Rattle.std.proofs.Common.{◌≡◌, ℕ, ◌+◌, List, [], ◌∷◌, ◌++◌, length, take, drop, sym, ap, ◌∙◌, arith, suc, append_assoc, take-append-drop}
+use Rattle.std.proofs.Common.{rules, ◌≡◌, ℕ, ◌+◌, List, ◌∷◌, ◌++◌, length, take, drop, sym, ap, ◌∙◌, arith, suc, append_assoc, take-append-drop}
 use Rattle.std.proofs.lemmas.List.{drop_at, drop-drop, drop-take}
 use Rattle.std.proofs.lemmas.List.Elements.{All-drop}
 use Rattle.page_node.specs.{claim.Entries.{Entry, IsEntry, entry_bytes, entry_size, body_of, size_of}, Entries.{first_of, key_length, value_length}, claim.Node.{Node, IsNode}}
@@ -18,9 +18,7 @@ node_ahead page node is = record { body = is.body; entries = is.shape.entries; w
 -- and the others after the first of them
 pub node_ahead_at : (page : List ℕ) (node : Node) (k at : ℕ) → IsNode page node → at ≡ 4 + size_of (take k node.entries) → IsAhead page at (drop k node.entries)
 node_ahead_at page node k at is place = record {
-  body = ap (λ n. take (size_of (drop k node.entries)) (drop n page)) place
-      ∙ ap (take (size_of (drop k node.entries))) (sym (drop-drop (size_of (take k node.entries)) 4 page))
-      ∙ rest_at k node.entries (drop 4 page) is.body;
+  body = search (drop-drop (size_of (take k node.entries)) 4 page, rest_at k node.entries (drop 4 page) is.body);
   entries = All-drop IsEntry k node.entries is.shape.entries;
   within = let fits = is.fits in let parts = size-parts k node.entries in omega arith;
 }
@@ -30,12 +28,7 @@ record Begins (bytes : List ℕ) (e : Entry) : Type 0 where
   bytes_are : bytes ≡ entry_bytes e ++ rest
 
 begins : (page : List ℕ) (at : ℕ) (e : Entry) (es : List Entry) → IsAhead page at (e ∷ es) → Begins (drop at page) e
-begins page at e es is = record {
-  rest = body_of es ++ drop (size_of (e ∷ es)) (drop at page);
-  bytes_are = sym (take-append-drop (size_of (e ∷ es)) (drop at page))
-      ∙ ap (λ b. b ++ drop (size_of (e ∷ es)) (drop at page)) is.body
-      ∙ append_assoc (entry_bytes e) (body_of es) (drop (size_of (e ∷ es)) (drop at page));
-}
+begins page at e es is = search (rules, take-append-drop (size_of (e ∷ es)) (drop at page), append_assoc (entry_bytes e) (body_of es) (drop (size_of (e ∷ es)) (drop at page)))
 
 key_long : (page : List ℕ) (at : ℕ) (e : Entry) → Begins (drop at page) e → key_length (drop at page) ≡ length e.0
 key_long page at e b = ap key_length b.bytes_are
@@ -49,22 +42,13 @@ ahead_lengths page at e es is = let b = begins page at e es is in (key_long page
 
 -- one that is ahead is found to lie there
 pub ahead_lies : (page : List ℕ) (at : ℕ) (e : Entry) (es : List Entry) → IsAhead page at (e ∷ es) → LiesNot page at → ⊥
-ahead_lies page at e es is not_there =
-    let b = begins page at e es is in
-    let key = key_long page at e b in
-    let value = value_long page at e b in
-    let short = (is.entries 0 ([], []) (omega arith)).0 in
-    let narrow = (is.entries 0 ([], []) (omega arith)).1 in
-    not_there (omega arith) (omega arith) (omega arith)
+ahead_lies page at e es is not_there = search (rules, begins)
 
 key_there : (page : List ℕ) (at value end : ℕ) → LiesAt page at value end → part_of page (at + 3) value ≡ (first_of (drop at page)).0
-key_there page at value end lies =
-    ap (λ n. take n (drop (at + 3) page)) (omega arith) ∙ ap (take (key_length (drop at page))) (sym (drop-drop 3 at page))
+key_there page at value end lies = search (arith, drop-drop 3 at page)
 
 value_there : (page : List ℕ) (at value end : ℕ) → LiesAt page at value end → part_of page value end ≡ (first_of (drop at page)).1
-value_there page at value end lies =
-    let sum : value ≡ at + (3 + key_length (drop at page)) = omega arith in
-    ap (λ n. take n (drop value page)) (omega arith) ∙ ap (take (value_length (drop at page))) (ap (λ n. drop n page) sum ∙ sym (drop-drop (3 + key_length (drop at page)) at page))
+value_there page at value end lies = search (rules, drop-drop)
 
 -- and where it ends the next one is ahead
 pub ahead_next : (page : List ℕ) (at value end : ℕ) (e : Entry) (es : List Entry) → IsAhead page at (e ∷ es) → LiesAt page at value end → IsTaken page at value end e es

@@ -1,16 +1,15 @@
 -- An entry written into bytes, part by part.
 use Rattle.std.specs.List.{copy_within}
-use Rattle.std.proofs.Common.{◌≡◌, ℕ, ◌+◌, ◌-◌, ◌/◌, ◌%◌, ◌≤◌, List, [], ◌∷◌, ◌++◌, length, take, drop, set, get_or, replicate, refl, sym, ap, ◌∙◌, arith, suc, append_assoc, length-append, take-append-drop}
+use Rattle.std.proofs.Common.{rules, ◌≡◌, ℕ, ◌+◌, ◌-◌, ◌/◌, ◌%◌, ◌≤◌, List, [], ◌∷◌, ◌++◌, length, take, drop, set, get_or, replicate, refl, sym, ap, ◌∙◌, arith, suc, append_assoc, length-append, take-append-drop}
 use borrow.Rule.Slice.PartMut.{put_mid, mid_of}
-use Rattle.std.proofs.lemmas.List.{take_at, drop_at, drop-drop, drop_all, length-take-le, length-drop, append-nil}
+use Rattle.std.proofs.lemmas.List.{take_at, drop_at, drop-drop, drop_all, length-take-le, length-drop}
 use Rattle.std.proofs.lemmas.Slice.{take-put_mid, drop-put_mid}
 use Rattle.std.proofs.lemmas.List.Edits.{sets-eq}
-use Rattle.page_node.{specs.Bytes.with_entry, specs.claim.Entries.{Entry, size_of, body_of}, specs.Node.bytes_of, proofs.Standing.{Stands, size_is}}
+use Rattle.page_node.{specs.Bytes.with_entry, specs.claim.Entries.{Entry, size_of}, specs.Node.bytes_of, proofs.Standing.{Stands, size_is}}
 
 -- a part written after a prefix
 pub put_after : (prefix rest part : List ℕ) (a k : ℕ) → length prefix ≡ a → put_mid a k (prefix ++ rest) part ≡ prefix ++ (part ++ drop k rest)
-put_after prefix rest part a k long =
-    λ x. (take_at prefix rest a long) x ++ (part ++ drop k ((drop_at prefix rest a long) x))
+put_after prefix rest part a k long = λ x. (take_at prefix rest a long) x ++ (part ++ drop k ((drop_at prefix rest a long) x))
 
 -- bytes that are moved to where they are
 pub moved_nowhere : (bytes : List ℕ) (from until : ℕ) → bytes ≡ copy_within bytes from until from
@@ -55,41 +54,14 @@ body_written page bytes copied filled used k m n long wide low high k_is m_is is
     let inner : List ℕ = put_mid 4 k page copied in
     let prefix : take used inner ≡ take 4 page ++ copied = take-put_mid 4 k page copied used (omega arith) (omega arith) in
     let back : drop m (drop used inner) ≡ [] = drop-drop m used inner ∙ drop-put_mid 4 k page copied (used + m) (omega arith) (omega arith) (omega arith) ∙ drop_all (used + m) page (omega arith) in
-    (λ x. prefix x ++ (filled ++ back x))
-    ∙ ap (λ b. take 4 page ++ copied ++ b) (append-nil filled ∙ is_filled ∙ ap (λ q. replicate q 0) n_is)
-    ∙ append_assoc (take 4 page) copied (replicate (4096 - used) 0)
-    ∙ ap (λ b. take 4 page ++ (b ++ replicate (4096 - used) 0)) is_copied
-
--- what stands after a body
-pub mid_long : (page bytes copied : List ℕ) (used k m : ℕ) → length page ≡ 4096 → length bytes ≡ 5200 → 4 ≤ used → used ≤ 4096 → k ≡ used - 4 → m ≡ 4096 - used → copied ≡ take (used - 4) (drop 4 bytes) → length (mid_of used m (put_mid 4 k page copied)) ≡ 4096 - used
-mid_long page bytes copied used k m long wide low high k_is m_is is_copied =
-    let rest = length-drop 4 bytes in
-    let copied_long : length copied ≡ used - 4 = ap length is_copied ∙ length-take-le (used - 4) (drop 4 bytes) (omega arith) in
-    let inner : List ℕ = put_mid 4 k page copied in
-    let a = length-append (take 4 page) (copied ++ drop k (drop 4 page)) in
-    let b = length-append copied (drop k (drop 4 page)) in
-    let c = length-take-le 4 page (omega arith) in
-    let d = length-drop k (drop 4 page) in
-    let e = length-drop 4 page in
-    let all : length inner ≡ 4096 = omega arith in
-    let f = length-drop used inner in
-    length-take-le m (drop used inner) (omega arith) ∙ m_is
+    search rules
 
 head_is : (page : List ℕ) (a b c d : ℕ) → 4 ≤ length page → take 4 (set (set (set (set page 0 a) 1 b) 2 c) 3 d) ≡ a ∷ b ∷ c ∷ d ∷ []
-head_is [] a b c d long = absurd (omega arith)
-head_is (x ∷ []) a b c d long = absurd (omega arith)
-head_is (x ∷ y ∷ []) a b c d long = absurd (omega arith)
-head_is (x ∷ y ∷ z ∷ []) a b c d long = absurd (omega arith)
 head_is (x ∷ y ∷ z ∷ u ∷ page) a b c d long = refl
+head_is _ a b c d long = absurd (omega arith)
 
 pub page_written : (level count : ℕ) (es : List Entry) (marks bytes page new : List ℕ) → Stands level es marks bytes → count ≡ length es → size_of es ≤ 4092 → length page ≡ 4096
     → new ≡ take 4 (set (set (set (set page 0 level) 1 0) 2 (count / 256)) 3 (count % 256)) ++ (take (get_or marks count 0 - 4) (drop 4 bytes) ++ replicate (4096 - get_or marks count 0) 0)
     → new ≡ bytes_of (record { level = level; entries = es })
 page_written level count es marks bytes page new s counted fits long is =
-    let used : get_or marks count 0 ≡ 4 + size_of es = ap (λ k. get_or marks k 0) counted ∙ size_is level es marks bytes s in
-    let size : get_or marks count 0 - 4 ≡ size_of es = omega arith in
-    let zeros : 4096 - get_or marks count 0 ≡ 4092 - size_of es = omega arith in
-    let body : take (get_or marks count 0 - 4) (drop 4 bytes) ≡ body_of es = ap (λ n. take n (drop 4 bytes)) size ∙ s.body in
-    let head : take 4 (set (set (set (set page 0 level) 1 0) 2 (count / 256)) 3 (count % 256)) ≡ level ∷ 0 ∷ length es / 256 ∷ length es % 256 ∷ [] =
-    head_is page level 0 (count / 256) (count % 256) (omega arith) ∙ ap (λ n. level ∷ 0 ∷ n / 256 ∷ n % 256 ∷ []) counted in
-    is ∙ (λ x. head x ++ (body x ++ replicate (zeros x) 0))
+    search (arith, size_is level es marks bytes s, head_is page level 0 (count / 256) (count % 256) (omega arith))

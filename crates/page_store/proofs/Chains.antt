@@ -1,6 +1,6 @@
 -- Chains of pages.
 use Rattle.std.specs.{List.{AllByRecursion, IsDistinct, list_any}, Int.{w32, from_be_bytes}, Prelude.{Option, Some, None, MatchOption}}
-use Rattle.std.proofs.Common.{⊎_elim, cond, nat_eq, ◌&&◌, ◌*◌, ◌⊎◌, replicate, get_or, Bool, true, false, ◌||◌, ◌-◌, ◌≡◌, ◌≢◌, ◌<◌, ◌≤◌, ◌+◌, ℕ, zero, suc, List, [], ◌∷◌, length, inl, inr, refl, sym, ap, subst, ◌∙◌, arith, add-one}
+use Rattle.std.proofs.Common.{rules, ⊎_elim, cond, nat_eq, ◌&&◌, ◌*◌, ◌⊎◌, replicate, get_or, Bool, true, false, ◌||◌, ◌-◌, ◌≡◌, ◌≢◌, ◌<◌, ◌≤◌, ◌+◌, ℕ, zero, suc, List, [], ◌∷◌, length, inl, inr, refl, sym, ap, subst, ◌∙◌, arith, add-one}
 use Rattle.std.proofs.lemmas.Bool.{cases_eq}
 use Rattle.std.proofs.lemmas.Bool.Decides.{nat_tests}
 use Rattle.std.proofs.lemmas.Map.Steps.{length-le_from_distinct_below}
@@ -46,10 +46,7 @@ either true = inl refl
 either false = inr refl
 
 not_blank : (page : List ℕ) → (((k : ℕ) → 0 < k → k < 1024 → word page k ≡ 0) → ⊥) → is_blank page ≡ false
-not_blank page some = elim (either (is_blank page)) [
-  | inl blank ↦ absurd (some (blank_words page blank))
-  | inr is ↦ is
-]
+not_blank page some = search (rules, either, blank_words)
 
 -- what was told of all words
 pub blank_as : (page : List ℕ) (b : Bool) → (b ≡ true → (k : ℕ) → 0 < k → k < 1024 → word page k ≡ 0) → (b ≡ false → ((k : ℕ) → 0 < k → k < 1024 → word page k ≡ 0) → ⊥) → b ≡ is_blank page
@@ -159,36 +156,20 @@ module _ (P Q : Image) (meta : List ℕ) (n root first count : ℕ) (is : (q : �
   at_word k = ap (λ (s : List ℕ). word s k) at_meta
 
   pub meta_free : AreFree n (chain P first count) → free_in Q ≡ chain P first count
-  meta_free free =
-      ap (λ (f : ℕ). chain Q f (word (Q 0) 2)) (at_word 1 ∙ first_is) ∙ ap (λ (k : ℕ). chain Q first k) (at_word 2 ∙ count_is)
-      ∙ chain_put n P Q 0 meta first count is free (not_meta n (chain P first count) free)
+  meta_free free = search (at_word 1, at_word 2, chain_put n P Q 0 meta first count is free (not_meta n (chain P first count) free))
 
   pub meta_pages : root < n → first < n → count < n → AreFree n (chain P first count) → IsPages n Q
-  meta_pages root_lt first_lt count_lt free = record {
-    root = omega (arith, at_word 0, root_is);
-    first = omega (arith, at_word 1, first_is);
-    count = omega (arith, at_word 2, count_is);
-    free = subst (λ (qs : List ℕ). AreFree n qs) (sym (meta_free free)) free;
-  }
+  meta_pages root_lt first_lt count_lt free = search (rules, at_word, meta_free)
 
 -- a page is put at the start
 pub chain_push : (n : ℕ) (P Q : Image) (p : ℕ) (link : List ℕ) (first count : ℕ) → ((q : ℕ) → Q q ≡ put (p, link) P q) → word link 0 ≡ first → is_blank link ≡ true
     → AreFree n (chain P first count) → (IsIn p (chain P first count) → ⊥) → chain Q p (count + 1) ≡ p ∷ chain P first count
-chain_push n P Q p link first count is first_is blank free off =
-    let there : Q p ≡ link = is p ∙ put_on (p, link) P p refl in
-    let here : cond (is_blank (Q p)) p 0 ≡ p = counts (is_blank (Q p)) p (ap (λ (s : List ℕ). is_blank s) there ∙ blank) in
-    let next : word (Q p) 0 ≡ first = ap (λ (s : List ℕ). word s 0) there ∙ first_is in
-    let rest : chain Q (word (Q p) 0) count ≡ chain P first count = ap (λ (f : ℕ). chain Q f count) next ∙ chain_put n P Q p link first count is free off in
-    rw add-one (λ i. here i ∷ rest i)
+chain_push n P Q p link first count is first_is blank free off = search (rules, put_on (p, link) P p refl, counts, chain_put n P Q p link first count is free off, add-one)
 
 -- the second page of a chain of free pages
 pub second_below : (n : ℕ) (P : Image) (first count : ℕ) → 1 < count → AreFree n (chain P first count) → word (P first) 0 < n
-second_below n P first zero more free = absurd (omega arith)
-second_below n P first (suc zero) more free = absurd (omega arith)
-second_below n P first (suc (suc count)) more free =
-    let second = word (P first) 0 in
-    let own : cond (is_blank (P second)) second 0 ≡ second = counts (is_blank (P second)) second (is_counted (is_blank (P second)) second free.3.0) in
-    subst (λ (q : ℕ). q < n) own free.3.1
+second_below n P first (suc (suc count)) more free = search (rules, counts, is_counted)
+second_below n P first _ more free = absurd (omega arith)
 
 -- a page that isn't free was changed, or none
 pub edited_free : {R : Type 0} (told : Option R) (A : Type 0) (B : Type 0) (step : List ℕ → R → List ℕ → Type 0) (old new : PageWrites) (p first count : ℕ) → MatchOption told (A × (new ≡ old)) (λ r. B × IsEdited step r (writes_of old) (writes_of new) p)

@@ -1,5 +1,5 @@
 -- Pages that are linked, one to the next: the free pages of a new store.
-use Rattle.std.proofs.Common.{⊎_elim, true, cond, [], ◌≡◌, ◌<◌, ◌≤◌, ◌+◌, ◌-◌, ℕ, zero, suc, List, ◌∷◌, length, inl, inr, refl, sym, ap, subst, ◌∙◌, arith}
+use Rattle.std.proofs.Common.{rules, ⊎_elim, true, cond, ◌≡◌, ◌<◌, ◌≤◌, ◌+◌, ◌-◌, ℕ, zero, suc, List, ◌∷◌, length, inl, inr, refl, sym, ap, subst, ◌∙◌, arith}
 use Rattle.std.proofs.lemmas.Bool.{cases_eq, cases_lt}
 use Rattle.std.proofs.lemmas.Bool.Decides.{nat_tests}
 use Rattle.sector_device.specs.claim.Disk.{Image}
@@ -12,19 +12,16 @@ next_is n k lt = grind (arith, nat_tests)
 
 linked_from : (n : ℕ) (P : Image) (k m q : ℕ) → k + m ≡ n → 0 < k → AreLinked n P 1 n → IsIn q (chain P k m) → k ≤ q
 linked_from n P k zero q whole some linked there = absurd there
-linked_from n P k (suc zero) q whole some linked (inl is) = let own = counts (is_blank (P k)) k (linked k (omega arith) (omega arith) (omega arith)).1 in omega arith
 linked_from n P k (suc zero) q whole some linked (inr none) = absurd none
-linked_from n P k (suc (suc m)) q whole some linked (inl is) = let own = counts (is_blank (P k)) k (linked k (omega arith) (omega arith) (omega arith)).1 in omega arith
 linked_from n P k (suc (suc m)) q whole some linked (inr there) =
     let next : word (P k) 0 ≡ k + 1 = (linked k (omega arith) (omega arith) (omega arith)).0 ∙ next_is n k (omega arith) in
     let later = linked_from n P (k + 1) (suc m) q (omega arith) (omega arith) linked (subst (λ (f : ℕ). IsIn q (chain P f (suc m))) next there) in
     omega arith
+linked_from n P k _ q whole some linked (inl is) = let own = counts (is_blank (P k)) k (linked k (omega arith) (omega arith) (omega arith)).1 in omega arith
 
 pub linked_free : (n : ℕ) (P : Image) (k m : ℕ) → k + m ≡ n → 0 < k → AreLinked n P 1 n → AreFree n (chain P k m)
 linked_free n P k zero whole some linked = tt
-linked_free n P k (suc zero) whole some linked =
-    let own = counts (is_blank (P k)) k (linked k (omega arith) (omega arith) (omega arith)).1 in
-    subst (λ (q : ℕ). AreFree n (q ∷ [])) (sym own) (some, omega arith, λ none. none, tt)
+linked_free n P k (suc zero) whole some linked = search (rules, counts)
 linked_free n P k (suc (suc m)) whole some linked =
     let at = linked k (omega arith) (omega arith) (omega arith) in
     let next : word (P k) 0 ≡ k + 1 = at.0 ∙ next_is n k (omega arith) in
@@ -36,15 +33,7 @@ linked_free n P k (suc (suc m)) whole some linked =
 
 -- one link more
 pub linked_more : (n : ℕ) (P Q : Image) (from p : ℕ) (link : List ℕ) → ((q : ℕ) → Q q ≡ put (p, link) P q) → word link 0 ≡ next_of n p → is_blank link ≡ true → AreLinked n P from p → AreLinked n Q from (p + 1)
-linked_more n P Q from p link is next blank linked q ge lt below = elim (cases_eq q p) [
-  | inl here ↦
-      let page : Q q ≡ link = is q ∙ put_on (p, link) P q here in
-      (ap (λ (s : List ℕ). word s 0) page ∙ next ∙ ap (λ (k : ℕ). next_of n k) (sym here), ap (λ (s : List ℕ). is_blank s) page ∙ blank)
-  | inr off ↦
-      let page : Q q ≡ P q = is q ∙ put_off (p, link) P q off in
-      let was = linked q ge (omega arith) below in
-      (ap (λ (s : List ℕ). word s 0) page ∙ was.0, ap (λ (s : List ℕ). is_blank s) page ∙ was.1)
-]
+linked_more n P Q from p link is next blank linked q ge lt below = search (rules, cases_eq, put_on, put_off)
 
 -- a chain of free pages stays where its pages do
 pub chain_kept : (n : ℕ) (P Q : Image) (first count : ℕ) → AreFree n (chain P first count) → ((q : ℕ) → IsIn q (chain P first count) → Q q ≡ P q) → chain Q first count ≡ chain P first count
@@ -85,8 +74,6 @@ new_pages n root P Q some linked same meta =
 -- a batch of links more
 pub batch_linked : (n from to : ℕ) (P Q : Image) → ((q : ℕ) → q < from + 256 → q < n → q < to) → ((q : ℕ) → q < from → Q q ≡ P q) → AreLinked n Q from to → AreLinked n P 1 from → AreLinked n Q 1 (from + 256)
 batch_linked n from to P Q all same linked before q ge lt below = ⊎_elim
-    (λ (early : q < from).
-    let was = before q ge early below in
-    (ap (λ (s : List ℕ). word s 0) (same q early) ∙ was.0, ap (λ (s : List ℕ). is_blank s) (same q early) ∙ was.1))
+    (λ (early : q < from). search rules)
     (λ (late : from ≤ q). linked q late (all q lt below) below)
     (cases_lt q from)

@@ -1,7 +1,7 @@
 -- What formatting leaves.
-use Rattle.std.proofs.Common.{Result, Ok, Err, OnOk, ◌≡◌, ◌≢◌, ◌<◌, ◌+◌, ◌-◌, ℕ, List, length, sym, ap, subst, ◌∙◌, arith}
+use Rattle.std.proofs.Common.{rules, Result, Ok, Err, OnOk, ◌≡◌, ◌≢◌, ◌<◌, ◌+◌, ◌-◌, ℕ, List, length, sym, ap, subst, ◌∙◌, arith}
 use Rattle.sector_device.specs.claim.Disk.{Disk, Image}
-use Rattle.gate_journal.{specs.claim.Store.{overlay, put, word, pages}, specs.Store.IsSettled, specs.Steps.Commits, specs.Recovery.HasRoom, proofs.Commit.settled_opens}
+use Rattle.gate_journal.{specs.claim.Store.{overlay, put, pages}, specs.Store.IsSettled, specs.Steps.Commits, specs.Recovery.HasRoom, proofs.Commit.settled_opens}
 use Rattle.gate_journal.proofs.Images.{put_off}
 use Rattle.page_store.specs.{claim.Chain.{IsIn, IsPages, root_in, free_in}, Chain.IsMeta, Openings.AllPageStores, New.{AreLinked, IsNew, IsNewWith, IsLinked, Links}}
 use Rattle.page_store.proofs.Linked.{new_pages, batch_linked}
@@ -19,15 +19,7 @@ module _ (J n : ℕ) (e : Disk) (room : HasRoom e.sectors J n) (settled : IsSett
         let P = pages J d.reads in
         let made = new_pages n 0 P (overlay ws P) (omega arith) linked.linked (λ q later. others P q (λ is. omega arith)) (meta P) in
         let sound : IsPages n (pages J e.reads) = subst (λ (X : Image). IsPages n X) (sym after) made.sound in
-        record {
-          n = n;
-          whole = room.whole;
-          settled = settled;
-          root = ap (λ (X : Image). root_in X) after ∙ (meta P).root_is;
-          sound = sound;
-          free = let whole = made.whole in ap (λ (X : Image). length (free_in X) + 1) after ∙ omega arith;
-          all = all_stores sound;
-        }
+        search (rules, all_stores)
 
     -- with bytes on page 1, which is the root
     pub new_store_with : (bytes : List ℕ) → IsMeta (overlay ws (pages J d.reads)) 1 2 (n - 1 - 1) → overlay ws (pages J d.reads) 1 ≡ bytes
@@ -49,13 +41,7 @@ module _ (J n : ℕ) (e : Disk) (room : HasRoom e.sectors J n) (settled : IsSett
 
 -- the meta page, and then another one
 pub meta_under : (P Q : Image) (bytes : List ℕ) (root first count : ℕ) → ((q : ℕ) → Q q ≡ put (1, bytes) P q) → IsMeta P root first count → IsMeta Q root first count
-meta_under P Q bytes root first count is meta =
-    let at : Q 0 ≡ P 0 = is 0 ∙ put_off (1, bytes) P 0 (λ e. omega arith) in
-    record {
-      root_is = ap (λ (s : List ℕ). word s 0) at ∙ meta.root_is;
-      first_is = ap (λ (s : List ℕ). word s 1) at ∙ meta.first_is;
-      count_is = ap (λ (s : List ℕ). word s 2) at ∙ meta.count_is;
-    }
+meta_under P Q bytes root first count is meta = search (rules, put_off)
 
 -- a commit that links a batch
 pub linked_batch : {T E : Type 0} (J n from to : ℕ) (a d : Disk) (ws : List (ℕ × List ℕ)) (r : Result T E) → ((q : ℕ) → q < from + 256 → q < n → q < to) → ((q : ℕ) → q < from → overlay ws (pages J a.reads) q ≡ pages J a.reads q)

@@ -1,5 +1,5 @@
 -- What an opening finds in the pages.
-use Rattle.std.proofs.Common.{◌≡◌, ◌≢◌, ◌<◌, ℕ, true, false, refl, sym, subst, ◌∙◌, arith}
+use Rattle.std.proofs.Common.{rules, ◌≡◌, ◌≢◌, ◌<◌, ℕ, true, false, refl, sym, subst, ◌∙◌, arith}
 use Rattle.sector_device.specs.{claim.Disk.{Disk, Image, Nowhere, Touches}, declared.SectorDevice.Ghosts}
 use Rattle.gate_journal.specs.{claim.Store.{Opens, pages}, Recovery.{HasRoom, Found}, claim.Contents.{content, disk_of, device_of, page_count, is_halted}}
 use Rattle.gate_journal.specs.{declared.journal.Journal.Journal, declared.error.PageError.PageError}
@@ -19,13 +19,7 @@ pub bad_pages : (a b d : Disk) (J K n : ℕ) → Found J n a b → K ≡ J → p
     → (IsPages n (pages J b.reads) → ⊥) → HasBadPages a d
 bad_pages a b d J K n found journal same kept still unsound =
     let here : pages J d.reads ≡ pages J b.reads = subst (λ (k : ℕ). pages k d.reads ≡ pages J b.reads) journal same in
-    record {
-      J = J;
-      n = n;
-      found = record { was = found.was; left = found.left; header = found.header; same = here ∙ found.same };
-      stands = kept_still J n J n b d (pages J b.reads) (pages J d.reads) refl refl here kept still;
-      unsound = λ sound. unsound (subst (λ (P : Image). IsPages n P) here sound);
-    }
+    search (rules, kept_still J n J n b d (pages J b.reads) (pages J d.reads) refl refl here kept still)
 
 -- why an opening failed after the journal was opened
 pub opened_err : {D : Type 0} (g : Ghosts D) (a d : D) (old new : Journal D g) (e : PageError) → d ≡ device_of new → is_halted old ≡ false

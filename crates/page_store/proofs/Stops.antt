@@ -1,17 +1,13 @@
 -- What the layers above need of a stop where a call read at most.
-use Rattle.std.{specs.Prelude.{◌≡◌, ◌⊎◌, ◌<◌, ℕ, Bool, true, false}, proofs.Common.{inl, inr, refl, sym, ap, subst, ◌∙◌, arith}}
+use Rattle.std.{specs.Prelude.{◌≡◌, ◌⊎◌, ℕ, Bool, true, false}, proofs.Common.{rules, inl, inr, refl, sym, subst, ◌∙◌}}
 use Rattle.sector_device.specs.{claim.Disk.{Disk, Image, Touches, Nowhere}, claim.Moments.LeavesOnly, declared.SectorDevice.Ghosts}
 use Rattle.sector_device.proofs.Moments.{now_but, leaves_still, touches_none, touches_more}
-use Rattle.gate_journal.specs.{claim.Store.Opens, claim.Contents.{content, page_count, journal_size, is_halted}}
+use Rattle.gate_journal.specs.{claim.Store.Opens, claim.Contents.{content, page_count, journal_size}}
 use Rattle.page_store.specs.{claim.Transactions.{stored, disk_in, has_halted, IsQuiet, IsKept, HasFailed, Passed}, declared.pages.Pages.Pages}
 
 -- a run that begins now has left what a stop now may leave
 pub leaves_here : (P : Image → Type 0) (a : Disk) → ((c : Image) → a.leaves c → P c) → LeavesOnly P a a
-leaves_here P a has = record {
-  later = omega arith;
-  each = λ c left. has c (a.only_now c left);
-  before = λ t c le left. inl left;
-}
+leaves_here P a has = search rules
 
 -- a call that wrote nothing keeps what each image stands for
 pub kept_still : (J n K m : ℕ) (b c : Disk) (P Q : Image) → K ≡ J → m ≡ n → Q ≡ P → ((x : Image) → b.leaves x → Opens J n P x) → Touches Nowhere b c → (x : Image) → c.leaves x → Opens K m Q x
@@ -43,16 +39,7 @@ module _ {D : Type 0} {g : Ghosts D} (old new : Pages D g) (quiet : IsQuiet old 
 module _ {D : Type 0} {g : Ghosts D} where
   -- nothing was read
   pub quiet_none : (a : Pages D g) → IsQuiet a a
-  quiet_none a = record {
-    count = refl;
-    journal = refl;
-    honest = λ honest. honest;
-    same = λ honest. refl;
-    moves = λ honest working. touches_none Nowhere (disk_in a) honest;
-    still = λ halted. refl;
-    rose = λ working halted. absurd (let e : true ≡ false = sym halted ∙ working in cc);
-    calm = λ working honest. refl;
-  }
+  quiet_none a = search (rules, touches_none)
 
   pub quiet_more : (a b c : Pages D g) → IsQuiet a b → IsQuiet b c → IsQuiet a c
   quiet_more a b c ab bc = record {
@@ -64,34 +51,17 @@ module _ {D : Type 0} {g : Ghosts D} where
       | inl halted ↦ subst (λ j. Touches Nowhere (disk_in a) (g.disk j.device)) (sym (bc.still halted)) (ab.moves (bc.honest honest) working)
       | inr on ↦ touches_more Nowhere Nowhere (disk_in a) (disk_in b) (disk_in c) (λ i t. t) (ab.moves (bc.honest honest) working) (bc.moves honest on)
     ];
-    still = λ halted. elim (either (has_halted b)) [
-      | inl on ↦ bc.still on ∙ ab.still halted
-      | inr working ↦ bc.still (ap (λ j. is_halted j) (ab.still halted) ∙ halted) ∙ ab.still halted
-    ];
-    rose = λ working halted honest. elim (either (has_halted b)) [
-      | inl on ↦ subst (λ j. (disk_in a).faults < (g.disk j.device).faults) (sym (bc.still on)) (ab.rose working on (bc.honest honest))
-      | inr off ↦ (let rises = bc.rose off halted honest in let same = ab.calm off (bc.honest honest) in omega (arith, rises, same))
-    ];
-    calm = λ working honest. elim (either (has_halted b)) [
-      | inl on ↦ absurd (let e : true ≡ false = sym on ∙ sym (ap (λ j. is_halted j) (bc.still on)) ∙ working in cc)
-      | inr off ↦ bc.calm working honest ∙ ab.calm off (bc.honest honest)
-    ];
+    still = λ halted. search (rules, either);
+    rose = λ working halted honest. search (rules, either);
+    calm = λ working honest. search (rules, either);
   }
 
   pub passed_none : (a : Pages D g) → Passed a a
   passed_none a = record { quiet = quiet_none a; halted = refl; faults = λ honest. refl }
 
   pub passed_more : (a b c : Pages D g) → Passed a b → Passed b c → Passed a c
-  passed_more a b c ab bc = record {
-    quiet = quiet_more a b c ab.quiet bc.quiet;
-    halted = bc.halted ∙ ab.halted;
-    faults = λ honest. bc.faults honest ∙ ab.faults (bc.quiet.honest honest);
-  }
+  passed_more a b c ab bc = search (rules, quiet_more a b c ab.quiet bc.quiet)
 
   -- calls that met no fault, and then one that failed
   pub failed_more : (a b c : Pages D g) → Passed a b → IsQuiet b c → HasFailed b c → HasFailed a c
-  failed_more a b c ab bc failed = record {
-    worked = sym ab.halted ∙ failed.worked;
-    halted = failed.halted;
-    rose = λ honest. let rose = failed.rose honest in let same = ab.faults (bc.honest honest) in omega arith;
-  }
+  failed_more a b c ab bc failed = search rules

@@ -1,6 +1,6 @@
 -- Lemmas on the definitions of Accepted.
-use Rattle.std.specs.{Prelude.{◌==◌, not, nat_le, unwrap_or}, List.slice_get}
-use Rattle.std.proofs.Common.{◌≡◌, ◌<◌, ◌≤◌, ◌+◌, ◌-◌, ℕ, suc, Bool, cond, List, [], ◌∷◌, ◌++◌, length, Option, Some, None, Result, Ok, refl, sym, ap, ◌∙◌, arith}
+use Rattle.std.specs.{Prelude.{◌==◌, not, nat_le}, List.slice_get}
+use Rattle.std.proofs.Common.{rules, ◌≡◌, ◌<◌, ◌≤◌, ◌+◌, ◌-◌, ℕ, suc, Bool, cond, List, [], ◌∷◌, ◌++◌, length, Option, Some, None, Result, Ok, refl, sym, ap, ◌∙◌, arith}
 use Rattle.std.specs.FinMap as map_of
 use Rattle.std.proofs.lemmas.Bool.{leb-false, eqb-true}
 use Rattle.desk_model.specs.{declared.command.Command.Command, declared.command.Command.TheVariants.{Create, Whole, Counties, Retire, Fork}, declared.kind.Kind.Kind}
@@ -11,7 +11,7 @@ use Rattle.desk_model.specs.claim.Room.{changed, revision_rows, added_rows, comm
 use Rattle.desk_model.specs.declared.reply.Reply.TheVariants as reply
 use Rattle.desk_catalogue.{specs.claim.Accepting.IsAfter, specs.Kept.revision_in, proofs.Drafted.{end_of, put_there, no_zero}}
 use Rattle.store_rows.specs.Changes.{with_revision}
-use Rattle.plan_revisions.specs.{claim.Rows.{added_chunks, added_by}, Plans.{TakesPlan, with_plan, HasPlanAt, without_plan, TakesFork, with_fork}, Accepted.IsRevised}
+use Rattle.plan_revisions.specs.{claim.Rows.added_by, Plans.{TakesPlan, with_plan, HasPlanAt, without_plan, TakesFork, with_fork}, Accepted.IsRevised}
 use Rattle.plan_revisions.proofs.Within.{AreSmall, body_small, patched_within, revision_within, whole_within}
 
 -- ---- a plan is created
@@ -162,20 +162,10 @@ module _ (d : Desk) (name : List ℕ) (after : ℕ) (e : Desk) (r : IsRevised d 
   last_is = ap (λ (q : Option Plan). revision_in q after) r.there ∙ ap (λ n. revision_at r.plan n) r.count
 
   pub rows_added : added_rows d.geography (map_of.get d.plans name) (map_of.get e.plans name) ≡ revision_rows r.g (revision_in (map_of.get d.plans name) after) r.districts
-  rows_added =
-      ap (λ (geo : Option GeographyModel). added_rows geo (map_of.get d.plans name) (map_of.get e.plans name)) r.geography
-      ∙ ap (λ (q : Option Plan). added_rows (Some r.g) q (map_of.get e.plans name)) r.there
-      ∙ ap (λ (q : Option Plan). added_rows (Some r.g) (Some r.plan) q) plan_then
-      ∙ ap (λ (l : Option (List ℕ)). revision_rows r.g (last_revision r.plan) (unwrap_or l [])) (last_of_next r.plan r.districts)
-      ∙ ap (λ (l : Option (List ℕ)). revision_rows r.g l r.districts) (sym last_is)
+  rows_added = search (rules, plan_then, last_of_next, last_is)
 
   pub chunks_added : added_by d name e ≡ length (changed r.g (revision_in (map_of.get d.plans name) after) r.districts)
-  chunks_added =
-      ap (λ (geo : Option GeographyModel). added_chunks geo (map_of.get d.plans name) (map_of.get e.plans name)) r.geography
-      ∙ ap (λ (q : Option Plan). added_chunks (Some r.g) q (map_of.get e.plans name)) r.there
-      ∙ ap (λ (q : Option Plan). added_chunks (Some r.g) (Some r.plan) q) plan_then
-      ∙ ap (λ (l : Option (List ℕ)). length (changed r.g (last_revision r.plan) (unwrap_or l []))) (last_of_next r.plan r.districts)
-      ∙ ap (λ (l : Option (List ℕ)). length (changed r.g l r.districts)) (sym last_is)
+  chunks_added = search (rules, plan_then, last_of_next, last_is)
 
 -- ---- whatever the command
 geography_of : (d e f : Desk) → e ≡ f → f.geography ≡ d.geography → e.geography ≡ d.geography
@@ -198,5 +188,4 @@ rows_some d (Counties name after body) e is =
     let then = (step d (Counties name after body)).1 in
     let r = counties_revised d name after body is.reply in
     some_rows r.g (revision_in (map_of.get d.plans name) after) r.districts (command_rows d (Counties name after body)) (rows_added d name after then r)
-rows_some d (Fork name from) e is = search (arith, forked, is.reply, rows_forked)
-rows_some d _ e is = omega arith
+rows_some d _ e is = search (arith, forked, rows_forked)

@@ -35,11 +35,7 @@ last_or_none b revisions last there = search (arith, clash, at_place)
 module _ (kept_law : ChunksAreKept) (firsts : FirstsAreDrawn) (changes : ChangesAreDrawn) (counties : RangesAreCounties) (cut_law : ListsAreCut) (m : KeyMap) (g : GeographyModel) (name : List ℕ) (next : List ℕ) (row : PlanRow) (counters : Counters) (kept : List ℕ) (p : Plan)
     (told : row ≡ plan_row_of row.number p) (has : HasPlan m g name row.number p) (read : AreRead name (length (ranges_of g)) row counters kept m) where
   pub is_drawn : (last : Option (List ℕ)) → last_revision p ≡ last → CanAdd g last next row counters → IsDrawn m counters row.number (changed g last next) (drawn counters.chunk 0 kept (changes_in last next (ranges_of g))) (cut g next)
-  is_drawn None last_is can =
-      let few = few_counties counties g can.blocks in
-      let many = as_many g next in
-      subst (λ (numbers : List ℕ). IsDrawn m counters row.number (cut g next) numbers (cut g next)) (sym (firsts_drawn g counters.chunk kept next))
-      (firsts m counters row.number (cut g next) (omega arith) (are_chunk_lists counties cut_law g next can.blocks can.long can.each))
+  is_drawn None last_is can = search (few_counties, as_many, firsts_drawn, are_chunk_lists)
   is_drawn (Some last) last_is can =
       let at = last_or_none _ p.revisions last last_is in
       let count : row.revisions ≡ length p.revisions = ap (λ (r : PlanRow). r.revisions) told in

@@ -1,6 +1,6 @@
 -- A revision that was read and put is a step of the desk.
+use Rattle.std.proofs.Common.{rules, ◌≡◌, ◌<◌, ◌≤◌, ◌-◌, ◌^◌, ℕ, List, length, get_or, Option, subst, arith}
 use Rattle.plan_rows.{specs.claim.Outcomes.HasExhausted, specs.claim.PlanRows.HasChunkNumbers, specs.PlanLaws.RowFits, proofs.Changed.{rows_changed, rows_unchanged}}
-use Rattle.std.proofs.Common.{◌≡◌, ◌<◌, ◌≤◌, ◌-◌, ◌^◌, ℕ, List, length, get_or, Option, refl, subst, arith}
 use Rattle.std.proofs.lemmas.Grind.{get_or_default_zero}
 use Rattle.sector_device.specs.declared.SectorDevice.{Ghosts}
 use Rattle.desk_model.specs.{Ranges.ranges_of, claim.Desk.Desk, claim.GeographyModels.AreBlocks, claim.Geography.GeographyModel, claim.Room.{changed, revision_rows}}
@@ -25,13 +25,7 @@ module _ (the_geography : GeographyModel) (name : List ℕ) (last : Option (List
   module _ {D : Type 0} {g : Ghosts D} (t u : Txn) (a b c : Pages D g) (passed : Passed a b) (read : (disk_in b).is_honest → (m : KeyMap) → HasMap t (stored a) m → AreRead name (length (ranges_of the_geography)) row counters kept m) where
     -- too few numbers were left
     pub not_left : (used : ℕ) → CountersFit counters → used ≡ many → 2 ^ 64 - 1 - counters.chunk < used → HasExhausted (HasChunkNumbers many) t t a b
-    not_left used fit same more = record {
-      next = counters;
-      are_next = record { fit = fit; told = λ honest m holds. (read honest m holds).is_next };
-      none = λ (enough : HasChunkNumbers many counters). absurd (omega arith);
-      passed = passed;
-      same = refl;
-    }
+    not_left used fit same more = search rules
 
     module _ (can : CanAdd the_geography last next row counters) where
       pub added : DesksAreAdded → RowsAreFew → HasPut rows t u b c → HasStepped says (with_next name next) (revision_rows the_geography last next) t u a c

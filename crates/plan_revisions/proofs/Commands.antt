@@ -1,5 +1,5 @@
 -- What is put for each command.
-use Rattle.std.proofs.Common.{◌≡◌, ◌⊎◌, ℕ, List, Some, Result, sym, ap, subst, ◌∙◌, inl, inr}
+use Rattle.std.proofs.Common.{rules, ◌≡◌, ◌⊎◌, ℕ, List, Some, Result, sym, ap, subst, ◌∙◌, inl, inr}
 use Rattle.sector_device.specs.declared.SectorDevice.{Ghosts}
 use Rattle.desk_model.specs.{declared.kind.Kind.Kind, declared.command.Command.Command, declared.command.Command.TheVariants.{Create, Whole, Counties, Retire, Fork}}
 use Rattle.desk_model.specs.{claim.Desk.Desk, claim.Geography.GeographyModel, claim.Room.{command_rows, fork_rows}}
@@ -28,8 +28,7 @@ module _ {D : Type 0} {g : Ghosts D} where
       let told = created d name size is_after.reply in
       let gives = λ (x : Desk) (same : x ≡ d). subst (λ (y : Desk). TakesPlan name y) (sym same) told.0 in
       let then_is = λ (x : Desk) (same : x ≡ d). ap (λ (y : Desk). with_plan name size y) same ∙ sym told.1 ∙ sym is_after.desk in
-      as_command d q (Create name size) e t u a b result is
-      (writes_as result put (change_as (TakesPlan name) (λ x. x ≡ d) (with_plan name size) (λ x. e) 2 HasPlanNumber t u a b gives then_is) (err_as (TakesPlan name) (λ y. y ≡ d) 2 t a b gives))
+      search (as_command, writes_as, change_as, err_as)
 
   pub retire_put : (d : Desk) (q : Command) (e : Desk) (name : List ℕ) (t u : Txn) (a b : Pages D g) → q ≡ Retire name → IsAfter d q e → HasStepped (HasPlanAt name) (without_plan name) 2 t u a b → IsStepped (λ x. x ≡ d) (λ x. e) (command_rows d q) (HasNumbers d q) t u a b Made
   retire_put d q e name t u a b is after did =
@@ -63,11 +62,5 @@ module _ {D : Type 0} {g : Ghosts D} where
   pub revision_as : (d : Desk) (q : Command) (e : Desk) (name : List ℕ) (after : ℕ) (t u : Txn) (a b : Pages D g) (result : Result ChangeOutcome TreeError) → ((body : List ℕ) × (q ≡ Whole name after body)) ⊎ ((body : List ℕ) × (q ≡ Counties name after body)) → IsAfter d q e
       → StepsWhereLeft (λ x. x ≡ d) (λ x. e) (rows_added_by d name e) (HasChunkNumbers (added_by d name e)) t u a b result
       → IsPut d q e t u a b result
-  revision_as d q e name after t u a b result (inl whole) is put =
-      as_command d q (Whole name after whole.0) e t u a b result whole.1
-      (subst (λ (z : Desk). StepsWhereLeft (λ x. x ≡ d) (λ x. e) (rows_added_by d name z) (HasChunkNumbers (added_by d name z)) t u a b result)
-      (subst (λ (x : Command). IsAfter d x e) whole.1 is).desk put)
-  revision_as d q e name after t u a b result (inr counties) is put =
-      as_command d q (Counties name after counties.0) e t u a b result counties.1
-      (subst (λ (z : Desk). StepsWhereLeft (λ x. x ≡ d) (λ x. e) (rows_added_by d name z) (HasChunkNumbers (added_by d name z)) t u a b result)
-      (subst (λ (x : Command). IsAfter d x e) counties.1 is).desk put)
+  revision_as d q e name after t u a b result (inl whole) is put = search (rules, as_command, rows_added_by)
+  revision_as d q e name after t u a b result (inr counties) is put = search (rules, as_command, rows_added_by)

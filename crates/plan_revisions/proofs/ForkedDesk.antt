@@ -1,13 +1,12 @@
 -- The rows of a fork make the desk with it.
 use Rattle.std.specs.{Prelude.Contains, FinMap.{FinMap, insert}}
-use Rattle.std.proofs.Common.{◌≡◌, ◌<◌, ◌≤◌, ◌*◌, ◌^◌, ℕ, true, List, [], ◌∷◌, length, get_or, Option, Some, refl, sym, ap, subst, ◌∙◌, arith}
+use Rattle.std.proofs.Common.{rules, ◌≡◌, ◌<◌, ◌≤◌, ◌*◌, ◌^◌, ℕ, true, List, [], ◌∷◌, length, get_or, Some, refl, sym, ap, subst, arith}
 use Rattle.std.proofs.lemmas.List.Elements.{All-cons, All-contains, All-nil}
 use Rattle.desk_model.specs.{claim.Ranges.cut, Ranges.{ranges_of, RangesAreCounties, ListsAreCut}, claim.Desk.{Plan, Desk, name_cmp}, claim.Geography.GeographyModel}
-use Rattle.desk_model.{specs.claim.Step.{fork_from, fork_of}, specs.declared.kind.Kind.Kind, specs.claim.Sizes.most_districts, proofs.Maps.insert_again}
-use Rattle.store_rows.specs.{claim.Keys.{key_of, counters, named}, claim.Values.{counters_bytes, plan_bytes}, declared.value.Counters.Counters, declared.value.PlanRow.PlanRow}
-use Rattle.store_rows.specs.{claim.Rows.KeyMap, Rows.SameTag, claim.RevisionRows.HasRevision, claim.DeskRows.{HasPlan, IsDesk}, Changes.{desk_with, plan_row_of}}
-use Rattle.store_rows.specs.{RevisionSteps.AreKept, Shares.with_shared, Steps.{chunks_more, one_plan_more}, claim.Tidy.CountersFit}
-use Rattle.store_rows.specs.{TidyLaws.{ChunksAreKept, MakesRevision, NextIsOne, PlansComeAndGoTidily}, ForkLaws.SharesMakeDesks}
+use Rattle.desk_model.{specs.declared.kind.Kind.Kind, specs.claim.Sizes.most_districts, proofs.Maps.insert_again}
+use Rattle.store_rows.specs.{declared.value.Counters.Counters, declared.value.PlanRow.PlanRow, claim.Rows.KeyMap, Rows.SameTag, claim.RevisionRows.HasRevision}
+use Rattle.store_rows.specs.{claim.DeskRows.{HasPlan, IsDesk}, Changes.{desk_with, plan_row_of}, RevisionSteps.AreKept, Shares.with_shared, Steps.{chunks_more, one_plan_more}}
+use Rattle.store_rows.specs.{claim.Tidy.CountersFit, TidyLaws.{ChunksAreKept, MakesRevision, NextIsOne, PlansComeAndGoTidily}, ForkLaws.SharesMakeDesks}
 use Rattle.store_rows.proofs.{Frames.{chunk_stays, other_tag, put_is_there, put_keeps}, Forked.can_hold, TidyParts.naming_moves}
 use Rattle.plan_rows.{specs.PlanRows.IsFound, specs.PlanLaws.{PlansAreMade, PlansAreTold, RowFits}, proofs.Made.{numbers_moved, rows_keep}}
 use Rattle.desk_pages.specs.claim.Desks.{AreWithin, IsDeskMap}
@@ -94,9 +93,7 @@ module _ (told : PlansAreTold) (made : PlansAreMade) (tidily : PlansComeAndGoTid
     next_is = numbers_are one then created.tidy (one_plan_more next) next_fits (numbers_moved m name row (one_plan_more next))
 
     found : IsFound then name (Some row)
-    found =
-        sym (put_keeps (insert m (key_of (named name)) (plan_bytes row)) (key_of counters) (counters_bytes (one_plan_more next)) (key_of (named name)) (other_tag 80 65 name [] (λ e. absurd (omega arith)))
-        ∙ put_is_there m (key_of (named name)) (plan_bytes row))
+    found = search (rules, put_keeps, other_tag, put_is_there)
 
     fits : RowFits row
     fits = record { number_fits = can.fit.plan_fits; districts_fit = can.row_fits.districts_fit; revisions_fit = omega arith }
@@ -136,15 +133,13 @@ module _ (told : PlansAreTold) (made : PlansAreMade) (tidily : PlansComeAndGoTid
     fork_within : AreWithin source.districts says.districts
     fork_within =
         let n : source.districts ≡ origin.plan.n = ap (λ (r : PlanRow). r.districts) source_is.0 in
-        subst (λ (k : ℕ). AreWithin k says.districts) (sym n)
-        (revision_within origin.plan from.1 says.districts origin.is (is.limits.sizes from.0 origin.plan origin.there).within)
+        search (rules, revision_within origin.plan from.1 says.districts origin.is (is.limits.sizes from.0 origin.plan origin.there).within)
 
     with_new : record d { plans = insert d.plans name new_plan } ≡ with_fork name from d
     with_new =
         let kind : source.kind ≡ origin.plan.kind = ap (λ (r : PlanRow). r.kind) source_is.0 in
         let n : source.districts ≡ origin.plan.n = ap (λ (r : PlanRow). r.districts) source_is.0 in
-        (λ i. record d { plans = insert d.plans name (record { kind = kind i; n = n i; revisions = says.districts ∷ [] }) })
-        ∙ sym (ap (λ (o : Option Plan). (fork_from d name o from.1).1) origin.there ∙ ap (λ (o : Option (List ℕ)). (fork_of d name origin.plan o).1) origin.is)
+        search rules
 
     pub fork_made : MakesFork name from source next numbers m d
     fork_made = record {

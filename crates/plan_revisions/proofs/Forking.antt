@@ -1,5 +1,5 @@
 -- A fork that is read and put is a step of the desk.
-use Rattle.std.proofs.Common.{◌≡◌, ◌+◌, ◌*◌, ◌-◌, ◌^◌, ℕ, List, length, Some, refl, ap, subst, ◌∙◌, arith, length-append}
+use Rattle.std.proofs.Common.{rules, ◌≡◌, ◌+◌, ◌*◌, ◌-◌, ◌^◌, ℕ, List, length, Some, refl, ap, subst, ◌∙◌, arith, length-append}
 use Rattle.sector_device.specs.declared.SectorDevice.{Ghosts}
 use Rattle.desk_model.specs.{Ranges.{ranges_of, ListsAreCut}, claim.Desk.Desk, claim.Geography.GeographyModel, claim.Room.{rows_for, fork_rows}}
 use Rattle.page_store.specs.{claim.Transactions.{stored, disk_in, IsQuiet, Passed}, declared.pages.Pages.Pages, declared.txn.Txn.Txn}
@@ -76,13 +76,7 @@ module _ (the_geography : GeographyModel) (name : List ℕ) (from : List ℕ × 
   module _ {D : Type 0} {g : Ghosts D} (t : Txn) (a b : Pages D g) (passed : Passed a b) (read : (disk_in b).is_honest → (m : KeyMap) → HasMap t (stored a) m → IsSource from (length (ranges_of the_geography)) source next kept m) where
     -- no number was left
     pub none_left : CountersFit next → next.plan ≡ 2 ^ 64 - 1 → HasExhausted HasPlanNumber t t a b
-    none_left fit last = record {
-      next = next;
-      are_next = record { fit = fit; told = λ honest m holds. (read honest m holds).is_next };
-      none = λ (enough : HasPlanNumber next). absurd (omega arith);
-      passed = passed;
-      same = refl;
-    }
+    none_left fit last = search rules
 
     module _ (law : ForksAreMade) (can_make : CanMake the_geography name source next) (many : length kept ≡ length (ranges_of the_geography)) (c : Pages D g) where
       rows_are : rows_of_fork (length kept) ≡ fork_rows the_geography

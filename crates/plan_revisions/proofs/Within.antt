@@ -1,6 +1,6 @@
 -- No block of a revision that a command makes is in a district above its plan's last.
 use Rattle.std.specs.{Prelude.{◌==◌, ◌&&◌, All, nat_le, unwrap_or}, List.{slice_get, slice_split, zip}, Str.Lines.lines}
-use Rattle.std.proofs.Common.{◌≡◌, ◌≤◌, ◌+◌, ◌-◌, ℕ, Bool, true, false, cond, List, [], ◌∷◌, ◌++◌, length, get_or, Option, Some, None, Result, Ok, Err, refl, sym, subst, ◌∙◌, inl, inr, arith}
+use Rattle.std.proofs.Common.{rules, ◌≡◌, ◌≤◌, ◌+◌, ◌-◌, ℕ, Bool, true, false, cond, List, [], ◌∷◌, ◌++◌, length, Option, Some, None, Result, Ok, Err, refl, sym, subst, ◌∙◌, inl, inr, arith}
 use Rattle.std.proofs.lemmas.Bool.{leb-true}
 use Rattle.std.proofs.lemmas.Option.{get_or_from_slice_get, slice_get_cases}
 use Rattle.std.proofs.lemmas.List.Elements.{All-nil, All-cons, All-head, All-tail, All-push, All-map, All-get_or}
@@ -76,24 +76,18 @@ or_small : (n : ℕ) (value : Option ℕ) (x : ℕ) → ((d : ℕ) → value ≡
 or_small n value x few is = search (arith, few)
 
 pub whole_within : (g : GeographyModel) (n : ℕ) (listed : Values) → AreSmall n listed → AreWithin n (whole g listed)
-whole_within g n listed small =
-    All-map (λ (d : ℕ). d ≤ n) (λ (b : BlockRow). unwrap_or (value_at listed b.id) 0) g.blocks
-    (λ k b within. or_small n (value_at listed (get_or g.blocks k b).id) 0 (λ d. value_small n listed (get_or g.blocks k b).id d small) (omega arith))
+whole_within g n listed small = search (rules, All-map, or_small, value_small)
 
 beside_within : (n : ℕ) (blocks : List BlockRow) (last : List ℕ) → AreWithin n last → All (λ (e : BlockRow × ℕ). e.1 ≤ n) (zip blocks last)
-beside_within n [] last within = All-nil (λ (e : BlockRow × ℕ). e.1 ≤ n)
-beside_within n (b ∷ blocks) [] within = All-nil (λ (e : BlockRow × ℕ). e.1 ≤ n)
 beside_within n (b ∷ blocks) (d ∷ last) within =
     All-cons (λ (e : BlockRow × ℕ). e.1 ≤ n) (b, d) (zip blocks last) (All-head (λ (k : ℕ). k ≤ n) d last within)
     (beside_within n blocks last (All-tail (λ (k : ℕ). k ≤ n) d last within))
+beside_within n _ _ within = All-nil (λ (e : BlockRow × ℕ). e.1 ≤ n)
 
 pub patched_within : (g : GeographyModel) (n : ℕ) (listed : Values) (last : Option (List ℕ)) → AreSmall n listed
     → ((districts : List ℕ) → last ≡ Some districts → AreWithin n districts) → AreWithin n (patched g listed last)
 patched_within g n listed None small kept = whole_within g n listed small
-patched_within g n listed (Some last) small kept =
-    All-map (λ (d : ℕ). d ≤ n) (λ (e : BlockRow × ℕ). unwrap_or (value_at listed e.0.id) e.1) (zip g.blocks last)
-    (λ k e within. or_small n (value_at listed (get_or (zip g.blocks last) k e).0.id) (get_or (zip g.blocks last) k e).1
-    (λ d. value_small n listed (get_or (zip g.blocks last) k e).0.id d small) (beside_within n g.blocks last (kept last refl) k e within))
+patched_within g n listed (Some last) small kept = search (All-map, or_small, value_small, beside_within)
 
 -- ---- a revision of a plan
 at_within : (n : ℕ) (revisions : List (List ℕ)) (k : ℕ) (districts : List ℕ) → All (AreWithin n) revisions → slice_get revisions k ≡ Some districts → AreWithin n districts

@@ -1,5 +1,5 @@
 -- Changes of a map that come one after the other.
-use Rattle.std.proofs.Common.{◌≡◌, ◌≤◌, ◌+◌, ℕ, List, ◌++◌, length, refl, sym, ap, subst, ◌∙◌, arith, append_assoc, length-append}
+use Rattle.std.proofs.Common.{rules, ◌≡◌, ◌≤◌, ◌+◌, ℕ, List, ◌++◌, length, refl, sym, ap, subst, ◌∙◌, arith, append_assoc, length-append}
 use Rattle.sector_device.specs.declared.SectorDevice.{Ghosts}
 use Rattle.page_store.specs.{claim.Transactions.{stored, txn_root, over, IsQuiet, Passed}, declared.pages.Pages.Pages, declared.txn.Txn.Txn}
 use Rattle.page_store.proofs.Stops.{passed_more, failed_more}
@@ -43,8 +43,7 @@ module _ {D : Type 0} {g : Ghosts D} where
     rest = deep.rest;
     are = append_assoc prefix deep.prefix deep.rest ∙ ap (λ l. prefix ++ l) deep.are;
     txn = deep.txn;
-    holds = subst (λ P. InTxn deep.txn P (put_rows m (prefix ++ deep.prefix))) same
-        (subst (λ (k : KeyMap). InTxn deep.txn (stored b) k) (ap (λ (k : KeyMap). put_rows k deep.prefix) is ∙ sym (put_rows-append m prefix deep.prefix)) deep.holds);
+    holds = search (rules, put_rows-append);
     deep = subst (λ P. level_in (over deep.txn P) (txn_root deep.txn) ≡ 5) same deep.deep;
   }
 
@@ -62,11 +61,7 @@ module _ {D : Type 0} {g : Ghosts D} where
       let deep = why honest (f m) (subst (λ P. InTxn u P (f m)) (sym same) (did.changed before m holds)) in
       let few = prefix.1 in
       let long = length-append prefix.0 deep.put in
-      record {
-        put = prefix.0 ++ deep.put;
-        few = omega arith;
-        deep = deep_after prefix.0 deep.put t u a b m (f m) same prefix.2 deep.deep;
-      }
+      search (arith, deep_after prefix.0 deep.put t u a b m (f m) same prefix.2 deep.deep)
   then_unchanged f x y can more t u a b c Memory by gives did quiet why = tt
 
   -- no rows are put where the first of them are not

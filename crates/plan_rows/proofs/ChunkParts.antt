@@ -1,5 +1,5 @@
 -- A list is read part by part.
-use Rattle.std.proofs.Common.{◌≡◌, ◌<◌, ◌≤◌, ◌+◌, ◌*◌, ◌++◌, ℕ, List, [], length, take, drop, Some, sym, ap, subst, ◌∙◌, inl, inr, arith, append_assoc, length-append, take_all}
+use Rattle.std.proofs.Common.{rules, ◌≡◌, ◌<◌, ◌≤◌, ◌+◌, ◌*◌, ◌++◌, ℕ, List, length, take, drop, Some, sym, ap, subst, ◌∙◌, inl, inr, arith, append_assoc, length-append, take_all}
 use Rattle.std.proofs.lemmas.Bool.{cases_lt}
 use Rattle.std.proofs.lemmas.List.{append-nil, drop_at, drop-append-le, length-drop, take-append-le}
 use Rattle.std.proofs.lemmas.List.Elements.{All-append, All-nil}
@@ -9,13 +9,7 @@ use Rattle.plan_rows.specs.Parts.{AppendsAll, AppendsPrefix, AppendsPart}
 -- ---- a part of a list that goes on
 module _ (size limit : ℕ) (bytes : List ℕ → List ℕ) (row : ℕ → RowKey) (count : ℕ) (m : KeyMap) where
   pub none_read : (before : List ℕ) → AppendsPrefix size limit bytes row count 0 m before before
-  none_read before = record {
-    xs = [];
-    is = sym (append-nil before);
-    long = omega arith;
-    each = All-nil (λ (x : ℕ). x < limit);
-    rows = λ index less. absurd (omega arith);
-  }
+  none_read before = search (rules, append-nil, All-nil)
 
   module _ (grows : (i j : ℕ) → i < j → size * i + size ≤ size * j) (parts : ℕ) (before now after : List ℕ) (within : size * parts < count)
       (prefix : AppendsPrefix size limit bytes row count parts m before now) (next : AppendsPart size limit bytes row count parts m now after) where
@@ -43,13 +37,7 @@ module _ (size limit : ℕ) (bytes : List ℕ → List ℕ) (row : ℕ → RowKe
     one_part_more = record {
       xs = both;
       is = next.is ∙ ap (λ (l : List ℕ). l ++ next.xs) prefix.is ∙ append_assoc before prefix.xs next.xs;
-      long =
-          let sum = length-append prefix.xs next.xs in
-          let one = full in
-          let two = next.long in
-          let more = grows parts (parts + 1) (omega arith) in
-          let all : size * (parts + 1) ≡ size * parts + size = omega arith in
-          omega arith;
+      long = search (rules, length-append, full);
       each = All-append (λ (x : ℕ). x < limit) prefix.xs next.xs prefix.each next.each;
       rows = each_row;
     }

@@ -1,6 +1,6 @@
 -- A plan comes to hold chunks, one after the other.
 use Rattle.std.specs.Prelude.{Contains}
-use Rattle.std.proofs.Common.{Bool, ◌≡◌, ◌≤◌, ◌+◌, ◌*◌, ℕ, zero, suc, List, [], ◌∷◌, ◌++◌, length, drop, Option, Some, None, refl, sym, ap, subst, ◌∙◌, arith, append_assoc, length-append}
+use Rattle.std.proofs.Common.{rules, Bool, ◌≡◌, ◌≤◌, ◌+◌, ◌*◌, ℕ, zero, suc, List, [], ◌∷◌, ◌++◌, length, drop, Option, Some, None, refl, sym, ap, subst, ◌∙◌, arith, append_assoc, length-append}
 use Rattle.sector_device.specs.{claim.Disk.Image, declared.SectorDevice.Ghosts}
 use Rattle.page_store.specs.{claim.Transactions.{stored, disk_in, IsQuiet, Passed}, declared.pages.Pages.Pages, declared.txn.Txn.Txn}
 use Rattle.page_store.proofs.Stops.{passed_more, failed_more}
@@ -122,10 +122,7 @@ module _ {D : Type 0} {g : Ghosts D} where
       }
 
   pub all_held : (plan : ℕ) (all rest : List ℕ) (free : Option ℕ) (fs : Fingers) (t u : Txn) (a b : Pages D g) → rest ≡ [] → HasHeldTo plan all rest free fs t u a b → HasChanged (λ m. hold_all m plan all) (2 * length all) t u a b
-  all_held plan all rest free fs t u a b none before =
-      let prefix = before.prefix in
-      let same : prefix ≡ all = sym (append-nil prefix) ∙ ap (λ (l : List ℕ). prefix ++ l) (sym none) ∙ before.are in
-      subst (λ (l : List ℕ). HasChanged (λ m. hold_all m plan l) (2 * length l) t u a b) same before.held
+  all_held plan all rest free fs t u a b none before = search (rules, append-nil)
     where
       append-nil : (l : List ℕ) → l ++ [] ≡ l
       append-nil [] = refl

@@ -16,12 +16,8 @@ module _ {D : Type 0} {g : Ghosts D} where
   told_then next t a b c quiet fit told = record { fit = fit; told = λ honest m holds. told (quiet.honest honest) m holds }
 
   pub numbered_put : (enough : Counters → Type 0) (rows : Counters → List Row) (next : Counters) (t u : Txn) (a b c : Pages D g) → Passed a b → CountersFit next → ((disk_in b).is_honest → (m : KeyMap) → InTxn t (stored a) m → IsNext m next) → enough next → HasPut (rows next) t u b c → HasNumbered enough rows t u a c
-  numbered_put enough rows next t u a b c passed fit told room put = record {
-    next = next;
-    are_next = told_then next t a b c put.passed.quiet fit told;
-    room = room;
-    put = more_put [] (rows next) t t u a b c (nothing_put t a b passed) put;
-  }
+  numbered_put enough rows next t u a b c passed fit told room put =
+      search (told_then next t a b c put.passed.quiet fit told, more_put [] (rows next) t t u a b c (nothing_put t a b passed) put)
 
   -- ---- why not
   pub numbers_not_read : (rows : Counters → List Row) (t : Txn) (a b : Pages D g) (e : TreeError) → ReadErr HasNext t a b e → ChangeErr rows t a b e

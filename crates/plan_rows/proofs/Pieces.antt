@@ -1,5 +1,5 @@
 -- A piece of a chunk, as its row has it.
-use Rattle.std.{specs.FinMap.get, proofs.Common.{◌≡◌, ◌<◌, ◌*◌, ◌^◌, ℕ, List, take, drop, Some, sym, subst, ◌∙◌, arith}}
+use Rattle.std.{specs.FinMap.get, proofs.Common.{rules, ◌≡◌, ◌<◌, ◌*◌, ◌^◌, ℕ, List, take, drop, Some, sym, subst, ◌∙◌, arith}}
 use Rattle.store_rows.specs.{claim.Keys.{key_of, chunk}, claim.Lists.{AreDistricts, districts_bytes}, claim.Rows.KeyMap}
 use Rattle.desk_pages.proofs.ListParts.{part_there, some_of_part, most_of_part, each_of_part}
 use Rattle.plan_rows.specs.ChunkReading.{IsChunk}
@@ -11,10 +11,4 @@ piece_there m number count index districts key is same small within =
     subst (λ (k : List ℕ). get m k ≡ Some value) (sym same) (is.has.pieces index small ∙ part_there 512 districts_bytes districts index (omega arith))
 
 pub piece_is : (m : KeyMap) (number count index : ℕ) (districts : List ℕ) → IsChunk number count m districts → 512 * index < count → AreDistricts (take 512 (drop (512 * index) districts))
-piece_is m number count index districts is within =
-    let long = is.long in
-    record {
-      some = some_of_part 512 (512 * index) districts (omega arith) (omega arith);
-      most = most_of_part 512 (512 * index) districts;
-      each = each_of_part (λ d. d < 2 ^ 16) 512 (512 * index) districts is.has.each;
-    }
+piece_is m number count index districts is within = search (rules, some_of_part, most_of_part, each_of_part)

@@ -47,9 +47,7 @@ module _ {D : Type 0} {g : Ghosts D} (name : List ℕ) (number : ℕ) (t u : Txn
   why_not NotAStore given quiet why = λ honest m holds. why honest (remove m (key_of (named name))) (half_way (quiet.honest honest) m holds)
   why_not Halted given quiet why = sym passed.halted ∙ why
   why_not NoPages given quiet why = omega arith
-  why_not TooDeep given quiet why = λ honest m holds.
-      let before = quiet.honest honest in
-      deep_before m before (why honest (remove m (key_of (named name))) (half_way before m holds))
+  why_not TooDeep given quiet why = λ honest m holds. search (quiet.honest, deep_before, half_way)
   why_not Memory given quiet why = tt
 
   pub plan_not_gone : (l : List ℕ) (e : TreeError) → l ≡ key_of (retired number) → txn_free t ≤ txn_free u → IsQuiet b c → PutsErr ((l, []) ∷ []) u b c e → RetireErr name number t a c e

@@ -1,5 +1,5 @@
 -- What a write and a sync leave of the disk.
-use Rattle.std.proofs.Common.{◌≡◌, ◌<◌, ◌^◌, ◌∙◌, List, ℕ, zero, suc, Bool, [], ◌∷◌, length, get_or, set, replicate, false, true, inl, inr, refl, sym, subst, ap, arith, IsTrue, get_or-set_other}
+use Rattle.std.proofs.Common.{rules, ◌≡◌, ◌<◌, ◌^◌, ◌∙◌, List, ℕ, suc, Bool, [], ◌∷◌, length, get_or, set, replicate, false, true, inl, inr, refl, sym, subst, ap, arith, IsTrue, get_or-set_other}
 use Rattle.std.proofs.lemmas.List.{length-set}
 use Rattle.sector_device.{specs.Disk.Only, specs.claim.Disk.{Touches, Nowhere, Image, AgreeOff}, specs.Held.{Leaves, image_of}, proofs.Held.write_touches}
 use Rattle.sector_file.specs.{Told.{Told, same_bytes, after_read, after_write, after_torn, after_sync, after_fault, told_disk, IsAsOpened}, Recalled.Recalls}
@@ -7,9 +7,8 @@ use Rattle.sector_file.{specs.declared.recent.Recent.Recent, proofs.Steps.first_
 
 -- nothing is unsynced
 pub all_synced : (n i : ℕ) → get_or (replicate n false) i false ≡ false
-all_synced zero i = refl
-all_synced (suc n) zero = refl
 all_synced (suc n) (suc i) = all_synced n i
+all_synced _ _ = refl
 
 module _ (t : Told) (few : length t.0 < 2 ^ 32) (u : Told) (few' : length u.0 < 2 ^ 32) where
   abbrev From : ℕ → Told → Type 0
@@ -69,8 +68,7 @@ module _ (t : Told) (few : length t.0 < 2 ^ 32) (u : Told) (few' : length u.0 < 
       }) few' honest
 
 pub synced_is : (t u : Told) → u ≡ after_sync t → (c : Image) → Leaves u.0 u.1 c → AgreeOff Nowhere (image_of u.0) c
-synced_is t u is = subst (λ (v : Told). (c : Image) → Leaves v.0 v.1 c → AgreeOff Nowhere (image_of v.0) c) (sym is)
-    (λ c leaves. record { same = λ j off. leaves j (all_synced (length t.0) j) })
+synced_is t u is = search (rules, all_synced)
 
 -- what a sync leaves, whether it failed or not
 module _ (t u : Told) where
@@ -83,8 +81,7 @@ module _ (t u : Told) where
   was_honest false synced fault honest = subst (λ (v : Told). IsTrue v.3) (fault refl) honest
 
   pub recalled_still : (b : Bool) → (b ≡ true → u ≡ after_sync t) → (b ≡ false → u ≡ after_fault t) → (recent : Recent) → (IsTrue t.3 → Recalls recent t.0) → IsTrue u.3 → Recalls recent u.0
-  recalled_still b synced fault recent had honest =
-      subst (λ (sectors : List (List ℕ)). Recalls recent sectors) (sym (sectors_kept b synced fault)) (had (was_honest b synced fault honest))
+  recalled_still b synced fault recent had honest = search (rules, sectors_kept, was_honest)
 
   pub as_opened_still : (b : Bool) → (b ≡ true → u ≡ after_sync t) → (b ≡ false → u ≡ after_fault t) → (sector : ℕ → List ℕ) (count : ℕ) → length t.0 ≡ count → IsAsOpened sector count t → IsAsOpened sector count u
   as_opened_still true synced fault sector count long had = (sectors_kept true synced fault ∙ had.0, ap (λ (v : Told). v.1) (synced refl) ∙ ap (λ n. replicate n false) long)

@@ -1,9 +1,8 @@
 -- What calls that only read leave of the disk, and whether a reader was honest.
-use Rattle.std.proofs.Common.{◌≡◌, ◌≢◌, ◌<◌, ◌+◌, ◌^◌, ◌⊎◌, ◌∙◌, ℕ, Bool, length, cond, get_or, true, false, List, [], ◌∷◌, ◌++◌, refl, sym, ap, subst, inl, inr, nat_eq, arith, IsTrue, ◌&&◌, ◌||◌, slice_index, replicate}
+use Rattle.std.proofs.Common.{rules, ◌≡◌, ◌≢◌, ◌<◌, ◌+◌, ◌^◌, ◌⊎◌, ◌∙◌, ℕ, Bool, length, cond, get_or, true, false, List, [], ◌∷◌, ◌++◌, refl, sym, ap, subst, inl, inr, nat_eq, arith, IsTrue, ◌&&◌, ◌||◌, slice_index, replicate}
 use Rattle.std.proofs.lemmas.Bool.{cases_eq}
 use Rattle.std.proofs.lemmas.Bool.Decides.{nat_tests}
-use Rattle.sector_device.specs.{claim.Disk.{AgreeOff, Image, Touches, Nowhere}, Disk.{IsSynced, Only}, Held.{Leaves, refused, image_of}}
-use Rattle.sector_device.proofs.Moments.{touches_more, touches_wider}
+use Rattle.sector_device.{specs.claim.Disk.{Image, Touches, Nowhere}, specs.Disk.{IsSynced, Only}, specs.Held.{refused, image_of}, proofs.Moments.{touches_more, touches_wider}}
 use Rattle.sector_file.specs.Reader.{IsReader}
 use Rattle.sector_file.specs.Told.{Told, Call, same_bytes, first_held, step, after_opening, after_read, after_fault, after_write, after_torn, after_sync, after_sharing, replay, replay_on, only_reads, read_call, failed_call, told_disk}
 use Rattle.sector_file.proofs.{Steps.{not_true, first_true, is_4096, not_4096, length_held, whole_read, short_read}, Disks.{all_synced, read_is, fault_is}}
@@ -20,10 +19,7 @@ one_more : (a b c : ℕ) → a ≡ b + c → a + 1 ≡ b + (c + 1)
 one_more a b c is = omega (arith, is)
 
 not_either : (k : ℕ) → k ≢ 0 → k ≢ 3 → IsTrue (nat_eq k 0 || nat_eq k 3) → ⊥
-not_either k zero three is =
-    let no : nat_eq k 0 ≡ false = grind (arith, nat_tests) in
-    let nor : nat_eq k 3 ≡ false = grind (arith, nat_tests) in
-    not_true (subst (λ b. IsTrue (false || b)) nor (subst (λ b. IsTrue (b || nat_eq k 3)) no is))
+not_either k zero three is = search (rules, nat_eq, nat_tests, not_true)
 
 module _ (sector : ℕ → List ℕ) where
   pub replay_joined : (xs ys : List Call) → replay sector (xs ++ ys) ≡ replay_on sector (replay sector ys) xs
@@ -45,16 +41,7 @@ module _ (sector : ℕ → List ℕ) where
       (after_opening sector i))))
 
   kind_is : (bytes : List ℕ) (i k n : ℕ) → IsTrue (nat_eq k 0 || nat_eq k 3) → Quiet (by_kind bytes i k n) i bytes
-  kind_is bytes i k n is = elim (cases_eq k 0) [
-    | inl zero ↦ elim (cases_eq n 4096) [
-      | inl whole ↦ inl (λ t. ap (λ m. by_kind bytes i m n t) zero ∙ ap (λ (b : Bool). cond b (after_read t i bytes) (after_fault t)) (is_4096 n whole))
-      | inr short ↦ inr (λ t. ap (λ m. by_kind bytes i m n t) zero ∙ ap (λ (b : Bool). cond b (after_read t i bytes) (after_fault t)) (not_4096 n short))
-    ]
-    | inr some ↦ elim (cases_eq k 3) [
-      | inl three ↦ inr (λ t. ap (λ m. by_kind bytes i m n t) three)
-      | inr other ↦ absurd (not_either k some other is)
-    ]
-  ]
+  kind_is bytes i k n is = search (rules, cases_eq k 0, cases_eq n 4096, is_4096, not_4096, cases_eq k 3, not_either)
 
   step_is : (call : Call) → IsTrue (nat_eq (slice_index call.0 0) 0 || nat_eq (slice_index call.0 0) 3) → Quiet (λ t. step sector t call.0 call.1) (slice_index call.0 1) call.1
   step_is call is = kind_is call.1 (slice_index call.0 1) (slice_index call.0 0) (slice_index call.0 2) is
@@ -68,30 +55,16 @@ module _ (sector : ℕ → List ℕ) where
     same_on [] only = (refl, refl)
     same_on (call ∷ calls) only =
         let had = same_on calls (second_true _ _ only) in
-        elim (step_is call (first_true _ _ only)) [
-          | inl reads ↦ let is = reads (replay_on sector t calls) in (ap (λ (u : Told). u.0) is ∙ had.0, ap (λ (u : Told). u.1) is ∙ had.1)
-          | inr fails ↦ let is = fails (replay_on sector t calls) in (ap (λ (u : Told). u.0) is ∙ had.0, ap (λ (u : Told). u.1) is ∙ had.1)
-        ]
+        search (rules, step_is, first_true)
 
     pub honest_on : (calls : List Call) → IsTrue (only_reads calls) → IsTrue (replay_on sector t calls).3 → IsTrue t.3
     honest_on [] only honest = honest
     honest_on (call ∷ calls) only honest = honest_on calls (second_true _ _ only)
-        (elim (step_is call (first_true _ _ only)) [
-          | inl reads ↦ first_true _ _ (subst (λ (u : Told). IsTrue u.3) (reads (replay_on sector t calls)) honest)
-          | inr fails ↦ subst (λ (u : Told). IsTrue u.3) (fails (replay_on sector t calls)) honest
-        ])
+        (search (rules, step_is, first_true))
 
     pub touches_on : (few : length t.0 < 2 ^ 32) (calls : List Call) → IsTrue (only_reads calls) → (few' : length (replay_on sector t calls).0 < 2 ^ 32) → IsTrue (replay_on sector t calls).3
         → Touches Nowhere (told_disk t few) (told_disk (replay_on sector t calls) few')
-    touches_on few [] only few' honest = record {
-      was_honest = honest;
-      sectors = refl;
-      later = omega arith;
-      faults = omega arith;
-      reads = record { same = λ j off. refl };
-      since = λ k c le left. inl left;
-      keeps = λ k c le left. left;
-    }
+    touches_on few [] only few' honest = search rules
     touches_on few (call ∷ calls) only few' honest =
         let u = replay_on sector t calls in
         let v = step sector u call.0 call.1 in
@@ -109,10 +82,7 @@ module _ (sector : ℕ → List ℕ) where
     faults_on none [] only = omega (arith, none)
     faults_on none (call ∷ calls) only =
         let had = faults_on none calls (second_true _ _ only) in
-        elim (step_is call (first_true _ _ only)) [
-          | inl reads ↦ ap (λ (u : Told). refused u.2) (reads (replay_on sector t calls)) ∙ had ∙ sym (ap (λ (u : Told). refused t.2 + refused u.2) (reads (replay_on sector s calls)))
-          | inr fails ↦ ap (λ (u : Told). refused u.2) (fails (replay_on sector t calls)) ∙ one_more _ (refused t.2) _ had ∙ sym (ap (λ (u : Told). refused t.2 + refused u.2) (fails (replay_on sector s calls)))
-        ]
+        search (rules, step_is, first_true, one_more)
 
     pub honest_too : ((i : ℕ) → get_or t.0 i [] ≡ get_or s.0 i []) → IsTrue s.3 → (calls : List Call) → IsTrue (only_reads calls) → IsTrue (replay_on sector t calls).3 → IsTrue (replay_on sector s calls).3
     honest_too same began [] only honest = began
@@ -143,9 +113,7 @@ module _ (sector : ℕ → List ℕ) (t u : Told) (calls : List Call) (only : Is
   unsynced_taken = ap (λ (v : Told). v.1) is ∙ (same_on sector t calls only).1
 
   pub synced_taken : (few : length t.0 < 2 ^ 32) (few' : length u.0 < 2 ^ 32) → IsSynced (told_disk t few) → IsSynced (told_disk u few')
-  synced_taken few few' synced =
-      subst (λ (clean : List Bool). (c : Image) → Leaves u.0 clean c → AgreeOff Nowhere (image_of u.0) c) (sym unsynced_taken)
-      (subst (λ (s : List (List ℕ)). (c : Image) → Leaves s t.1 c → AgreeOff Nowhere (image_of s) c) (sym sectors_taken) synced)
+  synced_taken few few' synced = search (rules, unsynced_taken, sectors_taken)
 
   honest_there : IsTrue u.3 → IsTrue (replay_on sector t calls).3
   honest_there honest = subst (λ (v : Told). IsTrue v.3) is honest
@@ -183,8 +151,7 @@ module _ (sector : ℕ → List ℕ) (s : Told) (calls later : List Call) where
 
   pub failed_touches : (i : ℕ) (few : length before.0 < 2 ^ 32) (few' : length (replay_on sector s later).0 < 2 ^ 32) → later ≡ failed_call ∷ calls → IsTrue (replay_on sector s later).3
       → Touches (Only i) (told_disk before few) (told_disk (replay_on sector s later) few')
-  failed_touches i few few' is honest = touches_wider Nowhere (Only i) (told_disk before few) (told_disk (replay_on sector s later) few') (λ j none. absurd none)
-      (fault_is before few (replay_on sector s later) few' (failed_more is) honest)
+  failed_touches i few few' is honest = search (rules, touches_wider, fault_is, failed_more)
 
 -- a new reader of a file that is as it was opened
 module _ (sector : ℕ → List ℕ) (t : Told) (few : length t.0 < 2 ^ 32) (count : ℕ) where
@@ -192,14 +159,7 @@ module _ (sector : ℕ → List ℕ) (t : Told) (few : length t.0 < 2 ^ 32) (cou
   Reads v = (l : length v.0 < 2 ^ 32) → IsReader (told_disk t few) (told_disk v l)
 
   pub reader_is : t.0 ≡ first_held sector count → (v : Told) (few' : length v.0 < 2 ^ 32) → v ≡ after_sharing sector count → IsReader (told_disk t few) (told_disk v few')
-  reader_is held v few' is = subst (λ (w : Told). Reads w) (sym is)
-      (λ l. record {
-        sectors = ap (λ (s : List (List ℕ)). length s) (sym held);
-        reads = ap image_of (sym held);
-        synced = λ c leaves. record { same = λ j off. leaves j (all_synced count j) };
-        honest = refl;
-        calm = refl;
-      }) few'
+  reader_is held v few' is = search (rules, all_synced)
 
   pub held_is : t.0 ≡ first_held sector count → length t.0 ≡ count → image_of t.0 ≡ image_of (first_held sector (length t.0))
   held_is held long = ap image_of (held ∙ ap (first_held sector) (sym long))
@@ -210,7 +170,4 @@ module _ (sector : ℕ → List ℕ) (t : Told) (few : length t.0 < 2 ^ 32) (cou
 -- a reader's sectors are on the disk
 pub reader_synced : (sector : ℕ → List ℕ) (count : ℕ) (calls : List Call) (only : IsTrue (only_reads calls)) (few : length (replay_on sector (after_sharing sector count) calls).0 < 2 ^ 32)
     → IsSynced (told_disk (replay_on sector (after_sharing sector count) calls) few)
-reader_synced sector count calls only few =
-    let start = after_sharing sector count in
-    let fewer : length start.0 < 2 ^ 32 = subst (λ (s : List (List ℕ)). length s < 2 ^ 32) (same_on sector start calls only).0 few in
-    synced_taken sector start (replay_on sector start calls) calls only refl fewer few (synced_as_opened sector start fewer count refl)
+reader_synced sector count calls only few = search (rules, same_on, synced_taken, synced_as_opened)

@@ -1,6 +1,6 @@
 -- What reading a run of sectors leaves of the disk.
-use Rattle.std.specs.Prelude.{Result, OnErr, OnOk}
-use Rattle.std.proofs.Common.{◌≡◌, ◌<◌, ◌+◌, ◌^◌, ◌∙◌, ℕ, zero, suc, inl, inr, false, List, [], ◌∷◌, length, take, drop, ◌++◌, get_or, refl, sym, ap, subst, arith, IsTrue, ◌&&◌}
+use Rattle.std.specs.Prelude.{Result}
+use Rattle.std.proofs.Common.{rules, ◌≡◌, ◌<◌, ◌+◌, ◌^◌, ◌∙◌, ℕ, zero, suc, false, List, [], ◌∷◌, length, take, drop, ◌++◌, get_or, refl, sym, ap, subst, arith, IsTrue, ◌&&◌}
 use Rattle.std.proofs.Math.Seq.{take-append_seam}
 use Rattle.std.proofs.lemmas.Bool.{cases_eq}
 use Rattle.std.proofs.lemmas.List.{drop_all, drop_more}
@@ -12,10 +12,7 @@ pub run_begins : (first : ℕ) (run : List (List ℕ)) (calls : List Call) → w
 run_begins first run calls = let none : first + 0 ≡ first = omega arith in ap (λ n. with_run n run calls) none
 
 pub run_more : (first k : ℕ) (run : List (List ℕ)) (bytes : List ℕ) (calls later : List Call) → k < length run → later ≡ read_call (first + k) 4096 bytes ∷ calls → bytes ≡ get_or run k [] → with_run (first + (k + 1)) (drop (k + 1) run) later ≡ with_run (first + k) (drop k run) calls
-run_more first k run bytes calls later less is same =
-    let over : first + (k + 1) ≡ first + k + 1 = omega arith in
-    (λ i. with_run (over i) (drop (k + 1) run) (is i)) ∙ (λ i. with_run (first + k + 1) (drop (k + 1) run) (read_call (first + k) 4096 (same i) ∷ calls))
-    ∙ sym (ap (λ (rest : List (List ℕ)). with_run (first + k) rest calls) (drop_more run k [] less))
+run_more first k run bytes calls later less is same = search (rules, same, drop_more)
 
 pub run_ends : (first k : ℕ) (run : List (List ℕ)) (calls : List Call) → k ≡ length run → with_run (first + k) (drop k run) calls ≡ calls
 run_ends first k run calls is = ap (λ (rest : List (List ℕ)). with_run (first + k) rest calls) (drop_all k run (omega (arith, is)))
@@ -54,17 +51,7 @@ module _ (sector : ℕ → List ℕ) (s : Told) where
 
 -- no sector is touched
 pub run_touches : (t u : Told) (few : length t.0 < 2 ^ 32) (few' : length u.0 < 2 ^ 32) (first : ℕ) (run : List (List ℕ)) → HasRun first run t u → IsTrue u.3 → Touches Nowhere (told_disk t few) (told_disk u few')
-run_touches t u few few' first run is honest =
-    subst (λ (v : Told). (l : length v.0 < 2 ^ 32) → Touches Nowhere (told_disk t few) (told_disk v l)) (sym same)
-    (λ l. record {
-      was_honest = is.honest honest;
-      sectors = refl;
-      later = omega arith;
-      faults = omega arith;
-      reads = record { same = λ j off. refl };
-      since = λ k c le left. inl left;
-      keeps = λ k c le left. left;
-    }) few'
+run_touches t u few few' first run is honest = search (rules, same)
   where
     same : u ≡ (t.0, t.1, t.2, u.3)
     same = λ i. (is.sectors i, is.unsynced i, is.states i, u.3)
@@ -79,9 +66,7 @@ held_still held t u same before had honest = subst (λ (all : List (List ℕ)). 
 
 -- a new one is right
 pub held_new : (held : HeldRun) (first : ℕ) (run : List (List ℕ)) (t u : Told) → held.first ≡ first → held.sectors.items ≡ run → HasRun first run t u → IsTrue u.3 → IsHeldRun held u.0
-held_new held first run t u at has is honest held_is =
-    subst (λ (all : List (List ℕ)). IsRunOf held.first held.sectors.items all) (sym is.sectors)
-    (subst (λ (n : ℕ). IsRunOf n held.sectors.items t.0) (sym at) (subst (λ (l : List (List ℕ)). IsRunOf first l t.0) (sym has) (is.run_is honest)))
+held_new held first run t u at has is honest held_is = search rules
 
 -- a whole slice that was written
 pub all_written : (n : ℕ) (run old : List (List ℕ)) → length run ≡ n → take n (run ++ drop (length run) old) ≡ run
@@ -89,14 +74,8 @@ all_written n run old long = ap (λ k. take k (run ++ drop (length run) old)) (s
 
 module _ (sector : ℕ → List ℕ) (s : Told) (calls later : List Call) (i got : ℕ) (bytes : List ℕ) (is : later ≡ read_call i got bytes ∷ calls) where
   pub honest_before_read : IsTrue (replay_on sector s later).3 → IsTrue (replay_on sector s calls).3
-  honest_before_read honest = elim (cases_eq got 4096) [
-    | inl whole ↦ first_true _ _ (subst (λ (v : Told). IsTrue v.3) (whole_more sector s calls later i got bytes whole is) honest)
-    | inr short ↦ subst (λ (v : Told). IsTrue v.3) (short_more sector s calls later i got bytes short is) honest
-  ]
+  honest_before_read honest = search (rules, cases_eq, first_true, whole_more, short_more)
 
 -- a call has its cause, where the calls before it met no fault
 pub cause_from : {T E : Type 0} (result : Result T E) (old mid new : Disk) → mid.faults ≡ old.faults → HasCause mid new result → HasCause old new result
-cause_from result old mid new same is = record {
-  failed = subst (λ n. OnErr result (n < new.faults)) same is.failed;
-  passed = subst (λ n. OnOk result (new.faults ≡ n)) same is.passed;
-}
+cause_from result old mid new same is = search (rules, same)

@@ -1,4 +1,4 @@
-use Rattle.std.proofs.Common.{◌≡◌, ◌≢◌, ◌<◌, ◌+◌, ◌∙◌, ℕ, zero, suc, Bool, length, cond, get_or, get_or-set_other, true, false, List, [], ◌∷◌, refl, sym, ap, subst, inl, inr, nat_eq, arith, IsTrue, ◌&&◌}
+use Rattle.std.proofs.Common.{◌≡◌, ◌≢◌, ◌<◌, ◌+◌, ◌∙◌, ℕ, zero, suc, Bool, length, cond, get_or, get_or-set_other, true, false, List, [], ◌∷◌, refl, ap, subst, inl, inr, nat_eq, arith, IsTrue, ◌&&◌, rules}
 use Rattle.std.proofs.lemmas.List.{length-set}
 use Rattle.std.proofs.lemmas.Bool.{cases_eq}
 use Rattle.std.proofs.lemmas.Bool.Decides.{nat_tests}
@@ -9,19 +9,15 @@ pub not_true : IsTrue false → ⊥
 not_true is = cc
 
 pub bytes_same : (h : Bool) (xs ys : List ℕ) → IsTrue (h && same_bytes xs ys) → xs ≡ ys
-bytes_same false xs ys is = absurd (not_true is)
 bytes_same true [] [] is = refl
-bytes_same true [] (y ∷ ys) is = absurd (not_true is)
-bytes_same true (x ∷ xs) [] is = absurd (not_true is)
 bytes_same true (x ∷ xs) (y ∷ ys) is = elim (cases_eq x y) [
   | inl e ↦
       let yes : nat_eq x y ≡ true = grind (arith, nat_tests) in
       let rest = bytes_same true xs ys (subst (λ b. IsTrue (b && same_bytes xs ys)) yes is) in
       λ i. e i ∷ rest i
-  | inr ne ↦
-      let no : nat_eq x y ≡ false = grind (arith, nat_tests) in
-      absurd (not_true (subst (λ b. IsTrue (b && same_bytes xs ys)) no is))
+  | inr ne ↦ search (rules, nat_eq, nat_tests, not_true)
 ]
+bytes_same _ _ _ is = absurd (not_true is)
 
 pub first_true : (a b : Bool) → IsTrue (a && b) → IsTrue a
 first_true true b is = refl
@@ -29,29 +25,18 @@ first_true false b is = absurd (not_true is)
 
 -- a sector that was read is recalled
 pub recalled_read : (t u : Told) (i : ℕ) (bytes : List ℕ) (old new : Recent) → u ≡ after_read t i bytes → (IsTrue t.3 → Recalls old t.0) → ((sectors : List (List ℕ)) → Recalls old sectors → get_or sectors i [] ≡ bytes → Recalls new sectors) → IsTrue u.3 → Recalls new u.0
-recalled_read t u i bytes old new is had noted honest =
-    let there : IsTrue (t.3 && same_bytes bytes (get_or t.0 i [])) = subst (λ (v : Told). IsTrue v.3) is honest in
-    subst (λ (sectors : List (List ℕ)). Recalls new sectors) (sym (ap (λ (v : Told). v.0) is)) (noted t.0 (had (first_true t.3 _ there)) (sym (bytes_same t.3 bytes (get_or t.0 i []) there)))
+recalled_read t u i bytes old new is had noted honest = search (rules, first_true, bytes_same)
 
 -- after a write of a sector, whole or not, others are recalled
 module _ (t u : Told) (i n : ℕ) (bytes : List ℕ) (whole : n ≡ 4096 → u ≡ after_write t i bytes) (torn : n ≢ 4096 → u ≡ after_torn t i) where
   pub length_wrote : length u.0 ≡ length t.0
-  length_wrote = elim (cases_eq n 4096) [
-    | inl is ↦ ap (λ (v : Told). length v.0) (whole is) ∙ length-set t.0 i bytes
-    | inr not ↦ ap (λ (v : Told). length v.0) (torn not)
-  ]
+  length_wrote = search (rules, cases_eq, length-set)
 
   others_are : (j : ℕ) → j ≢ i → get_or u.0 j [] ≡ get_or t.0 j []
-  others_are j off = elim (cases_eq n 4096) [
-    | inl is ↦ ap (λ (v : Told). get_or v.0 j []) (whole is) ∙ get_or-set_other t.0 i j bytes [] off
-    | inr not ↦ ap (λ (v : Told). get_or v.0 j []) (torn not)
-  ]
+  others_are j off = search (rules, cases_eq, get_or-set_other)
 
   was_honest : IsTrue u.3 → IsTrue t.3
-  was_honest honest = elim (cases_eq n 4096) [
-    | inl is ↦ subst (λ (v : Told). IsTrue v.3) (whole is) honest
-    | inr not ↦ subst (λ (v : Told). IsTrue v.3) (torn not) honest
-  ]
+  was_honest honest = search (rules, cases_eq)
 
   pub recalled_wrote : (old new : Recent) → (IsTrue t.3 → Recalls old t.0)
       → ((before after : List (List ℕ)) → ((j : ℕ) → j ≢ i → get_or after j [] ≡ get_or before j []) → Recalls old before → Recalls new after)
@@ -65,16 +50,13 @@ module _ (sector : ℕ → List ℕ) where
 
   held_at : (from count i : ℕ) → i < count → get_or (held_from sector from count) i [] ≡ sector (from + i)
   held_at from zero i less = absurd (omega (arith, less))
-  held_at from (suc n) zero less =
-      let e : from ≡ from + 0 = omega arith in
-      ap sector e
+  held_at from (suc n) zero less = search rules
   held_at from (suc n) (suc i) less =
       let e : from + 1 + i ≡ from + suc i = omega arith in
       held_at (from + 1) n i (omega (arith, less)) ∙ ap sector e
 
   pub first_at : (t : Told) (count : ℕ) → t ≡ after_opening sector count → (i : ℕ) → i < count → get_or t.0 i [] ≡ sector i
-  first_at t count is i less =
-      ap (λ (u : Told). get_or u.0 i []) is ∙ held_at 0 count i less ∙ ap sector (omega arith)
+  first_at t count is i less = search (rules, held_at)
 
 pub is_4096 : (n : ℕ) → n ≡ 4096 → nat_eq n 4096 ≡ true
 is_4096 n is = grind (arith, nat_tests)

@@ -1,7 +1,6 @@
 -- Pieces of blocks without a district.
-use Rattle.std.proofs.Common.{◌≡◌, ◌+◌, ◌*◌, ◌/◌, ◌%◌, ◌<◌, ◌^◌, ℕ, zero, suc, List, [], ◌∷◌, ◌++◌, length, get_or, replicate, arith, ap, sym, ◌∙◌, subst, lit<}
+use Rattle.std.proofs.Common.{rules, ◌≡◌, ◌+◌, ◌*◌, ◌/◌, ◌%◌, ◌<◌, ◌^◌, ℕ, suc, List, [], ◌∷◌, ◌++◌, length, get_or, replicate, arith, ap, sym, ◌∙◌, subst, lit<}
 use Rattle.std.proofs.lemmas.List.{flat_map_more, replicate-append-replicate, length-replicate}
-use Rattle.std.proofs.lemmas.Nat.{div-add-mod'}
 use Rattle.shared_lists.{specs.Pieces.{Piece, joined, AreFull, IsCut}, proofs.Cut.full_more}
 
 module _ (ps new : List Piece) (p : Piece) (place : ℕ) (put : new ≡ ps ++ p ∷ []) (is : p.value.items ≡ replicate 512 0) where
@@ -15,22 +14,12 @@ module _ (ps new : List Piece) (p : Piece) (place : ℕ) (put : new ≡ ps ++ p 
       ∙ replicate-append-replicate (place * 512) 512 0 ∙ ap (λ n. replicate n 0) e
 
 zero_at : (n i : ℕ) → get_or (replicate n 0) i 0 < 2 ^ 16
-zero_at zero i = lit< tt
-zero_at (suc n) zero = lit< tt
 zero_at (suc n) (suc i) = zero_at n i
+zero_at _ _ = lit< tt
 
 module _ (ps : List Piece) (rest : Piece) (count place : ℕ) (same : joined ps ≡ replicate (place * 512) 0) (is : rest.value.items ≡ replicate (count % 512) 0) (at_end : place ≡ count / 512) where
   pub blank_all : joined ps ++ rest.value.items ≡ replicate count 0
-  blank_all =
-      let e : place * 512 + count % 512 ≡ count = omega (arith, div-add-mod' count 512) in
-      ap (λ l. l ++ rest.value.items) same ∙ ap (λ l. replicate (place * 512) 0 ++ l) is ∙ replicate-append-replicate (place * 512) (count % 512) 0 ∙ ap (λ n. replicate n 0) e
+  blank_all = search (rules, replicate-append-replicate)
 
   pub blank_cut : AreFull ps → IsCut ps rest count
-  blank_cut full = record {
-    are_full = full;
-    counted =
-        let prefix = ap length same ∙ length-replicate {A = ℕ} (place * 512) 0 in
-        let after = ap length is ∙ length-replicate {A = ℕ} (count % 512) 0 in
-        omega (arith, div-add-mod' count 512);
-    fit = λ i. subst (λ l. get_or l i 0 < 2 ^ 16) (sym blank_all) (zero_at count i);
-  }
+  blank_cut full = search (rules, length-replicate, blank_all, zero_at)

@@ -1,6 +1,6 @@
 -- Where a place lies among pieces.
 use Rattle.std.specs.{Prelude.{nat_eq, not, ◌&&◌}, Cmp.Lexicographic.pointwise}
-use Rattle.std.proofs.Common.{◌≡◌, ℕ, zero, suc, ◌+◌, ◌-◌, ◌*◌, ◌/◌, ◌%◌, ◌<◌, ◌≤◌, ◌^◌, Bool, true, false, List, [], ◌∷◌, ◌++◌, length, take, drop, get_or, arith, refl, ap, sym, ◌∙◌, length-append, append_assoc, subst}
+use Rattle.std.proofs.Common.{rules, ◌≡◌, ℕ, zero, suc, ◌+◌, ◌-◌, ◌*◌, ◌/◌, ◌%◌, ◌<◌, ◌≤◌, ◌^◌, Bool, true, false, List, [], ◌∷◌, ◌++◌, length, take, drop, get_or, arith, refl, ap, sym, ◌∙◌, length-append, append_assoc, subst}
 use Rattle.std.proofs.Math.Seq.{drop-append-add, take-append_seam, take-add}
 use Rattle.std.proofs.lemmas.List.{drop-append-le, take_all, drop-drop, length-drop, length-take, flat_map_more, take-append-drop}
 use Rattle.std.proofs.lemmas.Nat.{div-add-mod', mod_below}
@@ -21,11 +21,7 @@ drop_at : (ps : List Piece) (rest : List ℕ) (q r : ℕ) (p : Piece) → AreFul
     → drop (q * 512 + r) (joined ps ++ rest) ≡ drop r p.value.items ++ (joined (drop (suc q) ps) ++ rest)
 drop_at [] rest q r p full within less is = absurd (omega arith)
 drop_at (y ∷ ps) rest zero r p full within less is =
-    let e : zero * 512 + r ≡ r = omega arith in
-    ap (λ n. drop n ((y.value.items ++ joined ps) ++ rest)) e
-    ∙ ap (drop r) (append_assoc y.value.items (joined ps) rest)
-    ∙ drop-append-le r y.value.items (joined ps ++ rest) (omega (arith, first_full y ps full))
-    ∙ ap (λ (z : Piece). drop r z.value.items ++ (joined ps ++ rest)) (sym is)
+    search (rules, append_assoc y.value.items (joined ps) rest, drop-append-le r y.value.items (joined ps ++ rest) (omega (arith, first_full y ps full)))
 drop_at (y ∷ ps) rest (suc q) r p full within less is =
     let e : suc q * 512 + r ≡ length y.value.items + (q * 512 + r) = omega (arith, first_full y ps full) in
     ap (λ n. drop n ((y.value.items ++ joined ps) ++ rest)) e
@@ -45,24 +41,15 @@ in_full ps rest place p full within is =
 
 pub in_rest : (ps : List Piece) (rest : List ℕ) (place : ℕ) → AreFull ps → length ps * 512 ≤ place
     → take (length (drop (place - length ps * 512) rest)) (drop place (joined ps ++ rest)) ≡ drop (place - length ps * 512) rest
-in_rest ps rest place full past =
-    let k = place - length ps * 512 in
-    let e : place ≡ length (joined ps) + k = omega (arith, joined_long ps full) in
-    ap (λ n. take (length (drop k rest)) (drop n (joined ps ++ rest))) e
-    ∙ ap (take (length (drop k rest))) (drop-append-add (joined ps) rest k)
-    ∙ take_all (length (drop k rest)) (drop k rest) (omega arith)
+in_rest ps rest place full past = search (rules, joined_long ps full, drop-append-add, take_all)
 
 -- what lies in one piece is the prefix of what lies after the place
 module _ (ps : List Piece) (rest : Piece) (all : List ℕ) (place : ℕ) (found : List ℕ) (full : AreFull ps) (view : joined ps ++ rest.value.items ≡ all) where
   pub prefix_in_full : (p : Piece) → place / 512 < length ps → p ≡ get_or ps (place / 512) p → found ≡ drop (place % 512) p.value.items → take (length found) (drop place all) ≡ found
-  prefix_in_full p within is told =
-      subst (λ s. take (length found) (drop place s) ≡ found) view
-      (subst (λ r. take (length r) (drop place (joined ps ++ rest.value.items)) ≡ r) (sym told) (in_full ps rest.value.items place p full within is))
+  prefix_in_full p within is told = search (rules, in_full)
 
   pub prefix_in_rest : length ps ≤ place / 512 → found ≡ drop (place - length ps * 512) rest.value.items → take (length found) (drop place all) ≡ found
-  prefix_in_rest past told =
-      subst (λ s. take (length found) (drop place s) ≡ found) view
-      (subst (λ r. take (length r) (drop place (joined ps ++ rest.value.items)) ≡ r) (sym told) (in_rest ps rest.value.items place full (omega (arith, div-add-mod' place 512))))
+  prefix_in_rest past told = search (rules, in_rest)
 
   pub rest_long : place < length all → place < length ps * 512 + length rest.value.items
   rest_long within = omega (arith, joined_long ps full, ap length view, length-append (joined ps) rest.value.items)
@@ -72,15 +59,12 @@ module _ (ps : List Piece) (rest : Piece) (all : List ℕ) (place : ℕ) (found 
 
 -- a part of a list, cut once more
 pub cut_more : (xs : List ℕ) (first n c : ℕ) → c ≤ n → take n (drop first xs) ≡ take c (drop first xs) ++ take (n - c) (drop (first + c) xs)
-cut_more xs first n c few =
-    let e : n ≡ c + (n - c) = omega arith in
-    ap (λ k. take k (drop first xs)) e ∙ take-add c (n - c) (drop first xs) ∙ ap (λ l. take c (drop first xs) ++ take (n - c) l) (drop-drop c first xs)
+cut_more xs first n c few = search (rules, take-add c (n - c) (drop first xs), drop-drop c first xs)
 
 take_twice : (c n : ℕ) (xs : List ℕ) → c ≤ n → take c (take n xs) ≡ take c xs
-take_twice zero n xs few = refl
 take_twice (suc c) zero xs few = absurd (omega arith)
-take_twice (suc c) (suc n) [] few = refl
 take_twice (suc c) (suc n) (x ∷ xs) few = ap (λ l. x ∷ l) (take_twice c n xs (omega arith))
+take_twice _ _ _ few = refl
 
 pub prefix_of : (here rest : List ℕ) (c : ℕ) → take (length here) rest ≡ here → c ≤ length here → take c here ≡ take c rest
 prefix_of here rest c is few = ap (take c) (sym is) ∙ take_twice c (length here) rest few
@@ -96,17 +80,15 @@ apart_by false first whole is told = refl
 
 pub same_after : (xs ys more others : List ℕ) → length xs ≡ length ys → pointwise nat_eq xs ys ≡ true → pointwise nat_eq (xs ++ more) (ys ++ others) ≡ pointwise nat_eq more others
 same_after [] [] more others long same = refl
-same_after [] (y ∷ ys) more others long same = absurd (omega arith)
-same_after (x ∷ xs) [] more others long same = absurd (omega arith)
 same_after (x ∷ xs) (y ∷ ys) more others long same =
     same_by (nat_eq x y) (pointwise nat_eq xs ys) (pointwise nat_eq (xs ++ more) (ys ++ others)) (pointwise nat_eq more others) same (same_after xs ys more others (omega arith))
+same_after _ _ more others long same = absurd (omega arith)
 
 pub apart_before : (xs ys more others : List ℕ) → length xs ≡ length ys → pointwise nat_eq xs ys ≡ false → pointwise nat_eq (xs ++ more) (ys ++ others) ≡ false
 apart_before [] [] more others long apart = absurd (cc)
-apart_before [] (y ∷ ys) more others long apart = absurd (omega arith)
-apart_before (x ∷ xs) [] more others long apart = absurd (omega arith)
 apart_before (x ∷ xs) (y ∷ ys) more others long apart =
     apart_by (nat_eq x y) (pointwise nat_eq xs ys) (pointwise nat_eq (xs ++ more) (ys ++ others)) apart (apart_before xs ys more others (omega arith))
+apart_before _ _ more others long apart = absurd (omega arith)
 
 -- ---- parts that grow after
 length_prefix : (here prefix : List ℕ) (k : ℕ) → prefix ≡ take k here → k ≤ length here → length prefix ≡ k
@@ -114,14 +96,7 @@ length_prefix here prefix k is few = omega (arith, ap length is, length-take k h
 
 pub put_more : (new to all here prefix : List ℕ) (place end k : ℕ) → new ≡ to ++ prefix → prefix ≡ take k here → take (length here) (drop place all) ≡ here → k ≤ length here → k ≤ end - place
     → new ++ take (end - (place + k)) (drop (place + k) all) ≡ to ++ take (end - place) (drop place all)
-put_more new to all here prefix place end k put cut is few fits =
-    let after = drop (place + k) all in
-    let e : end - (place + k) ≡ end - place - k = omega arith in
-    ap (λ l. l ++ take (end - (place + k)) after) put
-    ∙ append_assoc to prefix (take (end - (place + k)) after)
-    ∙ ap (λ l. to ++ (l ++ take (end - (place + k)) after)) (cut ∙ prefix_of here (drop place all) k is few)
-    ∙ ap (λ n. to ++ (take k (drop place all) ++ take n after)) e
-    ∙ ap (λ l. to ++ l) (sym (cut_more all place (end - place) k fits))
+put_more new to all here prefix place end k put cut is few fits = search (rules, append_assoc, prefix_of here (drop place all) k is few, cut_more all place (end - place) k fits)
 
 -- places from the first one on, at the start and at the end
 pub from_first : (first count : ℕ) → first + count - first ≡ count
@@ -135,10 +110,7 @@ module _ (one other here there prefix beside : List ℕ) (place end k : ℕ) (cu
     (is_beside : take (length there) (drop place other) ≡ there) (few : k ≤ length here) (few_beside : k ≤ length there) (fits : k ≤ end - place) where
   parted : (all found part : List ℕ) → part ≡ take k found → take (length found) (drop place all) ≡ found → k ≤ length found
       → take (end - place) (drop place all) ≡ part ++ take (end - (place + k)) (drop (place + k) all)
-  parted all found part cut is few =
-      let e : end - place - k ≡ end - (place + k) = omega arith in
-      cut_more all place (end - place) k fits ∙ ap (λ n. take k (drop place all) ++ take n (drop (place + k) all)) e
-      ∙ ap (λ l. l ++ take (end - (place + k)) (drop (place + k) all)) (sym (cut ∙ prefix_of found (drop place all) k is few))
+  parted all found part cut is few = search (rules, cut_more all place (end - place) k fits, prefix_of found (drop place all) k is few)
 
   long : length prefix ≡ length beside
   long = length_prefix here prefix k cut few ∙ sym (length_prefix there beside k cut_beside few_beside)
@@ -188,8 +160,4 @@ module _ (ps : List Piece) (rest : Piece) (list after : List ℕ) (place number 
   whole = ap (λ l. l ++ rest.value.items) same ∙ ap (λ n. take (n * 512) list ++ rest.value.items) all ∙ ap (λ l. take (number * 512) list ++ l) (is ∙ from) ∙ take-append-drop (number * 512) list
 
   pub is_cut : AreFull ps → ((i : ℕ) → get_or list i 0 < 2 ^ 16) → IsCut ps rest (length list)
-  is_cut full fit = record {
-    are_full = full;
-    counted = sym (ap length whole) ∙ length-append (joined ps) rest.value.items;
-    fit = subst (λ (l : List ℕ). (i : ℕ) → get_or l i 0 < 2 ^ 16) (sym whole) fit;
-  }
+  is_cut full fit = search (rules, whole, length-append)

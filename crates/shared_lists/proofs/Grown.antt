@@ -1,6 +1,5 @@
 -- Lists that grow by an item.
-use Rattle.std.proofs.Common.{◌≡◌, ◌+◌, ◌<◌, ◌^◌, ℕ, Fits, w64, List, [], ◌∷◌, ◌++◌, length, take, drop, arith, ap, sym, ◌∙◌, length-append, append_assoc}
-use Rattle.std.proofs.Math.Seq.{take-append_seam}
+use Rattle.std.proofs.{Common.{rules, ◌≡◌, ◌+◌, ◌<◌, ◌^◌, ℕ, Fits, w64, List, [], ◌∷◌, ◌++◌, length, take, drop, arith, ap, length-append, append_assoc}, Math.Seq.take-append_seam}
 
 module _ {T : Type 0} where
   -- a tree and the trees before it
@@ -21,19 +20,12 @@ module _ {T : Type 0} where
 
   -- the tree of two others and an item after them
   pub joined_long : (tree first second one two : List T) (item : T) (count own : ℕ) → tree ≡ first ++ (second ++ item ∷ []) → first ≡ one → second ≡ two → count ≡ length one → own ≡ length two → (count + own + 1 ≡ length tree) × (0 < count + own + 1)
-  joined_long tree first second one two item count own is same other long here = (
-    omega (arith, ap length is, length-append first (second ++ item ∷ []), length-append second (item ∷ []), ap length same, ap length other, long, here),
-    omega arith,
-  )
+  joined_long tree first second one two item count own is same other long here = search (rules, length-append)
 
   pub joined_is : (prefix same tree first second one two older all more : List T) → same ≡ prefix → tree ≡ first ++ (second ++ more) → first ≡ one → second ≡ two → prefix ++ one ≡ older → older ++ two ≡ all
       → same ++ tree ≡ all ++ more
-  joined_is prefix same tree first second one two older all more kept is left right is_older is_all =
-      (λ i. kept i ++ (is ∙ (λ k. left k ++ (right k ++ more))) i) ∙ sym (append_assoc prefix one (two ++ more)) ∙ ap (λ l. l ++ (two ++ more)) is_older
-      ∙ sym (append_assoc older two more) ∙ ap (λ l. l ++ more) is_all
+  joined_is prefix same tree first second one two older all more kept is left right is_older is_all = search (rules, append_assoc)
 
 -- a list that was written over one of the same length
 pub written_over : (new old : List ℕ) (count : ℕ) → count ≡ length old → length new ≡ length old → take count (new ++ drop (length new) old) ≡ new
-written_over new old count counted long =
-    let all : count ≡ length new = omega arith in
-    ap (λ n. take n (new ++ drop (length new) old)) all ∙ take-append_seam new (drop (length new) old)
+written_over new old count counted long = search (rules, take-append_seam)

@@ -1,6 +1,6 @@
 -- Listed districts that are laid over others.
 use Rattle.std.specs.Prelude.{unwrap_or, nat_lt, Bool, true, false, ◌-◌, if◌then◌else◌}
-use Rattle.std.proofs.Common.{◌≡◌, ℕ, zero, suc, ◌+◌, ◌*◌, ◌^◌, ◌<◌, ◌≤◌, List, [], ◌∷◌, ◌++◌, length, get_or, take, subst, length-append, Option, None, arith, refl, ap, sym, ◌∙◌, ◌⊎◌, inl, inr}
+use Rattle.std.proofs.Common.{rules, ◌≡◌, ℕ, zero, suc, ◌+◌, ◌*◌, ◌^◌, ◌<◌, ◌≤◌, List, [], ◌∷◌, ◌++◌, length, get_or, take, subst, length-append, Option, None, arith, refl, ap, sym, ◌∙◌, ◌⊎◌}
 use Rattle.std.proofs.lemmas.Bool.{lt-ltb}
 use Rattle.std.proofs.lemmas.List.{ext_get_or, get_or_past, flat_map_more, take_more, take_all, length-take, get_or-take}
 use Rattle.shared_lists.{specs.Laid.{listed_at, laid}, specs.Pieces.{Piece, joined, AreFull, IsCut}, proofs.Cut.{joined_long, full_more}}
@@ -32,7 +32,6 @@ module _ (first : ℕ) (listed : List (Option ℕ)) where
 
   pub laid_all : (start : ℕ) (old new : List ℕ) (k : ℕ) → IsLaid start old new k → length new ≤ k → new ≡ laid first listed start old
   laid_all start old new k was past =
-      let long = was.long in
       ext_get_or 0 new (laid first listed start old) (was.long ∙ sym (length-laid start old))
       (λ i within. was.done i (omega arith) ∙ sym (get_or-laid start old i (omega arith)))
 
@@ -54,10 +53,7 @@ module _ (first : ℕ) (listed : List (Option ℕ)) where
 
   -- nor where all places are before or after what is listed
   pub unlaid_apart : (place : ℕ) (ds : List ℕ) (count : ℕ) → count ≡ length ds → (place + count ≤ first) ⊎ (first + length listed ≤ place) → ds ≡ laid first listed place ds
-  unlaid_apart place ds count long apart = sym (unlaid place ds (λ i within. elim apart [
-    | inl before ↦ not_before (place + i) (omega arith)
-    | inr after ↦ not_after (place + i) (omega arith)
-  ]))
+  unlaid_apart place ds count long apart = search (rules, unlaid, not_after)
 
 -- each of the numbers has two bytes
 abbrev pub Fit : List ℕ → Type 0
@@ -87,17 +83,13 @@ module _ (first : ℕ) (listed : List (Option ℕ)) (ps new : List Piece) (all :
       subst Fit (flat_map_more (λ (q : Piece). q.value.items) [] ps p ∙ sym (ap joined put)) (append_fit (joined ps) p.value.items so_far fits)
 
   pub next_full_laid : AreFull ps → AreFull all → k < length all → new ≡ ps ++ p ∷ [] → p.value.items ≡ laid first listed (k * 512) (get_or all k d).value.items → AreFull new
-  next_full_laid so_far full within put is =
-      subst AreFull (sym put) (full_more ps p so_far (ap length is ∙ length-laid first listed (k * 512) (get_or all k d).value.items ∙ full k d within))
+  next_full_laid so_far full within put is = search (rules, full_more, length-laid)
 
 -- the pieces and the one after them, when all are laid over
 module _ (first : ℕ) (listed : List (Option ℕ)) (ps full : List Piece) (rest kept : Piece) (k : ℕ) (same : joined ps ≡ laid first listed 0 (joined (take k full))) (all : length full ≤ k)
     (are_full : AreFull full) (is : rest.value.items ≡ laid first listed (length full * 512) kept.value.items) where
   pub laid_whole : joined ps ++ rest.value.items ≡ laid first listed 0 (joined full ++ kept.value.items)
-  laid_whole =
-      ap (λ l. l ++ rest.value.items) (same ∙ ap (λ (qs : List Piece). laid first listed 0 (joined qs)) (take_all k full all))
-      ∙ ap (λ l. laid first listed 0 (joined full) ++ l) (is ∙ ap (λ n. laid first listed n kept.value.items) (omega (arith, joined_long full are_full)))
-      ∙ sym (laid-append first listed 0 (joined full) kept.value.items)
+  laid_whole = search (rules, take_all, joined_long, laid-append)
 
   pub laid_cut : (count : ℕ) → AreFull ps → IsCut full kept count → Fit (joined ps) → Fit rest.value.items → IsCut ps rest count
   laid_cut count so_far cut fits fits_after = record {

@@ -1,5 +1,5 @@
 -- The same pieces once more.
-use Rattle.std.proofs.Common.{◌≡◌, ◌+◌, ◌<◌, ◌≤◌, ◌^◌, ℕ, List, [], ◌∷◌, ◌++◌, length, take, get_or, ap, sym, ◌∙◌, subst, length-append}
+use Rattle.std.proofs.Common.{rules, ◌≡◌, ◌+◌, ◌<◌, ◌≤◌, ℕ, List, [], ◌∷◌, ◌++◌, length, take, get_or, ap, sym, ◌∙◌, subst, length-append}
 use Rattle.std.proofs.lemmas.List.{flat_map_more, take_all, take_more}
 use Rattle.shared_lists.{specs.Pieces.{Piece, joined, AreFull, IsCut}, proofs.Cut.full_more}
 
@@ -17,11 +17,7 @@ module _ (ps full : List Piece) (rest kept : Piece) (k : ℕ) (same : joined ps 
   shared_whole = ap (λ l. l ++ rest.value.items) (same ∙ ap joined (take_all k full all)) ∙ ap (λ l. joined full ++ l) is
 
   pub shared_cut : (count : ℕ) → AreFull ps → IsCut full kept count → IsCut ps rest count
-  shared_cut count so_far cut = record {
-    are_full = so_far;
-    counted = cut.counted ∙ sym (length-append (joined full) kept.value.items) ∙ sym (ap length shared_whole) ∙ length-append (joined ps) rest.value.items;
-    fit = λ i. subst (λ l. get_or l i 0 < 2 ^ 16) (sym shared_whole) (cut.fit i);
-  }
+  shared_cut count so_far cut = search (rules, cut.counted, length-append (joined full) kept.value.items, shared_whole, length-append (joined ps) rest.value.items)
 
 -- a list after which the next piece was put
 pub joined_more : (all : List Piece) (k : ℕ) (d : Piece) (new before part : List ℕ) → k < length all → new ≡ before ++ part → before ≡ joined (take k all) → part ≡ (get_or all k d).value.items

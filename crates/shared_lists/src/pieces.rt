@@ -142,6 +142,7 @@ pub fn piece_put(
 }
 
 /// Puts districts in the place of those between two places of a list.
+#[tactic(auto, using(crate::proofs::Puts::in_middle))]
 fn replace(districts: &mut [u16], from: usize, to: usize, new: &[u16])
     requires order { from ≤ to }
     requires within { to ≤ length districts.old }

@@ -1,5 +1,5 @@
 -- Steps of a migration, one after the other, and the end after them.
-use Rattle.std.{specs.Prelude.{Result, Ok, Err}, proofs.Common.{◌≡◌, ◌⊎◌, ◌≤◌, ◌+◌, ℕ, [], true, false, inl, inr, ⊎_elim, refl, sym, subst, ◌∙◌, arith}}
+use Rattle.std.{specs.Prelude.{Result, Ok, Err}, proofs.Common.{◌≡◌, ◌⊎◌, ◌≤◌, ◌+◌, ℕ, true, false, inl, inr, ⊎_elim, refl, sym, subst, ◌∙◌, arith}}
 use Rattle.sector_device.{specs.claim.Disk.{Disk, Image}, specs.claim.Moments.LeavesOnly, specs.declared.SectorDevice.Ghosts, proofs.Moments.{leaves_more, leaves_wider}}
 use Rattle.desk_model.specs.claim.Desk.{Desk}
 use Rattle.store_rows.specs.claim.Rows.{KeyMap}

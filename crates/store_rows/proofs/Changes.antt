@@ -1,8 +1,8 @@
 -- Lemmas on the definitions of Changes.
 use Rattle.std.specs.{Ordering.eq_by_cmp, Cmp.Lexicographic.nat_list_cmp_total, FinMap.{FinMap, get, insert, remove, get-insert, get-remove}}
-use Rattle.std.proofs.Common.{◌≡◌, ◌⊎◌, ◌<◌, ◌+◌, ◌^◌, ℕ, cond, List, [], ◌∷◌, ◌++◌, length, drop, get_or, Option, Some, None, sym, ap, subst, ◌∙◌, inl, inr, arith, length-append}
+use Rattle.std.proofs.Common.{rules, ◌≡◌, ◌⊎◌, ◌<◌, ◌+◌, ◌^◌, ℕ, cond, List, [], ◌∷◌, ◌++◌, length, drop, get_or, Option, Some, None, sym, ap, subst, ◌∙◌, inl, inr, arith, length-append}
 use Rattle.std.proofs.{Math.ListN.get_or-append, Math.Seq.get_or-append_seam}
-use Rattle.std.proofs.lemmas.Bool.{cases_Bool, cases_lt, both_ways}
+use Rattle.std.proofs.lemmas.Bool.{cases_Bool, cases_lt}
 use Rattle.desk_model.specs.{declared.kind.Kind.Kind, claim.Geography.GeographyModel, claim.Ranges.cut, claim.Desk.{Plan, name_cmp}, claim.Name.IsPlanName}
 use Rattle.store_rows.specs.{claim.Keys.{key_of, named, retired}, claim.Order.key_cmp, claim.Values.plan_bytes, claim.Rows.{KeyMap, row_in}, Rows.SameTag}
 use Rattle.store_rows.specs.{claim.RevisionRows.HasRevision, claim.DeskRows.{HasPlan, IsPlanAt, IsDesk, most_revisions}}
@@ -11,10 +11,7 @@ use Rattle.store_rows.proofs.Frames.{same_key, is_equal, differs, itself, put_is
 
 -- ---- names
 pub cases_key : (x y : List ℕ) → (x ≡ y) ⊎ (x ≡ y → ⊥)
-cases_key x y = elim (cases_Bool (eq_by_cmp key_cmp x y)) [
-  | inl same ↦ inl (same_key x y (is_equal (key_cmp x y) same))
-  | inr apart ↦ inr (λ equal. both_ways (eq_by_cmp key_cmp x y) apart (ap (λ z. eq_by_cmp key_cmp x z) (sym equal) ∙ itself x))
-]
+cases_key x y = search (rules, cases_Bool (eq_by_cmp key_cmp x y), same_key, is_equal, itself x)
 
 plan_there : (plans : FinMap name_cmp Plan) (name : List ℕ) (p : Plan) → get (insert plans name p) name ≡ Some p
 plan_there plans name p = get-insert nat_list_cmp_total plans name p name ∙ ap (λ b. cond b (Some p) (get plans name)) (itself name)

@@ -1,5 +1,5 @@
 -- Lemmas on the definitions of ChunkRows.
-use Rattle.std.proofs.Common.{◌≡◌, ◌<◌, ◌≤◌, ◌*◌, ◌^◌, ℕ, cond, List, length, take, drop, All, Some, None, sym, ap, ◌∙◌, inl, inr, arith}
+use Rattle.std.proofs.Common.{rules, ◌≡◌, ◌<◌, ◌≤◌, ◌*◌, ◌^◌, ℕ, cond, List, length, take, drop, All, Some, None, sym, ap, ◌∙◌, inl, inr, arith}
 use Rattle.std.proofs.lemmas.Bool.{cases_lt, lt-ltb, le-ltb}
 use Rattle.desk_model.specs.claim.Room.{rows_for}
 use Rattle.store_rows.specs.{claim.Keys.{RowKey, key_of, chunk}, claim.Lists.districts_bytes, claim.Rows.KeyMap, claim.RevisionRows.HasChunk, claim.Puts.put_rows}
@@ -35,10 +35,7 @@ chunk_put m number districts fits some few each free = record {
     | inl less ↦ told_are m (piece_row number districts) (rows_for 512 (length districts)) index
         (λ i j one other same. one_piece number i j fits (few_rows (length districts) i few one) (few_rows (length districts) j few other) same) less
         ∙ sym (ap (λ b. cond b (Some (districts_bytes (take 512 (drop (512 * index) districts)))) None) (lt-ltb (512 * index) (length districts) (omega arith)))
-    | inr more ↦ told_keep m (piece_row number districts) (rows_for 512 (length districts)) (key_of (chunk number index))
-        (λ k less same. let one : index ≡ k = one_piece number index k fits small (few_rows (length districts) k few less) same in omega arith)
-        ∙ free index small
-        ∙ sym (ap (λ b. cond b (Some (districts_bytes (take 512 (drop (512 * index) districts)))) None) (le-ltb (512 * index) (length districts) (omega arith)))
+    | inr more ↦ search (rules, told_keep, one_piece, few_rows, le-ltb)
   ];
 }
 

@@ -1,5 +1,5 @@
 -- Plans that hold a chunk are counted off, one more or one fewer.
-use Rattle.std.proofs.Common.{◌≡◌, ◌⊎◌, ◌<◌, ◌≤◌, ◌^◌, ℕ, zero, suc, cond, eqb, ltb, refl, sym, ap, subst, ◌∙◌, inl, inr, arith}
+use Rattle.std.proofs.Common.{rules, ◌≡◌, ◌⊎◌, ◌<◌, ◌≤◌, ◌^◌, ℕ, zero, suc, cond, eqb, ltb, refl, sym, ap, subst, ◌∙◌, inl, inr, arith}
 use Rattle.std.proofs.lemmas.Bool.{cases_eq, cases_lt, lt-ltb, le-ltb, eq-eqb, ne_eqb, eqb-true, eqb-false}
 use Rattle.store_rows.specs.{claim.Keys.holding, claim.Rows.{KeyMap, row_in}, claim.Holders.{IsHeld, AreHolders}}
 
@@ -20,9 +20,7 @@ abbrev pub IsOnce : (ℕ → ℕ) → ℕ → Type 0
 IsOnce f n = (i j : ℕ) → i < n → j < n → f i ≡ f j → i ≡ j
 
 into_less : (f : ℕ → ℕ) (n m : ℕ) → IsInto f (suc n) (suc m) → IsOnce f (suc n) → IsInto (avoiding f m n) n m
-into_less f n m into once i less =
-    let apart : f i ≡ f n → ⊥ = λ e. let z = once i n (omega arith) (omega arith) e in omega arith in
-    elim (avoids (f i) m (f n)) [ inl w ↦ omega (arith, w.0, w.1) | inr w ↦ omega (arith, w.0, w.1) ]
+into_less f n m into once i less = search (rules, avoids)
 
 once_less : (f : ℕ → ℕ) (n m : ℕ) → IsOnce f (suc n) → IsOnce (avoiding f m n) n
 once_less f n m once i j p q e = search (arith, avoids)
@@ -83,8 +81,7 @@ module _ (m n : KeyMap) (plan number count : ℕ) (fits : plan < 2 ^ 64) (others
   joined_all : (other : ℕ) → other < 2 ^ 64 → IsHeld n other number → (place : ℕ) × (place < suc count) × (joined_at h.plan_at count plan place ≡ other)
   joined_all other other_fits there = elim (cases_eq other plan) [
     | inl same ↦ (count, omega arith, joined_new h.plan_at count plan count (omega arith) ∙ sym same)
-    | inr apart ↦ (let (place, less, is) = h.all other other_fits (sym (others other other_fits apart) ∙ there) in
-        (place, omega arith, joined_old h.plan_at count plan place less ∙ is))
+    | inr apart ↦ search (arith, h.all other other_fits (sym (others other other_fits apart) ∙ there), joined_old)
   ]
 
   joined_apart : (a b : ℕ) → a < suc count → b < suc count → joined_at h.plan_at count plan a ≡ joined_at h.plan_at count plan b → a ≡ b
@@ -124,12 +121,8 @@ module _ (m n : KeyMap) (plan number count gone : ℕ) (others : OthersHold m n 
 
   -- the place of a plan that still holds it
   place_left : (other place : ℕ) → place < suc count → h.plan_at place ≡ other → (place ≡ gone → ⊥) → (there : ℕ) × (there < count) × (left_at h.plan_at gone count there ≡ other)
-  place_left other place less is apart = elim (cases_lt place count) [
-    | inl before ↦ (place, before, left_same h.plan_at gone count place apart ∙ is)
-    | inr last ↦ (let same : count ≡ place = omega arith in
-        let before : gone < count = elim (cases_lt gone count) [ inl less ↦ less | inr more ↦ absurd (apart (omega arith)) ] in
-        (gone, before, left_moved h.plan_at gone count gone refl ∙ ap h.plan_at same ∙ is))
-  ]
+  place_left other place less is apart =
+      search (arith, cases_lt place count, left_same h.plan_at gone count place apart, cases_lt gone count, left_moved h.plan_at gone count gone refl)
 
   left_all : (other : ℕ) → other < 2 ^ 64 → IsHeld n other number → (place : ℕ) × (place < count) × (left_at h.plan_at gone count place ≡ other)
   left_all other other_fits there =
@@ -156,6 +149,4 @@ module _ (m n : KeyMap) (plan number count gone : ℕ) (others : OthersHold m n 
   holders_left_at = record { plan_at = left_at h.plan_at gone count; each = left_each; all = left_all; apart = left_apart }
 
 pub holders_left : (m n : KeyMap) (plan number count : ℕ) → plan < 2 ^ 64 → OthersHold m n plan number → IsHeld m plan number → (IsHeld n plan number → ⊥) → AreHolders m number (suc count) → AreHolders n number count
-holders_left m n plan number count fits others held none h =
-    let (gone, in_gone, is_gone) = h.all plan fits held in
-    holders_left_at m n plan number count gone others none h in_gone is_gone
+holders_left m n plan number count fits others held none h = search (h.all plan fits held, holders_left_at)

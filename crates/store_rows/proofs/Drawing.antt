@@ -1,14 +1,12 @@
 -- Chunks are drawn county by county.
 use Rattle.std.specs.{Prelude.{Bool, nat_eq, filter, sum_by}, List.zip, Cmp.Lexicographic.{pointwise, same_text}}
-use Rattle.std.proofs.Common.{true, ◌≡◌, ◌⊎◌, ◌<◌, ◌≤◌, ◌+◌, ◌*◌, ◌^◌, ℕ, zero, suc, cond, List, [], ◌∷◌, ◌++◌, map, length, get_or, All, Option, refl, sym, ap, subst, ◌∙◌, inl, inr, arith, length-append}
+use Rattle.std.proofs.Common.{rules, true, ◌≡◌, ◌⊎◌, ◌<◌, ◌≤◌, ◌+◌, ◌*◌, ◌^◌, ℕ, zero, suc, cond, List, [], ◌∷◌, map, length, get_or, All, Option, refl, sym, ap, subst, ◌∙◌, inl, inr, arith, length-append}
 use Rattle.std.proofs.lemmas.Bool.{cases_Bool, not-false}
 use Rattle.std.proofs.lemmas.List.Elements.{All-cons}
 use Rattle.std.proofs.lemmas.List.Sums.{sum_by-cons}
 use Rattle.desk_model.specs.{claim.Geography.GeographyModel, claim.Ranges.sizes, claim.Room.{rows_for, differs, changed, revision_rows}}
-use Rattle.store_rows.specs.{claim.Keys.{key_of, counters, named}, claim.Values.{plan_bytes, counters_bytes}, declared.value.Counters.Counters, declared.value.PlanRow.PlanRow}
-use Rattle.store_rows.specs.{claim.Rows.KeyMap, claim.Puts.Row, Puts.rows_told, NameRows.{name_row, name_rows}, Steps.{chunks_more, one_revision_more}}
-use Rattle.store_rows.specs.RevisionSteps.{IsChunkList, IsKeptChunk, AreKept, IsDrawn, new_chunk_rows, new_holding, new_holder_count, rows_of_revision}
-use Rattle.store_rows.{specs.Draws.{draw, redrawn, draw_all}, proofs.Puts.length-rows_told}
+use Rattle.store_rows.specs.{declared.value.Counters.Counters, declared.value.PlanRow.PlanRow, claim.Rows.KeyMap}
+use Rattle.store_rows.{specs.RevisionSteps.{IsChunkList, AreKept, IsDrawn, new_chunk_rows, rows_of_revision}, specs.Draws.{draw, redrawn, draw_all}, proofs.Puts.length-rows_told}
 
 -- a county keeps its chunk where it is as before, or gets one of the new ones
 abbrev IsDrawnAt : ℕ → List ℕ → List (List ℕ) → List (List ℕ) → List ℕ → List (List ℕ) → ℕ → Type 0
@@ -58,12 +56,6 @@ module _ (next number : ℕ) (numbers : List ℕ) (old new : List ℕ) (olds lis
 
 all_drawn : (next : ℕ) (numbers : List ℕ) (olds news : List (List ℕ)) → length numbers ≡ length news → length olds ≡ length news → Draws next numbers olds (redrawn olds news) (draw next numbers olds news) news
 all_drawn next [] [] [] a b = search arith
-all_drawn next [] [] (new ∷ news) a b = absurd (omega arith)
-all_drawn next [] (old ∷ olds) [] a b = absurd (omega arith)
-all_drawn next [] (old ∷ olds) (new ∷ news) a b = absurd (omega arith)
-all_drawn next (number ∷ numbers) [] [] a b = absurd (omega arith)
-all_drawn next (number ∷ numbers) [] (new ∷ news) a b = absurd (omega arith)
-all_drawn next (number ∷ numbers) (old ∷ olds) [] a b = absurd (omega arith)
 all_drawn next (number ∷ numbers) (old ∷ olds) (new ∷ news) a b =
     let shape = λ (t : Bool). Draws next (number ∷ numbers) (old ∷ olds) (map (λ (e : List ℕ × List ℕ). e.1) (cond t ((old, new) ∷ filter differs (zip olds news)) (filter differs (zip olds news))))
     (cond t (next ∷ draw (next + 1) numbers olds news) (number ∷ draw next numbers olds news)) (new ∷ news) in
@@ -72,6 +64,7 @@ all_drawn next (number ∷ numbers) (old ∷ olds) (new ∷ news) a b =
       | inr is ↦ subst shape (sym is) (kept_one next number numbers old new olds (redrawn olds news) news (draw next numbers olds news) (all_drawn next numbers olds news (omega arith) (omega arith))
           (same_text old new (sym (not-false (pointwise nat_eq old new) is))))
     ]
+all_drawn next _ _ _ a b = absurd (omega arith)
 
 pub changes_drawn : (m : KeyMap) (next : Counters) (plan : ℕ) (numbers : List ℕ) (olds news : List (List ℕ)) → AreKept m plan numbers olds → length olds ≡ length news → length news ≤ 128 * 2 ^ 8 → All IsChunkList news
     → IsDrawn m next plan (redrawn olds news) (draw next.chunk numbers olds news) news
@@ -83,10 +76,7 @@ changes_drawn m next plan numbers olds news kept same few sound =
       few = (let count = draws.count in omega arith);
       count = draws.count;
       sound = draws.sound sound;
-      each = λ k within. elim (draws.each k within) [
-        | inl as_before ↦ inl (subst (λ x. IsKeptChunk m plan x (get_or news k [])) (sym as_before.0) (subst (λ (l : List ℕ). IsKeptChunk m plan (get_or numbers k 0) l) as_before.1 (kept.each k (omega arith))))
-        | inr made ↦ inr (record { place = made.0; within = made.1; is = made.2; same = made.3 })
-      ];
+      each = λ k within. search (arith, draws.each k within, kept.each k (omega arith));
       used = draws.used;
     }
 
@@ -118,19 +108,4 @@ rows_of_chunks first (districts ∷ lists) = search (length-append, length-rows_
 
 pub rows_counted : (g : GeographyModel) (last : Option (List ℕ)) (new : List ℕ) (next : Counters) (name : List ℕ) (p : PlanRow) (numbers : List ℕ) → length numbers ≡ length (sizes g)
     → length (rows_of_revision true next name p (changed g last new) numbers) ≡ revision_rows g last new
-rows_counted g last new next name p numbers long =
-    let lists = changed g last new in
-    let many = length lists in
-    let names = name_rows p.number (p.revisions + 1) numbers in
-    let rows = rows_told (new_holding p.number next.chunk) many in
-    let counts = rows_told (new_holder_count next.chunk) many in
-    let ends : List Row = (key_of (named name), plan_bytes (one_revision_more p)) ∷ (key_of counters, counters_bytes (chunks_more next (length lists))) ∷ [] in
-    let whole : length (rows_of_revision true next name p lists numbers) ≡ length (new_chunk_rows next.chunk lists) + length ((rows ++ counts) ++ (names ++ ends)) = length-append (new_chunk_rows next.chunk lists) ((rows ++ counts) ++ (names ++ ends)) in
-    let mid : length ((rows ++ counts) ++ (names ++ ends)) ≡ length (rows ++ counts) + length (names ++ ends) = length-append (rows ++ counts) (names ++ ends) in
-    let both : length (rows ++ counts) ≡ length rows + length counts = length-append rows counts in
-    let one : length rows ≡ many = length-rows_told (new_holding p.number next.chunk) many in
-    let two : length counts ≡ many = length-rows_told (new_holder_count next.chunk) many in
-    let chunks : length (new_chunk_rows next.chunk lists) ≡ sum_by (λ part. rows_for 512 (length part)) lists = rows_of_chunks next.chunk lists in
-    let after : length (names ++ ends) ≡ length names + 2 = length-append names ends in
-    let told : length names ≡ rows_for 128 (length (sizes g)) = length-rows_told (name_row p.number (p.revisions + 1) numbers) (rows_for 128 (length numbers)) ∙ ap (rows_for 128) long in
-    omega arith
+rows_counted g last new next name p numbers long = search (rules, length-append, length-rows_told, rows_of_chunks)

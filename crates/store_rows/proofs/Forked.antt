@@ -114,9 +114,7 @@ module _ (m : KeyMap) (tidy : Tidy m) (name : List ℕ) (p : PlanRow) (numbers :
 
 -- a tidy map's plans can hold more
 pub holder_below : (m : KeyMap) (tidy : Tidy m) (plan number : ℕ) → plan < 2 ^ 64 → number < 2 ^ 64 → Has m (holding plan number) [] → plan < tidy.next.plan
-holder_below m tidy plan number plan_fits number_fits held =
-    let naming = (tidy.holdings.held plan number [] (plan_fits, number_fits) held).1 in
-    known_below m tidy plan plan_fits (tidy.owned.parts plan naming.revision naming.index (chunks_bytes naming.numbers) naming.part_fits naming.row)
+holder_below m tidy plan number plan_fits number_fits held = search (tidy.holdings.held plan number [] (plan_fits, number_fits) held, known_below, tidy.owned.parts)
 
 pub can_hold : (m : KeyMap) (tidy : Tidy m) (name : List ℕ) (p : PlanRow) → p.number < 2 ^ 64 → Has m (named name) (plan_bytes p) → CanHold m tidy.next.plan p.number
 can_hold m tidy name p fits has = record {

@@ -48,12 +48,7 @@ none_holds m plan number all plan_fits fits lacks held = (let is = all number fi
 
 another_then : (m : KeyMap) (plan number count : ℕ) (value : List ℕ) → AreHolders m number count → row_in m (holder_count number) ≡ holder_count_row count → Has m (holder_count number) value → Lacks m (holding plan number) → IsHeldByAnother m plan number
 another_then m plan number zero value h row has lacks = absurd (no_value value (sym has ∙ row))
-another_then m plan number (suc more) value h row has lacks = (let is = h.each 0 (omega arith) in record {
-  other = h.plan_at 0;
-  fits = is.0;
-  apart = λ same. no_value [] (sym is.1 ∙ ap (λ (p : ℕ). row_in m (holding p number)) same ∙ lacks);
-  held = is.1;
-})
+another_then m plan number (suc more) value h row has lacks = search (arith, h.each 0 (omega arith), no_value)
 
 pub another_holds : (m : KeyMap) (plan number : ℕ) (value : List ℕ) → AreTallied m → number < 2 ^ 64 → Has m (holder_count number) value → Lacks m (holding plan number) → IsHeldByAnother m plan number
 another_holds m plan number value all fits has lacks = (let is = all number fits in another_then m plan number is.count value is.holders is.row has lacks)

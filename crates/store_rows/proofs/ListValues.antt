@@ -1,6 +1,6 @@
 -- Lists of numbers as bytes: how long they are, and one number more.
 use Rattle.std.specs.List.{slice_range, flat_map}
-use Rattle.std.proofs.Common.{◌≡◌, ◌<◌, ◌≤◌, ◌+◌, ◌-◌, ◌*◌, ℕ, List, [], ◌∷◌, ◌++◌, All, Result, IsOk, OnOk, length, take, drop, set, refl, sym, ap, subst, ◌∙◌, arith, length-append}
+use Rattle.std.proofs.Common.{rules, ◌≡◌, ◌<◌, ◌≤◌, ◌+◌, ◌-◌, ◌*◌, ℕ, List, [], ◌∷◌, ◌++◌, All, Result, IsOk, OnOk, length, take, set, refl, sym, ap, subst, ◌∙◌, arith, length-append}
 use Rattle.std.proofs.Math.Seq.{take-add}
 use Rattle.std.proofs.lemmas.List.{append-nil, take_more_set}
 use Rattle.std.proofs.lemmas.List.Elements.{All-push}
@@ -17,17 +17,13 @@ length-districts (x ∷ districts) = let more = length-districts districts in om
 
 -- the bytes of the first k of them, and then of the next
 grown : (f : ℕ → List ℕ) (size : ℕ) (xs : List ℕ) (x k : ℕ) (bytes : List ℕ) → flat_map f xs ≡ take (size * k) bytes → f x ≡ slice_range bytes (size * k) (size * k + size) → flat_map f (xs ++ x ∷ []) ≡ take (size * k + size) bytes
-grown f size xs x k bytes before next =
-    let part : f x ≡ take size (drop (size * k) bytes) = next ∙ ap (λ n. take n (drop (size * k) bytes)) (omega arith) in
-    flat_map-append f xs (x ∷ []) ∙ rw (append-nil (f x), before, part) (sym (take-add (size * k) size bytes))
+grown f size xs x k bytes before next = search (rules, flat_map-append, append-nil, take-add)
 
 pub one_chunk_more : (numbers : List ℕ) (x k : ℕ) (bytes : List ℕ) → chunks_bytes numbers ≡ take (8 * k) bytes → in_eight x ≡ slice_range bytes (8 * k) (8 * k + 8) → chunks_bytes (numbers ++ x ∷ []) ≡ take (8 * (k + 1)) bytes
-one_chunk_more numbers x k bytes before next =
-    grown in_eight 8 numbers x k bytes before next ∙ ap (λ n. take n bytes) (omega arith)
+one_chunk_more numbers x k bytes before next = search (arith, grown in_eight 8 numbers x k bytes before next)
 
 pub one_district_more : (districts : List ℕ) (x k : ℕ) (bytes : List ℕ) → districts_bytes districts ≡ take (2 * k) bytes → in_two x ≡ slice_range bytes (2 * k) (2 * k + 2) → districts_bytes (districts ++ x ∷ []) ≡ take (2 * (k + 1)) bytes
-one_district_more districts x k bytes before next =
-    grown in_two 2 districts x k bytes before next ∙ ap (λ n. take n bytes) (omega arith)
+one_district_more districts x k bytes before next = search (arith, grown in_two 2 districts x k bytes before next)
 
 -- ---- numbers that are put into an array by their places, and taken from it
 -- one number more
@@ -42,6 +38,4 @@ on_ok r P is then = search (arith)
 
 -- a list without elements is made of those of a slice for which there is room
 pub taken_whole : {T E : Type 0} (r : Result T E) (none xs new : List ℕ) (room : ℕ) → none ≡ [] → length xs ≤ room → (length none + length xs ≤ room → IsOk r) → OnOk r (new ≡ none ++ xs) → new ≡ xs
-taken_whole r none xs new room empty fits is then =
-    let long : length none ≡ 0 = ap length empty in
-    on_ok r _ (is (omega arith)) then ∙ ap (λ (l : List ℕ). l ++ xs) empty
+taken_whole r none xs new room empty fits is then = search (rules, on_ok)

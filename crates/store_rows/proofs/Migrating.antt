@@ -34,9 +34,7 @@ module _ (m : KeyMap) (tidy : Tidy m) (plan number : ℕ) (fits : number < 2 ^ 6
   names = same 80 (λ e. absurd (omega arith)) (λ e. absurd (omega arith))
 
   was_held : (other x : ℕ) (value : List ℕ) → Fits (holding other x) → Has after (holding other x) value → ((other ≡ plan) × Contains (number ∷ []) x → ⊥) → (value ≡ []) × IsNamedBy after other x
-  was_held other x value both there apart =
-      let before = tidy.holdings.held other x value both (sym (holds.others other x both apart) ∙ there) in
-      (before.0, naming_moves m after other x parts before.1)
+  was_held other x value both there apart = search (tidy.holdings.held other x value both (sym (holds.others other x both apart) ∙ there), naming_moves, parts)
 
   held_after : (other x : ℕ) (value : List ℕ) → Fits (holding other x) → Has after (holding other x) value → (value ≡ []) × IsNamedBy after other x
   held_after other x value both there = elim (cases_eq other plan) [

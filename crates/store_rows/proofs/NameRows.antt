@@ -1,5 +1,5 @@
 -- Lemmas on the definitions of NameRows.
-use Rattle.std.proofs.Common.{◌≡◌, ◌<◌, ◌≤◌, ◌*◌, ◌^◌, ℕ, cond, List, ◌∷◌, length, take, drop, All, Some, None, refl, sym, ap, ◌∙◌, inl, inr, arith}
+use Rattle.std.proofs.Common.{rules, ◌≡◌, ◌<◌, ◌≤◌, ◌*◌, ◌^◌, ℕ, cond, List, ◌∷◌, length, take, drop, All, Some, None, refl, sym, ap, ◌∙◌, inl, inr, arith}
 use Rattle.std.proofs.lemmas.Bool.{cases_lt, lt-ltb, le-ltb}
 use Rattle.desk_model.specs.claim.Room.{rows_for}
 use Rattle.store_rows.specs.{claim.Keys.{key_of, part}, claim.Lists.chunks_bytes, claim.Rows.KeyMap, Rows.SameTag, claim.RevisionRows.{NamesChunks, HasRevision}}
@@ -8,16 +8,10 @@ use Rattle.store_rows.proofs.{Puts.{told_keep, told_are}, Frames.chunk_stays}
 
 -- ---- keys
 one_part : (plan revision i j : ℕ) → plan < 2 ^ 64 → revision < 2 ^ 32 → i < 2 ^ 8 → j < 2 ^ 8 → key_of (part plan revision i) ≡ key_of (part plan revision j) → i ≡ j
-one_part plan revision i j fits small few less same =
-    let equal : part plan revision i ≡ part plan revision j = keys_differ (part plan revision i) (part plan revision j) (fits, small, few) (fits, small, less) same in
-    cc
+one_part plan revision i j fits small few less same = search (rules, keys_differ)
 
 other_part : (plan revision other later i j : ℕ) → plan < 2 ^ 64 → revision < 2 ^ 32 → other < 2 ^ 64 → later < 2 ^ 32 → i < 2 ^ 8 → j < 2 ^ 8 → (other ≡ plan → later ≡ revision → ⊥) → key_of (part other later i) ≡ key_of (part plan revision j) → ⊥
-other_part plan revision other later i j fits small other_fits later_small few less apart same =
-    let equal : part other later i ≡ part plan revision j = keys_differ (part other later i) (part plan revision j) (other_fits, later_small, few) (fits, small, less) same in
-    let one : other ≡ plan = cc in
-    let two : later ≡ revision = cc in
-    apart one two
+other_part plan revision other later i j fits small other_fits later_small few less apart same = search (rules, keys_differ)
 
 pub few_names : (n i : ℕ) → n ≤ 128 * 2 ^ 8 → i < rows_for 128 n → i < 2 ^ 8
 few_names n i few less = omega arith

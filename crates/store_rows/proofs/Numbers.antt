@@ -51,7 +51,7 @@ whole k m n prefix x y = prefix_same prefix (bytes_high_first k m) (bytes_high_f
 
 pub numbers_decide : NumbersDecide
 numbers_decide prefix m n = (
-  λ (x : m < 2 ^ 16) (y : n < 2 ^ 16). whole 2 m n prefix (omega arith) (omega arith),
+  λ (x : m < 2 ^ 16) (y : n < 2 ^ 16). search (arith, whole 2 m n prefix (omega arith) (omega arith)),
   λ (x : m < 2 ^ 32) (y : n < 2 ^ 32). whole 4 m n prefix (omega arith) (omega arith),
   λ (x : m < 2 ^ 64) (y : n < 2 ^ 64). whole 8 m n prefix (omega arith) (omega arith),
 )

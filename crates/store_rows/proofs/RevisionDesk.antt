@@ -1,12 +1,12 @@
 -- The rows of one revision more make the desk with that revision.
 use Rattle.std.specs.FinMap.{FinMap, get}
-use Rattle.std.proofs.Common.{All, ◌≡◌, ◌<◌, ◌≤◌, ◌+◌, ◌-◌, ◌*◌, ◌^◌, ℕ, cond, List, [], length, get_or, take, drop, Some, None, refl, sym, ap, subst, ◌∙◌, inl, inr, arith, length-append}
+use Rattle.std.proofs.Common.{All, ◌≡◌, ◌<◌, ◌≤◌, ◌+◌, ◌-◌, ◌*◌, ◌^◌, ℕ, List, [], length, get_or, Some, refl, sym, ap, subst, ◌∙◌, inl, inr, arith, length-append}
 use Rattle.std.proofs.lemmas.Bool.{lt-ltb}
 use Rattle.std.proofs.lemmas.List.{get_or_default}
 use Rattle.desk_model.specs.{claim.Geography.GeographyModel, claim.Ranges.cut, claim.Desk.{Plan, name_cmp}}
-use Rattle.store_rows.specs.{claim.Keys.{Fits, named}, claim.Values.plan_bytes, claim.Lists.districts_bytes, declared.value.Counters.Counters, declared.value.PlanRow.PlanRow}
-use Rattle.store_rows.specs.{claim.Rows.{KeyMap, Has}, claim.RevisionRows.{HasChunk, NamesChunks, HasRevision}, claim.Puts.put_rows}
-use Rattle.store_rows.specs.{claim.DeskRows.{HasPlan, IsDesk, most_revisions}, Changes.{IsRevised, RevisionsStay, desk_with, plan_row_of}, Steps.chunks_more}
+use Rattle.store_rows.specs.{claim.Keys.{Fits, named}, claim.Values.plan_bytes, declared.value.Counters.Counters, declared.value.PlanRow.PlanRow, claim.Rows.{KeyMap, Has}}
+use Rattle.store_rows.specs.{claim.RevisionRows.{HasChunk, NamesChunks, HasRevision}, claim.Puts.put_rows, claim.DeskRows.{HasPlan, IsDesk, most_revisions}}
+use Rattle.store_rows.specs.{Changes.{IsRevised, RevisionsStay, desk_with, plan_row_of}, Steps.chunks_more}
 use Rattle.store_rows.specs.{RevisionSteps.{IsGiven, AreItsChunks, AddsRevision, IsChunkList, AreKept, IsDrawn, new_chunk_rows, rows_of_revision}, claim.Tidy.{IsNumbered, Tidy}}
 use Rattle.store_rows.{specs.TidyLaws.MakesRevision, proofs.Changes.plan_revised, proofs.Frames.chunk_stays, proofs.OneChunk.one_naming, proofs.PartNumbers.numbers_named}
 use Rattle.store_rows.proofs.{OneGeography.no_value, TidyParts.name_fits, TidyFree.free_chunk, TidyRevisions.revised_tidy, RevisionPuts.{revision_put, chunks_put}}
@@ -27,22 +27,14 @@ its_chunks m next plan lists numbers counties drawn = record {
 -- ---- what is there stays
 -- a chunk that is there has a number that was given before
 chunk_below : (m : KeyMap) (tidy : Tidy m) (given number : ℕ) (districts : List ℕ) → HasChunk m number districts → IsGiven tidy.next given number → ⊥
-chunk_below m tidy given number districts has is =
-    let some : 512 * 0 < length districts = (let some = has.some in omega arith) in
-    let row = has.pieces 0 (omega arith) ∙ ap (λ b. cond b (Some (districts_bytes (take 512 (drop (512 * 0) districts)))) None) (lt-ltb (512 * 0) (length districts) some) in
-    no_value (districts_bytes (take 512 (drop (512 * 0) districts))) (sym row ∙ free_chunk m tidy number is.0 has.number_fits 0 (omega arith))
+chunk_below m tidy given number districts has is = search (arith, has.pieces 0 (omega arith), lt-ltb, no_value, free_chunk m tidy number is.0 has.number_fits 0 (omega arith))
 
 module _ (m n : KeyMap) (tidy : Tidy m) (given : ℕ) (name : List ℕ) (p : PlanRow) (numbers : List ℕ) (adds : AddsRevision m n tidy.new tidy.next given name p numbers) where
   chunk_moves : (number : ℕ) (districts : List ℕ) → HasChunk m number districts → HasChunk n number districts
   chunk_moves number districts has = search (has.number_fits, has.some, has.few, has.each, adds.other_chunks, chunk_below, m, tidy, has.pieces)
 
   revision_moves : (plan revision : ℕ) (counties : List (List ℕ)) → plan < 2 ^ 64 → revision < 2 ^ 32 → ((plan ≡ p.number) × (revision ≡ p.revisions + 1) → ⊥) → HasRevision m plan revision counties → HasRevision n plan revision counties
-  revision_moves plan revision counties plan_fits revision_fits apart has = record {
-    numbers = has.numbers;
-    names = search (adds.other_parts, has.names.parts);
-    count = has.count;
-    chunks = λ county within. chunk_moves (get_or has.numbers county 0) (get_or counties county []) (has.chunks county within);
-  }
+  revision_moves plan revision counties plan_fits revision_fits apart has = search (has.numbers, adds.other_parts, has.names.parts, chunk_moves, has.chunks)
 
   revision_added : (source : ℕ) (lists counties : List (List ℕ)) → IsDrawn m tidy.next source lists numbers counties → tidy.next.chunk + length lists < 2 ^ 64 → ((place : ℕ) → place < length lists → HasChunk n (tidy.next.chunk + place) (get_or lists place [])) → HasRevision n p.number (p.revisions + 1) counties
   revision_added source lists counties drawn room there = record {

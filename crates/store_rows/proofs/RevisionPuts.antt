@@ -1,6 +1,6 @@
 -- The rows of one revision more, put one after the other, are what such rows are to be.
 use Rattle.std.specs.FinMap.{get, insert}
-use Rattle.std.proofs.Common.{true, ◌≡◌, ◌<◌, ◌≤◌, ◌+◌, ◌-◌, ◌*◌, ◌^◌, ℕ, suc, cond, List, [], ◌∷◌, ◌++◌, length, take, drop, All, Some, None, refl, sym, ap, subst, ◌∙◌, inl, inr, arith}
+use Rattle.std.proofs.Common.{rules, true, ◌≡◌, ◌<◌, ◌≤◌, ◌+◌, ◌-◌, ◌*◌, ◌^◌, ℕ, suc, cond, List, [], ◌∷◌, ◌++◌, length, take, drop, All, Some, None, refl, sym, ap, subst, ◌∙◌, inl, inr, arith}
 use Rattle.std.proofs.lemmas.Bool.{cases_eq, cases_lt, le-ltb}
 use Rattle.std.proofs.lemmas.List.Elements.{All-cons, All-nil, All-append}
 use Rattle.desk_model.specs.claim.Room.{rows_for}
@@ -116,10 +116,7 @@ module _ (m : KeyMap) (tidy : Tidy m) (name : List ℕ) (p : PlanRow) (lists : L
   last_rows = name_rows p.number (p.revisions + 1) numbers ++ plan_row ∷ counters_row ∷ []
 
   in_steps : after ≡ insert (insert with_parts plan_row.0 plan_row.1) counters_row.0 counters_row.1
-  in_steps = put_rows-append m (new_chunk_rows tidy.next.chunk lists) ((holdings ++ counts) ++ last_rows)
-      ∙ put_rows-append with_chunks (holdings ++ counts) last_rows
-      ∙ ap (λ n. put_rows n last_rows) (put_rows-append with_chunks holdings counts)
-      ∙ put_rows-append with_counts (name_rows p.number (p.revisions + 1) numbers) (plan_row ∷ counters_row ∷ [])
+  in_steps = search put_rows-append
 
   new_are : All (IsRowOf Q) (new_chunk_rows tidy.next.chunk lists)
   new_are = chunks_are Q tidy.next (length lists) (λ number piece is. is) room tidy.next.chunk lists (omega arith) (omega arith) (short lists sound)
@@ -141,19 +138,14 @@ module _ (m : KeyMap) (tidy : Tidy m) (name : List ℕ) (p : PlanRow) (lists : L
   })
 
   all_are : All (IsRowOf Q) (rows_of_revision tidy.new tidy.next name p lists numbers)
-  all_are = All-append (IsRowOf Q) (new_chunk_rows tidy.next.chunk lists) ((holdings ++ counts) ++ last_rows) new_are
-      (All-append (IsRowOf Q) (holdings ++ counts) last_rows (All-append (IsRowOf Q) holdings counts holdings_are counts_are)
-      (All-append (IsRowOf Q) (name_rows p.number (p.revisions + 1) numbers) (plan_row ∷ counters_row ∷ []) (parts_are tidy.next (length lists) many name p number_fits few_revisions name_fits numbers few)
-      (ends_are tidy.next (length lists) many name p number_fits few_revisions name_fits plan_row.1 counters_row.1)))
+  all_are = search (All-append, IsRowOf, new_are, holdings_are, counts_are, parts_are, ends_are)
 
   tag_stays : (tag : ℕ) → (tag ≡ 65 → ⊥) → (tag ≡ 80 → ⊥) → (tag ≡ 82 → ⊥) → (tag ≡ 107 → ⊥) → (tag ≡ 72 → ⊥) → (tag ≡ 75 → ⊥) → SameTag tag m after
   tag_stays tag a b c d e f rest = keeps_key Q m (rows_of_revision tidy.new tidy.next name p lists numbers) (tag ∷ rest) all_are (other_tags tidy.next (length lists) many name p number_fits few_revisions name_fits tag rest a b c d e f)
 
   -- the parts are those of the list of numbers
   in_parts : (index : ℕ) → row_in after (part p.number (p.revisions + 1) index) ≡ row_in with_parts (part p.number (p.revisions + 1) index)
-  in_parts index = ap (λ n. row_in n (part p.number (p.revisions + 1) index)) in_steps
-      ∙ put_keeps (insert with_parts plan_row.0 plan_row.1) counters_row.0 counters_row.1 (key_of (part p.number (p.revisions + 1) index)) (other_tag 82 65 _ [] (λ e. absurd (omega arith)))
-      ∙ put_keeps with_parts plan_row.0 plan_row.1 (key_of (part p.number (p.revisions + 1) index)) (other_tag 82 80 _ name (λ e. absurd (omega arith)))
+  in_parts index = search (rules, in_steps, put_keeps, other_tag)
 
   part_fits : (index : ℕ) → index < 2 ^ 8 → Fits (part p.number (p.revisions + 1) index)
   part_fits index less = (number_fits, few_revisions, less)
@@ -163,8 +155,7 @@ module _ (m : KeyMap) (tidy : Tidy m) (name : List ℕ) (p : PlanRow) (lists : L
       (chunks_are (IsNewPiece tidy.next (length lists)) tidy.next (length lists) (λ number piece is. is) room tidy.next.chunk lists (omega arith) (omega arith) (short lists sound)) (part_fits index less) (λ none. none)
 
   part_before : (index : ℕ) → row_in with_counts (part p.number (p.revisions + 1) index) ≡ row_in with_chunks (part p.number (p.revisions + 1) index)
-  part_before index = told_keep with_holdings (new_holder_count tidy.next.chunk) many (key_of (part p.number (p.revisions + 1) index)) (λ k less. other_tag 82 75 _ _ (λ e. absurd (omega arith)))
-      ∙ told_keep with_chunks (new_holding p.number tidy.next.chunk) many (key_of (part p.number (p.revisions + 1) index)) (λ k less. other_tag 82 72 _ _ (λ e. absurd (omega arith)))
+  part_before index = search (rules, told_keep, other_tag)
 
   part_is : (index : ℕ) → index < 2 ^ 8 → row_in with_parts (part p.number (p.revisions + 1) index) ≡ part_row 128 chunks_bytes numbers index
   part_is index less = elim (cases_lt index (rows_for 128 (length numbers))) [
@@ -181,12 +172,7 @@ module _ (m : KeyMap) (tidy : Tidy m) (name : List ℕ) (p : PlanRow) (lists : L
 
   -- the rows of chunks are those of the new ones
   pub chunks_put : SameTag 107 (put_rows m (new_chunk_rows tidy.next.chunk lists)) (put_rows m (rows_of_revision tidy.new tidy.next name p lists numbers))
-  chunks_put rest = ap (λ n. get n (107 ∷ rest)) in_steps
-      ∙ put_keeps (insert with_parts plan_row.0 plan_row.1) counters_row.0 counters_row.1 (107 ∷ rest) (other_tag 107 65 rest [] (λ e. absurd (omega arith)))
-      ∙ put_keeps with_parts plan_row.0 plan_row.1 (107 ∷ rest) (other_tag 107 80 rest name (λ e. absurd (omega arith)))
-      ∙ told_keep with_counts (name_row p.number (p.revisions + 1) numbers) (rows_for 128 (length numbers)) (107 ∷ rest) (λ k less. other_tag 107 82 rest _ (λ e. absurd (omega arith)))
-      ∙ told_keep with_holdings (new_holder_count tidy.next.chunk) many (107 ∷ rest) (λ k less. other_tag 107 75 rest _ (λ e. absurd (omega arith)))
-      ∙ told_keep with_chunks (new_holding p.number tidy.next.chunk) many (107 ∷ rest) (λ k less. other_tag 107 72 rest _ (λ e. absurd (omega arith)))
+  chunks_put rest = search (rules, in_steps, put_keeps, other_tag, told_keep)
 
   -- what they hold is pieces of chunks
   new_piece : (number piece : ℕ) (value : List ℕ) → Fits (chunk number piece) → IsGiven tidy.next (length lists) number → Has after (chunk number piece) value → IsPiece value
@@ -197,10 +183,7 @@ module _ (m : KeyMap) (tidy : Tidy m) (name : List ℕ) (p : PlanRow) (lists : L
 
   -- the plan holds its new chunks, and each is counted
   held_last : (tag : ℕ) (rest : List ℕ) → (tag ≡ 65 → ⊥) → (tag ≡ 80 → ⊥) → (tag ≡ 82 → ⊥) → get after (tag ∷ rest) ≡ get with_counts (tag ∷ rest)
-  held_last tag rest a b c = ap (λ n. get n (tag ∷ rest)) in_steps
-      ∙ put_keeps (insert with_parts plan_row.0 plan_row.1) counters_row.0 counters_row.1 (tag ∷ rest) (other_tag tag 65 rest [] a)
-      ∙ put_keeps with_parts plan_row.0 plan_row.1 (tag ∷ rest) (other_tag tag 80 rest name b)
-      ∙ told_keep with_counts (name_row p.number (p.revisions + 1) numbers) (rows_for 128 (length numbers)) (tag ∷ rest) (λ k less. other_tag tag 82 rest _ c)
+  held_last tag rest a b c = search (in_steps, put_keeps, other_tag, told_keep)
 
   -- those numbers are given
   given_too : (number : ℕ) → IsGiven tidy.next many number → IsGiven tidy.next (length lists) number

@@ -1,6 +1,6 @@
 -- A plan comes to hold chunks, one after the other.
 use Rattle.std.specs.{Prelude.Contains, FinMap.insert}
-use Rattle.std.proofs.Common.{◌≡◌, ◌<◌, ◌+◌, ◌^◌, ℕ, suc, List, [], ◌∷◌, ◌++◌, Some, None, refl, sym, ap, subst, ◌∙◌, inl, inr, arith}
+use Rattle.std.proofs.Common.{rules, ◌≡◌, ◌<◌, ◌+◌, ◌^◌, ℕ, suc, List, [], ◌∷◌, ◌++◌, None, refl, sym, ap, subst, ◌∙◌, inl, inr, arith}
 use Rattle.std.proofs.lemmas.Bool.{cases_eq}
 use Rattle.std.proofs.lemmas.Nat.{from_be_bytes-to_be_bytes_8}
 use Rattle.store_rows.specs.{claim.Keys.{key_of, Fits, holding, holder_count, in_eight}, claim.Rows.{KeyMap, row_in, Has}, Rows.SameTag, claim.Holders.{IsHeld, holder_count_row}}
@@ -29,13 +29,7 @@ module _ (m : KeyMap) (limit plan number : ℕ) (can : CanHold m limit plan) (fi
 
   -- the plan holds it already
   held_already : (value : List ℕ) → Has m (holding plan number) value → Holds m m limit plan (number ∷ [])
-  held_already value there = record {
-    can = can;
-    held = λ x among. subst (λ (k : ℕ). IsHeld m plan k) (only_one number x among) (there ∙ ap Some (can.empty number value (plan_fits, fits) there));
-    others = λ other x other_fits apart. refl;
-    rest = λ tag a b more. refl;
-    rows = λ rows. rows;
-  }
+  held_already value there = search (rules, only_one, plan_fits)
 
   abbrev count : ℕ
   count = count_of (row_in m (holder_count number))
@@ -47,9 +41,7 @@ module _ (m : KeyMap) (limit plan number : ℕ) (can : CanHold m limit plan) (fi
   holdings_then = too_holdings m plan number count plan_fits fits
 
   others_then : (other x : ℕ) → Fits (holding other x) → ((other ≡ plan) × Contains (number ∷ []) x → ⊥) → row_in made (holding other x) ≡ row_in m (holding other x)
-  others_then other x other_fits apart = holdings_then _ ∙ put_keeps_row m (holding plan number) [] (holding other x) (plan_fits, fits) other_fits (λ same.
-      let two : number ≡ x = cc in
-      apart (cc, (0, omega arith, two)))
+  others_then other x other_fits apart = holdings_then _ ∙ put_keeps_row m (holding plan number) [] (holding other x) (plan_fits, fits) other_fits (λ same. search rules)
 
   below_then : AreHoldersBelow made limit
   below_then other x other_fits x_fits there = elim (cases_eq other plan) [

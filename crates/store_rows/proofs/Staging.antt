@@ -1,22 +1,21 @@
 -- Lemmas on the definitions of Staging.
-use Rattle.std.specs.{Prelude.option_map, List.slice_get, FinMap.{FinMap, get, insert}}
-use Rattle.std.proofs.Common.{◌≡◌, ◌<◌, ◌≤◌, ◌+◌, ◌-◌, ◌^◌, ℕ, zero, suc, List, [], ◌∷◌, ◌++◌, length, take, All, Option, Some, None, refl, sym, ap, subst, ◌∙◌, inl, inr, arith}
+use Rattle.std.specs.{Prelude.option_map, List.slice_get, FinMap.{FinMap, insert}}
+use Rattle.std.proofs.Common.{rules, ◌≡◌, ◌<◌, ◌≤◌, ◌+◌, ◌-◌, ◌^◌, ℕ, zero, suc, List, [], ◌∷◌, ◌++◌, length, take, All, Option, Some, None, refl, sym, ap, subst, ◌∙◌, inl, inr, arith}
 use Rattle.std.proofs.lemmas.Bool.{cases_eq, cases_lt}
 use Rattle.std.proofs.lemmas.List.{take_all, take_more}
 use Rattle.std.proofs.lemmas.List.Elements.{All-push}
 use Rattle.std.proofs.lemmas.Option.{get_or_from_slice_get, slice_get_within}
 use Rattle.desk_model.specs.{declared.block.BlockRow.BlockRow, declared.geography.Pair.Pair, claim.Geography.GeographyModel, claim.GeographyModels.IsGeographyModel}
 use Rattle.desk_model.specs.claim.Desk.{Plan, name_cmp}
-use Rattle.store_rows.specs.{claim.Keys.{key_of, block, pair, seal, named}, claim.Values.{block_bytes, seal_bytes}, claim.Rows.{KeyMap, row_in, element_row}, Rows.SameTag}
+use Rattle.store_rows.specs.{claim.Keys.{key_of, block, pair, seal, named}, claim.Values.{block_bytes, seal_bytes}, claim.Rows.{KeyMap, row_in, element_row}}
 use Rattle.store_rows.specs.{claim.GeographyRows.{IsBlockRow, IsStaged, geography_rows, neighbours_bytes}, claim.DeskRows.{IsPlanAt, IsDesk}, Changes.desk_with}
 use Rattle.store_rows.{specs.Staging.desk_without, proofs.Frames.{put_is_there, put_keeps_row, put_keeps_tag, staged_stays}}
 
 -- ---- elements of a prefix
 taken : {X : Type 0} (xs : List X) (n k : ℕ) → k < n → slice_get (take n xs) k ≡ slice_get xs k
 taken xs zero k less = absurd (omega arith)
-taken [] (suc n) k less = refl
-taken (x ∷ xs) (suc n) zero less = refl
 taken (x ∷ xs) (suc n) (suc k) less = taken xs n k (omega arith)
+taken _ (suc n) _ less = refl
 
 not_taken : {X : Type 0} (xs : List X) (n k : ℕ) → n ≤ k → slice_get (take n xs) k ≡ None
 not_taken xs zero k more = refl
@@ -62,8 +61,7 @@ block_staged m load g done b staged load_fits done_fits is fits =
     record {
       fit = subst (λ (l : List BlockRow). All IsBlockRow l) prefix (All-push IsBlockRow (take done g.blocks) b staged.fit fits);
       blocks = λ place small. elim (cases_eq place done) [
-        | inl same ↦ subst (λ k. row_in (insert m (key_of (block load done)) value) (block load k) ≡ element_row block_bytes (take (done + 1) g.blocks) k) (sym same)
-            (put_is_there m (key_of (block load done)) value ∙ sym (row_there block_bytes g.blocks done b is))
+        | inl same ↦ search (put_is_there m (key_of (block load done)) value, row_there block_bytes g.blocks done b is)
         | inr apart ↦ put_keeps_row m (block load done) value (block load place) (load_fits, done_fits) (load_fits, small) (other_block load place done apart) ∙ staged.blocks place small ∙ row_same block_bytes g.blocks done place apart
       ];
       pairs = λ place small. put_keeps_row m (block load done) value (pair load place) (load_fits, done_fits) (load_fits, small) (not_block load place done) ∙ staged.pairs place small ∙ ap (λ n. element_row neighbours_bytes (take n g.pairs) place) pairs_same;
@@ -96,22 +94,9 @@ seen_at m n g name p same is = search (arith)
 
 -- a row of a load that isn't sealed is no part of the desk
 pub staged_unseen : (m : KeyMap) (plans : FinMap name_cmp Plan) (rest value : List ℕ) → IsDesk m (desk_without plans) → IsDesk (insert m (103 ∷ rest) value) (desk_without plans)
-staged_unseen m plans rest value is =
-    let n = insert m (103 ∷ rest) value in
-    let seals : SameTag 83 m n = put_keeps_tag m 83 103 rest value (λ same. absurd (omega arith)) in
-    record {
-      geography = seals [] ∙ is.geography;
-      plans = λ name. unseen_at m n name (get plans name) ((put_keeps_tag m 80 103 rest value (λ same. absurd (omega arith))) name) (is.plans name);
-    }
+staged_unseen m plans rest value is = search (rules, put_keeps_tag, unseen_at)
 
 -- once it is sealed, it is the desk's geography
 pub load_sealed : (m : KeyMap) (plans : FinMap name_cmp Plan) (load : ℕ) (g : GeographyModel) → IsDesk m (desk_without plans) → IsStaged m load g (geography_rows g) → IsGeographyModel g → load < 2 ^ 64 → length g.pairs < 2 ^ 32
     → IsDesk (insert m (key_of seal) (seal_bytes (record { load = load; blocks = length g.blocks; pairs = length g.pairs }))) (desk_with g plans)
-load_sealed m plans load g is staged sound load_fits pairs_fit =
-    let value = seal_bytes (record { load = load; blocks = length g.blocks; pairs = length g.pairs }) in
-    let n = insert m (key_of seal) value in
-    let rows : SameTag 103 m n = put_keeps_tag m 103 83 [] value (λ same. absurd (omega arith)) in
-    record {
-      geography = search (arith, put_is_there, staged_stays);
-      plans = λ name. seen_at m n g name (get plans name) ((put_keeps_tag m 80 83 [] value (λ same. absurd (omega arith))) name) (is.plans name);
-    }
+load_sealed m plans load g is staged sound load_fits pairs_fit = search (rules, put_keeps_tag, put_is_there, staged_stays, seen_at)

@@ -1,6 +1,5 @@
 -- A map without rows is tidy; in a tidy map the numbers that come next are free, and it has one row of counters' numbers.
-use Rattle.std.specs.{Int.from_be_bytes, FinMap.{get, empty, get-empty}}
-use Rattle.std.proofs.Common.{false, ◌≡◌, ◌<◌, ◌≤◌, ◌^◌, ℕ, List, [], drop, None, refl, sym, ap, ◌∙◌, inl, inr, w64, arith}
+use Rattle.std.{specs.FinMap.{get, empty, get-empty}, proofs.Common.{rules, false, ◌≡◌, ◌<◌, ◌≤◌, ◌^◌, ℕ, List, [], None, refl, sym, ◌∙◌, inl, inr, arith}}
 use Rattle.std.proofs.lemmas.Nat.{from_be_bytes-to_be_bytes_8}
 use Rattle.store_rows.specs.claim.Keys.{key_of, Fits, counters, retired, begun, holding, holder_count, named, part, version, block, pair, chunk}
 use Rattle.store_rows.specs.{claim.Values.{plan_bytes, counters_bytes}, declared.value.Counters.Counters, declared.value.PlanRow.PlanRow, claim.Order.key_cmp}
@@ -18,27 +17,13 @@ empty_tidy =
     let is : IsNext m no_numbers = rw (nothing_there (key_of counters)) refl in
     let kept : AllKept m no_numbers false = record {
       rows = λ key value there. absurd (never key value there);
-      plans = record {
-        below = λ name number is. absurd (never _ _ is.row);
-        marks_below = λ plan value fits has. absurd (never _ _ has);
-        one = λ name other number is also. absurd (never _ _ is.row);
-        gone = λ name number is. absurd (never _ _ is.row);
-        parts = λ plan revision index value fits has. absurd (never _ _ has);
-        told = λ plan revision index value fits has. absurd (never _ _ has);
-        counted = λ name p fits small has revision index value part_fits there. absurd (never _ _ has);
-      };
+      plans = search (rules, never);
       chunks = record {
         below = λ plan number is. absurd (never _ _ is.row);
         chunks = λ number index value fits has. absurd (never _ _ has);
         pieces = λ number piece value fits has. absurd (never _ _ has);
       };
-      loads = record {
-        below = λ load value fits has. absurd (never _ _ has);
-        sealed_below = λ sealed fits has. absurd (never _ _ has);
-        blocks = λ load place value fits has. absurd (never _ _ has);
-        pairs = λ load place value fits has. absurd (never _ _ has);
-        ended = λ sealed fits has. absurd (never _ _ has);
-      };
+      loads = search (rules, never);
       holders = record {
         told = nothing_there (key_of version);
         held = λ plan number value fits has. absurd (never _ _ has);
@@ -50,11 +35,7 @@ empty_tidy =
 
 -- ---- one row of counters
 counters_say : (a b : Counters) → CountersFit a → CountersFit b → counters_bytes a ≡ counters_bytes b → a ≡ b
-counters_say a b fa fb same =
-    let plan : a.plan ≡ b.plan = sym (from_be_bytes-to_be_bytes_8 a.plan fa.plan_fits) ∙ ap (from_be_bytes w64) same ∙ from_be_bytes-to_be_bytes_8 b.plan fb.plan_fits in
-    let chunk : a.chunk ≡ b.chunk = sym (from_be_bytes-to_be_bytes_8 a.chunk fa.chunk_fits) ∙ ap (λ l. from_be_bytes w64 (drop 8 l)) same ∙ from_be_bytes-to_be_bytes_8 b.chunk fb.chunk_fits in
-    let load : a.load ≡ b.load = sym (from_be_bytes-to_be_bytes_8 a.load fa.load_fits) ∙ ap (λ l. from_be_bytes w64 (drop 16 l)) same ∙ from_be_bytes-to_be_bytes_8 b.load fb.load_fits in
-    λ i. record { plan = plan i; chunk = chunk i; load = load i }
+counters_say a b fa fb same = search (rules, from_be_bytes-to_be_bytes_8)
 
 pub one_next : (m : KeyMap) (a b : Counters) → CountersFit a → CountersFit b → IsNext m a → IsNext m b → a ≡ b
 one_next m a b fa fb is also = search (arith, counters_say)

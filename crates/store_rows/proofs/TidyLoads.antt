@@ -1,5 +1,5 @@
 -- Loads are begun, staged and sealed, and the rows stay tidy.
-use Rattle.std.{specs.FinMap.{insert, remove}, proofs.Common.{◌≡◌, ◌<◌, ◌+◌, ◌^◌, ℕ, suc, List, [], ◌∷◌, ◌++◌, All, None, refl, sym, ap, subst, ◌∙◌, inl, inr, arith}}
+use Rattle.std.{specs.FinMap.{insert, remove}, proofs.Common.{rules, ◌≡◌, ◌<◌, ◌+◌, ◌^◌, ℕ, suc, List, [], ◌∷◌, ◌++◌, All, None, refl, sym, ap, subst, ◌∙◌, inl, inr, arith}}
 use Rattle.std.proofs.lemmas.Bool.{cases_eq}
 use Rattle.desk_model.specs.claim.Geography.{GeographyModel}
 use Rattle.store_rows.specs.{claim.Keys.{RowKey, key_of, Fits, counters, begun, seal, block, pair, in_eight, in_four}, claim.Values.{seal_bytes, counters_bytes}}
@@ -139,10 +139,7 @@ module _ (m : KeyMap) (limit : ℕ) (s : SealRow) (kept : LoadsKept m limit) (fi
 
   still_load : (load : ℕ) → load < 2 ^ 64 → IsLoad m load → IsLoad closed load
   still_load load few (inl (sealed, row, is)) = absurd (no_value (seal_bytes sealed) (sym row ∙ lacks))
-  still_load load few (inr open_mark) = elim (cases_eq load s.load) [
-    | inl same ↦ inl (s, sealed_row, sym same)
-    | inr apart ↦ inr (others_open load few apart ∙ open_mark)
-  ]
+  still_load load few (inr open_mark) = search (rules, cases_eq load s.load, sealed_row, others_open)
 
   loads_closed : LoadsKept closed limit
   loads_closed = record {

@@ -1,5 +1,5 @@
 -- What is kept of plans, of chunks and of loads, each by itself: a change of rows mostly reaches one of the three.
-use Rattle.std.{specs.FinMap.{insert, remove}, proofs.Common.{Bool, ◌≡◌, ◌<◌, ◌≤◌, ◌^◌, ℕ, List, [], Option, Some, None, sym, ◌∙◌, inl, inr, arith}}
+use Rattle.std.{specs.FinMap.{insert, remove}, proofs.Common.{rules, Bool, ◌≡◌, ◌<◌, ◌≤◌, ◌^◌, ℕ, List, [], Option, Some, None, sym, ◌∙◌, arith}}
 use Rattle.store_rows.specs.claim.Keys.{RowKey, key_of, Fits, counters, retired, begun, named, part, seal, block, pair, chunk}
 use Rattle.store_rows.specs.{claim.Values.{counters_bytes, plan_bytes, seal_bytes}, declared.value.Counters.Counters, declared.value.PlanRow.PlanRow}
 use Rattle.store_rows.specs.{declared.value.SealRow.SealRow, claim.Rows.{KeyMap, row_in, Has}, Rows.SameTag}
@@ -114,10 +114,7 @@ pub some_or_none : (o : Option (List ℕ)) → ((value : List ℕ) → o ≡ Som
 some_or_none o never = search (arith, never)
 
 pub rows_put : (m : KeyMap) (row : RowKey) (value : List ℕ) → Fits row → AreRows m → AreRows (insert m (key_of row) value)
-rows_put m row value fits rows key got there = elim (cases_key key (key_of row)) [
-  | inl same ↦ (row, fits, same)
-  | inr apart ↦ rows key got (sym (put_keeps m (key_of row) value key apart) ∙ there)
-]
+rows_put m row value fits rows key got there = search (rules, cases_key key (key_of row), put_keeps)
 
 pub rows_removed : (m : KeyMap) (gone : List ℕ) → AreRows m → AreRows (remove m gone)
 rows_removed m gone rows key got there = search (arith, cases_key, gone, no_value, removed_is_gone, rows, remove_keeps)

@@ -1,5 +1,5 @@
 -- Plans come and go, and the rows stay tidy.
-use Rattle.std.{specs.FinMap.{insert, remove}, proofs.Common.{Bool, ◌≡◌, ◌⊎◌, ◌<◌, ◌+◌, ◌^◌, ℕ, List, [], sym, ap, subst, ◌∙◌, inl, inr, arith}}
+use Rattle.std.{specs.FinMap.{insert, remove}, proofs.Common.{rules, Bool, ◌≡◌, ◌⊎◌, ◌<◌, ◌+◌, ◌^◌, ℕ, List, [], sym, ap, subst, ◌∙◌, inl, inr, arith}}
 use Rattle.std.proofs.lemmas.Bool.{cases_eq}
 use Rattle.store_rows.specs.{claim.Keys.{key_of, Fits, counters, retired, named}, claim.Values.{plan_bytes, counters_bytes}, claim.Lists.chunks_bytes}
 use Rattle.store_rows.specs.{declared.value.PlanRow.PlanRow, claim.Rows.{KeyMap, row_in, Has, Lacks}, Rows.SameTag, Steps.one_plan_more}
@@ -13,13 +13,10 @@ pub row_says : (m : KeyMap) (name : List ℕ) (p q : PlanRow) → Has m (named n
 row_says m name p q has also = value_is (plan_bytes p) (plan_bytes q) (sym has ∙ also)
 
 pub number_says : (m : KeyMap) (name : List ℕ) (p : PlanRow) (number : ℕ) → p.number < 2 ^ 64 → Has m (named name) (plan_bytes p) → IsNumbered m name number → p.number ≡ number
-number_says m name p number fits has is =
-    let small : is.plan.number < 2 ^ 64 = (let also = is.fits in omega arith) in
-    row_number p is.plan fits small (row_says m name p is.plan has is.row) ∙ is.is
+number_says m name p number fits has is = search (rules, row_number, row_says)
 
 numbers_agree : (m : KeyMap) (name : List ℕ) (one other : ℕ) → IsNumbered m name one → IsNumbered m name other → one ≡ other
-numbers_agree m name one other is also =
-    sym is.is ∙ number_says m name is.plan other ((let same = is.is in let fits = is.fits in omega arith)) is.row also
+numbers_agree m name one other is also = search (rules, number_says)
 
 -- ---- a plan is created
 module _ (m : KeyMap) (limit : ℕ) (name : List ℕ) (p : PlanRow) (kept : PlansKept m limit) (lacks : Lacks m (named name)) (is : p.number ≡ limit) (none : p.revisions ≡ 0) (fits : limit < 2 ^ 64) where
@@ -40,10 +37,7 @@ module _ (m : KeyMap) (limit : ℕ) (name : List ℕ) (p : PlanRow) (kept : Plan
 
   -- a plan that is there is the new one, or was there
   came : (other : List ℕ) (number : ℕ) → IsNumbered made other number → ((other ≡ name) × (number ≡ limit)) ⊎ IsNumbered m other number
-  came other number there = elim (cases_key other name) [
-    | inl same ↦ inl (same, sym (number_says made name p number (omega arith) new_row (subst (λ o. IsNumbered made o number) same there)) ∙ is)
-    | inr apart ↦ inr (numbered_moves made m other number (sym (other_there other apart)) there)
-  ]
+  came other number there = search (arith, cases_key other name, number_says, new_row, numbered_moves, other_there)
 
   known : (plan : ℕ) → IsKnown m plan → IsKnown made plan
   known plan given = search (arith, cases_key, no_value, numbered_moves, other_there, marks)
@@ -164,18 +158,12 @@ module _ (m : KeyMap) (limit : ℕ) (name : List ℕ) (number : ℕ) (kept : Pla
     | inl same ↦ inr (subst (λ k. Has left (retired k) []) (numbers_agree m name number plan is (subst (λ o. IsNumbered m o plan) same there)) marked)
     | inr apart ↦ inl (other, numbered_moves m left other plan (other_left other apart) there)
   ]
-  still_known plan fits (inr mark) = elim (cases_eq plan number) [
-    | inl same ↦ inr (subst (λ k. Has left (retired k) []) (sym same) marked)
-    | inr apart ↦ inr (other_marks plan fits apart ∙ mark)
-  ]
+  still_known plan fits (inr mark) = search (rules, cases_eq plan number, marked, other_marks)
 
   plans_left : PlansKept left limit
   plans_left = record {
     below = λ other plan there. kept.below other plan (was other plan there);
-    marks_below = λ plan value few there. elim (cases_eq plan number) [
-      | inl same ↦ (let small = kept.below name number is in omega arith)
-      | inr apart ↦ kept.marks_below plan value few (sym (other_marks plan few apart) ∙ there)
-    ];
+    marks_below = λ plan value few there. search (arith, cases_eq plan number, kept.below name number is, other_marks);
     one = λ one other plan there also. kept.one one other plan (was one plan there) (was other plan also);
     gone = λ other plan there. elim (cases_eq plan number) [
       | inl same ↦ absurd (apart_from other (plan_bytes there.plan) there.row (kept.one other name number (subst (λ k. IsNumbered m other k) same (was other plan there)) is))

@@ -1,9 +1,10 @@
 -- A plan gets one revision more, and the rows stay tidy.
-use Rattle.std.{specs.Prelude.Contains, proofs.Common.{Bool, true, ◌≡◌, ◌⊎◌, ◌<◌, ◌≤◌, ◌+◌, ◌^◌, ℕ, suc, List, [], ◌∷◌, get_or, All, Some, refl, sym, subst, ◌∙◌, inl, inr, arith}}
+use Rattle.std.specs.Prelude.{Contains}
+use Rattle.std.proofs.Common.{rules, Bool, true, ◌≡◌, ◌⊎◌, ◌<◌, ◌≤◌, ◌+◌, ◌^◌, ℕ, suc, List, [], ◌∷◌, get_or, All, Some, refl, sym, subst, ◌∙◌, inl, inr, arith}
 use Rattle.std.proofs.lemmas.Bool.{cases_eq, cases_lt}
 use Rattle.std.proofs.lemmas.List.{get_or_default}
 use Rattle.store_rows.specs.{claim.Keys.{Fits, holding, named, part, chunk}, claim.Values.plan_bytes, claim.Lists.chunks_bytes, declared.value.Counters.Counters}
-use Rattle.store_rows.specs.{declared.value.PlanRow.PlanRow, claim.Rows.{KeyMap, row_in, Has, part_row}, Steps.{chunks_more, one_revision_more}}
+use Rattle.store_rows.specs.{declared.value.PlanRow.PlanRow, claim.Rows.{KeyMap, Has, part_row}, Steps.{chunks_more, one_revision_more}}
 use Rattle.store_rows.specs.{RevisionSteps.{IsGiven, AreItsChunks, AddsRevision}, claim.Tidy.{IsNext, IsNumbered, IsNamedBy, IsPart, IsPiece, IsKnown, AreHoldings, Tidy}}
 use Rattle.store_rows.{specs.Tidy.TidyWith, specs.claim.Holders.IsHeld, proofs.ListLaws.chunks_differ, proofs.Changes.cases_key, proofs.OneDesk.{row_number, row_revisions}}
 use Rattle.store_rows.proofs.PartNumbers.{part_at, part_within, part_says, part_chunks, part_among, numbers_named}
@@ -69,8 +70,7 @@ module _ (m n : KeyMap) (new : Bool) (next : Counters) (given source : ℕ) (nam
   none_before index value fits there = (let few = (plans.counted name p number_fits (omega arith) has (p.revisions + 1) index value fits there).1 in absurd (omega arith))
 
   new_part : (plan revision index : ℕ) (value : List ℕ) → IsNew plan revision → Fits (part plan revision index) → Has n (part plan revision index) value → part_row 128 chunks_bytes numbers index ≡ Some value
-  new_part plan revision index value is fits there =
-      sym (adds.parts index fits.2) ∙ sym ((λ i. row_in n (part (is.0 i) (is.1 i) index))) ∙ there
+  new_part plan revision index value is fits there = search (adds.parts index fits.2, is.0, is.1)
 
   each_fits : All (λ x. x < 2 ^ 64) numbers
   each_fits k d within =
@@ -82,8 +82,7 @@ module _ (m n : KeyMap) (new : Bool) (next : Counters) (given source : ℕ) (nam
 
   told_now : (plan revision index : ℕ) (value : List ℕ) → Fits (part plan revision index) → Has n (part plan revision index) value → IsPart value
   told_now plan revision index value fits there = elim (new_or_not plan revision) [
-    | inl new ↦ (let is = new_part plan revision index value new fits there in
-        (part_at numbers index, part_chunks numbers index each_fits (part_within numbers index value is), part_says numbers index value is))
+    | inl new ↦ search (new_part plan revision index value new fits there, part_at numbers index, part_chunks, each_fits, part_within, part_says)
     | inr old ↦ plans.told plan revision index value fits (sym (adds.other_parts plan revision index fits old) ∙ there)
   ]
 
@@ -177,13 +176,7 @@ module _ (m n : KeyMap) (new : Bool) (next : Counters) (given source : ℕ) (nam
   IsNewHolding plan number = (plan ≡ p.number) × Contains numbers number
 
   new_holding_or_not : (plan number : ℕ) → IsNewHolding plan number ⊎ (IsNewHolding plan number → ⊥)
-  new_holding_or_not plan number = elim (cases_eq plan p.number) [
-    | inl same ↦ elim (contains_or_not numbers number) [
-      | inl is ↦ inl (same, is)
-      | inr other ↦ inr (λ is. other is.1)
-    ]
-    | inr apart ↦ inr (λ is. apart is.0)
-  ]
+  new_holding_or_not plan number = search (rules, cases_eq plan p.number, contains_or_not numbers number)
 
   -- the plan holds what the revision names, and names what it holds
   held_now : AreHoldings m new → (plan number : ℕ) (value : List ℕ) → Fits (holding plan number) → Has n (holding plan number) value → (value ≡ []) × IsNamedBy n plan number

@@ -8,7 +8,6 @@ use Rattle.store_rows.proofs.{RowLaws.keys_differ, KeyPrefixes.{after_tag, start
 use Rattle.store_sweep.specs.{Leftovers.{IsNoLoads, IsOfLoad, IsSpared}, declared.leftovers.Left.Left}
 use Rattle.store_sweep.specs.Finding.{IsUnder, IsMark, IsPieceOf, IsDone, IsLeft, IsLeftKey, IsLeftHolding, HasPlanMark, HasLoadMark, HoldsNone, spared_key}
 use Rattle.store_sweep.proofs.Keys.{eights_same, retired_is, begun_is, holding_is, part_is, staged_is}
-use Rattle.store_sweep.specs.declared.leftovers.Left.TheVariants as left
 
 abbrev pub NoneUnder : List ℕ → KeyMap → Type 0
 NoneUnder prefix m = (key : List ℕ) → starts_with nat_eq key prefix ≡ true → get m key ≡ None

@@ -1,5 +1,5 @@
 -- Rows that are looked up.
-use Rattle.std.{specs.Prelude.{Option, Result, IsErrAnd}, specs.FinMap.get as row_at, proofs.Common.{◌≡◌, ◌≤◌, ℕ, Bool, List, [], length, take, Some, nat_eq, arith}}
+use Rattle.std.{specs.Prelude.{Option, Result, IsErrAnd}, specs.FinMap.get as row_at, proofs.Common.{◌≡◌, ◌≤◌, ℕ, Bool, List, length, take, Some, nat_eq, arith}}
 use Rattle.std.proofs.lemmas.List.{length-take}
 use Rattle.std.proofs.lemmas.Bool.Decides.{nat_tests}
 use Rattle.sector_device.specs.declared.SectorDevice.{Ghosts}

@@ -1,4 +1,4 @@
-use Rattle.std.proofs.Common.{◌∙◌, sym}
+use Rattle.std.proofs.Common.{◌∙◌, sym, rules}
 use Rattle.std.proofs.lemmas.Result.{IfOk-weaker}
 use Rattle.desk_model.specs.Companions.{companions_at}
 use Rattle.audit_report.proofs.Reporting.{copied_same}
@@ -8,10 +8,5 @@ pub returns : goal.returns
 returns c =
     IfOk-weaker c.assemble.result _ _
     (λ r is. is c.args.geography.now c.args.plan.now (companions_at c.args.senate c.args.congress) (c.is_some.ensures ∙ sym (copied_same c.args.senate)) c.requires.companions_taken
-    (record {
-      people = c.in_ok-find_people.ensures;
-      splits = c.in_ok-divided_groups.ensures;
-      unnested = c.in_ok-find_nesting.ensures;
-      contiguity = c.in_ok-breaks.ensures;
-    }))
+    (search rules))
     c.assemble.ensures

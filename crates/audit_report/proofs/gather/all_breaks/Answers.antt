@@ -7,8 +7,7 @@ loop-piece-preserved c =
     rw (c.in_ok-extend_from_slice.ensures.items, c.breaks.ensures)
     (breaks_more c.breaks_follow.ensures c.args.work.now c.loop-piece.piece c.loop-piece.breaks.items c.index-found.result.now (omega arith)
     ((c.requires.shared.cut.numbered c.loop-piece.piece).0 c.loop-piece-test.true) c.loop-piece.invariant
-    (found_at c.args.work.now c.args.pieces c.args.workers c.loop-piece.piece c.args.shares.now c.index-shares-piece.result c.index-found.result.now c.loop-piece-test.true c.requires.held
-    c.index-shares-piece.is c.index-found.ensures))
+    (search found_at))
 
 pub returns : goal.returns
 returns c = breaks_all c.args.work.now c.args.pieces c.loop-piece.piece c.loop-piece.breaks.items c.requires.shared.cut.numbered (omega (arith, c.loop-piece-test.false)) c.loop-piece.invariant

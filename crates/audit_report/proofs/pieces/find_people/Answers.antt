@@ -1,5 +1,4 @@
-use Rattle.std.proofs.Common.{◌∙◌, arith, subst, sym}
-use Rattle.audit_clauses.specs.Counts.{IsCount}
+use Rattle.std.proofs.Common.{◌∙◌, arith, rules}
 use Rattle.audit_report.proofs.Reporting.{populations_long}
 use Rattle.audit_report.proofs.pieces.find_people.Goals as goal
 
@@ -12,5 +11,4 @@ mean-requires c =
     omega (arith, populations_long c.args.geography.now.blocks c.args.plan.now c.args.count c.as_slice-2.result.now (c.as_slice-2.ensures.value ∙ c.in_ok-populations.ensures.districts))
 
 pub range-requires : goal.range-requires
-range-requires c =
-    subst IsCount (sym (populations_long c.args.geography.now.blocks c.args.plan.now c.args.count c.as_slice-3.result.now (c.as_slice-3.ensures.value ∙ c.in_ok-populations.ensures.districts))) c.requires.count
+range-requires c = search (rules, populations_long)

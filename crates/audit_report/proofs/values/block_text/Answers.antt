@@ -1,9 +1,7 @@
-use Rattle.std.proofs.Common.{◌∙◌}
+use Rattle.std.proofs.Common.{rules}
 use Rattle.std.proofs.lemmas.Result.{IfOk-weaker}
 use Rattle.audit_report.proofs.Padded.{padded_zeros}
 use Rattle.audit_report.proofs.values.block_text.Goals as goal
 
 pub returns : goal.returns
-returns c =
-    let e = rw (c.laid_out.ensures, c.number-number.ensures) at c.format.ensures.ok in
-    IfOk-weaker c.format.result _ _ (λ s is. is ∙ padded_zeros 15 c.args.id) e
+returns c = search (rules, IfOk-weaker, padded_zeros 15 c.args.id)

@@ -1,4 +1,4 @@
-use Rattle.std.proofs.Common.{refl, arith}
+use Rattle.std.proofs.Common.{rules}
 use Rattle.btree_puts.proofs.Placed.{reached_known}
 use Rattle.btree_puts.proofs.finger.reach_leaf.Goals as goal
 
@@ -6,8 +6,4 @@ pub returns-then-has-clause-reached : goal.returns-then-has-clause-reached
 returns-then-has-clause-reached g c = λ honest stands. reached_known c.args.txn.now _ c.args.finger.now c.args.root c.args.key.now c.requires.root (c.has.ensures.between c.if-has.true) (stands (c.has.ensures.some c.if-has.true))
 
 pub returns-clause-reached : goal.returns-clause-reached
-returns-clause-reached g c = λ honest stands. record {
-  leads = λ d can. c.in_ok-leaf.ensures.leads honest d can;
-  all = c.in_ok-leaf.ensures.reach honest;
-  after = λ es is. (refl, λ rises j less. absurd (omega arith));
-}
+returns-clause-reached g c = λ honest stands. search rules

@@ -1,5 +1,5 @@
-use Rattle.std.{specs.Prelude.IfSome, specs.FinMap.{insert, contains_key}, proofs.Common.{refl, ◌≡◌, ◌≤◌, ◌+◌, sym, subst, ◌∙◌, arith, rules}}
-use Rattle.page_store.specs.claim.Transactions.{stored, txn_free, txn_writes}
+use Rattle.std.{specs.Prelude.IfSome, specs.FinMap.{insert, contains_key}, proofs.Common.{refl, ◌≡◌, ◌+◌, sym, subst, ◌∙◌, rules}}
+use Rattle.page_store.specs.claim.Transactions.{stored, txn_free}
 use Rattle.page_btree.{specs.claim.Map.InTxn, specs.Errors.IsNoWant, specs.declared.error.TreeError.TheVariants.TooDeep, proofs.Outcomes.{map_ok, map_err, map_both, reads_after}}
 use Rattle.page_btree.proofs.Editing.{still_in}
 use Rattle.btree_puts.{specs.Fingers.IsPutBy, proofs.Fits.{put_failed_more, put_failed_alike, by_err}}
@@ -12,11 +12,7 @@ returns-in-Some-clause-put g c = λ honest m holds stands.
 -- ---- nothing was changed
 pub returns-in-None-clause-reading : goal.returns-in-None-clause-reading
 returns-in-None-clause-reading g c =
-    let t = c.args.txn.now in
-    let u = c.put_fitting.new.txn in
-    let first = c.in_ok-had.ensures.reading.passed in
-    let later = c.put_cutting.ensures.reading in
-    reads_after first later (λ e why. by_err c.args.finger.now t c.args.pages.now c.put_cutting.new.pages e (put_failed_alike t u c.args.pages.now c.put_cutting.new.pages (c.in_ok-had.ensures.kept c.in-None.is) e (put_failed_more u _ _ _ first later.quiet e why)))
+    search (c.in_ok-had.ensures.reading.passed, c.put_cutting.ensures.reading, reads_after, by_err, put_failed_alike, c.in_ok-had.ensures.kept, put_failed_more)
 
 pub returns-in-None-clause-put : goal.returns-in-None-clause-put
 returns-in-None-clause-put g c = λ honest m holds stands.
@@ -33,15 +29,10 @@ returns-in-None-clause-takes g c =
     let v = c.put_cutting.new.txn in
     let takes = c.put_cutting.ensures.takes in
     let alike = c.in_ok-had.ensures.kept c.in-None.is in
-    let writes = alike.writes in
     let free = alike.free in
     record {
       pages = search rules;
-      costs = record {
-        writes = map_ok r (λ _. txn_writes v ≤ txn_writes u + 11) (λ _. txn_writes v ≤ txn_writes t + 11) (λ had h. omega arith) takes.costs.writes;
-        taken = map_ok r (λ _. txn_free u ≤ txn_free v + 6) (λ _. txn_free t ≤ txn_free v + 6) (λ had h. omega arith) takes.costs.taken;
-        none_back = map_ok r (λ _. txn_free v ≤ txn_free u) (λ _. txn_free v ≤ txn_free t) (λ had h. omega arith) takes.costs.none_back;
-      };
+      costs = search rules;
       fixed = λ honest m held holds there same_length.
           let same = c.put_fitting.ensures.reading.quiet.same (c.put_cutting.ensures.reading.quiet.honest honest) in
           map_both r (λ _. txn_free v ≡ txn_free u) (λ _. txn_free v ≡ txn_free t) (λ e. IsNoWant e) (λ e. IsNoWant e) (λ had h. h ∙ free) (λ e h. h)

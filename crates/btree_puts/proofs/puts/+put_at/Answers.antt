@@ -1,10 +1,10 @@
-use Rattle.std.{specs.Prelude.{Ok, Err, is_some}, specs.FinMap.{find, put}, proofs.Common.{◌≡◌, ◌-◌, ℕ, List, None, sym, subst, ◌∙◌, arith}}
+use Rattle.std.{specs.Prelude.{Ok, Err, is_some}, specs.FinMap.{find, put}, proofs.Common.{◌≡◌, ◌-◌, ℕ, List, None, arith, rules}}
 use Rattle.page_store.{specs.claim.Transactions.{stored, txn_pages, txn_free, over, free_over}, proofs.Stops.passed_more}
 use Rattle.page_node.specs.claim.Places.{key_cmp}
 use Rattle.page_btree.{specs.Errors.IsNoWant, proofs.Outcomes.{map_ok, match_of, reads_ok, reads_as, refused_as, refused_after}}
-use Rattle.btree_puts.{specs.Putting.{IsWritten, IsRaised, CanPutSome, AreFew}, proofs.Failing.{step_failed, step_no_want, below_failed, row_failed, link_failed}}
-use Rattle.btree_puts.proofs.{FromNode.{can_some, same_length, put_none, has_node, put_some}, Leaves.{leaf_rows, leaf_node, leaf_rises, leaf_off, leaf_find, leaf_raised}}
-use Rattle.btree_puts.proofs.Counting.{few_none, few_some, few_taken, fixed_row, none_some}
+use Rattle.btree_puts.{specs.Putting.{IsWritten, IsRaised, CanPutSome}, proofs.Failing.{step_failed, below_failed, link_failed}}
+use Rattle.btree_puts.proofs.{FromNode.{can_some, same_length, put_none, has_node, put_some}, Leaves.{leaf_rows, leaf_node, leaf_rises, leaf_off, leaf_raised}}
+use Rattle.btree_puts.proofs.Counting.{few_none, few_some, few_taken, none_some}
 use Rattle.btree_puts.proofs.puts.+put_at.Goals as goal
 
 -- ---- a leaf
@@ -35,36 +35,21 @@ returns-then-level-eq0-clause-fixed g t c = λ honest low high tree held can the
     let free = free_over c.args.txn.now S in
     let n = txn_pages c.args.txn.now in
     let z = c.if-level-eq0.true in
-    let es = leaf_rows n P low high free c.args.page c.args.room.now.page c.args.key.now c.args.level tree z can in
-    let found = leaf_find n P low high free c.args.page c.args.room.now.page c.args.key.now c.args.level tree z can in
-    fixed_row c.put_row.result c.args.txn.now c.put_row.new.txn c.put_row.ensures.few
-    (c.put_row.ensures.fixed es held
-    (leaf_node n P low high free c.args.page c.args.room.now.page c.args.key.now c.args.level tree z can)
-    (leaf_rises n P low high free c.args.page c.args.room.now.page c.args.key.now c.args.level tree z can)
-    (sym found ∙ there) same)
+    search rules
 
 pub returns-then-level-eq0-clause-few : goal.returns-then-level-eq0-clause-few
-returns-then-level-eq0-clause-few g t c = map_ok c.put_row.result (λ placed. AreFew 0 c.args.txn.now c.put_row.new.txn placed.right) (λ placed. AreFew c.args.level c.args.txn.now c.put_row.new.txn placed.right)
-    (λ placed few. subst (λ (d : ℕ). AreFew d c.args.txn.now c.put_row.new.txn placed.right) (sym c.if-level-eq0.true) few) c.put_row.ensures.few
+returns-then-level-eq0-clause-few g t c = search rules
 
 pub returns-then-level-eq0-clause-reading : goal.returns-then-level-eq0-clause-reading
-returns-then-level-eq0-clause-reading g t c =
-    let n = txn_pages c.args.txn.now in
-    let can = CanPutSome (txn_pages c.args.txn.now) (over c.args.txn.now) c.args.level (free_over c.args.txn.now) c.args.page c.args.room.now.page c.args.key.now in
-    reads_as c.put_row.ensures.reading (row_failed c.args.level can c.args.room.now.page c.args.txn.now c.args.pages.now c.put_row.new.pages (λ honest is.
-    let P = over c.args.txn.now (stored c.args.pages.now) in
-    let free = free_over c.args.txn.now (stored c.args.pages.now) in
-    let z = c.if-level-eq0.true in
-    (is.3.free_are, (leaf_rows n P is.0 is.1 free c.args.page c.args.room.now.page c.args.key.now c.args.level is.2 z is.3, leaf_node n P is.0 is.1 free c.args.page c.args.room.now.page c.args.key.now c.args.level is.2 z is.3))))
+returns-then-level-eq0-clause-reading g t c = reads_as c.put_row.ensures.reading (search rules)
 
 -- ---- no step down
 pub returns-in_err-child-clause-reading : goal.returns-in_err-child-clause-reading
 returns-in_err-child-clause-reading g t c = refused_as _ c.in_err-child.ensures.reading c.from_residual.ensures.1 (step_failed c.args.level (CanPutSome (txn_pages c.args.txn.now) (over c.args.txn.now) c.args.level (free_over c.args.txn.now) c.args.page c.args.room.now.page c.args.key.now) c.args.txn.now c.args.pages.now c.step_down.new.pages _)
 
 pub returns-in_err-child-clause-fixed : goal.returns-in_err-child-clause-fixed
-returns-in_err-child-clause-fixed g t c = λ honest low high tree held can there same.
-    match_of c.from_residual.result (λ placed. (placed.right ≡ None) × (txn_free c.args.txn.now ≡ txn_free c.args.txn.now)) c.in_err-child.field-0.0 IsNoWant c.from_residual.ensures.1
-    (step_no_want (CanPutSome (txn_pages c.args.txn.now) (over c.args.txn.now) c.args.level (free_over c.args.txn.now) c.args.page c.args.room.now.page c.args.key.now) c.args.pages.now c.step_down.new.pages c.in_err-child.field-0.0 c.in_err-child.ensures.reading.err)
+returns-in_err-child-clause-fixed g t c =
+    λ honest low high tree held can there same. search rules
 
 -- ---- refused below
 pub returns-in_err-below-clause-reading : goal.returns-in_err-below-clause-reading

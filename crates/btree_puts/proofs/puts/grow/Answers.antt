@@ -1,8 +1,7 @@
-use Rattle.std.proofs.Common.{◌≡◌, ◌∙◌, ◌∷◌, ◌+◌, ℕ, [], sym, ap, subst, refl}
+use Rattle.std.proofs.Common.{◌≡◌, ◌∙◌, ◌∷◌, ℕ, [], sym, ap, subst, rules}
 use Rattle.page_store.specs.{claim.Chain.AreFree, claim.Transactions.{stored, txn_pages, over, free_over}}
-use Rattle.page_node.specs.{claim.Entries.{Entry, child_bytes}, Entries.key_at, claim.Node.IsNode}
-use Rattle.btree_puts.{specs.Putting.IsGrown, proofs.Placing.second_node}
-use Rattle.page_store.proofs.gate_journal.Images.{put_on, put_off}
+use Rattle.page_node.specs.{claim.Entries.{Entry, child_bytes}, Entries.key_at}
+use Rattle.btree_puts.specs.Putting.{IsGrown}
 use Rattle.btree_puts.proofs.puts.grow.Goals as goal
 
 pub returns-clause-grown : goal.returns-clause-grown
@@ -12,20 +11,13 @@ returns-clause-grown g c = λ honest are.
     let t1 = c.take_page.new.self in
     let t3 = c.set_root.new.self in
     let top = c.in_ok-top.top in
-    let bytes = c.write_node.new.bytes in
     let taken : free_over t0 S ≡ top ∷ free_over t1 S = c.in_ok-top.ensures.taken honest in
     let are_taken : AreFree (txn_pages t0) (top ∷ free_over t1 S) = subst (AreFree (txn_pages t0)) taken are in
     let free : free_over t3 S ≡ free_over t1 S = (c.set_root.ensures.same S).1 ∙ c.in_ok-write_node.ensures.free S (txn_pages t0) are_taken.3 are_taken.2 in
     let written : (q : ℕ) → over t3 S q ≡ over c.write_node.new.txn S q = λ q. ap (λ P. P q) (c.set_root.ensures.same S).0 in
-    let at_top : over t3 S top ≡ bytes = written top ∙ c.in_ok-write_node.ensures.written S top ∙ put_on (top, bytes) (over t1 S) top refl in
     let first : ◌≡◌ {A = Entry} ([], c.to_be_bytes.result) ([], child_bytes c.args.root) = λ i. ([], c.to_be_bytes.ensures i) in
     let second : ◌≡◌ {A = Entry} (c.key.result.now, c.to_be_bytes-2.result) (key_at c.args.room.now.upper.entries 0, child_bytes c.args.right) = λ i. (c.key.ensures.key i, c.to_be_bytes-2.ensures i) in
-    let node = second_node (c.args.level + 1) _ _ _ _ c.clear.new.self c.insert.new.self c.insert-2.new.self first second c.clear.ensures c.insert.ensures c.insert-2.ensures in
     let bound = key_at c.args.room.now.upper.entries 0 in
-    let grown : IsGrown (over t0 S) (over t3 S) (free_over t0 S) (free_over t3 S) c.args.root c.args.right c.args.level bound top = record {
-      holds = subst (λ b. IsNode b (record { level = c.args.level + 1; entries = ([], child_bytes c.args.root) ∷ (key_at c.args.room.now.upper.entries 0, child_bytes c.args.right) ∷ [] })) (sym at_top)
-          (subst (IsNode bytes) node c.write_node.ensures.node);
-      elsewhere = λ q off. written q ∙ c.in_ok-write_node.ensures.written S q ∙ put_off (top, bytes) (over t1 S) q off ∙ ap (λ P. P q) (c.take_page.ensures.over S);
-      taken = taken ∙ ap (λ l. top ∷ l) (sym free);
-    } in
+    let grown : IsGrown (over t0 S) (over t3 S) (free_over t0 S) (free_over t3 S) c.args.root c.args.right c.args.level bound top =
+    search rules in
     subst (IsGrown (over t0 S) (over t3 S) (free_over t0 S) (free_over t3 S) c.args.root c.args.right c.args.level bound) (sym c.set_root.ensures.root) grown

@@ -1,8 +1,8 @@
-use Rattle.std.{specs.Prelude.{Ok, Err, is_some}, proofs.Common.{◌≡◌, sym, ap, ◌∙◌, arith, get_or, rules, false}}
-use Rattle.page_store.{specs.claim.Transactions.{stored, txn_pages, txn_root, over, free_over}, proofs.Stops.passed_more}
-use Rattle.page_btree.{specs.Errors.IsNoWant, proofs.Outcomes.{match_of, reads_ok, reads_err, refused_as, refused_after}, proofs.Tops.no_root}
+use Rattle.std.{specs.Prelude.{Ok, Err, is_some}, proofs.Common.{◌≡◌, sym, ap, ◌∙◌, arith, rules, false}}
+use Rattle.page_store.{specs.claim.Transactions.{txn_pages, txn_root, over, free_over}, proofs.Stops.passed_more}
+use Rattle.page_btree.{specs.Errors.IsNoWant, proofs.Outcomes.{match_of, reads_ok, refused_as, refused_after}, proofs.Tops.no_root}
 use Rattle.btree_puts.{specs.Putting.CanPutSome, specs.Outcomes.TakesNoPage, proofs.Failing.{first_failed, root_read_failed, place_failed, grow_failed}}
-use Rattle.btree_puts.proofs.{Counting.{none_some, few_some_taken}, FromRoot.{at_most_five, can_some, same_length, put_whole, free_then, put_grown}}
+use Rattle.btree_puts.proofs.{Counting.{none_some, few_some_taken}, FromRoot.{can_some, same_length, put_whole, free_then, put_grown}}
 use Rattle.btree_puts.proofs.puts.put_cutting.Goals as goal
 
 -- ---- no root
@@ -21,25 +21,17 @@ returns-then-root-eq0-clause-put g c = λ honest m holds.
     (c.in_ok-put_first.ensures.put honest m zero_is holds, ap is_some (sym (no_root _ _ _ _ m c.args.key.now holds zero_is)))
 
 pub returns-then-root-eq0-clause-takes : goal.returns-then-root-eq0-clause-takes
-returns-then-root-eq0-clause-takes g c =
-    let fixed : TakesNoPage c.args.txn.now c.put_first.new.txn c.args.pages.now c.put_first.new.pages (c.args.key.now, c.args.value.now) (Ok false) = λ honest m held holds there same.
-    absurd (cc (no_root _ _ _ _ m c.args.key.now holds (sym c.root-root.ensures.root ∙ c.if-root-eq0.true), there)) in
-    search (rules, fixed)
+returns-then-root-eq0-clause-takes g c = search (rules, no_root)
 
 -- ---- the root isn't read, or is none
 pub returns-in_err-read-clause-reading : goal.returns-in_err-read-clause-reading
 returns-in_err-read-clause-reading g c = refused_as _ c.in_err-read.ensures.reading c.from_residual-in_err-read.ensures.1 (λ why. (root_read_failed c.args.txn.now c.args.pages.now c.read.new.pages _ why).0)
 
 pub returns-in_err-read-clause-takes : goal.returns-in_err-read-clause-takes
-returns-in_err-read-clause-takes g c =
-    let fixed : TakesNoPage c.args.txn.now c.args.txn.now c.args.pages.now c.read.new.pages (c.args.key.now, c.args.value.now) (c.from_residual-in_err-read.result) = λ honest m held holds there same.
-    match_of c.from_residual-in_err-read.result _ _ IsNoWant c.from_residual-in_err-read.ensures.1 (root_read_failed c.args.txn.now c.args.pages.now c.read.new.pages _ c.in_err-read.ensures.reading.err).1 in
-    search (rules, fixed)
+returns-in_err-read-clause-takes g c = search rules
 
 pub returns-then-level-gt5-clause-reading : goal.returns-then-level-gt5-clause-reading
-returns-then-level-gt5-clause-reading g c = reads_err c.in_ok-read.ensures.reading.quiet (λ honest m holds.
-    let few = at_most_five c.args.txn.now c.args.pages.now c.read.new.pages c.root-root.result c.level_of-level.result c.read.new.page c.args.key.now c.root-root.ensures.root c.if-root-eq0.false c.read.ensures.reading.quiet c.in_ok-read.ensures.reads c.level_of-level.ensures.level honest m holds in
-    omega arith)
+returns-then-level-gt5-clause-reading g c = search rules
 
 -- ---- refused below
 pub returns-in_err-placed-clause-reading : goal.returns-in_err-placed-clause-reading
@@ -82,9 +74,7 @@ returns-in_err-grow-in-Some-clause-reading g c =
     let later = c.in_err-grow-in-Some.ensures.reading in
     refused_after _ passed later c.from_residual-in_err-grow-in-Some.ensures.1 (grow_failed level t c.put_at.new.txn _ _ _ passed later.quiet
     (few_some_taken level t c.put_at.new.txn c.in-Some.right c.in_ok-placed.placed.right c.in-Some.is c.in_ok-placed.ensures.few)
-    (λ honest.
-    let before = c.put_at.ensures.reading.quiet.honest (later.quiet.honest honest) in
-    c.level_of-level.ensures.byte ∙ ap (λ b. get_or b 0 0) (c.in_ok-read.ensures.reads before ∙ ap (over t (stored c.args.pages.now)) c.root-root.ensures.root))
+    (λ honest. search rules)
     (λ honest m holds.
     let middle = later.quiet.honest honest in
     free_then c.args.txn.now c.args.pages.now c.read.new.pages c.root-root.result c.level_of-level.result c.read.new.page c.args.key.now c.root-root.ensures.root c.if-root-eq0.false c.read.ensures.reading.quiet c.in_ok-read.ensures.reads c.level_of-level.ensures.level (c.put_at.ensures.reading.quiet.honest middle) m holds

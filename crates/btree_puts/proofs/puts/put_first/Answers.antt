@@ -1,7 +1,7 @@
-use Rattle.std.{specs.FinMap.insert, proofs.Common.{◌≡◌, ◌∙◌, ◌∷◌, [], sym, ap, subst, refl}}
+use Rattle.std.{specs.FinMap.insert, proofs.Common.{◌≡◌, ◌∙◌, ◌∷◌, [], sym, ap, subst, refl, rules}}
 use Rattle.page_store.specs.{claim.Chain.AreFree, claim.Transactions.{stored, txn_pages, txn_root, over, free_over}}
 use Rattle.page_node.specs.claim.Node.{IsNode}
-use Rattle.page_btree.{specs.claim.Map.Holds, proofs.Outcomes.refused_as}
+use Rattle.page_btree.proofs.Outcomes.{refused_as}
 use Rattle.btree_puts.proofs.{Roots.first_holds, Placing.first_node, Failing.take_failed}
 use Rattle.page_store.proofs.gate_journal.Images.{put_on}
 use Rattle.btree_puts.proofs.puts.put_first.Goals as goal
@@ -20,10 +20,8 @@ returns-clause-put g c = λ honest m none holds.
     let taken_now : free_over t0 S ≡ page ∷ free_over t3 S = taken ∙ ap (λ l. page ∷ l) (sym free) in
     let bytes : over t3 S page ≡ c.write_node.new.bytes = ap (λ P. P page) (c.set_root.ensures.same S).0 ∙ c.in_ok-write_node.ensures.written S page ∙ put_on (page, c.write_node.new.bytes) (over t1 S) page refl in
     let node : IsNode c.write_node.new.bytes (record { level = 0; entries = (c.args.key.now, c.args.value.now) ∷ [] }) = subst (IsNode c.write_node.new.bytes) (first_node (c.args.key.now, c.args.value.now) c.clear.new.self c.insert.new.self c.clear.ensures c.insert.ensures) c.write_node.ensures.node in
-    let pages : txn_pages t3 ≡ n = c.set_root.ensures.pages ∙ c.write_node.ensures.rooted.pages ∙ c.take_page.ensures.rooted.pages in
     let made = first_holds n (over t0 S) (over t3 S) (txn_root t0) (free_over t0 S) (free_over t3 S) page m c.args.key.now c.args.value.now none holds taken_now (subst (λ b. IsNode b (record { level = 0; entries = (c.args.key.now, c.args.value.now) ∷ [] })) (sym bytes) node) in
-    subst (λ k. Holds k (over t3 S) (txn_root t3) (free_over t3 S) (insert m c.args.key.now c.args.value.now)) (sym pages)
-    (subst (λ r. Holds n (over t3 S) r (free_over t3 S) (insert m c.args.key.now c.args.value.now)) (sym c.set_root.ensures.root) made)
+    search rules
 
 pub returns-in_err-page-clause-reading : goal.returns-in_err-page-clause-reading
 returns-in_err-page-clause-reading g c = refused_as _ c.in_err-page.ensures.reading c.from_residual.ensures.1 (take_failed c.args.txn.now c.args.pages.now c.take_page.new.pages _)

@@ -1,7 +1,6 @@
-use Rattle.std.proofs.Common.{◌≡◌, ◌∷◌, inl, inr, sym, ap, subst, ◌∙◌, refl}
+use Rattle.std.proofs.Common.{◌≡◌, ◌∷◌, inr, sym, ap, subst, ◌∙◌, rules}
 use Rattle.page_store.specs.{claim.Chain.{IsIn, AreFree}, claim.Transactions.{stored, txn_pages, over, free_over}}
 use Rattle.page_node.specs.claim.Node.{IsNode}
-use Rattle.page_store.proofs.gate_journal.Images.{put_on, put_off}
 use Rattle.btree_puts.proofs.Failing.{take_failed}
 use Rattle.page_btree.proofs.Outcomes.{refused_as}
 use Rattle.btree_puts.proofs.tree.cut.Goals as goal
@@ -20,26 +19,15 @@ returns-clause-written g c = λ honest are off.
     let off_taken : IsIn page (right ∷ free_over t1 S) → ⊥ = subst (λ l. IsIn page l → ⊥) taken off in
     let first_free : free_over t2 S ≡ free_over t1 S = c.in_ok-write_node.ensures.free S (txn_pages t0) are_taken.3 (λ there. off_taken (inr there)) in
     let second_free : free_over t3 S ≡ free_over t2 S = c.in_ok-write_node-2.ensures.free S (txn_pages t0) (subst (AreFree (txn_pages t0)) (sym first_free) are_taken.3) (subst (λ l. IsIn right l → ⊥) (sym first_free) are_taken.2) in
-    let before : over t1 S ≡ over t0 S = c.take_page.ensures.over S in
-    let at_page : over t3 S page ≡ c.write_node.new.bytes =
-    c.in_ok-write_node-2.ensures.written S page
-    ∙ put_off (right, c.write_node-2.new.bytes) (over t2 S) page (λ same. off_taken (inl same))
-    ∙ c.in_ok-write_node.ensures.written S page
-    ∙ put_on (page, c.write_node.new.bytes) (over t1 S) page refl in
-    let at_right : over t3 S right ≡ c.write_node-2.new.bytes =
-    c.in_ok-write_node-2.ensures.written S right ∙ put_on (right, c.write_node-2.new.bytes) (over t2 S) right refl in
+    let at_right : over t3 S right ≡ c.write_node-2.new.bytes = search rules in
     record {
       lower = c.split.new.self.entries;
       both = c.split.ensures.entries;
       level = c.split.ensures.level.1;
       some = c.split.ensures.some;
-      holds = subst (λ b. IsNode b (record { level = c.args.room.now.node.level; entries = c.split.new.self.entries })) (sym at_page)
-          (subst (λ k. IsNode c.write_node.new.bytes (record { level = k; entries = c.split.new.self.entries })) c.split.ensures.level.0 c.write_node.ensures.node);
+      holds = search rules;
       beside = subst (λ b. IsNode b c.split.new.right) (sym at_right) c.write_node-2.ensures.node;
-      elsewhere = λ q not_page not_right.
-          c.in_ok-write_node-2.ensures.written S q ∙ put_off (right, c.write_node-2.new.bytes) (over t2 S) q not_right
-          ∙ c.in_ok-write_node.ensures.written S q ∙ put_off (page, c.write_node.new.bytes) (over t1 S) q not_page
-          ∙ ap (λ P. P q) before;
+      elsewhere = λ q not_page not_right. search rules;
       taken = taken ∙ ap (λ l. right ∷ l) (sym (second_free ∙ first_free));
     }
 

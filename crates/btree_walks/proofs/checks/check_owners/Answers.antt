@@ -10,9 +10,7 @@ returns-in_err-name-clause-reading g c = refused_by _ c.from_residual.ensures.1 
     c.in_err-name.ensures.err (let some = some_pages _ _ is in let long = c.requires.marks.long in omega arith) (c.requires.none 0))
 
 pub read-requires-clause-page : goal.read-requires-clause-page
-read-requires-clause-page g c =
-    let lt = c.in_ok-name.ensures.named.within 0 refl in
-    omega arith
+read-requires-clause-page g c = search arith
 
 pub returns-in_err-read-clause-reading : goal.returns-in_err-read-clause-reading
 returns-in_err-read-clause-reading g c = unread c.in_err-read.ensures.reading c.from_residual-in_err-read.ensures.1

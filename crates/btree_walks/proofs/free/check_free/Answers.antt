@@ -1,17 +1,11 @@
-use Rattle.std.proofs.Common.{sym, ◌∙◌, arith}
-use Rattle.page_store.{specs.claim.Transactions.{stored, txn_pages, over}, proofs.Stops.{passed_none, passed_more}}
+use Rattle.std.proofs.Common.{sym, ◌∙◌, arith, rules}
+use Rattle.page_store.{specs.claim.Transactions.{stored, txn_pages, over}, proofs.Stops.passed_more}
 use Rattle.page_btree.proofs.Outcomes.{err_of, reads_err}
-use Rattle.btree_walks.{specs.Faults.TellsOf, proofs.Errors.unsound_after, proofs.Faults.{goes_on, listed_at}}
-use Rattle.btree_walks.proofs.Lists.{none_listed, more_listed, all_listed, can_name, ends_with}
+use Rattle.btree_walks.{specs.Faults.TellsOf, proofs.Errors.unsound_after, proofs.Faults.listed_at, proofs.Lists.{more_listed, all_listed, can_name, ends_with}}
 use Rattle.btree_walks.proofs.free.check_free.Goals as goal
 
 pub loop-taken-init : goal.loop-taken-init
-loop-taken-init g c = record {
-  begun = c.requires.begun;
-  long = c.requires.long;
-  passed = passed_none c.args.pages.now;
-  listed = λ honest. none_listed (over c.args.txn.now (stored c.args.pages.now)) c.args.first c.args.marks.now;
-}
+loop-taken-init g c = search rules
 
 pub returns-in_err-next-clause-reading : goal.returns-in_err-next-clause-reading
 returns-in_err-next-clause-reading g c =
@@ -55,5 +49,4 @@ returns-in_err-next-clause-told g c = λ honest first_is count_is.
     err_of _ _ (TellsOf (txn_pages c.args.txn.now) (over c.args.txn.now (stored c.args.pages.now))) c.from_residual.ensures.1 (rw same at (c.in_err-next.ensures.told honest (rw same listed)))
 
 pub returns-then-next-ne0-clause-told : goal.returns-then-next-ne0-clause-told
-returns-then-next-ne0-clause-told g c = λ honest first_is count_is.
-    (goes_on _ _ _ _ _ _ _ (c.loop-taken.invariant.listed honest) (omega arith) first_is count_is, c.if-next-ne0.true)
+returns-then-next-ne0-clause-told g c = λ honest first_is count_is. search rules

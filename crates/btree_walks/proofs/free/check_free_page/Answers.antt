@@ -1,5 +1,4 @@
-use Rattle.std.proofs.Common.{List, ℕ, inl, inr, refl, sym, ap, ◌∙◌, arith}
-use Rattle.gate_journal.specs.claim.Store.{word}
+use Rattle.std.proofs.Common.{inl, inr, refl, sym, ap, ◌∙◌, arith, rules}
 use Rattle.page_store.{specs.claim.Transactions.{stored, txn_pages, over}, specs.claim.Chain.is_blank, proofs.Chains.both_ways, proofs.Stops.quiet_none}
 use Rattle.page_btree.proofs.Outcomes.{reads_ok, reads_err, refused_by}
 use Rattle.btree_walks.proofs.{Errors.unread, Faults.{name_told, unread_told}}
@@ -22,10 +21,7 @@ pub returns-clause-reading : goal.returns-clause-reading
 returns-clause-reading g c = reads_ok c.in_ok-own.ensures.reading.passed
 
 pub returns-clause-free : goal.returns-clause-free
-returns-clause-free g c = λ honest. (
-  c.word_at.ensures ∙ ap (λ (s : List ℕ). word s 0) (c.lent-bytes.ensures ∙ c.in_ok-own.ensures.lends honest),
-  ap is_blank (sym (c.lent-bytes.ensures ∙ c.in_ok-own.ensures.lends honest)) ∙ sym c.is_blank_page.ensures ∙ c.if-not-is_blank_page.false,
-)
+returns-clause-free g c = λ honest. search rules
 
 pub returns-in_err-name-clause-told : goal.returns-in_err-name-clause-told
 returns-in_err-name-clause-told g c = λ honest listed. name_told _ (txn_pages c.args.txn.now) (over c.args.txn.now (stored c.args.pages.now)) _ _ c.from_residual.ensures.1 (inr (inl listed)) (rw c.requires.long at c.in_err-name.ensures.told)
@@ -34,7 +30,5 @@ pub returns-in_err-own-clause-told : goal.returns-in_err-own-clause-told
 returns-in_err-own-clause-told g c = λ honest listed. unread_told _ (txn_pages c.args.txn.now) (over c.args.txn.now (stored c.args.pages.now)) c.in_err-own.field-0.0 c.from_residual-in_err-own.ensures.1
 
 pub returns-then-not-is_blank_page-clause-told : goal.returns-then-not-is_blank_page-clause-told
-returns-then-not-is_blank_page-clause-told g c = λ honest listed. (
-  listed,
-  λ blank. both_ways _ blank (ap is_blank (sym (c.lent-bytes.ensures ∙ c.in_ok-own.ensures.lends honest)) ∙ sym c.is_blank_page.ensures ∙ c.if-not-is_blank_page.true),
-)
+returns-then-not-is_blank_page-clause-told g c =
+    λ honest listed. search rules

@@ -1,6 +1,6 @@
-use Rattle.std.{specs.Prelude.remove, proofs.Common.{refl, subst}}
+use Rattle.std.proofs.Common.{subst}
 use Rattle.page_node.specs.Spots.{IsRowTaken}
-use Rattle.btree_walks.{specs.Removing.{IsPutBack, RowRemoves, IsDone, StaysAt, BackErr, TakenErr}, proofs.Steps.{row_done, done_stays}, proofs.Refusals.back_taken}
+use Rattle.btree_walks.{specs.Removing.{IsDone, StaysAt, BackErr, TakenErr}, proofs.Steps.{row_done, done_stays}, proofs.Refusals.back_taken}
 use Rattle.page_btree.{specs.declared.error.TreeError.TheVariants.NotAStore, proofs.Outcomes.{map_ok, map_err, err_of}}
 use Rattle.btree_walks.proofs.removes.remove_row.Goals as goal
 
@@ -13,8 +13,7 @@ returns-in-None-clause-row c = λ es is rises. (subst (IsRowTaken c.args.page.no
 pub returns-in-Some-clause-row : goal.returns-in-Some-clause-row
 returns-in-Some-clause-row c = λ es is rises.
     let taken = subst (IsRowTaken c.args.page.now c.take_row.new.page c.args.key.now es) c.in-Some.is (c.in_ok-take_row.ensures.taken es is rises) in
-    map_ok c.write_back.result (λ did. IsPutBack c.args.txn.now c.write_back.new.txn c.args.p (record { level = 0; entries = remove es taken.0 }) did) (λ did. RowRemoves c.args.txn.now c.write_back.new.txn c.args.p c.args.key.now es did)
-    (λ did back. row_done c.args.txn.now c.write_back.new.txn c.args.p c.args.key.now es taken.0 (record { level = 0; entries = remove es taken.0 }) refl taken.1 did back) (c.write_back.ensures.back _ taken.2 taken.3)
+    search (map_ok, row_done, c.write_back.ensures.back, taken.2)
 
 pub returns-in-Some-clause-stays : goal.returns-in-Some-clause-stays
 returns-in-Some-clause-stays c = map_ok c.write_back.result IsDone (λ did. StaysAt c.args.txn.now c.write_back.new.txn did) (done_stays c.args.txn.now c.write_back.new.txn) c.write_back.ensures.done

@@ -9,8 +9,7 @@ pub returns-then-root-eq0 : goal.returns-then-root-eq0
 returns-then-root-eq0 g c = record {
   reading = search rules;
   pages = search rules;
-  remove = λ honest m holds.
-      none_there _ _ _ _ m c.args.key.now holds (no_root _ _ _ _ m c.args.key.now holds (sym c.root-root.ensures.root ∙ c.if-root-eq0.true));
+  remove = λ honest m holds. search (rules, none_there _ _ _ _ m c.args.key.now holds (no_root _ _ _ _ m c.args.key.now holds (sym c.root-root.ensures.root ∙ c.if-root-eq0.true)));
   costs = search rules;
 }
 

@@ -4,9 +4,7 @@ use Rattle.btree_walks.{specs.declared.held.HeldLeaves.HeldLeaves, proofs.Ready.
 use Rattle.btree_walks.proofs.scans.read_on.Goals as goal
 
 pub returns-then-not-leaf-clause-rows : goal.returns-then-not-leaf-clause-rows
-returns-then-not-leaf-clause-rows g c = λ honest m rest holds is.
-    let last : bound_in c.args.leaf.now ≡ None = ap (λ b. cond b (Some c.args.leaf.now.bound) None) c.if-not-leaf.true in
-    (is, λ none alone. ready_last c.args.covered.now c.args.prefix.now c.args.leaf.now c.args.held.now (entries m) rest is last none alone)
+returns-then-not-leaf-clause-rows g c = λ honest m rest holds is. search (c.if-not-leaf.true, ready_last)
 
 pub returns-clause-rows : goal.returns-clause-rows
 returns-clause-rows g c = λ honest m rest holds is.

@@ -1,4 +1,4 @@
-use Rattle.std.{specs.FinMap.entries, proofs.Common.{◌≡◌, arith}}
+use Rattle.std.{specs.FinMap.entries, proofs.Common.{◌≡◌, arith, rules}}
 use Rattle.btree_walks.proofs.{Ready.{ready_turn, scan_fails}, Errors.ok_then}
 use Rattle.btree_walks.proofs.scans.refill.Goals as goal
 use Rattle.page_btree.proofs.Outcomes.{refused_as, fault_refused, on_err}
@@ -12,9 +12,7 @@ pub returns-in_err-read_on-clause-reading : goal.returns-in_err-read_on-clause-r
 returns-in_err-read_on-clause-reading g c = refused_as _ c.in_err-read_on.ensures.reading c.from_residual.ensures.1 (scan_fails _ c.args.txn.now c.args.pages.now c.read_on.new.pages _)
 
 pub returns-then-leaf-eq0-clause-rows : goal.returns-then-leaf-eq0-clause-rows
-returns-then-leaf-eq0-clause-rows g c = λ honest m rest holds is.
-    let there = c.in_ok-read_on.ensures.rows honest m rest holds is in
-    (there.0, λ none. there.1 none c.if-leaf-eq0.true)
+returns-then-leaf-eq0-clause-rows g c = λ honest m rest holds is. search (rules, c.in_ok-read_on.ensures.rows honest m rest holds is)
 
 pub returns-clause-rows : goal.returns-clause-rows
 returns-clause-rows g c = λ honest m rest holds is.

@@ -1,14 +1,12 @@
-use Rattle.std.{specs.Option.option_copied, proofs.Common.{◌≡◌, ◌<◌, ◌≤◌, ◌+◌, ◌-◌, ◌^◌, length, inr, refl, sym, ◌∙◌, arith}}
-use Rattle.page_store.{specs.claim.Transactions.{stored, txn_pages, over}, proofs.Stops.{quiet_none, passed_none, passed_more}}
-use Rattle.page_btree.proofs.Outcomes.{err_of, reads_err, refused_by}
-use Rattle.btree_walks.{specs.Faults.TellsOf, proofs.Errors.unsound_after, proofs.Faults.{name_told, place_more}, proofs.Keys.{leaf_ordered, above_ordered}}
-use Rattle.btree_walks.proofs.Trees.{walked_leaf, walked_inner, walked_none, walked_next}
-use Rattle.btree_walks.proofs.Children.{can_level, can_name_root, can_order, can_walk_all, can_walk_child, can_walk_next}
+use Rattle.std.{specs.Option.option_copied, proofs.Common.{◌≡◌, ◌<◌, ◌≤◌, ◌+◌, ◌-◌, ◌^◌, length, refl, sym, ◌∙◌, arith, rules}}
+use Rattle.page_store.{specs.claim.Transactions.{stored, txn_pages, over}, proofs.Stops.{passed_none, passed_more}}
+use Rattle.page_btree.proofs.Outcomes.{err_of, reads_err}
+use Rattle.btree_walks.{specs.Faults.TellsOf, proofs.Errors.unsound_after, proofs.Faults.place_more, proofs.Keys.above_ordered}
+use Rattle.btree_walks.proofs.{Trees.{walked_leaf, walked_inner, walked_next}, Children.{can_level, can_order, can_walk_all, can_walk_child, can_walk_next}}
 use Rattle.btree_walks.proofs.tree.+check_tree.Goals as goal
 
 pub returns-in_err-name-clause-reading : goal.returns-in_err-name-clause-reading
-returns-in_err-name-clause-reading g t c = refused_by _ c.from_residual.ensures.1 (quiet_none c.args.pages.now)
-    (λ honest is. let may = can_name_root _ _ _ _ _ _ is in c.in_err-name.ensures.err may.0 may.1)
+returns-in_err-name-clause-reading g t c = search rules
 
 pub read_node-requires-clause-below : goal.read_node-requires-clause-below
 read_node-requires-clause-below g t c = let lt = c.in_ok-name.ensures.named.within c.args.page refl in omega arith
@@ -22,10 +20,8 @@ returns-then-not-is_ordered-clause-reading g t c = reads_err c.in_ok-read_node.e
     c.is_ordered.ensures.no c.if-not-is_ordered.true (rw c.in_ok-read_node.ensures.level (can_order _ _ _ _ _ _ is _ (c.in_ok-read_node.ensures.node honest))))
 
 pub returns-then-level-eq0-clause-walked : goal.returns-then-level-eq0-clause-walked
-returns-then-level-eq0-clause-walked g t c = λ honest.
-    let node = c.in_ok-read_node.ensures in
-    walked_leaf _ _ _ _ _ _ _ _ c.if-level-eq0.true (node.node honest) node.level
-    (leaf_ordered _ _ c.args.level _ c.if-level-eq0.true (rw node.level at (c.is_ordered.ensures.yes c.if-not-is_ordered.false))) c.in_ok-name.ensures.named
+returns-then-level-eq0-clause-walked g t c =
+    λ honest. search (rules, walked_leaf)
 
 pub returns-then-level-eq0-clause-long : goal.returns-then-level-eq0-clause-long
 returns-then-level-eq0-clause-long g t c = c.in_ok-name.ensures.named.long
@@ -40,10 +36,7 @@ loop-k-init g t c =
       long = named.long ∙ c.requires.long;
       passed = node.reading.passed;
       node_is = node.node;
-      below = λ honest. record {
-        walked = λ end was. walked_inner _ _ _ _ _ _ _ _ end c.if-level-eq0.false (node.node honest) node.level parts.some named was;
-        can = λ can _. can_walk_all _ _ _ _ _ _ _ _ c.if-level-eq0.false named (node.node honest) can;
-      };
+      below = λ honest. search (walked_inner, node.node, can_walk_all);
     }
 
 pub returns-in_err-check_tree-clause-reading : goal.returns-in_err-check_tree-clause-reading
@@ -83,16 +76,13 @@ pub returns-clause-long : goal.returns-clause-long
 returns-clause-long g t c = c.loop-k.invariant.long ∙ sym c.requires.long
 
 pub returns-clause-walked : goal.returns-clause-walked
-returns-clause-walked g t c = λ honest.
-    (c.loop-k.invariant.below honest).walked c.loop-k.marks (walked_none _ _ _ _ _ c.loop-k.k _ (omega arith))
+returns-clause-walked g t c = λ honest. search rules
 
 pub returns-in_err-name-clause-told : goal.returns-in_err-name-clause-told
-returns-in_err-name-clause-told g t c = λ honest place. name_told _ (txn_pages c.args.txn.now) (over c.args.txn.now (stored c.args.pages.now)) _ _ c.from_residual.ensures.1
-    (inr (inr (inr (c.args.level, c.args.low.now, option_copied c.args.high, place, tt)))) (rw c.requires.long at c.in_err-name.ensures.told)
+returns-in_err-name-clause-told g t c = λ honest place. search rules
 
 pub returns-in_err-read_node-clause-told : goal.returns-in_err-read_node-clause-told
-returns-in_err-read_node-clause-told g t c = λ honest place. err_of _ _ (TellsOf (txn_pages c.args.txn.now) (over c.args.txn.now (stored c.args.pages.now))) c.from_residual-in_err-read_node.ensures.1
-    (c.in_err-read_node.ensures.told honest (c.args.level, c.args.low.now, option_copied c.args.high, place, refl))
+returns-in_err-read_node-clause-told g t c = λ honest place. search rules
 
 pub returns-then-not-is_ordered-clause-told : goal.returns-then-not-is_ordered-clause-told
 returns-then-not-is_ordered-clause-told g t c = λ honest place.

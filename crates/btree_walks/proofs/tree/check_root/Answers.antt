@@ -1,7 +1,7 @@
-use Rattle.std.{specs.Prelude.None, proofs.Common.{◌≤◌, [], inl, inr, refl, ◌∙◌, arith}}
+use Rattle.std.{specs.Prelude.None, proofs.Common.{[], inl, inr, refl, ◌∙◌, arith, rules}}
 use Rattle.page_store.{specs.claim.Transactions.{stored, txn_pages, over}, proofs.Stops.{quiet_none, passed_none}}
 use Rattle.page_btree.proofs.Outcomes.{reads_ok, reads_err, reads_after}
-use Rattle.btree_walks.proofs.{Errors.{unread, unsound_more, ok_then}, Faults.{place_root, unread_told}, Children.{can_level, can_name_root}}
+use Rattle.btree_walks.proofs.{Errors.{unread, unsound_more}, Faults.{place_root, unread_told}, Children.can_name_root}
 use Rattle.btree_walks.proofs.tree.check_root.Goals as goal
 
 pub returns-then-root-eq0-clause-reading : goal.returns-then-root-eq0-clause-reading
@@ -17,18 +17,12 @@ pub returns-clause-reading : goal.returns-clause-reading
 returns-clause-reading g c = reads_after c.in_ok-own.ensures.reading.passed c.check_tree.ensures.reading (λ e why.
     unsound_more c.in_ok-own.ensures.reading.passed c.check_tree.ensures.reading.quiet e why (λ honest is. elim is [
       | inl none ↦ absurd (c.if-root-eq0.false none)
-      | inr w ↦ (
-          let before = c.check_tree.ensures.reading.quiet.honest honest in
-          let has = can_level _ w.0 [] None _ _ w.2 in
-          let same = c.level_of-level.ensures.level has.node (rw (c.lent.ensures ∙ c.in_ok-own.ensures.lends before) has.node_is) ∙ has.level_is in
-          rw (c.in_ok-own.ensures.reading.quiet.same before, same) w.2)
+      | inr w ↦ search rules
     ]))
 
 pub returns-clause-walked : goal.returns-clause-walked
-returns-clause-walked g c = λ honest.
-    let few : c.level_of-level.result ≤ 5 = let not = c.if-level-gt5.false in omega arith in
-    ok_then c.check_tree.result _ _ (c.check_tree.ensures.walked honest)
-    (λ w. inr (c.level_of-level.result, few, rw (c.in_ok-own.ensures.reading.quiet.same (c.check_tree.ensures.reading.quiet.honest honest)) at w))
+returns-clause-walked g c =
+    λ honest. search rules
 
 pub returns-then-root-page_count-clause-reading : goal.returns-then-root-page_count-clause-reading
 returns-then-root-page_count-clause-reading g c = reads_err (quiet_none c.args.pages.now) (λ honest is. elim is [

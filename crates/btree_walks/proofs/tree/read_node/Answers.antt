@@ -1,7 +1,6 @@
-use Rattle.std.proofs.Common.{sym, ap, ◌∙◌}
+use Rattle.std.proofs.Common.{◌∙◌, rules}
 use Rattle.page_store.specs.claim.Transactions.{stored, txn_pages, over}
-use Rattle.page_btree.proofs.Outcomes.{reads_ok, reads_err}
-use Rattle.page_node.{specs.claim.Node.Node, proofs.Laws.node_unique}
+use Rattle.page_btree.proofs.Outcomes.{reads_ok}
 use Rattle.btree_walks.proofs.{Errors.unread, Faults.unread_told}
 use Rattle.btree_walks.proofs.tree.read_node.Goals as goal
 
@@ -9,13 +8,10 @@ pub returns-in_err-own-clause-reading : goal.returns-in_err-own-clause-reading
 returns-in_err-own-clause-reading g c = unread c.in_err-own.ensures.reading c.from_residual.ensures.1
 
 pub returns-in-Err-clause-reading : goal.returns-in-Err-clause-reading
-returns-in-Err-clause-reading g c = reads_err c.in_ok-own.ensures.reading.quiet
-    (λ honest has. c.in-Err.ensures.refused has.node (rw (c.lent.ensures ∙ c.in_ok-own.ensures.lends honest) has.node_is))
+returns-in-Err-clause-reading g c = search rules
 
 pub returns-then-level-clause-reading : goal.returns-then-level-clause-reading
-returns-then-level-clause-reading g c = reads_err c.in_ok-own.ensures.reading.quiet (λ honest has.
-    let same = node_unique c.lent.result.now c.read.new.self has.node c.in-Ok.ensures.read (rw (c.lent.ensures ∙ c.in_ok-own.ensures.lends honest) has.node_is) in
-    c.if-level.true (c.level.ensures.level ∙ ap (λ (n : Node). n.level) same ∙ has.level_is))
+returns-then-level-clause-reading g c = search rules
 
 pub returns-else-level-clause-reading : goal.returns-else-level-clause-reading
 returns-else-level-clause-reading g c = reads_ok c.in_ok-own.ensures.reading.passed
@@ -27,9 +23,7 @@ pub returns-in_err-own-clause-told : goal.returns-in_err-own-clause-told
 returns-in_err-own-clause-told g c = λ honest place. unread_told _ (txn_pages c.args.txn.now) (over c.args.txn.now (stored c.args.pages.now)) c.in_err-own.field-0.0 c.from_residual.ensures.1
 
 pub returns-in-Err-clause-told : goal.returns-in-Err-clause-told
-returns-in-Err-clause-told g c = λ honest (d, low, high, place, is).
-    (d, low, high, place, λ node at. absurd (c.in-Err.ensures.refused node (rw (c.lent.ensures ∙ c.in_ok-own.ensures.lends honest) at)))
+returns-in-Err-clause-told g c = λ honest (d, low, high, place, is). search rules
 
 pub returns-then-level-clause-told : goal.returns-then-level-clause-told
-returns-then-level-clause-told g c = λ honest (d, low, high, place, is).
-    (d, low, high, place, (c.read.new.self, rw (c.lent.ensures ∙ c.in_ok-own.ensures.lends honest) at c.in-Ok.ensures.read, λ same. c.if-level.true (c.level.ensures.level ∙ same ∙ sym is)))
+returns-then-level-clause-told g c = λ honest (d, low, high, place, is). search rules

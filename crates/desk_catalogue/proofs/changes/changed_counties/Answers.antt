@@ -1,5 +1,5 @@
 use Rattle.std.proofs.lemmas.Result.{IfOk-from_err}
-use Rattle.std.specs.Option.{option_copied}
+use Rattle.std.{specs.Option.option_copied, proofs.Common.rules}
 use Rattle.desk_catalogue.proofs.Cutting.{changes_on, within_last}
 use Rattle.desk_catalogue.proofs.changes.changed_counties.Goals as goal
 
@@ -7,11 +7,7 @@ pub returns-in_err-changes : goal.returns-in_err-changes
 returns-in_err-changes c = IfOk-from_err c.from_residual.result _ c.from_residual.ensures.0
 
 pub is_changed-requires : goal.is_changed-requires
-is_changed-requires c = record {
-  last_long = within_last (option_copied c.args.last) c.args.ranges.now c.loop-range.range-index (record { first = 0; count = 0 }) c.requires.last_long c.loop-range-test.true;
-  new_long = c.requires.new_long c.loop-range.range-index (record { first = 0; count = 0 }) c.loop-range-test.true;
-  stays = c.requires.stays;
-}
+is_changed-requires c = search (rules, within_last)
 
 pub returns-in_err-push : goal.returns-in_err-push
 returns-in_err-push c = IfOk-from_err c.from_residual-in_err-push.result _ c.from_residual-in_err-push.ensures.0

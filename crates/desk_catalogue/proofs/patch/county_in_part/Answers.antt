@@ -1,34 +1,22 @@
-use Rattle.std.proofs.Common.{◌≤◌, ◌<◌, ◌+◌, ◌⊎◌, length, inl, inr, arith}
+use Rattle.std.proofs.Common.{◌≤◌, ◌<◌, ◌+◌, ◌⊎◌, length, arith, rules}
 use Rattle.desk_catalogue.proofs.Neighbours.{none_there, county_there, agree_alike, agree_apart, part_span, span_starts, span_ends}
 use Rattle.desk_catalogue.proofs.patch.county_in_part.Goals as goal
 use Rattle.desk_catalogue.proofs.patch.county_in_part.Goals.{then-first-eq0, else-first-eq0, then-end-blocks, else-end-blocks, then-is_listed+else-county, else-is_listed}
 
 pub loop-place-init : goal.loop-place-init
-loop-place-init c =
-    let low : (c.if-first-eq0.start ≤ c.part-first.result.0) ⊎ (c.if-first-eq0.start ≤ 1)
-    = elim c.if-first-eq0.branch [ then-first-eq0 w ↦ inr (omega (arith, w.start-is)) | else-first-eq0 w ↦ inl (omega (arith, w.start-is)) ] in
-    let one : 1 ≤ c.if-first-eq0.start
-    = elim c.if-first-eq0.branch [ then-first-eq0 w ↦ omega (arith, w.start-is) | else-first-eq0 w ↦ omega (arith, w.start-is, w.if-first-eq0.false) ] in
-    (span_starts c.blocks-blocks.result.now c.args.read.now (c.part-first.result.0, c.part-first.result.0 + length c.part-first.result.1.now) c.if-first-eq0.start (part_span _ _ _ c.part-first.ensures) low, one)
+loop-place-init c = search (rules, then-first-eq0, else-first-eq0, span_starts, part_span)
 
 pub returns : goal.returns
 returns c = λ values is.
     let after : (length c.blocks-blocks.result.now ≤ c.loop-place.place) ⊎ ((c.part-first.result.0 + length c.part-first.result.1.now) < c.loop-place.place)
-    = elim c.if-end-blocks.branch [
-      | then-end-blocks w ↦ inr (omega (arith, w.stop-is, c.loop-place-test.false))
-      | else-end-blocks w ↦ inl (omega (arith, w.stop-is, c.loop-place-test.false))
-    ] in
+    = search (rules, then-end-blocks, else-end-blocks) in
     let agree = span_ends c.blocks-blocks.result.now c.args.read.now (c.part-first.result.0, c.part-first.result.0 + length c.part-first.result.1.now) c.loop-place.place (part_span _ _ _ c.part-first.ensures) c.loop-place.invariant.0 after in
-    none_there c.args.geography.now values c.blocks-blocks.ensures.valid c.least_county_is_told.ensures c.blocks-blocks.result.now c.args.read.now (length c.blocks-blocks.result.now)
-    c.blocks-blocks.ensures.value is agree (omega (arith))
+    search (rules, none_there)
 
 pub returns-then-county : goal.returns-then-county
 returns-then-county c = λ values is.
     let within : c.loop-place.place < length c.blocks-blocks.result.now
-    = elim c.if-end-blocks.branch [
-      | then-end-blocks w ↦ omega (arith, w.stop-is, w.if-end-blocks.true, c.loop-place-test.true)
-      | else-end-blocks w ↦ omega (arith, w.stop-is, c.loop-place-test.true)
-    ] in
+    = search (rules, then-end-blocks, else-end-blocks) in
     county_there c.args.geography.now values c.blocks-blocks.ensures.valid c.least_county_is_told.ensures c.blocks-blocks.result.now c.args.read.now c.loop-place.place
     c.index-blocks-place.result c.index-blocks-place-then-is_listed.result c.county-county.result c.county.result c.is_listed.result c.is_listed-in-loop-place.result c.blocks-blocks.ensures.value is
     c.loop-place.invariant.0 c.loop-place.invariant.1 within c.county-county.ensures c.county.ensures

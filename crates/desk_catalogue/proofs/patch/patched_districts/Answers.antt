@@ -1,6 +1,5 @@
-use Rattle.desk_model.specs.claim.Baf.{body_read}
-use Rattle.desk_catalogue.{specs.Patches.IsPatchRefusal, proofs.Overlays.{listed_length, listed_long, no_patch, overlaid_stays, part_told, read_patched, read_long}}
-use Rattle.desk_catalogue.proofs.Results.{match_of}
+use Rattle.std.proofs.Common.{rules}
+use Rattle.desk_catalogue.proofs.{Overlays.{listed_length, listed_long, no_patch, overlaid_stays, part_told, read_patched, read_long}, Results.match_of}
 use Rattle.desk_catalogue.proofs.patch.patched_districts.Goals as goal
 
 pub returns-in-Ok : goal.returns-in-Ok
@@ -11,9 +10,7 @@ returns-in-Ok c = record {
 }
 
 pub returns-in_err-listed : goal.returns-in_err-listed
-returns-in_err-listed c =
-    match_of c.from_residual.result _ c.in_err-listed.field-0.0 (IsPatchRefusal c.args.geography.now (body_read c.args.geography.now c.args.n c.args.body.now)) c.from_residual.ensures.1
-    (no_patch c.args.geography.now (body_read c.args.geography.now c.args.n c.args.body.now) c.in_err-listed.field-0.0 c.in_err-listed.ensures)
+returns-in_err-listed c = search (rules, match_of, no_patch)
 
 pub county_in_part-requires : goal.county_in_part-requires
 county_in_part-requires c = listed_length _ c.args.geography.now c.in_ok-listed.listed c.in_ok-listed.ensures

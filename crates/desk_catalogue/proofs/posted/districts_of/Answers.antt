@@ -1,15 +1,10 @@
-use Rattle.std.{specs.Prelude.unwrap_or, proofs.Common.{ℕ, Option, length, ap, ◌∙◌}}
+use Rattle.std.proofs.Common.{rules}
 use Rattle.std.proofs.lemmas.List.{length-map}
-use Rattle.desk_model.specs.claim.Baf.{body_read}
-use Rattle.desk_catalogue.{specs.Kept.IsRefusalOf, proofs.Overlays.listed_length, proofs.Results.match_of, proofs.Whole.read_whole}
+use Rattle.desk_catalogue.proofs.{Overlays.listed_length, Results.match_of, Whole.read_whole}
 use Rattle.desk_catalogue.proofs.posted.districts_of.Goals as goal
 
 pub returns-in_err-listed : goal.returns-in_err-listed
-returns-in_err-listed c =
-    match_of c.from_residual.result _ c.in_err-listed.field-0.0 (IsRefusalOf (body_read c.args.geography.now c.args.n c.args.body.now)) c.from_residual.ensures.1 c.in_err-listed.ensures
+returns-in_err-listed c = search (rules, match_of)
 
 pub returns-in-Ok : goal.returns-in-Ok
-returns-in-Ok c = record {
-  is = read_whole _ c.args.geography.now c.in_ok-listed.listed _ c.in_ok-listed.ensures c.in-Ok.ensures;
-  long = ap length c.in-Ok.ensures ∙ length-map c.in_ok-listed.listed (λ (d : Option ℕ). unwrap_or d 0) ∙ listed_length _ c.args.geography.now c.in_ok-listed.listed c.in_ok-listed.ensures;
-}
+returns-in-Ok c = search (rules, read_whole, length-map, listed_length)

@@ -1,4 +1,4 @@
-use Rattle.std.proofs.Common.{◌≡◌, ◌<◌, ◌+◌, Bool, List, false, length, drop, ap, sym, subst, ◌∙◌, arith}
+use Rattle.std.proofs.Common.{◌≡◌, ◌<◌, ◌+◌, Bool, List, false, length, drop, ap, sym, subst, ◌∙◌, arith, rules}
 use Rattle.desk_model.{specs.claim.Room.rows_for, specs.declared.ranges.CountyRange.CountyRange, proofs.Runs.lists_cut}
 use Rattle.desk_catalogue.{specs.Cutting.changes_in, proofs.Cutting.changed_rows, proofs.Counted.{nothing_left, rows_at, rows_told}}
 use Rattle.desk_catalogue.proofs.rows.revision_rows.Goals as goal
@@ -15,10 +15,7 @@ loop-place-preserved c =
     let most = c.rows_of_range-rows.ensures.few in
     let was = c.loop-place.invariant.rows in
     let few = c.loop-place.invariant.few in
-    record {
-      rows = omega arith;
-      few = omega arith;
-    }
+    search rules
 
 pub returns : goal.returns
 returns c = λ g last new is are long old.

@@ -12,8 +12,7 @@ pub returns-in_err-hold_next-clause-holds : goal.returns-in_err-hold_next-clause
 returns-in_err-hold_next-clause-holds g c =
     let before = c.loop-held.invariant.held in
     told_on c.from_residual.result (after_reads _ before.passed.quiet c.in_err-hold_next.ensures.holds) c.from_residual.ensures.1
-    (λ why. not_later c.loop-held.held (IsWalking c.args.walk.now) (IsWalking c.loop-held.walk) c.loop-held.fingers c.args.txn.now c.loop-held.txn c.args.pages.now c.loop-held.pages c.hold_next.new.pages
-    before c.in_err-hold_next.field-0.0 c.loop-held-test.true why.0 why.1)
+    (λ why. search (not_later, c.in_err-hold_next.field-0.0, why.0))
 
 pub returns-then-not-branch-clause-holds : goal.returns-then-not-branch-clause-holds
 returns-then-not-branch-clause-holds g c =
@@ -41,11 +40,7 @@ loop-held-preserved g c =
     let f = c.loop-held.fingers in
     let h = c.hold_next.new.fingers in
     let turn : IsTurn true (AndStand mid f u (stored b)) (AndStand then h v (stored b)) u v b d = subst (λ (found : Bool). IsTurn found (AndStand mid f u (stored b)) (AndStand then h v (stored b)) u v b d) c.if-not-branch.false c.in_ok-hold_next.ensures.holds.put in
-    record {
-      begun = c.in_ok-hold_next.ensures.holds.begun;
-      under = c.in_ok-hold_next.ensures.under;
-      held = more_held c.loop-held.held (IsWalking c.args.walk.now) mid f c.args.txn.now u c.args.pages.now b d c.loop-held.invariant.held then h v turn;
-    }
+    search (c.in_ok-hold_next.ensures.holds.begun, c.in_ok-hold_next.ensures.under, more_held)
 
 pub returns-clause-holds : goal.returns-clause-holds
 returns-clause-holds g c =

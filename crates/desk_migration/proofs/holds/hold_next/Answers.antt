@@ -1,8 +1,7 @@
-use Rattle.std.{specs.Prelude.Option, proofs.Common.{refl, subst}}
-use Rattle.page_store.specs.claim.Transactions.{stored}
+use Rattle.std.{specs.Prelude.Option, proofs.Common.{refl, subst, rules}}
 use Rattle.desk_pages.proofs.Writing.{does, told_on}
 use Rattle.desk_opening.proofs.plan_rows.Writing.{after_reads, only_read, unread}
-use Rattle.desk_migration.{specs.Puts.AndStand, specs.Walks.{IsNextPair, IsWalking}, specs.declared.parts.HeldPair.HeldPair, proofs.Pairs.still_walking}
+use Rattle.desk_migration.{specs.Walks.{IsNextPair, IsWalking}, specs.declared.parts.HeldPair.HeldPair, proofs.Pairs.still_walking}
 use Rattle.desk_migration.proofs.Turns.{less_not_held, not_found, pair_not_taken, pair_taken}
 use Rattle.desk_migration.proofs.holds.hold_next.Goals as goal
 
@@ -14,8 +13,7 @@ returns-in_err-next_pair-clause-holds g c =
     let has = IsWalking c.args.walk.now in
     let e = c.in_err-next_pair.field-0.0 in
     let why = c.in_err-next_pair.ensures.looks in
-    unread c.from_residual.result e c.requires.begun why.quiet c.from_residual.ensures.1
-    (less_not_held 1 has (AndStand has c.args.fingers.now t (stored a)) t a b e (λ m known. known.0) (not_found 1 has t a b e why.err))
+    search (rules, unread, c.requires.begun, why.quiet, c.from_residual.ensures.1, less_not_held, not_found 1 has t a b e why.err)
 
 pub returns-in-None-clause-holds : goal.returns-in-None-clause-holds
 returns-in-None-clause-holds g c = only_read c.requires.begun c.in_ok-next_pair.ensures.looks.quiet (

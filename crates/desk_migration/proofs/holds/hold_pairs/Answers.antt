@@ -1,20 +1,18 @@
-use Rattle.std.proofs.Common.{◌≡◌, List, ℕ, true, false, sym, subst, ◌∙◌}
+use Rattle.std.proofs.Common.{List, ℕ, sym, subst, ◌∙◌, rules}
 use Rattle.desk_pages.proofs.Writing.{does, told_on}
 use Rattle.desk_migration.{specs.claim.Holding.AreHeldTo, specs.Parts.{IsUnderParts, IsUnderWay}, specs.Walks.IsWalking, proofs.Turns.{less_held, less_not_held}}
 use Rattle.desk_migration.proofs.Walking.{begins_walking}
 use Rattle.desk_migration.proofs.holds.hold_pairs.Goals as goal
 
 pub hold_along-requires-clause-under : goal.hold_along-requires-clause-under
-hold_along-requires-clause-under g c =
-    (subst IsUnderParts (sym (c.from_key-walk.ensures.from ∙ c.as_slice.ensures.bytes)) c.requires.under, λ on. let clash : true ≡ false = sym on ∙ c.from_key-walk.ensures.outside in absurd (cc))
+hold_along-requires-clause-under g c = search (rules, c.from_key-walk.ensures.from, c.requires.under)
 
 pub returns-in_err-count-clause-holds : goal.returns-in_err-count-clause-holds
 returns-in_err-count-clause-holds g c =
     let from = c.args.from.now in
     let walk = c.from_key-walk.result in
     told_on c.from_residual.result c.in_err-count.ensures.holds c.from_residual.ensures.1
-    (less_not_held 8 (IsWalking walk) (IsUnderWay from) c.args.txn.now c.args.pages.now c.hold_along.new.pages c.in_err-count.field-0.0
-    (λ m way. begins_walking m from walk (c.from_key-walk.ensures.from ∙ c.as_slice.ensures.bytes) c.from_key-walk.ensures.outside c.from_key-walk.ensures.none_seen way))
+    (search (less_not_held, c.in_err-count.field-0.0, begins_walking, c.from_key-walk.ensures.from, c.from_key-walk.ensures.outside))
 
 pub returns-clause-under : goal.returns-clause-under
 returns-clause-under g c = subst IsUnderParts (sym (c.set.ensures ∙ c.as_slice-2.ensures.bytes)) c.in_ok-count.ensures.under.0

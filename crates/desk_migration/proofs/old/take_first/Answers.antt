@@ -1,4 +1,4 @@
-use Rattle.std.{specs.List.starts_with, specs.FinMap.remove as without, proofs.Common.{◌≡◌, ◌∷◌, [], Bool, List, ℕ, nat_eq, sym, ap, subst, ◌∙◌}}
+use Rattle.std.{specs.List.starts_with, specs.FinMap.remove as without, proofs.Common.{◌∷◌, [], Bool, nat_eq, sym, subst, ◌∙◌, rules}}
 use Rattle.sector_device.specs.claim.Disk.{Image}
 use Rattle.page_store.proofs.Stops.{passed_more, quiet_more}
 use Rattle.page_btree.specs.claim.Map.{InTxn}
@@ -21,19 +21,12 @@ returns-then-not-branch g c = only_read c.requires.begun c.in_ok-first_from.ensu
 
 pub returns-then-not-starts_with : goal.returns-then-not-starts_with
 returns-then-not-starts_with g c = only_read c.requires.begun c.in_ok-first_from.ensures.quiet (
-  c.in_ok-first_from.ensures.passed,
-  λ honest m holds.
-      let tag = c.args.tag in
-      let row = c.first_from.new.row in
-      let off : starts_with nat_eq row.key (tag ∷ []) ≡ _ = ap (λ (k : List ℕ). starts_with nat_eq k (tag ∷ [])) (sym c.as_slice-key.ensures.bytes) ∙ sym c.starts_with.ensures.value ∙ c.if-not-starts_with.true in
-      (holds, none_later tag m row (subst (λ (b : Bool). IsFirst b (tag ∷ []) row m) c.if-not-branch.false (c.in_ok-first_from.ensures.there honest m holds)) off),
+  search c.in_ok-first_from.ensures.passed,
+  λ honest m holds. search (rules, nat_eq, c.if-not-starts_with.true, none_later, c.if-not-branch.false),
 )
 
 pub returns-in_err-remove : goal.returns-in_err-remove
-returns-in_err-remove g c =
-    let gone = c.in_err-remove.ensures in
-    unread c.from_residual-in_err-remove.result c.in_err-remove.field-0.0 (gone.pages ∙ c.requires.begun)
-    (quiet_more c.args.pages.now c.first_from.new.pages c.remove.new.pages c.in_ok-first_from.ensures.quiet gone.reading.quiet) c.from_residual-in_err-remove.ensures.1 tt
+returns-in_err-remove g c = search (rules, c.in_err-remove.ensures, unread, c.in_err-remove.field-0.0, c.requires.begun, quiet_more, c.in_ok-first_from.ensures.quiet)
 
 pub returns : goal.returns
 returns g c =

@@ -1,7 +1,7 @@
 use Rattle.std.proofs.Common.{true, false, sym, ap, subst, ◌∙◌, rules}
 use Rattle.page_store.proofs.Stops.{quiet_more, passed_more}
 use Rattle.store_rows.specs.claim.Tidy.{version_row}
-use Rattle.desk_pages.{specs.Errors.IsCalm, specs.declared.error.StoreError.StoreError, proofs.Refusals.calm_told}
+use Rattle.desk_pages.{specs.declared.error.StoreError.StoreError, proofs.Refusals.calm_told}
 use Rattle.desk_migration.{specs.Openings.JudgeErr, proofs.Opened.{not_read, of_version, read_from, version_not_read}}
 use Rattle.desk_opening.proofs.plan_rows.Committing.{begun_now}
 use Rattle.desk_migration.proofs.opening.judge.Goals as goal
@@ -11,10 +11,7 @@ returns-in-Err-clause-reading g c =
     let ps = c.args.pages.now in
     let t = c.begin-txn.result in
     let begun = begun_now ps t c.requires c.begin-txn.ensures.none c.begin-txn.ensures.pages c.begin-txn.ensures.over c.begin-txn.ensures.root c.begin-txn.ensures.free in
-    search (
-      rules,
-      subst (λ (e : StoreError). JudgeErr ps c.read_desk.new.pages e) (sym c.row_error.ensures) (not_read t ps c.read_desk.new.pages c.in-Err.e c.is_halted.result c.is_halted.ensures begun c.read_desk.ensures.reading.quiet c.in-Err.ensures.reading.err),
-    )
+    search (c.row_error.ensures, not_read, c.in-Err.e, c.is_halted.ensures, c.read_desk.ensures.reading.quiet, c.in-Err.ensures.reading.err)
 
 pub returns-in-Ok-true-clause-reading : goal.returns-in-Ok-true-clause-reading
 returns-in-Ok-true-clause-reading g c = record {
@@ -32,11 +29,7 @@ returns-in-Ok-true-clause-reading g c = record {
 
 pub returns-in-Ok-false-clause-reading : goal.returns-in-Ok-false-clause-reading
 returns-in-Ok-false-clause-reading g c =
-    search (
-      rules,
-      quiet_more c.args.pages.now c.read_desk.new.pages c.is_new.new.pages c.read_desk.ensures.reading.quiet c.is_new.ensures.quiet,
-      passed_more c.args.pages.now c.read_desk.new.pages c.is_new.new.pages c.in-Ok.ensures.reading.passed c.in-Ok-false.ensures.passed,
-    )
+    search (quiet_more, c.read_desk.ensures.reading.quiet, c.is_new.ensures.quiet, passed_more, c.in-Ok.ensures.reading.passed, c.in-Ok-false.ensures.passed)
 
 pub returns-in-Ok-false-clause-version : goal.returns-in-Ok-false-clause-version
 returns-in-Ok-false-clause-version g c =
@@ -65,10 +58,7 @@ returns-clause-reading g c =
     )
 
 pub returns-in-Err-clause-calm : goal.returns-in-Err-clause-calm
-returns-in-Err-clause-calm g c =
-    subst (λ (e : StoreError). IsCalm c.read_desk.new.pages e) (sym c.row_error.ensures) (calm_told c.read_desk.new.pages c.in-Err.e c.is_halted.result c.is_halted.ensures)
+returns-in-Err-clause-calm g c = search (rules, c.row_error.ensures, calm_told, c.in-Err.e)
 
 pub returns-clause-calm : goal.returns-clause-calm
-returns-clause-calm g c =
-    subst (λ (e : StoreError). IsCalm c.is_new.new.pages e) (sym c.row_error-in-Err-is_new.ensures)
-    (calm_told c.is_new.new.pages c.in-Err-is_new.e c.is_halted-in-Err-is_new.result c.is_halted-in-Err-is_new.ensures)
+returns-clause-calm g c = search (rules, c.row_error-in-Err-is_new.ensures, calm_told, c.in-Err-is_new.e)

@@ -1,4 +1,4 @@
-use Rattle.std.{specs.List.starts_with, proofs.Common.{◌≡◌, Bool, List, ℕ, nat_eq, sym, ap, subst, ◌∙◌}}
+use Rattle.std.proofs.Common.{Bool, nat_eq, subst, rules}
 use Rattle.store_rows.specs.Keys.{parts_prefix}
 use Rattle.store_check.{specs.Rows.IsFirst, proofs.FirstRows.none_at_all}
 use Rattle.desk_pages.proofs.Looking.{fails, finds}
@@ -14,12 +14,7 @@ returns-then-not-branch-clause-looks g c = finds c.in_ok-first_from.ensures (λ 
     none_at_all m c.args.from.now parts_prefix first)
 
 pub returns-clause-looks : goal.returns-clause-looks
-returns-clause-looks g c = finds c.in_ok-first_from.ensures (λ m is.
-    let row = c.first_from.new.row in
-    let first = subst (λ (b : Bool). IsFirst b c.args.from.now row m) c.if-not-branch.false is in
-    let told : starts_with nat_eq row.key parts_prefix ≡ c.starts_with.result = ap (λ (k : List ℕ). starts_with nat_eq k parts_prefix) (sym c.as_slice.ensures.bytes) ∙ ap (λ (p : List ℕ). starts_with nat_eq c.as_slice.result.now p) (sym (c.as_slice-2.ensures.bytes ∙ c.parts.ensures)) ∙ sym c.starts_with.ensures.value in
-    part_found c.starts_with.result m c.args.from.now row first c.requires.under told)
+returns-clause-looks g c = search (rules, finds, c.in_ok-first_from.ensures, c.if-not-branch.false, nat_eq, c.parts.ensures, part_found)
 
 pub returns-clause-under : goal.returns-clause-under
-returns-clause-under g c = λ found.
-    ap (λ (k : List ℕ). starts_with nat_eq k parts_prefix) (sym c.as_slice.ensures.bytes) ∙ ap (λ (p : List ℕ). starts_with nat_eq c.as_slice.result.now p) (sym (c.as_slice-2.ensures.bytes ∙ c.parts.ensures)) ∙ sym c.starts_with.ensures.value ∙ found
+returns-clause-under g c = λ found. search (rules, nat_eq)

@@ -1,4 +1,4 @@
-use Rattle.std.proofs.Common.{ℕ, List, length, take, drop, sym, ap, ◌∙◌}
+use Rattle.std.proofs.Common.{ℕ, List, length, sym, ap, ◌∙◌, rules}
 use Rattle.desk_migration.proofs.PartRows.{part_long}
 use Rattle.desk_migration.proofs.parts.read_part.Goals as goal
 
@@ -9,10 +9,4 @@ pub returns-in-None : goal.returns-in-None
 returns-in-None c = λ of. c.in-None.ensures of.numbers of.chunks (sym of.value_is ∙ sym c.as_slice.ensures.bytes)
 
 pub returns-in-Some : goal.returns-in-Some
-returns-in-Some c = record {
-  long = sym (ap (λ (k : List ℕ). length k) c.as_slice-key.ensures.bytes) ∙ c.if-key-ne14.false;
-  plan = c.plan_in-plan.ensures.bytes ∙ ap (λ (k : List ℕ). take 8 (drop 1 k)) c.as_slice-key.ensures.bytes;
-  fits = c.plan_in-plan.ensures.fits;
-  chunks = c.in-Some.ensures.0;
-  value = c.in-Some.ensures.1 ∙ c.as_slice.ensures.bytes;
-}
+returns-in-Some c = search (rules, c.if-key-ne14.false, c.plan_in-plan.ensures.fits, c.in-Some.ensures.0)

@@ -74,9 +74,7 @@ returns-then-free-pairs-clause-err g c =
 
 -- ---- the commit
 pub commit_fitting-requires-clause-working : goal.commit_fitting-requires-clause-working
-commit_fitting-requires-clause-working g c =
-    let at = goal.at.commit_fitting-requires-clause-working g c in
-    still_working c.named_is_held.ensures c.in_ok-pairs.pairs c.args.from.now c.hold_pairs.new.from c.begin-txn.result c.hold_pairs.new.txn c.args.pages.now c.hold_pairs.new.pages (begun g at.After-begin-txn) (held g at.In_ok-pairs)
+commit_fitting-requires-clause-working g c = search (rules, still_working, c.named_is_held.ensures, c.in_ok-pairs.pairs, c.hold_pairs.new.from, begun)
 
 pub commit_fitting-requires-clause-few : goal.commit_fitting-requires-clause-few
 commit_fitting-requires-clause-few g c =

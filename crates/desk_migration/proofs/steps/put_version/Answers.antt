@@ -1,4 +1,4 @@
-use Rattle.std.proofs.Common.{List, refl, sym, subst, ◌∙◌, arith}
+use Rattle.std.proofs.Common.{List, refl, sym, subst, ◌∙◌, rules}
 use Rattle.page_store.{specs.claim.Transactions.has_halted, proofs.Stops.quiet_none}
 use Rattle.store_rows.specs.claim.Puts.{Row}
 use Rattle.desk_pages.{specs.claim.Puts.{HasPut, PutsErr}, specs.Errors.tree_refusal, specs.declared.error.StoreError.TheVariants.Full, proofs.Outcomes.err_of}
@@ -51,16 +51,10 @@ returns-in_err-put_row-clause-err g c =
 
 -- ---- the commit
 pub commit_fitting-requires-clause-working : goal.commit_fitting-requires-clause-working
-commit_fitting-requires-clause-working g c =
-    let at = goal.at.commit_fitting-requires-clause-working g c in
-    version_working c.version_is_told.ensures c.begin-txn.result c.put_row.new.txn c.args.pages.now c.put_row.new.pages (begun g at.After-begin-txn) (put g at.In_ok-put_row)
+commit_fitting-requires-clause-working g c = search (rules, version_working, c.version_is_told.ensures, begun)
 
 pub commit_fitting-requires-clause-few : goal.commit_fitting-requires-clause-few
-commit_fitting-requires-clause-few g c =
-    let at = goal.at.commit_fitting-requires-clause-few g c in
-    let writes = version_writes c.version_is_told.ensures c.begin-txn.result c.put_row.new.txn c.args.pages.now c.put_row.new.pages (begun g at.After-begin-txn) (put g at.In_ok-put_row) in
-    let least = c.put_row.new.pages.journal.room.least_journal in
-    omega arith
+commit_fitting-requires-clause-few g c = search (rules, version_writes, c.version_is_told.ensures, begun, put)
 
 pub returns-clause-steps : goal.returns-clause-steps
 returns-clause-steps g c = record {

@@ -14,7 +14,7 @@ returns-in_err-is_held_at-clause-looks g c = fails_then c.loop-place.invariant.l
 pub returns-then-not-branch-clause-looks : goal.returns-then-not-branch-clause-looks
 returns-then-not-branch-clause-looks g c = finds (both c.loop-place.invariant.looked c.in_ok-is_held_at.ensures) (λ m is. (
   subst (λ (l : List ℕ). Lacks m (holding c.args.part.now.plan (get_or l c.loop-place.place 0))) c.as_slice-numbers.ensures.value (is.1.0 c.if-not-branch.true),
-  is.0,
+  search is.0,
 ))
 
 pub returns-then-not-branch-clause-within : goal.returns-then-not-branch-clause-within

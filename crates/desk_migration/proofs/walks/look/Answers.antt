@@ -1,4 +1,4 @@
-use Rattle.std.{specs.Prelude.Option, proofs.Common.{◌<◌, ℕ, List, length, get_or, Bool, true, false, sym, subst}}
+use Rattle.std.{specs.Prelude.Option, proofs.Common.{◌<◌, ℕ, List, length, get_or, Bool, true, false, sym, subst, rules}}
 use Rattle.desk_pages.proofs.Looking.{both, fails, fails_then, finds}
 use Rattle.store_rows.specs.{claim.Keys.holding, claim.Rows.Lacks}
 use Rattle.desk_migration.{specs.claim.Holding.IsUnheld, specs.Walks.{Enters, IsHeldTo, IsNextPart}, proofs.Walking.{passes, reaches, some_of}}
@@ -19,9 +19,7 @@ pub returns-in_err-found-clause-looks : goal.returns-in_err-found-clause-looks
 returns-in_err-found-clause-looks g c = fails_then c.in_ok-enter.ensures.looks c.from_residual-in_err-found.result c.in_err-found.ensures.looks c.from_residual-in_err-found.ensures.1 (λ m was tidy. tt)
 
 pub bounds-as_slice-place : goal.bounds-as_slice-place
-bounds-as_slice-place g c =
-    let place = c.in-Some.place in
-    subst (λ (l : List ℕ). place < length l) (sym c.as_slice.ensures.value) (some_of _ place (λ k. k < length c.enter.new.walk.part.numbers.items) c.in_ok-found.ensures.within c.in-Some.is)
+bounds-as_slice-place g c = search (rules, c.in-Some.place, some_of, c.in_ok-found.ensures.within)
 
 pub pass-requires-clause-within : goal.pass-requires-clause-within
 pass-requires-clause-within g c = c.in_ok-enter.ensures.within c.if-not-branch.false
@@ -43,7 +41,7 @@ returns-in-Some-clause-looks g c = finds (both c.in_ok-enter.ensures.looks c.in_
 
 pub returns-in-None-clause-looks : goal.returns-in-None-clause-looks
 returns-in-None-clause-looks g c = finds (both c.in_ok-enter.ensures.looks c.in_ok-found.ensures.looks) (λ m is. (
-  tt,
+  search rules,
   λ walking.
       let walk = c.enter.new.walk in
       let now = is.0 walking in

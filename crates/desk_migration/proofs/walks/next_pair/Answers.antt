@@ -1,16 +1,11 @@
-use Rattle.std.{specs.FinMap.entries, proofs.Common.{sym, subst, ◌∙◌, arith}}
-use Rattle.page_store.specs.claim.Transactions.{stored}
+use Rattle.std.proofs.Common.{sym, subst, ◌∙◌, arith, rules}
 use Rattle.desk_pages.proofs.Looking.{begins, both, fails_then, finds, not_looked}
 use Rattle.store_check.proofs.After.{all_left}
-use Rattle.desk_migration.specs.{Walks.{LacksIn, Looks}, declared.parts.PartLook.PartLook}
+use Rattle.desk_migration.specs.{Walks.Looks, declared.parts.PartLook.PartLook}
 use Rattle.desk_migration.proofs.walks.next_pair.Goals as goal
 
 pub loop-taken-init : goal.loop-taken-init
-loop-taken-init g c = record {
-  begun = c.requires.begun;
-  under = c.requires.under;
-  looked = begins (λ m holds walking. (walking, all_left c.args.walk.now.from (entries m)));
-}
+loop-taken-init g c = search (c.requires.begun, c.requires.under, begins, all_left)
 
 pub returns-in_err-look-clause-looks : goal.returns-in_err-look-clause-looks
 returns-in_err-look-clause-looks g c = fails_then c.loop-taken.invariant.looked c.from_residual.result c.in_err-look.ensures.looks c.from_residual.ensures.1 (λ m was walking. walking.tidy)
@@ -25,10 +20,8 @@ returns-in-Ended-clause-looks g c = finds (both c.loop-taken.invariant.looked c.
 
 pub returns-in-Found-clause-looks : goal.returns-in-Found-clause-looks
 returns-in-Found-clause-looks g c = finds (both c.loop-taken.invariant.looked c.in_ok-look.ensures.looks) (λ m is. (
-  subst (λ (l : PartLook). LacksIn l m) c.in-Found.is is.1.0,
-  λ walking.
-      let now = is.1.1 (is.0 walking).0 in
-      (now.0, subst (λ (l : PartLook). Looks l c.loop-taken.walk c.look.new.walk m) c.in-Found.is now.1),
+  search (rules, c.in-Found.is),
+  λ walking. search (rules, is.1.1, is.0, c.look.new.walk),
 ))
 
 pub loop-taken-preserved : goal.loop-taken-preserved
@@ -44,10 +37,4 @@ loop-taken-preserved g c = record {
 }
 
 pub returns-clause-looks : goal.returns-clause-looks
-returns-clause-looks g c =
-    let before = c.loop-taken.invariant.looked in
-    not_looked before.quiet (λ honest m holds walking.
-    let few = (before.there honest m holds walking).1 in
-    let limit = c.row_limit-taken-end.ensures (stored c.args.pages.now) m holds in
-    let done = c.loop-taken-test.false in
-    omega arith)
+returns-clause-looks g c = search (rules, c.loop-taken.invariant.looked, not_looked)

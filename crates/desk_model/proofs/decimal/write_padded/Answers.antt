@@ -1,4 +1,4 @@
-use Rattle.std.proofs.Common.{◌-◌, ◌<◌, ◌^◌, arith, ◌∙◌}
+use Rattle.std.proofs.Common.{◌-◌, ◌<◌, ◌^◌, arith, rules}
 use Rattle.std.proofs.lemmas.Fmt.{length-decimal-le}
 use Rattle.desk_model.proofs.Decimals.{zeros_below, padded_from}
 use Rattle.desk_model.proofs.decimal.write_padded.Goals as goal
@@ -9,19 +9,13 @@ write_digits-start-requires c =
     (omega (arith, length-decimal-le 20 c.args.number (omega arith) (omega arith) small), c.requires.room.1)
 
 pub returns-then-start-end-clause-zeros : goal.returns-then-start-end-clause-zeros
-returns-then-start-end-clause-zeros c =
-    c.write_digits-start.ensures.before
-    ∙ zeros_below c.args.row.now c.write_digits-start.result c.args.end (omega (arith, c.write_digits-start.ensures.start)) c.requires.zeros
+returns-then-start-end-clause-zeros c = search (rules, zeros_below)
 
 pub returns-else-start-end-clause-written : goal.returns-else-start-end-clause-written
 returns-else-start-end-clause-written c =
     padded_from c.write_digits-start.new.buf _ c.write_digits-start.result (c.args.end - c.args.width) c.args.width c.args.number
-    (c.write_digits-start.ensures.before
-    ∙ zeros_below c.args.row.now c.write_digits-start.result c.args.end (omega (arith, c.write_digits-start.ensures.start)) c.requires.zeros)
+    (search (rules, zeros_below))
     c.write_digits-start.ensures.written (omega arith) (omega (arith, c.write_digits-start.ensures.start))
 
 pub returns-else-start-end-clause-zeros : goal.returns-else-start-end-clause-zeros
-returns-else-start-end-clause-zeros c =
-    zeros_below c.write_digits-start.new.buf (c.args.end - c.args.width) c.write_digits-start.result (omega arith)
-    (c.write_digits-start.ensures.before
-    ∙ zeros_below c.args.row.now c.write_digits-start.result c.args.end (omega (arith, c.write_digits-start.ensures.start)) c.requires.zeros)
+returns-else-start-end-clause-zeros c = search (rules, zeros_below)

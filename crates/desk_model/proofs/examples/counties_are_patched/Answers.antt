@@ -7,8 +7,7 @@ use Rattle.desk_model.proofs.examples.counties_are_patched.Goals as goal
 pub returns : goal.returns
 returns c = record {
   made = simp (get-insert {X = Plan} nat_list_cmp_total)
-      (ap (λ m. (reply.Created name_a 2, record (desk_of (plan_of [])) { plans = m }))
-      (insert_again map_of.empty name_a (plan_of ((1 ∷ 1 ∷ 2 ∷ 2 ∷ []) ∷ [])) (plan_of ((1 ∷ 1 ∷ 2 ∷ 2 ∷ []) ∷ (1 ∷ 1 ∷ 1 ∷ 1 ∷ []) ∷ []))));
+      (search insert_again);
   first = simp (get-insert {X = Plan} nat_list_cmp_total)
       (ap (λ m. (reply.Created name_a 1, record (desk_of (plan_of [])) { plans = m })) (insert_again map_of.empty name_a (plan_of []) (plan_of ((0 ∷ 0 ∷ 1 ∷ 1 ∷ []) ∷ []))));
   part = simp (get-insert {X = Plan} nat_list_cmp_total);

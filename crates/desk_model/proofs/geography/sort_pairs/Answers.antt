@@ -1,4 +1,5 @@
 use Rattle.std.proofs.lemmas.List.Filters.{dedup_is}
+use Rattle.std.proofs.Common.{rules}
 use Rattle.std.proofs.lemmas.List.Kept.{Contains-dedup, Contains-from_dedup}
 use Rattle.std.proofs.lemmas.List.Sorted.{Contains-permutation, IsPermutation-sym}
 use Rattle.desk_model.proofs.Pairs.{pair_eq, pair_eq_equiv, pair_eq_is, deduped_rising}
@@ -12,6 +13,6 @@ returns-clause-kept c =
     let is = dedup_is _ _ _ c.dedup.ensures.filtered in
     let moved = c.sort_unstable.ensures.permutation in
     λ p. (
-      λ there. rw is (Contains-dedup pair_eq_equiv pair_eq_is _ p (Contains-permutation _ _ p moved there)),
+      λ there. search (rules, Contains-dedup pair_eq_equiv pair_eq_is _ p (Contains-permutation _ _ p moved there)),
       λ there. Contains-permutation _ _ p (IsPermutation-sym _ _ moved) (Contains-from_dedup pair_eq _ p (rw is at there)),
     )

@@ -1,4 +1,4 @@
-use Rattle.std.proofs.Common.{◌≡◌, ◌<◌, ◌+◌, ◌-◌, [], ◌∷◌, ◌++◌, length, get_or, arith, sym, ◌∙◌, ap, subst}
+use Rattle.std.proofs.Common.{◌≡◌, ◌<◌, ◌+◌, ◌-◌, [], length, get_or, arith, sym, ◌∙◌, ap, subst, rules}
 use Rattle.desk_model.specs.{claim.Block.county_of, claim.Ranges.counties, claim.Geography.GeographyModel, declared.block.BlockRow.BlockRow}
 use Rattle.desk_model.proofs.Runs.{IsCutTo, cut_start, cut_same, cut_more, cut_end, cut_at, county_there, counties_long}
 use Rattle.desk_model.proofs.ranges.ranges.Goals as goal
@@ -22,13 +22,8 @@ loop-place-preserved c =
     let long : c.loop-place.place < length (counties g) = omega (arith, known, inside) in
     elim c.if-county.branch [
       | then-county+in_ok-push w ↦
-          rw (w.all-is, w.first-is, w.in_ok-push.ensures.items, w.range_between.ensures)
-          (cut_more (counties g) c.loop-place.all.items c.loop-place.first c.loop-place.place c.loop-place.invariant long
-          (λ e. w.if-county.true (sym here ∙ e ∙ there)))
-      | else-county w ↦
-          rw (w.all-is, w.first-is)
-          (cut_same (counties g) c.loop-place.all.items c.loop-place.first c.loop-place.place c.loop-place.invariant long
-          (here ∙ w.if-county.false ∙ sym there))
+          search (rules, cut_more)
+      | else-county w ↦ search (rules, cut_same)
     ]
 
 pub returns : goal.returns
@@ -36,6 +31,4 @@ returns c =
     let g : GeographyModel = record { blocks = c.args.blocks.now; pairs = [] } in
     let long : length c.args.blocks.now ≡ length (counties g) = sym (counties_long g) in
     let some : 0 < length (counties g) = omega (arith, long, c.requires.some) in
-    c.in_ok-push-2.ensures.items ∙ ap (λ it. c.loop-place.all.items ++ it ∷ []) c.range_between-2.ensures
-    ∙ ap (λ n. c.loop-place.all.items ++ cut_at c.loop-place.first (n - c.loop-place.first) ∷ []) long
-    ∙ cut_end (counties g) c.loop-place.all.items c.loop-place.first c.loop-place.place c.loop-place.invariant (omega (arith, sym long, c.loop-place-test.false)) (omega (arith, sym long, c.loop-place.auto.place-end, some))
+    search (rules, cut_at, cut_end)

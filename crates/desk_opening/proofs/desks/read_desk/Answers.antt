@@ -8,15 +8,7 @@ use Rattle.desk_opening.{specs.Opening.OpenErr, proofs.Owned.{has_owners, parts_
 use Rattle.desk_opening.proofs.desks.read_desk.Goals as goal
 
 pub returns-in_err-check_rows-clause-reading : goal.returns-in_err-check_rows-clause-reading
-returns-in_err-check_rows-clause-reading g c = record {
-  quiet = search rules;
-  passed = search rules;
-  err = let t = c.args.txn.now in
-      let a = c.args.pages.now in
-      let b = c.check_rows.new.pages in
-      let error = c.in_err-check_rows.field-0.0 in
-      err_of c.from_residual.result error (λ e. OpenErr t a b e) c.from_residual.ensures.1 (unkept t a b error c.in_err-check_rows.ensures.err);
-}
+returns-in_err-check_rows-clause-reading g c = search (rules, unkept)
 
 pub returns-in_err-catalogue-clause-reading : goal.returns-in_err-catalogue-clause-reading
 returns-in_err-catalogue-clause-reading g c = record {
@@ -33,8 +25,7 @@ returns-in_err-catalogue-clause-reading g c = record {
 
 pub returns-in_err-check_owners-clause-reading : goal.returns-in_err-check_owners-clause-reading
 returns-in_err-check_owners-clause-reading g c = record {
-  quiet = quiet_more c.args.pages.now c.read_rows.new.pages c.check_owners.new.pages
-      (quiet_more c.args.pages.now c.check_rows.new.pages c.read_rows.new.pages c.check_rows.ensures.quiet c.read_rows.ensures.quiet) c.check_owners.ensures.quiet;
+  quiet = search quiet_more;
   passed = search rules;
   err = let t = c.args.txn.now in
       let a = c.args.pages.now in
@@ -54,10 +45,8 @@ returns-in_err-check_owners-clause-reading g c = record {
 
 pub returns-clause-reading : goal.returns-clause-reading
 returns-clause-reading g c = record {
-  quiet = quiet_more c.args.pages.now c.read_rows.new.pages c.check_owners.new.pages
-      (quiet_more c.args.pages.now c.check_rows.new.pages c.read_rows.new.pages c.check_rows.ensures.quiet c.read_rows.ensures.quiet) c.check_owners.ensures.quiet;
-  passed = passed_more c.args.pages.now c.read_rows.new.pages c.check_owners.new.pages
-      (passed_more c.args.pages.now c.check_rows.new.pages c.read_rows.new.pages c.in_ok-check_rows.ensures.passed c.in_ok-catalogue.ensures.passed) c.in_ok-check_owners.ensures.passed;
+  quiet = search quiet_more;
+  passed = search (rules, passed_more);
   err = search rules;
 }
 

@@ -1,7 +1,7 @@
-use Rattle.std.proofs.Common.{◌<◌, ◌≤◌, ◌+◌, List, ℕ, [], length, get_or, sym, ap, subst, ◌∙◌, take_all, arith}
+use Rattle.std.proofs.Common.{◌<◌, ◌≤◌, ◌+◌, List, ℕ, [], length, get_or, sym, ap, subst, ◌∙◌, take_all, arith, rules}
 use Rattle.desk_model.specs.{Ranges.ranges_of, claim.Desk.Plan}
 use Rattle.desk_pages.{specs.claim.Desks.AreWithin, proofs.Looking.{both, fails_then, finds}}
-use Rattle.desk_opening.{specs.Reading.{IsAfter, IsPlanRow}, proofs.Readings.one_more_read, proofs.Shown.row_is, proofs.Revisions.{of_blocks, one_revision_more, within_at}}
+use Rattle.desk_opening.{specs.Reading.{IsAfter, IsPlanRow}, proofs.Readings.one_more_read, proofs.Revisions.{of_blocks, one_revision_more, within_at}}
 use Rattle.desk_opening.proofs.entries.read_entry.Goals as goal
 
 pub returns-in_err-entry-clause-reads : goal.returns-in_err-entry-clause-reads
@@ -60,8 +60,4 @@ returns-clause-reads g c =
     })
 
 pub returns-clause-row : goal.returns-clause-row
-returns-clause-row g c =
-    let before = c.loop-before.invariant in
-    let last = c.loop-before-test.false in
-    let row = c.args.row.now in
-    row_is row c.loop-before.entry.1 before.kind before.districts (let many = before.many in let end = c.loop-before.auto.before-end in omega arith)
+returns-clause-row g c = search rules

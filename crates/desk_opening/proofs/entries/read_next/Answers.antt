@@ -1,7 +1,7 @@
-use Rattle.std.proofs.Common.{Ok, length, ◌∙◌, arith}
+use Rattle.std.proofs.Common.{Ok, length, arith, rules}
 use Rattle.page_store.proofs.Stops.{quiet_none}
 use Rattle.desk_pages.{specs.Looking.Gathers, proofs.Looking.{both, fails, fails_then, finds, not_looked, refuses}}
-use Rattle.desk_opening.proofs.Revisions.{AreNamesRead, names_of, so_many, are_named, next_read}
+use Rattle.desk_opening.proofs.Revisions.{AreNamesRead, names_of, are_named, next_read}
 use Rattle.desk_opening.proofs.entries.read_next.Goals as goal
 
 pub returns-in_default-clause-reads : goal.returns-in_default-clause-reads
@@ -13,9 +13,7 @@ returns-in_err-append_names-clause-reads g c = fails c.from_residual.result c.in
 
 pub returns-then-len-ranges-clause-reads : goal.returns-then-len-ranges-clause-reads
 returns-then-len-ranges-clause-reads g c = refuses c.in_ok-append_names.ensures (λ m appends is.
-    c.if-len-ranges.true (c.len.ensures ∙ c.append_names.new.into.ok.0
-    ∙ so_many c.args.geography.now c.counties-ranges.result.now c.args.plan c.args.revision c.args.last.now.items c.args.before c.in-Ok.names.items c.append_names.new.into.items m c.counties-ranges.ensures c.in-Ok.ensures.items
-    (record { there = appends.1; read = appends.0 }) is.0 is.1.is))
+    c.if-len-ranges.true (search rules))
 
 pub lay_counties-requires-clause-cut : goal.lay_counties-requires-clause-cut
 lay_counties-requires-clause-cut g c = record { the_geography = c.args.geography.now; are = c.counties-ranges.ensures; blocks = c.requires.whole }

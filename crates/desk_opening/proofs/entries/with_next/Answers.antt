@@ -1,10 +1,10 @@
-use Rattle.std.proofs.Common.{◌≡◌, List, ℕ, length, sym, ap, subst, ◌∙◌}
+use Rattle.std.proofs.Common.{◌≡◌, List, ℕ, length, sym, ap, subst, ◌∙◌, rules}
 use Rattle.std.proofs.lemmas.List.Elements.{All-push}
 use Rattle.page_store.proofs.Stops.{quiet_none}
 use Rattle.desk_model.specs.claim.Desk.{Plan}
 use Rattle.store_rows.specs.Changes.{with_revision}
 use Rattle.desk_pages.{specs.claim.Desks.AreWithin, proofs.Looking.{fails, finds, lacks_memory, not_looked}}
-use Rattle.desk_opening.{specs.Reading.{AreAllWithin, BecomesKnown, BecomesLast, IsNext, IsWhole}, proofs.Within.one_more_within, proofs.Revisions.{next_of, becomes_last}}
+use Rattle.desk_opening.{specs.Reading.{BecomesKnown, BecomesLast, IsNext, IsWhole}, proofs.Within.one_more_within, proofs.Revisions.{next_of, becomes_last}}
 use Rattle.desk_opening.proofs.entries.with_next.Goals as goal
 
 pub returns-in_err-before-clause-reads : goal.returns-in_err-before-clause-reads
@@ -53,5 +53,4 @@ pub returns-in-Ok-clause-within : goal.returns-in-Ok-clause-within
 returns-in-Ok-clause-within g c = λ within.
     let p = c.args.entry.now.1 in
     let next = c.in_ok-next.ensures.within (subst (λ (n : ℕ). AreWithin n c.in_ok-before.before) (sym c.n.ensures.value) (c.in_ok-before.ensures.within within)) in
-    subst (λ (e : List ℕ × _). AreAllWithin e.1) (sym {b = (c.args.entry.now.0, with_revision p c.in_ok-next.next)} c.in-Ok.ensures)
-    (one_more_within p c.in_ok-next.next within (subst (λ (n : ℕ). AreWithin n c.in_ok-next.next) c.n.ensures.value next))
+    search (rules, one_more_within)

@@ -1,14 +1,10 @@
-use Rattle.page_store.proofs.Stops.{quiet_none}
-use Rattle.desk_pages.{specs.Looking.Says, proofs.Looking.{fails, fails_from, gathered, looks}}
-use Rattle.desk_opening.{specs.Opening.IsFreshPlan, proofs.PlanNumbers.unnoted, proofs.NewPlans.is_kept_plan}
+use Rattle.std.proofs.Common.{rules}
+use Rattle.desk_pages.proofs.Looking.{fails, gathered, looks}
+use Rattle.desk_opening.proofs.{PlanNumbers.unnoted, NewPlans.is_kept_plan}
 use Rattle.desk_opening.proofs.rows.add_row.Goals as goal
 
 pub returns-in_err-note_number-clause-reads : goal.returns-in_err-note_number-clause-reads
-returns-in_err-note_number-clause-reads g c =
-    let says = IsFreshPlan c.args.geography.now c.args.plans.now c.args.counts.now c.args.row.now in
-    let error = c.in_err-note_number.field-0.0 in
-    fails_from (Says says) error c.from_residual.result (quiet_none c.args.pages.now)
-    (unnoted c.args.geography.now c.args.plans.now c.args.row.now c.args.counts.now c.args.txn.now c.args.pages.now error c.in_err-note_number.ensures.err) c.from_residual.ensures.1 (λ m is. is)
+returns-in_err-note_number-clause-reads g c = search (rules, unnoted)
 
 pub returns-in_err-refuse_gone-clause-reads : goal.returns-in_err-refuse_gone-clause-reads
 returns-in_err-refuse_gone-clause-reads g c = fails c.from_residual-in_err-refuse_gone.result (gathered _ c.in_err-refuse_gone.ensures) c.from_residual-in_err-refuse_gone.ensures.1

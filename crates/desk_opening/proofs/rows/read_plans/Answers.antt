@@ -1,4 +1,4 @@
-use Rattle.std.{specs.Prelude.Some, specs.FinMap.entries, proofs.Common.{◌++◌, ℕ, List, [], ◌∷◌, Ok, sym, subst, ◌∙◌, arith}}
+use Rattle.std.{specs.Prelude.Some, specs.FinMap.entries, proofs.Common.{◌++◌, ℕ, List, [], ◌∷◌, Ok, sym, subst, ◌∙◌, arith, rules}}
 use Rattle.page_store.proofs.Stops.{passed_more}
 use Rattle.btree_walks.specs.{Prefixes.under, Scanning.Rest}
 use Rattle.btree_walks.proofs.Walked.{HasNext, walk_all, walk_begins, walk_ends, walk_next, walk_on, walk_passed, walk_quiet, walk_refused}
@@ -6,8 +6,8 @@ use Rattle.desk_model.specs.Ranges.{ranges_of}
 use Rattle.desk_catalogue.specs.Kept.{AreWhole}
 use Rattle.store_rows.specs.{claim.Keys.plans_prefix, claim.Rows.KeyMap}
 use Rattle.desk_pages.{specs.Looking.{Gathers, Says}, proofs.Looking.{fails_then, looked, may_lack, not_looked}, proofs.Reading.{get_unread, less_sought}}
-use Rattle.desk_opening.{specs.Opening.ArePlans, proofs.PlanNumbers.{AreNoted, all_apart, are_counts, none_noted, noted_more, unused}}
-use Rattle.desk_opening.proofs.{Parts.{Plans, AreRead, none_read, all_read}, Shown.{AreShown, none_shown, more_shown, all_shown}, Turns.new_plan, Wholes.none_whole}
+use Rattle.desk_opening.{specs.Opening.ArePlans, proofs.PlanNumbers.{AreNoted, all_apart, are_counts, noted_more, unused}, proofs.Parts.{Plans, AreRead, none_read, all_read}}
+use Rattle.desk_opening.proofs.{Shown.{AreShown, none_shown, more_shown, all_shown}, Turns.new_plan, Wholes.none_whole}
 use Rattle.desk_opening.proofs.rows.read_plans.Goals as goal
 
 abbrev IsAny : KeyMap → Type 0
@@ -19,11 +19,7 @@ loop-taken-init g c = record {
   whole = subst (λ (plans : Plans). AreWhole (Some c.args.geography.now) plans) (sym c.new-plans.ensures) (none_whole c.args.geography.now);
   walked = walk_begins c.args.pages.now c.new-scan.result c.new-scan.ensures.fault
       (λ m. subst (λ (prefix : List ℕ). Rest c.new-scan.result (entries m) (under prefix (entries m))) (c.as_slice.ensures.bytes ∙ c.plans-prefix.ensures) (c.new-scan.ensures.rows m))
-      (λ m. (
-        λ all are. subst (λ (plans : Plans). AreRead [] plans all) (sym c.new-plans.ensures) (none_read all),
-        subst (λ (plans : Plans). AreShown m (ranges_of c.args.geography.now) [] plans) (sym c.new-plans.ensures) (none_shown m (ranges_of c.args.geography.now)),
-        none_noted c.args.counts.now c.requires.none,
-      ));
+      (λ m. search (rules, Plans, AreRead, none_read, none_shown m (ranges_of c.args.geography.now)));
 }
 
 pub returns-in-None-clause-reads : goal.returns-in-None-clause-reads
@@ -31,11 +27,7 @@ returns-in-None-clause-reads g c =
     looked (passed_more c.args.pages.now c.loop-taken.pages c.next.new.pages c.loop-taken.invariant.walked.passed (c.next.ensures.passed (sym c.fault.ensures ∙ c.in-None.is))) (λ honest m holds.
     let rows = walk_all c.loop-taken.invariant.walked c.next.ensures.quiet c.next.new.self c.next.new.row c.next.result c.next.ensures.rows c.if-not-next.true (sym c.fault.ensures ∙ c.in-None.is) honest m holds in
     record {
-      there = (
-        all_apart m rows.rows c.loop-taken.counts rows.whole rows.known.2,
-        are_counts m rows.rows c.loop-taken.counts rows.whole rows.known.2,
-        all_shown m (ranges_of c.args.geography.now) rows.rows c.loop-taken.plans rows.whole rows.known.1,
-      );
+      there = search (all_apart, are_counts, all_shown);
       read = λ all are. all_read m c.args.geography.now rows.rows c.loop-taken.plans all are.desk (rows.known.0 all are) rows.whole;
     })
 

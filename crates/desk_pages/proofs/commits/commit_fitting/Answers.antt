@@ -1,7 +1,6 @@
-use Rattle.std.{specs.Prelude.◌⊎◌, proofs.Common.{arith, inl, length, refl, subst, sym, rules}}
-use Rattle.page_store.{specs.claim.Transactions.{stored, disk_in, prepared_writes}, specs.gate_journal.declared.error.PageError.PageError, proofs.Stops.leaves_here}
-use Rattle.desk_pages.{specs.Commits.FittingErr, specs.Errors.page_refusal, specs.claim.Desks.{OpensDesk, OpensAs}, proofs.Committed.commit_refused, proofs.Kept.opens_now}
-use Rattle.desk_pages.proofs.{Openings.leaves_desk, Outcomes.err_of}
+use Rattle.std.{specs.Prelude.◌⊎◌, proofs.Common.{inl, rules}}
+use Rattle.page_store.{specs.claim.Transactions.{stored, disk_in}, proofs.Stops.leaves_here}
+use Rattle.desk_pages.{specs.claim.Desks.{OpensDesk, OpensAs}, proofs.Committed.commit_refused, proofs.Kept.opens_now, proofs.Openings.leaves_desk, proofs.Outcomes.err_of}
 use Rattle.desk_pages.proofs.commits.commit_fitting.Goals as goal
 
 pub returns-in_err-prepared : goal.returns-in_err-prepared
@@ -13,10 +12,7 @@ returns-in_err-prepared g c = record {
       leaves_here (λ i. OpensAs sectors x i ⊎ OpensAs sectors next i) (disk_in c.args.pages.now) (λ i left. inl (opens_now c.args.pages.now working honest sectors x.1 whole holds i left));
   held = search rules;
   ok = search rules;
-  err = let ps = c.args.pages.now in
-      let error = c.in_err-prepared.field-0.0 in
-      err_of c.from_residual.result (page_refusal error) (FittingErr ps ps) c.from_residual.ensures.1
-      (subst (λ (e : PageError). FittingErr ps ps (page_refusal e)) (sym c.in_err-prepared.ensures.err) refl);
+  err = search (rules, err_of);
 }
 
 pub returns-in_err-commit : goal.returns-in_err-commit
@@ -35,8 +31,7 @@ returns-in_err-commit g c = record {
       let error = c.in_err-commit.field-0.0 in
       let writes = c.in_ok-prepared.ensures.more in
       let few = c.requires.few in
-      err_of c.from_residual-in_err-commit.result (page_refusal error) (FittingErr a b) c.from_residual-in_err-commit.ensures.1
-      (commit_refused (length (prepared_writes c.in_ok-prepared.prepared)) a b c.requires.working (omega arith) error c.in_err-commit.ensures.err);
+      search (rules, err_of, commit_refused);
 }
 
 pub returns : goal.returns

@@ -1,6 +1,6 @@
-use Rattle.std.proofs.Common.{ℕ, List, [], ◌∷◌, sym, subst, ◌∙◌}
+use Rattle.std.proofs.Common.{ℕ, List, [], ◌∷◌, sym, subst, ◌∙◌, rules}
 use Rattle.page_store.specs.claim.Transactions.{stored}
-use Rattle.desk_pages.{specs.claim.Puts.{HasPut, PutsErr}, proofs.Rising.{none_stands, plain_err}, proofs.RowsPut.{one_put, one_not_put}}
+use Rattle.desk_pages.{specs.claim.Puts.HasPut, proofs.Rising.{none_stands, plain_err}, proofs.RowsPut.{one_put, one_not_put}}
 use Rattle.desk_pages.proofs.puts.put_row.Goals as goal
 
 pub returns-in-Ok-clause-puts : goal.returns-in-Ok-clause-puts
@@ -14,11 +14,4 @@ returns-in-Ok-clause-puts g c =
     }
 
 pub returns-in-Err-clause-puts : goal.returns-in-Err-clause-puts
-returns-in-Err-clause-puts g c =
-    record {
-      quiet = c.put.ensures.reading.quiet;
-      begun = c.put.ensures.takes.pages ∙ c.requires.begun ∙ sym c.put.ensures.reading.quiet.count;
-      put = subst (λ (key : List ℕ). PutsErr ((key, c.args.value.now) ∷ []) c.args.txn.now c.args.pages.now c.put.new.pages c.in-Err.error) c.as_slice.ensures.bytes
-          (one_not_put (c.as_slice.result.now, c.args.value.now) c.args.txn.now c.args.pages.now c.put.new.pages c.in-Err.error
-          (plain_err c.none-finger.result c.args.txn.now c.args.pages.now c.put.new.pages c.none-finger.ensures c.in-Err.error c.in-Err.ensures.reading.err));
-    }
+returns-in-Err-clause-puts g c = search (rules, one_not_put, plain_err)

@@ -1,45 +1,26 @@
-use Rattle.std.proofs.Common.{ap, sym, subst, ◌∙◌, rules}
-use Rattle.sector_device.specs.claim.Disk.{Image}
+use Rattle.std.proofs.Common.{sym, subst, ◌∙◌, rules}
 use Rattle.page_store.{specs.claim.Transactions.IsQuiet, proofs.Stops.{quiet_more, passed_more}}
-use Rattle.page_btree.specs.claim.Map.{InTxn as TxnHas}
-use Rattle.store_rows.specs.claim.Tidy.{version_row}
-use Rattle.desk_model.specs.claim.Desk.{Desk}
-use Rattle.desk_opening.{specs.Opening.IsReadFrom, proofs.WholeDesks.{still_reads, then_unopened}}
-use Rattle.desk_pages.{specs.Errors.IsCalm, specs.declared.error.StoreError.StoreError, proofs.Refusals.calm_told}
+use Rattle.desk_opening.proofs.WholeDesks.{still_reads, then_unopened}
+use Rattle.desk_pages.{specs.declared.error.StoreError.StoreError, proofs.Refusals.calm_told}
 use Rattle.desk_store.{specs.Finding.FindErr, proofs.Prepared.{IsBegun, begun_reads}, proofs.Opened.{none_read, rows_begun, version_unread}}
 use Rattle.desk_store.proofs.opening.read_shown.Given.{Over}
 use Rattle.desk_store.proofs.opening.read_shown.Goals.{After-begin-txn, After-read_desk}
 use Rattle.desk_store.proofs.opening.read_shown.Goals as goal
 
 begun : (g : Over) (c : After-begin-txn g) → IsBegun c.args.pages.now c.begin-txn.result
-begun g c =
-    let begin = c.begin-txn.ensures in
-    record { pages = begin.pages; none = begin.none; over_is = begin.over; root = begin.root c.requires; free = begin.free c.requires }
+begun g c = search rules
 
 quiet : (g : Over) (c : After-read_desk g) → IsQuiet c.args.pages.now c.read_desk.new.pages
 quiet g c = quiet_more c.args.pages.now c.is_new.new.pages c.read_desk.new.pages c.is_new.ensures.quiet c.read_desk.ensures.reading.quiet
 
 pub returns-in-Ok-false-clause-reading : goal.returns-in-Ok-false-clause-reading
-returns-in-Ok-false-clause-reading g c = record {
-  quiet = search rules;
-  passed = search rules;
-  err = λ honest m holds.
-      let at = (goal.at.returns-in-Ok-false-clause-reading g c).After-begin-txn in
-      c.in-Ok-false.ensures.there honest m (rows_begun c.args.pages.now c.is_new.new.pages c.begin-txn.result m (begun g at) c.is_new.ensures.quiet honest holds) ∙ ap version_row c.in-Ok-false.field-0-test;
-}
+returns-in-Ok-false-clause-reading g c = search (rules, quiet, rows_begun, begun)
 
 pub returns-in-Err-clause-reading : goal.returns-in-Err-clause-reading
-returns-in-Err-clause-reading g c =
-    let a = c.args.pages.now in
-    let at = (goal.at.returns-in-Err-clause-reading g c).After-begin-txn in
-    search (
-      rules,
-      subst (λ (e : StoreError). FindErr a c.is_new.new.pages e) (sym c.row_error.ensures) (version_unread a c.is_new.new.pages c.begin-txn.result c.in-Err.e c.is_halted.result (begun g at) c.is_new.ensures.quiet c.is_halted.ensures c.requires c.in-Err.ensures.err),
-    )
+returns-in-Err-clause-reading g c = search (rules, version_unread, begun)
 
 pub returns-in-Err-clause-calm : goal.returns-in-Err-clause-calm
-returns-in-Err-clause-calm g c =
-    subst (λ (e : StoreError). IsCalm c.is_new.new.pages e) (sym c.row_error.ensures) (calm_told c.is_new.new.pages c.in-Err.e c.is_halted.result c.is_halted.ensures)
+returns-in-Err-clause-calm g c = search (rules, calm_told)
 
 pub returns-in-Err-read_desk-clause-reading : goal.returns-in-Err-read_desk-clause-reading
 returns-in-Err-read_desk-clause-reading g c =
@@ -54,17 +35,10 @@ returns-in-Err-read_desk-clause-reading g c =
     )
 
 pub returns-in-Err-read_desk-clause-calm : goal.returns-in-Err-read_desk-clause-calm
-returns-in-Err-read_desk-clause-calm g c =
-    let d = c.read_desk.new.pages in
-    subst (λ (e : StoreError). IsCalm d e) (sym c.row_error-in-Err-read_desk.ensures) (calm_told d c.in-Err-read_desk.e c.is_halted-in-Err-read_desk.result c.is_halted-in-Err-read_desk.ensures)
+returns-in-Err-read_desk-clause-calm g c = search (rules, calm_told)
 
 pub returns-in-Ok-new-clause-reading : goal.returns-in-Ok-new-clause-reading
-returns-in-Ok-new-clause-reading g c =
-    search (
-      rules,
-      quiet g (goal.at.returns-in-Ok-new-clause-reading g c).After-read_desk,
-      passed_more c.args.pages.now c.is_new.new.pages c.read_desk.new.pages c.in-Ok-true.ensures.passed c.in-Ok.ensures.reading.passed,
-    )
+returns-in-Ok-new-clause-reading g c = search (rules, quiet, passed_more)
 
 pub returns-in-Ok-new-clause-read : goal.returns-in-Ok-new-clause-read
 returns-in-Ok-new-clause-read g c = λ honest x holds.
@@ -74,17 +48,12 @@ returns-in-Ok-new-clause-read g c = λ honest x holds.
     c.in-Ok-new.ensures.ok ∙ c.in-Ok.ensures.read honest x.0 x.1 (still_reads c.begin-txn.result c.args.pages.now c.is_new.new.pages x.1 c.in-Ok-true.ensures.passed was held)
 
 pub returns-in-Ok-new-clause-found : goal.returns-in-Ok-new-clause-found
-returns-in-Ok-new-clause-found g c = λ honest m holds.
-    let at = goal.at.returns-in-Ok-new-clause-found g c in
-    let rows = rows_begun c.args.pages.now c.read_desk.new.pages c.begin-txn.result m (begun g at.After-begin-txn) (quiet g at.After-read_desk) honest holds in
-    subst (λ (d : Desk). IsReadFrom m d) (sym c.in-Ok-new.ensures.ok)
-    (c.in-Ok.ensures.found honest m (subst (λ (P : Image). TxnHas c.begin-txn.result P m) (sym (c.is_new.ensures.quiet.same (c.read_desk.ensures.reading.quiet.honest honest))) rows))
+returns-in-Ok-new-clause-found g c =
+    λ honest m holds. search (rows_begun, begun, quiet, c.in-Ok-new.ensures.ok, c.in-Ok.ensures.found, c.is_new.ensures.quiet.same, c.read_desk.ensures.reading.quiet.honest)
 
 pub returns-in-Ok-new-clause-version : goal.returns-in-Ok-new-clause-version
-returns-in-Ok-new-clause-version g c = λ honest m holds.
-    let at = goal.at.returns-in-Ok-new-clause-version g c in
-    let was = c.read_desk.ensures.reading.quiet.honest honest in
-    c.in-Ok-true.ensures.there was m (rows_begun c.args.pages.now c.is_new.new.pages c.begin-txn.result m (begun g at.After-begin-txn) c.is_new.ensures.quiet was holds) ∙ ap version_row c.in-Ok-true.field-0-test
+returns-in-Ok-new-clause-version g c =
+    λ honest m holds. search (c.read_desk.ensures.reading.quiet.honest, c.in-Ok-true.ensures.there, rows_begun, begun, c.is_new.ensures.quiet, c.in-Ok-true.field-0-test)
 
 pub returns-clause-reading : goal.returns-clause-reading
 returns-clause-reading g c = search (rules, quiet g (goal.at.returns-clause-reading g c).After-read_desk)

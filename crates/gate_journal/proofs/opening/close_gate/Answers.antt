@@ -43,8 +43,7 @@ returns-then-count-layout g c = opens_so (search rules) (search rules) (search r
     let same = same_reads a (g.D.SectorDevice.disk c.read.new.self) r.0 in
     let is_open : gate a.reads ≡ 165 = sym (ap (λ (s : List ℕ). get_or s 0 0) (c.in_ok-read.ensures.reads s.0.was_honest)) ∙ c.if-sector.false in
     let count : c.in_ok-count.count ≡ list_word a.reads 0 = c.in_ok-count.ensures.told honest ∙ sym (ap (λ (x : Image). list_word x 0) same) in
-    quiet_recovers c.args.layout.journal_pages c.args.layout.pages a synced _ _ (touches_more Nowhere Nowhere _ _ _ (λ i none. none) r.0 s.0) tt (λ is. absurd (search rules))
-    (λ is store. let most = (store.list is_open).count in omega (arith, most, count, c.if-count-layout.true)) (λ _. s.1.passed ∙ r.1.passed) tt)
+    search (rules, quiet_recovers, touches_more))
 
 pub returns-in_err-list_fits : goal.returns-in_err-list_fits
 returns-in_err-list_fits g c = opens_so (search rules) (search rules) (search rules) (λ honest synced layout.
@@ -67,10 +66,7 @@ returns-then-not-branch g c = opens_so (search rules) (search rules) (search rul
     let count : c.in_ok-count.count ≡ list_word a.reads 0 = c.in_ok-count.ensures.told f.0.was_honest ∙ sym (ap (λ (x : Image). list_word x 0) (same_reads a b r.0)) in
     let fits = c.in_ok-list_fits.ensures.told honest in
     quiet_recovers c.args.layout.journal_pages n a synced _ _ (touches_more Nowhere Nowhere _ _ _ (λ i none. none) ab f.0) tt (λ is. absurd (search rules))
-    (λ is store.
-    let names : NamesPages c.in_ok-count.count n a.reads = λ k lt. (store.list is_open).each k (omega (arith, count)) in
-    let yes = fits.1 (subst (λ (x : Image). NamesPages c.in_ok-count.count n x) (same_reads a (g.D.SectorDevice.disk c.list_entry.new.device) ab) names) in
-    not_true (rw c.if-not-branch.true at yes)) (λ _. f.1.passed ∙ s.1.passed ∙ r.1.passed) tt)
+    (λ is store. search (rules, same_reads, not_true)) (λ _. f.1.passed ∙ s.1.passed ∙ r.1.passed) tt)
 
 pub returns : goal.returns
 returns g c = opens_so (search rules) (search rules) (search rules) (λ honest synced layout.
@@ -90,11 +86,5 @@ returns g c = opens_so (search rules) (search rules) (search rules) (λ honest s
     let count : c.in_ok-count.count ≡ list_word e.reads 0 = c.in_ok-count.ensures.told f.0.was_honest ∙ sym (ap (λ (x : Image). list_word x 0) (same_reads a b r.0)) ∙ ap (λ (x : Image). list_word x 0) same in
     let fits = (c.in_ok-list_fits.ensures.told (c.bring_back.ensures.honest honest)).0 (rw c.if-not-branch.false refl) in
     let names : NamesPages c.in_ok-count.count n e.reads = subst (λ (x : Image). NamesPages c.in_ok-count.count n x) (same_reads d e f.0) fits in
-    let store : IsStore J n e.reads = record {
-      least_journal = c.requires.room.least_journal;
-      most_journal = c.requires.room.most_journal;
-      least_pages = c.requires.room.least_pages;
-      header = ae.reads.same 0 (λ none. none) ∙ layout;
-      list = λ is. record { count = omega (arith, count, c.if-count-layout.false); each = λ k lt. names k (omega (arith, count)) };
-    } in
+    let store : IsStore J n e.reads = search rules in
     back_recovers J n a synced e _ _ ae (f.1.passed ∙ s.1.passed ∙ r.1.passed) (c.bring_back.ensures.model honest (synced_still a e synced ae) is_open count store))

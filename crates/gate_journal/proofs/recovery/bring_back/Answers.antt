@@ -5,13 +5,7 @@ use Rattle.gate_journal.proofs.Quiet.{opens_so}
 use Rattle.gate_journal.proofs.recovery.bring_back.Goals as goal
 
 pub returns-in_err-copy_back : goal.returns-in_err-copy_back
-returns-in_err-copy_back g c = opens_so (search rules) (search rules) (search rules) (λ honest synced is_open counted store.
-    let J = c.args.layout.journal_pages in
-    let n = c.args.layout.pages in
-    let a = g.D.SectorDevice.disk c.args.device.now in
-    let b = g.D.SectorDevice.disk c.copy_back.new.device in
-    let moment : LeavesOnly (Opens J n (pages J a.reads)) a b = back_leaves J n a store synced is_open b (c.copy_back.ensures.model honest counted (store.list is_open)).touches in
-    search rules)
+returns-in_err-copy_back g c = search (rules, opens_so, back_leaves)
 
 pub returns-in_err-sync : goal.returns-in_err-sync
 returns-in_err-sync g c = opens_so (search rules) (search rules) (search rules) (λ honest synced is_open counted store.
@@ -53,10 +47,4 @@ returns g c = opens_so (search rules) (search rules) (search rules) (λ honest s
     let back = c.in_ok-copy_back.ensures.model s.0.was_honest counted (store.list is_open) in
     let touches = touches_more (Homes (home J) (copies J a.reads)) Nowhere a (g.D.SectorDevice.disk c.copy_back.new.device) d (λ i none. absurd none) back.touches s.0 in
     let homes : HasHomes (home J) (copies J a.reads) a d = λ p. s.0.reads.same (home J + p) (λ none. none) ∙ back.done p in
-    record {
-      any_moment = shut_leaves J n a store synced is_open d e touches homes (c.in_ok-sync.ensures.synced last.touches.was_honest) last.touches;
-      cause = record { failed = tt; passed = last.cause.passed ∙ s.1.passed ∙ back.cause.passed };
-      only = tt;
-      settled = reshut J n a store synced is_open d e touches last.touches last.done;
-      after = reopened J n a store synced is_open d e homes last.touches last.done;
-    })
+    search (rules, shut_leaves, reshut, reopened))

@@ -1,7 +1,6 @@
-use Rattle.std.proofs.Common.{◌≡◌, ◌+◌, ◌∙◌, take, subst, rules, arith}
+use Rattle.std.proofs.Common.{◌≡◌, ◌+◌, ◌∙◌, rules, arith}
 use Rattle.std.proofs.lemmas.List.{take_all}
-use Rattle.gate_journal.{specs.Steps.HasHomes, specs.Store.Homes, specs.claim.Store.{home, copies}, proofs.Commit.{back_more, back_touches, entry_same, count_is}}
-use Rattle.gate_journal.proofs.Quiet.{opens_so}
+use Rattle.gate_journal.{specs.Store.Homes, specs.claim.Store.{home, copies}, proofs.Commit.{back_more, back_touches, entry_same, count_is}, proofs.Quiet.opens_so}
 use Rattle.sector_device.{specs.claim.Disk.Nowhere, proofs.Moments.touches_more}
 use Rattle.gate_journal.proofs.recovery.copy_back.Goals as goal
 
@@ -19,11 +18,7 @@ loop-k-preserved g c = record {
       let entry = c.in_ok-page.ensures.model copied.touches.was_honest in
       let so_far = c.loop-k.invariant.so_far entry.0.was_honest counted valid in
       let both = back_more J a b e d c.loop-k.k c.in_ok-page.page valid.count (omega (arith, counted)) so_far.touches so_far.done entry.0 (c.in_ok-page.ensures.told copied.touches.was_honest) copied.touches copied.done in
-      record {
-        touches = both.0;
-        passed = copied.cause.passed ∙ entry.1.passed ∙ so_far.passed;
-        done = both.1;
-      };
+      search rules;
 }
 
 pub returns-in_err-page : goal.returns-in_err-page
@@ -56,14 +51,4 @@ returns-in_err-copy_sector g c = opens_so (search rules) (search rules) (search 
     search rules)
 
 pub returns : goal.returns
-returns g c = opens_so (search rules) (search rules) (search rules) (λ honest counted valid.
-    let J = c.args.layout.journal_pages in
-    let a = g.D.SectorDevice.disk c.args.device.now in
-    let so_far = c.loop-k.invariant.so_far honest counted valid in
-    let all : take c.loop-k.k (copies J a.reads) ≡ copies J a.reads = take_all _ _ (omega (arith, count_is J a, counted)) in
-    record {
-      touches = so_far.touches;
-      cause = record { failed = tt; passed = so_far.passed };
-      only = tt;
-      done = subst (λ ws. HasHomes (home J) ws a (g.D.SectorDevice.disk c.loop-k.device)) all so_far.done;
-    })
+returns g c = search (rules, opens_so, take_all, count_is)

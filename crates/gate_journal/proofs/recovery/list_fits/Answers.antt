@@ -1,4 +1,4 @@
-use Rattle.std.proofs.Common.{◌∙◌, ◌+◌, refl, rules}
+use Rattle.std.proofs.Common.{◌∙◌, ◌+◌, rules}
 use Rattle.sector_device.{specs.claim.Disk.Nowhere, proofs.Moments.touches_more}
 use Rattle.gate_journal.proofs.Lists.{names_more, names_of, not_true}
 use Rattle.gate_journal.proofs.recovery.list_fits.Goals as goal
@@ -27,9 +27,5 @@ loop-s-preserved g c = record {
       let so_far = c.loop-s.invariant.so_far r.0.was_honest in
       let s = c.loop-s.s in
       let is = c.in_ok-read.ensures.reads honest ∙ so_far.touches.reads.same (2 + s) (λ none. none) in
-      record {
-        touches = touches_more Nowhere Nowhere _ _ _ (λ i none. none) so_far.touches r.0;
-        passed = r.1.passed ∙ so_far.passed;
-        done = names_more (g.D.SectorDevice.disk c.args.device.now).reads s c.args.count c.args.layout.pages c.read.new.sector is (c.if-not-names_pages.ensures.0 refl) so_far.done;
-      };
+      search (touches_more, so_far.touches, r.0, r.1.passed, so_far.passed, names_more, g.D.SectorDevice.disk, c.read.new.sector, c.if-not-names_pages.ensures.0, so_far.done);
 }

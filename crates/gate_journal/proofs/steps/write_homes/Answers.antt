@@ -4,10 +4,7 @@ use Rattle.gate_journal.{specs.Store.Homes, proofs.Images.{writes_at, homes_more
 use Rattle.gate_journal.proofs.steps.write_homes.Goals as goal
 
 pub overflow_add-home : goal.overflow_add-home
-overflow_add-home g c =
-    let room = c.requires c.loop-k.k c.loop-k-test.true in
-    let few = (g.D.SectorDevice.disk c.args.device.now).few in
-    omega arith
+overflow_add-home g c = search rules
 
 pub write-requires : goal.write-requires
 write-requires g c =

@@ -5,15 +5,7 @@ use Rattle.gate_journal.proofs.{Commit.{shut_pages, after_stage, after_gate, aft
 use Rattle.gate_journal.proofs.steps.write_through.Goals as goal
 
 pub returns-in_err-stage : goal.returns-in_err-stage
-returns-in_err-stage g c = commits_so (search rules) (λ honest.
-    let J = c.args.layout.journal_pages in
-    let n = c.args.layout.pages in
-    let a = g.D.SectorDevice.disk c.args.device.now in
-    let b = g.D.SectorDevice.disk c.stage.new.device in
-    let s1 = c.stage.ensures.model honest in
-    let settled = c.requires.settled s1.touches.was_honest in
-    let moment : LeavesOnly (IsBeforeOrAfter J n c.args.writes.now (pages J a.reads)) a b = after_stage J n c.args.writes.now c.requires.few c.requires.within (pages J a.reads) a b settled (shut_pages J a.reads settled.closed) s1.touches in
-    search rules)
+returns-in_err-stage g c = search (rules, commits_so, after_stage, shut_pages)
 
 pub returns-in_err-set_gate : goal.returns-in_err-set_gate
 returns-in_err-set_gate g c = commits_so (search rules) (λ honest.

@@ -5,9 +5,7 @@ use Rattle.page_btree.{specs.claim.Tree.page_of, specs.Getting.CanGet, specs.See
 use Rattle.page_btree.proofs.seeks.leaf_for.Goals as goal
 
 pub returns-then-root-eq0-clause-read : goal.returns-then-root-eq0-clause-read
-returns-then-root-eq0-clause-read g c = λ honest m r.
-    let some = (r.sound.below (page_of r.tree) (owns_page r.tree)).0 in
-    absurd (omega arith)
+returns-then-root-eq0-clause-read g c = λ honest m r. search (arith, r.sound.below (page_of r.tree) (owns_page r.tree))
 
 pub returns-clause-bare : goal.returns-clause-bare
 returns-clause-bare g c = λ none. absurd (c.if-root-eq0.false (c.root-root.ensures.root ∙ none))

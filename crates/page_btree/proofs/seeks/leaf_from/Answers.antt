@@ -13,9 +13,8 @@ returns-then-leaf-gt0-2-clause-rows g c = λ honest m holds.
     from_found _ _ _ _ m c.args.key.now c.leaf_for.new.leaf c.leaf_for.new.held holds c.in_ok-leaf_for.ensures.bare (c.in_ok-leaf_for.ensures.read honest m) (λ none alone. absurd (omega arith))
 
 pub returns-then-not-leaf-clause-rows : goal.returns-then-not-leaf-clause-rows
-returns-then-not-leaf-clause-rows g c = λ honest m holds.
-    let last : bound_in c.leaf_for.new.leaf ≡ None = ap (λ b. cond b (Some c.leaf_for.new.leaf.bound) None) c.if-not-leaf.true in
-    from_found _ _ _ _ m c.args.key.now c.leaf_for.new.leaf c.leaf_for.new.held holds c.in_ok-leaf_for.ensures.bare (c.in_ok-leaf_for.ensures.read honest m) (λ none alone. last)
+returns-then-not-leaf-clause-rows g c =
+    λ honest m holds. search (c.leaf_for.new.leaf, c.if-not-leaf.true, from_found, c.in_ok-leaf_for.ensures.bare, c.in_ok-leaf_for.ensures.read honest m)
 
 pub returns-in_err-leaf_after-clause-reading : goal.returns-in_err-leaf_after-clause-reading
 returns-in_err-leaf_after-clause-reading g c =

@@ -1,4 +1,4 @@
-use Rattle.std.{specs.Prelude.{Option, Some, None}, proofs.Common.{◌∷◌, ℕ, List, refl, ap, sym, subst, ◌∙◌, arith, option_copied}}
+use Rattle.std.{specs.Prelude.{Option, Some}, proofs.Common.{◌∷◌, ℕ, List, refl, ap, sym, subst, ◌∙◌, arith, option_copied, rules}}
 use Rattle.page_btree.{specs.Seeking.AreWays, proofs.Following.{ways_of, three_of}}
 use Rattle.page_btree.proofs.seeks.ways_in.Goals as goal
 
@@ -7,11 +7,7 @@ returns-in-None-clause-ways c = λ node at rises.
     let ways = c.in_ok-ways.ways in
     let few = c.in_ok-ways.ensures.few in
     let all = subst (λ (b : Option (List ℕ)). AreWays ways.more c.args.key.now node.entries (ways.child ∷ c.ways_for.new.after) b) (ap option_copied c.in-None.is) (ways_of _ node.entries c.args.key.now ways.child ways.more c.ways_for.new.after _ (omega arith) (c.in_ok-ways.ensures.ways node at rises)) in
-    record {
-      bound = None;
-      ways = subst (λ (l : List ℕ). AreWays ways.more c.args.key.now node.entries (ways.child ∷ l) None) (three_of c.ways_for.new.after (omega arith)) all;
-      bound_is = refl;
-    }
+    search (rules, three_of)
 
 pub returns-in-Some-clause-ways : goal.returns-in-Some-clause-ways
 returns-in-Some-clause-ways c = λ node at rises.

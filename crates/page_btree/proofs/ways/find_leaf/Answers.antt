@@ -1,4 +1,4 @@
-use Rattle.std.{specs.Prelude.IfOk, proofs.Common.{get_or, ap, ℕ, ◌≡◌, ◌-◌, refl, sym, subst, ◌∙◌, arith}}
+use Rattle.std.{specs.Prelude.IfOk, proofs.Common.{get_or, ap, ℕ, ◌≡◌, ◌-◌, refl, sym, subst, ◌∙◌, arith, rules}}
 use Rattle.sector_device.specs.claim.Disk.{Image}
 use Rattle.page_store.specs.claim.Transactions.{stored, txn_pages, over}
 use Rattle.page_node.specs.claim.Node.{IsNode}
@@ -7,15 +7,12 @@ use Rattle.page_btree.proofs.{Descent.some_child, Outcomes.{map_ok, reads_err, r
 use Rattle.page_btree.proofs.ways.find_leaf.Goals as goal
 
 pub returns-then-level-gt5-clause-reading : goal.returns-then-level-gt5-clause-reading
-returns-then-level-gt5-clause-reading g c = reads_err c.in_ok-own.ensures.reading.quiet (λ honest is.
-    let told = c.level_of-level.ensures.level is.2.1.node (rw (c.lent-bytes.ensures ∙ c.in_ok-own.ensures.lends honest) is.2.1.node_is) ∙ is.2.1.level_is in
-    omega arith)
+returns-then-level-gt5-clause-reading g c = search (rules, reads_err)
 
 -- ---- the root is a leaf
 pub returns-then-level-eq0-clause-leads : goal.returns-then-level-eq0-clause-leads
-returns-then-level-eq0-clause-leads g c = λ honest d is.
-    let told = c.level_of-level.ensures.level is.1.node (rw (c.lent-bytes.ensures ∙ c.in_ok-own.ensures.lends honest) is.1.node_is) ∙ is.1.level_is in
-    leads_none (over c.args.txn.now (stored c.args.pages.now)) d c.args.root c.args.key.now (sym told ∙ c.if-level-eq0.true)
+returns-then-level-eq0-clause-leads g c =
+    λ honest d is. search (rules, leads_none)
 
 -- ---- no way down
 pub returns-in_err-child-clause-reading : goal.returns-in_err-child-clause-reading
@@ -62,10 +59,8 @@ returns-clause-leads g c = λ honest d is.
 
 -- ---- how far
 pub returns-then-level-eq0-clause-reach : goal.returns-then-level-eq0-clause-reach
-returns-then-level-eq0-clause-reach g c = λ honest other between.
-    let P = over c.args.txn.now (stored c.args.pages.now) in
-    let there : c.lent-bytes.result.now ≡ P c.args.root = c.lent-bytes.ensures ∙ c.in_ok-own.ensures.lends honest in
-    leads_none P (level_in P c.args.root) c.args.root other (ap (λ b. get_or b 0 0) (sym there) ∙ sym c.level_of-level.ensures.byte ∙ c.if-level-eq0.true)
+returns-then-level-eq0-clause-reach g c =
+    λ honest other between. search (rules, leads_none)
 
 pub returns-clause-reach : goal.returns-clause-reach
 returns-clause-reach g c = λ honest.

@@ -1,23 +1,12 @@
-use Rattle.std.{specs.Prelude.insert, proofs.Common.{refl, sym, subst, arith, rules}}
+use Rattle.std.{specs.Prelude.insert, proofs.Common.{sym, subst, arith, rules}}
 use Rattle.page_node.{specs.claim.Node.IsNode, proofs.Editing.count_small, proofs.PageEdits.{inserted_node, inserted_size}}
 use Rattle.page_node.proofs.edit.insert_in.Goals as goal
 
 pub returns-then-count-eq65535 : goal.returns-then-count-eq65535
-returns-then-count-eq65535 c = λ node is le at_is.
-    let small = count_small node.entries in
-    omega arith
+returns-then-count-eq65535 c = λ node is le at_is. search (rules, count_small)
 
 pub returns-then-used-key-gt-PAGE_SIZE : goal.returns-then-used-key-gt-PAGE_SIZE
-returns-then-used-key-gt-PAGE_SIZE c = record {
-  inserted = λ node is child le at_is. (
-    refl,
-    λ fits.
-        let used_is = c.in_ok-used.ensures.end node is le at_is in
-        let size = inserted_size c.args.page.now node is c.told-page c.args.index c.args.at c.in_ok-used.used at_is used_is (c.args.key.now, c.args.value.now) in
-        omega arith,
-  );
-  kept = search rules;
-}
+returns-then-used-key-gt-PAGE_SIZE c = search (rules, inserted_size)
 
 pub returns : goal.returns
 returns c = record {

@@ -12,11 +12,10 @@ returns-then-at-key c = record {
 pub returns-then-at-key-gt-PAGE_SIZE : goal.returns-then-at-key-gt-PAGE_SIZE
 returns-then-at-key-gt-PAGE_SIZE c = record {
   replaced = λ node is child within at_is end_is. (
-    refl,
+    search rules,
     λ fits.
         let used_is = c.in_ok-used.ensures.end node is (omega arith) end_is in
         let size = replaced_size c.args.page.now node is c.told-page c.args.index c.args.at c.in_ok-used.used at_is used_is c.args.end end_is within (c.args.key.now, c.args.value.now) in
-        let over = c.if-at-key-gt-PAGE_SIZE.true in
         let order = c.requires.part.order in
         let after = c.in_ok-used.ensures.order.0 in
         omega arith,

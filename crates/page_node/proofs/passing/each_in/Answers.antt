@@ -1,4 +1,4 @@
-use Rattle.std.proofs.Common.{arith}
+use Rattle.std.proofs.Common.{arith, rules}
 use Rattle.page_node.proofs.Passed.{passes_none, passes_both, passes_found, passes_not}
 use Rattle.page_node.proofs.passing.each_in.Goals as goal
 
@@ -6,9 +6,7 @@ pub loop-k-init : goal.loop-k-init
 loop-k-init c = (omega arith, c.requires, passes_none c.args.page.now c.args.at)
 
 pub loop-k-preserved : goal.loop-k-preserved
-loop-k-preserved c =
-    let lies = c.in-Some.ensures.some in
-    (omega arith, lies.within, passes_both _ _ _ _ _ 1 c.loop-k.invariant.2 (passes_found _ _ _ _ lies))
+loop-k-preserved c = search (rules, c.in-Some.ensures.some, passes_both, passes_found)
 
 pub returns-in-None : goal.returns-in-None
 returns-in-None c = λ es is long. passes_not _ _ _ _ es c.loop-k.invariant.2 is (omega arith) c.in-None.ensures.none

@@ -1,17 +1,13 @@
-use Rattle.std.proofs.Common.{ℕ, Option, MatchOption, arith, refl, sym, subst, inl, inr, rules}
-use Rattle.page_node.{specs.Held.HasEnds, specs.claim.Node.{Node, IsNode}, proofs.Editing.count_small, proofs.Scanning.{scanned_not, scanned_no_child, scanned_next, scanned_end}}
+use Rattle.std.proofs.Common.{arith, refl, rules}
+use Rattle.page_node.proofs.{Editing.count_small, Scanning.{scanned_not, scanned_no_child, scanned_next, scanned_end}}
 use Rattle.page_node.proofs.scan.scan.Goals as goal
 use Rattle.page_node.proofs.scan.scan.Goals.{else-level-gt0-via-then-level-gt0+else-bounds-ne4, else-level-gt0-via-else-level-gt0}
 
 pub returns-then-level-gt5-clause-scanned : goal.returns-then-level-gt5-clause-scanned
-returns-then-level-gt5-clause-scanned c = λ node is.
-    let few = count_small node.entries in
-    elim c.then-level-gt5.either [ inl high ↦ omega arith | inr high ↦ omega arith ]
+returns-then-level-gt5-clause-scanned c = λ node is. search (rules, count_small)
 
 pub returns-in_err-bounds-clause-scanned : goal.returns-in_err-bounds-clause-scanned
-returns-in_err-bounds-clause-scanned c =
-    let P : Option ℕ → Type 0 = λ r. MatchOption r ((node : Node) → IsNode c.args.page.now node → ⊥) (HasEnds c.args.page.now c.loop-k.ends) in
-    subst P (sym c.from_residual.ensures) (scanned_not _ _ _ _ _ _ c.loop-k.invariant c.loop-k-test.true refl c.in_err-bounds.ensures.none)
+returns-in_err-bounds-clause-scanned c = search (c.loop-k.ends, c.from_residual.ensures, scanned_not, c.in_err-bounds.ensures.none)
 
 pub returns-then-bounds-ne4-clause-scanned : goal.returns-then-bounds-ne4-clause-scanned
 returns-then-bounds-ne4-clause-scanned c = scanned_no_child _ _ _ _ _ _ _ _ c.loop-k.invariant c.loop-k-test.true refl refl c.in_ok-bounds.ensures.some c.if-level-gt0.true c.if-bounds-ne4.true
@@ -22,7 +18,4 @@ loop-k-preserved c =
     (λ inner. elim c.else-level-gt0.branch [ else-level-gt0-via-then-level-gt0+else-bounds-ne4 w ↦ omega arith | else-level-gt0-via-else-level-gt0 w ↦ absurd (omega arith) ])
 
 pub returns-clause-scanned : goal.returns-clause-scanned
-returns-clause-scanned c = record {
-  count = search rules;
-  held = scanned_end _ _ _ _ _ _ c.loop-k.invariant (omega arith) c.if-level-gt5.false c.if-count-gt1364.false;
-}
+returns-clause-scanned c = search (arith, scanned_end _ _ _ _ _ _ c.loop-k.invariant (omega arith) c.if-level-gt5.false c.if-count-gt1364.false)

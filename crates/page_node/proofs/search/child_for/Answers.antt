@@ -1,11 +1,10 @@
-use Rattle.std.{specs.Ordering.is_gt, proofs.Common.{◌≡◌, ◌+◌, ◌-◌, true, arith, sym, ap, ◌∙◌}}
+use Rattle.std.{specs.Ordering.is_gt, proofs.Common.{◌≡◌, ◌+◌, ◌-◌, true, arith, sym, ap, ◌∙◌, rules}}
 use Rattle.page_node.{specs.Entries.key_at, specs.claim.Places.key_cmp, proofs.Laws.floor_stop, proofs.Scanning.{lies_there, entry_of, key_part, last_next, child_ok}}
 use Rattle.page_node.proofs.search.child_for.Goals as goal
 use Rattle.page_node.proofs.search.child_for.Goals.{else-k-gt0-via-then-k-gt0+else-is_above, else-k-gt0-via-else-k-gt0}
 
 pub returns-in-None-clause-err : goal.returns-in-None-clause-err
-returns-in-None-clause-err c = λ node is inner.
-    absurd (lies_there _ node c.loop-k.k c.loop-k.at is (omega arith) (c.loop-k.invariant.2 node is).place c.in-None.ensures.none)
+returns-in-None-clause-err c = λ node is inner. search (rules, lies_there)
 
 pub returns-then-is_above-clause-child : goal.returns-then-is_above-clause-child
 returns-then-is_above-clause-child c = λ node is.
@@ -20,7 +19,7 @@ pub loop-k-preserved : goal.loop-k-preserved
 loop-k-preserved c =
     let lies = c.in-Some.ensures.some in
     let within = lies.within in (
-      lies.within,
+      search rules,
       omega arith,
       λ node is.
           let last = c.loop-k.invariant.2 node is in

@@ -1,4 +1,4 @@
-use Rattle.std.{specs.Ordering.is_gt, proofs.Common.{◌≡◌, ℕ, ◌+◌, take, false, arith, sym, ap, ◌∙◌, subst}}
+use Rattle.std.{specs.Ordering.is_gt, proofs.Common.{◌≡◌, ℕ, ◌+◌, take, false, arith, sym, ap, ◌∙◌, subst, rules}}
 use Rattle.page_node.specs.{Entries.key_at, claim.Entries.size_of, claim.Places.key_cmp, Searching.IsLast}
 use Rattle.page_node.proofs.{Scanning.{lies_there, entry_of, end_there, key_part}, Nearing.last_after, Passed.{node_passed, node_passed_not}}
 use Rattle.page_node.proofs.search.near_for.Goals as goal
@@ -20,7 +20,7 @@ loop-near-preserved c =
     let k = c.loop-near.near.k in
     let end = c.in-Some-bounds_in.bounds.end in
     let nine : k + 8 + 1 ≡ k + 9 = omega arith in (
-      lies.within,
+      search rules,
       omega arith,
       omega arith,
       λ node is.

@@ -1,7 +1,7 @@
 use Rattle.std.specs.{Ordering.{is_gt, is_lt}, declared.cmp.Ordering.TheVariants.Less}
-use Rattle.std.proofs.Common.{◌≡◌, ℕ, ◌+◌, ◌-◌, ◌<◌, ◌≤◌, List, length, take, drop, true, false, arith, sym, ap, ◌∙◌, subst, below_more}
+use Rattle.std.proofs.Common.{rules, ◌≡◌, ℕ, ◌+◌, ◌-◌, ◌<◌, ◌≤◌, List, length, take, true, false, arith, sym, ap, ◌∙◌, below_more}
 use Rattle.std.proofs.lemmas.List.{length-drop}
-use Rattle.page_node.specs.{claim.Entries.{Entry, size_of}, Entries.key_at, claim.Node.{Node, IsNode}, claim.Places.key_cmp, Places.entries_from, Walking.IsAhead}
+use Rattle.page_node.specs.{claim.Entries.size_of, Entries.key_at, claim.Node.{Node, IsNode}, claim.Places.key_cmp, Places.entries_from, Walking.IsAhead}
 use Rattle.page_node.proofs.{Walking.node_ahead_at, Laws.{entries_from_at, from_middle, not_below, is_less}, Nearing.first_below}
 use Rattle.page_node.proofs.Scanning.{lies_there, entry_of, end_there, key_part}
 use Rattle.page_node.proofs.search.place_from.Goals as goal
@@ -9,10 +9,7 @@ use Rattle.page_node.proofs.search.place_from.Goals as goal
 found : (page key : List ℕ) (node : Node) (k at left : ℕ) → IsNode page node → at ≡ 4 + size_of (take k node.entries) → k ≤ length node.entries → left ≡ length node.entries - k → ((j : ℕ) → j < k → key_cmp (key_at node.entries j) key ≡ Less) → ((j : ℕ) → k ≤ j → j < length node.entries → is_gt (key_cmp key (key_at node.entries j)) ≡ false)
     → IsAhead page at (entries_from key node.entries) × (left ≡ length (entries_from key node.entries))
 found page key node k at left is place within left_is below from =
-    let same : entries_from key node.entries ≡ drop k node.entries = entries_from_at key node.entries k within below from in (
-      subst (λ (es : List Entry). IsAhead page at es) (sym same) (node_ahead_at page node k at is place),
-      left_is ∙ sym (length-drop k node.entries) ∙ ap (λ (es : List Entry). length es) (sym same),
-    )
+    search (entries_from_at key node.entries k within below from, node_ahead_at page node k at is place, length-drop k node.entries)
 
 pub returns-in-None-clause-err : goal.returns-in-None-clause-err
 returns-in-None-clause-err c = λ node is. c.in-None.ensures node is (first_below c.args.key.now node.entries)
@@ -21,8 +18,7 @@ pub loop-k-init : goal.loop-k-init
 loop-k-init c = λ node is. c.in-Some.ensures.below node is (first_below c.args.key.now node.entries)
 
 pub returns-in-None-bounds_in-clause-err : goal.returns-in-None-bounds_in-clause-err
-returns-in-None-bounds_in-clause-err c = λ node is.
-    lies_there _ node c.loop-k.k c.loop-k.at is (omega arith) (c.loop-k.invariant node is).0 c.in-None-bounds_in.ensures.none
+returns-in-None-bounds_in-clause-err c = λ node is. search (rules, lies_there)
 
 pub returns-then-not-is_below-clause-place : goal.returns-then-not-is_below-clause-place
 returns-then-not-is_below-clause-place c = λ node is rises.

@@ -2,5 +2,4 @@ use Rattle.page_node.specs.{claim.Node.{Node, IsNode}, Searching.IsBelow}
 use Rattle.page_node.proofs.search.place_from.Given as goal
 
 abbrev pub invariant-loop-k : goal.invariant-loop-k
-invariant-loop-k l =
-    (node : Node) → IsNode l.page node → IsBelow l.key node.entries l.k l.at
+invariant-loop-k l = (node : Node) → IsNode l.page node → IsBelow l.key node.entries l.k l.at

@@ -1,4 +1,4 @@
-use Rattle.std.{specs.Ordering.is_lt, proofs.Common.{◌≡◌, ℕ, ◌+◌, take, true, arith, sym, ap, ◌∙◌, subst}}
+use Rattle.std.{specs.Ordering.is_lt, proofs.Common.{◌≡◌, ℕ, ◌+◌, take, true, arith, sym, ap, ◌∙◌, subst, rules}}
 use Rattle.page_node.{specs.Entries.key_at, specs.claim.Entries.size_of, specs.claim.Places.key_cmp, proofs.Laws.{below_middle, is_less}}
 use Rattle.page_node.proofs.{Scanning.{lies_there, entry_of, end_there, key_part}, Passed.{node_passed, node_passed_not}}
 use Rattle.page_node.proofs.search.row_after.Goals as goal
@@ -16,15 +16,13 @@ returns-in-None-bounds_in c = λ node is begun.
 pub loop-near-preserved : goal.loop-near-preserved
 loop-near-preserved c =
     let lies = c.in-Some-bounds_in.ensures.some in
-    let value_is = lies.value_is in
-    let end_is = lies.end_is in
     let kept = c.loop-near.invariant in
     let low = kept.0 in
     let from = c.in-Some.ensures.within.0 in
     let k = c.loop-near.near.k in
     let end = c.in-Some-bounds_in.bounds.end in (
       omega arith,
-      lies.within,
+      search rules,
       omega arith,
       λ node is begun.
           let n = is.count in

@@ -5,14 +5,13 @@ use Rattle.page_node.proofs.search.turn_for.Goals as goal
 use Rattle.page_node.proofs.search.turn_for.Goals.{else-k-gt0-via-then-k-gt0+else-is_above, else-k-gt0-via-else-k-gt0}
 
 pub returns-in-None-bounds_in : goal.returns-in-None-bounds_in
-returns-in-None-bounds_in c = λ node is rises inner.
-    absurd (lies_there _ node c.loop-k.k c.loop-k.at is (omega arith) (c.loop-k.invariant.2 node is rises).place c.in-None-bounds_in.ensures.none)
+returns-in-None-bounds_in c = λ node is rises inner. search (rules, lies_there)
 
 pub loop-k-preserved : goal.loop-k-preserved
 loop-k-preserved c =
     let lies = c.in-Some-bounds_in.ensures.some in
     let within = lies.within in (
-      lies.within,
+      search rules,
       omega arith,
       λ node is rises.
           let last = c.loop-k.invariant.2 node is rises in
@@ -38,12 +37,7 @@ returns-then-is_above c = record {
       let last = c.loop-k.invariant.2 node is rises in
       let e = entry_of _ node c.loop-k.k c.loop-k.at is (omega arith) last.place in
       let above : is_gt (key_cmp (key_at node.entries c.loop-k.k) c.args.key.now) ≡ true = ap (λ l. is_gt (key_cmp l c.args.key.now)) (sym (key_part _ _ _ _ _ _ e c.in-Some-bounds_in.ensures.some)) ∙ sym c.is_above.ensures ∙ c.if-is_above.true in
-      record {
-        some = omega arith;
-        within = omega arith;
-        place = last.place;
-        above = ceiling_at c.args.key.now node.entries c.loop-k.k (omega arith) (omega arith) last.below above;
-      };
+      search (rules, ceiling_at);
   last = search rules;
 }
 
@@ -59,6 +53,5 @@ returns c = record {
   above = search rules;
   last = λ node is rises.
       let few : c.in-Some.near.k ≤ c.count_of-count.result = let most = c.in-Some.ensures.within.2 in let count_is = c.count_of-count.ensures.count in omega arith in
-      let last = c.loop-k.invariant.2 node is rises in
-      ceiling_none c.args.key.now node.entries (λ j some less. last.below j some (omega arith));
+      ceiling_none c.args.key.now node.entries (λ j some less. (c.loop-k.invariant.2 node is rises).below j some (omega arith));
 }

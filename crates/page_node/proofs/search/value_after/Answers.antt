@@ -1,11 +1,10 @@
-use Rattle.std.{specs.Prelude.Some, specs.declared.cmp.Ordering.TheVariants.{Less, Greater}, proofs.Common.{◌≡◌, ◌≤◌, arith, sym, ap, ◌∙◌, below_more}}
+use Rattle.std.{specs.Prelude.Some, specs.declared.cmp.Ordering.TheVariants.{Less, Greater}, proofs.Common.{◌≡◌, ◌≤◌, arith, sym, ap, ◌∙◌, below_more, rules}}
 use Rattle.page_node.{specs.Entries.key_at, specs.claim.Places.key_cmp, proofs.Laws.{find_none, find_at, above_middle, same_key}}
 use Rattle.page_node.proofs.Scanning.{lies_there, entry_of, end_there, key_part, value_part}
 use Rattle.page_node.proofs.search.value_after.Goals as goal
 
 pub returns-in-None-bounds_in-clause-err : goal.returns-in-None-bounds_in-clause-err
-returns-in-None-bounds_in-clause-err c = λ node is begun.
-    lies_there _ node c.loop-k.k c.loop-k.at is (omega arith) (c.loop-k.invariant.1 node is begun).0 c.in-None-bounds_in.ensures.none
+returns-in-None-bounds_in-clause-err c = λ node is begun. search (rules, lies_there)
 
 pub returns-in-Greater-clause-value : goal.returns-in-Greater-clause-value
 returns-in-Greater-clause-value c = λ node is rises begun.
@@ -23,7 +22,7 @@ returns-in-Equal-clause-value c = λ node is rises begun.
 
 pub loop-k-preserved : goal.loop-k-preserved
 loop-k-preserved c = (
-  c.in-Some-bounds_in.ensures.some.within,
+  search rules,
   λ node is begun.
       let place = c.loop-k.invariant.1 node is begun in
       let e = entry_of _ node c.loop-k.k c.loop-k.at is (omega arith) place.0 in

@@ -1,4 +1,4 @@
-use Rattle.std.proofs.Common.{arith}
+use Rattle.std.proofs.Common.{arith, rules}
 use Rattle.page_node.proofs.Scanning.{lies_there, entry_of, end_there}
 use Rattle.page_node.proofs.spot.end_from.Goals as goal
 
@@ -6,8 +6,7 @@ pub returns-in-None : goal.returns-in-None
 returns-in-None c = c.in-None.ensures
 
 pub returns-in-None-bounds_in : goal.returns-in-None-bounds_in
-returns-in-None-bounds_in c = λ node is le begins.
-    lies_there _ node c.loop-k.k c.loop-k.end is (omega arith) (c.loop-k.invariant.2 node is le begins) c.in-None-bounds_in.ensures.none
+returns-in-None-bounds_in c = λ node is le begins. search (rules, lies_there)
 
 pub loop-k-preserved : goal.loop-k-preserved
 loop-k-preserved c =
@@ -15,7 +14,5 @@ loop-k-preserved c =
     let low = c.loop-k.invariant.0 in (
       omega arith,
       lies.within,
-      λ node is le begins.
-          let e = entry_of _ node c.loop-k.k c.loop-k.end is (omega arith) (c.loop-k.invariant.2 node is le begins) in
-          end_there _ _ _ _ _ _ e lies,
+      λ node is le begins. search (entry_of _ node c.loop-k.k c.loop-k.end is (omega arith) (c.loop-k.invariant.2 node is le begins), end_there),
     )

@@ -1,11 +1,10 @@
-use Rattle.std.{specs.declared.cmp.Ordering.TheVariants.{Less, Greater}, proofs.Common.{◌≡◌, ◌≤◌, false, arith, sym, ap, subst, ◌∙◌, below_more, rules}}
-use Rattle.page_node.{specs.Entries.key_at, specs.claim.Places.key_cmp, specs.Spots.IsSpot, proofs.Laws.{found_here, above_middle, same_key}}
+use Rattle.std.{specs.declared.cmp.Ordering.TheVariants.{Less, Greater}, proofs.Common.{◌≡◌, arith, sym, ap, ◌∙◌, below_more, rules}}
+use Rattle.page_node.{specs.Entries.key_at, specs.claim.Places.key_cmp, proofs.Laws.{found_here, above_middle, same_key}}
 use Rattle.page_node.proofs.Scanning.{lies_there, entry_of, end_there, key_part}
 use Rattle.page_node.proofs.spot.spot_after.Goals as goal
 
 pub returns-in-None-bounds_in : goal.returns-in-None-bounds_in
-returns-in-None-bounds_in c = λ node is begun.
-    lies_there _ node c.loop-k.k c.loop-k.at is (omega arith) (c.loop-k.invariant.2 node is begun).0 c.in-None-bounds_in.ensures.none
+returns-in-None-bounds_in c = λ node is begun. search (rules, lies_there)
 
 pub returns-in-Greater : goal.returns-in-Greater
 returns-in-Greater c = record {
@@ -53,19 +52,4 @@ loop-k-preserved c =
     )
 
 pub returns : goal.returns
-returns c = record {
-  spot = λ node is rises begun.
-      let few : c.in-Some.near.k ≤ c.count_of-count.result = let most = c.in-Some.ensures.within.2 in let count_is = c.count_of-count.ensures.count in omega arith in
-      let place = c.loop-k.invariant.2 node is begun in
-      subst (λ k. IsSpot c.args.key.now node.entries false k c.loop-k.at c.loop-k.at) (omega arith) (
-        record {
-          within = omega arith;
-          below = place.1 rises;
-          above = λ j le within. absurd (omega arith);
-        },
-        place.0,
-        place.0,
-      );
-  order = search rules;
-  few = search rules;
-}
+returns c = search rules

@@ -37,14 +37,9 @@ loop-more-preserved c =
     let kept = c.loop-more.invariant in
     let few = c.count_of-count.ensures.few in (
       omega arith,
-      c.in-Some.ensures.some,
-      ap (λ l. starts_with nat_eq l c.args.prefix.now) (sym c.part.ensures) ∙ sym c.starts_with.ensures.value ∙ c.if-not-starts_with.false,
-      λ node is key turn.
-          record {
-            some = omega arith;
-            within = omega arith;
-            place = here_next _ node c.loop-more.bound.k _ _ _ is (kept.3 node is key turn) kept.1;
-          },
+      search rules,
+      search rules,
+      λ node is key turn. search (rules, here_next, kept.3),
       λ node is rises key child turn child_is.
           let here = kept.3 node is key turn in
           let under : starts_with nat_eq (key_at node.entries c.loop-more.bound.k) c.args.prefix.now ≡ true = ap (λ l. starts_with nat_eq l c.args.prefix.now) (sym (here_key _ node c.loop-more.bound.k _ _ _ is here kept.1)) ∙ kept.2 in

@@ -1,5 +1,5 @@
 use Rattle.std.{specs.Prelude.Some, specs.List.starts_with, proofs.Common.{◌≡◌, ◌≤◌, ℕ, List, length, true, nat_eq, ap, sym, subst, ◌∙◌, rules}}
-use Rattle.page_node.{specs.Ways.AreWays, proofs.Following.{some_of, turn_bound}, proofs.Scanning.key_there}
+use Rattle.page_node.proofs.{Following.{some_of, turn_bound}, Scanning.key_there}
 use Rattle.page_node.proofs.ways.ways_for.Goals as goal
 
 pub returns-then-not-starts_with : goal.returns-then-not-starts_with
@@ -22,10 +22,7 @@ returns c =
     let there = c.in_ok-found.ensures.there in
     record {
       ways = λ node is rises.
-          let child = c.in_ok-turn.turn.child in
-          let turn = some_of _ c.in_ok-turn.turn.above c.in-Some.first c.in-Some.is (c.in_ok-turn.ensures.above node is rises) in
-          subst (λ (bound : List ℕ). AreWays c.args.prefix.now node.entries c.args.key.now child c.in_ok-found.found.more c.follow.new.after (Some bound)) (sym c.part.ensures)
-          (c.in_ok-found.ensures.ways node is rises c.args.key.now child turn (c.in_ok-turn.ensures.child node is rises));
+          search rules;
       few = c.in_ok-found.ensures.few;
       under = λ _. subst (λ (l : List ℕ). starts_with nat_eq l c.args.prefix.now ≡ true) (sym c.part.ensures) there.under;
       short = subst (λ (l : List ℕ). length l ≤ 72) (sym (c.part.ensures ∙ key_there c.args.page.now last.at last.value last.end there.lies)) there.lies.entry.0;

@@ -33,15 +33,7 @@ returns-then-used-first g c = only_read c.requires.begun c.in_ok-read.ensures.ga
     not_left the_geography name last next c.in_ok-read.read.row counters kept t t a b b c.in_ok-read.ensures.gathers.passed read used c.in_ok-read.ensures.fits.1 many more)
 
 pub put_revision-requires-clause-few : goal.put_revision-requires-clause-few
-put_revision-requires-clause-few g c =
-    let the_geography = c.args.geography.now in
-    let first = c.in_ok-read.read.next.chunk in
-    let kept = c.as_slice.result.now in
-    let numbered : c.as_slice-2.result.now ≡ drawn first 0 kept c.args.changes.now = c.as_slice-2.ensures.value ∙ c.in-Ok.ensures in
-    let one : length c.as_slice-2.result.now ≡ length (drawn first 0 kept c.args.changes.now) = ap length numbered in
-    let two = long_drawn first 0 kept c.args.changes.now in
-    let each : length c.args.changes.now ≡ length (ranges_of the_geography) = c.requires.each in
-    omega arith
+put_revision-requires-clause-few g c = search (rules, long_drawn)
 
 pub put_revision-requires-clause-drafted : goal.put_revision-requires-clause-drafted
 put_revision-requires-clause-drafted g c = search (rules, arith, c.requires.each, c.counties-ranges.ensures)
@@ -66,8 +58,7 @@ returns-in_err-put_revision g c = told_on c.from_residual-in_err-put_revision.re
     let used = c.count_changes-used.result in
     let same = lists_are the_geography last next ranges changes c.counties-ranges.ensures (are ∙ ap (λ (l : List CountyRange). changes_in last next l) (sym c.counties-ranges.ensures)) in
     let many : used ≡ length (changed the_geography last next) = c.count_changes-used.ensures ∙ many_are the_geography last next (ranges_of the_geography) changes refl are in
-    let numbered : c.as_slice-2.result.now ≡ drawn counters.chunk 0 kept (changes_in last next (ranges_of the_geography)) =
-    c.as_slice-2.ensures.value ∙ c.in-Ok.ensures ∙ ap (λ (l : List ℕ). drawn counters.chunk 0 l changes) c.as_slice.ensures.value ∙ drawn_are the_geography last next (ranges_of the_geography) changes refl are counters.chunk kept in
+    let numbered : c.as_slice-2.result.now ≡ drawn counters.chunk 0 kept (changes_in last next (ranges_of the_geography)) = search (rules, drawn_are) in
     let room : used ≤ 2 ^ 64 - 1 - counters.chunk = let less = c.if-used-first.false in omega arith in
     let each : (i : ℕ) → get_or next i 0 < 2 ^ 16 = c.districts_fit.ensures in
     let can = can_add the_geography last next row counters used c.blocks-blocks.ensures.valid c.requires.next each (c.in_ok-read.ensures.fits.0.fits, c.in_ok-read.ensures.fits.1) many room in
@@ -93,8 +84,7 @@ returns g c = does (after_reads _ c.in_ok-read.ensures.gathers.quiet c.in_ok-put
     let used = c.count_changes-used.result in
     let same = lists_are the_geography last next ranges changes c.counties-ranges.ensures (are ∙ ap (λ (l : List CountyRange). changes_in last next l) (sym c.counties-ranges.ensures)) in
     let many : used ≡ length (changed the_geography last next) = c.count_changes-used.ensures ∙ many_are the_geography last next (ranges_of the_geography) changes refl are in
-    let numbered : c.as_slice-2.result.now ≡ drawn counters.chunk 0 kept (changes_in last next (ranges_of the_geography)) =
-    c.as_slice-2.ensures.value ∙ c.in-Ok.ensures ∙ ap (λ (l : List ℕ). drawn counters.chunk 0 l changes) c.as_slice.ensures.value ∙ drawn_are the_geography last next (ranges_of the_geography) changes refl are counters.chunk kept in
+    let numbered : c.as_slice-2.result.now ≡ drawn counters.chunk 0 kept (changes_in last next (ranges_of the_geography)) = search (rules, drawn_are) in
     let room : used ≤ 2 ^ 64 - 1 - counters.chunk = let less = c.if-used-first.false in omega arith in
     let each : (i : ℕ) → get_or next i 0 < 2 ^ 16 = c.districts_fit.ensures in
     let can = can_add the_geography last next row counters used c.blocks-blocks.ensures.valid c.requires.next each (c.in_ok-read.ensures.fits.0.fits, c.in_ok-read.ensures.fits.1) many room in

@@ -32,11 +32,7 @@ returns-then-read g c =
     only_read c.requires.begun c.in_ok-read.ensures.gathers.quiet (none_left the_geography c.args.name.now from source next kept t a b c.in_ok-read.ensures.gathers.passed read c.in_ok-read.ensures.fits.1 c.if-read.true)
 
 pub put_fork-requires-clause-few : goal.put_fork-requires-clause-few
-put_fork-requires-clause-few g c =
-    let the_geography = c.args.geography.now in
-    let two = c.in_ok-read.ensures.fits.2 in
-    let three : length c.counties-ranges.result.now ≡ length (ranges_of the_geography) = ap length c.counties-ranges.ensures in
-    omega arith
+put_fork-requires-clause-few g c = search rules
 
 pub put_fork-requires-clause-left : goal.put_fork-requires-clause-left
 put_fork-requires-clause-left g c = search (rules, arith, c.in_ok-read.ensures.fits.1.plan_fits, c.if-read.false)
@@ -79,7 +75,7 @@ returns g c =
     let many : length kept ≡ length (ranges_of the_geography) = c.in_ok-read.ensures.fits.2 ∙ ap length c.counties-ranges.ensures in
     does (after_reads _ c.in_ok-read.ensures.gathers.quiet (subst (λ (l : List ℕ). PutsFork name source next l t c.put_fork.new.txn b d (Ok c.in_ok-put_fork.field-0)) c.as_slice.ensures.value c.in_ok-put_fork.ensures))
     (λ did. (
-      forked the_geography name from source next kept t a b c.in_ok-read.ensures.gathers.passed read c.forks_are_made.ensures can many d c.put_fork.new.txn did,
+      search (forked, c.in_ok-read.ensures.gathers.passed),
       leaves the_geography name from source next kept t a b c.in_ok-read.ensures.gathers.passed read c.forks_are_made.ensures can many d c.next_is_one.ensures c.in_ok-put_fork.ensures.quiet,
     ))
 

@@ -1,4 +1,4 @@
-use Rattle.std.proofs.Common.{arith}
+use Rattle.std.proofs.Common.{arith, rules}
 use Rattle.page_store.proofs.Stops.{quiet_more}
 use Rattle.desk_pages.proofs.Writing.{told_on}
 use Rattle.plan_rows.proofs.Writing.{after_reads, writes_as}
@@ -6,8 +6,7 @@ use Rattle.plan_revisions.proofs.Forking.{not_made, not_held, made_held, not_sha
 use Rattle.plan_revisions.proofs.forks.put_fork.Goals as goal
 
 pub returns-in_err-put_plan : goal.returns-in_err-put_plan
-returns-in_err-put_plan g c = told_on c.from_residual.result c.in_err-put_plan.ensures.did c.from_residual.ensures.1
-    (not_made c.args.name.now c.args.source.now c.args.next.now c.args.numbers.now c.args.txn.now c.args.pages.now c.put_plan.new.pages c.in_err-put_plan.field-0.0)
+returns-in_err-put_plan g c = search (rules, told_on, not_made)
 
 pub returns-in_err-hold_all : goal.returns-in_err-hold_all
 returns-in_err-hold_all g c =

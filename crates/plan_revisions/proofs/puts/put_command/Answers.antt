@@ -10,16 +10,13 @@ use Rattle.plan_revisions.proofs.{Counted.{changes_by, changes_now, changes_told
 use Rattle.plan_revisions.proofs.puts.put_command.Goals as goal
 
 pub returns-in-Create : goal.returns-in-Create
-returns-in-Create g c =
-    create_put c.args.shown.now c.args.command.now c.args.then.now c.in-Create.plan c.in-Create.size c.args.txn.now c.create.new.txn c.args.pages.now c.create.new.pages c.create.result c.in-Create.is c.requires.after c.create.ensures
+returns-in-Create g c = search (create_put, c.in-Create.is, c.requires.after, c.create.ensures)
 
 pub returns-in-Ok : goal.returns-in-Ok
-returns-in-Ok g c =
-    does c.in-Ok.ensures (retire_put c.args.shown.now c.args.command.now c.args.then.now c.in-Retire.plan c.args.txn.now c.retire.new.txn c.args.pages.now c.retire.new.pages c.in-Retire.is c.requires.after)
+returns-in-Ok g c = search (does, c.in-Ok.ensures, retire_put, c.in-Retire.plan, c.in-Retire.is, c.requires.after)
 
 pub returns-in-Err : goal.returns-in-Err
-returns-in-Err g c =
-    told_on _ c.in-Err.ensures refl (retire_not_put c.args.shown.now c.args.command.now c.args.then.now c.in-Retire.plan c.args.txn.now c.args.pages.now c.retire.new.pages c.in-Err.e c.in-Retire.is c.requires.after)
+returns-in-Err g c = search (told_on, c.in-Err.ensures, retire_not_put, c.in-Retire.plan)
 
 -- ---- a revision, by its whole or by counties
 pub next_of-next-requires : goal.next_of-next-requires

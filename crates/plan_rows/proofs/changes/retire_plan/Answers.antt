@@ -3,7 +3,7 @@ use Rattle.page_store.specs.claim.Transactions.{stored, disk_in}
 use Rattle.page_btree.specs.claim.Map.{InTxn}
 use Rattle.store_rows.specs.{claim.Keys.{key_of, named}, claim.Rows.KeyMap}
 use Rattle.desk_pages.proofs.Outcomes.{match_of}
-use Rattle.plan_rows.{specs.claim.Outcomes.{HasRetired, RetireErr}, proofs.Retiring.{plan_gone, plan_not_gone, row_not_gone}, proofs.Writing.{after_reads, writes_as}}
+use Rattle.plan_rows.proofs.{Retiring.{plan_gone, plan_not_gone, row_not_gone}, Writing.{after_reads, writes_as}}
 use Rattle.plan_rows.proofs.changes.retire_plan.Goals as goal
 
 pub returns-in_err-remove : goal.returns-in_err-remove
@@ -11,9 +11,7 @@ returns-in_err-remove g c = record {
   did = record {
     quiet = c.in_err-remove.ensures.reading.quiet;
     begun = c.in_err-remove.ensures.pages ∙ c.requires.begun ∙ sym c.in_err-remove.ensures.reading.quiet.count;
-    put = match_of c.from_residual.result (λ _. HasRetired c.args.name.now c.args.number c.args.txn.now c.remove.new.txn c.args.pages.now c.remove.new.pages) c.in_err-remove.field-0.0
-        (RetireErr c.args.name.now c.args.number c.args.txn.now c.args.pages.now c.remove.new.pages) c.from_residual.ensures.1
-        (row_not_gone c.args.name.now c.args.number c.args.txn.now c.args.pages.now c.remove.new.pages c.in_err-remove.field-0.0 c.in_err-remove.ensures.reading.err);
+    put = search (rules, match_of, row_not_gone);
   };
   exhausted = search rules;
 }

@@ -1,4 +1,4 @@
-use Rattle.std.{specs.FinMap.get, proofs.Common.{◌≡◌, ◌-◌, ◌*◌, ◌++◌, List, ℕ, Some, length, length-drop, length-take, take, drop, ap, sym, subst, ◌∙◌, arith}}
+use Rattle.std.proofs.Common.{◌≡◌, ◌-◌, ◌*◌, ◌++◌, List, ℕ, length, length-drop, length-take, take, drop, ap, sym, ◌∙◌, arith, rules}
 use Rattle.store_rows.{specs.claim.Lists.districts_bytes, proofs.ListLaws.districts_differ}
 use Rattle.desk_pages.proofs.{Looking.{fails, finds, gathered, not_looked, refuses}, Reading.one_value}
 use Rattle.plan_rows.proofs.Pieces.{piece_there, piece_is}
@@ -33,13 +33,7 @@ returns-in-Ok g c = finds (gathered _ c.in_ok-length.ensures.looks) (λ m read.
           let bytes : _ ≡ districts_bytes piece = one_value c.chunk.result _ (districts_bytes piece) m read (piece_there m c.args.number c.args.count c.args.index all c.chunk.result said c.chunk.ensures c.requires.place.few c.requires.place.within) in
           let same : c.in-Some.piece.items ≡ piece = districts_differ c.in-Some.piece.items piece told.0 (piece_is m c.args.number c.args.count c.args.index all said c.requires.place.within) (told.1 ∙ bytes) in
           c.in-Ok.ensures.items ∙ ap (λ (l : List ℕ). c.args.into.now.items ++ l) (c.as_slice.ensures.value ∙ same),
-      record {
-        xs = c.in-Some.piece.items;
-        is = c.in-Ok.ensures.items ∙ ap (λ (l : List ℕ). c.args.into.now.items ++ l) c.as_slice.ensures.value;
-        long = sym c.len.ensures.value ∙ c.if-len-part_length.false ∙ c.part_length.ensures;
-        each = told.0.each;
-        stands = subst (λ (k : List ℕ). get m k ≡ Some (districts_bytes c.in-Some.piece.items)) c.chunk.ensures (read ∙ ap Some (sym told.1));
-      },
+      search rules,
     ))
 
 pub returns-in-Err : goal.returns-in-Err

@@ -1,4 +1,4 @@
-use Rattle.std.proofs.Common.{sym, ◌∙◌}
+use Rattle.std.proofs.Common.{sym, ◌∙◌, rules}
 use Rattle.page_store.specs.claim.Transactions.{stored}
 use Rattle.desk_pages.proofs.Rising.{none_stands, plain_err}
 use Rattle.plan_rows.proofs.LettingGo.{count_gone, count_not_gone, count_put, count_not_put}
@@ -15,11 +15,7 @@ returns-in-Ok g c =
     }
 
 pub returns-in-Err : goal.returns-in-Err
-returns-in-Err g c = record {
-  quiet = c.in-Err.ensures.reading.quiet;
-  begun = c.in-Err.ensures.pages ∙ c.requires.begun ∙ sym c.in-Err.ensures.reading.quiet.count;
-  put = count_not_gone c.args.number c.args.count c.args.txn.now c.args.pages.now c.remove.new.pages c.in-Err.error c.in-Err.ensures.reading.err;
-}
+returns-in-Err g c = search (rules, count_not_gone)
 
 pub returns-in-Ok-put : goal.returns-in-Ok-put
 returns-in-Ok-put g c =

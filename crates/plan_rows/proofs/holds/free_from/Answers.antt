@@ -1,6 +1,6 @@
-use Rattle.std.{specs.Prelude.IfSome, specs.FinMap.entries, proofs.Common.{◌≡◌, List, [], ℕ, Bool, sym, subst, ◌∙◌}}
+use Rattle.std.{specs.Prelude.IfSome, specs.FinMap.entries, proofs.Common.{◌≡◌, List, [], ℕ, sym, subst, ◌∙◌, rules}}
 use Rattle.page_store.proofs.Stops.{passed_none}
-use Rattle.btree_walks.{specs.Parts.row_of, specs.Prefixes.under, specs.Scanning.{CanScan, IsNextRow, ScanErr}, proofs.Refused.scan_refused}
+use Rattle.btree_walks.{specs.Prefixes.under, specs.Scanning.{CanScan, ScanErr}, proofs.Refused.scan_refused}
 use Rattle.desk_pages.proofs.{Looking.{looked, not_looked}, Reading.get_unread}
 use Rattle.plan_rows.proofs.Free.{none_held}
 use Rattle.plan_rows.proofs.holds.free_from.Goals as goal
@@ -22,6 +22,5 @@ pub returns-else-found : goal.returns-else-found
 returns-else-found g c = looked (c.advance-found.ensures.passed (sym c.fault.ensures ∙ c.in-None.is)) (λ honest m holds.
     let all = entries m in
     let next = c.advance-found.ensures.rows honest m (under c.as_slice.result.now all) holds (c.new-scan.ensures.rows m) in
-    let none : under c.as_slice.result.now all ≡ [] =
-    subst (λ (b : Bool). IsNextRow b c.advance-found.new.self (row_of c.advance-found.new.self) all (under c.as_slice.result.now all)) c.if-found.false next (sym c.fault.ensures ∙ c.in-None.is) in
+    let none : under c.as_slice.result.now all ≡ [] = search rules in
     none_held m c.args.plan (subst (λ (p : List ℕ). under p all ≡ []) (c.as_slice.ensures.bytes ∙ c.holdings-prefix.ensures) none))

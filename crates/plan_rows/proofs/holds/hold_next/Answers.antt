@@ -1,4 +1,4 @@
-use Rattle.std.proofs.Common.{◌<◌, ◌^◌, ℕ, Option, refl, subst, arith}
+use Rattle.std.proofs.Common.{◌<◌, ◌^◌, ℕ, Option, subst, arith, rules}
 use Rattle.page_store.specs.claim.Transactions.{stored}
 use Rattle.desk_pages.{specs.btree_puts.Fingers.Stand, proofs.Writing.{does, told_on}}
 use Rattle.store_rows.specs.{claim.Keys.holding, claim.Rows.{KeyMap, Lacks}}
@@ -23,8 +23,4 @@ returns-in-Ok g c =
     does c.in-Ok.ensures (λ did. held_of_all c.args.plan c.args.number c.none.ensures.first c.none.ensures.second (either_held c.in-Ok.field-0 c.args.plan c.args.number c.args.txn.now c.hold.new.txn c.args.pages.now c.hold.new.pages did))
 
 pub returns-in-Err : goal.returns-in-Err
-returns-in-Err g c =
-    let t = c.args.txn.now in
-    let a = c.args.pages.now in
-    let more : KeyMap → Type 0 = λ m. IsFreeFrom c.args.free c.args.plan m × Stand t (stored a) c.args.fingers.now in
-    told_on _ c.in-Err.ensures refl (not_held_of c.args.plan c.args.number (λ m. Unit {0}) t a c.hold.new.pages more (λ honest m holds is. tt) c.in-Err.error)
+returns-in-Err g c = search (rules, told_on, not_held_of)

@@ -18,10 +18,7 @@ returns-in_err-count g c =
     (not_told c.args.plan number may t a c.holder_count_with.new.pages has (λ m limit is can fits. let k = can.counted_by_holders number fits in ((k.count, k.fits, k.row), is.1)) e looks.err)
 
 pub returns-then-count : goal.returns-then-count
-returns-then-count g c =
-    let looks = c.in_ok-count.ensures.looks in
-    only_read c.requires.begun looks.quiet
-    (too_many c.args.plan c.args.number c.in_ok-count.count c.args.fingers.now c.args.txn.now c.args.pages.now c.holder_count_with.new.pages looks.passed looks.there c.in_ok-count.ensures.fits c.if-count.true)
+returns-then-count g c = search (c.in_ok-count.ensures.looks, only_read, c.requires.begun, too_many, c.args.plan)
 
 pub returns : goal.returns
 returns g c =

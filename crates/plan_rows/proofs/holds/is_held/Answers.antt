@@ -1,13 +1,9 @@
-use Rattle.std.{specs.Prelude.option_map, specs.FinMap.get, proofs.Common.{ℕ, take, sym, ap, ◌∙◌}}
-use Rattle.store_rows.specs.claim.Rows.{KeyMap}
+use Rattle.std.{specs.Prelude.option_map, specs.FinMap.get, proofs.Common.{ℕ, take, sym, ap, ◌∙◌, rules}}
 use Rattle.desk_pages.proofs.{Looking.{fails_from, looked}, Reading.get_unread}
 use Rattle.plan_rows.proofs.holds.is_held.Goals as goal
 
 pub returns-in_err-get : goal.returns-in_err-get
-returns-in_err-get g c =
-    let has : KeyMap → Type 0 = λ m. Unit {0} in
-    let e = c.in_err-get.field-0.0 in
-    fails_from has e c.from_residual.result c.in_err-get.ensures.reading.quiet (get_unread has c.args.txn.now c.args.pages.now c.get.new.pages e c.in_err-get.ensures.reading.err) c.from_residual.ensures.1 (λ m is. is)
+returns-in_err-get g c = search (rules, fails_from, get_unread)
 
 pub returns-in-None : goal.returns-in-None
 returns-in-None g c = looked c.in_ok-get.ensures.reading.passed (λ honest m holds.
@@ -16,5 +12,5 @@ returns-in-None g c = looked c.in_ok-get.ensures.reading.passed (λ honest m hol
 pub returns-in-Some : goal.returns-in-Some
 returns-in-Some g c = looked c.in_ok-get.ensures.reading.passed (λ honest m holds. (
   take c.in-Some.field-0 c.get.new.into,
-  ap (get m) (sym (c.as_slice.ensures.bytes ∙ c.holding-key.ensures)) ∙ sym (c.in_ok-get.ensures.get honest m holds) ∙ ap (option_map (λ (l : ℕ). take l c.get.new.into)) c.in-Some.is,
+  search rules,
 ))

@@ -1,4 +1,4 @@
-use Rattle.std.{specs.FinMap.get, proofs.Common.{◌≡◌, ◌-◌, ◌*◌, ◌++◌, List, ℕ, Some, length, length-drop, length-take, take, drop, ap, sym, subst, ◌∙◌, arith}}
+use Rattle.std.proofs.Common.{◌≡◌, ◌-◌, ◌*◌, ◌++◌, List, ℕ, length, length-drop, length-take, take, drop, ap, sym, ◌∙◌, arith, rules}
 use Rattle.store_rows.{specs.claim.Lists.chunks_bytes, proofs.ListLaws.chunks_differ}
 use Rattle.desk_pages.proofs.{Looking.{fails, finds, gathered, not_looked, refuses}, Reading.one_value}
 use Rattle.plan_rows.proofs.RevisionParts.{part_is_there, part_is}
@@ -33,13 +33,7 @@ returns-in-Ok g c = finds (gathered _ c.in_ok-length.ensures.looks) (λ m read.
           let bytes : _ ≡ chunks_bytes some = one_value c.part.result _ (chunks_bytes some) m read (part_is_there m c.args.plan c.args.revision c.args.count c.args.index all c.part.result said c.part.ensures c.requires.place.few c.requires.place.within) in
           let same : c.in-Some.part.items ≡ some = chunks_differ c.in-Some.part.items some told.0 (part_is m c.args.plan c.args.revision c.args.count c.args.index all said c.requires.place.within) (told.1 ∙ bytes) in
           c.in-Ok.ensures.items ∙ ap (λ (l : List ℕ). c.args.into.now.items ++ l) (c.as_slice.ensures.value ∙ same),
-      record {
-        xs = c.in-Some.part.items;
-        is = c.in-Ok.ensures.items ∙ ap (λ (l : List ℕ). c.args.into.now.items ++ l) c.as_slice.ensures.value;
-        long = sym c.len.ensures.value ∙ c.if-len-part_length.false ∙ c.part_length.ensures;
-        each = told.0.each;
-        stands = subst (λ (k : List ℕ). get m k ≡ Some (chunks_bytes c.in-Some.part.items)) c.part.ensures (read ∙ ap Some (sym told.1));
-      },
+      search rules,
     ))
 
 pub returns-in-Err : goal.returns-in-Err

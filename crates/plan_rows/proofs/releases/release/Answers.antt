@@ -12,9 +12,7 @@ returns-in_err-count g c =
     unread c.from_residual.result e c.requires.begun looks.quiet c.from_residual.ensures.1 (not_counted_here c.args.number c.args.txn.now c.args.pages.now c.holder_count_of.new.pages e looks.err)
 
 pub returns-then-count-eq0 : goal.returns-then-count-eq0
-returns-then-count-eq0 g c =
-    let looks = c.in_ok-count.ensures.looks in
-    only_read c.requires.begun looks.quiet (none_counted c.args.number c.in_ok-count.count c.args.txn.now c.args.pages.now c.holder_count_of.new.pages looks.there c.if-count-eq0.true)
+returns-then-count-eq0 g c = search (c.in_ok-count.ensures.looks, only_read, c.requires.begun, none_counted)
 
 pub returns-in_err-remove : goal.returns-in_err-remove
 returns-in_err-remove g c =

@@ -1,4 +1,4 @@
-use Rattle.std.proofs.Common.{sym, refl, ◌∙◌, arith}
+use Rattle.std.proofs.Common.{sym, ◌∙◌, arith, rules}
 use Rattle.sector_file.proofs.Runs.{run_begins, run_more, run_ends}
 use Rattle.sector_file.proofs.calls.note_run.Goals as goal
 
@@ -6,9 +6,7 @@ pub loop-k-init : goal.loop-k-init
 loop-k-init g c = record { noted = run_begins c.args.first c.args.run.now c.args.log.now.calls }
 
 pub loop-k-preserved : goal.loop-k-preserved
-loop-k-preserved g c = record {
-  noted = run_more c.args.first c.loop-k.k c.args.run.now _ c.loop-k.log.calls c.read.new.self.calls c.loop-k-test.true c.read.ensures.noted refl ∙ c.loop-k.invariant.noted;
-}
+loop-k-preserved g c = search (rules, run_more)
 
 pub returns : goal.returns
 returns g c = sym (run_ends c.args.first c.loop-k.k c.args.run.now c.loop-k.log.calls (let least = c.loop-k-test.false in let most = c.loop-k.auto.k-end in omega arith)) ∙ c.loop-k.invariant.noted

@@ -1,5 +1,4 @@
-use Rattle.std.proofs.Common.{◌+◌, ◌/◌, length, inl, inr, arith}
-use Rattle.std.proofs.lemmas.Bool.{cases_lt}
+use Rattle.std.proofs.Common.{◌/◌, arith, rules}
 use Rattle.shared_lists.proofs.Puts.{put_none, put_all}
 use Rattle.shared_lists.proofs.districts.put_pieces.Goals as goal
 
@@ -9,7 +8,4 @@ loop-place-init c = record { put = put_none c.args.first c.args.part.now c.args.
 pub returns : goal.returns
 returns c =
     put_all c.args.first c.args.part.now c.args.full.now.items c.loop-place.full.items c.loop-place.place c.loop-place.invariant.put c.requires.full
-    (elim (cases_lt ((c.args.first + length c.args.part.now) / 512 + 1) (length c.args.full.now.items)) [
-      | inl less ↦ inl (omega (arith, c.loop-place-test.false))
-      | inr more ↦ inr (omega (arith, c.loop-place-test.false))
-    ])
+    (search rules)

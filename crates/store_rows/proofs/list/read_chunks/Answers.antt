@@ -1,6 +1,6 @@
-use Rattle.std.proofs.Common.{◌≡◌, ◌*◌, ◌/◌, ◌<◌, ◌^◌, ℕ, List, All, length, length-take, take, take_all, sym, ap, subst, ◌∙◌, arith}
+use Rattle.std.proofs.Common.{◌≡◌, ◌*◌, ◌<◌, ◌^◌, length, length-take, take, take_all, sym, ap, ◌∙◌, arith, rules}
 use Rattle.std.proofs.lemmas.List.{length-set}
-use Rattle.store_rows.{specs.claim.Keys.in_eight, specs.claim.Lists.{AreChunks, chunks_bytes}, proofs.ListValues.{filled_more, taken_whole, length-chunks, one_chunk_more}}
+use Rattle.store_rows.{specs.claim.Keys.in_eight, proofs.ListValues.{filled_more, taken_whole, length-chunks, one_chunk_more}}
 use Rattle.store_rows.proofs.list.read_chunks.Goals as goal
 use Rattle.store_rows.proofs.list.read_chunks.Goals.{then-count-eq0-via-then-count-eq0, then-count-eq0-via-else-count-eq0+then-count-gt-PART_CHUNKS, then-count-eq0-via-else-count-eq0+else-count-gt-PART_CHUNKS+then-bytes-count}
 
@@ -24,17 +24,4 @@ loop-k-preserved c =
     (more.0, length-set each k c.eight.result ∙ before.1, more.1)
 
 pub returns : goal.returns
-returns c =
-    let before = c.loop-k.invariant in
-    let each = c.loop-k.each in
-    let some = c.if-count-eq0.false in
-    let count = length c.args.bytes.now / 8 in
-    let k : c.loop-k.k ≡ count = omega arith in
-    let taken : length (take count each) ≡ count = omega (arith, length-take count each) in
-    let read = subst (λ (n : ℕ). (chunks_bytes (take n each) ≡ take (8 * n) c.args.bytes.now) × All (λ d. d < 2 ^ 64) (take n each)) k (before.0, before.2) in
-    let put = c.try_extend_from_slice in
-    let is = taken_whole put.result c.new-numbers.result.items (take count each) put.new.self.items 128 c.new-numbers.ensures (omega (arith, taken)) put.ensures.variant.1 put.ensures.ok in
-    subst (λ (l : List ℕ). AreChunks l × (chunks_bytes l ≡ c.args.bytes.now)) (sym is) (
-      record { some = omega (arith, taken); most = omega (arith, taken); each = read.1 },
-      read.0 ∙ take_all (8 * count) c.args.bytes.now (omega arith),
-    )
+returns c = search (rules, length-take, taken_whole, take_all)

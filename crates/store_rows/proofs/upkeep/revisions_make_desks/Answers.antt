@@ -1,4 +1,4 @@
-use Rattle.std.proofs.Common.{◌<◌, ◌+◌, ◌^◌, arith, length, rules}
+use Rattle.std.proofs.Common.{◌<◌, ◌+◌, ◌^◌, arith, length}
 use Rattle.desk_model.specs.claim.Ranges.{cut}
 use Rattle.store_rows.{specs.RevisionSteps.AreItsChunks, proofs.RevisionDesk.{its_chunks, revision_made, rows_add, rows_make}}
 use Rattle.store_rows.proofs.upkeep.revisions_make_desks.Goals as goal
@@ -7,7 +7,4 @@ pub returns : goal.returns
 returns c m tidy g plans name number p districts lists numbers is there has long few room drawn =
     let few_more : length p.revisions + 1 < 2 ^ 32 = omega arith in
     let its : AreItsChunks m tidy.next (length lists) number numbers = its_chunks m tidy.next number lists numbers (cut g districts) drawn in
-    record {
-      added = λ n adds made. revision_made m n tidy g plans name number p districts lists numbers there has few room number drawn adds made is long;
-      put = search (rules, revision_made, rows_add, rows_make);
-    }
+    search (revision_made, rows_add, rows_make)

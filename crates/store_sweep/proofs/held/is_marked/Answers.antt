@@ -1,4 +1,4 @@
-use Rattle.std.{specs.Prelude.{option_map, IfSome}, specs.FinMap.get, proofs.Common.{◌≤◌, ℕ, [], take, nat_eq, refl, sym, ap, subst, ◌∙◌, arith, rules}}
+use Rattle.std.{specs.Prelude.{option_map, IfSome}, specs.FinMap.get, proofs.Common.{◌≤◌, ℕ, take, nat_eq, refl, sym, ap, subst, ◌∙◌, arith, rules}}
 use Rattle.desk_pages.proofs.Looking.{looked}
 use Rattle.store_rows.proofs.OneGeography.{no_value}
 use Rattle.store_sweep.proofs.Marks.{marked_by, not_got}

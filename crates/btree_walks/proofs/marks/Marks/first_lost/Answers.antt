@@ -1,4 +1,4 @@
-use Rattle.std.proofs.Common.{arith}
+use Rattle.std.proofs.Common.{arith, rules}
 use Rattle.btree_walks.proofs.Named.{all_seen}
 use Rattle.btree_walks.proofs.marks.Marks.first_lost.Goals as goal
 
@@ -6,11 +6,7 @@ pub overflow_cast-result : goal.overflow_cast-result
 overflow_cast-result c = let few = c.args.self.now.few in let lt = c.loop-place-test.true in omega arith
 
 pub returns-clause-lost : goal.returns-clause-lost
-returns-clause-lost c = λ some seen.
-    let all = all_seen c.args.self.now.seen.items (λ p lt. c.loop-place.invariant p (omega arith)) in
-    omega arith
+returns-clause-lost c = λ some seen. search (rules, all_seen)
 
 pub returns-clause-within : goal.returns-clause-within
-returns-clause-within c = λ some.
-    let all = all_seen c.args.self.now.seen.items (λ p lt. c.loop-place.invariant p (omega arith)) in
-    absurd (omega arith)
+returns-clause-within c = λ some. search (rules, all_seen)

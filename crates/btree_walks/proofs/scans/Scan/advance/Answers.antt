@@ -3,15 +3,7 @@ use Rattle.btree_walks.{specs.Parts.{page_of, row_at}, specs.Scanning.{RestWhere
 use Rattle.btree_walks.proofs.scans.Scan.advance.Goals as goal
 
 pub returns-then-self : goal.returns-then-self
-returns-then-self g c = record {
-  quiet = search rules;
-  rows = λ honest m rest holds is none. subst (λ b. RestWhere b c.args.self.now.covered c.args.self.now.prefix c.args.self.now.leaf c.args.self.now.held (entries m) rest) c.if-self.true is;
-  passed = search rules;
-  fault = search rules;
-  going = search rules;
-  ended = search rules;
-  kept = search rules;
-}
+returns-then-self g c = search rules
 
 pub returns-in-Ok-true : goal.returns-in-Ok-true
 returns-in-Ok-true g c = record {

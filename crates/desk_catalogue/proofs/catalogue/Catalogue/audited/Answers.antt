@@ -1,4 +1,4 @@
-use Rattle.std.proofs.Common.{sym}
+use Rattle.std.proofs.Common.{sym, rules}
 use Rattle.desk_catalogue.proofs.Audited.{audited, not_audited, may_be_audited}
 use Rattle.desk_catalogue.proofs.catalogue.Catalogue.audited.Goals as goal
 
@@ -9,5 +9,4 @@ pub report-requires : goal.report-requires
 report-requires c = may_be_audited c.args.self.now c.in-Some.geography.now c.args.name.now c.args.k c.args.asked (sym c.in-Some.ensures) _ c.in-Ok.ensures
 
 pub returns-in-Ok-report : goal.returns-in-Ok-report
-returns-in-Ok-report c =
-    λ _. audited c.args.self.now c.in-Some.geography.now c.args.name.now c.args.k c.args.asked (sym c.in-Some.ensures) _ c.in-Ok-report.text c.in-Ok.ensures.is c.in-Ok-report.ensures
+returns-in-Ok-report c = λ _. search (rules, audited)

@@ -3,10 +3,7 @@ use Rattle.desk_catalogue.proofs.Audited.{audited, not_audited, may_be_audited}
 use Rattle.desk_catalogue.proofs.catalogue.Catalogue.audited_again.Goals as goal
 
 pub returns-in-Err : goal.returns-in-Err
-returns-in-Err c = record {
-  answer = λ _. not_audited c.args.self.now c.in-Some.geography.now.value c.args.name.now c.args.k c.args.asked (sym c.in-Some.ensures) c.in-Err.refusal c.in-Err.ensures;
-  last = c.requires;
-}
+returns-in-Err c = search (rules, not_audited)
 
 pub report_again-requires-clause-auditable : goal.report_again-requires-clause-auditable
 report_again-requires-clause-auditable c = may_be_audited c.args.self.now c.in-Some.geography.now.value c.args.name.now c.args.k c.args.asked (sym c.in-Some.ensures) _ c.in-Ok.ensures

@@ -14,8 +14,7 @@ pub returns : goal.returns
 returns c =
     let found = ap (λ (d : Desk). map_of.get d.plans c.args.name.now) (sym c.self.view_is) ∙ c.in-Some.ensures.found in
     record {
-      is = subject_is c.args.self.now (map_of.get c.args.self.now.plans c.args.name.now) c.in-Some.entry.now.1 c.args.k c.in-Some-revision.districts.now c.args.asked c.kind-kind.result
-          found c.in-Some-revision.ensures c.kind-kind.ensures c.n.result _ c.n.ensures.value c.in_ok-beside.ensures.are;
+      is = search (rules, subject_is);
       few = search rules;
       whole = whole_found c.args.self.now.geography c.args.self.now.plans c.args.name.now c.in-Some.entry.now.1 c.args.k c.in-Some-revision.districts.now
           (subst (λ (d : Desk). AreWhole d.geography d.plans) c.self.view_is c.self.invariant) found c.in-Some-revision.ensures;

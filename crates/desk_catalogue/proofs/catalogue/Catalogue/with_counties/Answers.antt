@@ -1,19 +1,16 @@
-use Rattle.std.proofs.Common.{rules, IfOk, sym}
+use Rattle.std.proofs.Common.{rules, IfOk}
 use Rattle.desk_model.specs.{Ranges.ranges_in, declared.command.Command.TheVariants.Counties, declared.reply.Refusal.Refusal}
 use Rattle.desk_catalogue.{specs.claim.Accepting.IsAfter, specs.Accepting.StepRefuses, proofs.Drafted.{drafted, drafts}, proofs.Results.match_of, proofs.Stepped.counties_refused}
 use Rattle.desk_catalogue.proofs.catalogue.Catalogue.with_counties.Goals as goal
 
 pub returns-in_err-entry : goal.returns-in_err-entry
-returns-in_err-entry c =
-    match_of c.from_residual.result _ c.in_err-entry.field-0.0 (λ (refusal : Refusal). StepRefuses c.args.self.now (Counties c.args.name.now c.args.after c.args.body.now) refusal) c.from_residual.ensures.1
-    (c.in_err-entry.ensures c.args.body.now).1
+returns-in_err-entry c = search (rules, match_of)
 
 pub returns-in_err-made : goal.returns-in_err-made
 returns-in_err-made c =
     match_of c.from_residual-in_err-made.result _ c.in_err-made.field-0.0 (λ (refusal : Refusal). StepRefuses c.args.self.now (Counties c.args.name.now c.args.after c.args.body.now) refusal)
     c.from_residual-in_err-made.ensures.1
-    (counties_refused c.args.self.now c.in-Some.geography.now c.args.name.now c.args.after c.args.body.now c.in_ok-entry.entry.now (sym c.in-Some.ensures) c.in_ok-entry.ensures c.in_err-made.field-0.0
-    (rw (← c.n.ensures.value, ← c.as_slice.ensures) c.in_err-made.ensures))
+    (search (rules, counties_refused))
 
 pub returns : goal.returns
 returns c =

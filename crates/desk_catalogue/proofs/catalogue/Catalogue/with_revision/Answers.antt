@@ -1,9 +1,6 @@
-use Rattle.std.proofs.Common.{◌≡◌, ◌++◌, ◌∷◌, [], ℕ, List, length, Option, Some, ap, subst, sym, ◌∙◌}
-use Rattle.std.specs.FinMap as map_of
-use Rattle.desk_model.specs.{Ranges.{ranges_in, ranges_of}, claim.Desk.{Desk, Plan, name_cmp}, declared.ranges.CountyRange.CountyRange, claim.Room.last_revision}
-use Rattle.desk_model.specs.claim.Subject.{revision_at}
-use Rattle.desk_plans.specs.Rows.{Row}
-use Rattle.desk_catalogue.{specs.Cutting.{AreComparable, AreWithin, changes_in}, proofs.Cutting.within_all, proofs.Whole.{revised_whole, whole_of}}
+use Rattle.std.proofs.Common.{◌≡◌, ℕ, List, length, Option, ap, subst, sym, ◌∙◌, rules}
+use Rattle.desk_model.specs.{Ranges.{ranges_in, ranges_of}, declared.ranges.CountyRange.CountyRange, claim.Room.last_revision, claim.Subject.revision_at}
+use Rattle.desk_catalogue.{specs.Cutting.{AreComparable, AreWithin}, proofs.Cutting.within_all, proofs.Whole.{revised_whole, whole_of}}
 use Rattle.desk_catalogue.proofs.catalogue.Catalogue.with_revision.Goals as goal
 
 pub with_plans-requires : goal.with_plans-requires
@@ -22,18 +19,11 @@ changed_counties-requires c =
     }
 
 pub replace-requires : goal.replace-requires
-replace-requires c =
-    let found : map_of.get c.self.inside.plans c.args.entry.now.0 ≡ Some c.args.entry.now.1 = ap (λ (d : Desk). map_of.get d.plans c.args.entry.now.0) c.self.view_is ∙ c.requires.found in
-    rw (c.in-Ok-with_revision.ensures, found)
+replace-requires c = search rules
 
 pub returns : goal.returns
 returns c = record {
-  ok =
-      let plans = c.in-Ok-replace.ensures ∙ ap (λ (e : Row). map_of.insert c.self.inside.plans e.0 e.1) c.in-Ok-with_revision.ensures
-      ∙ ap (λ (d : Desk). map_of.insert d.plans c.args.entry.now.0 (record c.args.entry.now.1 { revisions = c.args.entry.now.1.revisions ++ c.args.made.districts ∷ [] })) c.self.view_is in
-      c.in_ok-catalogue.ensures.ok ∙ ap (λ (ps : map_of.FinMap name_cmp Plan). record c.args.self.now { plans = ps }) plans;
-  changes =
-      c.in-Ok.ensures ∙ ap (λ o. changes_in o c.args.made.districts c.counties-ranges.result.now) (c.revision-last.ensures ∙ ap (λ n. revision_at c.args.entry.now.1 n) c.count.ensures)
-      ∙ ap (λ (l : List CountyRange). changes_in (last_revision c.args.entry.now.1) c.args.made.districts l) c.counties-ranges.ensures;
+  ok = search rules;
+  changes = search rules;
   err = tt;
 }

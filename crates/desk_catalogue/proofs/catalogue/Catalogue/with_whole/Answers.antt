@@ -1,4 +1,4 @@
-use Rattle.std.proofs.Common.{rules, ◌≡◌, length, Some, sym}
+use Rattle.std.proofs.Common.{rules, ◌≡◌, length, Some}
 use Rattle.desk_model.specs.{Ranges.ranges_in, declared.command.Command.TheVariants.Whole, declared.reply.Refusal.Refusal, claim.Room.last_revision}
 use Rattle.desk_catalogue.{specs.Accepting.StepRefuses, proofs.Drafted.{all_stay, drafted, drafts}, proofs.Results.match_of, proofs.Stepped.{whole_after, whole_refused}}
 use Rattle.desk_catalogue.proofs.catalogue.Catalogue.with_whole.Goals as goal
@@ -11,29 +11,20 @@ with_revision-requires c =
     let long : length c.in-Ok.districts ≡ length g.blocks = search rules in
     let all : c.len-end.result ≡ length g.blocks = search rules in
     let last = c.in_ok-entry.ensures.kept g (length row.1.revisions) there in
-    record {
-      there = there;
-      found = search rules;
-      few = search rules;
-      compared = record { last_long = last; new_long = long; stays = all_stay (last_revision row.1) c.in-Ok.districts c.len-end.result (length g.blocks) last long all };
-    }
+    search (rules, all_stay (last_revision row.1) c.in-Ok.districts c.len-end.result (length g.blocks) last long all)
 
 pub returns-in_err-entry : goal.returns-in_err-entry
-returns-in_err-entry c =
-    match_of c.from_residual.result _ c.in_err-entry.field-0.0 (λ (refusal : Refusal). StepRefuses c.args.self.now (Whole c.args.name.now c.args.after c.args.body.now) refusal) c.from_residual.ensures.1
-    (c.in_err-entry.ensures c.args.body.now).0
+returns-in_err-entry c = search (rules, match_of)
 
 pub returns-in_err-list : goal.returns-in_err-list
 returns-in_err-list c =
     match_of c.from_residual-in_err-list.result _ c.in_err-list.field-0.0 (λ (refusal : Refusal). StepRefuses c.args.self.now (Whole c.args.name.now c.args.after c.args.body.now) refusal)
     c.from_residual-in_err-list.ensures.1
-    (whole_refused c.args.self.now c.in-Some.geography.now c.args.name.now c.args.after c.args.body.now c.in_ok-entry.entry.now (sym c.in-Some.ensures) c.in_ok-entry.ensures c.in_err-list.field-0.0
-    (rw (← c.n.ensures.value, ← c.as_slice.ensures) c.in_err-list.ensures))
+    (search (rules, whole_refused))
 
 pub returns : goal.returns
 returns c =
     drafts c.with_revision.result c.args.self.now (Whole c.args.name.now c.args.after c.args.body.now)
-    (whole_after c.args.self.now c.in-Some.geography.now c.args.name.now c.args.after c.args.body.now c.in_ok-entry.entry.now (sym c.in-Some.ensures) c.in_ok-entry.ensures c.with_revision.result c.in-Ok.districts
-    (rw (c.in-Ok.ensures, c.as_slice-2.ensures.value, ← c.n.ensures.value, ← c.as_slice.ensures) c.in_ok-list.ensures.is) c.with_revision.ensures.ok)
+    (search (rules, whole_after))
     (drafted c.with_revision.result c.args.self.now c.args.name.now c.args.after c.in_ok-entry.entry.now c.in-Ok.districts (ranges_in c.args.self.now.geography) c.in_ok-entry.ensures c.with_revision.ensures.ok c.with_revision.ensures.changes)
     c.with_revision.ensures.err

@@ -1,8 +1,8 @@
-use Rattle.std.proofs.Common.{◌≡◌, ◌≢◌, ◌≤◌, ℕ, inr, refl, sym, subst, ◌∙◌, rules}
+use Rattle.std.proofs.Common.{◌≡◌, ◌≤◌, inr, refl, sym, subst, ◌∙◌, rules}
 use Rattle.sector_device.specs.claim.Moments.{LeavesOnly}
 use Rattle.page_store.{specs.claim.Transactions.disk_in, proofs.Stops.leaves_quiet}
 use Rattle.desk_pages.specs.{claim.Openings.{AllVersions, OpensOneAs}, Openings.IsSpared, declared.error.StoreError.StoreError}
-use Rattle.desk_pages.{specs.declared.error.StoreError.TheVariants.{NotAStore, DeviceFault, AlreadyNew}, proofs.Found.{open_versions, pages_stand, stores_of}}
+use Rattle.desk_pages.{specs.declared.error.StoreError.TheVariants.{NotAStore, AlreadyNew}, proofs.Found.{open_versions, pages_stand, stores_of}}
 use Rattle.desk_pages.proofs.Refusals.{page_calm, page_spared, calm_refused}
 use Rattle.desk_migration.{specs.Openings.{IsRefused, LeavesNew}, proofs.Opened.{opened_keeps, page_refused, page_not_new, judged, left_new, is_found}}
 use Rattle.desk_migration.proofs.migration.Migration.open.Goals as goal
@@ -11,20 +11,15 @@ pub returns-in-Err : goal.returns-in-Err
 returns-in-Err g c = record {
   sectors = search rules;
   honest = search rules;
-  any_moment = λ honest all.
-      open_versions (g.D.SectorDevice.disk c.args.device) (g.D.SectorDevice.disk c.in-Err.device) all (c.in-Err.ensures.any_moment honest (stores_of (g.D.SectorDevice.disk c.args.device) all));
+  any_moment = λ honest all. search (open_versions, g.D.SectorDevice.disk, c.in-Err.ensures.any_moment, stores_of);
   opened = search rules;
   found = search rules;
   begins = search rules;
   working = search rules;
   passed = search rules;
   faults = search rules;
-  calm = let old = g.D.SectorDevice.disk c.args.device in
-      let new = g.D.SectorDevice.disk c.in-Err.device in
-      subst (λ (e : StoreError). new.is_honest → e ≢ DeviceFault → new.faults ≡ old.faults) (sym c.from.ensures) (page_calm old new c.in-Err.e c.in-Err.ensures.calm);
-  err = let old = g.D.SectorDevice.disk c.args.device in
-      let new = g.D.SectorDevice.disk c.in-Err.device in
-      subst (λ (e : StoreError). IsRefused old new e) (sym c.from.ensures) (page_refused g.D.SectorDevice c.args.device c.in-Err.device c.in-Err.e c.in-Err.ensures.err);
+  calm = search (rules, g.D.SectorDevice.disk, c.from.ensures, page_calm, c.in-Err.e);
+  err = search (g.D.SectorDevice.disk, c.from.ensures, page_refused, g.D.SectorDevice, c.in-Err.e, c.in-Err.ensures.err);
   already = λ honest is. absurd (page_not_new c.in-Err.e (sym c.from.ensures ∙ is));
   untouched = let old = g.D.SectorDevice.disk c.args.device in
       let new = g.D.SectorDevice.disk c.in-Err.device in
@@ -69,9 +64,8 @@ returns-in-Err-judge g c = record {
   passed = search rules;
   faults = let old = g.D.SectorDevice.disk c.args.device in
       let new = disk_in c.judge.new.pages in
-      let told : (new.is_honest → old.faults ≤ new.faults) = λ honest.
-      subst (λ (k : ℕ). k ≤ new.faults) (c.in-Ok.ensures.passed (c.judge.ensures.reading.quiet.honest honest))
-      ((c.judge.ensures.reading.quiet.moves honest c.in-Ok.ensures.working).faults) in
+      let told : (new.is_honest → old.faults ≤ new.faults) =
+      λ honest. search (rules, c.in-Ok.ensures.passed, c.judge.ensures.reading.quiet.honest, c.judge.ensures.reading.quiet.moves) in
       subst (λ d. (g.D.SectorDevice.disk d).is_honest → old.faults ≤ (g.D.SectorDevice.disk d).faults) (sym c.into_device.ensures) told;
   calm = calm_refused c.args.device c.in-Ok.pages c.judge.new.pages c.in-Err-judge.e c.in-Ok.ensures.passed c.judge.ensures.reading.quiet c.in-Err-judge.ensures.calm c.into_device.result c.into_device.ensures;
   err = let old = g.D.SectorDevice.disk c.args.device in

@@ -1,7 +1,7 @@
 use Rattle.std.proofs.Common.{refl, rules}
 use Rattle.std.proofs.lemmas.Bool.{eqb-true}
 use Rattle.desk_pages.proofs.Outcomes.{err_of}
-use Rattle.desk_migration.{specs.Puts.StepErr, proofs.Moved.{exact_rows, more_rows, step_made, step_refused}}
+use Rattle.desk_migration.proofs.Moved.{exact_rows, more_rows, step_made, step_refused}
 use Rattle.desk_opening.proofs.plan_rows.Committing.{both}
 use Rattle.desk_migration.proofs.migration.Migration.step.Goals as goal
 
@@ -16,9 +16,7 @@ returns-in_err-count g c = record {
   room = search rules;
   working = search rules;
   still = search rules;
-  err = let x = c.args.self.now in
-      let e = c.in_err-count.field-0.0 in
-      err_of c.from_residual.result e (λ e. StepErr x.from x.pages c.put_holdings.new.pages e) c.from_residual.ensures.1 c.in_err-count.ensures.err;
+  err = search (rules, c.in_err-count.field-0.0, err_of, c.from_residual.ensures.1);
 }
 
 pub returns : goal.returns

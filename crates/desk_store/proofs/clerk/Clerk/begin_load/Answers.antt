@@ -36,10 +36,7 @@ pub returns-then-has_failed-clause-err : goal.returns-then-has_failed-clause-err
 returns-then-has_failed-clause-err g c = (refl, λ off. refused_failed c.args.self.now c.begin_load.new.pages c.in-Err.e c.if-self.false (begin_told c.args.geography.value (pages_of c.args.self.now) c.begin_load.new.pages c.in-Err.e c.in-Err.ensures.step.commits.err) (c.if-has_failed.ensures.failed refl))
 
 pub returns-else-has_failed-clause-err : goal.returns-else-has_failed-clause-err
-returns-else-has_failed-clause-err g c =
-    let x = c.args.self.now in
-    let did = c.in-Err.ensures in
-    begin_refused c.args.geography.value x c.begin_load.new.pages c.in-Err.e c.if-self.false did.step.commits.honest (c.if-has_failed.ensures.passed refl).0 did.step.commits.err
+returns-else-has_failed-clause-err g c = search (rules, begin_refused)
 
 pub returns-then-is_some-clause-moves : goal.returns-then-is_some-clause-moves
 returns-then-is_some-clause-moves g c = unmoved (Keeps c.args.self.now) (desk_of c.args.self.now) c.args.self.now (λ keeps. keeps)
@@ -48,8 +45,4 @@ pub returns-then-is_some-clause-loads : goal.returns-then-is_some-clause-loads
 returns-then-is_some-clause-loads g c = search (rules, quiet_none (pages_of c.args.self.now))
 
 pub returns-else-has_failed-clause-loads : goal.returns-else-has_failed-clause-loads
-returns-else-has_failed-clause-loads g c =
-    search (
-      rules,
-      refused_quiet (pages_of c.args.self.now) c.begin_load.new.pages c.in-Err.e (c.if-has_failed.ensures.passed refl).0 (begin_told c.args.geography.value (pages_of c.args.self.now) c.begin_load.new.pages c.in-Err.e c.in-Err.ensures.step.commits.err),
-    )
+returns-else-has_failed-clause-loads g c = search (rules, refused_quiet, begin_told)

@@ -1,32 +1,13 @@
 use Rattle.std.proofs.Common.{refl, rules}
-use Rattle.desk_store.{specs.claim.Clerks.{desk_of, Keeps}, proofs.Moved.quieted, proofs.Swept.{checked_failed, refused_so}}
+use Rattle.desk_store.proofs.{Moved.quieted, Swept.{checked_failed, refused_so}}
 use Rattle.desk_store.proofs.clerk.Clerk.check_holders.Goals as goal
 
 pub returns-then-has_failed : goal.returns-then-has_failed
-returns-then-has_failed g c = record {
-  maintains = record {
-    moves = let x = c.args.self.now in
-        let did = c.in-Err.ensures in
-        checked_failed x _ c.in-Err.e c.if-self.false refl did.quiet did.err (c.if-has_failed.ensures.failed refl);
-    desk = search rules;
-    loading = search rules;
-    working = search rules;
-    err = search rules;
-  };
-  quiet = search rules;
-  sound = search rules;
-}
+returns-then-has_failed g c = search (c.in-Err.ensures, checked_failed, c.in-Err.e, c.if-self.false, c.if-has_failed.ensures.failed refl)
 
 pub returns-in-Ok : goal.returns-in-Ok
 returns-in-Ok g c = record {
-  maintains = record {
-    moves = let x = c.args.self.now in
-        quieted (Keeps x) (desk_of x) x _ (λ keeps. keeps) c.if-self.false c.if-self.false refl c.in-Ok.ensures.quiet;
-    desk = search rules;
-    loading = search rules;
-    working = search rules;
-    err = search rules;
-  };
+  maintains = search quieted;
   quiet = search rules;
   sound = search rules;
 }
@@ -34,8 +15,7 @@ returns-in-Ok g c = record {
 pub returns-else-has_failed : goal.returns-else-has_failed
 returns-else-has_failed g c = record {
   maintains = record {
-    moves = let x = c.args.self.now in
-        quieted (Keeps x) (desk_of x) x _ (λ keeps. keeps) c.if-self.false c.if-self.false refl c.in-Err.ensures.quiet;
+    moves = search quieted;
     desk = search rules;
     loading = search rules;
     working = search rules;

@@ -61,11 +61,7 @@ returns-else-has_failed g c = record {
   moves = let x = c.args.self.now in
       let working = c.in_default.ensures.ok.0 in
       quieted (Stages x c.args.load.now) (desk_of x) x _ (λ stages. stages.keeps) working working refl (refused_quiet (pages_of x) c.load_batch.new.pages c.in-Err-load_batch.e (c.if-has_failed.ensures.passed refl).0 (batch_told c.args.load.now c.args.rows (pages_of c.args.self.now) c.load_batch.new.pages c.in-Err-load_batch.e c.in-Err-load_batch.ensures.step.commits.err));
-  loads = record {
-    desk = search rules;
-    working = search rules;
-    quiet = λ off. refused_quiet (pages_of c.args.self.now) c.load_batch.new.pages c.in-Err-load_batch.e (c.if-has_failed.ensures.passed refl).0 (batch_told c.args.load.now c.args.rows (pages_of c.args.self.now) c.load_batch.new.pages c.in-Err-load_batch.e c.in-Err-load_batch.ensures.step.commits.err);
-  };
+  loads = search (rules, refused_quiet, batch_told);
   staged = search rules;
   last = search rules;
   further = search rules;

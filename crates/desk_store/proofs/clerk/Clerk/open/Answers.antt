@@ -1,8 +1,8 @@
-use Rattle.std.proofs.Common.{◌≡◌, ◌≢◌, ◌≤◌, ℕ, inr, refl, sym, subst, rules}
+use Rattle.std.proofs.Common.{◌≡◌, ◌≤◌, inr, refl, sym, subst, rules}
 use Rattle.sector_device.specs.claim.Moments.{LeavesOnly}
 use Rattle.page_store.{specs.claim.Transactions.disk_in, proofs.Stops.leaves_quiet}
 use Rattle.desk_pages.specs.{Openings.{AllDesks, OpensOneOf, IsSpared}, claim.Openings.{AllVersions, OpensOneAs}, declared.error.StoreError.StoreError}
-use Rattle.desk_pages.{specs.declared.error.StoreError.TheVariants.{NotAStore, DeviceFault}, proofs.Found.{all_versions, stores_of, open_leaves, open_versions, pages_stand}}
+use Rattle.desk_pages.{specs.declared.error.StoreError.TheVariants.NotAStore, proofs.Found.{all_versions, stores_of, open_leaves, open_versions, pages_stand}}
 use Rattle.desk_pages.proofs.Refusals.{page_calm, page_spared, calm_refused}
 use Rattle.desk_store.{specs.Openings.OpenRefused, proofs.Opened.{opened_keeps, page_refused, find_refused, as_refused, is_found}}
 use Rattle.desk_store.proofs.clerk.Clerk.open.Goals as goal
@@ -11,19 +11,15 @@ pub returns-in-Err : goal.returns-in-Err
 returns-in-Err g c = record {
   sectors = search rules;
   honest = search rules;
-  any_moment = λ honest all.
-      open_leaves (g.D.SectorDevice.disk c.args.device) (g.D.SectorDevice.disk c.in-Err.device) all (c.in-Err.ensures.any_moment honest (stores_of (g.D.SectorDevice.disk c.args.device) (all_versions (g.D.SectorDevice.disk c.args.device) all)));
-  any_version = λ honest all.
-      open_versions (g.D.SectorDevice.disk c.args.device) (g.D.SectorDevice.disk c.in-Err.device) all (c.in-Err.ensures.any_moment honest (stores_of (g.D.SectorDevice.disk c.args.device) all));
+  any_moment = λ honest all. search (open_leaves, c.in-Err.ensures.any_moment, stores_of, all_versions);
+  any_version = λ honest all. search (open_versions, c.in-Err.ensures.any_moment, stores_of);
   opened = search rules;
   found = search rules;
   loading = search rules;
   working = search rules;
   passed = search rules;
   faults = search rules;
-  calm = let old = g.D.SectorDevice.disk c.args.device in
-      let new = g.D.SectorDevice.disk c.in-Err.device in
-      subst (λ (e : StoreError). new.is_honest → e ≢ DeviceFault → new.faults ≡ old.faults) (sym c.from.ensures) (page_calm old new c.in-Err.e c.in-Err.ensures.calm);
+  calm = search (rules, page_calm);
   err = subst (λ (e : StoreError). OpenRefused g.D.SectorDevice c.args.device c.in-Err.device e) (sym c.from.ensures) (page_refused g.D.SectorDevice c.args.device c.in-Err.device c.in-Err.e c.in-Err.ensures.err);
   untouched = let old = g.D.SectorDevice.disk c.args.device in
       let new = g.D.SectorDevice.disk c.in-Err.device in
@@ -76,9 +72,8 @@ returns-in-Err-read_shown g c = record {
   passed = search rules;
   faults = let old = g.D.SectorDevice.disk c.args.device in
       let new = disk_in c.read_shown.new.pages in
-      let told : (new.is_honest → old.faults ≤ new.faults) = λ honest.
-      subst (λ (k : ℕ). k ≤ new.faults) (c.in-Ok.ensures.passed (c.read_shown.ensures.reading.quiet.honest honest))
-      ((c.read_shown.ensures.reading.quiet.moves honest c.in-Ok.ensures.working).faults) in
+      let told : (new.is_honest → old.faults ≤ new.faults) =
+      λ honest. search rules in
       subst (λ d. (g.D.SectorDevice.disk d).is_honest → old.faults ≤ (g.D.SectorDevice.disk d).faults) (sym c.into_device.ensures) told;
   calm = calm_refused c.args.device c.in-Ok.pages c.read_shown.new.pages c.in-Err-read_shown.e c.in-Ok.ensures.passed c.read_shown.ensures.reading.quiet c.in-Err-read_shown.ensures.calm c.into_device.result c.into_device.ensures;
   err = as_refused g.D.SectorDevice c.args.device c.into_device.result c.in-Err-read_shown.e

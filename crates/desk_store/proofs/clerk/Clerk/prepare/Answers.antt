@@ -1,4 +1,4 @@
-use Rattle.std.proofs.Common.{◌≡◌, false, true, inl, inr, refl, sym, ap, subst, ◌∙◌}
+use Rattle.std.proofs.Common.{◌≡◌, false, true, inl, inr, refl, sym, ap, subst, ◌∙◌, rules}
 use Rattle.desk_model.specs.{declared.reply.Refusal.Refusal, declared.reply.Refusal.TheVariants.Full, claim.Outcome.RefusalMay}
 use Rattle.desk_store.specs.{claim.Clerks.{desk_of, pages_of}, claim.Commands.{MustBeFull, MayBeFull}, declared.clerk.Clerk.Clerk}
 use Rattle.desk_store.proofs.{Prepared.{IsBegun, made_ready, exhausted_full, fault_reads, not_put, made_of, exhausted_of, error_of}, Settled.{settled_may, settled_reads}}
@@ -10,10 +10,7 @@ works : (g : Over) (c : After-begin-txn g) → c.settle.new.self.halted ≡ fals
 works g c = ap (λ (v : Clerk g.row.D.Denot g.D.SectorDevice). v.halted) c.settle.ensures ∙ c.if-self.false
 
 begun : (g : Over) (c : After-begin-txn g) → IsBegun (pages_of c.settle.new.self) c.begin-txn.result
-begun g c =
-    let begin = c.begin-txn.ensures in
-    let off = c.settle.new.self.working (works g c) in
-    record { pages = begin.pages; none = begin.none; over_is = begin.over; root = begin.root off; free = begin.free off }
+begun g c = search (rules, works)
 
 pub returns-in-Err-clause-err : goal.returns-in-Err-clause-err
 returns-in-Err-clause-err g c = settled_may c.args.self.now c.settle.new.self (pages_of c.settle.new.self) c.args.command c.in-Err.refusal c.settle.ensures c.in-Err.ensures.err
@@ -23,7 +20,7 @@ returns-in-Ok-NumbersExhausted-clause-err g c =
     let x = c.settle.new.self in
     let at = (goal.at.returns-in-Ok-NumbersExhausted-clause-err g c).After-begin-txn in
     settled_may c.args.self.now x c.put_command.new.pages c.args.command Full c.settle.ensures (
-      λ on. let clash : true ≡ false = sym on ∙ works g at in cc,
+      λ on. search (rules, works),
       exhausted_full x c.put_command.new.pages c.args.command c.in-Ok.draft.catalogue c.begin-txn.result c.put_command.new.txn c.in-Ok.ensures.after (works g at) (begun g at) c.put_command.ensures.quiet (exhausted_of c.deref.result.now x.catalogue.value c.args.command c.in-Ok.draft.catalogue c.begin-txn.result c.put_command.new.txn (pages_of x) c.put_command.new.pages c.in-Ok-NumbersExhausted.field-0 c.deref.ensures c.in-Ok-NumbersExhausted.field-0-is c.in-Ok-NumbersExhausted.ensures.put),
     )
 

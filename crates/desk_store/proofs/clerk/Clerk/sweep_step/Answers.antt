@@ -13,13 +13,7 @@ returns-then-has_failed g c =
     faulted (Keeps x) (desk_of x) x _ c.if-self.false refl refl did.commits.shape did.commits.honest (begin_left x c.sweep_step.new.pages c.if-self.false did.commits.honest did.any_moment) (λ keeps honest. inl refl)
     (sweep_rose x c.sweep_step.new.pages c.in-Err.e c.if-self.false did.commits.honest did.commits.err (c.if-has_failed.ensures.failed refl)) in
     record {
-      maintains = record {
-        moves = moves;
-        desk = search rules;
-        loading = search rules;
-        working = search rules;
-        err = search rules;
-      };
+      maintains = search rules;
       staged = λ load last stages. halted_stages _ load refl (moves.keeps stages.keeps);
       few = search rules;
       swept = search rules;
@@ -49,9 +43,7 @@ returns-in-Ok g c =
           swept_stages x _ c.in-Ok.count load (c.in_range-running.ensures.fits (number_of load) last) c.if-self.false refl did.commits.honest
           (as_loading x c.sweep_step.new.pages c.in_range-running.result c.in-Ok.count c.in_range-running.ensures.same did.swept) (moves.keeps stages.keeps) last stages;
       few = search rules;
-      swept = λ honest m has.
-          let x = c.args.self.now in
-          swept_told x _ m c.in-Ok.count refl refl (as_loading x c.sweep_step.new.pages c.in_range-running.result c.in-Ok.count c.in_range-running.ensures.same c.in-Ok.ensures.swept honest) has;
+      swept = λ honest m has. search (swept_told, as_loading, c.in-Ok.ensures.swept);
       exact = λ honest m has.
           let x = c.args.self.now in
           subst (λ (r : Option ℕ). (c.in-Ok.count ≡ 0) ↔ IsSweptClean r m) c.in_range-running.ensures.same (c.in-Ok.ensures.swept honest m (desk_of x) has.holds has.is).exact;

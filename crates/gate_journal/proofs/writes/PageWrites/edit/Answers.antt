@@ -1,7 +1,6 @@
-use Rattle.std.proofs.Common.{rules, ◌≡◌, ◌∙◌, ℕ, List, set, ap, sym, subst}
+use Rattle.std.proofs.Common.{rules, ◌≡◌, ◌∙◌, ℕ, List, set, ap, sym}
 use Rattle.std.proofs.lemmas.List.{get_or_default}
-use Rattle.gate_journal.{specs.claim.Store.overlay, specs.Store.Writes, specs.claim.Writes.writes_of, proofs.Images.writes_at}
-use Rattle.gate_journal.proofs.Overlays.{overlay_set, writes_set, overlay_last}
+use Rattle.gate_journal.{specs.claim.Store.overlay, specs.claim.Writes.writes_of, proofs.Images.writes_at, proofs.Overlays.{overlay_set, writes_set, overlay_last}}
 use Rattle.gate_journal.proofs.writes.PageWrites.edit.Goals as goal
 
 pub returns : goal.returns
@@ -13,7 +12,7 @@ returns g c =
     let at : c.index_mut-write.result.now.0 ≡ c.args.page = same ∙ last.here in
     record {
       edited = (
-        subst (λ (p : ℕ). Writes ws p) last.here (writes_at ws c.in_ok-k.k last.below),
+        search (rules, writes_at),
         record {
           before = c.index_mut-write.result.now.1;
           after = c.change.new.arg2;

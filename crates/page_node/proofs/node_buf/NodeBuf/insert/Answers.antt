@@ -43,10 +43,7 @@ stands c =
     c.put_entry.ensures c.insert_end.ensures.kept (λ k low le. c.insert_end.ensures.moved k low (omega arith))
 
 longer : (c : goal.After-self-1) → c.self.inside.count + 1 ≡ length (insert c.args.self.now.entries c.args.i (c.args.key.now, c.args.value.now))
-longer c =
-    let o = opened _ _ _ _ _ c.self.invariant c.self.view_is in
-    let more = length-insert c.args.self.now.entries c.args.i (c.args.key.now, c.args.value.now) c.requires.within in
-    omega arith
+longer c = search (opened _ _ _ _ _ c.self.invariant c.self.view_is, length-insert c.args.self.now.entries c.args.i (c.args.key.now, c.args.value.now) c.requires.within)
 
 pub invariant_of-self : goal.invariant_of-self
 invariant_of-self c = to_held _ _ _ _ _ (stands c) (longer c)

@@ -46,10 +46,7 @@ stands c =
     c.remove_end.ensures.kept (λ k low less. c.remove_end.ensures.moved k low (omega arith))
 
 shorter : (c : goal.After-self-1) → c.self.inside.count - 1 ≡ length (remove c.args.self.now.entries c.args.i)
-shorter c =
-    let o = opened _ _ _ _ _ c.self.invariant c.self.view_is in
-    let less = length-remove c.args.self.now.entries c.args.i c.requires in
-    omega arith
+shorter c = search (arith, opened _ _ _ _ _ c.self.invariant c.self.view_is, length-remove c.args.self.now.entries c.args.i c.requires)
 
 pub invariant_of-self : goal.invariant_of-self
 invariant_of-self c = to_held _ _ _ _ _ (stands c) (shorter c)

@@ -61,10 +61,7 @@ stands c =
     c.put_entry.ensures c.resize_end.ensures.kept (λ k low le. c.resize_end.ensures.moved k low (omega arith))
 
 as_long : (c : goal.After-resize_end) → c.self.inside.count ≡ length (set c.args.self.now.entries c.args.i (c.args.key.now, c.args.value.now))
-as_long c =
-    let o = opened _ _ _ _ _ c.self.invariant c.self.view_is in
-    let same = length-set c.args.self.now.entries c.args.i (c.args.key.now, c.args.value.now) in
-    omega arith
+as_long c = search (opened _ _ _ _ _ c.self.invariant c.self.view_is, length-set c.args.self.now.entries c.args.i (c.args.key.now, c.args.value.now))
 
 pub invariant_of-self : goal.invariant_of-self
 invariant_of-self c = to_held _ _ _ _ _ (stands c) (as_long c)

@@ -1,5 +1,5 @@
-use Rattle.std.proofs.Common.{◌≡◌, ℕ, ◌≤◌, List, length, arith, sym, subst, ◌∙◌}
-use Rattle.page_node.{specs.claim.Entries.size_of, specs.claim.Node.{IsNode, IsShape}, specs.Node.bytes_of, proofs.Laws.node_written, proofs.Editing.{opened, bounds_of}}
+use Rattle.std.proofs.Common.{◌≡◌, ◌≤◌, length, arith, subst, ◌∙◌}
+use Rattle.page_node.{specs.claim.Entries.size_of, specs.claim.Node.IsShape, specs.Node.bytes_of, proofs.Laws.node_written, proofs.Editing.{opened, bounds_of}}
 use Rattle.page_node.proofs.Writing.{page_written}
 use Rattle.page_node.proofs.node_buf.NodeBuf.write.Goals as goal
 
@@ -18,6 +18,4 @@ pub returns-clause-bytes : goal.returns-clause-bytes
 returns-clause-bytes c = written c
 
 pub returns-clause-node : goal.returns-clause-node
-returns-clause-node c =
-    let P : List ℕ → Type 0 = λ b. IsNode b c.args.self.now in
-    subst P (sym (written c)) (node_written c.args.self.now (subst IsShape c.self.view_is c.self.invariant.shape) c.requires)
+returns-clause-node c = search (written c, node_written c.args.self.now (subst IsShape c.self.view_is c.self.invariant.shape) c.requires)

@@ -1,4 +1,4 @@
-use Rattle.std.proofs.Common.{◌≡◌, ◌<◌, ℕ, inl, inr, sym, subst, arith, get_or, replicate}
+use Rattle.std.proofs.Common.{◌<◌, ℕ, sym, subst, arith, get_or, replicate, rules}
 use Rattle.std.proofs.lemmas.Bool.{cases_lt}
 use Rattle.std.proofs.lemmas.List.{get_or-replicate, get_or_past, length-replicate}
 use Rattle.sector_device.specs.claim.Disk.{Image}
@@ -8,12 +8,7 @@ use Rattle.page_store.proofs.txn.Prepared.commit.Goals as goal
 
 -- no place has a number
 none_held : (k : ℕ) → 0 < get_or {A = ℕ} (replicate {A = ℕ} 16 0) k 0 → ⊥
-none_held k some =
-    let none : ◌≡◌ {A = ℕ} (get_or {A = ℕ} (replicate {A = ℕ} 16 0) k 0) 0 = elim (cases_lt k 16) [
-      | inl within ↦ get_or-replicate {A = ℕ} 16 k 0 0 within
-      | inr past ↦ get_or_past {X = ℕ} (replicate {A = ℕ} 16 0) k 0 (omega (arith, length-replicate {A = ℕ} 16 0))
-    ] in
-    omega arith
+none_held k some = search (rules, cases_lt, get_or-replicate, get_or_past, length-replicate)
 
 pub invariant_of-pages-2 : goal.invariant_of-pages-2
 invariant_of-pages-2 g c =

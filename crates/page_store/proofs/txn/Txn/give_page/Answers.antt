@@ -8,7 +8,5 @@ returns-then-self-clause-err c = λ P some free off.
     omega (arith, (room_left t.pages c.args.p (free_over t P) some c.requires free off), length_chain (over t P) t.first t.free, c.if-self.true)
 
 pub returns-clause-given : goal.returns-clause-given
-returns-clause-given c = λ P n free off.
-    let t = c.args.self.now in
-    let link = c.set_word.new.sector in
-    chain_push n (over t P) _ c.args.p link t.first t.free (c.in_ok-put.ensures.written P) c.set_word.ensures.set (link_blank link c.set_word.ensures.others) free off
+returns-clause-given c =
+    λ P n free off. search (chain_push, c.in_ok-put.ensures.written, link_blank)

@@ -27,7 +27,4 @@ returns-then-next-self-clause-reading g c = record {
 }
 
 pub returns-clause-next : goal.returns-clause-next
-returns-clause-next g c = λ honest.
-    let t = c.args.self.now in
-    let blank = ap is_blank (sym (c.in_ok-read.ensures.reads honest)) ∙ sym c.is_blank_page.ensures ∙ c.if-not-is_blank_page.false in
-    chain_pop (over t (stored c.args.pages.now)) t.first c.word_at-next.result t.free c.requires.some blank (λ ne. c.word_at-next.ensures ∙ ap (λ (s : List ℕ). word s 0) (c.in_ok-read.ensures.reads honest))
+returns-clause-next g c = λ honest. search (rules, chain_pop)

@@ -1,4 +1,4 @@
-use Rattle.std.proofs.Common.{◌∙◌, ap}
+use Rattle.std.proofs.Common.{◌∙◌, ap, rules}
 use Rattle.sector_file.{specs.Told.{replay, replay_on, after_sharing}, proofs.Readers.{reader_is, held_is, synced_as_opened}}
 use Rattle.sector_file.proofs.device.FileDevice.share.Goals as goal
 
@@ -11,11 +11,7 @@ returns-in-Ok-clause-reader g c =
     reader_is sector (replay sector was.log.calls) was.few was.count (was.as_opened c.if-self.false).0 (replay_on sector (after_sharing sector reader.count) reader.log.calls) reader.few is
 
 pub returns-in-Ok-clause-held : goal.returns-in-Ok-clause-held
-returns-in-Ok-clause-held g c =
-    let was = c.args.self.now in
-    held_is g.S.Contents.sector (replay g.S.Contents.sector was.log.calls) was.few was.count (was.as_opened c.if-self.false).0 was.counted
+returns-in-Ok-clause-held g c = search (rules, held_is)
 
 pub returns-in-Ok-clause-synced : goal.returns-in-Ok-clause-synced
-returns-in-Ok-clause-synced g c =
-    let was = c.args.self.now in
-    synced_as_opened g.S.Contents.sector (replay g.S.Contents.sector was.log.calls) was.few was.count (was.as_opened c.if-self.false).1
+returns-in-Ok-clause-synced g c = search (rules, synced_as_opened)

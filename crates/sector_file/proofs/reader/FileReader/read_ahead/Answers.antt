@@ -1,5 +1,4 @@
-use Rattle.std.{specs.Vec.with_items, proofs.Common.{◌<◌, ◌^◌, ◌∙◌, List, true, ap, refl, sym, subst}}
-use Rattle.sector_device.specs.Held.{image_of, refused}
+use Rattle.std.{specs.Vec.with_items, proofs.Common.{◌∙◌, List, true, ap, sym, subst, rules}}
 use Rattle.sector_file.{specs.declared.run.HeldRun.HeldRun, specs.Told.{Call, replay_on, after_sharing, only_reads}, proofs.Readers.reader_long}
 use Rattle.sector_file.proofs.Runs.{HasRun, all_written, held_new, run_read, run_reads, run_touches}
 use Rattle.sector_file.proofs.reader.FileReader.read_ahead.Goals as goal
@@ -17,12 +16,7 @@ invariant_of-self-2 g c =
     let t = replay_on sector start was.log.calls in
     let ran = subst (λ (calls : List Call). HasRun c.args.i run t (replay_on sector start calls)) (sym noted) (run_read sector start c.args.i run was.log.calls) in
     let held : HeldRun = record { is = true; first = c.args.i; sectors = with_items was.run.sectors run } in
-    record {
-      few = subst (λ n. n < 2 ^ 32) (was.counted ∙ sym long) was.few;
-      counted = long;
-      reading = reading;
-      held = held_new held c.args.i run t (replay_on sector start later) refl (all_written was.run.sectors.len run was.run.sectors.items (c.read_run.ensures.long ∙ c.as_mut_slice.ensures.len)) ran;
-    }
+    search (rules, held_new, all_written)
 
 pub returns-clause-moves : goal.returns-clause-moves
 returns-clause-moves g c = λ honest.
@@ -36,17 +30,7 @@ returns-clause-moves g c = λ honest.
     run_touches t (replay_on sector start c.read_run.new.log.calls) was.few _ c.args.i run ran honest
 
 pub returns-clause-passed : goal.returns-clause-passed
-returns-clause-passed g c =
-    let sector = g.S.Contents.sector in
-    let was = c.args.self.now in
-    let start = after_sharing sector was.count in
-    let ran = run_read sector start c.args.i c.read_run.new.run was.log.calls in
-    ap (λ (calls : List Call). refused (replay_on sector start calls).2) (c.read_run.ensures.noted c.if-not-read_run.false) ∙ ap refused ran.states
+returns-clause-passed g c = search (rules, run_read)
 
 pub returns-clause-reads : goal.returns-clause-reads
-returns-clause-reads g c =
-    let sector = g.S.Contents.sector in
-    let was = c.args.self.now in
-    let start = after_sharing sector was.count in
-    let ran = run_read sector start c.args.i c.read_run.new.run was.log.calls in
-    ap (λ (calls : List Call). image_of (replay_on sector start calls).0) (c.read_run.ensures.noted c.if-not-read_run.false) ∙ ap image_of ran.sectors
+returns-clause-reads g c = search (rules, run_read)

@@ -1,4 +1,4 @@
-use Rattle.std.proofs.Common.{◌<◌, ◌^◌, ◌∙◌, arith, IsTrue, ap, sym, subst}
+use Rattle.std.proofs.Common.{◌<◌, ◌^◌, ◌∙◌, arith, ap, sym, subst, rules}
 use Rattle.sector_device.specs.Held.{refused}
 use Rattle.sector_file.{specs.Told.{Told, replay_on, after_sharing, only_reads}, proofs.Steps.bytes_same, proofs.Disks.{read_is, fault_is}}
 use Rattle.sector_file.proofs.{Readers.{reader_long, same_on, whole_more, short_more}, Runs.{held_still, honest_before_read}}
@@ -21,14 +21,10 @@ invariant_of-self g c =
     }
 
 pub returns-then-got-eq-SECTOR_SIZE-clause-sectors : goal.returns-then-got-eq-SECTOR_SIZE-clause-sectors
-returns-then-got-eq-SECTOR_SIZE-clause-sectors g c =
-    let was = c.args.self.now in
-    reader_long g.S.Contents.sector was.count c.read_sector-got.new.log.calls (ap only_reads c.read_sector-got.ensures.noted ∙ was.reading) ∙ sym was.counted
+returns-then-got-eq-SECTOR_SIZE-clause-sectors g c = search reader_long
 
 pub returns-else-got-eq-SECTOR_SIZE-clause-sectors : goal.returns-else-got-eq-SECTOR_SIZE-clause-sectors
-returns-else-got-eq-SECTOR_SIZE-clause-sectors g c =
-    let was = c.args.self.now in
-    reader_long g.S.Contents.sector was.count c.read_sector-got.new.log.calls (ap only_reads c.read_sector-got.ensures.noted ∙ was.reading) ∙ sym was.counted
+returns-else-got-eq-SECTOR_SIZE-clause-sectors g c = search reader_long
 
 pub returns-then-got-eq-SECTOR_SIZE-clause-model : goal.returns-then-got-eq-SECTOR_SIZE-clause-model
 returns-then-got-eq-SECTOR_SIZE-clause-model g c = λ honest.
@@ -36,9 +32,8 @@ returns-then-got-eq-SECTOR_SIZE-clause-model g c = λ honest.
     (read_is _ c.args.self.now.few _ _ c.args.i _ is honest, record { failed = tt; passed = ap (λ (t : Told). refused t.2) is })
 
 pub returns-then-got-eq-SECTOR_SIZE-clause-reads : goal.returns-then-got-eq-SECTOR_SIZE-clause-reads
-returns-then-got-eq-SECTOR_SIZE-clause-reads g c = λ honest.
-    let is = whole_more g.S.Contents.sector (after_sharing g.S.Contents.sector c.args.self.now.count) c.args.self.now.log.calls _ c.args.i _ _ c.if-got-eq-SECTOR_SIZE.true c.read_sector-got.ensures.noted in
-    bytes_same _ _ _ (subst (λ (t : Told). IsTrue t.3) is honest)
+returns-then-got-eq-SECTOR_SIZE-clause-reads g c =
+    λ honest. search (rules, whole_more, bytes_same)
 
 pub returns-else-got-eq-SECTOR_SIZE-clause-model : goal.returns-else-got-eq-SECTOR_SIZE-clause-model
 returns-else-got-eq-SECTOR_SIZE-clause-model g c = λ honest.

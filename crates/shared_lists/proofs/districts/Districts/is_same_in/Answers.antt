@@ -1,15 +1,12 @@
-use Rattle.std.{specs.Cmp.Lexicographic.pointwise, proofs.Common.{ℕ, ◌+◌, take, drop, nat_eq, ap, sym, ◌∙◌, arith}}
-use Rattle.shared_lists.proofs.Cut.{same_more, apart_here, counted_all, told_apart, told_same, from_first, none_left}
+use Rattle.std.proofs.Common.{◌+◌, sym, ◌∙◌, arith, rules}
+use Rattle.shared_lists.proofs.Cut.{same_more, apart_here, counted_all, told_apart, told_same}
 use Rattle.shared_lists.proofs.districts.Districts.is_same_in.Goals as goal
 
 pub overflow_add-end : goal.overflow_add-end
 overflow_add-end c = omega (arith, counted_all c.self.inside.full.items c.self.inside.rest c.self.inside.count c.args.self.now c.self.invariant c.self.view_is)
 
 pub loop-place-init : goal.loop-place-init
-loop-place-init c = record {
-  left = ap (λ (n : ℕ). pointwise nat_eq (take n (drop c.args.first c.args.self.now)) (take n (drop c.args.first c.args.other.now))) (from_first c.args.first c.args.count);
-  within = omega arith;
-}
+loop-place-init c = search rules
 
 pub returns-then-ne : goal.returns-then-ne
 returns-then-ne c =
@@ -29,6 +26,4 @@ loop-place-preserved c = record {
 }
 
 pub returns : goal.returns
-returns c =
-    ap (λ (n : ℕ). pointwise nat_eq (take n (drop c.loop-place.place c.args.self.now)) (take n (drop c.loop-place.place c.args.other.now))) (none_left (c.args.first + c.args.count) c.loop-place.place c.loop-place-test.false)
-    ∙ c.loop-place.invariant.left
+returns c = search rules

@@ -1,17 +1,12 @@
-use Rattle.std.proofs.Common.{ℕ, ◌+◌, ◌-◌, ◌++◌, take, drop, ap, sym, ◌∙◌, arith}
-use Rattle.std.proofs.lemmas.List.{append-nil}
-use Rattle.shared_lists.proofs.Cut.{put_more, counted_all, from_first, none_left}
+use Rattle.std.proofs.Common.{◌+◌, ◌-◌, ◌∙◌, arith, rules}
+use Rattle.shared_lists.proofs.Cut.{put_more, counted_all}
 use Rattle.shared_lists.proofs.districts.Districts.part.Goals as goal
 
 pub overflow_add-end : goal.overflow_add-end
 overflow_add-end c = omega (arith, counted_all c.self.inside.full.items c.self.inside.rest c.self.inside.count c.args.self.now c.self.invariant c.self.view_is)
 
 pub loop-place-init : goal.loop-place-init
-loop-place-init c = record {
-  put = ap (λ l. l ++ take (c.args.first + c.args.count - c.args.first) (drop c.args.first c.args.self.now)) c.in_ok-part.ensures.items
-      ∙ ap (λ (n : ℕ). take n (drop c.args.first c.args.self.now)) (from_first c.args.first c.args.count);
-  within = omega arith;
-}
+loop-place-init c = search rules
 
 pub loop-place-preserved : goal.loop-place-preserved
 loop-place-preserved c = record {
@@ -22,7 +17,4 @@ loop-place-preserved c = record {
 }
 
 pub returns : goal.returns
-returns c =
-    sym (append-nil c.loop-place.part.items)
-    ∙ ap (λ (n : ℕ). c.loop-place.part.items ++ take n (drop c.loop-place.place c.args.self.now)) (none_left (c.args.first + c.args.count) c.loop-place.place c.loop-place-test.false)
-    ∙ c.loop-place.invariant.put
+returns c = search rules

@@ -12,5 +12,4 @@ loop-piece-preserved c =
 pub returns : goal.returns
 returns c =
     let prefix = c.loop-piece.invariant ∙ ap joined (take_all c.loop-piece.piece-index c.deref-piece-items.result.now c.loop-piece-test.false ∙ c.deref-piece-items.ensures.value) in
-    let rest = c.as_slice-2.ensures.value ∙ ap (λ (v : Vec ℕ Global). v.items) c.deref-2.ensures in
-    c.in_ok-extend_from_slice-2.ensures.items ∙ (λ i. prefix i ++ rest i) ∙ c.self.view_is
+    c.in_ok-extend_from_slice-2.ensures.items ∙ (λ i. prefix i ++ (c.as_slice-2.ensures.value ∙ ap (λ (v : Vec ℕ Global). v.items) c.deref-2.ensures) i) ∙ c.self.view_is

@@ -1,4 +1,4 @@
-use Rattle.std.proofs.Common.{◌≡◌, List, [], ◌∷◌, ◌++◌, length, IfOk, ap, sym, subst, ◌∙◌}
+use Rattle.std.proofs.Common.{◌≡◌, List, [], ◌∷◌, ◌++◌, length, IfOk, ap, sym, subst, ◌∙◌, rules}
 use Rattle.shared_lists.{specs.Parts.part_of, proofs.Grown.{both_long, both_fit, two_fit, two_fit_and_one, joined_long, joined_is}}
 use Rattle.shared_lists.proofs.trees.Trees.with.Goals as goal
 
@@ -14,7 +14,7 @@ overflow_add-result-then-older-newer g c =
 
 pub invariant_of-result : goal.invariant_of-result
 invariant_of-result g c = (
-  c.second.invariant.0 ∙ sym (ap length c.in_ok-same.ensures),
+  search rules,
   joined_long c.in_ok-tree.tree.value c.in_ok-clone.field-0.value c.in_ok-clone-2.field-0.value c.second.inside.tree.value c.trees.inside.tree.value c.args.item c.second.inside.count c.trees.inside.count
       c.in_ok-tree.ensures c.in_ok-clone.ensures.cases c.in_ok-clone-2.ensures.cases c.second.invariant.1.0 c.trees.invariant.1.0,
 )
