@@ -1,7 +1,7 @@
 """The imports of a file of definitions or proofs, read as the prover reads them."""
 import re
 
-LINE = re.compile(r'((?:unfoldable )?(?:pub )?)use Rattle\.(\w+)\.(.*\{.*\})')
+LINE = re.compile(r'((?:unfoldable )?(?:pub )?)use (\w+)\.(.*\{.*\})')
 
 
 def parts(text):
@@ -32,12 +32,12 @@ def here(name):
 
 
 def brought(text):
-    """The names that a file brings in for itself, each with its library and module."""
+    """The names that a file brings in for itself from crates, each with its module, the crate's name first."""
     found = {}
     for row in text.split('\n'):
         match = LINE.fullmatch(row)
-        if match and not match[1]:
-            found.update((here(name), f'{match[2]}.{module}') for module, name in leaves(match[3]))
+        if match and not match[1] and match[2] == 'Rattle':
+            found.update((here(name), module) for module, name in leaves(match[3]))
     return found
 
 

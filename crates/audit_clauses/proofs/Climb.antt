@@ -1,6 +1,5 @@
 -- The way to a root.
-use Rattle.std.proofs.Common.{◌≡◌, ℕ, ◌<◌, List, length}
-use Rattle.audit_clauses.specs.Forest.{PointsDown, IsRooting}
+use Rattle.{std.proofs.Common.{◌≡◌, ℕ, ◌<◌, List, length}, audit_clauses.specs.Forest.{PointsDown, IsRooting}}
 
 -- so far from a block: the roots are those that were, and this place has the block's
 pub record IsClimb (old : List ℕ) (block : ℕ) (parents : List ℕ) (at : ℕ) : Type 0 where

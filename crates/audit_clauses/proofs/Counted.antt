@@ -1,14 +1,9 @@
 -- A sum over the blocks, block by block.
-use Rattle.std.specs.List.{zip}
+use Rattle.std.{specs.List.zip, proofs.lemmas.{Bool.cases_eq, List.{get_or_default, get_or-replicate, length-set, get_or-set_same, get_or-set_other, take_all, same_lists}}}
 use Rattle.std.proofs.Common.{◌≡◌, ℕ, ◌+◌, ◌<◌, ◌≤◌, ◌≢◌, List, [], ◌∷◌, length, get_or, set, take, replicate, cond, eqb, true, false, sum_by, arith, sym, ◌∙◌, ap, ⊎_elim, add-zero, eq-eqb, ne_eqb, rules}
-use Rattle.std.proofs.lemmas.List.{get_or_default, get_or-replicate, length-set, get_or-set_same, get_or-set_other, take_all}
-use Rattle.std.proofs.lemmas.List.Sums.{sum_by_more, sum_by_more_le_part, sum_by-cons}
-use Rattle.std.proofs.lemmas.List.FromFn.{get_or-map-range_with_len, length-map-range_with_len}
-use Rattle.std.proofs.lemmas.Bool.{cases_eq}
-use Rattle.std.proofs.lemmas.List.{same_lists}
-use Rattle.std.proofs.lemmas.Slice.Zip.{length-zip, get_or-zip}
+use Rattle.std.proofs.lemmas.List.{FromFn.{get_or-map-range_with_len, length-map-range_with_len}, Sums.{sum_by_more, sum_by_more_le_part, sum_by-cons}}
+use Rattle.{std.proofs.lemmas.Slice.Zip.{length-zip, get_or-zip}, audit_clauses.specs.claim.People.{people_in, populations_of, state_people}}
 use Rattle.desk_model.specs.declared.block.BlockRow.{BlockRow}
-use Rattle.audit_clauses.specs.claim.People.{people_in, populations_of, state_people}
 
 -- a block's people, where the plan gives it to the district
 abbrev pub share : ℕ → BlockRow × ℕ → ℕ

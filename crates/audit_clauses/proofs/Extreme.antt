@@ -1,9 +1,7 @@
 -- The districts that deviate, district by district.
 use Rattle.std.proofs.Common.{◌≡◌, ℕ, ◌+◌, ◌-◌, ◌*◌, ◌<◌, ◌≤◌, Bool, cond, ltb, List, [], ◌∷◌, ◌++◌, length, get_or, filter, ap, sym, ◌∙◌, arith, rules}
-use Rattle.std.proofs.lemmas.List.{map-id, append-nil}
-use Rattle.std.proofs.lemmas.Bool.{lt-ltb, le-ltb}
-use Rattle.std.proofs.lemmas.List.FromFn.{filter_of_map_range_with_len_more}
-use Rattle.audit_clauses.specs.{claim.People.districts, claim.Clauses.{deviation, deviates}}
+use Rattle.{std.proofs.lemmas.{Bool.{lt-ltb, le-ltb}, List.{map-id, append-nil, FromFn.filter_of_map_range_with_len_more}}, audit_clauses.specs.claim.Clauses.{deviation, deviates}}
+use Rattle.audit_clauses.specs.claim.People.{districts}
 
 filter_more : (p : ℕ → Bool) (i : ℕ) → filter p (districts (i + 1)) ≡ filter p (districts i) ++ cond (p (i + 1)) ((i + 1) ∷ []) []
 filter_more p i =

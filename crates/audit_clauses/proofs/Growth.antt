@@ -1,9 +1,7 @@
 -- A forest grows by a pair.
 use Rattle.std.proofs.Common.{◌≡◌, ◌≢◌, ℕ, ◌+◌, ◌<◌, ◌≤◌, ◌⊎◌, inl, inr, ⊎_elim, cond, eqb, List, length, get_or, min, max, take, Contains, sym, ap, ◌∙◌, refl, arith, eq-eqb, ne_eqb, rules}
-use Rattle.std.proofs.lemmas.Bool.{cases_eq, cases_lt}
-use Rattle.std.proofs.lemmas.List.Elements.{All-more, All-nil, All-weaker, Contains-get_or}
-use Rattle.desk_model.specs.declared.geography.Pair.{Pair}
-use Rattle.audit_clauses.specs.{claim.Paths.{AreNeighbours, IsIn, AreJoined}, Forest.{ArePairsOf, PointsDown, AreAlone, IsRooting, merged, HasOneRoot, IsForest}}
+use Rattle.{std.proofs.lemmas.{Bool.{cases_eq, cases_lt}, List.Elements.{All-more, All-nil, All-weaker, Contains-get_or}}, desk_model.specs.declared.geography.Pair.Pair}
+use Rattle.audit_clauses.specs.{Forest.{ArePairsOf, PointsDown, AreAlone, IsRooting, merged, HasOneRoot, IsForest}, claim.Paths.{AreNeighbours, IsIn, AreJoined}}
 use Rattle.audit_clauses.proofs.Walks.{joined_here, joined_on, joined_back, joined_next, end_lies}
 
 pub forest_alone : (pairs : List Pair) (plan : List ℕ) (first last : ℕ) (parents : List ℕ) → ArePairsOf plan pairs → AreAlone (length plan) parents

@@ -1,12 +1,9 @@
 -- What is found in the plan that keeps the districts of own parts alone holds of them in the whole plan.
-use Rattle.std.specs.Prelude.{MatchOption}
+use Rattle.{std.{specs.Prelude.MatchOption, proofs.lemmas.{Bool.{cond-true, cond_both, and_from, lt-ltb}, List.Elements.All-weaker}}, audit_clauses.specs.Forest.IsForest}
 use Rattle.std.proofs.Common.{◌≡◌, ℕ, ◌+◌, ◌*◌, ◌-◌, ◌<◌, ◌≤◌, ◌⊎◌, inl, inr, ⊎_elim, Bool, true, false, List, length, map, get_or, min, take, drop, Option, None, Some, IsTrue, sym, ap, ◌∙◌, subst, refl, arith, rules}
-use Rattle.std.proofs.lemmas.Bool.{cond-true, cond_both, and_from, lt-ltb}
-use Rattle.std.proofs.lemmas.List.{length-map, length-drop, length-take-le, get_or-map, get_or-take, get_or-drop}
-use Rattle.std.proofs.lemmas.List.Elements.{All-weaker}
-use Rattle.desk_model.specs.{claim.Geography.GeographyModel, declared.geography.Pair.Pair}
-use Rattle.audit_clauses.specs.{declared.breaks.Gap.Gap, declared.breaks.Break.Break, claim.Paths.{IsIn, AreJoined, HoldsTogether}, Forest.IsForest, declared.lowest.Lowest.Lowest}
-use Rattle.audit_clauses.specs.{Lowest.AreAllLowest, claim.Breaks.{IsApart, IsGap, IsBreak, AreBreaks}, Parts.{is_own, kept, Shown}}
+use Rattle.{std.proofs.lemmas.List.{length-map, length-drop, length-take-le, get_or-map, get_or-take, get_or-drop}, audit_clauses.specs.Lowest.AreAllLowest}
+use Rattle.audit_clauses.specs.{Parts.{is_own, kept, Shown}, claim.{Breaks.{IsApart, IsGap, IsBreak, AreBreaks}, Paths.{IsIn, AreJoined, HoldsTogether}}, declared.breaks.Gap.Gap}
+use Rattle.{audit_clauses.specs.declared.{breaks.Break.Break, lowest.Lowest.Lowest}, desk_model.specs.{claim.Geography.GeographyModel, declared.geography.Pair.Pair}}
 
 kept_own : (own : List Bool) (d : ℕ) → is_own own d ≡ true → kept own d ≡ d
 kept_own own d is = cond-true (is_own own d) d 0 is

@@ -1,6 +1,5 @@
 -- A rising list, number by number.
-use Rattle.std.{specs.List.Sorted.IsStrictlyIncreasing, proofs.Common.{ℕ, ◌<◌, List, All, Contains, rules}}
-use Rattle.std.proofs.lemmas.List.Elements.{All-weaker}
+use Rattle.std.{specs.List.Sorted.IsStrictlyIncreasing, proofs.{Common.{ℕ, ◌<◌, List, All, Contains, rules}, lemmas.List.Elements.All-weaker}}
 use Rattle.audit_clauses.specs.claim.Exactly.{AreExactly}
 
 -- the numbers below count of which this holds are listed

@@ -1,9 +1,7 @@
 -- The marks, block by block.
-use Rattle.std.proofs.Common.{◌≡◌, ◌≢◌, ℕ, ◌+◌, ◌<◌, ◌≤◌, ⊎_elim, List, get_or, set, replicate, sym, ap, ◌∙◌, refl, arith, eq-eqb, ne_eqb, rules}
-use Rattle.std.proofs.lemmas.Bool.{cases_eq}
-use Rattle.std.proofs.lemmas.List.{length-set, get_or-set_same, get_or-set_other, get_or-replicate, length-replicate}
-use Rattle.audit_clauses.specs.{declared.mark.GroupMark.GroupMark, declared.mark.GroupMark.TheVariants.{Unseen, Seen, Divided}}
-use Rattle.audit_clauses.specs.Marks.{mark_at, AreUnseen, marked, IsWhole, IsSplit, IsMark, AreMarks}
+use Rattle.std.proofs.{Common.{◌≡◌, ◌≢◌, ℕ, ◌+◌, ◌<◌, ◌≤◌, ⊎_elim, List, get_or, set, replicate, sym, ap, ◌∙◌, refl, arith, eq-eqb, ne_eqb, rules}, lemmas.Bool.cases_eq}
+use Rattle.{std.proofs.lemmas.List.{length-set, get_or-set_same, get_or-set_other, get_or-replicate, length-replicate}, audit_clauses.specs.declared.mark.GroupMark.GroupMark}
+use Rattle.audit_clauses.specs.{Marks.{mark_at, AreUnseen, marked, IsWhole, IsSplit, IsMark, AreMarks}, declared.mark.GroupMark.TheVariants.{Unseen, Seen, Divided}}
 
 pub unseen_are : (wide : ℕ) (marks : List GroupMark) → marks ≡ replicate wide Unseen → AreUnseen wide marks
 unseen_are wide marks same = search (rules, length-replicate, get_or-replicate)

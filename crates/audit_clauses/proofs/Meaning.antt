@@ -1,12 +1,9 @@
 -- What the marks of all blocks say.
-use Rattle.std.proofs.Common.{◌≡◌, ◌≢◌, ℕ, ◌+◌, ◌<◌, ⊎_elim, List, length, sym, ◌∙◌, refl, arith, rules}
-use Rattle.std.proofs.lemmas.Bool.{cases_lt, cases_eq}
-use Rattle.std.proofs.lemmas.List.{get_or_past}
-use Rattle.desk_model.specs.declared.block.BlockRow.{BlockRow}
-use Rattle.audit_clauses.specs.{declared.mark.GroupMark.GroupMark, declared.mark.GroupMark.TheVariants.{Unseen, Seen, Divided}}
-use Rattle.audit_clauses.specs.{claim.Divided.{county_at, IsInCounty, IsInCity, AreDivided, IsDividedCounty, IsDividedCity, IsDividedWithinCounty}, claim.Exactly.AreExactly}
-use Rattle.audit_clauses.specs.{claim.Nested.{IsIn, IsNested, BreaksNesting}, Marks.{mark_at, value_at, one_part, IsSplit, IsMark, AreMarks, IsDividedAt, IsUnnested, IsUnnestedAt}}
-use Rattle.audit_clauses.proofs.{Listing.exactly_same, Places.county_below}
+use Rattle.std.proofs.{Common.{◌≡◌, ◌≢◌, ℕ, ◌+◌, ◌<◌, ⊎_elim, List, length, sym, ◌∙◌, refl, arith, rules}, lemmas.{Bool.{cases_lt, cases_eq}, List.get_or_past}}
+use Rattle.audit_clauses.specs.{Marks.{mark_at, value_at, one_part, IsSplit, IsMark, AreMarks, IsDividedAt, IsUnnested, IsUnnestedAt}, claim.Exactly.AreExactly}
+use Rattle.audit_clauses.{specs.claim.Divided.{county_at, IsInCounty, IsInCity, AreDivided, IsDividedCounty, IsDividedCity, IsDividedWithinCounty}, proofs.Listing.exactly_same}
+use Rattle.audit_clauses.specs.{claim.Nested.{IsIn, IsNested, BreaksNesting}, declared.mark.GroupMark.{GroupMark, TheVariants.{Unseen, Seen, Divided}}}
+use Rattle.{desk_model.specs.declared.block.BlockRow.BlockRow, audit_clauses.proofs.Places.county_below}
 
 -- a mark past the end isn't there
 inside : (marks : List GroupMark) (k : ℕ) → IsDividedAt marks k → k < length marks
@@ -50,10 +47,7 @@ cities_are blocks plan wide marks codes above are exactly =
     exactly
 
 within_from_split : (blocks : List BlockRow) (plan : List ℕ) (city : ℕ) → IsSplit (IsInCity blocks city) (county_at blocks) (value_at plan) → IsDividedWithinCounty blocks plan city
-within_from_split blocks plan city split = record {
-  county = county_at blocks split.one;
-  divided = search rules;
-}
+within_from_split blocks plan city split = record { county = county_at blocks split.one; divided = search rules }
 
 split_from_within : (blocks : List BlockRow) (plan : List ℕ) (city : ℕ) → IsDividedWithinCounty blocks plan city → IsSplit (IsInCity blocks city) (county_at blocks) (value_at plan)
 split_from_within blocks plan city is = search rules

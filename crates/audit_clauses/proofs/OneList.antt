@@ -1,16 +1,11 @@
 -- A plan's breaks are one list, and those of districts that follow one another are put together.
-use Rattle.std.specs.{Ordering.nat_cmp, List.Sorted.{IsStrictlyIncreasing, IsStrictlySortedBy}}
+use Rattle.std.{specs.{List.Sorted.{IsStrictlyIncreasing, IsStrictlySortedBy}, Ordering.nat_cmp}, proofs.lemmas.{Bool.{cases_eq, cases_lt}, Cmp.ranked, Map.Made.Contains-tail}}
 use Rattle.std.proofs.Common.{Less, ◌≡◌, ◌≢◌, ℕ, ◌+◌, ◌-◌, ◌<◌, ◌≤◌, ◌⊎◌, inl, inr, ⊎_elim, Option, None, Some, MatchOption, List, [], ◌∷◌, ◌++◌, length, get_or, Contains, refl, sym, ap, ◌∙◌, subst, arith, rules}
-use Rattle.std.proofs.lemmas.Bool.{cases_eq, cases_lt}
-use Rattle.std.proofs.lemmas.Cmp.{ranked}
-use Rattle.std.proofs.lemmas.List.{length-map, length-append, map-append, get_or-map, get_or_append_left, get_or-append_right, same_lists}
+use Rattle.std.proofs.lemmas.{List.{length-map, length-append, map-append, get_or-map, get_or_append_left, get_or-append_right, same_lists}, Map.Views.All-after_first}
 use Rattle.std.proofs.lemmas.List.Elements.{All-contains, All-append, All-weaker, Contains-push, Contains-append_left, Contains-append_right}
-use Rattle.std.proofs.lemmas.Map.Keys.{sorted_tail, sorted_from_strictly_increasing}
-use Rattle.std.proofs.lemmas.Map.Views.{All-after_first}
-use Rattle.std.proofs.lemmas.Map.Made.{Contains-tail}
+use Rattle.{std.proofs.lemmas.Map.Keys.{sorted_tail, sorted_from_strictly_increasing}, audit_clauses.specs.{claim.Paths.{IsIn, HoldsTogether}, declared.breaks.Break.Break}}
+use Rattle.audit_clauses.specs.{claim.Breaks.{IsLeast, IsGap, IsBreak, IsBreakWithin, districts_of, AreBreaks}, declared.breaks.Gap.Gap}
 use Rattle.desk_model.specs.claim.Geography.{GeographyModel}
-use Rattle.audit_clauses.specs.{declared.breaks.Gap.Gap, declared.breaks.Break.Break, claim.Paths.{IsIn, HoldsTogether}}
-use Rattle.audit_clauses.specs.claim.Breaks.{IsLeast, IsGap, IsBreak, IsBreakWithin, districts_of, AreBreaks}
 
 later : (x : ℕ) (xs : List ℕ) (z : ℕ) → IsStrictlySortedBy nat_cmp (x ∷ xs) → Contains xs z → x < z
 later x xs z sorted has = ranked x z Less (sym (All-contains (λ q. nat_cmp x q ≡ Less) xs z (All-after_first nat_cmp x xs sorted) has))

@@ -1,11 +1,8 @@
 -- Counties and cities of the blocks at places.
-use Rattle.std.proofs.Common.{◌≡◌, ℕ, ◌+◌, ◌<◌, ◌≤◌, ◌^◌, Some, None, List, length, get_or, sym, ap, ◌∙◌, arith, rules}
-use Rattle.std.proofs.lemmas.Bool.{cases_lt}
-use Rattle.std.proofs.lemmas.List.{get_or-map, length-map}
-use Rattle.std.proofs.lemmas.Map.Keys.{sorted_from_strictly_increasing, below_from_sorted}
-use Rattle.desk_model.specs.{declared.block.BlockRow.BlockRow, claim.Block.{county_of, state_of}, claim.GeographyModels.AreBlocks, claim.Geography.{ids_of, id_at}}
-use Rattle.desk_model.proofs.Parts.{county_rises}
-use Rattle.audit_clauses.specs.{claim.Divided.{county_at, city_at, IsInCounty, IsInCity}, Splits.AreCodesBelow}
+use Rattle.std.proofs.{Common.{◌≡◌, ℕ, ◌+◌, ◌<◌, ◌≤◌, ◌^◌, Some, None, List, length, get_or, sym, ap, ◌∙◌, arith, rules}, lemmas.{Bool.cases_lt, List.{get_or-map, length-map}}}
+use Rattle.{std.proofs.lemmas.Map.Keys.{sorted_from_strictly_increasing, below_from_sorted}, audit_clauses.specs.Splits.AreCodesBelow, desk_model.proofs.Parts.county_rises}
+use Rattle.{audit_clauses.specs.claim.Divided.{county_at, city_at, IsInCounty, IsInCity}, desk_model.specs.claim.{Block.{county_of, state_of}, Geography.{ids_of, id_at}}}
+use Rattle.desk_model.specs.{claim.GeographyModels.AreBlocks, declared.block.BlockRow.BlockRow}
 
 pub county_here : (blocks : List BlockRow) (i : ℕ) (row : BlockRow) → i < length blocks → row ≡ get_or blocks i row → county_at blocks i ≡ county_of row.id
 county_here blocks i row within is = ap county_of (get_or-map (λ (b : BlockRow). b.id) blocks i row 0 within ∙ ap (λ (b : BlockRow). b.id) (sym is))

@@ -1,13 +1,10 @@
 -- The breaks, district by district.
-use Rattle.std.specs.List.Sorted.{IsStrictlyIncreasing}
+use Rattle.std.{specs.List.Sorted.IsStrictlyIncreasing, proofs.lemmas.{Bool.cases_lt, List.Elements.{All-push, All-contains, Contains-push, Contains-append_left}}}
 use Rattle.std.proofs.Common.{◌≡◌, ℕ, ◌+◌, ◌<◌, ◌≤◌, ◌⊎◌, ⊎_elim, None, List, [], ◌∷◌, ◌++◌, length, get_or, All, Contains, sym, ap, ◌∙◌, arith, rules}
-use Rattle.std.proofs.lemmas.Bool.{cases_lt}
-use Rattle.std.proofs.lemmas.List.{length-map, map_push, length_push, get_or_push, get_or_append_left, get_or-map, take_all}
-use Rattle.std.proofs.lemmas.List.Elements.{All-push, All-contains, Contains-push, Contains-append_left}
-use Rattle.desk_model.specs.{declared.block.BlockRow.BlockRow, declared.geography.Pair.Pair, claim.Geography.{GeographyModel, id_at}}
-use Rattle.audit_clauses.specs.{declared.breaks.Gap.Gap, declared.breaks.Break.Break, declared.lowest.Lowest.TheVariants.{Zero, One, Two}}
-use Rattle.audit_clauses.specs.{claim.Paths.{AreNeighbours, IsIn, AreJoined, HoldsTogether}, Forest.{HasOneRoot, IsForest}, Lowest.{IsRoot, AreLowest}}
-use Rattle.audit_clauses.specs.claim.Breaks.{IsLeast, IsApart, IsGap, IsBreak, IsBreakWithin, districts_of, AreBreaks}
+use Rattle.{std.proofs.lemmas.List.{length-map, map_push, length_push, get_or_push, get_or_append_left, get_or-map, take_all}, audit_clauses.specs.Forest.{HasOneRoot, IsForest}}
+use Rattle.audit_clauses.specs.{Lowest.{IsRoot, AreLowest}, claim.Breaks.{IsLeast, IsApart, IsGap, IsBreak, IsBreakWithin, districts_of, AreBreaks}, declared.breaks.Break.Break}
+use Rattle.audit_clauses.specs.{claim.Paths.{AreNeighbours, IsIn, AreJoined, HoldsTogether}, declared.{breaks.Gap.Gap, lowest.Lowest.TheVariants.{Zero, One, Two}}}
+use Rattle.desk_model.specs.{claim.Geography.{GeographyModel, id_at}, declared.{block.BlockRow.BlockRow, geography.Pair.Pair}}
 use Rattle.audit_clauses.proofs.Walks.{joined_on, joined_back, end_lies, same_joined}
 
 -- the root of a block of the district is one of its roots

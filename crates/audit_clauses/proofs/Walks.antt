@@ -1,8 +1,6 @@
 -- Paths within a district, one after the other and back.
-use Rattle.std.proofs.Common.{◌≡◌, ℕ, inl, inr, List, [], ◌∷◌, ◌++◌, All, sym, ap, ◌∙◌, refl}
-use Rattle.std.proofs.lemmas.List.Elements.{All-cons, All-head, All-tail, All-nil, All-push}
-use Rattle.desk_model.specs.declared.geography.Pair.{Pair}
-use Rattle.audit_clauses.specs.claim.Paths.{AreNeighbours, IsPath, end_of, IsIn, AreJoined}
+use Rattle.std.proofs.{Common.{◌≡◌, ℕ, inl, inr, List, [], ◌∷◌, ◌++◌, All, sym, ap, ◌∙◌, refl}, lemmas.List.Elements.{All-cons, All-head, All-tail, All-nil, All-push}}
+use Rattle.{audit_clauses.specs.claim.Paths.{AreNeighbours, IsPath, end_of, IsIn, AreJoined}, desk_model.specs.declared.geography.Pair.Pair}
 
 path_push : (pairs : List Pair) (a c : ℕ) (rest : List ℕ) → IsPath pairs a rest → AreNeighbours pairs (end_of a rest) c → IsPath pairs a (rest ++ c ∷ [])
 path_push pairs a c [] path next = (next, tt)

@@ -1,7 +1,6 @@
 -- Trees of blocks: each block points to itself or to a lower block of its tree.
 use Rattle.std.specs.Prelude.{◌≡◌, ℕ, ◌<◌, ◌≤◌, ◌^◌, ◌==◌, if◌then◌else◌, List, length, get_or, min, max, take, All}
-use Rattle.desk_model.specs.declared.geography.Pair.{Pair}
-use Rattle.audit_clauses.specs.claim.Paths.{IsIn, AreJoined}
+use Rattle.{audit_clauses.specs.claim.Paths.{IsIn, AreJoined}, desk_model.specs.declared.geography.Pair.Pair}
 
 -- both places of a pair are within a list of that length
 pub record LiesWithin (count : ℕ) (q : Pair) : Type 0 where

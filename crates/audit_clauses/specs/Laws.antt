@@ -1,7 +1,6 @@
 -- Laws of the breaks of a plan.
-use Rattle.std.specs.{Prelude.{◌≡◌, ℕ, ◌+◌, ◌≤◌, ◌++◌, List, Contains}, List.Sorted.IsStrictlyIncreasing}
-use Rattle.desk_model.specs.claim.Geography.{GeographyModel}
-use Rattle.audit_clauses.specs.{declared.breaks.Break.Break, claim.Breaks.AreBreaks}
+use Rattle.std.specs.{List.Sorted.IsStrictlyIncreasing, Prelude.{◌≡◌, ℕ, ◌+◌, ◌≤◌, ◌++◌, List, Contains}}
+use Rattle.{audit_clauses.specs.{claim.Breaks.AreBreaks, declared.breaks.Break.Break}, desk_model.specs.claim.Geography.GeographyModel}
 
 -- a plan's breaks are one list
 abbrev pub BreaksAreOneList : Type 0

@@ -1,6 +1,6 @@
 -- The two lowest roots of a district.
 use Rattle.std.specs.Prelude.{◌≡◌, ℕ, ◌+◌, ◌<◌, ◌≤◌, ◌^◌, ◌⊎◌, List, length, get_or}
-use Rattle.audit_clauses.specs.{declared.lowest.Lowest.Lowest, declared.lowest.Lowest.TheVariants.{Zero, One, Two}, claim.Paths.IsIn}
+use Rattle.audit_clauses.specs.{claim.Paths.IsIn, declared.lowest.Lowest.{Lowest, TheVariants.{Zero, One, Two}}}
 
 -- each of the plan's blocks has a parent beside it, and a number of 32 bits can tell it
 pub record AreBeside (parents plan : List ℕ) : Type 0 where

@@ -1,7 +1,7 @@
 -- Marks: what is noted of the values of groups of blocks, block by block. A group has parts, told by numbers that never fall along the
 -- blocks.
 use Rattle.std.specs.Prelude.{◌≡◌, ◌≢◌, ℕ, ◌<◌, ◌≤◌, ◌==◌, if◌then◌else◌, List, length, get_or}
-use Rattle.audit_clauses.specs.{declared.mark.GroupMark.GroupMark, declared.mark.GroupMark.TheVariants.{Unseen, Seen, Divided}}
+use Rattle.audit_clauses.specs.declared.mark.GroupMark.{GroupMark, TheVariants.{Unseen, Seen, Divided}}
 
 abbrev pub mark_at : List GroupMark → ℕ → GroupMark
 mark_at marks k = get_or marks k Unseen

@@ -1,7 +1,6 @@
 -- Some of a plan's districts, in parts of sixteen: part k, from 0, has the districts from 16 * k + 1 to 16 * k + 16, or to the last.
 use Rattle.std.specs.Prelude.{◌≡◌, ℕ, ◌-◌, ◌/◌, ◌≤◌, Bool, false, ◌&&◌, nat_lt, if◌then◌else◌, List, length, get_or, map}
-use Rattle.desk_model.specs.claim.Geography.{GeographyModel}
-use Rattle.audit_clauses.specs.{declared.lowest.Lowest.Lowest, Rooted.AreRooted}
+use Rattle.{audit_clauses.specs.{Rooted.AreRooted, declared.lowest.Lowest.Lowest}, desk_model.specs.claim.Geography.GeographyModel}
 
 -- the district is of one of the own parts
 abbrev pub is_own : List Bool → ℕ → Bool

@@ -1,7 +1,6 @@
 -- Trees with the lowest roots of each district.
 use Rattle.std.specs.Prelude.{◌≡◌, ℕ, ◌+◌, ◌-◌, List, length}
-use Rattle.desk_model.specs.claim.Geography.{GeographyModel}
-use Rattle.audit_clauses.specs.{declared.lowest.Lowest.Lowest, Forest.IsForest, Lowest.AreAllLowest}
+use Rattle.{audit_clauses.specs.{Forest.IsForest, Lowest.AreAllLowest, declared.lowest.Lowest.Lowest}, desk_model.specs.claim.Geography.GeographyModel}
 
 -- the plan's trees over the blocks, and the lowest roots of its districts from first to last
 pub record AreRooted (g : GeographyModel) (plan : List ℕ) (first last : ℕ) (parents : List ℕ) (lowest : List Lowest) : Type 0 where

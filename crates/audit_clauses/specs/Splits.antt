@@ -1,9 +1,8 @@
 -- The counties and cities that a plan divides, and the marks by which they are found.
 use Rattle.std.specs.Prelude.{◌≡◌, ℕ, ◌<◌, ◌≤◌, ◌^◌, List, length}
-use Rattle.desk_model.specs.{declared.block.BlockRow.BlockRow, claim.GeographyModels.AreBlocks}
-use Rattle.audit_clauses.specs.{declared.mark.GroupMark.GroupMark, declared.splits.DividedGroups.DividedGroups, claim.Exactly.AreExactly}
+use Rattle.audit_clauses.specs.{Marks.{AreUnseen, AreMarks, one_part, value_at}, claim.Exactly.AreExactly, declared.{mark.GroupMark.GroupMark, splits.DividedGroups.DividedGroups}}
 use Rattle.audit_clauses.specs.claim.Divided.{county_at, IsInCounty, IsInCity, IsDividedCounty, IsDividedCity, IsDividedWithinCounty}
-use Rattle.audit_clauses.specs.Marks.{AreUnseen, AreMarks, one_part, value_at}
+use Rattle.desk_model.specs.{claim.GeographyModels.AreBlocks, declared.block.BlockRow.BlockRow}
 
 -- the codes of the cities of the first blocks are below this
 pub record AreCodesBelow (blocks : List BlockRow) (count codes : ℕ) : Type 0 where

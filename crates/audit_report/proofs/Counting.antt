@@ -1,9 +1,6 @@
 -- Counts and filters that aren't empty.
 use Rattle.std.proofs.Common.{rules, ◌≡◌, ℕ, ◌+◌, ◌-◌, ◌<◌, ◌≤◌, Bool, true, false, cond, eqb, zero, suc, List, [], ◌∷◌, length, get_or, filter, count_by, All, Contains, ap, ◌∙◌, arith, ⊎_elim, eq-eqb}
-use Rattle.std.proofs.lemmas.Bool.{cases_Bool, eqb-true}
-use Rattle.std.proofs.lemmas.List.Sums.{sum_by-cons}
-use Rattle.std.proofs.lemmas.List.Elements.{All-filter, filter_passes}
-use Rattle.std.proofs.lemmas.List.FromFn.{get_or-range_with_len, length-range_with_len}
+use Rattle.std.proofs.lemmas.{Bool.{cases_Bool, eqb-true}, List.{Elements.{All-filter, filter_passes}, FromFn.{get_or-range_with_len, length-range_with_len}, Sums.sum_by-cons}}
 use Rattle.audit_clauses.specs.claim.People.{districts}
 
 counted_at : (x : ℕ) (xs : List ℕ) → eqb x 0 ≡ true → count_by (λ d. eqb d 0) (x ∷ xs) ≡ 1 + count_by (λ d. eqb d 0) xs

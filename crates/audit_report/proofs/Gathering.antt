@@ -1,13 +1,10 @@
 -- The pieces that are left when one is taken, and the breaks of all parts.
-use Rattle.std.specs.{Prelude.Vec, declared.alloc.Global.Global}
+use Rattle.std.{specs.{Prelude.Vec, declared.alloc.Global.Global}, proofs.{Math.Nat.{mul-le-mul_left, div-add-mod, mod-lt}, lemmas.Bool.{cases_lt, cases_eq}}}
 use Rattle.std.proofs.Common.{rules, ◌≡◌, ◌≢◌, ℕ, ◌+◌, ◌-◌, ◌*◌, ◌/◌, ◌%◌, ◌<◌, ◌≤◌, min, List, ◌++◌, length, get_or, set, remove, sym, ap, ◌∙◌, subst, arith, ⊎_elim}
-use Rattle.std.proofs.Math.Nat.{mul-le-mul_left, div-add-mod, mod-lt}
-use Rattle.std.proofs.lemmas.Bool.{cases_lt, cases_eq}
-use Rattle.std.proofs.lemmas.List.{get_or_default, length-set, get_or-set_same, get_or-set_other}
-use Rattle.std.proofs.lemmas.List.Edits.{get_or-remove_below, length-remove}
-use Rattle.audit_clauses.specs.{declared.breaks.Break.Break, claim.Breaks.AreBreaks, Laws.BreaksFollow, declared.splits.DividedGroups.DividedGroups}
-use Rattle.audit_report.specs.{declared.pieces.People.People, declared.pieces.Unnested.Unnested, declared.work.Found.Found, Work.{Audit, IsPieceOf, IsFound, breaks_in}}
-use Rattle.audit_report.specs.Share.{AreNumberedBelow, IsHeld, AreShares, IsTaken, IsThere}
+use Rattle.std.proofs.lemmas.List.{get_or_default, length-set, get_or-set_same, get_or-set_other, Edits.{get_or-remove_below, length-remove}}
+use Rattle.audit_clauses.specs.{Laws.BreaksFollow, claim.Breaks.AreBreaks, declared.{breaks.Break.Break, splits.DividedGroups.DividedGroups}}
+use Rattle.audit_report.specs.{Share.{AreNumberedBelow, IsHeld, AreShares, IsTaken, IsThere}, Work.{Audit, IsPieceOf, IsFound, breaks_in}, declared.pieces.People.People}
+use Rattle.audit_report.specs.declared.{pieces.Unnested.Unnested, work.Found.Found}
 use Rattle.audit_report.specs.declared.work.Found.TheVariants as found
 
 -- of two pieces of one worker the one before has the lower place

@@ -1,10 +1,8 @@
 -- Lists as JSON, item by item.
-use Rattle.std.specs.declared.alloc.Global.{Global}
+use Rattle.{std.{specs.declared.alloc.Global.Global, proofs.lemmas.List.{map_push, map_more, take_all}}, audit_report.specs.claim.ReportText.list_data}
 use Rattle.std.proofs.Common.{◌≡◌, ℕ, zero, suc, ◌+◌, ◌<◌, List, [], ◌∷◌, ◌++◌, length, get_or, map, take, Vec, String, string_bytes, refl, ap, sym, ◌∙◌, arith, rules}
-use Rattle.std.proofs.lemmas.List.{map_push, map_more, take_all}
-use Rattle.serde_json.{specs.Data.{Data, array, string}, specs.View.{view, items_of}, specs.declared.value.Value.{Value, Array, the_lemmas}, proofs.Views.view-Array}
+use Rattle.serde_json.{specs.{Data.{Data, array, string}, View.{view, items_of}, declared.value.Value.{Value, Array, the_lemmas}}, proofs.Views.view-Array}
 use Rattle.serde_json.specs.declared.value.Value as json
-use Rattle.audit_report.specs.claim.ReportText.{list_data}
 
 -- the values so far are those of the first items
 abbrev pub AreFirst : {X : Type 0} → (X → Data) → List X → ℕ → List Value → Type 0

@@ -1,11 +1,8 @@
 -- The broken clauses, one by one.
-use Rattle.std.specs.List.Sorted.{IsStrictlyIncreasing}
+use Rattle.std.{specs.List.Sorted.IsStrictlyIncreasing, proofs.lemmas.{Bool.{cases_lt, cases_Bool, false≢true}, List.{append-nil, length-map, map_push, get_or-map}}}
 use Rattle.std.proofs.Common.{rules, ◌≡◌, ℕ, ◌+◌, ◌<◌, Bool, true, false, IsTrue, zero, suc, List, [], ◌∷◌, ◌++◌, length, map, All, Contains, refl, ap, sym, ◌∙◌, arith, ⊎_elim}
-use Rattle.std.proofs.lemmas.Bool.{cases_lt, cases_Bool, false≢true}
-use Rattle.std.proofs.lemmas.List.{append-nil, length-map, map_push, get_or-map}
-use Rattle.std.proofs.lemmas.List.Elements.{All-push, All-nil, All-weaker, Contains-push, Contains-append_left}
-use Rattle.audit_report.specs.{declared.clause.Clause.Clause, declared.clause.Clause.TheVariants.{Complete, Mean, Range, Congress, Contiguous, Nested}}
-use Rattle.audit_report.specs.{claim.Clauses.{rank, AreExactlyClauses}, Assembled.noted}
+use Rattle.{std.proofs.lemmas.List.Elements.{All-push, All-nil, All-weaker, Contains-push, Contains-append_left}, audit_report.specs.Assembled.noted}
+use Rattle.audit_report.specs.{claim.Clauses.{rank, AreExactlyClauses}, declared.clause.Clause.{Clause, TheVariants.{Complete, Mean, Range, Congress, Contiguous, Nested}}}
 use Rattle.audit_clauses.proofs.Telling.{rising_push}
 
 -- the clauses of a lower rank of which this holds are named

@@ -1,15 +1,11 @@
 -- A plan has one report.
-use Rattle.std.proofs.Common.{rules, ◌≡◌, ℕ, ◌<◌, List, [], ◌∷◌, length, map, get_or, Option, Some, None, MatchOption, Contains, refl, sym, ap, ◌∙◌}
-use Rattle.std.proofs.lemmas.Bool.{cases_lt}
-use Rattle.std.proofs.lemmas.List.{length-map, get_or-map}
-use Rattle.std.proofs.lemmas.List.Elements.{All-contains, Contains-get_or}
-use Rattle.desk_model.specs.declared.kind.Kind.{Kind}
+use Rattle.std.proofs.{Common.{rules, ◌≡◌, ℕ, ◌<◌, List, [], ◌∷◌, length, map, get_or, Option, Some, None, MatchOption, Contains, refl, sym, ap, ◌∙◌}, lemmas.Bool.cases_lt}
+use Rattle.{std.proofs.lemmas.List.{length-map, get_or-map, Elements.{All-contains, Contains-get_or}}, audit_clauses.specs.Laws.{BreaksAreOneList, RisingListsAreOne}}
+use Rattle.audit_clauses.specs.claim.{Clauses.{RangeBreaks, AreExtremes, IsFirstMostPopulous, IsFirstLeastPopulous}, Exactly.AreExactly, Nested.BreaksNesting}
+use Rattle.audit_clauses.specs.{claim.{Divided.{IsDividedCounty, IsDividedCity, IsDividedWithinCounty}, People.populations_of}, declared.deviations.Extremes.Extremes}
+use Rattle.audit_report.specs.{Laws.ReportIsOne, claim.{Clauses.{rank, IsNamed, AreExactlyClauses}, Report.{IsRange, IsNesting, IsDividedBy}}, declared.clause.Clause.Clause}
+use Rattle.{audit_report.{specs.declared.clause.Clause.TheVariants.Complete, proofs.Naming.{clause_at, at_rank}}, desk_model.specs.declared.kind.Kind.Kind}
 use Rattle.desk_model.specs.declared.kind.Kind.TheVariants as kind
-use Rattle.audit_clauses.specs.{declared.deviations.Extremes.Extremes, claim.People.populations_of}
-use Rattle.audit_clauses.specs.{claim.Clauses.{RangeBreaks, AreExtremes, IsFirstMostPopulous, IsFirstLeastPopulous}, Laws.{BreaksAreOneList, RisingListsAreOne}}
-use Rattle.audit_clauses.specs.{claim.Exactly.AreExactly, claim.Divided.{IsDividedCounty, IsDividedCity, IsDividedWithinCounty}, claim.Nested.BreaksNesting}
-use Rattle.audit_report.specs.{declared.clause.Clause.Clause, declared.clause.Clause.TheVariants.Complete, claim.Clauses.{rank, IsNamed, AreExactlyClauses}, Laws.ReportIsOne}
-use Rattle.audit_report.{specs.claim.Report.{IsRange, IsNesting, IsDividedBy}, proofs.Naming.{clause_at, at_rank}}
 
 from_ranks : (xs : List Clause) → map clause_at (map rank xs) ≡ xs
 from_ranks [] = refl

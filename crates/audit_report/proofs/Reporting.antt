@@ -1,19 +1,15 @@
 -- From the pieces to the report.
-use Rattle.std.specs.{Option.option_copied, Borrow.Bor}
+use Rattle.std.{specs.{Borrow.Bor, Option.option_copied}, proofs.lemmas.{Bool.{cases_lt, lt-ltb, ltb-true, false≢true, some_since, and_from}, List.length-map}}
 use Rattle.std.proofs.Common.{rules, ◌≡◌, ℕ, ◌<◌, ◌≤◌, Bool, IsTrue, List, [], length, get_or, filter, Option, Some, None, option_map, is_some, MatchOption, refl, ap, sym, ◌∙◌, arith, ⊎_elim}
-use Rattle.std.proofs.lemmas.Bool.{cases_lt, lt-ltb, ltb-true, false≢true, some_since, and_from}
-use Rattle.std.proofs.lemmas.List.{length-map}
-use Rattle.std.proofs.lemmas.List.FromFn.{length-map-range_with_len}
-use Rattle.desk_model.specs.{declared.kind.Kind.Kind, declared.block.BlockRow.BlockRow, claim.Companions.takes, claim.Geography.GeographyModel}
-use Rattle.desk_model.specs.declared.kind.Kind.TheVariants as kind
-use Rattle.audit_clauses.specs.{declared.deviations.Extremes.Extremes, claim.People.{people_in, populations_of, state_people, districts}}
-use Rattle.audit_clauses.specs.{claim.Clauses.{deviates, RangeBreaks, AreExtremes}, declared.breaks.Gap.Gap, declared.breaks.Break.Break, claim.Paths.{IsIn, HoldsTogether}}
-use Rattle.audit_clauses.specs.claim.Breaks.{IsGap, AreBreaks}
-use Rattle.audit_report.specs.{declared.clause.Clause.Clause, declared.clause.Clause.TheVariants.{Complete, Mean, Range, Congress, Contiguous, Nested}}
-use Rattle.audit_report.specs.declared.pieces.Pieces.{Pieces}
+use Rattle.{std.proofs.lemmas.List.FromFn.length-map-range_with_len, audit_clauses.specs.claim.{Breaks.{IsGap, AreBreaks}, Clauses.{deviates, RangeBreaks, AreExtremes}}}
+use Rattle.audit_clauses.specs.{claim.{Paths.{IsIn, HoldsTogether}, People.{people_in, populations_of, state_people, districts}}, declared.breaks.{Break.Break, Gap.Gap}}
+use Rattle.{audit_clauses.specs.declared.deviations.Extremes.Extremes, audit_report.specs.{Assembled.{is_listed, found_clauses}, Pieces.{ArePeople, ReportsPieces}}}
 use Rattle.audit_report.specs.claim.Clauses.{is_house, is_congress, is_legislative, CongressBreaks, ContiguityBreaks, NestingBreaks, IsNamed, AreExactlyClauses}
-use Rattle.audit_report.specs.{claim.Report.{congress_of, IsRange, IsNesting, not_asked_of}, Pieces.{ArePeople, ReportsPieces}, Assembled.{is_listed, found_clauses}}
-use Rattle.audit_report.proofs.{Counting.{has_from_count, count_from_has, filter_from_district, first_filtered}, Naming.{named_none, named_more, named_all}}
+use Rattle.audit_report.specs.{claim.Report.{congress_of, IsRange, IsNesting, not_asked_of}, declared.{clause.Clause.Clause, pieces.Pieces.Pieces}}
+use Rattle.{audit_report.specs.declared.clause.Clause.TheVariants.{Complete, Mean, Range, Congress, Contiguous, Nested}, desk_model.specs.claim.Companions.takes}
+use Rattle.{desk_model.specs.{claim.Geography.GeographyModel, declared.{block.BlockRow.BlockRow, kind.Kind.Kind}}, audit_report.proofs.Naming.{named_none, named_more, named_all}}
+use Rattle.audit_report.proofs.Counting.{has_from_count, count_from_has, filter_from_district, first_filtered}
+use Rattle.desk_model.specs.declared.kind.Kind.TheVariants as kind
 
 pub populations_long : (blocks : List BlockRow) (plan : List ℕ) (n : ℕ) (populations : List ℕ) → populations ≡ populations_of blocks plan n → length populations ≡ n
 populations_long blocks plan n populations same = ap length same ∙ length-map-range_with_len (people_in blocks plan) 1 n

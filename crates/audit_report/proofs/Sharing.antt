@@ -1,12 +1,9 @@
 -- What a worker found so far, and all workers together.
-use Rattle.std.specs.{Prelude.Vec, declared.alloc.AllocError.AllocError, declared.alloc.Global.Global}
+use Rattle.std.{specs.{Prelude.Vec, declared.alloc.{AllocError.AllocError, Global.Global}}, proofs.Math.Nat.{add_comm, add-mul, mul-le-mul_right, div-add-mod, mod-lt, mul_comm}}
 use Rattle.std.proofs.Common.{rules, ◌≡◌, ℕ, ◌+◌, ◌-◌, ◌*◌, ◌/◌, ◌%◌, ◌<◌, ◌≤◌, min, Bool, List, [], ◌∷◌, ◌++◌, length, map, get_or, Result, Ok, IfOk, sym, ap, ◌∙◌, subst, arith, ⊎_elim}
-use Rattle.std.proofs.Math.Nat.{add_comm, add-mul, mul-le-mul_right, div-add-mod, mod-lt, mul_comm}
-use Rattle.std.proofs.lemmas.Bool.{cases_lt}
-use Rattle.std.proofs.lemmas.Nat.{mod-mul-add}
-use Rattle.std.proofs.lemmas.List.{length-map, length_push, get_or-map, get_or_push, get_or_append_left}
-use Rattle.audit_clauses.specs.{declared.breaks.Break.Break, claim.Breaks.AreBreaks, Parts.Shown}
-use Rattle.audit_report.specs.{declared.work.Found.Found, Work.{Audit, IsFound, shown_of}, Share.{IsHeld, IsShare, AreNext, AreOwnParts, AreShares}}
+use Rattle.{std.proofs.lemmas.{Bool.cases_lt, List.{length-map, length_push, get_or-map, get_or_push, get_or_append_left}, Nat.mod-mul-add}, audit_clauses.specs.Parts.Shown}
+use Rattle.{audit_clauses.specs.{claim.Breaks.AreBreaks, declared.breaks.Break.Break}, audit_report.specs.Share.{IsHeld, IsShare, AreNext, AreOwnParts, AreShares}}
+use Rattle.audit_report.specs.{Work.{Audit, IsFound, shown_of}, declared.work.Found.Found}
 use Rattle.audit_report.specs.declared.work.Found.TheVariants as found
 
 pub next_more : (a : Audit) (workers worker piece : ℕ) (held : List Found) (x : Found) → AreNext a workers worker piece held → IsFound a piece x

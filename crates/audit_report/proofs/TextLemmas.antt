@@ -1,9 +1,7 @@
 -- A report has no float.
-use Rattle.std.specs.{Prelude.String, declared.alloc.AllocError.AllocError, declared.alloc.Global.Global}
-use Rattle.std.proofs.Common.{◌≡◌, false, ℕ, List, [], ◌∷◌, Option, Some, None, Result, Ok, Err, IfOk, refl, ap, ◌∙◌, string_bytes}
-use Rattle.serde_json.specs.{Data.Data, Written.{has_float, compact_text}}
-use Rattle.audit_clauses.specs.{declared.deviations.Extremes.Extremes, declared.breaks.Gap.Gap, declared.breaks.Break.Break}
-use Rattle.audit_report.specs.claim.Figures.{Figures}
+use Rattle.{std.specs.{Prelude.String, declared.alloc.{AllocError.AllocError, Global.Global}}, audit_clauses.specs.declared.breaks.{Break.Break, Gap.Gap}}
+use Rattle.{std.proofs.Common.{◌≡◌, false, ℕ, List, [], ◌∷◌, Option, Some, None, Result, Ok, Err, IfOk, refl, ap, ◌∙◌, string_bytes}, audit_report.specs.claim.Figures.Figures}
+use Rattle.{audit_clauses.specs.declared.deviations.Extremes.Extremes, serde_json.specs.{Data.Data, Written.{has_float, compact_text}}}
 use Rattle.audit_report.specs.claim.ReportText.{clause_data, code_data, number_data, list_data, gap_data, break_data, divided_data, range_data, report_data, report_text}
 
 list_has_no_float : {X : Type 0} (f : X → Data) → ((x : X) → has_float (f x) ≡ false) → (xs : List X) → has_float (list_data f xs) ≡ false

@@ -1,7 +1,6 @@
 -- The broken clauses, as the pieces of the work tell them.
 use Rattle.std.specs.Prelude.{◌++◌, Bool, nat_lt, if◌then◌else◌, List, [], ◌∷◌, length, is_some}
-use Rattle.audit_report.specs.{declared.clause.Clause.Clause, declared.clause.Clause.TheVariants.{Complete, Mean, Range, Congress, Contiguous, Nested}}
-use Rattle.audit_report.specs.declared.pieces.Pieces.{Pieces}
+use Rattle.audit_report.specs.declared.{clause.Clause.{Clause, TheVariants.{Complete, Mean, Range, Congress, Contiguous, Nested}}, pieces.Pieces.Pieces}
 
 -- the clause, where it is broken
 abbrev pub noted : Bool → Clause → List Clause

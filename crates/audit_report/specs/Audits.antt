@@ -1,7 +1,7 @@
 -- What can be audited.
 use Rattle.std.specs.Prelude.{◌≡◌, ℕ, List, length}
-use Rattle.desk_model.specs.{declared.companions.Companions.Companions, declared.kind.Kind.Kind, Companions.{AreLong, AreTaken}, claim.Geography.GeographyModel}
-use Rattle.audit_clauses.specs.Counts.{IsCount}
+use Rattle.{audit_clauses.specs.Counts.IsCount, desk_model.specs.{Companions.{AreLong, AreTaken}, claim.Geography.GeographyModel, declared.companions.Companions.Companions}}
+use Rattle.desk_model.specs.declared.kind.Kind.{Kind}
 
 -- a plan of so many districts, with one or none for each block
 pub record IsPlanOf (g : GeographyModel) (n : ℕ) (plan : List ℕ) : Type 0 where

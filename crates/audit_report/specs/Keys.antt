@@ -1,8 +1,6 @@
 -- The keys of a report, as they are put into a map, from the last key to the first.
-use Rattle.std.specs.Prelude.{codes}
-use Rattle.desk_model.specs.claim.Kind.{kind_name}
-use Rattle.serde_json.specs.Data.{string, Members, put}
-use Rattle.audit_report.specs.{claim.Figures.Figures, claim.ReportText.{clause_data, code_data, number_data, list_data, break_data, divided_data, range_data}}
+use Rattle.{std.specs.Prelude.codes, audit_report.specs.claim.{Figures.Figures, ReportText.{clause_data, code_data, number_data, list_data, break_data, divided_data, range_data}}}
+use Rattle.{desk_model.specs.claim.Kind.kind_name, serde_json.specs.Data.{string, Members, put}}
 
 abbrev pub last_members : Figures → Members → Members
 last_members r m =

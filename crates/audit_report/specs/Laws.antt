@@ -1,7 +1,7 @@
 -- A law of reports.
 use Rattle.std.specs.Prelude.{◌≡◌, ℕ, List}
-use Rattle.desk_model.specs.{declared.companions.Companions.Companions, declared.kind.Kind.Kind, claim.Geography.GeographyModel}
-use Rattle.audit_report.specs.{claim.Figures.Figures, claim.Report.IsReport}
+use Rattle.{audit_report.specs.claim.{Figures.Figures, Report.IsReport}, desk_model.specs.{claim.Geography.GeographyModel, declared.companions.Companions.Companions}}
+use Rattle.desk_model.specs.declared.kind.Kind.{Kind}
 
 -- a plan has one report
 abbrev pub ReportIsOne : Type 0

@@ -1,9 +1,9 @@
 -- What the pieces of the work found.
 use Rattle.std.specs.Prelude.{◌≡◌, ℕ, Bool, IsTrue, List, option_map, is_some}
-use Rattle.desk_model.specs.{declared.companions.Companions.Companions, declared.kind.Kind.Kind, Companions.AreTaken, claim.Geography.GeographyModel}
-use Rattle.audit_clauses.specs.{claim.People.{populations_of, state_people}, claim.Clauses.MeanBreaks, claim.Breaks.AreBreaks, Splits.AreDividedGroups}
-use Rattle.audit_report.specs.{declared.pieces.People.People, declared.pieces.Unnested.Unnested, declared.pieces.Pieces.Pieces, claim.Clauses.is_legislative, claim.Figures.Figures}
-use Rattle.audit_report.specs.claim.Report.{unassigned_of, congress_of, IsRange, IsNesting, IsDividedBy, IsReport}
+use Rattle.audit_clauses.specs.{Splits.AreDividedGroups, claim.{Breaks.AreBreaks, Clauses.MeanBreaks, People.{populations_of, state_people}}}
+use Rattle.audit_report.specs.claim.{Clauses.is_legislative, Figures.Figures, Report.{unassigned_of, congress_of, IsRange, IsNesting, IsDividedBy, IsReport}}
+use Rattle.{audit_report.specs.declared.pieces.{People.People, Pieces.Pieces, Unnested.Unnested}, desk_model.specs.{Companions.AreTaken, claim.Geography.GeographyModel}}
+use Rattle.desk_model.specs.declared.{companions.Companions.Companions, kind.Kind.Kind}
 
 -- whether the clause of the mean applies and is broken
 pub record IsMean (kind : Kind) (populations : List ℕ) (total : ℕ) (told : Bool) : Type 0 where

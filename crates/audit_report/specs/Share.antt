@@ -1,7 +1,6 @@
 -- What the workers found, each in its own pieces: those that leave the worker's number when they are divided by the number of workers.
 use Rattle.std.specs.Prelude.{◌≡◌, ◌↔◌, ℕ, ◌+◌, ◌*◌, ◌/◌, ◌%◌, ◌<◌, ◌≤◌, min, Bool, false, IsTrue, List, length, get_or, set, remove, Vec, Result, IfOk}
-use Rattle.std.specs.{declared.alloc.AllocError.AllocError, declared.alloc.Global.Global}
-use Rattle.audit_report.specs.{declared.work.Found.Found, Work.{Audit, IsPieceOf, IsFound}}
+use Rattle.{std.specs.declared.alloc.{AllocError.AllocError, Global.Global}, audit_report.specs.{Work.{Audit, IsPieceOf, IsFound}, declared.work.Found.Found}}
 
 -- the pieces are numbered below this
 abbrev pub AreNumberedBelow : ℕ → ℕ → Type 0

@@ -1,19 +1,13 @@
 -- A printed text is read line by line.
-use Rattle.std.specs.{Prelude.{codes, AllPairs}, Char.is_ascii_digit, List.{list_all, list_any, flat_map, zip}, Str.Lines.{lines, strip_carriage_return}}
+use Rattle.std.specs.{Char.is_ascii_digit, List.{list_all, list_any, flat_map, zip}, Prelude.{codes, AllPairs}, Str.Lines.{lines, strip_carriage_return}}
 use Rattle.std.proofs.Common.{◌≡◌, ℕ, ◌+◌, ◌-◌, ◌<◌, ◌≤◌, ◌^◌, true, false, not, ◌&&◌, eqb, List, [], ◌∷◌, ◌++◌, map, length, get_or, zero, suc, refl, sym, ◌∙◌, ap, arith, All, Some, None, Result, Ok, append_assoc, append-nil, length-append, rules}
-use Rattle.std.proofs.Math.Dec.{eqb-suc-zero}
-use Rattle.std.proofs.lemmas.Bool.{ne_eqb, eq-eqb, and_parts, and_from, cond-true, cond-false, not-true}
-use Rattle.std.proofs.lemmas.Bool.Decides.{nat_tests}
-use Rattle.std.proofs.lemmas.List.{length-map}
-use Rattle.std.proofs.lemmas.List.Folds.{list_any_at}
-use Rattle.std.proofs.lemmas.List.Kept.{AllPairs-from_increasing}
-use Rattle.std.proofs.lemmas.List.Elements.{All-cons, All-nil, All-append, All-head, All-tail}
-use Rattle.desk_model.specs.{declared.kind.Kind.Kind, declared.kind.Kind.TheVariants.{Congress, Senate, House}}
-use Rattle.desk_model.specs.{claim.Baf.{Values, Fault, value_at, fields_of, line_read, rows_read, body_read}, claim.Padded.padded_decimal}
-use Rattle.desk_model.specs.{claim.Printed.{code_text, row_text, printed}, claim.Geography.{GeographyModel, ids}, claim.GeographyModels.AreBlocks, claim.Sizes.most_districts}
-use Rattle.byte_stream.{specs.claim.Fields.fields, proofs.TextLemmas.lines-cut}
-use Rattle.baf_text.{specs.Laws.{IsAssignment, PrintedIsRead}, specs.Listed.listed_of, proofs.Codes.{Writes, padded_writes, said, code_again, in_range_again}}
-use Rattle.baf_text.proofs.{Rows.{two_fields, fields_from_row}, Values.value_at-push_other}
+use Rattle.std.proofs.{Math.Dec.eqb-suc-zero, lemmas.{Bool.{ne_eqb, eq-eqb, and_parts, and_from, cond-true, cond-false, not-true, Decides.nat_tests}, List.length-map}}
+use Rattle.std.proofs.lemmas.List.{Elements.{All-cons, All-nil, All-append, All-head, All-tail}, Folds.list_any_at, Kept.AllPairs-from_increasing}
+use Rattle.{baf_text.specs.{Laws.{IsAssignment, PrintedIsRead}, Listed.listed_of}, byte_stream.specs.claim.Fields.fields, desk_model.specs.claim.Geography.{GeographyModel, ids}}
+use Rattle.desk_model.specs.claim.{Baf.{Values, Fault, value_at, fields_of, line_read, rows_read, body_read}, GeographyModels.AreBlocks, Padded.padded_decimal}
+use Rattle.desk_model.specs.{claim.{Printed.{code_text, row_text, printed}, Sizes.most_districts}, declared.kind.Kind.{Kind, TheVariants.{Congress, Senate, House}}}
+use Rattle.baf_text.proofs.{Codes.{Writes, padded_writes, said, code_again, in_range_again}, Rows.{two_fields, fields_from_row}, Values.value_at-push_other}
+use Rattle.byte_stream.proofs.TextLemmas.{lines-cut}
 
 -- a byte that ends no line
 record IsInLine (b : ℕ) : Type 0 where

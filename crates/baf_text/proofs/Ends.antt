@@ -1,11 +1,8 @@
 -- A printed line: how long it is, and what the next line has of it.
 use Rattle.std.proofs.Common.{set, ◌≤◌, ◌≡◌, ℕ, zero, suc, ◌+◌, ◌-◌, ◌/◌, ◌%◌, ◌<◌, ◌^◌, List, [], ◌∷◌, ◌++◌, length, replicate, refl, ◌∙◌, ap, arith, append_assoc, length-append, rules}
-use Rattle.std.proofs.Math.Dec.{eqb-suc-zero}
-use Rattle.std.proofs.lemmas.Bool.{cases_lt}
-use Rattle.std.proofs.lemmas.Fmt.{decimal_digit, decimal_step, length-decimal-le}
-use Rattle.desk_model.specs.{declared.kind.Kind.Kind, declared.kind.Kind.TheVariants.{Congress, Senate, House}, claim.Padded.padded_decimal, claim.Printed.{code_text, row_text}}
-use Rattle.desk_model.specs.claim.Sizes.{most_districts}
-use Rattle.baf_text.{specs.Ends.line_length, proofs.Printing.length-padded}
+use Rattle.{std.proofs.{Math.Dec.eqb-suc-zero, lemmas.{Bool.cases_lt, Fmt.{decimal_digit, decimal_step, length-decimal-le}}}, baf_text.specs.Ends.line_length}
+use Rattle.desk_model.specs.{claim.{Padded.padded_decimal, Printed.{code_text, row_text}, Sizes.most_districts}, declared.kind.Kind.{Kind, TheVariants.{Congress, Senate, House}}}
+use Rattle.baf_text.proofs.Printing.{length-padded}
 
 one_zero_more : (m : ℕ) → replicate {A = ℕ} (suc m) 48 ≡ replicate {A = ℕ} m 48 ++ 48 ∷ []
 one_zero_more zero = refl

@@ -1,13 +1,9 @@
 -- The first line with a fault.
-use Rattle.std.specs.{Prelude.nat_eq, Cmp.Lexicographic.pointwise, Str.Lines.lines}
-use Rattle.std.proofs.Common.{◌≡◌, ◌≢◌, ◌⊎◌, inl, inr, ⊎_elim, ℕ, ◌+◌, true, false, eqb, List, [], ◌∷◌, ◌++◌, length, suc, refl, sym, ◌∙◌, ap, arith, add-zero, Result, Ok, Err, rules}
-use Rattle.std.proofs.lemmas.Bool.{cases_Bool, both_ways, eqb-false, ne_eqb, false_from_ne_true}
-use Rattle.std.proofs.lemmas.Option.{same_Some}
-use Rattle.std.proofs.lemmas.Slice.Eq.{bytes_eq-Decides}
-use Rattle.desk_model.specs.{declared.reply.BodyFault.BodyFault, declared.reply.BodyFault.TheVariants.Header}
-use Rattle.desk_model.specs.{claim.Baf.{Values, Fault, header, fields_of, line_read, at_line, rows_read, with_header}, claim.Geography.GeographyModel}
-use Rattle.byte_stream.specs.claim.Fields.{fields}
-use Rattle.baf_text.{specs.Body.{IsBody, IsFaultyLine, HasNoHeader, FaultIsFirst}, proofs.Listing.{body_lists, body_listed, goes_on}}
+use Rattle.std.{specs.{Cmp.Lexicographic.pointwise, Prelude.nat_eq, Str.Lines.lines}, proofs.lemmas.Bool.{cases_Bool, both_ways, eqb-false, ne_eqb, false_from_ne_true}}
+use Rattle.std.proofs.Common.{◌≡◌, ◌≢◌, ◌⊎◌, ⊎_elim, ℕ, ◌+◌, true, false, eqb, List, [], ◌∷◌, ◌++◌, length, suc, refl, sym, ◌∙◌, ap, arith, add-zero, Result, Ok, Err, rules}
+use Rattle.{std.proofs.lemmas.{Option.same_Some, Slice.Eq.bytes_eq-Decides}, baf_text.specs.Body.{IsBody, IsFaultyLine, HasNoHeader, FaultIsFirst}}
+use Rattle.{byte_stream.specs.claim.Fields.fields, desk_model.specs.claim.{Baf.{Values, header, fields_of, line_read, at_line, rows_read, with_header}, Geography.GeographyModel}}
+use Rattle.{desk_model.specs.declared.reply.BodyFault.BodyFault, baf_text.proofs.Listing.{body_lists, body_listed, goes_on}}
 
 -- the lines up to a fault, read from some values on
 record FaultIn (g : GeographyModel) (n at : ℕ) (so_far : Values) (ls : List (List ℕ)) (code : BodyFault) (told : ℕ) : Type 0 where
@@ -88,25 +84,8 @@ told_first g n (first ∷ more) code at is = ⊎_elim
     (λ (same : pointwise nat_eq first header ≡ true).
     let f = rows_fault g n 2 [] more code at (rw same at is) in
     let ok : with_header g n (first ∷ f.before) ≡ Ok f.values = rw same f.reads in
-    inr (record {
-      before = first ∷ f.before;
-      line = f.line;
-      after = f.after;
-      values = f.values;
-      cut = ap (λ (xs : List (List ℕ)). first ∷ xs) f.cut;
-      number = omega (arith, f.number);
-      body = body_lists g n (first ∷ f.before) f.values ok;
-      bytes = f.bytes;
-      fault = f.fault;
-    }))
-    (λ (other : pointwise nat_eq first header ≡ false).
-    let told : ◌≡◌ {A = Result Values Fault} (Err (Header, 1)) (Err (code, at)) = rw other at is in
-    let both : ◌≡◌ {A = Fault} (Header, 1) (code, at) = cc told in
-    inl (record {
-      told = sym (ap (λ (f : Fault). f.0) both);
-      number = sym (ap (λ (f : Fault). f.1) both);
-      first = λ e. both_ways (pointwise nat_eq first header) other ((bytes_eq-Decides first header).1 (same_Some first header e));
-    }))
+    search (arith, body_lists g n (first ∷ f.before) f.values ok))
+    (λ (other : pointwise nat_eq first header ≡ false). search (rules, both_ways))
     (cases_Bool (pointwise nat_eq first header))
 
 header_told : (g : GeographyModel) (n : ℕ) (ls : List (List ℕ)) (code : BodyFault) (at : ℕ) → HasNoHeader ls code at → with_header g n ls ≡ Err (code, at)

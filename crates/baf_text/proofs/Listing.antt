@@ -1,17 +1,11 @@
 -- The lines' own values, and what the reading of them in turn gives.
-use Rattle.std.specs.{Prelude.{AllPairs, nat_eq}, List.list_any, Cmp.Lexicographic.pointwise, Str.Lines.lines}
+use Rattle.std.{specs.{Cmp.Lexicographic.pointwise, List.list_any, Prelude.{AllPairs, nat_eq}, Str.Lines.lines}, proofs.lemmas.Bool.{eq-eqb, eqb-true, cases_Bool}}
 use Rattle.std.proofs.Common.{◌≡◌, ◌≢◌, ℕ, ◌+◌, Bool, true, false, not, cond, eqb, List, [], ◌∷◌, ◌++◌, map, filter, length, get_or, zero, suc, refl, sym, ◌∙◌, ap, arith, All, Contains, Option, Some, None, Result, Ok, Err, is_some, append_assoc, ⊎_elim, rules}
-use Rattle.std.proofs.lemmas.Bool.{eq-eqb, eqb-true, cases_Bool}
-use Rattle.std.proofs.lemmas.List.{append-nil, get_or_default}
-use Rattle.std.proofs.lemmas.Option.{same_Some}
-use Rattle.std.proofs.lemmas.List.Elements.{All-cons, All-nil, All-head, All-tail}
-use Rattle.std.proofs.lemmas.List.Folds.{list_any_at, Any-from_list_any}
-use Rattle.std.proofs.lemmas.List.Kept.{AllPairs-cons}
-use Rattle.std.proofs.lemmas.Slice.Eq.{bytes_eq-Decides}
-use Rattle.desk_model.specs.{declared.reply.BodyFault.BodyFault, declared.reply.BodyFault.TheVariants.{UnknownBlock, RepeatedBlock}}
-use Rattle.desk_model.specs.{claim.Baf.{Values, value_at, header, fields_of, in_range, placed, line_read, at_line, rows_read, with_header}, claim.Geography.{GeographyModel, ids}}
-use Rattle.byte_stream.specs.claim.Fields.{fields}
-use Rattle.baf_text.{specs.Body.{with_district, value_of, IsBody, ReadIsListed}, proofs.Values.value_at-push_other}
+use Rattle.std.proofs.lemmas.List.{append-nil, get_or_default, Elements.{All-cons, All-nil, All-head, All-tail}, Folds.{list_any_at, Any-from_list_any}, Kept.AllPairs-cons}
+use Rattle.{std.proofs.lemmas.{Option.same_Some, Slice.Eq.bytes_eq-Decides}, baf_text.specs.Body.{with_district, value_of, IsBody, ReadIsListed}}
+use Rattle.{byte_stream.specs.claim.Fields.fields, desk_model.specs.claim.Baf.{Values, value_at, header, fields_of, in_range, placed, line_read, at_line, rows_read, with_header}}
+use Rattle.desk_model.specs.{claim.Geography.{GeographyModel, ids}, declared.reply.BodyFault.{BodyFault, TheVariants.{UnknownBlock, RepeatedBlock}}}
+use Rattle.baf_text.proofs.Values.{value_at-push_other}
 
 -- a line's fields add this block with its district
 pub record Adds (g : GeographyModel) (n : ℕ) (so_far : Values) (f : Option (ℕ × Option ℕ)) (e : ℕ × ℕ) : Type 0 where
@@ -168,11 +162,7 @@ rows_list g n at so_far [] values ok = search (rules, append-nil, All-nil)
 rows_list g n at so_far (line ∷ ls) values ok = ⊎_elim
     (λ (empty : eqb (length line) 0 ≡ true).
     let m = rows_list g n (at + 1) so_far ls values (rw empty at ok) in
-    let past : More g n so_far (line ∷ ls) values = record {
-      more = m.more;
-      is = m.is;
-      lists = record { rows = rows_past n line ls empty ∙ m.lists.rows; known = m.lists.known; fresh = m.lists.fresh; once = m.lists.once };
-    } in past)
+    let past : More g n so_far (line ∷ ls) values = search rules in past)
     (λ (bytes : eqb (length line) 0 ≡ false).
     let on = goes_on g n at so_far line ls values (rw bytes at ok) in
     let added = line_adds g n so_far (fields_of (fields line)) on.next on.line_is in

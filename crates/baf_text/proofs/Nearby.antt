@@ -1,15 +1,9 @@
 -- The head and the code of a line, by those of the line before.
-use Rattle.std.specs.{Char.{is_ascii_digit, digit_value}, List.list_all, Str.Lines.strip_carriage_return, Str.Parse.digits_value}
-use Rattle.std.proofs.Common.{◌≡◌, ℕ, ◌+◌, ◌-◌, ◌*◌, ◌/◌, ◌<◌, ◌≤◌, ◌^◌, Bool, true, ◌&&◌, eqb, List, [], ◌∷◌, ◌++◌, length, take, drop, get_or, sym, ◌∙◌, ap, arith, All, Option, Some, append_assoc, length-append, take-append-drop}
-use Rattle.std.proofs.lemmas.Bool.{and_parts}
-use Rattle.std.proofs.lemmas.Option.{cond_some}
-use Rattle.std.proofs.lemmas.Int.Digits.{digits_value_more}
-use Rattle.std.proofs.lemmas.List.{take_at, length-take-le}
-use Rattle.std.proofs.lemmas.List.Folds.{list_all_more}
-use Rattle.std.proofs.lemmas.Str.{digit_value_digit}
-use Rattle.desk_model.specs.claim.Baf.{are_digits, code_value}
-use Rattle.byte_stream.{specs.claim.Digits.number_of_digits, proofs.DigitLemmas.{digit_high, digit_low}}
-use Rattle.baf_text.{specs.Prefix.{HasHead, HasCode, HasHundreds, HasFirst}, proofs.Prefix.{IsNoFeed, prefix}, proofs.Rows.value_small}
+use Rattle.std.{specs.{Char.{is_ascii_digit, digit_value}, List.list_all, Str.{Lines.strip_carriage_return, Parse.digits_value}}, proofs.lemmas.{Bool.and_parts, Option.cond_some}}
+use Rattle.std.proofs.Common.{rules, ◌≡◌, ℕ, ◌+◌, ◌-◌, ◌*◌, ◌/◌, ◌<◌, ◌≤◌, ◌^◌, Bool, true, ◌&&◌, eqb, List, [], ◌∷◌, ◌++◌, length, take, drop, get_or, sym, ◌∙◌, ap, arith, All, Option, Some, append_assoc, length-append, take-append-drop}
+use Rattle.{std.proofs.lemmas.{Int.Digits.digits_value_more, List.{take_at, length-take-le, Folds.list_all_more}, Str.digit_value_digit}, baf_text.proofs.Prefix.{IsNoFeed, prefix}}
+use Rattle.{baf_text.specs.Prefix.{HasHead, HasCode, HasHundreds, HasFirst}, byte_stream.specs.claim.Digits.number_of_digits, desk_model.specs.claim.Baf.{are_digits, code_value}}
+use Rattle.{baf_text.proofs.Rows.value_small, byte_stream.proofs.DigitLemmas.{digit_high, digit_low}}
 
 -- fifteen digits, the last two by themselves
 record IsTold (text : List ℕ) : Type 0 where
@@ -29,10 +23,7 @@ pub near_number : (text digits : List ℕ) (hundreds : ℕ) → 15 ≤ length te
     → is_ascii_digit (get_or text 13 0) ≡ true → is_ascii_digit (get_or text 14 0) ≡ true
     → number_of_digits 15 (take 15 text) ≡ Some (hundreds + (get_or text 13 0 - 48) * 10 + (get_or text 14 0 - 48))
 near_number text digits hundreds long has same tens ones =
-    let cut = told text long in
-    let value : digits_value 10 (take 15 text) ≡ hundreds + (get_or text 13 0 - 48) * 10 + (get_or text 14 0 - 48)
-    = omega (arith, cut.value, ap (digits_value 10) same, has.value, worth (get_or text 13 0) tens, worth (get_or text 14 0) ones) in
-    rw (length-take-le 15 text long, cut.digits, same, has.are, tens, ones) (ap (λ (n : ℕ). Some n) value)
+    search (arith, told text long, get_or text 13 0 - 48, get_or text 14 0 - 48, worth (get_or text 13 0) tens, worth (get_or text 14 0) ones, length-take-le 15 text long)
 
 pub hundreds_small : (digits : List ℕ) (hundreds : ℕ) → HasHundreds digits hundreds → hundreds + 99 < 10 ^ 15
 hundreds_small digits hundreds has = omega (arith, has.value, value_small digits 13 has.are (omega (arith, has.long)))
@@ -57,21 +48,11 @@ hundreds_of text id head =
 -- a code is kept with the end of its line
 pub kept_code : (text code rest : List ℕ) (number : Option ℕ) → text ≡ code ++ 10 ∷ rest → All IsNoFeed code → code_value (strip_carriage_return code) ≡ Some number
     → HasCode (take (length code + 1) text) number []
-kept_code text code rest number cut one says = record {
-  code = code;
-  cut = ap (take (length code + 1)) (cut ∙ sym (append_assoc code (10 ∷ []) rest)) ∙ take_at (code ++ 10 ∷ []) rest (length code + 1) (length-append code (10 ∷ []));
-  one = one;
-  says = says;
-}
+kept_code text code rest number cut one says = search (rules, append_assoc code (10 ∷ []) rest, take_at (code ++ 10 ∷ []) rest (length code + 1) (length-append code (10 ∷ [])))
 
 -- and found again
 pub same_code : (text kept : List ℕ) (number : Option ℕ) (n : ℕ) → HasCode kept number [] → take n text ≡ kept → HasCode text number (drop n text)
-same_code text kept number n has same = record {
-  code = has.code;
-  cut = sym (take-append-drop n text) ∙ ap (λ (t : List ℕ). t ++ drop n text) (same ∙ has.cut) ∙ append_assoc has.code (10 ∷ []) (drop n text);
-  one = has.one;
-  says = has.says;
-}
+same_code text kept number n has same = search (rules, take-append-drop n text, append_assoc has.code (10 ∷ []) (drop n text))
 
 pub prefix_of : (text rest : List ℕ) (block : ℕ) (number : Option ℕ) → HasHead text block → HasCode (drop 16 text) number rest → HasFirst text (Some (Some (block, number))) rest
 prefix_of text rest block number head code = prefix text code.code rest block number head code.cut code.one code.says

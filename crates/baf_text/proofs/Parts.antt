@@ -1,9 +1,7 @@
 -- Parts that stand from a place on.
-use Rattle.std.specs.Prelude.{unwrap_or}
+use Rattle.{std.{specs.Prelude.unwrap_or, proofs.lemmas.Bool.{cases_lt, cases_eq, lt-ltb, le-ltb}}, baf_text.specs.Listed.{part_at, spread, IsListedPart, IsEntered}}
 use Rattle.std.proofs.Common.{Result, Ok, Err, OnOk, ◌≡◌, ℕ, zero, suc, ◌+◌, ◌-◌, ◌<◌, ◌≤◌, List, [], ◌∷◌, map, length, get_or, set, Option, Some, None, arith, refl, ap, sym, ◌∙◌, inl, inr, rules}
-use Rattle.std.proofs.lemmas.Bool.{cases_lt, cases_eq, lt-ltb, le-ltb}
 use Rattle.std.proofs.lemmas.List.{ext_get_or, get_or_past, length-set, get_or-set_same, get_or-set_other, get_or-map, length-map}
-use Rattle.baf_text.specs.Listed.{part_at, spread, IsListedPart, IsEntered}
 
 pub before : (first : ℕ) (part : List (Option ℕ)) (k : ℕ) → k < first → part_at first part k ≡ None
 before first part k less = rw (lt-ltb k first less) refl
@@ -54,8 +52,7 @@ spread_set first part first_now part_now n place district within within_now less
     ext_get_or None (spread first_now part_now n) (set (spread first part n) place (Some district))
     (length-spread first_now part_now n ∙ sym (length-set (spread first part n) place (Some district) ∙ length-spread first part n))
     (λ k inside. spread_at first_now part_now n k within_now ∙ elim (cases_eq k place) [
-      | inl same ↦ ap (part_at first_now part_now) same ∙ entered.there
-          ∙ sym (ap (λ i. get_or (set (spread first part n) place (Some district)) i None) same ∙ get_or-set_same (spread first part n) place (Some district) None (omega (arith, length-spread first part n)))
+      | inl same ↦ search (arith, get_or, get_or-set_same, length-spread)
       | inr other ↦ entered.others k other ∙ sym (get_or-set_other (spread first part n) place k (Some district) None other ∙ spread_at first part n k within)
     ])
 

@@ -1,15 +1,8 @@
 -- A row at the start of a text, found without a look for the line's end first.
-use Rattle.std.specs.{Char.is_ascii_digit, List.list_all, Str.Lines.{lines, strip_carriage_return}, Str.Parse.digits_value}
+use Rattle.std.{specs.{Char.is_ascii_digit, List.list_all, Str.{Lines.{lines, strip_carriage_return}, Parse.digits_value}}, proofs.{Math.Dec.eqb-suc-zero, lemmas.Bool.and_parts}}
 use Rattle.std.proofs.Common.{◌≡◌, ℕ, ◌-◌, Bool, true, false, cond, eqb, List, [], ◌∷◌, ◌++◌, length, take, drop, get_or, suc, refl, sym, ◌∙◌, ap, arith, All, Option, Some, append_assoc, length-append, length-drop, take-append-drop}
-use Rattle.std.proofs.Math.Dec.{eqb-suc-zero}
-use Rattle.std.proofs.lemmas.Bool.{and_parts}
-use Rattle.std.proofs.lemmas.Bool.Decides.{nat_tests}
-use Rattle.std.proofs.lemmas.Option.{cond_some}
-use Rattle.std.proofs.lemmas.List.{drop_more}
-use Rattle.std.proofs.lemmas.List.Elements.{All-cons, All-nil, All-append}
-use Rattle.desk_model.specs.claim.Baf.{are_digits, code_value}
-use Rattle.byte_stream.proofs.TextLemmas.{lines-cut}
-use Rattle.baf_text.{specs.Prefix.{HasHead, HasFirst, line_parts}, proofs.Rows.{IsRow, two_fields, fields_from_row}}
+use Rattle.{std.proofs.lemmas.{Bool.Decides.nat_tests, List.{drop_more, Elements.{All-cons, All-nil, All-append}}, Option.cond_some}, byte_stream.proofs.TextLemmas.lines-cut}
+use Rattle.{baf_text.{specs.Prefix.{HasHead, HasFirst, line_parts}, proofs.Rows.{IsRow, two_fields, fields_from_row}}, desk_model.specs.claim.Baf.{are_digits, code_value}}
 
 abbrev pub IsNoFeed : ℕ → Type 0
 IsNoFeed b = eqb b 10 ≡ false

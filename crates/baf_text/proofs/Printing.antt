@@ -1,9 +1,8 @@
 -- The parts of a printed text.
-use Rattle.std.specs.{Fmt.decimal, List.{flat_map, zip}}
+use Rattle.std.{specs.{Fmt.decimal, List.{flat_map, zip}}, proofs.lemmas.List.{take-take, take-replicate, length-replicate, append-nil, take_all, length-map}}
 use Rattle.std.proofs.Common.{◌≡◌, ℕ, ◌+◌, ◌-◌, ◌<◌, ◌≤◌, List, [], ◌∷◌, ◌++◌, length, take, drop, get_or, replicate, zero, suc, sym, ◌∙◌, ap, arith, append_assoc, length-append, length-drop, add-one, rules}
-use Rattle.std.proofs.lemmas.List.{take-take, take-replicate, length-replicate, append-nil, take_all, length-map}
-use Rattle.std.proofs.lemmas.List.Concat.{flat_map-append}
-use Rattle.desk_model.specs.{declared.block.BlockRow.BlockRow, declared.kind.Kind.Kind, claim.Padded.padded_decimal, claim.Printed.row_text, claim.Geography.ids_of}
+use Rattle.{std.proofs.lemmas.List.Concat.flat_map-append, desk_model.specs.{claim.{Geography.ids_of, Padded.padded_decimal, Printed.row_text}, declared.block.BlockRow.BlockRow}}
+use Rattle.desk_model.specs.declared.kind.Kind.{Kind}
 
 -- zeros before a place are zeros before an earlier one
 pub zeros_below : (xs : List ℕ) (n m : ℕ) → n ≤ m → take m xs ≡ replicate m 48 → take n xs ≡ replicate n 48

@@ -1,9 +1,8 @@
 -- What the lines so far make of the list, and what the list and the lines that are left make of the text.
-use Rattle.std.specs.{Prelude.nat_eq, Cmp.Lexicographic.pointwise, Str.Lines.lines}
+use Rattle.{std.specs.{Cmp.Lexicographic.pointwise, Prelude.nat_eq, Str.Lines.lines}, baf_text.specs.{Listed.{listed_of, IsLineTaken}, claim.Faults.IsFaultOf}}
 use Rattle.std.proofs.Common.{◌≡◌, ℕ, ◌+◌, Bool, true, false, cond, eqb, List, [], ◌∷◌, length, Option, Result, Ok, Err, refl, sym, ◌∙◌, ap}
-use Rattle.desk_model.specs.{declared.reply.BodyFault.BodyFault, claim.Baf.{Values, header, body_read, rows_read, line_read, at_line, fields_of}, claim.Geography.GeographyModel}
-use Rattle.byte_stream.specs.claim.Fields.{fields}
-use Rattle.baf_text.specs.{claim.Faults.IsFaultOf, Listed.{listed_of, IsLineTaken}, declared.reading.BafFault.BafFault, declared.reading.BafFault.TheVariants.{Body, Memory}}
+use Rattle.{baf_text.specs.declared.reading.BafFault.{BafFault, TheVariants.{Body, Memory}}, byte_stream.specs.claim.Fields.fields, desk_model.specs.claim.Geography.GeographyModel}
+use Rattle.desk_model.specs.{claim.Baf.{Values, header, body_read, rows_read, line_read, at_line, fields_of}, declared.reply.BodyFault.BodyFault}
 
 -- some values are listed, and the text reads on from them
 pub record IsUnderWay (g : GeographyModel) (n : ℕ) (text : List ℕ) (at : ℕ) (left : List (List ℕ)) (listed : List (Option ℕ)) : Type 0 where

@@ -1,13 +1,9 @@
 -- The values that are listed so far.
-use Rattle.std.specs.{List.list_any, List.Sorted.IsStrictlyIncreasing}
+use Rattle.std.{specs.List.{list_any, Sorted.IsStrictlyIncreasing}, proofs.lemmas.Bool.{ne_eqb, eq-eqb, cond-true, cond-false, cases_eq, cases_order}}
 use Rattle.std.proofs.Common.{◌≡◌, ◌≢◌, ℕ, ◌<◌, Bool, true, false, cond, eqb, List, [], ◌∷◌, ◌++◌, map, length, get_or, set, refl, sym, ◌∙◌, ap, Contains, Option, Some, None, Err, IsOkAnd, is_some, ⊎_elim, rules}
-use Rattle.std.proofs.lemmas.Bool.{ne_eqb, eq-eqb, cond-true, cond-false, cases_eq, cases_order}
-use Rattle.std.proofs.lemmas.List.{get_or-map, get_or_default, get_or-set_same, get_or-set_other, length-set, length-map, ext_get_or}
-use Rattle.std.proofs.lemmas.List.Folds.{list_any_none, list_any_at}
-use Rattle.std.proofs.lemmas.Map.Keys.{sorted_from_strictly_increasing, below_from_sorted}
-use Rattle.desk_model.specs.{claim.Baf.{Values, value_at, in_range, line_read}, declared.reply.BodyFault.TheVariants.UnknownBlock, declared.block.BlockRow.BlockRow}
-use Rattle.desk_model.specs.claim.Geography.{GeographyModel, ids, ids_of, id_at}
-use Rattle.baf_text.specs.Listed.{listed_of}
+use Rattle.std.proofs.lemmas.List.{get_or-map, get_or_default, get_or-set_same, get_or-set_other, length-set, length-map, ext_get_or, Folds.{list_any_none, list_any_at}}
+use Rattle.{std.proofs.lemmas.Map.Keys.{sorted_from_strictly_increasing, below_from_sorted}, baf_text.specs.Listed.listed_of, desk_model.specs.declared.block.BlockRow.BlockRow}
+use Rattle.desk_model.specs.{claim.{Baf.{Values, value_at, in_range, line_read}, Geography.{GeographyModel, ids, ids_of, id_at}}, declared.reply.BodyFault.TheVariants.UnknownBlock}
 
 -- a block that isn't there
 pub unknown : (xs : List ℕ) (id : ℕ) → ¬ Contains xs id → list_any (λ x. eqb x id) xs ≡ false
@@ -54,8 +50,7 @@ listed_more xs values place d rising within none =
         (λ (e : i ≡ place). rw e (get_or-set_same (map (value_at values) xs) place (Some d) None (rw length-map within)
         ∙ sym (get_or-map (value_at new) xs place 0 None within ∙ value_at-push_same values (get_or xs place 0) d here)))
         (λ (ne : i ≢ place). get_or-set_other (map (value_at values) xs) place i (Some d) None ne ∙ get_or-map (value_at values) xs i 0 None inside
-        ∙ sym (get_or-map (value_at new) xs i 0 None inside
-        ∙ value_at-push_other values (get_or xs place 0) d (get_or xs i 0) (λ same. differ_at xs rising place i within inside (λ e. ne (sym e)) same)))
+        ∙ sym (search (rules, get_or-map (value_at new) xs i 0 None inside, value_at-push_other, get_or xs place 0, differ_at)))
         (cases_eq i place)
 
 -- at first nothing is listed

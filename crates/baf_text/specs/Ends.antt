@@ -1,6 +1,5 @@
 -- A printed line.
-use Rattle.std.specs.Prelude.{ℕ}
-use Rattle.desk_model.specs.{declared.kind.Kind.Kind, declared.kind.Kind.TheVariants.{Congress, Senate, House}}
+use Rattle.{std.specs.Prelude.ℕ, desk_model.specs.declared.kind.Kind.{Kind, TheVariants.{Congress, Senate, House}}}
 
 -- how many bytes a block's line has, where its district is one that the kind may have
 abbrev pub line_length : Kind → ℕ

@@ -1,8 +1,7 @@
 -- What a printed text says.
-use Rattle.std.specs.{Prelude.{◌≡◌, ℕ, ◌<◌, ◌≤◌, ◌^◌, List, map, length, Some, Ok, All}, List.zip}
-use Rattle.desk_model.specs.{declared.kind.Kind.Kind, claim.Sizes.most_districts, claim.Baf.body_read, claim.Printed.printed, claim.Geography.{GeographyModel, ids}}
-use Rattle.desk_model.specs.claim.GeographyModels.{AreBlocks}
-use Rattle.baf_text.specs.Listed.{listed_of}
+use Rattle.std.specs.{List.zip, Prelude.{◌≡◌, ℕ, ◌<◌, ◌≤◌, ◌^◌, List, map, length, Some, Ok, All}}
+use Rattle.{baf_text.specs.Listed.listed_of, desk_model.specs.claim.{Baf.body_read, Geography.{GeographyModel, ids}, GeographyModels.AreBlocks, Printed.printed}}
+use Rattle.desk_model.specs.{claim.Sizes.most_districts, declared.kind.Kind.Kind}
 
 -- the district of each block, rising, 0 for none, and none above n
 pub record IsAssignment (g : GeographyModel) (n : ℕ) (f : List ℕ) : Type 0 where

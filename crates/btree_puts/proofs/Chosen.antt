@@ -1,31 +1,19 @@
 -- The child that a key belongs to, and what a put into it does to all children.
-use Rattle.std.specs.{Prelude.{Option, Some, is_some}, Ordering.is_gt, FinMap.find}
-use Rattle.std.proofs.Common.{rules, ◌≡◌, ◌++◌, inl, inr, ⊎_elim, ℕ, List, [], ◌∷◌, Bool, true, false, cond, refl, sym, ap, ◌∙◌, arith}
-use Rattle.sector_device.specs.claim.Disk.{Image}
-use Rattle.page_store.specs.claim.Chain.{IsIn}
-use Rattle.page_node.specs.{claim.Entries.{Entry, child_bytes}, Entries.key_at, claim.Places.key_cmp, Places.floor}
-use Rattle.page_btree.specs.claim.Keys.{IsBetween}
-use Rattle.page_btree.specs.claim.Tree.{Tree, Forest, one, more, page_of, first_key, links, rows, forest_rows, owns, forest_owns, IsTree, AreTrees, IsApart, AreApart}
-use Rattle.page_btree.proofs.{Rows.{put_left, put_right, find_left, find_right, key_before}, MapLaws.{tree_same, trees_same}, Within.{rows_after, rows_before}, Booleans.either}
-use Rattle.page_btree.proofs.Descent.{floor_links, key_of_links}
-use Rattle.btree_puts.{specs.Putting.{IsPut, linked, after_child}, proofs.Joined.{join, join_links, join_rows, join_size, owns_join, join_apart, join_trees}}
+use Rattle.{std.specs.{Ordering.is_gt, Prelude.{Option, Some, is_some}}, btree_puts.specs.Putting.{IsPut, linked}, page_btree.{specs.claim.Keys.IsBetween, proofs.Booleans.either}}
+use Rattle.{std.proofs.Common.{rules, ◌≡◌, ◌++◌, inl, inr, ⊎_elim, ℕ, List, [], ◌∷◌, Bool, true, false, cond, refl, sym, ap, ◌∙◌, arith}, page_node.specs.Entries.key_at}
+use Rattle.page_btree.specs.claim.Tree.{Tree, Forest, one, more, page_of, first_key, links, rows, forest_rows, forest_owns, AreTrees, AreApart}
+use Rattle.{page_node.specs.claim.{Entries.{Entry, child_bytes}, Places.key_cmp}, sector_device.specs.claim.Disk.Image, page_btree.proofs.MapLaws.{tree_same, trees_same}}
+use Rattle.{btree_puts.proofs.Joined.{join, join_links, join_rows, join_size, owns_join, join_apart, join_trees}, page_btree.proofs.Within.{rows_after, rows_before}}
+use Rattle.page_btree.proofs.{Descent.{AreUsed, ChildFor, only_child, first_child, later_child, key_of_links}, Rows.{put_left, put_right, find_left, find_right, key_before}}
 
 linked_key : (key : List ℕ) (new es : List Entry) → key_at (linked key new es) 0 ≡ key_at es 0
 linked_key key new [] = refl
 linked_key key new (e ∷ es) = refl
 
 -- a link more, before those that are above the key
-linked_true : (k key : List ℕ) (new : List Entry) (t : Tree) (f : Forest) → is_gt (key_cmp (first_key f) key) ≡ true → linked key new (links (more k t f)) ≡ (k, child_bytes (page_of t)) ∷ (new ++ links f)
-linked_true k key new t (one q u) above = ap (λ (b : Bool). (k, child_bytes (page_of t)) ∷ cond b (new ++ links (one q u)) ((q, child_bytes (page_of u)) ∷ new)) above
-linked_true k key new t (more q u f) above = ap (λ (b : Bool). (k, child_bytes (page_of t)) ∷ cond b (new ++ links (more q u f)) ((q, child_bytes (page_of u)) ∷ after_child key new (links f))) above
-
-linked_false : (k key : List ℕ) (new : List Entry) (t : Tree) (f : Forest) → is_gt (key_cmp (first_key f) key) ≡ false → linked key new (links (more k t f)) ≡ (k, child_bytes (page_of t)) ∷ linked key new (links f)
-linked_false k key new t (one q u) above = ap (λ (b : Bool). (k, child_bytes (page_of t)) ∷ cond b (new ++ links (one q u)) ((q, child_bytes (page_of u)) ∷ new)) above
-linked_false k key new t (more q u f) above = ap (λ (b : Bool). (k, child_bytes (page_of t)) ∷ cond b (new ++ links (more q u f)) ((q, child_bytes (page_of u)) ∷ after_child key new (links f))) above
-
--- none of a tree's pages is free
-abbrev pub AreUsed : Forest → List ℕ → Type 0
-AreUsed f free = (q : ℕ) → forest_owns f q → IsIn q free → ⊥
+linked_links : (k key : List ℕ) (new : List Entry) (t : Tree) (f : Forest) → linked key new (links (more k t f)) ≡ (k, child_bytes (page_of t)) ∷ cond (is_gt (key_cmp (first_key f) key)) (new ++ links f) (linked key new (links f))
+linked_links k key new t (one q u) = refl
+linked_links k key new t (more q u f) = refl
 
 module _ (P Q : Image) (d : ℕ) (low : List ℕ) (high : Option (List ℕ)) (free left : List ℕ) (key value : List ℕ) (had : Bool) where
   -- the first child became others
@@ -64,71 +52,39 @@ module _ (P Q : Image) (d : ℕ) (low : List ℕ) (high : Option (List ℕ)) (fr
         whole = omega arith;
       }
 
--- The child for a key: where it stands, and how a put into it is one into all.
+-- The child for a key, and how a put into it is one into all.
 pub record HasChild (P : Image) (d : ℕ) (low : List ℕ) (high : Option (List ℕ)) (free : List ℕ) (key value : List ℕ) (f : Forest) : Type 0 where
-  pub child : Tree
+  pub at : ChildFor P d low high key f
   pub its_key : List ℕ
-  pub its_low : List ℕ
-  pub its_high : Option (List ℕ)
-  pub stands : IsTree P d its_low its_high child
-  pub apart : IsApart child
-  pub between : IsBetween its_low its_high key
-  pub floor_is : floor key (links f) ≡ Some (child_bytes (page_of child))
-  pub owned : (q : ℕ) → owns child q → forest_owns f q
-  pub found : find key_cmp key (rows child) ≡ find key_cmp key (forest_rows f)
-  pub back : (Q : Image) (left : List ℕ) (had : Bool) (g : Forest) (new : List Entry) → IsPut P Q d its_low its_high free left key value had (one its_key child) g → links g ≡ (its_key, child_bytes (page_of child)) ∷ new
+  pub back : (Q : Image) (left : List ℕ) (had : Bool) (g : Forest) (new : List Entry) → IsPut P Q d at.its_low at.its_high free left key value had (one its_key at.child) g → links g ≡ (its_key, child_bytes (page_of at.child)) ∷ new
       → (h : Forest) × IsPut P Q d low high free left key value had f h × (links h ≡ linked key new (links f))
 
 pub chosen : (P : Image) (d : ℕ) (low : List ℕ) (high : Option (List ℕ)) (free : List ℕ) (key value : List ℕ) (f : Forest) → AreTrees P d low high f → AreApart f → AreUsed f free → IsBetween low high key → HasChild P d low high free key value f
 chosen P d low high free key value (one k t) trees apart used between = record {
-  child = t;
+  at = only_child P d low high key k t trees between;
   its_key = k;
-  its_low = low;
-  its_high = high;
-  stands = trees;
-  apart = apart;
-  between = between;
-  floor_is = refl;
-  owned = λ q own. own;
-  found = refl;
   back = λ Q left had g new done same. (g, done, same);
 }
 chosen P d low high free key value (more k t f) trees apart used between = elim (either (is_gt (key_cmp (first_key f) key))) [
   | inl above ↦ record {
-    child = t;
+    at = first_child P d low high key k t f trees between above;
     its_key = k;
-    its_low = low;
-    its_high = Some (first_key f);
-    stands = trees.0;
-    apart = apart.0;
-    between = record { from = between.from; under = key_before (first_key f) key above };
-    floor_is = floor_links k key t f ∙ ap (λ (b : Bool). cond b (Some (child_bytes (page_of t))) (floor key (links f))) above;
-    owned = λ q own. inl own;
-    found = sym (find_left key (rows t) (forest_rows f) (rows_before P d (first_key f) high key f trees.2 (key_before (first_key f) key above)));
     back = λ Q left had g new done same. (
       join g f,
       put_first P Q d low high free left key value had k t f g trees apart used above done,
-      join_links g f ∙ ap (λ l. l ++ links f) same ∙ sym (linked_true k key new t f above),
+      join_links g f ∙ ap (λ l. l ++ links f) same ∙ sym (linked_links k key new t f ∙ ap (λ (b : Bool). (k, child_bytes (page_of t)) ∷ cond b (new ++ links f) (linked key new (links f))) above),
     );
   }
   | inr from ↦
       let rest = chosen P d (first_key f) high free key value f trees.2 apart.2 (λ q own. used q (inr own)) (record { from = from; under = between.under }) in record {
-        child = rest.child;
+        at = later_child P d low high key k t f trees between from rest.at;
         its_key = rest.its_key;
-        its_low = rest.its_low;
-        its_high = rest.its_high;
-        stands = rest.stands;
-        apart = rest.apart;
-        between = rest.between;
-        floor_is = floor_links k key t f ∙ ap (λ (b : Bool). cond b (Some (child_bytes (page_of t))) (floor key (links f))) from ∙ rest.floor_is;
-        owned = λ q own. inr (rest.owned q own);
-        found = rest.found ∙ sym (find_right key (rows t) (forest_rows f) (rows_after P d low (first_key f) key t trees.0 from));
         back = λ Q left had g new done same.
             let up = rest.back Q left had g new done same in
             let key_same : first_key up.0 ≡ first_key f = sym (key_of_links up.0) ∙ ap (λ l. key_at l 0) up.2 ∙ linked_key key new (links f) ∙ key_of_links f in (
               more k t up.0,
               put_later P Q d low high free left key value had k t f up.0 trees apart used from key_same up.1,
-              ap (λ l. (k, child_bytes (page_of t)) ∷ l) up.2 ∙ sym (linked_false k key new t f from),
+              ap (λ l. (k, child_bytes (page_of t)) ∷ l) up.2 ∙ sym (linked_links k key new t f ∙ ap (λ (b : Bool). (k, child_bytes (page_of t)) ∷ cond b (new ++ links f) (linked key new (links f))) from),
             );
       }
 ]

@@ -1,7 +1,6 @@
 -- Pages written and taken by calls that follow one another.
-use Rattle.std.{specs.Prelude.{Option, Some, None}, proofs.Common.{◌≡◌, ◌<◌, ◌≤◌, ◌+◌, ◌-◌, ℕ, subst, arith}}
+use Rattle.{std.{specs.Prelude.{Option, Some, None}, proofs.Common.{◌≡◌, ◌<◌, ◌≤◌, ◌+◌, ◌-◌, ℕ, subst, arith}}, btree_puts.specs.Putting.AreFew}
 use Rattle.page_store.specs.{claim.Transactions.txn_free, declared.txn.Txn.Txn}
-use Rattle.btree_puts.specs.Putting.{AreFew}
 
 pub few_none : (d : ℕ) (t u : Txn) (right : Option ℕ) → 0 < d → right ≡ None → AreFew (d - 1) t u right → AreFew d t u right
 few_none d t u None some is few = let a = few.0 in let b = few.1 in (omega arith, omega arith, few.2)

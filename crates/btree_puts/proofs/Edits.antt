@@ -1,12 +1,9 @@
 -- A put that edits a leaf in its place.
-use Rattle.std.{specs.Prelude.{Result, Option, Some, IfOk, IfSome, MatchOption}, proofs.Common.{◌≡◌, ℕ, List, Ok, refl, subst, ◌∙◌}}
-use Rattle.sector_device.specs.claim.Disk.{Image}
-use Rattle.page_btree.specs.gate_journal.Writes.{IsEdited}
+use Rattle.{std.{specs.Prelude.{Result, Option, Some, IfOk, IfSome, MatchOption}, proofs.Common.{◌≡◌, ℕ, List, Ok, refl, subst, ◌∙◌}}, btree_puts.specs.Fitting.IsLeafPut}
+use Rattle.{page_btree.specs.gate_journal.Writes.IsEdited, page_node.specs.{Searching.IsBelow, Spots.IsRowPut, claim.{Entries.Entry, Node.IsNode, Places.Rises}}}
+use Rattle.{page_node.specs.declared.{edit.RowPut.RowPut, search.RowNear.RowNear}, page_store.specs.{Transactions.{txn_list, IsWritten}, claim.Chain.{IsIn, AreFree}}}
+use Rattle.{page_store.specs.{claim.Transactions.{over, free_over}, declared.txn.Txn.Txn}, sector_device.specs.claim.Disk.Image}
 use Rattle.page_btree.proofs.gate_journal.Images.{put_on, put_off}
-use Rattle.page_store.specs.{claim.Chain.{IsIn, AreFree}, claim.Transactions.{over, free_over}, Transactions.{txn_list, IsWritten}, declared.txn.Txn.Txn}
-use Rattle.page_node.specs.{claim.Entries.Entry, claim.Node.IsNode, claim.Places.Rises, Searching.IsBelow, Spots.IsRowPut, declared.edit.RowPut.RowPut}
-use Rattle.page_node.specs.declared.search.RowNear.{RowNear}
-use Rattle.btree_puts.specs.Fitting.{IsLeafPut}
 
 pub leaf_put : {E : Type 0} (told : Option (Result (Option RowPut) E)) (A : Type 0) (step : List ℕ → Result (Option RowPut) E → List ℕ → Type 0) (t0 t1 : Txn) (page : ℕ) (from : RowNear) (key value : List ℕ)
     → MatchOption told A (λ r. IsWritten t0 page × IsEdited step r (txn_list t0) (txn_list t1) page)

@@ -1,13 +1,10 @@
 -- A refusal below, told above.
-use Rattle.std.proofs.Common.{rules, ◌≡◌, ◌≤◌, ◌<◌, ◌+◌, ℕ, List, sym, ◌∙◌, arith, length}
-use Rattle.sector_device.specs.{claim.Disk.Image, declared.SectorDevice.Ghosts}
-use Rattle.page_store.specs.{claim.Chain.AreFree, claim.Transactions.{stored, disk_in, txn_pages, txn_root, txn_free, over, free_over, IsQuiet, Passed, ReadErr, TakeErr}}
-use Rattle.page_store.{specs.gate_journal.declared.error.PageError.PageError, specs.declared.pages.Pages.Pages, specs.declared.txn.Txn.Txn, proofs.Stops.failed_more}
+use Rattle.{std.proofs.Common.{rules, ◌≡◌, ◌≤◌, ◌<◌, ◌+◌, ℕ, List, sym, ◌∙◌, arith, length}, btree_puts.specs.Errors.{StepErr, PlaceErr, RowErr, LinkErr, WriteErr, GrowErr}}
+use Rattle.page_btree.specs.{Errors.{tree_error, IsNoWant}, claim.{Errors.{PutErr, level_in}, Keys.KeyMap, Map.InTxn}, declared.error.TreeError.{TreeError, TheVariants.NoPages}}
+use Rattle.{page_node.specs.claim.Node.{Node, IsNode}, page_store.specs.{claim.Chain.AreFree, declared.{pages.Pages.Pages, txn.Txn.Txn}}, sector_device.specs.claim.Disk.Image}
+use Rattle.page_store.{specs.claim.Transactions.{stored, disk_in, txn_pages, txn_root, txn_free, over, free_over, IsQuiet, Passed, ReadErr, TakeErr}, proofs.Stops.failed_more}
+use Rattle.{page_store.specs.gate_journal.declared.error.PageError.PageError, sector_device.specs.declared.SectorDevice.Ghosts, page_btree.proofs.Refusals.{by_case, by_read}}
 use Rattle.page_store.specs.gate_journal.declared.error.PageError.TheVariants as page
-use Rattle.page_node.specs.claim.Node.{Node, IsNode}
-use Rattle.page_btree.specs.{Errors.{tree_error, IsNoWant}, claim.Errors.{PutErr, level_in}, claim.Keys.KeyMap, claim.Map.InTxn, declared.error.TreeError.TreeError}
-use Rattle.page_btree.{specs.declared.error.TreeError.TheVariants.NoPages, proofs.Refusals.{by_case, by_read}}
-use Rattle.btree_puts.specs.Errors.{StepErr, PlaceErr, RowErr, LinkErr, WriteErr, GrowErr}
 
 module _ {D : Type 0} {g : Ghosts D} where
   pub step_failed : (level : ℕ) (can : Image → Type 0) (t : Txn) (old new : Pages D g) (e : TreeError) → StepErr can old new e → PlaceErr level can t old new e

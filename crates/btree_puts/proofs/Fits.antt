@@ -1,11 +1,10 @@
 -- A put that edits a leaf alone, told above.
-use Rattle.std.proofs.Common.{rules, ℕ, List, sym, ◌∙◌, arith}
-use Rattle.sector_device.specs.{claim.Disk.Image, declared.SectorDevice.Ghosts}
-use Rattle.page_store.{specs.claim.Transactions.{stored, disk_in, over, IsQuiet, Passed}, specs.declared.pages.Pages.Pages, specs.declared.txn.Txn.Txn, proofs.Stops.failed_more}
-use Rattle.page_node.specs.{claim.Entries.Entry, claim.Node.IsNode, claim.Places.Rises, Searching.IsBelow, declared.search.RowNear.RowNear}
-use Rattle.btree_puts.specs.{Fitting.LeafPutErr, Fingers.{StandsIn, PutByErr, GetWhereErr}, declared.finger.Finger.Finger}
-use Rattle.page_btree.specs.{claim.Keys.KeyMap, Getting.ReadsErr, claim.Errors.{GetErr, PutErr, level_in}, Errors.IsNoWant, claim.Map.InTxn, Editing.IsAlike}
-use Rattle.page_btree.{specs.declared.error.TreeError.TreeError, specs.declared.error.TreeError.TheVariants.NoPages, proofs.Editing.still_in, proofs.Refusals.by_case}
+use Rattle.{std.proofs.Common.{rules, ℕ, List, sym, ◌∙◌, arith}, btree_puts.specs.{Fingers.{StandsIn, PutByErr, GetWhereErr}, Fitting.LeafPutErr, declared.finger.Finger.Finger}}
+use Rattle.page_btree.{specs.{Editing.IsAlike, Errors.IsNoWant, Getting.ReadsErr, claim.{Errors.{GetErr, PutErr, level_in}, Keys.KeyMap, Map.InTxn}}, proofs.Editing.still_in}
+use Rattle.{page_btree.specs.declared.error.TreeError.{TreeError, TheVariants.NoPages}, page_node.specs.{Searching.IsBelow, claim.{Entries.Entry, Node.IsNode, Places.Rises}}}
+use Rattle.{page_node.specs.declared.search.RowNear.RowNear, page_store.specs.{claim.Transactions.{stored, disk_in, over, IsQuiet, Passed}, declared.pages.Pages.Pages}}
+use Rattle.{page_store.specs.declared.txn.Txn.Txn, sector_device.specs.{claim.Disk.Image, declared.SectorDevice.Ghosts}, page_btree.proofs.Refusals.by_case}
+use Rattle.page_store.proofs.Stops.{failed_more}
 
 module _ {D : Type 0} {g : Ghosts D} where
   -- ---- refusals

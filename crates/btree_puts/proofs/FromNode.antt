@@ -1,23 +1,21 @@
 -- A put into the tree at a child, whose page was read.
-use Rattle.std.specs.{Prelude.{Option, Some, None, Result, Ok, MatchResult}, Option.option_map, FinMap.find}
-use Rattle.std.proofs.Common.{◌≡◌, ◌≢◌, ◌-◌, ◌<◌, ◌≤◌, ◌^◌, ℕ, List, [], ◌∷◌, length, sym, subst, ◌∙◌}
-use Rattle.sector_device.specs.{claim.Disk.Image, declared.SectorDevice.Ghosts}
-use Rattle.page_store.specs.{claim.Chain.{IsIn, AreFree}, claim.Transactions.{stored, disk_in, txn_pages, txn_free, over, free_over, IsQuiet}, declared.pages.Pages.Pages}
-use Rattle.page_store.specs.declared.txn.Txn.{Txn}
-use Rattle.page_node.specs.{claim.Entries.{Entry, child_bytes}, Entries.{key_at, child_in}, claim.Node.{Node, IsNode}, claim.Places.key_cmp, Places.floor}
-use Rattle.page_btree.{specs.claim.Tree.{Tree, links, rows}, specs.Errors.IsNoWant, specs.declared.error.TreeError.TreeError, proofs.Descent.some_links}
-use Rattle.btree_puts.specs.{Putting.{CanPutSome, linked}, Outcomes.{CanPutIn, IsRaisedBy, IsWrittenBy, TakesNoPageAt, PutsRowAt}, declared.puts.Placed.Placed}
+use Rattle.{std.specs.{FinMap.find, Option.option_map, Prelude.{Option, Some, None, Result, Ok, MatchResult}}, btree_puts.specs.Putting.{CanPutSome, linked}}
+use Rattle.{std.proofs.Common.{◌≡◌, ◌≢◌, ◌-◌, ◌<◌, ◌≤◌, ◌^◌, ℕ, List, [], ◌∷◌, length, sym, subst, ◌∙◌}, btree_puts.specs.declared.puts.Placed.Placed, page_node.specs.Places.floor}
+use Rattle.{btree_puts.specs.Outcomes.{CanPutIn, IsRaisedBy, IsWrittenBy, TakesNoPageAt, PutsRowAt}, page_btree.specs.{Errors.IsNoWant, claim.Tree.{Tree, links, rows}}}
+use Rattle.{page_btree.specs.declared.error.TreeError.TreeError, page_node.specs.{Entries.{key_at, child_in}, claim.{Entries.{Entry, child_bytes}, Node.{Node, IsNode}}}}
+use Rattle.{page_node.specs.claim.Places.key_cmp, page_store.specs.claim.{Chain.{IsIn, AreFree}, Transactions.{stored, disk_in, txn_pages, txn_free, over, free_over, IsQuiet}}}
+use Rattle.{page_store.specs.declared.{pages.Pages.Pages, txn.Txn.Txn}, sector_device.specs.{claim.Disk.Image, declared.SectorDevice.Ghosts}, page_btree.proofs.Descent.some_links}
 use Rattle.btree_puts.proofs.Down.{HasBelow, here, find_below, can_below, through_none, free_then, node_then, through_some}
 
 module _ {D : Type 0} {g : Ghosts D} (t : Txn) (old mid : Pages D g) (level page child : ℕ) (bytes below key value : List ℕ) (deep : level ≢ 0) (few : txn_pages t ≤ 2 ^ 32) (told : (node : Node) → IsNode bytes node → option_map child_in (floor key node.entries) ≡ Some child) (quiet : IsQuiet old mid) (reads : (disk_in mid).is_honest → below ≡ over t (stored old) child) (honest : (disk_in mid).is_honest) (low : List ℕ) (high : Option (List ℕ)) (tree : Tree) (can : CanPutIn t (stored old) level low high page bytes key tree) where
   abbrev at : HasBelow (txn_pages t) (over t (stored old)) level low high (free_over t (stored old)) page key value tree
   at = here (txn_pages t) (over t (stored old)) level low high (free_over t (stored old)) page bytes key value tree few can deep
 
-  can_child : CanPutIn t (stored mid) (level - 1) at.has.its_low at.has.its_high child below key at.has.child
+  can_child : CanPutIn t (stored mid) (level - 1) at.has.at.its_low at.has.at.its_high child below key at.has.at.child
   can_child = search (quiet.same, can_below)
 
   pub can_some : CanPutSome (txn_pages t) (over t) (level - 1) (free_over t) child below key (stored mid)
-  can_some = (at.has.its_low, at.has.its_high, at.has.child, can_child)
+  can_some = (at.has.at.its_low, at.has.at.its_high, at.has.at.child, can_child)
 
   pub same_length : (u : Txn) (new : Pages D g) (held : List ℕ) (result : Result Placed TreeError) → TakesNoPageAt t u mid new (level - 1) child below (key, value) result → (disk_in new).is_honest → find key_cmp key (rows tree) ≡ Some held → length held ≡ length value
       → MatchResult result (λ placed. (placed.right ≡ None) × (txn_free u ≡ txn_free t)) (λ e. IsNoWant e)

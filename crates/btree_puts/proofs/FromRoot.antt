@@ -1,11 +1,9 @@
 -- A put into the tree at a root that was read.
-use Rattle.std.{specs.Prelude.{Some, None, Result, Ok, MatchResult}, specs.FinMap.{get, insert, contains_key}, proofs.Common.{◌≡◌, ◌≢◌, ◌≤◌, ℕ, List, [], length, sym, subst, ◌∙◌}}
-use Rattle.sector_device.specs.{claim.Disk.Image, declared.SectorDevice.Ghosts}
-use Rattle.page_store.specs.{claim.Chain.AreFree, claim.Transactions.{stored, disk_in, txn_pages, txn_root, txn_free, over, free_over, IsQuiet}, declared.pages.Pages.Pages}
-use Rattle.page_store.specs.declared.txn.Txn.{Txn}
-use Rattle.page_node.specs.{Entries.key_at, claim.Node.{Node, IsNode}}
-use Rattle.page_btree.specs.{claim.Keys.KeyMap, claim.Map.{Holds, InTxn}, claim.Tree.Tree, Errors.IsNoWant, declared.error.TreeError.TreeError}
-use Rattle.btree_puts.specs.{Putting.{CanPutSome, IsRaised}, Outcomes.{CanPutIn, IsGrownBy, TakesNoPageAt, PutsRowAt}, declared.puts.Placed.Placed}
+use Rattle.std.{specs.{FinMap.{get, insert, contains_key}, Prelude.{Some, None, Result, Ok, MatchResult}}, proofs.Common.{◌≡◌, ◌≢◌, ◌≤◌, ℕ, List, [], length, sym, subst, ◌∙◌}}
+use Rattle.btree_puts.specs.{Outcomes.{CanPutIn, IsGrownBy, TakesNoPageAt, PutsRowAt}, Putting.{CanPutSome, IsRaised}, declared.puts.Placed.Placed}
+use Rattle.{page_btree.specs.{Errors.IsNoWant, claim.{Keys.KeyMap, Map.{Holds, InTxn}, Tree.Tree}, declared.error.TreeError.TreeError}, page_node.specs.Entries.key_at}
+use Rattle.{page_node.specs.claim.Node.{Node, IsNode}, page_store.specs.{claim.Chain.AreFree, declared.{pages.Pages.Pages, txn.Txn.Txn}}, sector_device.specs.claim.Disk.Image}
+use Rattle.{page_store.specs.claim.Transactions.{stored, disk_in, txn_pages, txn_root, txn_free, over, free_over, IsQuiet}, sector_device.specs.declared.SectorDevice.Ghosts}
 use Rattle.btree_puts.proofs.Roots.{rooted, root_can, find_there, after_whole, after_grown, left_are}
 
 module _ {D : Type 0} {g : Ghosts D} (t : Txn) (old mid : Pages D g) (root level : ℕ) (bytes key : List ℕ) (root_is : root ≡ txn_root t) (some : root ≢ 0) (quiet : IsQuiet old mid) (reads : (disk_in mid).is_honest → bytes ≡ over t (stored old) root) (level_is : (node : Node) → IsNode bytes node → level ≡ node.level) (honest : (disk_in mid).is_honest) (m : KeyMap) (holds : InTxn t (stored old) m) where

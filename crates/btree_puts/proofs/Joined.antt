@@ -1,10 +1,8 @@
 -- Children after children, and children parted.
-use Rattle.std.specs.Prelude.{Option, Some}
-use Rattle.std.proofs.Common.{rules, ◌≡◌, ◌⊎◌, ◌<◌, ◌+◌, ◌++◌, inl, inr, ⊎_elim, ℕ, List, [], ◌∷◌, length, refl, sym, ap, subst, ◌∙◌, arith, append_assoc}
-use Rattle.sector_device.specs.claim.Disk.{Image}
-use Rattle.page_node.{specs.claim.Entries.{Entry, child_bytes}, proofs.Laws.less_trans}
-use Rattle.page_btree.specs.{claim.Keys.Parts, claim.Tree.{Forest, one, more, page_of, first_key, links, forest_rows, rows, forest_owns, forest_size, AreTrees, AreApart}}
-use Rattle.page_btree.proofs.Rows.{wider_under}
+use Rattle.{std.specs.Prelude.{Option, Some}, page_btree.specs.claim.Keys.Parts, page_node.specs.claim.Entries.{Entry, child_bytes}, sector_device.specs.claim.Disk.Image}
+use Rattle.std.proofs.Common.{rules, ◌≡◌, ◌⊎◌, ◌<◌, ◌+◌, ◌++◌, inl, inr, ⊎_elim, ℕ, List, [], ◌∷◌, length, length-append, refl, sym, ap, subst, ◌∙◌, arith, append_assoc}
+use Rattle.page_btree.{specs.claim.Tree.{Forest, one, more, page_of, first_key, links, forest_rows, rows, forest_owns, forest_size, AreTrees, AreApart}, proofs.Rows.wider_under}
+use Rattle.page_node.proofs.Laws.{less_trans}
 
 abbrev pub join : Forest → Forest → Forest
 join (one k t) g = more k t g
@@ -81,18 +79,10 @@ rest_is : (x y : Entry) (xs ys : List Entry) → x ∷ xs ≡ y ∷ ys → xs �
 rest_is x y xs ys e = search rules
 
 first_is : (x y : Entry) (xs ys : List Entry) → x ∷ xs ≡ y ∷ ys → x ≡ y
-first_is x y xs ys e = ap (λ (l : List Entry). head_or x l) e
-  where
-    head_or : Entry → List Entry → Entry
-    head_or d [] = d
-    head_or d (e ∷ es) = e
+first_is x y xs ys e = cc
 
 pub part_at : (f : Forest) (lower upper : List Entry) → 0 < length lower → 0 < length upper → lower ++ upper ≡ links f → IsJoined f lower upper
-part_at (one k t) (x ∷ xs) (y ∷ ys) some other e = absurd (let n : length (xs ++ y ∷ ys) ≡ 0 = ap length (rest_is _ _ _ _ e) in long xs y ys n)
-  where
-    long : (us : List Entry) (b : Entry) (bs : List Entry) → length (us ++ b ∷ bs) ≡ 0 → ⊥
-    long [] b bs n = omega arith
-    long (u ∷ us) b bs n = omega arith
+part_at (one k t) (x ∷ xs) (y ∷ ys) some other e = absurd (let n : length (xs ++ y ∷ ys) ≡ 0 = ap length (rest_is _ _ _ _ e) in let both = length-append xs (y ∷ ys) in omega arith)
 part_at (more k t f) (x ∷ []) (y ∷ ys) some other e = record {
   low = one k t;
   high = f;
@@ -101,11 +91,8 @@ part_at (more k t f) (x ∷ []) (y ∷ ys) some other e = record {
   high_links = sym (rest_is _ _ _ _ e);
 }
 part_at (more k t f) (x ∷ z ∷ zs) (y ∷ ys) some other e =
-    let rest = part_at f (z ∷ zs) (y ∷ ys) (omega arith) (omega arith) (rest_is _ _ _ _ e) in record {
-      low = more k t rest.low;
-      high = rest.high;
-      is = ap (more k t) rest.is;
-      low_links = (λ i. sym (first_is _ _ _ _ e) i ∷ rest.low_links i);
-      high_links = rest.high_links;
-    }
+    let rest = part_at f (z ∷ zs) (y ∷ ys) (omega arith) (omega arith) (rest_is _ _ _ _ e) in
+    let is : more k t f ≡ join (more k t rest.low) rest.high = ap (more k t) rest.is in
+    let low_links : links (more k t rest.low) ≡ x ∷ z ∷ zs = λ i. sym (first_is _ _ _ _ e) i ∷ rest.low_links i in
+    search rules
 part_at f _ _ some other e = absurd (omega arith)

@@ -1,13 +1,18 @@
 -- A put into the leaf that a key belongs to, told above.
-use Rattle.std.specs.{Prelude.{Option, None, is_some}, FinMap.{insert, contains_key, find, put}}
-use Rattle.std.proofs.Common.{rules, ◌≡◌, ◌≢◌, ◌<◌, ◌≤◌, ◌-◌, ◌^◌, ℕ, zero, suc, List, [], Bool, refl, subst, arith}
-use Rattle.sector_device.specs.claim.Disk.{Image}
-use Rattle.page_store.specs.{claim.Transactions.{over, free_over}, declared.txn.Txn.Txn, claim.Chain.{IsIn, AreFree}}
-use Rattle.page_node.specs.{claim.Entries.Entry, claim.Places.{key_cmp, Rises}, claim.Node.{Node, IsNode}}
-use Rattle.page_btree.specs.{claim.Keys.KeyMap, claim.Tree.Tree, claim.Map.{Holds, IsRooted}, Getting.CanGetAt, Leading.LeadsTo}
-use Rattle.page_btree.proofs.Tops.{rooted, can_get, at_root}
-use Rattle.btree_puts.{specs.Putting.{IsRaised, IsWhole, CanPut}, proofs.EmptyLeaf.nothing, proofs.Down.through_none}
-use Rattle.btree_puts.proofs.{Leaves.{leaf_rows, leaf_node, leaf_rises, leaf_off, leaf_raised}, Roots.{rooted as has_root, root_can, after_whole}, Rising.put_rises}
+use Rattle.{std.specs.{FinMap.{insert, contains_key, find, put}, Prelude.{Option, None, is_some}}, btree_puts.{specs.Putting.{IsRaised, IsWhole, CanPut}, proofs.Down.through_none}}
+use Rattle.{std.proofs.Common.{rules, ◌≡◌, ◌≢◌, ◌<◌, ◌≤◌, ◌-◌, ◌^◌, ℕ, zero, suc, List, [], Bool, refl, subst, arith, sym, ap, ◌∙◌}, page_btree.specs.Getting.CanGetAt}
+use Rattle.{page_btree.specs.{Leading.LeadsTo, claim.{Keys.KeyMap, Map.{Holds, IsRooted}, Tree.Tree}}, page_node.specs.{Searching.RisesAfter, claim.Entries.Entry}}
+use Rattle.{page_node.specs.claim.{Node.{Node, IsNode}, Places.{key_cmp, Rises}}, page_store.specs.claim.{Chain.{IsIn, AreFree}, Transactions.{over, free_over}}}
+use Rattle.{page_store.specs.declared.txn.Txn.Txn, sector_device.specs.claim.Disk.Image, btree_puts.proofs.Leaves.{leaf_rows, leaf_node, leaf_rises, leaf_off, leaf_raised}}
+use Rattle.{btree_puts.proofs.Roots.{rooted as has_root, root_can, after_whole}, page_btree.proofs.{Rising.tree_rises, Tops.{rooted, can_get, at_root}}}
+
+-- a leaf without rows, where a node says nothing
+abbrev nothing : Node
+nothing = record { level = 0; entries = [] }
+
+-- the keys of a node above the leaves, into which a row is put, rise after the first
+put_rises : (n : ℕ) (P : Image) (d : ℕ) (low : List ℕ) (high : Option (List ℕ)) (free : List ℕ) (page : ℕ) (bytes key : List ℕ) (t : Tree) → CanPut n P d low high free page bytes key t → 0 < d → (node : Node) → IsNode bytes node → RisesAfter node.entries
+put_rises n P d low high free page bytes key t can some node is = tree_rises P d low high t bytes can.stands.tree_is (can.reads ∙ sym (ap P can.stands.page_is)) some node is
 
 -- a row was put into the leaf at a page, where there is one
 abbrev pub IsPutAt : Txn → Txn → Image → ℕ → List ℕ → List ℕ → Bool → Type 0
@@ -19,19 +24,16 @@ module _ (n : ℕ) (S : Image) (t0 t1 : Txn) (key value : List ℕ) (had : Bool)
   raised_there : (d : ℕ) (low : List ℕ) (high : Option (List ℕ)) (page : ℕ) (t : Tree) → LeadsTo (over t0 S) d page key leaf → CanPut n (over t0 S) d low high (free_over t0 S) page (over t0 S page) key t → (k : List ℕ)
       → IsRaised (over t0 S) (over t1 S) d low high (free_over t0 S) (free_over t1 S) key value had k page t None nothing
   raised_there zero low high page t is can k =
-      let P = over t0 S in
-      let free = free_over t0 S in
       let w : IsPutAt t0 t1 S page key value had = subst (λ (q : ℕ). IsPutAt t0 t1 S q key value had) is did in
-      leaf_raised n P low high free page (P page) key 0 t refl can (over t1 S) (free_over t1 S) value had None nothing
-      (w (leaf_rows n P low high free page (P page) key 0 t refl can) (leaf_node n P low high free page (P page) key 0 t refl can) (leaf_rises n P low high free page (P page) key 0 t refl can) n can.free_are (leaf_off n P low high free page (P page) key 0 t refl can)) k
+      leaf_raised _ _ _ _ _ _ _ _ _ t refl can (over t1 S) (free_over t1 S) value had None nothing
+      (w (leaf_rows _ _ _ _ _ _ _ _ _ t refl can) (leaf_node _ _ _ _ _ _ _ _ _ t refl can) (leaf_rises _ _ _ _ _ _ _ _ _ t refl can) n can.free_are (leaf_off _ _ _ _ _ _ _ _ _ t refl can)) k
   raised_there (suc d) low high page t (child, told, rest) can k =
       let P = over t0 S in
-      let free = free_over t0 S in
       let some : 0 < suc d = omega arith in
       let deep : suc d ≢ 0 = omega arith in
       let e : d ≡ suc d - 1 = omega arith in
-      through_none n P (suc d) low high free page (P page) key value t few can deep child (λ node at. told node at (put_rises n P (suc d) low high free page (P page) key t can some node at)) (P child) refl (over t1 S) (free_over t1 S) had None nothing
-      (subst (λ (x : ℕ). (l : List ℕ) (h : Option (List ℕ)) (u : Tree) → CanPut n P x l h free child (P child) key u → (k : List ℕ) → IsRaised P (over t1 S) x l h free (free_over t1 S) key value had k child u None nothing) e
+      through_none _ _ _ _ _ _ _ _ _ value t few can deep child (λ node at. told node at (put_rises _ _ _ _ _ _ _ _ _ t can some node at)) (P child) refl (over t1 S) (free_over t1 S) had None nothing
+      (subst (λ (x : ℕ). (l : List ℕ) (h : Option (List ℕ)) (u : Tree) → CanPut n P x l h (free_over t0 S) child (P child) key u → (k : List ℕ) → IsRaised P (over t1 S) x l h (free_over t0 S) (free_over t1 S) key value had k child u None nothing) e
       (λ l h u below k. raised_there d l h child u rest below k)) refl nothing k
 
   -- at the root
@@ -45,7 +47,6 @@ module _ (n : ℕ) (S : Image) (t0 t1 : Txn) (key value : List ℕ) (had : Bool)
     pub put_whole : ((d : ℕ) → CanGetAt n (over t0 S) d key root → LeadsTo (over t0 S) d root key leaf) → Holds n (over t1 S) root (free_over t1 S) (insert m key value) × (had ≡ contains_key m key)
     put_whole leads =
         let P = over t0 S in
-        let free = free_over t0 S in
-        let is : CanGetAt n P r.level key root = (can_get n P root free m r key (P root) r.level refl refl, at_root n P root free m r r.level refl) in
-        after_whole n P root free m key (P root) r.level holds some refl level_is (over t1 S) (free_over t1 S) value had None nothing
-        (raised_there r.level [] None root (has_root n P root free m key (P root) r.level holds some refl level_is).tree (leads r.level is) (root_can n P root free m key (P root) r.level holds some refl level_is) []) refl
+        let is : CanGetAt n P r.level key root = (can_get _ _ _ _ m r key (P root) r.level refl refl, at_root _ _ _ _ m r r.level refl) in
+        after_whole _ _ _ _ m key (P root) r.level holds some refl level_is (over t1 S) (free_over t1 S) value had None nothing
+        (raised_there r.level [] None root (has_root _ _ _ _ m key (P root) r.level holds some refl level_is).tree (leads r.level is) (root_can _ _ _ _ m key (P root) r.level holds some refl level_is) []) refl

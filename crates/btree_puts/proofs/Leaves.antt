@@ -1,12 +1,10 @@
 -- A leaf was written, whole or cut, with a row put.
-use Rattle.std.specs.{Prelude.{Option, Some, None, is_some}, List.AllByRecursion, FinMap.{find, put}, Ordering.is_gt, declared.cmp.Ordering.TheVariants.Less}
-use Rattle.std.proofs.Common.{rules, ◌≡◌, ◌<◌, ◌+◌, ◌++◌, inl, ℕ, List, [], ◌∷◌, length, Bool, false, refl, sym, ap, subst, ◌∙◌, arith}
-use Rattle.sector_device.specs.claim.Disk.{Image}
-use Rattle.page_store.specs.claim.Chain.{IsIn, AreFree}
-use Rattle.page_node.specs.{claim.Entries.Entry, Entries.key_at, claim.Node.{Node, IsNode}, claim.Places.{key_cmp, Rises}}
-use Rattle.page_btree.specs.{claim.Keys.{IsBetween, Parts}, claim.Tree.{Tree, leaf, inner, one, more, IsLeaf}, claim.Map.IsSound}
-use Rattle.page_btree.proofs.{Rows.{all_prefix, all_rest, from_then, rises_put, rises_prefix, rises_rest, rises_under, rises_from, all_put, some_put}, Within.AreBetween}
-use Rattle.btree_puts.specs.Putting.{IsTaken, IsWhole, IsCut, IsWritten, IsRaised, CanPut}
+use Rattle.{std.specs.{FinMap.{find, put}, Ordering.is_gt, Prelude.{Option, Some, None, is_some}, declared.cmp.Ordering.TheVariants.Less}, page_btree.specs.claim.Map.IsSound}
+use Rattle.{std.proofs.Common.{rules, ◌≡◌, ◌<◌, ◌++◌, inl, ℕ, List, [], ◌∷◌, length, Bool, false, refl, sym, ap, subst, ◌∙◌, arith}, page_btree.specs.claim.Keys.{IsBetween, Parts}}
+use Rattle.{btree_puts.specs.Putting.{IsTaken, IsWhole, IsCut, IsWritten, IsRaised, CanPut}, page_btree.specs.claim.Tree.{Tree, leaf, inner, one, more, IsLeaf}}
+use Rattle.{page_node.specs.{Entries.key_at, claim.{Entries.Entry, Node.{Node, IsNode}, Places.{key_cmp, Rises}}}, page_store.specs.claim.Chain.{IsIn, AreFree}}
+use Rattle.{sector_device.specs.claim.Disk.Image, page_btree.proofs.Within.AreBetween}
+use Rattle.page_btree.proofs.Rows.{all_both, all_prefix, all_rest, from_then, rises_put, rises_prefix, rises_rest, rises_under, rises_from, all_put, some_put}
 
 -- rows between bounds, parted at the first of the upper ones
 pub record ArePartsOf (low : List ℕ) (high : Option (List ℕ)) (lower : List Entry) (y : Entry) (ys : List Entry) : Type 0 where
@@ -14,23 +12,17 @@ pub record ArePartsOf (low : List ℕ) (high : Option (List ℕ)) (lower : List 
   pub parts : Parts low high y.0
   pub above : AreBetween y.0 high (y ∷ ys)
 
-both_all : (low q : List ℕ) (high : Option (List ℕ)) (es : List Entry) → AreBetween low high es → AllByRecursion (λ e. key_cmp e.0 q ≡ Less) es → AreBetween low (Some q) es
-both_all low q high [] a b = tt
-both_all low q high (e ∷ es) a b = (record { from = a.0.from; under = b.0 }, both_all low q high es a.1 b.1)
-
-from_all : (low q : List ℕ) (high : Option (List ℕ)) (es : List Entry) → AreBetween low high es → AllByRecursion (λ e. is_gt (key_cmp q e.0) ≡ false) es → AreBetween q high es
-from_all low q high [] a b = tt
-from_all low q high (e ∷ es) a b = (record { from = b.0; under = a.0.under }, from_all low q high es a.1 b.1)
-
 part_rows : (low : List ℕ) (high : Option (List ℕ)) (lower : List Entry) (y : Entry) (ys : List Entry) → 0 < length lower → Rises (lower ++ y ∷ ys) → AreBetween low high (lower ++ y ∷ ys) → ArePartsOf low high lower y ys
 part_rows low high [] y ys some rises within = absurd (omega arith)
 part_rows low high (x ∷ xs) y ys some rises within =
     let under = rises_under (x ∷ xs) y ys rises in
     let after = all_rest (λ e. IsBetween low high e.0) (x ∷ xs) (y ∷ ys) within in
     record {
-      below = both_all low y.0 high (x ∷ xs) (all_prefix (λ e. IsBetween low high e.0) (x ∷ xs) (y ∷ ys) within) under;
+      below = all_both (λ e. IsBetween low high e.0) (λ e. key_cmp e.0 y.0 ≡ Less) (λ e. IsBetween low (Some y.0) e.0) (λ e b less. record { from = b.from; under = less })
+          (x ∷ xs) (all_prefix (λ e. IsBetween low high e.0) (x ∷ xs) (y ∷ ys) within) under;
       parts = record { above = from_then low x.0 y.0 _ refl within.0.from under.0; under = after.0.under };
-      above = from_all low y.0 high (y ∷ ys) after (rises_from y ys (rises_rest (x ∷ xs) (y ∷ ys) rises));
+      above = all_both (λ e. IsBetween low high e.0) (λ e. is_gt (key_cmp y.0 e.0) ≡ false) (λ e. IsBetween y.0 high e.0) (λ e b from. record { from = from; under = b.under })
+          (y ∷ ys) after (rises_from y ys (rises_rest (x ∷ xs) (y ∷ ys) rises));
     }
 
 module _ (P Q : Image) (n : ℕ) (low : List ℕ) (high : Option (List ℕ)) (free left : List ℕ) (key value : List ℕ) (k : List ℕ) (p : ℕ) (es : List Entry) (is : IsLeaf P low high p es) (sound : IsSound n free (leaf p es)) (free_are : AreFree n free) (between : IsBetween low high key) where
@@ -39,8 +31,7 @@ module _ (P Q : Image) (n : ℕ) (low : List ℕ) (high : Option (List ℕ)) (fr
       let e : length left ≡ length free = ap length w.none in
       record {
         trees = one k (leaf p (put key_cmp key value es));
-        is_put =
-            search (arith, rises_put key value es is.rises, all_put (IsBetween low high) key value es between is.within, some_put key value es);
+        is_put = search (arith, rises_put key value es is.rises, all_put (IsBetween low high) key value es between is.within, some_put key value es);
         shape = (leaf p (put key_cmp key value es), refl, refl);
       }
 
@@ -83,6 +74,4 @@ module _ (n : ℕ) (P : Image) (low : List ℕ) (high : Option (List ℕ)) (free
     leaf_off = (leaf_here d t zero_is can).4.used page refl
 
     pub leaf_raised : (Q : Image) (left value : List ℕ) (had : Bool) (right : Option ℕ) (upper : Node) → (had ≡ is_some (find key_cmp key leaf_rows)) × IsWritten P Q free left page right (record { level = 0; entries = put key_cmp key value leaf_rows }) upper → (k : List ℕ) → IsRaised P Q d low high free left key value had k page t right upper
-    leaf_raised Q left value had right upper w k =
-        let h = leaf_here d t zero_is can in
-        search (rules, raise_leaf)
+    leaf_raised Q left value had right upper w k = let h = leaf_here d t zero_is can in search (rules, raise_leaf)

@@ -1,6 +1,4 @@
 pub mod Edits
-pub mod EmptyLeaf
-pub mod Linking
 pub mod Placing
 pub mod Failing
 pub mod Counting
@@ -13,7 +11,6 @@ pub mod FromRoot
 pub mod Down
 pub mod FromNode
 pub mod Fits
-pub mod Rising
 pub mod Leads
 pub mod Placed
 pub use Rattle.page_btree.proofs as page_btree

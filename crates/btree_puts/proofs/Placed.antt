@@ -1,13 +1,11 @@
 -- Fingers before and after an edit of a leaf.
-use Rattle.std.{specs.Prelude.Option, specs.Ordering.is_gt, specs.FinMap.{find, get}, proofs.Common.{rules, ◌∙◌, ◌≡◌, ◌≢◌, ◌<◌, ◌≤◌, ◌^◌, ℕ, List, false, refl, sym, ap, subst}}
-use Rattle.sector_device.specs.claim.Disk.{Image}
-use Rattle.page_store.specs.{claim.Transactions.{txn_pages, txn_root, over, free_over}, declared.txn.Txn.Txn}
-use Rattle.page_node.specs.{claim.Entries.Entry, Entries.key_at, claim.Node.{Node, IsNode}, claim.Places.{key_cmp, Rises}, Searching.IsBelow, declared.edit.RowPut.RowPut}
-use Rattle.page_node.{specs.declared.search.RowNear.RowNear, proofs.Laws.node_unique}
-use Rattle.page_btree.specs.{claim.Keys.{KeyMap, IsBetween}, claim.Map.{Holds, IsRooted}, claim.Errors.level_in, Getting.{CanGet, CanGetAt, CanGetIn}}
-use Rattle.page_btree.{specs.Leading.{LeadsTo, LeadsAll, end_of}, proofs.Tops.{rooted, can_get, at_root, found_rows}, proofs.Rows.less_from, proofs.Leads.leads_leaf}
-use Rattle.page_btree.proofs.{Reaching.{root_level, leads_stays, level_stays, leads_found}, Seeking.lower_of}
-use Rattle.btree_puts.{specs.Fitting.IsLeafPut, specs.Fingers.{IsPlaced, StandsIn, IsReached}, specs.declared.finger.Finger.Finger, proofs.Leads.IsPutAt}
+use Rattle.std.{specs.{FinMap.{find, get}, Ordering.is_gt, Prelude.Option}, proofs.Common.{rules, ◌∙◌, ◌≡◌, ◌≢◌, ◌<◌, ◌≤◌, ◌^◌, ℕ, List, false, refl, sym, ap, subst}}
+use Rattle.{btree_puts.specs.{Fingers.{IsPlaced, StandsIn, IsReached}, Fitting.IsLeafPut, declared.finger.Finger.Finger}, page_btree.specs.Getting.{CanGet, CanGetAt, CanGetIn}}
+use Rattle.{page_btree.specs.{Leading.{LeadsTo, LeadsAll, end_of}, claim.{Errors.level_in, Keys.{KeyMap, IsBetween}, Map.{Holds, IsRooted}}}, page_node.specs.Entries.key_at}
+use Rattle.page_node.specs.{Searching.IsBelow, claim.{Entries.Entry, Node.{Node, IsNode}, Places.{key_cmp, Rises}}, declared.{edit.RowPut.RowPut, search.RowNear.RowNear}}
+use Rattle.{page_store.specs.{claim.Transactions.{txn_pages, txn_root, over, free_over}, declared.txn.Txn.Txn}, sector_device.specs.claim.Disk.Image}
+use Rattle.{btree_puts.proofs.Leads.IsPutAt, page_btree.proofs.{Leads.leads_leaf, Reaching.{root_level, leads_stays, level_stays, leads_found}, Rows.less_from, Seeking.lower_of}}
+use Rattle.{page_btree.proofs.Tops.{rooted, can_get, at_root, found_rows}, page_node.proofs.Laws.node_unique}
 
 -- each key before a place is below one, and so below those after it
 pub further : (low key : List ℕ) (es : List Entry) (k at : ℕ) → is_gt (key_cmp low key) ≡ false → IsBelow low es k at → IsBelow key es k at
@@ -70,14 +68,11 @@ put_at t0 t1 S page from key value did later put = λ es is rises n are off.
 pub known_found : (t : Txn) (S : Image) (m : KeyMap) (f : Finger) (key : List ℕ) → txn_pages t ≤ 2 ^ 32 → Holds (txn_pages t) (over t S) (txn_root t) (free_over t S) m → txn_root t ≢ 0 → f.page < txn_pages t → IsBetween f.low (end_of f.reach) key → IsPlaced t S f
     → (can : CanGetIn (txn_pages t) (over t S) f.page f.near key) × (find key_cmp key can.0 ≡ get m key)
 known_found t S m f key few holds some below between placed =
-    let n = txn_pages t in
-    let P = over t S in
     let root = txn_root t in
-    let free = free_over t S in
-    let r = rooted n P root free m holds some in
-    let at : CanGetAt n P r.level key root = (can_get n P root free m r key (P root) r.level refl refl, at_root n P root free m r r.level refl) in
-    let leads : LeadsTo P r.level root key f.page = subst (λ (k : ℕ). LeadsTo P k root key f.page) (root_level n P r.level key root at) (placed.leads key between) in
-    let leaf = leads_leaf n P r.level key root f.page few at.0 leads in (
+    let r = rooted _ _ _ _ m holds some in
+    let at : CanGetAt (txn_pages t) (over t S) r.level key root = (can_get _ _ _ _ m r key (over t S root) r.level refl refl, at_root _ _ _ _ m r r.level refl) in
+    let leads : LeadsTo (over t S) r.level root key f.page = subst (λ (k : ℕ). LeadsTo (over t S) k root key f.page) (root_level _ _ r.level key root at) (placed.leads key between) in
+    let leaf = leads_leaf _ _ r.level key root f.page few at.0 leads in (
       search (further, f.near.k, placed.after),
-      leads_found n P r.level key root f.page leaf.0 few at.0 leads leaf.1 ∙ found_rows n P root free m r key,
+      leads_found _ _ r.level key root f.page leaf.0 few at.0 leads leaf.1 ∙ found_rows _ _ _ _ m r key,
     )

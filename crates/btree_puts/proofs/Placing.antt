@@ -1,8 +1,7 @@
 -- A row found or put among a leaf's.
-use Rattle.std.specs.{Prelude.{Some, is_some}, FinMap.{find, put}}
+use Rattle.{std.specs.{FinMap.{find, put}, Prelude.{Some, is_some}}, page_node.specs.{Entries.{key_at, value_at}, Places.{IsFound, IsGap}, claim.Entries.{Entry, size_of}}}
 use Rattle.std.proofs.Common.{rules, ◌≡◌, ◌<◌, ℕ, zero, suc, List, [], ◌∷◌, length, set, insert, slice_set, true, false, sym, ap, subst, ◌∙◌, arith}
-use Rattle.page_node.specs.{claim.Entries.{Entry, size_of}, Entries.{key_at, value_at}, claim.Node.{Node, IsNode, Fits}, claim.Places.{key_cmp, Rises}, Places.{IsFound, IsGap}}
-use Rattle.page_node.proofs.Laws.{node_unique, found_put, gap_put, found_find, gap_find}
+use Rattle.page_node.{specs.claim.{Node.{Node, IsNode, Fits}, Places.{key_cmp, Rises}}, proofs.Laws.{node_unique, found_put, gap_put, found_find, gap_find}}
 
 some_is : (x y : List ℕ) → Some x ≡ Some y → x ≡ y
 some_is x y e = search rules

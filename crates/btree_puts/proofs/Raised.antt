@@ -1,11 +1,9 @@
 -- A node above was written, whole or cut, after a put into its children; and a leaf was.
 use Rattle.std.{specs.Prelude.{Option, Some, None}, proofs.Common.{rules, ◌≡◌, ◌⊎◌, ◌<◌, ◌+◌, ◌-◌, inl, inr, ⊎_elim, ℕ, List, ◌∷◌, length, Bool, refl, sym, ap, subst, ◌∙◌, arith}}
-use Rattle.sector_device.specs.claim.Disk.{Image}
-use Rattle.page_store.specs.claim.Chain.{IsIn, AreFree}
-use Rattle.page_node.specs.{Entries.key_at, claim.Node.{Node, IsNode}}
-use Rattle.page_btree.specs.{claim.Tree.{Forest, inner, one, more, first_key, links, forest_rows, owns, forest_owns, forest_size, AreTrees, AreApart}, claim.Map.IsSound}
-use Rattle.page_btree.proofs.MapLaws.{trees_same}
-use Rattle.btree_puts.{specs.Putting.{IsPut, IsTaken, IsCut, IsWritten, IsRaised}, proofs.Joined.{join, join_rows, join_size, join_owns, part_apart, part_trees, part_at, IsJoined}}
+use Rattle.{btree_puts.specs.Putting.{IsPut, IsTaken, IsCut, IsWritten, IsRaised}, page_btree.specs.claim.Map.IsSound, page_node.specs.{Entries.key_at, claim.Node.{Node, IsNode}}}
+use Rattle.page_btree.{specs.claim.Tree.{Forest, inner, one, more, first_key, links, forest_rows, owns, forest_owns, forest_size, AreTrees, AreApart}, proofs.Descent.key_of_links}
+use Rattle.{page_store.specs.claim.Chain.{IsIn, AreFree}, sector_device.specs.claim.Disk.Image, page_btree.proofs.MapLaws.trees_same}
+use Rattle.btree_puts.proofs.Joined.{join, join_rows, join_size, join_owns, part_apart, part_trees, part_at, IsJoined}
 
 module _ (P Q R : Image) (n d : ℕ) (low : List ℕ) (high : Option (List ℕ)) (free left last : List ℕ) (key value : List ℕ) (had : Bool) (k : List ℕ) (p : ℕ) (f h : Forest) (positive : 0 < d) (sound : IsSound n free (inner p f)) (free_are : AreFree n free) (done : IsPut P Q (d - 1) low high free left key value had f h) where
   -- the node's page is none of its new children's
@@ -36,7 +34,7 @@ module _ (P Q R : Image) (n d : ℕ) (low : List ℕ) (high : Option (List ℕ))
         let parts = part_trees R (d - 1) low high j.low j.high all in
         let apart = part_apart j.low j.high (subst AreApart j.is done.apart) in
         let under : (x : ℕ) → forest_owns j.low x ⊎ forest_owns j.high x → forest_owns h x = λ x own. subst (λ g. forest_owns g x) (sym j.is) (join_owns j.low j.high x own) in
-        let bound : first_key j.high ≡ key_at upper.entries 0 = first_of_links j.high ∙ ap (λ l. key_at l 0) j.high_links in
+        let bound : first_key j.high ≡ key_at upper.entries 0 = sym (key_of_links j.high) ∙ ap (λ l. key_at l 0) j.high_links in
         let node : upper ≡ record { level = d; entries = links j.high } = λ i. record { level = w.level i; entries = sym j.high_links i } in
         let s : forest_size h ≡ forest_size j.low + forest_size j.high = ap forest_size j.is ∙ join_size j.low j.high in
         let e : length left ≡ length last + 1 = ap length w.taken ∙ omega arith in
@@ -71,10 +69,6 @@ module _ (P Q R : Image) (n d : ℕ) (low : List ℕ) (high : Option (List ℕ))
           };
           shape = (inner p j.low, inner q j.high, ap (λ b. more k (inner p j.low) (one b (inner q j.high))) bound, refl, refl);
         }
-      where
-        first_of_links : (g : Forest) → first_key g ≡ key_at (links g) 0
-        first_of_links (one k t) = refl
-        first_of_links (more k t g) = refl
 
     raise_cut : IsRaised P R d low high free last key value had k p (inner p f) (Some q) upper
     raise_cut = raise_parts (part_at h w.lower upper.entries w.some.0 w.some.1 w.both)
@@ -84,9 +78,5 @@ module _ (P Q R : Image) (n d : ℕ) (low : List ℕ) (high : Option (List ℕ))
       let e : length last ≡ length left = ap length w.none in
       let moved : IsTaken free left ≡ IsTaken free last = ap (IsTaken free) (sym w.none) in
       let forth : (q : ℕ) → IsTaken free left q → IsTaken free last q = λ q taken. (taken.0, λ there. taken.1 (subst (IsIn q) w.none there)) in
-      record {
-        trees = one k (inner p h);
-        is_put = search (rules, trees_same);
-        shape = (inner p h, refl, refl);
-      }
+      record { trees = one k (inner p h); is_put = search (rules, trees_same); shape = (inner p h, refl, refl) }
   raise (Some q) upper w = raise_cut q upper w

@@ -1,19 +1,10 @@
 -- A put at the root.
-use Rattle.std.specs.{Prelude.{Option, Some, None, is_some}, Cmp.Lexicographic.nat_list_cmp_total}
-use Rattle.std.specs.FinMap.{empty, entries, entries-insert, get-entries, get, insert, contains_key, find, put}
-use Rattle.std.proofs.Common.{rules, ◌≡◌, ◌≢◌, ◌<◌, ◌≤◌, ◌+◌, inl, inr, ⊎_elim, ℕ, List, [], ◌∷◌, length, Bool, refl, sym, ap, subst, ◌∙◌, arith}
-use Rattle.sector_device.specs.claim.Disk.{Image}
-use Rattle.page_store.{specs.claim.Chain.{IsIn, AreFree}, proofs.Chains.below_free}
-use Rattle.page_node.specs.{claim.Entries.Entry, Entries.key_at, claim.Node.{Node, IsNode}, claim.Places.key_cmp}
-use Rattle.page_btree.specs.{claim.Keys.KeyMap, claim.Tree.{Tree, Forest, leaf, inner, one, more, page_of, rows, forest_rows, links, forest_owns, IsTree, AreTrees}}
-use Rattle.page_btree.{specs.claim.Map.{Holds, IsRooted}, specs.Map.IsOnlyRow, proofs.MapLaws.{trees_same, no_entries}, proofs.Descent.owns_page}
-use Rattle.page_btree.proofs.Tops.{rooted as has_tree, every_key}
-use Rattle.btree_puts.specs.Putting.{IsPut, IsRaised, IsGrown, CanPut}
-
--- the level that a tree's page says
-pub level_there : (P : Image) (d : ℕ) (low : List ℕ) (high : Option (List ℕ)) (t : Tree) → IsTree P d low high t → (es : List Entry) × IsNode (P (page_of t)) (record { level = d; entries = es })
-level_there P d low high (leaf p es) is = (es, subst (λ (l : ℕ). IsNode (P p) (record { level = l; entries = es })) (sym is.0) is.1.node)
-level_there P d low high (inner p f) is = (links f, is.1)
+use Rattle.std.specs.{Cmp.Lexicographic.nat_list_cmp_total, FinMap.{empty, entries, entries-insert, get-entries, get, insert, contains_key, find, put}}
+use Rattle.{std.specs.Prelude.{Option, Some, None, is_some}, btree_puts.specs.Putting.{IsPut, IsRaised, IsGrown, CanPut}, page_btree.specs.{Map.IsOnlyRow, claim.Keys.KeyMap}}
+use Rattle.{std.proofs.Common.{rules, ◌≡◌, ◌≢◌, ◌<◌, ◌≤◌, ◌+◌, inl, inr, ⊎_elim, ℕ, List, [], ◌∷◌, length, Bool, refl, sym, ap, subst, ◌∙◌, arith}, page_node.specs.Entries.key_at}
+use Rattle.page_btree.specs.claim.{Map.{Holds, IsRooted}, Tree.{Tree, Forest, leaf, inner, one, more, page_of, rows, forest_rows, links, forest_owns, AreTrees}}
+use Rattle.{page_node.specs.claim.{Node.{Node, IsNode}, Places.key_cmp}, page_store.specs.claim.Chain.{IsIn, AreFree}, sector_device.specs.claim.Disk.Image}
+use Rattle.{page_btree.proofs.{Descent.owns_page, MapLaws.{trees_same, no_entries}, Tops.{rooted as has_tree, every_key, level_there}}, page_store.proofs.Chains.below_free}
 
 put_entries : (m : KeyMap) (key value : List ℕ) → entries (insert m key value) ≡ put key_cmp key value (entries m)
 put_entries m key value = entries-insert nat_list_cmp_total m key value
@@ -69,19 +60,7 @@ module _ (n : ℕ) (P Q : Image) (root : ℕ) (free left : List ℕ) (m : KeyMap
 
   one_holds : (t : Tree) → page_of t ≡ root → IsPut P Q r.level [] None free left key value had (one [] r.tree) (one [] t) → Holds n Q root left (insert m key value) × (had ≡ contains_key m key)
   one_holds t is done = (
-    let b = r.whole in record {
-      free_are = done.rest n free_are;
-      held = inr (record {
-        tree = t;
-        level = r.level;
-        few = r.few;
-        stands = done.trees;
-        root_is = is;
-        sound = record { apart = done.apart; below = g_below (one [] t) done; used = g_used (one [] t) done };
-        rows_are = g_rows (one [] t) done;
-        whole = omega arith;
-      });
-    },
+    let b = r.whole in search (arith, done.rest n free_are, g_below (one [] t) done, g_used (one [] t) done, g_rows (one [] t) done),
     g_had (one [] t) done,
   )
 
@@ -126,9 +105,7 @@ module _ (n : ℕ) (P : Image) (root : ℕ) (free : List ℕ) (m : KeyMap) (key 
   rooted = has_tree n P root free m holds some
 
   pub level_same : level ≡ rooted.level
-  level_same =
-      let there = level_there P rooted.level [] None rooted.tree rooted.stands in
-      level_is (record { level = rooted.level; entries = there.0 }) (subst (λ b. IsNode b (record { level = rooted.level; entries = there.0 })) (ap P rooted.root_is ∙ sym reads) there.1)
+  level_same = level_there n P root free m rooted bytes level reads level_is
 
   pub root_can : CanPut n P level [] None free root bytes key rooted.tree
   root_can = search (rules, level_same)

@@ -1,9 +1,8 @@
 -- Why a step of a put is refused.
 use Rattle.std.specs.Prelude.{◌≡◌, ◌<◌, ◌≤◌, ℕ, List, length}
-use Rattle.sector_device.specs.{claim.Disk.Image, declared.SectorDevice.Ghosts}
-use Rattle.page_store.specs.{claim.Chain.AreFree, claim.Transactions.{stored, disk_in, txn_pages, txn_free, over, free_over}, declared.pages.Pages.Pages, declared.txn.Txn.Txn}
-use Rattle.page_node.specs.{claim.Entries.Entry, claim.Node.{Node, IsNode}}
-use Rattle.page_btree.specs.{Getting.ReadsErr, declared.error.TreeError.TreeError, declared.error.TreeError.TheVariants.{NotAStore, NoPages, TooDeep, Memory}}
+use Rattle.{page_btree.specs.{Getting.ReadsErr, declared.error.TreeError.{TreeError, TheVariants.{NotAStore, NoPages, TooDeep, Memory}}}, page_node.specs.claim.Entries.Entry}
+use Rattle.{page_node.specs.claim.Node.{Node, IsNode}, page_store.specs.claim.{Chain.AreFree, Transactions.{stored, disk_in, txn_pages, txn_free, over, free_over}}}
+use Rattle.{page_store.specs.declared.{pages.Pages.Pages, txn.Txn.Txn}, sector_device.specs.{claim.Disk.Image, declared.SectorDevice.Ghosts}}
 
 module _ {D : Type 0} {g : Ghosts D} where
   -- why no step goes down from pages that hold what they can

@@ -1,11 +1,10 @@
 -- Leaves that are known, and puts by them.
-use Rattle.std.specs.{Prelude.{◌≡◌, ◌≢◌, ◌<◌, ℕ, Bool, List, Option, true, Result, IfOk, IfSome}, FinMap.{insert, contains_key, get as row_at}}
+use Rattle.std.specs.{FinMap.{insert, contains_key, get as row_at}, Prelude.{◌≡◌, ◌≢◌, ◌<◌, ℕ, Bool, List, Option, true, Result, IfOk, IfSome}}
+use Rattle.{btree_puts.specs.declared.finger.{Finger.Finger, Fingers.Fingers}, page_btree.specs.{Getting.{CanGetAt, IsCopied}, Leading.{LeadsTo, LeadsAll, end_of}}}
+use Rattle.{page_btree.specs.{claim.{Errors.level_in, Keys.KeyMap, Map.InTxn}, declared.error.TreeError.TreeError}, page_node.specs.{Searching.IsBelow, claim.Entries.Entry}}
+use Rattle.{page_btree.specs.declared.error.TreeError.TheVariants.{DeviceFault, NotAStore, Halted, NoPages, TooDeep, Memory}, page_node.specs.claim.Node.IsNode}
+use Rattle.page_store.specs.{claim.Transactions.{stored, disk_in, has_halted, HasFailed, txn_pages, txn_root, txn_free, over}, declared.{pages.Pages.Pages, txn.Txn.Txn}}
 use Rattle.sector_device.specs.{claim.Disk.Image, declared.SectorDevice.Ghosts}
-use Rattle.page_store.specs.{claim.Transactions.{stored, disk_in, has_halted, HasFailed, txn_pages, txn_root, txn_free, over}, declared.pages.Pages.Pages, declared.txn.Txn.Txn}
-use Rattle.page_node.specs.{claim.Entries.Entry, claim.Node.IsNode, Searching.IsBelow}
-use Rattle.page_btree.specs.{claim.Keys.KeyMap, claim.Map.InTxn, claim.Errors.level_in, Getting.{CanGetAt, IsCopied}, Leading.{LeadsTo, LeadsAll, end_of}}
-use Rattle.page_btree.specs.{declared.error.TreeError.TreeError, declared.error.TreeError.TheVariants.{DeviceFault, NotAStore, Halted, NoPages, TooDeep, Memory}}
-use Rattle.btree_puts.specs.{declared.finger.Finger.Finger, declared.finger.Fingers.Fingers}
 
 -- keys from the finger's on, as far as they reach, belong to its leaf, where each key before its place is below them
 pub record IsPlaced (t : Txn) (S : Image) (f : Finger) : Type 0 where

@@ -1,10 +1,9 @@
 -- What a put needs that edits a leaf alone.
-use Rattle.std.specs.{Prelude.{◌≡◌, ◌≢◌, ℕ, List, Option, None, is_some, true, Result, IfOk, IfSome}, FinMap.{find, put}}
-use Rattle.sector_device.specs.{claim.Disk.Image, declared.SectorDevice.Ghosts}
-use Rattle.page_store.specs.{claim.Transactions.{stored, disk_in, has_halted, HasFailed, over, free_over}, claim.Chain.{IsIn, AreFree}, declared.pages.Pages.Pages}
-use Rattle.page_store.specs.{declared.txn.Txn.Txn, Outcomes.KeepsRoot, Reading.ReadsOnly}
-use Rattle.page_node.specs.{claim.Entries.Entry, claim.Node.IsNode, claim.Places.{key_cmp, Rises}, Searching.IsBelow, declared.edit.RowPut.RowPut, declared.search.RowNear.RowNear}
-use Rattle.page_btree.specs.{Editing.{IsAlike, WritesOne}, declared.error.TreeError.TreeError, declared.error.TreeError.TheVariants.{DeviceFault, NotAStore, Halted, Memory}}
+use Rattle.std.specs.{FinMap.{find, put}, Prelude.{◌≡◌, ◌≢◌, ℕ, List, Option, None, is_some, true, Result, IfOk, IfSome}}
+use Rattle.page_btree.specs.{Editing.{IsAlike, WritesOne}, declared.error.TreeError.{TreeError, TheVariants.{DeviceFault, NotAStore, Halted, Memory}}}
+use Rattle.page_node.specs.{Searching.IsBelow, claim.{Entries.Entry, Node.IsNode, Places.{key_cmp, Rises}}, declared.{edit.RowPut.RowPut, search.RowNear.RowNear}}
+use Rattle.page_store.specs.{Outcomes.KeepsRoot, Reading.ReadsOnly, claim.{Chain.{IsIn, AreFree}, Transactions.{stored, disk_in, has_halted, HasFailed, over, free_over}}}
+use Rattle.{page_store.specs.declared.{pages.Pages.Pages, txn.Txn.Txn}, sector_device.specs.{claim.Disk.Image, declared.SectorDevice.Ghosts}}
 
 -- a row was put into the leaf at a page, where there is one and each key before a place is below its own
 abbrev pub IsLeafPut : Txn → Txn → Image → ℕ → RowNear → List ℕ → List ℕ → RowPut → Type 0

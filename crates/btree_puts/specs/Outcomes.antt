@@ -1,13 +1,11 @@
 -- What a put leaves, where the device is honest and the pages hold what they may.
+use Rattle.{std.specs.FinMap.{find, get, insert, contains_key, put as put_entry}, btree_puts.specs.Putting.{CanPut, IsRaised, IsGrown, IsWritten, IsCut, linked}}
 use Rattle.std.specs.Prelude.{◌≡◌, ◌<◌, ◌+◌, ℕ, Bool, List, [], ◌∷◌, length, Option, Some, None, is_some, Result, OnOk, IfOk, IfErr, MatchResult}
-use Rattle.std.specs.FinMap.{find, get, insert, contains_key, put as put_entry}
-use Rattle.sector_device.specs.{claim.Disk.Image, declared.SectorDevice.Ghosts}
-use Rattle.page_store.specs.{claim.Chain.{IsIn, AreFree}, claim.Transactions.{stored, disk_in, txn_pages, txn_root, txn_free, over, free_over}, declared.pages.Pages.Pages}
-use Rattle.page_store.specs.{declared.txn.Txn.Txn, Outcomes.KeepsRoot}
-use Rattle.page_node.specs.{claim.Entries.{Entry, child_bytes}, Entries.key_at, claim.Node.{Node, IsNode}, claim.Places.{key_cmp, Rises}}
-use Rattle.page_btree.specs.{claim.Keys.KeyMap, claim.Tree.{Tree, rows}, claim.Map.InTxn, Editing.Spends, Errors.IsNoWant, declared.error.TreeError.TreeError}
-use Rattle.page_btree.specs.declared.error.TreeError.TheVariants.{NoPages, TooDeep}
-use Rattle.btree_puts.specs.{Putting.{CanPut, IsRaised, IsGrown, IsWritten, IsCut, linked}, declared.puts.Placed.Placed}
+use Rattle.{btree_puts.specs.declared.puts.Placed.Placed, page_btree.specs.{Editing.Spends, Errors.IsNoWant, claim.{Keys.KeyMap, Map.InTxn, Tree.{Tree, rows}}}}
+use Rattle.{page_btree.specs.declared.error.TreeError.{TreeError, TheVariants.{NoPages, TooDeep}}, page_node.specs.{Entries.key_at, claim.Entries.{Entry, child_bytes}}}
+use Rattle.{page_node.specs.claim.{Node.{Node, IsNode}, Places.{key_cmp, Rises}}, page_store.specs.{Outcomes.KeepsRoot, claim.Chain.{IsIn, AreFree}, declared.pages.Pages.Pages}}
+use Rattle.{page_store.specs.{claim.Transactions.{stored, disk_in, txn_pages, txn_root, txn_free, over, free_over}, declared.txn.Txn.Txn}, sector_device.specs.claim.Disk.Image}
+use Rattle.sector_device.specs.declared.SectorDevice.{Ghosts}
 
 -- ---- what a put does to a part of a tree, as one transaction over stored pages became another
 -- a row can be put into the tree at a page

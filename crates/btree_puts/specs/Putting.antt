@@ -1,10 +1,8 @@
 -- What a put does to a part of a tree.
-use Rattle.std.specs.{Prelude.{◌≡◌, ◌≢◌, ◌⊎◌, ◌<◌, ◌≤◌, ◌+◌, ◌*◌, ℕ, Bool, List, [], ◌∷◌, ◌++◌, length, cond, Option, Some, None, is_some}, Ordering.is_gt, FinMap.{find, put}}
-use Rattle.sector_device.specs.claim.Disk.{Image}
-use Rattle.page_store.specs.{claim.Chain.{IsIn, AreFree}, claim.Transactions.{txn_writes, txn_free}, declared.txn.Txn.Txn}
-use Rattle.page_node.specs.{claim.Entries.{Entry, child_bytes}, Entries.key_at, claim.Node.{Node, IsNode}, claim.Places.key_cmp}
-use Rattle.page_btree.specs.{claim.Keys.IsBetween, claim.Tree.{Tree, Forest, one, more, IsTree, AreTrees, AreApart, page_of, forest_rows, forest_owns, forest_size}}
-use Rattle.page_btree.specs.claim.Map.{IsSound}
+use Rattle.std.specs.{FinMap.{find, put}, Ordering.is_gt, Prelude.{◌≡◌, ◌≢◌, ◌⊎◌, ◌<◌, ◌≤◌, ◌+◌, ◌*◌, ℕ, Bool, List, [], ◌∷◌, ◌++◌, length, cond, Option, Some, None, is_some}}
+use Rattle.page_btree.specs.claim.{Keys.IsBetween, Map.IsSound, Tree.{Tree, Forest, one, more, IsTree, AreTrees, AreApart, page_of, forest_rows, forest_owns, forest_size}}
+use Rattle.{page_node.specs.{Entries.key_at, claim.{Entries.{Entry, child_bytes}, Node.{Node, IsNode}, Places.key_cmp}}, page_store.specs.claim.Chain.{IsIn, AreFree}}
+use Rattle.{page_store.specs.{claim.Transactions.{txn_writes, txn_free}, declared.txn.Txn.Txn}, sector_device.specs.claim.Disk.Image}
 
 -- free before, and not after
 abbrev pub IsTaken : List ℕ → List ℕ → ℕ → Type 0

@@ -1,12 +1,10 @@
 -- The children of a tree that could be walked.
-use Rattle.std.specs.Prelude.{Option}
+use Rattle.{std.specs.Prelude.Option, btree_walks.specs.{Order.{lower_of, upper_of, next_key, AreParts, IsOrdered}, declared.marks.Marks.Marks}, page_btree.specs.claim.Keys.Parts}
 use Rattle.std.proofs.Common.{rules, ◌≡◌, ◌<◌, ◌≤◌, ◌+◌, ◌-◌, ◌^◌, ℕ, zero, suc, List, [], ◌∷◌, length, drop, get_or, inr, refl, sym, ap, subst, ◌∙◌, arith, add-one, length-drop}
-use Rattle.sector_device.specs.claim.Disk.{Image}
-use Rattle.page_node.{specs.claim.Entries.{Entry, child_bytes}, specs.Entries.{key_at, value_at}, specs.claim.Node.{Node, IsNode}, proofs.Laws.node_unique}
-use Rattle.page_btree.specs.{claim.Keys.Parts, claim.Tree.{Tree, Forest, leaf, inner, one, more, page_of, first_key, links, owns, forest_owns, IsTree, AreTrees, IsApart, AreApart}}
-use Rattle.page_btree.proofs.{Descent.{owns_page, some_links, key_of_links}, MapLaws.{page_is, one_tree}}
-use Rattle.btree_walks.specs.{Order.{lower_of, upper_of, next_key, AreParts, IsOrdered}, Owners.{CanName, AreNamed, HasLevel, IsWalked, AreWalkedFrom, CanWalk}}
-use Rattle.btree_walks.{specs.declared.marks.Marks.Marks, proofs.Named.can_still, proofs.Trees.drop_next}
+use Rattle.{btree_walks.specs.Owners.{CanName, AreNamed, HasLevel, IsWalked, AreWalkedFrom, CanWalk}, page_node.specs.{Entries.{key_at, value_at}, claim.Node.{Node, IsNode}}}
+use Rattle.page_btree.specs.claim.Tree.{Tree, Forest, leaf, inner, one, more, page_of, first_key, links, owns, forest_owns, IsTree, AreTrees, IsApart, AreApart}
+use Rattle.{page_node.specs.claim.Entries.{Entry, child_bytes}, sector_device.specs.claim.Disk.Image, btree_walks.proofs.{Named.can_still, Trees.drop_next}}
+use Rattle.{page_btree.proofs.{Descent.{owns_page, some_links, key_of_links}, MapLaws.{page_is, one_tree}}, page_node.proofs.Laws.node_unique}
 
 -- ---- what a tree says of its page
 pub can_level : (P : Image) (d : ℕ) (low : List ℕ) (high : Option (List ℕ)) (p : ℕ) (old : Marks) → CanWalk P d low high p old → HasLevel (P p) d
@@ -50,13 +48,10 @@ pub record CanWalkAll (P : Image) (d : ℕ) (low : List ℕ) (high : Option (Lis
 can_walk_tree : (P : Image) (d : ℕ) (low : List ℕ) (high : Option (List ℕ)) (t : Tree) (old new : Marks) (node : Node) → (d ≡ 0 → ⊥) → AreNamed (λ q. q ≡ page_of t) 1 old new → IsTree P d low high t → IsApart t → ((q : ℕ) → owns t q → CanName q old)
     → IsNode (P (page_of t)) node → CanWalkAll P (d - 1) low high node.entries new
 can_walk_tree P d low high (leaf p es) old new node off named is apart fresh at = absurd (off is.0)
-can_walk_tree P d low high (inner p f) old new node off named is apart fresh at = record {
-  forest = f;
-  stand = is.2;
-  links_are = ap (λ (n : Node). n.entries) (node_unique (P p) (record { level = d; entries = links f }) node is.1 at);
-  apart = apart.1;
-  fresh = λ q own. can_still (λ q. q ≡ p) 1 q old new named (λ e. apart.0 (subst (forest_owns f) e own)) (fresh q (inr own));
-}
+can_walk_tree P d low high (inner p f) old new node off named is apart fresh at =
+    let links_are = ap (λ (n : Node). n.entries) (node_unique (P p) (record { level = d; entries = links f }) node is.1 at) in
+    let still : (q : ℕ) → forest_owns f q → CanName q new = λ q own. can_still (λ q. q ≡ p) 1 q old new named (λ e. apart.0 (subst (forest_owns f) e own)) (fresh q (inr own)) in
+    search rules
 
 pub can_walk_all : (P : Image) (d : ℕ) (low : List ℕ) (high : Option (List ℕ)) (p : ℕ) (old new : Marks) (node : Node) → (d ≡ 0 → ⊥) → AreNamed (λ q. q ≡ p) 1 old new → IsNode (P p) node → CanWalk P d low high p old → CanWalkAll P (d - 1) low high node.entries new
 can_walk_all P d low high p old new node off named at can = search (rules, can_walk_tree)

@@ -1,21 +1,12 @@
 -- A row taken out of rows, and out of a map.
-use Rattle.std.specs.{Prelude.{insert, remove, Option, Some, None}, List.AllByRecursion, Ordering.{is_gt, is_lt, is_eq, eq_by_cmp}, Cmp.Lexicographic.nat_list_cmp_total}
-use Rattle.std.specs.declared.cmp.Ordering.TheVariants.{Less, Equal, Greater}
+use Rattle.std.specs.{Cmp.Lexicographic.nat_list_cmp_total, FinMap.Entries.{by_order, find-put}, List.AllByRecursion, Ordering.{is_gt, is_eq, eq_by_cmp}}
 use Rattle.std.specs.FinMap.{is_sorted, find, put, entries, get, same_entries_map, from_sorted, entries-from_sorted, entries-insert, get-insert, get-remove, same_map, get_tied, slice_cmp-IsAntisymmetric, nat_cmp-IsAntisymmetric, get-from_sorted, get-entries}
-use Rattle.std.specs.FinMap.Entries.{by_order, below_all, find-put}
+use Rattle.std.{specs.{Prelude.{insert, remove, Option, Some, None}, declared.cmp.Ordering.TheVariants.{Less, Equal, Greater}}, proofs.lemmas.Cmp.tied_itself}
 use Rattle.std.proofs.Common.{rules, ◌≡◌, ℕ, zero, suc, ◌+◌, ◌<◌, ◌≤◌, List, [], ◌∷◌, length, get_or, Bool, true, false, cond, refl, sym, ap, subst, ◌∙◌, arith}
+use Rattle.{std.proofs.lemmas.List.Edits.{get_or-remove_below, get_or-remove_above, length-remove}, btree_walks.specs.Removing.{unlinked, unlinked_from}}
+use Rattle.{page_btree.specs.claim.Keys.KeyMap, page_node.specs.{Entries.{key_at, value_at}, Places.{IsFound, IsGap}, claim.{Entries.{Entry, size_of}, Places.{key_cmp, Rises}}}}
+use Rattle.{page_btree.proofs.{Placed.is_equal as equal, Rows.{rises_cons, rises_split}}, page_node.proofs.Laws.{gap_put, gap_find}}
 use Rattle.std.specs.FinMap as map
-use Rattle.std.proofs.lemmas.Cmp.{tied_itself}
-use Rattle.std.proofs.lemmas.List.Edits.{get_or-remove_below, get_or-remove_above}
-use Rattle.page_node.specs.{claim.Entries.{Entry, size_of}, Entries.{key_at, value_at}, claim.Places.{key_cmp, Rises}, Places.{IsFound, IsGap}}
-use Rattle.page_node.proofs.Laws.{gap_put, gap_find}
-use Rattle.page_btree.{specs.claim.Keys.KeyMap, proofs.Booleans.{first_so, second_so, both_so}, proofs.Placed.is_equal as equal}
-use Rattle.btree_walks.specs.Removing.{unlinked, unlinked_from}
-
-length_remove : (es : List Entry) (i : ℕ) → i < length es → length (remove es i) + 1 ≡ length es
-length_remove [] i within = absurd (omega arith)
-length_remove (e ∷ es) zero within = omega arith
-length_remove (e ∷ es) (suc i) within = let rest = length_remove es i (omega arith) in omega arith
 
 insert_remove : (es : List Entry) (i : ℕ) (d : Entry) → i < length es → insert (remove es i) i (get_or es i d) ≡ es
 insert_remove [] i d within = absurd (omega arith)
@@ -30,7 +21,7 @@ size_remove (e ∷ es) (suc i) = let rest = size_remove es i in omega arith
 
 -- the place is then a gap
 gap_remove : (key : List ℕ) (es : List Entry) (i : ℕ) → IsFound key es i → IsGap key (remove es i) i
-gap_remove key es i found = search (rules, length_remove, get_or-remove_below, get_or-remove_above)
+gap_remove key es i found = search (rules, length-remove, get_or-remove_below, get_or-remove_above)
 
 -- put back, it is as it was
 pub put_remove : (key : List ℕ) (es : List Entry) (i : ℕ) → IsFound key es i → put key_cmp key (value_at es i) (remove es i) ≡ es
@@ -50,24 +41,13 @@ all_unput P key value (e ∷ es) h =
       | Greater ↦ λ g. (g.0, all_unput P key value es g.1)
     ] h
 
-below_unput : (x key value : List ℕ) (es : List Entry) → below_all key_cmp x (put key_cmp key value es) ≡ true → below_all key_cmp x es ≡ true
-below_unput x key value [] h = refl
-below_unput x key value (e ∷ es) h =
-    elim (key_cmp key e.0) as (λ o. below_all key_cmp x (by_order o ((key, value) ∷ e ∷ es) ((e.0, value) ∷ es) (e ∷ put key_cmp key value es)) ≡ true → below_all key_cmp x (e ∷ es) ≡ true) [
-      | Less ↦ λ g. second_so (is_lt (key_cmp x key)) (below_all key_cmp x (e ∷ es)) g
-      | Equal ↦ λ g. g
-      | Greater ↦ λ g. both_so (is_lt (key_cmp x e.0)) (below_all key_cmp x es) (first_so (is_lt (key_cmp x e.0)) (below_all key_cmp x (put key_cmp key value es)) g) (below_unput x key value es (second_so (is_lt (key_cmp x e.0)) (below_all key_cmp x (put key_cmp key value es)) g))
-    ] h
-
 pub rises_unput : (key value : List ℕ) (es : List Entry) → Rises (put key_cmp key value es) → Rises es
 rises_unput key value [] h = refl
 rises_unput key value (e ∷ es) h =
     elim (key_cmp key e.0) as (λ o. is_sorted key_cmp (by_order o ((key, value) ∷ e ∷ es) ((e.0, value) ∷ es) (e ∷ put key_cmp key value es)) ≡ true → Rises (e ∷ es)) [
-      | Less ↦ λ g. second_so (below_all key_cmp key (e ∷ es)) (is_sorted key_cmp (e ∷ es)) g
+      | Less ↦ λ g. (rises_split (key, value) (e ∷ es) g).1
       | Equal ↦ λ g. g
-      | Greater ↦ λ g. both_so (below_all key_cmp e.0 es) (is_sorted key_cmp es)
-          (below_unput e.0 key value es (first_so (below_all key_cmp e.0 (put key_cmp key value es)) (is_sorted key_cmp (put key_cmp key value es)) g))
-          (rises_unput key value es (second_so (below_all key_cmp e.0 (put key_cmp key value es)) (is_sorted key_cmp (put key_cmp key value es)) g))
+      | Greater ↦ λ g. let r = rises_split e (put key_cmp key value es) g in rises_cons e es (all_unput (λ k. key_cmp e.0 k ≡ Less) key value es r.0) (rises_unput key value es r.1)
     ] h
 
 pub found_put : (key value : List ℕ) (es : List Entry) → find key_cmp key (put key_cmp key value es) ≡ Some value
@@ -75,13 +55,9 @@ found_put key value es = find-put key_cmp nat_list_cmp_total key key value es �
 
 -- ---- maps
 
-without_key : (b : Bool) (value : List ℕ) (found : Option (List ℕ)) → (b ≡ true → found ≡ None) → cond b None (cond b (Some value) found) ≡ found
-without_key true value found none = sym (none refl)
-without_key false value found none = refl
-
-nothing_there : (b : Bool) (found : Option (List ℕ)) → (b ≡ true → found ≡ None) → cond b None found ≡ found
-nothing_there true found none = sym (none refl)
-nothing_there false found none = refl
+without_key : (b : Bool) (told found : Option (List ℕ)) → (b ≡ true → found ≡ None) → (b ≡ false → told ≡ found) → cond b None told ≡ found
+without_key true told found none same = sym (none refl)
+without_key false told found none same = same refl
 
 -- a map whose rows are others with a key put that those don't have: the key removed, the others are left
 pub remove_rows : (m : KeyMap) (key value : List ℕ) (rows : List Entry) → Rises rows → find key_cmp key rows ≡ None → put key_cmp key value rows ≡ entries m → entries (map.remove m key) ≡ rows
@@ -93,14 +69,14 @@ remove_rows m key value rows rises none rest =
     let left : map.remove m key ≡ n = same_map nat_list_cmp_total (slice_cmp-IsAntisymmetric nat_cmp-IsAntisymmetric) (map.remove m key) n (λ q.
     get-remove nat_list_cmp_total m key q
     ∙ ap (λ (o : Option (List ℕ)). cond (eq_by_cmp key_cmp q key) None o) (ap (λ (k : KeyMap). get k q) (sym put_in) ∙ get-insert nat_list_cmp_total n key value q)
-    ∙ without_key (eq_by_cmp key_cmp q key) value (get n q) (λ tied. sym (get_tied nat_list_cmp_total n q key (equal (key_cmp q key) tied)) ∙ without)) in
+    ∙ without_key (eq_by_cmp key_cmp q key) _ (get n q) (λ tied. sym (get_tied nat_list_cmp_total n q key (equal (key_cmp q key) tied)) ∙ without) (λ not. ap (λ b. cond b (Some value) (get n q)) not)) in
     ap (λ (k : KeyMap). entries k) left ∙ listed
 
 -- and a key that no row has takes nothing away
 pub remove_none : (m : KeyMap) (key : List ℕ) → find key_cmp key (entries m) ≡ None → map.remove m key ≡ m
 remove_none m key none = same_map nat_list_cmp_total (slice_cmp-IsAntisymmetric nat_cmp-IsAntisymmetric) (map.remove m key) m (λ q.
     get-remove nat_list_cmp_total m key q
-    ∙ nothing_there (eq_by_cmp key_cmp q key) (get m q) (λ tied. sym (get_tied nat_list_cmp_total m q key (equal (key_cmp q key) tied)) ∙ get-entries m key ∙ none))
+    ∙ without_key (eq_by_cmp key_cmp q key) (get m q) (get m q) (λ tied. sym (get_tied nat_list_cmp_total m q key (equal (key_cmp q key) tied)) ∙ get-entries m key ∙ none) (λ not. refl))
 
 -- ---- links
 unlinked_there : (key : List ℕ) (e : Entry) (es : List Entry) (i : ℕ) → i ≤ length es → ((j : ℕ) → j < i → is_gt (key_cmp (key_at es j) key) ≡ false) → (i < length es → is_gt (key_cmp (key_at es i) key) ≡ true) → remove (e ∷ es) i ≡ unlinked_from key e es

@@ -1,13 +1,9 @@
 -- Why pages aren't found sound, by cases.
-use Rattle.std.{specs.Prelude.{◌≡◌, Result, IsErrAnd, OnOk}, proofs.Common.{Ok, Err, sym, ◌∙◌}}
-use Rattle.sector_device.specs.declared.SectorDevice.{Ghosts}
-use Rattle.page_store.specs.{claim.Transactions.{disk_in, IsQuiet, Passed, ReadErr}, Reading.ReadsOnly, declared.pages.Pages.Pages}
-use Rattle.page_store.proofs.Stops.{failed_more, quiet_more}
-use Rattle.page_btree.proofs.Outcomes.{refused_by, reads_as}
-use Rattle.gate_journal.specs.declared.error.PageError.{PageError}
+use Rattle.{std.{specs.Prelude.{◌≡◌, Result, IsErrAnd, OnOk}, proofs.Common.{Ok, Err, sym, ◌∙◌}}, btree_walks.specs.Errors.{pages_error, PagesErr, CheckErr}}
+use Rattle.{btree_walks.specs.declared.error.PagesError.{PagesError, TheVariants.{Unsound, DeviceFault, Halted, Memory}}, gate_journal.specs.declared.error.PageError.PageError}
+use Rattle.page_store.{specs.{Reading.ReadsOnly, claim.Transactions.{disk_in, IsQuiet, Passed, ReadErr}, declared.pages.Pages.Pages}, proofs.Stops.{failed_more, quiet_more}}
+use Rattle.{sector_device.specs.declared.SectorDevice.Ghosts, page_btree.proofs.Outcomes.{refused_by, reads_as}}
 use Rattle.gate_journal.specs.declared.error.PageError.TheVariants as page
-use Rattle.btree_walks.specs.{declared.error.PagesError.PagesError, declared.error.PagesError.TheVariants.{Unsound, DeviceFault, Halted, Memory}}
-use Rattle.btree_walks.specs.Errors.{pages_error, PagesErr, CheckErr}
 
 module _ {D : Type 0} {g : Ghosts D} where
   -- a page that isn't read

@@ -1,15 +1,11 @@
 -- What isn't so of the page that is told, by cases.
 use Rattle.std.{specs.Prelude.{Option, None, Result, IfErr, IsErrAnd}, proofs.Common.{rules, ◌≡◌, ◌<◌, ◌+◌, ◌++◌, ℕ, List, [], ◌∷◌, length, refl, sym, subst}}
-use Rattle.page_btree.proofs.Outcomes.{err_of}
-use Rattle.btree_walks.specs.{declared.error.PagesError.PagesError, declared.error.PagesError.TheVariants.Unsound, Order.{lower_of, upper_of}, Errors.pages_error}
-use Rattle.btree_walks.specs.{Owners.{named_free, after}, Faults.{IsWay, IsPlace, IsNamedIn, IsWrongPage, TellsOf, IsUnnamed}, declared.error.PageFault.PageFault}
-use Rattle.btree_walks.specs.{declared.error.PageFaultKind.PageFaultKind, declared.error.PageFaultKind.TheVariants.{BeyondTheEnd, NamedTwice}, declared.marks.Marks.Marks}
-use Rattle.btree_walks.proofs.Lists.{AreListed, after_in}
-use Rattle.sector_device.specs.claim.Disk.{Image}
-use Rattle.gate_journal.specs.{claim.Store.word, declared.error.PageError.PageError}
-use Rattle.page_store.specs.claim.Chain.{IsIn, root_in}
+use Rattle.btree_walks.specs.{Errors.pages_error, Faults.{IsWay, IsPlace, IsNamedIn, IsWrongPage, TellsOf, IsUnnamed}, Order.{lower_of, upper_of}, Owners.named_free}
+use Rattle.btree_walks.specs.declared.{error.{PageFault.PageFault, PageFaultKind.{PageFaultKind, TheVariants.{BeyondTheEnd, NamedTwice}}, PagesError.PagesError}, marks.Marks.Marks}
+use Rattle.{btree_walks.specs.declared.error.PagesError.TheVariants.Unsound, gate_journal.specs.{claim.Store.word, declared.error.PageError.PageError}}
+use Rattle.{page_node.specs.{Entries.value_at, claim.{Entries.child_bytes, Node.{Node, IsNode}}}, page_store.specs.claim.Chain.{IsIn, root_in}, page_btree.proofs.Outcomes.err_of}
+use Rattle.{sector_device.specs.claim.Disk.Image, btree_walks.proofs.Lists.{AreListed, after_in}}
 use Rattle.gate_journal.specs.declared.error.PageError.TheVariants as page
-use Rattle.page_node.specs.{claim.Entries.child_bytes, Entries.value_at, claim.Node.{Node, IsNode}}
 
 -- a read that was refused tells no page
 read_told : (n : ℕ) (P : Image) (e : PageError) → TellsOf n P (pages_error e)
@@ -69,6 +65,3 @@ place_root P p level is told = record {
 -- ---- the list of free pages
 pub listed_at : (P : Image) (first k count p : ℕ) (old mid : Marks) → AreListed P first k p old mid → k < count → first ≡ word (P 0) 1 → count ≡ word (P 0) 2 → IsIn p (named_free P)
 listed_at P first k count p old mid was lt first_is count_is = search (rules, after_in P first k count lt)
-
-pub goes_on : (P : Image) (first k count next : ℕ) (old mid : Marks) → AreListed P first k next old mid → k ≡ count → first ≡ word (P 0) 1 → count ≡ word (P 0) 2 → next ≡ after P (word (P 0) 1) (word (P 0) 2)
-goes_on P first k count next old mid was all first_is count_is = search rules

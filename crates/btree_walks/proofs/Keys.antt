@@ -1,10 +1,9 @@
 -- Keys that were compared one by one.
-use Rattle.std.specs.{Prelude.{Option, Some}, List.AllByRecursion, Ordering.{is_gt, is_lt}, declared.cmp.Ordering.TheVariants.Less, FinMap.is_sorted, FinMap.Entries.below_all}
+use Rattle.std.{specs.{List.AllByRecursion, Ordering.{is_gt, is_lt}, Prelude.{Option, Some}, declared.cmp.Ordering.TheVariants.Less}, proofs.lemmas.Bool.cases_lt}
 use Rattle.std.proofs.Common.{◌≡◌, ◌<◌, ◌≤◌, ◌+◌, ◌-◌, ℕ, zero, suc, true, false, List, [], ◌∷◌, length, get_or, inl, inr, refl, sym, ap, subst, ◌∙◌, arith, add-one}
-use Rattle.std.proofs.lemmas.Bool.{cases_lt}
-use Rattle.page_node.{specs.claim.Entries.Entry, specs.Entries.key_at, specs.claim.Places.{key_cmp, Rises}, proofs.Laws.{less_trans, is_less, rises_at, is_lower}}
-use Rattle.page_btree.{specs.claim.Keys.{IsBetween, IsUnder}, proofs.Booleans.{first_so, second_so, both_so}, proofs.Rows.wider_under}
-use Rattle.btree_walks.specs.Order.{lower_of, upper_of, AreParts, IsOrdered}
+use Rattle.{btree_walks.specs.Order.{lower_of, upper_of, AreParts, IsOrdered}, page_btree.specs.claim.Keys.{IsBetween, IsUnder}, page_node.specs.Entries.key_at}
+use Rattle.{page_node.specs.claim.{Entries.Entry, Places.{key_cmp, Rises}}, page_btree.proofs.Rows.{all_map, rises_cons, rises_split, wider_under}}
+use Rattle.page_node.proofs.Laws.{less_trans, is_less, rises_at, is_lower}
 
 -- ---- at each place
 pub all_from : (F : Entry → Type 0) (es : List Entry) → ((k : ℕ) → k < length es → F (get_or es k ([], []))) → AllByRecursion F es
@@ -16,20 +15,11 @@ all_at F [] k lt h = absurd (omega arith)
 all_at F (e ∷ es) zero lt h = h.0
 all_at F (e ∷ es) (suc k) lt h = all_at F es k (omega arith) h.1
 
-below_more : (x y : List ℕ) (es : List Entry) → key_cmp x y ≡ Less → below_all key_cmp y es ≡ true → below_all key_cmp x es ≡ true
-below_more x y [] less h = refl
-below_more x y (e ∷ es) less h = both_so (is_lt (key_cmp x e.0)) (below_all key_cmp x es)
-    (ap is_lt (less_trans x y e.0 less (is_less (key_cmp y e.0) (first_so (is_lt (key_cmp y e.0)) (below_all key_cmp y es) h))))
-    (below_more x y es less (second_so (is_lt (key_cmp y e.0)) (below_all key_cmp y es) h))
-
 pub rises_from : (es : List Entry) → ((k : ℕ) → suc k < length es → is_lt (key_cmp (key_at es k) (key_at es (suc k))) ≡ true) → Rises es
 rises_from (e ∷ f ∷ es) h =
-    let less = h 0 (omega arith) in
+    let less = is_less (key_cmp e.0 f.0) (h 0 (omega arith)) in
     let rest : Rises (f ∷ es) = rises_from (f ∷ es) (λ k lt. h (suc k) (omega arith)) in
-    both_so (below_all key_cmp e.0 (f ∷ es)) (is_sorted key_cmp (f ∷ es))
-    (both_so (is_lt (key_cmp e.0 f.0)) (below_all key_cmp e.0 es) less
-    (below_more e.0 f.0 es (is_less (key_cmp e.0 f.0) less) (first_so (below_all key_cmp f.0 es) (is_sorted key_cmp es) rest)))
-    rest
+    rises_cons e (f ∷ es) (less, all_map (λ x. key_cmp f.0 x.0 ≡ Less) (λ x. key_cmp e.0 x.0 ≡ Less) (λ x more. less_trans e.0 f.0 x.0 less more) es (rises_split f es rest).0) rest
 rises_from _ h = refl
 
 -- ---- keys between the first and the last

@@ -3,7 +3,6 @@ mod Errors
 mod Faults
 mod FromNode
 mod FromRoot
-mod Header
 mod Keys
 pub mod Leaves
 mod Lists
@@ -25,4 +24,3 @@ pub mod Removals
 pub mod Steps
 pub mod Lefts
 pub mod Spares
-pub mod Leads

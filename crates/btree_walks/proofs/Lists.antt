@@ -1,10 +1,8 @@
 -- The list of free pages, read one after the other.
-use Rattle.std.proofs.Common.{rules, ◌≡◌, ◌⊎◌, ◌<◌, ◌+◌, ℕ, zero, suc, List, [], ◌∷◌, ◌++◌, length, inl, inr, refl, sym, ap, subst, ◌∙◌, arith, add-one}
-use Rattle.sector_device.specs.claim.Disk.{Image}
-use Rattle.gate_journal.specs.claim.Store.{word}
-use Rattle.page_store.{specs.claim.Chain.{is_blank, chain, IsIn, AreFree}, proofs.Chains.{below_free, first_blank, counts}}
-use Rattle.btree_walks.specs.{Owners.{linked, after, IsSeen, IsBlank, CanName, AreNamed, IsFreeList, CanList}, declared.marks.Marks.Marks}
-use Rattle.btree_walks.proofs.Named.{named_more, named_as}
+use Rattle.std.proofs.Common.{rules, ◌≡◌, ◌⊎◌, ◌<◌, ◌+◌, ℕ, zero, suc, List, [], ◌∷◌, ◌++◌, length, inl, inr, ⊎_elim, refl, sym, ap, subst, ◌∙◌, arith, add-one}
+use Rattle.{btree_walks.specs.{Owners.{linked, after, IsSeen, IsBlank, CanName, AreNamed, IsFreeList, CanList}, declared.marks.Marks.Marks}, gate_journal.specs.claim.Store.word}
+use Rattle.{page_store.specs.claim.Chain.{is_blank, chain, IsIn, AreFree}, sector_device.specs.claim.Disk.Image, btree_walks.proofs.Named.{named_more, named_as}}
+use Rattle.{page_btree.proofs.Placed.{in_one, both_free}, page_store.proofs.Chains.{below_free, first_blank, counts}}
 
 -- blank pages that are linked are the chain of free ones
 pub blank_chain : (P : Image) (first count : ℕ) → ((q : ℕ) → IsIn q (linked P first count) → IsBlank (P q)) → chain P first count ≡ linked P first count
@@ -18,10 +16,6 @@ free_chain n P first zero free q there = absurd there
 free_chain n P first (suc count) free q (inl is) = subst (λ (p : ℕ). IsBlank (P p)) (sym is) (first_blank n P first (suc count) (omega arith) free)
 free_chain n P first (suc count) free q (inr there) = free_chain n P (word (P first) 0) count free.3 q there
 
-pub pos : (p : ℕ) → (p ≡ 0 → ⊥) → 0 < p
-pos zero off = absurd (off refl)
-pos (suc p) off = omega arith
-
 linked_more : (P : Image) (first k : ℕ) → linked P first (suc k) ≡ linked P first k ++ after P first k ∷ []
 linked_more P first zero = refl
 linked_more P first (suc k) = ap (λ (l : List ℕ). first ∷ l) (linked_more P (word (P first) 0) k)
@@ -31,10 +25,7 @@ after_next P first zero = refl
 after_next P first (suc k) = after_next P (word (P first) 0) k
 
 in_push : (q : ℕ) (qs : List ℕ) (p : ℕ) → IsIn q (qs ++ p ∷ []) → IsIn q qs ⊎ (q ≡ p)
-in_push q [] p (inl e) = inr e
-in_push q [] p (inr none) = absurd none
-in_push q (x ∷ qs) p (inl e) = inl (inl e)
-in_push q (x ∷ qs) p (inr there) = elim (in_push q qs p there) [ inl h ↦ inl (inr h) | inr e ↦ inr e ]
+in_push q qs p there = ⊎_elim (λ h. inl h) (λ one. ⊎_elim (λ e. inr e) (λ none. absurd none) one) (in_one q qs (p ∷ []) there)
 
 in_prefix : (q : ℕ) (qs : List ℕ) (p : ℕ) → IsIn q qs ⊎ (q ≡ p) → IsIn q (qs ++ p ∷ [])
 in_prefix q [] p (inl none) = absurd none
@@ -44,13 +35,7 @@ in_prefix q (x ∷ qs) p (inl (inr there)) = inr (in_prefix q qs p (inl there))
 in_prefix q (x ∷ qs) p (inr e) = inr (in_prefix q qs p (inr e))
 
 free_push : (n : ℕ) (qs : List ℕ) (p : ℕ) → AreFree n qs → 0 < p → p < n → (IsIn p qs → ⊥) → AreFree n (qs ++ p ∷ [])
-free_push n [] p free some lt off = (some, lt, λ none. none, tt)
-free_push n (q ∷ qs) p free some lt off = (
-  free.0,
-  free.1,
-  λ there. elim (in_push q qs p there) [ inl h ↦ free.2 h | inr e ↦ off (inl (sym e)) ],
-  free_push n qs p free.3 some lt (λ h. off (inr h)),
-)
+free_push n qs p free some lt off = both_free n qs (p ∷ []) free (some, lt, (λ none. none), tt) (λ q there one. ⊎_elim (λ e. off (subst (λ x. IsIn x qs) e there)) (λ none. none) one)
 
 pub after_in : (P : Image) (first k count : ℕ) → k < count → IsIn (after P first k) (linked P first count)
 after_in P first k zero lt = absurd (omega arith)
@@ -70,9 +55,6 @@ pub record AreListed (P : Image) (first k next : ℕ) (old new : Marks) : Type 0
   pub free : IsSeen old 0 → AreFree (length old.seen.items) (linked P first k)
   pub blank : (q : ℕ) → IsIn q (linked P first k) → IsBlank (P q)
 
-pub none_listed : (P : Image) (first : ℕ) (old : Marks) → AreListed P first 0 first old old
-none_listed P first old = search rules
-
 pub more_listed : (P : Image) (first k page next : ℕ) (old mid new : Marks) → AreListed P first k page old mid → AreNamed (λ q. q ≡ page) 1 mid new → next ≡ word (P page) 0 → IsBlank (P page) → AreListed P first (k + 1) next old new
 more_listed P first k page next old mid new was named next_is blank =
     let here : page ≡ after P first k = was.next_is in
@@ -86,7 +68,7 @@ more_listed P first k page next old mid new was named next_is blank =
           (named_more (λ q. IsIn q (linked P first k)) (λ q. q ≡ page) k 1 old mid new was.named named);
       free = λ seen. subst (AreFree (length old.seen.items)) linked_is
           (free_push (length old.seen.items) (linked P first k) page (was.free seen)
-          (let off : page ≡ 0 → ⊥ = λ none. named.fresh page refl (was.named.kept page (subst (IsSeen old) (sym none) seen)) in pos page off)
+          (let off : page ≡ 0 → ⊥ = λ none. named.fresh page refl (was.named.kept page (subst (IsSeen old) (sym none) seen)) in omega arith)
           (subst (λ n. page < n) was.named.long (named.within page refl))
           (λ there. named.fresh page refl (was.named.here page there)));
       blank = λ q is. search (rules, in_push);

@@ -1,6 +1,5 @@
 -- Pages that are named one after the other.
 use Rattle.std.proofs.Common.{rules, ◌≡◌, ◌⊎◌, ◌<◌, ◌+◌, ℕ, zero, suc, Bool, true, false, List, [], ◌∷◌, length, get_or, set, replicate, refl, arith}
-use Rattle.page_store.specs.claim.Chain.{IsIn}
 use Rattle.btree_walks.specs.{Marks.unseen, Owners.{CanName, AreNamed}, declared.marks.Marks.Marks}
 
 pub unseen_set : (seen : List Bool) (p : ℕ) → p < length seen → get_or seen p false ≡ false → unseen (set seen p true) + 1 ≡ unseen seen
@@ -21,9 +20,6 @@ pub all_seen : (seen : List Bool) → ((p : ℕ) → p < length seen → get_or 
 all_seen [] all = refl
 all_seen (true ∷ seen) all = all_seen seen (λ p lt. all (suc p) (omega arith))
 all_seen (false ∷ seen) all = absurd (let here : false ≡ true = all 0 (omega arith) in cc)
-
-pub named_none : (old : Marks) → AreNamed (λ q. IsIn q []) 0 old old
-named_none old = search rules
 
 pub named_more : (A B : ℕ → Type 0) (a b : ℕ) (old mid new : Marks) → AreNamed A a old mid → AreNamed B b mid new → AreNamed (λ q. A q ⊎ B q) (a + b) old new
 named_more A B a b old mid new f s = search rules

@@ -1,12 +1,10 @@
 -- All pages of a store.
-use Rattle.std.{specs.Prelude.None, specs.FinMap.empty, proofs.Common.{rules, ◌≡◌, ◌<◌, ◌≤◌, ◌^◌, ℕ, [], length, inl, inr, refl, sym, ap, subst, ◌∙◌, arith}}
-use Rattle.sector_device.specs.claim.Disk.{Image}
-use Rattle.gate_journal.specs.claim.Store.{word}
-use Rattle.page_store.{specs.claim.Chain.{IsIn, AreFree, root_in, free_in}, proofs.Chains.{length_chain, below_free}}
-use Rattle.page_btree.{specs.claim.Tree.{owns, size}, proofs.MapLaws.{no_entries, one_tree}, proofs.Descent.owns_page}
-use Rattle.btree_walks.specs.{Owners.{linked, AreOwned, IsSeen, AreNamed, IsFreeList, CanList, IsRootWalked, CanWalkRoot}, Faults.{IsOffTree, IsWrongPage}}
-use Rattle.btree_walks.{specs.declared.error.PageFaultKind.TheVariants.Lost, specs.declared.marks.Marks.Marks, proofs.Lists.{pos, blank_chain, free_chain}}
-use Rattle.btree_walks.proofs.Rising.{map_of_tree, rows_of_map}
+use Rattle.std.{specs.{FinMap.empty, Prelude.None}, proofs.Common.{rules, ◌≡◌, ◌<◌, ◌≤◌, ◌^◌, ℕ, [], length, inl, inr, refl, sym, ap, subst, ◌∙◌, arith, List}}
+use Rattle.btree_walks.specs.{Faults.IsWrongPage, Owners.{CanName, linked, AreOwned, IsSeen, AreNamed, IsFreeList, CanList, IsRootWalked, CanWalkRoot}, declared.marks.Marks.Marks}
+use Rattle.{btree_walks.specs.declared.error.PageFaultKind.TheVariants.Lost, gate_journal.specs.claim.Store.word, page_btree.specs.claim.Tree.{owns, size}}
+use Rattle.page_store.specs.{claim.{Chain.{IsIn, AreFree, root_in, free_in}, Transactions.{stored, disk_in, over, IsQuiet}}, declared.{pages.Pages.Pages, txn.Txn.Txn}}
+use Rattle.{sector_device.specs.{claim.Disk.Image, declared.SectorDevice.Ghosts}, btree_walks.proofs.{Lists.{blank_chain, free_chain}, Rising.{map_of_tree, rows_of_map}}}
+use Rattle.{page_btree.proofs.{Descent.owns_page, MapLaws.{no_entries, one_tree}}, page_store.proofs.Chains.{length_chain, below_free}}
 
 pub some_pages : (n : ℕ) (P : Image) → AreOwned n P → 0 < n
 some_pages n P (m, own) = search arith
@@ -31,15 +29,8 @@ module _ (n : ℕ) (P : Image) (a b c d : Marks) (long : length a.seen.items ≡
     pub can_root : AreOwned n P → CanWalkRoot P (root_in P) c
     can_root (m, own) = elim own.holds.held [
       | inl bare ↦ inl bare.root_is
-      | inr r ↦ inr (
-        r.level,
-        r.few,
-        record {
-          tree = r.tree;
-          stands = r.stands;
-          page_is = r.root_is;
-          apart = r.sound.apart;
-          fresh = λ q owned. (
+      | inr r ↦
+          let fresh : (q : ℕ) → owns r.tree q → CanName q c = λ q owned. (
             (let lt = (r.sound.below q owned).1 in let x = list.named.long in let y = meta.long in omega arith),
             λ seen. elim (list.named.only q seen) [
               | inl there ↦ r.sound.used q owned (subst (IsIn q) (sym names_are) there)
@@ -48,9 +39,8 @@ module _ (n : ℕ) (P : Image) (a b c d : Marks) (long : length a.seen.items ≡
                 | inr first ↦ none q first
               ]
             ],
-          );
-        },
-      )
+          ) in
+          inr (r.level, r.few, search rules)
     ]
 
     module _ (walked : IsRootWalked P (root_in P) c d) where
@@ -59,36 +49,14 @@ module _ (n : ℕ) (P : Image) (a b c d : Marks) (long : length a.seen.items ≡
 
       pub are_owned : d.left ≡ 0 → AreOwned n P
       are_owned all = elim walked [
-        | inl none_is ↦ (
-          empty,
-          search (arith, free_are, no_entries, free_long),
-        )
-        | inr w ↦ (
-          search map_of_tree,
-          record {
-            holds = record {
-              free_are = free_are;
-              held = inr (record {
-                tree = w.2.tree;
-                level = w.0;
-                few = w.1;
-                stands = w.2.stands;
-                root_is = w.2.page_is;
-                sound = record {
-                  apart = w.2.apart;
-                  below = λ q owned. (
-                    pos q (λ e. w.2.named.fresh q owned (subst (IsSeen c) (sym e) seen_meta)),
-                    (let lt = w.2.named.within q owned in let x = list.named.long in let y = meta.long in omega arith),
-                  );
-                  used = λ q owned there. w.2.named.fresh q owned (list.named.here q (subst (IsIn q) names_are there));
-                };
-                rows_are = rows_of_map P w.0 [] None w.2.tree w.2.stands;
-                whole = let t = w.2.named.count_is in let x = meta.count_is in let y = list.named.count_is in let z = free_long in omega arith;
-              });
-            };
-            ends = list.ends;
-          },
-        )
+        | inl none_is ↦ (empty, search (arith, free_are, no_entries, free_long))
+        | inr w ↦
+            let below : (q : ℕ) → owns w.2.tree q → (0 < q) × (q < n) = λ q owned. (
+              (let off : q ≡ 0 → ⊥ = λ e. w.2.named.fresh q owned (subst (IsSeen c) (sym e) seen_meta) in omega arith),
+              (let lt = w.2.named.within q owned in let x = list.named.long in let y = meta.long in omega arith),
+            ) in
+            let used : (q : ℕ) → owns w.2.tree q → IsIn q (free_in P) → ⊥ = λ q owned there. w.2.named.fresh q owned (list.named.here q (subst (IsIn q) names_are there)) in
+            (map_of_tree w.2.tree, search (arith, free_are, rows_of_map P w.0 [] None w.2.tree w.2.stands, free_long))
       ]
 
       -- one that wasn't named is lost
@@ -98,14 +66,6 @@ module _ (n : ℕ) (P : Image) (a b c d : Marks) (long : length a.seen.items ≡
           kept_by : IsRootWalked P (root_in P) c d → (q : ℕ) → IsSeen c q → IsSeen d q
           kept_by (inl none_is) q seen = subst (λ (k : Marks). IsSeen k q) (sym none_is.1) seen
           kept_by (inr w) q seen = w.2.named.kept q seen
-
-          long_by : IsRootWalked P (root_in P) c d → length d.seen.items ≡ length c.seen.items
-          long_by (inl none_is) = ap (λ (k : Marks). length k.seen.items) none_is.1
-          long_by (inr w) = w.2.named.long
-
-          off_by : IsRootWalked P (root_in P) c d → IsOffTree P p
-          off_by (inl none_is) = inl none_is.0
-          off_by (inr w) = inr (w.0, w.2.tree, w.2.stands, w.2.page_is, λ owned. off (w.2.named.here p owned))
 
       -- where one is lost they weren't
       pub none_lost : n ≤ 2 ^ 32 → AreOwned n P → d.left ≡ 0
@@ -124,3 +84,12 @@ module _ (n : ℕ) (P : Image) (a b c d : Marks) (long : length a.seen.items ≡
                       let whole = r.whole in omega arith)
                 ])
           ]
+
+-- ---- what was listed and walked from the words of page 0, told of the pages as they were before it was read
+module _ {D : Type 0} {g : Ghosts D} (t : Txn) {a b c : Pages D g} {header : List ℕ} {first count : ℕ} {named listed : Marks} (read : IsQuiet a b) (lists : IsQuiet b c) (header_is : (disk_in b).is_honest → header ≡ over t (stored a) 0) (first_is : first ≡ word header 1) (count_is : count ≡ word header 2) (free : (disk_in c).is_honest → IsFreeList (over t (stored b)) first count named listed) where
+  pub list_there : (disk_in c).is_honest → IsFreeList (over t (stored a)) (word (over t (stored a) 0) 1) (word (over t (stored a) 0) 2) named listed
+  list_there honest = let before = lists.honest honest in rw (read.same before, first_is, count_is, header_is before) at (free honest)
+
+  pub walked_there : {d : Pages D g} {root : ℕ} {walked : Marks} → IsQuiet c d → root ≡ word header 0 → ((disk_in d).is_honest → IsRootWalked (over t (stored c)) root listed walked) → (disk_in d).is_honest
+      → IsFreeList (over t (stored a)) (word (over t (stored a) 0) 1) (word (over t (stored a) 0) 2) named listed × IsRootWalked (over t (stored a)) (root_in (over t (stored a))) listed walked
+  walked_there walks root_is tree honest = search rules

@@ -1,12 +1,8 @@
 -- A place in a scan's leaf.
-use Rattle.std.{specs.Prelude.{Option, Some, None, IfSome, IfNone}, proofs.Common.{rules, ◌≡◌, ◌<◌, ◌+◌, ℕ, List, ◌∷◌, Bool, true, false, cond, refl, sym, subst, arith}}
-use Rattle.page_node.specs.{claim.Entries.Entry, Walking.IsAhead}
-use Rattle.btree_walks.specs.{Scanning.{Rest, IsReady, IsNextRow, IsTakenRow, is_open, FitsIn, leaf_at, stood_at}, Parts.{page_of, row_at, row_in}, declared.parts.Parts.Parts}
-use Rattle.btree_walks.{specs.declared.parts.ScanPlace.ScanPlace, specs.declared.rows.Row.Row, specs.declared.scans.Scan.Scan, proofs.Ready.{IsHead, head_of, covered_step}}
-
-goes_on : (ended covered : Bool) → cond ended false covered ≡ true → ended ≡ false
-goes_on true covered going = cc
-goes_on false covered going = refl
+use Rattle.std.{specs.Prelude.{Option, Some, None, IfSome, IfNone}, proofs.Common.{rules, ◌≡◌, ◌<◌, ◌+◌, ℕ, List, ◌∷◌, Bool, true, false, refl, sym, subst, arith}}
+use Rattle.btree_walks.specs.{Parts.{page_of, row_at, row_in}, Scanning.{Rest, IsReady, IsNextRow, IsTakenRow, is_open, FitsIn, leaf_at, stood_at}, declared.parts.Parts.Parts}
+use Rattle.{btree_walks.specs.declared.{parts.ScanPlace.ScanPlace, rows.Row.Row, scans.Scan.Scan}, page_node.specs.{Walking.IsAhead, claim.Entries.Entry}}
+use Rattle.btree_walks.proofs.Ready.{IsHead, head_of, covered_step}
 
 -- where rows are left at a place, its scan's leaf has them
 open_of : (scan : Scan) (place : ScanPlace) → FitsIn scan place → 0 < place.left → is_open scan ≡ true

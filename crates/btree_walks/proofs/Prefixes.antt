@@ -1,15 +1,10 @@
 -- Lemmas on the definitions of Prefixes.
-use Rattle.std.specs.{Prelude.{None, T}, List.{starts_with, AllByRecursion}, Ordering.{nat_cmp, is_gt, is_lt, ordering_then}, Cmp.nat_cmp_is, declared.cmp.Ordering.Ordering}
-use Rattle.std.specs.{declared.cmp.Ordering.TheVariants.{Less, Equal, Greater}, FinMap.{find, is_sorted}}
-use Rattle.std.specs.FinMap.Entries.{below_all, where_key, find-where_key, is_sorted-where_key}
+use Rattle.std.specs.{Cmp.nat_cmp_is, FinMap.{find, is_sorted, Entries.{below_all, where_key, find-where_key, is_sorted-where_key}}, List.{starts_with, AllByRecursion}}
+use Rattle.std.specs.{Ordering.{nat_cmp, is_gt, is_lt, ordering_then}, Prelude.{None, T}, declared.cmp.Ordering.{Ordering, TheVariants.{Less, Equal, Greater}}}
 use Rattle.std.proofs.Common.{rules, ◌≡◌, ◌⊎◌, ◌<◌, ◌≤◌, inl, inr, ℕ, List, [], ◌∷◌, ◌++◌, length, length-append, Bool, true, false, cond, ◌&&◌, nat_eq, refl, sym, ap, subst, ◌∙◌, arith}
-use Rattle.std.proofs.lemmas.Bool.{eqb-true}
-use Rattle.std.proofs.lemmas.List.Elements.{filter-append}
-use Rattle.std.proofs.lemmas.Bool.Decides.{nat_tests}
-use Rattle.page_node.{specs.claim.Entries.Entry, specs.claim.Places.{key_cmp, Rises}, specs.Places.{is_from, entries_from}, proofs.Laws.{is_less, same_key, flip_greater}}
-use Rattle.btree_walks.specs.Prefixes.{AllFrom, AllUnder, is_under, under}
-use Rattle.page_btree.proofs.{Booleans.{either, first_so, second_so}, Seeking.from_all}
-use Rattle.page_store.proofs.Chains.{both_ways as clash}
+use Rattle.{std.proofs.lemmas.{Bool.{eqb-true, Decides.nat_tests}, List.Elements.filter-append}, btree_walks.specs.Prefixes.{AllFrom, AllUnder, is_under, under}}
+use Rattle.{page_node.specs.{Places.{is_from, entries_from}, claim.{Entries.Entry, Places.{key_cmp, Rises}}}, page_btree.proofs.Booleans.{either, first_so, second_so, true_is}}
+use Rattle.{page_btree.proofs.{Rows.all_both, Seeking.from_all}, page_node.proofs.Laws.{is_less, same_key, flip_greater}, page_store.proofs.Chains.both_ways as clash}
 
 -- ---- one key
 
@@ -49,16 +44,10 @@ none_above (p ∷ ps) (x ∷ xs) (y ∷ ys) from off less = elim (compared p x) 
         (sym (ap (λ (r : Ordering). is_gt (ordering_then r (key_cmp ps xs))) (sym (nat_cmp_is p x Equal tied))) ∙ from)
         (sym (ap (λ (b : Bool). b && starts_with nat_eq xs ps) (like p x tied)) ∙ off)
         (sym (ap (λ (r : Ordering). ordering_then r (key_cmp xs ys)) (sym (nat_cmp_is x y Equal same))) ∙ less))
-    | inr (inr falls) ↦ absurd (greater (sym (ap (λ (r : Ordering). ordering_then r (key_cmp xs ys)) (sym (nat_cmp_is x y Greater falls))) ∙ less))
+    | inr (inr falls) ↦ (let clash : Greater ≡ Less = sym (ap (λ (r : Ordering). ordering_then r (key_cmp xs ys)) (sym (nat_cmp_is x y Greater falls))) ∙ less in cc)
   ]
-  | inr (inr above) ↦ absurd (gt (sym (ap (λ (r : Ordering). is_gt (ordering_then r (key_cmp ps xs))) (sym (nat_cmp_is p x Greater above))) ∙ from))
+  | inr (inr above) ↦ (let clash : true ≡ false = sym (ap (λ (r : Ordering). is_gt (ordering_then r (key_cmp ps xs))) (sym (nat_cmp_is p x Greater above))) ∙ from in cc)
 ]
-  where
-    greater : Greater ≡ Less → ⊥
-    greater e = cc
-
-    gt : true ≡ false → ⊥
-    gt e = cc
 
 -- ---- rows
 -- a row that is under the prefix isn't below it
@@ -84,10 +73,6 @@ none_under prefix e (f ∷ es) from off below =
     ∙ none_under prefix e es from off (second_so (is_lt (key_cmp e.0 f.0)) (below_all key_cmp e.0 es) below)
 
 -- rows whose keys pass a test rise
-pub true_is : (b : Bool) → T b → b ≡ true
-true_is true h = refl
-true_is false h = absurd h
-
 rises_where : (test : List ℕ → Bool) (es : List Entry) → Rises es → Rises (where_key key_cmp test es)
 rises_where test es h = true_is _ (is_sorted-where_key key_cmp test es (subst T (sym h) tt))
 
@@ -123,18 +108,12 @@ pub between_under : (prefix x bound : List ℕ) → is_gt (key_cmp prefix x) ≡
 between_under prefix x bound from above on = search (rules, either, nat_eq, clash, none_above, flip_greater)
 
 pub all_between : (prefix bound : List ℕ) (es : List Entry) → AllFrom prefix es → AllBelow bound es → starts_with nat_eq bound prefix ≡ true → AllUnder prefix es
-all_between prefix bound [] from below on = tt
-all_between prefix bound (e ∷ es) from below on = (between_under prefix e.0 bound from.0 below.0 on, all_between prefix bound es from.1 below.1 on)
-
-pub prefix_from : (prefix : List ℕ) (xs ys : List Entry) → AllFrom prefix (xs ++ ys) → AllFrom prefix xs
-prefix_from prefix [] ys from = tt
-prefix_from prefix (x ∷ xs) ys from = (from.0, prefix_from prefix xs ys from.1)
+all_between prefix bound es from below on =
+    all_both (λ e. is_gt (key_cmp prefix e.0) ≡ false) (λ e. is_gt (key_cmp bound e.0) ≡ true) (λ e. is_under prefix e ≡ true) (λ e after before. between_under prefix e.0 bound after before on) es from below
 
 fewer_from : (bound key : List ℕ) (es : List Entry) → length (entries_from bound (entries_from key es)) ≤ length (entries_from bound es)
 fewer_from bound key [] = omega arith
-fewer_from bound key (e ∷ es) =
-    let rest = fewer_from bound key es in
-    search rules
+fewer_from bound key (e ∷ es) = let rest = fewer_from bound key es in search rules
 
 none_from : (bound : List ℕ) (es : List Entry) → length (entries_from bound es) ≡ 0 → AllBelow bound es
 none_from bound [] none = tt

@@ -1,36 +1,16 @@
 -- A leaf before the rows that are still to come.
-use Rattle.std.specs.{Prelude.{Option, Some, None}, List.starts_with, FinMap.{entries, entries_sorted}}
+use Rattle.std.{specs.{FinMap.{entries, entries_sorted}, List.starts_with, Ordering.is_gt, Prelude.{Option, Some, None}}, proofs.lemmas.List.{nil_from_length, Elements.All-nil}}
 use Rattle.std.proofs.Common.{rules, ◌≡◌, ◌<◌, ◌+◌, ℕ, List, [], ◌∷◌, ◌++◌, length, nat_eq, Bool, true, false, cond, refl, sym, ap, subst, ◌∙◌, zero, suc, drop, get_or, append_assoc, arith}
-use Rattle.std.proofs.lemmas.List.Elements.{All-nil}
-use Rattle.std.proofs.lemmas.List.{nil_from_length}
-use Rattle.sector_device.specs.declared.SectorDevice.{Ghosts}
-use Rattle.page_store.specs.{declared.pages.Pages.Pages, declared.txn.Txn.Txn}
-use Rattle.page_node.specs.{claim.Entries.{Entry, IsEntry}, claim.Places.Rises, Places.entries_from, Walking.IsAhead}
-use Rattle.page_btree.specs.{claim.Keys.KeyMap, claim.Errors.GetErr, Seeking.{bound_in, IsNext, IsFrom, AreLeaves}, declared.seeks.Leaf.Leaf, declared.error.TreeError.TreeError}
-use Rattle.page_btree.proofs.Booleans.{true_is}
-use Rattle.btree_walks.specs.{Prefixes.{under, AllFrom, AllUnder}, Parts.page_of, Turning.IsTurned, Scanning.{IsReady, Rest, IsWithin, IsStep, IsTakenRow, ScanErr}}
-use Rattle.btree_walks.specs.{declared.held.HeldLeaves.HeldLeaves, declared.rows.Row.Row, declared.scans.Scan.Scan}
-use Rattle.btree_walks.proofs.Prefixes.{under_from, under_is_from, none_under, rises_from_key, all_from_key, all_between, prefix_from, below_bound}
+use Rattle.btree_walks.specs.{Parts.page_of, Prefixes.{under, AllFrom, AllUnder}, Scanning.{IsReady, Rest, IsWithin, IsStep, IsTakenRow, ScanErr}, Turning.IsTurned}
+use Rattle.{btree_walks.specs.declared.{held.HeldLeaves.HeldLeaves, rows.Row.Row, scans.Scan.Scan}, page_btree.specs.Seeking.{bound_in, IsNext, IsFrom, AreLeaves}}
+use Rattle.{page_btree.specs.{claim.{Errors.GetErr, Keys.KeyMap}, declared.{error.TreeError.TreeError, seeks.Leaf.Leaf}}, page_node.specs.{Places.entries_from, Walking.IsAhead}}
+use Rattle.{page_node.specs.claim.{Entries.{Entry, IsEntry}, Places.{Rises, key_cmp}}, page_store.specs.declared.{pages.Pages.Pages, txn.Txn.Txn}}
+use Rattle.{sector_device.specs.declared.SectorDevice.Ghosts, page_btree.proofs.{Booleans.true_is, Rows.all_prefix}}
+use Rattle.btree_walks.proofs.Prefixes.{under_from, under_is_from, none_under, rises_from_key, all_from_key, all_between, below_bound}
 
 pub no_others : (more : ℕ) (pages : List (List ℕ)) (rows : List Entry) → more ≡ 0 → AreLeaves more pages rows → rows ≡ []
 no_others zero pages rows none are = are
 no_others (suc m) pages rows none are = absurd (omega arith)
-
--- a scan's beginning
-ready_new : (prefix : List ℕ) (m : KeyMap) (leaf : Leaf) (held : HeldLeaves) → leaf.at ≡ 0 → leaf.left ≡ 0 → leaf.more ≡ 0 → bound_in leaf ≡ Some prefix → IsReady false prefix leaf held (entries m) (under prefix (entries m))
-ready_new prefix m leaf held at left more bound = record {
-  here = [];
-  others = [];
-  after = entries_from prefix (entries m);
-  ahead = record { body = refl; entries = All-nil IsEntry; within = omega arith };
-  left_is = left;
-  others_are = subst (λ (n : ℕ). AreLeaves n (drop (held.which + 1) held.pages) []) (sym more) refl;
-  next = subst (λ (b : Option (List ℕ)). IsNext b (entries m) (entries_from prefix (entries m))) (sym bound) refl;
-  rest_are = sym (under_from prefix (entries m));
-  rises = rises_from_key prefix (entries m) (true_is _ (entries_sorted m));
-  from = all_from_key prefix (entries m);
-  covers = λ covered. cc;
-}
 
 -- the beginning of one that goes over all rows from a key on
 pub all_under : (key : List ℕ) → starts_with nat_eq key [] ≡ true
@@ -41,37 +21,30 @@ pub under_nothing : (es : List Entry) → under [] es ≡ es
 under_nothing [] = refl
 under_nothing (e ∷ es) = ap (λ (b : Bool). cond b (e ∷ under [] es) (under [] es)) (all_under e.0) ∙ ap (λ (l : List Entry). e ∷ l) (under_nothing es)
 
-all_from_nothing : (es : List Entry) → AllFrom [] es
+pub all_from_nothing : (es : List Entry) → AllFrom [] es
 all_from_nothing [] = tt
 all_from_nothing (e ∷ es) = (under_is_from [] e.0 (all_under e.0), all_from_nothing es)
 
-ready_from : (key : List ℕ) (m : KeyMap) (leaf : Leaf) (held : HeldLeaves) → leaf.at ≡ 0 → leaf.left ≡ 0 → leaf.more ≡ 0 → bound_in leaf ≡ Some key → IsReady false [] leaf held (entries m) (entries_from key (entries m))
-ready_from key m leaf held at left more bound = record {
-  here = [];
-  others = [];
-  after = entries_from key (entries m);
-  ahead = record { body = refl; entries = All-nil IsEntry; within = omega arith };
-  left_is = left;
-  others_are = subst (λ (n : ℕ). AreLeaves n (drop (held.which + 1) held.pages) []) (sym more) refl;
-  next = subst (λ (b : Option (List ℕ)). IsNext b (entries m) (entries_from key (entries m))) (sym bound) refl;
-  rest_are = sym (under_nothing (entries_from key (entries m)));
-  rises = rises_from_key key (entries m) (true_is _ (entries_sorted m));
-  from = all_from_nothing (entries_from key (entries m));
-  covers = λ covered. cc;
-}
-
--- a scan that stands before them
-module _ (scan : Scan) (prefix : List ℕ) (prefix_is : scan.prefix ≡ prefix) (uncovered : scan.covered ≡ false) (going : scan.ended ≡ false) (m : KeyMap) (rest : List Entry) where
-  stands : IsReady false prefix scan.leaf scan.held (entries m) rest → Rest scan (entries m) rest
-  stands ready = search rules
+-- a scan's beginning: the first row to come is the first from a key on
+module _ (scan : Scan) (prefix key : List ℕ) (prefix_is : scan.prefix ≡ prefix) (uncovered : scan.covered ≡ false) (going : scan.ended ≡ false) (at : scan.leaf.at ≡ 0) (left : scan.leaf.left ≡ 0) (more : scan.leaf.more ≡ 0) (bound : bound_in scan.leaf ≡ Some key) (m : KeyMap) where
+  begins : (rest : List Entry) → rest ≡ under prefix (entries_from key (entries m)) → AllFrom prefix (entries_from key (entries m)) → Rest scan (entries m) rest
+  begins rest rest_are from =
+      let ahead : IsAhead (page_of scan.held) scan.leaf.at [] = record { body = refl; entries = All-nil IsEntry; within = omega arith } in
+      let others : AreLeaves scan.leaf.more (drop (scan.held.which + 1) scan.held.pages) [] = subst (λ (n : ℕ). AreLeaves n (drop (scan.held.which + 1) scan.held.pages) []) (sym more) refl in
+      let next : IsNext (bound_in scan.leaf) (entries m) (entries_from key (entries m)) = subst (λ (b : Option (List ℕ)). IsNext b (entries m) (entries_from key (entries m))) (sym bound) refl in
+      let rises = rises_from_key key (entries m) (true_is _ (entries_sorted m)) in
+      let covers : false ≡ true → AllUnder prefix ([] ++ []) = λ covered. cc in
+      let ready : IsReady false prefix scan.leaf scan.held (entries m) rest = search rules in
+      search rules
 
 pub rest_new : (scan : Scan) (prefix : List ℕ) → scan.prefix ≡ prefix → scan.covered ≡ false → scan.ended ≡ false → scan.leaf.at ≡ 0 → scan.leaf.left ≡ 0 → scan.leaf.more ≡ 0 → bound_in scan.leaf ≡ Some prefix
     → (m : KeyMap) → Rest scan (entries m) (under prefix (entries m))
-rest_new scan prefix prefix_is uncovered going at left more bound m = stands scan prefix prefix_is uncovered going m (under prefix (entries m)) (ready_new prefix m scan.leaf scan.held at left more bound)
+rest_new scan prefix prefix_is uncovered going at left more bound m = begins scan prefix prefix prefix_is uncovered going at left more bound m (under prefix (entries m)) (sym (under_from prefix (entries m))) (all_from_key prefix (entries m))
 
 pub rest_from : (scan : Scan) (key : List ℕ) → scan.prefix ≡ [] → scan.covered ≡ false → scan.ended ≡ false → scan.leaf.at ≡ 0 → scan.leaf.left ≡ 0 → scan.leaf.more ≡ 0 → bound_in scan.leaf ≡ Some key
     → (m : KeyMap) → Rest scan (entries m) (entries_from key (entries m))
-rest_from scan key prefix_is uncovered going at left more bound m = stands scan [] prefix_is uncovered going m (entries_from key (entries m)) (ready_from key m scan.leaf scan.held at left more bound)
+rest_from scan key prefix_is uncovered going at left more bound m =
+    let rows = entries_from key (entries m) in begins scan [] key prefix_is uncovered going at left more bound m rows (sym (under_nothing rows)) (all_from_nothing rows)
 
 -- no row is left
 none_left : (covered : Bool) (prefix : List ℕ) (leaf : Leaf) (held : HeldLeaves) (all rest : List Entry) (is : IsReady covered prefix leaf held all rest) → leaf.left ≡ 0 → leaf.more ≡ 0 → is.after ≡ [] → rest ≡ []
@@ -89,23 +62,14 @@ ready_read was now prefix b old leaf before held all rest is none alone bound th
     let same : is.here ++ (is.others ++ is.after) ≡ there.here ++ (there.others ++ there.after) = (λ i. here i ++ (others i ++ after i)) ∙ there.rows_are in
     let from : AllFrom prefix (there.here ++ (there.others ++ there.after)) = subst (λ (es : List Entry). AllFrom prefix es) same is.from in
     let joined : there.here ++ (there.others ++ there.after) ≡ (there.here ++ there.others) ++ there.after = sym (append_assoc there.here there.others there.after) in
-    let ready : IsReady now prefix leaf held all rest = record {
-      here = there.here;
-      others = there.others;
-      after = there.after;
-      ahead = subst (λ (n : ℕ). IsAhead (get_or {A = List ℕ} held.pages n []) leaf.at there.here) (sym first) there.ahead;
-      left_is = there.left_is;
-      others_are = subst (λ (n : ℕ). AreLeaves leaf.more (drop (n + 1) held.pages) there.others) (sym first) there.others_are;
-      next = there.next;
-      rest_are = is.rest_are ∙ ap (under prefix) same;
-      rises = subst (λ (es : List Entry). Rises es) same is.rises;
-      from = from;
-      covers = λ covered.
-          let w = within covered in
-          all_between prefix w.0 (there.here ++ there.others)
-          (prefix_from prefix (there.here ++ there.others) there.after (subst (λ (es : List Entry). AllFrom prefix es) joined from))
-          (below_bound w.0 b all (there.here ++ there.others) there.after (there.rows_are ∙ joined) (subst (λ (c : Option (List ℕ)). IsNext c all there.after) w.1 there.next)) w.2;
-    } in
+    let ahead = subst (λ (n : ℕ). IsAhead (get_or {A = List ℕ} held.pages n []) leaf.at there.here) (sym first) there.ahead in
+    let others_are = subst (λ (n : ℕ). AreLeaves leaf.more (drop (n + 1) held.pages) there.others) (sym first) there.others_are in
+    let covers : now ≡ true → AllUnder prefix (there.here ++ there.others) = λ covered.
+    let w = within covered in
+    all_between prefix w.0 (there.here ++ there.others)
+    (all_prefix (λ e. is_gt (key_cmp prefix e.0) ≡ false) (there.here ++ there.others) there.after (subst (λ (es : List Entry). AllFrom prefix es) joined from))
+    (below_bound w.0 b all (there.here ++ there.others) there.after (there.rows_are ∙ joined) (subst (λ (c : Option (List ℕ)). IsNext c all there.after) w.1 there.next)) w.2 in
+    let ready : IsReady now prefix leaf held all rest = search rules in
     (ready, λ nothing single. none_left now prefix leaf held all rest ready nothing single (there.some nothing single))
 
 -- or the next one of those that are held is taken

@@ -1,12 +1,9 @@
 -- A refusal of a remove below, told above.
-use Rattle.std.proofs.Common.{rules, ◌<◌, ℕ, List, sym, ◌∙◌, length}
-use Rattle.sector_device.specs.{claim.Disk.Image, declared.SectorDevice.Ghosts}
-use Rattle.page_store.specs.{claim.Chain.{IsIn, AreFree}, claim.Transactions.{stored, disk_in, txn_pages, free_over, IsQuiet, Passed}, declared.pages.Pages.Pages}
-use Rattle.page_store.{specs.declared.txn.Txn.Txn, proofs.Stops.failed_more}
-use Rattle.page_node.specs.{claim.Entries.Entry, claim.Node.{Node, IsNode}, claim.Places.Rises}
-use Rattle.page_btree.specs.{claim.Errors.RemoveErr, Getting.ReadsErr, claim.Keys.KeyMap, claim.Map.InTxn, declared.error.TreeError.TreeError}
-use Rattle.page_btree.proofs.Refusals.{by_case}
-use Rattle.btree_walks.specs.Removing.{BackErr, TakenErr, LinkErr, BelowErr}
+use Rattle.{std.proofs.Common.{rules, ◌<◌, ℕ, List, sym, ◌∙◌, length}, btree_walks.specs.Removing.{BackErr, TakenErr, LinkErr, BelowErr}, page_btree.specs.Getting.ReadsErr}
+use Rattle.{page_btree.specs.{claim.{Errors.RemoveErr, Keys.KeyMap, Map.InTxn}, declared.error.TreeError.TreeError}, page_node.specs.claim.{Entries.Entry, Node.{Node, IsNode}}}
+use Rattle.{page_node.specs.claim.Places.Rises, page_store.specs.claim.{Chain.{IsIn, AreFree}, Transactions.{stored, disk_in, txn_pages, free_over, IsQuiet, Passed}}}
+use Rattle.{page_store.specs.declared.{pages.Pages.Pages, txn.Txn.Txn}, sector_device.specs.{claim.Disk.Image, declared.SectorDevice.Ghosts}, page_btree.proofs.Refusals.by_case}
+use Rattle.page_store.proofs.Stops.{failed_more}
 
 -- what a call on a page's node needs
 pub record HasNode (t : Txn) (S : Image) (p : ℕ) (bytes : List ℕ) : Type 0 where

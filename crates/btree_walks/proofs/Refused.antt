@@ -1,9 +1,7 @@
 -- A refusal in the midst of a scan, told from its beginning on.
-use Rattle.std.proofs.Common.{sym, subst, ◌∙◌}
-use Rattle.sector_device.specs.{claim.Disk.Image, declared.SectorDevice.Ghosts}
-use Rattle.page_store.{specs.claim.Transactions.{stored, disk_in, IsQuiet, Passed}, specs.declared.pages.Pages.Pages, specs.declared.txn.Txn.Txn, proofs.Stops.failed_more}
-use Rattle.page_btree.{specs.claim.Keys.KeyMap, specs.claim.Map.InTxn, specs.claim.Errors.GetErr, specs.declared.error.TreeError.TreeError, proofs.Refusals.by_case}
-use Rattle.btree_walks.specs.Scanning.{ScanErr}
+use Rattle.{std.proofs.Common.{sym, subst, ◌∙◌}, btree_walks.specs.Scanning.ScanErr, page_btree.{specs.claim.{Errors.GetErr, Keys.KeyMap, Map.InTxn}, proofs.Refusals.by_case}}
+use Rattle.{page_btree.specs.declared.error.TreeError.TreeError, page_store.specs.{claim.Transactions.{stored, disk_in, IsQuiet, Passed}, declared.pages.Pages.Pages}}
+use Rattle.{page_store.{specs.declared.txn.Txn.Txn, proofs.Stops.failed_more}, sector_device.specs.{claim.Disk.Image, declared.SectorDevice.Ghosts}}
 
 module _ {D : Type 0} {g : Ghosts D} where
   -- calls passed without a fault, then one was refused, where a map that the transaction reads has what that call needs

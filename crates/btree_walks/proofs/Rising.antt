@@ -1,28 +1,15 @@
 -- The rows of a tree rise, so a map has them.
-use Rattle.std.specs.{Prelude.{Option, Some}, List.AllByRecursion, Ordering.{is_lt, is_gt}, declared.cmp.Ordering.TheVariants.Less}
-use Rattle.std.specs.{FinMap.{is_sorted, entries, from_sorted, entries-from_sorted}, FinMap.Entries.below_all}
-use Rattle.std.proofs.Common.{◌≡◌, ◌-◌, ℕ, true, false, List, [], ◌∷◌, ◌++◌, refl, sym, ap, subst, T}
-use Rattle.sector_device.specs.claim.Disk.{Image}
-use Rattle.page_node.specs.{claim.Entries.Entry, claim.Places.{key_cmp, Rises}}
-use Rattle.page_btree.specs.{claim.Keys.{KeyMap, IsBetween}, claim.Tree.{Tree, Forest, leaf, inner, one, more, first_key, rows, forest_rows, IsTree, AreTrees}}
-use Rattle.page_btree.proofs.{Rows.{all_map, less_from}, Within.{within_tree, within_trees}, Booleans.{first_so, second_so, both_so}}
-
--- a key below a bound is below all rows from it on
-below_from : (x q : List ℕ) (ys : List Entry) → key_cmp x q ≡ Less → AllByRecursion (λ e. is_gt (key_cmp q e.0) ≡ false) ys → below_all key_cmp x ys ≡ true
-below_from x q [] less from = refl
-below_from x q (y ∷ ys) less from = both_so (is_lt (key_cmp x y.0)) (below_all key_cmp x ys) (ap is_lt (less_from x q y.0 less from.0)) (below_from x q ys less from.1)
-
-below_append : (x : List ℕ) (xs ys : List Entry) → below_all key_cmp x xs ≡ true → below_all key_cmp x ys ≡ true → below_all key_cmp x (xs ++ ys) ≡ true
-below_append x [] ys here there = there
-below_append x (e ∷ xs) ys here there = both_so (is_lt (key_cmp x e.0)) (below_all key_cmp x (xs ++ ys))
-    (first_so (is_lt (key_cmp x e.0)) (below_all key_cmp x xs) here)
-    (below_append x xs ys (second_so (is_lt (key_cmp x e.0)) (below_all key_cmp x xs) here) there)
+use Rattle.std.specs.{FinMap.{entries, from_sorted, entries-from_sorted}, List.AllByRecursion, Ordering.is_gt, Prelude.{Option, Some}, declared.cmp.Ordering.TheVariants.Less}
+use Rattle.{std.proofs.Common.{◌≡◌, ◌-◌, ℕ, false, List, [], ◌∷◌, ◌++◌, sym, subst, T}, page_btree.specs.claim.Keys.{KeyMap, IsBetween}, page_node.specs.claim.Entries.Entry}
+use Rattle.{page_btree.specs.claim.Tree.{Tree, Forest, leaf, inner, one, more, first_key, rows, forest_rows, IsTree, AreTrees}, page_node.specs.claim.Places.{key_cmp, Rises}}
+use Rattle.{sector_device.specs.claim.Disk.Image, page_btree.proofs.{Rows.{all_append, all_map, less_from, rises_cons, rises_split}, Within.{within_tree, within_trees}}}
 
 rises_append : (q : List ℕ) (xs ys : List Entry) → Rises xs → Rises ys → AllByRecursion (λ e. key_cmp e.0 q ≡ Less) xs → AllByRecursion (λ e. is_gt (key_cmp q e.0) ≡ false) ys → Rises (xs ++ ys)
 rises_append q [] ys here there under from = there
-rises_append q (x ∷ xs) ys here there under from = both_so (below_all key_cmp x.0 (xs ++ ys)) (is_sorted key_cmp (xs ++ ys))
-    (below_append x.0 xs ys (first_so (below_all key_cmp x.0 xs) (is_sorted key_cmp xs) here) (below_from x.0 q ys under.0 from))
-    (rises_append q xs ys (second_so (below_all key_cmp x.0 xs) (is_sorted key_cmp xs) here) there under.1 from)
+rises_append q (x ∷ xs) ys here there under from =
+    let r = rises_split x xs here in
+    let after = all_map (λ e. is_gt (key_cmp q e.0) ≡ false) (λ e. key_cmp x.0 e.0 ≡ Less) (λ e least. less_from x.0 q e.0 under.0 least) ys from in
+    rises_cons x (xs ++ ys) (all_append (λ e. key_cmp x.0 e.0 ≡ Less) xs ys r.0 after) (rises_append q xs ys r.1 there under.1 from)
 
 mutual
   pub rows_rise : (P : Image) (d : ℕ) (low : List ℕ) (high : Option (List ℕ)) (t : Tree) → IsTree P d low high t → Rises (rows t)

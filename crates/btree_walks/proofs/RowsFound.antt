@@ -1,13 +1,11 @@
 -- Rows under a prefix and rows from a key on are rows of the map. What is so of each of some rows is so of one found among them.
-use Rattle.std.specs.{Prelude.{Some, None}, List.{AllByRecursion, starts_with}, Ordering.{is_eq, is_gt, eq_by_cmp}, Cmp.Lexicographic.nat_list_cmp_total}
-use Rattle.std.specs.{declared.cmp.Ordering.Ordering, declared.cmp.Ordering.TheVariants.{Less, Greater}, FinMap.{entries, entries_sorted, find, get, get-entries, is_sorted}}
-use Rattle.std.{specs.FinMap.Entries.find-where_key, proofs.Common.{◌≡◌, ℕ, List, [], ◌∷◌, ◌++◌, Bool, true, false, cond, nat_eq, refl, sym, ap, subst, ◌∙◌, inl, inr}}
-use Rattle.std.proofs.lemmas.Bool.{cases_Bool}
-use Rattle.std.proofs.lemmas.Cmp.{tied_itself}
-use Rattle.std.proofs.lemmas.List.{append-nil}
-use Rattle.page_node.{specs.claim.Entries.Entry, specs.claim.Places.{key_cmp, Rises}, specs.Places.entries_from, proofs.Laws.{flip_less, same_key}}
-use Rattle.page_btree.{specs.claim.Keys.KeyMap, proofs.Rows.{all_append, all_map, all_rest, find_right, rises_from, rises_under}, proofs.Placed.is_equal}
-use Rattle.btree_walks.{specs.Prefixes.{AllFrom, AllUnder, is_under, under}, proofs.Prefixes.{all_from_key, find_under, rises_from_key, true_is, under_rises}}
+use Rattle.std.specs.{Cmp.Lexicographic.nat_list_cmp_total, FinMap.{entries, entries_sorted, find, get, get-entries, is_sorted, Entries.find-where_key}, Prelude.{Some, None}}
+use Rattle.std.specs.{List.{AllByRecursion, starts_with}, Ordering.{is_eq, is_gt, eq_by_cmp}, declared.cmp.Ordering.{Ordering, TheVariants.{Less, Greater}}}
+use Rattle.std.proofs.{Common.{◌≡◌, ℕ, List, [], ◌∷◌, ◌++◌, Bool, true, false, cond, nat_eq, refl, sym, ap, subst, ◌∙◌, inl, inr}, lemmas.{Bool.cases_Bool, Cmp.tied_itself}}
+use Rattle.{std.proofs.lemmas.List.append-nil, btree_walks.specs.Prefixes.{AllFrom, AllUnder, is_under, under}, page_btree.{specs.claim.Keys.KeyMap, proofs.Booleans.true_is}}
+use Rattle.{page_node.{specs.{Places.entries_from, claim.{Entries.Entry, Places.{key_cmp, Rises}}}, proofs.Laws.{flip_less, same_key}}, page_btree.proofs.Placed.is_equal}
+use Rattle.btree_walks.proofs.Prefixes.{all_from_key, find_under, rises_from_key, under_rises}
+use Rattle.page_btree.proofs.Rows.{all_append, all_map, all_rest, find_right, rises_from, rises_under}
 
 -- ---- each of some rows
 pub all_more : (P : Entry → Type 0) (es : List Entry) (e : Entry) → P e → AllByRecursion P es → AllByRecursion P (es ++ e ∷ [])

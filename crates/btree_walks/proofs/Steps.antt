@@ -1,46 +1,47 @@
 -- A remove at a leaf, and one step above it.
-use Rattle.std.specs.{Prelude.{Option, Some, None, remove, Result, Ok, Err, IfOk}, Option.option_map, FinMap.find}
-use Rattle.std.proofs.Common.{rules, ◌≡◌, ◌≢◌, inl, inr, ℕ, ◌-◌, ◌<◌, ◌≤◌, ◌^◌, List, length, refl, sym, ap, subst, ◌∙◌, arith}
-use Rattle.sector_device.specs.claim.Disk.{Image}
-use Rattle.page_store.specs.{claim.Chain.{IsIn, AreFree}, claim.Transactions.{txn_pages, over, free_over}, declared.txn.Txn.Txn}
-use Rattle.page_node.specs.{claim.Entries.Entry, Entries.child_in, claim.Node.{Node, IsNode}, claim.Places.{key_cmp, Rises}, Places.{IsFound, floor}}
-use Rattle.page_btree.specs.{claim.Keys.IsBetween, claim.Tree.{Tree, Forest, leaf, inner, IsTree, page_of, links, rows, owns}, claim.Map.IsSound, Getting.{CanGet, IsLevel}}
-use Rattle.page_btree.proofs.Descent.{named, node_of, owns_page, some_links}
+use Rattle.{std.specs.{FinMap.find, Option.option_map, Prelude.{Option, Some, None, remove, Result, Ok, Err, IfOk, true}}, btree_walks.specs.Sparing.TakesRow}
+use Rattle.{std.proofs.Common.{rules, ◌≡◌, ◌≢◌, inl, inr, ℕ, ◌-◌, ◌<◌, ◌≤◌, ◌^◌, List, length, refl, sym, ap, subst, ◌∙◌, arith}, page_btree.specs.Getting.{CanGet, IsLevel}}
 use Rattle.btree_walks.specs.{Removing.{IsRemoved, AreRemoved, CanRemove, RemovesAt, Removes, RowRemoves, IsPutBack, IsDone, StaysAt, unlinked}, declared.removes.Removed.Removed}
-use Rattle.btree_walks.{specs.declared.removes.Removed.TheVariants.{Absent, Kept, Emptied}, proofs.Refusals.HasRows}
+use Rattle.{btree_walks.specs.declared.removes.Removed.TheVariants.{Absent, Kept, Emptied}, page_btree.specs.claim.{Keys.IsBetween, Map.IsSound}, page_node.specs.Entries.child_in}
+use Rattle.{page_btree.specs.claim.Tree.{Tree, Forest, leaf, inner, IsTree, page_of, links, rows, owns}, page_node.specs.{Places.{IsFound, floor}, claim.Entries.Entry}}
+use Rattle.{page_node.specs.claim.{Node.{Node, IsNode}, Places.{key_cmp, Rises}}, page_store.specs.claim.{Chain.{IsIn, AreFree}, Transactions.{txn_pages, over, free_over}}}
+use Rattle.{page_store.specs.declared.txn.Txn.Txn, sector_device.specs.claim.Disk.Image, btree_walks.proofs.Refusals.HasRows}
 use Rattle.btree_walks.proofs.Removals.{links_left, owner_of, inner_written, inner_given, leaf_written, leaf_given}
+use Rattle.page_btree.proofs.Descent.{named, node_of, owns_page, some_links}
 
 -- ---- at a leaf
-module _ (n : ℕ) (S : Image) (t0 t1 : Txn) (low : List ℕ) (high : Option (List ℕ)) (key : List ℕ) (p : ℕ) (elsewhere : (q : ℕ) → q ≢ p → over t1 S q ≡ over t0 S q) where
-  leaf_removes : (es : List Entry) (did : Removed) → IsTree (over t0 S) 0 low high (leaf p es) → IsSound n (free_over t0 S) (leaf p es) → AreFree n (free_over t0 S) → RowRemoves t0 t1 p key es did
-      → RemovesAt n (over t0 S) (over t1 S) 0 low high (free_over t0 S) (free_over t1 S) key (leaf p es) did
-  leaf_removes es Absent is sound are done = done
-  leaf_removes es Kept is sound are done =
+-- what is so of each leaf at a page is so of a tree of level 0 there
+pub at_leaf : (n : ℕ) (P : Image) (free : List ℕ) (low : List ℕ) (high : Option (List ℕ)) (p : ℕ) (Says : ℕ → Tree → Type 0) → ((es : List Entry) → IsTree P 0 low high (leaf p es) → IsSound n free (leaf p es) → Says 0 (leaf p es))
+    → (d : ℕ) (t : Tree) → d ≡ 0 → IsTree P d low high t → page_of t ≡ p → IsSound n free t → Says d t
+at_leaf n P free low high p Says all d (leaf q es) none is same sound =
+    let at_0 : IsTree P 0 low high (leaf q es) = subst (λ (k : ℕ). IsTree P k low high (leaf q es)) none is in
+    let here = all es (subst (λ (x : ℕ). IsTree P 0 low high (leaf x es)) same at_0) (subst (λ (x : ℕ). IsSound n free (leaf x es)) same sound) in
+    subst (λ (k : ℕ). Says k (leaf q es)) (sym none) (subst (λ (x : ℕ). Says 0 (leaf x es)) (sym same) here)
+at_leaf n P free low high p Says all d (inner q f) none is same sound = absurd (let some = is.0 in omega arith)
+
+module _ (n : ℕ) (S : Image) (t0 t1 : Txn) (low : List ℕ) (high : Option (List ℕ)) (key : List ℕ) (p : ℕ) (are : AreFree n (free_over t0 S)) (es : List Entry) (is : IsTree (over t0 S) 0 low high (leaf p es)) (sound : IsSound n (free_over t0 S) (leaf p es)) where
+  pub leaf_kept : TakesRow t0 t1 S p key es true → RemovesAt n (over t0 S) (over t1 S) 0 low high (free_over t0 S) (free_over t1 S) key (leaf p es) Kept
+  leaf_kept done =
       let used = sound.used p refl in (
         leaf p (remove es done.0),
-        subst (λ (l : List ℕ). IsRemoved n (over t0 S) (over t1 S) 0 low high (free_over t0 S) l key (leaf p es) (Some (leaf p (remove es done.0)))) (sym (done.2.2 S n are used))
-            (leaf_written n (over t0 S) (over t1 S) 0 low high (free_over t0 S) key p es done.0 done.1 is used are done.2.0 (done.2.1 S) elsewhere),
+        subst (λ (l : List ℕ). IsRemoved n (over t0 S) (over t1 S) 0 low high (free_over t0 S) l key (leaf p es) (Some (leaf p (remove es done.0)))) (sym (done.5 n are used))
+            (leaf_written n (over t0 S) (over t1 S) 0 low high (free_over t0 S) key p es done.0 done.1 is used are done.2 done.3 done.4),
       )
-  leaf_removes es Emptied is sound are done =
+
+  leaf_removes : ((q : ℕ) → q ≢ p → over t1 S q ≡ over t0 S q) → (did : Removed) → RowRemoves t0 t1 p key es did → RemovesAt n (over t0 S) (over t1 S) 0 low high (free_over t0 S) (free_over t1 S) key (leaf p es) did
+  leaf_removes elsewhere Absent done = done
+  leaf_removes elsewhere Kept done = leaf_kept (done.0, done.1, done.2.0, done.2.1 S, elsewhere, done.2.2 S)
+  leaf_removes elsewhere Emptied done =
       let used = sound.used p refl in
       let there = sound.below p refl in
       search (done.2.1 S n are used, leaf_given n (over t0 S) (over t1 S) 0 low high (free_over t0 S) key p es done.0 done.1 used are there.0 there.1 done.2.0 elsewhere)
 
-  row_at : (t : Tree) (d : ℕ) (did : Removed) → d ≡ 0 → IsTree (over t0 S) d low high t → page_of t ≡ p → IsSound n (free_over t0 S) t → AreFree n (free_over t0 S)
-      → RowRemoves t0 t1 p key (rows t) did
-      → RemovesAt n (over t0 S) (over t1 S) d low high (free_over t0 S) (free_over t1 S) key t did
-  row_at (leaf q es) d did none is same sound are told =
-      let at_p : IsTree (over t0 S) d low high (leaf p es) = subst (λ (x : ℕ). IsTree (over t0 S) d low high (leaf x es)) same is in
-      let sound_p : IsSound n (free_over t0 S) (leaf p es) = subst (λ (x : ℕ). IsSound n (free_over t0 S) (leaf x es)) same sound in
-      let at_0 : IsTree (over t0 S) 0 low high (leaf p es) = subst (λ (k : ℕ). IsTree (over t0 S) k low high (leaf p es)) none at_p in
-      let done = leaf_removes es did at_0 sound_p are told in
-      search rules
-  row_at (inner q f) d did none is same sound are told = absurd (let some = is.0 in omega arith)
-
 -- what a row's remove is below its page
 pub row_removes : (n : ℕ) (S : Image) (t0 t1 : Txn) (d : ℕ) (key : List ℕ) (p : ℕ) (did : Removed) (can : CanRemove n (over t0 S) (free_over t0 S) d key p) → d ≡ 0 → ((q : ℕ) → q ≢ p → over t1 S q ≡ over t0 S q)
     → RowRemoves t0 t1 p key (rows can.tree) did → Removes (over t1 S) (free_over t1 S) can did
-row_removes n S t0 t1 d key p did can none elsewhere told = row_at n S t0 t1 can.low can.high key p elsewhere can.tree d did none can.tree_is can.page_is can.sound can.free_are told
+row_removes n S t0 t1 d key p did can none elsewhere =
+    at_leaf n (over t0 S) (free_over t0 S) can.low can.high p (λ k t. RowRemoves t0 t1 p key (rows t) did → RemovesAt n (over t0 S) (over t1 S) k can.low can.high (free_over t0 S) (free_over t1 S) key t did)
+    (λ es is sound. leaf_removes n S t0 t1 can.low can.high key p can.free_are es is sound elsewhere did) d can.tree none can.tree_is can.page_is can.sound
 
 pub leaf_there : (n : ℕ) (P : Image) (free : List ℕ) (d : ℕ) (key : List ℕ) (p : ℕ) (can : CanRemove n P free d key p) → d ≡ 0 → IsNode (P p) (record { level = 0; entries = rows can.tree }) × Rises (rows can.tree)
 leaf_there n P free d key p can none = search rules
@@ -90,21 +91,22 @@ module _ (n : ℕ) (S : Image) (t0 : Txn) (d : ℕ) (low : List ℕ) (high : Opt
   step_down_at : (child : ℕ) → n ≤ 2 ^ 32 → AreFree n (free_over t0 S) → IsBetween low high key → ((node : Node) → IsNode (over t0 S p) node → option_map child_in (floor key node.entries) ≡ Some child) → StepsDown n S t0 d low high key p child (inner p f)
   step_down_at child few are between told =
       let owner = owner_of n (over t0 S) (d - 1) low high (free_over t0 S) key f is.2 sound.apart.1 (λ q own. sound.used q (inr own)) between in
-      let c = owner.child in
-      let its_page = (sound.below (page_of c) (inr (owner.owned (page_of c) (owns_page c)))).1 in
-      let same : child ≡ page_of c = named (floor key (links f)) (page_of c) child owner.floor_is (omega arith) (told (record { level = d; entries = links f }) is.1) in
-      let node = node_of (over t0 S) (d - 1) owner.its_low owner.its_high c owner.stands in
+      let at = owner.at in
+      let c = at.child in
+      let its_page = (sound.below (page_of c) (inr (at.owned (page_of c) (owns_page c)))).1 in
+      let same : child ≡ page_of c = named (floor key (links f)) (page_of c) child at.floor_is (omega arith) (told (record { level = d; entries = links f }) is.1) in
+      let node = node_of (over t0 S) (d - 1) at.its_low at.its_high c at.stands in
       let can : CanRemove n (over t0 S) (free_over t0 S) (d - 1) key child = record {
         tree = c;
-        low = owner.its_low;
-        high = owner.its_high;
-        tree_is = owner.stands;
+        low = at.its_low;
+        high = at.its_high;
+        tree_is = at.stands;
         page_is = sym same;
-        sound = search rules;
+        sound = search (rules, at.apart sound.apart.1);
         free_are = are;
-        between = owner.between;
+        between = at.between;
       } in
-      let stays : (t1 : Txn) → IsRemoved n (over t0 S) (over t1 S) (d - 1) owner.its_low owner.its_high (free_over t0 S) (free_over t1 S) key c None → (over t1 S p ≡ over t0 S p) × (IsIn p (free_over t1 S) → ⊥) × AreFree n (free_over t1 S) =
+      let stays : (t1 : Txn) → IsRemoved n (over t0 S) (over t1 S) (d - 1) at.its_low at.its_high (free_over t0 S) (free_over t1 S) key c None → (over t1 S p ≡ over t0 S p) × (IsIn p (free_over t1 S) → ⊥) × AreFree n (free_over t1 S) =
       λ t1 done. search rules in
       record {
         can = can;
@@ -113,7 +115,7 @@ module _ (n : ℕ) (S : Image) (t0 : Txn) (d : ℕ) (low : List ℕ) (high : Opt
         node_is = is.1;
         some = some_links f;
         used = (sound.used p (inl refl), (sound.below p (inl refl)).0);
-        absent = λ none. sym owner.found ∙ none;
+        absent = λ none. sym at.found ∙ none;
         kept = λ t1 done. let up = owner.back (over t1 S) (free_over t1 S) (Some done.0) done.1 in kept_as t1 up.0 up.1 up.2;
         off = stays;
         emptied = λ t1 t2 did done back elsewhere. let up = owner.back (over t1 S) (free_over t1 S) None done in put_back_as t1 t2 did up.0 up.1 up.2 back elsewhere (stays t1 done).1 (stays t1 done).2;

@@ -1,8 +1,7 @@
 -- Lemmas on the definitions of Taken.
 use Rattle.std.{specs.Prelude.None, proofs.Common.{rules, ◌≡◌, ℕ, List, [], ◌∷◌, ◌++◌, true, false, refl, ap, ◌∙◌, append_assoc, ◌≤◌, cond, length, length-append, arith}}
-use Rattle.std.proofs.lemmas.List.{append-nil}
-use Rattle.page_node.specs.claim.Entries.{Entry}
-use Rattle.btree_walks.specs.{Prefixes.{under, is_under}, Scanning.{Rest, IsNextRow, fault_in}, declared.rows.Row.Row, declared.scans.Scan.Scan, Taken.HasTaken}
+use Rattle.{std.proofs.lemmas.List.append-nil, btree_walks.specs.{Prefixes.{under, is_under}, Scanning.{Rest, IsNextRow, fault_in}, Taken.HasTaken, declared.rows.Row.Row}}
+use Rattle.{btree_walks.specs.declared.scans.Scan.Scan, page_node.specs.claim.Entries.Entry}
 
 pub taken_none : (prefix : List ℕ) (scan : Scan) (all : List Entry) → Rest scan all (under prefix all) → HasTaken prefix [] scan all
 taken_none prefix scan all rest = record { rest = under prefix all; rest_are = rest; whole = refl }

@@ -1,29 +1,18 @@
 -- A tree whose children were walked.
-use Rattle.std.specs.Prelude.{Option, Some}
+use Rattle.{std.{specs.Prelude.{Option, Some}, proofs.lemmas.List.drop_more}, btree_walks.{specs.Order.{lower_of, upper_of, next_key, AreRows, AreParts}, proofs.Named.named_more}}
 use Rattle.std.proofs.Common.{rules, ◌≡◌, ◌<◌, ◌≤◌, ◌+◌, ◌-◌, ℕ, suc, List, [], ◌∷◌, length, drop, get_or, refl, sym, ap, subst, ◌∙◌, arith, add-one, length-drop}
-use Rattle.std.proofs.lemmas.List.{drop_more}
-use Rattle.sector_device.specs.claim.Disk.{Image}
-use Rattle.page_node.specs.{claim.Entries.{Entry, child_bytes}, Entries.{key_at, value_at}, claim.Node.{Node, IsNode}}
-use Rattle.page_btree.{specs.claim.Keys.Parts, specs.claim.Tree.{Forest, leaf, inner, one, more, first_key, links, owns, forest_owns, size, forest_size}, proofs.MapLaws.key_of}
-use Rattle.btree_walks.specs.{Order.{lower_of, upper_of, next_key, AreRows, AreParts}, Owners.{AreNamed, IsWalked, AreWalked, AreWalkedFrom}, declared.marks.Marks.Marks}
-use Rattle.btree_walks.proofs.{Named.named_more, Lists.pos as above}
+use Rattle.{btree_walks.specs.{Owners.{AreNamed, IsWalked, AreWalked, AreWalkedFrom}, declared.marks.Marks.Marks}, page_btree.{specs.claim.Keys.Parts, proofs.MapLaws.key_of}}
+use Rattle.{page_btree.specs.claim.Tree.{leaf, inner, one, more, links, owns, forest_owns, size, forest_size}, page_node.specs.Entries.{key_at, value_at}}
+use Rattle.{page_node.specs.claim.{Entries.{Entry, child_bytes}, Node.{Node, IsNode}}, sector_device.specs.claim.Disk.Image}
 
 -- ---- children, from a place on
 pub drop_next : (es : List Entry) (k : ℕ) → k < length es → drop k es ≡ get_or es k ([], []) ∷ drop (suc k) es
 drop_next es k lt = drop_more es k ([], []) lt ∙ ap (λ (n : ℕ). get_or es k ([], []) ∷ drop n es) (add-one k)
 
-first_of_links : (f : Forest) (e : Entry) (es : List Entry) → links f ≡ e ∷ es → first_key f ≡ e.0
-first_of_links (one k t) e es is = ap key_of is
-first_of_links (more k t f) e es is = ap key_of is
-
 walked_one : (P : Image) (d : ℕ) (low : List ℕ) (high : Option (List ℕ)) (e : Entry) (p : ℕ) (old new : Marks) → IsWalked P d low high p old new → child_bytes p ≡ e.1 → AreWalked P d low high (e ∷ []) old new
-walked_one P d low high e p old new w child = record {
-  forest = one e.0 w.tree;
-  stand = w.stands;
-  links_are = ap (λ (v : List ℕ). (e.0, v) ∷ []) (ap child_bytes w.page_is ∙ child);
-  apart = w.apart;
-  named = w.named;
-}
+walked_one P d low high e p old new w child =
+    let links_are : links (one e.0 w.tree) ≡ e ∷ [] = ap (λ (v : List ℕ). (e.0, v) ∷ []) (ap child_bytes w.page_is ∙ child) in
+    search rules
 
 walked_more : (P : Image) (d : ℕ) (low : List ℕ) (high : Option (List ℕ)) (e f : Entry) (es : List Entry) (p : ℕ) (old mid new : Marks) → IsWalked P d low (Some f.0) p old mid → AreWalked P d f.0 high (f ∷ es) mid new → child_bytes p ≡ e.1 → Parts low high f.0 → AreWalked P d low high (e ∷ f ∷ es) old new
 walked_more P d low high e f es p old mid new w rest child parts =
@@ -80,7 +69,7 @@ walked_inner P d low high p node old mid new off is level some named was =
     let same : node ≡ record { level = d; entries = links w.forest } = λ i. record { level = level i; entries = (sym w.links_are) i } in
     record {
       tree = inner p w.forest;
-      stands = (above d off, subst (IsNode (P p)) same is, w.stand);
+      stands = (omega arith, subst (IsNode (P p)) same is, w.stand);
       page_is = refl;
       apart = (λ there. w.named.fresh p there (named.here p refl), w.apart);
       named = search rules;

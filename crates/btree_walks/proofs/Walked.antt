@@ -1,13 +1,10 @@
 -- Loops over a scan: rows under a prefix were taken in turn, and something is known of them.
-use Rattle.std.specs.{Prelude.{Some, None, IfSome}, FinMap.entries}
+use Rattle.{std.specs.{FinMap.entries, Prelude.{Some, None, IfSome}}, btree_walks.specs.{Prefixes.under, Taken.HasTaken, declared.{rows.Row.Row, scans.Scan.Scan}}}
 use Rattle.std.proofs.Common.{rules, ◌≡◌, ◌≤◌, ◌<◌, ◌+◌, ℕ, List, [], ◌∷◌, ◌++◌, Bool, true, false, length, length-append, sym, ap, subst, ◌∙◌, arith}
-use Rattle.sector_device.specs.{claim.Disk.Image, declared.SectorDevice.Ghosts}
-use Rattle.page_store.specs.{claim.Transactions.{stored, disk_in, IsQuiet, Passed}, declared.pages.Pages.Pages, declared.txn.Txn.Txn}
-use Rattle.page_store.proofs.Stops.{passed_more, quiet_more}
-use Rattle.page_node.specs.claim.Entries.{Entry}
-use Rattle.page_btree.specs.{claim.Errors.GetErr, claim.Keys.KeyMap, claim.Map.InTxn, declared.error.TreeError.TreeError}
-use Rattle.btree_walks.specs.{Prefixes.under, Scanning.{CanScan, IsNextRow, Rest, ScanErr, TakesNextRow, fault_in, has_ended}, Taken.HasTaken, declared.rows.Row.Row}
-use Rattle.btree_walks.{specs.declared.scans.Scan.Scan, proofs.Refused.scan_refused, proofs.RowsFound.{IsNextUnder, next_under}, proofs.Taken.{taken_few, taken_more}}
+use Rattle.{btree_walks.specs.Scanning.{CanScan, IsNextRow, Rest, ScanErr, TakesNextRow, fault_in, has_ended}, page_btree.specs.claim.{Errors.GetErr, Keys.KeyMap, Map.InTxn}}
+use Rattle.{page_btree.specs.declared.error.TreeError.TreeError, page_node.specs.claim.Entries.Entry, page_store.specs.claim.Transactions.{stored, disk_in, IsQuiet, Passed}}
+use Rattle.{page_store.specs.declared.{pages.Pages.Pages, txn.Txn.Txn}, sector_device.specs.{claim.Disk.Image, declared.SectorDevice.Ghosts}}
+use Rattle.{btree_walks.proofs.{Refused.scan_refused, RowsFound.{IsNextUnder, next_under}, Taken.{taken_few, taken_more}}, page_store.proofs.Stops.{passed_more, quiet_more}}
 
 -- the rows taken before the next one, and what is known of them
 pub record HasNext (prefix : List ℕ) (Known : KeyMap → List Entry → Type 0) (m : KeyMap) (row : Row) : Type 0 where

@@ -1,10 +1,8 @@
 -- Why pages aren't found sound.
 use Rattle.std.specs.Prelude.{◌≡◌, true}
-use Rattle.sector_device.specs.declared.SectorDevice.{Ghosts}
-use Rattle.page_store.specs.{claim.Transactions.{disk_in, has_halted, HasFailed}, declared.pages.Pages.Pages}
-use Rattle.gate_journal.specs.declared.error.PageError.{PageError}
+use Rattle.{btree_walks.specs.declared.error.PagesError.{PagesError, TheVariants.{Unsound, DeviceFault, Halted, Memory}}, gate_journal.specs.declared.error.PageError.PageError}
+use Rattle.{page_store.specs.{claim.Transactions.{disk_in, has_halted, HasFailed}, declared.pages.Pages.Pages}, sector_device.specs.declared.SectorDevice.Ghosts}
 use Rattle.gate_journal.specs.declared.error.PageError.TheVariants as page
-use Rattle.btree_walks.specs.{declared.error.PagesError.PagesError, declared.error.PagesError.TheVariants.{Unsound, DeviceFault, Halted, Memory}}
 
 -- the refusal of a read. Those of openings and commits don't come
 abbrev pub pages_error : PageError → PagesError

@@ -1,13 +1,10 @@
 -- What isn't so of the page that is told.
 use Rattle.std.specs.Prelude.{◌≡◌, ◌⊎◌, ◌≤◌, ◌<◌, ◌+◌, ℕ, List, [], ◌∷◌, length, Option, None}
-use Rattle.sector_device.specs.claim.Disk.{Image}
-use Rattle.gate_journal.specs.claim.Store.{word}
-use Rattle.page_store.specs.claim.Chain.{IsIn, root_in}
-use Rattle.page_node.specs.{claim.Entries.child_bytes, Entries.value_at, claim.Node.{Node, IsNode}}
-use Rattle.page_btree.specs.claim.Tree.{Tree, IsTree, page_of, owns}
-use Rattle.btree_walks.specs.{Order.{lower_of, upper_of, IsOrdered}, Owners.{IsBlank, named_free, after}, declared.error.PageFaultKind.PageFaultKind}
+use Rattle.btree_walks.specs.{Order.{lower_of, upper_of, IsOrdered}, Owners.{IsBlank, named_free, after}, declared.error.{PageFaultKind.PageFaultKind, PagesError.PagesError}}
 use Rattle.btree_walks.specs.declared.error.PageFaultKind.TheVariants.{BeyondTheEnd, NamedTwice, NotFree, ListGoesOn, NotANode, WrongLevel, KeysOutOfOrder, Lost}
-use Rattle.btree_walks.specs.{declared.error.PagesError.PagesError, declared.error.PagesError.TheVariants.{Unsound, DeviceFault, Halted, Memory}}
+use Rattle.{btree_walks.specs.declared.error.PagesError.TheVariants.{Unsound, DeviceFault, Halted, Memory}, gate_journal.specs.claim.Store.word, page_node.specs.Entries.value_at}
+use Rattle.{page_btree.specs.claim.Tree.{Tree, IsTree, page_of, owns}, page_node.specs.claim.{Entries.child_bytes, Node.{Node, IsNode}}, sector_device.specs.claim.Disk.Image}
+use Rattle.page_store.specs.claim.Chain.{IsIn, root_in}
 
 -- ---- where the tree has a page
 -- the way leads from a page of a level and with bounds of its keys to another one, by the children that nodes name at places

@@ -1,7 +1,6 @@
 -- The bounds of a node's entries, and keys that rise within them.
-use Rattle.std.{specs.Prelude.{◌<◌, ℕ, List, [], ◌∷◌, length, drop, Option, Some}, specs.List.AllByRecursion, proofs.Common.{zero, suc}}
-use Rattle.page_node.specs.{claim.Entries.Entry, Entries.key_at, claim.Places.Rises}
-use Rattle.page_btree.specs.claim.Keys.{IsBetween, Parts}
+use Rattle.std.{specs.{List.AllByRecursion, Prelude.{◌<◌, ℕ, List, [], ◌∷◌, length, drop, Option, Some}}, proofs.Common.{zero, suc}}
+use Rattle.{page_btree.specs.claim.Keys.{IsBetween, Parts}, page_node.specs.{Entries.key_at, claim.{Entries.Entry, Places.Rises}}}
 
 -- an entry's keys are from its own on, and those of the first from the node's lower bound on
 abbrev pub lower_of : List ℕ → List Entry → ℕ → List ℕ

@@ -1,10 +1,9 @@
 -- What a remove leaves, where the device is honest and the pages hold what they may.
-use Rattle.std.specs.{Prelude.{◌≡◌, ◌≢◌, ℕ, Bool, true, List, Option, Some, Result, OnOk, IfOk, IfSome}, FinMap.{contains_key, remove as remove_key}}
-use Rattle.sector_device.specs.{claim.Disk.Image, declared.SectorDevice.Ghosts}
-use Rattle.page_store.specs.{claim.Transactions.{stored, disk_in, txn_pages, over, free_over}, declared.pages.Pages.Pages, declared.txn.Txn.Txn, Outcomes.KeepsRoot}
-use Rattle.page_store.specs.Reading.{ReadsOnly}
-use Rattle.page_btree.specs.{claim.Keys.KeyMap, claim.Errors.RemoveErr, claim.Map.InTxn, Editing.{IsAlike, LeafErr, WritesOne, Frees}, declared.error.TreeError.TreeError}
-use Rattle.btree_walks.specs.{Sparing.IsLeafTaken, Removing.{CanRemove, Removes}, declared.removes.Removed.Removed}
+use Rattle.std.specs.{FinMap.{contains_key, remove as remove_key}, Prelude.{◌≡◌, ◌≢◌, ℕ, Bool, true, List, Option, Some, Result, OnOk, IfOk, IfSome}}
+use Rattle.{btree_walks.specs.{Removing.{CanRemove, Removes}, Sparing.IsLeafTaken, declared.removes.Removed.Removed}, page_btree.specs.Editing.{IsAlike, LeafErr, WritesOne, Frees}}
+use Rattle.{page_btree.specs.{claim.{Errors.RemoveErr, Keys.KeyMap, Map.InTxn}, declared.error.TreeError.TreeError}, page_store.specs.{Outcomes.KeepsRoot, Reading.ReadsOnly}}
+use Rattle.{page_store.specs.{claim.Transactions.{stored, disk_in, txn_pages, over, free_over}, declared.{pages.Pages.Pages, txn.Txn.Txn}}, sector_device.specs.claim.Disk.Image}
+use Rattle.sector_device.specs.declared.SectorDevice.{Ghosts}
 
 module _ {D : Type 0} {g : Ghosts D} where
   -- ---- a remove

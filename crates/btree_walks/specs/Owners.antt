@@ -1,12 +1,9 @@
 -- Pages of which each has one owner: page 0, the list of free pages, or the tree.
 use Rattle.std.{specs.Prelude.{◌≡◌, ◌⊎◌, ◌≤◌, ◌<◌, ◌+◌, ℕ, true, false, List, [], ◌∷◌, length, drop, Option, None}, proofs.Common.{get_or, zero, suc}}
-use Rattle.sector_device.specs.{claim.Disk.Image, declared.SectorDevice.Ghosts}
-use Rattle.gate_journal.specs.claim.Store.{word}
-use Rattle.page_store.specs.{claim.Chain.{is_blank, IsIn, AreFree, root_in, free_in}, claim.Transactions.{txn_pages, count_of}, declared.pages.Pages.Pages, declared.txn.Txn.Txn}
-use Rattle.page_node.specs.{claim.Entries.Entry, claim.Node.{Node, IsNode}}
-use Rattle.page_btree.specs.{claim.Keys.KeyMap, claim.Tree.{Tree, Forest, IsTree, AreTrees, IsApart, AreApart, page_of, links, owns, forest_owns, size, forest_size}}
-use Rattle.page_btree.specs.claim.Map.{Holds}
-use Rattle.btree_walks.specs.{Order.lower_of, declared.marks.Marks.Marks}
+use Rattle.{btree_walks.specs.{Order.lower_of, declared.marks.Marks.Marks}, gate_journal.specs.claim.Store.word, page_btree.specs.claim.{Keys.KeyMap, Map.Holds}}
+use Rattle.page_btree.specs.claim.Tree.{Tree, Forest, IsTree, AreTrees, IsApart, AreApart, page_of, links, owns, forest_owns, size, forest_size}
+use Rattle.{page_node.specs.claim.{Entries.Entry, Node.{Node, IsNode}}, page_store.specs.{claim.Chain.{is_blank, IsIn, AreFree, root_in, free_in}, declared.pages.Pages.Pages}}
+use Rattle.{page_store.specs.{claim.Transactions.{txn_pages, count_of}, declared.txn.Txn.Txn}, sector_device.specs.{claim.Disk.Image, declared.SectorDevice.Ghosts}}
 
 -- ---- what is checked
 -- a page has no bytes but those of its link

@@ -1,7 +1,6 @@
 -- A row where it stands in a leaf's page.
-use Rattle.std.{specs.Prelude.{ℕ, List, []}, proofs.Common.get_or}
+use Rattle.{std.{specs.Prelude.{ℕ, List, []}, proofs.Common.get_or}, btree_walks.specs.declared.{held.HeldLeaves.HeldLeaves, parts.Parts.Parts, rows.Row.Row, scans.Scan.Scan}}
 use Rattle.page_node.specs.Walking.{part_of}
-use Rattle.btree_walks.specs.{declared.held.HeldLeaves.HeldLeaves, declared.parts.Parts.Parts, declared.rows.Row.Row, declared.scans.Scan.Scan}
 
 -- the page of the leaf at which a scan stands
 abbrev pub page_of : HeldLeaves → List ℕ

@@ -1,6 +1,6 @@
 -- Keys that begin with a prefix, in the order of keys.
-use Rattle.std.{specs.List.{filter, starts_with, AllByRecursion}, specs.Ordering.is_gt, proofs.Common.{◌≡◌, ℕ, List, Bool, true, false, nat_eq}}
-use Rattle.page_node.specs.{claim.Entries.Entry, claim.Places.key_cmp}
+use Rattle.std.{specs.{List.{filter, starts_with, AllByRecursion}, Ordering.is_gt}, proofs.Common.{◌≡◌, ℕ, List, Bool, true, false, nat_eq}}
+use Rattle.page_node.specs.claim.{Entries.Entry, Places.key_cmp}
 
 -- the rows whose keys begin with a prefix
 abbrev pub is_under : List ℕ → Entry → Bool

@@ -1,13 +1,10 @@
 -- Which rows of a scan are still to come.
-use Rattle.std.specs.{Prelude.{◌≡◌, ℕ, Bool, true, false, List, [], ◌∷◌, ◌++◌, ◌+◌, length, drop, Option, Some, None, cond, nat_eq, Result, OnOk, IfOk, IfSome}, List.starts_with}
-use Rattle.std.specs.FinMap.{entries}
-use Rattle.sector_device.specs.declared.SectorDevice.{Ghosts}
-use Rattle.page_store.specs.{claim.Transactions.{stored, disk_in, has_halted, HasFailed, IsQuiet, Passed}, declared.pages.Pages.Pages, declared.txn.Txn.Txn}
-use Rattle.page_node.specs.{claim.Entries.Entry, claim.Places.Rises, Walking.IsAhead}
-use Rattle.page_btree.specs.{claim.Keys.KeyMap, claim.Map.InTxn, Seeking.{bound_in, IsNext, AreLeaves}, declared.seeks.Leaf.Leaf, declared.error.TreeError.TreeError}
-use Rattle.page_btree.specs.declared.error.TreeError.TheVariants.{DeviceFault, NotAStore, Halted}
-use Rattle.btree_walks.specs.{Prefixes.{under, AllFrom, AllUnder}, Parts.{page_of, row_in, row_at}, declared.held.HeldLeaves.HeldLeaves, declared.parts.ScanPlace.ScanPlace}
-use Rattle.btree_walks.specs.{declared.rows.Row.Row, declared.scans.Scan.Scan, declared.parts.Parts.Parts}
+use Rattle.{std.specs.{FinMap.entries, List.starts_with}, btree_walks.specs.{Parts.{page_of, row_in, row_at}, Prefixes.{under, AllFrom, AllUnder}, declared.parts.Parts.Parts}}
+use Rattle.std.specs.Prelude.{◌≡◌, ℕ, Bool, true, false, List, [], ◌∷◌, ◌++◌, ◌+◌, length, drop, Option, Some, None, cond, nat_eq, Result, OnOk, IfOk, IfSome}
+use Rattle.{btree_walks.specs.declared.{held.HeldLeaves.HeldLeaves, parts.ScanPlace.ScanPlace, rows.Row.Row, scans.Scan.Scan}, page_btree.specs.claim.{Keys.KeyMap, Map.InTxn}}
+use Rattle.page_btree.specs.{Seeking.{bound_in, IsNext, AreLeaves}, declared.{error.TreeError.{TreeError, TheVariants.{DeviceFault, NotAStore, Halted}}, seeks.Leaf.Leaf}}
+use Rattle.{page_node.specs.{Walking.IsAhead, claim.{Entries.Entry, Places.Rises}}, page_store.specs.claim.Transactions.{stored, disk_in, has_halted, HasFailed, IsQuiet, Passed}}
+use Rattle.{page_store.specs.declared.{pages.Pages.Pages, txn.Txn.Txn}, sector_device.specs.declared.SectorDevice.Ghosts}
 
 -- A leaf stands before the rows of which those under the prefix are still to come: some are ahead in its page, others in the leaves
 -- that are held with it, and the others after these. They rise, and none is below the prefix. Where the leaves are covered, none
@@ -50,20 +47,11 @@ FitsIn scan place = is_open scan ≡ false → place.left ≡ 0
 
 -- a leaf that stands at a place
 abbrev pub leaf_at : Leaf → ScanPlace → Leaf
-leaf_at leaf place = record { at = place.at; left = place.left; more = leaf.more; bounded = leaf.bounded; bound = leaf.bound }
+leaf_at leaf place = record leaf { at = place.at; left = place.left }
 
 -- a scan whose leaf does
 abbrev pub moved_to : Scan → ScanPlace → Scan
-moved_to scan place = record {
-  prefix = scan.prefix;
-  leaf = leaf_at scan.leaf place;
-  held = scan.held;
-  covered = scan.covered;
-  last = scan.last;
-  parts = scan.parts;
-  ended = scan.ended;
-  fault = scan.fault;
-}
+moved_to scan place = record scan { leaf = leaf_at scan.leaf place }
 
 abbrev pub stood_at : Scan → ScanPlace → Scan
 stood_at scan place = cond (is_open scan) (moved_to scan place) scan

@@ -1,8 +1,7 @@
 -- What a remove needs that edits a leaf alone.
-use Rattle.std.specs.{Prelude.{◌≡◌, ◌≢◌, ◌<◌, ℕ, Bool, true, false, List, length, remove, None}, FinMap.find}
-use Rattle.sector_device.specs.claim.Disk.{Image}
-use Rattle.page_store.specs.{claim.Chain.{IsIn, AreFree}, claim.Transactions.{over, free_over}, declared.txn.Txn.Txn}
-use Rattle.page_node.specs.{claim.Entries.Entry, claim.Node.IsNode, claim.Places.{key_cmp, Rises}, Places.IsFound}
+use Rattle.std.specs.{FinMap.find, Prelude.{◌≡◌, ◌≢◌, ◌<◌, ℕ, Bool, true, false, List, length, remove, None}}
+use Rattle.{page_node.specs.{Places.IsFound, claim.{Entries.Entry, Node.IsNode, Places.{key_cmp, Rises}}}, page_store.specs.{claim.Chain.{IsIn, AreFree}, declared.txn.Txn.Txn}}
+use Rattle.{page_store.specs.claim.Transactions.{over, free_over}, sector_device.specs.claim.Disk.Image}
 
 -- a row was taken out of the leaf at a page, where there is one, or its key isn't there
 abbrev pub TakesRow : Txn → Txn → Image → ℕ → List ℕ → List Entry → Bool → Type 0

@@ -1,7 +1,6 @@
 -- A scan that took rows, and what they are in the end.
 use Rattle.std.{specs.Prelude.None, proofs.Common.{◌≡◌, ◌∷◌, ℕ, List, ◌++◌, [], true, false}}
-use Rattle.page_node.specs.claim.Entries.{Entry}
-use Rattle.btree_walks.specs.{Prefixes.under, Scanning.{Rest, IsNextRow, fault_in}, declared.scans.Scan.Scan, declared.rows.Row.Row}
+use Rattle.{btree_walks.specs.{Prefixes.under, Scanning.{Rest, IsNextRow, fault_in}, declared.{rows.Row.Row, scans.Scan.Scan}}, page_node.specs.claim.Entries.Entry}
 
 -- of the rows under a prefix these were taken, and the others are still to come
 pub record HasTaken (prefix : List ℕ) (taken : List Entry) (scan : Scan) (all : List Entry) : Type 0 where

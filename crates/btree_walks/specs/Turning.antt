@@ -1,8 +1,7 @@
 -- The next of the leaves that are held.
 use Rattle.std.specs.Prelude.{◌≡◌, ◌<◌, ◌+◌, List, ◌++◌, length, drop}
-use Rattle.page_node.specs.{claim.Entries.Entry, Walking.IsAhead}
-use Rattle.page_btree.specs.{Seeking.AreLeaves, declared.seeks.Leaf.Leaf}
-use Rattle.btree_walks.specs.{Parts.page_of, declared.held.HeldLeaves.HeldLeaves}
+use Rattle.{btree_walks.specs.{Parts.page_of, declared.held.HeldLeaves.HeldLeaves}, page_btree.specs.{Seeking.AreLeaves, declared.seeks.Leaf.Leaf}, page_node.specs.Walking.IsAhead}
+use Rattle.page_node.specs.claim.Entries.{Entry}
 
 -- of the rows of leaves those of the first are ahead in its page, and the others are in the leaves behind it
 pub record IsTurned (rows : List Entry) (leaf : Leaf) (held : HeldLeaves) : Type 0 where

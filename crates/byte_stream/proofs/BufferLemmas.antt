@@ -1,10 +1,7 @@
 -- Parts of a buffer.
-use Rattle.std.specs.{List.slice_range, Str.Lines.strip_carriage_return}
+use Rattle.std.{specs.{List.slice_range, Str.Lines.strip_carriage_return}, proofs.{Math.Seq.{take-add, drop-append-add}, lemmas.Slice.between_is}}
 use Rattle.std.proofs.Common.{◌≡◌, ℕ, ◌+◌, ◌-◌, ◌≤◌, Bool, true, false, cond, eqb, List, [], ◌∷◌, ◌++◌, length, take, drop, get_or, sym, ap, ◌∙◌, arith, length-append, length-take, rules}
-use Rattle.std.proofs.Math.Seq.{take-add, drop-append-add}
-use Rattle.std.proofs.lemmas.Slice.{between_is}
-use Rattle.std.proofs.lemmas.List.{drop-drop, take-take, take-append-le, take_at, take_all}
-use Rattle.byte_stream.specs.claim.Reading.{BeginsWithLine, NoLineFeed}
+use Rattle.{std.proofs.lemmas.List.{drop-drop, take-take, take-append-le, take_at, take_all}, byte_stream.specs.claim.Reading.{BeginsWithLine, NoLineFeed}}
 
 prefix_of : (b : Bool) (l : List ℕ) → take (length (cond b (take (length l - 1) l) l)) l ≡ cond b (take (length l - 1) l) l
 prefix_of true l = ap (λ (k : ℕ). take k l) (omega (arith, length-take (length l - 1) l))

@@ -1,11 +1,7 @@
 -- Numbers digit by digit.
-use Rattle.std.specs.{Char.{is_ascii_digit, digit_value}, Str.Parse.{digits_value, digits_value_after}}
+use Rattle.std.{specs.{Char.{is_ascii_digit, digit_value}, Str.Parse.{digits_value, digits_value_after}}, proofs.{Math.Nat.{pow-le-pow_right, pow-suc}, lemmas.List.drop-drop}}
 use Rattle.std.proofs.Common.{◌≡◌, ℕ, ◌+◌, ◌-◌, ◌*◌, ◌^◌, ◌<◌, ◌≤◌, true, List, [], ◌∷◌, ◌++◌, length, take, drop, get_or, Fits, w64, refl, sym, ap, ◌∙◌, arith, lit<, add-one, length-drop, take-append-drop, rules}
-use Rattle.std.proofs.Math.Nat.{pow-le-pow_right, pow-suc}
-use Rattle.std.proofs.lemmas.List.{drop-drop}
-use Rattle.std.proofs.lemmas.Bool.Decides.{nat_tests}
-use Rattle.std.proofs.lemmas.Str.{digit_value_digit}
-use Rattle.std.proofs.lemmas.Int.Digits.{digits_value_more}
+use Rattle.std.proofs.lemmas.{Bool.Decides.nat_tests, Int.Digits.digits_value_more, Str.digit_value_digit}
 
 pub digit_low : (c : ℕ) → is_ascii_digit c ≡ true → 48 ≤ c
 digit_low c is = grind (arith, nat_tests)
@@ -18,9 +14,7 @@ pub fits_more : (n i c : ℕ) → n < 10 ^ i → i < 19 → is_ascii_digit c ≡
 fits_more n i c small few is = search (rules, pow-le-pow_right, lit<, digit_low, digit_high)
 
 pub small_more : (n i c : ℕ) → n < 10 ^ i → is_ascii_digit c ≡ true → n * 10 + (c - 48) < 10 ^ (i + 1)
-small_more n i c small is =
-    let high = digit_high c is in
-    rw (add-one i, pow-suc 10 i) (omega arith)
+small_more n i c small is = let high = digit_high c is in rw (add-one i, pow-suc 10 i) (omega arith)
 
 pub value_more : (bytes : List ℕ) (n i : ℕ) → n ≡ digits_value 10 (take i bytes) → i < length bytes → is_ascii_digit (get_or bytes i 0) ≡ true
     → n * 10 + (get_or bytes i 0 - 48) ≡ digits_value 10 (take (i + 1) bytes)

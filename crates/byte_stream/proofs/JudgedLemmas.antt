@@ -1,12 +1,9 @@
 -- Lines that are judged one after the other.
-use Rattle.std.specs.{Io.KnownBytes.IsAtEnd, Str.Lines.{lines, strip_carriage_return}}
+use Rattle.std.{specs.{Io.KnownBytes.IsAtEnd, Str.Lines.{lines, strip_carriage_return}}, proofs.lemmas.{Bool.eqb-true, List.{append-nil, map-append, Elements.All-append}}}
 use Rattle.std.proofs.Common.{◌≡◌, ℕ, zero, suc, ◌+◌, ◌<◌, ◌⊎◌, List, [], ◌∷◌, ◌++◌, Bool, true, false, eqb, Option, None, Some, length, map, refl, sym, ap, ◌∙◌, arith, append_assoc, inl, inr, length-append, ⊎_elim, rules}
-use Rattle.std.proofs.lemmas.List.{append-nil, map-append}
-use Rattle.std.proofs.lemmas.Bool.{eqb-true}
-use Rattle.std.proofs.lemmas.List.Elements.{All-append}
-use Rattle.byte_stream.specs.{claim.Reading.{NoLineFeed, IsBroken, BeginsWithLine, line_limit}, Reading.{IsLong, IsTooLong, IsLastLine}}
-use Rattle.byte_stream.{specs.claim.Judged.{Judge, AreGood, IsFirstFault, ShowsFault, with_ends, AreCut, BeginsWithLines, IsCutShort}, proofs.TextLemmas.{lines-cut, lines-last}}
-use Rattle.byte_stream.proofs.BufferLemmas.{strip_by_one, strip_shorter}
+use Rattle.byte_stream.specs.{Reading.{IsLong, IsTooLong, IsLastLine}, claim.Judged.{Judge, AreGood, IsFirstFault, ShowsFault, with_ends, AreCut, BeginsWithLines, IsCutShort}}
+use Rattle.byte_stream.{specs.claim.Reading.{NoLineFeed, IsBroken, BeginsWithLine, line_limit}, proofs.BufferLemmas.{strip_by_one, strip_shorter}}
+use Rattle.byte_stream.proofs.TextLemmas.{lines-cut, lines-last}
 
 -- ---- whole lines at the start of a text
 

@@ -1,8 +1,6 @@
 -- One element after others that are passed over.
-use Rattle.std.specs.{List.slice_get, Option.option_copied}
+use Rattle.std.{specs.{List.slice_get, Option.option_copied}, proofs.lemmas.{List.{drop_all, drop-drop}, Option.slice_get_past}}
 use Rattle.std.proofs.Common.{◌≡◌, ◌∷◌, [], ◌+◌, ◌≤◌, ℕ, List, Option, Some, None, length, drop, sym, ◌∙◌, ap, arith, length-drop, MatchOption, zero, suc, Bor}
-use Rattle.std.proofs.lemmas.List.{drop_all, drop-drop}
-use Rattle.std.proofs.lemmas.Option.{slice_get_past}
 
 short : {X : Type 0} (xs : List X) (i n : ℕ) → drop i xs ≡ [] → i ≤ n → length xs ≤ n
 short xs i n e le = omega (arith, length-drop i xs, ap length e)

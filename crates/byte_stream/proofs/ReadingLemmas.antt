@@ -1,6 +1,6 @@
 -- Steps of a reader, one after the other.
 use Rattle.std.{specs.Io.KnownBytes.{Consumes, Keeps}, proofs.Common.{◌≡◌, ℕ, ◌+◌, List, [], ◌++◌, Option, None, Some, refl, sym, ap, ◌∙◌, arith, append_assoc}}
-use Rattle.byte_stream.specs.{claim.Counts.counted, Reading.CountsFrom}
+use Rattle.byte_stream.specs.{Reading.CountsFrom, claim.Counts.counted}
 
 pub Consumes-nothing : (a : Option (List ℕ)) → Consumes a a []
 Consumes-nothing None = tt

@@ -1,10 +1,6 @@
 -- One byte, sought and counted in blocks.
-use Rattle.std.specs.List.{count_by}
+use Rattle.std.{specs.List.count_by, proofs.{Math.Seq.take-add, lemmas.List.{take_all, Elements.All-append, Sums.{sum_by-append, count_by-le-length}}}}
 use Rattle.std.proofs.Common.{◌≡◌, ℕ, ◌+◌, ◌-◌, ◌≤◌, Bool, true, false, ◌||◌, List, length, take, drop, All, eqb, cond, refl, sym, ◌∙◌, ap, subst, arith, rules, length-take, length-drop, take-append-drop}
-use Rattle.std.proofs.Math.Seq.{take-add}
-use Rattle.std.proofs.lemmas.List.{take_all}
-use Rattle.std.proofs.lemmas.List.Elements.{All-append}
-use Rattle.std.proofs.lemmas.List.Sums.{sum_by-append, count_by-le-length}
 
 pub first_no : (a b : Bool) → (a || b) ≡ false → a ≡ false
 first_no true b is = is

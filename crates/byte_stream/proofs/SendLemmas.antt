@@ -1,8 +1,6 @@
 -- Bytes that are written one piece after another.
-use Rattle.std.specs.Io.KnownBytes.{Appends, Keeps}
-use Rattle.std.proofs.{Common.{◌≡◌, ℕ, ◌+◌, ◌-◌, ◌≤◌, List, ◌++◌, length, take, drop, Option, sym, arith, length-drop, take-append-drop, rules}, Math.Seq.take-add}
-use Rattle.std.proofs.KnownBytes.{Appends-trans, Appends-kept}
-use Rattle.std.proofs.lemmas.List.{take_rest}
+use Rattle.std.{specs.Io.KnownBytes.{Appends, Keeps}, proofs.{KnownBytes.{Appends-trans, Appends-kept}, Math.Seq.take-add, lemmas.List.take_rest}}
+use Rattle.std.proofs.Common.{◌≡◌, ℕ, ◌+◌, ◌-◌, ◌≤◌, List, ◌++◌, length, take, drop, Option, sym, arith, length-drop, take-append-drop, rules}
 
 -- one piece more of the bytes, from what is left of them
 pub sent_more : (a b c : Option (List ℕ)) (bytes : List ℕ) (done n : ℕ) → Appends a b (take done bytes) → Appends b c (take n (take (length bytes - done) (drop done bytes)))

@@ -1,8 +1,7 @@
 -- Lines and fields, one after the other.
-use Rattle.std.specs.Str.Lines.{lines, lines_of_parts, strip_carriage_return}
-use Rattle.std.proofs.{Common.{◌≡◌, ℕ, ◌<◌, false, List, [], ◌∷◌, ◌++◌, length, take, drop, refl, ap, ◌∙◌, arith, eqb, All, ◌-◌, length-take, rules}, Math.Dec.eqb-suc-zero}
+use Rattle.{std.{specs.Str.Lines.{lines, lines_of_parts, strip_carriage_return}, proofs.Math.Dec.eqb-suc-zero}, byte_stream.specs.claim.Fields.fields}
+use Rattle.std.proofs.Common.{◌≡◌, ℕ, ◌<◌, false, List, [], ◌∷◌, ◌++◌, length, take, drop, refl, ap, ◌∙◌, arith, eqb, All, ◌-◌, length-take, rules}
 use Rattle.std.proofs.lemmas.List.Splits.{slice_split_at, slice_split_none, length-slice_split}
-use Rattle.byte_stream.specs.claim.Fields.{fields}
 
 lines_of_parts-cons : (x : List ℕ) (parts : List (List ℕ)) → 0 < length parts → lines_of_parts (x ∷ parts) ≡ strip_carriage_return x ∷ lines_of_parts parts
 lines_of_parts-cons x [] some = absurd (omega arith)

@@ -1,8 +1,7 @@
 -- What callers need of words.
-use Rattle.std.{specs.Prelude.{◌≡◌, ℕ, Bool, true, false, cond, List, [], ◌∷◌, ◌++◌, refl}, specs.List.{slice_split, onto_first, filter}, proofs.Common.{ap, ◌∙◌, arith}}
-use Rattle.std.proofs.lemmas.List.Elements.{All-head, All-tail}
-use Rattle.std.proofs.lemmas.List.Splits.{slice_split-cons_yes, slice_split-cons_no, slice_split_none, slice_split_at}
-use Rattle.byte_stream.specs.{claim.Words.{is_separator, words, has_bytes, AreSeparators, NoSeparator}, Words.IsWord}
+use Rattle.std.{specs.{List.{slice_split, onto_first, filter}, Prelude.{◌≡◌, ℕ, Bool, true, false, cond, List, [], ◌∷◌, ◌++◌, refl}}, proofs.Common.{ap, ◌∙◌, arith}}
+use Rattle.std.proofs.lemmas.List.{Elements.{All-head, All-tail}, Splits.{slice_split-cons_yes, slice_split-cons_no, slice_split_none, slice_split_at}}
+use Rattle.byte_stream.specs.{Words.IsWord, claim.Words.{is_separator, words, has_bytes, AreSeparators, NoSeparator}}
 
 pub words-none : words [] ≡ []
 unfolding words
@@ -49,6 +48,4 @@ part_goes_on (x ∷ xs) rest one =
 pub words-goes_on : (word rest : List ℕ) → IsWord word → (more : List ℕ) × (others : List (List ℕ)) × (words (word ++ rest) ≡ (word ++ more) ∷ others)
 unfolding words
 words-goes_on [] rest is = absurd (omega (arith, is.some))
-words-goes_on (b ∷ bs) rest is =
-    let parts = part_goes_on (b ∷ bs) rest is.one in
-    (parts.0, filter has_bytes parts.1, ap (filter has_bytes) parts.2)
+words-goes_on (b ∷ bs) rest is = let parts = part_goes_on (b ∷ bs) rest is.one in (parts.0, filter has_bytes parts.1, ap (filter has_bytes) parts.2)

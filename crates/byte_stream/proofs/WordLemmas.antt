@@ -1,10 +1,8 @@
 -- Words at the start of a text.
-use Rattle.std.specs.List.{slice_range}
+use Rattle.std.{specs.List.slice_range, proofs.lemmas.{Bool.{false≢true, cases_lt}, List.{take_all, drop_all, drop-drop, take-take, take-append-drop, get_or-drop}}}
 use Rattle.std.proofs.Common.{◌≡◌, ℕ, zero, suc, ◌+◌, ◌-◌, ◌<◌, ◌≤◌, true, false, List, [], ◌∷◌, ◌++◌, length, take, drop, get_or, sym, ap, ◌∙◌, arith, length-take, length-drop, add-one, drop-cons, inl, inr, rules}
-use Rattle.std.proofs.lemmas.Bool.{false≢true, cases_lt}
-use Rattle.std.proofs.lemmas.List.{take_all, drop_all, drop-drop, take-take, take-append-drop, get_or-drop}
-use Rattle.std.proofs.lemmas.Slice.{between_is}
-use Rattle.byte_stream.specs.{claim.Words.{is_separator, words, AreSeparators, NoSeparator, word_limit}, Words.{IsWord, CutsWord, CutsPart, CutsLong}}
+use Rattle.{std.proofs.lemmas.Slice.between_is, byte_stream.specs.Words.{IsWord, CutsWord, CutsPart, CutsLong}}
+use Rattle.byte_stream.specs.claim.Words.{is_separator, words, AreSeparators, NoSeparator, word_limit}
 use Rattle.byte_stream.proofs.WordLaws.{words-none, words-separator, words-past, words-word, words-last}
 
 drop_here : (text : List ℕ) (n : ℕ) → n < length text → drop n text ≡ get_or text n 0 ∷ drop (n + 1) text
@@ -117,9 +115,7 @@ pub next_none : (text prefix : List ℕ) (n m : ℕ) → prefix ≡ drop n text 
     → (m < length prefix → is_separator (get_or prefix m 0) ≡ true) → m ≡ 0 → (words text ≡ []) × (words (drop m prefix) ≡ [])
 next_none text prefix n m after order blank stops ends nothing =
     elim (cases_lt n (length text)) [
-      | inl inside ↦
-          let some = some_word text n m (omega arith) stops (rw after at ends) in
-          absurd (omega arith)
+      | inl inside ↦ let some = some_word text n m (omega arith) stops (rw after at ends) in absurd (omega arith)
       | inr past ↦
           let none : drop n text ≡ [] = drop_all n text past in
           let over : drop m prefix ≡ [] = drop_all m prefix (omega (arith, ap length after, ap length none)) in

@@ -1,11 +1,9 @@
 -- Steps of a reader of words, one after the other.
 use Rattle.std.{specs.Io.KnownBytes.{Consumes, IsAtEnd}, proofs.Common.{◌≡◌, ℕ, List, [], ◌++◌, Option, Ok, true, sym, ap, ◌∙◌, arith, append_assoc, length-append, rules}}
-use Rattle.std.proofs.lemmas.List.{append-nil}
-use Rattle.std.proofs.lemmas.List.Elements.{All-append}
-use Rattle.byte_stream.specs.{Reading.Reading, claim.Words.{is_separator, words, AreSeparators, IsBrokenWord}}
+use Rattle.{std.proofs.lemmas.List.{append-nil, Elements.All-append}, byte_stream.specs.{Reading.Reading, claim.Words.{is_separator, words, AreSeparators, IsBrokenWord}}}
 use Rattle.byte_stream.specs.{Words.{IsWord, BeginsWithWord, BeginsWithLongWord, GivesWord, CutsWord, CutsPart, CutsLong, TakesLastWord}, declared.reader.WordStep.WordStep}
-use Rattle.byte_stream.{specs.declared.reader.WordStep.TheVariants.{Word, LastWord, End}, proofs.WordLaws.{words-none, words-past, words-word, words-last, words-goes_on}}
-use Rattle.byte_stream.proofs.ReadingLemmas.{Consumes-nothing, Consumes-then}
+use Rattle.byte_stream.{specs.declared.reader.WordStep.TheVariants.{Word, LastWord, End}, proofs.ReadingLemmas.{Consumes-nothing, Consumes-then}}
+use Rattle.byte_stream.proofs.WordLaws.{words-none, words-past, words-word, words-last, words-goes_on}
 
 -- the source gave more bytes, and of all that came separators are passed and the rest is held
 pub record ReadsPast (before after : Option (List ℕ)) (old held : List ℕ) : Type 0 where
@@ -82,11 +80,7 @@ end_given before after old held part LastWord new reads cuts over takes empty =
     let is : IsWord part = record { some = takes.1; one = cuts.one } in (
       reads.more,
       reads.consumes,
-      (
-        over,
-        rw takes.0 (record { gives = words_of before after old part reads ∙ words-last part is; is = is; short = cuts.short }),
-        empty,
-      ),
+      (over, rw takes.0 (record { gives = words_of before after old part reads ∙ words-last part is; is = is; short = cuts.short }), empty),
     )
 end_given before after old held part End new reads cuts over takes empty =
     (reads.more, reads.consumes, (over, words_of before after old part reads ∙ ap words takes ∙ words-none, empty))

@@ -1,6 +1,6 @@
 -- What a reader's buffer means.
-use Rattle.std.specs.{Prelude.{◌+◌, ◌-◌, ◌*◌, ◌^◌, ◌≤◌, vec_len}, List.slice_range}
-use Rattle.byte_stream.specs.{declared.reader.LineReader.TheInside.Inside, Reading.Reading, claim.Reading.turn_limit}
+use Rattle.std.specs.{List.slice_range, Prelude.{◌+◌, ◌-◌, ◌*◌, ◌^◌, ◌≤◌, vec_len}}
+use Rattle.byte_stream.specs.{Reading.Reading, claim.Reading.turn_limit, declared.reader.LineReader.TheInside.Inside}
 
 abbrev pub reading_of : Inside → Reading
 reading_of a = record {

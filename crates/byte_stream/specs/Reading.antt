@@ -1,7 +1,7 @@
 -- What no promise rests on, beside claim/Reading.antt.
-use Rattle.std.specs.{Prelude.{◌≡◌, ℕ, ◌+◌, ◌<◌, List, [], ◌++◌, length, Option, Result, Ok, Err}, Io.KnownBytes.{Consumes, IsAtEnd}, Str.Lines.strip_carriage_return}
-use Rattle.byte_stream.specs.{claim.Counts.counted, declared.source.Turn.Turn, declared.reader.Step.Step, declared.reader.ReadFault.ReadFault}
-use Rattle.byte_stream.specs.claim.Reading.{BeginsWithLine, IsBroken, NoLineFeed, line_limit}
+use Rattle.std.specs.{Io.KnownBytes.{Consumes, IsAtEnd}, Prelude.{◌≡◌, ℕ, ◌+◌, ◌<◌, List, [], ◌++◌, length, Option, Result, Ok, Err}, Str.Lines.strip_carriage_return}
+use Rattle.byte_stream.specs.{claim.{Counts.counted, Reading.{BeginsWithLine, IsBroken, NoLineFeed, line_limit}}, declared.reader.{ReadFault.ReadFault, Step.Step}}
+use Rattle.byte_stream.specs.declared.source.Turn.{Turn}
 use Rattle.byte_stream.specs.declared.source.Turn.TheVariants as turn
 use Rattle.byte_stream.specs.declared.reader.Step.TheVariants as step
 use Rattle.byte_stream.specs.declared.reader.ReadFault.TheVariants as fault

@@ -1,5 +1,5 @@
 -- What no promise rests on, beside claim/Sends.antt.
-use Rattle.std.specs.{Prelude.{◌≡◌, ℕ, Bool, true, false, List, ◌++◌, Option}, Io.KnownBytes.Appends}
+use Rattle.std.specs.{Io.KnownBytes.Appends, Prelude.{◌≡◌, ℕ, Bool, true, false, List, ◌++◌, Option}}
 
 -- the same, told by a test
 abbrev pub Sent : Option (List ℕ) → Option (List ℕ) → Bool → List ℕ → Type 0

@@ -1,6 +1,6 @@
 -- What a turn of reading does.
-use Rattle.std.specs.{Prelude.{◌≡◌, ℕ, ◌<◌, ◌≤◌, List, length, take, Option}, Io.KnownBytes.{Consumes, Keeps, IsAtEnd}}
-use Rattle.byte_stream.specs.{claim.Counts.counted, declared.source.Turn.Turn, declared.source.Turn.TheVariants.{Read, Interrupted, Failed}}
+use Rattle.std.specs.{Io.KnownBytes.{Consumes, Keeps, IsAtEnd}, Prelude.{◌≡◌, ℕ, ◌<◌, ◌≤◌, List, length, take, Option}}
+use Rattle.byte_stream.specs.{claim.Counts.counted, declared.source.Turn.{Turn, TheVariants.{Read, Interrupted, Failed}}}
 
 -- the bytes that came leave the reader; none come only at the end or where there is no room
 abbrev pub TurnConsumes : Option (List ℕ) → Option (List ℕ) → Turn → List ℕ → Type 0

@@ -1,7 +1,7 @@
 -- What no promise rests on, beside claim/Words.antt.
-use Rattle.std.specs.{Prelude.{◌≡◌, ℕ, ◌+◌, ◌<◌, ◌≤◌, true, List, [], ◌∷◌, ◌++◌, length, Option, Result, Ok, Err}, Io.KnownBytes.IsAtEnd}
-use Rattle.byte_stream.specs.{claim.Counts.counted, Reading.Reading, declared.reader.AtHand.AtHand, declared.reader.WordStep.WordStep, declared.reader.ReadFault.ReadFault}
-use Rattle.byte_stream.specs.claim.Words.{AreSeparators, IsBrokenWord, NoSeparator, is_separator, word_limit, words}
+use Rattle.std.specs.{Io.KnownBytes.IsAtEnd, Prelude.{◌≡◌, ℕ, ◌+◌, ◌<◌, ◌≤◌, true, List, [], ◌∷◌, ◌++◌, length, Option, Result, Ok, Err}}
+use Rattle.byte_stream.specs.{Reading.Reading, claim.{Counts.counted, Words.{AreSeparators, IsBrokenWord, NoSeparator, is_separator, word_limit, words}}}
+use Rattle.byte_stream.specs.declared.reader.{AtHand.AtHand, ReadFault.ReadFault, WordStep.WordStep}
 use Rattle.byte_stream.specs.declared.reader.AtHand.TheVariants as hand
 use Rattle.byte_stream.specs.declared.reader.WordStep.TheVariants as step
 use Rattle.byte_stream.specs.declared.reader.ReadFault.TheVariants as fault

@@ -1,10 +1,7 @@
 -- An audit whose census files were read by several workers is the one that reads in turn.
-use Rattle.std.proofs.Common.{◌≡◌, ℕ, Result, Ok, Err, Vec, Global, refl, sym, subst}
-use Rattle.byte_stream.specs.declared.source.Source.{Ghosts}
-use Rattle.desk_model.specs.{declared.block.BlockRow.BlockRow, declared.kind.Kind.Kind}
-use Rattle.state_files.specs.{claim.State.AreLeftBy, AtOnce.ReadsStateBy, declared.fault.FileFault.FileFault, declared.census.CensusFiles.CensusFiles}
-use Rattle.state_files.specs.declared.open.AuditFiles.{AuditFiles}
-use Rattle.check_command.specs.{declared.report.Audited.Audited, Auditing.{AuditsBlocksFiles, AuditsStateBy}}
+use Rattle.{std.proofs.Common.{◌≡◌, ℕ, Result, Ok, Err, Vec, Global, refl, sym, subst}, byte_stream.specs.declared.source.Source.Ghosts, desk_model.specs.declared.kind.Kind.Kind}
+use Rattle.{check_command.specs.{Auditing.{AuditsBlocksFiles, AuditsStateBy}, declared.report.Audited.Audited}, desk_model.specs.declared.block.BlockRow.BlockRow}
+use Rattle.state_files.specs.{AtOnce.ReadsStateBy, claim.State.AreLeftBy, declared.{census.CensusFiles.CensusFiles, fault.FileFault.FileFault}, declared.open.AuditFiles.AuditFiles}
 
 module _ {R : Type 0} (r : Ghosts R) (workers : ℕ) (before after : AuditFiles R) (census : CensusFiles R) (kind : Kind) (n : ℕ) where
   -- the census files say these blocks

@@ -1,5 +1,5 @@
 -- What is known of a companion's districts.
-use Rattle.std.{specs.Option.option_copied, specs.Borrow.Bor, proofs.Common.{◌≡◌, ℕ, List, length, Option, Some, None, is_some, IfSome, Vec, Global, refl}}
+use Rattle.std.{specs.{Borrow.Bor, Option.option_copied}, proofs.Common.{◌≡◌, ℕ, List, length, Option, Some, None, is_some, IfSome, Vec, Global, refl}}
 use Rattle.state_files.specs.claim.PlanFiles.{beside}
 
 pub copied_same : {X : Type 0} (o : Option (Bor X)) → is_some (option_copied o) ≡ is_some o

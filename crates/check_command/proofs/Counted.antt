@@ -1,13 +1,10 @@
 -- A sum over the blocks of each county, block by block.
-use Rattle.std.specs.List.{range_with_len}
+use Rattle.std.{specs.List.range_with_len, proofs.lemmas.{Bool.cases_eq, List.FromFn.{get_or-map-range_with_len, length-map-range_with_len, filter_of_map_range_with_len_more}}}
 use Rattle.std.proofs.Common.{◌≡◌, ℕ, ◌+◌, ◌<◌, ◌≤◌, ◌≢◌, List, [], ◌∷◌, ◌++◌, length, get_or, set, take, replicate, map, cond, eqb, true, false, sum_by, arith, sym, ◌∙◌, ap, refl, ⊎_elim, add-zero, eq-eqb, ne_eqb}
-use Rattle.std.proofs.lemmas.List.{get_or_default, get_or-replicate, length-set, get_or-set_same, get_or-set_other, take_all, same_lists}
-use Rattle.std.proofs.lemmas.List.Sums.{sum_by_more, sum_by_more_le_part, sum_by-cons}
-use Rattle.std.proofs.lemmas.List.FromFn.{get_or-map-range_with_len, length-map-range_with_len}
-use Rattle.std.proofs.lemmas.Bool.{cases_eq}
-use Rattle.desk_model.specs.{claim.Block.county_of, declared.block.BlockRow.BlockRow}
-use Rattle.std.proofs.lemmas.List.FromFn.{filter_of_map_range_with_len_more}
-use Rattle.check_command.specs.{Counts.{county_codes, county_blocks, county_people, has_county, with_people, if_there, counties_to}, declared.counts.CountyPeople.CountyPeople}
+use Rattle.{std.proofs.lemmas.List.{get_or_default, get_or-replicate, length-set, get_or-set_same, get_or-set_other, take_all, same_lists}, desk_model.specs.claim.Block.county_of}
+use Rattle.{std.proofs.lemmas.List.Sums.{sum_by_more, sum_by_more_le_part, sum_by-cons}, check_command.specs.declared.counts.CountyPeople.CountyPeople}
+use Rattle.check_command.specs.Counts.{county_codes, county_blocks, county_people, has_county, with_people, if_there, counties_to}
+use Rattle.desk_model.specs.declared.block.BlockRow.{BlockRow}
 
 pub county_codes_is : county_codes ≡ 1000
 unfolding county_codes
@@ -35,8 +32,7 @@ counted_none f rows table long none = record {
 
 more : (f : BlockRow → ℕ) (rows : List BlockRow) (count k : ℕ) (row : BlockRow) → count < length rows → row ≡ get_or rows count row
     → sum_by (share f k) (take (count + 1) rows) ≡ sum_by (share f k) (take count rows) + cond (eqb (county_of row.id) k) (f row) 0
-more f rows count k row less is =
-    sum_by_more (share f k) rows count row less ∙ ap (λ b. sum_by (share f k) (take count rows) + share f k b) (sym is)
+more f rows count k row less is = sum_by_more (share f k) rows count row less ∙ ap (λ b. sum_by (share f k) (take count rows) + share f k b) (sym is)
 
 -- a county's share so far and one block's are no more than that of all blocks
 pub counted_fit : (f : BlockRow → ℕ) (rows : List BlockRow) (count k : ℕ) (row : BlockRow) → count < length rows → row ≡ get_or rows count row

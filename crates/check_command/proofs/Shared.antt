@@ -1,18 +1,16 @@
 -- What is known of a printed report.
-use Rattle.std.proofs.Common.{◌≡◌, true, false, Result, Ok, Err, IfOk, refl, sym, ◌∙◌, ap, ⊎_elim, true≢false}
-use Rattle.state_files.specs.{pl94.declared.geo.GeoFault.GeoFault, pl94.declared.segment.SegFault.SegFault, pl94.declared.join.JoinFault.JoinFault}
-use Rattle.state_files.specs.{gal_text.declared.fault.GalFault.GalFault, declared.fault.OpenFault.OpenFault, declared.fault.PlanFault.PlanFault, declared.fault.FileFault.FileFault}
-use Rattle.state_files.specs.declared.fault.FileFault.TheVariants.{NoHeader, Header, NoSegment, Segment, Join, NoGal, Gal, Plan}
+use Rattle.{std.proofs.Common.{◌≡◌, true, false, Result, Ok, Err, IfOk, refl, sym, ◌∙◌, ap, ⊎_elim, true≢false}, check_command.specs.Sharing.is_of_report}
+use Rattle.{check_command.specs.{claim.Auditing.EndsAudit, declared.report.Audited.Audited}, command_output.specs.claim.{Telling.Tells, Writing.Written}}
+use Rattle.command_output.specs.claim.Faults.{status_of_open, status_of_geo, status_of_segment, status_of_join, status_of_gal, status_of_plan, status_of_fault}
+use Rattle.{command_output.specs.declared.status.Status.Status, state_files.specs.declared.fault.{FileFault.FileFault, OpenFault.OpenFault, PlanFault.PlanFault}}
+use Rattle.state_files.specs.{declared.fault.FileFault.TheVariants.{NoHeader, Header, NoSegment, Segment, Join, NoGal, Gal, Plan}, gal_text.declared.fault.GalFault.GalFault}
+use Rattle.state_files.specs.pl94.declared.{geo.GeoFault.GeoFault, join.JoinFault.JoinFault, segment.SegFault.SegFault}
 use Rattle.state_files.specs.pl94.declared.geo.GeoFault.TheVariants as geo
 use Rattle.state_files.specs.pl94.declared.segment.SegFault.TheVariants as segment
 use Rattle.state_files.specs.pl94.declared.join.JoinFault.TheVariants as join
 use Rattle.state_files.specs.gal_text.declared.fault.GalFault.TheVariants as gal
 use Rattle.state_files.specs.declared.fault.OpenFault.TheVariants as opening
 use Rattle.state_files.specs.declared.fault.PlanFault.TheVariants as plan
-use Rattle.command_output.specs.declared.status.Status.{Status}
-use Rattle.command_output.specs.claim.Faults.{status_of_open, status_of_geo, status_of_segment, status_of_join, status_of_gal, status_of_plan, status_of_fault}
-use Rattle.command_output.specs.{claim.Telling.Tells, claim.Writing.Written}
-use Rattle.check_command.specs.{declared.report.Audited.Audited, claim.Auditing.EndsAudit, Sharing.is_of_report}
 
 of_open : (fault : OpenFault) → is_of_report (status_of_open fault) ≡ false
 of_open opening.Unreadable = refl

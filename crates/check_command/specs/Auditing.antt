@@ -1,12 +1,11 @@
 -- What no promise rests on, beside claim/Auditing.antt.
 use Rattle.std.specs.Prelude.{◌≡◌, ◌≤◌, ℕ, IsTrue, IsSome, List, length, Option, Result}
-use Rattle.desk_model.specs.{claim.Geography.GeographyModel, Companions.AreLong, declared.companions.Companions.Companions, declared.block.BlockRow.BlockRow}
-use Rattle.desk_model.specs.{claim.Companions.takes, declared.kind.Kind.Kind, declared.kind.Kind.TheVariants.{Senate, Congress}}
-use Rattle.state_files.specs.{claim.GeographyModels.ReadsWithNeighbours, claim.PlanFiles.{ReadsPlan, companion_of, ReadsCompanion, beside}, claim.State.Then}
-use Rattle.state_files.specs.{declared.open.AuditFiles.AuditFiles, declared.fault.FileFault.FileFault, declared.plan_file.Companion.Companion}
+use Rattle.{byte_stream.specs.declared.source.Source.Ghosts, check_command.specs.claim.Auditing.{ReportsBeside, Openings, openings_of, AuditsState, StandBy}}
+use Rattle.{check_command.specs.declared.report.Audited.Audited, desk_model.specs.{Companions.AreLong, claim.{Companions.takes, Geography.GeographyModel}, declared.kind.Kind.Kind}}
+use Rattle.{desk_model.specs.declared.{block.BlockRow.BlockRow, companions.Companions.Companions, kind.Kind.TheVariants.{Senate, Congress}}, state_files.specs.claim.State.Then}
+use Rattle.state_files.specs.{claim.{GeographyModels.ReadsWithNeighbours, PlanFiles.{ReadsPlan, companion_of, ReadsCompanion, beside}}, declared.fault.FileFault.FileFault}
+use Rattle.state_files.specs.{declared.open.AuditFiles.AuditFiles, declared.plan_file.Companion.Companion}
 use Rattle.state_files.specs.declared.fault.PlanFile.TheVariants as file
-use Rattle.byte_stream.specs.declared.source.Source.{Ghosts}
-use Rattle.check_command.specs.{declared.report.Audited.Audited, claim.Auditing.{ReportsBeside, Openings, openings_of, AuditsState, StandBy}}
 
 -- a plan of so many districts, by so many workers, beside companions that its kind takes
 pub record MayBeAudited {A B : Type 0} (workers districts : ℕ) (kind : Kind) (senate : Option A) (congress : Option B) : Type 0 where

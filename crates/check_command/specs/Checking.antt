@@ -1,12 +1,10 @@
 -- What `check` without a plan comes to: the counts of the blocks that the census files say, printed; or their first fault, told.
 use Rattle.std.specs.{Prelude.{◌≡◌, ℕ, Result, Ok, Err, Vec}, declared.alloc.Global.Global}
-use Rattle.desk_model.specs.declared.block.BlockRow.{BlockRow}
+use Rattle.{byte_stream.specs.declared.source.Source.Ghosts, check_command.specs.{Counts.counts_text, claim.Writing.Prints}, command_output.specs.claim.Telling.Tells}
+use Rattle.{command_output.specs.{claim.Writing.Written, declared.status.Status.{Status, TheVariants.Done}}, desk_model.specs.declared.block.BlockRow.BlockRow}
+use Rattle.state_files.specs.{claim.{Opening.{Census, census_of}, State.{Then, NoFile, ReadsState, AreLeftBy}}, declared.census.CensusFiles.CensusFiles}
+use Rattle.state_files.specs.declared.fault.FileFault.{FileFault, TheVariants.Join}
 use Rattle.state_files.specs.pl94.declared.join.JoinFault.TheVariants as join
-use Rattle.command_output.specs.{declared.status.Status.Status, declared.status.Status.TheVariants.Done, claim.Telling.Tells, claim.Writing.Written}
-use Rattle.state_files.specs.{claim.Opening.{Census, census_of}, claim.State.{Then, NoFile, ReadsState, AreLeftBy}, declared.fault.FileFault.FileFault}
-use Rattle.state_files.specs.{declared.fault.FileFault.TheVariants.Join, declared.census.CensusFiles.CensusFiles}
-use Rattle.byte_stream.specs.declared.source.Source.{Ghosts}
-use Rattle.check_command.specs.{Counts.counts_text, claim.Writing.Prints}
 
 -- the counts of the blocks
 abbrev pub PrintsCounts : Vec BlockRow Global → Result (Vec ℕ Global) FileFault → Type 0

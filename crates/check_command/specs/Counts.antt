@@ -1,7 +1,6 @@
 -- The counts of a state's blocks, and their text.
-use Rattle.std.specs.{Prelude.{ℕ, ◌==◌, Bool, nat_lt, if◌then◌else◌, List, [], ◌∷◌, ◌++◌, map, length, filter, sum_by, codes, decimal}, List.{flat_map, range_with_len}}
-use Rattle.desk_model.specs.{claim.Padded.padded_decimal, claim.Block.county_of, declared.block.BlockRow.BlockRow}
-use Rattle.check_command.specs.declared.counts.CountyPeople.{CountyPeople}
+use Rattle.std.specs.{List.{flat_map, range_with_len}, Prelude.{ℕ, ◌==◌, Bool, nat_lt, if◌then◌else◌, List, [], ◌∷◌, ◌++◌, map, length, filter, sum_by, codes, decimal}}
+use Rattle.{check_command.specs.declared.counts.CountyPeople.CountyPeople, desk_model.specs.{claim.{Block.county_of, Padded.padded_decimal}, declared.block.BlockRow.BlockRow}}
 
 -- the blocks of a county, and their people
 abbrev pub county_blocks : List BlockRow → ℕ → ℕ

@@ -1,7 +1,6 @@
 -- By how many workers a plan was audited.
 use Rattle.std.specs.Prelude.{ℕ, ◌<◌, Bool, true, false}
-use Rattle.audit_report.specs.Share.{IsSharedOut}
-use Rattle.command_output.specs.{declared.status.Status.Status, declared.status.Status.TheVariants.{Done, Broken, Usage, Refused, Store, Memory, Stream}}
+use Rattle.{audit_report.specs.Share.IsSharedOut, command_output.specs.declared.status.Status.{Status, TheVariants.{Done, Broken, Usage, Refused, Store, Memory, Stream}}}
 
 -- more than one worker share the audit of n districts out; one does all alone
 abbrev pub IsDoneBy : {C : Type 0} → (C → ℕ → ℕ → Type 0) → C → (workers n : ℕ) → Type 0

@@ -1,10 +1,6 @@
 -- A number digit by digit, which stops at a limit.
-use Rattle.std.specs.{List.list_all, Char.is_ascii_digit, Str.Parse.digits_value}
-use Rattle.std.proofs.Common.{◌≡◌, ℕ, ◌+◌, ◌-◌, ◌*◌, ◌<◌, ◌≤◌, Bool, true, ◌&&◌, List, length, take, get_or, min, refl, sym, ap, ◌∙◌, arith}
-use Rattle.std.proofs.lemmas.List.Folds.{list_all_more}
-use Rattle.std.proofs.lemmas.Bool.Decides.{nat_tests}
-use Rattle.std.proofs.lemmas.Str.{digit_value_digit}
-use Rattle.std.proofs.lemmas.Int.Digits.{digits_value_more}
+use Rattle.std.{specs.{Char.is_ascii_digit, List.list_all, Str.Parse.digits_value}, proofs.lemmas.{Bool.Decides.nat_tests, Int.Digits.digits_value_more, List.Folds.list_all_more}}
+use Rattle.std.proofs.{Common.{◌≡◌, ℕ, ◌+◌, ◌-◌, ◌*◌, ◌<◌, ◌≤◌, Bool, true, ◌&&◌, List, length, take, get_or, min, refl, sym, ap, ◌∙◌, arith}, lemmas.Str.digit_value_digit}
 
 pub digit_low : (c : ℕ) → is_ascii_digit c ≡ true → 48 ≤ c
 digit_low c is = grind (arith, nat_tests)
@@ -23,9 +19,7 @@ value_more bytes n i value inside is =
 
 pub stopped_more : (bytes : List ℕ) (n i : ℕ) → n ≡ min (digits_value 10 (take i bytes)) 4294967296 → i < length bytes → is_ascii_digit (get_or bytes i 0) ≡ true
     → min (n * 10 + (get_or bytes i 0 - 48)) 4294967296 ≡ min (digits_value 10 (take (i + 1) bytes)) 4294967296
-stopped_more bytes n i value inside is =
-    let exact = value_more bytes (digits_value 10 (take i bytes)) i refl inside is in
-    omega arith
+stopped_more bytes n i value inside is = let exact = value_more bytes (digits_value 10 (take i bytes)) i refl inside is in omega arith
 
 pub digits_more : (bytes : List ℕ) (i : ℕ) → list_all is_ascii_digit (take i bytes) ≡ true → i < length bytes → is_ascii_digit (get_or bytes i 0) ≡ true
     → list_all is_ascii_digit (take (i + 1) bytes) ≡ true

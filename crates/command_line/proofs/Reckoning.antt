@@ -1,7 +1,6 @@
 -- Where a store is too large, no size is reckoned.
 use Rattle.std.proofs.Common.{◌≡◌, ℕ, ◌*◌, ◌<◌, ◌≤◌, Bool, true, false, nat_le, ◌&&◌, if◌then◌else◌, Option, Some, None, is_some, inl, inr, refl, ap, arith, mul-le-mul}
-use Rattle.std.proofs.lemmas.Bool.Decides.{leb_tells}
-use Rattle.command_line.specs.{declared.options.Size.Size, Sizes.{few_enough, revision_pages, journal_for, sectors_for, size_reckoned}}
+use Rattle.{std.proofs.lemmas.Bool.Decides.leb_tells, command_line.specs.{Sizes.{few_enough, revision_pages, journal_for, sectors_for, size_reckoned}, declared.options.Size.Size}}
 
 none_beyond : (b : Bool) (size : Size) → None ≡ (if b && false then Some size else None)
 none_beyond true size = refl

@@ -1,10 +1,9 @@
 -- What the program may be asked for.
-use Rattle.std.specs.{Prelude.{◌≡◌, ◌≤◌, ℕ, Bool, true, false, List, [], ◌∷◌, codes, not, Option, None, Some, IfSome, is_some, option_map}, Option.option_copied}
-use Rattle.clap.specs.{Matches.{first_value, one_text, matched_of, raw_values}, declared.parser.matches.Found.Found}
-use Rattle.state_files.specs.{declared.open.CensusPaths.CensusPaths, Opens.AreAlike}
-use Rattle.command_output.specs.Codes.{code_in, or_code}
-use Rattle.command_line.specs.{Options.{AreTerms, form_read, workers_read, IsSize, format_read, IsServing, serving_read}, declared.options.Form.Form, declared.words.Asked.Asked}
-use Rattle.command_line.specs.{declared.words.Job.Job, declared.words.Job.TheVariants.{Talk, Counts, Audit, Format, Load, Serve, Stat, Verify, Sweep, Migrate, Explain}}
+use Rattle.std.specs.{Option.option_copied, Prelude.{◌≡◌, ◌≤◌, ℕ, Bool, true, false, List, [], ◌∷◌, codes, not, Option, None, Some, IfSome, is_some, option_map}}
+use Rattle.{clap.specs.{Matches.{first_value, one_text, matched_of, raw_values}, declared.parser.matches.Found.Found}, command_line.specs.declared.options.Form.Form}
+use Rattle.command_line.specs.{Options.{AreTerms, form_read, workers_read, IsSize, format_read, IsServing, serving_read}, declared.words.{Asked.Asked, Job.Job}}
+use Rattle.{command_line.specs.declared.words.Job.TheVariants.{Talk, Counts, Audit, Format, Load, Serve, Stat, Verify, Sweep, Migrate, Explain}, state_files.specs.Opens.AreAlike}
+use Rattle.{command_output.specs.Codes.{code_in, or_code}, state_files.specs.declared.open.CensusPaths.CensusPaths}
 use Rattle.command_line.specs.declared.options.Form.TheVariants as form
 
 -- counts and an audit are asked for by 1 to 64 workers, an audit with its terms in range, and each companion's file goes with its number of

@@ -1,11 +1,9 @@
 -- Which options of `check` go together, and the values of those that aren't paths.
+use Rattle.{std.specs.{Char.is_ascii_digit, List.list_all, Str.Parse.digits_value}, command_line.specs.{Sizes.size_reckoned, declared.options.{Form.Form, Patience.Patience}}}
 use Rattle.std.specs.Prelude.{◌≡◌, true, false, ℕ, ◌≤◌, Bool, not, ◌&&◌, ◌||◌, nat_le, if◌then◌else◌, List, Option, Some, None, is_some, IsSome, IfSome, IsTrue, option_map}
-use Rattle.std.specs.{Char.is_ascii_digit, List.list_all, Str.Parse.digits_value}
-use Rattle.desk_model.specs.{declared.companions.Companions.Companions, declared.kind.Kind.Kind, declared.kind.Kind.TheVariants.{Congress, Senate}, claim.Companions.takes}
-use Rattle.desk_model.specs.claim.Sizes.{kind_named, most_districts}
+use Rattle.{command_line.specs.declared.options.{Form.TheVariants.{Counts, Audit}, Serving.Serving, Size.Size, Terms.Terms}, desk_model.specs.claim.Companions.takes}
+use Rattle.desk_model.specs.{claim.Sizes.{kind_named, most_districts}, declared.{companions.Companions.Companions, kind.Kind.{Kind, TheVariants.{Congress, Senate}}}}
 use Rattle.state_files.specs.Opens.{AreAlike}
-use Rattle.command_line.specs.{declared.options.Patience.Patience, Sizes.size_reckoned, declared.options.Serving.Serving, declared.options.Size.Size, declared.options.Terms.Terms}
-use Rattle.command_line.specs.{declared.options.Form.Form, declared.options.Form.TheVariants.{Counts, Audit}}
 
 -- the number that digits alone write, however many, where it is 1 to `most`
 abbrev pub number_to : ℕ → List ℕ → Option ℕ

@@ -1,6 +1,5 @@
 -- Parts that are put after a text one after the other are one text after it.
-use Rattle.std.proofs.Common.{◌≡◌, ◌++◌, ℕ, List, refl}
-use Rattle.std.proofs.lemmas.List.{append_assoc}
+use Rattle.std.proofs.{Common.{◌≡◌, ◌++◌, ℕ, List, refl}, lemmas.List.append_assoc}
 
 pub four_parts : (text a b c d : List ℕ) → text ++ a ++ b ++ c ++ d ≡ text ++ (a ++ b ++ c ++ d)
 four_parts text a b c d = rw (append_assoc text a b, append_assoc text (a ++ b) c, append_assoc text (a ++ b ++ c) d) refl

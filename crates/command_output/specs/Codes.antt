@@ -1,5 +1,5 @@
 -- Which code a text has.
-use Rattle.std.specs.{Prelude.{ℕ, Bool, false, not, ◌&&◌, if◌then◌else◌, List, [], ◌∷◌, Option, Some, None}, Char.is_ascii_alphanumeric, Str.str_eq_ignore_ascii_case}
+use Rattle.std.specs.{Char.is_ascii_alphanumeric, Prelude.{ℕ, Bool, false, not, ◌&&◌, if◌then◌else◌, List, [], ◌∷◌, Option, Some, None}, Str.str_eq_ignore_ascii_case}
 use Rattle.command_output.specs.{Tables.{Words, places, words_at}, declared.explanation.FaultPlace.FaultPlace}
 
 -- the code of a place's rows that a word is, in any case, as the table has it

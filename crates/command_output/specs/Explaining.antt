@@ -1,7 +1,7 @@
 -- What is told after a fault's line, and printed for a code.
 use Rattle.std.specs.{Prelude.{◌≡◌, ◌⊎◌, ℕ, List, Bool, true, false, Option, Some, None, IsSome, Result, Ok, Err, codes}, declared.alloc.AllocError.AllocError}
-use Rattle.command_output.specs.{Tables.Words, Sentences.sentence_of, declared.status.Status.Status, declared.status.Status.TheVariants.{Done, Memory}}
-use Rattle.command_output.specs.claim.Writing.{Written, Told, Prints, write_fault_line}
+use Rattle.command_output.specs.{Sentences.sentence_of, Tables.Words, claim.Writing.{Written, Told, Prints, write_fault_line}, declared.status.Status.Status}
+use Rattle.command_output.specs.declared.status.Status.TheVariants.{Done, Memory}
 
 -- the line's words are told with the path of its file, where it has some; or memory was refused for them
 abbrev pub TellsKnown : Result (Unit {0}) AllocError → (path : Option (List ℕ)) → Option Words → (before after : Written) → Type 0

@@ -1,7 +1,7 @@
 -- Which words are those of a line.
-use Rattle.std.specs.{Prelude.{ℕ, ◌&&◌, ◌||◌, ◌==◌, if◌then◌else◌, List, [], ◌∷◌, codes, take, drop, length, Option, Some, None}, Borrow.Bor, Str.bytes_eq}
-use Rattle.command_output.specs.{Tables.{Words, words_at, case_at, place_at, reason_at}, declared.explanation.FaultPlace.FaultPlace}
-use Rattle.command_output.specs.{declared.explanation.FaultPlace.TheVariants.{EveryFile, Command}, declared.explanation.Reason.Reason}
+use Rattle.std.specs.{Borrow.Bor, Prelude.{ℕ, ◌&&◌, ◌||◌, ◌==◌, if◌then◌else◌, List, [], ◌∷◌, codes, take, drop, length, Option, Some, None}, Str.bytes_eq}
+use Rattle.command_output.specs.{Tables.{Words, words_at, case_at, place_at, reason_at}, declared.explanation.FaultPlace.{FaultPlace, TheVariants.{EveryFile, Command}}}
+use Rattle.command_output.specs.declared.explanation.Reason.{Reason}
 
 -- what a text has after its beginning, where that is this one
 abbrev pub rest_after : List ℕ → List ℕ → Option (List ℕ)

@@ -1,6 +1,5 @@
 -- Exit statuses.
-use Rattle.std.specs.Prelude.{ℕ}
-use Rattle.command_output.specs.{declared.status.Status.Status, declared.status.Status.TheVariants.{Done, Broken, Usage, Refused, Store, Memory, Stream}}
+use Rattle.{std.specs.Prelude.ℕ, command_output.specs.declared.status.Status.{Status, TheVariants.{Done, Broken, Usage, Refused, Store, Memory, Stream}}}
 
 abbrev pub code_of : Status → ℕ
 code_of Done = 0

@@ -1,10 +1,9 @@
 -- The words of each place, and what stands before a code in a fault's line.
-use Rattle.std.specs.{Prelude.{ℕ, Bool, ◌||◌, List, [], ◌∷◌, map, codes, if◌then◌else◌, Option, Some, None}, Borrow.Bor, Str.bytes_eq}
-use Rattle.command_output.specs.{declared.explanation.Explanation.Explanation, declared.explanation.FaultPlace.FaultPlace}
+use Rattle.std.specs.{Borrow.Bor, Prelude.{ℕ, Bool, ◌||◌, List, [], ◌∷◌, map, codes, if◌then◌else◌, Option, Some, None}, Str.bytes_eq}
+use Rattle.command_output.specs.declared.{census.TheConstants.{GEO, SEGMENT, JOIN}, explanation.{Explanation.Explanation, FaultPlace.FaultPlace, Reason.Reason}}
 use Rattle.command_output.specs.declared.explanation.FaultPlace.TheVariants.{EveryFile, Geo, Segment, Join, Gal, Plan, Store, Command, Bytes, Requests}
-use Rattle.command_output.specs.{declared.explanation.Reason.Reason, declared.explanation.Reason.TheVariants.{InUse, NotPermitted, NoRoom, Stands}}
-use Rattle.command_output.specs.{declared.census.TheConstants.{GEO, SEGMENT, JOIN}, declared.plans.TheConstants.{EVERY_FILE, GAL, PLAN}}
-use Rattle.command_output.specs.{declared.stores.TheConstants.{STORE, COMMAND}, declared.http.TheConstants.{BYTES, REQUESTS}}
+use Rattle.command_output.specs.declared.{explanation.Reason.TheVariants.{InUse, NotPermitted, NoRoom, Stands}, http.TheConstants.{BYTES, REQUESTS}}
+use Rattle.command_output.specs.declared.{plans.TheConstants.{EVERY_FILE, GAL, PLAN}, stores.TheConstants.{STORE, COMMAND}}
 
 -- all places, in the order of docs/FAULTS.md
 abbrev pub places : List FaultPlace

@@ -1,7 +1,5 @@
 -- What no promise rests on, beside claim/Writing.antt.
-use Rattle.std.specs.Prelude.{ℕ, List, Option}
-use Rattle.byte_stream.specs.declared.sink.Sink.{Ghosts}
-use Rattle.command_output.specs.claim.Writing.{Written}
+use Rattle.{std.specs.Prelude.{ℕ, List, Option}, byte_stream.specs.declared.sink.Sink.Ghosts, command_output.specs.claim.Writing.Written}
 
 abbrev pub written_of : {W : Type 0} → (W → Option (List ℕ)) → (W → ℕ) → W → Written
 written_of held failures writer = record { held = held writer; failures = failures writer }

@@ -1,7 +1,6 @@
 -- Lines that are told one after the other.
-use Rattle.std.proofs.Common.{◌≡◌, ℕ, ◌+◌, ◌<◌, List, ◌∷◌, length, drop, get_or, Option, sym, subst}
-use Rattle.std.proofs.lemmas.List.{drop_more}
-use Rattle.connection_log.specs.{declared.line.LogLine.LogLine, Lines.{TellsEntry, TellsEach}}
+use Rattle.{std.proofs.{Common.{◌≡◌, ℕ, ◌+◌, ◌<◌, List, ◌∷◌, length, drop, get_or, Option, sym, subst}, lemmas.List.drop_more}, connection_log.specs.Lines.{TellsEntry, TellsEach}}
+use Rattle.connection_log.specs.declared.line.LogLine.{LogLine}
 
 -- what is told of those from a place on, where the one there is told and then the others
 pub each_more : (cs : List LogLine) (i : ℕ) (c : LogLine) (dropped more left : ℕ) (old middle new : Option (List ℕ)) → i < length cs → get_or cs i c ≡ c

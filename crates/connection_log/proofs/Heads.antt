@@ -1,6 +1,5 @@
 -- Status lines, counted place by place.
-use Rattle.std.proofs.{Common.{◌≡◌, ℕ, ◌+◌, ◌-◌, ◌<◌, List, length, take, drop, sym, ap, subst, ◌∙◌, length-drop}, Math.Seq.take-length}
-use Rattle.std.proofs.lemmas.List.{drop_more, at_drop_more}
+use Rattle.std.proofs.{Common.{◌≡◌, ℕ, ◌+◌, ◌-◌, ◌<◌, List, length, take, drop, sym, ap, subst, ◌∙◌, length-drop}, Math.Seq.take-length, lemmas.List.{drop_more, at_drop_more}}
 use Rattle.connection_log.specs.Answers.{class_of, one_from, count_from}
 
 pub rest_of : (text : List ℕ) (i : ℕ) → take (length text - i) (drop i text) ≡ drop i text

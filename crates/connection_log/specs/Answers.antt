@@ -1,5 +1,5 @@
 -- How many answers begin in a text, by their status lines (RFC 9112, section 4).
-use Rattle.std.specs.{Prelude.{ℕ, ◌+◌, nat_eq, nat_le, List, [], ◌∷◌, get_or, codes, if◌then◌else◌}, List.starts_with}
+use Rattle.std.specs.{List.starts_with, Prelude.{ℕ, ◌+◌, nat_eq, nat_le, List, [], ◌∷◌, get_or, codes, if◌then◌else◌}}
 use Rattle.connection_log.specs.declared.answers.Answers.{Answers}
 
 -- the first digit of the status whose line a text begins with, or 0 where it begins with none

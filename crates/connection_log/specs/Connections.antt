@@ -1,8 +1,6 @@
 -- What a connection came to.
-use Rattle.std.specs.Prelude.{ℕ, Option, Result, Ok, Err}
-use Rattle.jiff_core.specs.declared.civil.datetime.DateTime.{DateTime}
-use Rattle.http_desk.specs.{declared.serve.Served.Served, declared.serve.StreamFault.StreamFault}
-use Rattle.connection_log.specs.{declared.connection.Connection.Connection, declared.counting.Sent.Sent}
+use Rattle.{std.specs.Prelude.{ℕ, Option, Result, Ok, Err}, connection_log.specs.declared.{connection.Connection.Connection, counting.Sent.Sent}}
+use Rattle.{http_desk.specs.declared.serve.{Served.Served, StreamFault.StreamFault}, jiff_core.specs.declared.civil.datetime.DateTime.DateTime}
 
 -- the answers of one that was served to its end are told by who served it; of another they are those that were written
 abbrev pub requests_of : Result Served StreamFault → Sent → ℕ

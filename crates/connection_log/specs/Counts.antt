@@ -1,7 +1,6 @@
 -- What is counted of a reader and a writer.
-use Rattle.std.specs.Prelude.{ℕ, List, length, Option, Some, None, option_map, Result, Ok, Err}
-use Rattle.byte_stream.specs.{claim.Counts.counted, declared.source.Turn.Turn, declared.source.Turn.TheVariants.{Read, Interrupted, Failed}}
-use Rattle.connection_log.specs.{Answers.answers_in, declared.counting.Sent.Sent}
+use Rattle.{std.specs.Prelude.{ℕ, List, length, Option, Some, None, option_map, Result, Ok, Err}, byte_stream.specs.{claim.Counts.counted, declared.source.Turn.Turn}}
+use Rattle.{byte_stream.specs.declared.source.Turn.TheVariants.{Read, Interrupted, Failed}, connection_log.specs.{Answers.answers_in, declared.counting.Sent.Sent}}
 
 -- the bytes of a turn more
 abbrev pub read_with : ℕ → Turn → ℕ

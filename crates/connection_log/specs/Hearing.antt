@@ -1,7 +1,5 @@
 -- What a log is handed.
-use Rattle.std.specs.{Prelude.{Option, IfSome}, Borrow.Bor}
-use Rattle.jiff_core.specs.declared.civil.datetime.DateTime.{DateTime}
-use Rattle.connection_log.specs.declared.line.LogLine.{LogLine}
+use Rattle.{std.specs.{Borrow.Bor, Prelude.{Option, IfSome}}, connection_log.specs.declared.line.LogLine.LogLine, jiff_core.specs.declared.civil.datetime.DateTime.DateTime}
 
 -- where there is a log it was handed this line, at some moment
 abbrev pub IsNoted : {L : Type 0} → (L → LogLine → Type 0) → Option (Bor L) → (Option DateTime → LogLine) → Type 0

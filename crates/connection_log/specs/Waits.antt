@@ -1,7 +1,6 @@
 -- What waits to be written.
 use Rattle.std.specs.Prelude.{◌≡◌, ◌<◌, ◌≤◌, ◌==◌, ◌&&◌, Bool, List, [], ◌∷◌, ◌++◌, length, None, is_none}
-use Rattle.byte_stream.specs.claim.Counts.{counted}
-use Rattle.connection_log.specs.{declared.line.LogLine.LogLine, declared.waiting.Taken.Taken, declared.waiting.Waiting.Waiting}
+use Rattle.{byte_stream.specs.claim.Counts.counted, connection_log.specs.declared.{line.LogLine.LogLine, waiting.{Taken.Taken, Waiting.Waiting}}}
 
 -- nothing waits to be written, and nothing is to be told as dropped
 abbrev pub has_nothing : Waiting → Bool

@@ -1,11 +1,10 @@
 -- What an audit judges and what it answers, by what was found.
 use Rattle.std.{specs.Prelude.IfSome, proofs.Common.{rules, ◌≡◌, ℕ, List, length, Option, Some, None, Result, Ok, Err, refl, ap, sym, subst, ◌∙◌}}
+use Rattle.{audit_report.specs.Audits.IsAuditable, desk_catalogue.{specs.{Kept.{AreWhole, IsWhole}, Made.IsSubject, claim.Audits.IsReportText}, proofs.Whole.revision_whole}}
+use Rattle.desk_model.specs.{claim.{Desk.{Plan, Desk, name_cmp}, Geography.GeographyModel, Outcome.IsAnswer, Step.{Answer, answer, answer_at, audit_of}}, declared.kind.Kind.Kind}
+use Rattle.desk_model.specs.{claim.Subject.{AuditSubject, revision_at, companions_of, subject_with, subject_of}, declared.{command.Query.TheVariants.Audit, reply.Refusal.Refusal}}
+use Rattle.desk_model.specs.declared.{companions.Companions.Companions, reply.Reply.TheVariants.{Audited, Refused}}
 use Rattle.std.specs.FinMap as map_of
-use Rattle.desk_model.specs.{declared.command.Query.TheVariants.Audit, declared.companions.Companions.Companions, declared.kind.Kind.Kind, declared.reply.Refusal.Refusal}
-use Rattle.desk_model.specs.{declared.reply.Reply.TheVariants.{Audited, Refused}, claim.Desk.{Plan, Desk, name_cmp}, claim.Geography.GeographyModel, claim.Outcome.IsAnswer}
-use Rattle.desk_model.specs.{claim.Step.{Answer, answer, answer_at, audit_of}, claim.Subject.{AuditSubject, revision_at, companions_of, subject_with, subject_of}}
-use Rattle.audit_report.specs.Audits.{IsAuditable}
-use Rattle.desk_catalogue.{specs.Made.IsSubject, specs.Kept.{AreWhole, IsWhole}, specs.claim.Audits.IsReportText, proofs.Whole.revision_whole}
 
 module _ (d : Desk) (o : Option Plan) (p : Plan) (k : ℕ) (districts : List ℕ) (asked : Companions (List ℕ × ℕ)) (kind : Kind) (plan : o ≡ Some p) (revision : Some districts ≡ revision_at p k)
     (is_kind : kind ≡ p.kind) where

@@ -1,6 +1,5 @@
 -- Two lists of districts compared.
-use Rattle.std.{specs.Prelude.nat_eq, specs.Cmp.Lexicographic.pointwise, proofs.Common.{rules, ◌≡◌, ℕ, Bool, true, List, length, take, drop}}
-use Rattle.std.proofs.lemmas.List.{take_all}
+use Rattle.std.{specs.{Cmp.Lexicographic.pointwise, Prelude.nat_eq}, proofs.{Common.{rules, ◌≡◌, ℕ, Bool, true, List, length, take, drop}, lemmas.List.take_all}}
 
 -- lists that are as long as each other, and the same at all places
 pub same_lists : (xs ys : List ℕ) (n p q : ℕ) (b : Bool) → n ≡ length xs → p ≡ length xs → q ≡ length ys → p ≡ q

@@ -1,13 +1,9 @@
 -- The rows of a revision, county by county.
-use Rattle.std.specs.{Prelude.{filter, if◌then◌else◌, IfSome}, List.zip}
+use Rattle.std.{specs.{List.zip, Prelude.{filter, if◌then◌else◌, IfSome}}, proofs.{Math.Nat.min-le_right, lemmas.{Bool.cases_Bool, List.Sums.sum_by-cons}}}
 use Rattle.std.proofs.Common.{rules, ◌≡◌, ◌<◌, ◌≤◌, ◌+◌, ◌-◌, ◌*◌, ℕ, zero, suc, Bool, List, [], ◌∷◌, length, map, take, drop, get_or, Option, Some, None, sum_by, refl, sym, ap, ◌∙◌, arith}
-use Rattle.std.proofs.Math.Nat.{min-le_right}
-use Rattle.std.proofs.lemmas.Bool.{cases_Bool}
-use Rattle.std.proofs.lemmas.List.{drop-drop, drop_all, drop_more, length-take, length-drop, length-map}
-use Rattle.std.proofs.lemmas.List.Sums.{sum_by-cons}
-use Rattle.desk_model.specs.{claim.Ranges.{parts, sizes}, Ranges.{laid, ranges_of, ListsAreCut}, claim.Geography.GeographyModel, claim.Room.{rows_for, differs, revision_rows}}
-use Rattle.desk_model.specs.declared.ranges.CountyRange.{CountyRange}
-use Rattle.desk_catalogue.{specs.Cutting.{part, AreWithin, changes_in, range_rows}, proofs.Cutting.changed_rows}
+use Rattle.{std.proofs.lemmas.List.{drop-drop, drop_all, drop_more, length-take, length-drop, length-map}, desk_catalogue.specs.Cutting.{part, AreWithin, changes_in, range_rows}}
+use Rattle.desk_model.specs.{Ranges.{laid, ranges_of, ListsAreCut}, claim.{Geography.GeographyModel, Ranges.{parts, sizes}, Room.{rows_for, differs, revision_rows}}}
+use Rattle.{desk_model.specs.declared.ranges.CountyRange.CountyRange, desk_catalogue.proofs.Cutting.changed_rows}
 
 abbrev rows_in : List (List ℕ) → ℕ
 rows_in ps = sum_by (λ p. rows_for 512 (length p)) ps + 2 * length ps

@@ -1,8 +1,6 @@
 -- Lemmas on the definitions of Cutting.
 use Rattle.std.{specs.Prelude.{◌≡◌, ◌+◌, ◌<◌, ◌≤◌, ◌++◌, ℕ, Bool, List, [], ◌∷◌, Option, Some, None, length, get_or, drop, IfSome}, proofs.Common.{rules, subst, sym, append_assoc}}
-use Rattle.std.proofs.Math.Seq.{drop-cons}
-use Rattle.desk_model.specs.declared.ranges.CountyRange.{CountyRange}
-use Rattle.desk_catalogue.specs.Cutting.{AreWithin, range_rows, changes_in, is_changed}
+use Rattle.{std.proofs.Math.Seq.drop-cons, desk_catalogue.specs.Cutting.{AreWithin, range_rows, changes_in, is_changed}, desk_model.specs.declared.ranges.CountyRange.CountyRange}
 
 abbrev pub changed_rows : List Bool → List CountyRange → ℕ
 changed_rows [] cs = 0

@@ -1,15 +1,11 @@
 -- Which counties a revision changes that a plan got.
-use Rattle.std.specs.{Prelude.{◌==◌, IfErr, MatchResult}, FinMap.get-insert, List.slice_get, Ordering.is_eq, Cmp.Lexicographic.nat_list_cmp_total}
+use Rattle.std.{specs.{Cmp.Lexicographic.nat_list_cmp_total, FinMap.get-insert, List.slice_get, Ordering.is_eq, Prelude.{◌==◌, IfErr, MatchResult}}, proofs.lemmas.Cmp.tied_itself}
 use Rattle.std.proofs.Common.{rules, ◌≡◌, ◌+◌, ◌-◌, ℕ, suc, Bool, false, cond, List, [], ◌∷◌, ◌++◌, length, Option, Some, None, Result, Ok, Err, IfOk, IfSome, refl, sym, ap, ◌∙◌, arith}
+use Rattle.{std.proofs.lemmas.{Bool.Decides.nat_tests, List.get_or_past}, desk_catalogue.specs.{Accepting.{IsRevisable, StepRefuses}, Cutting.{StaysOutside, changes_in}}}
+use Rattle.desk_catalogue.specs.{Drafts.{IsDrafted, changes_between, changes_of}, Kept.revision_in, claim.Accepting.IsAfter, declared.catalogue.Draft.Draft}
+use Rattle.desk_model.specs.{Ranges.ranges_in, claim.{Desk.{Plan, Desk, name_cmp}, Room.last_revision, Subject.revision_at}, declared.command.Command.Command}
+use Rattle.{desk_model.specs.declared.{ranges.CountyRange.CountyRange, reply.Refusal.{Refusal, TheVariants.Memory}}, desk_plans.specs.Rows.Row}
 use Rattle.std.specs.FinMap as map_of
-use Rattle.std.proofs.lemmas.Cmp.{tied_itself}
-use Rattle.std.proofs.lemmas.List.{get_or_past}
-use Rattle.std.proofs.lemmas.Bool.Decides.{nat_tests}
-use Rattle.desk_model.specs.{declared.ranges.CountyRange.CountyRange, Ranges.ranges_in, declared.command.Command.Command, declared.reply.Refusal.Refusal}
-use Rattle.desk_model.specs.{declared.reply.Refusal.TheVariants.Memory, claim.Desk.{Plan, Desk, name_cmp}, claim.Room.last_revision, claim.Subject.revision_at}
-use Rattle.desk_plans.specs.Rows.{Row}
-use Rattle.desk_catalogue.specs.{Cutting.{StaysOutside, changes_in}, Accepting.{IsRevisable, StepRefuses}, claim.Accepting.IsAfter, declared.catalogue.Draft.Draft}
-use Rattle.desk_catalogue.specs.{Drafts.{IsDrafted, changes_between, changes_of}, Kept.revision_in}
 
 -- ---- lists as long as one another are the same after their end
 pub stays_within : (last new : List ℕ) (end : ℕ) → length last ≡ end → length new ≡ end → StaysOutside 0 end last new

@@ -1,9 +1,7 @@
 -- A line that is written from its end on.
-use Rattle.std.specs.{Fmt.decimal, List.flat_map}
-use Rattle.std.proofs.{Common.{◌≡◌, ℕ, ◌+◌, ◌-◌, ◌≤◌, List, ◌++◌, length, drop, ◌<◌, [], ◌∷◌, take, get_or, ap, arith, append_assoc, length-append, length-drop}, Math.Seq.take-suc}
-use Rattle.std.proofs.lemmas.Grind.{flat_map-append}
-use Rattle.std.proofs.lemmas.List.{append-nil, length-replicate}
-use Rattle.desk_model.specs.{declared.block.BlockRow.BlockRow, claim.Padded.padded_decimal, claim.Step.block_text}
+use Rattle.std.{specs.{Fmt.decimal, List.flat_map}, proofs.{Math.Seq.take-suc, lemmas.{Grind.flat_map-append, List.{append-nil, length-replicate}}}}
+use Rattle.std.proofs.Common.{◌≡◌, ℕ, ◌+◌, ◌-◌, ◌≤◌, List, ◌++◌, length, drop, ◌<◌, [], ◌∷◌, take, get_or, ap, arith, append_assoc, length-append, length-drop}
+use Rattle.desk_model.specs.{claim.{Padded.padded_decimal, Step.block_text}, declared.block.BlockRow.BlockRow}
 
 pub length-padded : (width n : ℕ) → length (padded_decimal width n) ≡ (width - length (decimal n)) + length (decimal n)
 length-padded width n = search (length-append, length-replicate)

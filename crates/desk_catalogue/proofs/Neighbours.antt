@@ -1,15 +1,9 @@
 -- Blocks side by side: where two of one county differ, and where all agree.
-use Rattle.std.specs.{Prelude.{is_some, not}, List.Any}
+use Rattle.std.{specs.{List.Any, Prelude.{is_some, not}}, proofs.{Math.Bool.beq, lemmas.{Bool.cases_lt, Grind.get_or_default_zero, List.{get_or-map, get_or_past, length-map}}}}
 use Rattle.std.proofs.Common.{rules, ◌≡◌, ◌≢◌, ℕ, zero, suc, ◌+◌, ◌-◌, ◌<◌, ◌≤◌, Bool, true, false, List, length, get_or, Option, Some, None, IsSome, arith, refl, ap, sym, ◌∙◌, ◌⊎◌, inl, inr, ⊎_elim}
-use Rattle.std.proofs.Math.Bool.{beq}
-use Rattle.std.proofs.lemmas.List.{get_or-map, get_or_past, length-map}
-use Rattle.std.proofs.lemmas.Grind.{get_or_default_zero}
-use Rattle.std.proofs.lemmas.Map.Keys.{sorted_from_strictly_increasing, below_from_sorted}
-use Rattle.std.proofs.lemmas.Bool.{cases_lt}
-use Rattle.desk_model.specs.{claim.Block.{county_of, state_of}, claim.Baf.{Values, value_at}, claim.Geography.{GeographyModel, ids, ids_of, id_at}, claim.GeographyModels.AreBlocks}
-use Rattle.desk_model.{specs.Counties.{IsInPart, LeastCountyIsTold}, specs.claim.Step.partly_listed, specs.declared.block.BlockRow.BlockRow, proofs.Parts.county_rises}
-use Rattle.baf_text.specs.Listed.{listed_of, IsListedPart}
-use Rattle.desk_catalogue.proofs.Overlays.{before, there}
+use Rattle.{std.proofs.lemmas.Map.Keys.{sorted_from_strictly_increasing, below_from_sorted}, baf_text.specs.Listed.{listed_of, IsListedPart}, desk_model.proofs.Parts.county_rises}
+use Rattle.desk_model.specs.{Counties.{IsInPart, LeastCountyIsTold}, claim.{Baf.{Values, value_at}, Block.{county_of, state_of}, Geography.{GeographyModel, ids, ids_of, id_at}}}
+use Rattle.{desk_model.specs.{claim.{GeographyModels.AreBlocks, Step.partly_listed}, declared.block.BlockRow.BlockRow}, desk_catalogue.proofs.Overlays.{before, there}}
 
 -- the county of the block at a place
 abbrev pub county_at : List BlockRow → ℕ → ℕ

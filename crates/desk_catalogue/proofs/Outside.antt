@@ -1,10 +1,7 @@
 -- Counties outside of the places in which two lists differ.
-use Rattle.std.specs.{Prelude.nat_eq, Cmp.Lexicographic.pointwise}
+use Rattle.std.{specs.{Cmp.Lexicographic.pointwise, Prelude.nat_eq}, proofs.lemmas.{Bool.Decides.nat_tests, List.{ext_get_or, get_or-take, get_or-drop, length-take, length-drop}}}
 use Rattle.std.proofs.Common.{◌≡◌, ◌⊎◌, ◌<◌, ◌≤◌, ◌+◌, ◌-◌, ℕ, true, false, List, [], ◌∷◌, length, drop, Some, refl, sym, ap, min, ◌∙◌, inl, inr, arith}
-use Rattle.std.proofs.lemmas.List.{ext_get_or, get_or-take, get_or-drop, length-take, length-drop}
-use Rattle.std.proofs.lemmas.Bool.Decides.{nat_tests}
-use Rattle.desk_model.specs.declared.ranges.CountyRange.{CountyRange}
-use Rattle.desk_catalogue.specs.Cutting.{StaysOutside, is_changed, part}
+use Rattle.{desk_catalogue.specs.Cutting.{StaysOutside, is_changed, part}, desk_model.specs.declared.ranges.CountyRange.CountyRange}
 
 -- a list is the same as itself
 number_same : (n : ℕ) → nat_eq n n ≡ true

@@ -1,14 +1,9 @@
 -- Listed districts over the last ones.
-use Rattle.std.specs.{Prelude.unwrap_or, List.zip}
+use Rattle.{std.{specs.{List.zip, Prelude.unwrap_or}, proofs.lemmas.{Bool.{lt-ltb, le-ltb}, List.{get_or_past, length-map}, Slice.Zip.length-zip}}, shared_lists.specs.Laid.laid}
 use Rattle.std.proofs.Common.{rules, ◌≡◌, ℕ, zero, suc, ◌+◌, ◌-◌, ◌<◌, ◌≤◌, List, [], ◌∷◌, map, length, get_or, Option, Some, None, Result, Ok, Err, IsOkAnd, IfSome, arith, refl, ap, sym, ◌∙◌, ◌⊎◌}
-use Rattle.std.proofs.lemmas.Bool.{lt-ltb, le-ltb}
-use Rattle.std.proofs.lemmas.List.{get_or_past, length-map}
-use Rattle.std.proofs.lemmas.Slice.Zip.{length-zip}
-use Rattle.desk_model.specs.{declared.block.BlockRow.BlockRow, claim.Baf.{Values, Fault, value_at}, claim.Geography.{GeographyModel, ids, ids_of}}
-use Rattle.desk_model.specs.{claim.Step.{partly_listed, patched}, declared.reply.Refusal.Refusal, declared.reply.Refusal.TheVariants.{BadBody, Memory}}
-use Rattle.baf_text.specs.Listed.{listed_of, part_at, IsListedPart}
-use Rattle.shared_lists.specs.Laid.{laid}
-use Rattle.desk_catalogue.{specs.Cutting.StaysOutside, specs.Kept.IsRefusalOf, specs.Patches.{overlaid, IsPatchRefusal}, proofs.Whole.in_turn}
+use Rattle.{baf_text.specs.Listed.{listed_of, part_at, IsListedPart}, desk_catalogue.specs.{Cutting.StaysOutside, Kept.IsRefusalOf, Patches.{overlaid, IsPatchRefusal}}}
+use Rattle.desk_model.specs.{claim.{Baf.{Values, Fault, value_at}, Geography.{GeographyModel, ids, ids_of}, Step.{partly_listed, patched}}, declared.block.BlockRow.BlockRow}
+use Rattle.{desk_model.specs.declared.reply.Refusal.{Refusal, TheVariants.{BadBody, Memory}}, desk_catalogue.proofs.Whole.in_turn}
 
 -- what is listed of a place, before a part and in it or after it
 pub before : (first : ℕ) (part : List (Option ℕ)) (k : ℕ) → k < first → part_at first part k ≡ None

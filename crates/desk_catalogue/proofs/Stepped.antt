@@ -1,15 +1,12 @@
 -- What the desk's step makes of a post to a plan that may have one more revision.
 use Rattle.std.{specs.Prelude.{◌==◌, nat_le, IsOkAnd}, proofs.Common.{rules, ◌≡◌, ℕ, true, false, List, Option, Some, Result, Ok, Err, IfOk, ◌<◌, refl, ap, sym, ◌∙◌, arith}}
-use Rattle.std.specs.FinMap as map_of
-use Rattle.std.proofs.lemmas.Bool.Decides.{nat_tests}
-use Rattle.desk_model.specs.{declared.command.Command.Command, declared.command.Command.TheVariants.{Counties, Whole}, declared.reply.Refusal.Refusal}
-use Rattle.desk_model.specs.{declared.reply.Refusal.TheVariants.{BadBody, NotWholeCounty, Memory}, claim.Baf.{Values, Fault, body_read, whole}, claim.Desk.{Plan, Desk}}
-use Rattle.desk_model.specs.{claim.Geography.GeographyModel, claim.Outcome.IsStep}
+use Rattle.{std.proofs.lemmas.Bool.Decides.nat_tests, desk_catalogue.specs.{Accepting.{IsRevisable, StepRefuses}, Kept.IsRefusalOf, Patches.{with_revision_of, IsPatchRefusal}}}
+use Rattle.{desk_catalogue.specs.{claim.Accepting.IsAfter, declared.catalogue.Draft.Draft}, desk_model.specs.claim.{Baf.{Values, Fault, body_read, whole}, Desk.{Plan, Desk}}}
+use Rattle.desk_model.specs.{claim.{Geography.GeographyModel, Outcome.IsStep}, declared.{command.Command.{Command, TheVariants.{Counties, Whole}}, reply.Refusal.Refusal}}
 use Rattle.desk_model.specs.claim.Step.{Outcome, refused, revised, on_revisions, whole_read, patch_read, county_patched, partly_listed, step, step_at, revision_limit}
+use Rattle.{desk_model.specs.declared.reply.Refusal.TheVariants.{BadBody, NotWholeCounty, Memory}, desk_plans.specs.Rows.Row}
+use Rattle.std.specs.FinMap as map_of
 use Rattle.desk_model.specs.declared.reply.Reply.TheVariants as reply
-use Rattle.desk_plans.specs.Rows.{Row}
-use Rattle.desk_catalogue.specs.{Accepting.{IsRevisable, StepRefuses}, claim.Accepting.IsAfter, Kept.IsRefusalOf, Patches.{with_revision_of, IsPatchRefusal}}
-use Rattle.desk_catalogue.specs.declared.catalogue.Draft.{Draft}
 
 same_count : (a b : ℕ) → a ≡ b → (a == b) ≡ true
 same_count a b is = grind (arith, nat_tests)

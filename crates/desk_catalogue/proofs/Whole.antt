@@ -1,13 +1,10 @@
 -- Revisions that have a district for each block.
-use Rattle.std.specs.{Prelude.{◌==◌, unwrap_or}, List.slice_get, FinMap.{get-empty, get-insert, get-remove}, Ordering.eq_by_cmp, Cmp.Lexicographic.nat_list_cmp_total}
+use Rattle.std.specs.{Cmp.Lexicographic.nat_list_cmp_total, FinMap.{get-empty, get-insert, get-remove}, List.slice_get, Ordering.eq_by_cmp, Prelude.{◌==◌, unwrap_or}}
 use Rattle.std.proofs.Common.{◌≡◌, ◌-◌, ℕ, zero, suc, Bool, true, false, cond, List, [], ◌∷◌, ◌++◌, length, map, All, Option, Some, None, Result, Ok, Err, IsOkAnd, arith, refl, ap, sym, ◌∙◌, inl, inr}
-use Rattle.std.proofs.lemmas.Option.{get_or_from_slice_get, slice_get_cases}
+use Rattle.{std.proofs.lemmas.{List.Elements.All-append, Option.{get_or_from_slice_get, slice_get_cases}}, baf_text.specs.Listed.listed_of}
+use Rattle.{desk_catalogue.specs.Kept.{AreWhole, IsWhole, revision_in}, desk_model.specs.claim.{Baf.{Values, Fault, value_at, whole}, Desk.{Plan, name_cmp}, Subject.revision_at}}
+use Rattle.desk_model.specs.{claim.Geography.{GeographyModel, ids_of}, declared.block.BlockRow.BlockRow}
 use Rattle.std.specs.FinMap as map_of
-use Rattle.std.proofs.lemmas.List.Elements.{All-append}
-use Rattle.desk_model.specs.{declared.block.BlockRow.BlockRow, claim.Baf.{Values, Fault, value_at, whole}, claim.Geography.{GeographyModel, ids_of}, claim.Desk.{Plan, name_cmp}}
-use Rattle.desk_model.specs.claim.Subject.{revision_at}
-use Rattle.baf_text.specs.Listed.{listed_of}
-use Rattle.desk_catalogue.specs.Kept.{AreWhole, IsWhole, revision_in}
 
 pub none_whole : (geography : Option GeographyModel) → AreWhole geography map_of.empty
 none_whole geography g name p geo there = let clash : None ≡ Some p = sym (get-empty name_cmp name) ∙ there in absurd (cc)

@@ -1,9 +1,8 @@
 -- What no promise rests on, beside claim/Accepting.antt.
 use Rattle.std.specs.Prelude.{◌≡◌, ℕ, ◌<◌, List, length, Some}
+use Rattle.{desk_catalogue.specs.Kept.HasWhole, desk_model.specs.{claim.{Desk.Desk, Outcome.RefusalMay, Step.revision_limit}, declared.command.Command.Command}}
+use Rattle.{desk_model.specs.declared.reply.Refusal.Refusal, desk_plans.specs.Rows.Row}
 use Rattle.std.specs.FinMap as map_of
-use Rattle.desk_model.specs.{declared.command.Command.Command, claim.Desk.Desk, claim.Step.revision_limit, declared.reply.Refusal.Refusal, claim.Outcome.RefusalMay}
-use Rattle.desk_plans.specs.Rows.{Row}
-use Rattle.desk_catalogue.specs.Kept.{HasWhole}
 
 -- a catalogue knows of no room and no device: a command is refused by the desk alone, or for want of memory
 abbrev pub StepRefuses : Desk → Command → Refusal → Type 0

@@ -1,8 +1,7 @@
 -- The counties of lists beside the blocks, by their places.
 use Rattle.std.specs.Prelude.{◌≡◌, ◌⊎◌, ◌<◌, ◌≤◌, ◌+◌, ℕ, Bool, true, if◌then◌else◌, List, map, get_or, take, drop, All, Option, Some, None, length, IfSome}
-use Rattle.desk_model.specs.{claim.Room.{rows_for, differs, revision_rows, fork_rows}, declared.ranges.CountyRange.CountyRange, Ranges.ranges_of, claim.Ranges.sizes}
-use Rattle.desk_model.specs.claim.Geography.{GeographyModel}
-use Rattle.desk_catalogue.specs.declared.changes.Span.{Span}
+use Rattle.{desk_catalogue.specs.declared.changes.Span.Span, desk_model.specs.{Ranges.ranges_of, claim.{Geography.GeographyModel, Ranges.sizes}}}
+use Rattle.desk_model.specs.{claim.Room.{rows_for, differs, revision_rows, fork_rows}, declared.ranges.CountyRange.CountyRange}
 
 -- a county's part of a list beside the blocks
 abbrev pub part : CountyRange → List ℕ → List ℕ

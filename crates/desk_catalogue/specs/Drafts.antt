@@ -1,9 +1,8 @@
 -- Which counties a command changes.
 use Rattle.std.specs.Prelude.{◌≡◌, ◌+◌, ℕ, Bool, List, [], Option, Some, None}
+use Rattle.{desk_catalogue.specs.{Cutting.changes_in, Kept.revision_in, claim.Accepting.IsAfter, declared.catalogue.Draft.Draft}, desk_model.specs.Ranges.ranges_in}
+use Rattle.desk_model.specs.{claim.Desk.Desk, declared.{command.Command.{Command, TheVariants.{Create, Whole, Counties, Retire, Fork}}, ranges.CountyRange.CountyRange}}
 use Rattle.std.specs.FinMap as map_of
-use Rattle.desk_model.specs.{declared.command.Command.Command, declared.command.Command.TheVariants.{Create, Whole, Counties, Retire, Fork}}
-use Rattle.desk_model.specs.{declared.ranges.CountyRange.CountyRange, claim.Desk.Desk, Ranges.ranges_in}
-use Rattle.desk_catalogue.specs.{declared.catalogue.Draft.Draft, claim.Accepting.IsAfter, Cutting.changes_in, Kept.revision_in}
 
 -- whether each county changes in a revision after the one before it, none where there is no revision
 abbrev pub changes_between : Option (List ℕ) → Option (List ℕ) → List CountyRange → List Bool

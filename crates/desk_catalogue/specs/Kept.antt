@@ -1,8 +1,8 @@
 -- What is kept of revisions.
 use Rattle.std.specs.Prelude.{◌≡◌, ℕ, List, length, All, Option, Some, None, Result, Err, IfSome}
+use Rattle.desk_model.specs.{claim.{Baf.{Values, Fault}, Desk.{Plan, name_cmp}, Geography.GeographyModel, Step.blocks_text, Subject.revision_at}, declared.reply.Refusal.Refusal}
+use Rattle.desk_model.specs.declared.reply.Refusal.TheVariants.{BadBody, Memory}
 use Rattle.std.specs.FinMap as map_of
-use Rattle.desk_model.specs.{claim.Desk.{Plan, name_cmp}, claim.Subject.revision_at, claim.Baf.{Values, Fault}, claim.Geography.GeographyModel, claim.Step.blocks_text}
-use Rattle.desk_model.specs.{declared.reply.Refusal.Refusal, declared.reply.Refusal.TheVariants.{BadBody, Memory}}
 
 -- every revision of a plan has a district for each block
 abbrev pub AreWhole : Option GeographyModel → map_of.FinMap name_cmp Plan → Type 0

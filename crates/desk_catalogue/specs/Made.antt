@@ -1,10 +1,9 @@
 -- Reports that were made, and what they are of.
-use Rattle.std.specs.{Prelude.{◌≡◌, ℕ, ◌≤◌, List, Option, Some, Ok, IsSome, IfSome, IsTrue}, Borrow.Bor}
+use Rattle.std.specs.{Borrow.Bor, Prelude.{◌≡◌, ℕ, ◌≤◌, List, Option, Some, Ok, IsSome, IfSome, IsTrue}}
+use Rattle.{desk_catalogue.specs.{Kept.IsWhole, claim.Audits.{IsReportText, AskMay}}, desk_model.specs.{Companions.{AreTaken, companions_copied}, claim.Companions.takes}}
+use Rattle.desk_model.specs.{claim.{Desk.Desk, Geography.GeographyModel, Subject.{AuditSubject, companion_of, companions_of, subject_of}}, declared.command.Query.Query}
+use Rattle.desk_model.specs.declared.{companions.Companions.Companions, kind.Kind.Kind, reply.Reply.Reply}
 use Rattle.std.specs.FinMap as map_of
-use Rattle.desk_model.specs.{declared.command.Query.Query, declared.kind.Kind.Kind, declared.reply.Reply.Reply, declared.companions.Companions.Companions}
-use Rattle.desk_model.specs.{Companions.{AreTaken, companions_copied}, claim.Companions.takes, claim.Desk.Desk, claim.Geography.GeographyModel}
-use Rattle.desk_model.specs.claim.Subject.{AuditSubject, companion_of, companions_of, subject_of}
-use Rattle.desk_catalogue.specs.{Kept.IsWhole, claim.Audits.{IsReportText, AskMay}}
 
 -- the answer, where the last report that was made is kept, and what is kept then is of the desk's geography too
 pub record AsksAgain (d : Desk) (query : Query) (reply : Reply) (kept : Option GeographyModel) : Type 0 where

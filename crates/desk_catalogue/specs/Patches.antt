@@ -1,10 +1,9 @@
 -- What a patch by counties makes of the last districts.
-use Rattle.std.specs.{Prelude.{◌≡◌, ◌<◌, ℕ, List, map, unwrap_or, Option, Some, None, Result, Err, IsOkAnd, IfOk, IfErr, IfSome, ◌++◌, ◌∷◌, [], length}, List.zip}
+use Rattle.std.specs.{List.zip, Prelude.{◌≡◌, ◌<◌, ℕ, List, map, unwrap_or, Option, Some, None, Result, Err, IsOkAnd, IfOk, IfErr, IfSome, ◌++◌, ◌∷◌, [], length}}
+use Rattle.{desk_catalogue.specs.{Cutting.{AreComparable, StaysOutside, changes_in}, declared.{catalogue.Draft.Draft, patch.Patched.Patched}}, desk_model.specs.Ranges.ranges_in}
+use Rattle.desk_model.specs.claim.{Baf.{Values, Fault, body_read}, Desk.Desk, Geography.GeographyModel, Room.last_revision, Step.{partly_listed, patched, revision_limit}}
+use Rattle.{desk_model.specs.declared.reply.Refusal.{Refusal, TheVariants.{BadBody, NotWholeCounty, Memory}}, desk_plans.specs.Rows.Row}
 use Rattle.std.specs.FinMap as map_of
-use Rattle.desk_model.specs.{claim.Baf.{Values, Fault, body_read}, claim.Geography.GeographyModel, claim.Room.last_revision, claim.Step.{partly_listed, patched, revision_limit}}
-use Rattle.desk_model.specs.{Ranges.ranges_in, claim.Desk.Desk, declared.reply.Refusal.Refusal, declared.reply.Refusal.TheVariants.{BadBody, NotWholeCounty, Memory}}
-use Rattle.desk_plans.specs.Rows.{Row}
-use Rattle.desk_catalogue.specs.{Cutting.{AreComparable, StaysOutside, changes_in}, declared.catalogue.Draft.Draft, declared.patch.Patched.Patched}
 
 -- the listed districts, and the last ones where none is listed, 0 before there are any
 abbrev pub overlaid : List (Option ℕ) → Option (List ℕ) → List ℕ

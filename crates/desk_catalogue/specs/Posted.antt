@@ -1,7 +1,6 @@
 -- What a body says that was read.
 use Rattle.std.specs.Prelude.{◌≡◌, ℕ, List, length, Option, Result, IsOkAnd}
-use Rattle.desk_model.specs.{claim.Baf.{Values, Fault, whole}, claim.Geography.GeographyModel}
-use Rattle.baf_text.specs.Listed.{listed_of}
+use Rattle.{baf_text.specs.Listed.listed_of, desk_model.specs.claim.{Baf.{Values, Fault, whole}, Geography.GeographyModel}}
 
 -- the district of each block that it lists
 abbrev pub IsListed : GeographyModel → Result Values Fault → List (Option ℕ) → Type 0

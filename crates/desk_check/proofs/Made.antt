@@ -1,15 +1,11 @@
 -- A plan is made of the revisions that were seen: rows that have its chunks say which districts each of them has.
 use Rattle.std.proofs.Common.{◌≡◌, ◌<◌, ◌≤◌, ◌+◌, ◌++◌, ℕ, zero, suc, List, [], ◌∷◌, length, get_or, All, replicate, inl, inr, refl, sym, subst, ◌∙◌, arith, length-append}
-use Rattle.std.proofs.lemmas.Bool.{cases_lt}
-use Rattle.std.proofs.lemmas.List.{get_or_append_left, get_or_at, length-replicate}
-use Rattle.std.proofs.lemmas.List.Elements.{All-push, All-replicate}
-use Rattle.desk_model.specs.{claim.Geography.GeographyModel, claim.Desk.Plan, Ranges.{ListsAreCut, ranges_of}, declared.ranges.CountyRange.CountyRange}
-use Rattle.desk_catalogue.specs.shared_lists.Laid.{with_at}
-use Rattle.desk_pages.specs.claim.Desks.{AreWithin, IsSized}
-use Rattle.store_rows.specs.{claim.Rows.KeyMap, Changes.plan_row_of, declared.value.PlanRow.PlanRow}
-use Rattle.desk_opening.{specs.Reading.{AreCountiesOf, AreRevisionsShown, IsRevisionShown, no_cut}, proofs.Laying.{LaidTo, county_fits, laid_one_more, none_laid, with_long}}
-use Rattle.desk_opening.proofs.{Shown.row_is, Within.with_at_within}
-use Rattle.desk_check.specs.Checking.{AreChunksSeen, AreRevisionsSeen, IsRevisionSeen, IsSizedRow}
+use Rattle.{std.proofs.lemmas.{Bool.cases_lt, List.{get_or_append_left, get_or_at, length-replicate, Elements.{All-push, All-replicate}}}, desk_model.specs.claim.Desk.Plan}
+use Rattle.{desk_catalogue.specs.shared_lists.Laid.with_at, desk_check.specs.Checking.{AreChunksSeen, AreRevisionsSeen, IsRevisionSeen, IsSizedRow}}
+use Rattle.{desk_model.specs.{Ranges.{ListsAreCut, ranges_of}, claim.Geography.GeographyModel, declared.ranges.CountyRange.CountyRange}, store_rows.specs.Changes.plan_row_of}
+use Rattle.{desk_opening.{specs.Reading.{AreCountiesOf, AreRevisionsShown, IsRevisionShown, no_cut}, proofs.Shown.row_is}, desk_pages.specs.claim.Desks.{AreWithin, IsSized}}
+use Rattle.{store_rows.specs.{claim.Rows.KeyMap, declared.value.PlanRow.PlanRow}, desk_opening.proofs.Laying.{LaidTo, county_fits, laid_one_more, none_laid, with_long}}
+use Rattle.desk_opening.proofs.Within.{with_at_within}
 
 module _ (lists : ListsAreCut) (g : GeographyModel) (ranges : List CountyRange) (same : ranges ≡ ranges_of g) (m : KeyMap) where
   abbrev blocks : ℕ

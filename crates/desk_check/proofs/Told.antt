@@ -1,20 +1,16 @@
 -- The plans whose rows a scan took.
-use Rattle.std.specs.{Prelude.{Option, is_some, Result, Ok, Err, IsErrAnd, OnOk, IfOk, IfErr, Vec}, declared.alloc.Global.Global, BTreeMap.BTreeMap}
-use Rattle.std.specs.{Cmp.Lexicographic.nat_list_cmp_total, FinMap.{empty, entries, get, insert, len, get-empty, len-empty, len-insert}}
-use Rattle.std.proofs.Common.{◌≡◌, ◌≤◌, ◌+◌, ℕ, Bool, true, false, cond, List, [], ◌∷◌, ◌++◌, Some, refl, sym, ap, subst, ◌∙◌, inl, inr, arith}
-use Rattle.sector_device.specs.declared.SectorDevice.{Ghosts}
-use Rattle.page_store.{specs.declared.pages.Pages.Pages, specs.declared.txn.Txn.Txn, proofs.Stops.quiet_none}
-use Rattle.page_btree.specs.{declared.error.TreeError.TreeError, declared.error.TreeError.TheVariants.{DeviceFault, NotAStore, Halted, NoPages, TooDeep, Memory}}
-use Rattle.page_btree.specs.page_node.claim.Entries.{Entry}
-use Rattle.btree_walks.specs.{Prefixes.under, declared.rows.Row.Row}
-use Rattle.desk_model.specs.{claim.Desk.{Plan, name_cmp}, claim.Geography.GeographyModel, claim.Step.plan_limit, Ranges.{ListsAreCut, ranges_of}}
-use Rattle.desk_model.specs.declared.ranges.CountyRange.{CountyRange}
-use Rattle.store_rows.{specs.claim.Keys.plans_prefix, specs.claim.Values.plan_bytes, specs.claim.Rows.KeyMap, proofs.Changes.cases_key}
-use Rattle.geo_tables.specs.Elements.{IsGeographyRead}
-use Rattle.desk_pages.{specs.Desks.new_desk, specs.Looking.Gathers, specs.Reading.SeekErr, specs.claim.Desks.IsSized, proofs.Looking.{finds, not_looked}}
-use Rattle.desk_opening.{specs.Opening.{ArePlansApart, ArePlansShown, HasNothing, IsNoted, IsNotGone, NoteErr}, proofs.Parts.{Plans, put_keeps, put_there}}
-use Rattle.desk_opening.proofs.{PlanNumbers.{AreNoted, noted_more}, Shown.{AreShown, all_shown, more_shown, none_shown, nothing_shown}}
-use Rattle.desk_check.{specs.Checking.{ArePlansTold, AreSized, IsDeskShown, IsNever, IsRowSeen}, proofs.Made.plan_made}
+use Rattle.std.specs.{BTreeMap.BTreeMap, Cmp.Lexicographic.nat_list_cmp_total, FinMap.{empty, entries, get, insert, len, get-empty, len-empty, len-insert}}
+use Rattle.{std.specs.{Prelude.{Option, is_some, Result, Ok, Err, IsErrAnd, OnOk, IfOk, IfErr, Vec}, declared.alloc.Global.Global}, btree_walks.specs.Prefixes.under}
+use Rattle.{std.proofs.Common.{◌≡◌, ◌≤◌, ◌+◌, ℕ, Bool, true, false, cond, List, [], ◌∷◌, ◌++◌, Some, refl, sym, ap, subst, ◌∙◌, inl, inr, arith}, desk_pages.specs.Desks.new_desk}
+use Rattle.{btree_walks.specs.declared.rows.Row.Row, desk_check.specs.Checking.{ArePlansTold, AreSized, IsDeskShown, IsNever, IsRowSeen}, desk_model.specs.claim.Step.plan_limit}
+use Rattle.desk_model.specs.{Ranges.{ListsAreCut, ranges_of}, claim.{Desk.{Plan, name_cmp}, Geography.GeographyModel}, declared.ranges.CountyRange.CountyRange}
+use Rattle.{desk_opening.specs.Opening.{ArePlansApart, ArePlansShown, HasNothing, IsNoted, IsNotGone, NoteErr}, desk_pages.specs.{Looking.Gathers, Reading.SeekErr}}
+use Rattle.{desk_pages.specs.claim.Desks.IsSized, geo_tables.specs.Elements.IsGeographyRead, page_btree.specs.{declared.error.TreeError.TreeError, page_node.claim.Entries.Entry}}
+use Rattle.{page_btree.specs.declared.error.TreeError.TheVariants.{DeviceFault, NotAStore, Halted, NoPages, TooDeep, Memory}, page_store.specs.declared.pages.Pages.Pages}
+use Rattle.{page_store.specs.declared.txn.Txn.Txn, sector_device.specs.declared.SectorDevice.Ghosts, store_rows.specs.claim.{Keys.plans_prefix, Rows.KeyMap, Values.plan_bytes}}
+use Rattle.{desk_check.proofs.Made.plan_made, desk_opening.proofs.{Parts.{Plans, put_keeps, put_there}, PlanNumbers.{AreNoted, noted_more}}, page_store.proofs.Stops.quiet_none}
+use Rattle.{desk_opening.proofs.Shown.{AreShown, all_shown, more_shown, none_shown, nothing_shown}, desk_pages.proofs.Looking.{finds, not_looked}}
+use Rattle.store_rows.proofs.Changes.{cases_key}
 
 -- plans that the rows tell, no more than so many, and their numbers
 pub record AreTold (ranges : List CountyRange) (taken : ℕ) (counts : BTreeMap ℕ ℕ) (m : KeyMap) (rows : List Entry) : Type 0 where
@@ -28,9 +24,7 @@ some_is : (p q : Plan) → ◌≡◌ {A = Option Plan} (Some p) (Some q) → p �
 some_is p q same = cc
 
 none_sized : AreSized empty
-none_sized name p there =
-    let clash = sym (get-empty name_cmp name) ∙ there in
-    absurd (cc)
+none_sized name p there = let clash = sym (get-empty name_cmp name) ∙ there in absurd (cc)
 
 more_sized : (plans : Plans) (name : List ℕ) (p : Plan) → AreSized plans → IsSized p → AreSized (insert plans name p)
 more_sized plans name p all one other q there = elim (cases_key other name) [

@@ -1,14 +1,11 @@
 -- What is found of a desk's rows by whoever keeps none of them.
-use Rattle.std.specs.{Prelude.{◌≡◌, ◌<◌, ◌≤◌, ◌+◌, ◌^◌, ℕ, List, length, get_or, Some, Result}, FinMap.{FinMap, get, len}}
-use Rattle.sector_device.specs.declared.SectorDevice.{Ghosts}
-use Rattle.desk_model.specs.{Ranges.ranges_in, declared.ranges.CountyRange.CountyRange, claim.Desk.{Desk, Plan, name_cmp}, claim.Sizes.most_districts}
-use Rattle.desk_model.specs.claim.Step.{plan_limit, revision_limit}
-use Rattle.desk_pages.specs.{claim.Desks.{AreWithin, IsSized, IsWithinLimits}, Looking.Gathers}
-use Rattle.page_store.specs.{declared.pages.Pages.Pages, declared.txn.Txn.Txn}
-use Rattle.page_btree.specs.declared.error.TreeError.{TreeError}
-use Rattle.btree_walks.specs.declared.rows.Row.{Row}
-use Rattle.store_rows.specs.{claim.Keys.{key_of, named}, claim.Values.plan_bytes, declared.value.PlanRow.PlanRow, claim.Rows.KeyMap}
-use Rattle.desk_opening.specs.{plan_rows.ChunkReading.HasPieces, plan_rows.RevisionReading.HasParts, Reading.no_cut, Opening.{ArePlansShown, IsReadFrom, IsShown}}
+use Rattle.std.specs.{FinMap.{FinMap, get, len}, Prelude.{◌≡◌, ◌<◌, ◌≤◌, ◌+◌, ◌^◌, ℕ, List, length, get_or, Some, Result}}
+use Rattle.{btree_walks.specs.declared.rows.Row.Row, desk_model.specs.{Ranges.ranges_in, claim.{Desk.{Desk, Plan, name_cmp}, Sizes.most_districts}}}
+use Rattle.{desk_model.specs.{claim.Step.{plan_limit, revision_limit}, declared.ranges.CountyRange.CountyRange}, desk_opening.specs.Opening.{ArePlansShown, IsReadFrom, IsShown}}
+use Rattle.{desk_opening.specs.{Reading.no_cut, plan_rows.{ChunkReading.HasPieces, RevisionReading.HasParts}}, desk_pages.specs.Looking.Gathers, store_rows.specs.claim.Rows.KeyMap}
+use Rattle.{desk_pages.specs.claim.Desks.{AreWithin, IsSized, IsWithinLimits}, page_btree.specs.declared.error.TreeError.TreeError, page_store.specs.declared.pages.Pages.Pages}
+use Rattle.{page_store.specs.declared.txn.Txn.Txn, sector_device.specs.declared.SectorDevice.Ghosts, store_rows.specs.claim.{Keys.{key_of, named}, Values.plan_bytes}}
+use Rattle.store_rows.specs.declared.value.PlanRow.{PlanRow}
 
 -- of an error nothing is said of the rows
 abbrev pub IsNever : KeyMap → Type 0

@@ -1,11 +1,8 @@
 -- Lives in which a store is asked, out of the sentence.
-use Rattle.std.proofs.Common.{◌≡◌, ℕ, List, [], ◌∷◌, map, Result, Ok, Err, refl, subst}
-use Rattle.desk_model.specs.claim.Desk.{Desk}
-use Rattle.desk_pages.specs.{declared.error.StoreError.StoreError, declared.error.StoreError.TheVariants.{DeviceFault, Memory, OldVersion}}
-use Rattle.store_lives.specs.{claim.DeskLives.{IsPassing, LifeAfterLife}, claim.Versions.{Store, version_2, MayBar}}
-use Rattle.serve_command.specs.http_seats.claim.Streams.{Traffic}
-use Rattle.desk_claim.specs.{claim.Streams.Ends, declared.asking.Asking.Asking, declared.asking.Told.Told, declared.lives.Task.Task, declared.lives.Task.TheVariants.Ask}
-use Rattle.desk_claim.specs.{declared.lives.Done.Done, claim.Sentence.{LifeMay, LifeHolds}, claim.AskedLives.{AskedLife, AreAsked, AskedLaw}}
+use Rattle.{std.proofs.Common.{◌≡◌, ℕ, List, [], ◌∷◌, map, Result, Ok, Err, refl, subst}, desk_claim.specs.claim.{AskedLives.{AskedLife, AreAsked, AskedLaw}, Streams.Ends}}
+use Rattle.desk_claim.specs.{claim.Sentence.{LifeMay, LifeHolds}, declared.{asking.{Asking.Asking, Told.Told}, lives.{Done.Done, Task.{Task, TheVariants.Ask}}}}
+use Rattle.{desk_model.specs.claim.Desk.Desk, desk_pages.specs.declared.error.StoreError.{StoreError, TheVariants.{DeviceFault, Memory, OldVersion}}}
+use Rattle.{serve_command.specs.http_seats.claim.Streams.Traffic, store_lives.specs.claim.{DeskLives.{IsPassing, LifeAfterLife}, Versions.{Store, version_2, MayBar}}}
 use Rattle.desk_claim.specs.declared.lives.Done.TheVariants as done
 
 -- a store of the new version is refused for nothing else

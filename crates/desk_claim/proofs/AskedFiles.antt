@@ -1,9 +1,7 @@
 -- Lives in a file in which a store is asked, out of the sentence.
-use Rattle.std.proofs.Common.{ℕ, subst}
-use Rattle.serve_command.specs.http_seats.claim.Streams.{Traffic}
-use Rattle.desk_claim.{specs.claim.Streams.Ends, specs.claim.AskedLives.AskedLife, specs.claim.InFile.OpensAs, specs.claim.AskedInFile.AskedInFileLaw, proofs.Alone.one_asked}
-use Rattle.desk_claim.proofs.{AskedLater.asked_later, DeskFiles.are_lives}
-use Rattle.store_lives.specs.claim.Versions.{Version, version_2}
+use Rattle.{std.proofs.Common.{ℕ, subst}, desk_claim.{specs.claim.{AskedInFile.AskedInFileLaw, AskedLives.AskedLife, InFile.OpensAs, Streams.Ends}, proofs.Alone.one_asked}}
+use Rattle.{serve_command.specs.http_seats.claim.Streams.Traffic, store_lives.specs.claim.Versions.{Version, version_2}, desk_claim.proofs.AskedLater.asked_later}
+use Rattle.desk_claim.proofs.DeskFiles.{are_lives}
 
 module _ {R W P Q A : Type 0} (ends : R → W → Ends) (streams : A → Traffic P Q) (workers : ℕ) where
   pub asked_in_file_law : AskedInFileLaw ends streams workers

@@ -1,12 +1,8 @@
 -- What is known of a life in which a store is asked doesn't depend on how often the device failed before.
-use Rattle.std.proofs.Common.{◌≡◌, ◌<◌, ℕ, Result, Ok, Err}
-use Rattle.desk_model.specs.claim.Desk.{Desk}
-use Rattle.desk_pages.specs.declared.error.StoreError.{StoreError}
-use Rattle.store_lives.specs.claim.Calls.{asked_in, told_in}
-use Rattle.desk_claim.specs.{claim.Streams.Ends, declared.asking.Asking.Asking, declared.asking.Asking.TheVariants.{Requests, Stream, Office}, declared.asking.Told.Told}
-use Rattle.desk_claim.specs.{declared.asking.Told.TheVariants.{Answers, Served, Seated, Unseated}, claim.Sentence.AskedMay, claim.AskedLives.AskedLife, claim.Offices.Officed}
-use Rattle.desk_claim.proofs.{Later.{lived_later, passing_later}, StreamsLater.streamed_later}
-use Rattle.serve_command.specs.http_seats.claim.Streams.{Traffic}
+use Rattle.{std.proofs.Common.{◌≡◌, ◌<◌, ℕ, Result, Ok, Err}, desk_claim.specs.claim.{AskedLives.AskedLife, Offices.Officed, Sentence.AskedMay, Streams.Ends}}
+use Rattle.desk_claim.specs.declared.asking.{Asking.{Asking, TheVariants.{Requests, Stream, Office}}, Told.{Told, TheVariants.{Answers, Served, Seated, Unseated}}}
+use Rattle.{desk_model.specs.claim.Desk.Desk, desk_pages.specs.declared.error.StoreError.StoreError, serve_command.specs.http_seats.claim.Streams.Traffic}
+use Rattle.{store_lives.specs.claim.Calls.{asked_in, told_in}, desk_claim.proofs.{Later.{lived_later, passing_later}, StreamsLater.streamed_later}}
 
 module _ {P Q : Type 0} (s : Traffic P Q) (workers : ℕ) where
   abbrev officed_later : (t u v w : ℕ) (more : t < u → v < w) (calm : u ≡ t → w ≡ v) (d e : Desk) → Officed s workers t u d e → Officed s workers v w d e

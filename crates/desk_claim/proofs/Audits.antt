@@ -1,11 +1,9 @@
 -- Each audit of a life names exactly the clauses that its subject breaks.
-use Rattle.std.proofs.Common.{◌≡◌, ℕ, Bool, true, false, if◌then◌else◌, List, [], ◌∷◌, inl, inr, refl, sym, subst, ◌∙◌}
-use Rattle.desk_model.specs.{declared.command.Query.Query, declared.reply.Reply.Reply, declared.reply.Reply.TheVariants.Audited, claim.Desk.Desk, claim.Outcome.IsAnswer}
-use Rattle.desk_model.specs.claim.Step.{Answer as Answered, reports}
-use Rattle.desk_catalogue.specs.claim.Audits.{AskMay, IsReportText}
-use Rattle.store_lives.specs.{declared.desk_lives.Request.Request, declared.desk_lives.Request.TheVariants.{Change, Look, Load, Sweep}, declared.desk_lives.Answer.Answer}
-use Rattle.store_lives.specs.{declared.desk_lives.Answer.TheVariants.Said, claim.DeskLives.{Failed, Lived}}
-use Rattle.desk_claim.{specs.claim.Sentence.{made, tells_done, NamesExactly, AuditsNameExactly}, proofs.Refused.said_in, proofs.Requests.{left_by, load_first, untold_load}}
+use Rattle.{std.proofs.Common.{◌≡◌, ℕ, Bool, true, false, if◌then◌else◌, List, [], ◌∷◌, inl, inr, refl, sym, subst, ◌∙◌}, desk_catalogue.specs.claim.Audits.{AskMay, IsReportText}}
+use Rattle.{desk_claim.specs.claim.Sentence.{made, tells_done, NamesExactly, AuditsNameExactly}, desk_model.specs.{claim.{Desk.Desk, Outcome.IsAnswer}, declared.reply.Reply.Reply}}
+use Rattle.{desk_model.specs.{claim.Step.{Answer as Answered, reports}, declared.{command.Query.Query, reply.Reply.TheVariants.Audited}}, desk_claim.proofs.Refused.said_in}
+use Rattle.store_lives.specs.{claim.DeskLives.{Failed, Lived}, declared.desk_lives.{Answer.{Answer, TheVariants.Said}, Request.{Request, TheVariants.{Change, Look, Load, Sweep}}}}
+use Rattle.desk_claim.proofs.Requests.{left_by, load_first, untold_load}
 
 pub names_exactly : (d : Desk) (q : Query) (r : Reply) → AskMay d q r → NamesExactly d q r
 names_exactly d q r may g subject asks memory =

@@ -1,13 +1,10 @@
 -- What each call moves.
 use Rattle.std.proofs.Common.{◌≡◌, ◌⊎◌, inl, inr, ⊎_elim, ℕ, zero, suc, ◌≤◌, if◌then◌else◌, nat_le, nat_lt, max, true, List, [], ◌∷◌, ◌++◌, length, take, map, slice_get, slice_set, Some, refl, sym, ap, ◌∙◌, arith}
-use Rattle.std.proofs.lemmas.List.{take_all, take-append-le}
-use Rattle.std.proofs.lemmas.Bool.Decides.{nat_tests}
+use Rattle.{std.proofs.lemmas.{Bool.Decides.nat_tests, List.{take_all, take-append-le}}, desk_claim.specs.{Calls.{IsMoved, CallsLaw}, claim.Runs.standing}}
+use Rattle.desk_claim.specs.{claim.World.{world, learnt, move, run, shown_list}, declared.event.Event.TheVariants.{Commit, Acknowledge, Show, Visit, Learn}}
+use Rattle.desk_model.specs.{claim.{Desk.Desk, Outcome.IsAcceptance, Step.step}, declared.{command.{Command.Command, Query.Query}, reply.Reply.Reply}}
+use Rattle.{serve_command.specs.desk_gallery.{Working.Joins, claim.After.after}, desk_claim.proofs.Weaving.{longer, below, commit_moves, begins_length}}
 use mathlib.Core.List.{IsPrefix}
-use Rattle.desk_model.specs.{declared.command.Command.Command, declared.command.Query.Query, declared.reply.Reply.Reply, claim.Desk.Desk, claim.Outcome.IsAcceptance}
-use Rattle.desk_model.specs.claim.Step.{step}
-use Rattle.serve_command.specs.{desk_gallery.claim.After.after, desk_gallery.Working.Joins}
-use Rattle.desk_claim.specs.{declared.event.Event.TheVariants.{Commit, Acknowledge, Show, Visit, Learn}, claim.World.{world, learnt, move, run, shown_list}, claim.Runs.standing}
-use Rattle.desk_claim.{specs.Calls.{IsMoved, CallsLaw}, proofs.Weaving.{longer, below, commit_moves, begins_length}}
 
 set_lengths : (heard : List (List Command)) (i : ℕ) (v : List Command) → map (λ v. length v) (slice_set heard i v) ≡ slice_set (map (λ v. length v) heard) i (length v)
 set_lengths [] i v = refl

@@ -1,13 +1,11 @@
 -- The law, by induction on the events.
 use Rattle.std.proofs.Common.{◌≡◌, ℕ, zero, suc, ◌≤◌, ◌==◌, ◌&&◌, if◌then◌else◌, nat_le, nat_lt, max, Bool, true, false, List, [], ◌∷◌, ◌++◌, length, take, drop, All, replicate, slice_get, Option, Some, None, refl, sym, ap, ◌∙◌, subst, arith, le_refl, le_trans, zero-le, append_assoc, length-append}
-use Rattle.std.proofs.lemmas.List.{append-nil, take-append-drop, take-take, take-append-le, length-take-le}
-use Rattle.std.proofs.lemmas.List.Elements.{All-set, All-weaker, All-map, All-replicate, All-head, All-tail}
-use Rattle.std.proofs.lemmas.Bool.{and_parts}
-use Rattle.std.proofs.lemmas.Bool.Decides.{nat_tests}
+use Rattle.std.proofs.lemmas.{Bool.{and_parts, Decides.nat_tests}, List.{append-nil, take-append-drop, take-take, take-append-le, length-take-le}}
+use Rattle.{std.proofs.lemmas.List.Elements.{All-set, All-weaker, All-map, All-replicate, All-head, All-tail}, desk_claim.specs.declared.event.Event.Event}
+use Rattle.desk_claim.specs.claim.{Law.{IsOrdered, IsNoStop, Rising, IsLawful, CoreLaw}, World.{World, world, after, accepts, learnt, move, run, shown_list, seen_at, seen}}
+use Rattle.{desk_claim.specs.declared.event.Event.TheVariants.{Commit, Acknowledge, Show, Visit, Learn, Stop}, desk_model.specs.claim.{Desk.Desk, Step.step}}
+use Rattle.desk_model.specs.declared.command.Command.{Command}
 use mathlib.Core.List.{IsPrefix}
-use Rattle.desk_model.specs.{declared.command.Command.Command, claim.Desk.Desk, claim.Step.step}
-use Rattle.desk_claim.specs.{declared.event.Event.Event, declared.event.Event.TheVariants.{Commit, Acknowledge, Show, Visit, Learn, Stop}}
-use Rattle.desk_claim.specs.{claim.World.{World, world, after, accepts, learnt, move, run, shown_list, seen_at, seen}, claim.Law.{IsOrdered, IsNoStop, Rising, IsLawful, CoreLaw}}
 
 -- what holds both ways holds of a choice
 either_way : (P : World → Type 0) (b : Bool) (x y : World) → (b ≡ true → P x) → P y → P (if b then x else y)

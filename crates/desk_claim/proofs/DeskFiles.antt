@@ -1,10 +1,6 @@
 -- Lives in a file, one after the other.
-use Rattle.std.proofs.Common.{◌≡◌, ◌<◌, ◌+◌, ◌-◌, ℕ, List, [], ◌∷◌, refl, sym, subst, arith}
-use Rattle.sector_device.specs.claim.Disk.{Image}
-use Rattle.desk_model.specs.claim.Desk.{Desk}
-use Rattle.desk_pages.specs.claim.Desks.{OpensDesk}
-use Rattle.store_lives.specs.claim.DeskLives.{LifeAfterLife}
-use Rattle.desk_claim.specs.claim.Files.{FileLives, AreLives}
+use Rattle.{std.proofs.Common.{◌≡◌, ◌<◌, ◌+◌, ◌-◌, ℕ, List, [], ◌∷◌, refl, sym, subst, arith}, desk_claim.specs.claim.Files.{FileLives, AreLives}, desk_model.specs.claim.Desk.Desk}
+use Rattle.{desk_pages.specs.claim.Desks.OpensDesk, sector_device.specs.claim.Disk.Image, store_lives.specs.claim.DeskLives.LifeAfterLife}
 
 module _ {X Y : Type 0} (life : (t u : ℕ) → Desk → X → Y → Desk → Type 0) (later : (t u s v : ℕ) (more : t < u → s < v) (calm : u ≡ t → v ≡ s) (d : Desk) (asked : X) (told : Y) (e : Desk) → life t u d asked told e → life s v d asked told e) where
   lives_on : (sectors t : ℕ) (held left : Image) (d : Desk) (lives : List X) (answers : List Y) → OpensDesk sectors d held → FileLives life sectors held lives answers left

@@ -1,13 +1,9 @@
 -- Lives in a file, by what it held.
-use Rattle.std.proofs.Common.{◌≡◌, ℕ, [], ◌∷◌, refl, sym, subst, arith}
-use Rattle.sector_device.specs.{claim.Disk.{Disk, Image}, Disk.IsSynced}
-use Rattle.desk_model.specs.claim.Desk.{Desk}
-use Rattle.desk_pages.specs.claim.Openings.{AllVersions}
-use Rattle.store_lives.specs.{desk_runs.Recovery.ImagesAreOne, claim.Versions.{Version, version_1}, VersionInside.{OpensIn, HoldsIn, IsOneIn, LivesIn}}
+use Rattle.{std.proofs.Common.{◌≡◌, ℕ, [], ◌∷◌, refl, sym, subst, arith}, desk_claim.specs.{Inside.IsLife, claim.{InFile.{OpensAs, IsStoreAs, LivesFrom, AreLives}, Streams.Ends}}}
+use Rattle.{desk_claim.specs.{claim.Sentence.LifeMay, declared.lives.{Done.Done, Task.Task}}, desk_model.specs.claim.Desk.Desk, desk_pages.specs.claim.Openings.AllVersions}
+use Rattle.{sector_device.specs.{Disk.IsSynced, claim.Disk.{Disk, Image}}, serve_command.specs.http_seats.claim.Streams.Traffic, store_lives.specs.desk_runs.Recovery.ImagesAreOne}
+use Rattle.{store_lives.specs.{VersionInside.{OpensIn, HoldsIn, IsOneIn, LivesIn}, claim.Versions.{Version, version_1}}, desk_claim.proofs.Sentence.life_holds}
 use Rattle.store_lives.proofs.VersionLiving.{holds_read, opens_as}
-use Rattle.serve_command.specs.http_seats.claim.Streams.{Traffic}
-use Rattle.desk_claim.specs.{claim.Streams.Ends, declared.lives.Task.Task, declared.lives.Done.Done, claim.Sentence.LifeMay, Inside.IsLife}
-use Rattle.desk_claim.{specs.claim.InFile.{OpensAs, IsStoreAs, LivesFrom, AreLives}, proofs.Sentence.life_holds}
 
 opens_in : (v : Version) (n : ℕ) (d : Desk) (c : Image) → OpensAs v n d c → OpensIn v n d c
 opens_in version_1 n d c opens = opens
@@ -56,8 +52,4 @@ module _ {R W P Q A : Type 0} (ends : R → W → Ends) (streams : A → Traffic
   are_lives sectors held left s (task ∷ lives) (told ∷ answers) opens is =
       let first = is.1 s opens in
       let rest = are_lives sectors is.0 left first.last lives answers first.opens is.2 in
-      record {
-        last = rest.last;
-        lived = (first.before, first.after, first.no_fewer, first.last, first.lived, rest.lived);
-        opens = rest.opens;
-      }
+      record { last = rest.last; lived = (first.before, first.after, first.no_fewer, first.last, first.lived, rest.lived); opens = rest.opens }

@@ -1,9 +1,7 @@
 -- What is known of one life doesn't depend on how often the device failed before.
-use Rattle.std.proofs.Common.{◌≡◌, ◌<◌, ℕ, List, [], ◌∷◌, inl, inr}
-use Rattle.desk_model.specs.claim.Desk.{Desk}
-use Rattle.desk_pages.specs.{declared.error.StoreError.StoreError, declared.error.StoreError.TheVariants.{DeviceFault, Memory}}
-use Rattle.store_lives.specs.{declared.desk_lives.Request.Request, declared.desk_lives.Request.TheVariants.{Change, Look, Load, Sweep}, declared.desk_lives.Answer.Answer}
-use Rattle.store_lives.specs.claim.DeskLives.{Lived, IsPassing}
+use Rattle.{std.proofs.Common.{◌≡◌, ◌<◌, ℕ, List, [], ◌∷◌, inl, inr}, desk_model.specs.claim.Desk.Desk, desk_pages.specs.declared.error.StoreError.StoreError}
+use Rattle.{desk_pages.specs.declared.error.StoreError.TheVariants.{DeviceFault, Memory}, store_lives.specs.{claim.DeskLives.{Lived, IsPassing}, declared.desk_lives.Answer.Answer}}
+use Rattle.store_lives.specs.declared.desk_lives.Request.{Request, TheVariants.{Change, Look, Load, Sweep}}
 
 module _ (t u s v : ℕ) (more : t < u → s < v) (calm : u ≡ t → v ≡ s) where
   pub lived_later : (d : Desk) (asked : List Request) (told : List Answer) (e : Desk) → Lived t u d asked told e → Lived s v d asked told e

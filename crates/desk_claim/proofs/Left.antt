@@ -1,9 +1,6 @@
 -- What a clerk leaves that gives its device back, and what two clauses of one call say together.
-use Rattle.std.{specs.Prelude.IfOk, proofs.Common.{◌≡◌, ℕ, Result, Ok, Err, sym, subst}}
-use Rattle.sector_device.specs.declared.SectorDevice.{Ghosts}
-use Rattle.page_store.specs.claim.Transactions.{device_in}
-use Rattle.desk_store.specs.{declared.clerk.Clerk.Clerk, claim.Clerks.{disk_of, pages_of}}
-use Rattle.store_lives.specs.{claim.Versions.Store, VersionInside.LivesIn}
+use Rattle.{std.{specs.Prelude.IfOk, proofs.Common.{◌≡◌, ℕ, Result, Ok, Err, sym, subst}}, desk_store.specs.{claim.Clerks.{disk_of, pages_of}, declared.clerk.Clerk.Clerk}}
+use Rattle.{page_store.specs.claim.Transactions.device_in, sector_device.specs.declared.SectorDevice.Ghosts, store_lives.specs.{VersionInside.LivesIn, claim.Versions.Store}}
 
 pub given_back : {D : Type 0} (g : Ghosts D) (life : (t u : ℕ) → Store → Store → Type 0) (device back : D) (y : Clerk D g) → back ≡ device_in (pages_of y) → LivesIn life (g.disk device) (disk_of y)
     → LivesIn life (g.disk device) (g.disk back)

@@ -1,16 +1,12 @@
 -- The run of an office as a life.
-use Rattle.std.proofs.Common.{◌≡◌, ◌≤◌, ℕ, false, if◌then◌else◌, List, [], ◌∷◌, ◌++◌, refl, subst, ◌∙◌}
-use Rattle.sector_device.specs.declared.SectorDevice.{Ghosts}
-use Rattle.desk_model.specs.{declared.command.Command.Command, declared.reply.Reply.Reply, claim.Desk.Desk}
+use Rattle.{std.proofs.Common.{◌≡◌, ◌≤◌, ℕ, false, if◌then◌else◌, List, [], ◌∷◌, ◌++◌, refl, subst, ◌∙◌}, desk_claim.specs.claim.Offices.{Officed, Answered}}
+use Rattle.{desk_model.specs.{claim.Desk.Desk, declared.{command.Command.Command, reply.Reply.Reply}}, desk_pages.specs.claim.Desks.OpensDesk}
+use Rattle.{desk_store.specs.{claim.Clerks.{desk_of, disk_of}, declared.clerk.Clerk.Clerk}, http_connections.specs.declared.ran.Ran.Ran, store_lives.specs.DeskInside.LivedThrough}
+use Rattle.{sector_device.specs.declared.SectorDevice.Ghosts, serve_command.specs.{claim.Lasting.{Outlasts, LastsAsked, ServesStreams}, desk_gallery.claim.Telling.halts_of}}
+use Rattle.{serve_command.specs.{desk_gallery.claim.Working.AreAccepted, http_seats.claim.Streams.{Traffic, AreCounted}}, store_lives.specs.claim.DeskLives.Lived}
+use Rattle.store_lives.specs.{claim.Calls.{asked_in, told_in, is_done, acknowledged}, desk_runs.claim.Runs.{Call, if_accepted, acknowledged as acknowledged_calls}}
+use Rattle.desk_claim.proofs.Sweeping.{swept_lived}
 use Rattle.desk_model.specs.declared.reply.Reply.TheVariants as reply
-use Rattle.desk_pages.specs.claim.Desks.{OpensDesk}
-use Rattle.desk_store.specs.{declared.clerk.Clerk.Clerk, claim.Clerks.{desk_of, disk_of}}
-use Rattle.store_lives.specs.{desk_runs.claim.Runs.{Call, if_accepted, acknowledged as acknowledged_calls}, claim.DeskLives.Lived}
-use Rattle.store_lives.specs.{claim.Calls.{asked_in, told_in, is_done, acknowledged}, DeskInside.LivedThrough}
-use Rattle.serve_command.specs.{desk_gallery.claim.Working.AreAccepted, desk_gallery.claim.Telling.halts_of, http_seats.claim.Streams.{Traffic, AreCounted}}
-use Rattle.serve_command.specs.claim.Lasting.{Outlasts, LastsAsked, ServesStreams}
-use Rattle.http_connections.specs.declared.ran.Ran.{Ran}
-use Rattle.desk_claim.{specs.claim.Offices.{Officed, Answered}, proofs.Sweeping.swept_lived}
 
 -- the acknowledged commands of a run, in the words of a life
 done_is : (c : Command) (r : Reply) → if_accepted c r ≡ (if is_done r then c ∷ [] else [])

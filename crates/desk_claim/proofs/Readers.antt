@@ -1,13 +1,11 @@
 -- What was shown in an office's life is there after its stop.
 use Rattle.std.{specs.Prelude.⊤, proofs.Common.{◌≡◌, ◌⊎◌, ℕ, Bool, true, false, if◌then◌else◌, List, [], ◌∷◌, ◌++◌, All, inl, inr, ⊎_elim, refl, sym, subst, ◌∙◌, append_assoc}}
-use Rattle.std.proofs.lemmas.List.Elements.{All-weaker}
+use Rattle.{std.proofs.lemmas.List.Elements.All-weaker, desk_claim.specs.claim.{Offices.Answered, Sentence.Keeps}, desk_model.specs.claim.{Desk.Desk, Outcome.CommandMay}}
+use Rattle.desk_model.specs.{claim.Step.step, declared.{command.Command.Command, reply.{Refusal.TheVariants.Halted, Reply.{Reply, TheVariants.Refused}}}}
+use Rattle.{http_connections.specs.declared.ran.Ran.Ran, serve_command.specs.{desk_gallery.claim.After.after, http_seats.claim.Streams.{Traffic, Worker}}}
+use Rattle.store_lives.specs.{claim.{Calls.{asked_in, told_in, is_done, acknowledged}, DeskLives.{Failed, Lived}}, declared.desk_lives.Answer.TheVariants.Said}
+use Rattle.desk_claim.proofs.{Refused.said_in, Requests.left_by}
 use mathlib.Core.List.{IsPrefix}
-use Rattle.desk_model.specs.{declared.command.Command.Command, declared.reply.Reply.Reply, declared.reply.Reply.TheVariants.Refused, declared.reply.Refusal.TheVariants.Halted}
-use Rattle.desk_model.specs.{claim.Desk.Desk, claim.Outcome.CommandMay, claim.Step.step}
-use Rattle.serve_command.specs.{desk_gallery.claim.After.after, http_seats.claim.Streams.{Traffic, Worker}}
-use Rattle.store_lives.specs.{declared.desk_lives.Answer.TheVariants.Said, claim.DeskLives.{Failed, Lived}, claim.Calls.{asked_in, told_in, is_done, acknowledged}}
-use Rattle.http_connections.specs.declared.ran.Ran.{Ran}
-use Rattle.desk_claim.{specs.claim.Offices.Answered, specs.claim.Sentence.Keeps, proofs.Requests.left_by, proofs.Refused.said_in}
 
 abbrev Call : Type 0
 Call = Command × Reply

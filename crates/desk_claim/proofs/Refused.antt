@@ -1,11 +1,9 @@
 -- A request to which memory was refused is as one that wasn't asked.
-use Rattle.std.{specs.Prelude.⊤, proofs.Common.{◌≡◌, ◌<◌, ℕ, List, [], ◌∷◌, inl, inr, ⊎_elim, sym, subst}}
-use Rattle.desk_model.specs.{declared.command.Command.Command, declared.reply.Reply.Reply, declared.reply.Reply.TheVariants.Refused}
-use Rattle.desk_model.specs.{declared.reply.Refusal.TheVariants.{Memory, Halted}, claim.Desk.Desk, claim.Outcome.CommandMay}
+use Rattle.{std.{specs.Prelude.⊤, proofs.Common.{◌≡◌, ◌<◌, ℕ, List, [], ◌∷◌, inl, inr, ⊎_elim, sym, subst}}, desk_claim.specs.claim.Sentence.Without}
+use Rattle.desk_model.specs.{claim.{Desk.Desk, Outcome.CommandMay}, declared.{command.Command.Command, reply.{Refusal.TheVariants.{Memory, Halted}, Reply.Reply}}}
+use Rattle.{desk_model.specs.declared.reply.Reply.TheVariants.Refused, store_lives.specs.{claim.DeskLives.{Failed, Lived}, declared.desk_lives.{Answer.Answer, Request.Request}}}
+use Rattle.store_lives.specs.declared.desk_lives.{Answer.TheVariants.{Said, Loaded, Unloaded, Swept, Unswept}, Request.TheVariants.{Change, Look, Load, Sweep}}
 use Rattle.desk_pages.specs.declared.error.StoreError.TheVariants as store
-use Rattle.store_lives.specs.{declared.desk_lives.Request.Request, declared.desk_lives.Request.TheVariants.{Change, Look, Load, Sweep}, declared.desk_lives.Answer.Answer}
-use Rattle.store_lives.specs.{declared.desk_lives.Answer.TheVariants.{Said, Loaded, Unloaded, Swept, Unswept}, claim.DeskLives.{Failed, Lived}}
-use Rattle.desk_claim.specs.claim.Sentence.{Without}
 
 -- what was said, else this
 abbrev pub said_in : Answer → Reply

@@ -1,13 +1,12 @@
 -- What is acknowledged of a life's requests outlives its stop.
 use Rattle.std.{specs.Prelude.{⊤, fold, None}, proofs.Common.{◌≡◌, ◌<◌, ℕ, Bool, true, false, if◌then◌else◌, List, [], ◌∷◌, ◌++◌, inl, inr, ⊎_elim, refl, sym, subst, ◌∙◌}}
-use Rattle.desk_model.specs.{declared.command.Command.Command, declared.reply.Reply.Reply, declared.reply.Refusal.Refusal, claim.Geography.GeographyModel, claim.Desk.Desk}
-use Rattle.desk_model.specs.{claim.Outcome.{IsAcceptance, IsStep, RefusalMay, CommandMay}, claim.Step.step}
+use Rattle.{desk_claim.specs.claim.Sentence.{made, tells_done, acknowledged_in, HoldsAcknowledged}, desk_model.specs.claim.{Desk.Desk, Geography.GeographyModel, Step.step}}
+use Rattle.desk_model.specs.{claim.Outcome.{IsAcceptance, IsStep, RefusalMay, CommandMay}, declared.{command.Command.Command, reply.{Refusal.Refusal, Reply.Reply}}}
+use Rattle.store_lives.specs.{claim.{Calls.is_done, DeskLives.{loaded_desk, after_load, IsUnloaded, Failed, FailsAt, Lived}}, declared.desk_lives.{Answer.Answer, Request.Request}}
+use Rattle.store_lives.specs.declared.desk_lives.{Answer.TheVariants.Unloaded, Request.TheVariants.{Change, Look, Load, Sweep}}
 use Rattle.desk_model.specs.declared.reply.Reply.TheVariants as reply
 use Rattle.desk_model.specs.declared.reply.Refusal.TheVariants as refusal
 use Rattle.store_lives.proofs.desk_runs.Steps.{refused_same}
-use Rattle.store_lives.specs.{declared.desk_lives.Request.Request, declared.desk_lives.Request.TheVariants.{Change, Look, Load, Sweep}, declared.desk_lives.Answer.Answer}
-use Rattle.store_lives.specs.{declared.desk_lives.Answer.TheVariants.Unloaded, claim.DeskLives.{loaded_desk, after_load, IsUnloaded, Failed, FailsAt, Lived}, claim.Calls.is_done}
-use Rattle.desk_claim.specs.claim.Sentence.{made, tells_done, acknowledged_in, HoldsAcknowledged}
 
 -- ---- what a command leaves, by its reply
 refused_step : (d : Desk) (c : Command) (r : Refusal) (next : Desk) → IsStep ⊥ d c (reply.Refused r) next → next ≡ d

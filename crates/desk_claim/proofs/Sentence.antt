@@ -1,14 +1,10 @@
 -- The sentence of any lives.
-use Rattle.std.proofs.Common.{◌≡◌, ℕ, List, [], ◌∷◌, All, Ok, Err}
-use Rattle.std.proofs.lemmas.List.Elements.{All-nil}
-use Rattle.desk_model.specs.claim.Desk.{Desk}
-use Rattle.store_lives.specs.{claim.DeskLives.{Lived, LifeAfterLife}, claim.Versions.Store}
-use Rattle.serve_command.specs.http_seats.claim.Streams.{Traffic, Worker}
-use Rattle.desk_claim.specs.{claim.Streams.{Ends, working}, declared.asking.Asking.Asking, declared.asking.Asking.TheVariants.{Requests, Stream, Office}, declared.asking.Told.Told}
-use Rattle.desk_claim.specs.{declared.asking.Told.TheVariants.{Answers, Served, Seated, Unseated}, declared.lives.Task.Task, declared.lives.Task.TheVariants.{Ask, Migrate}}
-use Rattle.desk_claim.specs.{declared.lives.Done.Done, claim.Exchanges.exchanges_in}
+use Rattle.{std.proofs.{Common.{◌≡◌, ℕ, List, [], ◌∷◌, All, Ok, Err}, lemmas.List.Elements.All-nil}, desk_claim.specs.claim.{Exchanges.exchanges_in, Streams.{Ends, working}}}
 use Rattle.desk_claim.specs.claim.Sentence.{Keeps, Account, nothing, of_exchanges, of_calls, Clauses, AskedMay, asked_account, LifeMay, account_of, LifeHolds, PlanDesk}
-use Rattle.desk_claim.proofs.{Audits.{names_exactly, lived_audits}, Requests.lasts, StreamAsked.stream_asked, Readers.nothing_is_lost, Refused.lived_without}
+use Rattle.desk_claim.specs.declared.asking.{Asking.{Asking, TheVariants.{Requests, Stream, Office}}, Told.{Told, TheVariants.{Answers, Served, Seated, Unseated}}}
+use Rattle.{desk_claim.specs.declared.lives.{Done.Done, Task.{Task, TheVariants.{Ask, Migrate}}}, desk_model.specs.claim.Desk.Desk, store_lives.specs.claim.Versions.Store}
+use Rattle.{serve_command.specs.http_seats.claim.Streams.{Traffic, Worker}, store_lives.specs.claim.DeskLives.{Lived, LifeAfterLife}, desk_claim.proofs.Readers.nothing_is_lost}
+use Rattle.desk_claim.proofs.{Audits.{names_exactly, lived_audits}, Refused.lived_without, Requests.lasts, StreamAsked.stream_asked}
 use Rattle.desk_claim.specs.declared.lives.Done.TheVariants as done
 
 -- whoever was shown something in it is shown that later
@@ -70,7 +66,4 @@ module _ {R W P Q A : Type 0} (ends : R → W → Ends) (streams : A → Traffic
 
   pub desk_of_lives : (t u : ℕ) (s : Store) (lives : List (Task R W A)) (answers : List (Done R W)) (e : Store)
       → LifeAfterLife (LifeMay ends streams workers) t u s lives answers e → PlanDesk ends streams workers t u s lives answers e
-  desk_of_lives t u s lives answers e is = record {
-    each = each_holds t u s lives answers e is;
-    audits = λ d q r may. names_exactly d q r may;
-  }
+  desk_of_lives t u s lives answers e is = record { each = each_holds t u s lives answers e is; audits = λ d q r may. names_exactly d q r may }

@@ -1,18 +1,15 @@
 -- A talk at a clerk, seen without the store.
-use Rattle.std.specs.Prelude.{⊤}
+use Rattle.{std.{specs.Prelude.⊤, proofs.lemmas.List.append-nil}, desk_catalogue.specs.claim.Audits.AskMay, desk_model.specs.claim.{Desk.Desk, Outcome.CommandMay, Step.step}}
 use Rattle.std.proofs.Common.{◌≡◌, ◌⊎◌, ◌≤◌, ◌<◌, ℕ, Bool, true, false, List, [], ◌++◌, Option, Result, Ok, Err, ◌+◌, inl, inr, ⊎_elim, refl, sym, subst, ◌∙◌, arith}
-use Rattle.std.proofs.lemmas.List.{append-nil}
-use Rattle.sector_device.{specs.claim.Disk.Image, specs.declared.SectorDevice.Ghosts, proofs.Moments.leaves_now}
-use Rattle.desk_model.specs.{declared.command.Command.Command, declared.command.Query.Query, declared.reply.Reply.Reply, claim.Desk.Desk, claim.Outcome.CommandMay, claim.Step.step}
-use Rattle.desk_catalogue.specs.claim.Audits.{AskMay}
-use Rattle.desk_pages.specs.claim.Desks.{OpensDesk}
-use Rattle.desk_store.specs.{declared.clerk.Clerk.Clerk, claim.Clerks.{desk_of, disk_of, is_halted, pages_of, sectors_of, Keeps}, claim.Commands.{Does, MustBeFull, MayBeFull}}
-use Rattle.http_desk.specs.{http_routes.declared.order.Order.Order, http_routes.claim.Orders.order_of, http_wire.claim.Prefix.{closes_after, is_head}, declared.serve.Served.Served}
-use Rattle.http_desk.specs.{declared.serve.StreamFault.StreamFault, claim.Serving.{Serves, ServesTo, IsShortTalk, IsPrefixTalk}, claim.Talk.{Talk, MayAnswer}}
+use Rattle.{desk_claim.specs.claim.Streams.{State, working, failed, shown_in, left_in, Takes, Looks, Ends, HasCause, ServedAs, Streamed}, desk_pages.specs.claim.Desks.OpensDesk}
+use Rattle.{desk_model.specs.declared.{command.{Command.Command, Query.Query}, reply.Reply.Reply}, desk_store.specs.claim.Commands.{Does, MustBeFull, MayBeFull}}
+use Rattle.{desk_store.specs.{claim.Clerks.{desk_of, disk_of, is_halted, pages_of, sectors_of, Keeps}, declared.clerk.Clerk.Clerk}, http_desk.specs.claim.Talk.{Talk, MayAnswer}}
+use Rattle.http_desk.specs.{claim.Serving.{Serves, ServesTo, IsShortTalk, IsPrefixTalk}, declared.serve.{Served.Served, StreamFault.StreamFault}, http_routes.claim.Orders.order_of}
+use Rattle.{http_desk.specs.{http_routes.declared.order.Order.Order, http_wire.claim.Prefix.{closes_after, is_head}}, sector_device.specs.claim.Disk.Image}
+use Rattle.{sector_device.{specs.declared.SectorDevice.Ghosts, proofs.Moments.leaves_now}, store_lives.specs.DeskInside.LivedThrough}
+use Rattle.store_lives.proofs.DeskLiving.{either, calm, halt, clash_of, left_working}
 use Rattle.http_desk.specs.http_routes.declared.order.Order.TheVariants as order
 use Rattle.http_desk.specs.declared.serve.StreamFault.TheVariants as fault
-use Rattle.store_lives.{specs.DeskInside.LivedThrough, proofs.DeskLiving.{either, calm, halt, clash_of, left_working}}
-use Rattle.desk_claim.specs.claim.Streams.{State, working, failed, shown_in, left_in, Takes, Looks, Ends, HasCause, ServedAs, Streamed}
 
 -- ---- what is known of the end is known before
 module _ {D : Type 0} {g : Ghosts D} where
@@ -128,8 +125,7 @@ module _ {D : Type 0} {g : Ghosts D} (t u n : ℕ) (i : Image) where
           working (desk_of y),
           subst (λ (e : Desk). CommandMay ⊥ ⊤ ⊥ e c r (desk_of y)) sees.2 may,
           (works, does.moves.keeps sees.1, refl, does.moves.sectors ∙ sees.3, does.moves.calm works honest ∙ sees.4),
-        )
-        )
+        ))
     | inl on ↦ (
         let ends = halt (MustBeFull x c) (MayBeFull x (pages_of y) c) (is_halted y ≡ true) (desk_of x) c r (desk_of y) on does.outcome in
         let moments = does.moves.any_moment sees.1 sees.0 honest in

@@ -1,16 +1,12 @@
 -- The requests of a stream as those of a life.
-use Rattle.std.proofs.Common.{◌≡◌, ℕ, Bool, true, false, List, [], ◌∷◌, ◌++◌, map, Option, Result, Ok, Err, inl, inr, ⊎_elim, refl, sym, subst, ◌∙◌}
-use Rattle.std.proofs.lemmas.List.{append-nil}
-use Rattle.desk_model.specs.{declared.command.Command.Command, declared.command.Query.Query, declared.reply.Reply.Reply, claim.Desk.Desk}
-use Rattle.desk_catalogue.specs.claim.Audits.{AskMay}
-use Rattle.store_lives.specs.{declared.desk_lives.Request.Request, declared.desk_lives.Request.TheVariants.{Change, Look}, declared.desk_lives.Answer.Answer}
-use Rattle.store_lives.specs.{declared.desk_lives.Answer.TheVariants.Said, claim.DeskLives.{Failed, Lived}}
-use Rattle.http_desk.specs.{http_wire.claim.Prefix.{closes_after, is_head}, http_routes.declared.order.Order.Order, http_routes.claim.Orders.order_of, declared.serve.Served.Served}
-use Rattle.http_desk.specs.{declared.serve.StreamFault.StreamFault, claim.Talk.{Talk, MayAnswer}}
+use Rattle.std.proofs.{Common.{◌≡◌, ℕ, Bool, true, false, List, [], ◌∷◌, ◌++◌, map, Option, Result, Ok, Err, inl, inr, ⊎_elim, refl, sym, subst, ◌∙◌}, lemmas.List.append-nil}
+use Rattle.{desk_catalogue.specs.claim.Audits.AskMay, desk_claim.specs.claim.Exchanges.{exchange_of, exchanges_of, exchanges_in}, desk_model.specs.claim.Desk.Desk}
+use Rattle.{desk_claim.specs.claim.Streams.{State, working, failed, shown_in, left_in, Takes, Looks, Ends, ServedAs, Streamed}, desk_model.specs.declared.command.Command.Command}
+use Rattle.{desk_model.specs.declared.{command.Query.Query, reply.Reply.Reply}, http_desk.specs.{claim.Talk.{Talk, MayAnswer}, declared.serve.Served.Served}}
+use Rattle.http_desk.specs.{declared.serve.StreamFault.StreamFault, http_routes.{claim.Orders.order_of, declared.order.Order.Order}, http_wire.claim.Prefix.{closes_after, is_head}}
+use Rattle.store_lives.specs.{claim.DeskLives.{Failed, Lived}, declared.desk_lives.{Answer.{Answer, TheVariants.Said}, Request.{Request, TheVariants.{Change, Look}}}}
 use Rattle.http_desk.specs.http_routes.declared.order.Order.TheVariants as order
 use Rattle.http_desk.specs.declared.serve.StreamFault.TheVariants as fault
-use Rattle.desk_claim.specs.claim.Streams.{State, working, failed, shown_in, left_in, Takes, Looks, Ends, ServedAs, Streamed}
-use Rattle.desk_claim.specs.claim.Exchanges.{exchange_of, exchanges_of, exchanges_in}
 
 abbrev pub Exchange : Type 0
 Exchange = Request × Answer

@@ -1,11 +1,10 @@
 -- What is known of a stream's life doesn't depend on how often the device failed before.
-use Rattle.std.proofs.Common.{◌<◌, ℕ, Bool, true, false, List, Option, Result, Ok, Err}
-use Rattle.desk_model.specs.{declared.command.Command.Command, declared.reply.Reply.Reply, claim.Desk.Desk}
-use Rattle.http_desk.specs.{http_wire.claim.Prefix.{closes_after, is_head}, http_routes.declared.order.Order.Order, http_routes.claim.Orders.order_of, declared.serve.Served.Served}
-use Rattle.http_desk.specs.{declared.serve.StreamFault.StreamFault, claim.Serving.IsPrefixTalk, claim.Talk.{Talk, MayAnswer}}
+use Rattle.{std.proofs.Common.{◌<◌, ℕ, Bool, true, false, List, Option, Result, Ok, Err}, desk_model.specs.{claim.Desk.Desk, declared.{command.Command.Command, reply.Reply.Reply}}}
+use Rattle.{desk_claim.specs.claim.Streams.{State, working, failed, Takes, Looks, Ends, ServedAs, Streamed}, http_desk.specs.claim.{Serving.IsPrefixTalk, Talk.{Talk, MayAnswer}}}
+use Rattle.http_desk.specs.{declared.serve.{Served.Served, StreamFault.StreamFault}, http_routes.{claim.Orders.order_of, declared.order.Order.Order}}
+use Rattle.http_desk.specs.http_wire.claim.Prefix.{closes_after, is_head}
 use Rattle.http_desk.specs.http_routes.declared.order.Order.TheVariants as order
 use Rattle.http_desk.specs.declared.serve.StreamFault.TheVariants as fault
-use Rattle.desk_claim.specs.claim.Streams.{State, working, failed, Takes, Looks, Ends, ServedAs, Streamed}
 
 module _ (t u s v : ℕ) (more : t < u → s < v) where
   takes_later : (x : State) (c : Command) (r : Reply) (y : State) → Takes t u x c r y → Takes s v x c r y

@@ -1,14 +1,10 @@
 -- A run of commands, with steps of sweeps between them, as a life of the commands alone.
-use Rattle.std.proofs.Common.{◌≡◌, ◌⊎◌, ℕ, ◌<◌, Bool, false, List, [], ◌∷◌, ◌++◌, inl, inr, ⊎_elim, refl, sym, subst, ◌∙◌, append_assoc}
-use Rattle.std.proofs.lemmas.List.{append-nil}
-use Rattle.sector_device.{specs.claim.Disk.Image, specs.declared.SectorDevice.Ghosts, proofs.Moments.leaves_now}
-use Rattle.desk_model.specs.claim.Desk.{Desk}
-use Rattle.desk_pages.specs.claim.Desks.{OpensDesk}
-use Rattle.desk_store.specs.{declared.clerk.Clerk.Clerk, claim.Clerks.{desk_of, disk_of, is_halted, sectors_of, Keeps}}
-use Rattle.store_lives.specs.{desk_runs.claim.Runs.Call, desk_runs.claim.SweptRuns.{Tends, SweptRun}, declared.desk_lives.Request.Request}
-use Rattle.store_lives.specs.{declared.desk_lives.Request.TheVariants.Change, declared.desk_lives.Answer.Answer, declared.desk_lives.Answer.TheVariants.Said}
-use Rattle.store_lives.specs.{claim.DeskLives.{Failed, Lived}, DeskInside.{Holds, GoingFailed, LivedThrough, Stands}, claim.Calls.{asked_in, told_in}}
-use Rattle.store_lives.proofs.DeskLiving.{either, ends, fails_no_less, goes_on}
+use Rattle.std.proofs.{Common.{◌≡◌, ◌⊎◌, ℕ, ◌<◌, Bool, false, List, [], ◌∷◌, ◌++◌, inl, inr, ⊎_elim, refl, sym, subst, ◌∙◌, append_assoc}, lemmas.List.append-nil}
+use Rattle.{desk_model.specs.claim.Desk.Desk, desk_pages.specs.claim.Desks.OpensDesk, desk_store.specs.claim.Clerks.{desk_of, disk_of, is_halted, sectors_of, Keeps}}
+use Rattle.{desk_store.specs.declared.clerk.Clerk.Clerk, sector_device.specs.{claim.Disk.Image, declared.SectorDevice.Ghosts}, store_lives.specs.claim.Calls.{asked_in, told_in}}
+use Rattle.store_lives.specs.{DeskInside.{Holds, GoingFailed, LivedThrough, Stands}, claim.DeskLives.{Failed, Lived}, declared.desk_lives.Answer.{Answer, TheVariants.Said}}
+use Rattle.store_lives.specs.{declared.desk_lives.Request.{Request, TheVariants.Change}, desk_runs.claim.{Runs.Call, SweptRuns.{Tends, SweptRun}}}
+use Rattle.{sector_device.proofs.Moments.leaves_now, store_lives.proofs.DeskLiving.{either, ends, fails_no_less, goes_on}}
 
 -- a device that failed between two commands leaves the desk, and all that are asked then are told so
 failed_lives : (t u : ℕ) (d : Desk) (calls : List Call) (told : List Answer) → t < u → Failed d (asked_in calls) told → Lived t u d (asked_in calls) told d
@@ -58,8 +54,7 @@ module _ {D : Type 0} {g : Ghosts D} where
         subst (λ j. t < (g.disk j.device).faults) (sym still.0) halted.2,
         subst (λ j. Holds n (GoingFailed t d all (asked_in calls) so_far (desk_of y)) (g.disk j.device)) (sym still.0)
             (subst (λ (now : Desk). Holds n (GoingFailed t d all (asked_in calls) so_far now) (disk_of x)) (sym still.1) halted.3),
-      )
-      ))
+      )))
       stands
 
   swept_stands : (t : ℕ) (d : Desk) (n : ℕ) (all : List Request) (so_far : List Answer) (a : Bool) (x : Clerk D g) (calls : List Call) (b : Bool) (z : Clerk D g) → SweptRun a x calls b z → sectors_of x ≡ n → (disk_of z).is_honest

@@ -1,18 +1,13 @@
 -- The events of an office: its changes in their order, and after each of them the calls that heard of just so many.
-use Rattle.std.specs.Bool.{⊤}
+use Rattle.std.{specs.Bool.⊤, proofs.lemmas.{Bool.Decides.nat_tests, List.{append-nil, take_all, Elements.{All-nil, All-cons, All-append, All-head, All-tail, All-more}}}}
 use Rattle.std.proofs.Common.{◌≡◌, ℕ, zero, suc, ◌+◌, ◌≤◌, ◌<◌, ◌==◌, ◌&&◌, if◌then◌else◌, nat_le, nat_lt, max, Bool, true, false, List, [], ◌∷◌, ◌++◌, length, take, map, get_or, All, replicate, slice_get, slice_set, Some, refl, sym, ap, ◌∙◌, subst, arith, append_assoc, length-append}
-use Rattle.std.proofs.lemmas.List.{append-nil, take_all}
-use Rattle.std.proofs.lemmas.List.Elements.{All-nil, All-cons, All-append, All-head, All-tail, All-more}
-use Rattle.std.proofs.lemmas.Bool.Decides.{nat_tests}
-use mathlib.Core.List.{IsPrefix}
-use Rattle.desk_model.specs.{declared.command.Command.Command, declared.command.Query.Query, declared.reply.Reply.Reply, claim.Desk.Desk, claim.Outcome.IsAcceptance}
-use Rattle.desk_model.specs.claim.Step.{step}
-use Rattle.desk_model.specs.declared.reply.Reply.TheVariants as reply
-use Rattle.desk_claim.specs.{declared.event.Event.Event, declared.event.Event.TheVariants.{Commit, Acknowledge, Show, Visit, Learn}}
-use Rattle.desk_claim.specs.{claim.World.{World, world, after, accepts, learnt, move, run, shown_list, seen, seen_at}, claim.Law.{IsNoStop, IsLawful, CoreLaw}}
+use Rattle.desk_claim.specs.{Runs.{Grows, AreWithin, HasRunsWithin, IsReached, OfficeLaw}, claim.Law.{IsNoStop, IsLawful, CoreLaw}, declared.event.Event.Event}
 use Rattle.desk_claim.specs.claim.Runs.{standing, beginning, Heard, list_of, heard_of, answer_of, answers, answer_at, answers_in, Rises, HasRuns}
-use Rattle.desk_claim.specs.Runs.{Grows, AreWithin, HasRunsWithin, IsReached, OfficeLaw}
-use Rattle.serve_command.specs.desk_gallery.claim.Working.{AreAccepted}
+use Rattle.{desk_claim.specs.claim.World.{World, world, after, accepts, learnt, move, run, shown_list, seen, seen_at}, desk_model.specs.claim.{Desk.Desk, Outcome.IsAcceptance}}
+use Rattle.{desk_claim.specs.declared.event.Event.TheVariants.{Commit, Acknowledge, Show, Visit, Learn}, desk_model.specs.{claim.Step.step, declared.command.Command.Command}}
+use Rattle.{desk_model.specs.declared.{command.Query.Query, reply.Reply.Reply}, serve_command.specs.desk_gallery.claim.Working.AreAccepted}
+use mathlib.Core.List.{IsPrefix}
+use Rattle.desk_model.specs.declared.reply.Reply.TheVariants as reply
 
 -- beginnings
 nil_begins : (xs : List Command) → IsPrefix [] xs

@@ -1,12 +1,9 @@
 -- What each step does to a world.
 use Rattle.std.proofs.Common.{◌≡◌, ℕ, zero, suc, ◌-◌, ◌≤◌, ◌<◌, ◌==◌, ◌&&◌, if◌then◌else◌, nat_le, nat_lt, max, Bool, true, false, List, [], ◌∷◌, ◌++◌, length, take, map, get_or, replicate, slice_get, slice_set, Some, refl, sym, ap, ◌∙◌, subst, arith, length-append}
-use Rattle.std.proofs.lemmas.List.{take_all, take-map, length-map}
-use Rattle.std.proofs.lemmas.Simd.{splat_is_map}
-use Rattle.std.proofs.lemmas.Bool.Decides.{nat_tests}
-use Rattle.desk_model.specs.{declared.command.Command.Command, claim.Desk.Desk, claim.Step.step}
-use Rattle.desk_catalogue.specs.claim.Accepting.{IsAfter}
-use Rattle.desk_claim.specs.{declared.world.WorldChange.WorldChange, declared.event.Event.TheVariants.{Commit, Acknowledge, Learn, Stop}}
-use Rattle.desk_claim.{specs.claim.World.{World, world, after, accepts, learnt, move}, specs.claim.Law.IsOrdered, specs.Steps.{Follow, IsChanged}, proofs.Core.moved_ordered}
+use Rattle.{std.proofs.lemmas.{Bool.Decides.nat_tests, List.{take_all, take-map, length-map}, Simd.splat_is_map}, desk_catalogue.specs.claim.Accepting.IsAfter}
+use Rattle.desk_claim.specs.{Steps.{Follow, IsChanged}, claim.{Law.IsOrdered, World.{World, world, after, accepts, learnt, move}}, declared.world.WorldChange.WorldChange}
+use Rattle.{desk_claim.specs.declared.event.Event.TheVariants.{Commit, Acknowledge, Learn, Stop}, desk_model.specs.{claim.{Desk.Desk, Step.step}, declared.command.Command.Command}}
+use Rattle.desk_claim.proofs.Core.{moved_ordered}
 
 -- the catalogue of a change is the desk after the commands up to it
 pub followed : (d : Desk) (cs : List WorldChange) (n : ℕ) (x : WorldChange) → Follow d cs → n < length cs → (get_or cs n x).catalogue.value ≡ after d (take (suc n) (map (λ c. c.command) cs))

@@ -1,10 +1,9 @@
 -- Each call at an office as events.
-use Rattle.std.specs.{Prelude.{◌≡◌, ◌⊎◌, ℕ, List, [], ◌∷◌, ◌++◌, length, slice_set, Some}, List.slice_get}
+use Rattle.std.specs.{List.slice_get, Prelude.{◌≡◌, ◌⊎◌, ℕ, List, [], ◌∷◌, ◌++◌, length, slice_set, Some}}
+use Rattle.desk_claim.specs.{claim.{Runs.standing, World.{move, run, shown_list}}, declared.event.Event.TheVariants.{Commit, Acknowledge, Show, Visit, Learn}}
+use Rattle.desk_model.specs.{claim.{Desk.Desk, Outcome.IsAcceptance, Step.step}, declared.{command.{Command.Command, Query.Query}, reply.Reply.Reply}}
+use Rattle.serve_command.specs.desk_gallery.{Working.Joins, claim.After.after}
 use mathlib.Core.List.{IsPrefix}
-use Rattle.desk_model.specs.{declared.command.Command.Command, declared.command.Query.Query, declared.reply.Reply.Reply, claim.Desk.Desk, claim.Outcome.IsAcceptance}
-use Rattle.desk_model.specs.claim.Step.{step}
-use Rattle.serve_command.specs.{desk_gallery.claim.After.after, desk_gallery.Working.Joins}
-use Rattle.desk_claim.specs.{declared.event.Event.TheVariants.{Commit, Acknowledge, Show, Visit, Learn}, claim.World.{move, run, shown_list}, claim.Runs.standing}
 
 -- A command at a front: one that is accepted is written, acknowledged and shown; one whose commit met a fault may be written; no
 -- other moves anything.

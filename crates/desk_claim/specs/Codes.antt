@@ -1,9 +1,7 @@
 -- How worlds are told apart.
-use Rattle.std.specs.{Prelude.{ℕ, List, refl}, Coded.{Coded, code_by, coded×, coded_ℕ, coded_list}}
+use Rattle.{std.specs.{Coded.{Coded, code_by, coded×, coded_ℕ, coded_list}, Prelude.{ℕ, List, refl}}, desk_catalogue.specs.Codes.coded_desk, desk_claim.specs.claim.World.World}
+use Rattle.desk_model.specs.{claim.Desk.Desk, declared.command.Command.Command}
 use Rattle.desk_model.specs.contracts.command.Command as command
-use Rattle.desk_model.specs.{declared.command.Command.Command, claim.Desk.Desk}
-use Rattle.desk_catalogue.specs.Codes.{coded_desk}
-use Rattle.desk_claim.specs.claim.World.{World}
 
 abbrev pub coded_world : Coded (Desk × World)
 coded_world = coded× coded_desk (code_by (List Command × (ℕ × (ℕ × List ℕ)))

@@ -1,10 +1,6 @@
 -- What one life makes of a store.
-use Rattle.std.specs.Prelude.{ℕ}
-use Rattle.desk_model.specs.claim.Desk.{Desk}
-use Rattle.serve_command.specs.http_seats.claim.Streams.{Traffic}
-use Rattle.desk_claim.specs.{claim.Streams.Ends, declared.asking.Asking.Asking, declared.asking.Told.Told, declared.lives.Task.Task, declared.lives.Done.Done}
-use Rattle.desk_claim.specs.claim.Sentence.{AskedMay, LifeMay}
-use Rattle.store_lives.specs.claim.Versions.{Store}
+use Rattle.{std.specs.Prelude.ℕ, desk_claim.specs.{claim.{Sentence.{AskedMay, LifeMay}, Streams.Ends}, declared.{asking.{Asking.Asking, Told.Told}, lives.{Done.Done, Task.Task}}}}
+use Rattle.{desk_model.specs.claim.Desk.Desk, serve_command.specs.http_seats.claim.Streams.Traffic, store_lives.specs.claim.Versions.Store}
 
 module _ {R W P Q A : Type 0} (ends : R → W → Ends) (streams : A → Traffic P Q) (workers : ℕ) where
   abbrev pub IsAsked : Asking R W A → Told R W → (t u : ℕ) → Desk → Desk → Type 0

@@ -1,9 +1,8 @@
 -- What no promise rests on, beside claim/Runs.antt.
 use Rattle.std.specs.Prelude.{◌≡◌, ◌≤◌, ◌+◌, ℕ, All, List, [], ◌∷◌, length, map}
+use Rattle.desk_claim.specs.{claim.{Law.IsNoStop, Runs.{Heard, IsRun, answers_in, beginning, list_of, standing}, World.{World, run, seen}}, declared.event.Event.Event}
+use Rattle.{desk_model.specs.{claim.Desk.Desk, declared.command.Command.Command}, serve_command.specs.desk_gallery.claim.Working.AreAccepted}
 use mathlib.Core.List.{IsPrefix}
-use Rattle.desk_model.specs.{declared.command.Command.Command, claim.Desk.Desk}
-use Rattle.serve_command.specs.desk_gallery.claim.Working.{AreAccepted}
-use Rattle.desk_claim.specs.{declared.event.Event.Event, claim.World.{World, run, seen}, claim.Law.IsNoStop, claim.Runs.{Heard, IsRun, answers_in, beginning, list_of, standing}}
 
 -- it hears of more and more, from this list on, and in the end of no more than what is shown
 abbrev pub Grows : List Command → List Heard → List Command → Type 0

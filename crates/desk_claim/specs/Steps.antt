@@ -1,11 +1,9 @@
 -- What a step tells, and the catalogues that are kept.
 use Rattle.std.specs.Prelude.{◌≡◌, ◌≢◌, ℕ, ◌<◌, ◌≤◌, List, [], ◌∷◌, length, Option, Some, None, ⊤}
-use Rattle.desk_model.specs.{declared.command.Command.Command, declared.command.Query.Query, declared.reply.Reply.Reply, declared.reply.Refusal.TheVariants.Memory, claim.Desk.Desk}
-use Rattle.desk_model.specs.claim.Step.{step}
+use Rattle.{desk_catalogue.specs.claim.{Accepting.acceptance, Audits.AskMay}, desk_claim.specs.{claim.World.{World, after, move, shown_list}, declared.event.Event.Event}}
+use Rattle.{desk_claim.specs.declared.{event.Event.TheVariants.{Commit, Acknowledge, Show, Visit, Learn, Stop}, world.WorldChange.WorldChange}, desk_model.specs.claim.Desk.Desk}
+use Rattle.desk_model.specs.{claim.Step.step, declared.{command.{Command.Command, Query.Query}, reply.{Refusal.TheVariants.Memory, Reply.Reply}}}
 use Rattle.desk_model.specs.declared.reply.Reply.TheVariants as reply
-use Rattle.desk_catalogue.specs.{claim.Audits.AskMay, claim.Accepting.acceptance}
-use Rattle.desk_claim.specs.{declared.event.Event.Event, declared.event.Event.TheVariants.{Commit, Acknowledge, Show, Visit, Learn, Stop}, declared.world.WorldChange.WorldChange}
-use Rattle.desk_claim.specs.claim.World.{World, after, move, shown_list}
 
 -- each change's catalogue is the desk after its command, from this desk on
 abbrev pub Follow : Desk → List WorldChange → Type 0

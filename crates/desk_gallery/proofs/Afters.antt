@@ -1,8 +1,7 @@
 -- The desk after one command more.
-use Rattle.std.proofs.Common.{◌≡◌, ◌∙◌, ◌⊎◌, ⊎_elim, List, [], ◌∷◌, ◌++◌, refl, sym, ap, subst}
+use Rattle.{std.proofs.Common.{◌≡◌, ◌∙◌, ◌⊎◌, ⊎_elim, List, [], ◌∷◌, ◌++◌, refl, sym, ap, subst}, desk_gallery.specs.{Shelves.ComesAfter, claim.{After.after, Working.AreAccepted}}}
+use Rattle.{desk_model.specs.{claim.{Desk.Desk, Outcome.IsAcceptance, Step.step}, declared.command.Command.Command}, desk_gallery.proofs.Pasts.{prefix_length, prefix_whole}}
 use mathlib.Core.List.{IsPrefix}
-use Rattle.desk_model.specs.{declared.command.Command.Command, claim.Desk.Desk, claim.Step.step, claim.Outcome.IsAcceptance}
-use Rattle.desk_gallery.{specs.claim.After.after, specs.claim.Working.AreAccepted, specs.Shelves.ComesAfter, proofs.Pasts.{prefix_length, prefix_whole}}
 
 pub after_more : (d : Desk) (commands : List Command) (c : Command) → after d (commands ++ c ∷ []) ≡ (step (after d commands) c).1
 after_more d [] c = refl

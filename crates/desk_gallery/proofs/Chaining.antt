@@ -1,11 +1,8 @@
 -- Chains of entries.
 use Rattle.std.proofs.Common.{Option, ◌≡◌, ◌≢◌, ℕ, ◌==◌, if◌then◌else◌, Bool, true, false, List, [], ◌∷◌, ◌++◌, refl, sym, ap, ◌∙◌, subst, arith, append_assoc}
-use Rattle.std.proofs.lemmas.List.{append-nil}
-use Rattle.std.proofs.lemmas.List.Elements.{All-head, All-tail}
-use Rattle.std.proofs.lemmas.Bool.Decides.{nat_tests}
+use Rattle.{std.proofs.lemmas.{Bool.Decides.nat_tests, List.{append-nil, Elements.{All-head, All-tail}}}, desk_gallery.specs.Rules.{key_after, chained, NoneBy}}
+use Rattle.{desk_gallery.specs.declared.book.LogEntry.LogEntry, desk_model.specs.declared.command.Command.Command}
 use mathlib.Core.List.{IsPrefix}
-use Rattle.desk_model.specs.declared.command.Command.{Command}
-use Rattle.desk_gallery.specs.{declared.book.LogEntry.LogEntry, Rules.{key_after, chained, NoneBy}}
 
 -- a chain goes on after a beginning
 pub chained_on : (k : ℕ) (xs ys : List LogEntry) → chained k (xs ++ ys) ≡ chained k xs ++ chained (key_after k xs) ys
@@ -63,16 +60,10 @@ one_key : (k : ℕ) (e : LogEntry) → e.by ≡ k → key_after k (e ∷ []) ≡
 one_key k e same = let is : (e.by == k) ≡ true = grind (arith, nat_tests) in ap (λ (b : Bool). if b then e.next else k) is
 
 pub chained_more : (k : ℕ) (xs rest : List LogEntry) (e : LogEntry) → e.by ≡ key_after k xs → NoneBy (key_after k xs) rest → chained k (xs ++ rest ++ e ∷ []) ≡ chained k xs ++ e.what ∷ []
-chained_more k xs rest e same none =
-    let n : ℕ = key_after k xs in
-    let last : chained (key_after n rest) (e ∷ []) ≡ e.what ∷ [] = one_more (key_after n rest) e (same ∙ sym (key_none n rest none)) in
-    let later : chained n (rest ++ e ∷ []) ≡ e.what ∷ [] = chained_on n rest (e ∷ []) ∙ ap (λ (l : List (Option Command)). l ++ chained (key_after n rest) (e ∷ [])) (chained_none n rest none) ∙ last in
-    ap (chained k) (append_assoc xs rest (e ∷ [])) ∙ chained_on k xs (rest ++ e ∷ []) ∙ ap (λ (l : List (Option Command)). chained k xs ++ l) later
+chained_more k xs rest e same none = search (one_more, key_none, chained_on, chained_none, append_assoc)
 
 pub key_more : (k : ℕ) (xs rest : List LogEntry) (e : LogEntry) → e.by ≡ key_after k xs → NoneBy (key_after k xs) rest → key_after k (xs ++ rest ++ e ∷ []) ≡ e.next
-key_more k xs rest e same none =
-    let n : ℕ = key_after k xs in
-    ap (key_after k) (append_assoc xs rest (e ∷ [])) ∙ key_on k xs (rest ++ e ∷ []) ∙ key_on n rest (e ∷ []) ∙ one_key (key_after n rest) e (same ∙ sym (key_none n rest none))
+key_more k xs rest e same none = search (append_assoc, key_on, one_key, key_none)
 
 pub prefix_on : (xs ys zs : List LogEntry) → IsPrefix xs ys → IsPrefix ys zs → IsPrefix xs zs
 prefix_on xs ys zs p q = (p.0 ++ q.0, sym (append_assoc xs p.0 q.0) ∙ (ap (λ (w : List LogEntry). w ++ q.0) p.1 ∙ q.1))

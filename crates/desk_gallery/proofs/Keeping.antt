@@ -1,10 +1,9 @@
 -- The steps keep the rule.
 use Rattle.std.proofs.Common.{◌≡◌, ◌≢◌, ℕ, zero, suc, ◌<◌, ◌==◌, true, false, List, [], ◌∷◌, ◌++◌, length, slice_set, All, None, refl, ap, sym, ◌∙◌, subst, arith, inl}
-use Rattle.std.proofs.lemmas.List.{append-nil}
-use Rattle.std.proofs.lemmas.List.Elements.{All-nil, All-cons, All-append, All-weaker}
+use Rattle.{std.proofs.lemmas.List.{append-nil, Elements.{All-nil, All-cons, All-append, All-weaker}}, desk_gallery.specs.Rules.{IsKept, NoneBy, Makes, Looks, Adds}}
+use Rattle.{desk_gallery.specs.declared.book.LogEntry.LogEntry, logbook.specs.Pages.{Cell, cell, Nib, no_nib, may_write, keeps, gives, adds, step, Moves}}
+use Rattle.desk_gallery.proofs.Chaining.{rest_none}
 use prog.Atomic.{either}
-use Rattle.logbook.specs.Pages.{Cell, cell, Nib, no_nib, may_write, keeps, gives, adds, step, Moves}
-use Rattle.desk_gallery.{specs.declared.book.LogEntry.LogEntry, specs.Rules.{IsKept, NoneBy, Makes, Looks, Adds}, proofs.Chaining.rest_none}
 
 -- what is asked for where nothing is added
 abbrev pub no_entry : LogEntry
@@ -62,15 +61,7 @@ pub make_moves : (v : List LogEntry) (a : LogEntry) → Moves IsKept shown moved
 make_moves v a cs log kept pre away = (
   within cs 0 kept.0,
   kept.0,
-  (
-    adds,
-    [],
-    None,
-    tt,
-    same_log log _ (kept_more _ ((0, false) ∷ []) log (kept_set cs log 0 _ kept)),
-    inl (refl, refl),
-    refl,
-  ),
+  (adds, [], None, tt, same_log log _ (kept_more _ ((0, false) ∷ []) log (kept_set cs log 0 _ kept)), inl (refl, refl), refl),
 )
 
 pub look_moves : (v : List LogEntry) (p : Nib) (a : LogEntry) → p.right ≡ may_write → Moves IsKept shown moved 0 (v, (p, None)) (λ n. either (n == 0) 0 n) (Looks (step 0 0 0 a) (v, (p, None)))

@@ -1,10 +1,8 @@
 -- A clerk's outcome without its room.
-use Rattle.std.specs.Prelude.{◌≡◌, Bool, true, ⊤}
-use Rattle.desk_model.specs.{declared.command.Command.Command, declared.reply.Reply.Reply, declared.reply.Refusal.Refusal}
-use Rattle.desk_model.specs.{declared.reply.Refusal.TheVariants.{NoPlan, NoRevision, PlanExists, Stale, BadBody, NotWholeCounty, Limit, Full, NotSealed}, claim.Desk.Desk}
-use Rattle.desk_model.specs.claim.Outcome.{CommandMay, RefusalMay, IsStep}
+use Rattle.{std.specs.Prelude.{◌≡◌, Bool, true, ⊤}, desk_gallery.specs.claim.Outcomes.OutcomeMay, desk_model.specs.claim.{Desk.Desk, Outcome.{CommandMay, RefusalMay, IsStep}}}
+use Rattle.desk_model.specs.declared.{command.Command.Command, reply.{Refusal.Refusal, Reply.Reply}}
+use Rattle.desk_model.specs.declared.reply.Refusal.TheVariants.{NoPlan, NoRevision, PlanExists, Stale, BadBody, NotWholeCounty, Limit, Full, NotSealed}
 use Rattle.desk_model.specs.declared.reply.Reply.TheVariants as reply
-use Rattle.desk_gallery.specs.claim.Outcomes.{OutcomeMay}
 
 step_of : (must : Type 0) (d : Desk) (c : Command) (r : Reply) (e : Desk) → IsStep must d c r e → IsStep ⊥ d c r e
 step_of must d c r e is = record { reply = is.reply; desk = is.desk; room = λ accepted none. none }

@@ -1,12 +1,10 @@
 -- A run with one command more.
-use Rattle.std.proofs.Common.{◌≡◌, ℕ, ◌+◌, Bool, false, List, [], ◌∷◌, ◌++◌, length, refl, sym, ap, ◌∙◌, arith, append_assoc, length-append, subst}
-use Rattle.std.proofs.lemmas.List.{append-nil}
-use Rattle.std.proofs.lemmas.List.Elements.{All-nil, All-push, All-weaker}
-use Rattle.sector_device.specs.declared.SectorDevice.{Ghosts}
-use Rattle.desk_model.specs.{declared.command.Command.Command, declared.reply.Reply.Reply, claim.Outcome.IsAcceptance}
+use Rattle.std.proofs.{Common.{◌≡◌, ℕ, ◌+◌, Bool, false, List, [], ◌∷◌, ◌++◌, length, refl, sym, ap, ◌∙◌, arith, append_assoc, length-append, subst}, lemmas.List.append-nil}
+use Rattle.{std.proofs.lemmas.List.Elements.{All-nil, All-push, All-weaker}, desk_gallery.specs.claim.Begun.{Beginning, BeginsWith, HasRun}}
+use Rattle.{desk_gallery.specs.claim.Telling.{accepted_in, halted_in, halts_of}, desk_model.specs.{claim.Outcome.IsAcceptance, declared.command.Command.Command}}
+use Rattle.{desk_model.specs.declared.reply.Reply.Reply, desk_runs.specs.claim.{Runs.{Call, acknowledged, if_accepted}, SweptRuns.{Tends, SweptRun}}}
+use Rattle.{desk_runs.specs.desk_store.{claim.Commands.Does, declared.clerk.Clerk.Clerk}, sector_device.specs.declared.SectorDevice.Ghosts}
 use Rattle.desk_model.specs.declared.reply.Reply.TheVariants as reply
-use Rattle.desk_runs.specs.{desk_store.declared.clerk.Clerk.Clerk, desk_store.claim.Commands.Does, claim.Runs.{Call, acknowledged, if_accepted}, claim.SweptRuns.{Tends, SweptRun}}
-use Rattle.desk_gallery.specs.{claim.Begun.{Beginning, BeginsWith, HasRun}, claim.Telling.{accepted_in, halted_in, halts_of}}
 
 acknowledged_more : (calls : List Call) (c : Command) (r : Reply) → acknowledged (calls ++ (c, r) ∷ []) ≡ acknowledged calls ++ if_accepted c r
 acknowledged_more [] c r = append-nil (if_accepted c r)
@@ -77,16 +75,7 @@ module _ {D : Type 0} {g : Ghosts D} where
 
   -- of whose commands something else is known, too
   pub has_run_as : (begins : Beginning) (asked other : Command → Type 0) (x : Clerk D g) (shown : List Command) (halts : ℕ) → ((c : Command) → asked c → other c) → HasRun begins asked x shown halts → HasRun begins other x shown halts
-  has_run_as begins asked other x shown halts also ran = record {
-    first = ran.first;
-    began = ran.began;
-    calls = ran.calls;
-    checked = ran.checked;
-    run = ran.run;
-    each = All-weaker (λ (call : Call). asked call.0) (λ (call : Call). other call.0) (λ call is. also call.0 is) ran.calls ran.each;
-    are_shown = ran.are_shown;
-    are_halts = ran.are_halts;
-  }
+  has_run_as begins asked other x shown halts also ran = search All-weaker
 
   pub has_run_none : (begins : Beginning) (asked : Command → Type 0) (x : Clerk D g) (shown : List Command) (halts : ℕ) → BeginsWith begins x → shown ≡ [] → halts ≡ 0 → (ran : HasRun begins asked x shown halts) × (ran.checked ≡ false)
   has_run_none begins asked x shown halts began none no_halt = (

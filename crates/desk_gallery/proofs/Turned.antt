@@ -1,9 +1,6 @@
 -- A turn of sweeping.
-use Rattle.std.proofs.Common.{◌≡◌, ℕ, Option, Result, inr}
-use Rattle.sector_device.specs.declared.SectorDevice.{Ghosts}
-use Rattle.desk_runs.specs.{desk_pages.declared.error.StoreError.StoreError, Turns.swept_of, declared.turning.Swept.Swept}
-use Rattle.desk_model.specs.claim.Desk.{Desk}
-use Rattle.desk_gallery.specs.Fronts.{Kept, SweepsOn, MayTurn}
+use Rattle.{std.proofs.Common.{◌≡◌, ℕ, Option, Result, inr}, desk_gallery.specs.Fronts.{Kept, SweepsOn, MayTurn}, desk_model.specs.claim.Desk.Desk, desk_runs.specs.Turns.swept_of}
+use Rattle.{desk_runs.specs.{declared.turning.Swept.Swept, desk_pages.declared.error.StoreError.StoreError}, sector_device.specs.declared.SectorDevice.Ghosts}
 
 pub may_turn : {D : Type 0} (g : Ghosts D) (first : Desk) (moves : ℕ) (old : Kept D) (did : Result (Option ℕ) StoreError) (new : Kept D) (swept : Swept)
     → SweepsOn g first old did new → swept ≡ swept_of moves did → MayTurn g first swept

@@ -1,9 +1,8 @@
 -- What is shown only grows.
-use Rattle.std.proofs.Common.{◌≡◌, ℕ, Option, Some, None, List, [], ◌∷◌, ◌++◌, refl, sym, ap, ◌∙◌, subst}
-use mathlib.Core.List.{IsPrefix}
-use Rattle.desk_model.specs.declared.command.Command.{Command}
-use Rattle.desk_gallery.specs.{declared.book.LogEntry.LogEntry, Rules.{key_after, chained, weighed, lists_of, shown_of, NoneBy}}
+use Rattle.{std.proofs.Common.{rules, ◌≡◌, ℕ, Option, Some, None, List, [], ◌∷◌, ◌++◌, refl, sym, ap, ◌∙◌}, desk_gallery.specs.declared.book.LogEntry.LogEntry}
+use Rattle.{desk_gallery.specs.Rules.{key_after, chained, weighed, lists_of, shown_of, NoneBy}, desk_model.specs.declared.command.Command.Command}
 use Rattle.desk_gallery.proofs.{Chaining.{chained_on, chained_more, begins_whole}, Pasts.{prefix_self, prefix_trans}}
+use mathlib.Core.List.{IsPrefix}
 
 pub weighed_on : (s : List Command × List Command) (xs ys : List (Option Command)) → weighed s (xs ++ ys) ≡ weighed (weighed s xs) ys
 weighed_on s [] ys = refl
@@ -22,9 +21,7 @@ grows s (None ∷ xs) p = prefix_trans s.0 s.1 (weighed (s.1, s.1) xs).0 p (grow
 
 -- of two beginnings of one list of acts, the shorter shows a beginning of what the longer shows
 pub shown_begins : (xs zs : List (Option Command)) → IsPrefix xs zs → IsPrefix (weighed ([], []) xs).0 (weighed ([], []) zs).0
-shown_begins xs zs p =
-    subst (λ (acts : List (Option Command)). IsPrefix (weighed ([], []) xs).0 (weighed ([], []) acts).0) p.1
-    (subst (λ (s : List Command × List Command). IsPrefix (weighed ([], []) xs).0 s.0) (sym (weighed_on ([], []) xs p.0)) (grows (weighed ([], []) xs) p.0 (ordered ([], []) xs ([], refl))))
+shown_begins xs zs p = search (rules, weighed_on ([], []) xs p.0, grows (weighed ([], []) xs) p.0 (ordered ([], []) xs ([], refl)))
 
 chain_begins : (k : ℕ) (xs zs : List LogEntry) → IsPrefix xs zs → IsPrefix (chained k xs) (chained k zs)
 chain_begins k xs zs p = (chained (key_after k xs) p.0, sym (chained_on k xs p.0) ∙ ap (chained k) p.1)

@@ -1,44 +1,26 @@
 -- A command at the clerk beside the writer.
-use Rattle.std.proofs.Common.{◌≡◌, ◌+◌, ℕ, Bool, Option, Result, true, false, List, [], ◌∷◌, ◌++◌, length, inl, inr, refl, sym, ap, subst, ◌∙◌, arith, length-append}
-use Rattle.std.proofs.lemmas.Bool.{both_ways, cases_Bool}
+use Rattle.std.proofs.Common.{rules, ◌≡◌, ◌+◌, ℕ, Bool, Option, Result, true, false, List, [], ◌∷◌, ◌++◌, length, inl, inr, refl, sym, ap, subst, ◌∙◌, arith, length-append}
+use Rattle.{std.proofs.lemmas.Bool.{both_ways, cases_Bool}, desk_gallery.specs.{Fronts.{Kept, kept_of, IsClerk, Works, SweepsOn, OpensShown}, Working.{Agree, Worked}}}
+use Rattle.{desk_gallery.specs.claim.{After.after, Outcomes.OutcomeMay, Working.AreAccepted}, desk_model.specs.claim.{Desk.Desk, Outcome.IsAcceptance, Step.step}}
+use Rattle.{desk_model.specs.declared.{command.Command.Command, reply.{Refusal.{Refusal, TheVariants.Memory}, Reply.{Reply, TheVariants.Refused}}}, desk_runs.specs.Steps.StepMay}
+use Rattle.desk_runs.specs.{claim.SweptRuns.Tends, desk_pages.declared.error.StoreError.StoreError, desk_store.claim.Clerks.{desk_of, is_halted, sectors_of, Keeps, Reads}}
+use Rattle.desk_runs.specs.desk_store.{claim.{Commands.{command_of, MustBeFull, PrepareErr, IsReady, IsMade, IsNotMade, Commits, Does}, Keeping.IsLeft}, declared.clerk.Clerk.Clerk}
+use Rattle.{desk_runs.specs.desk_store.declared.ready.Ready.Ready, sector_device.specs.declared.SectorDevice.Ghosts, desk_gallery.proofs.{Outcomes.outcome_is, Pasts.prefix_self}}
+use Rattle.desk_gallery.proofs.Afters.{after_more, accepted_first, accepted_more}
 use mathlib.Core.List.{IsPrefix}
-use Rattle.sector_device.specs.declared.SectorDevice.{Ghosts}
-use Rattle.desk_model.specs.{declared.command.Command.Command, declared.reply.Reply.Reply, declared.reply.Reply.TheVariants.Refused, declared.reply.Refusal.Refusal}
-use Rattle.desk_model.specs.{declared.reply.Refusal.TheVariants.Memory, claim.Desk.Desk, claim.Outcome.IsAcceptance, claim.Step.step}
-use Rattle.desk_runs.specs.{desk_store.declared.clerk.Clerk.Clerk, desk_store.declared.ready.Ready.Ready, desk_store.claim.Keeping.IsLeft}
-use Rattle.desk_runs.specs.desk_store.claim.Clerks.{desk_of, is_halted, sectors_of, Keeps, Reads}
-use Rattle.desk_runs.specs.desk_store.claim.Commands.{command_of, after_of, MustBeFull, PrepareErr, IsReady, IsMade, IsNotMade, Commits, Does}
-use Rattle.desk_runs.specs.{desk_pages.declared.error.StoreError.StoreError, claim.SweptRuns.Tends, Steps.StepMay}
 use Rattle.desk_runs.proofs.desk_store.Kept.{acceptance_is, accepted_is}
 use Rattle.desk_runs.proofs.desk_store.Done.{refused_does, committed_does}
-use Rattle.desk_gallery.specs.{claim.After.after, Fronts.{Kept, kept_of, IsClerk, Works, SweepsOn, OpensShown}, claim.Outcomes.OutcomeMay, claim.Working.AreAccepted}
-use Rattle.desk_gallery.{specs.Working.{Agree, Worked}, proofs.Afters.{after_more, accepted_first, accepted_more}, proofs.Outcomes.outcome_is, proofs.Pasts.prefix_self}
 
 module _ {D : Type 0} {g : Ghosts D} where
   pub was_working : (x y : Clerk D g) → Reads x y → is_halted y ≡ false → is_halted x ≡ false
-  was_working x y reads works = elim (cases_Bool x.halted) [
-    | inl on ↦ absurd (both_ways y.halted works (reads.halts on))
-    | inr off ↦ off
-  ]
+  was_working x y reads works = search (rules, cases_Bool)
 
   agree_read : (first : Desk) (x y : Clerk D g) (s : List Command × List Command) → Agree first x s → Reads x y → Agree first y s
-  agree_read first x y s agree reads = record {
-    desk = reads.desk ∙ agree.desk;
-    none = λ off. agree.none (was_working x y reads off);
-    few = agree.few;
-    begins = agree.begins;
-    accepted = agree.accepted;
-  }
+  agree_read first x y s agree reads = search rules
 
   -- a command that was refused before its change was appended
   pub refused_work : (first : Desk) (x y : Clerk D g) (s : List Command × List Command) (c : Command) (r : Refusal) → Agree first x s → Reads x y → y.loading ≡ x.loading → PrepareErr x c r y → Worked first x s c (Refused r) y s
-  refused_work first x y s c r agree reads loading why = record {
-    does = refused_does x y c r reads loading why;
-    agree = agree_read first x y s agree reads;
-    joined = λ accepted. absurd accepted;
-    same = λ other. refl;
-    joins = record { accepted = λ accepted. absurd accepted; other = λ other. inl refl };
-  }
+  refused_work first x y s c r agree reads loading why = search (rules, refused_does x y c r reads loading why, agree_read first x y s agree reads)
 
   -- one that was ready, but for which memory was refused
   pub unready_work : (first : Desk) (x y : Clerk D g) (s t : List Command × List Command) (c : Command) → Agree first x s → Reads x y → y.loading ≡ x.loading → is_halted y ≡ false → t ≡ s → Worked first x s c (Refused Memory) y t
@@ -48,9 +30,7 @@ module _ {D : Type 0} {g : Ghosts D} where
 
   -- the desk that is shown accepts what was made ready
   ready_accepted : (first : Desk) (x y : Clerk D g) (s : List Command × List Command) (c : Command) (r : Ready) → Agree first x s → Reads x y → IsReady y r → command_of r ≡ c → IsAcceptance (step (after first s.0) c).0
-  ready_accepted first x y s c r agree reads ready is =
-      subst (λ (q : Command). IsAcceptance (step (after first s.0) q).0) is
-      (subst (λ (d : Desk). IsAcceptance (step d (command_of r)).0) (reads.desk ∙ agree.desk) (accepted_is (desk_of y) (command_of r) (after_of r) ready.accepted))
+  ready_accepted first x y s c r agree reads ready is = search rules
 
   made_work : (first : Desk) (x y z : Clerk D g) (s u : List Command × List Command) (c : Command) (r : Ready) (reply : Reply) → Does x c reply z → Agree first x s → Reads x y → IsReady y r → command_of r ≡ c
       → IsMade y r reply z → s.1 ≡ s.0 → u ≡ (s.0 ++ c ∷ [], s.0 ++ c ∷ []) → Worked first x s c reply z u
@@ -140,25 +120,10 @@ module _ {D : Type 0} {g : Ghosts D} where
 
   pub sweeps_of : (first : Desk) (was : Bool) (x : Clerk D g) (is : Bool) (y : Clerk D g) (s : List Command × List Command) (old : Kept D) (did : Result (Option ℕ) StoreError) → kept_of x s ≡ old → Agree first x s → Tends was x is y → StepMay was x did y
       → SweepsOn g first old did (kept_of y s)
-  sweeps_of first was x is y s old did same agree tends may = record {
-    clerk = x;
-    is = is_clerk_of first x s old same agree;
-    next = y;
-    is_next = is_clerk first y s (agree_tended first was x is y s agree tends);
-    was_checked = was;
-    is_checked = is;
-    tends = tends;
-    may = may;
-  }
+  sweeps_of first was x is y s old did same agree tends may = search (is_clerk_of, is_clerk, agree_tended)
 
   pub works_of : (first : Desk) (x y : Clerk D g) (s t : List Command × List Command) (old : Kept D) (c : Command) (reply : Reply) → kept_of x s ≡ old → Agree first x s → Worked first x s c reply y t → Works g first old c reply (kept_of y t)
-  works_of first x y s t old c reply was agree worked = record {
-    clerk = x;
-    is = is_clerk_of first x s old was agree;
-    next = y;
-    is_next = is_clerk first y t worked.agree;
-    does = worked.does;
-  }
+  works_of first x y s t old c reply was agree worked = search is_clerk_of
 
   pub outcome_of : (first : Desk) (x y : Clerk D g) (s t : List Command × List Command) (c : Command) (reply : Reply) → Agree first x s → Worked first x s c reply y t → OutcomeMay (after first s.0) c reply (after first t.0)
   outcome_of first x y s t c reply agree worked =

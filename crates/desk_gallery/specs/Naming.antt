@@ -1,8 +1,6 @@
 -- What names a gallery: its list of changes with the first key, its first desk, and the ledgers of what its seats are told.
 use Rattle.std.specs.Prelude.{◌≡◌, ℕ}
-use Rattle.logbook.specs.Pages.{Book}
-use Rattle.desk_model.specs.claim.Desk.{Desk}
-use Rattle.desk_gallery.specs.declared.book.Opened.{Opened}
+use Rattle.{desk_gallery.specs.declared.book.Opened.Opened, desk_model.specs.claim.Desk.Desk, logbook.specs.Pages.Book}
 
 -- the list of a gallery was opened, and its first desk is shown
 pub record IsOpenedFor (book : Book) (root : ℕ) (first : Desk) (opened : Opened) (shown : Desk) : Type 0 where

@@ -1,9 +1,8 @@
 -- What the gallery's rule says of a copy.
 use Rattle.std.specs.Prelude.{◌≡◌, ◌⊎◌, ℕ, List, [], ◌∷◌, length}
+use Rattle.{desk_gallery.specs.{Rules.shown_of, claim.After.after, declared.{book.Mark.Mark, shelf.Shelf.Shelf}}, desk_model.specs.claim.Desk.Desk, logbook.specs.Pages.Book}
+use Rattle.desk_model.specs.declared.command.Command.{Command}
 use mathlib.Core.List.{IsPrefix}
-use Rattle.logbook.specs.Pages.{Book}
-use Rattle.desk_model.specs.{declared.command.Command.Command, claim.Desk.Desk}
-use Rattle.desk_gallery.specs.{declared.book.Mark.Mark, declared.shelf.Shelf.Shelf, claim.After.after, Rules.shown_of}
 
 -- a log of this book, with the number of changes that are shown in it
 abbrev pub IsMark : Book → ℕ → Mark → Type 0

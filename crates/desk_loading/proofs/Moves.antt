@@ -1,10 +1,7 @@
 -- Calls at a clerk, one after the other.
-use Rattle.std.proofs.Common.{◌≡◌, ◌⊎◌, ◌<◌, ℕ, true, false, inl, inr, ⊎_elim, sym, subst, ◌∙◌, arith}
-use Rattle.sector_device.{specs.claim.Disk.Image, specs.claim.Moments.LeavesOnly, specs.declared.SectorDevice.Ghosts, proofs.Moments.{leaves_more, leaves_wider}}
-use Rattle.desk_model.specs.claim.Desk.{Desk}
-use Rattle.desk_pages.specs.claim.Desks.{OpensDesk}
-use Rattle.desk_store.specs.{declared.clerk.Clerk.Clerk, claim.Clerks.{desk_of, disk_of, sectors_of, MovesIf}}
-use Rattle.page_store.proofs.Chains.{either}
+use Rattle.{std.proofs.Common.{rules, ◌≡◌, ◌⊎◌, false, inl, inr, ⊎_elim, sym, subst, ◌∙◌}, desk_model.specs.claim.Desk.Desk, desk_pages.specs.claim.Desks.OpensDesk}
+use Rattle.{desk_store.specs.{claim.Clerks.{desk_of, disk_of, sectors_of, MovesIf}, declared.clerk.Clerk.Clerk}, sector_device.specs.claim.{Disk.Image, Moments.LeavesOnly}}
+use Rattle.{sector_device.{specs.declared.SectorDevice.Ghosts, proofs.Moments.{leaves_more, leaves_wider}}, page_store.proofs.Chains.either}
 
 module _ {D : Type 0} {g : Ghosts D} where
   abbrev pub OneOf : Clerk D g → Desk → Image → Type 0
@@ -29,9 +26,7 @@ module _ {D : Type 0} {g : Ghosts D} where
     before is off honest = (may_move sound next x y one).any_moment is off (two.honest honest)
 
     moved : (c : Image) → OneOf y next c → OneOf x next c
-    moved c = ⊎_elim
-        (λ was. inl (subst (λ (d : Desk). OpensDesk (sectors_of x) d c) desk (subst (λ (n : ℕ). OpensDesk n (desk_of y) c) one.sectors was)))
-        (λ now. inr (subst (λ (n : ℕ). OpensDesk n next c) one.sectors now))
+    moved c = search rules
 
     after : sound → y.halted ≡ false → (disk_of z).is_honest → LeavesOnly (OneOf x next) (disk_of y) (disk_of z)
     after is off honest = leaves_wider (OneOf y next) (OneOf x next) (disk_of y) (disk_of z) moved (two.any_moment (gives is) off honest)
@@ -47,12 +42,6 @@ module _ {D : Type 0} {g : Ghosts D} where
       ];
       keeps = λ is. two.keeps (gives is);
       still = λ on. (let first = one.still on in let second = two.still first.2 in (second.0 ∙ first.0, second.1 ∙ first.1, second.2));
-      rose = λ is off halts honest. elim (either y.halted) [
-        | inl on ↦ subst (λ j. (disk_of x).faults < (g.disk j.device).faults) (sym (two.still on).0) (one.rose is off on (two.honest honest))
-        | inr works ↦ (let rises = two.rose (gives is) works halts honest in let same = one.calm works (two.honest honest) in omega (arith, rises, same))
-      ];
-      calm = λ off honest. elim (either y.halted) [
-        | inl on ↦ absurd (let clash : true ≡ false = sym (two.still on).2 ∙ off in cc)
-        | inr works ↦ two.calm off honest ∙ one.calm works (two.honest honest)
-      ];
+      rose = λ is off halts honest. search rules;
+      calm = λ off honest. search rules;
     }

@@ -1,11 +1,8 @@
 -- A device that was formatted, and then opened.
-use Rattle.std.proofs.Common.{◌≡◌, ◌<◌, ◌≤◌, ◌^◌, ◌∙◌, ℕ, true, sym, arith}
+use Rattle.{std.proofs.Common.{◌≡◌, ◌<◌, ◌≤◌, ◌^◌, ◌∙◌, ℕ, true, sym, arith}, desk_loading.specs.Openings.IsOpened, desk_pages.specs.{Desks.new_desk, claim.Openings.AllVersions}}
+use Rattle.{desk_pages.specs.Formats.{OpensNew, HasJournal}, desk_store.specs.{claim.Clerks.{disk_of, pages_of, room_of, Keeps}, declared.clerk.Clerk.Clerk}}
+use Rattle.{page_store.specs.claim.Transactions.count_of, sector_device.specs.declared.SectorDevice.Ghosts}
 use Rattle.page_store.proofs.gate_journal.Headers.{same_journal}
-use Rattle.page_store.specs.claim.Transactions.{count_of}
-use Rattle.sector_device.specs.declared.SectorDevice.{Ghosts}
-use Rattle.desk_pages.specs.{Desks.new_desk, Formats.{OpensNew, HasJournal}, claim.Openings.AllVersions}
-use Rattle.desk_store.specs.{declared.clerk.Clerk.Clerk, claim.Clerks.{disk_of, pages_of, room_of, Keeps}}
-use Rattle.desk_loading.specs.Openings.{IsOpened}
 
 module _ {D : Type 0} {g : Ghosts D} where
   pub new_keeps : (device : D) (x : Clerk D g) → ((g.disk device).is_honest → OpensNew (g.disk device)) → IsOpened device x → Keeps x

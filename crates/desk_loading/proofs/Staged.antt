@@ -1,15 +1,11 @@
 -- Batches of a load, one after the other, and a whole load.
-use Rattle.std.{specs.Prelude.min, proofs.Common.{◌≡◌, ◌-◌, ℕ, false, Some, None, inl, inr, refl, sym, ap, subst, ◌∙◌}}
-use Rattle.sector_device.specs.declared.SectorDevice.{Ghosts}
-use Rattle.page_store.specs.claim.Transactions.{IsQuiet}
-use Rattle.desk_model.specs.{claim.Desk.Desk, claim.Geography.GeographyModel}
-use Rattle.store_rows.specs.claim.GeographyRows.{geography_rows}
-use Rattle.desk_store.specs.{geo_tables.declared.load.Load.Load, geo_tables.Loading.{IsFurther, geography_model_of, done_of}, declared.clerk.Clerk.Clerk}
-use Rattle.desk_store.specs.{claim.Clerks.{desk_of, pages_of, room_of, Keeps, Moves, MovesIf}, Keeping.sealed_desk, Loads.{Stages, IsLast, HasGeography, BatchRefused, SealRefused}}
-use Rattle.desk_store.proofs.Moved.{unmoved}
-use Rattle.desk_pages.specs.{declared.error.StoreError.StoreError, declared.error.StoreError.TheVariants.{AlreadySealed, Full, Memory, NotAStore, Halted, Ended}}
+use Rattle.{std.{specs.Prelude.min, proofs.Common.{◌≡◌, ◌-◌, ℕ, false, Some, None, inl, inr, refl, sym, ap, subst, ◌∙◌}}, desk_model.specs.claim.Desk.Desk}
 use Rattle.desk_loading.specs.Loads.{batch_rows, HasBegun, HasStaged, HasWhole, IsLoaded, BeginStopped, BatchStopped, StageRefused, StageStopped, SealStopped, LoadRefused}
-use Rattle.desk_loading.proofs.Moves.{then_moved}
+use Rattle.{desk_model.specs.claim.Geography.GeographyModel, desk_pages.specs.declared.error.StoreError.StoreError, desk_store.{specs.Keeping.sealed_desk, proofs.Moved.unmoved}}
+use Rattle.{desk_pages.specs.declared.error.StoreError.TheVariants.{AlreadySealed, Full, Memory, NotAStore, Halted, Ended}, desk_store.specs.declared.clerk.Clerk.Clerk}
+use Rattle.desk_store.specs.{Loads.{Stages, IsLast, HasGeography, BatchRefused, SealRefused}, claim.Clerks.{desk_of, pages_of, room_of, Keeps, Moves, MovesIf}}
+use Rattle.{desk_store.specs.geo_tables.{Loading.{IsFurther, geography_model_of, done_of}, declared.load.Load.Load}, page_store.specs.claim.Transactions.IsQuiet}
+use Rattle.{sector_device.specs.declared.SectorDevice.Ghosts, store_rows.specs.claim.GeographyRows.geography_rows, desk_loading.proofs.Moves.then_moved}
 
 module _ {D : Type 0} {g : Ghosts D} where
   -- ---- batches

@@ -1,13 +1,9 @@
 -- A whole load.
 use Rattle.std.specs.Prelude.{◌≡◌, ◌⊎◌, ◌-◌, ◌/◌, ℕ, min, max, false, None}
-use Rattle.sector_device.specs.declared.SectorDevice.{Ghosts}
-use Rattle.page_store.specs.claim.Transactions.{IsQuiet}
-use Rattle.desk_model.specs.claim.Geography.{GeographyModel}
-use Rattle.store_rows.specs.claim.GeographyRows.{geography_rows}
-use Rattle.desk_store.specs.{geo_tables.declared.load.Load.Load, geo_tables.Loading.{number_of, geography_model_of, done_of}, declared.clerk.Clerk.Clerk}
-use Rattle.desk_store.specs.{claim.Clerks.{desk_of, is_halted, pages_of, room_of, Keeps, Moves, MovesIf}, Keeping.sealed_desk}
-use Rattle.desk_store.specs.Loads.{Stages, IsLast, BeginRefused, BatchRefused, SealRefused}
-use Rattle.desk_pages.specs.{declared.error.StoreError.StoreError, declared.error.StoreError.TheVariants.{AlreadySealed, Full, Memory, NotAStore, Halted}}
+use Rattle.{desk_model.specs.claim.Geography.GeographyModel, desk_pages.specs.declared.error.StoreError.{StoreError, TheVariants.{AlreadySealed, Full, Memory, NotAStore, Halted}}}
+use Rattle.desk_store.specs.{Keeping.sealed_desk, Loads.{Stages, IsLast, BeginRefused, BatchRefused, SealRefused}, declared.clerk.Clerk.Clerk, geo_tables.declared.load.Load.Load}
+use Rattle.desk_store.specs.{claim.Clerks.{desk_of, is_halted, pages_of, room_of, Keeps, Moves, MovesIf}, geo_tables.Loading.{number_of, geography_model_of, done_of}}
+use Rattle.{page_store.specs.claim.Transactions.IsQuiet, sector_device.specs.declared.SectorDevice.Ghosts, store_rows.specs.claim.GeographyRows.geography_rows}
 
 -- how many rows a batch may have: 13 journal pages for each and for the mark of the load, but one at least and 512 at most
 abbrev pub batch_rows : ℕ → ℕ

@@ -1,11 +1,8 @@
 -- A device that is made a store.
 use Rattle.std.specs.Prelude.{◌≡◌, ◌⊎◌, ◌≤◌, ◌+◌, ℕ}
-use Rattle.sector_device.specs.declared.SectorDevice.{Ghosts}
-use Rattle.page_store.specs.gate_journal.claim.Store.{home}
-use Rattle.desk_model.specs.claim.Geography.{GeographyModel}
-use Rattle.desk_pages.specs.{Formats.{OpensNew, HasJournal, FormatErr}, declared.error.StoreError.StoreError}
-use Rattle.desk_store.specs.declared.clerk.Clerk.{Clerk}
-use Rattle.desk_loading.specs.{Openings.{IsOpened, IsUnopened}, Loads.{IsLoaded, LoadRefused}}
+use Rattle.{desk_loading.specs.{Loads.{IsLoaded, LoadRefused}, Openings.{IsOpened, IsUnopened}}, desk_model.specs.claim.Geography.GeographyModel}
+use Rattle.{desk_pages.specs.{Formats.{OpensNew, HasJournal, FormatErr}, declared.error.StoreError.StoreError}, desk_store.specs.declared.clerk.Clerk.Clerk}
+use Rattle.{page_store.specs.gate_journal.claim.Store.home, sector_device.specs.declared.SectorDevice.Ghosts}
 
 module _ {D : Type 0} (g : Ghosts D) where
   -- the device was made a store with J journal pages, whose desk has no geography and no plan

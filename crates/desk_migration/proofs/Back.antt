@@ -1,25 +1,16 @@
 -- Rows that are taken out, tag after tag, until the rows are of the old version.
-use Rattle.std.specs.{List.starts_with, Ordering.eq_by_cmp, FinMap.{get, get-remove, remove}, Cmp.Lexicographic.nat_list_cmp_total}
+use Rattle.{std.specs.{Cmp.Lexicographic.nat_list_cmp_total, FinMap.{get, get-remove, remove}, List.starts_with, Ordering.eq_by_cmp}, btree_walks.specs.declared.rows.Row.Row}
 use Rattle.std.proofs.Common.{◌≡◌, ◌+◌, inl, ℕ, zero, List, [], ◌∷◌, drop, Bool, true, false, cond, nat_eq, Some, None, refl, sym, ap, subst, ◌∙◌, arith}
-use Rattle.sector_device.{specs.claim.Disk.Image, specs.claim.Moments.LeavesOnly, specs.declared.SectorDevice.Ghosts, proofs.Moments.leaves_wider}
-use Rattle.page_store.specs.{gate_journal.claim.Store.home, claim.Transactions.{stored, disk_in, count_of, journal_of, has_halted, IsQuiet, Passed}, declared.pages.Pages.Pages}
-use Rattle.page_store.specs.declared.txn.Txn.{Txn}
-use Rattle.page_btree.specs.{page_node.claim.Places.key_cmp, claim.Map.InTxn}
-use Rattle.btree_walks.specs.declared.rows.Row.{Row}
-use Rattle.desk_model.specs.claim.Desk.{Desk}
-use Rattle.store_rows.{specs.claim.Rows.KeyMap, specs.Rows.SameTag, specs.claim.Holders.AreTallied, proofs.Frames.{desk_stays, either_way, remove_keeps_tag}}
-use Rattle.store_rows.proofs.{KeyPrefixes.{after_tag, starts_itself}, OneGeography.no_value}
+use Rattle.{desk_migration.specs.TurningBack.{IsLess, IsWithout, NoneOf}, desk_model.specs.claim.Desk.Desk, page_btree.specs.{claim.Map.InTxn, page_node.claim.Places.key_cmp}}
+use Rattle.{desk_pages.specs.claim.Desks.{InPages, InTxnOf, IsMapOf, OpensDesk, OpensEither}, page_store.specs.declared.{pages.Pages.Pages, txn.Txn.Txn}}
+use Rattle.page_store.specs.{claim.Transactions.{stored, disk_in, count_of, journal_of, has_halted, IsQuiet, Passed}, gate_journal.claim.Store.home}
+use Rattle.{sector_device.specs.{claim.{Disk.Image, Moments.LeavesOnly}, declared.SectorDevice.Ghosts}, store_check.specs.Rows.{IsFirst, NoneFrom}, store_rows.specs.Rows.SameTag}
+use Rattle.{store_rows.{specs.claim.{Holders.AreTallied, Rows.KeyMap}, proofs.OneGeography.no_value}, sector_device.proofs.Moments.leaves_wider, store_check.proofs.After.from_tag}
+use Rattle.{store_check.proofs.FirstRows.{none_at_all, none_after}, store_rows.proofs.{Frames.{desk_stays, either_way, remove_keeps_tag}, KeyPrefixes.{after_tag, starts_itself}}}
 use Rattle.store_rows.proofs.TidyParts.{AllKept, chunks_stay, kept_of, loads_stay, next_moves, plans_stay, tidy_at, some_or_none as none_or}
-use Rattle.desk_pages.specs.claim.Desks.{InPages, InTxnOf, IsMapOf, OpensDesk, OpensEither}
-use Rattle.store_check.{specs.Rows.{IsFirst, NoneFrom}, proofs.FirstRows.{none_at_all, none_after}, proofs.After.from_tag}
 use Rattle.desk_opening.proofs.plan_rows.Committing.{IsBegun, quiet_leaves}
-use Rattle.desk_migration.specs.TurningBack.{IsLess, IsWithout, NoneOf}
 
 -- ---- one row
-
-starts_tag : (tag : ℕ) → starts_with nat_eq (tag ∷ []) (tag ∷ []) ≡ true
-starts_tag tag = starts_itself (tag ∷ []) []
-
 none_of : (tag : ℕ) (m : KeyMap) → NoneFrom (tag ∷ []) (tag ∷ []) m → NoneOf tag m
 none_of tag m none rest = none_or (get m (tag ∷ rest)) (λ value there. none (tag ∷ rest) value there (from_tag tag tag rest (omega arith)) (starts_itself (tag ∷ []) rest))
 
@@ -27,7 +18,7 @@ pub none_found : (tag : ℕ) (m : KeyMap) (row : Row) → IsFirst false (tag ∷
 none_found tag m row first = none_of tag m (none_at_all m (tag ∷ []) (tag ∷ []) first)
 
 pub none_later : (tag : ℕ) (m : KeyMap) (row : Row) → IsFirst true (tag ∷ []) row m → starts_with nat_eq row.key (tag ∷ []) ≡ false → NoneOf tag m
-none_later tag m row first off = none_of tag m (none_after m (tag ∷ []) (row.key, row.value) first.0 first.1 (tag ∷ []) (starts_tag tag) off)
+none_later tag m row first off = none_of tag m (none_after m (tag ∷ []) (row.key, row.value) first.0 first.1 (tag ∷ []) (starts_itself (tag ∷ []) []) off)
 
 removed_less : (tag : ℕ) (m : KeyMap) (rest : List ℕ) → IsLess tag m (remove m (tag ∷ rest))
 removed_less tag m rest = record {
@@ -54,14 +45,11 @@ module _ (m n k l : KeyMap) (held : IsLess 72 m n) (none_held : NoneOf 72 n) (to
   no_holding : NoneOf 72 l
   no_holding rest = versions.others 72 (λ e. absurd (omega arith)) rest ∙ told.others 72 (λ e. absurd (omega arith)) rest ∙ none_held rest
 
-  no_holder_count : NoneOf 75 l
-  no_holder_count rest = versions.others 75 (λ e. absurd (omega arith)) rest ∙ none_told rest
-
   none_counted_by_holders : AreTallied l
   none_counted_by_holders number fits = record {
     count = zero;
     fits = omega arith;
-    row = no_holder_count _;
+    row = versions.others 75 (λ e. absurd (omega arith)) _ ∙ none_told _;
     holders = record {
       plan_at = λ place. zero;
       each = λ place less. absurd (omega arith);

@@ -1,16 +1,14 @@
 -- The end: the version's row is put, and it is committed.
-use Rattle.std.proofs.Common.{◌≡◌, ◌⊎◌, ◌<◌, ◌≤◌, ◌+◌, ℕ, List, [], ◌∷◌, true, false, Result, Ok, Err, OnOk, IfErr, sym, subst, ◌∙◌, inl, inr, ⊎_elim, arith}
-use Rattle.sector_device.{specs.claim.Disk.Image, specs.claim.Moments.LeavesOnly, specs.declared.SectorDevice.Ghosts, proofs.Moments.leaves_wider}
-use Rattle.page_store.specs.{gate_journal.claim.Store.home, claim.Transactions.{stored, disk_in, count_of, journal_of, has_halted, txn_writes, IsQuiet, Passed}}
-use Rattle.page_store.{specs.declared.pages.Pages.Pages, specs.declared.txn.Txn.Txn, proofs.Stops.quiet_none}
-use Rattle.page_btree.specs.{claim.Map.{InTxn, InPages}, declared.error.TreeError.TreeError}
+use Rattle.std.proofs.Common.{◌≡◌, ◌⊎◌, ◌≤◌, ◌+◌, ℕ, List, [], ◌∷◌, true, false, Result, Ok, Err, OnOk, IfErr, sym, subst, ◌∙◌, inl, inr, ⊎_elim, arith}
+use Rattle.{desk_migration.specs.{Puts.{version_rows, FinishErr, HoldsAll, TellsFaults, free_of}, claim.Holding.AllAreHeld}, desk_model.specs.claim.Desk.Desk}
+use Rattle.desk_pages.specs.{Commits.FittingErr, Desks.{InPagesAs, InTxnAs}, Errors.tree_refusal, Moments.StopsLeaveEither, claim.Puts.{HasPut, PutsErr}}
+use Rattle.desk_pages.specs.{claim.Desks.{IsMapOf, IsOldMap, OpensAs, OpensOld, OpensDesk, OpensEither, InPages as HoldsDesk}, declared.error.StoreError.StoreError}
+use Rattle.{desk_pages.specs.declared.error.StoreError.TheVariants.{Memory, DeviceFault}, page_btree.specs.{claim.Map.{InTxn, InPages}, declared.error.TreeError.TreeError}}
+use Rattle.page_store.specs.{claim.Transactions.{stored, disk_in, count_of, journal_of, has_halted, txn_writes, IsQuiet, Passed}, declared.{pages.Pages.Pages, txn.Txn.Txn}}
+use Rattle.{page_store.specs.gate_journal.claim.Store.home, sector_device.specs.{claim.{Disk.Image, Moments.LeavesOnly}, declared.SectorDevice.Ghosts}}
+use Rattle.{store_rows.specs.{MigrationLaws.{VersionIsTold, as_new}, claim.{Keys.{key_of, version, in_four}, Puts.Row, Rows.KeyMap}}, sector_device.proofs.Moments.leaves_wider}
+use Rattle.desk_migration.proofs.Stepped.{commit_faults, no_faults}
 use Rattle.page_btree.specs.declared.error.TreeError.TheVariants as tree
-use Rattle.desk_model.specs.claim.Desk.{Desk}
-use Rattle.store_rows.specs.{claim.Keys.{key_of, version, in_four}, claim.Rows.KeyMap, claim.Puts.Row, MigrationLaws.{VersionIsTold, as_new}}
-use Rattle.desk_pages.specs.{claim.Puts.{HasPut, PutsErr}, claim.Desks.{IsMapOf, IsOldMap, OpensAs, OpensOld, OpensDesk, OpensEither, InPages as HoldsDesk}}
-use Rattle.desk_pages.specs.{Desks.{InPagesAs, InTxnAs}, Moments.StopsLeaveEither, Errors.tree_refusal, Commits.FittingErr, declared.error.StoreError.StoreError}
-use Rattle.desk_pages.specs.declared.error.StoreError.TheVariants.{Full, Memory, DeviceFault}
-use Rattle.desk_migration.{specs.claim.Holding.AllAreHeld, specs.Puts.{version_rows, FinishErr, HoldsAll, TellsFaults, free_of}, proofs.Stepped.{commit_faults, no_faults}}
 use Rattle.desk_opening.proofs.plan_rows.Committing.{IsBegun, both, commit_leaves, failed_after, quiet_leaves}
 
 told_map : VersionIsTold → (m : KeyMap) (d : Desk) → IsOldMap m d → AllAreHeld m → IsMapOf true (as_new m) d
@@ -25,14 +23,6 @@ pub ok_then : {T E : Type 0} (r : Result T E) (A B : Type 0) → (A → B) → O
 ok_then (Ok x) A B go is = go is
 ok_then (Err e) A B go is = tt
 
-pub ok_so : {T E : Type 0} (r : Result T E) (B : Type 0) → B → OnOk r B
-ok_so (Ok x) B is = is
-ok_so (Err e) B is = tt
-
-pub err_then : {T E : Type 0} (r : Result T E) (P Q : E → Type 0) → ((e : E) → P e → Q e) → IfErr r P → IfErr r Q
-err_then (Ok x) P Q go is = tt
-err_then (Err e) P Q go is = go e is
-
 module _ {D : Type 0} {g : Ghosts D} where
   -- what a commit tells of faults
   pub either_faults : {T : Type 0} (a b c : Pages D g) (r : Result T StoreError) → Passed a b → ((disk_in c).is_honest → (disk_in b).is_honest) → OnOk r (has_halted c ≡ false) → ((disk_in c).is_honest → OnOk r ((disk_in c).faults ≡ (disk_in b).faults)) → IfErr r (FittingErr b c) → TellsFaults a c
@@ -44,10 +34,6 @@ module _ {D : Type 0} {g : Ghosts D} where
   all_quiet a b quiet honest working sectors d whole holds =
       leaves_wider (OpensOld sectors d) (OpensEither sectors d) (disk_in a) (disk_in b) (λ x opens. inr opens)
       (quiet_leaves false a b quiet honest working sectors d whole (record { m = holds.m; holds = holds.holds; is = holds.is }))
-
-  -- few pages are free
-  pub short_now : (a : Pages D g) (free : ℕ) → ((disk_in a).is_honest → free ≡ free_of a) → free < 13 → FinishErr a a Full
-  short_now a free is short = (quiet_none a, inl (λ honest. let same = is honest in omega arith))
 
   pub room_now : (a : Pages D g) (free : ℕ) → ((disk_in a).is_honest → free ≡ free_of a) → 13 ≤ free → (disk_in a).is_honest → 13 ≤ free_of a
   room_now a free is enough honest = let same = is honest in omega arith

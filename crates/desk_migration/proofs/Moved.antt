@@ -1,18 +1,12 @@
 -- Steps and the end at a migration.
-use Rattle.std.specs.Prelude.{◌↔◌, Result, Ok, Err, OnOk, IfErr, IsErr}
-use Rattle.std.proofs.Common.{rules, ◌≡◌, ◌⊎◌, ℕ, zero, suc, true, false, List, refl, sym, ap, subst, ◌∙◌, inl, inr, arith}
-use Rattle.sector_device.{specs.claim.Disk.Image, specs.claim.Moments.LeavesOnly, specs.declared.SectorDevice.Ghosts, proofs.Moments.leaves_now}
-use Rattle.page_store.specs.{gate_journal.claim.Contents.is_halted as journal_halted, claim.Transactions.{HasShape, IsQuiet, IsSame}, declared.pages.Pages.Pages}
-use Rattle.page_store.proofs.Chains.{either}
-use Rattle.page_btree.specs.claim.Map.{InPages}
-use Rattle.desk_model.specs.claim.Desk.{Desk}
-use Rattle.store_rows.specs.claim.Rows.{KeyMap}
-use Rattle.desk_pages.specs.{claim.Desks.{IsOldMap, InPages as HoldsDesk, OpensEither, OpensOld}, Moments.StopsLeave, declared.error.StoreError.StoreError}
-use Rattle.desk_pages.{specs.declared.error.StoreError.TheVariants.{Full, Memory, NotAStore, DeviceFault, Halted}, proofs.Kept.opens_now}
-use Rattle.desk_migration.specs.claim.Holding.{AllAreHeld, AreHeldTo}
-use Rattle.desk_migration.specs.claim.Migrating.{disk_of, has_ended, is_halted, sectors_of, Ends, Goes, HasMore, HasRows, Keeps, KeepsNew, Moves}
-use Rattle.desk_migration.specs.{Puts.{FinishErr, HoldsAll, HoldsMore, HoldsTo, StepErr, TellsFaults}, declared.migration.Migration.Migration}
-use Rattle.desk_migration.proofs.Pairs.{not_all, same_map}
+use Rattle.{std.specs.Prelude.{◌↔◌, Result, Ok, Err, OnOk, IfErr, IsErr}, desk_migration.specs.Puts.{FinishErr, HoldsAll, HoldsMore, HoldsTo, StepErr, TellsFaults}}
+use Rattle.{std.proofs.Common.{rules, ◌≡◌, ◌⊎◌, ℕ, zero, suc, true, false, List, refl, sym, ap, subst, ◌∙◌, inl, inr, arith}, desk_model.specs.claim.Desk.Desk}
+use Rattle.desk_migration.specs.claim.{Holding.{AllAreHeld, AreHeldTo}, Migrating.{disk_of, has_ended, is_halted, sectors_of, Ends, Goes, HasMore, HasRows, Keeps, KeepsNew, Moves}}
+use Rattle.{desk_migration.specs.declared.migration.Migration.Migration, desk_pages.specs.{Moments.StopsLeave, claim.Desks.{IsOldMap, InPages as HoldsDesk, OpensEither, OpensOld}}}
+use Rattle.{desk_pages.specs.declared.error.StoreError.{StoreError, TheVariants.{Full, Memory, NotAStore, DeviceFault, Halted}}, page_btree.specs.claim.Map.InPages}
+use Rattle.page_store.specs.{claim.Transactions.{HasShape, IsQuiet, IsSame}, declared.pages.Pages.Pages, gate_journal.claim.Contents.is_halted as journal_halted}
+use Rattle.{sector_device.specs.{claim.{Disk.Image, Moments.LeavesOnly}, declared.SectorDevice.Ghosts}, store_rows.specs.claim.Rows.KeyMap, desk_pages.proofs.Kept.opens_now}
+use Rattle.{desk_migration.proofs.Pairs.{not_all, same_map}, page_store.proofs.Chains.either, sector_device.proofs.Moments.leaves_now}
 use Rattle.desk_opening.proofs.plan_rows.Committing.{both, quiet_rows}
 
 zero_or : (n : ℕ) → (n ≡ 0) ⊎ (n ≡ 0 → ⊥)
@@ -139,10 +133,6 @@ module _ {D : Type 0} {g : Ghosts D} where
     ];
   }
 
-  -- all is of the new version then
-  pub kept_new : (x y : Migration D g) → has_ended x ≡ true → Goes x y → is_halted x ≡ false → is_halted y ≡ false → ((disk_of y).is_honest → (d : Desk) → HoldsAll x.pages d → HoldsDesk y.pages d) → (disk_of y).is_honest → (d : Desk) → Keeps x d → KeepsNew y d
-  kept_new x y ended goes working works told honest d keeps = search (holds_all, goes.honest, opens_now)
-
   not_ended_rows : (x y : Migration D g) (e : StoreError) (d : Desk) → has_ended x ≡ true → FinishErr x.pages y.pages e → y.from ≡ x.from → has_ended y ≡ has_ended x → ((disk_of y).is_honest → (disk_of x).is_honest) → Keeps x d → is_halted x ≡ false → is_halted y ≡ false → (disk_of y).is_honest → (m : KeyMap) × HasRows y d m
   not_ended_rows x y Full d on why from ended honest keeps working works is_honest = quiet_has x y d why.0 from ended honest keeps working is_honest
   not_ended_rows x y Memory d on why from ended honest keeps working works is_honest = quiet_has x y d why.0 from ended honest keeps working is_honest
@@ -159,21 +149,9 @@ module _ {D : Type 0} {g : Ghosts D} where
   }
 
   -- ---- calls
-  pub step_refused : (x y : Migration D g) (e : StoreError) → HasShape x.pages y.pages → ((disk_of y).is_honest → (disk_of x).is_honest) → (is_halted x ≡ true → IsSame x.pages y.pages) → TellsFaults x.pages y.pages → LeavesOld x y → StepErr x.from x.pages y.pages e → y.from ≡ x.from → has_ended y ≡ has_ended x → Moves x y
-  step_refused x y e shape honest still faults leaves why from ended = not_stepped x y e (goes_on x y shape honest still faults) leaves why from ended
-
-  pub step_made : (x y : Migration D g) (count : ℕ) → HasShape x.pages y.pages → ((disk_of y).is_honest → (disk_of x).is_honest) → TellsFaults x.pages y.pages → (is_halted x ≡ false) × (is_halted y ≡ false) → LeavesOld x y → (has_ended y ≡ true → count ≡ 0) → PutsMore count x y → Moves x y
-  step_made x y count shape honest faults ok leaves ended puts = stepped x y count (goes_on x y shape honest (λ halted. both (is_halted x) halted ok.0) faults) ok.1 leaves ended puts ok.0
-
-  module _ (r : Result (Unit {0}) StoreError) (x y : Migration D g) (ended : has_ended x ≡ true) (shape : HasShape x.pages y.pages) (honest : (disk_of y).is_honest → (disk_of x).is_honest) (still : is_halted x ≡ true → (r ≡ Err Halted) × IsSame x.pages y.pages) (faults : TellsFaults x.pages y.pages) where
-    pub finish_goes : Goes x y
-    finish_goes = goes_on x y shape honest (λ halted. (still halted).1) faults
-
-    pub finish_ends : LeavesEither x y → Ends x y
-    finish_ends leaves = ended_so x y ended finish_goes leaves
-
+  -- all is of the new version then
   pub told_of : (r : Result (Unit {0}) StoreError) (x y : Migration D g) → has_ended x ≡ true → Goes x y → OnOk r ((is_halted x ≡ false) × (is_halted y ≡ false)) → ((disk_of y).is_honest → (d : Desk) → HoldsAll x.pages d → OnOk r (HoldsDesk y.pages d)) → (disk_of y).is_honest → OnOk r ((d : Desk) → Keeps x d → KeepsNew y d)
-  told_of (Ok v) x y ended goes ok told honest = λ d keeps. kept_new x y ended goes ok.0 ok.1 told honest d keeps
+  told_of (Ok v) x y ended goes ok told honest = λ d keeps. search (holds_all, goes.honest, opens_now)
   told_of (Err e) x y ended goes ok told honest = tt
 
   pub stays_of : (r : Result (Unit {0}) StoreError) (x y : Migration D g) → has_ended x ≡ true → Goes x y → IfErr r (λ e. FinishErr x.pages y.pages e) → y.from ≡ x.from → has_ended y ≡ has_ended x → IsErr r → is_halted y ≡ false → (d : Desk) → Keeps x d → Keeps y d

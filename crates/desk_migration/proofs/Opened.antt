@@ -1,22 +1,18 @@
 -- What an opening finds.
-use Rattle.std.proofs.Common.{rules, ◌≡◌, ℕ, Bool, true, false, refl, sym, subst, ◌∙◌, arith}
-use Rattle.sector_device.{specs.claim.Disk.{Disk, Image}, specs.declared.SectorDevice.Ghosts, proofs.Moments.leaves_now}
-use Rattle.page_store.specs.{gate_journal.Recovery.{HasRoom, Found}, claim.Transactions.{stored, disk_in, count_of, journal_of, has_halted, IsQuiet, IsKept, Passed}}
-use Rattle.page_store.specs.{Transactions.OpenErr, declared.pages.Pages.Pages, declared.txn.Txn.Txn, gate_journal.declared.error.PageError.PageError}
-use Rattle.page_store.proofs.Stops.{leaves_here, leaves_quiet}
+use Rattle.{std.proofs.Common.{rules, ◌≡◌, ℕ, Bool, true, false, refl, sym, subst, ◌∙◌, arith}, desk_migration.specs.claim.Holding.AreHeldTo, desk_model.specs.claim.Desk.Desk}
+use Rattle.desk_migration.specs.{Openings.{AreOfVersion, AreRead, IsFound, IsRefused, JudgeErr, KeepsOne, LeavesNew}, claim.Migrating.{disk_of, has_ended, is_halted, sectors_of}}
+use Rattle.{desk_migration.{specs.declared.migration.Migration.Migration, proofs.PartRows.begins_held}, desk_opening.specs.Opening.{HasVersion, IsReadFrom, OpenErr as ReadDeskErr}}
+use Rattle.desk_pages.specs.{Errors.{missing, page_refusal, row_refusal}, Reading.ReadErr, claim.{Desks.{InPagesOf, OpensDeskOf}, Openings.{AllVersions, OpensOneAs}}}
+use Rattle.{desk_pages.specs.declared.error.StoreError.{StoreError, TheVariants.{NotAStore, DeviceFault, Memory, AlreadyNew}}, page_btree.specs.claim.Map.InTxn}
+use Rattle.{page_btree.specs.declared.error.TreeError.TreeError, page_store.specs.{Transactions.OpenErr, declared.{pages.Pages.Pages, txn.Txn.Txn}}}
+use Rattle.page_store.specs.{claim.Transactions.{stored, disk_in, count_of, journal_of, has_halted, IsQuiet, IsKept, Passed}, gate_journal.declared.error.PageError.PageError}
+use Rattle.{page_store.specs.gate_journal.Recovery.{AllStores, HasRoom, Found, ReadsAs}, sector_device.specs.claim.{Disk.{Disk, Image}, Moments.LeavesOnly}}
+use Rattle.{sector_device.specs.declared.SectorDevice.Ghosts, store_rows.specs.{Keys.parts_prefix, claim.{Keys.version, Rows.{KeyMap, row_in}, Tidy.version_row}}}
+use Rattle.{desk_pages.proofs.{Found.{found_after, found_desk, open_versions, page_stores_of, pages_left, stores_of}, Kept.opens_now}, sector_device.proofs.Moments.leaves_now}
+use Rattle.page_store.proofs.Stops.{leaves_here, leaves_quiet, quiet_more}
 use Rattle.page_store.specs.gate_journal.declared.error.PageError.TheVariants as page
-use Rattle.page_btree.specs.{declared.error.TreeError.TreeError, claim.Map.InTxn}
 use Rattle.page_btree.specs.declared.error.TreeError.TheVariants as tree
-use Rattle.desk_model.specs.claim.Desk.{Desk}
-use Rattle.store_rows.specs.{Keys.parts_prefix, claim.Keys.version, claim.Rows.{KeyMap, row_in}, claim.Tidy.version_row}
-use Rattle.desk_pages.specs.{Reading.ReadErr, claim.Desks.{InPagesOf, OpensDeskOf}, claim.Openings.AllVersions, Errors.{missing, page_refusal, row_refusal}}
-use Rattle.desk_pages.specs.{declared.error.StoreError.StoreError, declared.error.StoreError.TheVariants.{NotAStore, DeviceFault, Memory, AlreadyNew}}
-use Rattle.desk_pages.proofs.{Found.{found_after, found_desk, page_stores_of, pages_left}, Kept.opens_now}
-use Rattle.desk_opening.specs.Opening.{HasVersion, IsReadFrom, OpenErr as ReadDeskErr}
-use Rattle.desk_migration.specs.{claim.Holding.AreHeldTo, claim.Migrating.{disk_of, has_ended, is_halted, sectors_of}}
-use Rattle.desk_migration.specs.{Openings.{AreOfVersion, AreRead, IsFound, IsRefused, JudgeErr, KeepsOne, LeavesNew}, declared.migration.Migration.Migration}
-use Rattle.desk_migration.proofs.PartRows.{begins_held}
-use Rattle.desk_opening.proofs.plan_rows.Committing.{IsBegun, both, quiet_rows}
+use Rattle.desk_opening.proofs.{WholeDesks.unread_unopened, plan_rows.Committing.{IsBegun, both, quiet_rows}}
 
 -- ---- pages that aren't opened
 pub page_refused : {D : Type 0} (h : Ghosts D) (old new : D) (e : PageError) → OpenErr h old new e → IsRefused (h.disk old) (h.disk new) (page_refusal e)
@@ -32,10 +28,7 @@ page_not_new _ is = cc
 
 module _ {D : Type 0} {g : Ghosts D} where
   -- ---- whether pages hold a desk in the old version
-  abbrev ReadsVersion : Bool → Txn → Pages D g → Pages D g → Type 0
-  ReadsVersion new t b c = (disk_in c).is_honest → (m : KeyMap) → InTxn t (stored b) m → row_in m version ≡ version_row new
-
-  pub of_version : (new : Bool) (t : Txn) (a b c : Pages D g) → IsBegun a t → Passed a b → IsQuiet b c → ReadsVersion new t b c → (disk_in c).is_honest → AreOfVersion new (count_of a) (stored a)
+  pub of_version : (new : Bool) (t : Txn) (a b c : Pages D g) → IsBegun a t → Passed a b → IsQuiet b c → ((disk_in c).is_honest → (m : KeyMap) → InTxn t (stored b) m → row_in m version ≡ version_row new) → (disk_in c).is_honest → AreOfVersion new (count_of a) (stored a)
   of_version new t a b c start ab quiet told honest m holds = search (quiet.honest, ab.quiet.same, start.reads, ab.quiet.honest)
 
   pub read_from : (t : Txn) (a b : Pages D g) (d : Desk) → IsBegun a t → IsQuiet a b → ((disk_in b).is_honest → (m : KeyMap) → InTxn t (stored a) m → IsReadFrom m d) → (disk_in b).is_honest → AreRead (count_of a) (stored a)
@@ -45,37 +38,24 @@ module _ {D : Type 0} {g : Ghosts D} where
   missing_told a b true is none = sym is
   missing_told a b false is none = none (sym is)
 
-  abbrev NoDesk : Pages D g → Pages D g → TreeError → Type 0
-  NoDesk a b e = (e ≡ tree.Memory → ⊥) → has_halted b ≡ false → JudgeErr a b NotAStore
-
-  tree_judged : (a b : Pages D g) (e : TreeError) (halted : Bool) → halted ≡ has_halted b → NoDesk a b e → JudgeErr a b (row_refusal e halted)
-  tree_judged a b tree.Memory true is none = sym is
-  tree_judged a b tree.Memory false is none = tt
-  tree_judged a b _ halted is none = missing_told a b halted is (none (λ same. cc))
-
-  no_desk : (t : Txn) (a b : Pages D g) (e : TreeError) → IsBegun a t → IsQuiet a b → ReadDeskErr t a b e → NoDesk a b e
-  no_desk t a b tree.DeviceFault start quiet why other works = both (has_halted b) why.halted works
-  no_desk t a b tree.NotAStore start quiet why other works = λ honest new d holds. why honest new d (record { m = holds.m; holds = start.reads (quiet.honest honest) holds.m holds.holds; is = holds.is })
-  no_desk t a b tree.Halted start quiet why other works = both (has_halted a) why start.working
-  no_desk t a b tree.Memory start quiet why other works = absurd (other refl)
-  no_desk t a b _ start quiet why other works = absurd why
-
   pub not_read : (t : Txn) (a b : Pages D g) (e : TreeError) (halted : Bool) → halted ≡ has_halted b → IsBegun a t → IsQuiet a b → ReadDeskErr t a b e → JudgeErr a b (row_refusal e halted)
-  not_read t a b e halted is start quiet why = tree_judged a b e halted is (no_desk t a b e start quiet why)
-
-  no_version : (t : Txn) (a b c : Pages D g) (e : TreeError) → IsBegun a t → Passed a b → IsQuiet b c → ReadErr HasVersion t b c e → NoDesk a c e
-  no_version t a b c tree.DeviceFault start ab quiet why other works = both (has_halted c) why.halted works
-  no_version t a b c tree.NotAStore start ab quiet why other works = λ honest new d holds.
-      let middle = quiet.honest honest in
-      let reads = start.reads (ab.quiet.honest middle) holds.m holds.holds in
-      why honest holds.m (subst (λ (P : Image). InTxn t P holds.m) (sym (ab.quiet.same middle)) reads) (holds.is.tidy.new, holds.is.tidy.holdings.told)
-  no_version t a b c tree.Halted start ab quiet why other works = both (has_halted a) (sym ab.halted ∙ why) start.working
-  no_version t a b c _ start ab quiet why other works = absurd why
+  not_read t a b tree.DeviceFault halted is start quiet why = missing_told a b halted is (λ works. both (has_halted b) why.halted works)
+  not_read t a b tree.NotAStore halted is start quiet why = missing_told a b halted is (λ works honest new d holds.
+      why honest new d (record { m = holds.m; holds = start.reads (quiet.honest honest) holds.m holds.holds; is = holds.is }))
+  not_read t a b tree.Halted halted is start quiet why = both (has_halted a) why start.working
+  not_read t a b tree.Memory true is start quiet why = sym is
+  not_read t a b tree.Memory false is start quiet why = tt
+  not_read t a b _ halted is start quiet why = absurd why
 
   pub version_not_read : (t : Txn) (a b c : Pages D g) (e : TreeError) (halted : Bool) → halted ≡ has_halted c → IsBegun a t → Passed a b → IsQuiet b c → ReadErr HasVersion t b c e → JudgeErr a c (row_refusal e halted)
-  version_not_read t a b c e halted is start ab quiet why = tree_judged a c e halted is (no_version t a b c e start ab quiet why)
+  version_not_read t a b c e halted is start ab quiet why =
+      not_read t a c e halted is start (quiet_more a b c ab.quiet quiet) (unread_unopened HasVersion t a b c ab quiet (λ honest m x holds of. (of.tidy.new, of.tidy.holdings.told)) e why)
 
   -- ---- pages that were found
+  -- a stop leaves no more of what they were found on where they were read at most
+  pub moment_quiet : (old : Disk) (a b : Pages D g) → IsQuiet a b → ((disk_in a).is_honest → AllStores old → LeavesOnly (ReadsAs old) old (disk_in a)) → (disk_in b).is_honest → AllVersions old → LeavesOnly (OpensOneAs old) old (disk_in b)
+  moment_quiet old a b quiet left honest all = leaves_quiet a b quiet honest (OpensOneAs old) old (open_versions old (disk_in a) all (left (quiet.honest honest) (stores_of old all)))
+
   -- they hold a desk in the version that their rows tell
   version_of : (new told : Bool) (ps : Pages D g) (d : Desk) → InPagesOf new ps d → AreOfVersion told (count_of ps) (stored ps) → new ≡ told
   version_of new told ps d holds are = sym holds.is.version ∙ one_version holds.is.tidy.new told (sym holds.is.tidy.holdings.told ∙ are holds.m holds.holds)

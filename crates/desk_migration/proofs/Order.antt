@@ -1,15 +1,11 @@
 -- The key that comes next after another one.
-use Rattle.std.specs.{List.starts_with, Ordering.{is_gt, nat_cmp, ordering_then}, declared.cmp.Ordering.Ordering, declared.cmp.Ordering.TheVariants.{Less, Equal, Greater}}
-use Rattle.std.specs.{Cmp.nat_cmp_is, Cmp.Lexicographic.nat_list_cmp_total, FinMap.{entries, get}}
+use Rattle.std.specs.{Cmp.{nat_cmp_is, Lexicographic.nat_list_cmp_total}, FinMap.{entries, get}, List.starts_with, Ordering.{is_gt, nat_cmp, ordering_then}}
+use Rattle.std.{specs.declared.cmp.Ordering.{Ordering, TheVariants.{Less, Equal, Greater}}, proofs.lemmas.{Bool.{and_from, and_parts}, Cmp.tied_itself}}
 use Rattle.std.proofs.Common.{rules, Some, ◌≡◌, ◌⊎◌, inl, inr, ◌<◌, ℕ, List, [], ◌∷◌, ◌++◌, length, true, false, nat_eq, refl, sym, ap, ◌∙◌, arith}
-use Rattle.std.proofs.lemmas.Cmp.{tied_itself}
-use Rattle.page_btree.specs.{page_node.claim.Entries.Entry, page_node.claim.Places.key_cmp, page_node.Places.entries_from}
+use Rattle.{desk_migration.specs.Walks.after, page_btree.specs.page_node.{Places.entries_from, claim.{Entries.Entry, Places.key_cmp}}, store_check.specs.claim.Rows.IsFrom}
+use Rattle.{store_rows.{specs.claim.Rows.KeyMap, proofs.{Frames.same_key, OneGeography.value_is}}, store_check.proofs.After.{few_from, fewer, from_tag}}
+use Rattle.store_check.proofs.FirstRows.{clash, first_is_from, first_least, first_none, first_there, from_trans, less_from}
 use Rattle.page_btree.proofs.page_node.Laws.{flip_less}
-use Rattle.std.proofs.lemmas.Bool.{and_from, and_parts}
-use Rattle.store_rows.{specs.claim.Rows.KeyMap, proofs.Frames.same_key, proofs.OneGeography.value_is}
-use Rattle.store_check.{specs.claim.Rows.IsFrom, proofs.FirstRows.{clash, first_is_from, first_least, first_none, first_there, from_trans, less_from}}
-use Rattle.store_check.proofs.After.{few_from, fewer, from_tag}
-use Rattle.desk_migration.specs.Walks.{after}
 
 -- ---- what a key begins with
 pub starts_more : (key more prefix : List ℕ) → starts_with nat_eq key prefix ≡ true → starts_with nat_eq (key ++ more) prefix ≡ true

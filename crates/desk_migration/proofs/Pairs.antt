@@ -1,12 +1,9 @@
 -- Plans that come to hold chunks, one pair after the other.
 use Rattle.std.{specs.FinMap.get, proofs.Common.{rules, take, ◌≡◌, ◌+◌, ℕ, List, [], ◌∷◌, ◌++◌, length, Bool, refl, sym, ap, subst, ◌∙◌, arith, length-append}}
-use Rattle.std.proofs.lemmas.List.Elements.{All-weaker}
-use Rattle.desk_model.specs.claim.Desk.{Desk}
-use Rattle.store_rows.specs.{claim.Rows.KeyMap, claim.Tidy.{IsNamedBy, Tidy}, claim.Shares.hold, MigrationLaws.{HoldsNamed, NamedIsHeld}}
+use Rattle.{std.proofs.lemmas.List.Elements.All-weaker, desk_migration.specs.{Walks.{HoldsEach, HoldsIt, IsWalking, IsWithin}, declared.walks.Walk.Walk}}
+use Rattle.{desk_migration.{specs.claim.Holding.{AllAreHeld, AreHeldTo, AreUnheld, IsHeldBy, IsUnheld, hold_pairs}, proofs.PartRows.named_fits}, desk_model.specs.claim.Desk.Desk}
+use Rattle.{desk_pages.specs.claim.Desks.IsMapOf, store_rows.specs.{MigrationLaws.{HoldsNamed, NamedIsHeld}, claim.{Rows.KeyMap, Shares.hold, Tidy.{IsNamedBy, Tidy}}}}
 use Rattle.store_rows.proofs.OneGeography.{no_value}
-use Rattle.desk_pages.specs.claim.Desks.{IsMapOf}
-use Rattle.desk_migration.specs.{claim.Holding.{AllAreHeld, AreHeldTo, AreUnheld, IsHeldBy, IsUnheld, hold_pairs}, Walks.{HoldsEach, HoldsIt, IsWalking, IsWithin}}
-use Rattle.desk_migration.{specs.declared.walks.Walk.Walk, proofs.PartRows.named_fits}
 
 -- ---- one pair
 pub pair_held : NamedIsHeld → (m : KeyMap) (tidy : Tidy m) (plan number : ℕ) → IsUnheld m plan number → HoldsNamed m tidy.next tidy.new plan number (hold m plan number)

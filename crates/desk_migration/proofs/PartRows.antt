@@ -1,24 +1,17 @@
 -- Parts of revisions, and the chunks that they name.
-use Rattle.std.specs.{Prelude.Contains, List.starts_with, Ordering.is_gt, FinMap.get}
-use Rattle.std.proofs.Common.{rules, ◌≡◌, inl, inr, ◌<◌, ◌^◌, ℕ, List, ◌++◌, length, take, drop, Bool, true, false, nat_eq, Some, sym, ap, subst, ◌∙◌, arith}
-use Rattle.std.proofs.lemmas.List.Elements.{All-contains}
-use Rattle.page_btree.specs.page_node.claim.Places.{key_cmp}
-use Rattle.btree_walks.specs.declared.rows.Row.{Row}
-use Rattle.store_rows.specs.{claim.Keys.{RowKey, key_of, Fits, holding, part, in_one, in_four, in_eight}, Keys.parts_prefix, claim.Lists.{AreChunks, chunks_bytes}}
-use Rattle.store_rows.{specs.claim.Rows.{KeyMap, Has}, specs.claim.Holders.IsHeld, specs.claim.Tidy.{IsNamedBy, Tidy}, proofs.ListLaws.chunks_differ, proofs.OneGeography.value_is}
-use Rattle.store_rows.proofs.{Frames.either_way, KeyPrefixes.starts_itself}
-use Rattle.store_check.{specs.Rows.{IsFirst, NoneFrom}, proofs.FirstRows.{clash, first_least, first_there, none_after}, proofs.After.from_tag}
-use Rattle.desk_opening.specs.plan_rows.Holding.{Stands}
-use Rattle.desk_migration.specs.{claim.Holding.{AllAreHeld, AreHeldTo, part_key}, Outcomes.IsReadAs, Parts.{IsPartFrom, IsPartRow, IsUnderParts}, Walks.{after, HoldsEach, HoldsIt}}
-use Rattle.desk_migration.{specs.declared.parts.Part.Part, proofs.Order.{from_after, from_or_same}}
+use Rattle.{std.{specs.{FinMap.get, List.starts_with, Ordering.is_gt, Prelude.Contains}, proofs.lemmas.List.Elements.All-contains}, btree_walks.specs.declared.rows.Row.Row}
+use Rattle.std.proofs.Common.{rules, ◌≡◌, inl, inr, ◌<◌, ◌^◌, ℕ, List, ◌++◌, take, drop, Bool, true, false, nat_eq, Some, sym, ap, subst, ◌∙◌, arith}
+use Rattle.desk_migration.specs.{Outcomes.IsReadAs, Parts.{IsPartFrom, IsPartRow, IsUnderParts}, Walks.{after, HoldsEach, HoldsIt}, claim.Holding.{AllAreHeld, AreHeldTo, part_key}}
+use Rattle.{desk_migration.specs.declared.parts.Part.Part, desk_opening.specs.plan_rows.Holding.Stands, page_btree.specs.page_node.claim.Places.key_cmp}
+use Rattle.{store_check.specs.Rows.{IsFirst, NoneFrom}, store_rows.specs.{Keys.parts_prefix, claim.{Holders.IsHeld, Lists.{AreChunks, chunks_bytes}, Rows.{KeyMap, Has}}}}
+use Rattle.{store_rows.specs.claim.{Keys.{RowKey, key_of, Fits, holding, part, in_one, in_four, in_eight}, Tidy.{IsNamedBy, Tidy}}, store_check.proofs.After.from_tag}
+use Rattle.{desk_migration.proofs.Order.{from_after, from_or_same}, store_check.proofs.{FirstRows.{clash, first_least, first_there, none_after}, PartOrder.starts_part}}
+use Rattle.store_rows.proofs.{Frames.either_way, ListLaws.chunks_differ, OneGeography.value_is}
 
 -- the first row from a key on is that of a part, or there is no part
 pub part_found : (found : Bool) (m : KeyMap) (from : List ℕ) (row : Row) → IsFirst true from row m → IsUnderParts from → starts_with nat_eq row.key parts_prefix ≡ found → IsPartFrom found from row m
 part_found true m from row first under on = (first, on)
 part_found false m from row first under off = none_after m from (row.key, row.value) first.0 first.1 parts_prefix under off
-
-pub starts_part : (plan revision index : ℕ) → IsUnderParts (key_of (part plan revision index))
-starts_part plan revision index = starts_itself parts_prefix ((in_eight plan ++ in_four revision) ++ in_one index)
 
 -- ---- rows of parts
 -- a row under the key of parts is that of one
@@ -43,9 +36,6 @@ plan_is row of plan fits told = told_plan plan of.plan of.revision of.index row.
 
 pub numbers_are : (row : Row) (of : IsPartRow row) (numbers : List ℕ) → AreChunks numbers → chunks_bytes numbers ≡ row.value → numbers ≡ of.numbers
 numbers_are row of numbers chunks told = chunks_differ numbers of.numbers chunks of.chunks (told ∙ of.value_is)
-
-pub part_long : (row : Row) → IsPartRow row → length row.key ≡ 14
-part_long row of = ap (λ (k : List ℕ). length k) of.key_is
 
 -- a row that is read as a part is that of one
 pub read_as : (row : Row) (of : IsPartRow row) (read : Part) → IsReadAs row read → (read.plan ≡ of.plan) × (read.numbers.items ≡ of.numbers)

@@ -1,18 +1,15 @@
 -- A step: a transaction that is begun, in which pairs come to be held, and that is committed then.
-use Rattle.std.specs.Prelude.{Result, IsErrAnd}
+use Rattle.{std.specs.Prelude.{Result, IsErrAnd}, desk_migration.specs.{Parts.IsUnderWay, claim.Holding.{AllAreHeld, AreHeldTo, IsHeldBy}}, desk_model.specs.claim.Desk.Desk}
 use Rattle.std.proofs.Common.{rules, ◌≡◌, ◌⊎◌, ◌<◌, ◌≤◌, ◌+◌, ◌*◌, ℕ, true, false, List, Ok, Err, refl, sym, subst, ◌∙◌, inl, inr, ⊎_elim, arith}
-use Rattle.sector_device.{specs.claim.Disk.Image, specs.claim.Moments.LeavesOnly, specs.declared.SectorDevice.Ghosts, proofs.Moments.leaves_wider}
-use Rattle.page_store.specs.{gate_journal.claim.Store.home, claim.Transactions.{stored, disk_in, count_of, journal_of, has_halted, txn_writes, IsQuiet, IsSame, Passed}}
-use Rattle.page_store.{specs.declared.pages.Pages.Pages, specs.declared.txn.Txn.Txn, proofs.Stops.quiet_none}
-use Rattle.page_btree.specs.{claim.Map.{InTxn, InPages}, declared.error.TreeError.TreeError}
+use Rattle.{desk_migration.specs.Puts.{IsHeldMap, HasHeld, HoldErr, HoldsMore, HoldsTo, StepErr, Steps, TellsFaults, free_of}, desk_pages.specs.Commits.FittingErr}
+use Rattle.desk_pages.specs.{Desks.{InPagesAs, InTxnAs}, Errors.tree_refusal, Moments.StopsLeaveEither, claim.Desks.{IsOldMap, OpensAs, OpensOld}}
+use Rattle.{desk_pages.specs.declared.error.StoreError.{StoreError, TheVariants.{Full, Memory, DeviceFault, Halted}}, page_btree.specs.claim.Map.{InTxn, InPages}}
+use Rattle.{page_btree.specs.declared.error.TreeError.TreeError, page_store.specs.{declared.{pages.Pages.Pages, txn.Txn.Txn}, gate_journal.claim.Store.home}}
+use Rattle.{page_store.specs.claim.Transactions.{stored, disk_in, count_of, journal_of, has_halted, txn_writes, IsQuiet, IsSame, Passed}, sector_device.specs.claim.Disk.Image}
+use Rattle.{sector_device.specs.{claim.Moments.LeavesOnly, declared.SectorDevice.Ghosts}, store_rows.specs.{MigrationLaws.NamedIsHeld, claim.Rows.KeyMap}}
+use Rattle.{desk_migration.proofs.Pairs.{map_by, none_by, same_map}, page_store.proofs.Stops.quiet_none, sector_device.proofs.Moments.leaves_wider}
 use Rattle.page_btree.specs.declared.error.TreeError.TheVariants as tree
-use Rattle.desk_model.specs.claim.Desk.{Desk}
-use Rattle.store_rows.specs.{claim.Rows.KeyMap, MigrationLaws.NamedIsHeld}
-use Rattle.desk_pages.specs.{claim.Desks.{IsOldMap, OpensAs, OpensOld}, Desks.{InPagesAs, InTxnAs}, Moments.StopsLeaveEither, Errors.tree_refusal, Commits.FittingErr}
-use Rattle.desk_pages.specs.{declared.error.StoreError.StoreError, declared.error.StoreError.TheVariants.{Full, Memory, DeviceFault, Halted}}
 use Rattle.desk_opening.proofs.plan_rows.Committing.{IsBegun, both, commit_leaves, failed_after, quiet_leaves, quiet_rows, quiet_shape}
-use Rattle.desk_migration.specs.{claim.Holding.{AllAreHeld, AreHeldTo, IsHeldBy}, Parts.IsUnderWay}
-use Rattle.desk_migration.{specs.Puts.{IsHeldMap, HasHeld, HoldErr, HoldsMore, HoldsTo, StepErr, Steps, TellsFaults, free_of}, proofs.Pairs.{map_by, none_by, same_map}}
 
 -- room enough
 pub no_room : (count free left : ℕ) → free ≡ left → 26 * count ≤ free → 13 * (2 * count) ≤ left

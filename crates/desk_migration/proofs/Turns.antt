@@ -1,17 +1,13 @@
 -- Pairs that come to be held one after the other within a transaction.
-use Rattle.std.{specs.Prelude.{Option, Some}, proofs.Common.{rules, ◌≡◌, ◌<◌, ◌+◌, ◌++◌, ℕ, false, List, [], refl, sym, ap, subst, ◌∙◌, arith}}
-use Rattle.sector_device.specs.{claim.Disk.Image, declared.SectorDevice.Ghosts}
-use Rattle.page_store.specs.{claim.Transactions.{stored, disk_in, txn_root, over, IsQuiet, Passed}, declared.pages.Pages.Pages, declared.txn.Txn.Txn}
-use Rattle.page_store.proofs.Stops.{passed_none, passed_more, failed_more}
-use Rattle.page_btree.specs.{claim.Map.InTxn, claim.Errors.level_in, declared.error.TreeError.TreeError}
-use Rattle.page_btree.specs.declared.error.TreeError.TheVariants.{DeviceFault, NotAStore, Halted, NoPages, TooDeep, Memory}
-use Rattle.store_rows.specs.{claim.Keys.holding, claim.Rows.{KeyMap, Lacks}, claim.Puts.{Row, put_rows}, claim.Holders.holding_rows, claim.Shares.hold, claim.Tidy.Tidy}
-use Rattle.store_rows.proofs.Migrating.{names_can_hold}
-use Rattle.desk_pages.specs.{claim.Puts.HasDeepened, Reading.ReadErr, btree_puts.Fingers.Stand, btree_puts.declared.finger.Fingers.Fingers}
-use Rattle.desk_pages.proofs.Rising.{fresh_stand}
+use Rattle.{std.{specs.Prelude.{Option, Some}, proofs.Common.{rules, ◌≡◌, ◌<◌, ◌+◌, ◌++◌, ℕ, false, List, [], refl, sym, ap, subst, ◌∙◌, arith}}, desk_pages.specs.Reading.ReadErr}
+use Rattle.desk_migration.specs.{Puts.{AndStand, HasHeldAs, IsTurn, HoldErrOf}, Walks.IsNextPair, claim.Holding.{AreUnheld, IsHeldBy, IsUnheld, hold_pairs}}
+use Rattle.{desk_migration.specs.declared.parts.HeldPair.HeldPair, desk_pages.specs.{btree_puts.{Fingers.Stand, declared.finger.Fingers.Fingers}, claim.Puts.HasDeepened}}
+use Rattle.page_btree.specs.{claim.{Errors.level_in, Map.InTxn}, declared.error.TreeError.{TreeError, TheVariants.{DeviceFault, NotAStore, Halted, NoPages, TooDeep, Memory}}}
+use Rattle.{page_store.specs.{claim.Transactions.{stored, disk_in, txn_root, over, IsQuiet, Passed}, declared.{pages.Pages.Pages, txn.Txn.Txn}}, store_rows.specs.claim.Shares.hold}
+use Rattle.{sector_device.specs.{claim.Disk.Image, declared.SectorDevice.Ghosts}, store_rows.specs.claim.{Holders.holding_rows, Keys.holding, Puts.{Row, put_rows}, Tidy.Tidy}}
+use Rattle.{store_rows.specs.claim.Rows.{KeyMap, Lacks}, desk_migration.proofs.Pairs.{then_by, none_by, one_by, unheld_more, hold_more}, desk_pages.proofs.Rising.fresh_stand}
+use Rattle.{page_store.proofs.Stops.{passed_none, passed_more, failed_more}, store_rows.proofs.Migrating.names_can_hold}
 use Rattle.desk_opening.specs.plan_rows.Holding as chunk
-use Rattle.desk_migration.specs.{claim.Holding.{AreUnheld, IsHeldBy, IsUnheld, hold_pairs}, Walks.IsNextPair, declared.parts.HeldPair.HeldPair}
-use Rattle.desk_migration.{specs.Puts.{AndStand, HasHeldAs, IsTurn, HoldErrOf}, proofs.Pairs.{then_by, none_by, one_by, unheld_more, hold_more}}
 
 -- what is known of a map is known of it where one pair more is held
 abbrev Stays : (KeyMap → Type 0) → Type 0

@@ -1,22 +1,16 @@
 -- Steps of a walk over parts of revisions.
-use Rattle.std.specs.{Prelude.IfSome, FinMap.{entries, get}}
-use Rattle.std.proofs.Common.{rules, ◌≡◌, ◌<◌, ℕ, List, [], length, take, get_or, Bool, true, false, Option, Some, sym, subst, ◌∙◌}
-use Rattle.std.proofs.lemmas.List.Elements.{Contains-get_or}
-use Rattle.page_btree.specs.page_node.Places.{entries_from}
-use Rattle.btree_walks.specs.declared.rows.Row.{Row}
-use Rattle.store_rows.specs.{claim.Keys.{Fits, holding, part}, claim.Lists.chunks_bytes, claim.Rows.{KeyMap, Lacks}}
-use Rattle.store_check.proofs.FirstRows.{first_there}
+use Rattle.std.{specs.{FinMap.{entries, get}, Prelude.IfSome}, proofs.Common.{rules, ◌≡◌, ◌<◌, ℕ, List, [], length, take, get_or, Bool, true, false, Option, Some, sym, subst}}
+use Rattle.{std.proofs.lemmas.List.Elements.Contains-get_or, btree_walks.specs.declared.rows.Row.Row, desk_migration.specs.Outcomes.{IsReadAs, IsToldAt}}
+use Rattle.desk_migration.specs.{Parts.{IsPartFrom, IsPartRow, IsUnderWay}, Walks.{after, HoldsEach, IsNextPart, IsWalking}, claim.Holding.{AreHeldTo, IsUnheld}}
+use Rattle.{desk_migration.specs.declared.{parts.Part.Part, walks.Walk.Walk}, page_btree.specs.page_node.Places.entries_from, store_rows.specs.claim.Keys.{Fits, holding, part}}
+use Rattle.{store_rows.specs.claim.{Lists.chunks_bytes, Rows.{KeyMap, Lacks}}, desk_migration.proofs.Order.{fewer_after, first_itself}, store_check.proofs.FirstRows.first_there}
+use Rattle.desk_migration.proofs.PartRows.{part_passed, part_reached, part_row, read_as, stands_held}
+use Rattle.desk_opening.proofs.plan_rows.Committing.{both}
 use Rattle.desk_opening.specs.plan_rows.Holding as chunk
-use Rattle.desk_migration.specs.{claim.Holding.{AreHeldTo, IsUnheld}, Outcomes.{IsReadAs, IsToldAt}, Parts.{IsPartFrom, IsPartRow, IsUnderWay}}
-use Rattle.desk_migration.specs.{Walks.{after, HoldsEach, IsNextPart, IsWalking}, declared.parts.Part.Part, declared.walks.Walk.Walk}
-use Rattle.desk_migration.proofs.{Order.{fewer_after, first_itself}, PartRows.{part_passed, part_reached, part_row, read_as, stands_held}}
-
-never_both : {X : Type 0} (b : Bool) → b ≡ true → b ≡ false → X
-never_both b one other = let clash : true ≡ false = sym one ∙ other in absurd (cc)
 
 -- ---- the beginning
 pub begins_walking : (m : KeyMap) (from : List ℕ) (walk : Walk) → walk.from ≡ from → walk.is_within ≡ false → walk.seen.numbers.items ≡ [] → IsUnderWay from m → IsWalking walk m
-begins_walking m from walk same outside none way = search (rules, way.tidy, way.done, never_both, walk.is_within, walk.seen.plan)
+begins_walking m from walk same outside none way = search (rules, way.tidy, way.done, both, walk.is_within, walk.seen.plan)
 
 -- ---- going into a part
 pub enters_part : (m : KeyMap) (old new : Walk) (row : Row) → IsWalking old m → IsPartFrom true old.from row m → IsReadAs row new.part → new.from ≡ row.key → new.is_within ≡ true → new.place ≡ 0 → new.seen ≡ old.seen → IsWalking new m × IsNextPart old new m
@@ -57,7 +51,7 @@ module _ (m : KeyMap) (walk : Walk) (walking : IsWalking walk m) (on : walk.is_w
         record {
           tidy = walking.tidy;
           done = subst (λ (k : List ℕ). AreHeldTo k m) (sym from) (part_passed m walking.tidy walk.from row first walking.done of held);
-          within = λ again. never_both new.is_within again outside;
+          within = λ again. both new.is_within again outside;
           seen = subst (λ (p : Part). HoldsEach p.plan p.numbers.items m) (sym seen) held;
         },
         subst (λ (k : List ℕ). length (entries_from k (entries m)) < length (entries_from old.from (entries m))) (sym from)

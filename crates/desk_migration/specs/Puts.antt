@@ -1,16 +1,12 @@
 -- Chunks that plans come to hold within a transaction, and in pages.
 use Rattle.std.specs.Prelude.{◌≡◌, ◌⊎◌, ◌≤◌, ◌<◌, ◌+◌, ◌*◌, ℕ, Bool, true, false, List, [], ◌∷◌, length, Result, Err, OnOk}
-use Rattle.sector_device.specs.{claim.Disk.Image, declared.SectorDevice.Ghosts}
-use Rattle.page_store.specs.claim.Chain.{free_in}
+use Rattle.{desk_migration.specs.{Parts.IsUnderWay, claim.Holding.{AllAreHeld, AreHeldTo, AreUnheld, IsHeldBy, hold_pairs}}, desk_model.specs.claim.Desk.Desk}
+use Rattle.desk_pages.specs.{btree_puts.{Fingers.Stand, declared.finger.Fingers.Fingers}, claim.{Desks.IsOldMap, Puts.HasDeepened}, declared.error.StoreError.StoreError}
+use Rattle.{desk_pages.specs.declared.error.StoreError.TheVariants.{Full, Memory, NotAStore, DeviceFault, Halted}, page_btree.specs.claim.Map.{InTxn, InPages}}
+use Rattle.{page_btree.specs.declared.error.TreeError.TreeError, page_store.specs.{claim.Chain.free_in, declared.{pages.Pages.Pages, txn.Txn.Txn}}, store_rows.specs.claim.Puts.Row}
 use Rattle.page_store.specs.claim.Transactions.{stored, disk_in, has_halted, txn_pages, txn_free, txn_writes, HasFailed, HasShape, IsKept, IsQuiet, IsSame, Passed}
-use Rattle.page_store.specs.{declared.pages.Pages.Pages, declared.txn.Txn.Txn}
-use Rattle.page_btree.specs.{claim.Map.{InTxn, InPages}, declared.error.TreeError.TreeError}
+use Rattle.{sector_device.specs.{claim.Disk.Image, declared.SectorDevice.Ghosts}, store_rows.specs.claim.{Holders.holding_rows, Keys.{key_of, version, in_four}, Rows.KeyMap}}
 use Rattle.page_btree.specs.declared.error.TreeError.TheVariants as tree
-use Rattle.desk_model.specs.claim.Desk.{Desk}
-use Rattle.store_rows.specs.{claim.Keys.{key_of, version, in_four}, claim.Rows.KeyMap, claim.Puts.Row, claim.Holders.holding_rows}
-use Rattle.desk_pages.specs.{claim.Puts.HasDeepened, btree_puts.Fingers.Stand, btree_puts.declared.finger.Fingers.Fingers, claim.Desks.IsOldMap}
-use Rattle.desk_pages.specs.{declared.error.StoreError.StoreError, declared.error.StoreError.TheVariants.{Full, Memory, NotAStore, DeviceFault, Halted}}
-use Rattle.desk_migration.specs.{claim.Holding.{AllAreHeld, AreHeldTo, AreUnheld, IsHeldBy, hold_pairs}, Parts.IsUnderWay}
 
 -- the row that tells the new version
 abbrev pub version_rows : List Row
@@ -50,14 +46,10 @@ module _ {D : Type 0} {g : Ghosts D} where
   abbrev pub HasHeld : Type 0 → ℕ → List ℕ → List ℕ → Txn → Txn → Pages D g → Pages D g → Type 0
   HasHeld ended count from next t u old new = HasHeldAs ended count (IsUnderWay from) (AreHeldTo next) t u old new
 
-  -- each chunk is held
-  abbrev pub AllAreHeldIn : (KeyMap → Type 0) → (KeyMap → Type 0) → Txn → Pages D g → Pages D g → Type 0
-  AllAreHeldIn has then t old new = (disk_in new).is_honest → (m : KeyMap) → InTxn t (stored old) m → has m → then m × AllAreHeld m
-
-  -- one pair more is held, or none is left and nothing was written
+  -- one pair more is held, or each chunk is and nothing was written
   abbrev pub IsTurn : Bool → (KeyMap → Type 0) → (KeyMap → Type 0) → Txn → Txn → Pages D g → Pages D g → Type 0
   IsTurn true has then t u old new = HasHeldAs ⊥ 1 has then t u old new
-  IsTurn false has then t u old new = Passed old new × (u ≡ t) × AllAreHeldIn has then t old new
+  IsTurn false has then t u old new = Passed old new × (u ≡ t) × ((disk_in new).is_honest → (m : KeyMap) → InTxn t (stored old) m → has m → then m × AllAreHeld m)
 
   -- the tree had six levels when the rows of a pair were put after those of others
   pub record IsDeep (old : Pages D g) (m : KeyMap) : Type 0 where
@@ -146,16 +138,13 @@ module _ {D : Type 0} {g : Ghosts D} where
   abbrev pub IsDeepForVersion : Pages D g → Pages D g → Type 0
   IsDeepForVersion old new = (disk_in new).is_honest → (m : KeyMap) → InPages old m → (t : Txn) × HasDeepened version_rows t old m
 
-  -- 13 pages are free for that row, or fewer
+  -- 13 pages are free for that row
   abbrev pub HasRoomForVersion : Pages D g → Pages D g → Type 0
   HasRoomForVersion old new = (disk_in new).is_honest → 13 ≤ free_of old
 
-  abbrev pub IsShortForVersion : Pages D g → Pages D g → Type 0
-  IsShortForVersion old new = (disk_in new).is_honest → free_of old < 13
-
   -- why the version isn't told
   abbrev pub FinishErr : Pages D g → Pages D g → StoreError → Type 0
-  FinishErr old new Full = IsQuiet old new × (IsShortForVersion old new ⊎ IsDeepForVersion old new)
+  FinishErr old new Full = IsQuiet old new × (((disk_in new).is_honest → free_of old < 13) ⊎ IsDeepForVersion old new)
   FinishErr old new Memory = IsQuiet old new × HasRoomForVersion old new
   FinishErr old new NotAStore = IsQuiet old new × ((disk_in new).is_honest → (d : Desk) → HoldsAll old d → ⊥)
   FinishErr old new DeviceFault = HasRoomForVersion old new × HasFailed old new

@@ -1,7 +1,6 @@
 -- Numbers with zeros before them.
 use Rattle.std.{specs.Fmt.decimal, proofs.Common.{◌≡◌, ℕ, ◌-◌, ◌≤◌, List, ◌++◌, length, take, drop, replicate, sym, ◌∙◌, ap, arith, append_assoc, take-append-drop}}
-use Rattle.std.proofs.lemmas.List.{take-take, take-replicate, drop-replicate, drop-append-le, length-replicate}
-use Rattle.desk_model.specs.claim.Padded.{padded_decimal}
+use Rattle.{std.proofs.lemmas.List.{take-take, take-replicate, drop-replicate, drop-append-le, length-replicate}, desk_model.specs.claim.Padded.padded_decimal}
 
 -- zeros before a place are zeros before an earlier one
 pub zeros_below : (xs : List ℕ) (n m : ℕ) → n ≤ m → take m xs ≡ replicate m 48 → take n xs ≡ replicate n 48

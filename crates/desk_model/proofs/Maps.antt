@@ -1,19 +1,14 @@
 -- Plans under their names.
-use Rattle.std.specs.{FinMap.{get-empty, get-insert, get-remove, len-empty, len-entries, same_map, slice_cmp-IsAntisymmetric, nat_cmp-IsAntisymmetric}, Ordering.eq_by_cmp}
-use Rattle.std.{specs.Cmp.Lexicographic.nat_list_cmp_total, proofs.Common.{◌≡◌, ℕ, List, [], ◌∷◌, Bool, true, false, cond, refl, ap, sym, ◌∙◌, arith, length, Option, Some, None}}
+use Rattle.std.{specs.{Cmp.Lexicographic.nat_list_cmp_total, Ordering.eq_by_cmp}, proofs.Common.{◌≡◌, ℕ, List, [], Bool, cond, ap, sym, ◌∙◌, arith, Option, Some, None}}
+use Rattle.std.specs.FinMap.{get-empty, get-insert, get-remove, len-empty, len-entries, same_map, slice_cmp-IsAntisymmetric, nat_cmp-IsAntisymmetric}
+use Rattle.{std.proofs.lemmas.List.nil_from_length, desk_model.specs.claim.Desk.{Plan, name_cmp}}
 use Rattle.std.specs.FinMap as map_of
-use Rattle.desk_model.specs.claim.Desk.{Plan, name_cmp}
-
-no_items : {A : Type 0} (xs : List A) → length xs ≡ 0 → xs ≡ []
-no_items [] e = refl
-no_items (x ∷ xs) e = absurd (omega arith)
 
 pub entries-empty : map_of.entries (map_of.empty {X = Plan} {R = name_cmp}) ≡ []
-entries-empty = no_items _ (rw (← len-entries) (len-empty name_cmp Plan))
+entries-empty = nil_from_length _ (rw (← len-entries) (len-empty name_cmp Plan))
 
 shadowed : {A : Type 0} (b : Bool) (x y z : A) → cond b x (cond b y z) ≡ cond b x z
-shadowed true x y z = refl
-shadowed false x y z = refl
+shadowed b x y z = search arith
 
 -- the later plan under a name takes the earlier one's place
 pub insert_again : (m : map_of.FinMap name_cmp Plan) (name : List ℕ) (p q : Plan) → map_of.insert (map_of.insert m name p) name q ≡ map_of.insert m name q
@@ -22,8 +17,7 @@ insert_again m name p q = same_map nat_list_cmp_total (slice_cmp-IsAntisymmetric
     ∙ shadowed (eq_by_cmp name_cmp at name) _ _ _ ∙ sym (get-insert nat_list_cmp_total m name q at))
 
 removed : {A : Type 0} (b : Bool) (x : Option A) → cond b None (cond b x None) ≡ None
-removed true x = refl
-removed false x = refl
+removed b x = search arith
 
 -- the only plan, taken away
 pub remove_only : (name : List ℕ) (p : Plan) → map_of.remove (map_of.insert map_of.empty name p) name ≡ map_of.empty {X = Plan} {R = name_cmp}

@@ -1,10 +1,6 @@
 -- A plan's name is ASCII.
-use Rattle.std.{specs.Str.IsAscii, specs.List.list_all, proofs.Common.{◌≡◌, ◌<◌, ◌&&◌, nat_le, ℕ, true, List, length, arith}}
-use Rattle.std.proofs.lemmas.Str.Ascii.{IsAscii-from_all}
-use Rattle.std.proofs.lemmas.Bool.{and_parts}
-use Rattle.std.proofs.lemmas.List.Sums.{AllPass-from_list_all}
-use Rattle.std.proofs.lemmas.Bool.Decides.{nat_tests}
-use Rattle.desk_model.specs.claim.Name.{is_name_byte, IsPlanName}
+use Rattle.std.{specs.{List.list_all, Str.IsAscii}, proofs.{Common.{◌≡◌, ◌<◌, ◌&&◌, nat_le, ℕ, true, List, length, arith}, lemmas.Bool.{and_parts, Decides.nat_tests}}}
+use Rattle.{std.proofs.lemmas.{List.Sums.AllPass-from_list_all, Str.Ascii.IsAscii-from_all}, desk_model.specs.claim.Name.{is_name_byte, IsPlanName}}
 
 small : (b : ℕ) → is_name_byte b ≡ true → b < 128
 small b is = grind (arith, nat_tests)

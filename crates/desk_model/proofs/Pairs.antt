@@ -1,16 +1,12 @@
 -- Pairs of places in their order.
-use Rattle.std.specs.{Cmp.{IsTotalOrder, IsEquivalence}, List.dedup, List.Sorted.{IsSorted, IsStrictlySortedBy, IsStrictlyIncreasing}}
-use Rattle.std.specs.{Ordering.{nat_cmp, ordering_then, eq_by_cmp, is_eq}, declared.cmp.Ordering.Ordering, declared.cmp.Ordering.TheVariants.{Less, Equal}}
+use Rattle.std.specs.{Cmp.{IsTotalOrder, IsEquivalence}, List.{dedup, Sorted.{IsSorted, IsStrictlySortedBy, IsStrictlyIncreasing}}, declared.cmp.Ordering.Ordering}
+use Rattle.std.{specs.{Ordering.{nat_cmp, ordering_then, eq_by_cmp, is_eq}, declared.cmp.Ordering.TheVariants.{Less, Equal}}, proofs.lemmas.Bool.{lt-ltb, cases_lt}}
 use Rattle.std.proofs.Common.{rules, ◌≡◌, ℕ, zero, suc, ◌≤◌, ◌+◌, ◌<◌, ◌⊎◌, inl, inr, Bool, true, ◌↔◌, IsTrue, ◌&&◌, eqb, List, [], ◌∷◌, ◌++◌, length, get_or, take, Contains, refl, sym, ap, subst, ◌∙◌, arith, ⊎_elim}
-use Rattle.std.proofs.lemmas.Bool.{lt-ltb, cases_lt}
-use Rattle.std.proofs.lemmas.Cmp.{nat_cmp_total, nat_eq_equiv, on_total, then_total, on_equiv, and_equiv, ranked}
-use Rattle.std.proofs.lemmas.List.{take_more, take_all, get_or_default}
-use Rattle.std.proofs.lemmas.List.Elements.{All-from_recursion, Contains-append_left, Contains-append_right, Contains-append_cases}
-use Rattle.std.proofs.lemmas.List.Kept.{IsStrictlySortedBy-dedup}
-use Rattle.std.proofs.lemmas.Map.Lookups.{CmpEqualImpliesEq}
-use Rattle.std.proofs.lemmas.Map.Views.{tells_apart}
-use Rattle.desk_model.specs.{claim.GeographyModels.{AreBlocks, IsGeographyModel, IsPair, AreRising, AreTold, IsTold, is_before, pair_ids, turned}, claim.Geography.{id_at, ids_of}}
-use Rattle.desk_model.{specs.declared.block.BlockRow.BlockRow, specs.declared.geography.Pair.Pair, proofs.Places.rises}
+use Rattle.std.proofs.lemmas.{Cmp.{nat_cmp_total, nat_eq_equiv, on_total, then_total, on_equiv, and_equiv, ranked}, List.{take_more, take_all, get_or_default}}
+use Rattle.std.proofs.lemmas.List.{Elements.{All-from_recursion, Contains-append_left, Contains-append_right, Contains-push_cases}, Kept.IsStrictlySortedBy-dedup}
+use Rattle.{std.proofs.lemmas.Map.{Lookups.CmpEqualImpliesEq, Views.tells_apart}, desk_model.specs.{claim.Geography.{id_at, ids_of}, declared.block.BlockRow.BlockRow}}
+use Rattle.desk_model.specs.{claim.GeographyModels.{AreBlocks, IsGeographyModel, IsPair, AreRising, AreTold, IsTold, is_before, pair_ids, turned}, declared.geography.Pair.Pair}
+use Rattle.desk_model.proofs.Places.{rises}
 
 abbrev pub pair_cmp : Pair → Pair → Ordering
 pair_cmp p q = ordering_then (nat_cmp p.first q.first) (nat_cmp p.second q.second)
@@ -22,8 +18,7 @@ pub pair_total : IsTotalOrder pair_cmp
 pair_total = then_total (on_total (λ (p : Pair). p.first) nat_cmp_total) (on_total (λ (p : Pair). p.second) nat_cmp_total)
 
 pub both_equal : (o q : Ordering) → (is_eq o && is_eq q) ≡ is_eq (ordering_then o q)
-both_equal Less q = refl
-both_equal _ q = refl
+both_equal o q = search arith
 
 pub pair_ties : (p q : Pair) → pair_eq p q ≡ eq_by_cmp pair_cmp p q
 pair_ties p q = search (rules, both_equal)
@@ -80,33 +75,14 @@ module _ (blocks : List BlockRow) (rising : IsStrictlyIncreasing (ids_of blocks)
   is_it p q t one other (inr a) (inr b) = same_way p q one other (ap turned (sym a ∙ b))
 
   told_here : (told : List (ℕ × ℕ)) (p : Pair) (t : ℕ × ℕ) → Contains told t → (t ≡ pair_ids blocks p) ⊎ (t ≡ turned (pair_ids blocks p)) → IsTold blocks told p
-  told_here told p t there (inl is) = inl (subst (λ (x : ℕ × ℕ). Contains told x) is there)
-  told_here told p t there (inr is) = inr (subst (λ (x : ℕ × ℕ). Contains told x) is there)
+  told_here told p t there is = search arith
 
   told_more : (told more : List (ℕ × ℕ)) (p : Pair) → IsTold blocks told p → IsTold blocks (told ++ more) p
-  told_more told more p (inl there) = inl (Contains-append_left told more (pair_ids blocks p) there)
-  told_more told more p (inr there) = inr (Contains-append_left told more (turned (pair_ids blocks p)) there)
-
-  last_or_before : (told : List (ℕ × ℕ)) (t x : ℕ × ℕ) → Contains (told ++ t ∷ []) x → Contains told x ⊎ (t ≡ x)
-  last_or_before told t x there = ⊎_elim inl (λ last. inr (only t x last)) (Contains-append_cases told (t ∷ []) x there)
-    where
-      only : (t x : ℕ × ℕ) → Contains (t ∷ []) x → t ≡ x
-      only t x c = at_zero t x c.0 c.1 c.2
-        where
-          at_zero : (t x : ℕ × ℕ) (k : ℕ) → k < 1 → get_or (t ∷ []) k x ≡ x → t ≡ x
-          at_zero t x zero inside is = is
-          at_zero t x (suc k) inside is = absurd (omega arith)
+  told_more told more p there = search (arith, Contains-append_left)
 
   told_before : (told : List (ℕ × ℕ)) (t : ℕ × ℕ) (p : Pair) → IsTold blocks (told ++ t ∷ []) p → IsTold blocks told p ⊎ ((t ≡ pair_ids blocks p) ⊎ (t ≡ turned (pair_ids blocks p)))
-  told_before told t p (inl there) = ⊎_elim (λ old. inl (inl old)) (λ is. inr (inl is)) (last_or_before told t (pair_ids blocks p) there)
-  told_before told t p (inr there) = ⊎_elim (λ old. inl (inr old)) (λ is. inr (inr is)) (last_or_before told t (turned (pair_ids blocks p)) there)
-
-  one_pair : (p q : Pair) → Contains (q ∷ []) p → q ≡ p
-  one_pair p q c = at_zero p q c.0 c.1 c.2
-    where
-      at_zero : (p q : Pair) (k : ℕ) → k < 1 → get_or (q ∷ []) k p ≡ p → q ≡ p
-      at_zero p q zero inside is = is
-      at_zero p q (suc k) inside is = absurd (omega arith)
+  told_before told t p (inl there) = ⊎_elim (λ old. inl (inl old)) (λ is. inr (inl is)) (Contains-push_cases told t (pair_ids blocks p) there)
+  told_before told t p (inr there) = ⊎_elim (λ old. inl (inr old)) (λ is. inr (inr is)) (Contains-push_cases told t (turned (pair_ids blocks p)) there)
 
   -- one more pair
   pub told_push : (told : List (ℕ × ℕ)) (t : ℕ × ℕ) (pairs : List Pair) (q : Pair) → AreTold blocks told pairs → IsPair (length blocks) q
@@ -119,8 +95,8 @@ module _ (blocks : List BlockRow) (rising : IsStrictlyIncreasing (ids_of blocks)
       forth : Contains (pairs ++ q ∷ []) p → IsPair (length blocks) p × IsTold blocks (told ++ t ∷ []) p
       forth there = ⊎_elim
           (λ old. let facts = (was p).0 old in (facts.0, told_more told (t ∷ []) p facts.1))
-          (λ last. subst (λ (x : Pair). IsPair (length blocks) x × IsTold blocks (told ++ t ∷ []) x) (one_pair p q last) (valid, told_here (told ++ t ∷ []) q t here is))
-          (Contains-append_cases pairs (q ∷ []) p there)
+          (λ last. subst (λ (x : Pair). IsPair (length blocks) x × IsTold blocks (told ++ t ∷ []) x) last (valid, told_here (told ++ t ∷ []) q t here is))
+          (Contains-push_cases pairs q p there)
 
       back : IsPair (length blocks) p × IsTold blocks (told ++ t ∷ []) p → Contains (pairs ++ q ∷ []) p
       back facts = ⊎_elim
@@ -147,9 +123,6 @@ pub geography_made : (blocks : List BlockRow) (told : List (ℕ × ℕ)) (old ne
     → AreRising new → IsGeographyModel (record { blocks = blocks; pairs = new })
 geography_made blocks told old new valid was kept rising = record {
   blocks = valid;
-  pairs = λ k d inside. ((told_sorted blocks told old new was kept (get_or new k d)).0 (k, inside, get_or_twice new k d inside)).0;
+  pairs = λ k d inside. ((told_sorted blocks told old new was kept (get_or new k d)).0 (k, inside, get_or_default new k (get_or new k d) d inside)).0;
   rising = rising;
 }
-  where
-    get_or_twice : (ps : List Pair) (k : ℕ) (d : Pair) → k < length ps → get_or ps k (get_or ps k d) ≡ get_or ps k d
-    get_or_twice ps k d inside = get_or_default ps k (get_or ps k d) d inside

@@ -1,17 +1,10 @@
 -- Counties that are listed in part, and the first block that is left out.
-use Rattle.std.specs.{Prelude.{not, ◌&&◌, ◌==◌, is_some, option_map}, List.{position_or_len, Any}}
+use Rattle.std.{specs.{List.{position_or_len, Any}, Prelude.{not, ◌&&◌, ◌==◌, is_some, option_map}}, proofs.lemmas.Bool.{cases_lt, and_parts, Decides.Decides-eqb}}
 use Rattle.std.proofs.Common.{rules, ◌≡◌, ℕ, ◌<◌, ◌≤◌, true, false, length, get_or, Option, Some, None, IsSome, ◌⊎◌, inl, inr, arith, refl, ap, sym, ◌∙◌, ⊎_elim}
-use Rattle.std.proofs.lemmas.List.{get_or-map, length-map}
-use Rattle.std.proofs.lemmas.List.Folds.{find_at, list_any_at, Any-from_list_any}
-use Rattle.std.proofs.lemmas.List.Sums.{fails_before_first, passes_at_first}
-use Rattle.std.proofs.lemmas.Option.{slice_get_cases}
-use Rattle.std.proofs.lemmas.Grind.{get_or_default_zero}
-use Rattle.std.proofs.lemmas.Map.Keys.{sorted_from_strictly_increasing, below_from_sorted}
-use Rattle.std.proofs.lemmas.Bool.{cases_lt, and_parts}
-use Rattle.std.proofs.lemmas.Bool.Decides.{Decides-eqb}
-use Rattle.desk_model.specs.{declared.block.BlockRow.BlockRow, claim.Block.{county_of, state_of}, claim.Baf.{Values, value_at}, claim.Geography.{GeographyModel, ids, id_at}}
-use Rattle.desk_model.specs.{claim.GeographyModels.AreBlocks, claim.Step.{partly_listed, is_left_out, is_county_listed}}
-use Rattle.desk_model.specs.Counties.{IsInPart, IsLeastInPart, IsLeastTold, LeastCountyIsTold}
+use Rattle.std.proofs.lemmas.{Grind.get_or_default_zero, List.{get_or-map, length-map, Folds.{find_at, list_any_at, Any-from_list_any}, Sums.{fails_before_first, passes_at_first}}}
+use Rattle.{std.proofs.lemmas.{Map.Keys.{sorted_from_strictly_increasing, below_from_sorted}, Option.slice_get_cases}, desk_model.specs.claim.Baf.{Values, value_at}}
+use Rattle.desk_model.specs.{Counties.{IsInPart, IsLeastInPart, LeastCountyIsTold}, claim.{Block.{county_of, state_of}, Geography.{GeographyModel, ids, id_at}}}
+use Rattle.desk_model.specs.{claim.{GeographyModels.AreBlocks, Step.{partly_listed, is_left_out, is_county_listed}}, declared.block.BlockRow.BlockRow}
 
 -- in one state counties rise with the numbers
 pub county_rises : (a b : ℕ) → a ≤ b → state_of a ≡ state_of b → county_of a ≤ county_of b
@@ -41,8 +34,7 @@ module _ (g : GeographyModel) (listed : Values) (valid : AreBlocks g.blocks) whe
   left_out row missing some = rw (missing, some) refl
 
   missing_where : (o : Option ℕ) → not (is_some o) ≡ true → o ≡ None
-  missing_where None e = refl
-  missing_where (Some x) e = absurd (cc)
+  missing_where o e = search arith
 
   -- the county of a block that is left out is listed in part
   in_part : (place : ℕ) (row : BlockRow) → IsLeftAt g listed place row → IsInPart g listed (county_of row.id)
@@ -146,8 +138,5 @@ module _ (g : GeographyModel) (listed : Values) (valid : AreBlocks g.blocks) whe
   from_none : ((county : ℕ) → ¬ IsInPart g listed county) → partly_listed g listed ≡ None
   from_none never = ⊎_elim (λ none. none.1) (λ told. absurd (never (county_of told.row.id) (in_part first told.row told.left))) first_is
 
-  is_told : IsLeastTold g listed
-  is_told = record { least = λ county. (least_from county, from_least county); none = (none_from, from_none) }
-
 pub least_is_told : LeastCountyIsTold
-least_is_told g listed valid = is_told g listed valid
+least_is_told g listed valid = record { least = λ county. (least_from g listed valid county, from_least g listed valid county); none = (none_from g listed valid, from_none g listed valid) }

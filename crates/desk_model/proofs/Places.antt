@@ -1,10 +1,7 @@
 -- Where a block stands in a rising list.
-use Rattle.std.{specs.List.Sorted.IsStrictlyIncreasing, proofs.Common.{rules, ◌≡◌, ℕ, ◌+◌, ◌<◌, ◌≤◌, List, length, get_or, Contains, arith, sym, ◌∙◌, ap}}
-use Rattle.std.proofs.lemmas.Map.Keys.{sorted_from_strictly_increasing, below_from_sorted}
-use Rattle.std.proofs.lemmas.List.{get_or-map, length-map}
-use Rattle.std.proofs.lemmas.Grind.{get_or_default_zero}
-use Rattle.std.proofs.lemmas.Bool.{cases_lt}
-use Rattle.desk_model.specs.{claim.Geography.{ids_of, id_at}, Geography.IsBetween, declared.block.BlockRow.BlockRow}
+use Rattle.std.{specs.List.Sorted.IsStrictlyIncreasing, proofs.{Common.{rules, ◌≡◌, ℕ, ◌+◌, ◌<◌, ◌≤◌, List, length, get_or, Contains, arith, sym, ◌∙◌, ap}, lemmas.Bool.cases_lt}}
+use Rattle.std.proofs.lemmas.{Grind.get_or_default_zero, List.{get_or-map, length-map}, Map.Keys.{sorted_from_strictly_increasing, below_from_sorted}}
+use Rattle.desk_model.specs.{Geography.IsBetween, claim.Geography.{ids_of, id_at}, declared.block.BlockRow.BlockRow}
 
 pub rises : (blocks : List BlockRow) → IsStrictlyIncreasing (ids_of blocks) → (i j : ℕ) → i < j → j < length blocks → id_at blocks i < id_at blocks j
 rises blocks rising i j less within = search (below_from_sorted, sorted_from_strictly_increasing, length-map)

@@ -1,13 +1,9 @@
 -- How lists are cut at the counties.
-use Rattle.std.specs.{List.concat, List.Sorted.IsStrictlyIncreasing}
+use Rattle.std.{specs.List.{concat, Sorted.IsStrictlyIncreasing}, proofs.{Math.Seq.{take-append_seam, drop-append_seam}, lemmas.Bool.{ne_eqb, eq-eqb, cases_lt}}}
 use Rattle.std.proofs.Common.{rules, ◌≡◌, ◌≢◌, ℕ, zero, suc, ◌+◌, ◌-◌, ◌<◌, ◌≤◌, Bool, true, false, cond, eqb, List, [], ◌∷◌, ◌++◌, map, length, take, drop, get_or, All, refl, sym, ap, subst, ◌∙◌, arith, append_assoc, take-append-drop, length-append, length-drop, length-take-le, drop-cons, add-one, ⊎_elim}
-use Rattle.std.proofs.Math.Seq.{take-append_seam, drop-append_seam}
-use Rattle.std.proofs.lemmas.Bool.{ne_eqb, eq-eqb, cases_lt}
-use Rattle.std.proofs.lemmas.List.Elements.{All-push}
-use Rattle.std.proofs.lemmas.List.{append-nil, take_all, get_or-map, length-map}
-use Rattle.desk_model.specs.{claim.Block.county_of, claim.Geography.{GeographyModel, ids}, claim.Ranges.{runs, runs_from, parts, counties}}
-use Rattle.desk_model.specs.{Ranges.{laid, first_county, IsOneCounty, AreCounties, ListsAreCut, RangesAreCounties}, declared.block.BlockRow.BlockRow}
-use Rattle.desk_model.{specs.declared.ranges.CountyRange.CountyRange, proofs.Parts.climbs}
+use Rattle.{std.proofs.lemmas.List.{append-nil, take_all, get_or-map, length-map, nil_from_length, Elements.{All-push, All-cons, All-nil}}, desk_model.specs.claim.Block.county_of}
+use Rattle.desk_model.{specs.{Ranges.{laid, first_county, IsOneCounty, AreCounties, ListsAreCut, RangesAreCounties}, claim.Geography.{GeographyModel, ids}}, proofs.Parts.climbs}
+use Rattle.desk_model.specs.{claim.Ranges.{runs, runs_from, parts, counties}, declared.{block.BlockRow.BlockRow, ranges.CountyRange.CountyRange}}
 
 -- the counties before a place are cut off, and a county's blocks from a place on are counted up to there
 pub record IsCutTo (cs : List ℕ) (all : List CountyRange) (first place : ℕ) : Type 0 where
@@ -40,11 +36,7 @@ cut_more cs all first place was inside apart = search (rules, append_assoc, join
     joined = search rules
 
 pub cut_end : (cs : List ℕ) (all : List CountyRange) (first place : ℕ) → IsCutTo cs all first place → length cs ≤ place → place ≤ length cs → all ++ cut_at first (length cs - first) ∷ [] ≡ laid 0 (runs cs)
-cut_end cs all first place was most least = search (arith, nothing (drop place cs) (omega (arith, length-drop place cs)))
-  where
-    nothing : (xs : List ℕ) → length xs ≡ 0 → xs ≡ []
-    nothing [] e = refl
-    nothing (x ∷ xs) e = absurd (omega arith)
+cut_end cs all first place was most least = search (arith, nil_from_length (drop place cs) (omega (arith, length-drop place cs)))
 
 -- ---- lists
 
@@ -66,12 +58,8 @@ lengths_from c n (d ∷ ds) xs long = elim (eqb d c) as (λ (b : Bool). map leng
       ∙ ap (λ ms. n ∷ ms) (lengths_from d 1 ds (drop n xs) (omega (arith, length-drop n xs)))
 ]
 
-nothing_whole : (xs : List ℕ) → length xs ≡ 0 → concat (parts [] xs) ≡ xs
-nothing_whole [] e = refl
-nothing_whole (x ∷ xs) e = absurd (omega arith)
-
 whole_runs : (cs xs : List ℕ) → length xs ≡ length cs → concat (parts (runs cs) xs) ≡ xs
-whole_runs [] xs long = nothing_whole xs long
+whole_runs [] xs long = sym (nil_from_length xs long)
 whole_runs (c ∷ cs) xs long = whole_from c 1 cs xs (omega arith)
 
 lengths_runs : (cs xs : List ℕ) → length xs ≡ length cs → map length (parts (runs cs) xs) ≡ runs cs
@@ -116,20 +104,12 @@ alone : (c : ℕ) (prefix : List ℕ) → IsOf c prefix → ClimbFrom c (prefix 
 alone c prefix of = record {
   some = omega arith;
   head = of.all 0 0 of.some;
-  are = record { one = only; rising = λ k inside. absurd (omega arith) };
+  are = record { one = All-cons IsOneCounty prefix [] (one_county c prefix of) (All-nil IsOneCounty); rising = λ k inside. absurd (omega arith) };
 }
-  where
-    only : All IsOneCounty (prefix ∷ [])
-    only zero d inside = one_county c prefix of
-    only (suc k) d inside = absurd (omega arith)
 
 with_prefix : (c d : ℕ) (prefix : List ℕ) (ps : List (List ℕ)) → IsOf c prefix → c < d → ClimbFrom d ps → ClimbFrom c (prefix ∷ ps)
-with_prefix c d prefix ps of less from = search (rules, each, rising)
+with_prefix c d prefix ps of less from = search (rules, All-cons IsOneCounty prefix ps (one_county c prefix of) from.are.one, rising)
   where
-    each : All IsOneCounty (prefix ∷ ps)
-    each zero e inside = one_county c prefix of
-    each (suc k) e inside = from.are.one k e (omega arith)
-
     next_is : get_or (map first_county ps) 0 0 ≡ d
     next_is = get_or-map first_county ps 0 [] 0 from.some ∙ from.head
 
@@ -144,11 +124,7 @@ more_of c r prefix of same = record {
 }
 
 first_of : (r : ℕ) → IsOf (county_of r) (r ∷ [])
-first_of r = record { some = omega arith; all = only }
-  where
-    only : All (λ id. county_of id ≡ county_of r) (r ∷ [])
-    only zero d inside = refl
-    only (suc k) d inside = absurd (omega arith)
+first_of r = record { some = omega arith; all = All-cons (λ id. county_of id ≡ county_of r) r [] refl (All-nil (λ id. county_of id ≡ county_of r)) }
 
 counties_from : (c : ℕ) (prefix rest : List ℕ) → IsOf c prefix → climbing c (map county_of rest) → ClimbFrom c (parts (runs_from c (length prefix) (map county_of rest)) (prefix ++ rest))
 counties_from c prefix [] of up = subst (λ (xs : List ℕ). ClimbFrom c (xs ∷ [])) (sym (ap (take (length prefix)) (append-nil prefix) ∙ take_all (length prefix) prefix (omega arith))) (alone c prefix of)
@@ -178,12 +154,9 @@ counties_of_runs (k ∷ ks) some rises = (counties_from (county_of k) (k ∷ [])
 pub counties_cut : RangesAreCounties
 counties_cut g valid = counties_of_runs (ids g) (rw length-map valid.some) rises
   where
-    long : length (map county_of (ids g)) ≡ length g.blocks
-    long = length-map (ids g) county_of ∙ length-map g.blocks (λ (b : BlockRow). b.id)
-
     rises : (i j : ℕ) → i ≤ j → j < length (map county_of (ids g)) → get_or (map county_of (ids g)) i 0 ≤ get_or (map county_of (ids g)) j 0
     rises i j less inside =
-        let within : j < length g.blocks = omega (arith, long, inside) in
+        let within : j < length g.blocks = omega (arith, counties_long g, inside) in
         let low : get_or (map county_of (ids g)) i 0 ≡ county_of (get_or (ids g) i 0) = get_or-map county_of (ids g) i 0 0 (omega (arith, length-map g.blocks (λ (b : BlockRow). b.id))) in
         let high : get_or (map county_of (ids g)) j 0 ≡ county_of (get_or (ids g) j 0) = get_or-map county_of (ids g) j 0 0 (omega (arith, length-map g.blocks (λ (b : BlockRow). b.id))) in
         let up : county_of (get_or (ids g) i 0) ≤ county_of (get_or (ids g) j 0) = climbs g [] valid i j less within in

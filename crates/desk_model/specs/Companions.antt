@@ -1,6 +1,6 @@
 -- What no promise rests on, beside claim/Companions.antt.
-use Rattle.std.specs.{Prelude.{◌≡◌, ℕ, IsTrue, List, length, Option, IfSome, IsSome}, Borrow.Bor, Option.option_copied}
-use Rattle.desk_model.specs.{declared.companions.Companions.Companions, declared.kind.Kind.Kind, declared.kind.Kind.TheVariants.{Congress, Senate}, claim.Companions.takes}
+use Rattle.std.specs.{Borrow.Bor, Option.option_copied, Prelude.{◌≡◌, ℕ, IsTrue, List, length, Option, IfSome, IsSome}}
+use Rattle.desk_model.specs.{claim.Companions.takes, declared.{companions.Companions.Companions, kind.Kind.{Kind, TheVariants.{Congress, Senate}}}}
 
 -- the companions after references
 abbrev pub companions_at : {X : Type 0} → (senate congress : Option (Bor X)) → Companions X

@@ -1,6 +1,6 @@
 -- What a list of blocks has of a county.
-use Rattle.std.specs.{Prelude.{◌≡◌, ◌↔◌, ℕ, ◌<◌, IsSome, Some, None}, List.Any}
-use Rattle.desk_model.specs.{claim.Block.county_of, claim.Baf.{Values, value_at}, claim.Geography.{GeographyModel, ids}, claim.GeographyModels.AreBlocks, claim.Step.partly_listed}
+use Rattle.std.specs.{List.Any, Prelude.{◌≡◌, ◌↔◌, ℕ, ◌<◌, IsSome, Some, None}}
+use Rattle.desk_model.specs.claim.{Baf.{Values, value_at}, Block.county_of, Geography.{GeographyModel, ids}, GeographyModels.AreBlocks, Step.partly_listed}
 
 -- the county has a block that is listed, and one that isn't
 pub record IsInPart (g : GeographyModel) (listed : Values) (county : ℕ) : Type 0 where

@@ -1,11 +1,10 @@
 -- Worked answers of the sample desk.
 use Rattle.std.specs.Prelude.{◌≡◌, ℕ, List, [], ◌∷◌, Option, Some, None, codes}
+use Rattle.desk_model.specs.claim.{Companions.no_companions, Desk.{Plan, Desk}, Room.need, Sample.{sample, sample_desk}, Step.{step, says, reports, answer, plan_row}}
+use Rattle.desk_model.specs.{claim.Subject.AuditSubject, declared.{command.Command.TheVariants.{Create, Whole, Counties, Retire, Fork}, companions.Companions.Companions}}
+use Rattle.desk_model.specs.declared.{command.Query.TheVariants.{Plans, Blocks, Revision, Audit}, kind.Kind.{Kind, TheVariants.{Congress, Senate, House}}}
+use Rattle.desk_model.specs.declared.reply.Refusal.TheVariants.{NoPlan, NoRevision, PlanExists, Stale, NotWholeCounty, BadCompanion, NotSealed}
 use Rattle.std.specs.FinMap as map_of
-use Rattle.desk_model.specs.{declared.kind.Kind.TheVariants.{Congress, Senate, House}, declared.kind.Kind.Kind, declared.companions.Companions.Companions}
-use Rattle.desk_model.specs.{declared.command.Command.TheVariants.{Create, Whole, Counties, Retire, Fork}, declared.command.Query.TheVariants.{Plans, Blocks, Revision, Audit}}
-use Rattle.desk_model.specs.{declared.reply.Refusal.TheVariants.{NoPlan, NoRevision, PlanExists, Stale, NotWholeCounty, BadCompanion, NotSealed}, claim.Companions.no_companions}
-use Rattle.desk_model.specs.{claim.Desk.{Plan, Desk}, claim.Subject.AuditSubject, claim.Step.{step, says, reports, answer, plan_row}, claim.Room.need}
-use Rattle.desk_model.specs.claim.Sample.{sample, sample_desk}
 use Rattle.desk_model.specs.declared.reply.Reply.TheVariants as reply
 
 abbrev pub name_a : List ℕ

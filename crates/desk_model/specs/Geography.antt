@@ -1,6 +1,6 @@
 -- What no promise rests on, beside claim/Geography.antt.
 use Rattle.std.specs.Prelude.{◌≢◌, ℕ, ◌<◌, ◌≤◌, List, length, Contains}
-use Rattle.desk_model.specs.{declared.block.BlockRow.BlockRow, claim.Geography.{id_at, ids_of}}
+use Rattle.desk_model.specs.{claim.Geography.{id_at, ids_of}, declared.block.BlockRow.BlockRow}
 
 -- the numbers are those of two different blocks
 pub record AreDifferentBlocks (blocks : List BlockRow) (p : ℕ × ℕ) : Type 0 where

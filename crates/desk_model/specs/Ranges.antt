@@ -1,7 +1,7 @@
 -- What no promise rests on, beside claim/Ranges.antt.
-use Rattle.std.specs.{Prelude.{◌≡◌, ℕ, ◌+◌, ◌<◌, List, [], ◌∷◌, map, length, get_or, All, Option, Some, None}, List.concat, List.Sorted.IsStrictlyIncreasing}
-use Rattle.desk_model.specs.{claim.Block.county_of, declared.block.BlockRow.BlockRow, claim.Geography.{GeographyModel, ids, ids_of}}
-use Rattle.desk_model.specs.{claim.GeographyModels.{AreBlocks, IsGeographyModel}, declared.ranges.CountyRange.CountyRange, claim.Ranges.{cut, runs, sizes}}
+use Rattle.std.specs.{List.{concat, Sorted.IsStrictlyIncreasing}, Prelude.{◌≡◌, ℕ, ◌+◌, ◌<◌, List, [], ◌∷◌, map, length, get_or, All, Option, Some, None}}
+use Rattle.desk_model.specs.claim.{Block.county_of, Geography.{GeographyModel, ids, ids_of}, GeographyModels.{AreBlocks, IsGeographyModel}, Ranges.{cut, runs, sizes}}
+use Rattle.desk_model.specs.declared.{block.BlockRow.BlockRow, ranges.CountyRange.CountyRange}
 
 -- parts of these sizes one after the other, from a place on
 abbrev pub laid : ℕ → List ℕ → List CountyRange

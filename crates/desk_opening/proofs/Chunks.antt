@@ -1,9 +1,7 @@
 -- A number names one list of so many districts.
-use Rattle.std.proofs.Common.{◌≡◌, ◌<◌, ◌≤◌, ◌+◌, ◌*◌, ◌^◌, ◌++◌, ℕ, zero, suc, List, length, take, drop, take_all, refl, sym, ◌∙◌, arith}
-use Rattle.desk_model.specs.claim.Room.{rows_for}
-use Rattle.store_rows.{specs.claim.Lists.districts_bytes, specs.claim.Rows.KeyMap, specs.claim.RevisionRows.HasChunk, proofs.ListLaws.districts_differ}
-use Rattle.store_rows.proofs.OneGeography.{value_is as given}
-use Rattle.desk_pages.proofs.ListParts.{part_there, some_of_part, most_of_part, each_of_part, parts_more}
+use Rattle.{std.proofs.Common.{◌≡◌, ◌<◌, ◌≤◌, ◌+◌, ◌*◌, ◌^◌, ◌++◌, ℕ, zero, suc, List, length, take, drop, take_all, refl, sym, ◌∙◌, arith}, desk_model.specs.claim.Room.rows_for}
+use Rattle.store_rows.{specs.claim.{Lists.districts_bytes, RevisionRows.HasChunk, Rows.KeyMap}, proofs.{ChunkRows.few_rows, ListLaws.districts_differ}}
+use Rattle.{desk_pages.proofs.ListParts.{part_there, some_of_part, most_of_part, each_of_part, parts_more}, store_rows.proofs.OneGeography.value_is as given}
 
 module _ (m : KeyMap) (number : ℕ) (a b : List ℕ) (one : HasChunk m number a) (other : HasChunk m number b) (long : length a ≡ length b) where
   same_piece : (k : ℕ) → k < 2 ^ 16 → 512 * k < length a → take 512 (drop (512 * k) a) ≡ take 512 (drop (512 * k) b)
@@ -36,6 +34,3 @@ module _ (m : KeyMap) (number : ℕ) (a b : List ℕ) (one : HasChunk m number a
 
       within_rows : (n i : ℕ) → i < rows_for 512 n → 512 * i < n
       within_rows n i less = omega arith
-
-      few_rows : (n i : ℕ) → n ≤ 512 * 2 ^ 16 → i < rows_for 512 n → i < 2 ^ 16
-      few_rows n i few less = omega arith

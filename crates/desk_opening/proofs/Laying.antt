@@ -1,16 +1,10 @@
 -- The counties of a revision, laid one after the other over the districts of the one before.
-use Rattle.std.specs.List.{concat}
+use Rattle.{std.{specs.List.concat, proofs.{Math.Seq.take-add, lemmas.{Bool.cases_lt, List.Elements.{All-drop, All-take}}}}, desk_catalogue.specs.shared_lists.Laid.with_at}
 use Rattle.std.proofs.Common.{rules, ◌≡◌, ◌<◌, ◌≤◌, ◌+◌, ◌-◌, ◌++◌, ℕ, zero, suc, List, [], ◌∷◌, length, get_or, take, take_all, drop, map, refl, sym, ap, subst, ◌∙◌, arith, append_assoc, length-append, length-drop, inl, inr}
-use Rattle.std.proofs.Math.Seq.{take-add}
-use Rattle.std.proofs.lemmas.List.{append-nil, drop-append-le, drop-drop, drop_all, drop_at}
-use Rattle.std.proofs.lemmas.List.Elements.{All-drop, All-take}
-use Rattle.std.proofs.lemmas.List.{length-take-le, take_at, take-append-drop, take-append-le}
-use Rattle.desk_model.specs.{Ranges.{laid, ListsAreCut}, declared.ranges.CountyRange.CountyRange}
-use Rattle.desk_catalogue.specs.shared_lists.Laid.{with_at}
-use Rattle.store_rows.specs.{claim.Rows.KeyMap, claim.RevisionRows.HasChunk}
-use Rattle.std.proofs.lemmas.Bool.{cases_lt}
-use Rattle.desk_opening.{specs.Reading.{AreCountiesOf, AreNamed, AreChunksRead, IsCounty, IsCountyRead, IsLaid, no_cut, part_of}, proofs.Chunks.one_chunk}
-use Rattle.plan_rows.specs.ChunkReading.{HasPieces}
+use Rattle.std.proofs.lemmas.List.{append-nil, drop-append-le, drop-drop, drop_all, drop_at, length-take-le, take_at, take-append-drop, take-append-le}
+use Rattle.{desk_model.specs.{Ranges.{laid, ListsAreCut}, declared.ranges.CountyRange.CountyRange}, plan_rows.specs.ChunkReading.HasPieces, store_rows.specs.claim.Rows.KeyMap}
+use Rattle.{desk_opening.specs.Reading.{AreCountiesOf, AreNamed, AreChunksRead, IsCounty, IsCountyRead, IsLaid, no_cut, part_of}, store_rows.specs.claim.RevisionRows.HasChunk}
+use Rattle.desk_opening.proofs.Chunks.{one_chunk}
 
 -- ---- a part in the place of its own
 pub with_long : (first : ℕ) (part ds : List ℕ) → first + length part ≤ length ds → length (with_at first part ds) ≡ length ds
@@ -127,9 +121,7 @@ so_far ranges all before k = take (place_at k ranges) all ++ drop (place_at k ra
 
 module _ (lists : ListsAreCut) (ranges : List CountyRange) (count : ℕ) (are : AreCountiesOf ranges count) where
   all_placed : (xs : List ℕ) → length xs ≡ count → place_at (length ranges) ranges ≡ length xs
-  all_placed xs whole =
-      let cut_up = lists are.the_geography xs (whole ∙ are.blocks) in
-      search (rules, laid_total, joined_long)
+  all_placed xs whole = let cut_up = lists are.the_geography xs (whole ∙ are.blocks) in search (rules, laid_total, joined_long)
 
   pub all_laid : (all before : List ℕ) (k : ℕ) → length before ≡ count → length all ≡ length before → k ≡ length ranges
       → so_far ranges all before k ≡ all

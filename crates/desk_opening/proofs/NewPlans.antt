@@ -1,12 +1,9 @@
 -- A row that is taken says which plan it is of.
-use Rattle.std.specs.{Prelude.Option, FinMap.{FinMap, get as row_at}}
-use Rattle.std.proofs.Common.{rules, ◌≡◌, ◌-◌, ℕ, List, ◌∷◌, length, take, drop, Some, refl, sym, ap, subst, ◌∙◌, take_all}
-use Rattle.desk_model.specs.{claim.Geography.GeographyModel, claim.Desk.{Plan, name_cmp}, claim.Name.{IsPlanName, plan_name_of}}
-use Rattle.btree_walks.specs.declared.rows.Row.{Row}
-use Rattle.store_rows.specs.{claim.Keys.{key_of, named}, claim.Values.plan_bytes, declared.value.PlanRow.PlanRow, claim.Rows.KeyMap, claim.DeskRows.{HasPlan, IsPlanAt}}
-use Rattle.store_rows.{specs.Changes.plan_row_of, proofs.OneGeography.value_is}
-use Rattle.plan_rows.specs.PlanLaws.{IsTold, PlansAreTold, RowFits}
-use Rattle.desk_opening.specs.{Reading.IsPlanRow, Opening.{IsKeptPlan, IsNewPlan}}
+use Rattle.{std.specs.{FinMap.{FinMap, get as row_at}, Prelude.Option}, btree_walks.specs.declared.rows.Row.Row, desk_model.specs.claim.Desk.{Plan, name_cmp}}
+use Rattle.{std.proofs.Common.{rules, ◌≡◌, ◌-◌, ℕ, List, ◌∷◌, length, take, drop, Some, refl, sym, ap, subst, ◌∙◌, take_all}, desk_model.specs.claim.Geography.GeographyModel}
+use Rattle.{desk_model.specs.claim.Name.{IsPlanName, plan_name_of}, desk_opening.specs.{Opening.{IsKeptPlan, IsNewPlan}, Reading.IsPlanRow}, store_rows.specs.Changes.plan_row_of}
+use Rattle.{plan_rows.specs.PlanLaws.{IsTold, PlansAreTold, RowFits}, store_rows.specs.claim.{DeskRows.{HasPlan, IsPlanAt}, Keys.{key_of, named}, Rows.KeyMap, Values.plan_bytes}}
+use Rattle.store_rows.{specs.declared.value.PlanRow.PlanRow, proofs.OneGeography.value_is}
 
 -- ---- the name in a key
 pub name_again : (key name other : List ℕ) → key ≡ 80 ∷ other → IsPlanName other → ◌≡◌ {A = Option (List ℕ)} (plan_name_of (take (length key - 1) (drop 1 key))) (Some name) → name ≡ other
@@ -20,14 +17,11 @@ module _ (g : GeographyModel) (plans : FinMap name_cmp Plan) (row : Row) (m : Ke
   pub same_name : (name : List ℕ) → row.key ≡ key_of (named name) → name ≡ plan.0
   same_name name key = let both : 80 ∷ name ≡ 80 ∷ plan.0 = sym key ∙ is.key in cc
 
+  value_there : ◌≡◌ {A = Option (List ℕ)} (Some (plan_bytes (plan_row_of has_plan.0 plan.1))) (Some row.value)
+  value_there = sym has_plan.1.row ∙ ap (row_at m) (sym is.key) ∙ is.value
+
   pub value_told : (p : PlanRow) × (plan_bytes p ≡ row.value)
-  value_told =
-      let p = plan_row_of has_plan.0 plan.1 in
-      let both : ◌≡◌ {A = Option (List ℕ)} (Some (plan_bytes p)) (Some row.value) = sym has_plan.1.row ∙ ap (row_at m) (sym is.key) ∙ is.value in
-      (p, some_is both)
-    where
-      some_is : {x y : List ℕ} → ◌≡◌ {A = Option (List ℕ)} (Some x) (Some y) → x ≡ y
-      some_is e = cc
+  value_told = (plan_row_of has_plan.0 plan.1, value_is (plan_bytes (plan_row_of has_plan.0 plan.1)) row.value value_there)
 
   pub is_plan_row : PlansAreTold → (name : List ℕ) (read : PlanRow) → RowFits read → row.key ≡ key_of (named name) → plan_bytes read ≡ row.value → IsPlanRow g name read m plan.1
   is_plan_row told name read fits key bytes =
@@ -39,10 +33,9 @@ module _ (g : GeographyModel) (plans : FinMap name_cmp Plan) (row : Row) (m : Ke
   pub is_kept_plan : IsKeptPlan row m
   is_kept_plan =
       let p = plan_row_of has_plan.0 plan.1 in
-      let both : ◌≡◌ {A = Option (List ℕ)} (Some (plan_bytes p)) (Some row.value) = sym has_plan.1.row ∙ ap (row_at m) (sym is.key) ∙ is.value in
       record {
         plan = p;
         fits = has_plan.1.number_fits;
-        value = value_is row.value (plan_bytes p) (sym both);
+        value = value_is row.value (plan_bytes p) (sym value_there);
         kept = is.tidy.owned.gone plan.0 has_plan.0 (record { plan = p; row = has_plan.1.row; is = refl; fits = has_plan.1.number_fits });
       }

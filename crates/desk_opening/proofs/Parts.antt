@@ -1,14 +1,10 @@
 -- Some of a desk's plans were read: those whose rows a scan took.
-use Rattle.std.specs.{Prelude.{Option, is_some, MatchOption}, Ordering.eq_by_cmp, Cmp.Lexicographic.nat_list_cmp_total}
-use Rattle.std.specs.FinMap.{FinMap, empty, entries, find, get, insert, len, remove, empty_of_len, get-empty, get-entries, get-insert, get-remove, len-entries, len-insert, len-remove, same_map, slice_cmp-IsAntisymmetric, nat_cmp-IsAntisymmetric}
-use Rattle.std.specs.FinMap.Entries.{find-append}
+use Rattle.std.specs.{Cmp.Lexicographic.nat_list_cmp_total, FinMap.Entries.find-append, Ordering.eq_by_cmp, Prelude.{Option, is_some, MatchOption}}
+use Rattle.std.specs.FinMap.{FinMap, empty, entries, find, get, insert, len, remove, empty_of_len, get-empty, get-entries, get-insert, len-entries, len-insert, len-remove, same_map, slice_cmp-IsAntisymmetric, nat_cmp-IsAntisymmetric}
 use Rattle.std.proofs.Common.{rules, ◌≡◌, ◌<◌, ◌≤◌, ◌+◌, ◌-◌, ℕ, zero, suc, cond, List, [], ◌∷◌, ◌++◌, length, Some, None, refl, sym, ap, subst, ◌∙◌, inl, inr, arith}
-use Rattle.page_btree.specs.page_node.claim.Entries.{Entry}
-use Rattle.btree_walks.specs.Prefixes.{under}
-use Rattle.desk_model.specs.{claim.Geography.GeographyModel, claim.Desk.{Plan, name_cmp}, claim.Step.plan_limit}
-use Rattle.store_rows.specs.{claim.Keys.{key_of, named, plans_prefix}, claim.Order.key_cmp, claim.Rows.KeyMap, claim.DeskRows.{IsDesk, IsPlanAt}, Changes.desk_with}
-use Rattle.store_rows.proofs.{Changes.{cases_key, other_row}, Frames.{differs, itself}}
-use Rattle.desk_opening.proofs.Scanned.{found_among}
+use Rattle.{btree_walks.specs.Prefixes.under, desk_model.specs.claim.{Desk.{Plan, name_cmp}, Geography.GeographyModel, Step.plan_limit}, store_rows.specs.Changes.desk_with}
+use Rattle.{page_btree.specs.page_node.claim.Entries.Entry, store_rows.specs.claim.{DeskRows.{IsDesk, IsPlanAt}, Keys.{key_of, named, plans_prefix}, Order.key_cmp, Rows.KeyMap}}
+use Rattle.{desk_opening.proofs.Scanned.found_among, store_rows.proofs.{Changes.{cases_key, other_row, plan_gone as gone, plan_left as left}, Frames.{differs, itself}}}
 
 abbrev pub Plans : Type 0
 Plans = FinMap name_cmp Plan
@@ -19,12 +15,6 @@ put_there m name p = get-insert nat_list_cmp_total m name p name ∙ ap (λ b. c
 
 pub put_keeps : (m : Plans) (name : List ℕ) (p : Plan) (other : List ℕ) → (other ≡ name → ⊥) → get (insert m name p) other ≡ get m other
 put_keeps m name p other apart = get-insert nat_list_cmp_total m name p other ∙ ap (λ b. cond b (Some p) (get m other)) (differs other name apart)
-
-gone : (m : Plans) (name : List ℕ) → get (remove m name) name ≡ None
-gone m name = get-remove nat_list_cmp_total m name name ∙ ap (λ b. cond b None (get m name)) (itself name)
-
-left : (m : Plans) (name other : List ℕ) → (other ≡ name → ⊥) → get (remove m name) other ≡ get m other
-left m name other apart = get-remove nat_list_cmp_total m name other ∙ ap (λ b. cond b None (get m other)) (differs other name apart)
 
 -- the plans of one are among those of the other
 abbrev pub AreAmong : Plans → Plans → Type 0

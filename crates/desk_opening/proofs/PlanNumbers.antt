@@ -1,21 +1,14 @@
 -- Numbers of plans, each once, with the counts of their revisions.
-use Rattle.std.specs.{Prelude.Contains, BTreeMap.{BTreeMap, IsEmpty, is_at, get as count_at}, Map.lookup, Cmp.{eq_by_cmp_equiv, nat_cmp_total}, Int.from_be_bytes}
-use Rattle.std.specs.{Ordering.{eq_by_cmp, nat_cmp}, FinMap.{entries, find, get}}
+use Rattle.std.specs.{BTreeMap.{BTreeMap, IsEmpty, is_at, get as count_at}, Cmp.{eq_by_cmp_equiv, nat_cmp_total}, FinMap.{entries, find, get}, Int.from_be_bytes, Map.lookup}
+use Rattle.std.{specs.{Ordering.{eq_by_cmp, nat_cmp}, Prelude.Contains}, proofs.lemmas.{Map.{Lookups.exact_unsigned, Views.tells_apart}, Nat.from_be_bytes-to_be_bytes_8}}
 use Rattle.std.proofs.Common.{rules, ◌≡◌, ◌⊎◌, ◌<◌, ◌^◌, ℕ, zero, suc, cond, List, [], ◌∷◌, ◌++◌, Bool, true, Option, Some, None, inl, inr, w64, refl, sym, ap, subst, ◌∙◌, arith, append_assoc}
-use Rattle.std.proofs.lemmas.Map.Lookups.{exact_unsigned}
-use Rattle.std.proofs.lemmas.Map.Views.{tells_apart}
-use Rattle.std.proofs.lemmas.Nat.{from_be_bytes-to_be_bytes_8}
-use Rattle.sector_device.specs.declared.SectorDevice.{Ghosts}
-use Rattle.page_store.specs.{declared.pages.Pages.Pages, declared.txn.Txn.Txn}
-use Rattle.page_btree.specs.{page_node.claim.Entries.Entry, declared.error.TreeError.TreeError, declared.error.TreeError.TheVariants.{NotAStore, Memory}}
-use Rattle.btree_walks.specs.{Prefixes.under, declared.rows.Row.Row}
-use Rattle.desk_model.specs.{claim.Geography.GeographyModel, claim.Desk.Plan}
-use Rattle.store_rows.specs.{claim.Keys.{key_of, named, plans_prefix}, claim.Order.key_cmp, claim.Values.plan_bytes, declared.value.PlanRow.PlanRow, claim.Rows.{KeyMap, Has}}
-use Rattle.store_rows.{specs.claim.DeskRows.IsPlanAt, specs.Changes.plan_row_of, specs.claim.Tidy.IsNumbered, proofs.Frames.{either_way, is_equal, itself, same_key}}
+use Rattle.{btree_walks.specs.{Prefixes.under, declared.rows.Row.Row}, desk_model.specs.claim.{Desk.Plan, Geography.GeographyModel}, desk_pages.specs.Looking.Says}
+use Rattle.{desk_opening.specs.Opening.{AreCounts, ArePlans, ArePlansApart, HasNoPlans, IsFreshPlan, IsNoted, IsUnused, NoteErr}, desk_pages.specs.Reading.SeekErr}
+use Rattle.{page_btree.specs.{declared.error.TreeError.{TreeError, TheVariants.{NotAStore, Memory}}, page_node.claim.Entries.Entry}, page_store.specs.declared.pages.Pages.Pages}
+use Rattle.{page_store.specs.declared.txn.Txn.Txn, sector_device.specs.declared.SectorDevice.Ghosts, store_rows.specs.{Changes.plan_row_of, claim.DeskRows.IsPlanAt}}
+use Rattle.store_rows.specs.{claim.{Keys.{key_of, named, plans_prefix}, Order.key_cmp, Rows.{KeyMap, Has}, Tidy.IsNumbered, Values.plan_bytes}, declared.value.PlanRow.PlanRow}
+use Rattle.{desk_opening.proofs.{NewPlans.is_kept_plan, Parts.Plans, Scanned.{found_among, next_plan}}, store_rows.proofs.Frames.{either_way, is_equal, itself, same_key}}
 use Rattle.store_rows.proofs.{OneGeography.{no_value, value_is}, Sharing.later_one as later_in}
-use Rattle.desk_pages.specs.{Looking.Says, Reading.SeekErr}
-use Rattle.desk_opening.{specs.Opening.{AreCounts, ArePlans, ArePlansApart, HasNoPlans, IsFreshPlan, IsNoted, IsUnused, NoteErr}, proofs.NewPlans.is_kept_plan, proofs.Parts.Plans}
-use Rattle.desk_opening.proofs.Scanned.{found_among, next_plan}
 
 -- ---- the number that a row's value begins with
 pub number_in : List ℕ → ℕ
@@ -94,12 +87,6 @@ pub none_noted : (counts : BTreeMap ℕ ℕ) → IsEmpty counts → AreNoted [] 
 none_noted counts empty = search rules
 
 -- ---- a map with one number more
-is_same : (x y : ℕ) → is_at (nat_cmp x) y ≡ true → x ≡ y
-is_same x y same = tells_apart exact_unsigned x y same
-
-at_itself : (x y : ℕ) → x ≡ y → is_at (nat_cmp x) y ≡ true
-at_itself x y same = subst (λ (n : ℕ). is_at (nat_cmp x) n ≡ true) same ((eq_by_cmp_equiv nat_cmp_total).refl x)
-
 among_more : (rows : List Entry) (e : Entry) (x count : ℕ) → IsAmong rows x count → IsAmong (rows ++ e ∷ []) x count
 among_more rows e x count at = search (rules, append_assoc)
 
@@ -107,7 +94,7 @@ pub noted_more : (rows : List Entry) (row : Row) (old new : BTreeMap ℕ ℕ) �
 noted_more rows row old new noted now = record {
   among = λ x count there. either_way (is_at (nat_cmp n) x) (IsAmong (rows ++ e ∷ []) x count)
       (λ here.
-      let same : n ≡ x = is_same n x here in
+      let same : n ≡ x = tells_apart exact_unsigned n x here in
       let counted : now.plan.revisions ≡ count = count_is now.plan.revisions count (sym (now.is.0 x ∙ ap (λ (b : Bool). cond b (Some now.plan.revisions) (count_at nat_cmp old x)) here) ∙ there) in
       record {
         before = rows;
@@ -126,7 +113,7 @@ noted_more rows row old new noted now = record {
     | inl before ↦ either_way (is_at (nat_cmp n) x) ((count : ℕ) × (count_at nat_cmp new x ≡ Some count))
         (λ here. (now.plan.revisions, now.is.0 x ∙ ap (λ (b : Bool). cond b (Some now.plan.revisions) (count_at nat_cmp old x)) here))
         (λ other. let was = noted.all x before in (was.0, now.is.2 x other ∙ was.1))
-    | inr same ↦ (now.plan.revisions, now.is.0 x ∙ ap (λ (b : Bool). cond b (Some now.plan.revisions) (count_at nat_cmp old x)) (at_itself n x same))
+    | inr same ↦ (now.plan.revisions, now.is.0 x ∙ ap (λ (b : Bool). cond b (Some now.plan.revisions) (count_at nat_cmp old x)) (subst (λ (k : ℕ). is_at (nat_cmp n) k ≡ true) same ((eq_by_cmp_equiv nat_cmp_total).refl n)))
   ];
   apart = subst AreApart (sym listed) (apart_more (numbers_of rows) n noted.apart (λ there. let was = noted.all n there in some_or_none was.0 (sym was.1 ∙ now.unused)));
 }

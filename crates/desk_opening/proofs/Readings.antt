@@ -1,10 +1,8 @@
 -- The revisions of a plan are what their rows say.
-use Rattle.std.proofs.Common.{rules, ◌≡◌, ◌<◌, ◌+◌, ◌++◌, ℕ, List, [], ◌∷◌, length, take, get_or, sym, subst, inl, inr, arith, length-append}
-use Rattle.std.proofs.lemmas.Bool.{cases_lt}
-use Rattle.std.proofs.lemmas.List.{get_or_append_left, get_or_at}
-use Rattle.desk_model.specs.{declared.ranges.CountyRange.CountyRange, Ranges.ranges_of, claim.Geography.GeographyModel, claim.Desk.Plan}
-use Rattle.store_rows.specs.{claim.Rows.KeyMap, declared.value.PlanRow.PlanRow, Changes.with_revision}
-use Rattle.desk_opening.{specs.Reading.{AreChunksRead, IsNextRead, IsPlanRow, IsRevisionShown, LastIsRead, NamesLast}, proofs.Revisions.last_is}
+use Rattle.std.proofs.{Common.{rules, ◌≡◌, ◌<◌, ◌+◌, ◌++◌, ℕ, List, [], ◌∷◌, length, take, get_or, sym, subst, inl, inr, arith, length-append}, lemmas.Bool.cases_lt}
+use Rattle.{std.proofs.lemmas.List.{get_or_append_left, get_or_at}, desk_model.specs.{Ranges.ranges_of, claim.{Desk.Plan, Geography.GeographyModel}}}
+use Rattle.{desk_model.specs.declared.ranges.CountyRange.CountyRange, desk_opening.specs.Reading.{AreChunksRead, IsNextRead, IsPlanRow, IsRevisionShown, LastIsRead, NamesLast}}
+use Rattle.{store_rows.specs.{Changes.with_revision, claim.Rows.KeyMap, declared.value.PlanRow.PlanRow}, desk_opening.proofs.Revisions.last_is}
 
 -- so are those that were read, and the numbers are those of the last one
 pub record ReadSoFar (number : ℕ) (ranges : List CountyRange) (m : KeyMap) (last : List ℕ) (p : Plan) : Type 0 where

@@ -1,15 +1,10 @@
 -- A revision of a geography's blocks, county by county.
-use Rattle.std.specs.Prelude.{false, ◌==◌, Option, IfSome}
+use Rattle.{std.{specs.Prelude.{Option, IfSome}, proofs.lemmas.List.{take_more, drop-drop}}, desk_model.specs.{Ranges.{ranges_of, laid}, claim.{Desk.Plan, Ranges.parts}}}
 use Rattle.std.proofs.Common.{rules, ◌≡◌, ◌<◌, ◌+◌, ◌-◌, ℕ, zero, suc, List, [], ◌∷◌, ◌++◌, length, get_or, take, drop, Some, refl, sym, ap, subst, ◌∙◌, arith, length-append}
-use Rattle.std.proofs.lemmas.Bool.Decides.{nat_tests}
-use Rattle.std.proofs.lemmas.List.{take_more, drop-drop}
-use Rattle.desk_model.specs.{claim.Geography.GeographyModel, claim.Ranges.parts, Ranges.{ranges_of, laid}, declared.ranges.CountyRange.CountyRange, claim.Desk.Plan}
-use Rattle.desk_model.specs.claim.Subject.{revision_at}
-use Rattle.store_rows.specs.{declared.value.PlanRow.PlanRow, claim.Rows.KeyMap, Changes.with_revision}
-use Rattle.plan_rows.specs.RevisionReading.{AppendsParts, AreNames, HasParts}
-use Rattle.desk_pages.specs.claim.Desks.{AreWithin}
+use Rattle.{desk_model.specs.{claim.{Geography.GeographyModel, Subject.revision_at}, declared.ranges.CountyRange.CountyRange}, desk_pages.specs.claim.Desks.AreWithin}
 use Rattle.desk_opening.specs.Reading.{AreChunksRead, AreKnown, AreNamed, BecomesKnown, BecomesLast, IsAfter, IsLast, IsNext, IsOfBlocks, IsPlanRow, IsRevisionRead, IsTold, NamesLast}
-use Rattle.desk_catalogue.proofs.{Drafted.end_of, Counted.laid_long}
+use Rattle.{plan_rows.specs.RevisionReading.{AppendsParts, AreNames, HasParts}, store_rows.specs.{Changes.with_revision, claim.Rows.KeyMap, declared.value.PlanRow.PlanRow}}
+use Rattle.desk_catalogue.proofs.{Counted.laid_long, Drafted.end_of}
 
 parts_long : (ns xs : List ℕ) → length (parts ns xs) ≡ length ns
 parts_long [] xs = refl
@@ -33,14 +28,13 @@ now_known : (g : GeographyModel) (plan revision : ℕ) (m : KeyMap) (names distr
 now_known g plan revision m names districts is same county c there within = search (rules, laid_long, part_at)
 
 -- what was read of them
-pub record AreNamesRead (plan revision count : ℕ) (nothing names : List ℕ) (m : KeyMap) : Type 0 where
-  pub there : AppendsParts plan revision count m nothing names
-  pub read : (numbers : List ℕ) → AreNames plan revision count m numbers → names ≡ nothing ++ numbers
+abbrev AreNamesRead : ℕ → ℕ → ℕ → List ℕ → List ℕ → KeyMap → Type 0
+AreNamesRead plan revision count nothing names m = ((numbers : List ℕ) → AreNames plan revision count m numbers → names ≡ nothing ++ numbers) × AppendsParts plan revision count m nothing names
 
 module _ (g : GeographyModel) (ranges : List CountyRange) (plan revision : ℕ) (last before nothing names : List ℕ) (m : KeyMap)
     (same : ranges ≡ ranges_of g) (none : nothing ≡ []) (named : AreNamesRead plan revision (length ranges) nothing names m) where
   are_names : (all : List ℕ) (is : IsOfBlocks g plan revision m all) → names ≡ is.has.numbers
-  are_names all is = named.read is.has.numbers (names_of g ranges plan revision m all same is) ∙ ap (λ (l : List ℕ). l ++ is.has.numbers) none
+  are_names all is = named.0 is.has.numbers (names_of g ranges plan revision m all same is) ∙ ap (λ (l : List ℕ). l ++ is.has.numbers) none
 
   pub so_many : (all : List ℕ) → IsOfBlocks g plan revision m all → length names ≡ length ranges
   so_many all is = ap (λ (l : List ℕ). length l) (are_names all is) ∙ (names_of g ranges plan revision m all same is).long
@@ -63,15 +57,15 @@ module _ (g : GeographyModel) (ranges : List CountyRange) (plan revision : ℕ) 
       known : BecomesKnown g n plan revision last before names m next
       known all said = search (rules, are_named)
 
-      numbers : names ≡ named.there.xs
-      numbers = named.there.is ∙ ap (λ (l : List ℕ). l ++ named.there.xs) none
+      numbers : names ≡ named.1.xs
+      numbers = named.1.is ∙ ap (λ (l : List ℕ). l ++ named.1.xs) none
 
       pub next_read : IsTold (λ m all. IsRevisionRead plan revision (ranges_of g) last before names m all × BecomesKnown g n plan revision last before names m all)
           (IsNext g n plan revision last before) (λ (all : List ℕ). all) m next
       next_read = record {
         there = (
           subst (λ (l : List CountyRange). IsRevisionRead plan revision l last before names m next) same (record {
-            parts = subst (λ (l : List ℕ). HasParts plan revision (length ranges) m l) (sym numbers) named.there.stands;
+            parts = subst (λ (l : List ℕ). HasParts plan revision (length ranges) m l) (sym numbers) named.1.stands;
             read = λ chunks. subst (λ (l : List ℕ). AreChunksRead l next ranges m) one (is.there (subst (λ (l : List ℕ). AreChunksRead l before ranges m) (sym other) chunks));
           }),
           known,
@@ -84,11 +78,7 @@ module _ (g : GeographyModel) (ranges : List CountyRange) (plan revision : ℕ) 
 pub none_last : (names : List ℕ) (g : GeographyModel) (p : Plan) (m : KeyMap) → names ≡ [] → NamesLast g names p m
 none_last names g p m none before is county c there within = search rules
 
-no_zero : (n : ℕ) → (suc n == 0) ≡ false
-no_zero n = grind (arith, nat_tests)
-
-revision_at_end : (p : Plan) (districts : List ℕ)
-    → revision_at (with_revision p districts) (length (p.revisions ++ districts ∷ [])) ≡ Some districts
+revision_at_end : (p : Plan) (districts : List ℕ) → revision_at (with_revision p districts) (length (p.revisions ++ districts ∷ [])) ≡ Some districts
 revision_at_end p districts = search (arith, length-append p.revisions (districts ∷ []), end_of p.revisions districts)
 
 pub last_is : (p : Plan) (districts before : List ℕ) → IsLast (with_revision p districts) before → before ≡ districts

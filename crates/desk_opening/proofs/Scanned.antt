@@ -1,8 +1,7 @@
 -- The rows that a scan takes under the prefix of plans are rows of the map, each once.
-use Rattle.std.{specs.FinMap.{entries, find, get}, proofs.Common.{rules, ◌≡◌, ℕ, List, ◌∷◌, ◌++◌, Some, None, sym}}
-use Rattle.page_btree.specs.{page_node.claim.Entries.Entry, page_node.claim.Places.key_cmp}
-use Rattle.btree_walks.{specs.Prefixes.under, proofs.RowsFound.{next_under, found_among as found_under}}
-use Rattle.store_rows.{specs.claim.Keys.{key_of, named, plans_prefix}, specs.claim.Rows.KeyMap, proofs.KeyPrefixes.starts_itself}
+use Rattle.{std.{specs.FinMap.{entries, find, get}, proofs.Common.{rules, ◌≡◌, ℕ, List, ◌∷◌, ◌++◌, Some, None, sym}}, btree_walks.specs.Prefixes.under}
+use Rattle.{page_btree.specs.page_node.claim.{Entries.Entry, Places.key_cmp}, store_rows.specs.claim.{Keys.{key_of, named, plans_prefix}, Rows.KeyMap}}
+use Rattle.{btree_walks.proofs.RowsFound.{next_under, found_among as found_under}, store_rows.proofs.KeyPrefixes.starts_itself}
 
 -- the next row is that of a plan, stands in the map, and wasn't taken before
 pub record IsNextPlan (m : KeyMap) (taken : List Entry) (e : Entry) : Type 0 where

@@ -1,14 +1,11 @@
 -- The plans that are shown are those whose rows a scan took, each with what its row says.
-use Rattle.std.specs.{Prelude.Option, Ordering.eq_by_cmp, Cmp.Lexicographic.nat_list_cmp_total, FinMap.{empty, entries, find, get, insert, get-empty}, FinMap.Entries.find-append}
-use Rattle.std.proofs.Common.{rules, ◌≡◌, ◌<◌, ◌^◌, ℕ, cond, List, [], ◌∷◌, ◌++◌, length, Some, None, sym, ap, subst, ◌∙◌}
-use Rattle.page_btree.specs.page_node.claim.Entries.{Entry}
-use Rattle.btree_walks.specs.{Prefixes.under, declared.rows.Row.Row}
-use Rattle.desk_model.specs.{claim.Desk.{Desk, Plan, name_cmp}, declared.ranges.CountyRange.CountyRange}
-use Rattle.store_rows.specs.{claim.Keys.{key_of, named, plans_prefix, retired}, claim.Order.key_cmp, claim.Values.plan_bytes, declared.value.PlanRow.PlanRow}
-use Rattle.store_rows.{specs.claim.Rows.{KeyMap, Lacks}, specs.Changes.plan_row_of, proofs.OneGeography.no_value, proofs.Changes.cases_key, proofs.Frames.{differs, itself}}
-use Rattle.desk_opening.specs.{Opening.{ArePlansShown, HasNothing, IsListed, IsNotGone, IsShown, IsShownAt}, Reading.AreRevisionsShown}
-use Rattle.desk_opening.proofs.{Parts.{Plans, put_there, put_keeps}, Scanned.{found_among, next_plan}}
-use Rattle.desk_pages.specs.Desks.{new_desk}
+use Rattle.std.specs.{Cmp.Lexicographic.nat_list_cmp_total, FinMap.{empty, entries, find, get, insert, get-empty, Entries.find-append}, Prelude.Option}
+use Rattle.{std.proofs.Common.{rules, ◌≡◌, ◌<◌, ◌^◌, ℕ, List, [], ◌∷◌, ◌++◌, length, Some, None, sym, ap, subst, ◌∙◌}, btree_walks.specs.{Prefixes.under, declared.rows.Row.Row}}
+use Rattle.{desk_model.specs.{claim.Desk.{Desk, Plan, name_cmp}, declared.ranges.CountyRange.CountyRange}, desk_opening.specs.Reading.AreRevisionsShown}
+use Rattle.{desk_opening.specs.Opening.{ArePlansShown, HasNothing, IsListed, IsNotGone, IsShown, IsShownAt}, desk_pages.specs.Desks.new_desk, store_rows.specs.Changes.plan_row_of}
+use Rattle.{page_btree.specs.page_node.claim.Entries.Entry, store_rows.specs.claim.{Keys.{key_of, named, plans_prefix, retired}, Order.key_cmp, Rows.{KeyMap, Lacks}}}
+use Rattle.{store_rows.specs.{claim.Values.plan_bytes, declared.value.PlanRow.PlanRow}, desk_opening.proofs.{Parts.{Plans, put_there, put_keeps}, Scanned.{found_among, next_plan}}}
+use Rattle.store_rows.proofs.{Changes.cases_key, Frames.{differs, itself}, OneGeography.no_value}
 
 -- a row's numbers are those of the plan
 pub row_is : (row : PlanRow) (p : Plan) → p.kind ≡ row.kind → p.n ≡ row.districts → length p.revisions ≡ row.revisions → row ≡ plan_row_of row.number p
@@ -38,19 +35,15 @@ module _ (m : KeyMap) (ranges : List CountyRange) (taken : List Entry) (plans : 
   abbrev value : List ℕ
   value = plan_bytes (plan_row_of number p)
 
-  here : (n : List ℕ) → find key_cmp (key_of (named n)) (taken ++ (key_of (named name), value) ∷ []) ≡ cond (eq_by_cmp key_cmp (key_of (named n)) (key_of (named name))) (Some value) (find key_cmp (key_of (named n)) taken)
-  here n = find-append key_cmp nat_list_cmp_total taken (key_of (named name)) value (key_of (named n)) new
-
   one_more : AreShown m ranges (taken ++ (key_of (named name), value) ∷ []) (insert plans name p)
-  one_more other = search (rules, cases_key other name, here name, itself (key_of (named name)), put_there plans name p, here other, differs, put_keeps)
+  one_more other = search (rules, cases_key other name, find-append key_cmp nat_list_cmp_total taken, new, itself (key_of (named name)), put_there plans name p, differs, put_keeps)
 
 module _ (m : KeyMap) (ranges : List CountyRange) (rows : List Entry) (row : Row) (plans all : Plans) (after : List Entry) (whole : under plans_prefix (entries m) ≡ rows ++ (row.key, row.value) ∷ after) (shown : AreShown m ranges rows plans) (gone : IsNotGone row m) (listed : IsListed plans row ranges m all) where
   pub more_shown : AreShown m ranges (rows ++ (row.key, row.value) ∷ []) all
   more_shown =
       let e : Entry = (row.key, row.value) in
       let added = listed.added in
-      let at = next_plan m rows e after whole in
-      let fresh : find key_cmp (key_of (named added.name)) rows ≡ None = subst (λ (k : List ℕ). find key_cmp k rows ≡ None) added.key at.new in
+      let fresh : find key_cmp (key_of (named added.name)) rows ≡ None = subst (λ (k : List ℕ). find key_cmp k rows ≡ None) added.key (next_plan m rows e after whole).new in
       let more = one_more m ranges rows plans shown added.name added.plan added.number added.fits (gone (plan_row_of added.number added.plan) added.fits added.value) listed.revisions fresh in
       let same : (key_of (named added.name), plan_bytes (plan_row_of added.number added.plan)) ≡ e = λ i. (sym added.key i, sym added.value i) in
       subst (λ (n : Plans). AreShown m ranges (rows ++ e ∷ []) n) (sym added.is) (subst (λ (x : Entry). AreShown m ranges (rows ++ x ∷ []) (insert plans added.name added.plan)) same more)

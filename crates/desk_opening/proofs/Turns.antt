@@ -1,10 +1,8 @@
 -- A row that a scan takes is that of the next plan.
-use Rattle.std.{specs.Prelude.Option, specs.FinMap.{entries, find, get, insert}, proofs.Common.{rules, ◌≡◌, ℕ, List, [], ◌∷◌, ◌++◌, Some, None, refl, sym, subst}}
-use Rattle.page_btree.specs.{page_node.claim.Entries.Entry, page_node.claim.Places.key_cmp}
-use Rattle.btree_walks.specs.{Prefixes.under, declared.rows.Row.Row}
-use Rattle.desk_model.specs.{claim.Geography.GeographyModel, claim.Desk.Plan}
-use Rattle.store_rows.specs.{claim.Keys.{key_of, named, plans_prefix}, claim.Rows.KeyMap, claim.DeskRows.IsPlanAt}
-use Rattle.desk_opening.{specs.Opening.{ArePlans, IsNewPlan}, proofs.Parts.{Plans, AreRead, has_room, not_read, one_more_read}, proofs.Scanned.next_plan}
+use Rattle.std.{specs.{FinMap.{entries, find, get, insert}, Prelude.Option}, proofs.Common.{rules, ◌≡◌, ℕ, List, [], ◌∷◌, ◌++◌, Some, None, refl, sym, subst}}
+use Rattle.{btree_walks.specs.{Prefixes.under, declared.rows.Row.Row}, desk_model.specs.claim.{Desk.Plan, Geography.GeographyModel}, page_btree.specs.page_node.claim.Entries.Entry}
+use Rattle.{desk_opening.specs.Opening.{ArePlans, IsNewPlan}, page_btree.specs.page_node.claim.Places.key_cmp, store_rows.specs.claim.{DeskRows.IsPlanAt, Rows.KeyMap}}
+use Rattle.{store_rows.specs.claim.Keys.{key_of, named, plans_prefix}, desk_opening.proofs.{Parts.{Plans, AreRead, has_room, not_read, one_more_read}, Scanned.next_plan}}
 
 -- a row that is there is that of a plan
 plan_at : (m : KeyMap) (g : GeographyModel) (name value : List ℕ) (o : Option Plan) → IsPlanAt m (Some g) name o → get m (key_of (named name)) ≡ Some value → (p : Plan) × (o ≡ Some p)

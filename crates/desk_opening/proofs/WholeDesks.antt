@@ -1,15 +1,12 @@
 -- A desk of its geography and its plans.
-use Rattle.std.specs.{Prelude.Option, Cmp.Lexicographic.nat_list_cmp_total, FinMap.{empty, get, get-empty, same_map, slice_cmp-IsAntisymmetric, nat_cmp-IsAntisymmetric}}
-use Rattle.std.proofs.Common.{rules, ◌≡◌, List, ℕ, Bool, Some, None, Result, Ok, Err, IfOk, refl, sym, subst, ◌∙◌}
-use Rattle.sector_device.specs.{claim.Disk.Image, declared.SectorDevice.Ghosts}
-use Rattle.page_store.{specs.claim.Transactions.{stored, disk_in, IsQuiet, Passed}, specs.declared.pages.Pages.Pages, specs.declared.txn.Txn.Txn, proofs.Stops.failed_more}
-use Rattle.page_btree.specs.{claim.Map.InTxn as InTree, declared.error.TreeError.TreeError, declared.error.TreeError.TheVariants.{DeviceFault, NotAStore, Halted, Memory}}
-use Rattle.desk_model.specs.{claim.Geography.GeographyModel, claim.Desk.{Desk, Plan, name_cmp}}
-use Rattle.store_rows.specs.{claim.Rows.{KeyMap, Lacks}, claim.Keys.named, claim.GeographyRows.IsGeography, claim.DeskRows.IsPlanAt}
-use Rattle.desk_pages.specs.{Looking.{Gathers, Says}, Reading.{ReadErr, SeekErr}, claim.Desks.{IsMapOf, InTxnOf}, Desks.new_desk}
-use Rattle.desk_pages.proofs.Looking.{looked, not_looked}
-use Rattle.store_check.specs.Numbers.{IsKept}
-use Rattle.desk_opening.specs.Opening.{ArePlans, HasNothing, IsMapAs, OpenErr}
+use Rattle.std.specs.{Cmp.Lexicographic.nat_list_cmp_total, FinMap.{empty, get, get-empty, same_map, slice_cmp-IsAntisymmetric, nat_cmp-IsAntisymmetric}, Prelude.Option}
+use Rattle.{std.proofs.Common.{rules, ◌≡◌, List, ℕ, Bool, Some, None, Result, Ok, Err, IfOk, refl, sym, subst, ◌∙◌}, desk_model.specs.claim.Desk.{Desk, Plan, name_cmp}}
+use Rattle.{desk_model.specs.claim.Geography.GeographyModel, desk_opening.specs.Opening.{ArePlans, HasNothing, IsMapAs, OpenErr}, desk_pages.specs.Desks.new_desk}
+use Rattle.{desk_pages.specs.{Looking.{Gathers, Says}, Reading.{ReadErr, SeekErr}, claim.Desks.{IsMapOf, InTxnOf}}, page_btree.specs.claim.Map.InTxn as InTree}
+use Rattle.{page_btree.specs.declared.error.TreeError.{TreeError, TheVariants.{DeviceFault, NotAStore, Halted, Memory}}, page_store.specs.declared.{pages.Pages.Pages, txn.Txn.Txn}}
+use Rattle.{page_store.specs.claim.Transactions.{stored, disk_in, IsQuiet, Passed}, sector_device.specs.{claim.Disk.Image, declared.SectorDevice.Ghosts}}
+use Rattle.{store_check.specs.Numbers.IsKept, store_rows.specs.claim.{DeskRows.IsPlanAt, GeographyRows.IsGeography, Keys.named, Rows.{KeyMap, Lacks}}}
+use Rattle.{desk_pages.proofs.{Looking.{looked, may_lack, not_looked, then_unread}, Reading.less_sought}, page_store.proofs.Stops.failed_more}
 
 none_at : (m : KeyMap) (name : List ℕ) (p : Option Plan) → IsPlanAt m None name p → p ≡ None
 none_at m name None is = refl
@@ -44,9 +41,8 @@ unopened t a b _ why = why
 
 -- what isn't kept is no desk's
 pub unkept : {D : Type 0} {g : Ghosts D} (t : Txn) (a b : Pages D g) (e : TreeError) → ReadErr IsKept t a b e → OpenErr t a b e
-unkept t a b NotAStore why = λ honest new d held. why honest held.m held.holds (record { desk = d; is = held.is.desk; tidy = held.is.tidy })
-unkept t a b Memory why = tt
-unkept t a b _ why = why
+unkept t a b e why =
+    unopened t a b e (less_sought (Unit {0}) IsKept (Says IsMapAs) t a b (λ m is. record { desk = is.0.1; is = is.1.desk; tidy = is.1.tidy }) e (may_lack IsKept t a b e why))
 
 -- ---- calls that passed, and then one more
 module _ {D : Type 0} {g : Ghosts D} where
@@ -62,19 +58,11 @@ module _ {D : Type 0} {g : Ghosts D} where
 
   -- what isn't read of what each desk has
   pub unread_unopened : (has : KeyMap → Type 0) (t : Txn) (a b c : Pages D g) → Passed a b → IsQuiet b c → ((disk_in b).is_honest → (m : KeyMap) (x : Bool × Desk) → InTree t (stored a) m → IsMapAs m x → has m) → (e : TreeError) → ReadErr has t b c e → OpenErr t a c e
-  unread_unopened has t a b c passed quiet gives DeviceFault why = failed_more a b c passed quiet why
-  unread_unopened has t a b c passed quiet gives NotAStore why = λ honest new d held.
-      let then = quiet.honest honest in
-      why honest held.m (subst (λ (P : Image). InTree t P held.m) (sym (passed.quiet.same then)) held.holds) (gives then held.m (new, d) held.holds held.is)
-  unread_unopened has t a b c passed quiet gives Halted why = sym passed.halted ∙ why
-  unread_unopened has t a b c passed quiet gives Memory why = tt
-  unread_unopened has t a b c passed quiet gives _ why = why
+  unread_unopened has t a b c passed quiet gives e why =
+      unopened t a c e (then_unread (Unit {0}) has (Says IsMapAs) t a b c passed quiet (λ honest m holds is. gives honest m is.0 holds is.1) e (may_lack has t b c e why))
 
 -- what is so of what was found, whatever the rows say
 pub with_also : {D X : Type 0} {g : Ghosts D} {says : KeyMap → X → Type 0} {has : KeyMap → Type 0} {t : Txn} {a b : Pages D g} (P : X → Type 0) (r : Result X TreeError) → Gathers says has t a b r → IfOk r P
     → Gathers (λ m x. says m x × P x) has t a b r
 with_also P (Ok x) look is = looked look.passed (λ honest m holds. (look.there honest m holds, is))
 with_also P (Err e) look is = not_looked look.quiet look.err
-
-pub no_row : (row : List ℕ) → ◌≡◌ {A = Option (List ℕ)} (Some row) None → ⊥
-no_row row same = cc

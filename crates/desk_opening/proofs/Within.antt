@@ -1,12 +1,8 @@
 -- No block of a plan's revisions is in a district above its last.
-use Rattle.std.{specs.Prelude.{◌==◌, All, Option}, specs.List.slice_get, proofs.Common.{◌≡◌, ◌-◌, ℕ, Bool, true, false, cond, List, [], Some, None, sym, subst, ◌∙◌, inl, inr}}
-use Rattle.std.proofs.lemmas.Option.{get_or_from_slice_get, slice_get_cases}
-use Rattle.std.proofs.lemmas.List.Elements.{All-append, All-drop, All-get_or, All-push, All-take}
-use Rattle.desk_catalogue.specs.shared_lists.Laid.{with_at}
-use Rattle.desk_model.specs.{claim.Desk.Plan, claim.Subject.revision_at}
-use Rattle.desk_pages.specs.claim.Desks.{AreWithin}
-use Rattle.store_rows.specs.Changes.{with_revision}
-use Rattle.desk_opening.specs.Reading.{AreAllWithin}
+use Rattle.std.{specs.{List.slice_get, Prelude.{◌==◌, All, Option}}, proofs.Common.{◌≡◌, ◌-◌, ℕ, Bool, true, false, cond, List, [], Some, None, sym, subst, ◌∙◌, inl, inr}}
+use Rattle.std.proofs.lemmas.{List.Elements.{All-append, All-drop, All-get_or, All-push, All-take}, Option.{get_or_from_slice_get, slice_get_cases}}
+use Rattle.{desk_catalogue.specs.shared_lists.Laid.with_at, desk_model.specs.claim.{Desk.Plan, Subject.revision_at}, desk_opening.specs.Reading.AreAllWithin}
+use Rattle.{desk_pages.specs.claim.Desks.AreWithin, store_rows.specs.Changes.with_revision}
 
 -- a part that is laid over others
 pub with_at_within : (n first : ℕ) (part districts : List ℕ) → AreWithin n part → AreWithin n districts → AreWithin n (with_at first part districts)

@@ -1,18 +1,13 @@
 -- What is read back of a desk row by row, and why it is not.
-use Rattle.std.specs.{Prelude.{◌≡◌, ◌⊎◌, ◌<◌, ◌≤◌, ◌^◌, ℕ, List, [], Bool, true, Option, Some, None}, FinMap.{FinMap, get, insert, len, get as row_at}}
-use Rattle.std.specs.{BTreeMap.{BTreeMap, Updates, get as count_at}, Ordering.nat_cmp}
-use Rattle.sector_device.specs.declared.SectorDevice.{Ghosts}
-use Rattle.desk_model.specs.{claim.Geography.GeographyModel, Ranges.ranges_in, declared.ranges.CountyRange.CountyRange, claim.Desk.{Desk, Plan, name_cmp}, claim.Step.plan_limit}
-use Rattle.page_store.specs.{claim.Transactions.{stored, disk_in, has_halted, HasFailed}, declared.pages.Pages.Pages, declared.txn.Txn.Txn}
-use Rattle.page_btree.specs.{declared.error.TreeError.TreeError, declared.error.TreeError.TheVariants.{DeviceFault, NotAStore, Halted, Memory}}
-use Rattle.btree_walks.specs.declared.rows.Row.{Row}
-use Rattle.store_rows.specs.{claim.Keys.{key_of, Fits, begun, named, part, retired, seal, version}, claim.Values.{plan_bytes, seal_bytes}, declared.value.PlanRow.PlanRow}
-use Rattle.store_rows.specs.{declared.value.SealRow.SealRow, claim.Rows.{KeyMap, row_in, Has, Lacks}, claim.DeskRows.IsDesk, claim.Tidy.{IsNumbered, Tidy, version_row}}
-use Rattle.store_rows.specs.Changes.{desk_with, plan_row_of}
-use Rattle.desk_pages.specs.{Reading.StandsAs, claim.Desks.{InTxnOf, IsMapOf, IsSized, IsWithinLimits}}
-use Rattle.store_check.specs.Numbers.{HasNumbersBelow}
-use Rattle.geo_tables.specs.Elements.{IsGeographyRead}
-use Rattle.desk_opening.specs.Reading.{AreRevisionsShown}
+use Rattle.{std.specs.{BTreeMap.{BTreeMap, Updates, get as count_at}, FinMap.{FinMap, get, insert, len, get as row_at}, Ordering.nat_cmp}, btree_walks.specs.declared.rows.Row.Row}
+use Rattle.std.specs.Prelude.{◌≡◌, ◌⊎◌, ◌<◌, ◌≤◌, ◌^◌, ℕ, List, [], Bool, true, Option, Some, None}
+use Rattle.desk_model.specs.{Ranges.ranges_in, claim.{Desk.{Desk, Plan, name_cmp}, Geography.GeographyModel, Step.plan_limit}, declared.ranges.CountyRange.CountyRange}
+use Rattle.{desk_opening.specs.Reading.AreRevisionsShown, desk_pages.specs.{Reading.StandsAs, claim.Desks.{InTxnOf, IsMapOf, IsSized, IsWithinLimits}}}
+use Rattle.{geo_tables.specs.Elements.IsGeographyRead, page_btree.specs.declared.error.TreeError.{TreeError, TheVariants.{DeviceFault, NotAStore, Halted, Memory}}}
+use Rattle.{page_store.specs.{claim.Transactions.{stored, disk_in, has_halted, HasFailed}, declared.{pages.Pages.Pages, txn.Txn.Txn}}, store_check.specs.Numbers.HasNumbersBelow}
+use Rattle.{sector_device.specs.declared.SectorDevice.Ghosts, store_rows.specs.{Changes.{desk_with, plan_row_of}, claim.{DeskRows.IsDesk, Rows.{KeyMap, row_in, Has, Lacks}}}}
+use Rattle.store_rows.specs.claim.{Keys.{key_of, Fits, begun, named, part, retired, seal, version}, Tidy.{IsNumbered, Tidy, version_row}, Values.{plan_bytes, seal_bytes}}
+use Rattle.store_rows.specs.declared.value.{PlanRow.PlanRow, SealRow.SealRow}
 
 -- the device failed, or the transaction reads no desk in either version; or a growth was refused
 abbrev pub OpenErr : {D : Type 0} {g : Ghosts D} → Txn → Pages D g → Pages D g → TreeError → Type 0

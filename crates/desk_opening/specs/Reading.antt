@@ -1,14 +1,10 @@
 -- What is read back of a desk.
 use Rattle.std.specs.Prelude.{◌≡◌, ◌⊎◌, ◌≤◌, ◌<◌, ◌+◌, ℕ, List, [], length, take, drop, get_or, All, IfSome, Result}
-use Rattle.sector_device.specs.declared.SectorDevice.{Ghosts}
-use Rattle.desk_model.specs.{claim.Geography.GeographyModel, claim.Ranges.cut, Ranges.ranges_of, declared.ranges.CountyRange.CountyRange, claim.Desk.Plan}
-use Rattle.desk_model.specs.{claim.Sizes.most_districts, claim.Subject.revision_at}
-use Rattle.desk_pages.specs.{claim.Desks.AreWithin, Looking.{Gathers, Says}}
-use Rattle.page_store.specs.{declared.pages.Pages.Pages, declared.txn.Txn.Txn}
-use Rattle.page_btree.specs.declared.error.TreeError.{TreeError}
-use Rattle.store_rows.specs.{declared.value.PlanRow.PlanRow, claim.Rows.KeyMap, claim.RevisionRows.{HasChunk, HasRevision}, claim.DeskRows.HasPlan, Changes.with_revision}
-use Rattle.desk_catalogue.specs.shared_lists.Laid.{with_at}
-use Rattle.plan_rows.specs.{RevisionReading.HasParts, ChunkReading.{HasPieces, IsChunk}}
+use Rattle.{desk_catalogue.specs.shared_lists.Laid.with_at, desk_model.specs.{Ranges.ranges_of, claim.{Desk.Plan, Geography.GeographyModel, Ranges.cut, Sizes.most_districts}}}
+use Rattle.{desk_model.specs.{claim.Subject.revision_at, declared.ranges.CountyRange.CountyRange}, desk_pages.specs.{Looking.{Gathers, Says}, claim.Desks.AreWithin}}
+use Rattle.{page_btree.specs.declared.error.TreeError.TreeError, page_store.specs.declared.{pages.Pages.Pages, txn.Txn.Txn}, plan_rows.specs.ChunkReading.{HasPieces, IsChunk}}
+use Rattle.{plan_rows.specs.RevisionReading.HasParts, sector_device.specs.declared.SectorDevice.Ghosts, store_rows.specs.{Changes.with_revision, claim.DeskRows.HasPlan}}
+use Rattle.store_rows.specs.{claim.{RevisionRows.{HasChunk, HasRevision}, Rows.KeyMap}, declared.value.PlanRow.PlanRow}
 
 -- `reads` is so of what was read; and where a map says a value, it is what `told` makes of that
 pub record IsTold {X V : Type 0} (reads : KeyMap → V → Type 0) (says : KeyMap → X → Type 0) (told : X → V) (m : KeyMap) (value : V) : Type 0 where

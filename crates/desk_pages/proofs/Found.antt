@@ -1,13 +1,11 @@
 -- Desks of a store that an opening finds.
-use Rattle.std.proofs.Common.{rules, ◌≡◌, ◌+◌, ℕ, Bool, true, sym, ap, subst, ◌∙◌, arith}
-use Rattle.sector_device.{specs.claim.Disk.{Disk, Image}, specs.claim.Moments.LeavesOnly, specs.declared.SectorDevice.Ghosts, proofs.Moments.leaves_wider}
-use Rattle.page_store.specs.{gate_journal.claim.Store.{home, IsStore, Opens, pages}, gate_journal.Recovery.{HasRoom, AllStores, ReadsAs, Found}, Openings.AllPageStores}
-use Rattle.page_store.{specs.claim.Transactions.{stored, disk_in, count_of, journal_of, IsKept, IsQuiet}, specs.declared.pages.Pages.Pages, proofs.Stops.kept_quiet}
+use Rattle.{std.proofs.Common.{rules, ◌≡◌, ◌+◌, ℕ, Bool, true, sym, ap, subst, ◌∙◌, arith}, btree_puts.specs.page_btree.claim.Map.InPages as HasRows}
+use Rattle.{desk_model.specs.claim.Desk.Desk, desk_pages.specs.{Desks.InPagesAs, Openings.{AllDesks, OpensOneOf, HasPages, StillStands}, claim.Desks.{OpensAs, OpensDeskOf}}}
+use Rattle.{desk_pages.specs.claim.Openings.{AllVersions, OpensOneAs}, page_store.specs.{Openings.AllPageStores, declared.pages.Pages.Pages}, store_rows.specs.claim.Rows.KeyMap}
+use Rattle.page_store.specs.{claim.Transactions.{stored, disk_in, count_of, journal_of, IsKept, IsQuiet}, gate_journal.Recovery.{HasRoom, AllStores, ReadsAs, Found}}
+use Rattle.{page_store.{specs.gate_journal.claim.Store.{home, IsStore, Opens, pages}, proofs.Stops.kept_quiet}, sector_device.specs.claim.{Disk.{Disk, Image}, Moments.LeavesOnly}}
+use Rattle.sector_device.{specs.declared.SectorDevice.Ghosts, proofs.Moments.leaves_wider}
 use Rattle.page_store.proofs.gate_journal.Headers.{same_journal}
-use Rattle.btree_puts.specs.page_btree.claim.Map.{InPages as HasRows}
-use Rattle.desk_model.specs.claim.Desk.{Desk}
-use Rattle.store_rows.specs.claim.Rows.{KeyMap}
-use Rattle.desk_pages.specs.{claim.Desks.{OpensAs, OpensDeskOf}, Desks.InPagesAs, Openings.{AllDesks, OpensOneOf, HasPages, StillStands}, claim.Openings.{AllVersions, OpensOneAs}}
 
 -- what is of the new version is of either
 pub all_versions : (disk : Disk) → AllDesks disk → AllVersions disk
@@ -31,9 +29,7 @@ same_desk sectors d was c J n opens store whole stands =
     search rules
 
 reads_as_one : (disk : Disk) (c : Image) → AllDesks disk → ReadsAs disk c → OpensOneOf disk c
-reads_as_one disk c all told =
-    let is = all told.was told.left in
-    search (is.0, told.was, is.1, same_desk, told.J, told.store, told.whole, told.opens)
+reads_as_one disk c all told = let is = all told.was told.left in search (is.0, told.was, is.1, same_desk, told.J, told.store, told.whole, told.opens)
 
 reads_as_version : (disk : Disk) (c : Image) → AllVersions disk → ReadsAs disk c → OpensOneAs disk c
 reads_as_version disk c all told =

@@ -1,13 +1,10 @@
 -- Pages that no fault has stopped, and what a transaction leaves of them.
-use Rattle.std.proofs.Common.{◌≡◌, ◌+◌, ℕ, Result, Ok, Err, OnOk, Bool, false}
-use Rattle.sector_device.specs.{claim.Disk.Image, declared.SectorDevice.Ghosts}
-use Rattle.page_store.specs.{gate_journal.claim.Store.home, claim.Transactions.{stored, disk_in, count_of, journal_of, has_halted, IsKept}, declared.pages.Pages.Pages}
-use Rattle.page_store.specs.{declared.txn.Txn.Txn, declared.txn.Prepared.Prepared}
+use Rattle.{std.proofs.Common.{◌≡◌, ◌+◌, ℕ, Result, Ok, Err, OnOk, Bool, false}, btree_puts.specs.page_btree.claim.Map.{InTxn as TxnHolds, InPages as PagesHold}}
+use Rattle.{desk_model.specs.claim.Desk.Desk, desk_pages.specs.claim.{Commits.HoldsAfter, Desks.{InPagesOf, OpensDeskOf}}, page_store.specs.declared.pages.Pages.Pages}
+use Rattle.page_store.specs.{claim.Transactions.{stored, disk_in, count_of, journal_of, has_halted, IsKept}, declared.txn.{Prepared.Prepared, Txn.Txn}}
+use Rattle.{page_store.specs.gate_journal.claim.Store.home, sector_device.specs.{claim.Disk.Image, declared.SectorDevice.Ghosts}, store_rows.specs.claim.Rows.KeyMap}
+use Rattle.desk_pages.proofs.Committed.{pages_sound}
 use Rattle.page_store.proofs.gate_journal.Commit.{settled_opens}
-use Rattle.btree_puts.specs.page_btree.claim.Map.{InTxn as TxnHolds, InPages as PagesHold}
-use Rattle.desk_model.specs.claim.Desk.{Desk}
-use Rattle.store_rows.specs.claim.Rows.{KeyMap}
-use Rattle.desk_pages.{specs.claim.Commits.HoldsAfter, specs.claim.Desks.{InPagesOf, OpensDeskOf}, proofs.Committed.pages_sound}
 
 module _ {D : Type 0} {g : Ghosts D} where
   -- each image that a stop now leaves stands for them

@@ -1,8 +1,6 @@
 -- A list in parts of so many elements.
 use Rattle.std.proofs.{Common.{rules, ◌≡◌, ◌<◌, ◌≤◌, ◌*◌, ◌+◌, ◌++◌, ℕ, cond, List, length, take, drop, All, Some, None, ap, arith, length-drop, length-take}, Math.Seq.take-add}
-use Rattle.std.proofs.lemmas.Bool.{lt-ltb}
-use Rattle.std.proofs.lemmas.List.Elements.{All-take, All-drop}
-use Rattle.store_rows.specs.claim.Rows.{part_row}
+use Rattle.{std.proofs.lemmas.{Bool.lt-ltb, List.Elements.{All-take, All-drop}}, store_rows.specs.claim.Rows.part_row}
 
 -- the row of a part is there where it begins within the list
 pub part_there : (size : ℕ) (bytes : List ℕ → List ℕ) (xs : List ℕ) (index : ℕ) → size * index < length xs → part_row size bytes xs index ≡ Some (bytes (take size (drop (size * index) xs)))

@@ -1,12 +1,9 @@
 -- Looks, one after the other.
-use Rattle.std.{specs.Prelude.{◌≡◌, ℕ, List, Option, Result, Ok, Err, IsErrAnd}, specs.FinMap.get as row_at, proofs.Common.{rules, refl, sym, subst, ◌∙◌}}
-use Rattle.sector_device.specs.declared.SectorDevice.{Ghosts}
-use Rattle.page_store.specs.{claim.Transactions.{stored, disk_in, IsQuiet, Passed}, declared.pages.Pages.Pages, declared.txn.Txn.Txn}
-use Rattle.page_store.proofs.Stops.{quiet_more, passed_more, passed_none, failed_more}
-use Rattle.btree_puts.specs.{page_btree.claim.Map.InTxn, page_btree.declared.error.TreeError.TreeError}
-use Rattle.btree_puts.specs.page_btree.declared.error.TreeError.TheVariants.{DeviceFault, NotAStore, Halted, Memory}
-use Rattle.store_rows.specs.claim.Rows.{KeyMap}
-use Rattle.desk_pages.{specs.Looking.{Gathers, Looks, Seeks}, specs.Reading.{IsReadAs, ReadErr, SeekErr, StandsAs}, proofs.Reading.{less_sought, value_read, value_unread}}
+use Rattle.std.{specs.{FinMap.get as row_at, Prelude.{◌≡◌, ℕ, List, Option, Result, Ok, Err, IsErrAnd}}, proofs.Common.{rules, refl, sym, subst, ◌∙◌}}
+use Rattle.btree_puts.specs.page_btree.{claim.Map.InTxn, declared.error.TreeError.{TreeError, TheVariants.{DeviceFault, NotAStore, Halted, Memory}}}
+use Rattle.{desk_pages.specs.{Looking.{Gathers, Looks, Seeks}, Reading.{IsReadAs, ReadErr, SeekErr, StandsAs}}, page_store.specs.declared.{pages.Pages.Pages, txn.Txn.Txn}}
+use Rattle.{page_store.specs.claim.Transactions.{stored, disk_in, IsQuiet, Passed}, sector_device.specs.declared.SectorDevice.Ghosts, store_rows.specs.claim.Rows.KeyMap}
+use Rattle.{desk_pages.proofs.Reading.{less_sought, value_read, value_unread}, page_store.proofs.Stops.{quiet_more, passed_more, passed_none, failed_more}}
 
 module _ {D X : Type 0} {g : Ghosts D} {short : Type 0} {says : KeyMap → X → Type 0} {has : KeyMap → Type 0} {t : Txn} {a b : Pages D g} where
   -- calls passed, and this is so after them

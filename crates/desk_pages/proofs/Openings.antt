@@ -1,9 +1,7 @@
 -- Lemmas on the definitions of Commits.
-use Rattle.std.{specs.Prelude.{◌⊎◌, ℕ, Bool}, proofs.Common.{rules, inl, inr, ⊎_elim}}
-use Rattle.sector_device.{specs.claim.Disk.{Disk, Image}, specs.claim.Moments.LeavesOnly, proofs.Moments.leaves_wider}
-use Rattle.desk_model.specs.claim.Desk.{Desk}
-use Rattle.store_rows.specs.claim.Rows.{KeyMap}
-use Rattle.desk_pages.specs.{claim.Desks.{IsMapOf, OpensDeskOf}, Commits.OpensRows}
+use Rattle.{std.{specs.Prelude.{◌⊎◌, ℕ, Bool}, proofs.Common.{rules, inl, inr, ⊎_elim}}, desk_model.specs.claim.Desk.Desk, desk_pages.specs.Commits.OpensRows}
+use Rattle.{desk_pages.specs.claim.Desks.{IsMapOf, OpensDeskOf}, sector_device.specs.claim.{Disk.{Disk, Image}, Moments.LeavesOnly}, store_rows.specs.claim.Rows.KeyMap}
+use Rattle.sector_device.proofs.Moments.{leaves_wider}
 
 -- it opens to the desk whose rows the map has
 pub opens_desk : {new : Bool} (sectors : ℕ) (m : KeyMap) (d : Desk) (c : Image) → IsMapOf new m d → OpensRows sectors m c → OpensDeskOf new sectors d c

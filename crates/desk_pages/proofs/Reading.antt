@@ -1,12 +1,11 @@
 -- Lemmas on the definitions of Reading.
-use Rattle.std.specs.{Prelude.{◌≡◌, ℕ, List, [], Option, Some, None, Result, Ok, Err, IfOk, IfErr, option_map, MatchOption}, FinMap.get as row_at}
-use Rattle.std.proofs.Common.{rules, refl, sym, ap, subst, ◌∙◌}
-use Rattle.sector_device.specs.{claim.Disk.Image, declared.SectorDevice.Ghosts}
-use Rattle.page_store.specs.{claim.Transactions.{stored, disk_in, IsQuiet, Passed}, declared.pages.Pages.Pages, declared.txn.Txn.Txn}
-use Rattle.btree_puts.specs.{page_btree.claim.Map.InTxn, page_btree.declared.error.TreeError.TreeError, page_btree.declared.error.TreeError.TheVariants.NotAStore}
-use Rattle.btree_puts.specs.{page_btree.claim.Errors.GetErr, declared.finger.Fingers.Fingers, Fingers.{Stand, GetWhereErr}}
-use Rattle.store_rows.specs.{claim.Keys.{key_of, counters}, claim.Values.counters_bytes, declared.value.Counters.Counters, claim.Rows.KeyMap, claim.Puts.Row, claim.Tidy.no_numbers}
-use Rattle.desk_pages.{specs.claim.Puts.{HasPut, PutsErr}, specs.Reading.{HasNext, IsReadAs, ReadErr, ReadErrWith, SeekErr, StandsAs}, proofs.RowsPut.{more_put, then_not_put}}
+use Rattle.std.specs.{FinMap.get as row_at, Prelude.{◌≡◌, ℕ, List, [], Option, Some, None, Result, Ok, Err, IfOk, IfErr, option_map, MatchOption}}
+use Rattle.{std.proofs.Common.{rules, refl, sym, ap, subst, ◌∙◌}, btree_puts.specs.{Fingers.{Stand, GetWhereErr}, declared.finger.Fingers.Fingers, page_btree.claim.Errors.GetErr}}
+use Rattle.{btree_puts.specs.page_btree.{claim.Map.InTxn, declared.error.TreeError.{TreeError, TheVariants.NotAStore}}, desk_pages.specs.claim.Puts.{HasPut, PutsErr}}
+use Rattle.{desk_pages.specs.Reading.{HasNext, IsReadAs, ReadErr, ReadErrWith, SeekErr, StandsAs}, page_store.specs.claim.Transactions.{stored, disk_in, IsQuiet, Passed}}
+use Rattle.{page_store.specs.declared.{pages.Pages.Pages, txn.Txn.Txn}, sector_device.specs.{claim.Disk.Image, declared.SectorDevice.Ghosts}, store_rows.specs.claim.Puts.Row}
+use Rattle.store_rows.specs.{claim.{Keys.{key_of, counters}, Rows.KeyMap, Tidy.no_numbers, Values.counters_bytes}, declared.value.Counters.Counters}
+use Rattle.desk_pages.proofs.RowsPut.{more_put, then_not_put}
 
 -- and has one value
 pub one_value : (key a b : List ℕ) (m : KeyMap) → row_at m key ≡ Some a → row_at m key ≡ Some b → a ≡ b

@@ -1,12 +1,9 @@
 -- What is told of pages that aren't opened, and of rows that aren't read.
-use Rattle.std.proofs.Common.{rules, ◌≡◌, ◌≢◌, Bool, true, false, inl, refl, sym}
-use Rattle.sector_device.specs.{claim.Disk.Disk, declared.SectorDevice.Ghosts}
-use Rattle.page_store.specs.{claim.Transactions.{disk_in, device_in, has_halted, IsQuiet}, Transactions.IsUntouched, gate_journal.declared.error.PageError.PageError}
-use Rattle.page_store.specs.declared.pages.Pages.{Pages}
+use Rattle.{std.proofs.Common.{rules, ◌≡◌, ◌≢◌, Bool, true, false, inl, refl, sym}, btree_puts.specs.page_btree.declared.error.TreeError.TreeError}
+use Rattle.desk_pages.specs.{Errors.{page_refusal, row_refusal, IsCalm}, Openings.IsSpared, declared.error.StoreError.{StoreError, TheVariants.{NotAStore, DeviceFault}}}
+use Rattle.page_store.specs.{Transactions.IsUntouched, claim.Transactions.{disk_in, device_in, has_halted, IsQuiet}, declared.pages.Pages.Pages}
+use Rattle.{page_store.specs.gate_journal.declared.error.PageError.PageError, sector_device.specs.{claim.Disk.Disk, declared.SectorDevice.Ghosts}}
 use Rattle.page_store.specs.gate_journal.declared.error.PageError.TheVariants as page
-use Rattle.btree_puts.specs.page_btree.declared.error.TreeError.{TreeError}
-use Rattle.desk_pages.specs.{Errors.{page_refusal, row_refusal, IsCalm}, Openings.IsSpared, declared.error.StoreError.StoreError}
-use Rattle.desk_pages.specs.declared.error.StoreError.TheVariants.{NotAStore, DeviceFault}
 
 -- nothing else is told of pages that weren't opened for a fault
 pub page_calm : (old new : Disk) (e : PageError) → (new.is_honest → e ≢ page.DeviceFault → new.faults ≡ old.faults) → new.is_honest → page_refusal e ≢ DeviceFault → new.faults ≡ old.faults

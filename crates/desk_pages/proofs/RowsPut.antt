@@ -1,13 +1,10 @@
 -- Lemmas on the definitions of Puts.
-use Rattle.std.specs.{Prelude.{◌≡◌, ◌<◌, ◌≤◌, ◌+◌, ℕ, List, [], ◌∷◌, ◌++◌}, FinMap.insert}
-use Rattle.std.proofs.Common.{rules, suc, refl, sym, ap, subst, ◌∙◌, arith, append_assoc, length-append}
-use Rattle.sector_device.specs.declared.SectorDevice.{Ghosts}
-use Rattle.page_store.specs.{claim.Transactions.{stored, disk_in, txn_pages, txn_root, txn_free, txn_writes, over, IsQuiet, Passed}, declared.pages.Pages.Pages}
-use Rattle.page_store.{specs.declared.txn.Txn.Txn, proofs.Stops.{passed_none, passed_more, failed_more}}
-use Rattle.btree_puts.specs.{page_btree.claim.Map.InTxn, page_btree.claim.Errors.{PutErr, level_in}, page_btree.declared.error.TreeError.TreeError}
-use Rattle.btree_puts.specs.page_btree.declared.error.TreeError.TheVariants.{DeviceFault, NotAStore, Halted, NoPages, TooDeep, Memory}
-use Rattle.store_rows.{specs.claim.Rows.KeyMap, specs.claim.Puts.{Row, put_rows}, specs.Puts.rows_told, proofs.Puts.{put_rows-append, told_prefix}}
-use Rattle.desk_pages.specs.claim.Puts.{HasPut, PutsErr}
+use Rattle.{std.specs.{FinMap.insert, Prelude.{◌≡◌, ◌<◌, ◌≤◌, ◌+◌, ℕ, List, [], ◌∷◌, ◌++◌}}, btree_puts.specs.page_btree.claim.{Errors.{PutErr, level_in}, Map.InTxn}}
+use Rattle.{std.proofs.Common.{rules, suc, refl, sym, ap, subst, ◌∙◌, arith, append_assoc, length-append}, btree_puts.specs.page_btree.declared.error.TreeError.TreeError}
+use Rattle.{btree_puts.specs.page_btree.declared.error.TreeError.TheVariants.{DeviceFault, NotAStore, Halted, NoPages, TooDeep, Memory}, page_store.specs.declared.txn.Txn.Txn}
+use Rattle.{desk_pages.specs.claim.Puts.{HasPut, PutsErr}, page_store.specs.claim.Transactions.{stored, disk_in, txn_pages, txn_root, txn_free, txn_writes, over, IsQuiet, Passed}}
+use Rattle.{page_store.specs.declared.pages.Pages.Pages, sector_device.specs.declared.SectorDevice.Ghosts, store_rows.specs.{Puts.rows_told, claim.Puts.{Row, put_rows}}}
+use Rattle.{store_rows.{specs.claim.Rows.KeyMap, proofs.Puts.{put_rows-append, told_prefix}}, page_store.proofs.Stops.{passed_none, passed_more, failed_more}}
 
 module _ {D : Type 0} {g : Ghosts D} where
   pub none_put : (t : Txn) (a : Pages D g) → HasPut [] t t a a
@@ -36,14 +33,7 @@ module _ {D : Type 0} {g : Ghosts D} where
   -- or it was not
   pub one_not_put : (row : Row) (t : Txn) (a b : Pages D g) (e : TreeError) → PutErr t a b e → PutsErr (row ∷ []) t a b e
   one_not_put row t a b NoPages why = omega arith
-  one_not_put row t a b TooDeep why = λ honest m holds. record {
-    prefix = [];
-    rest = row ∷ [];
-    are = refl;
-    txn = t;
-    holds = holds;
-    deep = why honest;
-  }
+  one_not_put row t a b TooDeep why = λ honest m holds. record { prefix = []; rest = row ∷ []; are = refl; txn = t; holds = holds; deep = why honest }
   one_not_put row t a b Memory why = tt
   one_not_put row t a b _ why = why
 

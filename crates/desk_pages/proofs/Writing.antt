@@ -1,10 +1,8 @@
 -- Rows that are put, call by call.
-use Rattle.std.{specs.Prelude.{◌≡◌, ◌<◌, ◌+◌, ℕ, List, ◌++◌, [], ◌∷◌, Result, Ok, Err, IsErrAnd}, proofs.Common.{rules, sym, subst}}
-use Rattle.sector_device.specs.declared.SectorDevice.{Ghosts}
-use Rattle.page_store.{specs.claim.Transactions.{count_of, txn_pages, IsQuiet}, specs.declared.pages.Pages.Pages, specs.declared.txn.Txn.Txn, proofs.Stops.{quiet_more, quiet_none}}
-use Rattle.btree_puts.specs.page_btree.declared.error.TreeError.{TreeError}
-use Rattle.store_rows.specs.{Puts.rows_told, claim.Puts.Row}
-use Rattle.desk_pages.{specs.Outcomes.{PutsRows, Writes}, proofs.RowsPut.{more_put, none_put, prefix_not_put, then_not_put, told_more, told_not_put}}
+use Rattle.{std.{specs.Prelude.{◌≡◌, ◌<◌, ◌+◌, ℕ, List, ◌++◌, [], ◌∷◌, Result, Ok, Err, IsErrAnd}, proofs.Common.{rules, sym, subst}}, desk_pages.specs.Outcomes.{PutsRows, Writes}}
+use Rattle.{btree_puts.specs.page_btree.declared.error.TreeError.TreeError, page_store.specs.{claim.Transactions.{count_of, txn_pages, IsQuiet}, declared.pages.Pages.Pages}}
+use Rattle.{page_store.specs.declared.txn.Txn.Txn, sector_device.specs.declared.SectorDevice.Ghosts, store_rows.specs.{Puts.rows_told, claim.Puts.Row}}
+use Rattle.{desk_pages.proofs.RowsPut.{more_put, none_put, prefix_not_put, then_not_put, told_more, told_not_put}, page_store.proofs.Stops.{quiet_more, quiet_none}}
 
 module _ {D X Y : Type 0} {g : Ghosts D} {done : X → Type 0} {failed : TreeError → Type 0} {u : Txn} {a b : Pages D g} {also : Y → Type 0} {why : TreeError → Type 0} where
   -- what was done says something else

@@ -1,14 +1,11 @@
 -- What commits leave, each in one relation.
 use Rattle.std.specs.Prelude.{◌≡◌, ◌≤◌, ◌+◌, length, IfOk, IfErr, Result, true, false, Err, OnOk, IsErr}
-use Rattle.sector_device.specs.{claim.Disk.Image, declared.SectorDevice.Ghosts}
-use Rattle.page_store.specs.claim.Chain.{free_in}
+use Rattle.{btree_puts.specs.page_btree.claim.Map.{InTxn, InPages}, desk_pages.specs.{Commits.{OpensRows, TxnErr, Leaves, FittingErr}, Desks.{InTxnAs, InPagesAs}}}
+use Rattle.desk_pages.specs.{Moments.StopsLeaveEither, claim.{Commits.HoldsAfter, Desks.{InTxn as DeskInTxn, InPages as DeskInPages, OpensDesk, OpensAs}}}
+use Rattle.{desk_pages.specs.declared.error.StoreError.StoreError, page_store.specs.{Outcomes.Commits, claim.Chain.free_in, declared.{pages.Pages.Pages, txn.Prepared.Prepared}}}
 use Rattle.page_store.specs.claim.Transactions.{txn_pages, txn_writes, txn_free, prepared_pages, prepared_writes, after, stored, disk_in, has_halted, IsSame, CommitErr}
-use Rattle.page_store.specs.{gate_journal.declared.error.PageError.TheVariants.{Memory, Halted}, declared.txn.Txn.Txn, declared.txn.Prepared.Prepared}
-use Rattle.page_store.specs.{gate_journal.declared.error.PageError.PageError, Outcomes.Commits, declared.pages.Pages.Pages}
-use Rattle.btree_puts.specs.page_btree.claim.Map.{InTxn, InPages}
-use Rattle.store_rows.specs.claim.Rows.{KeyMap}
-use Rattle.desk_pages.specs.{claim.Commits.HoldsAfter, Commits.{OpensRows, TxnErr, Leaves, FittingErr}, Moments.StopsLeaveEither}
-use Rattle.desk_pages.specs.{claim.Desks.{InTxn as DeskInTxn, InPages as DeskInPages, OpensDesk, OpensAs}, Desks.{InTxnAs, InPagesAs}, declared.error.StoreError.StoreError}
+use Rattle.{page_store.specs.{declared.txn.Txn.Txn, gate_journal.declared.error.PageError.{PageError, TheVariants.{Memory, Halted}}}, sector_device.specs.claim.Disk.Image}
+use Rattle.{sector_device.specs.declared.SectorDevice.Ghosts, store_rows.specs.claim.Rows.KeyMap}
 
 -- what is prepared holds the map that the transaction reads
 pub record PreparesRows (txn : Txn) (result : Result Prepared PageError) : Type 0 where

@@ -1,10 +1,7 @@
 -- What no promise rests on, beside claim/Desks.antt.
-use Rattle.std.specs.Prelude.{Bool, true, ℕ, List, None}
+use Rattle.{std.specs.Prelude.{Bool, true, ℕ, List, None}, desk_model.specs.claim.Desk.Desk, desk_pages.specs.claim.Desks.{HoldsDeskOf, InPagesOf, InTxnOf}}
+use Rattle.{page_store.specs.declared.{pages.Pages.Pages, txn.Txn.Txn}, sector_device.specs.{claim.Disk.Image, declared.SectorDevice.Ghosts}}
 use Rattle.std.specs.FinMap as map_of
-use Rattle.sector_device.specs.{claim.Disk.Image, declared.SectorDevice.Ghosts}
-use Rattle.page_store.specs.{declared.pages.Pages.Pages, declared.txn.Txn.Txn}
-use Rattle.desk_model.specs.claim.Desk.{Desk}
-use Rattle.desk_pages.specs.claim.Desks.{HoldsDeskOf, InPagesOf, InTxnOf}
 
 abbrev pub HoldsDesk : ℕ → Image → ℕ → List ℕ → Desk → Type 0
 HoldsDesk n P root free d = HoldsDeskOf true n P root free d

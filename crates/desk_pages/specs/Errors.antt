@@ -1,11 +1,10 @@
 -- What pages and trees refuse, as refusals of a store.
 use Rattle.std.specs.Prelude.{◌≡◌, ◌≢◌, Bool, false, if◌then◌else◌}
-use Rattle.sector_device.specs.declared.SectorDevice.{Ghosts}
-use Rattle.page_store.specs.{claim.Transactions.has_halted, declared.pages.Pages.Pages, gate_journal.declared.error.PageError.PageError}
+use Rattle.{btree_puts.specs.page_btree.declared.error.TreeError.TreeError, desk_pages.specs.declared.error.StoreError.StoreError, page_store.specs.claim.Transactions.has_halted}
+use Rattle.{desk_pages.specs.declared.error.StoreError.TheVariants.{TooSmall, NotAStore, Full, Memory, DeviceFault, Halted}, page_store.specs.declared.pages.Pages.Pages}
+use Rattle.{page_store.specs.gate_journal.declared.error.PageError.PageError, sector_device.specs.declared.SectorDevice.Ghosts}
 use Rattle.page_store.specs.gate_journal.declared.error.PageError.TheVariants as page
-use Rattle.btree_puts.specs.page_btree.declared.error.TreeError.{TreeError}
 use Rattle.btree_puts.specs.page_btree.declared.error.TreeError.TheVariants as tree
-use Rattle.desk_pages.specs.{declared.error.StoreError.StoreError, declared.error.StoreError.TheVariants.{TooSmall, NotAStore, Full, Memory, DeviceFault, Halted}}
 
 abbrev pub page_refusal : PageError → StoreError
 page_refusal page.NotAStore = NotAStore

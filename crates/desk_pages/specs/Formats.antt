@@ -1,8 +1,7 @@
 -- What a format leaves.
 use Rattle.std.specs.Prelude.{◌≡◌, ◌≤◌, ◌<◌, ◌+◌, ℕ}
-use Rattle.sector_device.specs.{claim.Disk.{Disk, Image}, declared.SectorDevice.Ghosts}
-use Rattle.page_store.specs.gate_journal.claim.Store.{home, IsStore}
-use Rattle.desk_pages.specs.{claim.Desks.OpensDesk, Desks.new_desk, declared.error.StoreError.StoreError, declared.error.StoreError.TheVariants.{TooSmall, Memory, DeviceFault}}
+use Rattle.desk_pages.specs.{Desks.new_desk, claim.Desks.OpensDesk, declared.error.StoreError.{StoreError, TheVariants.{TooSmall, Memory, DeviceFault}}}
+use Rattle.{page_store.specs.gate_journal.claim.Store.{home, IsStore}, sector_device.specs.{claim.Disk.{Disk, Image}, declared.SectorDevice.Ghosts}}
 
 -- each image that a stop may leave opens to the desk without geography and plans
 abbrev pub OpensNew : Disk → Type 0

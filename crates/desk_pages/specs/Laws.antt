@@ -1,10 +1,8 @@
 -- Laws of desks in pages, of any version.
 use Rattle.std.specs.Prelude.{◌≡◌, ◌≢◌, ◌⊎◌, ◌≤◌, ◌+◌, ◌^◌, ℕ, Bool, List}
+use Rattle.{desk_model.specs.claim.Desk.Desk, desk_pages.specs.claim.Desks.{HoldsDeskOf, InTxnOf, OpensDeskOf}, page_store.specs.claim.Chain.{root_in, free_in, IsPages}}
+use Rattle.page_store.specs.{claim.Transactions.{txn_pages, txn_root, over, free_over}, declared.txn.Txn.Txn, gate_journal.{Store.IsBeforeOrAfter, claim.Store.{home, overlay}}}
 use Rattle.sector_device.specs.claim.Disk.{Image}
-use Rattle.page_store.specs.{gate_journal.claim.Store.{home, overlay}, gate_journal.Store.IsBeforeOrAfter, claim.Chain.{root_in, free_in, IsPages}}
-use Rattle.page_store.specs.{claim.Transactions.{txn_pages, txn_root, over, free_over}, declared.txn.Txn.Txn}
-use Rattle.desk_model.specs.claim.Desk.{Desk}
-use Rattle.desk_pages.specs.claim.Desks.{HoldsDeskOf, InTxnOf, OpensDeskOf}
 
 -- a transaction that begins with the pages' root and free pages reads the desk that they hold
 abbrev pub ReadsWhatPagesHold : Type 0

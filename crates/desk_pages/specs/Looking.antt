@@ -1,10 +1,8 @@
 -- What comes of looking at the rows of a transaction.
 use Rattle.std.specs.Prelude.{◌≡◌, Result, OnOk, IfOk, IfErr}
-use Rattle.sector_device.specs.declared.SectorDevice.{Ghosts}
-use Rattle.page_store.specs.{claim.Transactions.{stored, disk_in, IsQuiet, Passed}, declared.pages.Pages.Pages, declared.txn.Txn.Txn}
-use Rattle.btree_puts.specs.{page_btree.claim.Map.InTxn, page_btree.declared.error.TreeError.TreeError}
+use Rattle.{btree_puts.specs.page_btree.{claim.Map.InTxn, declared.error.TreeError.TreeError}, desk_pages.specs.Reading.SeekErr, page_store.specs.declared.pages.Pages.Pages}
+use Rattle.{page_store.specs.{claim.Transactions.{stored, disk_in, IsQuiet, Passed}, declared.txn.Txn.Txn}, sector_device.specs.declared.SectorDevice.Ghosts}
 use Rattle.store_rows.specs.claim.Rows.{KeyMap}
-use Rattle.desk_pages.specs.Reading.{SeekErr}
 
 -- The pages were only read. What was found is so of the rows that the transaction reads; else the device failed, they have no such
 -- thing as was looked for, or memory was short, where `short` allows it.

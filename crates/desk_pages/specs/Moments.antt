@@ -1,7 +1,7 @@
 -- What a stop leaves at any moment of a call that writes pages, where they had not halted and the device is honest.
 use Rattle.std.specs.Prelude.{◌≡◌, ◌⊎◌, ◌+◌, ℕ, false}
-use Rattle.sector_device.specs.{claim.Disk.Image, claim.Moments.LeavesOnly, declared.SectorDevice.Ghosts}
-use Rattle.page_store.specs.{gate_journal.claim.Store.home, claim.Transactions.{disk_in, count_of, journal_of, has_halted}, declared.pages.Pages.Pages}
+use Rattle.page_store.specs.{claim.Transactions.{disk_in, count_of, journal_of, has_halted}, declared.pages.Pages.Pages, gate_journal.claim.Store.home}
+use Rattle.sector_device.specs.{claim.{Disk.Image, Moments.LeavesOnly}, declared.SectorDevice.Ghosts}
 
 -- `holds` says which values (maps, desks) the pages held, `opens` to which of them an image of so many sectors opens
 module _ {D : Type 0} {g : Ghosts D} {X : Type 0} where

@@ -1,9 +1,7 @@
 -- What no promise rests on, beside claim/Openings.antt.
 use Rattle.std.specs.Prelude.{◌⊎◌, ℕ}
-use Rattle.sector_device.specs.{claim.Disk.{Disk, Image}, claim.Moments.LeavesOnly}
-use Rattle.page_store.specs.{gate_journal.claim.Store.{Opens, pages}, gate_journal.Recovery.Found, Transactions.IsUntouched}
-use Rattle.desk_model.specs.claim.Desk.{Desk}
-use Rattle.desk_pages.specs.{claim.Desks.{OpensDesk, OpensOld}, claim.Openings.IsOneOf}
+use Rattle.{desk_model.specs.claim.Desk.Desk, desk_pages.specs.claim.{Desks.{OpensDesk, OpensOld}, Openings.IsOneOf}, page_store.specs.Transactions.IsUntouched}
+use Rattle.{page_store.specs.gate_journal.{Recovery.Found, claim.Store.{Opens, pages}}, sector_device.specs.claim.{Disk.{Disk, Image}, Moments.LeavesOnly}}
 
 -- each image that a stop may leave opens to a desk in the new version
 abbrev pub AllDesks : Disk → Type 0

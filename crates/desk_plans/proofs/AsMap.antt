@@ -1,14 +1,11 @@
 -- Rows as a map.
-use Rattle.std.specs.Option.{option_copied}
+use Rattle.std.specs.{Cmp.Lexicographic.nat_list_cmp_total, Option.option_copied, Ordering.{eq_by_cmp, is_eq}, declared.cmp.Ordering.{Ordering, TheVariants.{Less, Equal, Greater}}}
 use Rattle.std.specs.FinMap.{put, find, is_sorted, from_sorted, entries, get, len, entries_sorted, entries-from_sorted, entries-insert, get-from_sorted, get-insert, get-remove, same_map, len-entries, same_entries_map, empty_of_len}
-use Rattle.std.specs.{Cmp.Lexicographic.nat_list_cmp_total, Ordering.{eq_by_cmp, is_eq}, declared.cmp.Ordering.Ordering, declared.cmp.Ordering.TheVariants.{Less, Equal, Greater}}
 use Rattle.std.proofs.Common.{◌≡◌, ℕ, ◌+◌, ◌-◌, ◌<◌, Bool, true, false, cond, List, [], ◌∷◌, ◌++◌, length, IsTrue, Option, Some, None, IsSome, IfSome, IfNone, Bor, arith, refl, ap, sym, ◌∙◌, length-append}
-use Rattle.std.proofs.Math.Dec.{T}
-use Rattle.std.specs.FinMap as map_of
-use Rattle.std.proofs.lemmas.Map.Lookups.{exact_bytes}
-use Rattle.desk_model.specs.claim.Desk.{Plan, name_cmp}
-use Rattle.desk_plans.{specs.Rows.{Row, StartsAbove, IsSplit, IsPut, IsRemoved, IsFound}, proofs.Rows.AreRows}
+use Rattle.{std.proofs.{Math.Dec.T, lemmas.Map.Lookups.exact_bytes}, desk_model.specs.claim.Desk.{Plan, name_cmp}, desk_plans.proofs.Rows.AreRows}
+use Rattle.desk_plans.specs.Rows.{Row, StartsAbove, IsSplit, IsPut, IsRemoved, IsFound}
 use Rattle.desk_plans.proofs.Rising.{AllBelow, all_below, all_before, rising_without, rising_back, above_after, put_between, put_there, find_missing, find_there}
+use Rattle.std.specs.FinMap as map_of
 
 abbrev pub as_map : List Row → map_of.FinMap name_cmp Plan
 as_map = from_sorted

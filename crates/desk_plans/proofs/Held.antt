@@ -1,12 +1,10 @@
 -- Plans of which one may wait to be put into the tree, as a map.
-use Rattle.std.specs.{Option.{option_copied, is_some}, Result.is_ok, FinMap.{is_sorted, get, len, get-insert, len-insert}, Cmp.Lexicographic.nat_list_cmp_total, Ordering.is_eq}
-use Rattle.std.specs.{declared.cmp.Ordering.Ordering, declared.cmp.Ordering.TheVariants.Equal, declared.sync.Arc.Arc, declared.alloc.Global.Global}
+use Rattle.std.specs.{Cmp.Lexicographic.nat_list_cmp_total, FinMap.{is_sorted, get, len, get-insert, len-insert}, Option.{option_copied, is_some}, Ordering.is_eq, Result.is_ok}
+use Rattle.std.{specs.declared.{alloc.Global.Global, cmp.Ordering.{Ordering, TheVariants.Equal}, sync.Arc.Arc}, proofs.lemmas.Map.Lookups.exact_bytes}
 use Rattle.std.proofs.Common.{◌≡◌, ℕ, ◌+◌, ◌-◌, ◌<◌, true, false, cond, List, length, IsTrue, Option, Some, None, IsSome, IfSome, IfNone, Bor, Result, Ok, Err, OnOk, arith, refl, subst, ap, sym, ◌∙◌}
-use Rattle.std.specs.FinMap as map_of
-use Rattle.std.proofs.lemmas.Map.Lookups.{exact_bytes}
-use Rattle.desk_model.specs.claim.Desk.{Plan, name_cmp}
-use Rattle.desk_plans.{specs.Rows.{Row, IsRemoved, IsFound}, specs.Held.{laid, AreHeld, IsSettled}, proofs.Rows.AreRows}
+use Rattle.{desk_model.specs.claim.Desk.{Plan, name_cmp}, desk_plans.{specs.{Held.{laid, AreHeld, IsSettled}, Rows.{Row, IsRemoved, IsFound}}, proofs.Rows.AreRows}}
 use Rattle.desk_plans.proofs.AsMap.{as_map, len_of, map_put, rising_after, is_less, found_row, missing_row}
+use Rattle.std.specs.FinMap as map_of
 
 -- rows that are the map
 pub record AreMap (rows : List Row) (self : map_of.FinMap name_cmp Plan) : Type 0 where

@@ -1,8 +1,7 @@
 -- Rows that rise by name: what stands before and after a name's place, and what is found there.
-use Rattle.std.specs.{declared.cmp.Ordering.Ordering, declared.cmp.Ordering.TheVariants.{Less, Equal, Greater}, Ordering.{is_lt, is_eq, ordering_reverse}}
-use Rattle.std.specs.{FinMap.{put, find, is_sorted}, FinMap.Entries.{by_order, below_all}, Cmp.Lexicographic.nat_list_cmp_total}
+use Rattle.std.specs.{Cmp.Lexicographic.nat_list_cmp_total, FinMap.{put, find, is_sorted, Entries.{by_order, below_all}}, Ordering.{is_lt, is_eq, ordering_reverse}}
+use Rattle.{std.specs.declared.cmp.Ordering.{Ordering, TheVariants.{Less, Equal, Greater}}, desk_model.specs.claim.Desk.{Plan, name_cmp}}
 use Rattle.std.proofs.Common.{◌≡◌, ℕ, ◌<◌, Bool, true, false, cond, ◌&&◌, List, [], ◌∷◌, ◌++◌, length, IsTrue, Some, None, arith, refl, ap, ◌∙◌}
-use Rattle.desk_model.specs.claim.Desk.{Plan, name_cmp}
 use Rattle.desk_plans.specs.Rows.{Row, EndsBelow, StartsAbove}
 
 -- a test's answer and the order after it

@@ -1,9 +1,7 @@
 -- A name's place in a tree, from its place on one side.
-use Rattle.std.specs.{Option.option_to_list, Ordering.{is_lt, ordering_reverse}, declared.cmp.Ordering.TheVariants.{Less, Equal, Greater}, Cmp.Lexicographic.nat_list_cmp_total}
-use Rattle.std.proofs.Common.{◌≡◌, ℕ, ◌<◌, true, List, [], ◌∷◌, ◌++◌, length, drop, Option, Some, None, Result, Ok, Err, IfOk, arith, refl, ap, ◌∙◌}
-use Rattle.std.proofs.lemmas.List.{append_assoc}
-use Rattle.desk_model.specs.claim.Desk.{name_cmp}
-use Rattle.desk_plans.{specs.Rows.{Row, EndsBelow, StartsAbove, StandsAt, IsSplit, IsMade, IsFound}, proofs.Rising.ends_below_last}
+use Rattle.std.specs.{Cmp.Lexicographic.nat_list_cmp_total, Option.option_to_list, Ordering.{is_lt, ordering_reverse}, declared.cmp.Ordering.TheVariants.{Less, Equal, Greater}}
+use Rattle.std.proofs.{Common.{◌≡◌, ℕ, ◌<◌, true, List, [], ◌∷◌, ◌++◌, length, drop, Option, Some, None, Result, Ok, Err, IfOk, arith, refl, ap, ◌∙◌}, lemmas.List.append_assoc}
+use Rattle.{desk_model.specs.claim.Desk.name_cmp, desk_plans.{specs.Rows.{Row, EndsBelow, StartsAbove, StandsAt, IsSplit, IsMade, IsFound}, proofs.Rising.ends_below_last}}
 
 -- what follows at Ok
 pub if_ok : {T E : Type 0} (r : Result T E) (P Q : T → Type 0) → ((t : T) → P t → Q t) → IfOk r P → IfOk r Q

@@ -1,8 +1,7 @@
 -- How plans are told apart.
-use Rattle.std.specs.{Prelude.{ℕ, List, refl}, Coded.{Coded, code_by, coded×, coded_ℕ, coded_list}}
+use Rattle.{std.specs.{Coded.{Coded, code_by, coded×, coded_ℕ, coded_list}, Prelude.{ℕ, List, refl}}, desk_model.specs.{claim.Desk.{Plan, name_cmp}, declared.kind.Kind.Kind}}
 use Rattle.std.specs.FinMap as map_of
 use Rattle.desk_model.specs.contracts.kind.Kind as kind
-use Rattle.desk_model.specs.{declared.kind.Kind.Kind, claim.Desk.{Plan, name_cmp}}
 
 abbrev pub coded_plan : Coded Plan
 coded_plan = code_by (Kind × (ℕ × List (List ℕ))) (coded× kind.the_row.coded (coded× coded_ℕ (coded_list (coded_list coded_ℕ))))

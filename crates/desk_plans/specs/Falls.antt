@@ -1,7 +1,6 @@
 -- Each side of a tree has fewer plans than the tree.
-use Rattle.std.specs.{Prelude.{ℕ, ◌≤◌, [], ◌∷◌, ◌++◌, Option, Some, None, length}, declared.sync.Arc.Arc, declared.alloc.Global.Global}
-use Rattle.std.proofs.Common.{arith, length-append}
-use Rattle.desk_plans.specs.{Rows.Row, declared.tree.Tree.Tree, declared.tree.Tree.TheInside.Inside, declared.tree.Tree.TheDeep.deep-Tree, Tree.rows_of}
+use Rattle.std.{specs.{Prelude.{ℕ, ◌≤◌, [], ◌∷◌, ◌++◌, Option, Some, None, length}, declared.{alloc.Global.Global, sync.Arc.Arc}}, proofs.Common.{arith, length-append}}
+use Rattle.desk_plans.specs.{Rows.Row, Tree.rows_of, declared.tree.Tree.{Tree, TheDeep.deep-Tree, TheInside.Inside}}
 
 by_sides : (left right : Option (Arc Tree Global)) (entry : Arc Row Global) (height : ℕ)
     → deep-Tree (record { left = left; entry = entry; height = height; right = right }) ≤ length (rows_of left ++ entry.value ∷ rows_of right)

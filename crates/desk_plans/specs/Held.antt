@@ -1,8 +1,7 @@
 -- Plans of which one may wait to be put into the tree.
-use Rattle.std.specs.{Prelude.{◌≡◌, ℕ, List, Option, Some, None, IsTrue}, FinMap.is_sorted, declared.sync.Arc.Arc, declared.alloc.Global.Global}
+use Rattle.std.specs.{FinMap.is_sorted, Prelude.{◌≡◌, ℕ, List, Option, Some, None, IsTrue}, declared.{alloc.Global.Global, sync.Arc.Arc}}
+use Rattle.{desk_model.specs.claim.Desk.{Plan, name_cmp}, desk_plans.specs.Rows.{Row, IsPut}}
 use Rattle.std.specs.FinMap as map_of
-use Rattle.desk_model.specs.claim.Desk.{Plan, name_cmp}
-use Rattle.desk_plans.specs.Rows.{Row, IsPut}
 
 -- the plans of the tree's rows, with the pending one
 abbrev pub laid : Option (Arc Row Global) → List Row → map_of.FinMap name_cmp Plan

@@ -1,5 +1,5 @@
 -- Plans in the order of their names, and where a name stands among them.
-use Rattle.std.specs.{Prelude.{◌≡◌, ℕ, List, [], ◌∷◌, ◌++◌, true, Option, IsTrue}, Option.option_to_list, Ordering.is_lt, declared.cmp.Ordering.TheVariants.Equal}
+use Rattle.std.specs.{Option.option_to_list, Ordering.is_lt, Prelude.{◌≡◌, ℕ, List, [], ◌∷◌, ◌++◌, true, Option, IsTrue}, declared.cmp.Ordering.TheVariants.Equal}
 use Rattle.desk_model.specs.claim.Desk.{Plan, name_cmp}
 
 -- a plan under its name

@@ -1,15 +1,13 @@
 -- Lives of a store, by induction on them.
 use Rattle.std.proofs.Common.{◌≡◌, ◌≤◌, ℕ, Bool, true, false, inl, ⊎_elim, Result, Ok, zero, suc, List, [], ◌∷◌, ◌++◌, length, take, get_or, refl, sym, subst, ◌∙◌, arith, rules}
-use Rattle.std.proofs.lemmas.List.Sums.{fold-append}
-use Rattle.sector_device.specs.{claim.Disk.{Disk, Image}, declared.SectorDevice.Ghosts}
-use Rattle.desk_model.specs.{declared.command.Command.Command, claim.Desk.Desk, claim.Step.step}
-use Rattle.desk_pages.specs.{claim.Desks.{OpensDeskOf, OpensDesk, OpensEither}, claim.Openings.AllVersions, declared.error.StoreError.StoreError}
-use Rattle.desk_store.specs.{declared.clerk.Clerk.Clerk, claim.Clerks.{desk_of, disk_of, sectors_of}}
-use Rattle.desk_runs.specs.{claim.Runs.{Call, Run, after, acknowledged, acknowledged_at, in_flight, OpensAfterSome, OpenSince, SurvivesEachRun}, Recovery.ImagesAreOne}
-use Rattle.desk_runs.specs.{claim.Recovery.HoldsEither, claim.Migrations.{IsEntry, Migrates}}
-use Rattle.desk_runs.specs.claim.Lives.{Life, found, accepted, told, left_by, IsSound, Finds, Follow, last_left, Lasted, OpensAfterLives, LivesSurvive}
+use Rattle.{std.proofs.lemmas.List.Sums.fold-append, desk_migration.specs.claim.{Migrating.disk_of as migrated_disk, Openings.device_after as device_left}}
+use Rattle.{desk_migration.specs.declared.migration.Migration.Migration, desk_model.specs.{claim.{Desk.Desk, Step.step}, declared.command.Command.Command}}
+use Rattle.desk_pages.specs.{claim.{Desks.{OpensDeskOf, OpensDesk, OpensEither}, Openings.AllVersions}, declared.error.StoreError.StoreError}
+use Rattle.desk_runs.specs.{Recovery.ImagesAreOne, claim.Lives.{Life, found, accepted, told, left_by, IsSound, Finds, Follow, last_left, Lasted, OpensAfterLives, LivesSurvive}}
+use Rattle.{desk_runs.specs.claim.{Migrations.{IsEntry, Migrates}, Recovery.HoldsEither}, desk_store.specs.claim.Clerks.{desk_of, disk_of, sectors_of}}
+use Rattle.desk_runs.specs.claim.Runs.{Call, Run, after, acknowledged, acknowledged_at, in_flight, OpensAfterSome, OpenSince, SurvivesEachRun}
+use Rattle.{desk_store.specs.declared.clerk.Clerk.Clerk, sector_device.specs.{claim.Disk.{Disk, Image}, declared.SectorDevice.Ghosts}}
 use Rattle.desk_runs.proofs.{Migrated.{honest_migration, migration_leaves}, One.{in_either, either_as, one_opens}}
-use Rattle.desk_migration.specs.{declared.migration.Migration.Migration, claim.Migrating.disk_of as migrated_disk, claim.Openings.device_after as device_left}
 
 -- an image opens to one of these desks
 record OpensTo (n : ℕ) (P : Desk → Type 0) (c : Image) : Type 0 where

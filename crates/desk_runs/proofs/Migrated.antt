@@ -1,12 +1,8 @@
 -- What a stop in the midst of a migration leaves.
-use Rattle.std.proofs.Common.{◌≡◌, ℕ, false, inr, subst, rules}
-use Rattle.std.proofs.lemmas.Bool.{cases_Bool}
-use Rattle.sector_device.{specs.claim.Moments.LeavesOnly, specs.declared.SectorDevice.Ghosts, proofs.Moments.{leaves_more, leaves_wider}}
-use Rattle.page_store.proofs.Stops.{leaves_here}
-use Rattle.desk_model.specs.claim.Desk.{Desk}
-use Rattle.desk_pages.specs.claim.Desks.{OpensOld, OpensEither}
-use Rattle.desk_migration.specs.{declared.migration.Migration.Migration, claim.Migrating.{disk_of, is_halted, sectors_of, Keeps, Goes}}
-use Rattle.desk_runs.specs.claim.Migrations.{Migrates}
+use Rattle.{std.proofs.{Common.{◌≡◌, ℕ, false, inr, subst, rules}, lemmas.Bool.cases_Bool}, desk_migration.specs.claim.Migrating.{disk_of, is_halted, sectors_of, Keeps, Goes}}
+use Rattle.{desk_migration.specs.declared.migration.Migration.Migration, desk_model.specs.claim.Desk.Desk, desk_pages.specs.claim.Desks.{OpensOld, OpensEither}}
+use Rattle.{desk_runs.specs.claim.Migrations.Migrates, sector_device.specs.{claim.Moments.LeavesOnly, declared.SectorDevice.Ghosts}, page_store.proofs.Stops.leaves_here}
+use Rattle.sector_device.proofs.Moments.{leaves_more, leaves_wider}
 
 module _ {D : Type 0} {g : Ghosts D} where
   pub honest_migration : (x : Migration D g) (z : Migration D g) → Migrates x z → (disk_of z).is_honest → (disk_of x).is_honest

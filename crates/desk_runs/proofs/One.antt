@@ -1,16 +1,13 @@
 -- One image, one desk, one version; and what an opening makes of that.
-use Rattle.std.proofs.Common.{◌≡◌, ◌≢◌, ◌≤◌, ◌^◌, ℕ, Bool, true, false, Result, Ok, Err, IfOk, IfErr, inl, inr, ⊎_elim, sym, subst, ◌∙◌, arith}
-use Rattle.sector_device.{specs.claim.Disk.{Disk, Image}, specs.claim.Moments.LeavesOnly, specs.declared.SectorDevice.Ghosts, proofs.Moments.leaves_wider}
-use Rattle.page_store.specs.{gate_journal.claim.Store.pages, claim.Chain.{root_in, free_in}}
+use Rattle.{std.proofs.Common.{◌≡◌, ◌≢◌, ◌≤◌, ◌^◌, ℕ, Bool, true, false, Result, Ok, Err, IfOk, IfErr, inl, inr, ⊎_elim, sym, subst, ◌∙◌, arith}, desk_model.specs.claim.Desk.Desk}
+use Rattle.desk_pages.specs.{Laws.HoldsOneDesk, Openings.{AllDesks, OpensOneOf}, claim.Desks.{HoldsDeskOf, OpensDeskOf, OpensDesk, OpensOld, OpensEither}}
+use Rattle.desk_pages.specs.{claim.Openings.{AllVersions, IsOneOf, OpensOneAs}, declared.error.StoreError.{StoreError, TheVariants.{NotAStore, OldVersion}}}
+use Rattle.{desk_runs.specs.{Recovery.{ImagesAreOne, HoldsOne, Shows, Recovers}, claim.Recovery.HoldsEither}, desk_store.specs.{Openings.OpenRefused, claim.Openings.device_after}}
+use Rattle.desk_store.specs.{claim.{Clerks.{desk_of, disk_of, is_halted, sectors_of, Keeps}, Keeping.{IsLeft, OpensOneMore}}, declared.clerk.Clerk.Clerk}
+use Rattle.{page_store.specs.{claim.Chain.{root_in, free_in}, gate_journal.claim.Store.pages}, sector_device.specs.claim.{Disk.{Disk, Image}, Moments.LeavesOnly}}
+use Rattle.{sector_device.specs.declared.SectorDevice.Ghosts, store_rows.specs.claim.{Keys.version, Rows.{KeyMap, row_in}, Tidy.version_row}, page_btree.proofs.MapLaws.one_map}
+use Rattle.sector_device.proofs.Moments.{leaves_wider}
 use Rattle.page_store.proofs.gate_journal.Headers.{same_journal}
-use Rattle.page_btree.proofs.MapLaws.{one_map}
-use Rattle.desk_model.specs.claim.Desk.{Desk}
-use Rattle.store_rows.specs.{claim.Keys.version, claim.Rows.{KeyMap, row_in}, claim.Tidy.version_row}
-use Rattle.desk_pages.specs.{claim.Desks.{HoldsDeskOf, OpensDeskOf, OpensDesk, OpensOld, OpensEither}, Laws.HoldsOneDesk, declared.error.StoreError.StoreError}
-use Rattle.desk_pages.specs.{declared.error.StoreError.TheVariants.{NotAStore, OldVersion}, Openings.{AllDesks, OpensOneOf}, claim.Openings.{AllVersions, IsOneOf, OpensOneAs}}
-use Rattle.desk_store.specs.{declared.clerk.Clerk.Clerk, claim.Clerks.{desk_of, disk_of, is_halted, sectors_of, Keeps}, claim.Keeping.{IsLeft, OpensOneMore}, Openings.OpenRefused}
-use Rattle.desk_store.specs.claim.Openings.{device_after}
-use Rattle.desk_runs.specs.{Recovery.{ImagesAreOne, HoldsOne, Shows, Recovers}, claim.Recovery.HoldsEither}
 
 -- what pages say of their desk
 abbrev Held : Bool → ℕ → Image → Desk → Type 0

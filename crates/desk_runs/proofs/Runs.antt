@@ -1,10 +1,8 @@
 -- Runs of a clerk: a run whose store isn't swept is a swept run with no sweep in it.
-use Rattle.std.proofs.Common.{◌≡◌, ℕ, true, if◌then◌else◌, List, ◌++◌, refl, sym, subst, ◌∙◌}
-use Rattle.sector_device.specs.declared.SectorDevice.{Ghosts}
-use Rattle.desk_model.specs.{declared.command.Command.Command, claim.Step.step}
-use Rattle.desk_store.specs.{declared.clerk.Clerk.Clerk, claim.Clerks.{desk_of, disk_of, sectors_of}}
-use Rattle.desk_runs.specs.claim.Runs.{Call, if_accepted, acknowledged, acknowledged_at, in_flight, OpenSince, Run, SurvivesEachRun}
-use Rattle.desk_runs.{specs.claim.SweptRuns.{SweptRun, acknowledged_at as swept_acknowledged_at, in_flight as swept_in_flight}, proofs.SweptRuns.survives as swept_survives}
+use Rattle.{std.proofs.Common.{◌≡◌, ℕ, true, if◌then◌else◌, List, ◌++◌, refl, sym, subst, ◌∙◌}, desk_model.specs.{claim.Step.step, declared.command.Command.Command}}
+use Rattle.{desk_runs.specs.claim.Runs.{Call, if_accepted, acknowledged, acknowledged_at, in_flight, OpenSince, Run, SurvivesEachRun}, desk_store.specs.declared.clerk.Clerk.Clerk}
+use Rattle.{desk_runs.specs.claim.SweptRuns.{SweptRun, acknowledged_at as swept_acknowledged_at, in_flight as swept_in_flight}, sector_device.specs.declared.SectorDevice.Ghosts}
+use Rattle.{desk_store.specs.claim.Clerks.{desk_of, disk_of, sectors_of}, desk_runs.proofs.SweptRuns.survives as swept_survives}
 
 module _ {D : Type 0} {g : Ghosts D} where
   record IsSwept (x : Clerk D g) (calls : List Call) (z : Clerk D g) (run : Run x calls z) : Type 0 where

@@ -1,13 +1,9 @@
 -- A step of a sweep, by what the clerk says of it.
-use Rattle.std.proofs.Common.{◌≡◌, ◌≤◌, ◌↔◌, ℕ, Bool, true, false, Some, None, Ok, Err, refl, rules}
-use Rattle.sector_device.specs.declared.SectorDevice.{Ghosts}
-use Rattle.page_store.specs.claim.Transactions.{IsQuiet}
-use Rattle.page_btree.specs.claim.Map.{InPages as HoldsRows}
+use Rattle.{std.proofs.Common.{◌≡◌, ◌≤◌, ◌↔◌, ℕ, Bool, true, false, Some, None, Ok, Err, refl, rules}, desk_pages.specs.declared.error.StoreError.StoreError}
+use Rattle.{desk_runs.specs.{Steps.StepMay, claim.SweptRuns.Tends}, desk_store.specs.{Sweeps.{HasRows, IsClean, SweepRefused}, declared.clerk.Clerk.Clerk}}
+use Rattle.desk_store.specs.{claim.Clerks.{desk_of, disk_of, free_of, is_halted, pages_of, HaltsByDevice, Keeps, Moves}, store_sweep.claim.Checks.AreSoundHoldings}
+use Rattle.{page_btree.specs.claim.Map.InPages as HoldsRows, page_store.specs.claim.Transactions.IsQuiet, sector_device.specs.declared.SectorDevice.Ghosts}
 use Rattle.store_rows.specs.claim.Rows.{KeyMap}
-use Rattle.desk_store.specs.{store_sweep.claim.Checks.AreSoundHoldings, declared.clerk.Clerk.Clerk}
-use Rattle.desk_store.specs.{claim.Clerks.{desk_of, disk_of, free_of, is_halted, pages_of, HaltsByDevice, Keeps, Moves}, Sweeps.{HasRows, IsClean, SweepRefused}}
-use Rattle.desk_pages.specs.declared.error.StoreError.{StoreError}
-use Rattle.desk_runs.specs.{claim.SweptRuns.Tends, Steps.StepMay}
 
 module _ {D : Type 0} {g : Ghosts D} where
   pub step_tends : (x y : Clerk D g) → Moves (desk_of x) x y → desk_of y ≡ desk_of x → y.loading ≡ x.loading → (Keeps x → (disk_of y).is_honest → y.halted ≡ false → free_of x ≤ free_of y) → HaltsByDevice x y → Tends true x true y

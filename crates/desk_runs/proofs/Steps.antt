@@ -1,9 +1,9 @@
 -- A command that the desk refuses leaves the desk.
 use Rattle.std.specs.FinMap as map_of
 use Rattle.std.proofs.Common.{◌≡◌, ◌⊎◌, ℕ, Bool, true, false, if◌then◌else◌, List, Option, Some, None, Result, Ok, Err, inl, inr, ⊎_elim, refl, rules}
-use Rattle.desk_model.specs.{declared.kind.Kind.Kind, declared.command.Command.Command, declared.command.Command.TheVariants.{Create, Whole, Counties, Retire, Fork}}
-use Rattle.desk_model.specs.{claim.Baf.{Values, Fault, body_read}, claim.Geography.GeographyModel, claim.Desk.{Plan, Desk}, claim.Subject.revision_at, claim.Outcome.IsAcceptance}
+use Rattle.desk_model.specs.claim.{Baf.{Values, Fault, body_read}, Desk.{Plan, Desk}, Geography.GeographyModel, Outcome.IsAcceptance, Subject.revision_at}
 use Rattle.desk_model.specs.claim.Step.{Outcome, create, on_revisions, whole_read, partly_listed, county_patched, patch_read, retired, fork_of, fork_from, fork, step_on, step_at, step}
+use Rattle.desk_model.specs.declared.{command.Command.{Command, TheVariants.{Create, Whole, Counties, Retire, Fork}}, kind.Kind.Kind}
 
 -- accepted, or the desk is as it was
 abbrev Moved : Desk → Outcome → Type 0

@@ -1,14 +1,12 @@
 -- Runs of a clerk whose store is swept between commands, by induction on the calls.
 use Rattle.std.proofs.Common.{◌≡◌, ◌⊎◌, ℕ, suc, ◌≤◌, Bool, true, false, if◌then◌else◌, List, [], ◌∷◌, ◌++◌, inl, inr, ⊎_elim, refl, sym, subst, ◌∙◌, arith, rules}
-use Rattle.std.proofs.lemmas.Bool.{cases_Bool}
-use Rattle.sector_device.{specs.claim.Disk.{Disk, Image}, specs.claim.Moments.LeavesOnly, specs.declared.SectorDevice.Ghosts, proofs.Moments.leaves_wider}
-use Rattle.page_store.{specs.claim.Transactions.IsSame, proofs.Stops.{leaves_here, leaves_quiet}}
-use Rattle.desk_model.specs.{declared.command.Command.Command, declared.reply.Reply.Reply, claim.Desk.Desk, claim.Outcome.{IsAcceptance, CommandMay}, claim.Step.step}
+use Rattle.{std.proofs.lemmas.Bool.cases_Bool, desk_model.specs.{claim.{Desk.Desk, Outcome.{IsAcceptance, CommandMay}, Step.step}, declared.command.Command.Command}}
+use Rattle.{desk_model.specs.declared.reply.Reply.Reply, desk_pages.specs.claim.Desks.OpensDesk, desk_store.specs.claim.Clerks.{desk_of, disk_of, pages_of, sectors_of, Keeps}}
+use Rattle.{desk_runs.specs.claim.Runs.{Call, after, if_accepted, acknowledged, OpensAfterSome, OpenSince}, desk_store.specs.claim.Commands.{Does, MustBeFull, MayBeFull}}
+use Rattle.{desk_runs.specs.claim.SweptRuns.{Tends, SweptRun, acknowledged_at, in_flight, SurvivesEachSwept}, desk_store.specs.declared.clerk.Clerk.Clerk}
+use Rattle.{page_store.specs.claim.Transactions.IsSame, sector_device.specs.{claim.{Disk.{Disk, Image}, Moments.LeavesOnly}, declared.SectorDevice.Ghosts}}
+use Rattle.{desk_runs.proofs.{One.left_working, Steps.refused_same}, page_store.proofs.Stops.{leaves_here, leaves_quiet}, sector_device.proofs.Moments.leaves_wider}
 use Rattle.desk_model.specs.declared.reply.Reply.TheVariants as reply
-use Rattle.desk_pages.specs.claim.Desks.{OpensDesk}
-use Rattle.desk_store.specs.{declared.clerk.Clerk.Clerk, claim.Clerks.{desk_of, disk_of, pages_of, sectors_of, Keeps}, claim.Commands.{Does, MustBeFull, MayBeFull}}
-use Rattle.desk_runs.specs.claim.Runs.{Call, after, if_accepted, acknowledged, OpensAfterSome, OpenSince}
-use Rattle.desk_runs.{specs.claim.SweptRuns.{Tends, SweptRun, acknowledged_at, in_flight, SurvivesEachSwept}, proofs.One.left_working, proofs.Steps.refused_same}
 
 -- no command, one command more before the others
 none_of : (sectors : ℕ) (d : Desk) (commands : List Command) (c : Image) → OpensDesk sectors d c → OpensAfterSome sectors d commands c
@@ -133,13 +131,7 @@ module _ {D : Type 0} {g : Ghosts D} where
   halted_run a x calls b z (SweptRun.tended _ _ m y _ _ _ tends run) on =
       let still = tends.moves.still on in
       let rest = halted_run m y calls b z run still.2 in
-      record {
-        none = rest.none;
-        never = rest.never;
-        same = rest.same ∙ still.0;
-        desk = rest.desk ∙ still.1;
-        on = rest.on;
-      }
+      record { none = rest.none; never = rest.never; same = rest.same ∙ still.0; desk = rest.desk ∙ still.1; on = rest.on }
 
   -- a stop in a sweep leaves the desk
   tended_leaves : (a : Bool) (x : Clerk D g) (m : Bool) (y : Clerk D g) → Tends a x m y → Keeps x → x.halted ≡ false → (disk_of y).is_honest → LeavesOnly (OpensDesk (sectors_of x) (desk_of x)) (disk_of x) (disk_of y)
@@ -168,8 +160,7 @@ module _ {D : Type 0} {g : Ghosts D} where
             (subst (λ ms. Goes (disk_of x) (sectors_of x) (desk_of x) [] ms flies (disk_of z) z.halted (desk_of z)) never
             (subst (λ b. Goes (disk_of x) (sectors_of x) (desk_of x) [] [] flies (disk_of z) b (desk_of z)) (sym still.on)
             (subst (λ d. Goes (disk_of x) (sectors_of x) (desk_of x) [] [] flies (disk_of z) true d) desk
-            (goes_ended (disk_of x) (disk_of z) (sectors_of x) (desk_of x) c to_z)))))
-            )
+            (goes_ended (disk_of x) (disk_of z) (sectors_of x) (desk_of x) c to_z))))))
         | inr works ↦ (
             let rest : Goes (disk_of y) (sectors_of x) (desk_of y) (acknowledged calls) moments later (disk_of z) z.halted (desk_of z) = subst (λ s. Goes (disk_of y) s (desk_of y) (acknowledged calls) moments later (disk_of z) z.halted (desk_of z)) does.moves.sectors (goes a y calls b z run (does.moves.keeps keeps) works honest) in
             subst (λ b. Goes (disk_of x) (sectors_of x) (desk_of x) (acknowledged ((c, r) ∷ calls)) (if_accepted (disk_of y).moment r ++ moments) (if b then flies else later) (disk_of z) z.halted (desk_of z)) (sym works)
@@ -179,8 +170,7 @@ module _ {D : Type 0} {g : Ghosts D} where
                   subst (λ cs. Goes (disk_of x) (sectors_of x) (desk_of x) (cs ++ acknowledged calls) (if_accepted (disk_of y).moment r ++ moments) later (disk_of z) z.halted (desk_of z)) (sym (told.1 c))
                   (subst (λ ms. Goes (disk_of x) (sectors_of x) (desk_of x) (c ∷ acknowledged calls) (ms ++ moments) later (disk_of z) z.halted (desk_of z)) (sym (told.2 (disk_of y).moment))
                   (goes_accepted (disk_of x) (disk_of y) (disk_of z) (sectors_of x) (desk_of x) c (acknowledged calls) moments later z.halted (desk_of z) leaves
-                  (subst (λ d. Goes (disk_of y) (sectors_of x) d (acknowledged calls) moments later (disk_of z) z.halted (desk_of z)) is rest)))
-                  )
+                  (subst (λ d. Goes (disk_of y) (sectors_of x) d (acknowledged calls) moments later (disk_of z) z.halted (desk_of z)) is rest))))
               | inr told ↦ (
                   let here = leaves_here (OpensDesk (sectors_of x) (desk_of x)) (disk_of x) (λ i left. left_working x.halted (sectors_of x) (desk_of x) i off (keeps.left (does.moves.honest honest_y) i left)) in
                   let only : LeavesOnly (OpensDesk (sectors_of x) (desk_of x)) (disk_of x) (disk_of y) = leaves_quiet (pages_of x) (pages_of y) (does.quiet works told.0) honest_y (OpensDesk (sectors_of x) (desk_of x)) (disk_of x) here in
@@ -189,8 +179,7 @@ module _ {D : Type 0} {g : Ghosts D} where
                   (goes_refused (disk_of x) (disk_of y) (disk_of z) (sectors_of x) (desk_of x) (acknowledged calls) moments later z.halted (desk_of z) only
                   (subst (λ d. Goes (disk_of y) (sectors_of x) d (acknowledged calls) moments later (disk_of z) z.halted (desk_of z)) (does.shown told.0) rest)))
                   )
-            ])
-            )
+            ]))
       ]
   goes a x calls b z (SweptRun.tended _ _ m y _ _ _ tends run) keeps off honest =
       let honest_y = honest_run m y calls b z run honest in
@@ -207,14 +196,12 @@ module _ {D : Type 0} {g : Ghosts D} where
             (subst (λ ms. Goes (disk_of x) (sectors_of x) (desk_of x) [] ms [] (disk_of z) z.halted (desk_of z)) (sym still.never)
             (subst (λ f. Goes (disk_of x) (sectors_of x) (desk_of x) [] [] [] (disk_of z) f (desk_of z)) (sym still.on)
             (subst (λ d. Goes (disk_of x) (sectors_of x) (desk_of x) [] [] [] (disk_of z) true d) desk
-            (goes_tended_halted (disk_of x) (disk_of z) (sectors_of x) (desk_of x) to_z)))))
-            )
+            (goes_tended_halted (disk_of x) (disk_of z) (sectors_of x) (desk_of x) to_z))))))
         | inr works ↦ (
             let rest : Goes (disk_of y) (sectors_of x) (desk_of y) (acknowledged calls) moments later (disk_of z) z.halted (desk_of z) = subst (λ s. Goes (disk_of y) s (desk_of y) (acknowledged calls) moments later (disk_of z) z.halted (desk_of z)) tends.moves.sectors (goes m y calls b z run (tends.moves.keeps keeps) works honest) in
             subst (λ f. Goes (disk_of x) (sectors_of x) (desk_of x) (acknowledged calls) moments (if f then [] else later) (disk_of z) z.halted (desk_of z)) (sym works)
             (goes_refused (disk_of x) (disk_of y) (disk_of z) (sectors_of x) (desk_of x) (acknowledged calls) moments later z.halted (desk_of z) only
-            (subst (λ d. Goes (disk_of y) (sectors_of x) d (acknowledged calls) moments later (disk_of z) z.halted (desk_of z)) tends.desk rest))
-            )
+            (subst (λ d. Goes (disk_of y) (sectors_of x) d (acknowledged calls) moments later (disk_of z) z.halted (desk_of z)) tends.desk rest)))
       ]
 
   pub survives : (x : Clerk D g) → SurvivesEachSwept x

@@ -1,9 +1,9 @@
 -- What no promise rests on, beside claim/Recovery.antt.
 use Rattle.std.specs.Prelude.{◌≡◌, ◌≢◌, ◌≤◌, ◌^◌, ℕ, Bool, false, Result, IfOk, IfErr}
-use Rattle.sector_device.specs.{claim.Disk.{Disk, Image}, claim.Moments.LeavesOnly, declared.SectorDevice.Ghosts}
-use Rattle.desk_model.specs.claim.Desk.{Desk}
-use Rattle.desk_pages.specs.{claim.Desks.{OpensDeskOf, OpensDesk, OpensEither}, declared.error.StoreError.StoreError, declared.error.StoreError.TheVariants.{NotAStore, OldVersion}}
-use Rattle.desk_store.specs.{declared.clerk.Clerk.Clerk, claim.Clerks.{desk_of, is_halted, sectors_of, Keeps}, claim.Openings.device_after}
+use Rattle.{desk_model.specs.claim.Desk.Desk, desk_pages.specs.{claim.Desks.{OpensDeskOf, OpensDesk, OpensEither}, declared.error.StoreError.StoreError}}
+use Rattle.{desk_pages.specs.declared.error.StoreError.TheVariants.{NotAStore, OldVersion}, desk_store.specs.claim.Clerks.{desk_of, is_halted, sectors_of, Keeps}}
+use Rattle.{desk_store.specs.{claim.Openings.device_after, declared.clerk.Clerk.Clerk}, sector_device.specs.claim.{Disk.{Disk, Image}, Moments.LeavesOnly}}
+use Rattle.sector_device.specs.declared.SectorDevice.{Ghosts}
 
 -- an image of a store opens to one desk at most, in whatever version
 abbrev pub ImagesAreOne : Type 0

@@ -1,9 +1,7 @@
 -- What a step of a sweep answers.
 use Rattle.std.specs.Prelude.{◌≡◌, ◌≤◌, ◌↔◌, ℕ, Bool, true, false, Option, Result, OnOk, IfOk, IfErr, IfSome}
-use Rattle.sector_device.specs.declared.SectorDevice.{Ghosts}
-use Rattle.store_rows.specs.claim.Rows.{KeyMap}
-use Rattle.desk_pages.specs.declared.error.StoreError.{StoreError}
-use Rattle.desk_store.specs.{declared.clerk.Clerk.Clerk, claim.Clerks.{disk_of, is_halted, pages_of}, Sweeps.{HasRows, IsClean, SweepRefused}}
+use Rattle.{desk_pages.specs.declared.error.StoreError.StoreError, desk_store.specs.{Sweeps.{HasRows, IsClean, SweepRefused}, claim.Clerks.{disk_of, is_halted, pages_of}}}
+use Rattle.{desk_store.specs.declared.clerk.Clerk.Clerk, sector_device.specs.declared.SectorDevice.Ghosts, store_rows.specs.claim.Rows.KeyMap}
 
 module _ {D : Type 0} {g : Ghosts D} where
   -- What a step of a sweep answers: how many rows it took out or changed, 0 only where none is left; no number where it checked the

@@ -1,7 +1,7 @@
 -- What a turn of sweeping comes to.
 use Rattle.std.specs.Prelude.{ℕ, ◌==◌, Bool, true, false, Option, Some, None, Result, Ok, Err}
-use Rattle.desk_pages.specs.{declared.error.StoreError.StoreError, declared.error.StoreError.TheVariants.{Memory, NotAStore}}
-use Rattle.desk_runs.specs.{declared.turning.Swept.Swept, declared.turning.Swept.TheVariants.{Again, Unsound, Over}}
+use Rattle.{desk_pages.specs.declared.error.StoreError.{StoreError, TheVariants.{Memory, NotAStore}}, desk_runs.specs.declared.turning.Swept.Swept}
+use Rattle.desk_runs.specs.declared.turning.Swept.TheVariants.{Again, Unsound, Over}
 
 -- others may follow, but where the device failed, or the rows are none that a desk leaves
 abbrev pub swept_of : (moves : ℕ) → Result (Option ℕ) StoreError → Swept

@@ -1,32 +1,21 @@
 -- A change that is committed.
-use Rattle.std.proofs.Common.{◌≡◌, ◌⊎◌, ◌≤◌, ◌<◌, ◌+◌, ℕ, true, false, length, inl, inr, refl, sym, subst, ◌∙◌, arith}
-use Rattle.sector_device.specs.{claim.Disk.Image, claim.Moments.LeavesOnly, declared.SectorDevice.Ghosts}
-use Rattle.page_store.specs.{gate_journal.claim.Store.home, claim.Chain.free_in}
-use Rattle.page_store.specs.claim.Transactions.{stored, disk_in, count_of, journal_of, has_halted, prepared_writes, after, HasShape, IsKept, CommitErr}
-use Rattle.page_store.specs.{gate_journal.declared.error.PageError.PageError, gate_journal.declared.error.PageError.TheVariants.{DeviceFault, Halted, TooManyPages}}
-use Rattle.page_store.specs.declared.pages.Pages.{Pages}
-use Rattle.page_btree.specs.claim.Map.{InPages as HoldsRows}
-use Rattle.store_rows.specs.claim.Rows.{KeyMap}
-use Rattle.desk_model.specs.{declared.reply.Reply.Reply, declared.reply.Reply.TheVariants.Refused, claim.Desk.Desk, claim.Room.need}
+use Rattle.{std.proofs.Common.{◌≡◌, ◌⊎◌, ◌≤◌, ◌+◌, ℕ, true, false, length, inl, inr, refl, sym, subst, ◌∙◌, arith}, desk_catalogue.specs.claim.Accepting.acceptance}
+use Rattle.{desk_model.specs.{claim.{Desk.Desk, Room.need}, declared.reply.Reply.{Reply, TheVariants.Refused}}, desk_pages.specs.{Commits.OpensRows, claim.Commits.HoldsAfter}}
+use Rattle.{desk_pages.specs.claim.Desks.{InPages, OpensDesk}, desk_store.specs.{claim.Clerks.{desk_of, disk_of, pages_of, sectors_of, free_of, Keeps}, declared.clerk.Clerk.Clerk}}
+use Rattle.{desk_store.specs.{claim.Commands.{command_of, after_of, written_of, IsReady, Commits}, declared.ready.Ready.Ready}, page_btree.specs.claim.Map.InPages as HoldsRows}
+use Rattle.page_store.specs.claim.{Chain.free_in, Transactions.{stored, disk_in, count_of, journal_of, has_halted, prepared_writes, after, HasFailed, HasShape, IsKept, CommitErr}}
+use Rattle.page_store.specs.{declared.pages.Pages.Pages, gate_journal.{claim.Store.home, declared.error.PageError.{PageError, TheVariants.{DeviceFault, Halted, TooManyPages}}}}
+use Rattle.{sector_device.specs.{claim.{Disk.Image, Moments.LeavesOnly}, declared.SectorDevice.Ghosts}, store_rows.specs.claim.Rows.KeyMap, desk_pages.proofs.Openings.leaves_desk}
+use Rattle.{desk_opening.proofs.plan_rows.Committing.both, desk_store.proofs.{Kept.accepted_is, Moved.{worked, faulted}}}
 use Rattle.desk_model.specs.declared.reply.Refusal.TheVariants as refusal
-use Rattle.desk_catalogue.specs.claim.Accepting.{acceptance}
-use Rattle.desk_pages.{specs.claim.Commits.HoldsAfter, specs.Commits.OpensRows, specs.claim.Desks.{InPages, OpensDesk}, proofs.Openings.leaves_desk}
-use Rattle.desk_store.specs.{claim.Clerks.{desk_of, disk_of, pages_of, sectors_of, free_of, Keeps}, claim.Commands.{command_of, after_of, written_of, IsReady, Commits}}
-use Rattle.desk_store.{specs.declared.clerk.Clerk.Clerk, specs.declared.ready.Ready.Ready, proofs.Kept.accepted_is, proofs.Moved.{worked, faulted}}
 
 module _ {D : Type 0} {g : Ghosts D} where
   -- a refused commit was a fault
-  fault_rose : (n : ℕ) (a b : Pages D g) (e : PageError) → CommitErr n a b e → has_halted a ≡ false → n ≤ journal_of a → (disk_in b).is_honest → (disk_in a).faults < (disk_in b).faults
-  fault_rose n a b DeviceFault why working few honest = why.0.rose honest
-  fault_rose n a b Halted why working few honest = absurd (let clash : true ≡ false = sym why.0 ∙ working in cc)
-  fault_rose n a b TooManyPages why working few honest = absurd (let more = why.1 in omega arith)
-  fault_rose n a b _ why working few honest = absurd why
-
-  fault_halts : (n : ℕ) (a b : Pages D g) (e : PageError) → CommitErr n a b e → has_halted a ≡ false → n ≤ journal_of a → has_halted b ≡ true
-  fault_halts n a b DeviceFault why working few = why.0.halted
-  fault_halts n a b Halted why working few = absurd (let clash : true ≡ false = sym why.0 ∙ working in cc)
-  fault_halts n a b TooManyPages why working few = absurd (let more = why.1 in omega arith)
-  fault_halts n a b _ why working few = absurd why
+  fault_failed : (n : ℕ) (a b : Pages D g) (e : PageError) → CommitErr n a b e → has_halted a ≡ false → n ≤ journal_of a → HasFailed a b
+  fault_failed n a b DeviceFault why working few = why.0
+  fault_failed n a b Halted why working few = both (has_halted a) why.0 working
+  fault_failed n a b TooManyPages why working few = absurd (let more = why.1 in omega arith)
+  fault_failed n a b _ why working few = absurd why
 
   -- the stop clause of a commit, over maps
   abbrev MapsLeft : Clerk D g → Ready → Pages D g → Type 0
@@ -72,10 +61,10 @@ module _ {D : Type 0} {g : Ghosts D} where
       record {
         moves = faulted (Keeps x) (after_of r) x y working halts desk shape honest (λ keeps. desks_left x r (pages_of y) ready honest left keeps working)
             (λ keeps is_honest. inr (inl (record { command = command_of r; accepted = accepted_is (desk_of x) (command_of r) (after_of r) ready.accepted; desk = ready.accepted.desk })))
-            (λ keeps. fault_rose writes (pages_of x) (pages_of y) e why (x.working working) ready.writes);
+            (λ keeps. (fault_failed writes (pages_of x) (pages_of y) e why (x.working working) ready.writes).rose);
         device = record {
-          rose = λ off on is_honest. fault_rose writes (pages_of x) (pages_of y) e why off ready.writes is_honest;
-          calm = λ off. absurd (let clash : true ≡ false = sym (fault_halts writes (pages_of x) (pages_of y) e why (x.working working) ready.writes) ∙ off in cc);
+          rose = λ off on is_honest. (fault_failed writes (pages_of x) (pages_of y) e why off ready.writes).rose is_honest;
+          calm = λ off. absurd (let clash : true ≡ false = sym (fault_failed writes (pages_of x) (pages_of y) e why (x.working working) ready.writes).halted ∙ off in cc);
         };
         loading = loading;
         outcome = inr (record { reply_is = refl; desk = desk; halted = halts });

@@ -1,15 +1,13 @@
 -- What became of a command.
-use Rattle.std.proofs.Common.{rules, ◌≡◌, ◌⊎◌, ◌+◌, ℕ, Bool, true, false, length, inl, inr, ⊎_elim, sym, ap, subst, ◌∙◌, arith}
-use Rattle.sector_device.{specs.claim.Disk.Image, specs.claim.Moments.LeavesOnly, specs.declared.SectorDevice.Ghosts, proofs.Moments.{leaves_more, leaves_now}}
-use Rattle.page_store.{specs.gate_journal.claim.Store.home, specs.claim.Chain.free_in, proofs.Stops.{leaves_here, leaves_quiet}, proofs.Chains.either}
-use Rattle.desk_model.specs.{declared.command.Command.Command, declared.command.Command.TheVariants.Fork, declared.reply.Reply.Reply, declared.reply.Reply.TheVariants.Refused}
-use Rattle.desk_model.specs.{declared.reply.Refusal.Refusal, claim.Desk.Desk, claim.Outcome.{IsAcceptance, CommandMay}, claim.Room.need}
-use Rattle.desk_catalogue.specs.claim.Accepting.{IsAfter, acceptance}
-use Rattle.desk_pages.specs.claim.Desks.{InPages, OpensDesk}
-use Rattle.plan_revisions.specs.claim.Rows.{HasNumbers}
-use Rattle.desk_store.specs.{claim.Keeping.{IsLeft, OpensOneMore}, claim.Clerks.{desk_of, disk_of, pages_of, sectors_of, free_of, HaltsByDevice, Keeps, Reads, Moves}}
-use Rattle.desk_store.specs.{claim.Commands.{command_of, after_of, IsExhausted, MustBeFull, MayBeFull, PrepareErr, IsReady, Commits, Does}, declared.clerk.Clerk.Clerk}
-use Rattle.desk_store.{specs.declared.ready.Ready.Ready, proofs.Kept.acceptance_is}
+use Rattle.{std.proofs.Common.{rules, ◌≡◌, ◌⊎◌, ◌+◌, ℕ, Bool, true, false, length, inl, inr, ⊎_elim, sym, ap, subst, ◌∙◌, arith}, desk_model.specs.claim.{Desk.Desk, Room.need}}
+use Rattle.{desk_catalogue.specs.claim.Accepting.{IsAfter, acceptance}, desk_model.specs.{claim.Outcome.{IsAcceptance, CommandMay}, declared.command.Command.Command}}
+use Rattle.{desk_model.specs.declared.{command.Command.TheVariants.Fork, reply.{Refusal.Refusal, Reply.{Reply, TheVariants.Refused}}}, desk_store.specs.declared.clerk.Clerk.Clerk}
+use Rattle.{desk_pages.specs.claim.Desks.{InPages, OpensDesk}, desk_store.specs.claim.Clerks.{desk_of, disk_of, pages_of, sectors_of, free_of, HaltsByDevice, Keeps, Reads, Moves}}
+use Rattle.desk_store.specs.{claim.Commands.{command_of, after_of, IsExhausted, MustBeFull, MayBeFull, PrepareErr, IsReady, IsNotMade, Commits, Does}, declared.ready.Ready.Ready}
+use Rattle.{desk_store.specs.claim.Keeping.{IsLeft, OpensOneMore}, page_store.specs.{claim.Chain.free_in, gate_journal.claim.Store.home}, sector_device.specs.claim.Disk.Image}
+use Rattle.{plan_revisions.specs.claim.Rows.HasNumbers, sector_device.specs.{claim.Moments.LeavesOnly, declared.SectorDevice.Ghosts}, desk_store.proofs.Kept.acceptance_is}
+use Rattle.{page_store.proofs.{Chains.either, Stops.{leaves_here, leaves_quiet}}, sector_device.proofs.Moments.{leaves_more, leaves_now}}
+use Rattle.desk_opening.proofs.plan_rows.Committing.{both}
 
 -- an accepted command has the step's outcome
 made_may : (must may failed : Type 0) (d : Desk) (c : Command) (e : Desk) → ¬ failed → IsAfter d c e → ¬ must → CommandMay must may failed d c (acceptance c) e
@@ -18,15 +16,15 @@ made_may must may failed d _ e works is room = (works, record { reply = sym is.r
 
 -- what is left of a clerk that has not halted
 left_working : (halted : Bool) (sectors : ℕ) (d : Desk) (c : Image) → halted ≡ false → IsLeft halted sectors d c → OpensDesk sectors d c
-left_working halted sectors d c working left = ⊎_elim (λ opens. opens) (λ (more : OpensOneMore halted sectors d c). absurd (let clash : true ≡ false = sym more.halt ∙ working in cc)) left
+left_working halted sectors d c working left = ⊎_elim (λ opens. opens) (λ (more : OpensOneMore halted sectors d c). both halted more.halt working) left
 
 -- a clerk that halts later leaves no less
 left_later : (before after : Bool) (sectors : ℕ) (d : Desk) (c : Image) → (before ≡ true → after ≡ true) → IsLeft before sectors d c → IsLeft after sectors d c
 left_later before after sectors d c halts left = ⊎_elim (λ opens. inl opens) (λ (more : OpensOneMore before sectors d c). inr (record { halt = halts more.halt; next = more.next; is = more.is; opens = more.opens })) left
 
 module _ {D : Type 0} {g : Ghosts D} where
-  abbrev Either : Clerk D g → Desk → Image → Type 0
-  Either x next c = OpensDesk (sectors_of x) (desk_of x) c ⊎ OpensDesk (sectors_of x) next c
+  abbrev pub OneOf : Clerk D g → Desk → Image → Type 0
+  OneOf x next c = OpensDesk (sectors_of x) (desk_of x) c ⊎ OpensDesk (sectors_of x) next c
 
   sectors_same : (x y : Clerk D g) → Reads x y → sectors_of y ≡ sectors_of x
   sectors_same x y reads = λ i. home (reads.quiet.journal i) + reads.quiet.count i
@@ -34,10 +32,10 @@ module _ {D : Type 0} {g : Ghosts D} where
   free_same : (x y : Clerk D g) → Reads x y → (disk_of y).is_honest → free_of y ≡ free_of x
   free_same x y reads honest = ap (λ (P : Image). length (free_in P)) (reads.quiet.same honest)
 
-  reads_left : (next : Desk) (x y : Clerk D g) → Reads x y → Keeps x → x.halted ≡ false → (disk_of y).is_honest → LeavesOnly (Either x next) (disk_of x) (disk_of y)
+  reads_left : (next : Desk) (x y : Clerk D g) → Reads x y → Keeps x → x.halted ≡ false → (disk_of y).is_honest → LeavesOnly (OneOf x next) (disk_of x) (disk_of y)
   reads_left next x y reads keeps working honest =
-      leaves_quiet (pages_of x) (pages_of y) reads.quiet honest (Either x next) (disk_of x)
-      (leaves_here (Either x next) (disk_of x) (λ c leaves. inl (left_working x.halted (sectors_of x) (desk_of x) c working (keeps.left (reads.quiet.honest honest) c leaves))))
+      leaves_quiet (pages_of x) (pages_of y) reads.quiet honest (OneOf x next) (disk_of x)
+      (leaves_here (OneOf x next) (disk_of x) (λ c leaves. inl (left_working x.halted (sectors_of x) (desk_of x) c working (keeps.left (reads.quiet.honest honest) c leaves))))
 
   was_working : (x y : Clerk D g) → Reads x y → y.halted ≡ false → x.halted ≡ false
   was_working x y reads works = search (rules, either)
@@ -84,11 +82,11 @@ module _ {D : Type 0} {g : Ghosts D} where
         room = moves.room ∙ reads.quiet.journal;
         honest = λ honest. reads.quiet.honest (moves.honest honest);
         any_moment = λ keeps working honest.
-            let then : LeavesOnly (Either x next) (disk_of y) (disk_of z) = subst (λ (s : ℕ). LeavesOnly (λ c. OpensDesk s (desk_of x) c ⊎ OpensDesk s next c) (disk_of y) (disk_of z)) sectors
+            let then : LeavesOnly (OneOf x next) (disk_of y) (disk_of z) = subst (λ (s : ℕ). LeavesOnly (λ c. OpensDesk s (desk_of x) c ⊎ OpensDesk s next c) (disk_of y) (disk_of z)) sectors
             (subst (λ (d : Desk). LeavesOnly (λ c. OpensDesk (sectors_of y) d c ⊎ OpensDesk (sectors_of y) next c) (disk_of y) (disk_of z)) reads.desk (moves.any_moment (still_keeps x y reads keeps) works honest)) in
-            leaves_more (Either x next) (disk_of x) (disk_of y) (disk_of z) (reads_left next x y reads keeps working (moves.honest honest)) then;
+            leaves_more (OneOf x next) (disk_of x) (disk_of y) (disk_of z) (reads_left next x y reads keeps working (moves.honest honest)) then;
         keeps = λ keeps. moves.keeps (still_keeps x y reads keeps);
-        still = λ on. absurd (let clash : true ≡ false = sym (reads.halts on) ∙ works in cc);
+        still = λ on. both y.halted (reads.halts on) works;
         rose = λ keeps working on honest. search (rules, still_keeps);
         calm = λ off honest. moves.calm off honest ∙ reads.quiet.calm (y.working works) (moves.honest honest);
       }
@@ -101,6 +99,10 @@ module _ {D : Type 0} {g : Ghosts D} where
   pub committed_does : (x y z : Clerk D g) (c : Command) (r : Ready) (reply : Reply) → Reads x y → y.loading ≡ x.loading → IsReady y r → command_of r ≡ c → (MustBeFull x c → ⊥) → y.halted ≡ false → Commits y r reply z → Does x c reply z
   committed_does x y z c r reply reads loading ready is room works commits =
       let after : IsAfter (desk_of x) c (after_of r) = subst (λ (q : Command). IsAfter (desk_of x) q (after_of r)) is (subst (λ (d : Desk). IsAfter d (command_of r) (after_of r)) reads.desk ready.accepted) in
+      let not_made : (IsAcceptance reply → ⊥) → IsNotMade y reply z = λ other. elim commits.outcome [
+        | inl made ↦ absurd (other (subst IsAcceptance (sym made.reply_is) (acceptance_is (command_of r))))
+        | inr fault ↦ fault
+      ] in
       record {
         loading = commits.loading ∙ loading;
         device = device_more x y z reads works commits.moves.honest commits.device;
@@ -108,7 +110,7 @@ module _ {D : Type 0} {g : Ghosts D} where
         outcome = elim commits.outcome [
           | inl made ↦ subst (λ (a : Reply). CommandMay (MustBeFull x c) (MayBeFull x (pages_of z) c) (z.halted ≡ true) (desk_of x) c a (desk_of z)) (ap (λ (q : Command). acceptance q) (sym is) ∙ sym made.reply_is)
               (subst (λ (e : Desk). CommandMay (MustBeFull x c) (MayBeFull x (pages_of z) c) (z.halted ≡ true) (desk_of x) c (acceptance c) e) (sym made.desk)
-              (made_may (MustBeFull x c) (MayBeFull x (pages_of z) c) (z.halted ≡ true) (desk_of x) c (after_of r) (λ on. let clash : true ≡ false = sym on ∙ made.works in cc) after room))
+              (made_may (MustBeFull x c) (MayBeFull x (pages_of z) c) (z.halted ≡ true) (desk_of x) c (after_of r) (λ on. both z.halted on made.works) after room))
           | inr fault ↦ subst (λ (a : Reply). CommandMay (MustBeFull x c) (MayBeFull x (pages_of z) c) (z.halted ≡ true) (desk_of x) c a (desk_of z)) (sym fault.reply_is) (fault.halted, fault.desk ∙ reads.desk)
         ];
         free = λ keeps honest accepted. elim commits.outcome [
@@ -116,21 +118,11 @@ module _ {D : Type 0} {g : Ghosts D} where
               let few = made.free (still_keeps x y reads keeps) honest in
               let same = free_same x y reads (commits.moves.honest honest) in
               let needs : need (desk_of y) (command_of r) ≡ need (desk_of x) c = (λ i. need (reads.desk i) (is i)) in
-              omega (arith, few, same, needs)
-              )
+              omega (arith, few, same, needs))
           | inr fault ↦ absurd (subst IsAcceptance fault.reply_is accepted)
         ];
         numbers = λ honest accepted exhausted. ready.numbers (commits.moves.honest honest) (still_exhausted x y c (command_of r) reads is (commits.moves.honest honest) exhausted);
-        spared = λ honest off other. elim commits.outcome [
-          | inl made ↦ absurd (other (subst IsAcceptance (sym made.reply_is) (acceptance_is (command_of r))))
-          | inr fault ↦ absurd (let clash : true ≡ false = sym fault.halted ∙ off in cc)
-        ];
-        shown = λ other. elim commits.outcome [
-          | inl made ↦ absurd (other (subst IsAcceptance (sym made.reply_is) (acceptance_is (command_of r))))
-          | inr fault ↦ fault.desk ∙ reads.desk
-        ];
-        quiet = λ off other. elim commits.outcome [
-          | inl made ↦ absurd (other (subst IsAcceptance (sym made.reply_is) (acceptance_is (command_of r))))
-          | inr fault ↦ absurd (let clash : true ≡ false = sym fault.halted ∙ off in cc)
-        ];
+        spared = λ honest off other. both z.halted (not_made other).halted off;
+        shown = λ other. (not_made other).desk ∙ reads.desk;
+        quiet = λ off other. both z.halted (not_made other).halted off;
       }

@@ -1,17 +1,15 @@
 -- Loads at a clerk.
-use Rattle.std.specs.{FinMap.{get-empty, same_map, slice_cmp-IsAntisymmetric, nat_cmp-IsAntisymmetric}, Cmp.Lexicographic.nat_list_cmp_total}
-use Rattle.std.proofs.Common.{◌≡◌, ◌⊎◌, ◌<◌, ◌+◌, ℕ, true, false, List, Option, Some, None, inl, inr, ⊎_elim, refl, sym, ap, subst, ◌∙◌}
+use Rattle.{std.specs.{Cmp.Lexicographic.nat_list_cmp_total, FinMap.{get-empty, same_map, slice_cmp-IsAntisymmetric, nat_cmp-IsAntisymmetric}}, store_rows.specs.Changes.desk_with}
+use Rattle.{std.proofs.Common.{◌≡◌, ◌⊎◌, ◌<◌, ◌+◌, ℕ, true, false, List, Option, Some, None, inl, inr, ⊎_elim, refl, sym, ap, subst, ◌∙◌}, desk_store.specs.Failures.is_failure}
+use Rattle.{desk_model.specs.claim.{Desk.{Desk, Plan, name_cmp}, Geography.GeographyModel}, desk_pages.specs.claim.Desks.{InPages, OpensDesk}, desk_store.specs.Keeping.sealed_desk}
+use Rattle.{desk_pages.specs.declared.error.StoreError.{StoreError, TheVariants.{AlreadySealed, Ended, Full, Memory, NotAStore, DeviceFault, Halted}}, desk_store.proofs.Done.OneOf}
+use Rattle.desk_store.specs.{Loads.{Stages, BeginRefused, EndRefused, StepRefused, BatchRefused, SealRefused}, claim.Clerks.{desk_of, disk_of, pages_of, sectors_of, Keeps}}
+use Rattle.{desk_store.specs.{claim.Keeping.IsOneMore, declared.clerk.Clerk.Clerk}, geo_tables.specs.{Loading.{HoldsLoad, geography_model_of}, declared.load.Load.Load}}
+use Rattle.{geo_tables.specs.Refusals.{BeginErr, BatchErr, SealErr}, page_store.specs.claim.Transactions.{disk_in, count_of, journal_of, has_halted, HasFailed, IsQuiet}}
+use Rattle.{page_store.specs.{declared.pages.Pages.Pages, gate_journal.claim.Store.home}, sector_device.specs.{claim.Moments.LeavesOnly, declared.SectorDevice.Ghosts}}
+use Rattle.{store_rows.specs.claim.{DeskRows.{IsDesk, IsPlanAt}, Rows.KeyMap}, desk_store.proofs.Moved.Left}
+use Rattle.{sector_device.proofs.Moments.leaves_wider, desk_opening.proofs.plan_rows.Committing.both}
 use Rattle.std.specs.FinMap as map_of
-use Rattle.sector_device.{specs.claim.Disk.Disk, specs.claim.Moments.LeavesOnly, specs.declared.SectorDevice.Ghosts, proofs.Moments.leaves_wider}
-use Rattle.page_store.specs.{gate_journal.claim.Store.home, claim.Transactions.{disk_in, count_of, journal_of, has_halted, HasFailed, IsQuiet}, declared.pages.Pages.Pages}
-use Rattle.desk_model.specs.{claim.Geography.GeographyModel, claim.Desk.{Desk, Plan, name_cmp}}
-use Rattle.store_rows.specs.{claim.Rows.KeyMap, claim.DeskRows.{IsDesk, IsPlanAt}, Changes.desk_with}
-use Rattle.geo_tables.specs.{Loading.{HoldsLoad, geography_model_of}, Refusals.{BeginErr, BatchErr, SealErr}, declared.load.Load.Load}
-use Rattle.desk_pages.specs.{declared.error.StoreError.StoreError, declared.error.StoreError.TheVariants.{AlreadySealed, Ended, Full, Memory, NotAStore, DeviceFault, Halted}}
-use Rattle.desk_pages.specs.claim.Desks.{InPages, OpensDesk}
-use Rattle.desk_store.specs.{claim.Keeping.IsOneMore, Keeping.sealed_desk, claim.Clerks.{desk_of, disk_of, pages_of, sectors_of, Keeps}}
-use Rattle.desk_store.specs.{Loads.{Stages, BeginRefused, EndRefused, BatchRefused, SealRefused}, Failures.is_failure, declared.clerk.Clerk.Clerk}
-use Rattle.desk_store.proofs.Moved.{OneOf, Left}
 
 -- a desk without geography has no plan
 no_plans : (m : KeyMap) (d : Desk) → IsDesk m d → d.geography ≡ None → d.plans ≡ map_of.empty
@@ -20,9 +18,6 @@ no_plans m d is none = same_map nat_list_cmp_total (slice_cmp-IsAntisymmetric na
     missing : (name : List ℕ) (p : Option Plan) → IsPlanAt m None name p → p ≡ None
     missing name None at = refl
     missing name (Some p) at = absurd at
-
-one_left : (sectors : ℕ) (d next : Desk) (old new : Disk) → LeavesOnly (λ c. OpensDesk sectors d c) old new → LeavesOnly (λ c. OpensDesk sectors d c ⊎ OpensDesk sectors next c) old new
-one_left sectors d next old new left = leaves_wider (λ c. OpensDesk sectors d c) (λ c. OpensDesk sectors d c ⊎ OpensDesk sectors next c) old new (λ c opens. inl opens) left
 
 module _ {D : Type 0} {g : Ghosts D} where
   -- ---- refusals
@@ -34,13 +29,13 @@ module _ {D : Type 0} {g : Ghosts D} where
 
   pub refused_rose : (x : Clerk D g) (b : Pages D g) (e : StoreError) → x.halted ≡ false → IsRefusedBy (pages_of x) b e → (is_failure e ≡ true) ⊎ (has_halted b ≡ true) → (disk_in b).is_honest → (disk_of x).faults < (disk_in b).faults
   refused_rose x b DeviceFault working told on honest = told.rose honest
-  refused_rose x b Halted working told on honest = absurd (let clash : true ≡ false = sym told ∙ x.working working in cc)
+  refused_rose x b Halted working told on honest = both (has_halted (pages_of x)) told (x.working working)
   refused_rose x b _ working told on honest = ⊎_elim (λ clash. absurd (cc)) (λ halted. told.rose (x.working working) halted honest) on
 
   -- what is told as a fault has halted the pages
   pub refused_failed : (x : Clerk D g) (b : Pages D g) (e : StoreError) → x.halted ≡ false → IsRefusedBy (pages_of x) b e → (is_failure e ≡ true) ⊎ (has_halted b ≡ true) → has_halted b ≡ true
   refused_failed x b DeviceFault working told on = told.halted
-  refused_failed x b Halted working told on = absurd (let clash : true ≡ false = sym told ∙ x.working working in cc)
+  refused_failed x b Halted working told on = both (has_halted (pages_of x)) told (x.working working)
   refused_failed x b _ working told on = ⊎_elim (λ clash. absurd (cc)) (λ halted. halted) on
 
   pub refused_quiet : (a b : Pages D g) (e : StoreError) → is_failure e ≡ false → IsRefusedBy a b e → IsQuiet a b
@@ -48,13 +43,29 @@ module _ {D : Type 0} {g : Ghosts D} where
   refused_quiet a b Halted off told = absurd (cc)
   refused_quiet a b _ off told = told
 
+  -- ---- a step of a load, before which the pages held this of the desk
+  abbrev StepLeft : (Desk → Type 0) → Clerk D g → Pages D g → Type 0
+  StepLeft before x b = (disk_in b).is_honest → has_halted (pages_of x) ≡ false → (sectors : ℕ) (d : Desk) → home (journal_of (pages_of x)) + count_of (pages_of x) ≡ sectors → before d → LeavesOnly (OpensDesk sectors d) (disk_in (pages_of x)) (disk_in b)
+
+  pub step_left : {sound : Type 0} {before : Desk → Type 0} (x : Clerk D g) (b : Pages D g) → x.halted ≡ false → ((disk_in b).is_honest → (disk_of x).is_honest) → StepLeft before x b → (sound → x.halted ≡ false → (disk_of x).is_honest → before (desk_of x)) → Left sound (desk_of x) x b
+  step_left x b working honest left held is is_honest = leaves_wider (OpensDesk (sectors_of x) (desk_of x)) (OneOf x (desk_of x)) (disk_of x) (disk_in b) (λ c opens. inl opens) (left is_honest (x.working working) (sectors_of x) (desk_of x) refl (held is working (honest is_honest)))
+
+  module _ {sound : Type 0} {before : Desk → Type 0} (x : Clerk D g) (b : Pages D g) (load : Load) (working : x.halted ≡ false) (honest : (disk_in b).is_honest → (disk_of x).is_honest)
+      (begun : (disk_in b).is_honest → (d : Desk) → before d → HoldsLoad b d load) (held : sound → x.halted ≡ false → (disk_of x).is_honest → before (desk_of x)) where
+    step_loads : sound → (disk_in b).is_honest → HoldsLoad b (desk_of x) load
+    step_loads is is_honest = begun is_honest (desk_of x) (held is working (honest is_honest))
+
+    pub step_holds : sound → (disk_in b).is_honest → InPages b (desk_of x)
+    step_holds is is_honest = let holds = step_loads is is_honest in record { m = holds.m; holds = holds.holds; is = holds.is }
+
+  pub step_stages : {sound : Type 0} {before : Desk → Type 0} (x y : Clerk D g) (load : Load) → x.halted ≡ false → desk_of y ≡ desk_of x → ((disk_of y).is_honest → (disk_of x).is_honest) → ((disk_of y).is_honest → (d : Desk) → before d → HoldsLoad (pages_of y) d load)
+      → (sound → x.halted ≡ false → (disk_of x).is_honest → before (desk_of x)) → Keeps y → sound → Stages y load
+  step_stages x y load working desk honest begun held later is = record {
+    keeps = later;
+    holds = λ off is_honest. subst (λ (d : Desk). HoldsLoad (pages_of y) d load) (sym desk) (step_loads x (pages_of y) load working honest begun held is is_honest);
+  }
+
   -- ---- begin
-  abbrev BeginLeft : Clerk D g → Pages D g → Type 0
-  BeginLeft x b = (disk_in b).is_honest → has_halted (pages_of x) ≡ false → (sectors : ℕ) (d : Desk) → home (journal_of (pages_of x)) + count_of (pages_of x) ≡ sectors → InPages (pages_of x) d → LeavesOnly (OpensDesk sectors d) (disk_in (pages_of x)) (disk_in b)
-
-  pub begin_left : (x : Clerk D g) (b : Pages D g) → x.halted ≡ false → ((disk_in b).is_honest → (disk_of x).is_honest) → BeginLeft x b → Left (Keeps x) (desk_of x) x b
-  begin_left x b working honest left keeps is_honest = one_left (sectors_of x) (desk_of x) (desk_of x) (disk_of x) (disk_in b) (left is_honest (x.working working) (sectors_of x) (desk_of x) refl (keeps.holds working (honest is_honest)))
-
   pub begin_told : (area : GeographyModel) (a b : Pages D g) (e : StoreError) → BeginErr area a b e → IsRefusedBy a b e
   begin_told area a b AlreadySealed why = why.0.quiet
   begin_told area a b Full why = why.0
@@ -63,31 +74,6 @@ module _ {D : Type 0} {g : Ghosts D} where
   begin_told area a b DeviceFault why = why
   begin_told area a b Halted why = why.0
   begin_told area a b _ why = absurd why
-
-  load_desk : (b : Pages D g) (d : Desk) (load : Load) → HoldsLoad b d load → InPages b d
-  load_desk b d load holds = record { m = holds.m; holds = holds.holds; is = holds.is }
-
-  pub begin_holds : (x : Clerk D g) (b : Pages D g) (load : Load) → x.halted ≡ false → ((disk_in b).is_honest → (disk_of x).is_honest) → ((disk_in b).is_honest → (d : Desk) → InPages (pages_of x) d → HoldsLoad b d load)
-      → Keeps x → (disk_in b).is_honest → InPages b (desk_of x)
-  begin_holds x b load working honest begun keeps is_honest = load_desk b (desk_of x) load (begun is_honest (desk_of x) (keeps.holds working (honest is_honest)))
-
-  pub begin_stages : (x y : Clerk D g) (load : Load) → x.halted ≡ false → y.halted ≡ false → desk_of y ≡ desk_of x → ((disk_of y).is_honest → (disk_of x).is_honest) → ((disk_of y).is_honest → (d : Desk) → InPages (pages_of x) d → HoldsLoad (pages_of y) d load)
-      → Keeps y → Keeps x → Stages y load
-  begin_stages x y load working works desk honest begun later keeps = record {
-    keeps = later;
-    holds = λ off is_honest. subst (λ (d : Desk). HoldsLoad (pages_of y) d load) (sym desk) (begun is_honest (desk_of x) (keeps.holds working (honest is_honest)));
-  }
-
-  pub batch_holds : (x : Clerk D g) (b : Pages D g) (load next : Load) → x.halted ≡ false → ((disk_in b).is_honest → (disk_of x).is_honest) → ((disk_in b).is_honest → (d : Desk) → HoldsLoad (pages_of x) d load → HoldsLoad b d next)
-      → Stages x load → (disk_in b).is_honest → InPages b (desk_of x)
-  batch_holds x b load next working honest staged stages is_honest = load_desk b (desk_of x) next (staged is_honest (desk_of x) (stages.holds working (honest is_honest)))
-
-  pub batch_stages : (x y : Clerk D g) (load next : Load) → x.halted ≡ false → desk_of y ≡ desk_of x → ((disk_of y).is_honest → (disk_of x).is_honest) → ((disk_of y).is_honest → (d : Desk) → HoldsLoad (pages_of x) d load → HoldsLoad (pages_of y) d next)
-      → Keeps y → Stages x load → Stages y next
-  batch_stages x y load next working desk honest staged later stages = record {
-    keeps = later;
-    holds = λ off is_honest. subst (λ (d : Desk). HoldsLoad (pages_of y) d next) (sym desk) (staged is_honest (desk_of x) (stages.holds working (honest is_honest)));
-  }
 
   pub begin_refused : (area : GeographyModel) (x : Clerk D g) (b : Pages D g) (e : StoreError) → x.halted ≡ false → ((disk_in b).is_honest → (disk_of x).is_honest) → is_failure e ≡ false → BeginErr area (pages_of x) b e → BeginRefused area x e x.halted b
   begin_refused area x b AlreadySealed working honest off why = (refl, λ keeps is_honest. why.1 is_honest (desk_of x) (keeps.holds working (honest is_honest)))
@@ -99,12 +85,6 @@ module _ {D : Type 0} {g : Ghosts D} where
   begin_refused area x b _ working honest off why = absurd why
 
   -- ---- a batch
-  abbrev BatchLeft : Clerk D g → Load → Pages D g → Type 0
-  BatchLeft x load b = (disk_in b).is_honest → has_halted (pages_of x) ≡ false → (sectors : ℕ) (d : Desk) → home (journal_of (pages_of x)) + count_of (pages_of x) ≡ sectors → HoldsLoad (pages_of x) d load → LeavesOnly (OpensDesk sectors d) (disk_in (pages_of x)) (disk_in b)
-
-  pub batch_left : (x : Clerk D g) (b : Pages D g) (load : Load) → x.halted ≡ false → ((disk_in b).is_honest → (disk_of x).is_honest) → BatchLeft x load b → Left (Stages x load) (desk_of x) x b
-  batch_left x b load working honest left stages is_honest = one_left (sectors_of x) (desk_of x) (desk_of x) (disk_of x) (disk_in b) (left is_honest (x.working working) (sectors_of x) (desk_of x) refl (stages.holds working (honest is_honest)))
-
   pub batch_told : (load : Load) (rows : ℕ) (a b : Pages D g) (e : StoreError) → BatchErr load rows a b e → IsRefusedBy a b e
   batch_told load rows a b Full why = why.0
   batch_told load rows a b Memory why = why.0
@@ -121,11 +101,11 @@ module _ {D : Type 0} {g : Ghosts D} where
   batch_refused load rows x b Halted working off why = absurd (cc)
   batch_refused load rows x b _ working off why = absurd why
 
-  pub batch_ended : (load : Load) (rows : ℕ) (x : Clerk D g) (b : Pages D g) (e : StoreError) → EndRefused load x e → BatchRefused load rows x e x.halted b
-  batch_ended load rows x b AlreadySealed why = why
-  batch_ended load rows x b Ended why = why
-  batch_ended load rows x b Halted why = (why, λ working. absurd (let clash : true ≡ false = sym why ∙ working in cc))
-  batch_ended load rows x b _ why = absurd why
+  pub step_ended : (why : StoreError → Type 0) (load : Load) (x : Clerk D g) (b : Pages D g) (e : StoreError) → EndRefused load x e → StepRefused why load x e x.halted b
+  step_ended why load x b AlreadySealed is = is
+  step_ended why load x b Ended is = is
+  step_ended why load x b Halted is = (is, λ working. both x.halted is working)
+  step_ended why load x b _ is = absurd is
 
   -- ---- the seal
   abbrev SealLeft : Clerk D g → Load → Pages D g → Type 0
@@ -164,9 +144,3 @@ module _ {D : Type 0} {g : Ghosts D} where
   seal_refused load x b DeviceFault working off why = absurd (cc)
   seal_refused load x b Halted working off why = absurd (cc)
   seal_refused load x b _ working off why = absurd why
-
-  pub seal_ended : (load : Load) (x : Clerk D g) (b : Pages D g) (e : StoreError) → EndRefused load x e → SealRefused load x e x.halted b
-  seal_ended load x b AlreadySealed why = why
-  seal_ended load x b Ended why = why
-  seal_ended load x b Halted why = (why, λ working. absurd (let clash : true ≡ false = sym why ∙ working in cc))
-  seal_ended load x b _ why = absurd why

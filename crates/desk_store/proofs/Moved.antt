@@ -1,17 +1,11 @@
 -- Calls that commit, and calls that came to nothing.
-use Rattle.std.proofs.Common.{rules, ◌≡◌, ◌⊎◌, ◌<◌, ◌+◌, ℕ, Bool, true, false, inl, ⊎_elim, sym, subst, ◌∙◌}
-use Rattle.sector_device.{specs.claim.Disk.Image, specs.claim.Moments.LeavesOnly, specs.declared.SectorDevice.Ghosts, proofs.Moments.leaves_now}
-use Rattle.page_store.specs.{gate_journal.claim.Store.home, claim.Transactions.{disk_in, HasShape, IsKept, IsQuiet}, declared.pages.Pages.Pages}
-use Rattle.page_store.proofs.Stops.{quiet_none}
-use Rattle.desk_model.specs.claim.Desk.{Desk}
-use Rattle.desk_pages.specs.claim.Desks.{InPages, OpensDesk}
-use Rattle.desk_store.specs.{claim.Keeping.{IsLeft, IsOneMore}, claim.Clerks.{desk_of, disk_of, pages_of, sectors_of, Keeps, Reads, MovesIf}, declared.clerk.Clerk.Clerk}
-use Rattle.desk_store.proofs.{Kept.{kept_opens, left_halted}, Done.reads_move}
+use Rattle.{std.proofs.Common.{rules, ◌≡◌, ◌⊎◌, ◌<◌, ◌+◌, ℕ, Bool, true, false, inl, ⊎_elim, sym, subst, ◌∙◌}, desk_model.specs.claim.Desk.Desk, page_store.proofs.Stops.quiet_none}
+use Rattle.{desk_pages.specs.claim.Desks.{InPages, OpensDesk}, desk_store.specs.claim.Clerks.{desk_of, disk_of, pages_of, sectors_of, Keeps, Reads, MovesIf}}
+use Rattle.{desk_store.specs.{claim.Keeping.{IsLeft, IsOneMore}, declared.clerk.Clerk.Clerk}, page_store.specs.claim.Transactions.{disk_in, HasShape, IsKept, IsQuiet}}
+use Rattle.{page_store.specs.{declared.pages.Pages.Pages, gate_journal.claim.Store.home}, sector_device.{specs.claim.{Disk.Image, Moments.LeavesOnly}, proofs.Moments.leaves_now}}
+use Rattle.{sector_device.specs.declared.SectorDevice.Ghosts, desk_store.proofs.{Done.{OneOf, reads_move}, Kept.{kept_opens, left_halted}}}
 
 module _ {D : Type 0} {g : Ghosts D} where
-  abbrev pub OneOf : Clerk D g → Desk → Image → Type 0
-  OneOf x next c = OpensDesk (sectors_of x) (desk_of x) c ⊎ OpensDesk (sectors_of x) next c
-
   abbrev pub Left : Type 0 → Desk → Clerk D g → Pages D g → Type 0
   Left sound next x b = sound → (disk_in b).is_honest → LeavesOnly (OneOf x next) (disk_of x) (disk_in b)
 

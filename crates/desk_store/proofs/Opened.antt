@@ -1,40 +1,26 @@
 -- What an opening finds.
-use Rattle.std.proofs.Common.{rules, ◌≡◌, ◌<◌, ℕ, Bool, true, false, inl, inr, refl, sym, ap, subst, ◌∙◌, arith}
-use Rattle.sector_device.specs.{claim.Disk.{Disk, Image}, declared.SectorDevice.Ghosts}
-use Rattle.page_store.specs.{gate_journal.claim.Store.pages, gate_journal.Recovery.{HasRoom, Found}}
-use Rattle.page_store.specs.{claim.Transactions.{stored, disk_in, count_of, journal_of, has_halted, HasFailed, IsQuiet, IsKept}, Transactions.OpenErr, declared.pages.Pages.Pages}
-use Rattle.page_store.{specs.gate_journal.declared.error.PageError.PageError, specs.declared.txn.Txn.Txn, proofs.Stops.kept_quiet}
+use Rattle.{std.proofs.Common.{rules, ◌≡◌, ℕ, Bool, true, false, inl, inr, refl, sym, ap, subst, ◌∙◌, arith}, desk_model.specs.claim.Desk.Desk, desk_pages.specs.Desks.InPagesAs}
+use Rattle.{desk_opening.specs.Opening.{HasVersion, IsReadFrom, OpenErr as ReadErr}, desk_pages.specs.Errors.{missing, page_refusal, row_refusal}, desk_store.specs.Finding.FindErr}
+use Rattle.desk_pages.specs.{Openings.{AllDesks, OpensOneOf}, claim.{Desks.{IsMapOf, InPagesOf, InPages, OpensDesk, OpensDeskOf}, Openings.{AllVersions, IsOneOf, OpensOneAs}}}
+use Rattle.{desk_pages.specs.declared.error.StoreError.{StoreError, TheVariants.{NotAStore, DeviceFault, Memory, OldVersion}}, desk_store.specs.claim.Keeping.IsLeft}
+use Rattle.desk_store.specs.{Openings.{DiskRefused, IsOldStore, IsFound, OpenRefused}, claim.Clerks.{desk_of, disk_of, pages_of, sectors_of, Keeps}, declared.clerk.Clerk.Clerk}
+use Rattle.{page_btree.specs.{claim.Map.{InPages as HasRows, InTxn as TxnHas}, declared.error.TreeError.TreeError}, page_store.specs.{Transactions.OpenErr, declared.txn.Txn.Txn}}
+use Rattle.page_store.specs.{claim.Transactions.{stored, disk_in, count_of, journal_of, has_halted, IsQuiet, IsKept}, declared.pages.Pages.Pages, gate_journal.claim.Store.pages}
+use Rattle.{page_store.specs.gate_journal.{Recovery.{AllStores, HasRoom, Found, ReadsAs}, declared.error.PageError.PageError}, sector_device.specs.claim.Disk.{Disk, Image}}
+use Rattle.{plan_revisions.specs.desk_pages.Reading.ReadErr as RowErr, sector_device.specs.{claim.Moments.LeavesOnly, declared.SectorDevice.Ghosts}}
+use Rattle.{store_rows.specs.claim.{Keys.{version, in_four}, Rows.{KeyMap, row_in, Has, Lacks}, Tidy.version_row}, desk_store.proofs.Kept.kept_opens}
+use Rattle.desk_pages.proofs.Found.{all_versions, stores_of, open_leaves, open_versions, page_stores_of, found_desk, found_after, pages_left, rows_before}
+use Rattle.{desk_store.proofs.Prepared.{IsBegun, begun_reads, begun_rows, still_held}, page_store.proofs.Stops.{kept_quiet, leaves_quiet, passed_none}}
+use Rattle.store_rows.proofs.OneGeography.{no_value}
+use Rattle.desk_opening.proofs.{WholeDesks.unread_unopened, plan_rows.Committing.both}
 use Rattle.page_store.specs.gate_journal.declared.error.PageError.TheVariants as page
-use Rattle.desk_model.specs.claim.Desk.{Desk}
-use Rattle.page_btree.specs.{declared.error.TreeError.TreeError, claim.Map.{InPages as HasRows, InTxn as TxnHas}}
 use Rattle.page_btree.specs.declared.error.TreeError.TheVariants as tree
-use Rattle.store_rows.{specs.claim.Keys.{version, in_four}, specs.claim.Rows.{KeyMap, row_in, Has, Lacks}, specs.claim.Tidy.version_row, proofs.OneGeography.no_value}
-use Rattle.plan_revisions.specs.desk_pages.Reading.{ReadErr as RowErr}
-use Rattle.desk_opening.specs.Opening.{HasVersion, IsReadFrom, OpenErr as ReadErr}
-use Rattle.desk_pages.specs.{claim.Desks.{IsMapOf, InPagesOf, InPages, OpensDesk, OpensDeskOf}, Desks.InPagesAs, Openings.{AllDesks, HasPages}}
-use Rattle.desk_pages.specs.{claim.Openings.{AllVersions, IsOneOf}, Errors.{missing, page_refusal, row_refusal}, declared.error.StoreError.StoreError}
-use Rattle.desk_pages.specs.declared.error.StoreError.TheVariants.{NotAStore, DeviceFault, Memory, OldVersion}
-use Rattle.desk_pages.proofs.Found.{page_stores_of, found_desk, found_after, pages_left, rows_before}
-use Rattle.desk_store.specs.{claim.Keeping.IsLeft, claim.Clerks.{desk_of, disk_of, pages_of, sectors_of, Keeps}, Finding.FindErr, Openings.{IsOldStore, IsFound, OpenRefused}}
-use Rattle.desk_store.{specs.declared.clerk.Clerk.Clerk, proofs.Kept.kept_opens, proofs.Prepared.{IsBegun, begun_reads, begun_rows}}
-
--- why a device is not opened, by what it is like afterwards
-abbrev FindTold : Disk → Disk → StoreError → Type 0
-FindTold old new NotAStore = new.is_honest → AllVersions old → ⊥
-FindTold old new DeviceFault = new.is_honest → old.faults < new.faults
-FindTold old new Memory = new.is_honest → HasPages old new
-FindTold old new OldVersion = new.is_honest → IsOldStore old new × (AllDesks old → ⊥)
-FindTold old new _ = ⊥
 
 pub page_refused : {D : Type 0} (h : Ghosts D) (old new : D) (e : PageError) → OpenErr h old new e → OpenRefused h old new (page_refusal e)
 page_refused h old new page.NotAStore why = λ honest all. why honest (page_stores_of (h.disk old) all)
 page_refused h old new page.DeviceFault why = why
 page_refused h old new page.Memory why = λ honest. let it = why honest in (it.0, it.1.0, it.1.1)
 page_refused h old new _ why = absurd why
-
-pub as_refused : {D : Type 0} (h : Ghosts D) (old new : D) (e : StoreError) → FindTold (h.disk old) (h.disk new) e → OpenRefused h old new e
-as_refused h old new NotAStore told = told
-as_refused h old new _ told = told
 
 opens_left : (halted : Bool) (sectors : ℕ) (d : Desk) (c : Image) → IsLeft halted sectors d c → (e : Desk) × OpensDesk sectors e c
 opens_left halted sectors d c left = elim left [
@@ -55,11 +41,13 @@ pub new_tells : (m : KeyMap) (d : Desk) → IsMapOf true m d → Has m version (
 new_tells m d is = is.tidy.holdings.told ∙ ap version_row is.version
 
 module _ {D : Type 0} {g : Ghosts D} where
-  quiet_holds : (a b : Pages D g) (d : Desk) → IsQuiet a b → (disk_in b).is_honest → InPages a d → InPages b d
-  quiet_holds a b d quiet honest holds = search (rules, quiet.same honest)
+  -- a stop leaves no more of what they were found on where they were read at most
+  module _ (old : Disk) (a b : Pages D g) (quiet : IsQuiet a b) (left : (disk_in a).is_honest → AllStores old → LeavesOnly (ReadsAs old) old (disk_in a)) (honest : (disk_in b).is_honest) where
+    pub moment_quiet : AllDesks old → LeavesOnly (OpensOneOf old) old (disk_in b)
+    moment_quiet all = leaves_quiet a b quiet honest (OpensOneOf old) old (open_leaves old (disk_in a) all (left (quiet.honest honest) (stores_of old (all_versions old all))))
 
-  held_before : (a b : Pages D g) (d : Desk) → IsQuiet a b → (disk_in b).is_honest → InPages b d → InPages a d
-  held_before a b d quiet honest holds = search (rules, quiet.same honest)
+    pub version_quiet : AllVersions old → LeavesOnly (OpensOneAs old) old (disk_in b)
+    version_quiet all = leaves_quiet a b quiet honest (OpensOneAs old) old (open_versions old (disk_in a) all (left (quiet.honest honest) (stores_of old all)))
 
   -- a transaction that was begun reads the rows that are held
   pub rows_begun : (a b : Pages D g) (t : Txn) (m : KeyMap) → IsBegun a t → IsQuiet a b → (disk_in b).is_honest → HasRows a m → TxnHas t (stored a) m
@@ -84,7 +72,8 @@ module _ {D : Type 0} {g : Ghosts D} where
     shown_holds : (disk_of x).is_honest → InPages (pages_of x) (desk_of x)
     shown_holds honest =
         let there : InPages a (found_as honest).1 = subst (λ (b : Bool). InPagesOf b a (found_as honest).1) (is_new honest) (found_holds honest) in
-        subst (λ (d : Desk). InPages (pages_of x) d) (sym (shown_is honest)) (quiet_holds a (pages_of x) (found_as honest).1 quiet honest there)
+        let now : InPages (pages_of x) (found_as honest).1 = search (rules, quiet.same honest) in
+        subst (λ (d : Desk). InPages (pages_of x) d) (sym (shown_is honest)) now
 
     opened_one : (disk_of x).is_honest → IsOneOf old (desk_of x)
     opened_one honest =
@@ -107,7 +96,7 @@ module _ {D : Type 0} {g : Ghosts D} where
       → ((disk_of x).is_honest → (m : KeyMap) → HasRows a m → Has m version (in_four 2)) → (disk_of x).is_honest → IsFound old x
   is_found old a x found quiet read rows told honest = record {
     pages = found_after old a (pages_of x) found quiet honest;
-    shown = λ d holds. read honest (true, d) (held_before a (pages_of x) d quiet honest holds);
+    shown = λ d holds. read honest (true, d) (still_held a (pages_of x) d quiet honest holds);
     read = λ m holds. rows honest m (rows_before a (pages_of x) m quiet honest holds);
     version = λ m holds. told honest m (rows_before a (pages_of x) m quiet honest holds);
   }
@@ -130,41 +119,31 @@ module _ {D : Type 0} {g : Ghosts D} where
   )
 
   pub find_refused : (device : D) (a b : Pages D g) (e : StoreError) → HasRoom (g.disk device).sectors (journal_of a) (count_of a) → ((disk_in a).is_honest → Found (journal_of a) (count_of a) (g.disk device) (disk_in a)) → has_halted a ≡ false
-      → ((disk_in a).is_honest → (disk_in a).faults ≡ (g.disk device).faults) → IsQuiet a b → FindErr a b e → (disk : Disk) → disk_in b ≡ disk → FindTold (g.disk device) disk e
-  find_refused device a b NotAStore room found working passed quiet why disk is = subst (λ (x : Disk). x.is_honest → AllVersions (g.disk device) → ⊥) is (λ honest all. let was = found (quiet.honest honest) in let is = all was.was was.left in why honest is.0 (found_desk (g.disk device) a was room is.0 is.1))
-  find_refused device a b DeviceFault room found working passed quiet why disk is = subst (λ (x : Disk). x.is_honest → (g.disk device).faults < x.faults) is (λ honest. let rises = quiet.rose working why honest in let same = passed (quiet.honest honest) in omega (arith, rises, same))
-  find_refused device a b Memory room found working passed quiet why disk is = subst (λ (x : Disk). x.is_honest → HasPages (g.disk device) x) is (λ honest. pages_left (g.disk device) a b found quiet honest)
-  find_refused device a b OldVersion room found working passed quiet why disk is = subst (λ (x : Disk). x.is_honest → IsOldStore (g.disk device) x × (AllDesks (g.disk device) → ⊥)) is (old_left (g.disk device) a b room found quiet why)
-  find_refused device a b _ room found working passed quiet why disk is = absurd why
+      → ((disk_in a).is_honest → (disk_in a).faults ≡ (g.disk device).faults) → IsQuiet a b → FindErr a b e → DiskRefused (g.disk device) (disk_in b) e
+  find_refused device a b NotAStore room found working passed quiet why = λ honest all. let was = found (quiet.honest honest) in let is = all was.was was.left in why honest is.0 (found_desk (g.disk device) a was room is.0 is.1)
+  find_refused device a b DeviceFault room found working passed quiet why = λ honest. let rises = quiet.rose working why honest in let same = passed (quiet.honest honest) in omega (arith, rises, same)
+  find_refused device a b Memory room found working passed quiet why = λ honest. pages_left (g.disk device) a b found quiet honest
+  find_refused device a b OldVersion room found working passed quiet why = old_left (g.disk device) a b room found quiet why
+  find_refused device a b _ room found working passed quiet why = absurd why
 
   -- ---- why none is read back
-  halts_not : (a b : Pages D g) → has_halted b ≡ false → HasFailed a b → ⊥
-  halts_not a b works failed = let clash : true ≡ false = sym failed.halted ∙ works in cc
-
-  was_halted : (a : Pages D g) → has_halted a ≡ false → has_halted a ≡ true → ⊥
-  was_halted a working on = let clash : true ≡ false = sym on ∙ working in cc
-
   missing_found : (a b : Pages D g) (halted : Bool) → halted ≡ has_halted b → (has_halted b ≡ false → FindErr a b NotAStore) → FindErr a b (missing halted)
   missing_found a b true is none = sym is
   missing_found a b false is none = none (sym is)
 
-  -- no version is told, or the device failed
-  pub version_unread : (a b : Pages D g) (t : Txn) (e : TreeError) (halted : Bool) → IsBegun a t → IsQuiet a b → halted ≡ has_halted b → has_halted a ≡ false → RowErr HasVersion t a b e → FindErr a b (row_refusal e halted)
-  version_unread a b t tree.DeviceFault halted begun quiet is working why = missing_found a b halted is (λ works. absurd (halts_not a b works why))
-  version_unread a b t tree.NotAStore halted begun quiet is working why = missing_found a b halted is (λ works honest x holds.
-      let it = begun_reads a t x.1 begun (quiet.honest honest) holds in
-      why honest it.m it.holds (it.is.tidy.new, it.is.tidy.holdings.told))
-  version_unread a b t tree.Halted halted begun quiet is working why = absurd (was_halted a working why)
-  version_unread a b t _ halted begun quiet is working why = absurd why
-
-  -- nor is the desk
+  -- no desk is, or the device failed
   pub none_read : (a b : Pages D g) (t : Txn) (e : TreeError) (halted : Bool) → IsBegun a t → IsQuiet a b → halted ≡ has_halted b → has_halted a ≡ false → ReadErr t a b e → FindErr a b (row_refusal e halted)
-  none_read a b t tree.DeviceFault halted begun quiet is working why = missing_found a b halted is (λ works. absurd (halts_not a b works why))
+  none_read a b t tree.DeviceFault halted begun quiet is working why = missing_found a b halted is (λ works. both (has_halted b) why.halted works)
   none_read a b t tree.NotAStore halted begun quiet is working why = missing_found a b halted is (λ works honest x holds. why honest x.0 x.1 (begun_reads a t x.1 begun (quiet.honest honest) holds))
-  none_read a b t tree.Halted halted begun quiet is working why = absurd (was_halted a working why)
+  none_read a b t tree.Halted halted begun quiet is working why = both (has_halted a) why working
   none_read a b t tree.Memory true begun quiet is working why = sym is
   none_read a b t tree.Memory false begun quiet is working why = tt
   none_read a b t _ halted begun quiet is working why = absurd why
+
+  -- nor is a version told
+  pub version_unread : (a b : Pages D g) (t : Txn) (e : TreeError) (halted : Bool) → IsBegun a t → IsQuiet a b → halted ≡ has_halted b → has_halted a ≡ false → RowErr HasVersion t a b e → FindErr a b (row_refusal e halted)
+  version_unread a b t e halted begun quiet is working why =
+      none_read a b t e halted begun quiet is working (unread_unopened HasVersion t a a b (passed_none a) quiet (λ honest m x holds of. (of.tidy.new, of.tidy.holdings.told)) e why)
 
   -- ---- what is kept opens again
   pub reopened : (x : Clerk D g) → Keeps x → (disk_of x).is_honest → AllDesks (disk_of x)

@@ -1,21 +1,17 @@
 -- A command whose pages are made ready.
-use Rattle.std.proofs.Common.{rules, ◌≡◌, ◌⊎◌, ◌≤◌, ◌+◌, ℕ, Bool, true, false, List, length, inl, inr, refl, sym, ap, subst, ◌∙◌, arith}
-use Rattle.sector_device.specs.{claim.Disk.Image, declared.SectorDevice.Ghosts}
-use Rattle.page_store.specs.claim.Chain.{free_in, root_in}
+use Rattle.{std.proofs.Common.{rules, ◌≡◌, ◌⊎◌, ◌≤◌, ◌+◌, ℕ, Bool, true, false, List, length, inl, inr, refl, sym, ap, subst, ◌∙◌, arith}, desk_model.specs.claim.Desk.Desk}
+use Rattle.{desk_catalogue.specs.claim.Accepting.IsAfter, desk_model.specs.{claim.{Outcome.{IsFull, RefusalMay}, Room.{need, command_rows}}, declared.command.Command.Command}}
+use Rattle.{desk_pages.specs.claim.{Commits.HoldsAfter, Desks.{IsDeskMap, HoldsDeskOf, InPages, InPagesOf, InTxn, InTxnOf}}, desk_store.specs.Faults.{is_fault, refusal_of}}
+use Rattle.desk_store.specs.claim.{Clerks.{desk_of, disk_of, pages_of, room_of, Keeps, Reads}, Commands.{command_of, after_of, written_of, IsReady, HasRoom, MustBeFull, MayBeFull}}
+use Rattle.{desk_store.{specs.declared.{clerk.Clerk.Clerk, ready.Ready.Ready}, proofs.Kept.accepted_is}, page_btree.specs.claim.Map.{InTxn as TxnHas, InPages as HoldsRows}}
+use Rattle.{page_btree.specs.declared.error.TreeError.{TreeError, TheVariants.{DeviceFault, NotAStore, Halted, NoPages, TooDeep, Memory}}, page_store.specs.Transactions.txn_first}
+use Rattle.{page_store.specs.{claim.Chain.{free_in, root_in}, declared.{pages.Pages.Pages, txn.{Prepared.Prepared, Txn.Txn}}}, plan_revisions.specs.claim.Rows.HasNumbers}
 use Rattle.page_store.specs.claim.Transactions.{stored, disk_in, count_of, has_halted, txn_pages, txn_writes, txn_free, txn_root, over, free_over, prepared_pages, prepared_writes, after, IsQuiet}
-use Rattle.page_store.{specs.Transactions.txn_first, specs.declared.pages.Pages.Pages, specs.declared.txn.Txn.Txn, specs.declared.txn.Prepared.Prepared, proofs.Chains.length_chain}
-use Rattle.page_btree.specs.{claim.Map.{InTxn as TxnHas, InPages as HoldsRows}, declared.error.TreeError.TreeError}
-use Rattle.page_btree.{specs.declared.error.TreeError.TheVariants.{DeviceFault, NotAStore, Halted, NoPages, TooDeep, Memory}, proofs.MapLaws.begun_holds}
-use Rattle.store_rows.specs.claim.Rows.{KeyMap}
-use Rattle.desk_model.specs.{declared.command.Command.Command, claim.Desk.Desk, claim.Outcome.{IsFull, RefusalMay}, claim.Room.{need, command_rows}}
-use Rattle.desk_catalogue.specs.claim.Accepting.{IsAfter}
-use Rattle.plan_revisions.specs.{plan_rows.claim.Outcomes.HasExhausted, plan_rows.declared.change.ChangeOutcome.ChangeOutcome}
-use Rattle.plan_revisions.specs.{plan_rows.declared.change.ChangeOutcome.TheVariants.{Made, NumbersExhausted}, claim.Steps.{HasStepped, IsStepped, LeavesNumbers, StepErr}}
-use Rattle.plan_revisions.{specs.claim.Rows.HasNumbers, proofs.Accepted.{rows_some, geography_stays}}
-use Rattle.desk_pages.{specs.claim.Commits.HoldsAfter, specs.claim.Desks.{IsDeskMap, HoldsDeskOf, InPages, InPagesOf, InTxn, InTxnOf}, proofs.DeskLaws.begun_desk}
-use Rattle.desk_store.specs.{claim.Clerks.{desk_of, disk_of, pages_of, room_of, Keeps, Reads}, declared.ready.Ready.Ready}
-use Rattle.desk_store.specs.{claim.Commands.{command_of, after_of, written_of, IsReady, HasRoom, MustBeFull, MayBeFull}, Faults.{is_fault, refusal_of}, declared.clerk.Clerk.Clerk}
-use Rattle.desk_store.proofs.Kept.{accepted_is}
+use Rattle.plan_revisions.specs.{claim.Steps.{HasStepped, IsStepped, LeavesNumbers, StepErr}, plan_rows.{claim.Outcomes.HasExhausted, declared.change.ChangeOutcome.ChangeOutcome}}
+use Rattle.{plan_revisions.specs.plan_rows.declared.change.ChangeOutcome.TheVariants.{Made, NumbersExhausted}, sector_device.specs.{claim.Disk.Image, declared.SectorDevice.Ghosts}}
+use Rattle.{store_rows.specs.claim.Rows.KeyMap, desk_pages.proofs.{DeskLaws.begun_desk, Found.rows_before}, page_btree.proofs.MapLaws.begun_holds}
+use Rattle.page_store.proofs.Chains.{length_chain}
+use Rattle.{desk_opening.proofs.plan_rows.Committing.both, plan_revisions.proofs.Accepted.{rows_some, geography_stays}}
 
 -- the pages of a prepared transaction, which read what the one before reads with the command's rows
 pub record IsReadied (t : Txn) (made : Prepared) : Type 0 where
@@ -46,12 +42,8 @@ module _ {D : Type 0} {g : Ghosts D} where
   begun_free a t begun honest = sym (length_chain (over t (stored a)) (txn_first t) (txn_free t)) ∙ ap (λ (l : List ℕ). length l) (begun.free honest)
 
   -- a call that read at most leaves what is held
-  still_held : (a b : Pages D g) (d : Desk) → IsQuiet a b → (disk_in b).is_honest → InPages b d → InPages a d
+  pub still_held : (a b : Pages D g) (d : Desk) → IsQuiet a b → (disk_in b).is_honest → InPages b d → InPages a d
   still_held a b d quiet honest holds = search (rules, quiet.same honest)
-
-  -- so do the rows
-  still_rows : (a b : Pages D g) (m : KeyMap) → IsQuiet a b → (disk_in b).is_honest → HoldsRows b m → HoldsRows a m
-  still_rows a b m quiet honest holds = search rules
 
   -- the desk that it holds
   next_held : (x y : Clerk D g) (c : Command) (e : Desk) (t u : Txn) (made : Prepared) → desk_of y ≡ desk_of x → IsBegun (pages_of x) t → IsQuiet (pages_of x) (pages_of y) → HasStepped (λ d. d ≡ desk_of x) (λ d. e) (command_rows (desk_of x) c) t u (pages_of x) (pages_of y)
@@ -85,7 +77,7 @@ module _ {D : Type 0} {g : Ghosts D} where
             let few : length (free_in (stored (pages_of x))) ≤ length (free_in (after (written_of r) (stored (pages_of x)))) + need (desk_of y) (command_of r) = omega arith in
             subst (λ (P : Image). length (free_in P) ≤ length (free_in (after (written_of r) P)) + need (desk_of y) (command_of r)) (sym (quiet.same honest)) few;
         numbers = λ honest exhausted.
-            let holds = begun_rows (pages_of x) t exhausted.m begun (quiet.honest honest) (still_rows (pages_of x) (pages_of y) exhausted.m quiet honest exhausted.holds) in
+            let holds = begun_rows (pages_of x) t exhausted.m begun (quiet.honest honest) (rows_before (pages_of x) (pages_of y) exhausted.m quiet honest exhausted.holds) in
             let enough = did.1 honest exhausted.m exhausted.next holds exhausted.fit exhausted.is_next in
             exhausted.none (subst (λ (d : Desk). HasNumbers d (command_of r) exhausted.next) (sym same) (subst (λ (q : Command). HasNumbers (desk_of x) q exhausted.next) (sym c_is) enough));
       }
@@ -104,9 +96,9 @@ module _ {D : Type 0} {g : Ghosts D} where
 
   pub not_put : (x : Clerk D g) (b : Pages D g) (c : Command) (e : Desk) (t : Txn) (error : TreeError) → IsAfter (desk_of x) c e → HasRoom x (command_rows (desk_of x) c) → x.halted ≡ false → IsBegun (pages_of x) t → IsQuiet (pages_of x) b
       → StepErr (λ d. d ≡ desk_of x) (command_rows (desk_of x) c) t (pages_of x) b error → is_fault error ≡ false → RefusalMay (MustBeFull x c) (MayBeFull x b c) (x.halted ≡ true) (desk_of x) c (refusal_of error) (desk_of x)
-  not_put x b c e t Memory is room working begun quiet why off = (λ on. let clash : true ≡ false = sym on ∙ working in cc, refl)
+  not_put x b c e t Memory is room working begun quiet why off = (λ on. both x.halted on working, refl)
   not_put x b c e t NoPages is room working begun quiet why off = (
-    λ on. let clash : true ≡ false = sym on ∙ working in cc,
+    λ on. both x.halted on working,
     record {
       accepted = accepted_is (desk_of x) c e is;
       no_room = λ keeps honest. absurd (let start = begun_free (pages_of x) t begun (quiet.honest honest) in let enough = room.free working (quiet.honest honest) in omega arith);
@@ -114,7 +106,7 @@ module _ {D : Type 0} {g : Ghosts D} where
     },
   )
   not_put x b c e t TooDeep is room working begun quiet why off = (
-    λ on. let clash : true ≡ false = sym on ∙ working in cc,
+    λ on. both x.halted on working,
     record {
       accepted = accepted_is (desk_of x) c e is;
       no_room = λ keeps honest. inr (inr (record { txn = t; deep = why honest (desk_of x) (begun_reads (pages_of x) t (desk_of x) begun (quiet.honest honest) (keeps.holds working (quiet.honest honest))) }));
@@ -127,7 +119,7 @@ module _ {D : Type 0} {g : Ghosts D} where
   has_failed : (x : Clerk D g) (b : Pages D g) (c : Command) (t : Txn) (error : TreeError) → x.halted ≡ false → Keeps x → (disk_in b).is_honest → IsBegun (pages_of x) t → IsQuiet (pages_of x) b → StepErr (λ d. d ≡ desk_of x) (command_rows (desk_of x) c) t (pages_of x) b error → is_fault error ≡ true → has_halted b ≡ true
   has_failed x b c t DeviceFault working keeps honest begun quiet why fault = why.halted
   has_failed x b c t NotAStore working keeps honest begun quiet why fault = absurd (why honest (desk_of x) (begun_reads (pages_of x) t (desk_of x) begun (quiet.honest honest) (keeps.holds working (quiet.honest honest))) refl)
-  has_failed x b c t Halted working keeps honest begun quiet why fault = absurd (let clash : true ≡ false = sym why ∙ x.working working in cc)
+  has_failed x b c t Halted working keeps honest begun quiet why fault = both (has_halted (pages_of x)) why (x.working working)
   has_failed x b c t _ working keeps honest begun quiet why fault = absurd (cc)
 
   pub fault_reads : (x y : Clerk D g) (c : Command) (t : Txn) (error : TreeError) → x.halted ≡ false → y.halted ≡ true → desk_of y ≡ desk_of x → IsBegun (pages_of x) t → IsQuiet (pages_of x) (pages_of y) → StepErr (λ d. d ≡ desk_of x) (command_rows (desk_of x) c) t (pages_of x) (pages_of y) error

@@ -1,9 +1,8 @@
 -- A clerk whose catalogue was settled: what is shown stays, and so does the clerk.
-use Rattle.std.{specs.Arc.arc_with_value, proofs.Common.{rules, ◌≡◌, Bool, true, false, sym, subst}, proofs.Props.props}
+use Rattle.{std.{specs.Arc.arc_with_value, proofs.{Common.{rules, ◌≡◌, Bool, true, false, sym, subst}, Props.props}}, desk_model.specs.claim.{Desk.Desk, Outcome.RefusalMay}}
+use Rattle.{desk_model.specs.declared.{command.Command.Command, reply.Refusal.Refusal}, desk_store.specs.{claim.Clerks.{desk_of, pages_of, Reads}, declared.clerk.Clerk.Clerk}}
+use Rattle.{desk_store.specs.claim.Commands.{MustBeFull, MayBeFull}, page_store.specs.{claim.Transactions.has_halted, declared.pages.Pages.Pages}}
 use Rattle.sector_device.specs.declared.SectorDevice.{Ghosts}
-use Rattle.page_store.specs.{claim.Transactions.has_halted, declared.pages.Pages.Pages}
-use Rattle.desk_model.specs.{claim.Desk.Desk, claim.Outcome.RefusalMay, declared.command.Command.Command, declared.reply.Refusal.Refusal}
-use Rattle.desk_store.specs.{claim.Clerks.{desk_of, pages_of, Reads}, claim.Commands.{MustBeFull, MayBeFull}, declared.clerk.Clerk.Clerk}
 
 module _ {D : Type 0} {g : Ghosts D} where
   -- the fact that a clerk who works has pages that work has one proof at most

@@ -1,18 +1,15 @@
 -- Sweeps at a clerk.
 use Rattle.std.proofs.Common.{rules, ◌≡◌, ◌⊎◌, ◌<◌, ◌^◌, ℕ, zero, suc, Bool, true, false, List, [], ◌∷◌, Option, Some, ⊎_elim, refl, sym, ap, subst, ◌∙◌, arith}
-use Rattle.sector_device.specs.declared.SectorDevice.{Ghosts}
-use Rattle.page_store.specs.{claim.Transactions.{disk_in, has_halted, IsQuiet, IsSame}, declared.pages.Pages.Pages}
-use Rattle.page_btree.specs.claim.Map.{InPages as HoldsRows}
-use Rattle.desk_model.specs.{claim.Geography.GeographyModel, claim.Desk.Desk}
-use Rattle.store_rows.specs.{claim.Keys.{RowKey, key_of, Fits, begun, seal, block, pair, in_eight}, Holders.released, claim.Rows.{KeyMap, row_in}, Rows.SameTag}
-use Rattle.store_rows.{specs.claim.GeographyRows.IsStaged, specs.TurnLaws.{Turn, goes, lets_go, IsUnneeded, CanTurn, turned, take_turns, AreTurns}, proofs.RowLaws.keys_differ}
-use Rattle.store_rows.proofs.Frames.{remove_keeps, put_keeps_tag, remove_keeps_tag, tag_follows}
-use Rattle.geo_tables.specs.{Loading.{HoldsLoad, number_of, geography_model_of, done_of}, declared.load.Load.Load}
-use Rattle.desk_pages.specs.{claim.Desks.{IsDeskMap, InPages}, declared.error.StoreError.StoreError, declared.error.StoreError.TheVariants.{Memory, NotAStore, Halted}}
-use Rattle.store_sweep.specs.{Leftovers.{IsOfLoad, IsApart, AreNotSpared, IsSweptBy, IsSweptClean}, Sweeping.{SweepErr, Sweeps}}
+use Rattle.{desk_model.specs.claim.{Desk.Desk, Geography.GeographyModel}, desk_pages.specs.{claim.Desks.{IsDeskMap, InPages}, declared.error.StoreError.StoreError}}
+use Rattle.{desk_pages.specs.declared.error.StoreError.TheVariants.{Memory, NotAStore, Halted}, desk_store.specs.{Failures.is_failure, Loads.{Stages, IsLast}}}
+use Rattle.desk_store.specs.{Sweeps.{HasRows, HasSwept, SweepRefused}, claim.Clerks.{desk_of, disk_of, pages_of, HaltsByDevice, Keeps, Reads, Moves}, declared.clerk.Clerk.Clerk}
+use Rattle.{geo_tables.specs.{Loading.{HoldsLoad, number_of, geography_model_of, done_of}, declared.load.Load.Load}, page_btree.specs.claim.Map.InPages as HoldsRows}
+use Rattle.{page_store.specs.{claim.Transactions.{disk_in, has_halted, IsQuiet}, declared.pages.Pages.Pages}, sector_device.specs.declared.SectorDevice.Ghosts}
+use Rattle.store_rows.specs.{Holders.released, Rows.SameTag, TurnLaws.{Turn, goes, lets_go, IsUnneeded, CanTurn, turned, take_turns, AreTurns}, claim.GeographyRows.IsStaged}
+use Rattle.{store_rows.specs.claim.{Keys.{RowKey, key_of, Fits, begun, seal, block, pair, in_eight}, Rows.{KeyMap, row_in}}, store_sweep.specs.Sweeping.{SweepErr, Sweeps}}
+use Rattle.{store_sweep.specs.Leftovers.{IsOfLoad, IsApart, AreNotSpared, IsSweptBy, IsSweptClean}, desk_store.proofs.{Done.reads_move, Loaded.step_stages}}
+use Rattle.store_rows.proofs.{Frames.{remove_keeps, put_keeps_tag, remove_keeps_tag, tag_follows}, RowLaws.keys_differ}
 use Rattle.desk_opening.proofs.plan_rows.Committing.{quiet_rows}
-use Rattle.desk_store.specs.{claim.Clerks.{desk_of, disk_of, pages_of, HaltsByDevice, Keeps, Reads, Moves}, Loads.{Stages, IsLast}, Failures.is_failure}
-use Rattle.desk_store.{specs.Sweeps.{HasRows, HasSwept, SweepRefused}, specs.declared.clerk.Clerk.Clerk, proofs.Done.reads_move}
 
 -- ---- turns leave the rows of a load
 -- a plan that lets a chunk go leaves the rows with other tags
@@ -86,10 +83,8 @@ module _ {D : Type 0} {g : Ghosts D} where
 
   pub swept_stages : (x y : Clerk D g) (count : ℕ) (load : Load) → number_of load < 2 ^ 64 → x.halted ≡ false → desk_of y ≡ desk_of x → ((disk_of y).is_honest → (disk_of x).is_honest) → ((disk_of y).is_honest → Swept x.loading count (pages_of x) (pages_of y))
       → Keeps y → IsLast x load → Stages x load → Stages y load
-  swept_stages x y count load few working desk honest swept later last stages = record {
-    keeps = later;
-    holds = λ off is_honest. subst (λ (d : Desk). HoldsLoad (pages_of y) d load) (sym desk) (load_kept (pages_of x) (pages_of y) (desk_of x) load x.loading count last few (swept is_honest) (stages.holds working (honest is_honest)));
-  }
+  swept_stages x y count load few working desk honest swept later last stages =
+      step_stages x y load working desk honest (λ is_honest d holds. load_kept (pages_of x) (pages_of y) d load x.loading count last few (swept is_honest) holds) (λ (s : Stages x load). s.holds) later stages
 
   pub swept_told : (x y : Clerk D g) (m : KeyMap) (count : ℕ) → desk_of y ≡ desk_of x → y.loading ≡ x.loading → Swept x.loading count (pages_of x) (pages_of y) → HasRows x m → HasSwept x m count y
   swept_told x y m count desk loading swept has =
@@ -117,16 +112,12 @@ module _ {D : Type 0} {g : Ghosts D} where
   quiet_device : (x y : Clerk D g) → IsQuiet (pages_of x) (pages_of y) → HaltsByDevice x y
   quiet_device x y quiet = record { rose = quiet.rose; calm = quiet.calm }
 
-  pub same_device : (x y : Clerk D g) → IsSame (pages_of x) (pages_of y) → HaltsByDevice x y
-  same_device x y same = search rules
-
   pub passed_device : (x y : Clerk D g) → has_halted (pages_of y) ≡ false → ((disk_of y).is_honest → (disk_of y).faults ≡ (disk_of x).faults) → HaltsByDevice x y
   passed_device x y works passed = search rules
 
   pub refused_device : (x y : Clerk D g) (e : StoreError) → SweepErr (pages_of x) (pages_of y) e → HaltsByDevice x y
   refused_device x y Memory why = quiet_device x y why
   refused_device x y NotAStore why = quiet_device x y why.0
-  refused_device x y Halted why = same_device x y why.1
   refused_device x y _ why = search rules
 
   -- and as a refusal of the clerk, who goes on
@@ -137,16 +128,12 @@ module _ {D : Type 0} {g : Ghosts D} where
 
   -- a check that met a fault read at most
   pub checked_failed : (x y : Clerk D g) (e : StoreError) → x.halted ≡ false → desk_of y ≡ desk_of x → IsQuiet (pages_of x) (pages_of y) → SweepErr (pages_of x) (pages_of y) e → (is_failure e ≡ true) ⊎ (has_halted (pages_of y) ≡ true) → Moves (desk_of x) x y
-  checked_failed x y e working desk quiet why on =
-      let reads : Reads x y = search (rules, sweep_rose) in
-      reads_move (desk_of x) x y reads
+  checked_failed x y e working desk quiet why on = let reads : Reads x y = search (rules, sweep_rose) in reads_move (desk_of x) x y reads
 
   -- a load that is under way stays so where nothing was committed, and where the clerk halts
   pub still_stages : (x y : Clerk D g) (load : Load) → x.halted ≡ false → desk_of y ≡ desk_of x → IsQuiet (pages_of x) (pages_of y) → Keeps y → Stages x load → Stages y load
-  still_stages x y load working desk quiet later stages = record {
-    keeps = later;
-    holds = λ off is_honest. subst (λ (d : Desk). HoldsLoad (pages_of y) d load) (sym desk) (load_still (pages_of x) (pages_of y) (desk_of x) load quiet is_honest (stages.holds working (quiet.honest is_honest)));
-  }
+  still_stages x y load working desk quiet later stages =
+      step_stages x y load working desk quiet.honest (λ is_honest d holds. load_still (pages_of x) (pages_of y) d load quiet is_honest holds) (λ (s : Stages x load). s.holds) later stages
 
   pub halted_stages : (y : Clerk D g) (load : Load) → y.halted ≡ true → Keeps y → Stages y load
   halted_stages y load on later = search rules

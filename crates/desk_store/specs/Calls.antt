@@ -1,15 +1,11 @@
 -- What calls of a clerk leave, each in one relation.
 use Rattle.std.specs.Prelude.{◌≡◌, false, OnOk, IfOk, IfErr, ◌≢◌, ◌≤◌, None, Result, ◌+◌, OnErr, ℕ, ◌↔◌}
-use Rattle.desk_store.specs.{claim.Clerks.{desk_of, disk_of, is_halted, sectors_of, Keeps, pages_of, MovesIf, free_of, HaltsByDevice}, Openings.{IsFound, OpenRefused}}
-use Rattle.desk_store.specs.{claim.Openings.device_after, declared.clerk.Clerk.Clerk, Loads.{Loads, Stages, IsLast, BatchRefused, SealRefused}, Keeping.sealed_desk}
-use Rattle.desk_store.specs.Sweeps.{HasRows, IsClean, HasSwept, Maintains}
-use Rattle.desk_pages.specs.{claim.Openings.{AllVersions, IsOneOf, LeavesOneAs}, Openings.{IsSpared, LeavesOneOf}, declared.error.StoreError.StoreError}
-use Rattle.desk_pages.specs.declared.error.StoreError.TheVariants.{DeviceFault, NotAStore}
-use Rattle.sector_device.specs.declared.SectorDevice.{Ghosts}
-use Rattle.store_rows.specs.{claim.GeographyRows.geography_rows, claim.Rows.KeyMap}
-use Rattle.geo_tables.specs.{Loading.{IsFurther, geography_model_of, done_of}, declared.load.Load.Load}
-use Rattle.page_store.specs.claim.Transactions.{IsQuiet}
-use Rattle.page_btree.specs.claim.Map.{InPages as HoldsRows}
+use Rattle.desk_pages.specs.{Openings.{IsSpared, LeavesOneOf}, claim.Openings.{AllVersions, IsOneOf, LeavesOneAs}, declared.error.StoreError.StoreError}
+use Rattle.{desk_pages.specs.declared.error.StoreError.TheVariants.{DeviceFault, NotAStore}, desk_store.specs.{Keeping.sealed_desk, Openings.{IsFound, OpenRefused}}}
+use Rattle.desk_store.specs.{Loads.{Loads, Stages, IsLast, BatchRefused, SealRefused}, Sweeps.{HasRows, IsClean, HasSwept, Maintains}, claim.Openings.device_after}
+use Rattle.desk_store.specs.{claim.Clerks.{desk_of, disk_of, is_halted, sectors_of, Keeps, pages_of, MovesIf, free_of, HaltsByDevice}, declared.clerk.Clerk.Clerk}
+use Rattle.{geo_tables.specs.{Loading.{IsFurther, geography_model_of, done_of}, declared.load.Load.Load}, page_btree.specs.claim.Map.InPages as HoldsRows}
+use Rattle.{page_store.specs.claim.Transactions.IsQuiet, sector_device.specs.declared.SectorDevice.Ghosts, store_rows.specs.claim.{GeographyRows.geography_rows, Rows.KeyMap}}
 use Rattle.store_sweep.specs.claim.Checks.{AreSoundHoldings}
 
 -- a clerk is opened over a desk that the device holds, or the device comes back; a stop leaves a desk that was there

@@ -1,9 +1,7 @@
 -- How what a clerk made is told apart.
-use Rattle.std.specs.{Prelude.refl, Coded.{Coded, code_by, coded×}}
-use Rattle.desk_model.specs.contracts.command.Command as command
-use Rattle.desk_model.specs.{declared.command.Command.Command, claim.Desk.Desk}
-use Rattle.desk_catalogue.specs.Codes.{coded_desk}
+use Rattle.{std.specs.{Coded.{Coded, code_by, coded×}, Prelude.refl}, desk_catalogue.specs.Codes.coded_desk, desk_model.specs.{claim.Desk.Desk, declared.command.Command.Command}}
 use Rattle.desk_store.specs.Changes.{Made}
+use Rattle.desk_model.specs.contracts.command.Command as command
 
 abbrev pub coded_made : Coded Made
 coded_made = code_by (Command × Desk) (coded× command.the_row.coded coded_desk)

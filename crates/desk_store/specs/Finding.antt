@@ -1,11 +1,8 @@
 -- Why no desk of the new version is found in pages.
 use Rattle.std.specs.Prelude.{◌≡◌, Bool, true}
-use Rattle.sector_device.specs.declared.SectorDevice.{Ghosts}
-use Rattle.desk_model.specs.claim.Desk.{Desk}
-use Rattle.page_store.specs.{claim.Transactions.{disk_in, has_halted}, declared.pages.Pages.Pages}
-use Rattle.page_btree.specs.claim.Map.{InPages as HasRows}
-use Rattle.store_rows.specs.{claim.Keys.version, claim.Rows.{KeyMap, Lacks}}
-use Rattle.desk_pages.specs.{Desks.InPagesAs, declared.error.StoreError.StoreError, declared.error.StoreError.TheVariants.{NotAStore, DeviceFault, Memory, OldVersion}}
+use Rattle.{desk_model.specs.claim.Desk.Desk, desk_pages.specs.{Desks.InPagesAs, declared.error.StoreError.{StoreError, TheVariants.{NotAStore, DeviceFault, Memory, OldVersion}}}}
+use Rattle.{page_btree.specs.claim.Map.InPages as HasRows, page_store.specs.{claim.Transactions.{disk_in, has_halted}, declared.pages.Pages.Pages}}
+use Rattle.{sector_device.specs.declared.SectorDevice.Ghosts, store_rows.specs.claim.{Keys.version, Rows.{KeyMap, Lacks}}}
 
 -- the pages hold no desk, the device failed, a growth was refused, or the rows tell no version
 abbrev pub FindErr : {D : Type 0} {g : Ghosts D} → Pages D g → Pages D g → StoreError → Type 0

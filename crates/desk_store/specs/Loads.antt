@@ -1,11 +1,9 @@
 -- Loads at a clerk.
 use Rattle.std.specs.Prelude.{◌≡◌, ℕ, Bool, true, false, Some, None, Result, OnOk, OnErr}
-use Rattle.sector_device.specs.declared.SectorDevice.{Ghosts}
-use Rattle.page_store.specs.{claim.Transactions.{disk_in, has_halted, IsQuiet}, declared.pages.Pages.Pages}
-use Rattle.desk_model.specs.claim.Geography.{GeographyModel}
-use Rattle.geo_tables.specs.{declared.load.Load.Load, Loading.{HoldsLoad, number_of}, Refusals.{BeginErr, BatchErr, SealErr}}
-use Rattle.desk_store.specs.{declared.clerk.Clerk.Clerk, claim.Clerks.{desk_of, disk_of, pages_of, Keeps}}
-use Rattle.desk_pages.specs.{declared.error.StoreError.StoreError, declared.error.StoreError.TheVariants.{AlreadySealed, Full, Memory, NotAStore, Halted, Ended}}
+use Rattle.{desk_model.specs.claim.Geography.GeographyModel, desk_pages.specs.declared.error.StoreError.StoreError, desk_store.specs.declared.clerk.Clerk.Clerk}
+use Rattle.{desk_pages.specs.declared.error.StoreError.TheVariants.{AlreadySealed, Full, Memory, NotAStore, Halted, Ended}, geo_tables.specs.Loading.{HoldsLoad, number_of}}
+use Rattle.{desk_store.specs.claim.Clerks.{desk_of, disk_of, pages_of, Keeps}, geo_tables.specs.{Refusals.{BeginErr, BatchErr, SealErr}, declared.load.Load.Load}}
+use Rattle.{page_store.specs.{claim.Transactions.{disk_in, has_halted, IsQuiet}, declared.pages.Pages.Pages}, sector_device.specs.declared.SectorDevice.Ghosts}
 
 module _ {D : Type 0} {g : Ghosts D} where
   -- the store holds what is staged of the load, beside the desk that is shown
@@ -45,25 +43,23 @@ module _ {D : Type 0} {g : Ghosts D} where
   EndRefused load x Halted = x.halted ≡ true
   EndRefused load x _ = ⊥
 
+  -- nor with this step, where the pages tell why
+  abbrev pub StepRefused : (StoreError → Type 0) → Load → Clerk D g → StoreError → Bool → Pages D g → Type 0
+  StepRefused why load x AlreadySealed halted b = HasGeography x
+  StepRefused why load x Full halted b = (halted ≡ false) × why Full
+  StepRefused why load x Memory halted b = (halted ≡ false) × IsQuiet (pages_of x) b
+  StepRefused why load x NotAStore halted b = (halted ≡ false) × why NotAStore
+  StepRefused why load x Halted halted b = HasHalted x halted b
+  StepRefused why load x Ended halted b = HasEnded x load
+  StepRefused why load x _ halted b = ⊥
+
   -- why no rows of it are staged
   abbrev pub BatchRefused : Load → ℕ → Clerk D g → StoreError → Bool → Pages D g → Type 0
-  BatchRefused load rows x AlreadySealed halted b = HasGeography x
-  BatchRefused load rows x Full halted b = (halted ≡ false) × BatchErr load rows (pages_of x) b Full
-  BatchRefused load rows x Memory halted b = (halted ≡ false) × IsQuiet (pages_of x) b
-  BatchRefused load rows x NotAStore halted b = (halted ≡ false) × BatchErr load rows (pages_of x) b NotAStore
-  BatchRefused load rows x Halted halted b = HasHalted x halted b
-  BatchRefused load rows x Ended halted b = HasEnded x load
-  BatchRefused load rows x _ halted b = ⊥
+  BatchRefused load rows x e halted b = StepRefused (BatchErr load rows (pages_of x) b) load x e halted b
 
   -- why it is not sealed
   abbrev pub SealRefused : Load → Clerk D g → StoreError → Bool → Pages D g → Type 0
-  SealRefused load x AlreadySealed halted b = HasGeography x
-  SealRefused load x Full halted b = (halted ≡ false) × SealErr load (pages_of x) b Full
-  SealRefused load x Memory halted b = (halted ≡ false) × IsQuiet (pages_of x) b
-  SealRefused load x NotAStore halted b = (halted ≡ false) × SealErr load (pages_of x) b NotAStore
-  SealRefused load x Halted halted b = HasHalted x halted b
-  SealRefused load x Ended halted b = HasEnded x load
-  SealRefused load x _ halted b = ⊥
+  SealRefused load x e halted b = StepRefused (SealErr load (pages_of x) b) load x e halted b
 
   -- a call of a load that shows no new desk; a refusal, but for a fault, leaves the pages as they were
   pub record Loads {A : Type 0} (x y : Clerk D g) (result : Result A StoreError) : Type 0 where

@@ -1,14 +1,10 @@
 -- What no promise rests on, beside claim/Openings.antt.
 use Rattle.std.specs.Prelude.{◌≡◌, ◌<◌, ℕ}
-use Rattle.sector_device.specs.{claim.Disk.Disk, declared.SectorDevice.Ghosts}
-use Rattle.desk_model.specs.claim.Desk.{Desk}
-use Rattle.page_store.specs.{gate_journal.Recovery.Found, gate_journal.claim.Store.pages, claim.Chain.{root_in, free_in}, claim.Transactions.{count_of, journal_of}}
-use Rattle.page_btree.specs.claim.Map.{Holds, InPages as HasRows}
-use Rattle.store_rows.specs.{claim.Keys.{version, in_four}, claim.Rows.{KeyMap, Has, Lacks}}
-use Rattle.desk_opening.specs.Opening.{IsReadFrom}
-use Rattle.desk_pages.specs.{claim.Desks.InPages, Openings.{AllDesks, HasPages}, claim.Openings.AllVersions, declared.error.StoreError.StoreError}
-use Rattle.desk_pages.specs.declared.error.StoreError.TheVariants.{NotAStore, DeviceFault, Memory, OldVersion}
-use Rattle.desk_store.specs.{claim.Clerks.{desk_of, disk_of, pages_of}, declared.clerk.Clerk.Clerk}
+use Rattle.{desk_model.specs.claim.Desk.Desk, desk_opening.specs.Opening.IsReadFrom, desk_pages.specs.{Openings.{AllDesks, HasPages}, claim.{Desks.InPages, Openings.AllVersions}}}
+use Rattle.{desk_pages.specs.declared.error.StoreError.{StoreError, TheVariants.{NotAStore, DeviceFault, Memory, OldVersion}}, desk_store.specs.declared.clerk.Clerk.Clerk}
+use Rattle.{desk_store.specs.claim.Clerks.{desk_of, disk_of, pages_of}, page_btree.specs.claim.Map.{Holds, InPages as HasRows}, page_store.specs.claim.Chain.{root_in, free_in}}
+use Rattle.{page_store.specs.{claim.Transactions.{count_of, journal_of}, gate_journal.{Recovery.Found, claim.Store.pages}}, sector_device.specs.claim.Disk.Disk}
+use Rattle.{sector_device.specs.declared.SectorDevice.Ghosts, store_rows.specs.claim.{Keys.{version, in_four}, Rows.{KeyMap, Has, Lacks}}}
 
 -- the pages of a store that was there, as they were, whose rows tell no version
 pub record IsOldStore (old new : Disk) : Type 0 where
@@ -25,13 +21,16 @@ pub record IsFound {D : Type 0} {g : Ghosts D} (old : Disk) (x : Clerk D g) : Ty
   pub read : (m : KeyMap) → HasRows (pages_of x) m → IsReadFrom m (desk_of x)
   pub version : (m : KeyMap) → HasRows (pages_of x) m → Has m version (in_four 2)
 
--- why a device is not opened
+-- why a device is not opened, by what it is like before and after
+abbrev pub DiskRefused : Disk → Disk → StoreError → Type 0
+DiskRefused old new NotAStore = new.is_honest → AllVersions old → ⊥
+DiskRefused old new DeviceFault = new.is_honest → old.faults < new.faults
+DiskRefused old new Memory = new.is_honest → HasPages old new
+DiskRefused old new OldVersion = new.is_honest → IsOldStore old new × (AllDesks old → ⊥)
+DiskRefused old new _ = ⊥
+
 abbrev pub OpenRefused : {D : Type 0} (g : Ghosts D) → D → D → StoreError → Type 0
-OpenRefused g old new NotAStore = (g.disk new).is_honest → AllVersions (g.disk old) → ⊥
-OpenRefused g old new DeviceFault = (g.disk new).is_honest → (g.disk old).faults < (g.disk new).faults
-OpenRefused g old new Memory = (g.disk new).is_honest → HasPages (g.disk old) (g.disk new)
-OpenRefused g old new OldVersion = (g.disk new).is_honest → IsOldStore (g.disk old) (g.disk new) × (AllDesks (g.disk old) → ⊥)
-OpenRefused g old new _ = ⊥
+OpenRefused g old new e = DiskRefused (g.disk old) (g.disk new) e
 
 -- What a clerk's store keeps opens again, whenever a stop comes.
 abbrev pub Reopens : {D : Type 0} {g : Ghosts D} → Clerk D g → Type 0

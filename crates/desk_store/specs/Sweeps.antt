@@ -1,12 +1,9 @@
 -- Sweeps at a clerk.
 use Rattle.std.specs.Prelude.{◌≡◌, ◌<◌, ℕ, Bool, true, false, Result, OnOk, IfErr}
-use Rattle.sector_device.specs.declared.SectorDevice.{Ghosts}
-use Rattle.page_store.specs.{claim.Transactions.{disk_in, IsQuiet}, declared.pages.Pages.Pages}
-use Rattle.page_btree.specs.claim.Map.{InPages as HoldsRows}
-use Rattle.store_rows.specs.claim.Rows.{KeyMap}
-use Rattle.desk_pages.specs.{claim.Desks.{IsDeskMap, InPages}, declared.error.StoreError.StoreError, declared.error.StoreError.TheVariants.{Memory, NotAStore, DeviceFault, Halted}}
-use Rattle.store_sweep.specs.Leftovers.{IsSweptBy, IsSweptClean}
-use Rattle.desk_store.specs.{declared.clerk.Clerk.Clerk, claim.Clerks.{desk_of, pages_of, Moves}}
+use Rattle.desk_pages.specs.{claim.Desks.{IsDeskMap, InPages}, declared.error.StoreError.{StoreError, TheVariants.{Memory, NotAStore, DeviceFault, Halted}}}
+use Rattle.{desk_store.specs.{claim.Clerks.{desk_of, pages_of, Moves}, declared.clerk.Clerk.Clerk}, page_btree.specs.claim.Map.InPages as HoldsRows}
+use Rattle.{page_store.specs.{claim.Transactions.{disk_in, IsQuiet}, declared.pages.Pages.Pages}, sector_device.specs.declared.SectorDevice.Ghosts}
+use Rattle.{store_rows.specs.claim.Rows.KeyMap, store_sweep.specs.Leftovers.{IsSweptBy, IsSweptClean}}
 
 module _ {D : Type 0} {g : Ghosts D} where
   -- the store holds these rows, which are those of the desk that is shown

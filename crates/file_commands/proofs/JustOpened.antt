@@ -1,12 +1,9 @@
 -- Each premise is met of a device just opened.
-use Rattle.std.proofs.Common.{ℕ, Bool, true, sym, subst}
-use Rattle.sector_device.specs.{claim.Disk.{Disk, Image}, declared.SectorDevice.Ghosts}
-use Rattle.desk_model.specs.claim.Desk.{Desk}
-use Rattle.desk_pages.specs.claim.Desks.{OpensAs, OpensDeskOf}
-use Rattle.desk_store.specs.declared.clerk.Clerk.{Clerk}
-use Rattle.store_command.{specs.Reading.ShowsWhatIsRead, specs.desk_loading.Openings.IsOpened, proofs.Read.{all_either, all_new, all_old, left_opens}}
+use Rattle.{std.proofs.Common.{ℕ, Bool, true, sym, subst}, desk_model.specs.claim.Desk.Desk, desk_pages.specs.claim.Desks.{OpensAs, OpensDeskOf}}
+use Rattle.{desk_store.specs.declared.clerk.Clerk.Clerk, file_commands.specs.Premises.{IsJustOpened, MeetsPremises, HasNoPremise}, sector_device.specs.claim.Disk.{Disk, Image}}
+use Rattle.{sector_device.specs.declared.SectorDevice.Ghosts, store_command.specs.{Reading.ShowsWhatIsRead, desk_loading.Openings.IsOpened}}
+use Rattle.store_command.proofs.Read.{all_either, all_new, all_old, left_opens}
 use Rattle.store_command.proofs.desk_runs.One.{in_either}
-use Rattle.file_commands.specs.Premises.{IsJustOpened, MeetsPremises, HasNoPremise}
 
 module _ (held : ℕ → Image) (disk : Disk) (just : IsJustOpened held disk) where
   -- what the file held is read

@@ -1,10 +1,7 @@
 -- An audit of the files at some paths.
-use Rattle.std.specs.Prelude.{ℕ, List, Result}
-use Rattle.byte_stream.specs.declared.source.Source.{Ghosts}
-use Rattle.check_command.specs.claim.Auditing.{Audits, AuditsBy}
-use Rattle.command_line.specs.declared.options.Terms.{Terms}
-use Rattle.command_output.specs.{claim.Writing.Written, declared.status.Status.Status}
-use Rattle.state_files.specs.{declared.fault.OpenFault.OpenFault, declared.open.AuditFiles.AuditFiles, declared.open.AuditPaths.AuditPaths, Opens.OpensAudit}
+use Rattle.{std.specs.Prelude.{ℕ, List, Result}, byte_stream.specs.declared.source.Source.Ghosts, check_command.specs.claim.Auditing.{Audits, AuditsBy}}
+use Rattle.{command_line.specs.declared.options.Terms.Terms, command_output.specs.{claim.Writing.Written, declared.status.Status.Status}, state_files.specs.Opens.OpensAudit}
+use Rattle.state_files.specs.{declared.fault.OpenFault.OpenFault, declared.open.{AuditFiles.AuditFiles, AuditPaths.AuditPaths}}
 
 -- The files were opened by their paths, and audited by so many workers as the plan of a kind that the terms name, with their number of
 -- districts.

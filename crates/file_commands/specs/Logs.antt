@@ -1,5 +1,5 @@
 -- How the file of a log is opened.
-use Rattle.std.specs.{Prelude.{◌≡◌, ℕ, List, true, false}, Fs.{asks_append, asks_truncate, asks_create, asks_create_new}, declared.fs.options.OpenOptions.OpenOptions}
+use Rattle.std.specs.{Fs.{asks_append, asks_truncate, asks_create, asks_create_new}, Prelude.{◌≡◌, ℕ, List, true, false}, declared.fs.options.OpenOptions.OpenOptions}
 
 -- what it has stays, and each write adds to it; and it is made where there is none
 pub record AddsLines (how : OpenOptions) : Type 0 where

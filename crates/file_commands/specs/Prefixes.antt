@@ -1,5 +1,5 @@
 -- What is told of a file's prefix, where its first line isn't the one that was looked for.
-use Rattle.std.specs.{Prelude.{ℕ, Bool, false, ◌==◌, ◌||◌, if◌then◌else◌, List, [], ◌∷◌, ◌++◌, map, take, length, codes}, Char.is_ascii_graphic, Str.bytes_eq}
+use Rattle.std.specs.{Char.is_ascii_graphic, Prelude.{ℕ, Bool, false, ◌==◌, ◌||◌, if◌then◌else◌, List, [], ◌∷◌, ◌++◌, map, take, length, codes}, Str.bytes_eq}
 
 -- a byte as it is shown: a printable one as it is, and any other as a point
 abbrev pub shown : ℕ → ℕ

@@ -1,10 +1,9 @@
 -- What is known of a device just opened, and that each premise of what is proved of commands is met of it.
 use Rattle.std.specs.Prelude.{◌≡◌, ℕ, Bool, true, false}
-use Rattle.sector_device.specs.{claim.Disk.{Disk, Image}, Disk.IsSynced, declared.SectorDevice.Ghosts}
-use Rattle.desk_model.specs.claim.Desk.{Desk}
-use Rattle.desk_pages.specs.{claim.Desks.OpensAs, Openings.{AllDesks, AllOld}, claim.Openings.AllVersions}
-use Rattle.desk_store.specs.{declared.clerk.Clerk.Clerk, claim.Clerks.{desk_of, disk_of, is_halted, Keeps}}
-use Rattle.store_command.specs.{Reading.{ReadsDesk, ReadsOld}, desk_runs.claim.Recovery.HoldsEither, desk_loading.Openings.IsOpened}
+use Rattle.{desk_model.specs.claim.Desk.Desk, desk_pages.specs.{Openings.{AllDesks, AllOld}, claim.{Desks.OpensAs, Openings.AllVersions}}, sector_device.specs.Disk.IsSynced}
+use Rattle.{desk_store.specs.{claim.Clerks.{desk_of, disk_of, is_halted, Keeps}, declared.clerk.Clerk.Clerk}, sector_device.specs.claim.Disk.{Disk, Image}}
+use Rattle.{sector_device.specs.declared.SectorDevice.Ghosts, store_command.specs.{Reading.{ReadsDesk, ReadsOld}, desk_loading.Openings.IsOpened}}
+use Rattle.store_command.specs.desk_runs.claim.Recovery.{HoldsEither}
 
 -- It keeps to the model of a device, a stop leaves what it reads, and it reads what the file of so many sectors held.
 pub record IsJustOpened (held : ℕ → Image) (disk : Disk) : Type 0 where

@@ -1,17 +1,14 @@
 -- A neighbour file as a whole: its header, its words and its end.
-use Rattle.std.specs.{declared.alloc.Global.Global, Io.KnownBytes.{Consumes, IsAtEnd}, Str.Lines.strip_carriage_return}
+use Rattle.{std.{specs.{Io.KnownBytes.{Consumes, IsAtEnd}, Str.Lines.strip_carriage_return, declared.alloc.Global.Global}, proofs.lemmas.Bool.lt-ltb}, gal_text.specs.Holding.Holds}
 use Rattle.std.proofs.Common.{◌≡◌, ℕ, ◌+◌, ◌<◌, ◌≤◌, Bool, true, cond, List, [], ◌∷◌, ◌++◌, length, Vec, Option, Result, Ok, Err, refl, sym, ap, subst, ◌∙◌, arith, append_assoc, length-append, inl, inr, ⊎_elim, rules}
-use Rattle.std.proofs.lemmas.Bool.{lt-ltb}
-use Rattle.byte_stream.specs.{claim.Words.words, Reading.{Reading, IsLastLine, IsTooLong, Gives, CountsFrom}, claim.Reading.{NoLineFeed, BeginsWithLine, line_limit, turn_limit}}
-use Rattle.byte_stream.{specs.declared.reader.ReadFault.ReadFault, proofs.WordLaws.words-none, proofs.ReadingLemmas.Consumes-then, proofs.BufferLemmas.strip_shorter}
-use Rattle.byte_stream.proofs.JudgedLemmas.{cut_or_one, NoLineFeed-append, long_part}
+use Rattle.byte_stream.specs.{Reading.{Reading, IsLastLine, IsTooLong, Gives, CountsFrom}, claim.{Reading.{NoLineFeed, BeginsWithLine, line_limit, turn_limit}, Words.words}}
+use Rattle.{byte_stream.{specs.declared.reader.ReadFault.ReadFault, proofs.BufferLemmas.strip_shorter}, desk_model.specs.{claim.Geography.ids_of, declared.block.BlockRow.BlockRow}}
+use Rattle.gal_text.specs.{Parts.{AreCutWords, ReadsWords, IsGraph, ReadsGraph, Begins, Finishes, refused, read_told}, declared.fault.{GalFault.GalFault, TextFault.TextFault}}
+use Rattle.gal_text.specs.{claim.GalFile.{HasHeader, Says, IsCutInWords, IsRead, failures_after_file}, declared.fault.TextFault.TheVariants.{Header, EndsEarly}}
+use Rattle.gal_text.specs.{claim.Units.{Progress, at_start, words_read, count_of_words, header_count, from_count, progress_after, is_done}, declared.units.Graph.Graph}
+use Rattle.{gal_text.specs.declared.units.UnitRefusal.UnitRefusal, byte_stream.proofs.{JudgedLemmas.{cut_or_one, NoLineFeed-append, long_part}, ReadingLemmas.Consumes-then}}
+use Rattle.byte_stream.proofs.WordLaws.{words-none}
 use Rattle.byte_stream.specs.declared.reader.ReadFault.TheVariants as read
-use Rattle.desk_model.specs.{claim.Geography.ids_of, declared.block.BlockRow.BlockRow}
-use Rattle.gal_text.specs.{claim.Units.{Progress, at_start, words_read, count_of_words, header_count, from_count, progress_after, is_done}, Holding.Holds}
-use Rattle.gal_text.specs.claim.GalFile.{HasHeader, Says, IsCutInWords, IsRead, failures_after_file}
-use Rattle.gal_text.specs.{Parts.{AreCutWords, ReadsWords, IsGraph, ReadsGraph, Begins, Finishes, refused, read_told}, declared.fault.TextFault.TextFault}
-use Rattle.gal_text.specs.{declared.fault.TextFault.TheVariants.{Header, EndsEarly}, declared.fault.GalFault.GalFault, declared.units.Graph.Graph}
-use Rattle.gal_text.specs.declared.units.UnitRefusal.{UnitRefusal}
 use Rattle.gal_text.specs.declared.fault.GalFault.TheVariants as fault
 use Rattle.gal_text.specs.declared.units.UnitRefusal.TheVariants as refusal
 

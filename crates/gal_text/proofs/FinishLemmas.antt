@@ -1,13 +1,9 @@
 -- What the marks and the links say once all words are read.
-use Rattle.std.specs.{declared.alloc.Global.Global, List.Sorted.IsStrictlyIncreasing}
+use Rattle.std.{specs.{List.Sorted.IsStrictlyIncreasing, declared.alloc.Global.Global}, proofs.lemmas.{Bool.cases_lt, Grind.get_or_default_zero, List.{length-map, get_or-map}}}
 use Rattle.std.proofs.Common.{◌≡◌, ℕ, ◌<◌, ◌≤◌, Bool, true, false, List, length, get_or, Vec, Result, Ok, Err, All, Contains, sym, ap, subst, ◌∙◌, arith, ⊎_elim, rules}
-use Rattle.std.proofs.lemmas.Bool.{cases_lt}
-use Rattle.std.proofs.lemmas.List.{length-map, get_or-map}
-use Rattle.std.proofs.lemmas.Grind.{get_or_default_zero}
-use Rattle.std.proofs.lemmas.Map.Keys.{sorted_from_strictly_increasing, below_from_sorted}
-use Rattle.desk_model.specs.{claim.Geography.{ids_of, id_at}, declared.block.BlockRow.BlockRow}
-use Rattle.gal_text.specs.{claim.Units.{Progress, has_number, is_done}, claim.Links.{AreComplete, IsLeastMissing, AreMutual, ArePairsOf}, Links.IsFirstFalse, Holding.Holds}
-use Rattle.gal_text.specs.{Parts.{PairsUp, Finishes}, declared.fault.GalFault.GalFault, declared.units.Link.Link, declared.units.Graph.Graph}
+use Rattle.{std.proofs.lemmas.Map.Keys.{sorted_from_strictly_increasing, below_from_sorted}, desk_model.specs.{claim.Geography.{ids_of, id_at}, declared.block.BlockRow.BlockRow}}
+use Rattle.gal_text.specs.{Holding.Holds, Links.IsFirstFalse, Parts.{PairsUp, Finishes}, claim.Links.{AreComplete, IsLeastMissing, AreMutual, ArePairsOf}, declared.units.Link.Link}
+use Rattle.gal_text.specs.{claim.Units.{Progress, has_number, is_done}, declared.{fault.GalFault.GalFault, units.Graph.Graph}}
 use Rattle.gal_text.proofs.RelationLemmas.{contains_from_has, not_contains}
 use Rattle.gal_text.specs.declared.fault.GalFault.TheVariants as fault
 

@@ -1,16 +1,11 @@
 -- What the units' state holds, word by word.
-use Rattle.std.specs.{declared.alloc.Global.Global, List.Sorted.IsStrictlyIncreasing}
+use Rattle.std.{specs.{List.Sorted.IsStrictlyIncreasing, declared.alloc.Global.Global}, proofs.{Math.ListN.drop_of_length-le, lemmas.Bool.{eqb-true, cases_lt, le-ltb}}}
 use Rattle.std.proofs.Common.{◌≡◌, ℕ, ◌-◌, ◌<◌, ◌≤◌, Bool, true, false, cond, ◌&&◌, ◌||◌, eqb, List, [], ◌∷◌, ◌++◌, length, get_or, set, vec_len, Vec, Option, Some, None, Result, Ok, Err, All, Contains, refl, sym, ap, subst, ◌∙◌, arith, eq-eqb, rules}
-use Rattle.std.proofs.Math.ListN.{drop_of_length-le}
-use Rattle.std.proofs.lemmas.Bool.{eqb-true, cases_lt, le-ltb}
-use Rattle.std.proofs.lemmas.List.{length-map, get_or-set_other, get_or_read}
-use Rattle.std.proofs.lemmas.Grind.{get_or-set_at}
-use Rattle.std.proofs.lemmas.List.Folds.{list_any-append, list_any_none}
-use Rattle.std.proofs.lemmas.Map.Keys.{sorted_from_strictly_increasing, below_from_sorted}
-use Rattle.desk_model.specs.{claim.Geography.{ids_of, id_at}, declared.block.BlockRow.BlockRow}
+use Rattle.std.proofs.lemmas.{Grind.get_or-set_at, List.{length-map, get_or-set_other, get_or_read, Folds.{list_any-append, list_any_none}}}
+use Rattle.{std.proofs.lemmas.Map.Keys.{sorted_from_strictly_increasing, below_from_sorted}, desk_model.specs.{claim.Geography.{ids_of, id_at}, declared.block.BlockRow.BlockRow}}
+use Rattle.gal_text.specs.{Holding.{AreFromUnits, IsAtHand, HasUnit, Holds, Meets}, declared.{fault.TextFault.TheVariants.TooManyNeighbours, units.{Awaited.Awaited, Graph.Graph}}}
 use Rattle.gal_text.specs.claim.Units.{Progress, has_number, lists, known, block_of, neighbours_left, unit_read, count_read, neighbour_limit, word_awaited, word_read}
-use Rattle.gal_text.specs.{Holding.{AreFromUnits, IsAtHand, HasUnit, Holds, Meets}, declared.fault.TextFault.TheVariants.TooManyNeighbours, declared.units.Link.Link}
-use Rattle.gal_text.{specs.declared.units.Awaited.Awaited, specs.declared.units.Graph.Graph, specs.declared.units.UnitRefusal.UnitRefusal, proofs.RelationLemmas.has_not}
+use Rattle.gal_text.{specs.declared.units.{Link.Link, UnitRefusal.UnitRefusal}, proofs.RelationLemmas.has_not}
 use Rattle.gal_text.specs.declared.units.Awaited.TheVariants as awaited
 
 -- ---- numbers in a list

@@ -1,21 +1,14 @@
 -- Pairs in their order, and which links they come from.
-use Rattle.std.specs.{Bool.Decides, Cmp.Lexicographic.pointwise, Cmp.{IsTotalOrder, IsEquivalence}, List.{All, Contains, HoldsAt, list_any, filter_map, cons_option, dedup}}
+use Rattle.std.specs.{Bool.Decides, Cmp.{IsTotalOrder, IsEquivalence, Lexicographic.pointwise}, List.{All, Contains, HoldsAt, list_any, filter_map, cons_option, dedup}}
 use Rattle.std.specs.{List.Sorted.{IsSorted, IsStrictlySortedBy, IsNonDecreasingBy, IsPartitionPoint, IsBinarySearchResult, IsSearchInRange}, Option.option_to_list}
-use Rattle.std.specs.{Ordering.{nat_cmp, ordering_then, eq_by_cmp, is_lt, ordering_index}, declared.cmp.Ordering.Ordering, declared.cmp.Ordering.TheVariants.{Less, Equal, Greater}}
+use Rattle.std.specs.{Ordering.{nat_cmp, ordering_then, eq_by_cmp, is_lt, ordering_index}, declared.cmp.Ordering.{Ordering, TheVariants.{Less, Equal, Greater}}}
 use Rattle.std.proofs.Common.{◌≡◌, ℕ, zero, suc, ◌+◌, ◌<◌, ◌≤◌, ◌⊎◌, inl, inr, Bool, true, false, not, cond, ◌||◌, ◌↔◌, IsTrue, ◌&&◌, eqb, ltb, List, [], ◌∷◌, ◌++◌, length, get_or, take, Option, Some, None, Result, Ok, Err, IfOk, is_ok, MatchOption, refl, sym, ap, subst, ◌∙◌, arith, rules}
-use Rattle.std.proofs.lemmas.Bool.{ltb-true, lt-ltb, false≢true}
-use Rattle.std.proofs.lemmas.Bool.Decides.{nat_tests, leb_tells}
-use Rattle.std.proofs.lemmas.Cmp.{nat_cmp_total, nat_eq_equiv, on_total, then_total, on_equiv, and_equiv, ranked, tied_itself}
-use Rattle.std.proofs.lemmas.List.{take_more, append-nil}
-use Rattle.std.proofs.lemmas.List.Elements.{All-from_recursion, All-weaker, All-push, All-contains, All-contains_itself, filter_map-append}
-use Rattle.std.proofs.lemmas.List.Kept.{IsStrictlySortedBy-dedup}
-use Rattle.std.proofs.lemmas.List.Sorted.{searchable_from_sorted}
-use Rattle.std.proofs.lemmas.Map.Lookups.{CmpEqualImpliesEq, exact_unsigned, exact_pairs}
-use Rattle.std.proofs.lemmas.Map.Views.{tells_apart}
-use Rattle.std.proofs.lemmas.Slice.Eq.{slice_eq-Decides}
-use Rattle.gal_text.specs.claim.Links.{Precedes, Lists, AreRising, AreMutual, ArePairsOf, IsPairOf, IsOneWay, IsLeastOneWay}
-use Rattle.gal_text.specs.{Pairing.{AreCut, IsPairBack, IsLeastSeen, IsLeastOrNone, is_before, upward_pair, downward_pair}, claim.Units.link_of, declared.units.Link.Link}
-use Rattle.desk_model.proofs.Pairs.{both_equal}
+use Rattle.std.proofs.lemmas.{Bool.{ltb-true, lt-ltb, false≢true, Decides.{nat_tests, leb_tells}}, List.{take_more, append-nil, Kept.IsStrictlySortedBy-dedup}}
+use Rattle.std.proofs.lemmas.{Cmp.{nat_cmp_total, nat_eq_equiv, on_total, then_total, on_equiv, and_equiv, ranked, tied_itself}, List.Sorted.searchable_from_sorted}
+use Rattle.std.proofs.lemmas.{List.Elements.{All-from_recursion, All-weaker, All-push, All-contains, All-contains_itself, filter_map-append}, Map.Views.tells_apart}
+use Rattle.{std.proofs.lemmas.{Map.Lookups.{CmpEqualImpliesEq, exact_unsigned, exact_pairs}, Slice.Eq.slice_eq-Decides}, gal_text.specs.claim.Units.link_of}
+use Rattle.gal_text.specs.{Pairing.{AreCut, IsPairBack, IsLeastSeen, IsLeastOrNone, is_before, upward_pair, downward_pair}, declared.units.Link.Link}
+use Rattle.{gal_text.specs.claim.Links.{Precedes, Lists, AreRising, AreMutual, ArePairsOf, IsPairOf, IsOneWay, IsLeastOneWay}, desk_model.proofs.Pairs.both_equal}
 
 -- ---- the order of pairs
 

@@ -1,18 +1,12 @@
 -- Units word by word, and as a whole.
-use Rattle.std.specs.{Prelude.nat_eq, List.{All, AllZip, Contains, IsDistinct, flat_map}}
+use Rattle.std.{specs.{List.{All, AllZip, Contains, IsDistinct, flat_map}, Prelude.nat_eq}, proofs.lemmas.{Bool.{false≢true, Decides.nat_tests}, List.append-nil}}
 use Rattle.std.proofs.Common.{◌≡◌, ◌≢◌, ℕ, ◌+◌, ◌-◌, ◌<◌, ◌≤◌, inl, inr, Bool, true, false, cond, ◌&&◌, eqb, ltb, List, [], ◌∷◌, ◌++◌, length, map, get_or, Option, Some, None, Result, Ok, Err, refl, sym, ap, subst, ◌∙◌, arith, append_assoc, rules}
-use Rattle.std.proofs.lemmas.Bool.{false≢true}
-use Rattle.std.proofs.lemmas.Bool.Decides.{nat_tests}
-use Rattle.std.proofs.lemmas.List.{append-nil}
 use Rattle.std.proofs.lemmas.List.Elements.{All-cons, All-head, All-tail, All-contains, All-weaker, All-append, All-map, All-from_recursion, recursion_from_All, Contains-append_left, Contains-push, Contains-push_cases, Contains-get_or}
-use Rattle.std.proofs.lemmas.List.Folds.{Any-from_list_any, list_any-from_Any}
-use Rattle.std.proofs.lemmas.Map.Keys.{IsDistinct-cons, IsDistinct-head, IsDistinct-tail}
-use Rattle.byte_stream.specs.claim.Digits.{number_of, number_of_digits}
-use Rattle.gal_text.specs.{claim.Links.Lists, Relation.{Listing, IsListing, AreNames, IsWritten, AreWritten, blocks_of, links_of, IsSaid}}
+use Rattle.{std.proofs.lemmas.{List.Folds.{Any-from_list_any, list_any-from_Any}, Map.Keys.{IsDistinct-cons, IsDistinct-head, IsDistinct-tail}}, gal_text.specs.claim.Links.Lists}
+use Rattle.{byte_stream.specs.claim.Digits.{number_of, number_of_digits}, gal_text.specs.declared.{fault.TextFault.TextFault, units.{Awaited.Awaited, Link.Link}}}
+use Rattle.gal_text.specs.Relation.{Listing, IsListing, AreNames, IsWritten, AreWritten, blocks_of, links_of, IsSaid}
 use Rattle.gal_text.specs.claim.Units.{Progress, at_start, at_end, go_on, link_of, lists, known, block_of, has_number, neighbour_limit, neighbours_left, unit_read, count_read, neighbour_read, word_awaited, word_read, words_read, awaits_block}
-use Rattle.gal_text.specs.declared.fault.TextFault.{TextFault}
 use Rattle.gal_text.specs.declared.fault.TextFault.TheVariants.{RepeatedUnit, OwnNeighbour, TooManyNeighbours, TrailingWord, EndsEarly, RepeatedNeighbour}
-use Rattle.gal_text.specs.{declared.units.Awaited.Awaited, declared.units.Link.Link}
 use Rattle.gal_text.proofs.LinkLemmas.{Contains-cases, Contains-here, Contains-there, lists_from_test, test_from_lists}
 use Rattle.gal_text.specs.declared.units.Awaited.TheVariants as awaited
 

@@ -1,13 +1,11 @@
 -- The words of a neighbour file, one after the other.
-use Rattle.std.specs.Io.KnownBytes.{Consumes, IsAtEnd}
+use Rattle.{std.{specs.Io.KnownBytes.{Consumes, IsAtEnd}, proofs.lemmas.List.append-nil}, byte_stream.specs.{Reading.Reading, Words.{BeginsWithWord, IsOneWord, GivesWord}}}
 use Rattle.std.proofs.Common.{◌≡◌, ℕ, ◌+◌, ◌<◌, List, [], ◌∷◌, ◌++◌, length, Option, Result, Ok, Err, refl, sym, ap, subst, ◌∙◌, arith, append_assoc, length-append, inl, inr, rules}
-use Rattle.std.proofs.lemmas.List.{append-nil}
-use Rattle.byte_stream.specs.{claim.Words.{words, word_limit, IsBrokenWord}, Words.{BeginsWithWord, IsOneWord, GivesWord}, Reading.Reading, declared.reader.ReadFault.ReadFault}
-use Rattle.byte_stream.proofs.ReadingLemmas.{Consumes-nothing, Consumes-then}
+use Rattle.{byte_stream.specs.{claim.Words.{words, word_limit, IsBrokenWord}, declared.reader.ReadFault.ReadFault}, desk_model.specs.claim.Geography.ids_of}
+use Rattle.{desk_model.specs.declared.block.BlockRow.BlockRow, gal_text.specs.{Holding.{Holds, Takes}, Parts.{Stands, ReadsWords, AreCutWords, refused, read_told}}}
+use Rattle.gal_text.specs.{claim.Units.{Progress, at_start, word_read, words_read, go_on}, declared.{fault.{GalFault.GalFault, TextFault.TextFault}, units.Graph.Graph}}
+use Rattle.{gal_text.specs.declared.units.UnitRefusal.UnitRefusal, byte_stream.proofs.ReadingLemmas.{Consumes-nothing, Consumes-then}}
 use Rattle.byte_stream.specs.declared.reader.ReadFault.TheVariants as read
-use Rattle.desk_model.specs.{claim.Geography.ids_of, declared.block.BlockRow.BlockRow}
-use Rattle.gal_text.specs.{claim.Units.{Progress, at_start, word_read, words_read, go_on}, Holding.{Holds, Takes}, Parts.{Stands, ReadsWords, AreCutWords, refused, read_told}}
-use Rattle.gal_text.specs.{declared.fault.TextFault.TextFault, declared.fault.GalFault.GalFault, declared.units.Graph.Graph, declared.units.UnitRefusal.UnitRefusal}
 use Rattle.gal_text.specs.declared.units.UnitRefusal.TheVariants as refusal
 
 -- ---- words after words

@@ -1,9 +1,6 @@
 -- A block's number as it is printed with 15 digits.
-use Rattle.std.specs.Fmt.{padded_integral, format_spec, char_count}
-use Rattle.std.proofs.Common.{◌≡◌, ℕ, ◌-◌, ◌^◌, List, [], ◌∷◌, ◌++◌, codes, false, decimal, ap, sym, ◌∙◌, append_assoc, rules}
-use Rattle.std.proofs.lemmas.List.{append-nil}
-use Rattle.desk_model.specs.claim.Padded.{padded_decimal}
-use Rattle.gal_text.specs.claim.Texts.{block_text}
+use Rattle.{std.{specs.Fmt.{padded_integral, format_spec, char_count}, proofs.lemmas.List.append-nil}, desk_model.specs.claim.Padded.padded_decimal}
+use Rattle.{std.proofs.Common.{◌≡◌, ℕ, ◌-◌, ◌^◌, List, [], ◌∷◌, ◌++◌, codes, false, decimal, ap, sym, ◌∙◌, append_assoc, rules}, gal_text.specs.claim.Texts.block_text}
 
 pub padded_id : (n : ℕ) → padded_integral (format_spec 32 0 4 15 (2 ^ 64 - 1)) false [] (decimal n) ≡ padded_decimal 15 n
 unfolding padded_integral char_count

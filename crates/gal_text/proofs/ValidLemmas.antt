@@ -1,13 +1,9 @@
 -- The pairs of a neighbour file are pairs of known blocks.
-use Rattle.std.specs.declared.alloc.Global.{Global}
+use Rattle.{std.{specs.declared.alloc.Global.Global, proofs.lemmas.List.{get_or-map, length-map, Elements.{All-append, All-head, All-tail}}}, byte_stream.specs.claim.Words.words}
 use Rattle.std.proofs.Common.{◌≡◌, ℕ, ◌<◌, List, [], ◌∷◌, length, map, get_or, Vec, Option, Result, Ok, Err, IfOk, All, Contains, sym, ap, subst, arith}
-use Rattle.std.proofs.lemmas.List.{get_or-map, length-map}
-use Rattle.std.proofs.lemmas.List.Elements.{All-append, All-head, All-tail}
-use Rattle.desk_model.specs.{Geography.AreDifferentBlocks, claim.Geography.ids_of, declared.block.BlockRow.BlockRow}
-use Rattle.byte_stream.specs.claim.Words.{words}
-use Rattle.gal_text.specs.{claim.Units.{Progress, at_start, words_read, header_count, from_count, go_on, at_end, link_of}, claim.Links.IsPairOf}
-use Rattle.gal_text.specs.{Relation.{Listing, IsListing, links_of}, claim.GalFile.IsRead, declared.fault.TextFault.TextFault, declared.fault.GalFault.GalFault}
-use Rattle.gal_text.{specs.declared.units.Link.Link, proofs.RelationLemmas.said_from_reading}
+use Rattle.{desk_model.specs.{Geography.AreDifferentBlocks, claim.Geography.ids_of, declared.block.BlockRow.BlockRow}, gal_text.specs.Relation.{Listing, IsListing, links_of}}
+use Rattle.gal_text.specs.claim.{GalFile.IsRead, Links.IsPairOf, Units.{Progress, at_start, words_read, header_count, from_count, go_on, at_end, link_of}}
+use Rattle.gal_text.{specs.declared.{fault.{GalFault.GalFault, TextFault.TextFault}, units.Link.Link}, proofs.RelationLemmas.said_from_reading}
 
 -- both blocks of a link are known
 record IsKnown (ids : List ℕ) (l : Link) : Type 0 where

@@ -1,8 +1,7 @@
 -- What the units' state holds while the words of a neighbour file are read.
 use Rattle.std.specs.Prelude.{◌≡◌, ℕ, ◌<◌, ◌≤◌, true, false, List, [], ◌∷◌, ◌++◌, length, drop, vec_len, get_or, All, Option, Some, None, Result, Ok, Err, ⊤}
-use Rattle.desk_model.specs.{claim.Geography.{ids_of, id_at}, declared.block.BlockRow.BlockRow}
-use Rattle.gal_text.specs.{claim.Units.{Progress, has_number, lists, block_of, neighbours_left, word_read}, declared.fault.TextFault.TextFault, declared.units.Link.Link}
-use Rattle.gal_text.specs.{declared.units.Awaited.Awaited, declared.units.Graph.Graph, declared.units.UnitRefusal.UnitRefusal}
+use Rattle.{desk_model.specs.{claim.Geography.{ids_of, id_at}, declared.block.BlockRow.BlockRow}, gal_text.specs.declared.{fault.TextFault.TextFault, units.Awaited.Awaited}}
+use Rattle.gal_text.specs.{claim.Units.{Progress, has_number, lists, block_of, neighbours_left, word_read}, declared.units.{Graph.Graph, Link.Link, UnitRefusal.UnitRefusal}}
 use Rattle.gal_text.specs.declared.units.Awaited.TheVariants as awaited
 use Rattle.gal_text.specs.declared.units.UnitRefusal.TheVariants as refusal
 

@@ -1,7 +1,6 @@
 -- What no promise rests on, beside claim/Links.antt.
-use Rattle.std.specs.{Prelude.{◌≡◌, ℕ, ◌<◌, Bool, true, false, List, length, Result, Ok, Err, Vec, ⊤}, List.{HoldsAt, AllWithin}, declared.alloc.Global.Global}
-use Rattle.gal_text.specs.{declared.units.Link.Link, declared.links.Unpaired.Unpaired, declared.links.Unpaired.TheVariants.{OneWay, Memory}}
-use Rattle.gal_text.specs.claim.Links.{AreMutual, ArePairsOf, IsLeastOneWay}
+use Rattle.std.specs.{List.{HoldsAt, AllWithin}, Prelude.{◌≡◌, ℕ, ◌<◌, Bool, true, false, List, length, Result, Ok, Err, Vec, ⊤}, declared.alloc.Global.Global}
+use Rattle.gal_text.specs.{claim.Links.{AreMutual, ArePairsOf, IsLeastOneWay}, declared.{links.Unpaired.{Unpaired, TheVariants.{OneWay, Memory}}, units.Link.Link}}
 
 -- what the links give
 abbrev pub ArePaired : List Link → Result (Vec (ℕ × ℕ) Global) Unpaired → Type 0

@@ -1,14 +1,11 @@
 -- What the parts of reading a neighbour file give: its header, its words, its end.
-use Rattle.std.specs.{Prelude.{◌≡◌, ◌≤◌, ℕ, ◌+◌, ◌⊎◌, true, false, List, ◌++◌, length, Option, Result, Ok, Err, Vec, ⊤}, declared.alloc.Global.Global}
-use Rattle.std.specs.Io.KnownBytes.{Consumes, IsAtEnd}
-use Rattle.byte_stream.specs.{Reading.CountsFrom, claim.Reading.turn_limit, claim.Words.{words, IsBrokenWord}, declared.reader.ReadFault.ReadFault}
+use Rattle.std.specs.{Io.KnownBytes.{Consumes, IsAtEnd}, Prelude.{◌≡◌, ◌≤◌, ℕ, ◌+◌, ◌⊎◌, true, false, List, ◌++◌, length, Option, Result, Ok, Err, Vec, ⊤}}
+use Rattle.{std.specs.declared.alloc.Global.Global, byte_stream.specs.{Reading.CountsFrom, claim.{Reading.turn_limit, Words.{words, IsBrokenWord}}}, gal_text.specs.Holding.Holds}
+use Rattle.{byte_stream.specs.declared.reader.ReadFault.ReadFault, desk_model.specs.{claim.Geography.ids_of, declared.block.BlockRow.BlockRow}}
+use Rattle.gal_text.specs.claim.{GalFile.{HasHeader, ShowsFault, IsCutShort, failures_after_file}, Links.{AreComplete, IsLeastMissing, AreMutual, IsLeastOneWay, ArePairsOf}}
+use Rattle.gal_text.specs.{claim.Units.{Progress, at_start, is_done, words_read, header_count, progress_after}, declared.fault.{GalFault.GalFault, TextFault.TextFault}}
+use Rattle.gal_text.specs.declared.{fault.TextFault.TheVariants.EndsEarly, links.Unpaired.Unpaired, units.{Graph.Graph, Link.Link, UnitRefusal.UnitRefusal}}
 use Rattle.byte_stream.specs.declared.reader.ReadFault.TheVariants as read
-use Rattle.desk_model.specs.{claim.Geography.ids_of, declared.block.BlockRow.BlockRow}
-use Rattle.gal_text.specs.claim.Units.{Progress, at_start, is_done, words_read, header_count, progress_after}
-use Rattle.gal_text.specs.{claim.Links.{AreComplete, IsLeastMissing, AreMutual, IsLeastOneWay, ArePairsOf}, Holding.Holds}
-use Rattle.gal_text.specs.{claim.GalFile.{HasHeader, ShowsFault, IsCutShort, failures_after_file}, declared.fault.TextFault.TextFault}
-use Rattle.gal_text.specs.{declared.fault.TextFault.TheVariants.EndsEarly, declared.fault.GalFault.GalFault, declared.links.Unpaired.Unpaired, declared.units.Link.Link}
-use Rattle.gal_text.specs.{declared.units.Graph.Graph, declared.units.UnitRefusal.UnitRefusal}
 use Rattle.gal_text.specs.declared.fault.GalFault.TheVariants as fault
 use Rattle.gal_text.specs.declared.links.Unpaired.TheVariants as unpaired
 use Rattle.gal_text.specs.declared.units.UnitRefusal.TheVariants as refusal

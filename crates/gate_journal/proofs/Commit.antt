@@ -1,10 +1,10 @@
 -- What a stop leaves in each step of a commit.
 use Rattle.std.proofs.Common.{rules, ◌≡◌, ◌≢◌, ◌≤◌, ◌<◌, ◌+◌, ℕ, zero, suc, List, [], length, take, get_or, ◌/◌, inl, inr, refl, sym, subst, ap, ◌∙◌, arith}
-use Rattle.sector_device.specs.{claim.Disk.{Disk, Image, AgreeOff, Nowhere, Touches}, Disk.{Only, IsSynced}, claim.Moments.LeavesOnly}
-use Rattle.sector_device.proofs.Moments.{leaves_from, leaves_more, touches_none, touches_more}
+use Rattle.gate_journal.specs.{Steps.{HasGate, HasHomes, IsStaged, IsHome}, Store.{IsWithin, Homes, Stages, Staging, IsBeforeOrAfter, IsSettled}}
 use Rattle.gate_journal.specs.claim.Store.{first_copy, list_word, copies_from, copies, home, gate, overlay, home_pages, pages, IsValid, IsStore, Opens}
-use Rattle.gate_journal.specs.{Store.{IsWithin, Homes, Stages, Staging, IsBeforeOrAfter, IsSettled}, Steps.{HasGate, HasHomes, IsStaged, IsHome}}
+use Rattle.sector_device.specs.{Disk.{Only, IsSynced}, claim.{Disk.{Disk, Image, AgreeOff, Nowhere, Touches}, Moments.LeavesOnly}}
 use Rattle.gate_journal.proofs.Images.{pages_shut, pages_open, stages_same, store_same, staged_valid, while_staging, while_opening, while_copying, while_closing, same_homes, list_word_same, writes_at, homes_more}
+use Rattle.sector_device.proofs.Moments.{leaves_from, leaves_more, touches_none, touches_more}
 
 -- where the gate is closed, the pages are the home pages
 pub shut_pages : (J : ℕ) (c : Image) → gate c ≢ 165 → home_pages J c ≡ pages J c

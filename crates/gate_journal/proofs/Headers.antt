@@ -1,13 +1,8 @@
 -- What a header says of its store.
-use Rattle.std.proofs.Common.{rules, ◌≡◌, ◌≢◌, ◌<◌, ◌+◌, ◌*◌, ◌^◌, ℕ, true, List, [], ◌∷◌, length, get_or, refl, sym, ap, ◌∙◌, arith}
-use Rattle.std.proofs.lemmas.Grind.{common_steps}
-use Rattle.std.proofs.lemmas.List.{length-set, length-replicate, get_or-set_other}
-use Rattle.std.proofs.lemmas.Nat.{from_be_bytes-to_be_bytes_4}
-use Rattle.std.proofs.lemmas.Bool.{eq-eqb}
-use lib.Pointwise.{pointwise}
-use lib.Dec.{eqb}
-use Rattle.sector_device.specs.claim.Disk.{Image}
-use Rattle.gate_journal.specs.{claim.Store.{word, put_word, header_of, IsStore}, Store.IsStoreOf, Recovery.HasRoom}
+use Rattle.std.proofs.{Common.{rules, ◌≡◌, ◌≢◌, ◌<◌, ◌+◌, ◌*◌, ◌^◌, ℕ, true, List, [], ◌∷◌, length, get_or, refl, sym, ap, ◌∙◌, arith}, lemmas.{Bool.eq-eqb, Grind.common_steps}}
+use Rattle.{std.proofs.lemmas.{List.{length-set, length-replicate, get_or-set_other}, Nat.from_be_bytes-to_be_bytes_4}, gate_journal.specs.{Recovery.HasRoom, Store.IsStoreOf}}
+use Rattle.{gate_journal.specs.claim.Store.{word, put_word, header_of, IsStore}, sector_device.specs.claim.Disk.Image}
+use lib.{Dec.eqb, Pointwise.pointwise}
 
 length_put : (s : List ℕ) (k n : ℕ) → length (put_word s k n) ≡ length s
 length_put s k n = simp length-set

@@ -1,11 +1,8 @@
 -- What images stand for while a commit goes on.
 use Rattle.std.proofs.Common.{rules, ◌≡◌, ◌≢◌, ◌≤◌, ◌<◌, ◌+◌, ◌*◌, ◌/◌, ◌%◌, ℕ, zero, suc, Bool, true, false, List, [], ◌∷◌, length, take, inl, inr, ⊎_elim, refl, subst, ap, ◌∙◌, arith, get_or, cond, nat_eq, add-one}
-use Rattle.std.proofs.lemmas.Bool.{cases_eq}
-use Rattle.std.proofs.lemmas.Bool.Decides.{nat_tests}
-use Rattle.sector_device.specs.{claim.Disk.{Disk, Image, AgreeOff}, Disk.Only}
-use Rattle.gate_journal.specs.Steps.{Span, HasList, HasCopies, want}
+use Rattle.{std.proofs.lemmas.Bool.{cases_eq, Decides.nat_tests}, gate_journal.specs.Steps.{Span, HasList, HasCopies, want}, sector_device.specs.Disk.Only}
+use Rattle.{gate_journal.specs.Store.{IsWithin, Writes, Homes, Stages, Staging, IsBeforeOrAfter}, sector_device.specs.claim.Disk.{Disk, Image, AgreeOff}}
 use Rattle.gate_journal.specs.claim.Store.{word, list_word, first_copy, home, gate, copies_from, copies, put, overlay, home_pages, pages, IsValid, IsStore, Opens}
-use Rattle.gate_journal.specs.Store.{IsWithin, Writes, Homes, Stages, Staging, IsBeforeOrAfter}
 
 -- ---- overlays
 put_same : (w : ℕ × List ℕ) (P Q : Image) (p : ℕ) → (p ≢ w.0 → P p ≡ Q p) → put w P p ≡ put w Q p

@@ -1,8 +1,6 @@
 -- The list, sector by sector.
-use Rattle.std.proofs.Common.{◌≡◌, ◌≤◌, ◌<◌, ◌+◌, ◌-◌, ◌*◌, ◌/◌, ◌%◌, ℕ, false, IsTrue, List, inl, inr, ap, arith, subst}
-use Rattle.std.proofs.lemmas.Bool.{cases_eq}
-use Rattle.sector_device.specs.claim.Disk.{Image}
-use Rattle.gate_journal.specs.{claim.Store.{word, list_word}, Recovery.{NamesPages, SectorNames}}
+use Rattle.std.proofs.{Common.{◌≡◌, ◌≤◌, ◌<◌, ◌+◌, ◌-◌, ◌*◌, ◌/◌, ◌%◌, ℕ, false, IsTrue, List, inl, inr, ap, arith, subst}, lemmas.Bool.cases_eq}
+use Rattle.{gate_journal.specs.{Recovery.{NamesPages, SectorNames}, claim.Store.{word, list_word}}, sector_device.specs.claim.Disk.Image}
 
 pub word_in : (c : Image) (k s : ℕ) → k / 1024 ≡ s → list_word c k ≡ word (c (2 + s)) (k % 1024)
 unfolding list_word

@@ -1,9 +1,7 @@
 -- Writes in a list, and what they leave of a page.
 use Rattle.std.proofs.Common.{rules, Option, Some, None, MatchOption, ◌≡◌, ◌≢◌, ◌⊎◌, ◌<◌, ℕ, zero, suc, List, [], ◌∷◌, ◌++◌, length, get_or, set, inl, inr, refl, sym, ap, subst, ◌∙◌, arith, length-append}
-use Rattle.std.proofs.{Math.ListN.get_or-append, Math.Seq.get_or-append_seam}
-use Rattle.std.proofs.lemmas.Bool.{cases_eq, cases_lt}
-use Rattle.sector_device.specs.claim.Disk.{Image}
-use Rattle.gate_journal.specs.{claim.Store.{put, overlay}, Store.{Writes, IsWithin, IsOnce, AreNumbers, AreApart}, Writes.IsLast}
+use Rattle.{std.proofs.{Math.{ListN.get_or-append, Seq.get_or-append_seam}, lemmas.Bool.{cases_eq, cases_lt}}, gate_journal.specs.{Writes.IsLast, claim.Store.{put, overlay}}}
+use Rattle.{gate_journal.specs.Store.{Writes, IsWithin, IsOnce, AreNumbers, AreApart}, sector_device.specs.claim.Disk.Image}
 use Rattle.gate_journal.proofs.Images.{overlay_off, overlay_same, put_on, put_off, writes_at}
 
 -- where one is found

@@ -1,10 +1,9 @@
 -- What an opening may leave.
 use Rattle.std.proofs.Common.{rules, ◌≡◌, ◌⊎◌, ◌≤◌, ◌<◌, ℕ, Result, Ok, Err, OnOk, OnErr, IsErrOf, IfOk, IfErr, IsErrAnd, refl, sym, subst, ◌∙◌, arith}
-use Rattle.sector_device.specs.{claim.Disk.{Disk, Image, AgreeOff, Nowhere, Touches, LeavesBut}, Disk.{IsSynced, HasCause}, claim.Moments.LeavesOnly}
-use Rattle.sector_device.proofs.Moments.{leaves_from, leaves_more, leaves_wider, now_but, cause_after, on_ok, touches_more}
-use Rattle.gate_journal.specs.{claim.Store.{header_of, pages, IsStore, Opens}, Store.{IsStoreOf, IsSettled}}
-use Rattle.gate_journal.specs.{Recovery.{AllStores, HasRoom, HasLayout, ReadsAs, Found, Reopens, Recovers, Starts, LooksAt, OpensSo}, declared.layout.Layout.Layout}
-use Rattle.gate_journal.{specs.declared.error.PageError.PageError, specs.declared.error.PageError.TheVariants.{NotAStore, DeviceFault}, proofs.Headers.is_laid_out}
+use Rattle.gate_journal.specs.{Recovery.{AllStores, HasRoom, HasLayout, ReadsAs, Found, Reopens, Recovers, Starts, LooksAt, OpensSo}, Store.{IsStoreOf, IsSettled}}
+use Rattle.gate_journal.specs.{claim.Store.{header_of, pages, IsStore, Opens}, declared.{error.PageError.{PageError, TheVariants.{NotAStore, DeviceFault}}, layout.Layout.Layout}}
+use Rattle.sector_device.specs.{Disk.{IsSynced, HasCause}, claim.{Disk.{Disk, Image, AgreeOff, Nowhere, Touches, LeavesBut}, Moments.LeavesOnly}}
+use Rattle.{gate_journal.proofs.Headers.is_laid_out, sector_device.proofs.Moments.{leaves_from, leaves_more, leaves_wider, now_but, cause_after, on_ok, touches_more}}
 
 agreed : (b c : Image) → AgreeOff Nowhere b c → b ≡ c
 agreed b c agree = λ i k. (sym (agree.same k (λ none. none))) i

@@ -1,7 +1,6 @@
 -- What a step did so far, and at its end.
-use Rattle.std.specs.Prelude.{◌≡◌, ℕ, List, Result}
-use Rattle.sector_device.specs.{claim.Disk.{Disk, Touches}, Disk.Step}
-use Rattle.gate_journal.specs.{Steps.{TakesStep, Commits, CommitsOn}, declared.layout.Layout.Layout}
+use Rattle.{std.specs.Prelude.{◌≡◌, ℕ, List, Result}, gate_journal.specs.{Steps.{TakesStep, Commits, CommitsOn}, declared.layout.Layout.Layout}, sector_device.specs.Disk.Step}
+use Rattle.sector_device.specs.claim.Disk.{Disk, Touches}
 
 -- nothing failed so far
 pub record SoFar (S : ℕ → Type 0) (Q : Disk → Type 0) (old new : Disk) : Type 0 where

@@ -1,8 +1,7 @@
 -- What a new store is.
 use Rattle.std.specs.Prelude.{◌≡◌, ◌≤◌, ◌<◌, ◌+◌, ℕ, Result, OnOk, IfOk, IfErr}
-use Rattle.sector_device.specs.{claim.Disk.{Disk, Touches}, declared.SectorDevice.Ghosts}
-use Rattle.gate_journal.specs.{claim.Store.home, Store.IsSettled, Recovery.{HasRoom, AllStores}, declared.layout.Layout.Layout, declared.error.PageError.PageError}
-use Rattle.gate_journal.specs.declared.error.PageError.TheVariants.{DeviceFault, TooSmall}
+use Rattle.gate_journal.specs.{Recovery.{HasRoom, AllStores}, Store.IsSettled, claim.Store.home, declared.error.PageError.{PageError, TheVariants.{DeviceFault, TooSmall}}}
+use Rattle.{gate_journal.specs.declared.layout.Layout.Layout, sector_device.specs.{claim.Disk.{Disk, Touches}, declared.SectorDevice.Ghosts}}
 
 -- the disk is a store of this layout, its gate closed, and each image that a stop may leave is one
 pub record IsFormatted (layout : Layout) (disk : Disk) : Type 0 where

@@ -1,11 +1,10 @@
 -- What calls on a journal leave, in one relation a clause.
 use Rattle.std.specs.Prelude.{◌≡◌, ◌≤◌, ◌<◌, ◌+◌, ◌++◌, ◌⊎◌, ℕ, false, List, [], ◌∷◌, length, Option, MatchOption, Result, IsOk, OnOk, OnErr, IfOk, IfErr}
-use Rattle.sector_device.specs.{claim.Disk.{Disk, Image, Touches, Nowhere}, Disk.IsSynced, claim.Moments.LeavesOnly, declared.SectorDevice.Ghosts}
-use Rattle.gate_journal.specs.{claim.Store.{gate, list_word, IsValid, IsStore, overlay, put}, Store.{IsStoreOf, Writes, IsWithin, IsBeforeOrAfter}}
-use Rattle.gate_journal.specs.{Recovery.{HasLayout, CopiesBack, Reopens, Recovers, HasRoom, AllStores, ReadsAs, Found}, claim.Writes.writes_of, Writes.{room_of, IsEdited}}
+use Rattle.gate_journal.specs.{Recovery.{HasLayout, CopiesBack, Reopens, Recovers, HasRoom, AllStores, ReadsAs, Found}, Store.{IsStoreOf, Writes, IsWithin, IsBeforeOrAfter}}
+use Rattle.gate_journal.specs.{Writes.{room_of, IsEdited}, claim.{Store.{gate, list_word, IsValid, IsStore, overlay, put}, Writes.writes_of}, declared.error.PageError.PageError}
 use Rattle.gate_journal.specs.claim.Contents.{disk_of, device_after, content, page_count, journal_size, is_halted, IsKept, HasShapeOf, ReadErr, CommitErr}
-use Rattle.gate_journal.specs.{declared.layout.Layout.Layout, declared.error.PageError.PageError, declared.error.PageError.TheVariants.{NotAStore, DeviceFault}}
-use Rattle.gate_journal.specs.{declared.journal.Journal.Journal, declared.writes.PageWrites.PageWrites}
+use Rattle.gate_journal.specs.declared.{error.PageError.TheVariants.{NotAStore, DeviceFault}, journal.Journal.Journal, layout.Layout.Layout, writes.PageWrites.PageWrites}
+use Rattle.sector_device.specs.{Disk.IsSynced, claim.{Disk.{Disk, Image, Touches, Nowhere}, Moments.LeavesOnly}, declared.SectorDevice.Ghosts}
 
 -- ---- what an opening does, where the device is honest
 -- of a valid list, each copy was brought back

@@ -1,8 +1,8 @@
 -- What an opening finds, and what it leaves.
 use Rattle.std.specs.Prelude.{◌≡◌, ◌⊎◌, ◌≤◌, ◌<◌, ◌+◌, ℕ, Bool, IsTrue, List, Result, OnOk, IsErrOf, IfOk, IfErr}
-use Rattle.sector_device.specs.{claim.Disk.{Disk, Image, Touches, Nowhere}, Disk.HasCause, claim.Moments.LeavesOnly}
-use Rattle.gate_journal.specs.{claim.Store.{home, header_of, word, list_word, copies, IsStore, Opens, pages}, Store.{Homes, IsStoreOf, IsSettled}, Steps.HasHomes}
-use Rattle.gate_journal.specs.{declared.layout.Layout.Layout, declared.error.PageError.PageError, declared.error.PageError.TheVariants.{NotAStore, DeviceFault}}
+use Rattle.gate_journal.specs.{Steps.HasHomes, Store.{Homes, IsStoreOf, IsSettled}, claim.Store.{home, header_of, word, list_word, copies, IsStore, Opens, pages}}
+use Rattle.{gate_journal.specs.declared.{error.PageError.{PageError, TheVariants.{NotAStore, DeviceFault}}, layout.Layout.Layout}, sector_device.specs.Disk.HasCause}
+use Rattle.sector_device.specs.claim.{Disk.{Disk, Image, Touches, Nowhere}, Moments.LeavesOnly}
 
 -- the sizes are in their limits, and the parts fill the sectors
 pub record HasRoom (sectors J n : ℕ) : Type 0 where

@@ -1,7 +1,7 @@
 -- What each step of a commit leaves.
 use Rattle.std.{specs.Prelude.{◌≡◌, ◌≤◌, ◌<◌, ◌+◌, ℕ, List, [], length, Result, OnOk}, proofs.Common.{get_or, zero, suc}}
-use Rattle.sector_device.specs.{claim.Disk.Disk, Disk.{IsSynced, HasCause, Step}, claim.Moments.LeavesOnly}
-use Rattle.gate_journal.specs.{claim.Store.{home, overlay, pages, gate, list_word}, Store.{Stages, IsSettled, IsBeforeOrAfter, IsWithin}, declared.layout.Layout.Layout}
+use Rattle.gate_journal.specs.{Store.{Stages, IsSettled, IsBeforeOrAfter, IsWithin}, claim.Store.{home, overlay, pages, gate, list_word}, declared.layout.Layout.Layout}
+use Rattle.sector_device.specs.{Disk.{IsSynced, HasCause, Step}, claim.{Disk.Disk, Moments.LeavesOnly}}
 
 -- n sectors from the first
 abbrev pub Span : ℕ → ℕ → ℕ → Type 0

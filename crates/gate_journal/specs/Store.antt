@@ -1,7 +1,6 @@
 -- What no promise rests on, beside claim/Store.antt.
 use Rattle.std.{specs.Prelude.{◌≡◌, ◌≢◌, ◌⊎◌, ◌≤◌, ◌<◌, ◌+◌, ℕ, List, [], ◌∷◌, length}, proofs.Common.get_or}
-use Rattle.sector_device.specs.{claim.Disk.{Disk, Image}, Disk.IsSynced}
-use Rattle.gate_journal.specs.claim.Store.{IsStore, Opens, first_copy, gate, home, list_word, overlay}
+use Rattle.{gate_journal.specs.claim.Store.{IsStore, Opens, first_copy, gate, home, list_word, overlay}, sector_device.specs.{Disk.IsSynced, claim.Disk.{Disk, Image}}}
 
 -- it is one of a store with so many sectors
 pub record IsStoreOf (sectors : ℕ) (c : Image) : Type 0 where

@@ -1,7 +1,6 @@
 -- What no promise rests on, beside claim/Writes.antt.
 use Rattle.std.{specs.Prelude.{◌≡◌, ◌≢◌, ◌<◌, ℕ, List, [], length, min, vec_capacity}, proofs.Common.get_or}
-use Rattle.sector_device.specs.claim.Disk.{Image}
-use Rattle.gate_journal.specs.{claim.Store.{overlay, put}, declared.writes.PageWrites.PageWrites}
+use Rattle.{gate_journal.specs.{claim.Store.{overlay, put}, declared.writes.PageWrites.PageWrites}, sector_device.specs.claim.Disk.Image}
 
 -- so many pages are held with no growth
 abbrev pub room_of : PageWrites → ℕ

@@ -1,16 +1,11 @@
 -- The rows under a prefix are rows of the map.
-use Rattle.std.specs.{Prelude.{Option, IfSome}, Ordering.is_lt, declared.cmp.Ordering.TheVariants.{Less, Equal}, Cmp.Lexicographic.nat_list_cmp_total}
-use Rattle.std.specs.{FinMap.{entries, entries_sorted, find, get-entries, is_sorted}, FinMap.Entries.below_all}
-use Rattle.std.proofs.Common.{◌≡◌, ℕ, List, [], ◌∷◌, Bool, true, false, cond, Some, None, sym, ap, subst, ◌∙◌, arith}
-use Rattle.std.proofs.lemmas.Cmp.{tied_itself}
-use Rattle.sector_device.specs.declared.SectorDevice.{Ghosts}
-use Rattle.page_store.specs.{declared.pages.Pages.Pages, declared.txn.Txn.Txn}
-use Rattle.page_btree.{specs.declared.error.TreeError.TreeError, specs.page_node.claim.Entries.Entry, specs.page_node.claim.Places.{key_cmp, Rises}, proofs.Booleans.true_is}
-use Rattle.desk_pages.specs.Reading.{ReadErr}
-use Rattle.btree_walks.specs.{Prefixes.under, Scanning.{Rest, IsNextRow, ScanErr, fault_in, has_ended, CanScan}, declared.rows.Row.Row, declared.scans.Scan.Scan}
-use Rattle.btree_walks.proofs.{Prefixes.head_rises, Scanning.none_to_come}
-use Rattle.store_rows.{specs.claim.Rows.KeyMap, proofs.Frames.{differs, itself}}
-use Rattle.geo_tables.specs.Following.{AreIn, IsFound, IsTaken, Scans}
+use Rattle.std.specs.{Cmp.Lexicographic.nat_list_cmp_total, FinMap.{entries, entries_sorted, find, get-entries, is_sorted, Entries.below_all}, Ordering.is_lt}
+use Rattle.{std.{specs.{Prelude.{Option, IfSome}, declared.cmp.Ordering.TheVariants.{Less, Equal}}, proofs.lemmas.Cmp.tied_itself}, btree_walks.specs.Prefixes.under}
+use Rattle.{std.proofs.Common.{◌≡◌, ℕ, List, [], ◌∷◌, Bool, true, false, cond, Some, None, sym, ap, subst, ◌∙◌, arith}, btree_walks.specs.declared.{rows.Row.Row, scans.Scan.Scan}}
+use Rattle.{btree_walks.specs.Scanning.{Rest, IsNextRow, ScanErr, fault_in, has_ended, CanScan}, desk_pages.specs.Reading.ReadErr, page_btree.specs.page_node.claim.Entries.Entry}
+use Rattle.{geo_tables.specs.Following.{AreIn, IsFound, IsTaken, Scans}, page_btree.specs.{declared.error.TreeError.TreeError, page_node.claim.Places.{key_cmp, Rises}}}
+use Rattle.{page_store.specs.declared.{pages.Pages.Pages, txn.Txn.Txn}, sector_device.specs.declared.SectorDevice.Ghosts, store_rows.specs.claim.Rows.KeyMap}
+use Rattle.{btree_walks.proofs.{Prefixes.head_rises, Scanning.none_to_come}, page_btree.proofs.Booleans.true_is, store_rows.proofs.Frames.{differs, itself}}
 
 -- rows that a list finds
 AreFound : List Entry → List Entry → Type 0

@@ -1,13 +1,11 @@
 -- What was read of a geography, where it is none.
-use Rattle.std.{specs.Prelude.{Result, MatchResult}, proofs.Common.{◌≡◌, Ok, Err, List, sym, subst, ◌∙◌}}
-use Rattle.sector_device.specs.declared.SectorDevice.{Ghosts}
-use Rattle.page_store.specs.{declared.pages.Pages.Pages, declared.txn.Txn.Txn}
-use Rattle.page_btree.specs.{declared.error.TreeError.TreeError, declared.error.TreeError.TheVariants.{DeviceFault, NotAStore, Halted, NoPages, TooDeep, Memory}}
-use Rattle.desk_model.specs.{declared.block.BlockRow.BlockRow, declared.geography.Pair.Pair, claim.Geography.GeographyModel, claim.GeographyModels.IsGeographyModel}
-use Rattle.store_rows.specs.{claim.Keys.{key_of, block, pair}, claim.Values.block_bytes, declared.value.SealRow.SealRow, claim.Rows.KeyMap}
-use Rattle.store_rows.specs.claim.GeographyRows.{IsBlockRow, neighbours_bytes}
-use Rattle.desk_pages.{specs.Looking.{Gathers, IsOnly, Says}, proofs.Looking.{finds, not_looked, refuses}}
-use Rattle.geo_tables.specs.Elements.{GeographyErr, HoldsElements, IsPairRow, IsReadBy, IsSealedAs, IsSealRead}
+use Rattle.{std.{specs.Prelude.{Result, MatchResult}, proofs.Common.{◌≡◌, Ok, Err, List, sym, subst, ◌∙◌}}, desk_model.specs.claim.Geography.GeographyModel}
+use Rattle.{desk_model.specs.{claim.GeographyModels.IsGeographyModel, declared.{block.BlockRow.BlockRow, geography.Pair.Pair}}, desk_pages.specs.Looking.{Gathers, IsOnly, Says}}
+use Rattle.{geo_tables.specs.Elements.{GeographyErr, HoldsElements, IsPairRow, IsReadBy, IsSealedAs, IsSealRead}, page_btree.specs.declared.error.TreeError.TreeError}
+use Rattle.{page_btree.specs.declared.error.TreeError.TheVariants.{DeviceFault, NotAStore, Halted, NoPages, TooDeep, Memory}, page_store.specs.declared.pages.Pages.Pages}
+use Rattle.{page_store.specs.declared.txn.Txn.Txn, sector_device.specs.declared.SectorDevice.Ghosts, store_rows.specs.claim.GeographyRows.{IsBlockRow, neighbours_bytes}}
+use Rattle.store_rows.specs.{claim.{Keys.{key_of, block, pair}, Rows.KeyMap, Values.block_bytes}, declared.value.SealRow.SealRow}
+use Rattle.desk_pages.proofs.Looking.{finds, not_looked, refuses}
 
 -- the rows hold these blocks and pairs alone
 pub record IsReadOf (sealed : SealRow) (blocks : List BlockRow) (pairs : List Pair) (m : KeyMap) : Type 0 where

@@ -1,6 +1,6 @@
 -- The number of a block that was read.
-use Rattle.std.proofs.Common.{◌≡◌, ◌<◌, ℕ, zero, suc, List, [], ◌∷◌, length, get_or, refl, ap, arith}
-use Rattle.desk_model.specs.{declared.block.BlockRow.BlockRow, claim.Geography.{id_at, ids_of}}
+use Rattle.{std.proofs.Common.{◌≡◌, ◌<◌, ℕ, zero, suc, List, [], ◌∷◌, length, get_or, refl, ap, arith}, desk_model.specs.claim.Geography.{id_at, ids_of}}
+use Rattle.desk_model.specs.declared.block.BlockRow.{BlockRow}
 
 pub id_there : (xs : List BlockRow) (k : ℕ) (row : BlockRow) → k < length xs → id_at xs k ≡ (get_or xs k row).id
 id_there [] k row less = absurd (omega arith)

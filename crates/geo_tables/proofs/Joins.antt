@@ -1,14 +1,10 @@
 -- A transaction that is begun, whose rows are put, and that is committed then.
-use Rattle.std.{specs.Prelude.◌⊎◌, proofs.Common.{◌≡◌, ◌+◌, ◌*◌, ◌≤◌, ℕ, length, false, sym, subst, ◌∙◌, inl, ⊎_elim, arith}}
-use Rattle.sector_device.{specs.claim.Disk.{Disk, Image}, specs.claim.Moments.LeavesOnly, specs.declared.SectorDevice.Ghosts, proofs.Moments.{leaves_more, leaves_wider}}
-use Rattle.page_store.specs.{gate_journal.claim.Store.home, claim.Chain.free_in}
-use Rattle.page_store.specs.{claim.Transactions.{stored, disk_in, count_of, journal_of, has_halted, txn_free, HasFailed, HasShape, IsQuiet, Passed}, declared.pages.Pages.Pages}
-use Rattle.page_store.{specs.declared.txn.Txn.Txn, proofs.Stops.{leaves_here, leaves_quiet}}
-use Rattle.page_btree.specs.claim.Map.{InTxn as TxnHolds, InPages as PagesHold}
-use Rattle.desk_model.specs.claim.Desk.{Desk}
-use Rattle.store_rows.specs.claim.Rows.{KeyMap}
-use Rattle.desk_pages.{specs.claim.Desks.{InPages, InTxn, OpensDesk}, specs.Commits.Leaves, proofs.Kept.opens_now}
-use Rattle.geo_tables.specs.{Starting.IsStarted, Refusals.HasRoom}
+use Rattle.{std.{specs.Prelude.◌⊎◌, proofs.Common.{◌≡◌, ◌+◌, ◌*◌, ◌≤◌, ℕ, length, false, sym, subst, ◌∙◌, inl, ⊎_elim, arith}}, desk_model.specs.claim.Desk.Desk}
+use Rattle.{desk_pages.specs.{Commits.Leaves, claim.Desks.{InPages, InTxn, OpensDesk}}, geo_tables.specs.{Refusals.HasRoom, Starting.IsStarted}, store_rows.specs.claim.Rows.KeyMap}
+use Rattle.{page_btree.specs.claim.Map.{InTxn as TxnHolds, InPages as PagesHold}, page_store.specs.{claim.Chain.free_in, declared.{pages.Pages.Pages, txn.Txn.Txn}}}
+use Rattle.page_store.specs.{claim.Transactions.{stored, disk_in, count_of, journal_of, has_halted, txn_free, HasFailed, HasShape, IsQuiet, Passed}, gate_journal.claim.Store.home}
+use Rattle.{sector_device.specs.{claim.{Disk.{Disk, Image}, Moments.LeavesOnly}, declared.SectorDevice.Ghosts}, desk_pages.proofs.Kept.opens_now}
+use Rattle.{page_store.proofs.Stops.{leaves_here, leaves_quiet}, sector_device.proofs.Moments.{leaves_more, leaves_wider}}
 
 -- a commit of what opens to the same desk
 pub one_leaves : (sectors : ℕ) (d : Desk) (old new : Disk) → LeavesOnly (λ x. OpensDesk sectors d x ⊎ OpensDesk sectors d x) old new → LeavesOnly (OpensDesk sectors d) old new

@@ -1,14 +1,11 @@
 -- What the rows of a load make of a map that is a desk's.
-use Rattle.std.proofs.Common.{◌≡◌, ◌<◌, ◌≤◌, ◌+◌, ◌-◌, ◌^◌, ℕ, List, [], length, Some, None, sym, ap, subst, ◌∙◌, inl, inr, arith}
-use Rattle.std.proofs.lemmas.Bool.{cases_lt}
-use Rattle.desk_model.specs.{claim.Geography.GeographyModel, claim.GeographyModels.IsGeographyModel, claim.Desk.Desk}
-use Rattle.store_rows.specs.{claim.Keys.{begun, seal}, declared.value.Counters.Counters, declared.value.SealRow.SealRow, claim.Rows.{KeyMap, Has, Lacks}}
-use Rattle.store_rows.specs.{claim.Puts.{Row, put_rows}, claim.GeographyRows.{IsStaged, geography_rows}, claim.DeskRows.IsDesk, Changes.desk_with, Staging.desk_without}
-use Rattle.store_rows.{specs.Steps.IsLoadKey, specs.claim.Tidy.{IsNext, CountersFit, Tidy}, proofs.TidyFree.one_next}
-use Rattle.store_rows.proofs.{TidyLoads.{begun_tidy, begun_unstaged, sealed_tidy, staged_tidy}, PutAll.told_all}
-use Rattle.geo_tables.{specs.Rows.{begun_rows, staged_row, staged_rows}, specs.Loads.sealed_rows, proofs.LoadRows.{begun_desk, batch_tag, batch_unseen, sealed_desk}}
-use Rattle.geo_tables.proofs.Staging.{is_block, is_pair}
-use Rattle.desk_pages.specs.claim.Desks.{IsDeskMap}
+use Rattle.std.proofs.{Common.{◌≡◌, ◌<◌, ◌≤◌, ◌+◌, ◌-◌, ◌^◌, ℕ, List, [], length, Some, None, sym, ap, subst, ◌∙◌, inl, inr, arith}, lemmas.Bool.cases_lt}
+use Rattle.{desk_model.specs.claim.{Desk.Desk, Geography.GeographyModel, GeographyModels.IsGeographyModel}, desk_pages.specs.claim.Desks.IsDeskMap}
+use Rattle.{geo_tables.specs.{Loads.sealed_rows, Rows.{begun_rows, staged_row, staged_rows}}, store_rows.specs.{Changes.desk_with, Staging.desk_without, Steps.IsLoadKey}}
+use Rattle.store_rows.specs.claim.{DeskRows.IsDesk, GeographyRows.{IsStaged, geography_rows}, Keys.{begun, seal}, Puts.{Row, put_rows}, Rows.{KeyMap, Has, Lacks}}
+use Rattle.{store_rows.specs.{claim.Tidy.{IsNext, CountersFit, Tidy}, declared.value.{Counters.Counters, SealRow.SealRow}}, geo_tables.proofs.Staging.{is_block, is_pair}}
+use Rattle.{geo_tables.proofs.LoadRows.{begun_desk, batch_tag, batch_unseen, sealed_desk}, store_rows.proofs.{PutAll.told_all, TidyFree.one_next}}
+use Rattle.store_rows.proofs.TidyLoads.{begun_tidy, begun_unstaged, sealed_tidy, staged_tidy}
 
 -- ---- what a desk's map says of the seal
 pub no_geography : (m : KeyMap) (d : Desk) → IsDesk m d → Lacks m seal → d.geography ≡ None
@@ -26,12 +23,7 @@ begun_is m d next is is_next fits more =
     let same : next ≡ is.tidy.next = one_next m next is.tidy.next fits is.tidy.fits is_next is.tidy.is_next in
     let begun = begun_tidy m is.tidy (subst (λ (c : Counters). c.load + 1 < 2 ^ 64) same more) in
     let after = subst (λ (c : Counters). (then : Tidy (put_rows m (begun_rows c))) × (then.new ≡ is.tidy.new)) (sym same) (begun.0, begun.2) in
-    record {
-      desk = begun_desk m next d is.desk;
-      tidy = after.0;
-      version = after.1 ∙ is.version;
-      limits = is.limits;
-    }
+    record { desk = begun_desk m next d is.desk; tidy = after.0; version = after.1 ∙ is.version; limits = is.limits }
 
 pub begun_none : (m : KeyMap) (d : Desk) (next : Counters) (g : GeographyModel) → IsDeskMap m d → IsNext m next → CountersFit next → next.load + 1 < 2 ^ 64 → IsStaged (put_rows m (begun_rows next)) next.load g 0
 begun_none m d next g is is_next fits more =

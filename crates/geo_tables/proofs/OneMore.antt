@@ -1,16 +1,11 @@
 -- One element more of those that a load's rows hold.
-use Rattle.std.specs.{Prelude.{option_map, Result, Ok, Err, MatchResult}, FinMap.get as row_at, List.slice_get}
+use Rattle.std.{specs.{FinMap.get as row_at, List.slice_get, Prelude.{option_map, Result, Ok, Err, MatchResult}}, proofs.lemmas.{Bool.cases_lt, List.{take_all, take_more}}}
 use Rattle.std.proofs.Common.{◌≡◌, ◌<◌, ◌+◌, ℕ, zero, suc, List, [], ◌∷◌, ◌++◌, length, length-append, take, Some, refl, sym, ap, subst, ◌∙◌, arith}
-use Rattle.std.proofs.lemmas.Bool.{cases_lt}
-use Rattle.std.proofs.lemmas.List.{take_all, take_more}
-use Rattle.std.proofs.lemmas.List.Elements.{All-push}
-use Rattle.std.proofs.lemmas.Option.{get_or_from_slice_get}
-use Rattle.sector_device.specs.declared.SectorDevice.{Ghosts}
-use Rattle.page_store.specs.{claim.Transactions.{stored, disk_in, Passed}, declared.pages.Pages.Pages, declared.txn.Txn.Txn}
-use Rattle.page_btree.specs.{claim.Map.InTxn, declared.error.TreeError.TreeError, declared.error.TreeError.TheVariants.{DeviceFault, NotAStore, Halted, NoPages, TooDeep, Memory}}
-use Rattle.store_rows.specs.claim.Rows.{KeyMap}
-use Rattle.desk_pages.{specs.Looking.{Gathers, IsOnly, Says}, proofs.Looking.{looked, not_looked}, proofs.Reading.one_value}
-use Rattle.geo_tables.specs.Elements.{AddsOne, HoldsElement, HoldsElements, IsIn, ValueErr}
+use Rattle.{std.proofs.lemmas.{List.Elements.All-push, Option.get_or_from_slice_get}, desk_pages.specs.Looking.{Gathers, IsOnly, Says}, page_btree.specs.claim.Map.InTxn}
+use Rattle.{geo_tables.specs.Elements.{AddsOne, HoldsElement, HoldsElements, IsIn, ValueErr}, page_btree.specs.declared.error.TreeError.TreeError}
+use Rattle.{page_btree.specs.declared.error.TreeError.TheVariants.{DeviceFault, NotAStore, Halted, NoPages, TooDeep, Memory}, page_store.specs.declared.pages.Pages.Pages}
+use Rattle.{page_store.specs.{claim.Transactions.{stored, disk_in, Passed}, declared.txn.Txn.Txn}, sector_device.specs.declared.SectorDevice.Ghosts}
+use Rattle.{store_rows.specs.claim.Rows.KeyMap, desk_pages.proofs.{Looking.{looked, not_looked}, Reading.one_value}}
 
 there : {X : Type 0} (xs : List X) (place : ℕ) → place < length xs → (x : X) × (slice_get xs place ≡ Some x)
 there [] place less = absurd (omega arith)

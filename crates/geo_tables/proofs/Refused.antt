@@ -1,21 +1,16 @@
 -- Why a step of a load is refused, from why its parts are.
-use Rattle.std.specs.FinMap.{get as row_at}
+use Rattle.{std.{specs.FinMap.get as row_at, proofs.lemmas.Bool.cases_lt}, desk_model.specs.claim.{Desk.Desk, Geography.GeographyModel}, desk_pages.specs.Commits.FittingErr}
 use Rattle.std.proofs.Common.{◌≡◌, ◌+◌, ◌*◌, ◌≤◌, ◌<◌, ◌^◌, ℕ, Bool, List, ◌∷◌, [], Option, Some, None, length, false, true, refl, sym, subst, ◌∙◌, inl, inr, arith}
-use Rattle.std.proofs.lemmas.Bool.{cases_lt}
-use Rattle.sector_device.specs.{claim.Disk.Image, declared.SectorDevice.Ghosts}
-use Rattle.page_store.specs.{claim.Transactions.{stored, disk_in, journal_of, has_halted, txn_free, txn_root, over, IsQuiet, Passed}, declared.pages.Pages.Pages}
-use Rattle.page_store.{specs.declared.txn.Txn.Txn, proofs.Stops.{quiet_more, quiet_none}}
-use Rattle.page_btree.specs.{claim.Errors.level_in, claim.Map.{InTxn as TxnHolds, InPages as HoldsRows}, declared.error.TreeError.TreeError}
+use Rattle.desk_pages.specs.{Errors.tree_refusal, Reading.{HasNext, ReadErr, StandsAs}, claim.{Desks.{IsDeskMap, InPages}, Puts.PutsErr}, declared.error.StoreError.StoreError}
+use Rattle.{desk_pages.specs.declared.error.StoreError.TheVariants.{Full, Memory, NotAStore, DeviceFault, Halted}, geo_tables.specs.Loads.{AreExhausted, IsNotBegun, BeginErr}}
+use Rattle.geo_tables.specs.{Loading.{number_of, geography_model_of, done_of}, Rows.{begun_rows, staged_rows, seal_row}, Starting.{IsStarted, StartErr}, declared.load.Load.Load}
+use Rattle.{geo_tables.specs.Refusals.{HasRoom, IsShort, IsDeep, AreBegun, NextErr, SealedErr, BatchErr, SealErr, BeginErr as Begins}, page_btree.specs.claim.Errors.level_in}
+use Rattle.{page_btree.specs.{claim.Map.{InTxn as TxnHolds, InPages as HoldsRows}, declared.error.TreeError.TreeError}, page_store.specs.declared.{pages.Pages.Pages, txn.Txn.Txn}}
+use Rattle.{page_store.specs.claim.Transactions.{stored, disk_in, journal_of, has_halted, txn_free, txn_root, over, IsQuiet, Passed}, sector_device.specs.claim.Disk.Image}
+use Rattle.{sector_device.specs.declared.SectorDevice.Ghosts, store_rows.specs.claim.{GeographyRows.IsGeography, Keys.{key_of, seal}, Puts.{Row, put_rows}, Rows.{KeyMap, Lacks}}}
+use Rattle.{store_rows.specs.{claim.Values.seal_bytes, declared.value.SealRow.SealRow}, geo_tables.proofs.Joins.{failed_after, room_of, quiet_rows, quiet_desk}}
+use Rattle.{geo_tables.proofs.Maps.{has_geography, no_geography}, page_store.proofs.Stops.{quiet_more, quiet_none}, store_rows.proofs.Puts.length-rows_told}
 use Rattle.page_btree.specs.declared.error.TreeError.TheVariants as tree
-use Rattle.desk_model.specs.{claim.Geography.GeographyModel, claim.Desk.Desk}
-use Rattle.store_rows.specs.{claim.Keys.{key_of, seal}, claim.Values.seal_bytes, declared.value.SealRow.SealRow, claim.Rows.{KeyMap, Lacks}, claim.Puts.{Row, put_rows}}
-use Rattle.store_rows.{specs.claim.GeographyRows.IsGeography, proofs.Puts.length-rows_told}
-use Rattle.desk_pages.specs.{claim.Puts.PutsErr, Reading.{HasNext, ReadErr, StandsAs}, claim.Desks.{IsDeskMap, InPages}, declared.error.StoreError.StoreError}
-use Rattle.desk_pages.specs.{declared.error.StoreError.TheVariants.{Full, Memory, NotAStore, DeviceFault, Halted}, Errors.tree_refusal, Commits.FittingErr}
-use Rattle.geo_tables.specs.{Rows.{begun_rows, staged_rows, seal_row}, Loads.{AreExhausted, IsNotBegun, BeginErr}, declared.load.Load.Load}
-use Rattle.geo_tables.specs.Loading.{number_of, geography_model_of, done_of}
-use Rattle.geo_tables.specs.{Refusals.{HasRoom, IsShort, IsDeep, AreBegun, NextErr, SealedErr, BatchErr, SealErr, BeginErr as Begins}, Starting.{IsStarted, StartErr}}
-use Rattle.geo_tables.proofs.{Joins.{failed_after, room_of, quiet_rows, quiet_desk}, Maps.{has_geography, no_geography}}
 
 pub both : {X : Type 0} (b : Bool) → b ≡ true → b ≡ false → X
 both b one other = absurd (cc)

@@ -1,10 +1,7 @@
 -- Rows that are put after others, or not.
-use Rattle.std.proofs.Common.{[], ◌∷◌, arith}
-use Rattle.sector_device.specs.declared.SectorDevice.{Ghosts}
-use Rattle.page_store.specs.{claim.Transactions.IsQuiet, declared.pages.Pages.Pages, declared.txn.Txn.Txn}
-use Rattle.page_btree.specs.{claim.Errors.RemoveErr, declared.error.TreeError.TreeError}
-use Rattle.store_rows.specs.claim.Puts.{Row}
-use Rattle.desk_pages.{specs.claim.Puts.{HasPut, PutsErr}, proofs.RowsPut.then_not_put}
+use Rattle.{std.proofs.Common.{[], ◌∷◌, arith}, desk_pages.specs.claim.Puts.{HasPut, PutsErr}, page_btree.specs.{claim.Errors.RemoveErr, declared.error.TreeError.TreeError}}
+use Rattle.{page_store.specs.{claim.Transactions.IsQuiet, declared.{pages.Pages.Pages, txn.Txn.Txn}}, sector_device.specs.declared.SectorDevice.Ghosts}
+use Rattle.{store_rows.specs.claim.Puts.Row, desk_pages.proofs.RowsPut.then_not_put}
 
 module _ {D : Type 0} {g : Ghosts D} where
   -- a row was put, and then another not removed

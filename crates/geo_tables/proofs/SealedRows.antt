@@ -1,12 +1,9 @@
 -- The seal tells the rows of its geography.
 use Rattle.std.{specs.Int.from_be_bytes, proofs.Common.{◌≡◌, ◌-◌, ℕ, List, length, take, drop, All, Option, Some, None, refl, sym, ap, subst, ◌∙◌, w32, w64, arith}}
-use Rattle.std.proofs.lemmas.List.{take_all}
-use Rattle.std.proofs.lemmas.Nat.{from_be_bytes-to_be_bytes_4, from_be_bytes-to_be_bytes_8}
-use Rattle.desk_model.specs.{declared.block.BlockRow.BlockRow, declared.geography.Pair.Pair, claim.Geography.GeographyModel}
-use Rattle.store_rows.specs.{claim.Keys.{key_of, seal}, claim.Values.{block_bytes, seal_bytes}, declared.value.SealRow.SealRow, claim.Rows.{KeyMap, Lacks, element_row}}
-use Rattle.store_rows.{specs.claim.GeographyRows.{IsBlockRow, IsSealed, IsGeography, geography_rows, neighbours_bytes}, proofs.OneGeography.no_value}
-use Rattle.desk_pages.specs.Reading.{StandsAs}
-use Rattle.geo_tables.specs.Elements.{IsSealedAs, IsSealRow}
+use Rattle.{std.proofs.lemmas.{List.take_all, Nat.{from_be_bytes-to_be_bytes_4, from_be_bytes-to_be_bytes_8}}, desk_model.specs.claim.Geography.GeographyModel}
+use Rattle.{desk_model.specs.declared.{block.BlockRow.BlockRow, geography.Pair.Pair}, desk_pages.specs.Reading.StandsAs, geo_tables.specs.Elements.{IsSealedAs, IsSealRow}}
+use Rattle.store_rows.specs.claim.{GeographyRows.{IsBlockRow, IsSealed, IsGeography, geography_rows, neighbours_bytes}, Keys.{key_of, seal}, Rows.{KeyMap, Lacks, element_row}}
+use Rattle.store_rows.{specs.{claim.Values.{block_bytes, seal_bytes}, declared.value.SealRow.SealRow}, proofs.OneGeography.no_value}
 
 -- the seal's row of a geography
 seal_of : ℕ → GeographyModel → SealRow

@@ -1,15 +1,13 @@
 -- Rows of a load that are put and committed.
-use Rattle.std.proofs.Common.{◌≡◌, ◌+◌, ◌≤◌, ◌<◌, ◌^◌, ℕ, List, [], length, sym, subst, ◌∙◌, arith}
-use Rattle.sector_device.specs.declared.SectorDevice.{Ghosts}
-use Rattle.page_store.specs.{claim.Transactions.{stored, disk_in, journal_of, txn_writes}, declared.pages.Pages.Pages, declared.txn.Txn.Txn}
-use Rattle.page_btree.specs.claim.Map.{InTxn as TxnHolds, InPages as PagesHold}
-use Rattle.desk_model.specs.{claim.Geography.GeographyModel, claim.GeographyModels.IsGeographyModel, claim.Desk.Desk}
-use Rattle.store_rows.specs.{claim.Keys.{begun, seal}, declared.value.Counters.Counters, claim.Rows.{KeyMap, Has, Lacks}, claim.Puts.{Row, put_rows}, Changes.desk_with}
-use Rattle.store_rows.{specs.claim.GeographyRows.{IsStaged, geography_rows}, specs.claim.Tidy.{IsNext, CountersFit}, proofs.Puts.length-rows_told}
-use Rattle.desk_pages.specs.{claim.Puts.HasPut, claim.Desks.{InTxn, InPages}}
-use Rattle.geo_tables.specs.{Rows.{begun_rows, staged_row, staged_rows}, Loads.{HasBegun, HasSealed, sealed_rows}, Staging.Stages, declared.load.Load.Load}
-use Rattle.geo_tables.specs.{Loading.{HoldsLoad, HoldsFurther, HoldsNew, number_of, geography_model_of, done_of}, Starting.IsStarted}
-use Rattle.geo_tables.proofs.{LoadRows.{begun_mark, begun_unsealed}, Joins.reads_then, Maps.{begun_is, begun_none, batch_is, batch_mark, batch_unsealed, seal_is}}
+use Rattle.{std.proofs.Common.{◌≡◌, ◌+◌, ◌≤◌, ◌<◌, ◌^◌, ℕ, List, [], length, sym, subst, ◌∙◌, arith}, desk_model.specs.claim.{Desk.Desk, Geography.GeographyModel}}
+use Rattle.{desk_model.specs.claim.GeographyModels.IsGeographyModel, desk_pages.specs.claim.{Desks.{InTxn, InPages}, Puts.HasPut}, geo_tables.specs.Staging.Stages}
+use Rattle.geo_tables.specs.{Loading.{HoldsLoad, HoldsFurther, HoldsNew, number_of, geography_model_of, done_of}, Loads.{HasBegun, HasSealed, sealed_rows}, Starting.IsStarted}
+use Rattle.{geo_tables.specs.{Rows.{begun_rows, staged_row, staged_rows}, declared.load.Load.Load}, page_btree.specs.claim.Map.{InTxn as TxnHolds, InPages as PagesHold}}
+use Rattle.{page_store.specs.{claim.Transactions.{stored, disk_in, journal_of, txn_writes}, declared.{pages.Pages.Pages, txn.Txn.Txn}}, store_rows.specs.Changes.desk_with}
+use Rattle.{sector_device.specs.declared.SectorDevice.Ghosts, store_rows.specs.claim.{GeographyRows.{IsStaged, geography_rows}, Keys.{begun, seal}, Puts.{Row, put_rows}}}
+use Rattle.{store_rows.specs.{claim.{Rows.{KeyMap, Has, Lacks}, Tidy.{IsNext, CountersFit}}, declared.value.Counters.Counters}, geo_tables.proofs.Joins.reads_then}
+use Rattle.geo_tables.proofs.{LoadRows.{begun_mark, begun_unsealed}, Maps.{begun_is, begun_none, batch_is, batch_mark, batch_unsealed, seal_is}}
+use Rattle.store_rows.proofs.Puts.{length-rows_told}
 
 -- the rows of a load that are put next
 abbrev pub rows_of : Load → ℕ → List Row

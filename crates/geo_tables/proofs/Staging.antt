@@ -1,12 +1,10 @@
 -- Lemmas on the definitions of Staging.
-use Rattle.std.specs.{Prelude.{◌≡◌, ◌<◌, ◌≤◌, ◌+◌, ◌-◌, ◌^◌, ℕ, List, [], ◌∷◌, length, Some, option_map, cond, get_or}, List.slice_get, FinMap.insert}
-use Rattle.std.proofs.Common.{zero, suc, refl, sym, ap, subst, inl, inr, arith}
-use Rattle.std.proofs.lemmas.Bool.{cases_lt, lt-ltb, le-ltb}
-use Rattle.std.proofs.lemmas.Option.{slice_get_within, slice_get_read, slice_get-get_or}
-use Rattle.desk_model.specs.{declared.block.BlockRow.BlockRow, declared.geography.Pair.Pair, claim.Geography.GeographyModel}
-use Rattle.store_rows.specs.{claim.Values.block_bytes, claim.Keys.{key_of, block, pair}, claim.Rows.{KeyMap, element_row}, claim.Puts.{Row, put_rows}}
-use Rattle.store_rows.{specs.claim.GeographyRows.{IsBlockRow, IsStaged, geography_rows, neighbours_bytes}, proofs.Puts.put_rows-append, proofs.Staging.{block_staged, pair_staged}}
-use Rattle.geo_tables.specs.{Rows.{bytes_in, block_at, pair_at, staged_row, staged_rows}, Staging.Stages}
+use Rattle.std.specs.{FinMap.insert, List.slice_get, Prelude.{◌≡◌, ◌<◌, ◌≤◌, ◌+◌, ◌-◌, ◌^◌, ℕ, List, [], ◌∷◌, length, Some, option_map, cond, get_or}}
+use Rattle.{std.proofs.{Common.{zero, suc, refl, sym, ap, subst, inl, inr, arith}, lemmas.Bool.{cases_lt, lt-ltb, le-ltb}}, desk_model.specs.claim.Geography.GeographyModel}
+use Rattle.{std.proofs.lemmas.Option.{slice_get_within, slice_get_read, slice_get-get_or}, desk_model.specs.declared.{block.BlockRow.BlockRow, geography.Pair.Pair}}
+use Rattle.{geo_tables.specs.{Rows.{bytes_in, block_at, pair_at, staged_row, staged_rows}, Staging.Stages}, store_rows.specs.claim.{Keys.{key_of, block, pair}, Values.block_bytes}}
+use Rattle.store_rows.specs.claim.{GeographyRows.{IsBlockRow, IsStaged, geography_rows, neighbours_bytes}, Puts.{Row, put_rows}, Rows.{KeyMap, element_row}}
+use Rattle.store_rows.proofs.{Puts.put_rows-append, Staging.{block_staged, pair_staged}}
 
 -- the block at a place, where there is one, fits in its row
 abbrev pub FitsAt : GeographyModel → ℕ → Type 0

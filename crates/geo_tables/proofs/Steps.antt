@@ -1,9 +1,8 @@
 -- What a commit of rows comes to, exit by exit.
-use Rattle.std.{specs.Prelude.{Result, IfErr, IsErrAnd, OnOk}, proofs.Common.{◌≡◌, ℕ, Ok, Err, false, true, refl, ◌∙◌, arith}}
-use Rattle.sector_device.specs.declared.SectorDevice.{Ghosts}
+use Rattle.{std.{specs.Prelude.{Result, IfErr, IsErrAnd, OnOk}, proofs.Common.{◌≡◌, ℕ, Ok, Err, false, true, refl, ◌∙◌, arith}}, desk_pages.specs.Commits.FittingErr}
+use Rattle.{desk_pages.specs.declared.error.StoreError.{StoreError, TheVariants.Halted}, geo_tables.specs.{Refusals.{CommitsRows, HasRoom}, Starting.StartErr}}
 use Rattle.page_store.specs.{claim.Transactions.{disk_in, has_halted, HasShape, IsKept, IsQuiet, Passed}, declared.pages.Pages.Pages}
-use Rattle.desk_pages.specs.{Commits.FittingErr, declared.error.StoreError.StoreError, declared.error.StoreError.TheVariants.Halted}
-use Rattle.geo_tables.{specs.Refusals.{CommitsRows, HasRoom}, specs.Starting.StartErr, proofs.Joins.{quiet_shape, shape_after}, proofs.Refused.{both, room_after}}
+use Rattle.{sector_device.specs.declared.SectorDevice.Ghosts, geo_tables.proofs.{Joins.{quiet_shape, shape_after}, Refused.{both, room_after}}}
 
 module _ {D T : Type 0} {g : Ghosts D} {rows : ℕ} {failed : StoreError → Type 0} {a b : Pages D g} where
   -- pages that work were not changed but for a fault

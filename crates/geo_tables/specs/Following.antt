@@ -1,8 +1,6 @@
 -- A scan that goes along while rows are read by their places.
-use Rattle.std.specs.{Prelude.{◌≡◌, ℕ, List, [], ◌∷◌, Bool, true, false, Some}, FinMap.{entries, get as row_at}}
-use Rattle.page_btree.specs.page_node.claim.Entries.{Entry}
-use Rattle.btree_walks.specs.{Scanning.Rest, declared.rows.Row.Row, declared.scans.Scan.Scan}
-use Rattle.store_rows.specs.claim.Rows.{KeyMap}
+use Rattle.std.specs.{FinMap.{entries, get as row_at}, Prelude.{◌≡◌, ℕ, List, [], ◌∷◌, Bool, true, false, Some}}
+use Rattle.{btree_walks.specs.{Scanning.Rest, declared.{rows.Row.Row, scans.Scan.Scan}}, page_btree.specs.page_node.claim.Entries.Entry, store_rows.specs.claim.Rows.KeyMap}
 
 -- each of some rows is one of the map
 abbrev pub AreIn : KeyMap → List Entry → Type 0

@@ -1,9 +1,9 @@
 -- What holds of the rows of loads.
-use Rattle.std.specs.{Prelude.{◌<◌, ◌^◌, ℕ, [], length}, FinMap.FinMap}
-use Rattle.desk_model.specs.{claim.Geography.GeographyModel, claim.GeographyModels.IsGeographyModel, claim.Desk.{Desk, Plan, name_cmp}}
-use Rattle.store_rows.specs.{claim.Keys.{begun, block, pair, seal}, declared.value.Counters.Counters, claim.Rows.{KeyMap, Has, Lacks}, claim.Puts.put_rows}
-use Rattle.store_rows.specs.{claim.GeographyRows.{IsSealed, IsStaged, geography_rows}, claim.DeskRows.IsDesk, Changes.desk_with, Staging.desk_without, claim.Tidy.IsNext}
-use Rattle.geo_tables.specs.{Rows.{begun_rows, load_taken, staged_rows}, Loads.sealed_rows}
+use Rattle.std.specs.{FinMap.FinMap, Prelude.{◌<◌, ◌^◌, ℕ, [], length}}
+use Rattle.{desk_model.specs.claim.{Desk.{Desk, Plan, name_cmp}, Geography.GeographyModel, GeographyModels.IsGeographyModel}, geo_tables.specs.Loads.sealed_rows}
+use Rattle.{geo_tables.specs.Rows.{begun_rows, load_taken, staged_rows}, store_rows.specs.{Changes.desk_with, Staging.desk_without, claim.{DeskRows.IsDesk, Puts.put_rows}}}
+use Rattle.store_rows.specs.claim.{GeographyRows.{IsSealed, IsStaged, geography_rows}, Keys.{begun, block, pair, seal}, Rows.{KeyMap, Has, Lacks}, Tidy.IsNext}
+use Rattle.store_rows.specs.declared.value.Counters.{Counters}
 
 -- A load that is begun is marked, and the next load gets another number. The desk stays. No row of the load is staged where
 -- none stood under its number.

@@ -1,12 +1,9 @@
 -- Loads that are begun and sealed.
-use Rattle.std.specs.{Prelude.{◌≡◌, ◌⊎◌, ◌<◌, ◌≤◌, ◌+◌, ◌^◌, ℕ, Option, MatchOption}, FinMap.{insert, remove}}
-use Rattle.sector_device.specs.declared.SectorDevice.{Ghosts}
-use Rattle.page_store.specs.{claim.Transactions.{stored, disk_in, txn_pages, txn_free, txn_writes, Passed}, declared.pages.Pages.Pages, declared.txn.Txn.Txn}
-use Rattle.page_btree.specs.{claim.Map.InTxn, declared.error.TreeError.TreeError}
-use Rattle.desk_model.specs.claim.Geography.{GeographyModel}
-use Rattle.store_rows.specs.{claim.Keys.{key_of, begun}, declared.value.Counters.Counters, claim.Rows.KeyMap, claim.Tidy.IsNext}
-use Rattle.desk_pages.specs.{claim.Puts.{HasPut, PutsErr}, Reading.{HasNext, ReadErr}}
-use Rattle.geo_tables.specs.Rows.{begun_rows, seal_row}
+use Rattle.std.specs.{FinMap.{insert, remove}, Prelude.{◌≡◌, ◌⊎◌, ◌<◌, ◌≤◌, ◌+◌, ◌^◌, ℕ, Option, MatchOption}}
+use Rattle.{desk_model.specs.claim.Geography.GeographyModel, desk_pages.specs.{Reading.{HasNext, ReadErr}, claim.Puts.{HasPut, PutsErr}}, page_btree.specs.claim.Map.InTxn}
+use Rattle.{geo_tables.specs.Rows.{begun_rows, seal_row}, page_btree.specs.declared.error.TreeError.TreeError, page_store.specs.declared.{pages.Pages.Pages, txn.Txn.Txn}}
+use Rattle.{page_store.specs.claim.Transactions.{stored, disk_in, txn_pages, txn_free, txn_writes, Passed}, sector_device.specs.declared.SectorDevice.Ghosts}
+use Rattle.store_rows.specs.{claim.{Keys.{key_of, begun}, Rows.KeyMap, Tidy.IsNext}, declared.value.Counters.Counters}
 
 -- the rows after the seal: that row is put, and the one that the load was begun with is gone
 abbrev pub sealed_rows : ℕ → GeographyModel → KeyMap → KeyMap

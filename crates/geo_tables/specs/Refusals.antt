@@ -1,14 +1,11 @@
 -- Why a load goes no further.
 use Rattle.std.specs.Prelude.{◌≡◌, ◌⊎◌, ◌<◌, ◌≤◌, ◌+◌, ◌*◌, ◌^◌, ℕ, List, [], ◌∷◌, length, Some, None, true, Result, Err, OnOk}
-use Rattle.sector_device.specs.declared.SectorDevice.{Ghosts}
-use Rattle.page_store.specs.{claim.Chain.free_in, claim.Transactions.{stored, disk_in, journal_of, has_halted, HasFailed, IsQuiet, IsSame, Passed}, declared.pages.Pages.Pages}
-use Rattle.page_store.specs.declared.txn.Txn.{Txn}
-use Rattle.page_btree.specs.claim.Map.{InPages as HoldsRows}
-use Rattle.desk_model.specs.{claim.Geography.GeographyModel, claim.Desk.Desk}
-use Rattle.store_rows.specs.{declared.value.Counters.Counters, claim.Keys.seal, claim.Rows.{KeyMap, Lacks}, claim.Puts.Row, claim.Tidy.IsNext}
-use Rattle.desk_pages.specs.{claim.Puts.HasDeepened, claim.Desks.InPages, Commits.Commits, declared.error.StoreError.StoreError}
-use Rattle.desk_pages.specs.declared.error.StoreError.TheVariants.{AlreadySealed, Full, Memory, NotAStore, DeviceFault, Halted}
-use Rattle.geo_tables.specs.{Rows.{begun_rows, staged_rows, seal_row}, declared.load.Load.Load, Loading.{HoldsLoad, number_of, geography_model_of, done_of}}
+use Rattle.{desk_model.specs.claim.{Desk.Desk, Geography.GeographyModel}, desk_pages.specs.{Commits.Commits, claim.{Desks.InPages, Puts.HasDeepened}}}
+use Rattle.{desk_pages.specs.declared.error.StoreError.{StoreError, TheVariants.{AlreadySealed, Full, Memory, NotAStore, DeviceFault, Halted}}, store_rows.specs.claim.Keys.seal}
+use Rattle.geo_tables.specs.{Loading.{HoldsLoad, number_of, geography_model_of, done_of}, Rows.{begun_rows, staged_rows, seal_row}, declared.load.Load.Load}
+use Rattle.{page_btree.specs.claim.Map.InPages as HoldsRows, page_store.specs.{claim.Chain.free_in, declared.{pages.Pages.Pages, txn.Txn.Txn}}, store_rows.specs.claim.Puts.Row}
+use Rattle.{page_store.specs.claim.Transactions.{stored, disk_in, journal_of, has_halted, HasFailed, IsQuiet, IsSame, Passed}, sector_device.specs.declared.SectorDevice.Ghosts}
+use Rattle.store_rows.specs.{claim.{Rows.{KeyMap, Lacks}, Tidy.IsNext}, declared.value.Counters.Counters}
 
 -- the rows with which the next load begins
 abbrev pub AreBegun : KeyMap → List Row → Type 0

@@ -1,5 +1,5 @@
 -- Bytes that are taken after turns that took none.
-use Rattle.std.{specs.Io.KnownBytes.{Consumes, Keeps}, proofs.Common.{ℕ, List, [], None, Some, Option, sym, ◌∙◌}, proofs.KnownBytes.{Keeps-refl, Keeps-trans}}
+use Rattle.std.{specs.Io.KnownBytes.{Consumes, Keeps}, proofs.{Common.{ℕ, List, [], None, Some, Option, sym, ◌∙◌}, KnownBytes.{Keeps-refl, Keeps-trans}}}
 
 pub still : (a : Option (List ℕ)) → Keeps a a
 still a = Keeps-refl a

@@ -1,7 +1,7 @@
 -- How long a connection is kept, in milliseconds.
 use Rattle.std.specs.Prelude.{◌≡◌, ◌<◌, ℕ, ◌+◌, ◌-◌, ◌*◌, nat_lt, nat_le, Bool, true, false, ◌||◌, if◌then◌else◌}
-use Rattle.byte_stream.specs.{claim.Counts.counted, declared.source.Turn.Turn, declared.source.Turn.TheVariants.{Read, Interrupted, Failed}}
-use Rattle.http_connections.specs.{declared.pace.Fate.Fate, declared.pace.Fate.TheVariants.{Waits, GivesWay, Fails}, declared.pace.Limits.Limits, declared.pace.Pace.Pace}
+use Rattle.{byte_stream.specs.{claim.Counts.counted, declared.source.Turn.{Turn, TheVariants.{Read, Interrupted, Failed}}}, http_connections.specs.declared.pace.Fate.Fate}
+use Rattle.http_connections.specs.declared.pace.{Fate.TheVariants.{Waits, GivesWay, Fails}, Limits.Limits, Pace.Pace}
 
 -- nothing was asked
 abbrev pub new_pace : Pace

@@ -1,8 +1,7 @@
 -- The bytes of a short answer.
-use Rattle.std.{specs.Option.option_map, proofs.Common.{◌≡◌, ◌∙◌, ℕ, List, Bool, None, refl}}
-use Rattle.http_wire.specs.{declared.response.ContentType.TheVariants.Json, claim.Answer.answer_text}
-use Rattle.http_routes.specs.claim.Methods.{methods_text}
-use Rattle.http_desk.specs.{declared.answer.AnswerHead.AnswerHead, claim.Answers.{bytes_of, saying}, claim.Bodies.error_body}
+use Rattle.{std.{specs.Option.option_map, proofs.Common.{◌≡◌, ◌∙◌, ℕ, List, Bool, None, refl}}, http_desk.specs.claim.{Answers.{bytes_of, saying}, Bodies.error_body}}
+use Rattle.{http_desk.specs.declared.answer.AnswerHead.AnswerHead, http_routes.specs.claim.Methods.methods_text, http_wire.specs.claim.Answer.answer_text}
+use Rattle.http_wire.specs.declared.response.ContentType.TheVariants.{Json}
 
 -- an answer that is written in JSON
 pub json_text : (h : AnswerHead) (status : ℕ) (closing head_only : Bool) (body text : List ℕ) → h ≡ record { status = status; kind = Json; allow = None; closes = closing; head_only = head_only } → body ≡ text

@@ -1,14 +1,9 @@
 -- The list of plans, part by part.
-use Rattle.std.specs.List.{list_all}
+use Rattle.{std.{specs.List.list_all, proofs.lemmas.{Bool.{and_parts, Decides.nat_tests}, List.drop_more}}, desk_model.specs.{claim.Kind.kind_name, declared.kind.Kind.Kind}}
 use Rattle.std.proofs.Common.{◌≡◌, ◌≤◌, ◌<◌, ◌+◌, ℕ, drop, get_or, true, false, Bool, nat_le, ◌&&◌, List, [], ◌∷◌, ◌++◌, map, length, refl, ap, sym, ◌∙◌, arith, append_assoc, decimal, codes, rules}
-use Rattle.std.proofs.lemmas.Bool.{and_parts}
-use Rattle.std.proofs.lemmas.List.{drop_more}
-use Rattle.std.proofs.lemmas.Bool.Decides.{nat_tests}
-use Rattle.json.{specs.Print.{escape_byte, escape}, proofs.Printed.Strings.escape_byte_plain}
-use Rattle.serde_json.specs.{View.items_of, Written.{compact_text, comma_if, items_text}}
-use Rattle.desk_model.specs.{declared.kind.Kind.Kind, declared.kind.Kind.TheVariants.Congress, declared.reply.PlanLine.PlanLine, claim.Kind.kind_name}
-use Rattle.desk_model.specs.claim.Name.{is_name_byte, IsPlanName}
-use Rattle.http_desk.specs.claim.Bodies.{row_data, plans_body}
+use Rattle.{desk_model.specs.{claim.Name.{is_name_byte, IsPlanName}, declared.{kind.Kind.TheVariants.Congress, reply.PlanLine.PlanLine}}, json.specs.Print.{escape_byte, escape}}
+use Rattle.{http_desk.specs.claim.Bodies.{row_data, plans_body}, serde_json.specs.{View.items_of, Written.{compact_text, comma_if, items_text}}}
+use Rattle.json.proofs.Printed.Strings.{escape_byte_plain}
 
 not_quote : (b : ℕ) → is_name_byte b ≡ true → b ≡ 34 → ⊥
 not_quote b is e = grind (arith, nat_tests)

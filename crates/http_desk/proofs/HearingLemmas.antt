@@ -1,7 +1,6 @@
 -- What is heard of the commands of a stream.
-use Rattle.std.proofs.Common.{◌≡◌, Bool, Option, None, inl, inr, refl}
-use Rattle.desk_model.specs.{declared.command.Command.Command, declared.command.Query.Query, declared.reply.Reply.Reply}
-use Rattle.http_desk.specs.{Accepting.{deed_where, heard_of}, declared.accepted.Accepted.Accepted, Hearing.IsNoted}
+use Rattle.{std.proofs.Common.{◌≡◌, Bool, Option, None, inl, inr, refl}, desk_model.specs.declared.{command.{Command.Command, Query.Query}, reply.Reply.Reply}}
+use Rattle.http_desk.specs.{Accepting.{deed_where, heard_of}, Hearing.IsNoted, declared.accepted.Accepted.Accepted}
 
 module _ {X : Type 0} (commands : X → Command → Reply → X → Type 0) (asks : X → Query → Reply → X → Type 0) (listening : Bool) where
   pub none_noted : (x : X) (noted : Option Accepted) → noted ≡ None → IsNoted commands asks listening x noted x

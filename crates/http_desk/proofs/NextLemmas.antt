@@ -1,12 +1,10 @@
 -- What comes next, and what waits then.
-use Rattle.std.specs.Io.KnownBytes.{Appends, Consumes}
+use Rattle.{std.{specs.Io.KnownBytes.{Appends, Consumes}, proofs.{KnownBytes.{Appends-nil, Consumes-trans}, lemmas.Bool.Decides.nat_tests}}, http_wire.specs.Queue.Queued}
 use Rattle.std.proofs.Common.{◌≡◌, ℕ, List, [], ◌++◌, Option, Some, None, Result, Ok, Err, refl, sym, ap, subst, ◌∙◌, arith, append_assoc, append-nil, inl, inr, true, ◌==◌, ◌∷◌, length, rules}
-use Rattle.std.proofs.KnownBytes.{Appends-nil, Consumes-trans}
-use Rattle.std.proofs.lemmas.Bool.Decides.{nat_tests}
-use Rattle.http_wire.specs.{declared.fault.RequestFault.RequestFault, declared.request.Incoming.Incoming, Incoming.{Came, IsNoEnd, ReadsPrefix, Taken}, Queue.Queued}
+use Rattle.{http_desk.specs.{Serving.{IsUnanswered, NextCame}, declared.serve.Asked.Asked}, http_wire.specs.Incoming.{Came, IsNoEnd, ReadsPrefix, Taken}}
+use Rattle.{http_wire.specs.declared.{fault.RequestFault.RequestFault, request.Incoming.Incoming}, http_desk.proofs.TalkLemmas.{flushed, flushed_cut, queued_as, queued_then}}
 use Rattle.http_wire.specs.declared.fault.RequestFault.TheVariants as fault
 use Rattle.http_wire.specs.declared.request.Incoming.TheVariants as came
-use Rattle.http_desk.{specs.declared.serve.Asked.Asked, specs.Serving.{IsUnanswered, NextCame}, proofs.TalkLemmas.{flushed, flushed_cut, queued_as, queued_then}}
 use Rattle.http_desk.specs.declared.serve.Asked.TheVariants as asked
 
 -- what there is to tell of it

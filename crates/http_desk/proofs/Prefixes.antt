@@ -1,11 +1,7 @@
 -- A line whose first bytes were looked at before its end was found.
-use Rattle.std.specs.Str.Lines.{lines, strip_carriage_return}
+use Rattle.{std.{specs.Str.Lines.{lines, strip_carriage_return}, proofs.lemmas.{Bool.cond-false, List.{length-take-le, Elements.All-append}}}, http_desk.specs.Accepting.one_row}
 use Rattle.std.proofs.Common.{◌≡◌, ℕ, ◌≤◌, Bool, true, false, cond, eqb, ne_eqb, List, ◌∷◌, ◌++◌, length, take, drop, sym, ◌∙◌, ap, arith, All, append_assoc, length-append, length-drop, take-append-drop, get_or, ◌-◌}
-use Rattle.std.proofs.lemmas.Bool.{cond-false}
-use Rattle.std.proofs.lemmas.List.{length-take-le}
-use Rattle.std.proofs.lemmas.List.Elements.{All-append}
-use Rattle.byte_stream.proofs.TextLemmas.{lines-cut}
-use Rattle.http_desk.specs.{Accepting.one_row, Rows.BeginsWith}
+use Rattle.{http_desk.specs.Rows.BeginsWith, byte_stream.proofs.TextLemmas.lines-cut}
 
 abbrev IsNoFeed : ℕ → Type 0
 IsNoFeed b = eqb b 10 ≡ false

@@ -1,8 +1,6 @@
 -- Codes of faults and padded numbers are short.
-use Rattle.std.proofs.Common.{ℕ, ◌-◌, ◌<◌, ◌≤◌, length, replicate, decimal, arith, length-append}
-use Rattle.std.proofs.lemmas.List.{length-replicate}
-use Rattle.std.proofs.lemmas.Fmt.{length-decimal-le}
-use Rattle.desk_model.specs.{declared.reply.BodyFault.BodyFault, declared.reply.BodyFault.TheVariants.Header, claim.Baf.fault_code, claim.Padded.padded_decimal}
+use Rattle.std.proofs.{Common.{ℕ, ◌-◌, ◌<◌, ◌≤◌, length, replicate, decimal, arith, length-append}, lemmas.{Fmt.length-decimal-le, List.length-replicate}}
+use Rattle.desk_model.specs.{claim.{Baf.fault_code, Padded.padded_decimal}, declared.reply.BodyFault.{BodyFault, TheVariants.Header}}
 
 pub code_short : (fault : BodyFault) → length (fault_code fault) ≤ 2
 code_short Header = omega arith

@@ -1,22 +1,17 @@
 -- How one exchange goes into a talk.
-use Rattle.std.specs.Io.KnownBytes.{Appends, Consumes}
+use Rattle.{std.{specs.Io.KnownBytes.{Appends, Consumes}, proofs.{KnownBytes.{Appends-nil, Appends-trans, Consumes-trans}, lemmas.List.append-nil}}, http_wire.specs.Queue.Queued}
 use Rattle.std.proofs.Common.{◌≡◌, ◌⊎◌, ℕ, suc, Bool, true, false, List, [], ◌++◌, Option, Some, Result, Ok, Err, refl, sym, ap, subst, ◌∙◌, append_assoc, inl, inr, ◌+◌, ◌<◌, ◌≤◌, arith, codes, rules}
-use Rattle.std.proofs.KnownBytes.{Appends-nil, Appends-trans, Consumes-trans}
-use Rattle.std.proofs.lemmas.List.{append-nil}
-use Rattle.httparse.specs.Grammar.{RequestHead}
-use Rattle.http_wire.specs.{claim.Prefix.{HasRequest, IsOutOfMemory, closes_after as closes_after_head, is_head}, claim.Interim.{continue_text, asks_to_continue}}
-use Rattle.http_wire.specs.{Interim.IsCutShort, Queue.Queued, declared.request.Incoming.Incoming}
+use Rattle.{desk_model.specs.declared.{command.{Command.Command, Query.Query}, reply.Reply.Reply}, http_desk.specs.{Asking.TakesAll, claim.Asking.{Asks, IsAskedAfter, IsAskedIn}}}
+use Rattle.http_desk.specs.{Serving.{CutsNext, Handled, IsUnanswered, Leaves, MayHandle, NextCame, Puts, TakesNext}, declared.serve.{Asked.Asked, Next.Next}}
+use Rattle.http_desk.specs.{claim.Serving.{Exchanges, IsCutTalk, IsPrefixTalk, IsShortTalk, GoesOn, ServesTo}, declared.serve.StreamFault.StreamFault}
+use Rattle.{http_desk.specs.claim.Talk.{Talk, Handles, over, ended, out_of_memory, refused, closed, went}, http_routes.specs.claim.Orders.order_of}
+use Rattle.http_wire.specs.{Interim.IsCutShort, claim.{Interim.{continue_text, asks_to_continue}, Prefix.{HasRequest, IsOutOfMemory, closes_after as closes_after_head, is_head}}}
+use Rattle.{http_wire.specs.declared.request.Incoming.Incoming, httparse.specs.Grammar.RequestHead}
 use Rattle.http_wire.specs.declared.request.Incoming.TheVariants as came
-use Rattle.desk_model.specs.{declared.command.Command.Command, declared.command.Query.Query, declared.reply.Reply.Reply}
-use Rattle.http_desk.specs.{declared.serve.Asked.Asked, declared.serve.Next.Next, declared.serve.StreamFault.StreamFault, claim.Asking.{Asks, IsAskedAfter, IsAskedIn}}
-use Rattle.http_desk.specs.{Asking.TakesAll, Serving.{CutsNext, Handled, IsUnanswered, Leaves, MayHandle, NextCame, Puts, TakesNext}}
-use Rattle.http_desk.specs.claim.Serving.{Exchanges, IsCutTalk, IsPrefixTalk, IsShortTalk, GoesOn, ServesTo}
-use Rattle.http_desk.specs.claim.Talk.{Talk, Handles, over, ended, out_of_memory, refused, closed, went}
 use Rattle.http_desk.specs.declared.serve.Asked.TheVariants as asked
 use Rattle.http_desk.specs.declared.serve.Next.TheVariants as next
 use Rattle.http_desk.specs.declared.serve.StreamFault.TheVariants as fault
 use Rattle.http_routes.specs.declared.order.Order.TheVariants as order
-use Rattle.http_routes.specs.claim.Orders.{order_of}
 
 -- one text after another waits
 pub queued_then : (u v w : Option (List ℕ)) (before between after first second : List ℕ) → Queued u v before between first → Queued v w between after second → Queued u w before after (first ++ second)

@@ -1,8 +1,6 @@
 -- A budget of turns, spent call by call.
-use Rattle.std.proofs.Common.{◌≡◌, ℕ, ◌<◌, ◌≤◌, Bool, false, List, Option, Result, Ok, Err, refl, arith}
-use Rattle.http_intake.specs.Budget.{Spends}
-use Rattle.byte_stream.specs.claim.Counts.{counted}
-use Rattle.http_desk.specs.{declared.serve.Next.Next, declared.serve.StreamFault.StreamFault, Serving.{Puts, TakesSome}, claim.Serving.read_failures}
+use Rattle.{std.proofs.Common.{◌≡◌, ℕ, ◌<◌, ◌≤◌, Bool, false, List, Option, Result, Ok, Err, refl, arith}, byte_stream.specs.claim.Counts.counted, http_intake.specs.Budget.Spends}
+use Rattle.http_desk.specs.{Serving.{Puts, TakesSome}, claim.Serving.read_failures, declared.serve.{Next.Next, StreamFault.StreamFault}}
 use Rattle.http_desk.specs.declared.serve.Next.TheVariants as next
 use Rattle.http_desk.specs.declared.serve.StreamFault.TheVariants as fault
 

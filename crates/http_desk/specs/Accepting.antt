@@ -1,9 +1,8 @@
 -- What an accepted command did, by the command alone.
 use Rattle.std.specs.{Prelude.{ℕ, ◌+◌, ◌==◌, if◌then◌else◌, Bool, true, false, List, length, Option, Some, None}, Str.Lines.lines}
-use Rattle.baf_text.specs.Body.{rows}
-use Rattle.desk_model.specs.{declared.command.Command.Command, declared.command.Command.TheVariants.{Create, Whole, Counties, Retire, Fork}, declared.reply.Reply.Reply}
+use Rattle.{baf_text.specs.Body.rows, desk_model.specs.declared.{command.Command.{Command, TheVariants.{Create, Whole, Counties, Retire, Fork}}, reply.Reply.Reply}}
+use Rattle.http_desk.specs.declared.accepted.Accepted.{Accepted, TheVariants.{Created, Revised, Forked, Deleted}}
 use Rattle.desk_model.specs.declared.reply.Reply.TheVariants as reply
-use Rattle.http_desk.specs.{declared.accepted.Accepted.Accepted, declared.accepted.Accepted.TheVariants.{Created, Revised, Forked, Deleted}}
 
 -- 1 where a line has bytes
 abbrev pub one_row : List ℕ → ℕ

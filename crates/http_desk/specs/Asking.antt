@@ -1,7 +1,5 @@
 -- What no promise rests on, beside claim/Asking.antt.
-use Rattle.std.specs.Prelude.{ℕ, List, Option}
-use Rattle.desk_model.specs.declared.command.Command.{Command}
-use Rattle.http_desk.specs.claim.Asking.{IsAskedAfter}
+use Rattle.{std.specs.Prelude.{ℕ, List, Option}, desk_model.specs.declared.command.Command.Command, http_desk.specs.claim.Asking.IsAskedAfter}
 
 -- each command that is asked for so is taken, whatever was taken before it
 abbrev pub TakesAll : {X : Type 0} → (takes : X → Command → Type 0) → (came : List ℕ) → (unread : Option (List ℕ)) → Type 0

@@ -1,7 +1,7 @@
 -- What is heard of the commands of a stream.
 use Rattle.std.specs.Prelude.{◌≡◌, ◌⊎◌, Bool, Option, None}
-use Rattle.desk_model.specs.{declared.command.Command.Command, declared.command.Query.Query, declared.reply.Reply.Reply}
-use Rattle.http_desk.specs.{Accepting.{deed_where, heard_of}, declared.accepted.Accepted.Accepted}
+use Rattle.{desk_model.specs.declared.{command.{Command.Command, Query.Query}, reply.Reply.Reply}, http_desk.specs.Accepting.{deed_where, heard_of}}
+use Rattle.http_desk.specs.declared.accepted.Accepted.{Accepted}
 
 -- generic in what answers, and in whether somebody listens
 module _ {X : Type 0} (commands : X → Command → Reply → X → Type 0) (asks : X → Query → Reply → X → Type 0) (listening : Bool) where

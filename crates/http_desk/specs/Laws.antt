@@ -1,10 +1,10 @@
 -- What is heard of a command is what the desk's step did.
 use Rattle.std.specs.Prelude.{◌≡◌, ℕ, ◌+◌, List, length, Some, Ok}
+use Rattle.desk_model.specs.{claim.{Baf.{Values, body_read}, Desk.{Desk, Plan}, Geography.GeographyModel, Outcome.IsAcceptance, Step.step}, declared.command.Command.Command}
+use Rattle.{desk_model.specs.declared.{command.Command.TheVariants.{Create, Whole, Counties, Retire, Fork}, reply.Reply.Reply}, http_desk.specs.Accepting.done_by}
+use Rattle.http_desk.specs.declared.accepted.Accepted.{Accepted, TheVariants.{Created, Revised, Forked, Deleted}}
 use Rattle.std.specs.FinMap as map_of
-use Rattle.desk_model.specs.{declared.command.Command.Command, declared.command.Command.TheVariants.{Create, Whole, Counties, Retire, Fork}, declared.reply.Reply.Reply}
-use Rattle.desk_model.specs.{claim.Baf.{Values, body_read}, claim.Desk.{Desk, Plan}, claim.Geography.GeographyModel, claim.Outcome.IsAcceptance, claim.Step.step}
 use Rattle.desk_model.specs.declared.reply.Reply.TheVariants as reply
-use Rattle.http_desk.specs.{Accepting.done_by, declared.accepted.Accepted.Accepted, declared.accepted.Accepted.TheVariants.{Created, Revised, Forked, Deleted}}
 
 -- the plan has so many revisions now, the last by a file that lists so many blocks of the geography
 pub record IsRevised (d : Desk) (name body : List ℕ) (revision blocks : ℕ) (r : Reply) : Type 0 where

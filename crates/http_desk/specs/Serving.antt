@@ -1,15 +1,13 @@
 -- What no promise rests on, beside claim/Serving.antt.
 use Rattle.std.specs.{Prelude.{◌≡◌, ◌⊎◌, ⊤, ℕ, ◌<◌, ◌≤◌, Bool, true, false, List, [], ◌++◌, Option, Some, None, Result, Ok, Err, codes}, Str.IsAscii}
-use Rattle.desk_model.specs.{declared.command.Command.Command, declared.command.Query.Query, declared.reply.Reply.Reply}
-use Rattle.http_desk.specs.{declared.serve.Asked.Asked, declared.serve.Next.Next, declared.serve.StreamFault.StreamFault, claim.Answers.{bytes_of, fault_message, memory_text}}
-use Rattle.http_desk.specs.claim.Talk.{Handles}
+use Rattle.{desk_model.specs.declared.{command.{Command.Command, Query.Query}, reply.Reply.Reply}, http_desk.specs.claim.Answers.{bytes_of, fault_message, memory_text}}
+use Rattle.{http_desk.specs.{claim.Talk.Handles, declared.serve.{Asked.Asked, Next.Next, StreamFault.StreamFault}}, http_routes.specs.claim.Orders.order_of}
+use Rattle.http_wire.specs.{Incoming.{Came, IsNoEnd, TakesSome as RequestTakes}, Interim.IsCutShort, Plain.IsPlain, Queue.Queued, claim.Interim.Interim}
+use Rattle.http_wire.specs.{claim.Prefix.{IsIncomplete, is_head}, declared.{fault.RequestFault.RequestFault, request.Incoming.Incoming}}
 use Rattle.http_desk.specs.declared.serve.Asked.TheVariants as asked
 use Rattle.http_desk.specs.declared.serve.Next.TheVariants as next
 use Rattle.http_desk.specs.declared.serve.StreamFault.TheVariants as fault
-use Rattle.http_wire.specs.{Queue.Queued, Plain.IsPlain, claim.Prefix.{IsIncomplete, is_head}, Incoming.{Came, IsNoEnd, TakesSome as RequestTakes}, claim.Interim.Interim}
-use Rattle.http_wire.specs.{Interim.IsCutShort, declared.fault.RequestFault.RequestFault, declared.request.Incoming.Incoming}
 use Rattle.http_routes.specs.declared.order.Order.TheVariants as order
-use Rattle.http_routes.specs.claim.Orders.{order_of}
 use Rattle.http_wire.specs.declared.fault.RequestFault.TheVariants as request
 use Rattle.http_wire.specs.declared.request.Incoming.TheVariants as came
 

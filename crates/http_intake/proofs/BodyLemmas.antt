@@ -1,7 +1,6 @@
 -- A body, one piece after another.
-use Rattle.std.specs.Io.KnownBytes.{Consumes}
-use Rattle.std.proofs.{Common.{◌≡◌, ℕ, ◌+◌, ◌*◌, ◌≤◌, List, [], ◌++◌, length, take, drop, Option, sym, ap, ◌∙◌, append_assoc, append-nil, length-take, rules}, Math.Seq.take-add}
-use Rattle.std.proofs.KnownBytes.{Consumes-trans}
+use Rattle.std.{specs.Io.KnownBytes.Consumes, proofs.{KnownBytes.Consumes-trans, Math.Seq.take-add}}
+use Rattle.std.proofs.Common.{◌≡◌, ℕ, ◌+◌, ◌*◌, ◌≤◌, List, [], ◌++◌, length, take, drop, Option, sym, ap, ◌∙◌, append_assoc, append-nil, length-take, rules}
 
 -- one piece more after the filled bytes
 pub body_grown : (u v w : Option (List ℕ)) (start old mid new : List ℕ) (filled k : ℕ) → (more : List ℕ) × Consumes u v more × (take filled old ≡ start ++ more)

@@ -1,14 +1,12 @@
 -- Chunks are one of their cases.
 use Rattle.std.proofs.Common.{◌≡◌, ℕ, zero, suc, ◌+◌, ◌<◌, ◌≤◌, None, List, [], ◌∷◌, ◌++◌, length, take, drop, codes, refl, sym, ap, subst, ◌∙◌, arith, inl, inr, ⊎_elim, take_all, append-nil, take-append-drop, length-take, length-take-le, length-append, rules}
-use Rattle.std.proofs.lemmas.Bool.{cases_lt}
-use Rattle.std.proofs.lemmas.List.Sums.{AllPass-from_list_all}
-use Rattle.httparse.specs.Grammar.{ReadsSection, HasNoSection, MayBecomeSection, print_section, ChunkLine, ReadsChunkLine, HasNoChunkLine, MayBecomeChunkLine, print_chunk_line, chunk_size, IsChunkLine}
-use Rattle.httparse.proofs.{GrammarLemmas.{section_unique, ReadsSection-append}, ChunkLemmas.ReadsChunkLine-append}
-use Rattle.http_intake.specs.{declared.bad_request.BadRequest.BadRequest, declared.bad_request.BadRequest.TheVariants.{BadHead, HeadTooLarge, BodyTooLarge, BadChunk}}
-use Rattle.http_intake.specs.{claim.Lines.section_lines, claim.Limits.{window, body_limit}}
+use Rattle.{std.proofs.lemmas.{Bool.cases_lt, List.Sums.AllPass-from_list_all}, http_intake.specs.{Chunks.AreNoChunks, claim.{Limits.{window, body_limit}, Lines.section_lines}}}
 use Rattle.http_intake.specs.claim.Chunks.{line_window, HasLine, RefusesLine, IsOpenLine, HasTrailers, RefusesTrailers, AreOpenTrailers, HasChunk, HasChunks, HasChunkFault, LacksChunks, HasLastLine, HasDataLine, IsNoEnd, IsOpenEnd}
-use Rattle.http_intake.{specs.Chunks.AreNoChunks, proofs.Prefixes.{window_rest, window_short, either_prefix}, proofs.LineLemmas.{lines_of_section, section_lines_grow}}
-use Rattle.http_intake.proofs.ChunkLookLemmas.{section_overflows_at, some_line}
+use Rattle.http_intake.specs.declared.bad_request.BadRequest.{BadRequest, TheVariants.{BadHead, HeadTooLarge, BodyTooLarge, BadChunk}}
+use Rattle.httparse.specs.Grammar.{ReadsSection, HasNoSection, MayBecomeSection, print_section, ChunkLine, ReadsChunkLine, HasNoChunkLine, MayBecomeChunkLine, print_chunk_line, chunk_size, IsChunkLine}
+use Rattle.http_intake.proofs.{ChunkLookLemmas.{section_overflows_at, some_line}, LineLemmas.{lines_of_section, section_lines_grow}}
+use Rattle.{http_intake.proofs.Prefixes.{window_rest, window_short, either_prefix}, httparse.proofs.ChunkLemmas.ReadsChunkLine-append}
+use Rattle.httparse.proofs.GrammarLemmas.{section_unique, ReadsSection-append}
 
 -- ---- trailers
 

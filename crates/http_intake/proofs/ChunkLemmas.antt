@@ -1,12 +1,10 @@
 -- What stands at the start of chunks is one thing alone.
 use Rattle.std.proofs.Common.{◌≡◌, ◌⊎◌, ℕ, ◌+◌, ◌-◌, ◌<◌, ◌≤◌, List, [], ◌∷◌, ◌++◌, length, take, drop, refl, sym, ap, subst, ◌∙◌, arith, inl, inr, take_all, take-append-drop, length-append}
-use Rattle.std.proofs.Math.Seq.{take-append-add}
+use Rattle.{std.proofs.Math.Seq.take-append-add, http_intake.specs.{Chunks.HasTwoFaults, claim.Limits.{window, body_limit}, declared.bad_request.BadRequest.BadRequest}}
+use Rattle.http_intake.specs.claim.Chunks.{line_window, HasLine, HasTrailers, HasChunk, HasLastLine, HasDataLine, HasChunks, RefusesLine, RefusesTrailers, IsNoEnd, HasTooManyTrailers, AreTooLong, IsOpenLine, IsOpenEnd, AreOpenTrailers, HasChunkFault, LacksChunks, ReachesTrailers}
+use Rattle.http_intake.{specs.declared.bad_request.BadRequest.TheVariants.{BadHead, HeadTooLarge, BodyTooLarge, BadChunk}, proofs.Prefixes.{same_cut, window_rest}}
 use Rattle.httparse.specs.Grammar.{ReadsSection, MayBecomeSection, NeverHasSection, print_section, ChunkLine, ReadsChunkLine, print_chunk_line, chunk_size}
 use Rattle.httparse.proofs.{ChunkLemmas.chunk_line_unique, GrammarLemmas.section_unique}
-use Rattle.http_intake.specs.{declared.bad_request.BadRequest.BadRequest, declared.bad_request.BadRequest.TheVariants.{BadHead, HeadTooLarge, BodyTooLarge, BadChunk}}
-use Rattle.http_intake.specs.claim.Limits.{window, body_limit}
-use Rattle.http_intake.specs.claim.Chunks.{line_window, HasLine, HasTrailers, HasChunk, HasLastLine, HasDataLine, HasChunks, RefusesLine, RefusesTrailers, IsNoEnd, HasTooManyTrailers, AreTooLong, IsOpenLine, IsOpenEnd, AreOpenTrailers, HasChunkFault, LacksChunks, ReachesTrailers}
-use Rattle.http_intake.{specs.Chunks.HasTwoFaults, proofs.Prefixes.{same_cut, window_rest}}
 
 -- a line within its limit stands where one is looked for
 line_in_window : (input : List ℕ) (l : ChunkLine) (rest : List ℕ) → HasLine input l rest → (r : List ℕ) × ReadsChunkLine (line_window input) l r

@@ -1,13 +1,10 @@
 -- What the parser answers on the first bytes holds of all bytes: chunks' lines and trailers.
-use Rattle.std.specs.Prelude.{All}
+use Rattle.std.{specs.Prelude.All, proofs.{Math.Seq.{take-append_seam, take-append-add}, lemmas.{Bool.cases_lt, List.{length-map, take-append-le, append_cancel_right}}}}
 use Rattle.std.proofs.Common.{◌≡◌, ℕ, ◌+◌, ◌-◌, ◌<◌, ◌≤◌, min, List, ◌++◌, length, take, drop, sym, ap, ◌∙◌, arith, ⊎_elim, append-nil, take-append-drop, length-take, length-take-le, length-append, rules}
-use Rattle.std.proofs.Math.Seq.{take-append_seam, take-append-add}
-use Rattle.std.proofs.lemmas.Bool.{cases_lt}
-use Rattle.std.proofs.lemmas.List.{length-map, take-append-le, append_cancel_right}
-use Rattle.httparse.specs.Grammar.{LineEnd, Field, IsField, print_section, HasNoSection, ChunkLine, print_chunk_line, IsChunkLine}
-use Rattle.httparse.specs.{Spans.{IsChunkLineAt, IsSectionWithin, IsSectionAt, SectionOverflows, SectionExceeds}, declared.spans.HeaderSpan.HeaderSpan}
-use Rattle.http_intake.specs.{claim.Lines.section_lines, claim.Chunks.{HasTrailers, line_window}, declared.chunk_line.FoundLine.FoundLine, ChunkParts.IsLineAt}
-use Rattle.http_intake.proofs.{Prefixes.{prefix_of_prefix, take_min}, LineLemmas.{fields_lines, lines_of_section, section_lines_grow}}
+use Rattle.http_intake.specs.{ChunkParts.IsLineAt, claim.{Chunks.{HasTrailers, line_window}, Lines.section_lines}, declared.chunk_line.FoundLine.FoundLine}
+use Rattle.httparse.specs.{Grammar.{LineEnd, Field, IsField, print_section, HasNoSection, ChunkLine, print_chunk_line, IsChunkLine}, declared.spans.HeaderSpan.HeaderSpan}
+use Rattle.{httparse.specs.Spans.{IsChunkLineAt, IsSectionWithin, IsSectionAt, SectionOverflows, SectionExceeds}, http_intake.proofs.Prefixes.{prefix_of_prefix, take_min}}
+use Rattle.http_intake.proofs.LineLemmas.{fields_lines, lines_of_section, section_lines_grow}
 
 pub line_window_is : (bytes : List ℕ) (n : ℕ) → n ≡ min (length bytes) 256 → take n bytes ≡ line_window bytes
 line_window_is bytes n e = take_min 256 bytes n e

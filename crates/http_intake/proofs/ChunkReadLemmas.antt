@@ -1,15 +1,11 @@
 -- The parts of a body in chunks, one after another.
-use Rattle.std.specs.Io.KnownBytes.{Consumes}
+use Rattle.std.{specs.Io.KnownBytes.Consumes, proofs.{KnownBytes.Consumes-trans, Math.Seq.take-append_seam, lemmas.List.{append_cancel_left, take-append-le}}}
 use Rattle.std.proofs.Common.{◌≡◌, ℕ, ◌+◌, ◌<◌, ◌≤◌, List, [], ◌∷◌, ◌++◌, length, take, drop, Option, Some, None, Result, Ok, Err, refl, sym, ap, subst, ◌∙◌, arith, inl, inr, append_assoc, append-nil, take-append-drop, length-append, rules}
-use Rattle.std.proofs.{Math.Seq.take-append_seam, KnownBytes.Consumes-trans}
-use Rattle.std.proofs.lemmas.List.{append_cancel_left, take-append-le}
-use Rattle.httparse.{specs.Grammar.{ChunkLine, chunk_size}, proofs.ChunkLemmas.ReadsChunkLine-append}
-use Rattle.http_intake.specs.{declared.chunk_line.FoundLine.FoundLine, declared.chunks.Chunked.Chunked, declared.bad_request.BadRequest.BadRequest}
-use Rattle.http_intake.specs.{declared.bad_request.BadRequest.TheVariants.BodyTooLarge, declared.fault.WireFault.WireFault, declared.sought.Seen.TheVariants.Incomplete}
-use Rattle.http_intake.specs.{Draws.IsPutOff, Chunked.ChunksCame}
-use Rattle.http_intake.specs.claim.Chunks.{HasLine, IsOpenLine, IsOpenEnd, AreOpenTrailers, HasDataLine, HasLastLine, HasChunk, HasChunks, HasChunkFault, LacksChunks}
 use Rattle.http_intake.specs.ChunkParts.{IsLineAt, SeesLine, SeesEnd, SeesTrailers, EndCame, TrailersCame, HasData, LacksData, DataCame, StepCame, after_trailers, after_data}
-use Rattle.http_intake.proofs.DrawsLemmas.{not_put_off}
+use Rattle.http_intake.specs.{Chunked.ChunksCame, Draws.IsPutOff, declared.{bad_request.BadRequest.{BadRequest, TheVariants.BodyTooLarge}, chunk_line.FoundLine.FoundLine}}
+use Rattle.http_intake.specs.claim.Chunks.{HasLine, IsOpenLine, IsOpenEnd, AreOpenTrailers, HasDataLine, HasLastLine, HasChunk, HasChunks, HasChunkFault, LacksChunks}
+use Rattle.{http_intake.specs.declared.{chunks.Chunked.Chunked, fault.WireFault.WireFault, sought.Seen.TheVariants.Incomplete}, httparse.specs.Grammar.{ChunkLine, chunk_size}}
+use Rattle.{http_intake.proofs.DrawsLemmas.not_put_off, httparse.proofs.ChunkLemmas.ReadsChunkLine-append}
 use Rattle.http_intake.specs.declared.chunks.Chunked.TheVariants as came
 use Rattle.http_intake.specs.declared.fault.WireFault.TheVariants as fault
 

@@ -1,12 +1,11 @@
 -- What chunks are stays, whatever bytes follow, and hangs on their bytes alone.
 use Rattle.std.proofs.Common.{◌≡◌, ◌⊎◌, ℕ, ◌+◌, ◌≤◌, List, [], ◌∷◌, ◌++◌, refl, sym, ap, subst, ◌∙◌, arith, inl, inr, append_assoc, length-append, rules}
-use Rattle.std.proofs.lemmas.List.{take-append-le}
-use Rattle.httparse.specs.Grammar.{ReadsSection, HasNoSection, NeverHasSection, MayBecomeSection, print_section, ChunkLine, ReadsChunkLine, HasNoChunkLine, NeverHasChunkLine, print_chunk_line, chunk_size}
-use Rattle.httparse.{specs.Spans.SectionOverflows, proofs.ChunkLemmas.ReadsChunkLine-append, proofs.GrammarLemmas.ReadsSection-append}
-use Rattle.http_intake.specs.{declared.bad_request.BadRequest.BadRequest, declared.bad_request.BadRequest.TheVariants.{BadHead, HeadTooLarge}, claim.Lines.section_lines}
-use Rattle.http_intake.specs.claim.Limits.{window}
+use Rattle.{std.proofs.lemmas.List.take-append-le, http_intake.specs.{claim.{Limits.window, Lines.section_lines}, declared.bad_request.BadRequest.BadRequest}}
 use Rattle.http_intake.specs.claim.Chunks.{line_window, HasLine, HasTrailers, HasChunk, HasLastLine, HasDataLine, HasChunks, RefusesLine, RefusesTrailers, IsNoEnd, HasTooManyTrailers, AreTooLong, HasChunkFault}
-use Rattle.http_intake.proofs.{LineLemmas.section_lines_grow, Prefixes.{take_grows, window_grows, window_full}, ChunkLemmas.trailers_are}
+use Rattle.{http_intake.{specs.declared.bad_request.BadRequest.TheVariants.{BadHead, HeadTooLarge}, proofs.ChunkLemmas.trailers_are}, httparse.specs.Spans.SectionOverflows}
+use Rattle.httparse.specs.Grammar.{ReadsSection, HasNoSection, NeverHasSection, MayBecomeSection, print_section, ChunkLine, ReadsChunkLine, HasNoChunkLine, NeverHasChunkLine, print_chunk_line, chunk_size}
+use Rattle.{http_intake.proofs.{LineLemmas.section_lines_grow, Prefixes.{take_grows, window_grows, window_full}}, httparse.proofs.ChunkLemmas.ReadsChunkLine-append}
+use Rattle.httparse.proofs.GrammarLemmas.{ReadsSection-append}
 
 -- ---- what stays
 
@@ -52,9 +51,7 @@ overflows_grows : (w y : List ℕ) → SectionOverflows 64 w → SectionOverflow
 overflows_grows w y o more fields last rest reads = o (y ++ more) fields last rest (subst (λ xs. ReadsSection xs fields last rest) (append_assoc w y more) reads)
 
 never_stays : (input more : List ℕ) → NeverHasSection (window input) → NeverHasSection (window (input ++ more))
-never_stays input more never =
-    let g = window_grows input more in
-    subst NeverHasSection (sym g.1) (never_grows (window input) g.0 never)
+never_stays input more never = let g = window_grows input more in subst NeverHasSection (sym g.1) (never_grows (window input) g.0 never)
 
 too_long_stays : (input more : List ℕ) → AreTooLong input → AreTooLong (input ++ more)
 too_long_stays input more x =

@@ -1,7 +1,7 @@
 -- Calls on an intake, one after another.
-use Rattle.std.specs.{Prelude.All, Io.KnownBytes.Consumes}
-use Rattle.std.proofs.{Common.{◌≡◌, ℕ, ◌+◌, List, [], ◌∷◌, ◌++◌, Option, refl, ◌∙◌, arith, subst, sym, ap, append_assoc, append-nil, rules}, KnownBytes.Consumes-trans}
-use Rattle.http_intake.specs.{declared.intake.Intake.Intake, Budget.Spends, Draws.{SameParts, IsPutOff}}
+use Rattle.{std.{specs.{Io.KnownBytes.Consumes, Prelude.All}, proofs.KnownBytes.Consumes-trans}, http_intake.specs.{Budget.Spends, Draws.{SameParts, IsPutOff}}}
+use Rattle.std.proofs.Common.{◌≡◌, ℕ, ◌+◌, List, [], ◌∷◌, ◌++◌, Option, refl, ◌∙◌, arith, subst, sym, ap, append_assoc, append-nil, rules}
+use Rattle.http_intake.specs.declared.intake.Intake.{Intake}
 
 pub spends_more : (t u v a b c : ℕ) → Spends t u a b → Spends u v b c → Spends t v a c
 spends_more t u v a b c p q = record { fewer = omega (arith, p.fewer, q.fewer); taken = omega (arith, p.fewer, q.fewer, p.taken, q.taken) }

@@ -1,11 +1,9 @@
 -- How many lines a head has, and a prefix of one.
-use Rattle.std.specs.{List.{flat_map, list_any}, Prelude.All}
+use Rattle.std.{specs.{List.{flat_map, list_any}, Prelude.All}, proofs.lemmas.{Bool.{false≢true, ne_eqb, eqb-false}, List.Elements.{All-head, All-tail, All-nil, All-cons}}}
 use Rattle.std.proofs.Common.{◌≡◌, ◌≢◌, ℕ, ◌+◌, ◌<◌, ◌≤◌, ◌==◌, Bool, true, false, ◌||◌, ◌&&◌, cond, List, [], ◌∷◌, ◌++◌, length, refl, sym, ap, ◌∙◌, arith, append_assoc, append-nil, rules}
-use Rattle.std.proofs.lemmas.List.Elements.{All-head, All-tail, All-nil, All-cons}
-use Rattle.std.proofs.lemmas.Bool.{false≢true, ne_eqb, eqb-false}
+use Rattle.{http_intake.specs.claim.Lines.{IsWithinLine, is_newline, begins_empty, lines_end, section_lines, head_lines}, httparse.proofs.GrammarLemmas.print_request-append}
 use Rattle.httparse.specs.Grammar.{is_token_byte, is_uri_byte, is_value_byte, AllPass, LineEnd, crlf, lf, print_end, print_blank, print_version, Field, print_field, IsField, print_section, RequestHead, IsRequestHead, print_request}
-use Rattle.httparse.proofs.{GrammarLemmas.print_request-append, PieceLemmas.token_is_no_newline}
-use Rattle.http_intake.specs.claim.Lines.{IsWithinLine, is_newline, begins_empty, lines_end, section_lines, head_lines}
+use Rattle.httparse.proofs.PieceLemmas.{token_is_no_newline}
 
 -- a byte that is no LF
 other_end : (b : ℕ) (xs : List ℕ) → b ≢ 10 → lines_end (b ∷ xs) ≡ lines_end xs

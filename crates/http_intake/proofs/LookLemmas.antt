@@ -1,8 +1,6 @@
 -- Looks that are put off.
-use Rattle.std.specs.{Prelude.All, Io.KnownBytes.Consumes}
-use Rattle.std.proofs.{Common.{◌≡◌, ℕ, ◌-◌, List, ◌++◌, length, take, drop, Option, ap, subst, ◌∙◌, append_assoc, length-append, take_all, rules}, KnownBytes.Consumes-trans}
-use Rattle.std.proofs.Math.Seq.{drop-append_seam}
-use Rattle.std.proofs.lemmas.List.Elements.{All-append}
+use Rattle.std.{specs.{Io.KnownBytes.Consumes, Prelude.All}, proofs.{KnownBytes.Consumes-trans, Math.Seq.drop-append_seam, lemmas.List.Elements.All-append}}
+use Rattle.std.proofs.Common.{◌≡◌, ℕ, ◌-◌, List, ◌++◌, length, take, drop, Option, ap, subst, ◌∙◌, append_assoc, length-append, take_all, rules}
 
 -- the bytes after those that were held before
 part_added : (old new more held looked : List ℕ) → held ≡ new → looked ≡ old → new ≡ old ++ more → take (length held - length looked) (drop (length looked) held) ≡ more

@@ -1,8 +1,6 @@
 -- Fronts of bytes, and the window in which a head is looked for.
 use Rattle.std.proofs.Common.{◌≡◌, ◌⊎◌, ℕ, ◌+◌, ◌-◌, ◌<◌, ◌≤◌, min, List, [], ◌++◌, length, take, drop, sym, ap, ◌∙◌, arith, inl, inr, ⊎_elim, take_all, append_assoc, append-nil, take-append-drop, length-take}
-use Rattle.std.proofs.Math.Seq.{drop-append_seam, take-append_seam, take-append-add, take-length}
-use Rattle.std.proofs.lemmas.Bool.{cases_lt}
-use Rattle.std.proofs.lemmas.List.{take-append-le, append_cancel_left}
+use Rattle.std.proofs.{Math.Seq.{drop-append_seam, take-append_seam, take-append-add, take-length}, lemmas.{Bool.cases_lt, List.{take-append-le, append_cancel_left}}}
 use Rattle.http_intake.specs.claim.Limits.{window}
 
 -- what follows a prefix is what is left of the whole without it

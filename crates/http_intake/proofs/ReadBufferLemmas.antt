@@ -1,12 +1,8 @@
 -- The part of a buffer that has come.
-use Rattle.std.specs.{List.slice_range, Io.KnownBytes.{Consumes, Keeps, IsAtEnd}}
+use Rattle.std.{specs.{Io.KnownBytes.{Consumes, Keeps, IsAtEnd}, List.slice_range}, proofs.{KnownBytes.{Consumes-kept, Consumes-nil}, Math.Seq.take-add, lemmas.Slice.between_is}}
 use Rattle.std.proofs.Common.{◌≡◌, ℕ, ◌+◌, ◌-◌, ◌<◌, ◌≤◌, ◌==◌, Bool, true, false, Ok, List, [], ◌++◌, length, take, drop, length-take, Option, sym, ap, ◌∙◌, arith, length-take-le, length-drop, rules}
-use Rattle.std.proofs.{Math.Seq.take-add, KnownBytes.{Consumes-kept, Consumes-nil}}
-use Rattle.std.proofs.lemmas.Slice.{between_is}
-use Rattle.std.proofs.lemmas.List.{append-nil, drop-drop}
+use Rattle.{std.proofs.lemmas.{Bool.Decides.nat_tests, List.{append-nil, drop-drop}}, http_intake.specs.Body.Fills}
 use lib.Seq.{drop-append-le}
-use Rattle.std.proofs.lemmas.Bool.Decides.{nat_tests}
-use Rattle.http_intake.specs.Body.{Fills}
 
 -- what was read after the part stands at its end
 pub part_filled : (xs ys : List ℕ) (s e n : ℕ) → s ≤ e → e ≤ length xs → take e ys ≡ take e xs → slice_range ys s (e + n) ≡ slice_range xs s e ++ take n (drop e ys)

@@ -1,7 +1,7 @@
 -- What filling a buffer and reading a body give.
+use Rattle.{std.specs.{Io.KnownBytes.{Consumes, IsAtEnd}, declared.alloc.Global.Global}, http_intake.specs.{Draws.{Draws, Reads}, declared.fault.WireFault.WireFault}}
 use Rattle.std.specs.Prelude.{◌≡◌, ℕ, ◌+◌, ◌<◌, ◌≤◌, Bool, true, false, List, [], ◌++◌, length, take, drop, Option, Some, None, Result, Ok, Err, Vec, vec_len, ◌*◌, ⊤}
-use Rattle.std.specs.{Io.KnownBytes.{Consumes, IsAtEnd}, declared.alloc.Global.Global}
-use Rattle.http_intake.specs.{declared.fault.WireFault.WireFault, declared.intake.Intake.Intake, Draws.{Draws, Reads}}
+use Rattle.http_intake.specs.declared.intake.Intake.{Intake}
 use Rattle.http_intake.specs.declared.fault.WireFault.TheVariants as fault
 
 -- the bytes that one turn gave are added; there are none at the end, which is told, and none at a fault

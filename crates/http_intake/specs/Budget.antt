@@ -1,8 +1,7 @@
 -- What reading has cost, and what it may still cost.
 use Rattle.std.specs.Prelude.{◌≡◌, ℕ, ◌+◌, ◌-◌, ◌*◌, ◌≤◌, List, length, Result, Ok, Err}
-use Rattle.http_intake.specs.declared.fault.WireFault.{WireFault}
+use Rattle.{byte_stream.specs.claim.Counts.counted, http_intake.specs.declared.fault.WireFault.WireFault}
 use Rattle.http_intake.specs.declared.fault.WireFault.TheVariants as fault
-use Rattle.byte_stream.specs.claim.Counts.{counted}
 
 -- a read fault is one failure more, and all else none
 abbrev pub failures_of : {A : Type 0} → ℕ → Result A WireFault → ℕ

@@ -1,10 +1,9 @@
 -- What looks for the parts of a body in chunks tell, and what reading them gives.
 use Rattle.std.specs.Prelude.{◌≡◌, ℕ, ◌+◌, ◌<◌, ◌≤◌, ◌⊎◌, List, [], ◌∷◌, ◌++◌, length, drop, Option, Some, None, Result, Ok, Err, ⊤}
-use Rattle.httparse.specs.Grammar.{ChunkLine, chunk_size}
-use Rattle.http_intake.specs.{declared.chunk_line.FoundLine.FoundLine, declared.chunks.Chunked.Chunked, declared.bad_request.BadRequest.BadRequest}
-use Rattle.http_intake.specs.{declared.bad_request.BadRequest.TheVariants.BadChunk, declared.fault.WireFault.WireFault, declared.sought.Seen.Seen}
-use Rattle.http_intake.specs.{declared.sought.Seen.TheVariants.{Found, Refused, Incomplete}, Chunked.LacksChunksAtEnd}
+use Rattle.http_intake.specs.{Chunked.LacksChunksAtEnd, declared.{bad_request.BadRequest.{BadRequest, TheVariants.BadChunk}, chunk_line.FoundLine.FoundLine, sought.Seen.Seen}}
 use Rattle.http_intake.specs.claim.Chunks.{HasLine, HasChunk, HasChunks, HasChunkFault, HasTrailers, LacksChunks, RefusesLine, RefusesTrailers, IsNoEnd, IsOpenLine, IsOpenEnd, AreOpenTrailers}
+use Rattle.http_intake.specs.declared.{chunks.Chunked.Chunked, fault.WireFault.WireFault, sought.Seen.TheVariants.{Found, Refused, Incomplete}}
+use Rattle.httparse.specs.Grammar.{ChunkLine, chunk_size}
 use Rattle.http_intake.specs.declared.chunks.Chunked.TheVariants as came
 use Rattle.http_intake.specs.declared.fault.WireFault.TheVariants as fault
 

@@ -1,7 +1,6 @@
 -- What reading chunks gives.
-use Rattle.std.specs.{Prelude.{ℕ, List, Option, Result, Ok, Err, ⊤}, Io.KnownBytes.IsAtEnd}
-use Rattle.http_intake.specs.{declared.chunks.Chunked.Chunked, declared.chunks.Chunked.TheVariants.{Whole, Lacking, Refused}, declared.fault.WireFault.WireFault}
-use Rattle.http_intake.specs.claim.Chunks.{HasChunks, HasChunkFault, LacksChunks}
+use Rattle.{std.specs.{Io.KnownBytes.IsAtEnd, Prelude.{ℕ, List, Option, Result, Ok, Err, ⊤}}, http_intake.specs.claim.Chunks.{HasChunks, HasChunkFault, LacksChunks}}
+use Rattle.http_intake.specs.declared.{chunks.Chunked.{Chunked, TheVariants.{Whole, Lacking, Refused}}, fault.WireFault.WireFault}
 use Rattle.http_intake.specs.declared.fault.WireFault.TheVariants as fault
 
 -- after n bytes of the body, what stands at the start of the input

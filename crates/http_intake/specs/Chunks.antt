@@ -1,8 +1,7 @@
 -- What no promise rests on, beside claim/Chunks.antt.
 use Rattle.std.specs.Prelude.{◌≡◌, ◌⊎◌, ℕ, ◌+◌, ◌≤◌, List, [], ◌++◌}
-use Rattle.httparse.specs.Grammar.{NeverHasSection}
-use Rattle.http_intake.specs.{claim.Limits.{body_limit, window}, declared.bad_request.BadRequest.BadRequest}
-use Rattle.http_intake.specs.claim.Chunks.{HasChunkFault, HasChunks, HasTooManyTrailers, LacksChunks, ReachesTrailers}
+use Rattle.http_intake.specs.claim.{Chunks.{HasChunkFault, HasChunks, HasTooManyTrailers, LacksChunks, ReachesTrailers}, Limits.{body_limit, window}}
+use Rattle.{http_intake.specs.declared.bad_request.BadRequest.BadRequest, httparse.specs.Grammar.NeverHasSection}
 
 -- more than 64 lines of trailers have come, and no trailers can stand, whatever follows
 pub record HasTwoFaults (n : ℕ) (input : List ℕ) : Type 0 where

@@ -1,7 +1,7 @@
 -- What a call may do to an intake.
-use Rattle.std.specs.{Prelude.{◌≡◌, ◌≢◌, ℕ, ◌≤◌, Bool, List, ◌++◌, All, Option, Result, Ok, Err, ⊤}, Io.KnownBytes.{Consumes, IsAtEnd}}
-use Rattle.http_intake.specs.{declared.fault.WireFault.WireFault, declared.intake.Intake.Intake, declared.sought.Seen.Seen}
-use Rattle.http_intake.specs.{declared.sought.Seen.TheVariants.{Found, Refused, Incomplete}, Budget.{failures_of, reading_left, Spends}}
+use Rattle.std.specs.{Io.KnownBytes.{Consumes, IsAtEnd}, Prelude.{◌≡◌, ◌≢◌, ℕ, ◌≤◌, Bool, List, ◌++◌, All, Option, Result, Ok, Err, ⊤}}
+use Rattle.http_intake.specs.{Budget.{failures_of, reading_left, Spends}, declared.{fault.WireFault.WireFault, intake.Intake.Intake, sought.Seen.Seen}}
+use Rattle.http_intake.specs.declared.sought.Seen.TheVariants.{Found, Refused, Incomplete}
 use Rattle.http_intake.specs.declared.fault.WireFault.TheVariants as fault
 
 -- it stays over the same reader, the same bytes and the same turns

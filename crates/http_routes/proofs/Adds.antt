@@ -1,9 +1,9 @@
 -- A route that was added is one more of the rows, and one that conflicts with none is declined for memory alone.
-use Rattle.std.proofs.Common.{◌≡◌, ℕ, List, [], Result, Ok, Err, None, inl, inr, OnOk, IfErr, IsErrAnd, codes, ap, subst, ◌∙◌, refl}
-use Rattle.matchit.specs.{Rows.RowsOf, Route.{Scan, parse_route}, Router.{RouteOf, InsertsRead, Refused, nearest}, declared.InsertError.InsertError}
-use Rattle.matchit.{specs.declared.error.InsertError.TheVariants.{Conflict, OutOfMemory}, proofs.OnLiterals.matchit_on_literals}
-use Rattle.http_routes.specs.{declared.route.Route.Route, declared.route.Route.TheVariants.{Blocks, Plans, Plan, Revisions, Counties, Revision, Audit}}
-use Rattle.http_routes.specs.{claim.Routes.{with_read, with_route, the_routes}, Routes.{DeclinesRead, Declines, MakesTable}}
+use Rattle.{std.proofs.Common.{◌≡◌, ℕ, List, [], Result, Ok, Err, None, inl, inr, OnOk, IfErr, IsErrAnd, codes, ap, subst, ◌∙◌, refl}, http_routes.specs.declared.route.Route.Route}
+use Rattle.{http_routes.specs.{Routes.{DeclinesRead, Declines, MakesTable}, claim.Routes.{with_read, with_route, the_routes}}, matchit.specs.Route.{Scan, parse_route}}
+use Rattle.{http_routes.specs.declared.route.Route.TheVariants.{Blocks, Plans, Plan, Revisions, Counties, Revision, Audit}, matchit.specs.Rows.RowsOf}
+use Rattle.matchit.specs.{Router.{RouteOf, InsertsRead, Refused, nearest}, declared.{InsertError.InsertError, error.InsertError.TheVariants.{Conflict, OutOfMemory}}}
+use Rattle.matchit.proofs.OnLiterals.{matchit_on_literals}
 
 pub added : (read : Result Scan InsertError) (route : Route) (old new : RowsOf (RouteOf Route)) (r : Result (Unit {0}) InsertError) (u : Unit {0}) → r ≡ Ok u → InsertsRead read route old new r → new ≡ with_read read route old
 added (Ok s) route old new (Ok w) u e i = i.1

@@ -1,8 +1,6 @@
 -- The companions that the pairs of a query tell, pair by pair.
-use Rattle.std.{specs.List.fold, proofs.Common.{◌≡◌, ℕ, List, ◌∷◌, map, Option, Some, None, refl, ap, sym, ◌∙◌}}
-use Rattle.std.proofs.lemmas.List.Folds.{fold_stays}
-use Rattle.desk_model.specs.declared.companions.Companions.{Companions}
-use Rattle.http_routes.specs.claim.Queries.{texts_of, more_told}
+use Rattle.std.{specs.List.fold, proofs.{Common.{◌≡◌, ℕ, List, ◌∷◌, map, Option, Some, None, refl, ap, sym, ◌∙◌}, lemmas.List.Folds.fold_stays}}
+use Rattle.{desk_model.specs.declared.companions.Companions.Companions, http_routes.specs.claim.Queries.{texts_of, more_told}}
 
 -- what the pairs that are left tell with what was told before them
 abbrev pub told_by : Companions (List ℕ × ℕ) → List (List ℕ × List ℕ) → Option (Companions (List ℕ × ℕ))

@@ -1,7 +1,7 @@
 -- What no promise rests on, beside claim/Orders.antt.
 use Rattle.std.specs.Prelude.{ℕ, Bool, true, false, ◌&&◌, List, Option, Some, None}
-use Rattle.desk_model.specs.{declared.command.Command.TheVariants.Counties, declared.command.Query.TheVariants.{Plans, Blocks, Revision, Audit}}
-use Rattle.http_routes.specs.{declared.route.Route.Route, claim.Methods.{is_known, methods_of, takes}, claim.Routes.route_of, claim.Orders.path_of}
+use Rattle.{desk_model.specs.declared.command.{Command.TheVariants.Counties, Query.TheVariants.{Plans, Blocks, Revision, Audit}}, http_routes.specs.claim.Orders.path_of}
+use Rattle.http_routes.specs.{claim.{Methods.{is_known, methods_of, takes}, Routes.route_of}, declared.route.Route.Route}
 use Rattle.http_routes.specs.declared.route.Route.TheVariants as route
 
 -- what a request for a page of one plan names is decoded

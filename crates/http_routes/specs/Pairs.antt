@@ -1,5 +1,5 @@
 -- The first pairs of a query.
-use Rattle.std.specs.{Prelude.{◌≡◌, ◌≢◌, ℕ, List, [], ◌∷◌, length, Option, Some, None}, Borrow.Bor}
+use Rattle.std.specs.{Borrow.Bor, Prelude.{◌≡◌, ◌≢◌, ℕ, List, [], ◌∷◌, length, Option, Some, None}}
 use Rattle.form_urlencoded.specs.Form.{pair_text}
 
 -- two pairs of references are all that there is

@@ -1,7 +1,7 @@
 -- What no promise rests on, beside claim/Routes.antt.
 use Rattle.std.specs.Prelude.{◌≡◌, ◌⊎◌, ℕ, List, Result, Ok, Err, OnOk, IfErr}
-use Rattle.matchit.specs.{Rows.RowsOf, Route.{Scan, parse_route}, Router.{RouteOf, Refused}, declared.InsertError.InsertError, declared.error.InsertError.TheVariants.OutOfMemory}
-use Rattle.http_routes.specs.{declared.route.Route.Route, claim.Routes.the_routes}
+use Rattle.{http_routes.specs.{claim.Routes.the_routes, declared.route.Route.Route}, matchit.specs.{Route.{Scan, parse_route}, Router.{RouteOf, Refused}, Rows.RowsOf}}
+use Rattle.matchit.specs.declared.{InsertError.InsertError, error.InsertError.TheVariants.OutOfMemory}
 
 -- why a route is not added to the rows: one of them conflicts with it, it is none, or there was no memory
 abbrev pub DeclinesRead : Result Scan InsertError → RowsOf (RouteOf Route) → InsertError → Type 0

@@ -1,14 +1,10 @@
 -- What streams came to, one after the other and at many workers.
 use Rattle.std.proofs.Common.{◌≡◌, ◌<◌, ℕ, suc, List, [], ◌∷◌, ◌++◌, length, map, reverse, slice_index_or, take, drop, get_or, ◌+◌, All, IfSome, Option, Some, Result, sum_by, refl, ap, subst, ◌∙◌, arith}
-use Rattle.std.proofs.lemmas.List.{length-reverse, take_at}
-use Rattle.std.proofs.lemmas.List.Elements.{All-nil, All-cons, All-head, All-tail, All-more}
-use Rattle.std.proofs.lemmas.List.Sums.{sum_by-cons}
+use Rattle.{std.proofs.lemmas.List.{length-reverse, take_at, Elements.{All-nil, All-cons, All-head, All-tail, All-more}, Sums.sum_by-cons}, desk_model.specs.claim.Desk.Desk}
+use Rattle.{desk_model.specs.declared.command.Command.Command, http_connections.specs.{claim.Running.{one_more, requests_of}, declared.ran.Ran.Ran}}
+use Rattle.{http_desk.specs.declared.serve.{Served.Served, StreamFault.StreamFault}, http_seats.specs.{Seated.seats_at, Streams.{LeavesPlace, LeavesPlaces, places_of}}}
+use Rattle.http_seats.specs.claim.{Seated.{Seated, newcomer}, Streams.{Traffic, Worker, IsTalkedTo, AreServed, EachHasWorked}}
 use mathlib.Core.List.{IsPrefix}
-use Rattle.desk_model.specs.{declared.command.Command.Command, claim.Desk.Desk}
-use Rattle.http_desk.specs.{declared.serve.Served.Served, declared.serve.StreamFault.StreamFault}
-use Rattle.http_connections.specs.{declared.ran.Ran.Ran, claim.Running.{one_more, requests_of}}
-use Rattle.http_seats.specs.{claim.Seated.{Seated, newcomer}, Seated.seats_at, claim.Streams.{Traffic, Worker, IsTalkedTo, AreServed, EachHasWorked}}
-use Rattle.http_seats.specs.Streams.{LeavesPlace, LeavesPlaces, places_of}
 
 -- a place as its guest and what its streams came to
 abbrev pub standing : {P : Type 0} → (P → Option Seated) → (P → Ran) → P → Option Seated × Ran

@@ -1,12 +1,10 @@
 -- No command changes the geography.
-use Rattle.std.specs.Prelude.{Result, Ok, Err, if◌then◌else◌, not, ◌==◌, nat_le, length, IfOk}
-use Rattle.std.proofs.Common.{◌≡◌, ℕ, Bool, true, false, List, [], ◌∷◌, Option, Some, None, refl, sym, ap, subst, ◌∙◌}
-use Rattle.std.specs.FinMap as map_of
-use Rattle.desk_model.specs.{declared.kind.Kind.Kind, declared.command.Command.Command, declared.command.Command.TheVariants.{Create, Whole, Counties, Retire, Fork}}
-use Rattle.desk_model.specs.{claim.Baf.{Values, Fault, body_read}, claim.Geography.GeographyModel, claim.Desk.{Plan, Desk}, claim.Subject.revision_at}
+use Rattle.{std.specs.Prelude.{Result, Ok, Err, if◌then◌else◌, not, ◌==◌, nat_le, length, IfOk}, desk_gallery.specs.claim.After.after, desk_model.specs.claim.Desk.{Plan, Desk}}
+use Rattle.{std.proofs.Common.{◌≡◌, ℕ, Bool, true, false, List, [], ◌∷◌, Option, Some, None, refl, sym, ap, subst, ◌∙◌}, desk_model.specs.claim.Baf.{Values, Fault, body_read}}
+use Rattle.desk_model.specs.{claim.{Geography.GeographyModel, Subject.revision_at}, declared.command.Command.{Command, TheVariants.{Create, Whole, Counties, Retire, Fork}}}
 use Rattle.desk_model.specs.claim.Step.{Outcome, step, step_at, step_on, create, on_revisions, whole_read, patch_read, county_patched, partly_listed, retired, fork, fork_from, fork_of, plan_limit, revision_limit}
-use Rattle.desk_gallery.specs.claim.After.{after}
-use Rattle.http_seats.specs.Seated.{IsOf}
+use Rattle.{desk_model.specs.declared.kind.Kind.Kind, http_seats.specs.Seated.IsOf}
+use Rattle.std.specs.FinMap as map_of
 
 module _ (d : Desk) where
   -- the outcome has the same geography

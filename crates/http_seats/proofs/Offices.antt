@@ -1,12 +1,8 @@
 -- An office and its visitors may cross threads, as what is shown and the device may.
-use denote.Builtin.{unit, bool}
-use denote.RattleType.{RattleType}
-use denote.Param.Send.{IsSend, IsSync, sendable, view_send}
-use denote.Param.SendFields.{declared_send}
-use denote.Struct.Tuple.{Tuple, TupleAt}
+use denote.{Builtin.{unit, bool}, Param.{Send.{IsSend, IsSync, sendable, view_send}, SendFields.declared_send}, RattleType.RattleType, Struct.Tuple.{Tuple, TupleAt}}
 use mir.Syntax.{Sym}
 use mathlib.Core.List.{[], ◌∷◌}
-use Rattle.std.proofs.Crossing.{crosses}
+use Rattle.{std.proofs.Crossing.crosses, http_seats.proofs.Crosses.{catalogue_send, catalogue_sync, shelf_send, shelf_sync}}
 use Rattle.std.specs.contracts.alloc.Global as Global
 use Rattle.std.specs.contracts.sync.Arc as Arc
 use Rattle.std.specs.contracts.impls.GlobalAllocator.TheImpl as heap
@@ -49,7 +45,6 @@ use Rattle.desk_gallery.specs.contracts.visitor.Visitor as Visitor
 use Rattle.http_seats.specs.contracts.guest.Guest as Guest
 use Rattle.http_seats.specs.contracts.guest.Guest.TheInside as GuestInside
 use Rattle.http_seats.specs.contracts.many.WorkerPlace as WorkerPlace
-use Rattle.http_seats.proofs.Crosses.{catalogue_send, catalogue_sync, shelf_send, shelf_sync}
 
 slot_send : IsSend (Option.the_row (Part.the_row Shelf.the_row))
 slot_send = let p : IsSend (Part.the_row Shelf.the_row) = part_send Shelf.the_row shelf_sync in search sendable depth 20

@@ -1,10 +1,9 @@
 -- What a command leaves on a seat.
-use Rattle.std.proofs.Common.{◌≡◌, ◌⊎◌, ℕ, inl, inr, List, [], ◌∷◌, ◌++◌, ⊎_elim, sym, subst}
-use mathlib.Core.List.{IsPrefix}
-use Rattle.desk_model.specs.{declared.command.Command.Command, declared.reply.Reply.Reply, claim.Desk.Desk, claim.Outcome.IsAcceptance}
-use Rattle.desk_model.specs.declared.reply.Reply.TheVariants as reply
+use Rattle.{std.proofs.Common.{◌≡◌, ◌⊎◌, ℕ, inl, inr, List, [], ◌∷◌, ◌++◌, ⊎_elim, sym, subst}, desk_model.specs.claim.{Desk.Desk, Outcome.IsAcceptance}}
+use Rattle.{desk_model.specs.declared.{command.Command.Command, reply.Reply.Reply}, http_seats.specs.{Seated.seated, claim.Explained.ExplainsCommand}}
 use Rattle.desk_gallery.proofs.Pasts.{prefix_self, prefix_trans, prefix_length, prefix_whole}
-use Rattle.http_seats.specs.{claim.Explained.ExplainsCommand, Seated.seated}
+use mathlib.Core.List.{IsPrefix}
+use Rattle.desk_model.specs.declared.reply.Reply.TheVariants as reply
 
 accepted_or_not : (r : Reply) → IsAcceptance r ⊎ (IsAcceptance r → ⊥)
 accepted_or_not (reply.Created name revisions) = inl tt

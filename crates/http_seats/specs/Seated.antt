@@ -1,7 +1,6 @@
 -- What no promise rests on, beside claim/Seated.antt.
 use Rattle.std.specs.Prelude.{◌≡◌, ℕ, List, Option, Some, None, IfSome}
-use Rattle.desk_model.specs.{declared.command.Command.Command, claim.Geography.GeographyModel}
-use Rattle.http_seats.specs.claim.Seated.{Seated}
+use Rattle.{desk_model.specs.{claim.Geography.GeographyModel, declared.command.Command.Command}, http_seats.specs.claim.Seated.Seated}
 
 -- the report that was made last, if there is one, is of this geography
 abbrev pub IsOf : Option GeographyModel → Option GeographyModel → Type 0

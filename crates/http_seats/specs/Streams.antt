@@ -1,11 +1,9 @@
 -- What no promise rests on, beside claim/Streams.antt.
 use Rattle.std.specs.Prelude.{◌≡◌, ℕ, List, [], ◌∷◌, length, reverse, Option, Some, None, Result, ⊤}
+use Rattle.{desk_model.specs.{claim.Desk.Desk, declared.command.Command.Command}, http_connections.specs.declared.ran.Ran.Ran, http_desk.specs.declared.serve.Served.Served}
+use Rattle.{http_desk.specs.declared.serve.StreamFault.StreamFault, http_seats.specs.claim.{Seated.{Seated, newcomer}, Streams.{Traffic, IsAskedOf, HasWorked}}}
 use Rattle.byte_stream.specs.declared.source.Source as source
 use Rattle.byte_stream.specs.declared.sink.Sink as sink
-use Rattle.desk_model.specs.{declared.command.Command.Command, claim.Desk.Desk}
-use Rattle.http_desk.specs.{declared.serve.Served.Served, declared.serve.StreamFault.StreamFault}
-use Rattle.http_connections.specs.declared.ran.Ran.{Ran}
-use Rattle.http_seats.specs.{claim.Seated.{Seated, newcomer}, claim.Streams.{Traffic, IsAskedOf, HasWorked}}
 
 -- of what comes from here
 abbrev pub traffic : {A R W : Type 0} → (A → ℕ → Option (R × W) → Type 0) → (A → R → W → Result Served StreamFault → Type 0)

@@ -1,12 +1,7 @@
 -- The parts of a list in a field.
-use Rattle.std.specs.{Prelude.codes, List.{position_or_len, flat_map}}
+use Rattle.std.{specs.{List.{position_or_len, flat_map}, Prelude.codes}, proofs.lemmas.{Bool.Decides.nat_tests, Grind.flat_map-append, List.{append-nil, Sums.fails_before_first}}}
 use Rattle.std.proofs.Common.{◌≡◌, ℕ, ◌+◌, ◌<◌, ◌==◌, false, List, [], ◌∷◌, ◌++◌, length, take, drop, refl, ap, ◌∙◌, arith, length-drop, length-append, rules}
-use Rattle.std.proofs.lemmas.Grind.{flat_map-append}
-use Rattle.std.proofs.lemmas.List.{append-nil}
-use Rattle.std.proofs.lemmas.List.Splits.{slice_split_none, slice_split_first, length-slice_split}
-use Rattle.std.proofs.lemmas.Bool.Decides.{nat_tests}
-use Rattle.std.proofs.lemmas.List.Sums.{fails_before_first}
-use Rattle.http_wire.specs.claim.Connection.{parts, ends_in}
+use Rattle.{std.proofs.lemmas.List.Splits.{slice_split_none, slice_split_first, length-slice_split}, http_wire.specs.claim.Connection.{parts, ends_in}}
 
 -- without a comma there is one part
 pub whole_part : (value : List ℕ) (end : ℕ) → end ≡ position_or_len (λ b. b == 44) value → end ≡ length value → parts value ≡ value ∷ []

@@ -1,11 +1,8 @@
 -- The values of the fields of one name, field by field.
-use Rattle.std.specs.{List.{slice_get, cons_option, flat_map}, Prelude.{◌==◌, ◌≢◌}}
+use Rattle.std.{specs.{List.{slice_get, cons_option, flat_map}, Prelude.{◌==◌, ◌≢◌}}, proofs.lemmas.{Bool.Decides.nat_tests, List.{map-append, append-nil, take_more}}}
 use Rattle.std.proofs.Common.{◌≡◌, ℕ, ◌+◌, ◌<◌, Bool, true, false, cond, List, [], ◌∷◌, ◌++◌, map, length, take, get_or, Some, None, refl, ap, ◌∙◌, arith, length-append, rules}
-use Rattle.std.proofs.lemmas.List.{map-append, append-nil, take_more}
-use Rattle.std.proofs.lemmas.List.Elements.{filter_map-append}
-use Rattle.std.proofs.lemmas.Bool.Decides.{nat_tests}
-use Rattle.http_wire.{specs.claim.Connection.parts, specs.claim.Target.is_word, specs.claim.Prefix.{values, named_value}, proofs.ConnectionLemmas.some_part}
-use Rattle.httparse.specs.{Spans.header_bytes, declared.spans.HeaderSpan.HeaderSpan}
+use Rattle.{std.proofs.lemmas.List.Elements.filter_map-append, http_wire.specs.claim.{Connection.parts, Prefix.{values, named_value}, Target.is_word}}
+use Rattle.{httparse.specs.{Spans.header_bytes, declared.spans.HeaderSpan.HeaderSpan}, http_wire.proofs.ConnectionLemmas.some_part}
 
 picked : (b : Bool) (v : List ℕ) → cons_option (cond b (Some v) None) [] ≡ cond b (v ∷ []) []
 picked true v = refl

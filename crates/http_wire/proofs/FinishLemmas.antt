@@ -1,12 +1,12 @@
 -- What reading a request comes to once its body was read, or before it is.
 use Rattle.std.proofs.Common.{◌≡◌, ◌<◌, ◌≤◌, ℕ, Bool, true, false, List, length, drop, Option, Result, Ok, Err, refl, arith, length-drop, rules}
-use Rattle.http_intake.specs.{declared.chunks.Chunked.Chunked, declared.fault.WireFault.WireFault, declared.intake.Intake.Intake, Budget.failures_of, Chunked.LacksChunksAtEnd}
-use Rattle.http_intake.{specs.Draws.{Draws, SameParts}, proofs.DrawsLemmas.{same_more, same_none, spends_none}}
+use Rattle.http_intake.specs.{Budget.failures_of, Chunked.LacksChunksAtEnd, Draws.{Draws, SameParts}, declared.{chunks.Chunked.Chunked, fault.WireFault.WireFault}}
+use Rattle.{http_intake.specs.declared.intake.Intake.Intake, http_wire.specs.{Budget.{read_failures_of, write_failures_of}, declared.request.Request.Request}}
+use Rattle.{http_wire.specs.Incoming.{DrawsRequest, EndsAt, TakesSome, finished, targeted}, http_intake.proofs.DrawsLemmas.{same_more, same_none, spends_none}}
 use Rattle.http_intake.specs.declared.chunks.Chunked.TheVariants as chunked
 use Rattle.http_intake.specs.declared.fault.WireFault.TheVariants as wire
 use Rattle.http_wire.specs.declared.fault.RequestFault.TheVariants as fault
 use Rattle.http_wire.specs.declared.request.Incoming.TheVariants as came
-use Rattle.http_wire.specs.{declared.request.Request.Request, Budget.{read_failures_of, write_failures_of}, Incoming.{DrawsRequest, EndsAt, TakesSome, finished, targeted}}
 
 pub targeted_takes : (r : Request) (good head_only : Bool) (old new : ℕ) → new < old → TakesSome (Ok (targeted r good head_only)) old new
 targeted_takes r true head_only old new less = less

@@ -1,9 +1,7 @@
 -- Two texts that are written one after the other.
-use Rattle.std.specs.{Prelude.◌==◌, Io.KnownBytes.{Appends, Keeps}}
+use Rattle.std.{specs.{Io.KnownBytes.{Appends, Keeps}, Prelude.◌==◌}, proofs.{KnownBytes.{Appends-trans, Appends-kept}, Math.Seq.{take-add, drop-append-add}}}
 use Rattle.std.proofs.Common.{[], ◌∷◌, suc, true, false, refl, append-nil, ◌≡◌, ℕ, ◌+◌, ◌-◌, ◌≤◌, List, ◌++◌, length, take, drop, Option, sym, ap, subst, ◌∙◌, arith, append_assoc, length-drop, length-append, take-append-drop, rules}
-use Rattle.std.proofs.{Math.Seq.{take-add, drop-append-add}, KnownBytes.{Appends-trans, Appends-kept}}
-use Rattle.std.proofs.lemmas.Bool.Decides.{nat_tests}
-use Rattle.std.proofs.lemmas.List.{drop-append-le, take_rest}
+use Rattle.std.proofs.lemmas.{Bool.Decides.nat_tests, List.{drop-append-le, take_rest}}
 
 -- a prefix of the first is one of both
 pub cut_first : (a b : Option (List ℕ)) (first second : List ℕ) → (prefix : List ℕ) × (rest : List ℕ) × (first ≡ prefix ++ rest) × Appends a b prefix

@@ -1,12 +1,9 @@
 -- What is written before the answer to a start.
-use Rattle.std.specs.Io.KnownBytes.{Appends, Consumes}
+use Rattle.{std.specs.Io.KnownBytes.{Appends, Consumes}, http_intake.specs.{Chunks.ChunkLaw, Draws.IsPutOff, claim.Lines.IsWithinLine, declared.bad_request.BadRequest.BadRequest}}
 use Rattle.std.proofs.Common.{◌≡◌, ℕ, zero, ◌+◌, ◌≤◌, ◌&&◌, Bool, true, false, Option, List, [], ◌++◌, length, take, drop, Ok, Err, refl, sym, ap, subst, ◌∙◌, arith, inl, inr, append_assoc, append-nil, take-append-drop, length-append, length-drop, rules}
-use Rattle.httparse.specs.Grammar.{RequestHead, print_request}
-use Rattle.http_intake.{specs.declared.bad_request.BadRequest.BadRequest, specs.Chunks.ChunkLaw, specs.claim.Lines.IsWithinLine, specs.Draws.IsPutOff, proofs.Prefixes.same_cut}
-use Rattle.http_wire.specs.{declared.head.Framing.Framing, declared.head.Framing.TheVariants.Sized, declared.look.Head.Head}
-use Rattle.http_wire.specs.{claim.Prefix.{HasHead, HasFault, Lacks, IsOpen, IsIncomplete, judged_head}, Prefix.RefusesPrefix}
-use Rattle.http_wire.specs.{claim.Interim.{Interim, continue_text, asks_by, asks_to_continue, has_body}, Interim.{IsCutInterim, IsCutShort}, Look.IsFound}
-use Rattle.http_wire.proofs.PrefixLemmas.{bytes_no_head, open_no_head}
+use Rattle.http_wire.specs.{Interim.{IsCutInterim, IsCutShort}, Look.IsFound, Prefix.RefusesPrefix, claim.Interim.{Interim, continue_text, asks_by, asks_to_continue, has_body}}
+use Rattle.http_wire.specs.{claim.Prefix.{HasHead, HasFault, Lacks, IsOpen, IsIncomplete, judged_head}, declared.{head.Framing.{Framing, TheVariants.Sized}, look.Head.Head}}
+use Rattle.{httparse.specs.Grammar.{RequestHead, print_request}, http_intake.proofs.Prefixes.same_cut, http_wire.proofs.PrefixLemmas.{bytes_no_head, open_no_head}}
 
 pub open_asks : (input : List ℕ) → IsOpen input → Interim input []
 open_asks input o = inr (record { none = λ h rest s. open_no_head input h rest o s; nothing = refl })

@@ -1,8 +1,6 @@
 -- The law of prefixes.
-use Rattle.http_intake.specs.Chunks.{ChunkLaw}
-use Rattle.http_wire.{specs.Law.PrefixLaw, proofs.CaseLemmas.some_prefix}
-use Rattle.http_wire.proofs.{PrefixLemmas.{one_request, one_fault, request_or_fault, message_or_incomplete, fault_or_incomplete}, RequestLemmas.request_prefix}
-use Rattle.http_wire.proofs.StayLemmas.{request_stays, fault_stays}
+use Rattle.{http_intake.specs.Chunks.ChunkLaw, http_wire.{specs.Law.PrefixLaw, proofs.{CaseLemmas.some_prefix, RequestLemmas.request_prefix}}}
+use Rattle.http_wire.proofs.{PrefixLemmas.{one_request, one_fault, request_or_fault, message_or_incomplete, fault_or_incomplete}, StayLemmas.{request_stays, fault_stays}}
 
 pub prefix_law : ChunkLaw → PrefixLaw
 prefix_law law = record {

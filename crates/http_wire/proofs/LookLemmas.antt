@@ -1,15 +1,11 @@
 -- What the parser answers on the first bytes holds of all bytes.
 use Rattle.std.proofs.Common.{◌≡◌, ℕ, ◌+◌, ◌-◌, ◌<◌, ◌≤◌, List, [], ◌∷◌, ◌++◌, length, take, drop, sym, ap, ◌∙◌, arith, ⊎_elim, append-nil, take-append-drop, length-take-le, length-take, rules}
-use Rattle.std.proofs.Math.Seq.{take-append_seam, take-append-add}
-use Rattle.std.proofs.lemmas.Bool.{cases_lt}
-use Rattle.std.proofs.lemmas.List.{length-map, take-append-le, append_cancel_right}
-use Rattle.std.proofs.lemmas.Slice.{between_is}
+use Rattle.std.proofs.{Math.Seq.{take-append_seam, take-append-add}, lemmas.{Bool.cases_lt, List.{length-map, take-append-le, append_cancel_right}, Slice.between_is}}
+use Rattle.{http_intake.specs.{claim.Lines.head_lines, declared.sought.Seen.{Seen, TheVariants.Incomplete}}, http_wire.specs.{Look.{IsParsed, Sees}, declared.look.Head.Head}}
+use Rattle.{http_wire.specs.declared.look.HeadRefusal.HeadRefusal, httparse.specs.{Grammar.{RequestHead, IsRequestHead, HasNoRequest, print_request}, declared.spans.Span.Span}}
+use Rattle.httparse.specs.{Spans.{span_bytes, IsRequestAt, IsRequestWithin, RequestOverflows, RequestExceeds}, declared.spans.{HeaderSpan.HeaderSpan, RequestSpans.RequestSpans}}
+use Rattle.http_intake.proofs.{LineLemmas.{lines_of_head, cut_head, head_lines_grow}, Prefixes.prefix_of_prefix}
 use lib.Seq.{take-take}
-use Rattle.httparse.specs.{Grammar.{RequestHead, IsRequestHead, HasNoRequest, print_request}, Spans.{span_bytes, IsRequestAt, IsRequestWithin, RequestOverflows, RequestExceeds}}
-use Rattle.httparse.specs.{declared.spans.Span.Span, declared.spans.HeaderSpan.HeaderSpan, declared.spans.RequestSpans.RequestSpans}
-use Rattle.http_intake.{specs.claim.Lines.head_lines, specs.declared.sought.Seen.Seen, specs.declared.sought.Seen.TheVariants.Incomplete, proofs.Prefixes.prefix_of_prefix}
-use Rattle.http_intake.proofs.LineLemmas.{lines_of_head, cut_head, head_lines_grow}
-use Rattle.http_wire.specs.{Look.{IsParsed, Sees}, declared.look.Head.Head, declared.look.HeadRefusal.HeadRefusal}
 
 -- a span of a prefix is one of the whole
 span_prefix : (bytes : List ℕ) (n : ℕ) (s : Span) → s.end ≤ n → span_bytes (take n bytes) s ≡ span_bytes bytes s

@@ -1,9 +1,7 @@
 -- A request without a body, of one method and one target.
-use Rattle.std.proofs.Common.{◌≡◌, ℕ, List, [], drop, Some, Ok, sym, ap, ◌∙◌, rules}
-use Rattle.httparse.specs.Spans.{span_bytes}
-use Rattle.http_intake.specs.Chunks.{ChunkLaw}
-use Rattle.http_wire.specs.{claim.Target.target_of, declared.head.Framing.TheVariants.Sized, declared.look.Head.Head, claim.Interim.{continue_text, asks_by, asks_to_continue}}
-use Rattle.http_wire.{specs.Look.IsFound, specs.Plain.IsPlain, proofs.RequestLemmas.request_prefix, proofs.InterimLemmas.found_asks}
+use Rattle.{std.proofs.Common.{◌≡◌, ℕ, List, [], drop, Some, Ok, sym, ap, ◌∙◌, rules}, http_intake.specs.Chunks.ChunkLaw, http_wire.specs.{Look.IsFound, Plain.IsPlain}}
+use Rattle.http_wire.specs.{claim.{Interim.{continue_text, asks_by, asks_to_continue}, Target.target_of}, declared.{head.Framing.TheVariants.Sized, look.Head.Head}}
+use Rattle.{httparse.specs.Spans.span_bytes, http_wire.proofs.{InterimLemmas.found_asks, RequestLemmas.request_prefix}}
 
 -- a head without a body expects nothing
 expects_nothing : (input : List ℕ) (found : Head) (f : IsFound input found) → found.framing ≡ Sized 0 → [] ≡ continue_text (asks_to_continue f.head)

@@ -1,12 +1,10 @@
 -- The prefix of an input is one thing alone.
 use Rattle.std.proofs.Common.{◌≡◌, ◌⊎◌, ℕ, ◌+◌, ◌-◌, Bool, false, Some, None, List, [], ◌++◌, length, take, drop, Ok, Err, sym, ap, subst, ◌∙◌, arith, inl, inr, length-append, rules}
-use Rattle.std.proofs.Math.Seq.{take-append-add}
-use Rattle.httparse.{specs.Grammar.{RequestHead, ReadsRequest, MayBecomeRequest, print_request}, proofs.GrammarLemmas.request_unique}
-use Rattle.http_intake.specs.{declared.bad_request.BadRequest.BadRequest, declared.bad_request.BadRequest.TheVariants.{BadHead, HeadTooLarge}, claim.Limits.window, Chunks.ChunkLaw}
-use Rattle.http_intake.proofs.Prefixes.{window_rest, same_cut}
+use Rattle.{std.proofs.Math.Seq.take-append-add, http_intake.specs.{Chunks.ChunkLaw, claim.Limits.window, declared.bad_request.BadRequest.BadRequest}}
+use Rattle.{http_intake.specs.declared.bad_request.BadRequest.TheVariants.{BadHead, HeadTooLarge}, http_wire.specs.Law.{HasTwoHeadFaults, HasTwoBodyFaults, HasTwoFaults}}
 use Rattle.http_wire.specs.claim.Prefix.{HasHead, HasMessage, HasRequest, IsNoHead, IsTooLong, HasTooManyLines, RefusesBytes, RefusesHead, RefusesBody, RefusesTarget, HasFault, HasBody, Lacks, IsFaulty, IsOpen, LacksBody, IsIncomplete, judged_head, is_head}
-use Rattle.http_wire.specs.{Law.{HasTwoHeadFaults, HasTwoBodyFaults, HasTwoFaults}, declared.head.Framing.Framing, declared.head.Framing.TheVariants.{Sized, Chunked}}
-use Rattle.http_wire.specs.claim.Target.{target_of}
+use Rattle.{http_wire.specs.{claim.Target.target_of, declared.head.Framing.{Framing, TheVariants.{Sized, Chunked}}}, http_intake.proofs.Prefixes.{window_rest, same_cut}}
+use Rattle.httparse.{specs.Grammar.{RequestHead, ReadsRequest, MayBecomeRequest, print_request}, proofs.GrammarLemmas.request_unique}
 use Rattle.http_intake.specs.Chunks as chunks
 
 -- a head within its limit stands in the window

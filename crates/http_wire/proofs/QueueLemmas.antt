@@ -1,8 +1,7 @@
 -- Answers that wait, one after another.
 use Rattle.std.{specs.Io.KnownBytes.Appends, proofs.Common.{◌≡◌, ℕ, List, [], ◌++◌, Option, Some, None, Result, Ok, Err, codes, sym, ap, ◌∙◌, append_assoc, append-nil}}
-use Rattle.std.proofs.KnownBytes.{Appends-trans, Appends-nil}
-use Rattle.byte_stream.specs.claim.Sends.{Sends}
-use Rattle.http_wire.specs.{claim.Answer.{allow_line, line_end}, Answer.after_line, Queue.{Queued, Queues}}
+use Rattle.{std.proofs.KnownBytes.{Appends-trans, Appends-nil}, byte_stream.specs.claim.Sends.Sends, http_wire.specs.{Answer.after_line, Queue.{Queued, Queues}}}
+use Rattle.http_wire.specs.claim.Answer.{allow_line, line_end}
 
 -- a head in four pieces: what stands before the length in its line, the length, the allowed methods, and the end
 pub head_built : (s t c d k : List ℕ) (allow : Option (List ℕ))

@@ -1,12 +1,11 @@
 -- A head that has come, and then its body.
-use Rattle.std.proofs.Common.{◌≡◌, ℕ, Bool, true, false, List, ◌++◌, drop, Result, Ok, Err, refl, sym, ap, ◌∙◌, inl, append_assoc, rules}
-use Rattle.httparse.{specs.Grammar.{RequestHead, print_request}, specs.Spans.span_bytes, proofs.GrammarLemmas.ReadsRequest-append}
-use Rattle.http_intake.specs.{declared.fault.WireFault.WireFault, Chunks.ChunkLaw, declared.chunks.Chunked.Chunked, declared.bad_request.BadRequest.BadRequest}
-use Rattle.http_intake.specs.declared.fault.WireFault.TheVariants as fault
-use Rattle.http_wire.specs.{declared.look.Head.Head, declared.request.Request.Request, Framed.BodyRead, declared.head.Framing.Framing}
+use Rattle.{std.proofs.Common.{◌≡◌, ℕ, Bool, true, false, List, ◌++◌, drop, Result, Ok, Err, refl, sym, ap, ◌∙◌, inl, append_assoc, rules}, http_intake.specs.Chunks.ChunkLaw}
+use Rattle.{http_intake.specs.declared.{bad_request.BadRequest.BadRequest, chunks.Chunked.Chunked, fault.WireFault.WireFault}, http_wire.specs.{Framed.BodyRead, Look.IsFound}}
+use Rattle.http_wire.specs.{Incoming.{ReadsPrefix, IsTargetOf, finished, targeted}, claim.Interim.{Interim, continue_text, asks_to_continue}, declared.head.Framing.Framing}
 use Rattle.http_wire.specs.claim.Prefix.{HasHead, HasMessage, HasRequest, HasBody, HasFault, Lacks, IsFaulty, IsIncomplete, IsOutOfMemory, closes_after, is_head}
-use Rattle.http_wire.specs.{Incoming.{ReadsPrefix, IsTargetOf, finished, targeted}, claim.Interim.{Interim, continue_text, asks_to_continue}, Look.IsFound}
-use Rattle.http_wire.proofs.TargetTexts.{target_ascii}
+use Rattle.{http_wire.specs.declared.{look.Head.Head, request.Request.Request}, httparse.specs.{Grammar.{RequestHead, print_request}, Spans.span_bytes}}
+use Rattle.{http_wire.proofs.TargetTexts.target_ascii, httparse.proofs.GrammarLemmas.ReadsRequest-append}
+use Rattle.http_intake.specs.declared.fault.WireFault.TheVariants as fault
 use Rattle.http_intake.specs.declared.chunks.Chunked.TheVariants as chunked
 use Rattle.http_wire.specs.declared.head.Framing.TheVariants as framing
 
@@ -64,10 +63,7 @@ judge_target : ChunkLaw → (input : List ℕ) (r : Request) (h : RequestHead) (
     → r.closes ≡ closes_after h → head_only ≡ is_head h.method → sent ≡ continue_text (asks_to_continue h) → ReadsPrefix input (Ok (targeted r good head_only)) rest sent
 judge_target law input r h rest sent true head_only good m method closes shown asked =
     let request : HasRequest input h r.target.items r.body.items rest = record { message = m; target_is = good } in
-    let cut = request_prefix law input h r.target.items r.body.items rest request in (
-      search (rules, request, cut, target_ascii),
-      asked,
-    )
+    let cut = request_prefix law input h r.target.items r.body.items rest request in (search (rules, request, cut, target_ascii), asked)
 judge_target law input r h rest sent false head_only bad m method closes shown asked = search rules
 
 pub rest_reads : ChunkLaw → (input more : List ℕ) (found : Head) (r : Request) (good : Bool) (c : Result Chunked WireFault) (rest sent : List ℕ) (f : IsFound input found) → r.method ≡ span_bytes input found.method

@@ -1,16 +1,12 @@
 -- A request and a fault stay, whatever bytes follow.
 use Rattle.std.proofs.Common.{◌≡◌, ◌⊎◌, ℕ, suc, ◌+◌, ◌-◌, ◌<◌, ◌≤◌, true, Bool, List, [], ◌∷◌, ◌++◌, length, take, drop, codes, sym, ap, subst, ◌∙◌, arith, inl, inr, ⊎_elim, append_assoc, append-nil, take-append-drop, length-append, rules}
-use Rattle.std.proofs.Math.Seq.{take-append-add, take-append_seam}
-use Rattle.std.proofs.lemmas.Bool.{cases_lt}
-use Rattle.std.proofs.lemmas.List.{take-append-le}
-use Rattle.std.proofs.lemmas.List.Elements.{All-nil, All-take}
-use Rattle.std.proofs.lemmas.List.Sums.{AllPass-from_list_all}
-use Rattle.httparse.specs.Grammar.{is_uri_byte, AllPass, IsToken, LineEnd, lf, print_blank, RequestHead, IsRequestHead, ReadsRequest, HasNoRequest, NeverHasRequest, MayBecomeRequest, EndsInTarget, print_request}
-use Rattle.httparse.{specs.Spans.RequestOverflows, proofs.GrammarLemmas.print_request-append}
-use Rattle.http_intake.specs.{declared.bad_request.BadRequest.BadRequest, declared.bad_request.BadRequest.TheVariants.{BadHead, HeadTooLarge}, claim.Limits.window, Chunks.ChunkLaw}
-use Rattle.http_intake.proofs.{Prefixes.{window_grows, window_full}, LineLemmas.head_lines_grow}
+use Rattle.std.proofs.{Math.Seq.{take-append-add, take-append_seam}, lemmas.{Bool.cases_lt, List.{take-append-le, Elements.{All-nil, All-take}, Sums.AllPass-from_list_all}}}
+use Rattle.http_intake.specs.{Chunks.ChunkLaw, claim.Limits.window, declared.bad_request.BadRequest.{BadRequest, TheVariants.{BadHead, HeadTooLarge}}}
 use Rattle.http_wire.specs.{claim.Prefix.{HasMessage, HasRequest, IsNoHead, IsTooLong, HasTooManyLines, RefusesBytes, HasFault, HasBody, IsFaulty}, declared.head.Framing.Framing}
-use Rattle.http_wire.{specs.declared.head.Framing.TheVariants.{Sized, Chunked}, proofs.PrefixLemmas.bytes_are, proofs.RequestLemmas.head_before}
+use Rattle.{http_wire.specs.declared.head.Framing.TheVariants.{Sized, Chunked}, httparse.specs.Spans.RequestOverflows, http_intake.proofs.LineLemmas.head_lines_grow}
+use Rattle.httparse.specs.Grammar.{is_uri_byte, AllPass, IsToken, LineEnd, lf, print_blank, RequestHead, IsRequestHead, ReadsRequest, HasNoRequest, NeverHasRequest, MayBecomeRequest, EndsInTarget, print_request}
+use Rattle.{http_intake.proofs.Prefixes.{window_grows, window_full}, http_wire.proofs.{PrefixLemmas.bytes_are, RequestLemmas.head_before}}
+use Rattle.httparse.proofs.GrammarLemmas.{print_request-append}
 
 never_grows : (w y : List ℕ) → NeverHasRequest w → NeverHasRequest (w ++ y)
 never_grows w y never more h rest reads = never (y ++ more) h rest (subst (λ xs. ReadsRequest xs h rest) (append_assoc w y more) reads)

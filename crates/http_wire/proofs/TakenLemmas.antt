@@ -1,11 +1,10 @@
 -- A request that is there whole.
 use Rattle.std.proofs.Common.{◌≡◌, ℕ, ◌≤◌, Bool, true, false, List, [], ◌++◌, length, take, drop, Ok, sym, ap, subst, ◌∙◌, append-nil, take-append-drop, length-take-le, rules}
-use Rattle.httparse.specs.Spans.{span_bytes}
+use Rattle.{http_intake.specs.{Chunks.ChunkLaw, declared.bad_request.BadRequest.BadRequest}, http_wire.specs.{Incoming.{Came, Taken, IsNoEnd, IsTargetOf, targeted}, Look.IsFound}}
+use Rattle.http_wire.specs.{Prefix.RefusesPrefix, claim.{Interim.{continue_text, asks_to_continue}, Prefix.HasBody}, declared.head.Framing.{Framing, TheVariants.Sized}}
+use Rattle.{http_wire.{specs.declared.{look.Head.Head, request.Request.Request}, proofs.InterimLemmas.{found_asks, refused_prefix}}, httparse.specs.Spans.span_bytes}
+use Rattle.http_wire.proofs.RequestLemmas.{rest_reads, out_of_memory, due}
 use Rattle.http_intake.specs.declared.chunks.Chunked.TheVariants as chunked
-use Rattle.http_intake.specs.{declared.bad_request.BadRequest.BadRequest, Chunks.ChunkLaw}
-use Rattle.http_wire.specs.{declared.head.Framing.Framing, declared.head.Framing.TheVariants.Sized, declared.look.Head.Head, declared.request.Request.Request, claim.Prefix.HasBody}
-use Rattle.http_wire.specs.{Prefix.RefusesPrefix, Incoming.{Came, Taken, IsNoEnd, IsTargetOf, targeted}, claim.Interim.{continue_text, asks_to_continue}, Look.IsFound}
-use Rattle.http_wire.proofs.{InterimLemmas.{found_asks, refused_prefix}, RequestLemmas.{rest_reads, out_of_memory, due}}
 use Rattle.http_wire.specs.declared.request.Incoming.TheVariants as came
 
 no_end : (r : Request) (good head_only : Bool) → IsNoEnd (targeted r good head_only)

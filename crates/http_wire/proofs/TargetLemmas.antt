@@ -1,11 +1,8 @@
 -- The test for a text that ends inside a request target is right.
-use Rattle.std.specs.List.{list_all}
+use Rattle.std.{specs.List.list_all, proofs.lemmas.{Bool.{false≢true, and_parts, or_parts, eqb-true}, List.Elements.{All-nil, All-cons, All-head, All-tail}}}
 use Rattle.std.proofs.Common.{◌≡◌, ℕ, ◌<◌, Bool, true, false, cond, ◌&&◌, ◌==◌, List, [], ◌∷◌, ◌++◌, length, refl, sym, ap, subst, ◌∙◌, arith, append_assoc, rules}
-use Rattle.std.proofs.lemmas.Bool.{false≢true, and_parts, or_parts, eqb-true}
-use Rattle.std.proofs.lemmas.List.Elements.{All-nil, All-cons, All-head, All-tail}
-use Rattle.std.proofs.lemmas.List.Sums.{AllPass-from_list_all, list_all-from_AllPass}
+use Rattle.{std.proofs.lemmas.List.Sums.{AllPass-from_list_all, list_all-from_AllPass}, http_wire.specs.InTarget.{in_method, in_blank}}
 use Rattle.httparse.{specs.Grammar.{is_token_byte, is_uri_byte, AllPass, LineEnd, crlf, lf, print_blank, EndsInTarget}, proofs.PieceLemmas.{space_ends_token, token_is_no_newline}}
-use Rattle.http_wire.specs.InTarget.{in_method, in_blank}
 
 -- the rest of a method, and a target
 record Words (some : Bool) (bytes : List ℕ) : Type 0 where
@@ -56,18 +53,8 @@ record Blanks (cr : Bool) (bytes : List ℕ) : Type 0 where
   are : cond cr (13 ∷ bytes) bytes ≡ print_blank ends ++ rest
 
 blanks_lf : (cr : Bool) (bytes : List ℕ) → Blanks false bytes → Blanks cr (10 ∷ bytes)
-blanks_lf true bytes k = record {
-  ends = crlf ∷ k.ends;
-  rest = k.rest;
-  words_are = k.words_are;
-  are = ap (λ (xs : List ℕ). 13 ∷ 10 ∷ xs) k.are;
-}
-blanks_lf false bytes k = record {
-  ends = lf ∷ k.ends;
-  rest = k.rest;
-  words_are = k.words_are;
-  are = ap (λ (xs : List ℕ). 10 ∷ xs) k.are;
-}
+blanks_lf true bytes k = record { ends = crlf ∷ k.ends; rest = k.rest; words_are = k.words_are; are = ap (λ (xs : List ℕ). 13 ∷ 10 ∷ xs) k.are }
+blanks_lf false bytes k = record { ends = lf ∷ k.ends; rest = k.rest; words_are = k.words_are; are = ap (λ (xs : List ℕ). 10 ∷ xs) k.are }
 
 blanks_cr : (bytes : List ℕ) → Blanks true bytes → Blanks false (13 ∷ bytes)
 blanks_cr bytes k = record { ends = k.ends; rest = k.rest; words_are = k.words_are; are = k.are }

@@ -1,9 +1,6 @@
 -- What a target asks for is ASCII.
-use Rattle.std.specs.{Prelude.{option_map, codes, ◌&&◌, nat_lt}, Str.IsAscii}
+use Rattle.std.{specs.{Prelude.{option_map, codes, ◌&&◌, nat_lt}, Str.IsAscii}, proofs.lemmas.{Bool.Decides.nat_tests, Str.{IsAscii-drop, Ascii.{IsAscii-nil, IsAscii-cons}}}}
 use Rattle.std.proofs.Common.{◌≡◌, ℕ, suc, ◌<◌, Bool, true, false, cond, List, [], ◌∷◌, drop, take, Some, None, refl, subst, arith, rules}
-use Rattle.std.proofs.lemmas.Str.{IsAscii-drop}
-use Rattle.std.proofs.lemmas.Str.Ascii.{IsAscii-nil, IsAscii-cons}
-use Rattle.std.proofs.lemmas.Bool.Decides.{nat_tests}
 use Rattle.http_wire.specs.claim.Target.{is_ascii, is_word, begins_with_slash, ends_authority, after_authority, after_scheme, with_path, without_authority, target_of}
 
 both : (a b : Bool) → (a && b) ≡ true → (a ≡ true) × (b ≡ true)

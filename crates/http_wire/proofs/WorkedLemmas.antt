@@ -1,10 +1,8 @@
 -- The prefixes of worked inputs.
-use Rattle.std.{specs.List.list_all, specs.Str.IsUtf8, proofs.Common.{◌≡◌, ℕ, ◌<◌, true, false, List, [], ◌∷◌, length, codes, refl, arith, All, rules}}
-use Rattle.std.proofs.lemmas.List.Elements.{All-nil, All-cons}
-use Rattle.std.proofs.lemmas.List.Sums.{AllPass-from_list_all}
-use Rattle.httparse.{specs.Grammar.{is_token_byte, is_uri_byte, is_value_byte, Field, IsField, crlf, RequestHead, IsRequestHead}, proofs.OnLiterals.httparse_on_literals}
-use Rattle.http_intake.specs.declared.bad_request.BadRequest.TheVariants.{BadHost, BadLength}
-use Rattle.http_wire.specs.{claim.Prefix.{HasRequest, RefusesHead}, Law.WorkedPrefixes, declared.head.Framing.TheVariants.Sized}
+use Rattle.std.{specs.{List.list_all, Str.IsUtf8}, proofs.Common.{◌≡◌, ℕ, ◌<◌, true, false, List, [], ◌∷◌, length, codes, refl, arith, All, rules}}
+use Rattle.{std.proofs.lemmas.List.{Elements.{All-nil, All-cons}, Sums.AllPass-from_list_all}, http_intake.specs.declared.bad_request.BadRequest.TheVariants.{BadHost, BadLength}}
+use Rattle.{http_wire.specs.{Law.WorkedPrefixes, claim.Prefix.{HasRequest, RefusesHead}, declared.head.Framing.TheVariants.Sized}, httparse.proofs.OnLiterals.httparse_on_literals}
+use Rattle.httparse.specs.Grammar.{is_token_byte, is_uri_byte, is_value_byte, Field, IsField, crlf, RequestHead, IsRequestHead}
 
 -- a head by its method, its target and its fields
 abbrev head : List ℕ → List ℕ → List Field → RequestHead
@@ -75,13 +73,7 @@ head_only = head (codes "GET") (codes "/plans") []
 
 head_only_refused : RefusesHead (codes "GET /plans HTTP/1.1\r\n\r\n") BadHost false
 unfolding httparse_on_literals lib.Utf8.encode
-head_only_refused = record {
-  head = head_only;
-  rest = [];
-  stands = search (rules, fields_ok, All-nil);
-  judges = refl;
-  shown = refl;
-}
+head_only_refused = record { head = head_only; rest = []; stands = search (rules, fields_ok, All-nil); judges = refl; shown = refl }
 
 abbrev length_field : Field
 length_field = record { name = codes "Content-Length"; raw = codes " 1"; end = crlf }

@@ -1,6 +1,6 @@
 -- What no promise rests on, beside claim/Answer.antt.
 use Rattle.std.specs.Prelude.{ℕ, List, [], ◌++◌, length, Option, Some, None, codes, option_map}
-use Rattle.http_wire.specs.{declared.response.ContentType.ContentType, declared.response.Response.Response, claim.Answer.{answer_text, head_text, line_end, status_line, type_line}}
+use Rattle.http_wire.specs.{claim.Answer.{answer_text, head_text, line_end, status_line, type_line}, declared.response.{ContentType.ContentType, Response.Response}}
 
 -- how long the names of the methods are
 abbrev pub allowed_len : Option (List ℕ) → ℕ

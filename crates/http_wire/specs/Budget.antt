@@ -1,7 +1,5 @@
 -- Which failures a fault of a whole request tells.
-use Rattle.std.specs.Prelude.{ℕ, Result, Ok, Err}
-use Rattle.byte_stream.specs.claim.Counts.{counted}
-use Rattle.http_wire.specs.declared.fault.RequestFault.{RequestFault}
+use Rattle.{std.specs.Prelude.{ℕ, Result, Ok, Err}, byte_stream.specs.claim.Counts.counted, http_wire.specs.declared.fault.RequestFault.RequestFault}
 use Rattle.http_wire.specs.declared.fault.RequestFault.TheVariants as request
 
 -- a read fault is one failure more, and all else none

@@ -1,5 +1,5 @@
 -- A text that ends inside a request target, as a test.
-use Rattle.std.specs.{Prelude.{ℕ, Bool, true, false, List, [], ◌∷◌, ◌&&◌, ◌==◌, if◌then◌else◌}, List.list_all}
+use Rattle.std.specs.{List.list_all, Prelude.{ℕ, Bool, true, false, List, [], ◌∷◌, ◌&&◌, ◌==◌, if◌then◌else◌}}
 use Rattle.httparse.specs.Grammar.{is_token_byte, is_uri_byte}
 
 -- the rest of a method, a space, and bytes of a target; some says that the method has begun

@@ -1,6 +1,6 @@
 -- What no promise rests on, beside claim/Interim.antt.
 use Rattle.std.specs.Prelude.{◌≡◌, ◌⊎◌, ℕ, List, [], ◌++◌}
-use Rattle.http_wire.specs.{claim.Prefix.IsIncomplete, claim.Interim.{Interim, IsCutHead}}
+use Rattle.http_wire.specs.claim.{Interim.{Interim, IsCutHead}, Prefix.IsIncomplete}
 
 -- the writer failed within it, before the body: over a prefix of the input nothing more would be written
 pub record IsCutInterim (input sent : List ℕ) : Type 0 where

@@ -1,10 +1,9 @@
 -- What a look at the bytes tells.
 use Rattle.std.specs.Prelude.{◌≡◌, ℕ, ◌<◌, ◌≤◌, List, map, length, drop, All, Ok}
+use Rattle.{http_intake.specs.declared.sought.Seen.{Seen, TheVariants.{Found, Refused, Incomplete}}, http_wire.specs.{Prefix.RefusesPrefix, claim.Interim.asks_by}}
+use Rattle.http_wire.specs.{claim.Prefix.{HasHead, IsOpen, judged_head, closes_after, is_head}, declared.look.{Head.Head, HeadRefusal.HeadRefusal}}
 use Rattle.httparse.specs.{Grammar.RequestHead, Spans.{header_bytes, name_and_value, span_bytes, IsWithin, IsHeaderWithin}, declared.spans.HeaderSpan.HeaderSpan}
 use Rattle.httparse.specs.declared.spans.RequestSpans.{RequestSpans}
-use Rattle.http_wire.specs.{declared.look.Head.Head, declared.look.HeadRefusal.HeadRefusal, claim.Interim.asks_by}
-use Rattle.http_wire.specs.{claim.Prefix.{HasHead, IsOpen, judged_head, closes_after, is_head}, Prefix.RefusesPrefix}
-use Rattle.http_intake.specs.{declared.sought.Seen.Seen, declared.sought.Seen.TheVariants.{Found, Refused, Incomplete}}
 
 -- the head that the parser's spans tell stands at the start of bytes, and part is as much of them as was read
 pub record IsParsed (bytes part : List ℕ) (headers : List HeaderSpan) (s : RequestSpans) : Type 0 where

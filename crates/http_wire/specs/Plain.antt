@@ -1,7 +1,6 @@
 -- A request that is answered without a copy of it.
 use Rattle.std.specs.Prelude.{◌≡◌, ℕ, Bool, List, [], ◌++◌}
-use Rattle.httparse.specs.Grammar.{RequestHead}
-use Rattle.http_wire.specs.{claim.Prefix.{HasRequest, closes_after}, claim.Interim.{continue_text, asks_to_continue}}
+use Rattle.{http_wire.specs.claim.{Interim.{continue_text, asks_to_continue}, Prefix.{HasRequest, closes_after}}, httparse.specs.Grammar.RequestHead}
 
 -- a request of this method and this target, without a body, stands at the start of the input, and rest follows it; closes tells
 -- whether the connection closes after its answer

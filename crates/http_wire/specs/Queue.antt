@@ -1,5 +1,5 @@
 -- Answers that wait in a buffer, so that they go out together.
-use Rattle.std.specs.{Prelude.{◌≡◌, ℕ, List, ◌++◌, Option, Result, Ok, Err}, Io.KnownBytes.Appends}
+use Rattle.std.specs.{Io.KnownBytes.Appends, Prelude.{◌≡◌, ℕ, List, ◌++◌, Option, Result, Ok, Err}}
 
 -- of what waited before and this text all is written but what waits after
 abbrev pub Queued : (old new : Option (List ℕ)) → (before after text : List ℕ) → Type 0

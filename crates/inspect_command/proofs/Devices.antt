@@ -1,25 +1,21 @@
 -- A device whose store is verified.
-use Rattle.std.{specs.Prelude.{Option, Some, None, Result, Ok, Err, IfOk, IfErr}, proofs.Common.{◌≡◌, ◌+◌, ℕ, Bool, true, false, inl, inr, refl, sym, ap, subst, ◌∙◌, arith}}
-use Rattle.sector_device.specs.{claim.Disk.{Disk, Image}, Disk.IsSynced, claim.Moments.LeavesOnly, declared.SectorDevice.Ghosts}
-use Rattle.page_store.specs.{gate_journal.claim.Store.{home, pages}, gate_journal.Recovery.{HasRoom, AllStores, ReadsAs, Found}, claim.Chain.{root_in, free_in}}
-use Rattle.page_store.specs.{claim.Transactions.{stored, disk_in, device_in, count_of, journal_of, has_halted, txn_pages, IsKept, IsQuiet}, Transactions.{IsUntouched, OpenErr}}
-use Rattle.page_store.{specs.declared.pages.Pages.Pages, specs.declared.txn.Txn.Txn, specs.gate_journal.declared.error.PageError.PageError, proofs.Stops.{leaves_quiet, quiet_more}}
-use Rattle.page_store.specs.gate_journal.declared.error.PageError.TheVariants as page
-use Rattle.page_btree.specs.claim.Map.{Holds, InPages as HoldsRows, InTxn}
-use Rattle.btree_walks.specs.{Errors.CheckErr, Owners.AreOwned, Faults.{IsWrongPage, TellsOf}, declared.error.PageFault.PageFault, declared.error.PagesError.PagesError}
-use Rattle.btree_walks.specs.declared.error.PagesError.TheVariants as owners
-use Rattle.store_rows.specs.claim.Rows.{KeyMap}
-use Rattle.desk_model.specs.{Ranges.ranges_in, claim.Desk.Desk}
-use Rattle.desk_pages.specs.{claim.Desks.{HoldsDeskOf, InPages as HoldsDesk, InTxn as ReadsIn}, Openings.{LeavesOneOf, OpensOneOf, StillStands}, Errors.page_refusal}
-use Rattle.desk_pages.proofs.Found.{all_versions, stores_of, page_stores_of, open_leaves, found_desk, found_after, pages_stand, rows_before}
-use Rattle.store_command.specs.{Reading.ReadsDesk, desk_runs.Recovery.ImagesAreOne, declared.fault.StoreFault.StoreFault}
-use Rattle.store_command.specs.{declared.fault.StoreFault.TheVariants.{NotAStore, OldVersion, DeviceFault, Memory}, Faults.fault_of_store}
-use Rattle.store_command.proofs.Read.{left_opens, leaves_new, all_either}
-use Rattle.store_command.proofs.desk_store.Prepared.{IsBegun, begun_rows}
-use Rattle.inspect_command.specs.{declared.refusal.Refusal.Refusal, declared.verifying.Verified.Verified, Sound.{HasSound, HasStray}}
+use Rattle.std.{specs.Prelude.{Option, Some, None, Result, Ok, Err, IfOk, IfErr}, proofs.Common.{rules, ◌≡◌, ◌+◌, ℕ, Bool, true, false, inl, inr, refl, sym, ap, subst, ◌∙◌, arith}}
+use Rattle.btree_walks.specs.{Errors.CheckErr, Faults.{IsWrongPage, TellsOf}, Owners.AreOwned, declared.error.{PageFault.PageFault, PagesError.PagesError}}
+use Rattle.{desk_model.specs.{Ranges.ranges_in, claim.Desk.Desk}, desk_pages.specs.{Errors.page_refusal, Openings.{LeavesOneOf, OpensOneOf, StillStands}}}
+use Rattle.{desk_pages.specs.claim.Desks.{HoldsDeskOf, InPages as HoldsDesk, InTxn as ReadsIn}, inspect_command.specs.Sound.{HasSound, HasStray}, row_owners.specs.Strays.AllBelong}
 use Rattle.inspect_command.specs.Verifying.{HoldsOwned, HoldsSound, HoldsStray, IsFoundWrong, IsLookedAt, NamesPageOrRow, IsRefused, IsSparedFor, IsUnsound, StrayOr, TellsPages, Unsound, VerifiesDevice}
-use Rattle.row_owners.specs.{Strays.AllBelong, declared.wrong.WrongRow.WrongRow}
-use Rattle.parallel_verify.{specs.Looking.IsSoundAt, proofs.Seen.{agreed, same_layout}}
+use Rattle.{inspect_command.specs.declared.{refusal.Refusal.Refusal, verifying.Verified.Verified}, page_btree.specs.claim.Map.{Holds, InPages as HoldsRows, InTxn}}
+use Rattle.page_store.specs.{Transactions.{IsUntouched, OpenErr}, claim.Chain.{root_in, free_in}, declared.{pages.Pages.Pages, txn.Txn.Txn}, gate_journal.claim.Store.{home, pages}}
+use Rattle.{page_store.specs.claim.Transactions.{stored, disk_in, device_in, count_of, journal_of, has_halted, txn_pages, IsKept, IsQuiet}, parallel_verify.specs.Looking.IsSoundAt}
+use Rattle.{page_store.specs.gate_journal.{Recovery.{HasRoom, AllStores, ReadsAs, Found}, declared.error.PageError.PageError}, row_owners.specs.declared.wrong.WrongRow.WrongRow}
+use Rattle.{sector_device.specs.{Disk.IsSynced, claim.{Disk.{Disk, Image}, Moments.LeavesOnly}, declared.SectorDevice.Ghosts}, store_command.specs.Faults.fault_of_store}
+use Rattle.store_command.specs.{Reading.ReadsDesk, declared.fault.StoreFault.{StoreFault, TheVariants.{NotAStore, OldVersion, DeviceFault, Memory}}}
+use Rattle.{store_command.specs.desk_runs.Recovery.ImagesAreOne, store_rows.specs.claim.Rows.KeyMap, page_store.proofs.Stops.{leaves_quiet, quiet_more}}
+use Rattle.desk_pages.proofs.Found.{all_versions, stores_of, page_stores_of, open_leaves, found_desk, found_after, pages_stand, rows_before}
+use Rattle.{parallel_verify.proofs.Seen.{agreed, same_layout}, store_command.proofs.Read.{left_opens, leaves_new, all_either}}
+use Rattle.page_store.specs.gate_journal.declared.error.PageError.TheVariants as page
+use Rattle.btree_walks.specs.declared.error.PagesError.TheVariants as owners
+use Rattle.store_command.proofs.desk_store.Prepared.{IsBegun, begun_rows}
 
 -- ---- what is told of a part of the store, or for another reason
 told_part : (is : Bool) (fault : StoreFault) (P Q : Type 0) → is ≡ true → fault ≡ NotAStore → P → StrayOr is fault P Q
@@ -57,9 +53,7 @@ module _ {D : Type 0} {g : Ghosts D} where
   }
 
   pub of_unsound : (a b : Pages D g) (refusal : Refusal) (fault : StoreFault) → refusal.fault ≡ fault → refusal.is_stray ≡ false → refusal.page ≡ None → Unsound a b fault → IsUnsound a b refusal
-  of_unsound a b refusal fault told opens whole why =
-      told_other refusal.is_stray refusal.fault (NamesPageOrRow b refusal.page refusal.row) (Unsound a b refusal.fault × (refusal.page ≡ None)) opens
-      (subst (λ (f : StoreFault). Unsound a b f) (sym told) why, whole)
+  of_unsound a b refusal fault told opens whole why = search (told_other, told)
 
   -- ---- pages that were looked at before
   desk_after : (a b : Pages D g) (d : Desk) → IsQuiet a b → (disk_in b).is_honest → HoldsDesk a d → HoldsDesk b d
@@ -80,9 +74,7 @@ module _ {D : Type 0} {g : Ghosts D} where
 
   pub then_unsound : (a b c : Pages D g) (result : Result Verified Refusal) → IsQuiet a b → IsQuiet b c → IfErr result (λ r. IsUnsound b c r) → IfErr result (λ r. IsUnsound a c r)
   then_unsound a b c (Ok v) first then why = why
-  then_unsound a b c (Err r) first then why =
-      map_stray r.is_stray r.fault (NamesPageOrRow c r.page r.row) (Unsound b c r.fault × (r.page ≡ None)) (NamesPageOrRow c r.page r.row) (Unsound a c r.fault × (r.page ≡ None))
-      (λ part. part) (λ other. (unsound_after a b c r.fault first then other.0, other.1)) why
+  then_unsound a b c (Err r) first then why = search (rules, unsound_after)
 
   pub then_owned : (a b c : Pages D g) (result : Result Verified Refusal) → IsQuiet a b → IsQuiet b c → ((disk_in b).is_honest → AreOwned (count_of a) (stored a)) → IfOk result (λ v. HoldsSound c v) → IfOk result (λ v. HoldsOwned c v)
   then_owned a b c (Err r) first then owned sound = sound
@@ -99,10 +91,7 @@ module _ {D : Type 0} {g : Ghosts D} where
       → ((disk_in b).is_honest → TellsOf (count_of a) (stored a) e) → IsUnsound a b refusal
   pages_told a b (owners.Unsound page) refusal working quiet told why wrong =
       told_part refusal.is_stray refusal.fault (NamesPageOrRow b refusal.page refusal.row) (Unsound a b refusal.fault × (refusal.page ≡ None)) told.0 told.1
-      (subst (λ (o : Option PageFault). NamesPageOrRow b o refusal.row) (sym told.2) (record {
-        unowned = λ honest owned. why honest (owned_before a b quiet honest owned);
-        told = λ honest. wrong_after a b page quiet honest (wrong honest);
-      }))
+      (subst (λ (o : Option PageFault). NamesPageOrRow b o refusal.row) (sym told.2) (search (owned_before, wrong_after)))
   pages_told a b owners.DeviceFault refusal working quiet told why wrong = of_unsound a b refusal DeviceFault told.1 told.0 told.2 why.halted
   pages_told a b owners.Halted refusal working quiet told why wrong = absurd (let clash : true ≡ false = sym why ∙ working in cc)
   pages_told a b owners.Memory refusal working quiet told why wrong = of_unsound a b refusal Memory told.1 told.0 told.2 tt
@@ -110,9 +99,7 @@ module _ {D : Type 0} {g : Ghosts D} where
 module _ {D : Type 0} (g : Ghosts D) where
   pub unopened : (device left : D) (refusal : Refusal) (fault : StoreFault) → refusal.fault ≡ fault → refusal.is_stray ≡ false → refusal.page ≡ None → IsRefused g device left fault
       → StrayOr refusal.is_stray refusal.fault (IsFoundWrong g device left refusal.page refusal.row) (IsRefused g device left refusal.fault × (refusal.page ≡ None))
-  unopened device left refusal fault same opens whole why =
-      told_other refusal.is_stray refusal.fault (IsFoundWrong g device left refusal.page refusal.row) (IsRefused g device left refusal.fault × (refusal.page ≡ None)) opens
-      (subst (λ (f : StoreFault). IsRefused g device left f) (sym same) why, whole)
+  unopened device left refusal fault same opens whole why = search rules
 
   -- ---- what stands
   pub not_opened : (device left : D) (e : PageError) → OpenErr g device left e → ((g.disk left).is_honest → e ≡ page.NotAStore → IsUntouched (g.disk device) (g.disk left)) → IsSparedFor g device left (fault_of_store (page_refusal e))
@@ -141,11 +128,7 @@ module _ {D : Type 0} (g : Ghosts D) (law : ImagesAreOne) (device : D) (synced :
   page_refused left _ why = absurd why
 
   pub looked_at : (left : D) → (g.disk left).sectors ≡ old.sectors → ((g.disk left).is_honest → old.is_honest) → LeavesOneOf old (g.disk left) → IsLookedAt g device left
-  looked_at left sectors honest leaves = record {
-    sectors = sectors;
-    honest = honest;
-    any_moment = λ good d reads. leaves_new old synced law (g.disk left) good leaves d reads;
-  }
+  looked_at left sectors honest leaves = search leaves_new
 
   pub opened_leaves : (new : Disk) → (new.is_honest → AllStores old → LeavesOnly (ReadsAs old) old new) → LeavesOneOf old new
   opened_leaves new leaves = λ honest all. open_leaves old new all (leaves honest (stores_of old (all_versions old all)))

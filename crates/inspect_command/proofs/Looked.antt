@@ -1,17 +1,12 @@
 -- A device that a clerk opened, and that was opened once more by its pages.
-use Rattle.std.{specs.Prelude.{Result, Ok, Err, IfOk, IfErr}, proofs.Common.{◌≡◌, ◌⊎◌, ◌<◌, ◌≤◌, ◌^◌, ℕ, true, refl, sym, subst, ◌∙◌, inl, inr, arith}}
-use Rattle.sector_device.{specs.claim.Disk.{Disk, Image}, specs.declared.SectorDevice.Ghosts, proofs.Moments.{leaves_more, leaves_now, leaves_wider}}
-use Rattle.page_store.specs.{gate_journal.Recovery.Found, claim.Chain.{root_in, free_in}, claim.Transactions.{stored, disk_in, device_in, count_of, journal_of, IsQuiet}}
-use Rattle.page_store.specs.declared.pages.Pages.{Pages}
-use Rattle.page_btree.specs.claim.Map.{Holds, InPages}
-use Rattle.desk_pages.{specs.claim.Desks.OpensDesk, specs.Openings.{AllDesks, LeavesOneOf, OpensOneOf}, proofs.Found.found_after}
-use Rattle.store_rows.specs.claim.Rows.{KeyMap}
-use Rattle.inspect_command.specs.{Rows.{AreCounted, CountsRows, IsUncounted}, declared.rows.Rows.Rows, declared.figures.Held.Held, Figures.AreHeld}
-use Rattle.inspect_command.specs.Stats.{joined, IsLookedAt, StatsDevice}
-use Rattle.store_command.specs.{declared.fault.StoreFault.StoreFault, desk_loading.Openings.IsOpened, desk_runs.Recovery.ImagesAreOne, desk_store.declared.clerk.Clerk.Clerk}
-use Rattle.store_command.specs.{desk_store.claim.Clerks.{disk_of, pages_of}, Filling.WhereItReads, Reading.{LeavesDesk, ShowsWhatIsRead}}
-use Rattle.store_command.specs.declared.fault.StoreFault.TheVariants.{NotAStore, DeviceFault, Memory}
-use Rattle.desk_model.specs.claim.Desk.{Desk}
+use Rattle.std.{specs.Prelude.{Result, Ok, Err, IfOk, IfErr}, proofs.Common.{rules, ◌≡◌, ◌⊎◌, ◌<◌, ◌≤◌, ◌^◌, ℕ, true, refl, sym, subst, ◌∙◌, inl, inr, arith}}
+use Rattle.{desk_model.specs.claim.Desk.Desk, desk_pages.specs.{Openings.{AllDesks, LeavesOneOf, OpensOneOf}, claim.Desks.OpensDesk}, inspect_command.specs.Figures.AreHeld}
+use Rattle.inspect_command.specs.{Rows.{AreCounted, CountsRows, IsUncounted}, Stats.{joined, IsLookedAt, StatsDevice}, declared.{figures.Held.Held, rows.Rows.Rows}}
+use Rattle.{page_btree.specs.claim.Map.InPages, page_store.specs.{claim.Transactions.{disk_in, device_in, count_of, journal_of, IsQuiet}, declared.pages.Pages.Pages}}
+use Rattle.{page_store.specs.gate_journal.Recovery.Found, sector_device.specs.{claim.Disk.Disk, declared.SectorDevice.Ghosts}, store_command.specs.Filling.WhereItReads}
+use Rattle.store_command.specs.{Reading.{LeavesDesk, ShowsWhatIsRead}, declared.fault.StoreFault.{StoreFault, TheVariants.{NotAStore, DeviceFault, Memory}}}
+use Rattle.store_command.specs.{desk_loading.Openings.IsOpened, desk_runs.Recovery.ImagesAreOne, desk_store.{claim.Clerks.{disk_of, pages_of}, declared.clerk.Clerk.Clerk}}
+use Rattle.{store_rows.specs.claim.Rows.KeyMap, desk_pages.proofs.Found.found_after, sector_device.proofs.Moments.{leaves_more, leaves_now, leaves_wider}}
 use Rattle.store_command.proofs.desk_store.Opened.{reopened}
 
 few_sectors : (disk : Disk) → disk.sectors ≤ 2 ^ 32
@@ -78,9 +73,7 @@ module _ {D : Type 0} (g : Ghosts D) where
 
 module _ {D : Type 0} (g : Ghosts D) where
   rows_before : (a b : Pages D g) (m : KeyMap) → IsQuiet a b → (disk_in b).is_honest → InPages b m → InPages a m
-  rows_before a b m quiet honest holds =
-      subst (λ (P : Image). Holds (count_of a) P (root_in P) (free_in P) m) (quiet.same honest)
-      (subst (λ (n : ℕ). Holds n (stored b) (root_in (stored b)) (free_in (stored b)) m) quiet.count holds)
+  rows_before a b m quiet honest holds = search rules
 
   counts_here : (device : D) (a b : Pages D g) (rows : Rows) → ((disk_in a).is_honest → Found (journal_of a) (count_of a) (g.disk device) (disk_in a)) → IsQuiet a b → rows.pages ≡ count_of a → ((disk_in b).is_honest → (m : KeyMap) → InPages a m → AreCounted m rows) → CountsRows g device rows (device_in b)
   counts_here device a b rows found quiet many counted = record {

@@ -1,15 +1,11 @@
 -- A device whose readers looked at it before it was verified.
-use Rattle.std.{specs.Prelude.{Result, Ok, Err, None}, proofs.Common.{◌≡◌, ◌<◌, ℕ, false, inl, inr, sym, subst, ◌∙◌, arith}}
-use Rattle.sector_device.specs.{claim.Disk.{Disk, Image, Nowhere, Touches}, Disk.IsSynced, claim.Moments.LeavesOnly, declared.SectorDevice.Ghosts}
-use Rattle.sector_device.proofs.Moments.{leaves_from, leaves_more, now_but, touches_more}
-use Rattle.page_store.specs.{gate_journal.Recovery.Found, claim.Transactions.{journal_of, count_of}}
-use Rattle.desk_model.specs.claim.Desk.{Desk}
-use Rattle.desk_pages.specs.{claim.Desks.OpensDesk, Openings.{HasPages, IsSpared, StillStands}}
-use Rattle.store_command.specs.{Reading.{LeavesDesk, ReadsDesk}, declared.fault.StoreFault.StoreFault}
-use Rattle.store_command.specs.declared.fault.StoreFault.TheVariants.{NotAStore, OldVersion, DeviceFault, Memory}
-use Rattle.inspect_command.specs.{declared.refusal.Refusal.Refusal, declared.verifying.Verified.Verified}
-use Rattle.inspect_command.{specs.Verifying.{IsFoundWrong, IsLookedAt, IsRefused, IsSparedFor, VerifiesDevice}, proofs.Devices.{map_stray, spared_as, unopened}}
-use Rattle.parallel_verify.proofs.Seen.{agreed}
+use Rattle.{std.{specs.Prelude.{Result, Ok, Err, None}, proofs.Common.{rules, ◌≡◌, ◌<◌, ℕ, false, inl, inr, sym, subst, ◌∙◌, arith}}, desk_model.specs.claim.Desk.Desk}
+use Rattle.{desk_pages.specs.{Openings.{HasPages, IsSpared, StillStands}, claim.Desks.OpensDesk}, inspect_command.specs.declared.refusal.Refusal.Refusal}
+use Rattle.inspect_command.specs.{Verifying.{IsFoundWrong, IsLookedAt, IsRefused, IsSparedFor, VerifiesDevice}, declared.verifying.Verified.Verified}
+use Rattle.{page_store.specs.{claim.Transactions.{journal_of, count_of}, gate_journal.Recovery.Found}, sector_device.specs.{Disk.IsSynced, claim.Moments.LeavesOnly}}
+use Rattle.{sector_device.specs.{claim.Disk.{Disk, Image, Nowhere, Touches}, declared.SectorDevice.Ghosts}, store_command.specs.Reading.{LeavesDesk, ReadsDesk}}
+use Rattle.{store_command.specs.declared.fault.StoreFault.{StoreFault, TheVariants.{NotAStore, OldVersion, DeviceFault, Memory}}, parallel_verify.proofs.Seen.agreed}
+use Rattle.{inspect_command.proofs.Devices.{map_stray, spared_as, unopened}, sector_device.proofs.Moments.{leaves_from, leaves_more, touches_more}}
 
 -- the first device, and the one that was left by its readers
 module _ (a b : Disk) (synced : IsSynced a) (sectors : b.sectors ≡ a.sectors) (moves : Touches Nowhere a b) where
@@ -17,14 +13,7 @@ module _ (a b : Disk) (synced : IsSynced a) (sectors : b.sectors ≡ a.sectors) 
   reads_on d reads = subst (λ (n : ℕ). OpensDesk n d b.reads) (sym sectors) (subst (λ (c : Image). OpensDesk a.sectors d c) (agreed a.reads b.reads moves.reads) reads)
 
   found_before : (J n : ℕ) (c : Disk) → Found J n b c → Found J n a c
-  found_before J n c found =
-      let but = now_but Nowhere a b moves found.was found.left in
-      record {
-        was = found.was;
-        left = subst (λ (x : Image). a.leaves x) (agreed but.0 found.was but.2) but.1;
-        header = found.header;
-        same = found.same;
-      }
+  found_before J n c found = search rules
 
   stands_before : (c : Disk) → StillStands b c → StillStands a c
   stands_before c stands = record { J = stands.J; n = stands.n; found = found_before stands.J stands.n c stands.found; stands = stands.stands }
@@ -60,11 +49,7 @@ module _ {D : Type 0} (g : Ghosts D) (device mid : D) (synced : IsSynced (g.disk
   }
 
   pub failed_first : (refusal : Refusal) → refusal.fault ≡ DeviceFault → refusal.is_stray ≡ false → refusal.page ≡ None → (b.is_honest → a.faults < b.faults) → VerifiesDevice g device (Err refusal) mid
-  failed_first refusal told opens whole why = (
-    looked_by,
-    spared_as g device mid DeviceFault refusal.fault told tt,
-    unopened g device mid refusal DeviceFault told opens whole why,
-  )
+  failed_first refusal told opens whole why = search (looked_by, spared_as, unopened)
 
   -- ---- what is left behind it
   module _ (left : D) (look : IsLookedAt g mid left) where

@@ -1,19 +1,12 @@
 -- What a clerk tells of the room for a command.
-use Rattle.std.proofs.Common.{◌≡◌, ℕ, Option, length, refl, sym, subst}
-use Rattle.sector_device.specs.declared.SectorDevice.{Ghosts}
-use Rattle.desk_model.specs.{declared.command.Command.Command, claim.Room.command_rows, declared.command.Command.TheVariants.Fork, claim.Geography.GeographyModel}
-use Rattle.store_command.specs.{desk_store.declared.clerk.Clerk.Clerk, desk_store.claim.Clerks.{desk_of, disk_of, free_of, room_of}}
-use Rattle.inspect_command.specs.{declared.needs.Need.Need, declared.needs.RowsNeeded.RowsNeeded, declared.figures.Held.Held, Needs.{IsNeed, AreNeeded}}
-use Rattle.inspect_command.specs.Figures.{blocks_in, pairs_in, plan_lines, revisions_in, TellsNeed, AreHeld}
+use Rattle.{std.proofs.Common.{rules, ◌≡◌, ℕ, Option, length, refl, sym, subst}, desk_model.specs.claim.{Geography.GeographyModel, Room.command_rows}}
+use Rattle.{desk_model.specs.declared.command.Command.{Command, TheVariants.Fork}, inspect_command.specs.{Needs.{IsNeed, AreNeeded}, declared.{figures.Held.Held, needs.Need.Need}}}
+use Rattle.inspect_command.specs.{Figures.{blocks_in, pairs_in, plan_lines, revisions_in, TellsNeed, AreHeld}, declared.needs.RowsNeeded.RowsNeeded}
+use Rattle.{sector_device.specs.declared.SectorDevice.Ghosts, store_command.specs.desk_store.{claim.Clerks.{desk_of, disk_of, free_of, room_of}, declared.clerk.Clerk.Clerk}}
 
 module _ {D : Type 0} {g : Ghosts D} where
   told_by : (x : Clerk D g) (c : Command) (free : ℕ) (n : Need) → IsNeed free (room_of x) (command_rows (desk_of x) c) n → ((disk_of x).is_honest → free ≡ free_of x) → TellsNeed x c n
-  told_by x c free n is same = record {
-    pages = is.pages;
-    full = λ honest. (subst (λ (k : ℕ). IsNeed k (room_of x) (command_rows (desk_of x) c) n) (same honest) is).full;
-    short = λ honest. (subst (λ (k : ℕ). IsNeed k (room_of x) (command_rows (desk_of x) c) n) (same honest) is).short;
-    left = λ honest. (subst (λ (k : ℕ). IsNeed k (room_of x) (command_rows (desk_of x) c) n) (same honest) is).left;
-  }
+  told_by x c free n is same = search rules
 
   pub tells_need : (x : Clerk D g) (c : Command) (free journal rows : ℕ) (n : Need) → IsNeed free journal rows n → journal ≡ room_of x → ((disk_of x).is_honest → free ≡ free_of x) → command_rows (desk_of x) c ≡ rows → TellsNeed x c n
   tells_need x c free journal rows n is room same are =
@@ -47,9 +40,7 @@ module _ {D : Type 0} {g : Ghosts D} where
     largest = are.largest;
     patch = λ c revises. tells_need x c held.free_pages held.journal_pages needed.patch held.patch room.patch room.journal room.free (are.patch (desk_of x) c refl revises);
     fork = λ name from. tells_need x (Fork name from) held.free_pages held.journal_pages needed.fork held.fork room.fork room.journal room.free (are.fork (desk_of x) name from refl);
-    none = λ is.
-        let rows = are.none is in
-        (subst (λ (k : ℕ). IsNeed held.free_pages held.journal_pages k held.revision) rows.0 room.revision, subst (λ (k : ℕ). IsNeed held.free_pages held.journal_pages k held.patch) rows.1 room.patch);
+    none = λ is. search rules;
   }
 
   pub are_held : (x : Clerk D g) (needed : RowsNeeded) (held : Held) (area : Option GeographyModel) → area ≡ (desk_of x).geography → AreNeeded area needed held.counties → IsRoom x needed held → IsDesk x held → AreHeld x held

@@ -1,16 +1,13 @@
 -- Rows that aren't read, where a device failed.
-use Rattle.std.{specs.Prelude.{◌<◌, Result, Ok, Err, OnErr, IfErr}, proofs.Common.{◌≡◌, Bool, true, false, inl, inr, refl, sym, subst, ◌∙◌, arith}}
-use Rattle.sector_device.specs.declared.SectorDevice.{Ghosts}
-use Rattle.page_store.specs.{gate_journal.Recovery.{HasRoom, Found}, claim.Transactions.{stored, disk_in, device_in, count_of, journal_of, has_halted, IsQuiet}}
-use Rattle.page_store.specs.{Transactions.OpenErr, declared.pages.Pages.Pages, declared.txn.Txn.Txn, gate_journal.declared.error.PageError.PageError}
+use Rattle.std.{specs.Prelude.{◌<◌, Result, Ok, Err, OnErr, IfErr}, proofs.Common.{rules, ◌≡◌, Bool, true, false, inl, inr, refl, sym, subst, ◌∙◌, arith}}
+use Rattle.{desk_pages.specs.{Errors.page_refusal, Reading.ReadErr}, inspect_command.specs.{Rows.{fault_of_rows, AreUnread, IsUncounted}, declared.rows.Rows.Rows}}
+use Rattle.{page_btree.specs.{claim.Map.InTxn, declared.error.TreeError.TreeError}, page_store.specs.{Transactions.OpenErr, declared.{pages.Pages.Pages, txn.Txn.Txn}}}
+use Rattle.page_store.specs.{claim.Transactions.{stored, disk_in, device_in, count_of, journal_of, has_halted, IsQuiet}, gate_journal.Recovery.{HasRoom, Found}}
+use Rattle.{page_store.specs.gate_journal.declared.error.PageError.PageError, row_owners.specs.Strays.IsAny, sector_device.specs.declared.SectorDevice.Ghosts}
+use Rattle.{store_command.specs.{Faults.fault_of_store, declared.fault.StoreFault.{StoreFault, TheVariants.{NotAStore, DeviceFault}}}, store_rows.specs.claim.Rows.KeyMap}
+use Rattle.desk_pages.proofs.Found.{all_versions, page_stores_of, found_desk}
 use Rattle.page_store.specs.gate_journal.declared.error.PageError.TheVariants as page
-use Rattle.page_btree.specs.{claim.Map.InTxn, declared.error.TreeError.TreeError}
 use Rattle.page_btree.specs.declared.error.TreeError.TheVariants as tree
-use Rattle.desk_pages.{specs.Reading.ReadErr, specs.Errors.page_refusal, proofs.Found.{all_versions, page_stores_of, found_desk}}
-use Rattle.store_rows.specs.claim.Rows.{KeyMap}
-use Rattle.row_owners.specs.Strays.{IsAny}
-use Rattle.store_command.specs.{declared.fault.StoreFault.StoreFault, declared.fault.StoreFault.TheVariants.{NotAStore, DeviceFault}, Faults.fault_of_store}
-use Rattle.inspect_command.specs.{Rows.{fault_of_rows, AreUnread, IsUncounted}, declared.rows.Rows.Rows}
 
 module _ {D : Type 0} {g : Ghosts D} where
   pub unread : (t : Txn) (a b : Pages D g) (e : TreeError) → ReadErr IsAny t a b e → has_halted a ≡ false → (disk_in b).is_honest → (m : KeyMap) → InTxn t (stored a) m → (disk_in a).faults < (disk_in b).faults
@@ -28,13 +25,7 @@ module _ {D : Type 0} (g : Ghosts D) where
 
   failed_so : (device : D) (a b : Pages D g) (fault : StoreFault) (halted : Bool) → has_halted a ≡ false → has_halted b ≡ halted → ((disk_in a).is_honest → Found (journal_of a) (count_of a) (g.disk device) (disk_in a)) → HasRoom (g.disk device).sectors (journal_of a) (count_of a) → ((disk_in a).is_honest → (disk_in a).faults ≡ (g.disk device).faults) → IsQuiet a b
       → fault ≡ fault_of_rows halted → AreUnread a b → IsUncounted g device (device_in b) fault
-  failed_so device a b fault true working on found room passed quiet is why = inr (inl (
-    is,
-    λ honest.
-        let rose = quiet.rose working on honest in
-        let same = passed (quiet.honest honest) in
-        omega (arith, rose, same),
-  ))
+  failed_so device a b fault true working on found room passed quiet is why = search rules
   failed_so device a b fault false working off found room passed quiet is why = inr (inr (
     is,
     λ honest all.

@@ -1,19 +1,17 @@
 -- Why rows aren't found to be a desk's.
-use Rattle.std.{specs.Prelude.{Option, Some, None, is_some}, proofs.Common.{◌≡◌, ℕ, List, Bool, true, false, refl, sym, ap, subst, ◌∙◌}}
-use Rattle.sector_device.specs.{claim.Disk.Image, declared.SectorDevice.Ghosts}
-use Rattle.page_store.specs.{gate_journal.claim.Contents.is_halted, claim.Transactions.{stored, disk_in, has_halted, HasFailed, IsQuiet, Passed}, declared.pages.Pages.Pages}
-use Rattle.page_store.{specs.declared.txn.Txn.Txn, proofs.Stops.failed_more}
-use Rattle.page_btree.specs.{claim.Map.InTxn as HasRows, declared.error.TreeError.TreeError}
+use Rattle.{std.{specs.Prelude.{Option, Some, None, is_some}, proofs.Common.{◌≡◌, ℕ, List, Bool, true, false, refl, sym, ap, subst, ◌∙◌}}, desk_model.specs.Ranges.ranges_in}
+use Rattle.{desk_model.specs.{claim.Desk.Desk, declared.ranges.CountyRange.CountyRange}, desk_pages.specs.{Errors.{missing, row_refusal}, Reading.{ReadErr, SeekErr}}}
+use Rattle.{desk_pages.specs.claim.Desks.InTxn, desk_store.specs.{desk_opening.Opening.{HasVersion, IsReadFrom, OpenErr}, store_sweep.Checks.IsNewTidy}}
+use Rattle.{desk_store.specs.store_sweep.claim.Checks.AreSoundHoldings, inspect_command.specs.{Sound.{CheckErr, IsFoundAs, IsSoundAs, OldIn, UnsoundIn}, Verifying.Unsound}}
+use Rattle.{page_btree.specs.{claim.Map.InTxn as HasRows, declared.error.TreeError.TreeError}, page_store.specs.declared.{pages.Pages.Pages, txn.Txn.Txn}}
+use Rattle.{page_store.specs.{claim.Transactions.{stored, disk_in, has_halted, HasFailed, IsQuiet, Passed}, gate_journal.claim.Contents.is_halted}, row_owners.specs.Wholes.AllSay}
+use Rattle.{row_owners.specs.{Strays.{AllBelong, IsChecked, IsStray}, declared.wrong.WrongRow.WrongRow}, sector_device.specs.{claim.Disk.Image, declared.SectorDevice.Ghosts}}
+use Rattle.store_command.specs.{Faults.fault_of_store, declared.fault.StoreFault.{StoreFault, TheVariants.{NotAStore, OldVersion, DeviceFault, Memory}}}
+use Rattle.{store_rows.specs.claim.{Keys.{in_four, version}, Rows.{KeyMap, Has}}, page_store.proofs.Stops.failed_more, row_owners.proofs.Whole.all_say}
+use Rattle.store_rows.proofs.OneGeography.{no_value}
 use Rattle.page_btree.specs.declared.error.TreeError.TheVariants as tree
-use Rattle.desk_model.specs.{Ranges.ranges_in, claim.Desk.Desk, declared.ranges.CountyRange.CountyRange}
-use Rattle.store_rows.{specs.claim.Keys.{in_four, version}, specs.claim.Rows.{KeyMap, Has}, proofs.OneGeography.no_value}
-use Rattle.desk_pages.specs.{Reading.{ReadErr, SeekErr}, claim.Desks.InTxn, Errors.{missing, row_refusal}}
-use Rattle.desk_store.specs.{store_sweep.Checks.IsNewTidy, desk_opening.Opening.{HasVersion, IsReadFrom, OpenErr}, store_sweep.claim.Checks.AreSoundHoldings}
 use Rattle.store_command.proofs.desk_store.Opened.{new_tells}
 use Rattle.store_command.proofs.desk_store.Prepared.{IsBegun, begun_reads}
-use Rattle.row_owners.{specs.Strays.{AllBelong, IsChecked, IsStray}, specs.declared.wrong.WrongRow.WrongRow, specs.Wholes.AllSay, proofs.Whole.all_say}
-use Rattle.store_command.specs.{declared.fault.StoreFault.StoreFault, declared.fault.StoreFault.TheVariants.{NotAStore, OldVersion, DeviceFault, Memory}, Faults.fault_of_store}
-use Rattle.inspect_command.specs.{Sound.{CheckErr, IsFoundAs, IsSoundAs, OldIn, UnsoundIn}, Verifying.Unsound}
 
 module _ {D : Type 0} {g : Ghosts D} where
   -- what was read in between reads the same desk

@@ -1,11 +1,10 @@
 -- What is told of a clerk's desk, and of the room that is left.
 use Rattle.std.specs.Prelude.{◌≡◌, ◌↔◌, ◌-◌, ℕ, IsTrue, List, map, length, sum_by, Option, Some, None}
+use Rattle.desk_model.specs.{Ranges.{ranges_in, ranges_of}, claim.{Desk.Desk, Geography.GeographyModel, Room.need, Step.plan_row}, declared.command.Command.Command}
+use Rattle.{desk_model.specs.declared.{command.Command.TheVariants.Fork, reply.PlanLine.PlanLine}, inspect_command.specs.declared.{figures.Held.Held, needs.Need.Need}}
+use Rattle.{inspect_command.specs.Needs.{all_change, one_changes, IsLargest, IsNeed, IsRevision}, sector_device.specs.declared.SectorDevice.Ghosts}
+use Rattle.store_command.specs.desk_store.{claim.{Clerks.{desk_of, disk_of, free_of, room_of}, Commands.IsShort}, declared.clerk.Clerk.Clerk}
 use Rattle.std.specs.FinMap as map_of
-use Rattle.sector_device.specs.declared.SectorDevice.{Ghosts}
-use Rattle.desk_model.specs.{declared.command.Command.Command, declared.command.Command.TheVariants.Fork, declared.reply.PlanLine.PlanLine, Ranges.{ranges_in, ranges_of}}
-use Rattle.desk_model.specs.{claim.Desk.Desk, claim.Geography.GeographyModel, claim.Room.need, claim.Step.plan_row}
-use Rattle.store_command.specs.{desk_store.declared.clerk.Clerk.Clerk, desk_store.claim.Clerks.{desk_of, disk_of, free_of, room_of}, desk_store.claim.Commands.IsShort}
-use Rattle.inspect_command.specs.{declared.figures.Held.Held, declared.needs.Need.Need, Needs.{all_change, one_changes, IsLargest, IsNeed, IsRevision}}
 
 abbrev pub blocks_in : Option GeographyModel → ℕ
 blocks_in None = 0

@@ -1,11 +1,9 @@
 -- What is printed of a store that is sound, and told of one that isn't.
 use Rattle.std.specs.Prelude.{◌≡◌, ◌⊎◌, ℕ, List, ◌++◌, codes, decimal, Option, Some, None}
-use Rattle.command_output.specs.{declared.status.Status.Status, claim.Writing.{Written, Told}}
-use Rattle.store_command.specs.{declared.fault.StoreFault.TheVariants.NotAStore, Telling.{status_of, store_line}}
-use Rattle.btree_walks.specs.{declared.error.PageFault.PageFault, declared.error.PageFaultKind.PageFaultKind}
+use Rattle.{btree_walks.specs.declared.error.{PageFault.PageFault, PageFaultKind.PageFaultKind}, command_output.specs.claim.Writing.{Written, Told}}
 use Rattle.btree_walks.specs.declared.error.PageFaultKind.TheVariants.{BeyondTheEnd, NamedTwice, NotFree, ListGoesOn, NotANode, WrongLevel, KeysOutOfOrder, Lost}
-use Rattle.row_owners.specs.declared.wrong.WrongRow.{WrongRow}
-use Rattle.inspect_command.specs.{declared.refusal.Refusal.Refusal, declared.verifying.Verified.Verified}
+use Rattle.{command_output.specs.declared.status.Status.Status, inspect_command.specs.declared.{refusal.Refusal.Refusal, verifying.Verified.Verified}}
+use Rattle.{row_owners.specs.declared.wrong.WrongRow.WrongRow, store_command.specs.{Telling.{status_of, store_line}, declared.fault.StoreFault.TheVariants.NotAStore}}
 
 abbrev pub verified_text : Verified → List ℕ
 verified_text found = codes "sound yes\n" ++ (codes "pages " ++ (decimal found.pages ++ (codes "\nrows " ++ (decimal found.rows ++ codes "\n"))))

@@ -1,13 +1,10 @@
 -- A store of which is told how full it is.
 use Rattle.std.specs.{Prelude.{◌≡◌, ◌⊎◌, ◌<◌, ℕ, List, codes, Result, Ok, Err, Vec}, declared.alloc.Global.Global}
-use Rattle.sector_device.specs.declared.SectorDevice.{Ghosts}
-use Rattle.page_store.specs.claim.Transactions.{device_in}
-use Rattle.command_output.specs.{declared.status.Status.Status, claim.Writing.{Written, write_fault_line}}
-use Rattle.store_command.specs.{desk_store.declared.clerk.Clerk.Clerk, desk_store.claim.Clerks.{disk_of, pages_of}, desk_loading.Openings.IsOpened}
-use Rattle.store_command.specs.{Filling.{IsNotOpened, WhereItReads}, Reading.{LeavesDesk, ShowsWhatIsRead}, Telling.EndsStore, declared.fault.StoreFault.StoreFault}
-use Rattle.store_command.specs.declared.fault.StoreFault.TheVariants.{NotAStore, DeviceFault, Memory}
-use Rattle.inspect_command.specs.{declared.figures.Figures.Figures, declared.figures.Held.Held, declared.rows.Rows.Rows, declared.texts.Style.Style, Figures.AreHeld}
-use Rattle.inspect_command.specs.{Rows.CountsRows, Texts.figures_text}
+use Rattle.{command_output.specs.{claim.Writing.{Written, write_fault_line}, declared.status.Status.Status}, inspect_command.specs.{Figures.AreHeld, Rows.CountsRows}}
+use Rattle.{inspect_command.specs.{Texts.figures_text, declared.{figures.{Figures.Figures, Held.Held}, rows.Rows.Rows, texts.Style.Style}}, store_command.specs.Telling.EndsStore}
+use Rattle.{page_store.specs.claim.Transactions.device_in, sector_device.specs.declared.SectorDevice.Ghosts, store_command.specs.Filling.{IsNotOpened, WhereItReads}}
+use Rattle.store_command.specs.{Reading.{LeavesDesk, ShowsWhatIsRead}, declared.fault.StoreFault.{StoreFault, TheVariants.{NotAStore, DeviceFault, Memory}}}
+use Rattle.store_command.specs.{desk_loading.Openings.IsOpened, desk_store.{claim.Clerks.{disk_of, pages_of}, declared.clerk.Clerk.Clerk}}
 
 -- the figures, where both parts of them were found
 abbrev pub joined : ℕ → Result Held StoreFault → Result Rows StoreFault → Result Figures StoreFault

@@ -1,7 +1,6 @@
 -- What is printed of a store.
 use Rattle.std.specs.Prelude.{ℕ, Bool, true, false, List, [], ◌++◌, codes, decimal}
-use Rattle.inspect_command.specs.{declared.figures.Figures.Figures, declared.figures.Held.Held, declared.needs.Need.Need, declared.rows.Rows.Rows, declared.texts.Style.Style}
-use Rattle.inspect_command.specs.declared.texts.Style.TheVariants.{Lines, Json}
+use Rattle.inspect_command.specs.declared.{figures.{Figures.Figures, Held.Held}, needs.Need.Need, rows.Rows.Rows, texts.Style.{Style, TheVariants.{Lines, Json}}}
 
 -- by whether JSON is asked for
 abbrev pub style_by : Bool → Style

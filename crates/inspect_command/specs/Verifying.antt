@@ -1,18 +1,14 @@
 -- A store that is verified.
 use Rattle.std.specs.{Prelude.{◌≡◌, ◌⊎◌, ◌<◌, ℕ, Bool, true, false, List, codes, Option, Some, None, Result, Ok, Err, IfOk, IfErr, Vec}, declared.alloc.Global.Global}
-use Rattle.sector_device.specs.declared.SectorDevice.{Ghosts}
-use Rattle.page_store.specs.{gate_journal.Recovery.Found, claim.Transactions.{stored, disk_in, device_in, count_of, journal_of, has_halted, IsQuiet}, declared.pages.Pages.Pages}
-use Rattle.page_btree.specs.claim.Map.{InPages}
-use Rattle.btree_walks.specs.{Owners.AreOwned, Faults.IsWrongPage, declared.error.PagesError.PagesError, declared.error.PageFault.PageFault}
-use Rattle.btree_walks.specs.declared.error.PagesError.TheVariants as owners
-use Rattle.desk_model.specs.{Ranges.ranges_in, claim.Desk.Desk}
-use Rattle.store_rows.specs.claim.Rows.{KeyMap}
-use Rattle.desk_pages.specs.{claim.Desks.InPages as HoldsDesk, Openings.{HasPages, IsSpared, StillStands}}
-use Rattle.command_output.specs.{declared.status.Status.Status, declared.status.Status.TheVariants.Done, claim.Writing.{Written, Prints, write_fault_line}}
-use Rattle.store_command.specs.{Filling.WhereItReads, Reading.LeavesDesk, declared.fault.StoreFault.StoreFault}
+use Rattle.{btree_walks.specs.{Faults.IsWrongPage, Owners.AreOwned, declared.error.{PageFault.PageFault, PagesError.PagesError}}, desk_model.specs.Ranges.ranges_in}
+use Rattle.{command_output.specs.{claim.Writing.{Written, Prints, write_fault_line}, declared.status.Status.{Status, TheVariants.Done}}, desk_model.specs.claim.Desk.Desk}
+use Rattle.{desk_pages.specs.{Openings.{HasPages, IsSpared, StillStands}, claim.Desks.InPages as HoldsDesk}, inspect_command.specs.Sound.{HasSound, HasStray}}
+use Rattle.{inspect_command.specs.{SoundTexts.{verified_text, TellsRefusal}, declared.{refusal.Refusal.Refusal, verifying.Verified.Verified}}, page_btree.specs.claim.Map.InPages}
+use Rattle.page_store.specs.{claim.Transactions.{stored, disk_in, device_in, count_of, journal_of, has_halted, IsQuiet}, declared.pages.Pages.Pages, gate_journal.Recovery.Found}
+use Rattle.{row_owners.specs.{Strays.AllBelong, declared.wrong.WrongRow.WrongRow}, sector_device.specs.declared.SectorDevice.Ghosts, store_command.specs.Filling.WhereItReads}
+use Rattle.{store_command.specs.{Reading.LeavesDesk, declared.fault.StoreFault.StoreFault}, store_rows.specs.claim.Rows.KeyMap}
 use Rattle.store_command.specs.declared.fault.StoreFault.TheVariants.{NotFound, WrongSize, Exists, TooSmall, NotAStore, OldVersion, AlreadyNew, AlreadySealed, Full, DeviceFault, Memory}
-use Rattle.inspect_command.specs.{declared.refusal.Refusal.Refusal, declared.verifying.Verified.Verified, Sound.{HasSound, HasStray}, SoundTexts.{verified_text, TellsRefusal}}
-use Rattle.row_owners.specs.{declared.wrong.WrongRow.WrongRow, Strays.AllBelong}
+use Rattle.btree_walks.specs.declared.error.PagesError.TheVariants as owners
 
 module _ {D : Type 0} {g : Ghosts D} where
   -- what was found in pages: so many are there, and what rows they hold are those of a desk

@@ -1,6 +1,6 @@
 -- Keys compared by numbers that eight bytes spell.
-use Rattle.std.specs.{Ordering.{nat_cmp, ordering_then, MatchOrdering}, Cmp.{nat_cmp_is, ranks}, declared.cmp.Ordering.Ordering}
-use Rattle.std.specs.{declared.cmp.Ordering.TheVariants.{Less, Equal, Greater}, Slice.Scan.big_endian, Cmp.Lexicographic.slice_cmp}
+use Rattle.std.specs.{Cmp.{nat_cmp_is, ranks, Lexicographic.slice_cmp}, Ordering.{nat_cmp, ordering_then, MatchOrdering}, Slice.Scan.big_endian, declared.cmp.Ordering.Ordering}
+use Rattle.std.specs.declared.cmp.Ordering.TheVariants.{Less, Equal, Greater}
 use Rattle.std.proofs.Common.{◌≡◌, ◌+◌, ◌*◌, ◌<◌, ◌≤◌, ◌++◌, ℕ, zero, suc, min, List, [], ◌∷◌, length, take, drop, get_or, refl, sym, ap, subst, ◌∙◌, arith, length-drop, get_or-drop, drop-cons, take-add, take-take, w8, Fits}
 
 -- keys in the order of their bytes, a key before its longer continuations

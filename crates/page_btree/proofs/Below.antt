@@ -1,16 +1,32 @@
 -- A look-up goes on from a node that was lent to the child that a key belongs to.
-use Rattle.std.{specs.Prelude.{Result, Err, IsErrAnd}, proofs.Common.{◌≡◌, ◌≢◌, ◌-◌, ◌≤◌, ◌^◌, ℕ, List, refl, sym, subst, ◌∙◌, arith}}
-use Rattle.sector_device.specs.{claim.Disk.Image, declared.SectorDevice.Ghosts}
-use Rattle.page_store.specs.{claim.Transactions.{stored, disk_in, txn_pages, txn_root, over, free_over, IsQuiet, Passed}, declared.pages.Pages.Pages, Reading.ReadsOnly}
-use Rattle.page_store.{specs.declared.txn.Txn.Txn, proofs.Stops.passed_none}
-use Rattle.page_node.specs.claim.Node.{Node, IsNode}
-use Rattle.page_btree.specs.{claim.Errors.GetErr, Getting.{CanGet, CanGetAt, IsChild, IsLevel, NoChild, LevelErr, GetAtErr}, declared.error.TreeError.TreeError}
-use Rattle.page_btree.{specs.declared.error.TreeError.TheVariants.NotAStore, proofs.Descent.{LeadsDown, goes_on, some_child}, proofs.Outcomes.{refused_by, reads_after}}
-use Rattle.page_btree.proofs.{Refusals.{refused_below, reads_more, get_fails}, Tops.{rooted, level_lent, top, at_root}}
+use Rattle.std.{specs.Prelude.{Option, IfOk, Result, Err, IsErrAnd}, proofs.Common.{◌≡◌, ◌≢◌, ◌-◌, ◌≤◌, ◌^◌, ℕ, List, refl, sym, subst, ◌∙◌, arith}}
+use Rattle.page_btree.specs.{Getting.{CanGet, CanGetAt, IsChild, IsLevel, NoChild, LevelErr, GetAtErr}, Leading.{LeadsTo, LeadsAll}, claim.{Errors.GetErr, Keys.IsUnder}}
+use Rattle.{page_btree.specs.declared.error.TreeError.{TreeError, TheVariants.NotAStore}, page_node.specs.{Places.ceiling, Searching.RisesAfter, claim.Node.{Node, IsNode}}}
+use Rattle.page_store.specs.{Reading.ReadsOnly, claim.Transactions.{stored, disk_in, txn_pages, txn_root, over, free_over, IsQuiet, Passed}, declared.pages.Pages.Pages}
+use Rattle.{page_store.specs.declared.txn.Txn.Txn, sector_device.specs.{claim.Disk.Image, declared.SectorDevice.Ghosts}, page_btree.proofs.Descent.{LeadsDown, goes_on, some_child}}
+use Rattle.page_btree.proofs.{Leads.leads_more, Outcomes.{map_ok, refused_by, reads_after}, Reaching.reaches_more, Refusals.{refused_below, reads_more, get_fails}}
+use Rattle.{page_btree.proofs.Tops.{rooted, level_lent, top, at_root}, page_store.proofs.Stops.passed_none}
 
 -- by a page's bytes as they were lent
 pub down : (n : ℕ) (P : Image) (level : ℕ) (key : List ℕ) (p child : ℕ) {bytes : List ℕ} → level ≢ 0 → n ≤ 2 ^ 32 → bytes ≡ P p → IsChild bytes key child → (can : CanGet n P level key (P p)) → LeadsDown n P level key (P p) can.tree can.low can.high child
 down n P level key p child above few there told can = goes_on n P level key (P p) can child (omega arith) few (subst (λ b. IsChild b key child) there told)
+
+-- a leaf to which keys lead from its child is one to which they lead from the page
+module _ {D : Type 0} {g : Ghosts D} (result : Result ℕ TreeError) (t : Txn) (level : ℕ) (key : List ℕ) (p child : ℕ) {old mid : Pages D g} {bytes lent : List ℕ} (above : level ≢ 0) (quiet : IsQuiet old mid) (bytes_are : bytes ≡ lent) (lends : (disk_in mid).is_honest → lent ≡ over t (stored old) p) (told : IsChild bytes key child) (honest : (disk_in mid).is_honest) where
+  pub leads_up : IfOk result (λ leaf. LeadsTo (over t (stored mid)) (level - 1) child key leaf) → IfOk result (λ leaf. LeadsTo (over t (stored old)) level p key leaf)
+  leads_up is =
+      let P = over t (stored old) in
+      map_ok result (λ leaf. LeadsTo P (level - 1) child key leaf) (λ leaf. LeadsTo P level p key leaf)
+      (λ leaf h. leads_more P level p key leaf child (omega arith) (subst (λ b. IsChild b key child) (bytes_are ∙ lends honest) told) h) (rw (quiet.same honest) at is)
+
+  pub reach_up : (high : Option (List ℕ)) → ((node : Node) → IsNode bytes node → RisesAfter node.entries → (other : List ℕ) → IsUnder other high → IsUnder other (ceiling key node.entries))
+      → IfOk result (λ leaf. LeadsAll (over t (stored mid)) (level - 1) child key high leaf) → IfOk result (λ leaf. LeadsAll (over t (stored old)) level p key high leaf)
+  reach_up high within is =
+      let P = over t (stored old) in
+      let there = bytes_are ∙ lends honest in
+      map_ok result (λ leaf. LeadsAll P (level - 1) child key high leaf) (λ leaf. LeadsAll P level p key high leaf)
+      (λ leaf h other between. reaches_more P level p key other leaf child high (omega arith) between (subst (λ b. IsChild b key child) there told)
+      (λ node at rises. within node (subst (λ b. IsNode b node) (sym there) at) rises other between.under) (h other between)) (rw (quiet.same honest) at is)
 
 module _ {D : Type 0} {g : Ghosts D} {T : Type 0} {result : Result T TreeError} (t : Txn) (level : ℕ) (key : List ℕ) (p : ℕ) where
   -- ---- refusals

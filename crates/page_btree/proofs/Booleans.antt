@@ -1,9 +1,6 @@
 -- Of truth values, by cases.
-use Rattle.std.{specs.Prelude.T, proofs.Common.{◌≡◌, ◌⊎◌, inl, inr, Bool, true, false, ◌&&◌, refl}}
-
-pub either : (b : Bool) → (b ≡ true) ⊎ (b ≡ false)
-either true = inl refl
-either false = inr refl
+pub use Rattle.page_store.proofs.Chains.{either}
+use Rattle.std.{specs.Prelude.T, proofs.Common.{◌≡◌, Bool, true, false, ◌&&◌, refl}}
 
 pub true_is : (b : Bool) → T b → b ≡ true
 true_is true h = refl

@@ -1,13 +1,11 @@
 -- The child that a key belongs to, for a look-up.
-use Rattle.std.specs.{Prelude.{Option, Some, None}, Option.option_map, List.All, Ordering.{is_gt, eq_by_cmp}, FinMap.find}
-use Rattle.std.proofs.Common.{rules, ◌≡◌, inl, inr, ℕ, suc, ◌-◌, ◌<◌, ◌≤◌, ◌^◌, List, [], ◌∷◌, length, Bool, cond, refl, sym, ap, subst, ◌∙◌, arith}
-use Rattle.sector_device.specs.claim.Disk.{Image}
-use Rattle.page_node.specs.{claim.Entries.{Entry, IsEntry, child_bytes}, Entries.{child_in, key_at}, claim.Node.{Node, IsNode}, claim.Places.{key_cmp, Rises}}
-use Rattle.page_node.{specs.Places.{floor, ceiling}, proofs.Laws.{child_written, flip_less}}
-use Rattle.page_btree.specs.claim.Keys.{IsBetween}
-use Rattle.page_btree.specs.claim.Tree.{Tree, Forest, leaf, inner, one, more, page_of, first_key, links, rows, forest_rows, owns, forest_owns, IsTree, AreTrees}
-use Rattle.page_btree.{specs.Getting.{CanGet, IsChild, IsLevel, NoChild}, specs.Seeking.{nearer, leaf_of, forest_leaf, bound_of, forest_bound}, proofs.Rising.tree_rises}
-use Rattle.page_btree.proofs.{Rows.{find_left, find_right, key_before}, Within.{rows_after, rows_before, wider_high, wider_low}, Booleans.either}
+use Rattle.{std.specs.{FinMap.find, List.All, Option.option_map, Ordering.{is_gt, eq_by_cmp}, Prelude.{Option, Some, None}}, page_btree.specs.claim.Keys.IsBetween}
+use Rattle.std.proofs.Common.{rules, ◌≡◌, inl, inr, ℕ, suc, ◌-◌, ◌<◌, ◌≤◌, ◌^◌, List, [], ◌∷◌, length, Bool, true, false, cond, refl, sym, ap, subst, ◌∙◌, arith}
+use Rattle.{page_btree.specs.{Getting.{CanGet, IsChild, IsLevel, NoChild}, Seeking.{nearer, leaf_of, forest_leaf, bound_of, forest_bound}}, page_node.specs.Places.{floor, ceiling}}
+use Rattle.page_btree.specs.claim.Tree.{Tree, Forest, leaf, inner, one, more, page_of, first_key, links, rows, forest_rows, owns, forest_owns, IsTree, AreTrees, IsApart, AreApart}
+use Rattle.page_node.specs.{Entries.{child_in, key_at}, claim.{Entries.{Entry, IsEntry, child_bytes}, Node.{Node, IsNode}, Places.{key_cmp, Rises}}}
+use Rattle.{page_store.specs.claim.Chain.IsIn, sector_device.specs.claim.Disk.Image, page_btree.proofs.{Booleans.either, Rising.tree_rises}}
+use Rattle.{page_btree.proofs.{Rows.{find_left, find_right, key_before}, Within.{rows_after, rows_before, wider_high, wider_low}}, page_node.proofs.Laws.{child_written, flip_less}}
 
 pub floor_links : (k key : List ℕ) (t : Tree) (f : Forest) → floor key (links (more k t f)) ≡ cond (is_gt (key_cmp (first_key f) key)) (Some (child_bytes (page_of t))) (floor key (links f))
 floor_links k key t (one q u) = refl
@@ -25,6 +23,11 @@ pub key_of_links : (f : Forest) → key_at (links f) 0 ≡ first_key f
 key_of_links (one k t) = refl
 key_of_links (more k t f) = refl
 
+-- none of the pages of children is free
+abbrev pub AreUsed : Forest → List ℕ → Type 0
+AreUsed f free = (q : ℕ) → forest_owns f q → IsIn q free → ⊥
+
+-- the child, where it stands, and what it says of the key as all of them do
 pub record ChildFor (P : Image) (d : ℕ) (low : List ℕ) (high : Option (List ℕ)) (key : List ℕ) (f : Forest) : Type 0 where
   pub child : Tree
   pub its_low : List ℕ
@@ -37,49 +40,64 @@ pub record ChildFor (P : Image) (d : ℕ) (low : List ℕ) (high : Option (List 
   pub leaf_is : (x : List ℕ) → IsBetween its_low its_high x → leaf_of child x ≡ forest_leaf f x
   pub bound_is : (x : List ℕ) → IsBetween its_low its_high x → (up : Option (List ℕ)) → bound_of child (nearer (ceiling key (links f)) up) x ≡ forest_bound f up x
   pub owned : (q : ℕ) → owns child q → forest_owns f q
+  pub apart : AreApart f → IsApart child
 
-pub child_of : (P : Image) (d : ℕ) (low : List ℕ) (high : Option (List ℕ)) (key : List ℕ) (f : Forest) → AreTrees P d low high f → IsBetween low high key → ChildFor P d low high key f
-child_of P d low high key (one k t) trees between = record {
-  child = t;
-  its_low = low;
-  its_high = high;
-  stands = trees;
-  between = between;
-  floor_is = refl;
-  found = refl;
-  wider = λ x within. within;
-  leaf_is = λ x within. refl;
-  bound_is = λ x within up. refl;
-  owned = λ q own. own;
-}
-child_of P d low high key (more k t f) trees between = elim (either (is_gt (key_cmp (first_key f) key))) [
-  | inl above ↦ record {
+-- the only one, the first of several, or one after it
+module _ (P : Image) (d : ℕ) (low : List ℕ) (high : Option (List ℕ)) (key k : List ℕ) (t : Tree) where
+  abbrev pub only_child : IsTree P d low high t → IsBetween low high key → ChildFor P d low high key (one k t)
+  only_child is between = record {
     child = t;
     its_low = low;
-    its_high = Some (first_key f);
-    stands = trees.0;
-    between = record { from = between.from; under = key_before (first_key f) key above };
-    floor_is = floor_links k key t f ∙ ap (λ (b : Bool). cond b (Some (child_bytes (page_of t))) (floor key (links f))) above;
-    found = sym (find_left key (rows t) (forest_rows f) (rows_before P d (first_key f) high key f trees.2 (key_before (first_key f) key above)));
-    wider = wider_high low (first_key f) high trees.1.under;
-    leaf_is = λ x within. sym (ap (λ (b : Bool). cond b (leaf_of t x) (forest_leaf f x)) (ap is_gt (flip_less x (first_key f) within.under)));
-    bound_is = λ x within up. search (rules, ceiling_links, flip_less);
-    owned = λ q own. inl own;
+    its_high = high;
+    stands = is;
+    between = between;
+    floor_is = refl;
+    found = refl;
+    wider = λ x within. within;
+    leaf_is = λ x within. refl;
+    bound_is = λ x within up. refl;
+    owned = λ q own. own;
+    apart = λ are. are;
   }
-  | inr from ↦
-      let rest = child_of P d (first_key f) high key f trees.2 (record { from = from; under = between.under }) in record {
-        child = rest.child;
-        its_low = rest.its_low;
-        its_high = rest.its_high;
-        stands = rest.stands;
-        between = rest.between;
-        floor_is = floor_links k key t f ∙ ap (λ (b : Bool). cond b (Some (child_bytes (page_of t))) (floor key (links f))) from ∙ rest.floor_is;
-        found = rest.found ∙ sym (find_right key (rows t) (forest_rows f) (rows_after P d low (first_key f) key t trees.0 from));
-        wider = λ x within. wider_low low (first_key f) high trees.1.above x (rest.wider x within);
-        leaf_is = λ x within. rest.leaf_is x within ∙ sym (ap (λ (b : Bool). cond b (leaf_of t x) (forest_leaf f x)) (rest.wider x within).from);
-        bound_is = λ x within up. search (rules, ceiling_links);
-        owned = λ q own. inr (rest.owned q own);
-      }
+
+  module _ (f : Forest) (trees : AreTrees P d low high (more k t f)) (between : IsBetween low high key) where
+    abbrev pub first_child : is_gt (key_cmp (first_key f) key) ≡ true → ChildFor P d low high key (more k t f)
+    first_child above = record {
+      child = t;
+      its_low = low;
+      its_high = Some (first_key f);
+      stands = trees.0;
+      between = record { from = between.from; under = key_before (first_key f) key above };
+      floor_is = floor_links k key t f ∙ ap (λ (b : Bool). cond b (Some (child_bytes (page_of t))) (floor key (links f))) above;
+      found = sym (find_left key (rows t) (forest_rows f) (rows_before P d (first_key f) high key f trees.2 (key_before (first_key f) key above)));
+      wider = wider_high low (first_key f) high trees.1.under;
+      leaf_is = λ x within. sym (ap (λ (b : Bool). cond b (leaf_of t x) (forest_leaf f x)) (ap is_gt (flip_less x (first_key f) within.under)));
+      bound_is = λ x within up. search (rules, ceiling_links, flip_less);
+      owned = λ q own. inl own;
+      apart = λ are. are.0;
+    }
+
+    abbrev pub later_child : is_gt (key_cmp (first_key f) key) ≡ false → ChildFor P d (first_key f) high key f → ChildFor P d low high key (more k t f)
+    later_child from rest = record {
+      child = rest.child;
+      its_low = rest.its_low;
+      its_high = rest.its_high;
+      stands = rest.stands;
+      between = rest.between;
+      floor_is = floor_links k key t f ∙ ap (λ (b : Bool). cond b (Some (child_bytes (page_of t))) (floor key (links f))) from ∙ rest.floor_is;
+      found = rest.found ∙ sym (find_right key (rows t) (forest_rows f) (rows_after P d low (first_key f) key t trees.0 from));
+      wider = λ x within. wider_low low (first_key f) high trees.1.above x (rest.wider x within);
+      leaf_is = λ x within. rest.leaf_is x within ∙ sym (ap (λ (b : Bool). cond b (leaf_of t x) (forest_leaf f x)) (rest.wider x within).from);
+      bound_is = λ x within up. search (rules, ceiling_links);
+      owned = λ q own. inr (rest.owned q own);
+      apart = λ are. rest.apart are.2;
+    }
+
+pub child_of : (P : Image) (d : ℕ) (low : List ℕ) (high : Option (List ℕ)) (key : List ℕ) (f : Forest) → AreTrees P d low high f → IsBetween low high key → ChildFor P d low high key f
+child_of P d low high key (one k t) trees between = only_child P d low high key k t trees between
+child_of P d low high key (more k t f) trees between = elim (either (is_gt (key_cmp (first_key f) key))) [
+  | inl above ↦ first_child P d low high key k t f trees between above
+  | inr from ↦ later_child P d low high key k t f trees between from (child_of P d (first_key f) high key f trees.2 (record { from = from; under = between.under }))
 ]
 
 pub owns_page : (t : Tree) → owns t (page_of t)
@@ -136,12 +154,7 @@ goes_on n P d key page can child some few told = step can.tree can.low can.high 
             below = λ q own. below q (inr (down.owned q own));
             between = down.between;
           };
-          level = record {
-            node = node.0;
-            node_is = subst (λ (q : ℕ). IsNode (P q) node.0) (sym same) node.1;
-            level_is = node.2;
-            below = omega arith;
-          };
+          level = search (arith, subst (λ (q : ℕ). IsNode (P q) node.0) (sym same) node.1);
           found = λ bytes there. down.found;
           node = above;
           node_is = here;

@@ -1,8 +1,6 @@
 -- A transaction that an edit of a leaf alone left alike.
-use Rattle.std.{specs.Prelude.{Option, Some, None, IfSome}, proofs.Common.rules}
-use Rattle.sector_device.specs.claim.Disk.{Image}
-use Rattle.page_store.specs.declared.txn.Txn.{Txn}
-use Rattle.page_btree.specs.{claim.Keys.KeyMap, claim.Map.InTxn, Editing.IsAlike}
+use Rattle.{std.{specs.Prelude.{Option, Some, None, IfSome}, proofs.Common.rules}, page_btree.specs.{Editing.IsAlike, claim.{Keys.KeyMap, Map.InTxn}}}
+use Rattle.{page_store.specs.declared.txn.Txn.Txn, sector_device.specs.claim.Disk.Image}
 
 pub some_of : {T : Type 0} (o : Option T) (A B : T → Type 0) → ((x : T) → A x → B x) → IfSome o A → IfSome o B
 some_of (Some x) A B f h = f x h

@@ -1,17 +1,13 @@
 -- Leaves that follow one another under a node, and a leaf that was read with them.
-use Rattle.std.specs.{Prelude.{Option, Some, None, Result, Ok, Err, OnOk}, Option.option_map, Ordering.is_gt, FinMap.entries}
+use Rattle.std.{specs.{FinMap.entries, Option.option_map, Ordering.is_gt, Prelude.{Option, Some, None, Result, Ok, Err, OnOk}}, proofs.lemmas.Bool.Decides.leb_tells}
 use Rattle.std.proofs.Common.{rules, ◌≡◌, ◌≤◌, ◌<◌, ◌+◌, ◌^◌, inl, inr, ⊎_elim, ℕ, zero, suc, List, [], ◌∷◌, ◌++◌, length, drop, get_or, slice_set, Bool, false, cond, refl, ap, sym, subst, ◌∙◌, arith, append_assoc}
-use Rattle.std.proofs.lemmas.List.{get_or-set_same, get_or-set_other, nil_from_length}
-use Rattle.std.proofs.lemmas.List.Elements.{All-nil}
-use Rattle.std.proofs.lemmas.Bool.Decides.{leb_tells}
-use Rattle.sector_device.specs.claim.Disk.{Image}
-use Rattle.page_node.specs.{claim.Entries.{Entry, IsEntry}, Entries.child_in, claim.Node.{Node, IsNode}, claim.Places.{key_cmp, Rises}, Places.{floor, ceiling, entries_from}}
-use Rattle.page_node.specs.{Searching.RisesAfter, Ways.AreWays as NodeWays, Walking.IsAhead}
-use Rattle.page_btree.specs.{claim.Keys.{KeyMap, IsBetween}, claim.Map.{Holds, IsBare, IsRooted}}
-use Rattle.page_btree.specs.{claim.Tree.{Tree, Forest, leaf, inner, one, more, page_of, first_key, links, rows, owns, forest_owns, IsTree, AreTrees}, Getting.{CanGet, IsLevel}}
+use Rattle.{std.proofs.lemmas.List.{get_or-set_same, get_or-set_other, nil_from_length, Elements.All-nil}, page_btree.specs.{Getting.{CanGet, IsLevel}, declared.seeks.Leaf.Leaf}}
 use Rattle.page_btree.specs.Seeking.{bound_in, nearer, leaf_of, forest_leaf, bound_of, forest_bound, AreWays, HasWays, Follows, IsRead, IsNext, AreLeaves, IsFrom}
-use Rattle.page_btree.{specs.declared.seeks.Leaf.Leaf, specs.declared.error.TreeError.TreeError, proofs.Descent.{ceiling_links, child_of, named, owns_page}}
-use Rattle.page_btree.proofs.{Rising.tree_rises, Rows.{key_before, less_is_from}, Seeking.{lower_of, starts, from_all, top_parted, top_leaf}, Tops.every_key, Booleans.either}
+use Rattle.{page_btree.specs.{claim.{Keys.{KeyMap, IsBetween}, Map.{Holds, IsBare, IsRooted}}, declared.error.TreeError.TreeError}, page_node.specs.Entries.child_in}
+use Rattle.page_btree.{specs.claim.Tree.{Tree, Forest, leaf, inner, one, more, page_of, first_key, links, rows, owns, forest_owns, IsTree, AreTrees}, proofs.Booleans.either}
+use Rattle.page_node.specs.{Places.{floor, ceiling, entries_from}, Searching.RisesAfter, Walking.IsAhead, Ways.AreWays as NodeWays, claim.Entries.{Entry, IsEntry}}
+use Rattle.{page_node.specs.claim.{Node.{Node, IsNode}, Places.{key_cmp, Rises}}, sector_device.specs.claim.Disk.Image, page_btree.proofs.{Rising.tree_rises, Tops.every_key}}
+use Rattle.page_btree.proofs.{Descent.{ceiling_links, child_of, named, owns_page}, Rows.{key_before, less_is_from}, Seeking.{lower_of, starts, from_all, top_parted, top_leaf}}
 
 -- ---- children
 -- those that the node tells
@@ -64,13 +60,10 @@ there_at : (n : ℕ) (P : Image) (low : List ℕ) (high : Option (List ℕ)) (ke
 there_at n P low high key f child (inner p g) is same bound page below = absurd (let none = is.0 in omega arith)
 there_at n P low high key f child (leaf p es) is same bound page below =
     let at = subst (λ (q : ℕ). IsNode (P q) (record { level = 0; entries = es })) (sym page) is.1.node in
-    record {
-      node = subst (λ (l : List Entry). IsNode (P child) (record { level = 0; entries = l })) same at;
-      rises = subst Rises same is.1.rises;
-      some = subst (λ (l : List Entry). 0 < length l) same is.1.some;
-      bound = λ up. sym (bound up);
-      level = record { node = record { level = 0; entries = es }; node_is = at; level_is = refl; below = omega arith };
-    }
+    let node = subst (λ (l : List Entry). IsNode (P child) (record { level = 0; entries = l })) same at in
+    let rises = subst Rises same is.1.rises in
+    let some = subst (λ (l : List Entry). 0 < length l) same is.1.some in
+    search arith
 
 there_for : (n : ℕ) (P : Image) (low : List ℕ) (high : Option (List ℕ)) (key : List ℕ) (f : Forest) (child : ℕ) → AreTrees P 0 low high f → ((q : ℕ) → forest_owns f q → q < n) → n ≤ 2 ^ 32 → IsBetween low high key → option_map child_in (floor key (links f)) ≡ Some child → IsThere n P key f child
 there_for n P low high key f child is below few between told =
@@ -118,10 +111,15 @@ pub record IsHeld (t : Tree) (high up : Option (List ℕ)) (key : List ℕ) (hel
   pub rises : Rises (leaf_of t key)
   pub follows : Follows t high up key held.more (drop 1 pages) (bound_in held)
 
-pub held_leaves : (n : ℕ) (P : Image) (key page : List ℕ) (can : CanGet n P 1 key page) → n ≤ 2 ^ 32 → (up : Option (List ℕ)) (held : Leaf) (children : List ℕ) → ((node : Node) → IsNode page node → RisesAfter node.entries → HasWays key node.entries up held children) → (pages : List (List ℕ)) → held.more < length pages → ((j : ℕ) → j ≤ held.more → get_or pages j [] ≡ P (get_or children j 0)) → IsHeld can.tree can.high up key held pages
-held_leaves n P key page can few up held children told pages long reads = step can.tree can.low can.high can.tree_is can.page_is can.below can.between
+-- of pages that a node's links name, and that were read
+pub record AreHeld (n : ℕ) (P : Image) (t : Tree) (high up : Option (List ℕ)) (key : List ℕ) (held : Leaf) (children : List ℕ) : Type 0 where
+  pub levels : (j : ℕ) → j ≤ held.more → IsLevel n P 0 (get_or children j 0)
+  pub leaves : (pages : List (List ℕ)) → held.more < length pages → ((j : ℕ) → j ≤ held.more → get_or pages j [] ≡ P (get_or children j 0)) → IsHeld t high up key held pages
+
+pub are_held : (n : ℕ) (P : Image) (key page : List ℕ) (can : CanGet n P 1 key page) → n ≤ 2 ^ 32 → (up : Option (List ℕ)) (held : Leaf) (children : List ℕ) → ((node : Node) → IsNode page node → RisesAfter node.entries → HasWays key node.entries up held children) → AreHeld n P can.tree can.high up key held children
+are_held n P key page can few up held children told = step can.tree can.low can.high can.tree_is can.page_is can.below can.between
   where
-    step : (t : Tree) (low : List ℕ) (high : Option (List ℕ)) → IsTree P 1 low high t → page ≡ P (page_of t) → ((q : ℕ) → owns t q → q < n) → IsBetween low high key → IsHeld t high up key held pages
+    step : (t : Tree) (low : List ℕ) (high : Option (List ℕ)) → IsTree P 1 low high t → page ≡ P (page_of t) → ((q : ℕ) → owns t q → q < n) → IsBetween low high key → AreHeld n P t high up key held children
     step (leaf p es) low high is page_is below between = absurd (let none = is.0 in omega arith)
     step (inner p f) low high is page_is below between =
         let above : Node = record { level = 1; entries = links f } in
@@ -129,33 +127,22 @@ held_leaves n P key page can few up held children told pages long reads = step c
         let has = told above at (tree_rises P 1 low high (inner p f) page is page_is (omega arith) above at) in
         let there = first_there held.more children has.bound has.ways in
         record {
-          node = subst (λ (bytes : List ℕ). IsNode bytes (record { level = 0; entries = forest_leaf f key })) (sym (reads 0 (omega arith))) there.node;
-          rises = there.rises;
-          follows = subst (λ (b : Option (List ℕ)). Follows (inner p f) high up key held.more (drop 1 pages) b) (sym has.bound_is) (ways_follow n P p low high up f is.2 (λ q own. below q (inr own)) few held.more key between children has.bound has.ways pages long reads);
+          levels = ways_level n P low high f is.2 (λ q own. below q (inr own)) few held.more key between children has.bound has.ways;
+          leaves = λ pages long reads. record {
+            node = subst (λ (bytes : List ℕ). IsNode bytes (record { level = 0; entries = forest_leaf f key })) (sym (reads 0 (omega arith))) there.node;
+            rises = there.rises;
+            follows = subst (λ (b : Option (List ℕ)). Follows (inner p f) high up key held.more (drop 1 pages) b) (sym has.bound_is) (ways_follow n P p low high up f is.2 (λ q own. below q (inr own)) few held.more key between children has.bound has.ways pages long reads);
+          };
         }
       where
         first_there : (k : ℕ) (children : List ℕ) (bound : Option (List ℕ)) → AreWays k key (links f) children bound → IsThere n P key f (get_or children 0 0)
         first_there k [] bound ways = absurd ways
         first_there k (c ∷ children) bound ways = there_for n P low high key f c is.2 (λ q own. below q (inr own)) few between (first_way k key (links f) c children bound ways)
 
-pub held_levels : (n : ℕ) (P : Image) (key page : List ℕ) → CanGet n P 1 key page → n ≤ 2 ^ 32 → (up : Option (List ℕ)) (held : Leaf) (children : List ℕ) → ((node : Node) → IsNode page node → RisesAfter node.entries → HasWays key node.entries up held children) → (j : ℕ) → j ≤ held.more → IsLevel n P 0 (get_or children j 0)
-held_levels n P key page can few up held children told = step can.tree can.low can.high can.tree_is can.page_is can.below can.between
-  where
-    step : (t : Tree) (low : List ℕ) (high : Option (List ℕ)) → IsTree P 1 low high t → page ≡ P (page_of t) → ((q : ℕ) → owns t q → q < n) → IsBetween low high key → (j : ℕ) → j ≤ held.more → IsLevel n P 0 (get_or children j 0)
-    step (leaf p es) low high is page_is below between = absurd (let none = is.0 in omega arith)
-    step (inner p f) low high is page_is below between =
-        let above : Node = record { level = 1; entries = links f } in
-        let at = subst (λ bytes. IsNode bytes above) (sym page_is) is.1 in
-        let has = told above at (tree_rises P 1 low high (inner p f) page is page_is (omega arith) above at) in
-        ways_level n P low high f is.2 (λ q own. below q (inr own)) few held.more key between children has.bound has.ways
-
 -- ---- the place in the first page
 pub read_held : (t : Tree) (high up : Option (List ℕ)) (key : List ℕ) (pages : List (List ℕ)) {T : Type 0} (r : Result T TreeError) (held now : Leaf) → IsHeld t high up key held pages → now.more ≡ held.more → bound_in now ≡ bound_in held → OnOk r (IsAhead (get_or {A = List ℕ} pages 0 []) now.at (entries_from key (leaf_of t key))) → OnOk r (now.left ≡ length (entries_from key (leaf_of t key))) → OnOk r (IsRead t high up key now pages)
-read_held t high up key pages (Ok x) held now is same_more same_bound ahead left = record {
-  ahead = ahead;
-  left_is = left;
-  follows = subst (λ (k : ℕ). Follows t high up key k (drop 1 pages) (bound_in now)) (sym same_more) (subst (λ (b : Option (List ℕ)). Follows t high up key held.more (drop 1 pages) b) (sym same_bound) is.follows);
-}
+read_held t high up key pages (Ok x) held now is same_more same_bound ahead left =
+    search (subst (λ (k : ℕ). Follows t high up key k (drop 1 pages) (bound_in now)) (sym same_more) (subst (λ (b : Option (List ℕ)). Follows t high up key held.more (drop 1 pages) b) (sym same_bound) is.follows))
 read_held t high up key pages (Err e) held now is same_more same_bound ahead left = tt
 
 -- a leaf alone
@@ -210,13 +197,9 @@ from_start n P root free m r key b bound = elim (starts P r.level [] None key b 
 ]
 
 folded : (n : ℕ) (P : Image) (root : ℕ) (free : List ℕ) (m : KeyMap) (r : IsRooted n P root free m) (high : Option (List ℕ)) (k : ℕ) (key : List ℕ) (pages : List (List ℕ)) (bound : Option (List ℕ)) (after : List Entry) → Follows r.tree high None key k pages bound → IsNext (bound_of r.tree None key) (entries m) after → IsFolded (entries m) after k pages bound
-folded n P root free m r high zero key pages bound after is next = record {
-  others = [];
-  rest = after;
-  others_are = refl;
-  after_is = refl;
-  next = subst (λ (b : Option (List ℕ)). IsNext b (entries m) after) (sym is) next;
-}
+folded n P root free m r high zero key pages bound after is next =
+    let then : IsNext bound (entries m) after = subst (λ (b : Option (List ℕ)). IsNext b (entries m) after) (sym is) next in
+    record { others = []; rest = after; others_are = refl; after_is = refl; next = then }
 folded n P root free m r high (suc k) key [] bound after is next = absurd is
 folded n P root free m r high (suc k) key (page ∷ pages) bound after is next =
     let b = is.0 in
@@ -238,17 +221,9 @@ from_read n P root free m r key held pages is last =
     let at = top_leaf n P root free m r key in
     let here = entries_from key (leaf_of r.tree key) in
     let then = folded n P root free m r None held.more key (drop 1 pages) (bound_in held) at.after is.follows at.next in
-    record {
-      here = here;
-      others = then.others;
-      after = then.rest;
-      ahead = is.ahead;
-      left_is = is.left_is;
-      others_are = then.others_are;
-      rows_are = at.rows_are ∙ ap (λ (l : List Entry). here ++ l) then.after_is;
-      next = then.next;
-      some = λ none alone. subst (λ (b : Option (List ℕ)). IsNext b (entries m) then.rest) (last none alone) then.next;
-    }
+    let rows_are : entries_from key (entries m) ≡ here ++ (then.others ++ then.rest) = at.rows_are ∙ ap (λ (l : List Entry). here ++ l) then.after_is in
+    let some : held.left ≡ 0 → held.more ≡ 0 → then.rest ≡ [] = λ none alone. subst (λ (b : Option (List ℕ)). IsNext b (entries m) then.rest) (last none alone) then.next in
+    search rules
 
 -- where it was read alone, its bound is the leaf's
 bound_alone : (t : Tree) (key : List ℕ) (held : Leaf) (pages : List (List ℕ)) → IsRead t None None key held pages → held.more ≡ 0 → bound_in held ≡ bound_of t None key
@@ -260,17 +235,8 @@ from_after n P root free m r key b first held before pages is none alone bound t
     let then = from_read n P root free m r b held pages there (λ nothing. absurd (omega arith)) in
     let ahead : entries_from key (leaf_of r.tree key) ≡ [] = nil_from_length (entries_from key (leaf_of r.tree key)) (sym is.left_is ∙ none) in
     let after : at.after ≡ entries_from b (entries m) = subst (λ (c : Option (List ℕ)). IsNext c (entries m) at.after) (sym (bound_alone r.tree key first before is alone) ∙ bound) at.next in
-    record {
-      here = then.here;
-      others = then.others;
-      after = then.after;
-      ahead = then.ahead;
-      left_is = then.left_is;
-      others_are = then.others_are;
-      rows_are = at.rows_are ∙ ap (λ (l : List Entry). l ++ at.after) ahead ∙ after ∙ then.rows_are;
-      next = then.next;
-      some = then.some;
-    }
+    let rows_are : entries_from key (entries m) ≡ then.here ++ (then.others ++ then.after) = at.rows_are ∙ ap (λ (l : List Entry). l ++ at.after) ahead ∙ after ∙ then.rows_are in
+    search rules
 
 -- a leaf that begins at a bound has a row
 pub some_after : (n : ℕ) (P : Image) (root : ℕ) (free : List ℕ) (m : KeyMap) (r : IsRooted n P root free m) (key b : List ℕ) (first held : Leaf) (before pages : List (List ℕ)) → IsRead r.tree None None key first before → first.more ≡ 0 → bound_in first ≡ Some b → IsRead r.tree None None b held pages → 0 < held.left
@@ -281,17 +247,11 @@ some_after n P root free m r key b first held before pages is alone bound there 
     omega arith
 
 pub from_bare : (n root : ℕ) (free : List ℕ) (m : KeyMap) (key : List ℕ) (held : Leaf) (pages : List (List ℕ)) → IsBare n root free m → held.at ≡ 0 → held.left ≡ 0 → held.more ≡ 0 → bound_in held ≡ None → IsFrom key (entries m) held pages
-from_bare n root free m key held pages bare at left alone bound = record {
-  here = [];
-  others = [];
-  after = [];
-  ahead = record { body = refl; entries = All-nil IsEntry; within = omega arith };
-  left_is = left;
-  others_are = subst (λ (k : ℕ). AreLeaves k (drop 1 pages) []) (sym alone) refl;
-  rows_are = ap (entries_from key) bare.none;
-  next = subst (λ (b : Option (List ℕ)). IsNext b (entries m) []) (sym bound) refl;
-  some = λ none last. refl;
-}
+from_bare n root free m key held pages bare at left alone bound =
+    let ahead : IsAhead (get_or {A = List ℕ} pages 0 []) held.at [] = record { body = refl; entries = All-nil IsEntry; within = omega arith } in
+    let others : AreLeaves held.more (drop 1 pages) [] = subst (λ (k : ℕ). AreLeaves k (drop 1 pages) []) (sym alone) refl in
+    let next : IsNext (bound_in held) (entries m) [] = subst (λ (b : Option (List ℕ)). IsNext b (entries m) []) (sym bound) refl in
+    search (ahead, others, next, ap (entries_from key) bare.none)
 
 -- where nothing else is to be read
 pub from_found : (n : ℕ) (P : Image) (root : ℕ) (free : List ℕ) (m : KeyMap) (key : List ℕ) (held : Leaf) (pages : List (List ℕ)) → Holds n P root free m → (root ≡ 0 → (held.at ≡ 0) × (held.left ≡ 0) × (held.more ≡ 0) × (bound_in held ≡ None)) → ((r : IsRooted n P root free m) → IsRead r.tree None None key held pages) → (held.left ≡ 0 → held.more ≡ 0 → bound_in held ≡ None) → IsFrom key (entries m) held pages

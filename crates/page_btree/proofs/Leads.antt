@@ -1,17 +1,14 @@
 -- The leaf that a key belongs to, told above.
-use Rattle.std.proofs.Common.{rules, ◌≡◌, ◌≢◌, ◌<◌, ◌≤◌, ◌-◌, ◌^◌, ℕ, zero, suc, List, refl, sym, subst, arith}
-use Rattle.sector_device.specs.claim.Disk.{Image}
-use Rattle.page_node.specs.{claim.Entries.Entry, claim.Node.IsNode, claim.Places.Rises}
-use Rattle.page_btree.{specs.claim.Keys.KeyMap, specs.claim.Map.Holds, specs.Getting.{CanGet, IsChild}, specs.Leading.{LeadsTo, CanLead}, proofs.Tops.{rooted, can_get, at_root}}
-use Rattle.page_btree.proofs.Descent.{leaf_page, goes_on}
+use Rattle.{std.proofs.Common.{rules, ◌≡◌, ◌≢◌, ◌<◌, ◌≤◌, ◌-◌, ◌^◌, ℕ, zero, suc, List, refl, sym, subst, arith}, page_btree.specs.{Getting.{CanGet, IsChild}, claim.Keys.KeyMap}}
+use Rattle.{page_btree.specs.{Leading.{LeadsTo, CanLead}, claim.Map.Holds}, page_node.specs.claim.{Entries.Entry, Node.IsNode, Places.Rises}, sector_device.specs.claim.Disk.Image}
+use Rattle.page_btree.proofs.{Descent.{leaf_page, goes_on}, Tops.{rooted, can_get, at_root}}
 
 pub leads_none : (P : Image) (d page : ℕ) (key : List ℕ) → d ≡ 0 → LeadsTo P d page key page
 leads_none P d page key none = subst (λ d. LeadsTo P d page key page) (sym none) refl
 
 pub leads_more : (P : Image) (d page : ℕ) (key : List ℕ) (leaf child : ℕ) → 0 < d → IsChild (P page) key child → LeadsTo P (d - 1) child key leaf → LeadsTo P d page key leaf
 leads_more P zero page key leaf child some told rest = absurd (omega arith)
-leads_more P (suc d) page key leaf child some told rest =
-    (child, told, subst (λ d. LeadsTo P d child key leaf) (omega arith) rest)
+leads_more P (suc d) page key leaf child some told rest = (child, told, subst (λ d. LeadsTo P d child key leaf) (omega arith) rest)
 
 -- the leaf is one
 pub leads_leaf : (n : ℕ) (P : Image) (d : ℕ) (key : List ℕ) (page leaf : ℕ) → n ≤ 2 ^ 32 → CanGet n P d key (P page) → LeadsTo P d page key leaf → (es : List Entry) × IsNode (P leaf) (record { level = 0; entries = es }) × Rises es

@@ -1,15 +1,11 @@
 -- What keeps a map, and that pages hold one map alone.
-use Rattle.std.specs.Prelude.{◌≡◌, ◌≢◌, ◌⊎◌, ◌<◌, ◌≤◌, ◌+◌, ◌-◌, ◌*◌, ◌^◌, ℕ, List, [], ◌∷◌, length, Option, Some}
 use Rattle.std.{specs.FinMap.{entries, empty, len-entries, len-empty, same_entries_map}, proofs.Common.{rules, inl, inr, ⊎_elim, refl, sym, ap, subst, ◌∙◌, arith, length-append}}
-use Rattle.std.proofs.lemmas.List.{nil_from_length}
-use Rattle.sector_device.specs.claim.Disk.{Image}
-use Rattle.page_store.specs.{gate_journal.claim.Store.{home, overlay}, gate_journal.Store.IsBeforeOrAfter, claim.Chain.{IsPages, root_in, free_in}}
-use Rattle.page_store.specs.{claim.Transactions.{txn_pages, txn_root, over, free_over}, declared.txn.Txn.Txn}
-use Rattle.page_node.specs.{claim.Entries.{Entry, child_bytes}, Entries.child_in, claim.Node.{Node, IsNode}, claim.Places.key_cmp}
-use Rattle.page_node.proofs.{Laws.{node_unique, child_written}, Editing.count_small}
-use Rattle.page_btree.specs.claim.Keys.{KeyMap}
+use Rattle.std.{specs.Prelude.{◌≡◌, ◌≢◌, ◌⊎◌, ◌<◌, ◌≤◌, ◌+◌, ◌-◌, ◌*◌, ◌^◌, ℕ, List, [], ◌∷◌, length, Option, Some}, proofs.lemmas.List.nil_from_length}
+use Rattle.{page_btree.specs.{Map.OpensMap, claim.{Keys.KeyMap, Map.{Holds, InTxn}}}, page_node.specs.{Entries.child_in, claim.{Entries.{Entry, child_bytes}, Node.{Node, IsNode}}}}
 use Rattle.page_btree.specs.claim.Tree.{Tree, Forest, leaf, inner, one, more, first_key, links, page_of, rows, forest_rows, owns, forest_owns, size, forest_size, IsTree, AreTrees}
-use Rattle.page_btree.{specs.claim.Map.{Holds, InTxn}, specs.Map.OpensMap, proofs.Descent.{some_links, owns_page}}
+use Rattle.{page_node.specs.claim.Places.key_cmp, page_store.specs.claim.{Chain.{IsPages, root_in, free_in}, Transactions.{txn_pages, txn_root, over, free_over}}}
+use Rattle.{page_store.specs.{declared.txn.Txn.Txn, gate_journal.{Store.IsBeforeOrAfter, claim.Store.{home, overlay}}}, sector_device.specs.claim.Disk.Image}
+use Rattle.{page_btree.proofs.Descent.{some_links, owns_page}, page_node.proofs.{Editing.count_small, Laws.{node_unique, child_written}}}
 
 -- pages that agree on a tree's own hold it both
 mutual
@@ -31,10 +27,7 @@ mutual
 
 -- only page 0 changed
 pub holds_same : (n : ℕ) (P Q : Image) (root : ℕ) (free : List ℕ) (m : KeyMap) → ((q : ℕ) → q ≢ 0 → Q q ≡ P q) → Holds n P root free m → Holds n Q root free m
-holds_same n P Q root free m same holds = record {
-  free_are = holds.free_are;
-  held = search (rules, tree_same);
-}
+holds_same n P Q root free m same holds = record { free_are = holds.free_are; held = search (rules, tree_same) }
 
 -- a commit's pages hold what the transaction reads
 pub prepared_holds : (t : Txn) (P Q : Image) (m : KeyMap) → InTxn t P m → ((q : ℕ) → q ≢ 0 → Q q ≡ over t P q) → root_in Q ≡ txn_root t → free_in Q ≡ free_over t P → Holds (txn_pages t) Q (root_in Q) (free_in Q) m

@@ -1,8 +1,7 @@
 -- What is said of a result, said of it by cases.
-use Rattle.std.{specs.Prelude.{Result, IfOk, IfErr, OnOk, OnErr, IsErrAnd, MatchResult}, proofs.Common.{◌≡◌, Ok, Err, subst, sym}}
-use Rattle.sector_device.specs.declared.SectorDevice.{Ghosts}
-use Rattle.page_store.{specs.claim.Transactions.{IsQuiet, Passed}, specs.Reading.ReadsOnly, specs.declared.pages.Pages.Pages, proofs.Stops.{passed_more, quiet_more}}
-use Rattle.page_btree.specs.{declared.error.TreeError.TreeError, declared.error.TreeError.TheVariants.NotAStore}
+use Rattle.{std.{specs.Prelude.{Result, IfOk, IfErr, OnOk, OnErr, IsErrAnd, MatchResult}, proofs.Common.{◌≡◌, Ok, Err, subst, sym}}, page_store.specs.Reading.ReadsOnly}
+use Rattle.{page_btree.specs.declared.error.TreeError.{TreeError, TheVariants.NotAStore}, page_store.specs.{claim.Transactions.{IsQuiet, Passed}, declared.pages.Pages.Pages}}
+use Rattle.{sector_device.specs.declared.SectorDevice.Ghosts, page_store.proofs.Stops.{passed_more, quiet_more}}
 
 pub map_ok : {T E : Type 0} (r : Result T E) (A B : T → Type 0) → ((x : T) → A x → B x) → IfOk r A → IfOk r B
 map_ok (Ok x) A B f h = f x h

@@ -1,16 +1,12 @@
 -- A page that isn't free and is no node's above the leaves is a leaf of the tree, and what is found in it is what the map has.
-use Rattle.std.specs.{Prelude.{Option, Some, None, IfSome, take}, Ordering.{is_eq, eq_by_cmp}, declared.cmp.Ordering.Ordering, declared.cmp.Ordering.TheVariants.Equal}
-use Rattle.std.specs.{List.AllByRecursion, FinMap.{find, entries, get as row_at, get-entries}}
+use Rattle.std.specs.{FinMap.{find, entries, get as row_at, get-entries}, List.AllByRecursion, Ordering.{is_eq, eq_by_cmp}, Prelude.{Option, Some, None, IfSome, take}}
+use Rattle.{std.{specs.declared.cmp.Ordering.{Ordering, TheVariants.Equal}, proofs.lemmas.{Bool.cases_eq, List.length-append}}, page_btree.specs.Getting.IsCopied}
 use Rattle.std.proofs.Common.{◌≡◌, ◌≢◌, ◌⊎◌, ⊎_elim, inl, inr, ℕ, zero, suc, ◌-◌, ◌<◌, List, [], ◌∷◌, ◌++◌, length, Bool, true, cond, refl, sym, ap, subst, ◌∙◌, arith}
-use Rattle.std.proofs.lemmas.Bool.{cases_eq}
-use Rattle.std.proofs.lemmas.List.{length-append}
-use Rattle.sector_device.specs.claim.Disk.{Image}
-use Rattle.page_store.specs.{gate_journal.claim.Store.word, claim.Chain.{is_blank, chain, IsIn, AreFree}, claim.Transactions.{txn_pages, over, free_over}, declared.txn.Txn.Txn}
-use Rattle.page_store.proofs.Chains.{room_left}
-use Rattle.page_node.{specs.claim.Entries.Entry, specs.claim.Node.{Node, IsNode}, specs.claim.Places.{key_cmp, Rises}, proofs.Laws.same_key}
-use Rattle.page_btree.specs.claim.Keys.{KeyMap, IsBetween}
+use Rattle.{page_btree.specs.claim.{Keys.{KeyMap, IsBetween}, Map.InTxn}, page_node.specs.claim.{Entries.Entry, Node.{Node, IsNode}, Places.{key_cmp, Rises}}}
 use Rattle.page_btree.specs.claim.Tree.{Tree, Forest, leaf, inner, one, more, first_key, links, rows, forest_rows, owns, forest_owns, size, forest_size, IsTree, AreTrees, IsApart, AreApart}
-use Rattle.page_btree.{specs.claim.Map.InTxn, specs.Getting.IsCopied, proofs.Booleans.either, proofs.Rows.find_right, proofs.Within.{rows_after, within_trees}}
+use Rattle.page_store.specs.{claim.{Chain.{is_blank, chain, IsIn, AreFree}, Transactions.{txn_pages, over, free_over}}, declared.txn.Txn.Txn, gate_journal.claim.Store.word}
+use Rattle.{sector_device.specs.claim.Disk.Image, page_btree.proofs.{Booleans.either, Rows.find_right, Within.{rows_after, within_trees}}, page_node.proofs.Laws.same_key}
+use Rattle.page_store.proofs.Chains.{room_left}
 
 -- ---- numbers of pages
 is_there : (q : ℕ) (ps : List ℕ) → IsIn q ps ⊎ (IsIn q ps → ⊥)
@@ -20,12 +16,12 @@ is_there q (p ∷ ps) = elim (cases_eq q p) [
   | inr off ↦ elim (is_there q ps) [ inl deep ↦ inl (inr deep) | inr none ↦ inr (λ there. ⊎_elim off none there) ]
 ]
 
-in_one : (q : ℕ) (xs ys : List ℕ) → IsIn q (xs ++ ys) → IsIn q xs ⊎ IsIn q ys
+pub in_one : (q : ℕ) (xs ys : List ℕ) → IsIn q (xs ++ ys) → IsIn q xs ⊎ IsIn q ys
 in_one q [] ys there = inr there
 in_one q (x ∷ xs) ys (inl here) = inl (inl here)
 in_one q (x ∷ xs) ys (inr there) = elim (in_one q xs ys there) [ inl a ↦ inl (inr a) | inr b ↦ inr b ]
 
-both_free : (n : ℕ) (xs ys : List ℕ) → AreFree n xs → AreFree n ys → ((q : ℕ) → IsIn q xs → IsIn q ys → ⊥) → AreFree n (xs ++ ys)
+pub both_free : (n : ℕ) (xs ys : List ℕ) → AreFree n xs → AreFree n ys → ((q : ℕ) → IsIn q xs → IsIn q ys → ⊥) → AreFree n (xs ++ ys)
 both_free n [] ys a b off = b
 both_free n (x ∷ xs) ys a b off = (a.0, a.1, (λ there. ⊎_elim a.2 (off x (inl refl)) (in_one x xs ys there)), both_free n xs ys a.3 b (λ q there. off q (inr there)))
 
@@ -123,15 +119,11 @@ mutual
       record { rows_in = at_it.rows_in; node = at_it.node; rises = at_it.rises; found = λ key value there. found_left key (rows t) (forest_rows f) value (at_it.found key value there) }
   in_forest P d low high (more k t f) is p (inr own) none =
       let at_it = in_forest P d (first_key f) high f is.2 p own none in
-      record {
-        rows_in = at_it.rows_in;
-        node = at_it.node;
-        rises = at_it.rises;
-        found = λ key value there.
-            let after = at_it.found key value there in
-            let between = found_is (λ x. IsBetween (first_key f) high x) key (forest_rows f) value (within_trees P d (first_key f) high f is.2) after in
-            find_right key (rows t) (forest_rows f) (rows_after P d low (first_key f) key t is.0 between.from) ∙ after;
-      }
+      let found : (key value : List ℕ) → find key_cmp key at_it.rows_in ≡ Some value → find key_cmp key (rows t ++ forest_rows f) ≡ Some value = λ key value there.
+      let after = at_it.found key value there in
+      let between = found_is (λ x. IsBetween (first_key f) high x) key (forest_rows f) value (within_trees P d (first_key f) high f is.2) after in
+      find_right key (rows t) (forest_rows f) (rows_after P d low (first_key f) key t is.0 between.from) ∙ after in
+      search found
 
 -- ---- of a transaction's map
 pub placed : (t : Txn) (S : Image) (m : KeyMap) (p : ℕ) → InTxn t S m → p ≢ 0 → p < txn_pages t → ((node : Node) → IsNode (over t S p) node → node.level ≡ 0) → (is_blank (over t S p) ≡ true → ⊥) → IsPlaced (over t S p) (entries m)

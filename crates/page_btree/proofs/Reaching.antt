@@ -1,15 +1,9 @@
 -- Keys that belong to one leaf.
-use Rattle.std.specs.{Prelude.{Option, Some}, Ordering.{is_gt, is_lt}, Cmp.Lexicographic.nat_list_cmp_total, FinMap.find}
+use Rattle.{std.{specs.{FinMap.find, Ordering.is_gt, Prelude.{Option, Some}}, proofs.lemmas.Bool.cases_eq}, page_btree.specs.{Getting.{CanGet, CanGetAt, IsChild}, Leading.LeadsTo}}
 use Rattle.std.proofs.Common.{rules, ◌≡◌, ◌≢◌, ◌-◌, ◌<◌, ◌≤◌, ◌^◌, ℕ, zero, suc, List, [], ◌∷◌, Bool, true, false, cond, refl, sym, ap, subst, ◌∙◌, arith}
-use Rattle.std.proofs.lemmas.Bool.{cases_eq}
-use Rattle.sector_device.specs.claim.Disk.{Image}
-use Rattle.page_node.specs.{claim.Entries.Entry, claim.Node.{Node, IsNode}, claim.Places.key_cmp, Places.{floor, floor_from, ceiling, ceiling_from}, Searching.RisesAfter}
-use Rattle.page_node.proofs.Laws.{flip_less, node_unique, not_greater as reversed}
-use Rattle.page_btree.specs.{claim.Keys.{IsBetween, IsUnder}, claim.Errors.level_in, Getting.{CanGet, CanGetAt, IsChild}, Leading.LeadsTo, claim.Tree.rows}
-use Rattle.page_btree.proofs.{Descent.{node_of, leaf_page, goes_on}, Leads.leads_more, Seeking.lower_of}
-
-pub not_below : (x y : List ℕ) → is_lt (key_cmp x y) ≡ false → is_gt (key_cmp y x) ≡ false
-not_below x y not = ap is_gt (nat_list_cmp_total.antisymm y x) ∙ reversed (key_cmp x y) not
+use Rattle.{page_btree.specs.claim.{Errors.level_in, Keys.{IsBetween, IsUnder}, Tree.rows}, page_node.specs.Places.{floor, floor_from, ceiling, ceiling_from}}
+use Rattle.{page_node.specs.{Searching.RisesAfter, claim.{Entries.Entry, Node.{Node, IsNode}, Places.key_cmp}}, sector_device.specs.claim.Disk.Image}
+use Rattle.{page_btree.proofs.{Descent.{node_of, leaf_page, goes_on}, Leads.leads_more, Seeking.lower_of}, page_node.proofs.Laws.{flip_less, node_unique}}
 
 chosen : (b c : Bool) (last x y : Option (List ℕ)) → (b ≡ true → c ≡ true) → (b ≡ false → c ≡ false) → (b ≡ false → x ≡ y) → cond c last x ≡ cond b last y
 chosen true true last x y f h k = refl
@@ -17,21 +11,13 @@ chosen true false last x y f h k = let e = f refl in cc
 chosen false true last x y f h k = let e = h refl in cc
 chosen false false last x y f h k = k refl
 
-under_first : (b : Bool) (other first : List ℕ) (rest : Option (List ℕ)) → b ≡ true → IsUnder other (cond b (Some first) rest) → IsUnder other (Some first)
-under_first true other first rest is under = under
-under_first false other first rest is under = cc
-
-under_rest : (b : Bool) (other first : List ℕ) (rest : Option (List ℕ)) → b ≡ false → IsUnder other (cond b (Some first) rest) → IsUnder other rest
-under_rest true other first rest is under = cc
-under_rest false other first rest is under = under
-
 floor_from_reaches : (last : Option (List ℕ)) (key other : List ℕ) (es : List Entry) → is_gt (key_cmp key other) ≡ false → IsUnder other (ceiling_from key es) → floor_from last other es ≡ floor_from last key es
 floor_from_reaches last key other [] from under = refl
 floor_from_reaches last key other (e ∷ es) from under =
     chosen (is_gt (key_cmp e.0 key)) (is_gt (key_cmp e.0 other)) last (floor_from (Some e.1) other es) (floor_from (Some e.1) key es)
-    (λ above. ap is_gt (flip_less other e.0 (under_first (is_gt (key_cmp e.0 key)) other e.0 (ceiling_from key es) above under)))
+    (λ above. ap is_gt (flip_less other e.0 (subst (λ (b : Bool). IsUnder other (cond b (Some e.0) (ceiling_from key es))) above under)))
     (λ not. lower_of e.0 key other (key_cmp e.0 key) refl not from)
-    (λ not. floor_from_reaches (Some e.1) key other es from (under_rest (is_gt (key_cmp e.0 key)) other e.0 (ceiling_from key es) not under))
+    (λ not. floor_from_reaches (Some e.1) key other es from (subst (λ (b : Bool). IsUnder other (cond b (Some e.0) (ceiling_from key es))) not under))
 
 -- keys from one on and below the first that is above it belong to its child
 pub floor_reaches : (key other : List ℕ) (es : List Entry) → is_gt (key_cmp key other) ≡ false → IsUnder other (ceiling key es) → floor other es ≡ floor key es

@@ -1,10 +1,9 @@
 -- A refusal of a look-up below, told above.
-use Rattle.std.{specs.Prelude.{Result, IsErrAnd}, proofs.Common.{rules, ◌≡◌, true, Err, sym, subst, ◌∙◌}}
-use Rattle.sector_device.specs.{claim.Disk.Image, declared.SectorDevice.Ghosts}
-use Rattle.page_store.specs.{claim.Transactions.{stored, disk_in, has_halted, HasFailed, IsQuiet, Passed, ReadErr}, Reading.ReadsOnly}
-use Rattle.page_store.{specs.gate_journal.declared.error.PageError.PageError, specs.declared.pages.Pages.Pages, specs.declared.txn.Txn.Txn, proofs.Stops.failed_more}
-use Rattle.page_btree.specs.{Errors.tree_error, claim.Errors.GetErr, Getting.ReadsErr, claim.Keys.KeyMap, claim.Map.InTxn, declared.error.TreeError.TreeError}
-use Rattle.page_btree.{specs.declared.error.TreeError.TheVariants.{DeviceFault, NotAStore, Halted, NoPages, TooDeep, Memory}, proofs.Outcomes.refused_after}
+use Rattle.{std.{specs.Prelude.{Result, IsErrAnd}, proofs.Common.{rules, ◌≡◌, true, Err, sym, subst, ◌∙◌}}, page_btree.specs.{Errors.tree_error, Getting.ReadsErr, claim.Map.InTxn}}
+use Rattle.page_btree.specs.{claim.{Errors.GetErr, Keys.KeyMap}, declared.error.TreeError.{TreeError, TheVariants.{DeviceFault, NotAStore, Halted, NoPages, TooDeep, Memory}}}
+use Rattle.page_store.specs.{Reading.ReadsOnly, claim.Transactions.{stored, disk_in, has_halted, HasFailed, IsQuiet, Passed, ReadErr}, declared.{pages.Pages.Pages, txn.Txn.Txn}}
+use Rattle.{page_store.{specs.gate_journal.declared.error.PageError.PageError, proofs.Stops.failed_more}, sector_device.specs.{claim.Disk.Image, declared.SectorDevice.Ghosts}}
+use Rattle.page_btree.proofs.Outcomes.{refused_after}
 use Rattle.page_store.specs.gate_journal.declared.error.PageError.TheVariants as page
 
 -- a refusal is another where each case of it is

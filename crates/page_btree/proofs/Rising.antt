@@ -1,11 +1,9 @@
 -- The keys of a node above the leaves rise after the first.
-use Rattle.std.specs.{Prelude.Option, Ordering.{is_gt, is_lt}, declared.cmp.Ordering.TheVariants.Less, FinMap.is_sorted, FinMap.Entries.below_all}
-use Rattle.std.{specs.Cmp.Lexicographic.nat_list_cmp_total, proofs.Common.{◌≡◌, ◌<◌, ◌-◌, ℕ, List, drop, true, false, refl, sym, ap, subst, arith}}
-use Rattle.std.proofs.lemmas.Cmp.{tied_itself}
-use Rattle.sector_device.specs.claim.Disk.{Image}
-use Rattle.page_node.{specs.claim.Node.{Node, IsNode}, specs.claim.Places.{key_cmp, Rises}, specs.Searching.RisesAfter, proofs.Laws.node_unique}
-use Rattle.page_btree.specs.{claim.Tree.{Tree, Forest, leaf, inner, one, more, page_of, first_key, links, IsTree, AreTrees}, Getting.CanGet}
-use Rattle.page_btree.proofs.{Rows.{from_then, less_is_from}, Booleans.both_so}
+use Rattle.std.specs.{Cmp.Lexicographic.nat_list_cmp_total, FinMap.{is_sorted, Entries.below_all}, Ordering.{is_gt, is_lt}, Prelude.Option, declared.cmp.Ordering.TheVariants.Less}
+use Rattle.{std.proofs.{Common.{◌≡◌, ◌<◌, ◌-◌, ℕ, List, drop, true, false, refl, sym, ap, subst, arith}, lemmas.Cmp.tied_itself}, page_btree.specs.Getting.CanGet}
+use Rattle.{page_btree.specs.claim.Tree.{Tree, Forest, leaf, inner, one, more, page_of, first_key, links, IsTree, AreTrees}, page_node.specs.Searching.RisesAfter}
+use Rattle.{page_node.specs.claim.{Node.{Node, IsNode}, Places.{key_cmp, Rises}}, sector_device.specs.claim.Disk.Image, page_btree.proofs.Booleans.both_so}
+use Rattle.{page_btree.proofs.Rows.{from_then, less_is_from}, page_node.proofs.Laws.node_unique}
 
 below_links : (x : List ℕ) (f : Forest) → key_cmp x (first_key f) ≡ Less → below_all key_cmp x (drop 1 (links f)) ≡ true → below_all key_cmp x (links f) ≡ true
 below_links x (one q u) less rest = both_so (is_lt (key_cmp x q)) true (ap is_lt less) refl

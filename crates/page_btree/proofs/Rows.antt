@@ -1,12 +1,9 @@
 -- Rows in a row, and a key among them.
-use Rattle.std.specs.{Prelude.{Option, Some, None, T}, Ordering.{is_gt, is_eq, is_lt, eq_by_cmp}, Cmp.Lexicographic.nat_list_cmp_total, List.AllByRecursion}
-use Rattle.std.specs.{declared.cmp.Ordering.Ordering, declared.cmp.Ordering.TheVariants.{Less, Equal, Greater}, FinMap.{find, put, is_sorted}}
-use Rattle.std.specs.FinMap.Entries.{by_order, below_all, is_sorted-put}
-use Rattle.std.proofs.Common.{rules, ◌≡◌, ◌<◌, ℕ, List, [], ◌∷◌, ◌++◌, length, Bool, true, false, cond, refl, sym, ap, subst, ◌∙◌, arith}
-use Rattle.std.proofs.lemmas.Cmp.{tied_itself}
-use Rattle.page_node.{specs.claim.Entries.Entry, specs.claim.Places.{key_cmp, Rises}, proofs.Laws.{flip_less, flip_greater, less_trans, same_key, is_less}}
-use Rattle.page_node.proofs.Scanning.{above_true}
-use Rattle.page_btree.{specs.claim.Keys.IsUnder, proofs.Booleans.{first_so, second_so, both_so, true_is}}
+use Rattle.std.specs.{Cmp.Lexicographic.nat_list_cmp_total, FinMap.{find, put, is_sorted, Entries.{by_order, below_all, is_sorted-put}}, List.AllByRecursion}
+use Rattle.std.specs.{Ordering.{is_gt, is_eq, is_lt, eq_by_cmp}, Prelude.{Option, Some, None, T}, declared.cmp.Ordering.{Ordering, TheVariants.{Less, Equal, Greater}}}
+use Rattle.std.proofs.{Common.{rules, ◌≡◌, ◌<◌, ℕ, List, [], ◌∷◌, ◌++◌, length, Bool, true, false, cond, refl, sym, ap, subst, ◌∙◌, arith}, lemmas.Cmp.tied_itself}
+use Rattle.{page_btree.{specs.claim.Keys.IsUnder, proofs.Booleans.{first_so, second_so, both_so, true_is}}, page_node.specs.claim.{Entries.Entry, Places.{key_cmp, Rises}}}
+use Rattle.page_node.proofs.{Laws.{flip_less, flip_greater, less_trans, same_key, is_less}, Scanning.above_true}
 
 -- each key has this order to one
 abbrev pub Each : Ordering → List ℕ → List Entry → Type 0
@@ -15,6 +12,10 @@ Each o k es = AllByRecursion (λ e. key_cmp k e.0 ≡ o) es
 pub all_map : (P Q : Entry → Type 0) → ((e : Entry) → P e → Q e) → (es : List Entry) → AllByRecursion P es → AllByRecursion Q es
 all_map P Q f [] h = tt
 all_map P Q f (e ∷ es) h = (f e h.0, all_map P Q f es h.1)
+
+pub all_both : (P Q R : Entry → Type 0) → ((e : Entry) → P e → Q e → R e) → (es : List Entry) → AllByRecursion P es → AllByRecursion Q es → AllByRecursion R es
+all_both P Q R f [] h g = tt
+all_both P Q R f (e ∷ es) h g = (f e h.0 g.0, all_both P Q R f es h.1 g.1)
 
 pub all_append : (P : Entry → Type 0) (xs ys : List Entry) → AllByRecursion P xs → AllByRecursion P ys → AllByRecursion P (xs ++ ys)
 all_append P [] ys h g = g
@@ -90,34 +91,38 @@ is_true b e = subst T (sym e) tt
 pub rises_put : (key value : List ℕ) (es : List Entry) → Rises es → Rises (put key_cmp key value es)
 rises_put key value es rises = true_is _ (is_sorted-put key_cmp nat_list_cmp_total key value es (is_true _ rises))
 
-below_prefix : (x : List ℕ) (xs ys : List Entry) → below_all key_cmp x (xs ++ ys) ≡ true → below_all key_cmp x xs ≡ true
-below_prefix x [] ys h = refl
-below_prefix x (e ∷ xs) ys h = both_so (is_lt (key_cmp x e.0)) (below_all key_cmp x xs) (first_so (is_lt (key_cmp x e.0)) (below_all key_cmp x (xs ++ ys)) h) (below_prefix x xs ys (second_so (is_lt (key_cmp x e.0)) (below_all key_cmp x (xs ++ ys)) h))
+-- a key is below the first of rows and the others where it is below each
+pub less_each : (x : List ℕ) (es : List Entry) → below_all key_cmp x es ≡ true → Each Less x es
+less_each x [] h = tt
+less_each x (e ∷ es) h = (is_less (key_cmp x e.0) (first_so (is_lt (key_cmp x e.0)) (below_all key_cmp x es) h), less_each x es (second_so (is_lt (key_cmp x e.0)) (below_all key_cmp x es) h))
 
-below_one : (x : List ℕ) (xs : List Entry) (y : Entry) (ys : List Entry) → below_all key_cmp x (xs ++ y ∷ ys) ≡ true → key_cmp x y.0 ≡ Less
-below_one x [] y ys h = is_less (key_cmp x y.0) (first_so (is_lt (key_cmp x y.0)) (below_all key_cmp x ys) h)
-below_one x (e ∷ xs) y ys h = below_one x xs y ys (second_so (is_lt (key_cmp x e.0)) (below_all key_cmp x (xs ++ y ∷ ys)) h)
+pub each_less : (x : List ℕ) (es : List Entry) → Each Less x es → below_all key_cmp x es ≡ true
+each_less x [] h = refl
+each_less x (e ∷ es) h = both_so (is_lt (key_cmp x e.0)) (below_all key_cmp x es) (ap is_lt h.0) (each_less x es h.1)
+
+-- rows rise where the first is below the others, and these rise
+pub rises_split : (e : Entry) (es : List Entry) → Rises (e ∷ es) → Each Less e.0 es × Rises es
+rises_split e es h = (less_each e.0 es (first_so (below_all key_cmp e.0 es) (is_sorted key_cmp es) h), second_so (below_all key_cmp e.0 es) (is_sorted key_cmp es) h)
+
+pub rises_cons : (e : Entry) (es : List Entry) → Each Less e.0 es → Rises es → Rises (e ∷ es)
+rises_cons e es below rises = both_so (below_all key_cmp e.0 es) (is_sorted key_cmp es) (each_less e.0 es below) rises
 
 pub rises_prefix : (xs ys : List Entry) → Rises (xs ++ ys) → Rises xs
 rises_prefix [] ys h = refl
-rises_prefix (x ∷ xs) ys h = both_so (below_all key_cmp x.0 xs) (is_sorted key_cmp xs) (below_prefix x.0 xs ys (first_so (below_all key_cmp x.0 (xs ++ ys)) (is_sorted key_cmp (xs ++ ys)) h)) (rises_prefix xs ys (second_so (below_all key_cmp x.0 (xs ++ ys)) (is_sorted key_cmp (xs ++ ys)) h))
+rises_prefix (x ∷ xs) ys h = let r = rises_split x (xs ++ ys) h in rises_cons x xs (all_prefix (λ e. key_cmp x.0 e.0 ≡ Less) xs ys r.0) (rises_prefix xs ys r.1)
 
 pub rises_rest : (xs ys : List Entry) → Rises (xs ++ ys) → Rises ys
 rises_rest [] ys h = h
-rises_rest (x ∷ xs) ys h = rises_rest xs ys (second_so (below_all key_cmp x.0 (xs ++ ys)) (is_sorted key_cmp (xs ++ ys)) h)
+rises_rest (x ∷ xs) ys h = rises_rest xs ys (rises_split x (xs ++ ys) h).1
 
 -- the rows before one are below it
 pub rises_under : (xs : List Entry) (y : Entry) (ys : List Entry) → Rises (xs ++ y ∷ ys) → AllByRecursion (λ e. key_cmp e.0 y.0 ≡ Less) xs
 rises_under [] y ys h = tt
-rises_under (x ∷ xs) y ys h = (below_one x.0 xs y ys (first_so (below_all key_cmp x.0 (xs ++ y ∷ ys)) (is_sorted key_cmp (xs ++ y ∷ ys)) h), rises_under xs y ys (second_so (below_all key_cmp x.0 (xs ++ y ∷ ys)) (is_sorted key_cmp (xs ++ y ∷ ys)) h))
-
-below_each : (x : List ℕ) (es : List Entry) → below_all key_cmp x es ≡ true → AllByRecursion (λ e. is_gt (key_cmp x e.0) ≡ false) es
-below_each x [] h = tt
-below_each x (e ∷ es) h = (less_is_from x e.0 (is_less (key_cmp x e.0) (first_so (is_lt (key_cmp x e.0)) (below_all key_cmp x es) h)), below_each x es (second_so (is_lt (key_cmp x e.0)) (below_all key_cmp x es) h))
+rises_under (x ∷ xs) y ys h = let r = rises_split x (xs ++ y ∷ ys) h in ((all_rest (λ e. key_cmp x.0 e.0 ≡ Less) xs (y ∷ ys) r.0).0, rises_under xs y ys r.1)
 
 -- and none of them is below the first
 pub rises_from : (y : Entry) (ys : List Entry) → Rises (y ∷ ys) → AllByRecursion (λ e. is_gt (key_cmp y.0 e.0) ≡ false) (y ∷ ys)
-rises_from y ys h = (ap is_gt (tied_itself nat_list_cmp_total y.0), below_each y.0 ys (first_so (below_all key_cmp y.0 ys) (is_sorted key_cmp ys) h))
+rises_from y ys h = (ap is_gt (tied_itself nat_list_cmp_total y.0), all_map (λ e. key_cmp y.0 e.0 ≡ Less) (λ e. is_gt (key_cmp y.0 e.0) ≡ false) (λ e less. less_is_from y.0 e.0 less) ys (rises_split y ys h).0)
 
 -- a put keeps rows between bounds, and leaves none empty
 pub all_put : (P : List ℕ → Type 0) (key value : List ℕ) (es : List Entry) → P key → AllByRecursion (λ e. P e.0) es → AllByRecursion (λ e. P e.0) (put key_cmp key value es)

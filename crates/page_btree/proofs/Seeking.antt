@@ -1,17 +1,12 @@
 -- The leaf in whose range a key falls, among all rows.
-use Rattle.std.specs.{Prelude.{Option, Some, None}, Ordering.is_gt, Cmp.Lexicographic.nat_list_cmp_total, List.AllByRecursion, declared.cmp.Ordering.Ordering}
-use Rattle.std.specs.{declared.cmp.Ordering.TheVariants.{Less, Equal, Greater}, FinMap.entries}
+use Rattle.std.specs.{Cmp.Lexicographic.nat_list_cmp_total, FinMap.entries, List.AllByRecursion, Ordering.is_gt, Prelude.{Option, Some, None}, declared.cmp.Ordering.Ordering}
+use Rattle.std.{specs.declared.cmp.Ordering.TheVariants.{Less, Equal, Greater}, proofs.lemmas.{Cmp.tied_itself, List.{append-nil, Elements.filter-append}}}
 use Rattle.std.proofs.Common.{◌≡◌, ◌⊎◌, ◌<◌, ◌-◌, inl, inr, ℕ, List, [], ◌∷◌, ◌++◌, length, Bool, true, false, cond, refl, sym, ap, subst, ◌∙◌, append_assoc}
-use Rattle.std.proofs.lemmas.Cmp.{tied_itself}
-use Rattle.std.proofs.lemmas.List.{append-nil}
-use Rattle.std.proofs.lemmas.List.Elements.{filter-append}
-use Rattle.sector_device.specs.claim.Disk.{Image}
-use Rattle.page_node.{specs.claim.Entries.Entry, specs.claim.Places.key_cmp, specs.Places.{is_from, entries_from}, proofs.Laws.{flip_less, flip_greater, less_trans, same_key}}
-use Rattle.page_btree.specs.{claim.Keys.{KeyMap, IsBetween, IsUnder}, claim.Map.IsRooted}
-use Rattle.page_btree.specs.claim.Tree.{Tree, Forest, leaf, inner, one, more, first_key, rows, forest_rows, IsTree, AreTrees}
-use Rattle.page_btree.{specs.Seeking.{leaf_of, forest_leaf, bound_of, forest_bound, IsNext}, proofs.Tops.every_key}
+use Rattle.page_btree.{specs.{Seeking.{leaf_of, forest_leaf, bound_of, forest_bound, IsNext}, claim.{Keys.{KeyMap, IsBetween, IsUnder}, Map.IsRooted}}, proofs.Booleans.either}
+use Rattle.{page_btree.specs.claim.Tree.{Tree, Forest, leaf, inner, one, more, first_key, rows, forest_rows, IsTree, AreTrees}, page_node.specs.Places.{is_from, entries_from}}
+use Rattle.{page_node.specs.claim.{Entries.Entry, Places.key_cmp}, sector_device.specs.claim.Disk.Image, page_btree.proofs.{Tops.every_key, Within.{within_trees, rows_after}}}
 use Rattle.page_btree.proofs.Rows.{Each, all_map, all_append, all_prefix, all_rest, less_from, from_then, less_is_from, key_before, wider_under}
-use Rattle.page_btree.proofs.{Within.{within_trees, rows_after}, Booleans.either}
+use Rattle.page_node.proofs.Laws.{flip_less, flip_greater, less_trans, same_key}
 
 -- ---- between bounds
 -- from a bound on; nothing is after the last leaf
@@ -60,17 +55,9 @@ parted_where false key high all this that near far first other = other refl
 
 mutual
   pub parted : (P : Image) (d : ℕ) (low : List ℕ) (high : Option (List ℕ)) (key : List ℕ) (t : Tree) → IsTree P d low high t → IsBetween low high key → IsParted key high (rows t) (leaf_of t key) (bound_of t high key)
-  parted P d low high key (leaf p es) is between = record {
-    before = [];
-    after = [];
-    whole = sym (append-nil es);
-    below = tt;
-    under = all_map (λ e. IsBetween low high e.0) (λ e. IsUnder e.0 high) (λ e b. b.under) es is.1.within;
-    rest = tt;
-    above = between.under;
-    within = within_itself high;
-    some = is.1.some;
-  }
+  parted P d low high key (leaf p es) is between =
+      let whole : es ≡ [] ++ (es ++ []) = sym (append-nil es) in
+      search (whole, all_map (λ e. IsBetween low high e.0) (λ e. IsUnder e.0 high) (λ e b. b.under) es is.1.within, within_itself high)
   parted P d low high key (inner p f) is between = parted_all P (d - 1) low high key f is.2 between
 
   pub parted_all : (P : Image) (d : ℕ) (low : List ℕ) (high : Option (List ℕ)) (key : List ℕ) (f : Forest) → AreTrees P d low high f → IsBetween low high key → IsParted key high (forest_rows f) (forest_leaf f key) (forest_bound f high key)
@@ -79,33 +66,18 @@ mutual
       parted_where (is_gt (key_cmp (first_key f) key)) key high (rows t ++ forest_rows f) (leaf_of t key) (forest_leaf f key) (bound_of t (Some (first_key f)) key) (forest_bound f high key)
       (λ above.
       let s = parted P d low (Some (first_key f)) key t is.0 (record { from = between.from; under = key_before (first_key f) key above }) in
-      record {
-        before = s.before;
-        after = s.after ++ forest_rows f;
-        whole = ap (λ (l : List Entry). l ++ forest_rows f) s.whole
-            ∙ append_assoc s.before (leaf_of t key ++ s.after) (forest_rows f)
-            ∙ ap (λ (l : List Entry). s.before ++ l) (append_assoc (leaf_of t key) s.after (forest_rows f));
-        below = s.below;
-        under = s.under;
-        rest = all_append (λ e. IsAfter (bound_of t (Some (first_key f)) key) e.0) s.after (forest_rows f) s.rest
-            (all_map (λ e. IsBetween (first_key f) high e.0) (λ e. IsAfter (bound_of t (Some (first_key f)) key) e.0) (λ e b. after_high (bound_of t (Some (first_key f)) key) (first_key f) s.within e.0 b.from) (forest_rows f) (within_trees P d (first_key f) high f is.2));
-        above = s.above;
-        within = within_wider (bound_of t (Some (first_key f)) key) (first_key f) high s.within is.1.under;
-        some = s.some;
-      })
+      let whole : rows t ++ forest_rows f ≡ s.before ++ (leaf_of t key ++ (s.after ++ forest_rows f)) = ap (λ (l : List Entry). l ++ forest_rows f) s.whole
+      ∙ append_assoc s.before (leaf_of t key ++ s.after) (forest_rows f)
+      ∙ ap (λ (l : List Entry). s.before ++ l) (append_assoc (leaf_of t key) s.after (forest_rows f)) in
+      let rest = all_append (λ e. IsAfter (bound_of t (Some (first_key f)) key) e.0) s.after (forest_rows f) s.rest
+      (all_map (λ e. IsBetween (first_key f) high e.0) (λ e. IsAfter (bound_of t (Some (first_key f)) key) e.0) (λ e b. after_high (bound_of t (Some (first_key f)) key) (first_key f) s.within e.0 b.from) (forest_rows f) (within_trees P d (first_key f) high f is.2)) in
+      let within = within_wider (bound_of t (Some (first_key f)) key) (first_key f) high s.within is.1.under in
+      search (whole, rest, within))
       (λ from.
       let s = parted_all P d (first_key f) high key f is.2 (record { from = from; under = between.under }) in
-      record {
-        before = rows t ++ s.before;
-        after = s.after;
-        whole = ap (λ (l : List Entry). rows t ++ l) s.whole ∙ sym (append_assoc (rows t) s.before (forest_leaf f key ++ s.after));
-        below = all_append (λ e. key_cmp key e.0 ≡ Greater) (rows t) s.before (rows_after P d low (first_key f) key t is.0 from) s.below;
-        under = s.under;
-        rest = s.rest;
-        above = s.above;
-        within = s.within;
-        some = s.some;
-      })
+      let whole : rows t ++ forest_rows f ≡ (rows t ++ s.before) ++ (forest_leaf f key ++ s.after) = ap (λ (l : List Entry). rows t ++ l) s.whole ∙ sym (append_assoc (rows t) s.before (forest_leaf f key ++ s.after)) in
+      let below = all_append (λ e. key_cmp key e.0 ≡ Greater) (rows t) s.before (rows_after P d low (first_key f) key t is.0 from) s.below in
+      search (whole, below))
 
 -- ---- the leaf that begins at a bound
 abbrev AllFrom : List ℕ → List Entry → Type 0

@@ -1,9 +1,7 @@
 -- Where a look-up begins.
-use Rattle.std.{specs.Prelude.None, specs.FinMap.{find, get, get-entries}, proofs.Common.{rules, ◌≡◌, ◌≢◌, ⊎_elim, ℕ, List, [], ◌∷◌, refl, sym, ap, subst, ◌∙◌, arith}}
-use Rattle.sector_device.specs.claim.Disk.{Image}
-use Rattle.page_node.specs.{claim.Node.{Node, IsNode}, claim.Places.key_cmp}
-use Rattle.page_btree.specs.{claim.Keys.{KeyMap, IsBetween}, claim.Tree.{IsTree, page_of, rows}, claim.Map.{IsRooted, Holds}, Getting.{CanGet, IsLevel}}
-use Rattle.page_btree.proofs.Descent.{node_of, owns_page}
+use Rattle.std.{specs.{FinMap.{find, get, get-entries}, Prelude.None}, proofs.Common.{rules, ◌≡◌, ◌≢◌, ⊎_elim, ℕ, List, [], ◌∷◌, refl, sym, ap, subst, ◌∙◌, arith}}
+use Rattle.page_btree.specs.{Getting.{CanGet, IsLevel}, claim.{Keys.{KeyMap, IsBetween}, Map.{IsRooted, Holds}, Tree.{IsTree, page_of, rows}}}
+use Rattle.{page_node.specs.claim.{Node.{Node, IsNode}, Places.key_cmp}, sector_device.specs.claim.Disk.Image, page_btree.proofs.Descent.{node_of, owns_page}}
 
 pub every_key : (key : List ℕ) → IsBetween [] None key
 every_key [] = record { from = refl; under = tt }

@@ -1,9 +1,7 @@
 -- A tree's rows stand between its bounds.
-use Rattle.std.specs.{Prelude.{Option, Some}, Ordering.is_gt, List.AllByRecursion, declared.cmp.Ordering.TheVariants.{Less, Greater}}
-use Rattle.std.proofs.Common.{◌≡◌, ◌-◌, ℕ, List, false}
-use Rattle.sector_device.specs.claim.Disk.{Image}
-use Rattle.page_node.specs.{claim.Entries.Entry, claim.Places.key_cmp}
-use Rattle.page_btree.specs.{claim.Keys.{IsBetween, IsUnder}, claim.Tree.{Tree, Forest, leaf, inner, one, more, first_key, rows, forest_rows, IsTree, AreTrees}}
+use Rattle.std.{specs.{List.AllByRecursion, Ordering.is_gt, Prelude.{Option, Some}, declared.cmp.Ordering.TheVariants.{Less, Greater}}, proofs.Common.{◌≡◌, ◌-◌, ℕ, List, false}}
+use Rattle.page_btree.specs.claim.{Keys.{IsBetween, IsUnder}, Tree.{Tree, Forest, leaf, inner, one, more, first_key, rows, forest_rows, IsTree, AreTrees}}
+use Rattle.{page_node.specs.claim.{Entries.Entry, Places.key_cmp}, sector_device.specs.claim.Disk.Image}
 use Rattle.page_btree.proofs.Rows.{Each, all_map, all_append, wider_under, less_from, less_is_from, key_after}
 
 abbrev pub AreBetween : List ℕ → Option (List ℕ) → List Entry → Type 0

@@ -1,8 +1,7 @@
 -- What calls on a tree ask for.
 use Rattle.std.specs.Prelude.{◌≡◌, ◌<◌, ◌≤◌, ℕ, List, length}
+use Rattle.{page_btree.specs.Keys.IsKey, page_store.specs.{claim.Transactions.{count_of, txn_pages}, declared.{pages.Pages.Pages, txn.Txn.Txn}}}
 use Rattle.sector_device.specs.declared.SectorDevice.{Ghosts}
-use Rattle.page_store.specs.{claim.Transactions.{count_of, txn_pages}, declared.pages.Pages.Pages, declared.txn.Txn.Txn}
-use Rattle.page_btree.specs.Keys.{IsKey}
 
 -- these are the pages that the transaction was begun with, and this is the number of one
 pub record IsPageOf {D : Type 0} {g : Ghosts D} (t : Txn) (ps : Pages D g) (p : ℕ) : Type 0 where

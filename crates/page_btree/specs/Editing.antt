@@ -1,10 +1,8 @@
 -- What an edit of a leaf alone leaves as it was, and why there is none.
 use Rattle.std.specs.Prelude.{◌≡◌, ◌≤◌, ◌+◌, ℕ, List, true, Result, OnOk}
-use Rattle.sector_device.specs.{claim.Disk.Image, declared.SectorDevice.Ghosts}
-use Rattle.page_store.specs.{claim.Transactions.{stored, disk_in, has_halted, HasFailed, txn_pages, txn_root, txn_free, txn_writes, over, free_over}, declared.pages.Pages.Pages}
-use Rattle.page_store.specs.declared.txn.Txn.{Txn}
-use Rattle.page_node.specs.{claim.Entries.Entry, claim.Node.IsNode, claim.Places.Rises}
-use Rattle.page_btree.specs.{declared.error.TreeError.TreeError, declared.error.TreeError.TheVariants.{DeviceFault, NotAStore, Halted, Memory}}
+use Rattle.{page_btree.specs.declared.error.TreeError.{TreeError, TheVariants.{DeviceFault, NotAStore, Halted, Memory}}, page_node.specs.claim.{Entries.Entry, Node.IsNode}}
+use Rattle.{page_node.specs.claim.Places.Rises, page_store.specs.declared.{pages.Pages.Pages, txn.Txn.Txn}, sector_device.specs.{claim.Disk.Image, declared.SectorDevice.Ghosts}}
+use Rattle.page_store.specs.claim.Transactions.{stored, disk_in, has_halted, HasFailed, txn_pages, txn_root, txn_free, txn_writes, over, free_over}
 
 -- what a transaction reads, takes and writes is the same
 pub record IsAlike (old new : Txn) : Type 0 where

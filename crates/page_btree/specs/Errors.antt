@@ -1,7 +1,7 @@
 -- What no promise rests on, beside claim/Errors.antt.
+use Rattle.page_btree.specs.declared.error.TreeError.{TreeError, TheVariants.{DeviceFault, NotAStore, Halted, NoPages, TooDeep, Memory}}
 use Rattle.page_store.specs.gate_journal.declared.error.PageError.{PageError}
 use Rattle.page_store.specs.gate_journal.declared.error.PageError.TheVariants as page
-use Rattle.page_btree.specs.{declared.error.TreeError.TreeError, declared.error.TreeError.TheVariants.{DeviceFault, NotAStore, Halted, NoPages, TooDeep, Memory}}
 
 -- the pages' refusal, as one of a tree. Those of openings and commits don't come
 abbrev pub tree_error : PageError → TreeError

@@ -1,11 +1,9 @@
 -- What a look-up below a page needs.
-use Rattle.std.specs.{Prelude.{◌≡◌, ◌<◌, ℕ, List, take, Option, Some, None, true}, Option.option_map}
-use Rattle.sector_device.specs.{claim.Disk.Image, declared.SectorDevice.Ghosts}
-use Rattle.page_store.specs.{claim.Transactions.{stored, disk_in, has_halted, HasFailed, txn_pages, over}, declared.pages.Pages.Pages, declared.txn.Txn.Txn}
-use Rattle.page_node.specs.{claim.Entries.Entry, Entries.child_in, claim.Node.{Node, IsNode}, claim.Places.Rises, Places.floor, Searching.{IsBelow, RisesAfter}}
-use Rattle.page_node.specs.declared.search.RowNear.{RowNear}
-use Rattle.page_btree.specs.{claim.Keys.IsBetween, claim.Tree.{Tree, IsTree, page_of, owns}, declared.error.TreeError.TreeError}
-use Rattle.page_btree.specs.declared.error.TreeError.TheVariants.{DeviceFault, NotAStore, Halted}
+use Rattle.std.specs.{Option.option_map, Prelude.{◌≡◌, ◌<◌, ℕ, List, take, Option, Some, None, true}}
+use Rattle.page_btree.specs.{claim.{Keys.IsBetween, Tree.{Tree, IsTree, page_of, owns}}, declared.error.TreeError.{TreeError, TheVariants.{DeviceFault, NotAStore, Halted}}}
+use Rattle.page_node.specs.{Entries.child_in, Places.floor, Searching.{IsBelow, RisesAfter}, claim.{Entries.Entry, Node.{Node, IsNode}, Places.Rises}}
+use Rattle.{page_node.specs.declared.search.RowNear.RowNear, page_store.specs.{claim.Transactions.{stored, disk_in, has_halted, HasFailed, txn_pages, over}, declared.txn.Txn.Txn}}
+use Rattle.{page_store.specs.declared.pages.Pages.Pages, sector_device.specs.{claim.Disk.Image, declared.SectorDevice.Ghosts}}
 
 -- the bytes are those of a tree's page, whose range has the key
 pub record CanGet (n : ℕ) (P : Image) (d : ℕ) (key page : List ℕ) : Type 0 where

@@ -1,7 +1,6 @@
 -- The way from a page down to the leaf that a key belongs to.
 use Rattle.std.{specs.Prelude.{◌≡◌, ◌≤◌, ℕ, List, Option, Some, None, cond}, proofs.Common.{zero, suc}}
-use Rattle.sector_device.specs.claim.Disk.{Image}
-use Rattle.page_btree.specs.{claim.Keys.IsBetween, Getting.{CanGetAt, IsChild}, declared.reach.Reach.Reach}
+use Rattle.{page_btree.specs.{Getting.{CanGetAt, IsChild}, claim.Keys.IsBetween, declared.reach.Reach.Reach}, sector_device.specs.claim.Disk.Image}
 
 -- from each node to the child that the key belongs to
 abbrev pub LeadsTo : Image → ℕ → ℕ → List ℕ → ℕ → Type 0

@@ -1,8 +1,7 @@
 -- What no promise rests on, beside claim/Map.antt.
-use Rattle.std.specs.{Prelude.{◌≡◌, ◌<◌, ◌+◌, ℕ, List, length}, FinMap.{empty, insert}}
+use Rattle.std.specs.{FinMap.{empty, insert}, Prelude.{◌≡◌, ◌<◌, ◌+◌, ℕ, List, length}}
+use Rattle.{page_btree.specs.claim.{Keys.KeyMap, Map.Holds}, page_store.specs.{claim.Chain.{IsIn, AreFree, root_in, free_in}, gate_journal.claim.Store.{home, Opens}}}
 use Rattle.sector_device.specs.claim.Disk.{Image}
-use Rattle.page_store.specs.{gate_journal.claim.Store.{home, Opens}, claim.Chain.{IsIn, AreFree, root_in, free_in}}
-use Rattle.page_btree.specs.{claim.Keys.KeyMap, claim.Map.Holds}
 
 -- pages whose root is page 1, with these bytes, hold the map with this one row
 abbrev pub IsOnlyRow : List ℕ → List ℕ → List ℕ → Type 0

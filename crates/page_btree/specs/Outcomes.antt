@@ -1,12 +1,10 @@
 -- What a map in pages keeps, and what is read of it where the device is honest and the pages hold what they may.
-use Rattle.std.specs.{Prelude.{◌≡◌, ◌≢◌, ◌⊎◌, ◌≤◌, ◌<◌, ◌+◌, ◌^◌, ℕ, List, Option, None, Result, OnOk, IfOk}, FinMap.find}
+use Rattle.std.specs.{FinMap.find, Prelude.{◌≡◌, ◌≢◌, ◌⊎◌, ◌≤◌, ◌<◌, ◌+◌, ◌^◌, ℕ, List, Option, None, Result, OnOk, IfOk}}
+use Rattle.page_btree.specs.{Getting.{CanGet, CanGetAt, IsCopied, LevelErr}, Leading.{LeadsTo, LeadsAll, end_of}, Map.OpensMap, Seeking.{bound_in, IsRead}, claim.Errors.level_in}
+use Rattle.page_btree.specs.{claim.{Keys.KeyMap, Map.{Holds, InTxn, IsRooted}, Tree.rows}, declared.{error.TreeError.TreeError, reach.Reach.Reach, seeks.Leaf.Leaf}}
+use Rattle.{page_node.specs.claim.Places.key_cmp, page_store.specs.{Reading.ReadsOnly, claim.Chain.{root_in, free_in}, declared.{pages.Pages.Pages, txn.Txn.Txn}}}
+use Rattle.page_store.specs.{claim.Transactions.{stored, disk_in, txn_pages, txn_root, over, free_over}, gate_journal.{Store.IsBeforeOrAfter, claim.Store.{home, overlay}}}
 use Rattle.sector_device.specs.{claim.Disk.Image, declared.SectorDevice.Ghosts}
-use Rattle.page_store.specs.{gate_journal.claim.Store.{home, overlay}, gate_journal.Store.IsBeforeOrAfter, claim.Chain.{root_in, free_in}}
-use Rattle.page_store.specs.{claim.Transactions.{stored, disk_in, txn_pages, txn_root, over, free_over}, Reading.ReadsOnly, declared.pages.Pages.Pages, declared.txn.Txn.Txn}
-use Rattle.page_node.specs.claim.Places.{key_cmp}
-use Rattle.page_btree.specs.{claim.Keys.KeyMap, claim.Tree.rows, claim.Map.{Holds, InTxn, IsRooted}, Map.OpensMap, Getting.{CanGet, CanGetAt, IsCopied, LevelErr}}
-use Rattle.page_btree.specs.{claim.Errors.level_in, Leading.{LeadsTo, LeadsAll, end_of}, Seeking.{bound_in, IsRead}, declared.error.TreeError.TreeError, declared.reach.Reach.Reach}
-use Rattle.page_btree.specs.declared.seeks.Leaf.{Leaf}
 
 -- ---- laws of maps in pages
 -- a transaction that begins with the pages' root and free pages reads the map that they hold

@@ -1,8 +1,7 @@
 -- What is read where rows are read one after the other.
-use Rattle.std.specs.{Prelude.{◌≡◌, ◌<◌, ℕ, List, [], ◌∷◌, ◌++◌, length, drop, Option, Some, None, cond}, Option.option_map, Ordering.is_gt}
-use Rattle.std.proofs.Common.{get_or, zero, suc}
-use Rattle.page_node.specs.{claim.Entries.Entry, Entries.child_in, claim.Node.IsNode, claim.Places.{key_cmp, Rises}, Places.{floor, ceiling, entries_from}, Walking.IsAhead}
-use Rattle.page_btree.specs.{claim.Keys.IsBetween, claim.Tree.{Tree, Forest, leaf, inner, one, more, first_key}, declared.seeks.Leaf.Leaf}
+use Rattle.std.{specs.{Option.option_map, Ordering.is_gt, Prelude.{◌≡◌, ◌<◌, ℕ, List, [], ◌∷◌, ◌++◌, length, drop, Option, Some, None, cond}}, proofs.Common.{get_or, zero, suc}}
+use Rattle.{page_btree.specs.{claim.{Keys.IsBetween, Tree.{Tree, Forest, leaf, inner, one, more, first_key}}, declared.seeks.Leaf.Leaf}, page_node.specs.Entries.child_in}
+use Rattle.page_node.specs.{Places.{floor, ceiling, entries_from}, Walking.IsAhead, claim.{Entries.Entry, Node.IsNode, Places.{key_cmp, Rises}}}
 
 -- the key from which on the rows of the leaves behind it are, or none where it is the last
 abbrev pub bound_in : Leaf → Option (List ℕ)

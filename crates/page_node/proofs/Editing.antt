@@ -1,10 +1,8 @@
 -- What the edits of a buffer leave.
-use Rattle.std.specs.{Prelude.{insert, remove}, List.{All, copy_within}}
+use Rattle.std.{specs.{List.{All, copy_within}, Prelude.{insert, remove}}, proofs.lemmas.{Bool.cases_eq, List.Elements.{All-nil, All-cons, All-take, All-drop}}}
 use Rattle.std.proofs.Common.{rules, ◌≡◌, ℕ, ◌+◌, ◌-◌, ◌*◌, ◌<◌, ◌≤◌, List, [], ◌∷◌, ◌++◌, length, take, drop, get_or, set, refl, sym, ap, subst, ◌∙◌, arith, suc, inl, inr}
-use Rattle.std.proofs.lemmas.Bool.{cases_eq}
-use Rattle.std.proofs.lemmas.List.{take-take, drop-drop, length-take-le, length-drop, append-nil, set_split}
-use Rattle.std.proofs.lemmas.List.Elements.{All-nil, All-cons, All-take, All-drop}
-use Rattle.page_node.specs.{claim.Entries.{Entry, IsEntry, entry_bytes, entry_size, body_of, size_of}, claim.Node.Node, Bytes.with_entry, Held.{held_node, IsHeld}}
+use Rattle.{std.proofs.lemmas.List.{take-take, drop-drop, length-take-le, length-drop, append-nil, set_split}, page_node.specs.{Bytes.with_entry, Held.{held_node, IsHeld}}}
+use Rattle.page_node.specs.claim.{Entries.{Entry, IsEntry, entry_bytes, entry_size, body_of, size_of}, Node.Node}
 use Rattle.page_node.proofs.EntryLists.{size-parts, size-take_more, prefix_at, rest_at, length-read}
 use Rattle.page_node.proofs.Standing.{Stands, nothing, edited, edited_bytes, edited_stands, size-edited, length-edited, size-take_from, moved_is, written_is, size_is, view_of}
 

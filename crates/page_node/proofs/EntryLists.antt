@@ -1,7 +1,7 @@
 -- Entries, one after the other, and what is read of their bytes.
 use Rattle.std.proofs.Common.{◌≡◌, ℕ, ◌+◌, ◌<◌, List, [], ◌∷◌, ◌++◌, length, take, drop, get_or, refl, sym, ap, ◌∙◌, arith, zero, suc, append_assoc, length-append, take-append-drop}
-use Rattle.std.proofs.lemmas.List.{take_at, drop_at, drop-drop, drop-take, take-take, take_more}
-use Rattle.page_node.specs.{claim.Entries.{Entry, entry_bytes, entry_size, body_of, size_of}, Entries.{first_of, after, read_from, value_length}}
+use Rattle.{std.proofs.lemmas.List.{take_at, drop_at, drop-drop, drop-take, take-take, take_more}, page_node.specs.Entries.{first_of, after, read_from, value_length}}
+use Rattle.page_node.specs.claim.Entries.{Entry, entry_bytes, entry_size, body_of, size_of}
 
 pub body-append : (xs ys : List Entry) → body_of (xs ++ ys) ≡ body_of xs ++ body_of ys
 body-append [] ys = refl

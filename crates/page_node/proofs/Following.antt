@@ -1,10 +1,9 @@
 -- Children that follow one another.
-use Rattle.std.specs.{Prelude.{Option, Some, IfSome}, Option.option_map, List.starts_with, Ordering.is_gt, declared.cmp.Ordering.Ordering}
-use Rattle.std.specs.declared.cmp.Ordering.TheVariants.{Greater}
+use Rattle.std.specs.{List.starts_with, Option.option_map, Ordering.is_gt, Prelude.{Option, Some, IfSome}, declared.cmp.Ordering.{Ordering, TheVariants.Greater}}
 use Rattle.std.proofs.Common.{rules, ◌≡◌, ◌≢◌, ◌⊎◌, ℕ, zero, suc, ◌+◌, ◌<◌, ◌≤◌, List, [], ◌∷◌, length, take, drop, set, true, false, nat_eq, refl, sym, ap, ◌∙◌, subst, arith, inl, inr}
-use Rattle.page_node.specs.{Bytes.LiesAt, claim.Entries.{Entry, size_of}, Entries.{key_at, value_at, child_in}, claim.Node.{Node, IsNode}, claim.Places.key_cmp}
-use Rattle.page_node.specs.{Places.{floor, ceiling}, Searching.{IsTurn, RisesAfter}, Walking.part_of, Ways.AreWays}
-use Rattle.page_node.proofs.{Laws.{flip_less, flip_greater, floor_stop, ceiling_at}, Nearing.after_at, Scanning.{entry_of, end_there, key_part, value_part}, Standing.nothing}
+use Rattle.page_node.specs.{Bytes.LiesAt, Entries.{key_at, value_at, child_in}, Places.{floor, ceiling}, Searching.{IsTurn, RisesAfter}, Walking.part_of, Ways.AreWays}
+use Rattle.page_node.{specs.claim.{Entries.{Entry, size_of}, Node.{Node, IsNode}, Places.key_cmp}, proofs.Laws.{flip_less, flip_greater, floor_stop, ceiling_at}}
+use Rattle.page_node.proofs.{Nearing.after_at, Scanning.{entry_of, end_there, key_part, value_part}, Standing.nothing}
 
 -- one child more, after those that there are
 ways_suc : (prefix : List ℕ) (es : List Entry) (key : List ℕ) (child more : ℕ) (after b : List ℕ) (next : ℕ) → more < length after → AreWays prefix es key child more after (Some b)
@@ -12,15 +11,8 @@ ways_suc : (prefix : List ℕ) (es : List Entry) (key : List ℕ) (child more : 
 ways_suc prefix es key child more [] b next long ways under next_is = absurd (omega arith)
 ways_suc prefix es key child zero (c ∷ rest) b next long ways under next_is = search rules
 ways_suc prefix es key child (suc more) (c ∷ rest) b next long ways under next_is =
-    let f = ways.1 in (
-      ways.0,
-      record {
-        key = f.key;
-        key_is = f.key_is;
-        under = f.under;
-        rest = ways_suc prefix es f.key c more rest b next (omega arith) f.rest under next_is;
-      },
-    )
+    let f = ways.1 in
+    search (ways_suc prefix es f.key c more rest b next (omega arith) f.rest under next_is)
 
 pub ways_more : (prefix : List ℕ) (es : List Entry) (key : List ℕ) (child more : ℕ) (after b : List ℕ) (next : ℕ) → more < length after → AreWays prefix es key child more after (Some b)
     → starts_with nat_eq b prefix ≡ true → option_map child_in (floor b es) ≡ Some next → AreWays prefix es key child (more + 1) (set after more next) (ceiling b es)

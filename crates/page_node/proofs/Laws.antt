@@ -1,17 +1,17 @@
 -- Laws of nodes and of places, for the layers above.
-use Rattle.std.specs.{Prelude.{insert, Option, Some, None}, Ordering.{is_gt, is_lt, is_eq, ordering_reverse, eq_by_cmp}, Cmp.Lexicographic.nat_list_cmp_total}
-use Rattle.std.specs.{declared.cmp.Ordering.Ordering, declared.cmp.Ordering.TheVariants.{Less, Equal, Greater}}
-use Rattle.std.specs.{FinMap.{is_sorted, find, put, slice_cmp-IsAntisymmetric, nat_cmp-IsAntisymmetric}, FinMap.Entries.below_all}
-use Rattle.std.proofs.Common.{rules, ◌≡◌, ℕ, ◌+◌, ◌-◌, ◌^◌, ◌<◌, ◌≤◌, List, [], ◌∷◌, length, drop, set, replicate, Bool, true, false, cond, ◌&&◌, refl, sym, ap, subst, ◌∙◌, arith, zero, suc, ◌⊎◌, inl, inr}
-use Rattle.std.proofs.lemmas.Bool.{cases_eq}
-use Rattle.std.proofs.lemmas.Cmp.{tied_itself}
-use Rattle.std.proofs.lemmas.List.{take_at}
-use Rattle.std.proofs.lemmas.Nat.{from_be_bytes-to_be_bytes_4}
-use Rattle.page_node.specs.{claim.Entries.{Entry, body_of, size_of, child_bytes}, Entries.{key_at, value_at, child_in}, claim.Node.{Node, IsNode, IsShape, Fits}, Node.bytes_of}
-use Rattle.page_node.specs.{claim.Places.{key_cmp, Rises}, Places.{IsFound, IsGap, floor, floor_from, ceiling, ceiling_from, is_from, entries_from}}
-use Rattle.page_node.proofs.{EntryLists.{length-body, read_at}, Node.node_in}
+use Rattle.std.specs.{Cmp.Lexicographic.nat_list_cmp_total, FinMap.{is_sorted, find, put, slice_cmp-IsAntisymmetric, nat_cmp-IsAntisymmetric, Entries.below_all}}
+use Rattle.std.specs.{Ordering.{is_gt, is_lt, is_eq, ordering_reverse, eq_by_cmp}, Prelude.{insert, Option, Some, None}, declared.cmp.Ordering.Ordering}
+use Rattle.std.{specs.declared.cmp.Ordering.TheVariants.{Less, Equal, Greater}, proofs.lemmas.{Bool.cases_eq, Cmp.tied_itself, List.take_at, Nat.from_be_bytes-to_be_bytes_4}}
+use Rattle.std.proofs.Common.{rules, ◌≡◌, ℕ, ◌+◌, ◌-◌, ◌^◌, ◌<◌, ◌≤◌, List, [], ◌∷◌, length, drop, get_or, set, replicate, Bool, true, false, cond, ◌&&◌, refl, sym, ap, subst, ◌∙◌, arith, zero, suc, ◌⊎◌, inl, inr}
+use Rattle.page_node.specs.{Entries.{key_at, value_at, child_in, read_from}, Node.bytes_of, Places.{IsFound, IsGap, floor, floor_from, ceiling, ceiling_from, entries_from}}
+use Rattle.page_node.specs.claim.{Entries.{Entry, body_of, size_of, child_bytes}, Node.{Node, IsNode, IsShape, Fits, count_in}, Places.{key_cmp, Rises}}
+use Rattle.page_node.proofs.EntryLists.{length-body, read_at}
 
 -- ---- nodes
+-- the node of a page that stands for one
+abbrev node_in : List ℕ → Node
+node_in page = record { level = get_or page 0 0; entries = read_from (count_in page) (drop 4 page) }
+
 -- a page stands for one node at most
 pub node_is : (page : List ℕ) (node : Node) → IsNode page node → node_in page ≡ node
 node_is page node is = search (rules, read_at)
@@ -139,25 +139,6 @@ pub gap_put : (key value : List ℕ) (es : List Entry) (i : ℕ) → IsGap key e
 gap_put key value es i gap = put_new key value es i gap.within gap.below gap.above
 
 -- ---- the last key that isn't above
-pub floor_all_above : (last : Option (List ℕ)) (key : List ℕ) (es : List Entry) → ((j : ℕ) → j < length es → key_cmp (key_at es j) key ≡ Greater) → floor_from last key es ≡ last
-floor_all_above last key [] above = refl
-floor_all_above last key (e ∷ es) above = ap (λ r. cond (is_gt r) last (floor_from (Some e.1) key es)) (above 0 (omega arith))
-
-pub floor_at : (last : Option (List ℕ)) (key : List ℕ) (es : List Entry) (i : ℕ) → i < length es → ((j : ℕ) → j ≤ i → is_gt (key_cmp (key_at es j) key) ≡ false) → ((j : ℕ) → i < j → j < length es → key_cmp (key_at es j) key ≡ Greater) → floor_from last key es ≡ Some (value_at es i)
-floor_at last key [] i within below above = absurd (omega arith)
-floor_at last key (e ∷ es) zero within below above =
-    ap (λ b. cond b last (floor_from (Some e.1) key es)) (below 0 (omega arith))
-    ∙ floor_all_above (Some e.1) key es (λ j long. above (suc j) (omega arith) (omega arith))
-floor_at last key (e ∷ es) (suc i) within below above =
-    ap (λ b. cond b last (floor_from (Some e.1) key es)) (below 0 (omega arith))
-    ∙ floor_at (Some e.1) key es i (omega arith) (λ j le. below (suc j) (omega arith)) (λ j less long. above (suc j) (omega arith) (omega arith))
-
-pub floor_is : (key : List ℕ) (es : List Entry) (i : ℕ) → i < length es → ((j : ℕ) → 0 < j → j ≤ i → is_gt (key_cmp (key_at es j) key) ≡ false) → ((j : ℕ) → i < j → j < length es → key_cmp (key_at es j) key ≡ Greater) → floor key es ≡ Some (value_at es i)
-floor_is key [] i within below above = absurd (omega arith)
-floor_is key (e ∷ es) zero within below above = floor_all_above (Some e.1) key es (λ j long. above (suc j) (omega arith) (omega arith))
-floor_is key (e ∷ es) (suc i) within below above =
-    floor_at (Some e.1) key es i (omega arith) (λ j le. below (suc j) (omega arith) (omega arith)) (λ j less long. above (suc j) (omega arith) (omega arith))
-
 -- the walk stops at the first key above
 floor_first : (last : Option (List ℕ)) (key : List ℕ) (es : List Entry) → (0 < length es → is_gt (key_cmp (key_at es 0) key) ≡ true) → floor_from last key es ≡ last
 floor_first last key [] above = refl
@@ -203,9 +184,6 @@ ceiling_none key [] below = refl
 ceiling_none key (e ∷ es) below = ceiling_from_none key es (λ j less. below (suc j) (omega arith) (omega arith))
 
 -- ---- entries from a key on
-from_below : (key : List ℕ) (e : Entry) → key_cmp e.0 key ≡ Less → is_from key e ≡ false
-from_below key e less = ap (λ r. cond (is_gt r) false true) (flip_less e.0 key less)
-
 pub is_lower : (x y z : List ℕ) (r : Ordering) → key_cmp x y ≡ r → is_gt r ≡ false → key_cmp y z ≡ Less → is_gt (key_cmp x z) ≡ false
 is_lower x y z Less is from less = ap is_gt (less_trans x y z is less)
 is_lower x y z Equal is from less = ap (λ k. is_gt (key_cmp k z)) (same_key x y is) ∙ ap is_gt less
@@ -222,7 +200,7 @@ entries_from_at key [] zero within below from = refl
 entries_from_at key [] (suc k) within below from = absurd (omega arith)
 entries_from_at key (e ∷ es) zero within below from = from_all_at key (e ∷ es) (λ j less. from j (omega arith) less)
 entries_from_at key (e ∷ es) (suc k) within below from =
-    ap (λ b. cond b (e ∷ entries_from key es) (entries_from key es)) (from_below key e (below 0 (omega arith)))
+    ap (λ r. cond (cond (is_gt r) false true) (e ∷ entries_from key es) (entries_from key es)) (flip_less e.0 key (below 0 (omega arith)))
     ∙ entries_from_at key es k (omega arith) (λ j less. below (suc j) (omega arith)) (λ j le less. from (suc j) (omega arith) (omega arith))
 
 -- where one isn't below the key, none after it is

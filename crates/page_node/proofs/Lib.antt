@@ -1,6 +1,5 @@
 pub mod EntryLists
 pub mod Laws
-pub mod Node
 pub mod Walking
 pub mod Standing
 pub mod Scanning

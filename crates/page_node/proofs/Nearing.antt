@@ -1,9 +1,8 @@
 -- A search that looks at a few keys of those that rise.
-use Rattle.std.specs.{Ordering.is_gt, Prelude.{Result, Ok, Err, OnErr}, declared.cmp.Ordering.Ordering, declared.cmp.Ordering.TheVariants.{Less, Equal, Greater}}
-use Rattle.std.proofs.Common.{rules, ◌≡◌, ℕ, ◌+◌, ◌<◌, List, ◌∷◌, length, false, suc, refl, sym, ap, ◌∙◌, subst, arith, inl, inr}
-use Rattle.std.proofs.lemmas.Bool.{cases_eq}
-use Rattle.page_node.specs.{claim.Entries.Entry, Entries.key_at, claim.Places.key_cmp, Searching.{IsBelow, IsLast, RisesAfter}, Bytes.LiesAt}
-use Rattle.page_node.proofs.{Laws.{rises_at, less_trans, same_key}, Scanning.{IsEntryOf, end_there, value_part}}
+use Rattle.std.{specs.{Ordering.is_gt, Prelude.{Result, Ok, Err, OnErr}, declared.cmp.Ordering.{Ordering, TheVariants.{Less, Equal, Greater}}}, proofs.lemmas.Bool.cases_eq}
+use Rattle.{std.proofs.Common.{rules, ◌≡◌, ℕ, ◌+◌, ◌<◌, List, ◌∷◌, length, false, suc, refl, sym, ap, ◌∙◌, subst, arith, inl, inr}, page_node.specs.{Bytes.LiesAt, Entries.key_at}}
+use Rattle.page_node.{specs.{Searching.{IsBelow, IsLast, RisesAfter}, claim.{Entries.Entry, Places.key_cmp}}, proofs.Laws.{rises_at, less_trans, same_key}}
+use Rattle.page_node.proofs.Scanning.{IsEntryOf, end_there, value_part}
 
 lower_of : (x y z : List ℕ) (r : Ordering) → key_cmp x y ≡ Less → key_cmp y z ≡ r → is_gt r ≡ false → is_gt (key_cmp x z) ≡ false
 lower_of x y z Less less is from = ap is_gt (less_trans x y z less is)

@@ -1,14 +1,11 @@
 -- What the edits of a page leave.
-use Rattle.std.specs.{Prelude.{insert, remove, Bool, true, false, cond, Option, Some, None, is_some, Result, Ok, Err, OnErr}, FinMap.{find, put}, List.{All, copy_within}}
+use Rattle.std.specs.{FinMap.{find, put}, List.{All, copy_within}, Prelude.{insert, remove, Bool, true, false, cond, Option, Some, None, is_some, Result, Ok, Err, OnErr}}
 use Rattle.std.proofs.Common.{◌≡◌, ℕ, ◌+◌, ◌-◌, ◌*◌, ◌/◌, ◌%◌, ◌<◌, ◌≤◌, List, [], ◌∷◌, ◌++◌, length, take, drop, get_or, set, refl, sym, ap, subst, ◌∙◌, arith, suc, length-append, append_assoc, take-append-drop}
-use Rattle.std.proofs.Math.Seq.{take-add}
-use Rattle.std.proofs.lemmas.List.{length-take-le, length-drop, append-nil, drop-drop, set_split, take-take, take-set, take-append-le, get_or-set_other}
-use Rattle.std.proofs.lemmas.List.Edits.{get_or-insert_below}
-use Rattle.std.proofs.lemmas.List.Elements.{All-nil}
-use Rattle.page_node.specs.{Bytes.with_entry, claim.Entries.{Entry, IsEntry, entry_bytes, entry_size, body_of, size_of}, claim.Node.{Node, IsNode, count_in}, claim.Places.key_cmp}
-use Rattle.page_node.specs.{Places.{IsFound, IsGap}, Entries.key_at, Searching.IsBelow, declared.edit.RowPut.RowPut, Spots.{IsSpot, Becomes, IsRowPut}}
-use Rattle.page_node.proofs.{EntryLists.size-parts, Laws.{found_put, found_find, gap_put, gap_find}}
-use Rattle.page_node.proofs.{Standing.{edited, edited_bytes, size-edited, length-edited, All-edited, size-take_from, moved_is}, Editing.single}
+use Rattle.std.proofs.{Math.Seq.take-add, lemmas.List.{length-take-le, length-drop, append-nil, drop-drop, set_split, take-take, take-set, take-append-le, get_or-set_other}}
+use Rattle.{std.proofs.lemmas.List.{Edits.get_or-insert_below, Elements.All-nil}, page_node.specs.{Bytes.with_entry, Entries.key_at, Places.{IsFound, IsGap}, Searching.IsBelow}}
+use Rattle.page_node.specs.{Spots.{IsSpot, Becomes, IsRowPut}, claim.{Entries.{Entry, IsEntry, entry_bytes, entry_size, body_of, size_of}, Node.{Node, IsNode, count_in}}}
+use Rattle.page_node.{specs.{claim.Places.key_cmp, declared.edit.RowPut.RowPut}, proofs.{Editing.single, EntryLists.size-parts, Laws.{found_put, found_find, gap_put, gap_find}}}
+use Rattle.page_node.proofs.Standing.{edited, edited_bytes, size-edited, length-edited, All-edited, size-take_from, moved_is}
 
 -- ---- the head of a page that says another count
 abbrev pub headed : List ℕ → ℕ → List ℕ
@@ -192,11 +189,9 @@ prefix_insert es i e within =
     let n = length-take-le i es within in
     take-append-le i (take i es) (e ∷ drop i es) (omega arith) ∙ take-take i i es (omega arith)
 
-module _ (key : List ℕ) (es : List Entry) (value : List ℕ) (i at end : ℕ) (found : Bool) where
-  after_found : found ≡ true → IsSpot key es found i at end → IsBelow key (put key_cmp key value es) i at
-  after_found is spot =
-      let P : Bool → Type 0 = λ b. IsSpot key es b i at end in
-      let s = subst P is spot in
+module _ (key : List ℕ) (es : List Entry) (value : List ℕ) (i at end : ℕ) where
+  after_found : IsSpot key es true i at end → IsBelow key (put key_cmp key value es) i at
+  after_found s =
       let here : IsFound key es i = s.0 in
       let same : put key_cmp key value es ≡ set es i (key_at es i, value) = found_put key value es i here in
       subst (λ l. IsBelow key l i at) (sym same) (
@@ -204,10 +199,8 @@ module _ (key : List ℕ) (es : List Entry) (value : List ℕ) (i at end : ℕ) 
         λ rises j less. ap (λ (e : Entry). key_cmp e.0 key) (get_or-set_other es i j (key_at es i, value) ([], []) (λ same. absurd (omega arith))) ∙ here.below j less,
       )
 
-  after_gap : found ≡ false → IsSpot key es found i at end → IsBelow key (put key_cmp key value es) i at
-  after_gap is spot =
-      let P : Bool → Type 0 = λ b. IsSpot key es b i at end in
-      let s = subst P is spot in
+  after_gap : IsSpot key es false i at end → IsBelow key (put key_cmp key value es) i at
+  after_gap s =
       let gap : IsGap key es i = s.0 in
       let within = gap.within in
       subst (λ l. IsBelow key l i at) (sym (gap_put key value es i gap)) (
@@ -220,19 +213,17 @@ module _ (old new key : List ℕ) (es : List Entry) where
   put_told value row true there after becomes = (becomes, there, after)
   put_told value row false there after becomes = becomes
 
-  pub put_found : (value : List ℕ) (i at end : ℕ) (found fits : Bool) (did : Option RowPut) → found ≡ true → IsSpot key es found i at end → Becomes old new (record { level = 0; entries = set es i (key, value) }) fits → did ≡ cond fits (Some (record { had = true; near = record { k = i; at = at } })) None → IsRowPut old new key value es did
-  put_found value i at end found fits did is spot becomes told =
-      let P : Bool → Type 0 = λ b. IsSpot key es b i at end in
-      let here : IsFound key es i = (subst P is spot).0 in
+  pub put_found : (value : List ℕ) (i at end : ℕ) (fits : Bool) (did : Option RowPut) → IsSpot key es true i at end → Becomes old new (record { level = 0; entries = set es i (key, value) }) fits → did ≡ cond fits (Some (record { had = true; near = record { k = i; at = at } })) None → IsRowPut old new key value es did
+  put_found value i at end fits did spot becomes told =
+      let here : IsFound key es i = spot.0 in
       let same : set es i (key, value) ≡ put key_cmp key value es = ap (λ k. set es i (k, value)) (sym here.here) ∙ sym (found_put key value es i here) in
-      subst (IsRowPut old new key value es) (sym told) (put_told value (record { had = true; near = record { k = i; at = at } }) fits (sym (ap is_some (found_find key es i here))) (after_found key es value i at end found is spot) (subst (λ l. Becomes old new (record { level = 0; entries = l }) fits) same becomes))
+      subst (IsRowPut old new key value es) (sym told) (put_told value (record { had = true; near = record { k = i; at = at } }) fits (sym (ap is_some (found_find key es i here))) (after_found key es value i at end spot) (subst (λ l. Becomes old new (record { level = 0; entries = l }) fits) same becomes))
 
-  pub put_gap : (value : List ℕ) (i at end : ℕ) (found fits : Bool) (did : Option RowPut) → found ≡ false → IsSpot key es found i at end → Becomes old new (record { level = 0; entries = insert es i (key, value) }) fits → did ≡ cond fits (Some (record { had = false; near = record { k = i; at = at } })) None → IsRowPut old new key value es did
-  put_gap value i at end found fits did is spot becomes told =
-      let P : Bool → Type 0 = λ b. IsSpot key es b i at end in
-      let gap : IsGap key es i = (subst P is spot).0 in
+  pub put_gap : (value : List ℕ) (i at end : ℕ) (fits : Bool) (did : Option RowPut) → IsSpot key es false i at end → Becomes old new (record { level = 0; entries = insert es i (key, value) }) fits → did ≡ cond fits (Some (record { had = false; near = record { k = i; at = at } })) None → IsRowPut old new key value es did
+  put_gap value i at end fits did spot becomes told =
+      let gap : IsGap key es i = spot.0 in
       let same : insert es i (key, value) ≡ put key_cmp key value es = sym (gap_put key value es i gap) in
-      subst (IsRowPut old new key value es) (sym told) (put_told value (record { had = false; near = record { k = i; at = at } }) fits (sym (ap is_some (gap_find key es i gap))) (after_gap key es value i at end found is spot) (subst (λ l. Becomes old new (record { level = 0; entries = l }) fits) same becomes))
+      subst (IsRowPut old new key value es) (sym told) (put_told value (record { had = false; near = record { k = i; at = at } }) fits (sym (ap is_some (gap_find key es i gap))) (after_gap key es value i at end spot) (subst (λ l. Becomes old new (record { level = 0; entries = l }) fits) same becomes))
 
 -- a list of two or more has some without one
 pub some_left : (es : List Entry) (i : ℕ) → i < length es → 1 < length es → 0 < length (remove es i)

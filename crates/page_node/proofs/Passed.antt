@@ -1,12 +1,9 @@
 -- Entries that are passed over.
 use Rattle.std.proofs.Common.{rules, ◌≡◌, ℕ, ◌+◌, ◌*◌, ◌/◌, ◌%◌, ◌<◌, ◌≤◌, List, [], ◌∷◌, length, take, drop, sym, ap, ◌∙◌, subst, arith, true, nat_eq, true-eqb}
-use Rattle.std.proofs.Math.Seq.{take-add}
+use Rattle.{std.proofs.{Math.Seq.take-add, lemmas.{Bool.and_parts, List.{drop-drop, length-drop, Elements.All-drop}}}, page_node.specs.Bytes.{LiesAt, LiesNot}}
+use Rattle.page_node.specs.{Entries.{key_length, value_length}, Walking.{IsAhead, PassesTo}, claim.{Entries.{Entry, IsEntry, size_of}, Node.{Node, IsNode}}}
+use Rattle.page_node.proofs.{EntryLists.{size-parts, size-append, rest_at}, Walking.{ahead_lies, ahead_lengths, node_ahead_at}}
 use mathlib.Core.Bool.{◌&&◌}
-use Rattle.std.proofs.lemmas.Bool.{and_parts}
-use Rattle.std.proofs.lemmas.List.{drop-drop, length-drop}
-use Rattle.std.proofs.lemmas.List.Elements.{All-drop}
-use Rattle.page_node.specs.{claim.Entries.{Entry, IsEntry, size_of}, Entries.{key_length, value_length}, Bytes.{LiesAt, LiesNot}, claim.Node.{Node, IsNode}}
-use Rattle.page_node.{specs.Walking.{IsAhead, PassesTo}, proofs.EntryLists.{size-parts, size-append, rest_at}, proofs.Walking.{ahead_lies, ahead_lengths, node_ahead_at}}
 
 -- after some of those that stand ahead the others do
 ahead_at : (page : List ℕ) (at n : ℕ) (es : List Entry) → IsAhead page at es → IsAhead page (at + size_of (take n es)) (drop n es)

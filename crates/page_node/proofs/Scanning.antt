@@ -1,13 +1,10 @@
 -- A page's entries, read one after the other.
-use Rattle.std.specs.{List.All, Prelude.{false, true, Result, Ok, Err, IfOk, Some}, Option.option_map, Ordering.is_gt, declared.cmp.Ordering.Ordering}
-use Rattle.std.specs.declared.cmp.Ordering.TheVariants.{Greater}
+use Rattle.std.specs.{List.All, Option.option_map, Ordering.is_gt, Prelude.{false, true, Result, Ok, Err, IfOk, Some}, declared.cmp.Ordering.{Ordering, TheVariants.Greater}}
 use Rattle.std.proofs.Common.{rules, ◌≡◌, ◌≢◌, ℕ, ◌+◌, ◌-◌, ◌*◌, ◌/◌, ◌%◌, ◌<◌, ◌≤◌, List, [], ◌∷◌, ◌++◌, length, take, drop, get_or, set, refl, sym, ap, subst, ◌∙◌, arith, suc, length-take}
-use Rattle.std.proofs.Math.Seq.{take-add}
+use Rattle.{std.proofs.{Math.Seq.take-add, lemmas.List.Elements.All-more}, page_node.specs.{Bytes.{LiesAt, LiesNot}, Held.{held_node, IsHeld}, Places.floor, Searching.IsLast}}
 use Rattle.std.proofs.lemmas.List.{take_all, drop-drop, take-append-le, drop-append-le, drop_more, length-take-le, length-drop, get_or-drop, take_more, length-set}
-use Rattle.std.proofs.lemmas.List.Elements.{All-more}
-use Rattle.page_node.specs.claim.Entries.{Entry, IsEntry, entry_bytes, entry_size, body_of, size_of}
-use Rattle.page_node.specs.{Entries.{key_at, value_at, first_of, after, read_from, key_length, value_length, child_in}, claim.Node.{Node, IsNode, count_in}}
-use Rattle.page_node.specs.{Held.{held_node, IsHeld}, Bytes.{LiesAt, LiesNot}, claim.Places.key_cmp, Places.floor, Searching.IsLast}
+use Rattle.page_node.specs.{Entries.{key_at, value_at, first_of, after, read_from, key_length, value_length, child_in}, claim.{Node.{Node, IsNode, count_in}, Places.key_cmp}}
+use Rattle.page_node.{specs.claim.Entries.{Entry, IsEntry, entry_bytes, entry_size, body_of, size_of}, proofs.Laws.floor_stop}
 use Rattle.page_node.proofs.EntryLists.{body-append, length-body, length-read, value_length-entry, first-entry, read_at, size-take_more, drop_three}
 use Rattle.page_node.proofs.Standing.{Stands, nothing, entry_there, end_below, to_held, view_of}
 
@@ -40,14 +37,9 @@ entry_of page node k at is within place =
     let here : drop at page ≡ entry_bytes (get_or es k nothing) ++ there.0 = ap (λ n. drop n page) place ∙ there.1 in
     let below = end_below es k within in
     let more = size-take_more es k nothing within in
-    record {
-      key = ap key_length here;
-      value = ap value_length here ∙ value_length-entry (get_or es k nothing) there.0;
-      first = ap first_of here ∙ first-entry (get_or es k nothing) there.0;
-      within = omega arith;
-      entry = is.shape.entries k nothing within;
-      next = omega arith;
-    }
+    let value = ap value_length here ∙ value_length-entry (get_or es k nothing) there.0 in
+    let first = ap first_of here ∙ first-entry (get_or es k nothing) there.0 in
+    search (arith, ap key_length here, value, first, is.shape.entries k nothing within)
 
 -- an entry that is one of the node's is found to lie in the page
 pub lies_there : (page : List ℕ) (node : Node) (k at : ℕ) → IsNode page node → k < length node.entries → at ≡ 4 + size_of (take k node.entries) → LiesNot page at → ⊥
@@ -88,8 +80,8 @@ scanned_next level count page marks k at value end s within room size small lies
     let one_more : count - k ≡ suc (count - (k + 1)) = omega arith in
     let rest : drop k all ≡ e ∷ read_from (count - (k + 1)) (after (drop at page)) = s.rest ∙ ap (λ m. read_from m (drop at page)) one_more in
     let parts : get_or all k nothing ∷ drop (k + 1) all ≡ e ∷ read_from (count - (k + 1)) (after (drop at page)) = sym (drop_more all k nothing inside) ∙ rest in
-    let here : get_or all k nothing ≡ e = head_is parts in
-    let later : drop (k + 1) all ≡ read_from (count - (k + 1)) (after (drop at page)) = tail_is parts in
+    let here : get_or all k nothing ≡ e = cc (parts) in
+    let later : drop (k + 1) all ≡ read_from (count - (k + 1)) (after (drop at page)) = cc (parts) in
     let sum : at + (3 + key_length (drop at page) + value_length (drop at page)) ≡ end = omega arith in
     let end_at : end ≡ at + entry_size e = omega arith in
     let more : size_of (take (k + 1) all) ≡ size_of (take k all) + entry_size e = size-take_more all k nothing inside ∙ ap (λ f. size_of (take k all) + entry_size f) here in
@@ -108,12 +100,6 @@ scanned_next level count page marks k at value end s within room size small lies
       children = λ inner. All-more (λ (f : Entry). length f.1 ≡ 4) all k nothing inside (s.children inner) (let P : Entry → Type 0 = λ f. length f.1 ≡ 4 in let four = child inner in subst P (sym here) (wide ∙ omega arith));
       places = λ j le. search rules;
     }
-  where
-    head_is : {x y : Entry} {xs ys : List Entry} → x ∷ xs ≡ y ∷ ys → x ≡ y
-    head_is e = cc
-
-    tail_is : {x y : Entry} {xs ys : List Entry} → x ∷ xs ≡ y ∷ ys → xs ≡ ys
-    tail_is e = cc
 
 -- the entries of a node that the page stands for
 pub scanned_place : (level count : ℕ) (page marks : List ℕ) (k at : ℕ) (node : Node) → IsScanned level count page marks k at → count ≡ count_in page → IsNode page node → (at ≡ 4 + size_of (take k node.entries)) × (count ≡ length node.entries)
@@ -146,13 +132,8 @@ page_stands level count marks page rest long held =
     let n = length-read count (drop 4 page) in
     let few = held.few in
     let after_four = length-drop 4 page in
-    record {
-      shape = held.shape;
-      few = omega arith;
-      body = ap (take (size_of es)) (drop-append-le 4 page rest (omega arith)) ∙ take-append-le (size_of es) (drop 4 page) rest (omega arith) ∙ held.body;
-      room = held.room;
-      places = λ k le. held.places k (omega arith);
-    }
+    let body = ap (take (size_of es)) (drop-append-le 4 page rest (omega arith)) ∙ take-append-le (size_of es) (drop 4 page) rest (omega arith) ∙ held.body in
+    search (arith, body)
 
 pub page_node : (level count : ℕ) (marks page : List ℕ) (node : Node) → length page ≡ 4096 → IsHeld level count marks page → level ≡ get_or page 0 0 → count ≡ count_in page → node ≡ record { level = level; entries = read_from count (drop 4 page) } → IsNode page node
 page_node level count marks page node long held is_level counted is = search (rules, length-read count (drop 4 page), held_size level count marks page long held)
@@ -179,10 +160,14 @@ pub last_next : (page key : List ℕ) (es : List Entry) (k value at new_value en
 last_next page key es k value at new_value end l e lies here = search (rules, value_part)
 
 -- the child that was found, and why none was
-pub child_ok : {E : Type 0} (page key : List ℕ) (es : List Entry) (k value at : ℕ) (r : Result ℕ E) → IsLast page key es k value at → IfOk r (λ child. (0 < value) × (value + 4 ≡ at) × (child ≡ child_in (take 4 (drop value page))))
-    → (0 < k → floor key es ≡ Some (value_at es (k - 1))) → IfOk r (λ child. option_map child_in (floor key es) ≡ Some child)
-child_ok page key es k value at (Err e) l ok known = tt
-child_ok page key es k value at (Ok child) l ok known = search rules
+pub child_ok : {E : Type 0} (page key : List ℕ) (es : List Entry) (k value at : ℕ) (r : Result ℕ E) → IsLast page key es k value at → k ≤ length es → (k < length es → is_gt (key_cmp (key_at es k) key) ≡ true)
+    → IfOk r (λ child. (0 < value) × (value + 4 ≡ at) × (child ≡ child_in (take 4 (drop value page)))) → IfOk r (λ child. option_map child_in (floor key es) ≡ Some child)
+child_ok page key es k value at (Err e) l within above ok = tt
+child_ok page key es k value at (Ok child) l within above ok =
+    let next : 0 < k → k - 1 + 1 ≡ k = λ some. omega arith in
+    let known : 0 < k → floor key es ≡ Some (value_at es (k - 1)) = λ some.
+    floor_stop key es (k - 1) (omega arith) (λ j more le. l.below j more (omega arith)) (λ long. ap (λ i. is_gt (key_cmp (key_at es i) key)) (next some) ∙ above (let same = next some in omega arith)) in
+    search rules
 
 pub above_true : (r : Ordering) → is_gt r ≡ true → r ≡ Greater
 above_true Greater h = refl

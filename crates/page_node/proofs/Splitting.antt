@@ -1,9 +1,7 @@
 -- A node in two buffers.
 use Rattle.std.{specs.List.All, proofs.Common.{◌≡◌, ℕ, ◌+◌, ◌-◌, ◌*◌, ◌<◌, ◌≤◌, List, [], ◌∷◌, length, take, drop, get_or, sym, ap, ◌∙◌, arith}}
-use Rattle.std.proofs.lemmas.List.{length-take-le, length-drop}
-use Rattle.std.proofs.lemmas.List.Elements.{All-head, All-tail}
-use Rattle.page_node.{specs.claim.Entries.{Entry, IsEntry, size_of}, specs.Entries.read_from, proofs.EntryLists.size-parts, proofs.Standing.{Stands, entries_are, size_is}}
-use Rattle.page_node.proofs.Editing.{left_stands, right_stands, mark_step}
+use Rattle.{std.proofs.lemmas.List.{length-take-le, length-drop, Elements.{All-head, All-tail}}, page_node.specs.{Entries.read_from, claim.Entries.{Entry, IsEntry, size_of}}}
+use Rattle.page_node.proofs.{Editing.{left_stands, right_stands, mark_step}, EntryLists.size-parts, Standing.{Stands, entries_are, size_is}}
 
 pub size_few : (es : List Entry) → All IsEntry es → size_of es ≤ 1099 * length es
 size_few [] all = omega arith
@@ -13,9 +11,7 @@ size_few (e ∷ es) all =
     omega arith
 
 pub cut_steps : (level : ℕ) (es : List Entry) (marks bytes : List ℕ) (count : ℕ) → Stands level es marks bytes → count ≡ length es → (k : ℕ) → k < count → (get_or marks k 0 ≤ get_or marks (k + 1) 0) × (get_or marks (k + 1) 0 ≤ get_or marks k 0 + 1099)
-cut_steps level es marks bytes count s is k less =
-    let step = mark_step level es marks bytes s k (omega arith) in
-    (omega arith, omega arith)
+cut_steps level es marks bytes count s is k less = let step = mark_step level es marks bytes s k (omega arith) in (omega arith, omega arith)
 
 pub record IsSplit (level : ℕ) (es : List Entry) (count cut : ℕ) (marks bytes right_marks right_bytes : List ℕ) : Type 0 where
   pub left : Stands level (take cut es) marks bytes
@@ -36,17 +32,9 @@ split_of level es marks bytes right_marks right_bytes count cut s is within same
     let used : get_or marks count 0 ≡ 4 + size_of es = ap (λ k. get_or marks k 0) is ∙ size_is level es marks bytes s in
     let size : get_or marks count 0 - get_or marks cut 0 ≡ size_of (drop cut es) = omega arith in
     let n = length-drop cut es in
-    record {
-      left = left_stands level es marks bytes cut s (omega arith);
-      right = right_stands level es marks bytes right_marks right_bytes cut s (omega arith)
-          (ap (λ k. take k (drop 4 right_bytes)) (sym size) ∙ same ∙ ap (λ k. take k (drop (get_or marks cut 0) bytes)) size)
-          (λ k low le. shifted k low (omega arith));
-      left_count = sym (length-take-le cut es (omega arith));
-      right_count = omega arith;
-      used = used;
-      start = start;
-      parts = parts;
-    }
+    let right = right_stands level es marks bytes right_marks right_bytes cut s (omega arith)
+    (ap (λ k. take k (drop 4 right_bytes)) (sym size) ∙ same ∙ ap (λ k. take k (drop (get_or marks cut 0) bytes)) size) (λ k low le. shifted k low (omega arith)) in
+    search (arith, left_stands level es marks bytes cut s (omega arith), length-take-le cut es (omega arith))
 
 pub left_is : (level : ℕ) (es : List Entry) (count cut : ℕ) (marks bytes right_marks right_bytes : List ℕ) → IsSplit level es count cut marks bytes right_marks right_bytes → read_from cut (drop 4 bytes) ≡ take cut es
 left_is level es count cut marks bytes right_marks right_bytes s = entries_are level (take cut es) marks bytes cut s.left s.left_count

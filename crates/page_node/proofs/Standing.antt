@@ -1,11 +1,9 @@
 -- Entries that stand in bytes, with the places where they end.
-use Rattle.std.specs.List.{All, copy_within}
+use Rattle.std.{specs.List.{All, copy_within}, proofs.{Math.Seq.{take-append-add, take-add}, lemmas.List.Elements.{All-append, All-take, All-drop}}}
 use Rattle.std.proofs.Common.{rules, ◌≡◌, ℕ, ◌+◌, ◌-◌, ◌<◌, ◌≤◌, List, [], ◌++◌, length, take, drop, get_or, sym, ap, subst, ◌∙◌, arith, append_assoc, length-append, take-append-drop, ◌⊎◌, inl, inr}
-use Rattle.std.proofs.Math.Seq.{take-append-add, take-add}
-use Rattle.std.proofs.lemmas.List.{take_at, take_all, drop_at, drop-drop, take-take, take-append-le, drop_more, length-take-le, length-drop}
-use Rattle.std.proofs.lemmas.List.Elements.{All-append, All-take, All-drop}
-use Rattle.page_node.specs.{claim.Entries.{Entry, IsEntry, entry_bytes, entry_size, body_of, size_of}, Entries.{key_at, value_at, first_of, read_from, key_length, value_length}}
-use Rattle.page_node.specs.{claim.Node.{Node, IsShape}, Held.{held_node, IsHeld}, Bytes.with_entry}
+use Rattle.{std.proofs.lemmas.List.{take_at, take_all, drop_at, drop-drop, take-take, take-append-le, drop_more, length-take-le, length-drop}, page_node.specs.Bytes.with_entry}
+use Rattle.page_node.specs.{Entries.{key_at, value_at, first_of, read_from, key_length, value_length}, Held.{held_node, IsHeld}, claim.Node.{Node, IsShape}}
+use Rattle.page_node.specs.claim.Entries.{Entry, IsEntry, entry_bytes, entry_size, body_of, size_of}
 use Rattle.page_node.proofs.EntryLists.{body-append, size-append, length-body, length-read, value_length-entry, first-entry, read_at, size-parts, size-take_more, prefix_at, rest_at}
 
 pub record Stands (level : ℕ) (es : List Entry) (marks bytes : List ℕ) : Type 0 where

@@ -1,9 +1,8 @@
 -- Lemmas on the definitions of Walking.
-use Rattle.std.proofs.Common.{rules, ◌≡◌, ℕ, ◌+◌, List, ◌∷◌, ◌++◌, length, take, drop, sym, ap, ◌∙◌, arith, suc, append_assoc, take-append-drop}
-use Rattle.std.proofs.lemmas.List.{drop_at, drop-drop, drop-take}
-use Rattle.std.proofs.lemmas.List.Elements.{All-drop}
-use Rattle.page_node.specs.{claim.Entries.{Entry, IsEntry, entry_bytes, entry_size, body_of, size_of}, Entries.{first_of, key_length, value_length}, claim.Node.{Node, IsNode}}
-use Rattle.page_node.{specs.Bytes.{LiesAt, LiesNot}, specs.Walking.{IsAhead, part_of}, proofs.EntryLists.{length-entry, value_length-entry, first-entry, size-parts, rest_at}}
+use Rattle.std.proofs.{Common.{rules, ◌≡◌, ℕ, ◌+◌, List, ◌∷◌, ◌++◌, length, take, drop, sym, ap, ◌∙◌, arith, suc, append_assoc, take-append-drop}, lemmas.List.Elements.All-drop}
+use Rattle.{std.proofs.lemmas.List.{drop_at, drop-drop, drop-take}, page_node.specs.{Bytes.{LiesAt, LiesNot}, Entries.{first_of, key_length, value_length}}}
+use Rattle.page_node.specs.{Walking.{IsAhead, part_of}, claim.{Entries.{Entry, IsEntry, entry_bytes, entry_size, body_of, size_of}, Node.{Node, IsNode}}}
+use Rattle.page_node.proofs.{EntryLists.{length-entry, value_length-entry, first-entry, size-parts, rest_at}, Scanning.{key_there, value_there}}
 
 -- an entry lies there, and others are ahead after it
 pub record IsTaken (page : List ℕ) (at value end : ℕ) (e : Entry) (es : List Entry) : Type 0 where
@@ -43,12 +42,6 @@ ahead_lengths page at e es is = let b = begins page at e es is in (key_long page
 -- one that is ahead is found to lie there
 pub ahead_lies : (page : List ℕ) (at : ℕ) (e : Entry) (es : List Entry) → IsAhead page at (e ∷ es) → LiesNot page at → ⊥
 ahead_lies page at e es is not_there = search (rules, begins)
-
-key_there : (page : List ℕ) (at value end : ℕ) → LiesAt page at value end → part_of page (at + 3) value ≡ (first_of (drop at page)).0
-key_there page at value end lies = search (arith, drop-drop 3 at page)
-
-value_there : (page : List ℕ) (at value end : ℕ) → LiesAt page at value end → part_of page value end ≡ (first_of (drop at page)).1
-value_there page at value end lies = search (rules, drop-drop)
 
 -- and where it ends the next one is ahead
 pub ahead_next : (page : List ℕ) (at value end : ℕ) (e : Entry) (es : List Entry) → IsAhead page at (e ∷ es) → LiesAt page at value end → IsTaken page at value end e es

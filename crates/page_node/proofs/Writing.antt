@@ -1,11 +1,8 @@
 -- An entry written into bytes, part by part.
-use Rattle.std.specs.List.{copy_within}
+use Rattle.{std.{specs.List.copy_within, proofs.lemmas.List.{take_at, drop_at, drop-drop, drop_all, length-take-le, length-drop, Edits.sets-eq}}, page_node.specs.Bytes.with_entry}
 use Rattle.std.proofs.Common.{rules, ◌≡◌, ℕ, ◌+◌, ◌-◌, ◌/◌, ◌%◌, ◌≤◌, List, [], ◌∷◌, ◌++◌, length, take, drop, set, get_or, replicate, refl, sym, ap, ◌∙◌, arith, suc, append_assoc, length-append, take-append-drop}
-use borrow.Rule.Slice.PartMut.{put_mid, mid_of}
-use Rattle.std.proofs.lemmas.List.{take_at, drop_at, drop-drop, drop_all, length-take-le, length-drop}
-use Rattle.std.proofs.lemmas.Slice.{take-put_mid, drop-put_mid}
-use Rattle.std.proofs.lemmas.List.Edits.{sets-eq}
-use Rattle.page_node.{specs.Bytes.with_entry, specs.claim.Entries.{Entry, size_of}, specs.Node.bytes_of, proofs.Standing.{Stands, size_is}}
+use Rattle.{std.proofs.lemmas.Slice.{take-put_mid, drop-put_mid}, page_node.{specs.{Node.bytes_of, claim.Entries.{Entry, size_of}}, proofs.Standing.{Stands, size_is}}}
+use borrow.Rule.Slice.PartMut.{put_mid}
 
 -- a part written after a prefix
 pub put_after : (prefix rest part : List ℕ) (a k : ℕ) → length prefix ≡ a → put_mid a k (prefix ++ rest) part ≡ prefix ++ (part ++ drop k rest)

@@ -1,6 +1,6 @@
 -- Entries as they lie in bytes.
 use Rattle.std.specs.Prelude.{◌≡◌, ◌≤◌, ◌+◌, ◌-◌, ℕ, List, ◌++◌, length, take, drop, Option, IfSome, IfNone}
-use Rattle.page_node.specs.{declared.entry.Bounds.Bounds, claim.Entries.{Entry, IsEntry, entry_bytes, entry_size}, Entries.{key_length, value_length, first_of}}
+use Rattle.page_node.specs.{Entries.{key_length, value_length, first_of}, claim.Entries.{Entry, IsEntry, entry_bytes, entry_size}, declared.entry.Bounds.Bounds}
 
 -- the entry at a place lies in the page: its value begins at one place and ends at another
 pub record LiesAt (page : List ℕ) (at value end : ℕ) : Type 0 where

@@ -1,5 +1,5 @@
 -- What no promise rests on, beside claim/Entries.antt.
-use Rattle.std.{specs.Prelude.{◌+◌, ◌*◌, ℕ, List, [], ◌∷◌, take, drop}, specs.Int.{w32, from_be_bytes}, proofs.Common.{get_or, zero, suc}}
+use Rattle.std.{specs.{Int.{w32, from_be_bytes}, Prelude.{◌+◌, ◌*◌, ℕ, List, [], ◌∷◌, take, drop}}, proofs.Common.{get_or, zero, suc}}
 use Rattle.page_node.specs.claim.Entries.{Entry}
 
 -- the key and the value at a place

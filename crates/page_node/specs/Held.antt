@@ -1,8 +1,7 @@
 -- A node in a buffer: its entries from byte 4 on, and where they end.
+use Rattle.{std.{specs.Coded.{Coded, code_by, coded×, coded_list, coded_ℕ}, proofs.Common.get_or}, page_node.specs.{Entries.{read_from, key_at, value_at}, Places.{IsFound, IsGap}}}
 use Rattle.std.specs.Prelude.{◌≡◌, ◌≤◌, ◌+◌, ◌<◌, ◌*◌, ℕ, List, [], ◌++◌, refl, take, drop, length, Result, OnOk, OnErr, IfOk, MatchResult}
-use Rattle.std.{specs.Coded.{Coded, code_by, coded×, coded_list, coded_ℕ}, proofs.Common.get_or}
-use Rattle.page_node.specs.{claim.Entries.{Entry, body_of, size_of}, Entries.{read_from, key_at, value_at}, claim.Node.{Node, IsNode, IsShape, Fits, count_in}, claim.Places.Rises}
-use Rattle.page_node.specs.{Places.{IsFound, IsGap}, declared.scan.NotANode.NotANode}
+use Rattle.page_node.specs.{claim.{Entries.{Entry, body_of, size_of}, Node.{Node, IsNode, IsShape, Fits, count_in}, Places.Rises}, declared.scan.NotANode.NotANode}
 
 -- a node is stored as the pair of its fields
 abbrev pub node_code : Coded Node

@@ -1,6 +1,6 @@
 -- What no promise rests on, beside claim/Node.antt.
 use Rattle.std.specs.Prelude.{◌-◌, ◌/◌, ◌%◌, ℕ, List, ◌∷◌, ◌++◌, length, replicate}
-use Rattle.page_node.specs.{claim.Entries.{body_of, size_of}, claim.Node.Node}
+use Rattle.page_node.specs.claim.{Entries.{body_of, size_of}, Node.Node}
 
 -- the page that is written for it
 abbrev pub bytes_of : Node → List ℕ

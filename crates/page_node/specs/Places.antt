@@ -1,7 +1,6 @@
 -- What no promise rests on, beside claim/Places.antt.
-use Rattle.std.specs.{Prelude.{◌≡◌, ◌≤◌, ◌<◌, ℕ, Bool, true, false, List, [], ◌∷◌, length, Option, Some, None, cond}, List.filter, Ordering.is_gt}
-use Rattle.std.specs.declared.cmp.Ordering.TheVariants.{Less, Greater}
-use Rattle.page_node.specs.{claim.Entries.Entry, Entries.key_at, claim.Places.key_cmp}
+use Rattle.std.specs.{List.filter, Ordering.is_gt, Prelude.{◌≡◌, ◌≤◌, ◌<◌, ℕ, Bool, true, false, List, [], ◌∷◌, length, Option, Some, None, cond}}
+use Rattle.{std.specs.declared.cmp.Ordering.TheVariants.{Less, Greater}, page_node.specs.{Entries.key_at, claim.{Entries.Entry, Places.key_cmp}}}
 
 -- the key stands at this place
 pub record IsFound (key : List ℕ) (es : List Entry) (i : ℕ) : Type 0 where

@@ -1,8 +1,7 @@
 -- A search in a page from its first entry on.
-use Rattle.std.specs.{Prelude.{◌≡◌, ◌<◌, ◌≤◌, ◌+◌, ◌-◌, ℕ, false, List, Some, None, length, take, drop, IfSome, IfNone}, Option.option_map, Ordering.is_gt}
-use Rattle.std.specs.declared.cmp.Ordering.TheVariants.{Less}
-use Rattle.page_node.specs.{claim.Entries.{Entry, size_of}, Entries.{key_at, value_at, child_in}, Bytes.LiesAt, claim.Node.{Node, IsNode, count_in}, claim.Places.{key_cmp, Rises}}
-use Rattle.page_node.specs.{Places.{ceiling, floor}, declared.search.RowNear.RowNear, declared.search.Near.Near, declared.search.WayDown.WayDown}
+use Rattle.std.specs.{Option.option_map, Ordering.is_gt, Prelude.{◌≡◌, ◌<◌, ◌≤◌, ◌+◌, ◌-◌, ℕ, false, List, Some, None, length, take, drop, IfSome, IfNone}}
+use Rattle.{std.specs.declared.cmp.Ordering.TheVariants.Less, page_node.specs.{Bytes.LiesAt, Entries.{key_at, value_at, child_in}, Places.{ceiling, floor}}}
+use Rattle.page_node.specs.{claim.{Entries.{Entry, size_of}, Node.{Node, IsNode, count_in}, Places.{key_cmp, Rises}}, declared.search.{Near.Near, RowNear.RowNear, WayDown.WayDown}}
 
 -- the keys rise, where the first says nothing
 abbrev pub RisesAfter : List Entry → Type 0

@@ -1,8 +1,7 @@
 -- Where a row stands in a page, and what the edits of a page do.
+use Rattle.{std.specs.FinMap.{find, put}, page_node.specs.{Places.{IsFound, IsGap}, Searching.IsBelow, claim.{Entries.{Entry, size_of}, Node.{Node, IsNode, Fits}}}}
 use Rattle.std.specs.Prelude.{◌≡◌, ◌<◌, ◌+◌, ◌≤◌, ℕ, Bool, true, false, List, length, take, remove, Option, Some, None, is_some, insert, slice_set, Result, IfOk, OnErr}
-use Rattle.std.specs.FinMap.{find, put}
-use Rattle.page_node.specs.{claim.Entries.{Entry, size_of}, claim.Node.{Node, IsNode, Fits}, claim.Places.{key_cmp, Rises}, Places.{IsFound, IsGap}, Searching.IsBelow}
-use Rattle.page_node.specs.{declared.edit.RowPut.RowPut, declared.search.RowNear.RowNear, declared.scan.NotANode.NotANode, declared.spot.Spot.Spot}
+use Rattle.page_node.specs.{claim.Places.{key_cmp, Rises}, declared.{edit.RowPut.RowPut, scan.NotANode.NotANode, search.RowNear.RowNear, spot.Spot.Spot}}
 
 -- the key's entry begins and ends at these places and has so many before it, or it isn't there and would begin there
 abbrev pub IsSpot : List ℕ → List Entry → Bool → ℕ → ℕ → ℕ → Type 0

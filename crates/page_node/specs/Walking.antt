@@ -1,6 +1,6 @@
 -- Entries that lie ahead in a page's bytes, taken one after the other.
-use Rattle.std.{specs.List.All, specs.Prelude.{Option, MatchOption, Result, IfOk}, proofs.Common.{◌≡◌, ℕ, ◌+◌, ◌-◌, ◌≤◌, List, length, take, drop}}
-use Rattle.page_node.specs.{claim.Entries.{Entry, IsEntry, body_of, size_of}, claim.Node.{Node, IsNode}, claim.Places.Rises, Places.entries_from, declared.scan.NotANode.NotANode}
+use Rattle.std.{specs.{List.All, Prelude.{Option, MatchOption, Result, IfOk}}, proofs.Common.{◌≡◌, ℕ, ◌+◌, ◌-◌, ◌≤◌, List, length, take, drop}}
+use Rattle.page_node.specs.{Places.entries_from, claim.{Entries.{Entry, IsEntry, body_of, size_of}, Node.{Node, IsNode}, Places.Rises}, declared.scan.NotANode.NotANode}
 use Rattle.page_node.specs.declared.search.Place.{Place}
 
 -- the entries stand from a place on

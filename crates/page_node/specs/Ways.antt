@@ -1,9 +1,8 @@
 -- Ways from a node down to children that follow one another.
+use Rattle.{std.specs.{List.starts_with, Option.{option_map, option_copied}}, page_node.specs.{Bytes.LiesAt, Entries.child_in, Places.{floor, ceiling}, Walking.part_of}}
 use Rattle.std.specs.Prelude.{◌≡◌, ◌+◌, ℕ, zero, suc, true, List, Option, Some, nat_eq, get_or, drop, length, Result, IfOk, IfSome, IsSomeAnd, OnErr, ◌<◌, ◌≤◌}
-use Rattle.std.specs.{Option.{option_map, option_copied}, List.starts_with}
-use Rattle.page_node.specs.{claim.Entries.Entry, Bytes.LiesAt, Entries.child_in, Places.{floor, ceiling}, claim.Node.{Node, IsNode}, Searching.{IsTurn, RisesAfter, NoWayDown}}
-use Rattle.page_node.specs.{Walking.part_of, declared.scan.NotANode.NotANode, declared.search.Above.Above, declared.search.Way.Way, declared.ways.Followed.Followed}
-use Rattle.page_node.specs.declared.ways.Ways.{Ways}
+use Rattle.page_node.specs.{Searching.{IsTurn, RisesAfter, NoWayDown}, claim.{Entries.Entry, Node.{Node, IsNode}}, declared.{scan.NotANode.NotANode, search.{Above.Above, Way.Way}}}
+use Rattle.page_node.specs.declared.ways.{Followed.Followed, Ways.Ways}
 
 -- a bound that begins with the prefix, and what holds of the way from it on
 pub record IsFollowed (prefix : List ℕ) (bound : Option (List ℕ)) (After : List ℕ → Type 0) : Type 0 where

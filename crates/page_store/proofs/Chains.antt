@@ -1,15 +1,10 @@
 -- Chains of pages.
-use Rattle.std.specs.{List.{AllByRecursion, IsDistinct, list_any}, Int.{w32, from_be_bytes}, Prelude.{Option, Some, None, MatchOption}}
+use Rattle.std.{specs.{Int.{w32, from_be_bytes}, List.{AllByRecursion, IsDistinct, list_any}, Prelude.{Option, Some, None, MatchOption}}, proofs.lemmas.Bool.cases_eq}
 use Rattle.std.proofs.Common.{rules, ⊎_elim, cond, nat_eq, ◌&&◌, ◌*◌, ◌⊎◌, replicate, get_or, Bool, true, false, ◌||◌, ◌-◌, ◌≡◌, ◌≢◌, ◌<◌, ◌≤◌, ◌+◌, ℕ, zero, suc, List, [], ◌∷◌, length, inl, inr, refl, sym, ap, subst, ◌∙◌, arith, add-one}
-use Rattle.std.proofs.lemmas.Bool.{cases_eq}
-use Rattle.std.proofs.lemmas.Bool.Decides.{nat_tests}
-use Rattle.std.proofs.lemmas.Map.Steps.{length-le_from_distinct_below}
+use Rattle.{std.proofs.lemmas.{Bool.Decides.nat_tests, List.get_or-replicate, Map.Steps.length-le_from_distinct_below}, gate_journal.specs.Writes.IsEdited}
+use Rattle.{gate_journal.specs.{claim.{Store.{word, put, overlay}, Writes.writes_of}, declared.writes.PageWrites.PageWrites}, sector_device.specs.claim.Disk.Image}
+use Rattle.{page_store.specs.claim.Chain.{are_zero, is_blank, chain, free_in, IsIn, AreFree, IsPages}, gate_journal.proofs.Images.{put_on, put_off}}
 use lib.Dec.{eqb}
-use Rattle.sector_device.specs.claim.Disk.{Image}
-use Rattle.gate_journal.specs.{claim.Store.{word, put, overlay}, claim.Writes.writes_of, Writes.IsEdited, declared.writes.PageWrites.PageWrites}
-use Rattle.gate_journal.proofs.Images.{put_on, put_off}
-use Rattle.std.proofs.lemmas.List.{get_or-replicate}
-use Rattle.page_store.specs.claim.Chain.{are_zero, is_blank, chain, free_in, IsIn, AreFree, IsPages}
 
 -- ---- pages without bytes but those of a link
 both_true : (a b : Bool) → (a && b) ≡ true → (a ≡ true) × (b ≡ true)

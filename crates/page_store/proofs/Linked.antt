@@ -1,10 +1,7 @@
 -- Pages that are linked, one to the next: the free pages of a new store.
 use Rattle.std.proofs.Common.{rules, ⊎_elim, true, cond, ◌≡◌, ◌<◌, ◌≤◌, ◌+◌, ◌-◌, ℕ, zero, suc, List, ◌∷◌, length, inl, inr, refl, sym, ap, subst, ◌∙◌, arith}
-use Rattle.std.proofs.lemmas.Bool.{cases_eq, cases_lt}
-use Rattle.std.proofs.lemmas.Bool.Decides.{nat_tests}
-use Rattle.sector_device.specs.claim.Disk.{Image}
-use Rattle.gate_journal.{specs.claim.Store.{word, put}, proofs.Images.{put_on, put_off}}
-use Rattle.page_store.specs.{claim.Chain.{is_blank, chain, free_in, IsIn, AreFree, IsPages}, Chain.IsMeta, New.{next_of, AreLinked}}
+use Rattle.{std.proofs.lemmas.Bool.{cases_eq, cases_lt, Decides.nat_tests}, gate_journal.specs.claim.Store.{word, put}, page_store.specs.{Chain.IsMeta, New.{next_of, AreLinked}}}
+use Rattle.{page_store.specs.claim.Chain.{is_blank, chain, free_in, IsIn, AreFree, IsPages}, sector_device.specs.claim.Disk.Image, gate_journal.proofs.Images.{put_on, put_off}}
 use Rattle.page_store.proofs.Chains.{length_chain, first_blank, counts}
 
 pub next_is : (n k : ℕ) → k + 1 < n → next_of n k ≡ k + 1

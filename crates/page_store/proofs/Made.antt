@@ -1,10 +1,8 @@
 -- What formatting leaves.
-use Rattle.std.proofs.Common.{rules, Result, Ok, Err, OnOk, ◌≡◌, ◌≢◌, ◌<◌, ◌+◌, ◌-◌, ℕ, List, length, sym, ap, subst, ◌∙◌, arith}
-use Rattle.sector_device.specs.claim.Disk.{Disk, Image}
-use Rattle.gate_journal.{specs.claim.Store.{overlay, put, pages}, specs.Store.IsSettled, specs.Steps.Commits, specs.Recovery.HasRoom, proofs.Commit.settled_opens}
-use Rattle.gate_journal.proofs.Images.{put_off}
-use Rattle.page_store.specs.{claim.Chain.{IsIn, IsPages, root_in, free_in}, Chain.IsMeta, Openings.AllPageStores, New.{AreLinked, IsNew, IsNewWith, IsLinked, Links}}
-use Rattle.page_store.proofs.Linked.{new_pages, batch_linked}
+use Rattle.{std.proofs.Common.{rules, Result, Ok, Err, OnOk, ◌≡◌, ◌≢◌, ◌<◌, ◌+◌, ◌-◌, ℕ, List, length, sym, ap, subst, ◌∙◌, arith}, gate_journal.specs.Recovery.HasRoom}
+use Rattle.{gate_journal.specs.{Steps.Commits, Store.IsSettled, claim.Store.{overlay, put, pages}}, page_store.specs.{Chain.IsMeta, Openings.AllPageStores}}
+use Rattle.{page_store.specs.{New.{AreLinked, IsNew, IsNewWith, IsLinked, Links}, claim.Chain.{IsIn, IsPages, root_in, free_in}}, sector_device.specs.claim.Disk.{Disk, Image}}
+use Rattle.{gate_journal.proofs.{Commit.settled_opens, Images.put_off}, page_store.proofs.Linked.{new_pages, batch_linked}}
 
 module _ (J n : ℕ) (e : Disk) (room : HasRoom e.sectors J n) (settled : IsSettled J n e) where
   -- each image that a stop then leaves is one of a store

@@ -1,10 +1,9 @@
 -- What an opening finds in the pages.
-use Rattle.std.proofs.Common.{rules, ◌≡◌, ◌≢◌, ◌<◌, ℕ, true, false, refl, sym, subst, ◌∙◌, arith}
-use Rattle.sector_device.specs.{claim.Disk.{Disk, Image, Nowhere, Touches}, declared.SectorDevice.Ghosts}
-use Rattle.gate_journal.specs.{claim.Store.{Opens, pages}, Recovery.{HasRoom, Found}, claim.Contents.{content, disk_of, device_of, page_count, is_halted}}
-use Rattle.gate_journal.specs.{declared.journal.Journal.Journal, declared.error.PageError.PageError}
-use Rattle.gate_journal.{specs.declared.error.PageError.TheVariants.{NotAStore, DeviceFault, Halted, TooManyPages, TooSmall, NoPages, Memory}, proofs.Headers.same_journal}
-use Rattle.page_store.{specs.claim.Chain.IsPages, specs.Openings.{AllPageStores, MetaErr}, specs.Transactions.{OpenErr, HasBadPages}, proofs.Stops.kept_still}
+use Rattle.{std.proofs.Common.{rules, ◌≡◌, ◌≢◌, ◌<◌, ℕ, true, false, refl, sym, subst, ◌∙◌, arith}, gate_journal.specs.{Recovery.{HasRoom, Found}, claim.Store.{Opens, pages}}}
+use Rattle.gate_journal.specs.{claim.Contents.{content, disk_of, device_of, page_count, is_halted}, declared.{error.PageError.PageError, journal.Journal.Journal}}
+use Rattle.{gate_journal.specs.declared.error.PageError.TheVariants.{NotAStore, DeviceFault, Halted, TooManyPages, TooSmall, NoPages, Memory}, page_store.specs.claim.Chain.IsPages}
+use Rattle.{page_store.specs.{Openings.{AllPageStores, MetaErr}, Transactions.{OpenErr, HasBadPages}}, sector_device.specs.claim.Disk.{Disk, Image, Nowhere, Touches}}
+use Rattle.{sector_device.specs.declared.SectorDevice.Ghosts, gate_journal.proofs.Headers.same_journal, page_store.proofs.Stops.kept_still}
 
 -- where each image is a store with pages, so is what was found
 pub found_pages : (a b : Disk) (J n : ℕ) → Found J n a b → HasRoom a.sectors J n → AllPageStores a → IsPages n (pages J b.reads)

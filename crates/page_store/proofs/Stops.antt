@@ -1,9 +1,8 @@
 -- What the layers above need of a stop where a call read at most.
-use Rattle.std.{specs.Prelude.{◌≡◌, ◌⊎◌, ℕ, Bool, true, false}, proofs.Common.{rules, inl, inr, refl, sym, subst, ◌∙◌}}
-use Rattle.sector_device.specs.{claim.Disk.{Disk, Image, Touches, Nowhere}, claim.Moments.LeavesOnly, declared.SectorDevice.Ghosts}
-use Rattle.sector_device.proofs.Moments.{now_but, leaves_still, touches_none, touches_more}
-use Rattle.gate_journal.specs.{claim.Store.Opens, claim.Contents.{content, page_count, journal_size}}
-use Rattle.page_store.specs.{claim.Transactions.{stored, disk_in, has_halted, IsQuiet, IsKept, HasFailed, Passed}, declared.pages.Pages.Pages}
+use Rattle.{std.{specs.Prelude.{◌≡◌, ◌⊎◌, ℕ, Bool, true, false}, proofs.Common.{rules, inl, inr, refl, sym, subst, ◌∙◌}}, gate_journal.specs.claim.Store.Opens}
+use Rattle.{gate_journal.specs.claim.Contents.{content, page_count, journal_size}, page_store.specs.declared.pages.Pages.Pages, sector_device.specs.claim.Moments.LeavesOnly}
+use Rattle.{page_store.specs.claim.Transactions.{stored, disk_in, has_halted, IsQuiet, IsKept, HasFailed, Passed}, sector_device.specs.claim.Disk.{Disk, Image, Touches, Nowhere}}
+use Rattle.sector_device.{specs.declared.SectorDevice.Ghosts, proofs.Moments.{now_but, leaves_still, touches_none, touches_more}}
 
 -- a run that begins now has left what a stop now may leave
 pub leaves_here : (P : Image → Type 0) (a : Disk) → ((c : Image) → a.leaves c → P c) → LeavesOnly P a a

@@ -1,11 +1,9 @@
 -- What calls on pages and transactions leave, each in one relation.
 use Rattle.std.specs.Prelude.{◌≡◌, false, OnOk, IfOk, IfErr, ◌≢◌, ◌≤◌, Result, ◌<◌, ℕ, ◌+◌, ◌∷◌, OnErr, MatchResult, length, true, Err}
-use Rattle.page_store.specs.claim.Chain.{IsPages, root_in, free_in, AreFree}
+use Rattle.{gate_journal.specs.declared.error.PageError.{PageError, TheVariants.{Memory, Halted}}, page_store.specs.{Reading.ReadsOnly, Transactions.{txn_list, IsWritten}}}
+use Rattle.page_store.specs.{Outcomes.{KeepsRoot, Commits, LeavesAllOrNone, IsCommittedWithoutFault}, claim.Chain.{IsPages, root_in, free_in, AreFree}, declared.pages.Pages.Pages}
 use Rattle.page_store.specs.claim.Transactions.{stored, disk_in, count_of, journal_of, has_halted, txn_pages, txn_writes, txn_root, over, free_over, txn_free, TakeErr, prepared_pages, prepared_writes, after, IsSame, CommitErr}
-use Rattle.page_store.specs.{Transactions.{txn_list, IsWritten}, declared.pages.Pages.Pages, declared.txn.Txn.Txn, Reading.ReadsOnly}
-use Rattle.page_store.specs.{Outcomes.{KeepsRoot, Commits, LeavesAllOrNone, IsCommittedWithoutFault}, declared.txn.Prepared.Prepared}
-use Rattle.sector_device.specs.{declared.SectorDevice.Ghosts, claim.Disk.Image}
-use Rattle.gate_journal.specs.{declared.error.PageError.PageError, declared.error.PageError.TheVariants.{Memory, Halted}}
+use Rattle.{page_store.specs.declared.txn.{Prepared.Prepared, Txn.Txn}, sector_device.specs.{claim.Disk.Image, declared.SectorDevice.Ghosts}}
 
 -- a transaction that has begun reads what is stored
 pub record BeginsOver {D : Type 0} {g : Ghosts D} (ps : Pages D g) (t : Txn) : Type 0 where

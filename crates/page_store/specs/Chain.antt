@@ -1,7 +1,6 @@
 -- What no promise rests on, beside claim/Chain.antt.
 use Rattle.std.specs.Prelude.{◌≡◌, ℕ}
-use Rattle.sector_device.specs.claim.Disk.{Image}
-use Rattle.gate_journal.specs.claim.Store.{word}
+use Rattle.{gate_journal.specs.claim.Store.word, sector_device.specs.claim.Disk.Image}
 
 -- what the meta page says
 pub record IsMeta (P : Image) (root first count : ℕ) : Type 0 where

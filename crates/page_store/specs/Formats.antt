@@ -1,7 +1,7 @@
 -- What a making of a store asks for, and what it comes to.
 use Rattle.std.specs.Prelude.{◌≡◌, ◌≤◌, ◌+◌, ℕ, length, Result, OnOk, IfErr}
+use Rattle.gate_journal.specs.{Store.IsWithin, Writes.room_of, claim.{Store.home, Writes.writes_of}, declared.writes.PageWrites.PageWrites}
 use Rattle.sector_device.specs.declared.SectorDevice.{Ghosts}
-use Rattle.gate_journal.specs.{claim.Store.home, Store.IsWithin, claim.Writes.writes_of, Writes.room_of, declared.writes.PageWrites.PageWrites}
 pub use Rattle.gate_journal.specs.Format.{IsJournalSize}
 
 -- The device keeps its size. At Ok it didn't fail, and it has room for the journal and 64 pages.

@@ -1,7 +1,6 @@
 -- Pages that are lent where their bytes lie.
-use Rattle.std.{specs.Prelude.{ℕ, List, [], ◌%◌, Option, Some, None}, specs.Borrow.Bor, proofs.Common.get_or}
-use Rattle.page_store.specs.declared.pages.Pages.{Pages}
-use Rattle.sector_device.specs.declared.SectorDevice.{Ghosts}
+use Rattle.std.{specs.{Borrow.Bor, Prelude.{ℕ, List, [], ◌%◌, Option, Some, None}}, proofs.Common.get_or}
+use Rattle.{page_store.specs.declared.pages.Pages.Pages, sector_device.specs.declared.SectorDevice.Ghosts}
 
 -- a transaction's own bytes, or else those that are held
 abbrev pub own_or : Option (Bor (List ℕ)) → List ℕ → List ℕ

@@ -1,9 +1,8 @@
 -- What a device is whose pages are new.
 use Rattle.std.{specs.Prelude.{◌≡◌, ◌≤◌, ◌<◌, ◌+◌, ℕ, true, List, cond, length}, proofs.Common.nat_lt}
-use Rattle.sector_device.specs.{claim.Disk.{Disk, Image}, declared.SectorDevice.Ghosts}
-use Rattle.gate_journal.specs.{claim.Store.{home, word, pages}, Store.IsSettled, declared.error.PageError.PageError}
-use Rattle.gate_journal.specs.declared.error.PageError.TheVariants.{DeviceFault, TooSmall, Memory}
-use Rattle.page_store.specs.{claim.Chain.{is_blank, IsIn, IsPages, root_in, free_in}, Openings.AllPageStores}
+use Rattle.gate_journal.specs.{Store.IsSettled, claim.Store.{home, word, pages}, declared.error.PageError.{PageError, TheVariants.{DeviceFault, TooSmall, Memory}}}
+use Rattle.{page_store.specs.{Openings.AllPageStores, claim.Chain.{is_blank, IsIn, IsPages, root_in, free_in}}, sector_device.specs.claim.Disk.{Disk, Image}}
+use Rattle.sector_device.specs.declared.SectorDevice.{Ghosts}
 
 -- each page of n is linked to the next one, the last to none
 abbrev pub next_of : ℕ → ℕ → ℕ

@@ -1,9 +1,8 @@
 -- What an image of a store with pages is.
 use Rattle.std.specs.Prelude.{◌≡◌, ◌+◌, ℕ, true}
-use Rattle.sector_device.specs.{claim.Disk.{Disk, Image}, declared.SectorDevice.Ghosts}
-use Rattle.gate_journal.specs.{claim.Store.{home, IsStore, pages}, claim.Contents.{content, page_count, is_halted, HasHalted}, declared.journal.Journal.Journal}
-use Rattle.gate_journal.specs.{declared.error.PageError.PageError, declared.error.PageError.TheVariants.{NotAStore, DeviceFault, Halted, TooManyPages, TooSmall, NoPages, Memory}}
-use Rattle.page_store.specs.claim.Chain.{IsPages}
+use Rattle.gate_journal.specs.{claim.{Contents.{content, page_count, is_halted, HasHalted}, Store.{home, IsStore, pages}}, declared.error.PageError.PageError}
+use Rattle.gate_journal.specs.declared.{error.PageError.TheVariants.{NotAStore, DeviceFault, Halted, TooManyPages, TooSmall, NoPages, Memory}, journal.Journal.Journal}
+use Rattle.{page_store.specs.claim.Chain.IsPages, sector_device.specs.{claim.Disk.{Disk, Image}, declared.SectorDevice.Ghosts}}
 
 -- the image is one of a store with so many sectors, and its pages hold a root and free pages
 pub record IsPageStoreOf (sectors : ℕ) (c : Image) : Type 0 where

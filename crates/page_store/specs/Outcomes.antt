@@ -1,10 +1,8 @@
 -- What calls on transactions leave, in one relation a clause.
 use Rattle.std.specs.Prelude.{◌≡◌, ◌⊎◌, ◌≤◌, ◌+◌, ◌-◌, ℕ, false, List, ◌∷◌, length, Option, MatchOption, Result, IfOk, OnOk, OnErr, IsOk}
-use Rattle.sector_device.specs.{claim.Disk.Image, claim.Moments.LeavesOnly, declared.SectorDevice.Ghosts}
-use Rattle.gate_journal.specs.{Store.IsBeforeOrAfter, Writes.IsEdited}
-use Rattle.page_store.specs.claim.Chain.{chain}
+use Rattle.{gate_journal.specs.{Store.IsBeforeOrAfter, Writes.IsEdited}, page_store.specs.{Transactions.{txn_list, txn_first, IsWritten}, claim.Chain.chain, declared.txn.Txn.Txn}}
 use Rattle.page_store.specs.claim.Transactions.{stored, disk_in, count_of, journal_of, has_halted, HasShape, IsKept, txn_pages, txn_root, txn_writes, txn_free, over, free_over}
-use Rattle.page_store.specs.{Transactions.{txn_list, txn_first, IsWritten}, declared.pages.Pages.Pages, declared.txn.Txn.Txn}
+use Rattle.{page_store.specs.declared.pages.Pages.Pages, sector_device.specs.{claim.{Disk.Image, Moments.LeavesOnly}, declared.SectorDevice.Ghosts}}
 
 -- a page that it writes was changed by the step; with one that it doesn't, nothing was
 abbrev pub EditsPage : {R : Type 0} → (List ℕ → R → List ℕ → Type 0) → ℕ → Txn → Txn → Option R → Type 0

@@ -1,9 +1,9 @@
 -- What no promise rests on, beside claim/Transactions.antt.
 use Rattle.std.specs.Prelude.{◌<◌, ◌⊎◌, ℕ, List}
-use Rattle.sector_device.specs.{claim.Disk.{Disk, Image, Touches, Nowhere}, declared.SectorDevice.Ghosts}
-use Rattle.gate_journal.specs.{claim.Store.{Opens, pages}, Store.Writes, claim.Writes.writes_of, Recovery.Found, declared.error.PageError.PageError}
-use Rattle.gate_journal.specs.declared.error.PageError.TheVariants.{NotAStore, DeviceFault, Memory}
-use Rattle.page_store.specs.{claim.Chain.{AreFree, IsIn, IsPages}, Openings.AllPageStores, declared.txn.Txn.Txn, claim.Transactions.free_over}
+use Rattle.gate_journal.specs.{Recovery.Found, Store.Writes, claim.{Store.{Opens, pages}, Writes.writes_of}, declared.error.PageError.PageError}
+use Rattle.{gate_journal.specs.declared.error.PageError.TheVariants.{NotAStore, DeviceFault, Memory}, page_store.specs.{Openings.AllPageStores, claim.Transactions.free_over}}
+use Rattle.{page_store.specs.{claim.Chain.{AreFree, IsIn, IsPages}, declared.txn.Txn.Txn}, sector_device.specs.claim.Disk.{Disk, Image, Touches, Nowhere}}
+use Rattle.sector_device.specs.declared.SectorDevice.{Ghosts}
 
 -- the pages that it writes, each once, with their bytes; how many they are, and whether one is of them
 abbrev pub txn_list : Txn → List (ℕ × List ℕ)

@@ -1,7 +1,6 @@
 -- Readers that are taken back one after the other.
-use Rattle.std.proofs.Common.{◌≡◌, ℕ, sym, ap, ◌∙◌, arith}
+use Rattle.{std.proofs.Common.{◌≡◌, ℕ, sym, ap, ◌∙◌, arith}, parallel_verify.{specs.Readers.{IsTakenBack, AreTakenBack}, proofs.Seen.agreed}}
 use Rattle.sector_device.{specs.claim.Disk.{Disk, Image, Nowhere, Touches}, proofs.Moments.touches_more}
-use Rattle.parallel_verify.{specs.Readers.{IsTakenBack, AreTakenBack}, proofs.Seen.agreed}
 
 holds_still : (held : ℕ → Image) (old new : Disk) → new.sectors ≡ old.sectors → Touches Nowhere old new → old.reads ≡ held old.sectors → new.reads ≡ held new.sectors
 holds_still held old new sectors moved reads = sym (agreed old.reads new.reads moved.reads) ∙ reads ∙ ap held (sym sectors)

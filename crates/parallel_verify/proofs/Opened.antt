@@ -1,10 +1,9 @@
 -- What is seen in pages that a reader opened.
-use Rattle.std.{specs.Prelude.{Option, IfSome}, proofs.Common.{◌≡◌, ◌+◌, ℕ, Bool, false, sym, ap, subst, ◌∙◌, arith}}
-use Rattle.sector_device.specs.{claim.Disk.{Disk, Image}, declared.SectorDevice.Ghosts}
-use Rattle.page_store.specs.{gate_journal.claim.Store.home, gate_journal.Recovery.{Found, HasRoom}, gate_journal.declared.error.PageError.PageError}
-use Rattle.page_store.specs.{claim.Transactions.{stored, disk_in, count_of, journal_of, has_halted, IsQuiet}, Transactions.OpenErr, declared.pages.Pages.Pages}
+use Rattle.{std.{specs.Prelude.{Option, IfSome}, proofs.Common.{◌≡◌, ◌+◌, ℕ, Bool, false, sym, ap, subst, ◌∙◌, arith}}, page_store.specs.Transactions.OpenErr}
+use Rattle.page_store.specs.{claim.Transactions.{stored, disk_in, count_of, journal_of, has_halted, IsQuiet}, declared.pages.Pages.Pages, gate_journal.Recovery.{Found, HasRoom}}
+use Rattle.{page_store.specs.gate_journal.{claim.Store.home, declared.error.PageError.PageError}, parallel_verify.specs.Looking.{IsLookOf, IsUnopened, LooksAs}}
+use Rattle.{parallel_verify.specs.declared.look.Look.{Look, TheVariants.{Sound, Unsound, Failed}}, sector_device.specs.{claim.Disk.{Disk, Image}, declared.SectorDevice.Ghosts}}
 use Rattle.desk_pages.proofs.Found.{found_after}
-use Rattle.parallel_verify.specs.{declared.look.Look.Look, declared.look.Look.TheVariants.{Sound, Unsound, Failed}, Looking.{IsLookOf, IsUnopened, LooksAs}}
 
 -- pages that were read keep the size of their device
 pub same_sectors : {D : Type 0} (g : Ghosts D) (a b : Pages D g) → IsQuiet a b → (disk_in b).sectors ≡ (disk_in a).sectors

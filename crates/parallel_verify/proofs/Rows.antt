@@ -1,14 +1,10 @@
 -- What is read of a desk and its rows while pages are only read.
-use Rattle.std.{specs.Prelude.{Option, Some, None, is_some}, proofs.Common.{◌≡◌, ℕ, List, Bool, true, false, sym, subst}}
-use Rattle.sector_device.specs.{claim.Disk.Image, declared.SectorDevice.Ghosts}
-use Rattle.page_store.specs.{claim.Transactions.{stored, disk_in, count_of, IsQuiet}, declared.pages.Pages.Pages, declared.txn.Txn.Txn}
-use Rattle.page_btree.specs.claim.Map.{InTxn}
-use Rattle.desk_model.specs.declared.ranges.CountyRange.{CountyRange}
-use Rattle.store_rows.specs.{claim.Keys.version, claim.Rows.{KeyMap, row_in}, claim.Tidy.version_row}
-use Rattle.desk_check.specs.Checking.{TellsDesk}
-use Rattle.desk_store.{specs.store_sweep.claim.Checks.AreSoundHoldings, proofs.Prepared.{IsBegun, begun_rows}}
-use Rattle.row_owners.specs.{Strays.IsChecked, declared.wrong.WrongRow.WrongRow}
-use Rattle.parallel_verify.specs.Looking.{Finds, OfRows, TellsNewDesk, TellsRows}
+use Rattle.{std.{specs.Prelude.{Option, Some, None, is_some}, proofs.Common.{◌≡◌, ℕ, List, Bool, true, false, sym, subst}}, desk_check.specs.Checking.TellsDesk}
+use Rattle.{desk_model.specs.declared.ranges.CountyRange.CountyRange, desk_store.specs.store_sweep.claim.Checks.AreSoundHoldings, page_btree.specs.claim.Map.InTxn}
+use Rattle.{page_store.specs.{claim.Transactions.{stored, disk_in, count_of, IsQuiet}, declared.{pages.Pages.Pages, txn.Txn.Txn}}, row_owners.specs.Strays.IsChecked}
+use Rattle.{parallel_verify.specs.Looking.{Finds, OfRows, TellsNewDesk, TellsRows}, row_owners.specs.declared.wrong.WrongRow.WrongRow, sector_device.specs.claim.Disk.Image}
+use Rattle.{sector_device.specs.declared.SectorDevice.Ghosts, store_rows.specs.claim.{Keys.version, Rows.{KeyMap, row_in}, Tidy.version_row}}
+use Rattle.desk_store.proofs.Prepared.{IsBegun, begun_rows}
 
 module _ {D : Type 0} {g : Ghosts D} where
   still : (t : Txn) (a b : Pages D g) (m : KeyMap) → IsQuiet a b → (disk_in b).is_honest → InTxn t (stored a) m → InTxn t (stored b) m

@@ -1,13 +1,10 @@
 -- What readers see is so of the device that lent them.
-use Rattle.std.{specs.Prelude.Vec, specs.declared.alloc.Global.Global, proofs.Common.{◌≡◌, ◌⊎◌, ◌<◌, ℕ, List, inl, inr, sym, ap, subst, ◌∙◌, arith}}
-use Rattle.sector_device.specs.claim.Disk.{Disk, Image, AgreeOff, Nowhere}
-use Rattle.page_store.specs.{gate_journal.claim.Store.{header_of, pages}, gate_journal.Recovery.HasRoom}
-use Rattle.page_store.proofs.gate_journal.Headers.{same_journal}
-use Rattle.desk_model.specs.declared.ranges.CountyRange.{CountyRange}
-use Rattle.store_rows.specs.claim.Rows.{KeyMap}
-use Rattle.row_owners.specs.Strays.{AllBelong}
-use Rattle.parallel_verify.specs.{declared.jobs.SeenRows.SeenRows, declared.look.Look.Look, declared.look.Look.TheVariants.{Sound, Unsound, Failed}, Readers.{IsLent, AreTakenBack}}
+use Rattle.std.{specs.{Prelude.Vec, declared.alloc.Global.Global}, proofs.Common.{◌≡◌, ◌⊎◌, ◌<◌, ℕ, List, inl, inr, sym, ap, subst, ◌∙◌, arith}}
+use Rattle.{desk_model.specs.declared.ranges.CountyRange.CountyRange, page_store.specs.gate_journal.{Recovery.HasRoom, claim.Store.{header_of, pages}}}
 use Rattle.parallel_verify.specs.Looking.{HasDesk, HasOwners, HasSeen, IsAllSound, IsJoined, IsSeen, IsSoundAt, IsSoundDesk, LooksAs, LooksBy, LooksWhole, TellsNewDesk, TellsRows}
+use Rattle.parallel_verify.specs.{Readers.{IsLent, AreTakenBack}, declared.{jobs.SeenRows.SeenRows, look.Look.{Look, TheVariants.{Sound, Unsound, Failed}}}}
+use Rattle.{row_owners.specs.Strays.AllBelong, sector_device.specs.claim.Disk.{Disk, Image, AgreeOff, Nowhere}, store_rows.specs.claim.Rows.KeyMap}
+use Rattle.page_store.proofs.gate_journal.Headers.{same_journal}
 
 pub agreed : (b c : Image) → AgreeOff Nowhere b c → b ≡ c
 agreed b c agree = λ i k. (sym (agree.same k (λ none. none))) i

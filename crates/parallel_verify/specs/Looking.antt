@@ -1,17 +1,12 @@
 -- What readers of a device find of its store.
 use Rattle.std.specs.{Prelude.{◌≡◌, ◌⊎◌, ◌<◌, ℕ, Bool, true, false, List, Option, Some, IfSome, Vec}, declared.alloc.Global.Global}
-use Rattle.sector_device.specs.{claim.Disk.{Disk, Image}, declared.SectorDevice.Ghosts}
-use Rattle.page_store.specs.{gate_journal.claim.Store.{header_of, pages}, gate_journal.Recovery.{Found, HasRoom}, gate_journal.declared.error.PageError.PageError}
-use Rattle.page_store.specs.{claim.Chain.{root_in, free_in}, claim.Transactions.{stored, disk_in, count_of, IsQuiet}, declared.pages.Pages.Pages}
+use Rattle.{btree_walks.specs.Owners.AreOwned, desk_check.specs.Checking.TellsDesk, desk_model.specs.{Ranges.ranges_in, claim.Desk.Desk, declared.ranges.CountyRange.CountyRange}}
+use Rattle.{desk_store.specs.{desk_opening.Opening.IsReadFrom, store_sweep.claim.Checks.AreSoundHoldings}, page_btree.specs.claim.Map.Holds, row_owners.specs.Strays.AllBelong}
+use Rattle.{page_store.specs.{claim.{Chain.{root_in, free_in}, Transactions.{stored, disk_in, count_of, IsQuiet}}, declared.pages.Pages.Pages}, row_owners.specs.Wholes.AreWhole}
+use Rattle.page_store.specs.gate_journal.{Recovery.{Found, HasRoom}, claim.Store.{header_of, pages}, declared.error.PageError.PageError}
+use Rattle.{parallel_verify.specs.declared.{jobs.SeenRows.SeenRows, look.Look.{Look, TheVariants.{Sound, Unsound, Failed}}}, sector_device.specs.claim.Disk.{Disk, Image}}
+use Rattle.{sector_device.specs.declared.SectorDevice.Ghosts, store_rows.specs.claim.{Keys.{version, in_four}, Rows.{KeyMap, Has}}}
 use Rattle.page_store.specs.gate_journal.declared.error.PageError.TheVariants as page
-use Rattle.page_btree.specs.claim.Map.{Holds}
-use Rattle.btree_walks.specs.Owners.{AreOwned}
-use Rattle.desk_model.specs.{Ranges.ranges_in, claim.Desk.Desk, declared.ranges.CountyRange.CountyRange}
-use Rattle.store_rows.specs.{claim.Keys.{version, in_four}, claim.Rows.{KeyMap, Has}}
-use Rattle.desk_store.specs.{store_sweep.claim.Checks.AreSoundHoldings, desk_opening.Opening.IsReadFrom}
-use Rattle.desk_check.specs.Checking.{TellsDesk}
-use Rattle.row_owners.specs.{Strays.AllBelong, Wholes.AreWhole}
-use Rattle.parallel_verify.specs.{declared.jobs.SeenRows.SeenRows, declared.look.Look.Look, declared.look.Look.TheVariants.{Sound, Unsound, Failed}}
 
 -- ---- what is found in pages, which are so many
 -- the pages hold rows, of which this is so

@@ -1,6 +1,6 @@
 -- Readers of a device.
 use Rattle.std.specs.Prelude.{◌≡◌, ◌+◌, ℕ}
-use Rattle.sector_device.specs.{claim.Disk.{Disk, Image, Nowhere, Touches}, Disk.IsSynced}
+use Rattle.sector_device.specs.{Disk.IsSynced, claim.Disk.{Disk, Image, Nowhere, Touches}}
 
 -- A reader of a device reads what it does, and has read nothing yet. The device holds what is known beforehand by its number of sectors.
 pub record IsLent (held : ℕ → Image) (disk reader : Disk) : Type 0 where

@@ -1,6 +1,5 @@
 -- Fields that are found one after the other.
-use Rattle.std.proofs.Common.{◌≡◌, ℕ, ◌+◌, List, [], get_or, drop, ap, ◌∙◌}
-use Rattle.std.proofs.lemmas.List.{drop-drop, get_or-drop}
+use Rattle.std.proofs.{Common.{◌≡◌, ℕ, ◌+◌, List, [], get_or, drop, ap, ◌∙◌}, lemmas.List.{drop-drop, get_or-drop}}
 
 pub field_at : (whole left : List (List ℕ)) (field : List ℕ) (at k : ℕ) → left ≡ drop at whole → field ≡ get_or left k [] → field ≡ get_or whole (at + k) []
 field_at whole left field at k is found = found ∙ ap (λ (l : List (List ℕ)). get_or l k []) is ∙ get_or-drop at whole k []

@@ -1,20 +1,12 @@
 -- The four files line by line, and in one view.
-use Rattle.std.specs.{List.{list_any, IsDistinct}, Option.option_map, Str.Lines.lines}
+use Rattle.std.{specs.{List.{list_any, IsDistinct}, Option.option_map, Str.Lines.lines}, proofs.lemmas.{Bool.{false≢true, Decides.nat_tests}, Cmp.nat_eq_equiv}}
 use Rattle.std.proofs.Common.{◌≡◌, ℕ, ◌<◌, Bool, true, false, cond, ◌||◌, ◌&&◌, eqb, List, [], ◌∷◌, ◌++◌, length, map, get_or, sum_by, Option, Some, None, IfSome, Result, Ok, Err, is_some, is_none, is_ok, unwrap_or, refl, sym, ap, subst, ◌∙◌, arith, nat_eq, length-append, append_assoc, IsPermutation, rules}
-use Rattle.std.proofs.lemmas.Bool.{false≢true}
-use Rattle.std.proofs.lemmas.Bool.Decides.{nat_tests}
-use Rattle.std.proofs.lemmas.Cmp.{nat_eq_equiv}
-use Rattle.std.proofs.lemmas.List.{map-append, append-nil, get_or_at}
-use Rattle.std.proofs.lemmas.List.Elements.{filter_map-append, All-push}
-use Rattle.std.proofs.lemmas.Map.Keys.{IsDistinct-push}
-use Rattle.desk_model.specs.declared.block.BlockRow.{BlockRow}
-use Rattle.byte_stream.specs.claim.Judged.{AreGood}
-use Rattle.pl94.specs.{claim.Judging.entries, declared.geo.GeoRows.GeoRows, Files.{AreSegmentLines, taken_in, people_in, counted_blocks, counted_people, AreCensusFiles, AreRowsOf}}
-use Rattle.pl94.specs.claim.Join.{AreJoined, NoneMissing, lacking_part, taken_numbers, rows_of, total_people, people_at_number}
-use Rattle.pl94.specs.{claim.Records.{line_read, records, has_number, judged, judge}, claim.SegFile.{people_of, IsSegment}, declared.record.SegmentLineFault.SegmentLineFault}
-use Rattle.pl94.specs.{declared.record.SegmentLineFault.TheVariants.RepeatedRecord, declared.record.SegmentNumber.SegmentNumber}
-use Rattle.pl94.specs.{declared.record.SegmentNumber.TheVariants.{One, Two, Three}, declared.record.SegRecord.SegRecord, declared.segment.SegRows.SegRows}
-use Rattle.pl94.proofs.{WholeLemmas.{whole_from_good, before_differs}, SegLemmas.records-push}
+use Rattle.{std.proofs.lemmas.{List.{map-append, append-nil, get_or_at, Elements.{filter_map-append, All-push}}, Map.Keys.IsDistinct-push}, byte_stream.specs.claim.Judged.AreGood}
+use Rattle.{desk_model.specs.declared.block.BlockRow.BlockRow, pl94.specs.Files.{AreSegmentLines, taken_in, people_in, counted_blocks, counted_people, AreCensusFiles, AreRowsOf}}
+use Rattle.pl94.specs.claim.{Join.{AreJoined, NoneMissing, lacking_part, taken_numbers, rows_of, total_people, people_at_number}, Judging.entries, SegFile.{people_of, IsSegment}}
+use Rattle.pl94.specs.{claim.Records.{line_read, records, has_number, judged, judge}, declared.{geo.GeoRows.GeoRows, segment.SegRows.SegRows}, declared.record.SegRecord.SegRecord}
+use Rattle.pl94.specs.declared.record.{SegmentLineFault.{SegmentLineFault, TheVariants.RepeatedRecord}, SegmentNumber.{SegmentNumber, TheVariants.{One, Two, Three}}}
+use Rattle.pl94.proofs.{SegLemmas.records-push, WholeLemmas.{whole_from_good, before_differs}}
 
 -- ---- a segment
 

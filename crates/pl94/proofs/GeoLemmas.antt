@@ -1,16 +1,13 @@
 -- A header line by line, and as a whole.
-use Rattle.std.specs.{List.cons_option, Option.{option_map_or, option_map}, Io.KnownBytes.{Consumes, IsAtEnd}, Str.Lines.lines}
+use Rattle.std.{specs.{Io.KnownBytes.{Consumes, IsAtEnd}, List.cons_option, Option.{option_map_or, option_map}, Str.Lines.lines}, proofs.lemmas.Bool.Decides.nat_tests}
 use Rattle.std.proofs.Common.{◌≡◌, ◌≢◌, ℕ, ◌+◌, ◌<◌, Bool, true, false, not, ◌||◌, eqb, List, [], ◌∷◌, ◌++◌, length, get_or, Option, Some, None, Result, Ok, Err, IfSome, IfOk, refl, sym, ap, ◌∙◌, arith, nat_eq, length-append, All, rules}
-use Rattle.std.proofs.lemmas.Bool.Decides.{nat_tests}
-use Rattle.std.proofs.lemmas.List.Elements.{All-cons, All-tail}
-use Rattle.desk_model.specs.claim.Block.{state_of}
-use Rattle.byte_stream.specs.{claim.Reading.{BeginsWithLine, line_limit}, Reading.{IsLastLine, Gives, Reading}, claim.Judged.AreGood, declared.reader.ReadFault.ReadFault}
-use Rattle.byte_stream.proofs.JudgedLemmas.{good_more, lines-ended, lines-last_one}
-use Rattle.pl94.specs.{Entries.IsEntry, claim.Judging.{ids_of, blocks_of, other_state, entries, judge, judged}, Holding.{Holds, Judges}}
-use Rattle.pl94.specs.{GeoFile.{row_ids, AreGeoRows, Finishes, told, refused}, claim.GeoFile.{IsRead, failures_after_file}, declared.entry.GeoRecord.GeoRecord}
-use Rattle.pl94.specs.{declared.entry.HeaderLineFault.TheVariants.Shape, declared.header.GeoBlock.GeoBlock, declared.header.Header.Header}
-use Rattle.pl94.specs.{declared.header.HeaderRefusal.HeaderRefusal, declared.header.HeaderRefusal.TheVariants.{Fault, Memory}, declared.geo.GeoRows.GeoRows}
-use Rattle.pl94.{specs.declared.geo.GeoFault.GeoFault, proofs.LineLemmas.{AreJudged, line_told, last_told, long_told, cut_told}, proofs.HoldingLemmas.length-blocks_of}
+use Rattle.{std.proofs.lemmas.List.Elements.{All-cons, All-tail}, byte_stream.specs.{Reading.{IsLastLine, Gives, Reading}, claim.Judged.AreGood}, pl94.specs.Entries.IsEntry}
+use Rattle.{byte_stream.specs.{claim.Reading.{BeginsWithLine, line_limit}, declared.reader.ReadFault.ReadFault}, desk_model.specs.claim.Block.state_of}
+use Rattle.pl94.specs.{GeoFile.{row_ids, AreGeoRows, Finishes, told, refused}, Holding.{Holds, Judges}, claim.GeoFile.{IsRead, failures_after_file}, declared.geo.GeoFault.GeoFault}
+use Rattle.pl94.specs.{claim.Judging.{ids_of, blocks_of, other_state, entries, judge, judged}, declared.entry.{GeoRecord.GeoRecord, HeaderLineFault.TheVariants.Shape}}
+use Rattle.pl94.specs.declared.{geo.GeoRows.GeoRows, header.{GeoBlock.GeoBlock, Header.Header, HeaderRefusal.{HeaderRefusal, TheVariants.{Fault, Memory}}}}
+use Rattle.{byte_stream.proofs.JudgedLemmas.{good_more, lines-ended, lines-last_one}, pl94.proofs.HoldingLemmas.length-blocks_of}
+use Rattle.pl94.proofs.LineLemmas.{AreJudged, line_told, last_told, long_told, cut_told}
 use Rattle.byte_stream.specs.declared.reader.ReadFault.TheVariants as read
 use Rattle.pl94.specs.declared.geo.GeoFault.TheVariants as fault
 

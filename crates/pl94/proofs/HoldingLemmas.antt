@@ -1,19 +1,11 @@
 -- One more taken record.
-use Rattle.std.specs.{List.{cons_option, IsDistinct}, Option.{option_map_or, option_map}}
+use Rattle.std.{specs.{List.{cons_option, IsDistinct}, Option.{option_map_or, option_map}}, proofs.lemmas.{Bool.Decides.nat_tests, Cmp.nat_eq_equiv, List.{map-append, append-nil}}}
 use Rattle.std.proofs.Common.{◌≡◌, ℕ, suc, ◌<◌, ◌≤◌, Bool, true, false, not, cond, ◌||◌, eqb, leb, List, [], ◌∷◌, ◌++◌, length, Option, Some, None, Result, Ok, Err, is_some, is_none, refl, sym, ap, subst, ◌∙◌, arith, nat_eq, length-append, rules}
-use Rattle.std.proofs.lemmas.Bool.Decides.{nat_tests}
-use Rattle.std.proofs.lemmas.Cmp.{nat_eq_equiv}
-use Rattle.std.proofs.lemmas.List.{map-append, append-nil}
-use Rattle.std.proofs.lemmas.List.Folds.{list_any-append}
-use Rattle.std.proofs.lemmas.List.Elements.{filter_map-append, All-push}
-use Rattle.std.proofs.lemmas.Map.Keys.{IsDistinct-push}
-use Rattle.desk_model.specs.claim.GeographyModels.{block_limit}
-use Rattle.pl94.specs.{Entries.IsEntry, claim.Entries.line_read}
+use Rattle.{std.proofs.lemmas.{List.{Elements.{filter_map-append, All-push}, Folds.list_any-append}, Map.Keys.IsDistinct-push}, desk_model.specs.claim.GeographyModels.block_limit}
+use Rattle.pl94.specs.{Entries.IsEntry, Holding.{Holds, Takes, Judges}, Sets.has, claim.Entries.line_read, declared.entry.{GeoRecord.GeoRecord, HeaderLineFault.HeaderLineFault}}
 use Rattle.pl94.specs.claim.Judging.{states_of, numbers_of, ids_of, blocks_of, geo_block, state_record_of, other_state, repeats, conflict, entries, entry_of, taken_entry, judged}
-use Rattle.pl94.specs.{Holding.{Holds, Takes, Judges}, Sets.has, declared.entry.GeoRecord.GeoRecord, declared.entry.HeaderLineFault.HeaderLineFault}
-use Rattle.pl94.specs.{declared.entry.HeaderLineFault.TheVariants.TooManyBlocks, declared.header.HeaderRefusal.HeaderRefusal}
-use Rattle.pl94.specs.{declared.header.HeaderRefusal.TheVariants.{Fault, Memory}, declared.header.Header.Header, declared.header.GeoBlock.GeoBlock}
-use Rattle.pl94.specs.declared.number_set.NumberSet.{NumberSet}
+use Rattle.pl94.specs.declared.{entry.HeaderLineFault.TheVariants.TooManyBlocks, header.{GeoBlock.GeoBlock, Header.Header, HeaderRefusal.HeaderRefusal}}
+use Rattle.pl94.specs.declared.{header.HeaderRefusal.TheVariants.{Fault, Memory}, number_set.NumberSet.NumberSet}
 
 eqb-flip : (a b : ℕ) → eqb a b ≡ eqb b a
 eqb-flip a b = grind (arith, nat_tests)

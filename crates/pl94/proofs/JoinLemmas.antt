@@ -1,14 +1,11 @@
 -- The rows of the join.
-use Rattle.std.specs.{List.Sorted.{IsPermutation, IsNonDecreasing, IsNonDecreasingBy}, Option.option_to_list}
+use Rattle.std.{specs.{List.Sorted.{IsPermutation, IsNonDecreasing, IsNonDecreasingBy}, Option.option_to_list}, proofs.lemmas.{Bool.Decides.nat_tests, Simd.map-map}}
 use Rattle.std.proofs.Common.{◌≡◌, ℕ, ◌+◌, ◌<◌, ◌≤◌, ◌^◌, List, [], ◌∷◌, ◌++◌, length, take, map, get_or, Option, Some, None, IfSome, sym, ap, subst, ◌∙◌, arith, nat_eq, rules}
-use Rattle.std.proofs.lemmas.Bool.Decides.{nat_tests}
-use Rattle.std.proofs.lemmas.List.{append-nil, get_or-map, map_more, take_all, length-map}
-use Rattle.std.proofs.lemmas.List.Sorted.{IsPermutation-map, sum_by-IsPermutation, All-permutation, length_permutation}
-use Rattle.std.proofs.lemmas.Map.Keys.{IsDistinct-IsPermutation, IsStrictlyIncreasing-from_distinct}
-use Rattle.std.proofs.lemmas.Simd.{map-map}
-use Rattle.desk_model.specs.{claim.Block.state_of, claim.GeographyModels.AreBlocks, claim.Geography.ids_of, declared.block.BlockRow.BlockRow}
-use Rattle.pl94.specs.{GeoFile.{AreGeoRows, row_ids}, declared.geo.GeoRows.GeoRows, declared.header.GeoBlock.GeoBlock, claim.Join.{taken_numbers, row_of, rows_of, total_people}}
-use Rattle.pl94.{specs.Join.IsLeast, specs.declared.segment.SegRows.SegRows, specs.declared.record.SegmentNumber.SegmentNumber, proofs.GeoLemmas.all_as_first}
+use Rattle.std.proofs.lemmas.List.{append-nil, get_or-map, map_more, take_all, length-map, Sorted.{IsPermutation-map, sum_by-IsPermutation, All-permutation, length_permutation}}
+use Rattle.{std.proofs.lemmas.Map.Keys.{IsDistinct-IsPermutation, IsStrictlyIncreasing-from_distinct}, desk_model.specs.claim.{Block.state_of, Geography.ids_of}}
+use Rattle.{desk_model.specs.{claim.GeographyModels.AreBlocks, declared.block.BlockRow.BlockRow}, pl94.specs.{GeoFile.{AreGeoRows, row_ids}, Join.IsLeast}}
+use Rattle.pl94.specs.{claim.Join.{taken_numbers, row_of, rows_of, total_people}, declared.{geo.GeoRows.GeoRows, header.GeoBlock.GeoBlock, segment.SegRows.SegRows}}
+use Rattle.pl94.{specs.declared.record.SegmentNumber.SegmentNumber, proofs.GeoLemmas.all_as_first}
 
 -- order by number, as a list of the numbers
 pub ids_rise : (rows : List BlockRow) → IsNonDecreasingBy (λ (b : BlockRow). b.id) rows → IsNonDecreasing (ids_of rows)

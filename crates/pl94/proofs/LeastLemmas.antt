@@ -1,8 +1,7 @@
 -- The least missing record, with one more number looked at.
-use Rattle.std.proofs.Common.{◌≡◌, ℕ, ◌<◌, ◌≤◌, List, [], ◌∷◌, ◌++◌, Some, None, IsSome, is_some, sym, ap, ◌∙◌, arith}
-use Rattle.std.proofs.lemmas.Bool.{false≢true}
-use Rattle.std.proofs.lemmas.List.Elements.{All-push, Contains-append_left, Contains-push}
-use Rattle.pl94.specs.{claim.Join.{lacking_part, NoneMissing, IsLeastMissing}, declared.record.SegmentNumber.SegmentNumber, declared.segment.SegRows.SegRows}
+use Rattle.std.proofs.{Common.{◌≡◌, ℕ, ◌<◌, ◌≤◌, List, [], ◌∷◌, ◌++◌, Some, None, IsSome, is_some, sym, ap, ◌∙◌, arith}, lemmas.Bool.false≢true}
+use Rattle.{std.proofs.lemmas.List.Elements.{All-push, Contains-append_left, Contains-push}, pl94.specs.claim.Join.{lacking_part, NoneMissing, IsLeastMissing}}
+use Rattle.pl94.specs.{declared.record.SegmentNumber.SegmentNumber, declared.segment.SegRows.SegRows}
 
 module _ (first second third : SegRows) where
   lacks_none : (n : ℕ) → lacking_part first second third n ≡ None → IsSome (lacking_part first second third n) → ⊥

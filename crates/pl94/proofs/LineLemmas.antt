@@ -1,7 +1,7 @@
 -- The lines of a text, judged one after the other while it is read.
 use Rattle.std.{specs.Io.KnownBytes.{Consumes, IsAtEnd}, proofs.Common.{◌≡◌, ℕ, ◌+◌, ◌<◌, List, [], ◌∷◌, ◌++◌, length, Option, Some, None, refl, sym, subst, length-append, rules}}
-use Rattle.byte_stream.specs.{claim.Reading.{BeginsWithLine, IsBroken, line_limit}, Reading.{IsLastLine, IsTooLong}}
-use Rattle.byte_stream.{specs.claim.Judged.{Judge, AreGood, ShowsFault, IsCutShort, BeginsWithLines}, proofs.ReadingLemmas.{Consumes-nothing, Consumes-then}}
+use Rattle.byte_stream.specs.{Reading.{IsLastLine, IsTooLong}, claim.Judged.{Judge, AreGood, ShowsFault, IsCutShort, BeginsWithLines}}
+use Rattle.byte_stream.{specs.claim.Reading.{BeginsWithLine, IsBroken, line_limit}, proofs.ReadingLemmas.{Consumes-nothing, Consumes-then}}
 use Rattle.byte_stream.proofs.JudgedLemmas.{begins, begins_more, begins_line, good_none, good_more, shown_line, shown_last, shown_long, cut_short}
 
 -- the bytes that came are these good lines, of which this is known, and the held bytes
@@ -30,9 +30,7 @@ module _ {F : Type 0} (judge : Judge F) where
     -- a good line
     pub judged_more : (New : List (List ℕ) → Type 0) (line rest : List ℕ) → BeginsWithLine held line rest → ((ls : List (List ℕ)) → Known ls → (judge ls line ≡ None) × New (ls ++ line ∷ []))
         → AreJudged judge New old left rest (number + 1)
-    judged_more New line rest l judged =
-        let is = judged s.ls s.known in
-        search (rules, is, begins_line, good_more, length-append)
+    judged_more New line rest l judged = let is = judged s.ls s.known in search (rules, is, begins_line, good_more, length-append)
 
     -- a faulty one
     pub line_told : (given line rest : List ℕ) (f : F) → given ≡ line → BeginsWithLine held line rest → ((ls : List (List ℕ)) → Known ls → judge ls given ≡ Some f)

@@ -1,8 +1,8 @@
 -- The people of numbers, in a run and among the others.
-use Rattle.std.specs.{BTreeMap.{BTreeMap, get, is_at, Updates}, Ordering.{nat_cmp, is_eq}, declared.cmp.Ordering.TheVariants.{Less, Equal, Greater}, declared.alloc.Global.Global}
+use Rattle.std.specs.{BTreeMap.{BTreeMap, get, is_at, Updates}, Ordering.{nat_cmp, is_eq}, declared.{alloc.Global.Global, cmp.Ordering.TheVariants.{Less, Equal, Greater}}}
 use Rattle.std.proofs.Common.{◌≡◌, ℕ, ◌-◌, ◌≤◌, Vec, Bool, true, false, cond, eqb, ltb, [], get_or, Option, Some, None, is_some, refl, ap, ◌∙◌, arith, rules}
-use Rattle.std.proofs.lemmas.Bool.Decides.{nat_tests}
-use Rattle.pl94.specs.{claim.SegFile.{in_run, or_else, people_of}, SegFile.{Grows, Holds}, declared.record.SegRecord.SegRecord, declared.segment.SegRows.SegRows}
+use Rattle.{std.proofs.lemmas.Bool.Decides.nat_tests, pl94.specs.{SegFile.{Grows, Holds}, claim.SegFile.{in_run, or_else, people_of}, declared.record.SegRecord.SegRecord}}
+use Rattle.pl94.specs.declared.segment.SegRows.{SegRows}
 
 pub none_from_test : (o : Option ℕ) → is_some o ≡ false → o ≡ None
 none_from_test None test = refl

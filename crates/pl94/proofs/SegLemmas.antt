@@ -1,16 +1,13 @@
 -- A segment line by line, and as a whole.
-use Rattle.std.specs.{List.cons_option, Result.result_ok, Io.KnownBytes.{Consumes, IsAtEnd}, Str.Lines.lines}
+use Rattle.std.{specs.{Io.KnownBytes.{Consumes, IsAtEnd}, List.cons_option, Result.result_ok, Str.Lines.lines}, proofs.lemmas.Bool.Decides.nat_tests}
 use Rattle.std.proofs.Common.{◌≡◌, ℕ, ◌+◌, ◌<◌, Bool, true, false, cond, ◌||◌, eqb, List, [], ◌∷◌, ◌++◌, length, Option, Some, None, Result, Ok, Err, is_some, refl, sym, ap, subst, ◌∙◌, arith, rules}
-use Rattle.std.proofs.lemmas.Bool.Decides.{nat_tests}
-use Rattle.std.proofs.lemmas.List.Elements.{filter_map-append}
-use Rattle.byte_stream.specs.{claim.Reading.{BeginsWithLine, line_limit}, Reading.{IsLastLine, Gives, Reading}, claim.Judged.AreGood, declared.reader.ReadFault.ReadFault}
-use Rattle.byte_stream.proofs.JudgedLemmas.{good_more, lines-ended, lines-last_one}
-use Rattle.byte_stream.specs.declared.reader.ReadFault.TheVariants as read
-use Rattle.pl94.specs.{claim.Records.{line_read, record_of, records, people_at, has_number, judged, judge}, claim.SegFile.{people_of, IsSegment, IsRead}}
-use Rattle.pl94.specs.{SegFile.{Holds, Takes, Judges, told, refused}, declared.record.SegmentNumber.SegmentNumber, declared.record.SegRecord.SegRecord}
-use Rattle.pl94.specs.{declared.record.SegmentLineFault.SegmentLineFault, declared.record.SegmentLineFault.TheVariants.{Shape, RepeatedRecord}, declared.segment.SegRows.SegRows}
-use Rattle.pl94.specs.{declared.segment.SegmentRefusal.SegmentRefusal, declared.segment.SegmentRefusal.TheVariants.{Fault, Memory}, declared.segment.SegFault.SegFault}
+use Rattle.{std.proofs.lemmas.List.Elements.filter_map-append, byte_stream.specs.{Reading.{IsLastLine, Gives, Reading}, claim.Judged.AreGood, declared.reader.ReadFault.ReadFault}}
+use Rattle.{byte_stream.specs.claim.Reading.{BeginsWithLine, line_limit}, pl94.specs.{SegFile.{Holds, Takes, Judges, told, refused}, claim.SegFile.{people_of, IsSegment, IsRead}}}
+use Rattle.pl94.specs.{claim.Records.{line_read, record_of, records, people_at, has_number, judged, judge}, declared.record.{SegRecord.SegRecord, SegmentNumber.SegmentNumber}}
+use Rattle.pl94.specs.{declared.record.SegmentLineFault.{SegmentLineFault, TheVariants.{Shape, RepeatedRecord}}, declared.segment.{SegFault.SegFault, SegRows.SegRows}}
+use Rattle.{pl94.specs.declared.segment.SegmentRefusal.{SegmentRefusal, TheVariants.{Fault, Memory}}, byte_stream.proofs.JudgedLemmas.{good_more, lines-ended, lines-last_one}}
 use Rattle.pl94.proofs.LineLemmas.{AreJudged, line_told, last_told, long_told, cut_told}
+use Rattle.byte_stream.specs.declared.reader.ReadFault.TheVariants as read
 
 -- ---- one more record
 

@@ -1,8 +1,6 @@
 -- A set of numbers in words of 64.
-use Rattle.std.specs.Int.{bit_at, w64}
+use Rattle.std.{specs.Int.{bit_at, w64}, proofs.lemmas.{Bool.Decides.nat_tests, Nat.Bits.{bit_at-zero, shr_and_one, bit_at_set_same, bit_at_set_other}}}
 use Rattle.std.proofs.Common.{◌≡◌, ◌≢◌, ℕ, ◌<◌, ◌/◌, ◌%◌, ◌^◌, ◌*◌, Bool, true, false, not, cond, ◌||◌, eqb, [], refl, sym, ap, ◌∙◌, arith, bit_and, bit_or, rules}
-use Rattle.std.proofs.lemmas.Bool.Decides.{nat_tests}
-use Rattle.std.proofs.lemmas.Nat.Bits.{bit_at-zero, shr_and_one, bit_at_set_same, bit_at_set_other}
 use Rattle.pl94.specs.{Sets.{word_at, other_word, has, TurnsTo, Inserts}, declared.number_set.NumberSet.NumberSet}
 
 either_zero : (b : Bool) (x y : ℕ) → x ≡ 0 → y ≡ 0 → cond b x y ≡ 0
@@ -76,9 +74,7 @@ added old s n turned clear = record {
 
     at_place : (q : ℕ) (b : Bool) → eqb s.place (q / 64) ≡ b
         → eqb (bit_at (cond b (bit_or s.word (1 * 2 ^ (n % 64) % 2 ^ 64)) (other_word s (q / 64))) (q % 64)) 1 ≡ (eqb n q || eqb (bit_at (cond b s.word (other_word s (q / 64))) (q % 64)) 1)
-    at_place q true is =
-        let place : n / 64 ≡ q / 64 = grind (arith, nat_tests, turned.at) in
-        in_word q (eqb n q) refl place
+    at_place q true is = let place : n / 64 ≡ q / 64 = grind (arith, nat_tests, turned.at) in in_word q (eqb n q) refl place
     at_place q false is =
         let differ : eqb n q ≡ false = elsewhere (eqb n q) refl is in
         ap (λ (b : Bool). b || eqb (bit_at (other_word s (q / 64)) (q % 64)) 1) (sym differ)

@@ -1,19 +1,10 @@
 -- Lines one by one, and all together.
-use Rattle.std.specs.List.{list_any, cons_option, IsDistinct, AllByRecursion}
+use Rattle.std.{specs.List.{list_any, cons_option, IsDistinct, AllByRecursion}, proofs.lemmas.{Bool.{false≢true, Decides.nat_tests}, Cmp.nat_eq_equiv, List.Folds.list_any-append}}
 use Rattle.std.proofs.Common.{◌≡◌, ℕ, zero, suc, ◌+◌, ◌<◌, ◌≤◌, Bool, true, false, not, cond, ◌||◌, eqb, leb, List, [], ◌∷◌, ◌++◌, length, get_or, Option, Some, None, Result, Ok, Err, is_some, is_none, is_ok, refl, sym, ap, subst, ◌∙◌, arith, nat_eq, length-append, append_assoc, All, count_by, rules}
-use Rattle.std.proofs.lemmas.Bool.Decides.{nat_tests}
-use Rattle.std.proofs.lemmas.Cmp.{nat_eq_equiv}
-use Rattle.std.proofs.lemmas.List.{map-append, append-nil, get_or_at}
-use Rattle.std.proofs.lemmas.List.Sums.{sum_by-append, sum_by-cons}
-use Rattle.std.proofs.lemmas.Bool.{false≢true}
-use Rattle.std.proofs.lemmas.List.Folds.{list_any-append}
-use Rattle.std.proofs.lemmas.List.Elements.{filter_map-append, All-push}
-use Rattle.std.proofs.lemmas.Map.Keys.{IsDistinct-push, IsDistinct-head, IsDistinct-tail}
-use Rattle.desk_model.specs.claim.GeographyModels.{block_limit}
-use Rattle.byte_stream.specs.claim.Judged.{AreGood}
-use Rattle.pl94.specs.claim.Entries.{line_read}
+use Rattle.std.proofs.lemmas.List.{map-append, append-nil, get_or_at, Elements.{filter_map-append, All-push}, Sums.{sum_by-append, sum_by-cons}}
+use Rattle.{std.proofs.lemmas.Map.Keys.{IsDistinct-push, IsDistinct-head, IsDistinct-tail}, byte_stream.specs.claim.Judged.AreGood, pl94.specs.Whole.{AreHeaderLines, AreTogether}}
+use Rattle.{desk_model.specs.claim.GeographyModels.block_limit, pl94.specs.{claim.Entries.line_read, declared.entry.{GeoRecord.GeoRecord, HeaderLineFault.HeaderLineFault}}}
 use Rattle.pl94.specs.claim.Judging.{states_of, numbers_of, ids_of, state_record_of, other_state, repeats, conflict, kind_conflict, repeated_record, entries, entry_of, judge, judged}
-use Rattle.pl94.specs.{Whole.{AreHeaderLines, AreTogether}, declared.entry.GeoRecord.GeoRecord, declared.entry.HeaderLineFault.HeaderLineFault}
 use Rattle.pl94.specs.declared.entry.HeaderLineFault.TheVariants.{State, RepeatedBlock, RepeatedRecord, TooManyBlocks}
 use Rattle.pl94.proofs.HoldingLemmas.{entries_taken, entries_passed, numbers_of-push, states_of-push, ids_of-push}
 

@@ -1,7 +1,6 @@
 -- What no promise rests on, beside claim/Entries.antt.
 use Rattle.std.specs.Prelude.{◌≡◌, ℕ, List, IfSome}
-use Rattle.desk_model.specs.claim.Block.{state_of}
-use Rattle.pl94.specs.{declared.entry.GeoRecord.GeoRecord, declared.entry.BlockFields.BlockFields, claim.Entries.field}
+use Rattle.{desk_model.specs.claim.Block.state_of, pl94.specs.{claim.Entries.field, declared.entry.{BlockFields.BlockFields, GeoRecord.GeoRecord}}}
 
 -- the state is the one of the block's number
 pub record IsEntry (e : GeoRecord) : Type 0 where

@@ -1,11 +1,9 @@
 -- Which four texts are a state's census files, and which blocks they say, in one view of all of them.
-use Rattle.std.specs.{Prelude.{◌≡◌, ℕ, Bool, true, ◌&&◌, List, ◌++◌, map, sum_by, All, nat_eq, Option, IfSome, is_ok, is_some, unwrap_or}, List.IsDistinct}
-use Rattle.std.specs.{List.Sorted.IsPermutation, Option.option_to_list, Str.Lines.lines}
-use Rattle.desk_model.specs.{claim.GeographyModels.AreBlocks, declared.block.BlockRow.BlockRow}
-use Rattle.byte_stream.specs.claim.Judged.{AreGood}
-use Rattle.pl94.specs.{claim.GeoFile.IsHeader, claim.Judging.{entries, blocks_of, state_record_of}, Whole.AreHeaderLines, declared.entry.GeoRecord.GeoRecord}
-use Rattle.pl94.specs.{declared.geo.GeoRows.GeoRows, declared.header.GeoBlock.GeoBlock, claim.Join.AreJoined, claim.Records.{line_read, records, people_at, judge}}
-use Rattle.pl94.specs.{claim.SegFile.IsSegment, declared.record.SegmentNumber.SegmentNumber, declared.record.SegmentNumber.TheVariants.{One, Two, Three}}
+use Rattle.{std.specs.{List.{IsDistinct, Sorted.IsPermutation}, Option.option_to_list, Str.Lines.lines}, byte_stream.specs.claim.Judged.AreGood, pl94.specs.Whole.AreHeaderLines}
+use Rattle.std.specs.Prelude.{◌≡◌, ℕ, Bool, true, ◌&&◌, List, ◌++◌, map, sum_by, All, nat_eq, Option, IfSome, is_ok, is_some, unwrap_or}
+use Rattle.{desk_model.specs.{claim.GeographyModels.AreBlocks, declared.block.BlockRow.BlockRow}, pl94.specs.claim.{GeoFile.IsHeader, Join.AreJoined, SegFile.IsSegment}}
+use Rattle.pl94.specs.{claim.{Judging.{entries, blocks_of, state_record_of}, Records.{line_read, records, people_at, judge}}, declared.entry.GeoRecord.GeoRecord}
+use Rattle.pl94.specs.{declared.{geo.GeoRows.GeoRows, header.GeoBlock.GeoBlock}, declared.record.SegmentNumber.{SegmentNumber, TheVariants.{One, Two, Three}}}
 use Rattle.pl94.specs.declared.segment.SegRows.{SegRows}
 
 -- every line has its shape, and no record number stands twice

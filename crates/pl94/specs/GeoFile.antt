@@ -1,10 +1,9 @@
 -- What no promise rests on, beside claim/GeoFile.antt.
-use Rattle.std.specs.{Prelude.{◌≡◌, ℕ, ◌<◌, ◌≤◌, List, [], map, length, get_or, All, nat_eq, Result, Ok, Err}, List.IsDistinct}
-use Rattle.desk_model.specs.{claim.Block.state_of, claim.GeographyModels.block_limit}
-use Rattle.byte_stream.specs.declared.reader.ReadFault.{ReadFault}
+use Rattle.std.specs.{List.IsDistinct, Prelude.{◌≡◌, ℕ, ◌<◌, ◌≤◌, List, [], map, length, get_or, All, nat_eq, Result, Ok, Err}}
+use Rattle.{byte_stream.specs.declared.reader.ReadFault.ReadFault, desk_model.specs.claim.{Block.state_of, GeographyModels.block_limit}, pl94.specs.declared.geo.GeoFault.GeoFault}
+use Rattle.pl94.specs.{claim.Judging.{blocks_of, state_record_of, ids_of}, declared.{entry.{GeoRecord.GeoRecord, HeaderLineFault.TheVariants.Shape}, geo.GeoRows.GeoRows}}
+use Rattle.pl94.specs.declared.header.{GeoBlock.GeoBlock, HeaderRefusal.HeaderRefusal}
 use Rattle.byte_stream.specs.declared.reader.ReadFault.TheVariants as read
-use Rattle.pl94.specs.{claim.Judging.{blocks_of, state_record_of, ids_of}, declared.entry.GeoRecord.GeoRecord, declared.entry.HeaderLineFault.TheVariants.Shape}
-use Rattle.pl94.specs.{declared.header.GeoBlock.GeoBlock, declared.header.HeaderRefusal.HeaderRefusal, declared.geo.GeoRows.GeoRows, declared.geo.GeoFault.GeoFault}
 use Rattle.pl94.specs.declared.header.HeaderRefusal.TheVariants as refusal
 use Rattle.pl94.specs.declared.geo.GeoFault.TheVariants as fault
 

@@ -1,10 +1,9 @@
 -- What a reader keeps of the taken records.
-use Rattle.std.specs.{Prelude.{◌≡◌, ℕ, ◌≤◌, true, false, not, ◌||◌, ◌==◌, nat_eq, List, [], ◌∷◌, ◌++◌, length, All, Some, None, Result, Ok, Err, ⊤}, List.IsDistinct}
-use Rattle.std.specs.Option.{option_map_or}
-use Rattle.desk_model.specs.claim.GeographyModels.{block_limit}
-use Rattle.pl94.specs.{Entries.IsEntry, claim.Judging.{numbers_of, ids_of, blocks_of, state_record_of, other_state, repeats, conflict, entries, judge}, Sets.has}
-use Rattle.pl94.specs.{declared.entry.GeoRecord.GeoRecord, declared.entry.HeaderLineFault.HeaderLineFault, declared.header.Header.Header, declared.number_set.NumberSet.NumberSet}
-use Rattle.pl94.specs.{declared.header.HeaderRefusal.HeaderRefusal, declared.header.HeaderRefusal.TheVariants.{Fault, Memory}}
+use Rattle.{std.specs.{List.IsDistinct, Option.option_map_or}, desk_model.specs.claim.GeographyModels.block_limit, pl94.specs.{Entries.IsEntry, Sets.has}}
+use Rattle.std.specs.Prelude.{◌≡◌, ℕ, ◌≤◌, true, false, not, ◌||◌, ◌==◌, nat_eq, List, [], ◌∷◌, ◌++◌, length, All, Some, None, Result, Ok, Err, ⊤}
+use Rattle.pl94.specs.{claim.Judging.{numbers_of, ids_of, blocks_of, state_record_of, other_state, repeats, conflict, entries, judge}, declared.entry.GeoRecord.GeoRecord}
+use Rattle.pl94.specs.declared.{entry.HeaderLineFault.HeaderLineFault, header.{Header.Header, HeaderRefusal.{HeaderRefusal, TheVariants.{Fault, Memory}}}}
+use Rattle.pl94.specs.declared.number_set.NumberSet.{NumberSet}
 
 -- these are the taken records, and they go together
 pub record Holds (h : Header) (es : List GeoRecord) : Type 0 where

@@ -1,10 +1,9 @@
 -- What no promise rests on, beside claim/SegFile.antt.
 use Rattle.std.specs.Prelude.{◌≡◌, ℕ, List, [], ◌∷◌, ◌++◌, if◌then◌else◌, ◌==◌, false, Some, None, Result, Ok, Err, ⊤}
-use Rattle.byte_stream.specs.declared.reader.ReadFault.{ReadFault}
+use Rattle.{byte_stream.specs.declared.reader.ReadFault.ReadFault, pl94.specs.claim.{Records.{people_at, has_number, records, judged, judge}, SegFile.people_of}}
+use Rattle.pl94.specs.{declared.record.{SegRecord.SegRecord, SegmentLineFault.TheVariants.Shape, SegmentNumber.SegmentNumber}, declared.segment.SegFault.SegFault}
+use Rattle.pl94.specs.declared.segment.{SegRows.SegRows, SegmentRefusal.SegmentRefusal}
 use Rattle.byte_stream.specs.declared.reader.ReadFault.TheVariants as read
-use Rattle.pl94.specs.{claim.Records.{people_at, has_number, records, judged, judge}, declared.record.SegmentNumber.SegmentNumber, declared.record.SegRecord.SegRecord}
-use Rattle.pl94.specs.{declared.record.SegmentLineFault.TheVariants.Shape, declared.segment.SegRows.SegRows, declared.segment.SegmentRefusal.SegmentRefusal}
-use Rattle.pl94.specs.{declared.segment.SegFault.SegFault, claim.SegFile.people_of}
 use Rattle.pl94.specs.declared.segment.SegmentRefusal.TheVariants as refusal
 use Rattle.pl94.specs.declared.segment.SegFault.TheVariants as fault
 

@@ -1,5 +1,5 @@
 -- A set of numbers in words of 64.
-use Rattle.std.specs.{Prelude.{◌≡◌, ℕ, ◌/◌, ◌%◌, Bool, not, ◌||◌, ◌==◌, if◌then◌else◌, nat_eq, unwrap_or}, Ordering.nat_cmp, Int.bit_at, BTreeMap.get}
+use Rattle.std.specs.{BTreeMap.get, Int.bit_at, Ordering.nat_cmp, Prelude.{◌≡◌, ℕ, ◌/◌, ◌%◌, Bool, not, ◌||◌, ◌==◌, if◌then◌else◌, nat_eq, unwrap_or}}
 use Rattle.pl94.specs.declared.number_set.NumberSet.{NumberSet}
 
 -- the word that was put away at a place

@@ -1,8 +1,7 @@
 -- Which lines are a geographic header, in one view of all of them.
-use Rattle.std.specs.{Prelude.{◌≡◌, ℕ, ◌≤◌, true, false, List, length, All, nat_eq, is_ok, is_none}, List.{IsDistinct, count_by}}
-use Rattle.desk_model.specs.claim.GeographyModels.{block_limit}
-use Rattle.byte_stream.specs.claim.Judged.{AreGood}
-use Rattle.pl94.specs.{claim.Entries.line_read, declared.entry.GeoRecord.GeoRecord, claim.Judging.{states_of, numbers_of, ids_of, other_state, entries, judge}}
+use Rattle.std.specs.{List.{IsDistinct, count_by}, Prelude.{◌≡◌, ℕ, ◌≤◌, true, false, List, length, All, nat_eq, is_ok, is_none}}
+use Rattle.{byte_stream.specs.claim.Judged.AreGood, desk_model.specs.claim.GeographyModels.block_limit, pl94.specs.{claim.Entries.line_read, declared.entry.GeoRecord.GeoRecord}}
+use Rattle.pl94.specs.claim.Judging.{states_of, numbers_of, ids_of, other_state, entries, judge}
 
 -- Taken records of one state, with one state record at most, different record numbers and different blocks, of which
 -- there are no more than the limit.

@@ -1,18 +1,14 @@
 -- Lemmas on the definitions of Accepted.
-use Rattle.std.specs.{Prelude.{◌==◌, not, nat_le}, List.slice_get}
+use Rattle.{std.{specs.{List.slice_get, Prelude.{◌==◌, not, nat_le}}, proofs.lemmas.Bool.{leb-false, eqb-true}}, desk_catalogue.specs.{Kept.revision_in, claim.Accepting.IsAfter}}
 use Rattle.std.proofs.Common.{rules, ◌≡◌, ◌<◌, ◌≤◌, ◌+◌, ◌-◌, ℕ, suc, Bool, cond, List, [], ◌∷◌, ◌++◌, length, Option, Some, None, Result, Ok, refl, sym, ap, ◌∙◌, arith}
-use Rattle.std.specs.FinMap as map_of
-use Rattle.std.proofs.lemmas.Bool.{leb-false, eqb-true}
-use Rattle.desk_model.specs.{declared.command.Command.Command, declared.command.Command.TheVariants.{Create, Whole, Counties, Retire, Fork}, declared.kind.Kind.Kind}
-use Rattle.desk_model.specs.{claim.Baf.{Values, Fault}, claim.Geography.GeographyModel, claim.Desk.{Plan, Desk}}
+use Rattle.desk_model.specs.{claim.{Baf.{Values, Fault}, Desk.{Plan, Desk}, Geography.GeographyModel, Subject.revision_at}, declared.{command.Command.Command, kind.Kind.Kind}}
+use Rattle.{desk_model.specs.claim.Room.{changed, revision_rows, added_rows, command_rows, fork_rows, forked_rows, last_revision}, plan_revisions.specs.Accepted.IsRevised}
 use Rattle.desk_model.specs.claim.Step.{step, step_at, create, on_revisions, whole_read, patch_read, county_patched, patched, refused, retired, fork, fork_from, fork_of, plan_limit, revision_limit, Outcome}
-use Rattle.desk_model.specs.{claim.Subject.revision_at, declared.reply.Refusal.TheVariants.{Limit, Stale}}
-use Rattle.desk_model.specs.claim.Room.{changed, revision_rows, added_rows, command_rows, fork_rows, forked_rows, last_revision}
+use Rattle.desk_model.specs.declared.{command.Command.TheVariants.{Create, Whole, Counties, Retire, Fork}, reply.Refusal.TheVariants.{Limit, Stale}}
+use Rattle.{plan_revisions.specs.{Plans.{TakesPlan, with_plan, HasPlanAt, without_plan, TakesFork, with_fork}, claim.Rows.added_by}, store_rows.specs.Changes.with_revision}
+use Rattle.{desk_catalogue.proofs.Drafted.{end_of, put_there, no_zero}, plan_revisions.proofs.Within.{AreSmall, body_small, patched_within, revision_within, whole_within}}
+use Rattle.std.specs.FinMap as map_of
 use Rattle.desk_model.specs.declared.reply.Reply.TheVariants as reply
-use Rattle.desk_catalogue.{specs.claim.Accepting.IsAfter, specs.Kept.revision_in, proofs.Drafted.{end_of, put_there, no_zero}}
-use Rattle.store_rows.specs.Changes.{with_revision}
-use Rattle.plan_revisions.specs.{claim.Rows.added_by, Plans.{TakesPlan, with_plan, HasPlanAt, without_plan, TakesFork, with_fork}, Accepted.IsRevised}
-use Rattle.plan_revisions.proofs.Within.{AreSmall, body_small, patched_within, revision_within, whole_within}
 
 -- ---- a plan is created
 module _ (d : Desk) (name : List ℕ) (size : Kind × ℕ) where
@@ -164,6 +160,9 @@ module _ (d : Desk) (name : List ℕ) (after : ℕ) (e : Desk) (r : IsRevised d 
   pub rows_added : added_rows d.geography (map_of.get d.plans name) (map_of.get e.plans name) ≡ revision_rows r.g (revision_in (map_of.get d.plans name) after) r.districts
   rows_added = search (rules, plan_then, last_of_next, last_is)
 
+  two_rows : 2 ≤ added_rows d.geography (map_of.get d.plans name) (map_of.get e.plans name)
+  two_rows = let rows = rows_added in omega arith
+
   pub chunks_added : added_by d name e ≡ length (changed r.g (revision_in (map_of.get d.plans name) after) r.districts)
   chunks_added = search (rules, plan_then, last_of_next, last_is)
 
@@ -175,17 +174,8 @@ geography_of d e f same is = ap (λ (x : Desk). x.geography) same ∙ is
 pub geography_stays : (d : Desk) (c : Command) (e : Desk) → IsAfter d c e → e.geography ≡ d.geography
 geography_stays d c e is = search (arith, geography_of, created, whole_revised, map_of.insert, counties_revised, forked, taken_away)
 
-some_rows : (g : GeographyModel) (last : Option (List ℕ)) (new : List ℕ) (n : ℕ) → n ≡ revision_rows g last new → 2 ≤ n
-some_rows g last new n is = omega arith
-
 -- and it writes two rows at least
 pub rows_some : (d : Desk) (c : Command) (e : Desk) → IsAfter d c e → 2 ≤ command_rows d c
-rows_some d (Whole name after body) e is =
-    let then = (step d (Whole name after body)).1 in
-    let r = whole_revised d name after body is.reply in
-    some_rows r.g (revision_in (map_of.get d.plans name) after) r.districts (command_rows d (Whole name after body)) (rows_added d name after then r)
-rows_some d (Counties name after body) e is =
-    let then = (step d (Counties name after body)).1 in
-    let r = counties_revised d name after body is.reply in
-    some_rows r.g (revision_in (map_of.get d.plans name) after) r.districts (command_rows d (Counties name after body)) (rows_added d name after then r)
+rows_some d (Whole name after body) e is = two_rows d name after _ (whole_revised d name after body is.reply)
+rows_some d (Counties name after body) e is = two_rows d name after _ (counties_revised d name after body is.reply)
 rows_some d _ e is = search (arith, forked, rows_forked)

@@ -1,43 +1,22 @@
 -- The rows of one revision more make the next desk.
-use Rattle.std.specs.{FinMap.insert, List.slice_get}
-use Rattle.std.proofs.Common.{◌≡◌, ◌<◌, ◌+◌, ◌-◌, ◌^◌, ℕ, Bool, true, cond, List, [], ◌++◌, length, get_or, Option, Some, None, refl, sym, ap, subst, ◌∙◌, inl, inr, arith, append_assoc}
-use Rattle.std.proofs.lemmas.List.Elements.{All-push}
-use Rattle.std.proofs.lemmas.Option.{get_or_from_slice_get, slice_get_cases}
-use Rattle.desk_model.specs.{claim.Ranges.{cut, sizes}, Ranges.{ranges_of, RangesAreCounties, ListsAreCut}, claim.Desk.{Plan, Desk}, claim.Geography.GeographyModel}
-use Rattle.desk_model.specs.claim.Room.{changed, last_revision, revision_rows}
-use Rattle.store_rows.specs.{declared.value.Counters.Counters, declared.value.PlanRow.PlanRow, claim.Rows.KeyMap, claim.Puts.{Row, put_rows}, NameRows.name_rows}
-use Rattle.store_rows.specs.{claim.RevisionRows.HasRevision, claim.DeskRows.HasPlan, Changes.{plan_row_of, with_revision}, Draws.{ChangesAreDrawn, FirstsAreDrawn, RowsAreCounted}}
-use Rattle.store_rows.specs.{RevisionSteps.{AreKept, IsDrawn, new_chunk_rows, new_holding_rows, rows_of_revision}, TidyLaws.{ChunksAreKept, NextIsOne, RevisionsMakeDesks}}
-use Rattle.plan_rows.specs.{PlanRows.revised_rows, PlanLaws.PlansAreTold}
-use Rattle.desk_pages.specs.claim.Desks.{AreWithin, IsDeskMap}
-use Rattle.desk_catalogue.specs.Cutting.{changes_in}
-use Rattle.plan_revisions.specs.{Plans.{TakesNext, with_next, with_next_of}, Counties.drawn, Adding.{AreRead, rows_put}, Laws.{CanAdd, all_rows}}
-use Rattle.plan_revisions.proofs.{Limits.with_another, Desks.{is_with, is_still, numbers_are}, LastRevision.{told_plan, last_there, last_named, as_many, ranges_long}}
-use Rattle.plan_revisions.proofs.{Drawn.{firsts_drawn, changes_drawn, drawn_long}, ChunkLists.{few_counties, are_chunk_lists}}
+use Rattle.std.{specs.FinMap.insert, proofs.Common.{◌≡◌, ◌<◌, ◌+◌, ◌-◌, ◌^◌, ℕ, Bool, true, List, ◌++◌, length, Option, Some, None, refl, sym, ap, subst, ◌∙◌, arith, append_assoc}}
+use Rattle.{std.proofs.lemmas.List.Elements.All-push, desk_catalogue.specs.Cutting.changes_in, desk_model.specs.Ranges.{ranges_of, RangesAreCounties, ListsAreCut}}
+use Rattle.desk_model.specs.claim.{Desk.{Plan, Desk}, Geography.GeographyModel, Ranges.{cut, sizes}, Room.{changed, last_revision, revision_rows}}
+use Rattle.{desk_pages.specs.claim.Desks.{AreWithin, IsDeskMap}, plan_revisions.{specs.{Adding.{AreRead, rows_put}, Counties.drawn, Laws.{CanAdd, all_rows}}, proofs.Looking.among}}
+use Rattle.{plan_revisions.specs.Plans.{TakesNext, with_next, with_next_of}, plan_rows.specs.{PlanLaws.PlansAreTold, PlanRows.revised_rows}, store_rows.specs.NameRows.name_rows}
+use Rattle.store_rows.specs.{Changes.{plan_row_of, with_revision}, Draws.{ChangesAreDrawn, FirstsAreDrawn, RowsAreCounted}, TidyLaws.{ChunksAreKept, NextIsOne, RevisionsMakeDesks}}
+use Rattle.store_rows.specs.{RevisionSteps.{AreKept, IsDrawn, new_chunk_rows, new_holding_rows, rows_of_revision}, claim.{DeskRows.HasPlan, Puts.{Row, put_rows}, Rows.KeyMap}}
+use Rattle.{store_rows.specs.{claim.RevisionRows.HasRevision, declared.value.{Counters.Counters, PlanRow.PlanRow}}, plan_revisions.proofs.Desks.{is_with, is_still, numbers_are}}
+use Rattle.plan_revisions.proofs.{ChunkLists.{few_counties, are_chunk_lists}, Drawn.{firsts_drawn, changes_drawn, drawn_long}, Limits.with_another}
+use Rattle.plan_revisions.proofs.LastRevision.{told_plan, last_there, last_named, as_many, ranges_long}
 
 -- ---- the chunks of the revision
-pub clash : (o : Option (List ℕ)) (x : List ℕ) → o ≡ None → o ≡ Some x → ⊥
-clash o x none some = let same : ◌≡◌ {A = Option (List ℕ)} None (Some x) = sym none ∙ some in cc
-
-pub record IsLast (revisions : List (List ℕ)) (last : List ℕ) : Type 0 where
-  pub some : 0 < length revisions
-  pub is : get_or revisions (length revisions - 1) [] ≡ last
-
-at_place : (revisions : List (List ℕ)) (last : List ℕ) → slice_get revisions (length revisions - 1) ≡ Some last → IsLast revisions last
-at_place revisions last there = elim (slice_get_cases revisions (length revisions - 1)).1 [
-  | inl found ↦ (let less = found.1 in record { some = omega arith; is = get_or_from_slice_get revisions (length revisions - 1) last [] there })
-  | inr past ↦ absurd (clash (slice_get revisions (length revisions - 1)) last past.1 there)
-]
-
-last_or_none : (b : Bool) (revisions : List (List ℕ)) (last : List ℕ) → cond b None (slice_get revisions (length revisions - 1)) ≡ Some last → IsLast revisions last
-last_or_none b revisions last there = search (arith, clash, at_place)
-
 module _ (kept_law : ChunksAreKept) (firsts : FirstsAreDrawn) (changes : ChangesAreDrawn) (counties : RangesAreCounties) (cut_law : ListsAreCut) (m : KeyMap) (g : GeographyModel) (name : List ℕ) (next : List ℕ) (row : PlanRow) (counters : Counters) (kept : List ℕ) (p : Plan)
     (told : row ≡ plan_row_of row.number p) (has : HasPlan m g name row.number p) (read : AreRead name (length (ranges_of g)) row counters kept m) where
   pub is_drawn : (last : Option (List ℕ)) → last_revision p ≡ last → CanAdd g last next row counters → IsDrawn m counters row.number (changed g last next) (drawn counters.chunk 0 kept (changes_in last next (ranges_of g))) (cut g next)
   is_drawn None last_is can = search (few_counties, as_many, firsts_drawn, are_chunk_lists)
   is_drawn (Some last) last_is can =
-      let at = last_or_none _ p.revisions last last_is in
+      let at = among p (length p.revisions) last last_is in
       let count : row.revisions ≡ length p.revisions = ap (λ (r : PlanRow). r.revisions) told in
       let most = has.few in
       let begun = at.some in

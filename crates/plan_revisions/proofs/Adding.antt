@@ -1,52 +1,75 @@
 -- A revision that was read and put is a step of the desk.
-use Rattle.std.proofs.Common.{rules, ◌≡◌, ◌<◌, ◌≤◌, ◌-◌, ◌^◌, ℕ, List, length, get_or, Option, subst, arith}
-use Rattle.plan_rows.{specs.claim.Outcomes.HasExhausted, specs.claim.PlanRows.HasChunkNumbers, specs.PlanLaws.RowFits, proofs.Changed.{rows_changed, rows_unchanged}}
-use Rattle.std.proofs.lemmas.Grind.{get_or_default_zero}
-use Rattle.sector_device.specs.declared.SectorDevice.{Ghosts}
-use Rattle.desk_model.specs.{Ranges.ranges_of, claim.Desk.Desk, claim.GeographyModels.AreBlocks, claim.Geography.GeographyModel, claim.Room.{changed, revision_rows}}
-use Rattle.page_store.specs.{claim.Transactions.{stored, disk_in, IsQuiet, Passed}, declared.pages.Pages.Pages, declared.txn.Txn.Txn}
-use Rattle.page_btree.specs.{claim.Map.InTxn as HasMap, declared.error.TreeError.TreeError}
-use Rattle.store_rows.specs.{declared.value.Counters.Counters, declared.value.PlanRow.PlanRow, claim.Rows.KeyMap, claim.Puts.{Row, put_rows}, claim.Tidy.CountersFit}
-use Rattle.store_rows.specs.TidyLaws.{NextIsOne}
-use Rattle.desk_pages.specs.claim.Puts.{HasPut, PutsErr}
-use Rattle.plan_revisions.specs.{claim.Steps.{HasStepped, LeavesNumbers, StepErr}, Plans.{TakesNext, with_next}, Adding.{AreRead, rows_put}}
-use Rattle.plan_revisions.{specs.Laws.{CanAdd, DesksAreAdded, RowsAreFew, all_rows}, proofs.Retiring.{stepped_by, not_stepped_by}}
+use Rattle.std.proofs.{Common.{rules, ◌≡◌, ◌<◌, ◌≤◌, ◌-◌, ◌^◌, ◌∙◌, ℕ, Bool, List, length, get_or, Option, Result, Ok, sym, ap, subst, arith}, lemmas.Grind.get_or_default_zero}
+use Rattle.{desk_catalogue.specs.Cutting.{changes_in, is_changed}, desk_model.specs.{Ranges.ranges_of, claim.{Desk.Desk, Geography.GeographyModel, GeographyModels.AreBlocks}}}
+use Rattle.{desk_model.specs.{claim.Room.{changed, revision_rows}, declared.ranges.CountyRange.CountyRange}, desk_pages.specs.{Looking.Gathers, Outcomes.Writes}}
+use Rattle.{desk_pages.specs.claim.Puts.{HasPut, PutsErr}, page_btree.specs.{claim.Map.InTxn as HasMap, declared.error.TreeError.TreeError}, page_store.specs.declared.txn.Txn.Txn}
+use Rattle.{page_store.specs.{claim.Transactions.{stored, disk_in, IsQuiet}, declared.pages.Pages.Pages}, plan_revisions.specs.Adding.{AreRead, IsOpen, rows_put}}
+use Rattle.plan_revisions.specs.{Counties.{count_new, drawn, new_lists}, Laws.{CanAdd, DesksAreAdded, RowsAreFew, all_rows}, Outcomes.AddsRows, Plans.{TakesNext, with_next}}
+use Rattle.{plan_revisions.specs.{claim.Steps.{HasStepped, LeavesNumbers, StepErr}, declared.reads.Reading.Reading}, plan_rows.specs.claim.Outcomes.HasExhausted}
+use Rattle.{plan_rows.specs.claim.PlanRows.HasChunkNumbers, sector_device.specs.declared.SectorDevice.Ghosts, store_rows.specs.{TidyLaws.NextIsOne, claim.Puts.{Row, put_rows}}}
+use Rattle.{store_rows.specs.{claim.{Rows.KeyMap, Tidy.CountersFit}, declared.value.Counters.Counters}, plan_revisions.proofs.{Chunking.new_many, Drawn.new_are_changed}}
+use Rattle.{plan_revisions.proofs.Retiring.{stepped_by, not_stepped_by}, plan_rows.proofs.{Changed.{rows_changed, rows_unchanged}, Writing.{after_reads, writes_as}}}
 
-module _ (the_geography : GeographyModel) (name : List ℕ) (last : Option (List ℕ)) (next : List ℕ) (row : PlanRow) (counters : Counters) (kept : List ℕ) where
-  abbrev says : Desk → Type 0
-  says = TakesNext the_geography name last next
+module _ {D : Type 0} {g : Ghosts D} {name : List ℕ} {ranges : List CountyRange} {used : ℕ} {has : KeyMap → Type 0} {t : Txn} {a b : Pages D g} {r : Reading}
+    (the_geography : GeographyModel) (next : List ℕ) (changes : List Bool) (gathers : Gathers (λ m x. AreRead name (length ranges) x.row x.next x.kept.items m) has t a b (Ok r))
+    (fits : IsOpen r.row × CountersFit r.next) (cut_is : ranges ≡ ranges_of the_geography) (counted : used ≡ count_new changes) where
+  -- these change since a last revision
+  abbrev AreSince : Option (List ℕ) → Type 0
+  AreSince last = changes ≡ changes_in last next (ranges_of the_geography)
 
-  abbrev rows : List Row
-  rows = all_rows the_geography name last next row counters kept
+  abbrev many : Option (List ℕ) → ℕ
+  many last = length (changed the_geography last next)
 
-  abbrev many : ℕ
-  many = length (changed the_geography last next)
+  abbrev says : Option (List ℕ) → Desk → Type 0
+  says last = TakesNext the_geography name last next
 
-  module _ {D : Type 0} {g : Ghosts D} (t u : Txn) (a b c : Pages D g) (passed : Passed a b) (read : (disk_in b).is_honest → (m : KeyMap) → HasMap t (stored a) m → AreRead name (length (ranges_of the_geography)) row counters kept m) where
-    -- too few numbers were left
-    pub not_left : (used : ℕ) → CountersFit counters → used ≡ many → 2 ^ 64 - 1 - counters.chunk < used → HasExhausted (HasChunkNumbers many) t t a b
-    not_left used fit same more = search rules
+  abbrev rows : Option (List ℕ) → List Row
+  rows last = all_rows the_geography name last next r.row r.next r.kept.items
 
-    module _ (can : CanAdd the_geography last next row counters) where
-      pub added : DesksAreAdded → RowsAreFew → HasPut rows t u b c → HasStepped says (with_next name next) (revision_rows the_geography last next) t u a c
-      added law few put = stepped_by says (with_next name next) (revision_rows the_geography last next) (λ m. put_rows m rows) (length rows) t a b c passed (let long = few the_geography name last next row counters kept in omega arith) u
-          (λ before m d holds is said. law the_geography name last next row counters kept can m d is said (read before m holds)) (rows_changed rows t u b c put)
+  read : (disk_in b).is_honest → (m : KeyMap) → HasMap t (stored a) m → AreRead name (length (ranges_of the_geography)) r.row r.next r.kept.items m
+  read honest m holds = subst (λ (cs : List CountyRange). AreRead name (length cs) r.row r.next r.kept.items m) cut_is (gathers.there honest m holds)
+
+  used_are : (last : Option (List ℕ)) → AreSince last → used ≡ many last
+  used_are last are = counted ∙ ap count_new are ∙ sym (new_many (is_changed last next) next (ranges_of the_geography)) ∙ ap length (new_are_changed the_geography last next)
+
+  -- too few numbers were left
+  pub not_left : 2 ^ 64 - 1 - r.next.chunk < used → (last : Option (List ℕ)) → AreSince last → HasExhausted (HasChunkNumbers (many last)) t t a b
+  not_left more last are =
+      let passed = gathers.passed in
+      let fit = fits.1 in
+      let same = used_are last are in
+      let before = read in
+      search rules
+
+  module _ (numbers : List ℕ) (blocks : AreBlocks the_geography.blocks) (long : length next ≡ length the_geography.blocks) (each : (i : ℕ) → get_or next i 0 < 2 ^ 16) (room : used ≤ 2 ^ 64 - 1 - r.next.chunk)
+      (numbered : numbers ≡ drawn r.next.chunk 0 r.kept.items changes) (added : DesksAreAdded) (few : RowsAreFew) (one : NextIsOne) where
+    module _ (last : Option (List ℕ)) (are : AreSince last) where
+      can : CanAdd the_geography last next r.row r.next
+      can = let same = used_are last are in search (arith, get_or_default_zero, each)
+
+      -- what was put, in the geography's words
+      rows_are : rows_put name r.row r.next (new_lists changes next ranges) numbers used ≡ rows last
+      rows_are =
+          let lists = (λ i. new_lists (are i) next (cut_is i)) ∙ new_are_changed the_geography last next in
+          λ i. rows_put name r.row r.next (lists i) ((numbered ∙ ap (drawn r.next.chunk 0 r.kept.items) are) i) (used_are last are i)
+
+      few_rows : length (rows last) ≤ revision_rows the_geography last next
+      few_rows = let long = few the_geography name last next r.row r.next r.kept.items in omega arith
 
       -- the numbers that were read are those of each map
-      pub leaves : NextIsOne → IsQuiet b c → LeavesNumbers (HasChunkNumbers many) t a c
-      leaves one quiet honest m after holds fit is =
-          let before = quiet.honest honest in
-          subst (λ (n : Counters). HasChunkNumbers many n) (one m counters after can.fit fit (read before m holds).is_next is) can.room
+      leaves : (d : Pages D g) → IsQuiet b d → LeavesNumbers (HasChunkNumbers (many last)) t a d
+      leaves d quiet honest m after holds fit is = subst (λ (n : Counters). HasChunkNumbers (many last) n) (one m r.next after fits.1 fit (read (quiet.honest honest) m holds).is_next is) can.room
 
-      pub not_added : RowsAreFew → (e : TreeError) → IsQuiet b c → PutsErr rows t b c e → StepErr says (revision_rows the_geography last next) t a c e
-      not_added few e quiet why = not_stepped_by says (with_next name next) (revision_rows the_geography last next) (λ m. put_rows m rows) (length rows) t a b c passed (let long = few the_geography name last next row counters kept in omega arith)
-          (λ m. Unit {0}) (λ before m d holds is said. tt) e quiet (rows_unchanged (λ m. Unit {0}) rows t b c e why)
-
--- ---- what was put, in the geography's words
-module _ (name : List ℕ) (row : PlanRow) (counters : Counters) (lists now : List (List ℕ)) (numbers drawn_now : List ℕ) (used : ℕ) (same : lists ≡ now) (numbered : numbers ≡ drawn_now) (many : used ≡ length now) where
-  pub rows_are : rows_put name row counters lists numbers used ≡ rows_put name row counters now drawn_now (length now)
-  rows_are = λ i. rows_put name row counters (same i) (numbered i) (many i)
-
--- what is needed of what was read
-pub can_add : (g : GeographyModel) (last : Option (List ℕ)) (next : List ℕ) (row : PlanRow) (counters : Counters) (used : ℕ) → AreBlocks g.blocks → length next ≡ length g.blocks → ((i : ℕ) → get_or next i 0 < 2 ^ 16) → RowFits row × CountersFit counters → used ≡ length (changed g last next) → used ≤ 2 ^ 64 - 1 - counters.chunk → CanAdd g last next row counters
-can_add g last next row counters used blocks long each fits many room = search (arith, get_or_default_zero, each)
+    pub adds : {X : Type 0} {u : Txn} {d : Pages D g} (result : Result X TreeError) → AddsRows name r.row r.next changes next ranges numbers used t u b d result
+        → Writes (λ _. (last : Option (List ℕ)) → AreSince last → HasStepped (says last) (with_next name next) (revision_rows the_geography last next) t u a d × LeavesNumbers (HasChunkNumbers (many last)) t a d)
+        (λ e. (last : Option (List ℕ)) → AreSince last → StepErr (says last) (revision_rows the_geography last next) t a d e) u a d result
+    adds {X} {u} {d} result write = writes_as result (after_reads result gathers.quiet write)
+        (λ _ did last are. (
+          stepped_by (says last) (with_next name next) (revision_rows the_geography last next) (λ m. put_rows m (rows last)) (length (rows last)) t a b d gathers.passed (few_rows last are) u
+              (λ before m desk holds is takes. added the_geography name last next r.row r.next r.kept.items (can last are) m desk is takes (read before m holds))
+              (rows_changed (rows last) t u b d (subst (λ (rs : List Row). HasPut rs t u b d) (rows_are last are) did)),
+          leaves last are d write.quiet,
+        ))
+        (λ e why last are.
+        not_stepped_by (says last) (with_next name next) (revision_rows the_geography last next) (λ m. put_rows m (rows last)) (length (rows last)) t a b d gathers.passed (few_rows last are) (λ m. Unit {0}) (λ before m desk holds is takes. tt) e why.0
+        (rows_unchanged (λ m. Unit {0}) (rows last) t b d e (subst (λ (rs : List Row). PutsErr rs t b d e) (rows_are last are) why.1)))

@@ -1,10 +1,9 @@
 -- The rows of a revision that was accepted.
-use Rattle.std.{specs.Prelude.{IfSome, IsSome, is_some}, proofs.Common.{◌≡◌, ◌⊎◌, ◌+◌, ℕ, Bool, List, length, Option, Some, sym, ap, ◌∙◌, inl, inr, arith}}
+use Rattle.std.{specs.Prelude.IfSome, proofs.{Common.{◌≡◌, ◌⊎◌, ◌+◌, ℕ, Bool, List, length, Option, Some, sym, ap, ◌∙◌, arith}, lemmas.List.length-map}}
+use Rattle.desk_catalogue.specs.{Cutting.{changes_in, is_changed}, Drafts.{changes_between, changes_of}, Kept.{IsWhole, revision_in}, claim.Accepting.IsAfter}
+use Rattle.desk_model.specs.{Ranges.{ranges_in, ranges_of}, claim.{Desk.Desk, Geography.GeographyModel}, declared.command.Command.{Command, TheVariants.{Whole, Counties}}}
+use Rattle.{desk_model.specs.declared.ranges.CountyRange.CountyRange, plan_revisions.{specs.Accepted.IsRevised, proofs.Accepted.{counties_revised, next_is, whole_revised}}}
 use Rattle.std.specs.FinMap as map_of
-use Rattle.desk_model.specs.{declared.ranges.CountyRange.CountyRange, Ranges.{ranges_in, ranges_of}, claim.Geography.GeographyModel, claim.Desk.Desk}
-use Rattle.desk_model.specs.{declared.command.Command.Command, declared.command.Command.TheVariants.{Whole, Counties}}
-use Rattle.desk_catalogue.specs.{Cutting.changes_in, Drafts.{changes_between, changes_of}, claim.Accepting.IsAfter, Kept.{IsWhole, revision_in}}
-use Rattle.plan_revisions.{specs.Accepted.IsRevised, proofs.Accepted.{counties_revised, next_is, whole_revised}}
 
 -- a geography that a desk has is the one that it is known by
 pub same_geography : (d : Desk) (g h : GeographyModel) → d.geography ≡ Some g → d.geography ≡ Some h → g ≡ h
@@ -14,10 +13,6 @@ same_geography d g h one other = cc
 pub if_whole : (d : Desk) (g : GeographyModel) (last : Option (List ℕ)) → d.geography ≡ Some g → IsWhole d.geography last → IfSome last (λ l. length l ≡ length g.blocks)
 if_whole d g last is whole = search (arith, whole)
 
--- what is told is there
-pub there_is : (o : Option (List ℕ)) (x : List ℕ) → o ≡ Some x → IsSome o
-there_is o x is = ap is_some is
-
 -- which counties change in the revision that the plan got
 module _ (d : Desk) (name : List ℕ) (after : ℕ) (e : Desk) (r : IsRevised d name after e) (ranges : List CountyRange) (changes : List Bool) where
   abbrev AreChanges : Type 0
@@ -25,6 +20,9 @@ module _ (d : Desk) (name : List ℕ) (after : ℕ) (e : Desk) (r : IsRevised d 
 
   pub changes_told : AreChanges → changes ≡ changes_in (revision_in (map_of.get d.plans name) after) r.districts ranges
   changes_told are = are ∙ ap (λ (o : Option (List ℕ)). changes_between (revision_in (map_of.get d.plans name) after) o ranges) (next_is d name after e r)
+
+  pub each_told : AreChanges → length changes ≡ length ranges
+  each_told are = ap length (changes_told are) ∙ length-map ranges (is_changed (revision_in (map_of.get d.plans name) after) r.districts)
 
   pub changes_now : (next : List ℕ) → next ≡ r.districts → AreChanges → changes ≡ changes_in (revision_in (map_of.get d.plans name) after) next ranges
   changes_now next is are = changes_told are ∙ ap (λ (l : List ℕ). changes_in (revision_in (map_of.get d.plans name) after) l ranges) (sym is)
@@ -36,5 +34,4 @@ changes_by d q name after e g changes is given are = search (arith, is)
 
 -- the plan of a command that was accepted got a revision more
 pub revised_by : (d : Desk) (q : Command) (name : List ℕ) (after : ℕ) (e : Desk) → ((body : List ℕ) × (q ≡ Whole name after body)) ⊎ ((body : List ℕ) × (q ≡ Counties name after body)) → IsAfter d q e → IsRevised d name after e
-revised_by d q name after e (inl (body, same)) is = search (arith, whole_revised)
-revised_by d q name after e (inr (body, same)) is = search (arith, counties_revised)
+revised_by d q name after e given is = search (arith, whole_revised, counties_revised)

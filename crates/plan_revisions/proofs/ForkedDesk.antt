@@ -1,18 +1,15 @@
 -- The rows of a fork make the desk with it.
-use Rattle.std.specs.{Prelude.Contains, FinMap.{FinMap, insert}}
-use Rattle.std.proofs.Common.{rules, ◌≡◌, ◌<◌, ◌≤◌, ◌*◌, ◌^◌, ℕ, true, List, [], ◌∷◌, length, get_or, Some, refl, sym, ap, subst, arith}
-use Rattle.std.proofs.lemmas.List.Elements.{All-cons, All-contains, All-nil}
-use Rattle.desk_model.specs.{claim.Ranges.cut, Ranges.{ranges_of, RangesAreCounties, ListsAreCut}, claim.Desk.{Plan, Desk, name_cmp}, claim.Geography.GeographyModel}
-use Rattle.desk_model.{specs.declared.kind.Kind.Kind, specs.claim.Sizes.most_districts, proofs.Maps.insert_again}
-use Rattle.store_rows.specs.{declared.value.Counters.Counters, declared.value.PlanRow.PlanRow, claim.Rows.KeyMap, Rows.SameTag, claim.RevisionRows.HasRevision}
-use Rattle.store_rows.specs.{claim.DeskRows.{HasPlan, IsDesk}, Changes.{desk_with, plan_row_of}, RevisionSteps.AreKept, Shares.with_shared, Steps.{chunks_more, one_plan_more}}
-use Rattle.store_rows.specs.{claim.Tidy.CountersFit, TidyLaws.{ChunksAreKept, MakesRevision, NextIsOne, PlansComeAndGoTidily}, ForkLaws.SharesMakeDesks}
-use Rattle.store_rows.proofs.{Frames.{chunk_stays, other_tag, put_is_there, put_keeps}, Forked.can_hold, TidyParts.naming_moves}
-use Rattle.plan_rows.{specs.PlanRows.IsFound, specs.PlanLaws.{PlansAreMade, PlansAreTold, RowFits}, proofs.Made.{numbers_moved, rows_keep}}
-use Rattle.desk_pages.specs.claim.Desks.{AreWithin, IsDeskMap}
-use Rattle.plan_revisions.specs.{Plans.{HasRevisionAt, TakesFork, TakesPlan, with_fork, with_plan}, Forking.{CanMake, IsSource, MakesFork, forked_map, row_like, with_made}}
-use Rattle.plan_revisions.proofs.{Creating.{IsSize, created_desk}, ChunkLists.few_counties, Desks.{is_with, is_still, numbers_are}, LastRevision.{as_many, told_plan, last_named}}
-use Rattle.plan_revisions.proofs.{Limits.{put_there, with_one_more}, Within.revision_within, Looking.stands_at}
+use Rattle.{std.{specs.{FinMap.{FinMap, insert}, Prelude.Contains}, proofs.lemmas.List.Elements.{All-cons, All-contains, All-nil}}, desk_model.specs.claim.Geography.GeographyModel}
+use Rattle.{std.proofs.Common.{rules, ◌≡◌, ◌<◌, ◌≤◌, ◌*◌, ◌^◌, ℕ, true, List, [], ◌∷◌, length, get_or, Some, refl, sym, ap, subst, arith}, desk_model.specs.claim.Ranges.cut}
+use Rattle.desk_model.specs.{Ranges.{ranges_of, RangesAreCounties, ListsAreCut}, claim.{Desk.{Plan, Desk, name_cmp}, Sizes.most_districts}, declared.kind.Kind.Kind}
+use Rattle.{desk_pages.specs.claim.Desks.{AreWithin, IsDeskMap}, plan_revisions.specs.Forking.{CanMake, IsSource, MakesFork, forked_map, row_like, with_made}}
+use Rattle.{plan_revisions.specs.Plans.{HasRevisionAt, TakesFork, with_fork, with_plan}, plan_rows.specs.{PlanLaws.{PlansAreMade, PlansAreTold, RowFits}, PlanRows.IsFound}}
+use Rattle.store_rows.specs.{Changes.{desk_with, plan_row_of}, ForkLaws.SharesMakeDesks, RevisionSteps.AreKept, Rows.SameTag, Shares.with_shared, claim.DeskRows.{HasPlan, IsDesk}}
+use Rattle.store_rows.specs.{Steps.{chunks_more, one_plan_more}, TidyLaws.{ChunksAreKept, MakesRevision, NextIsOne, PlansComeAndGoTidily}, claim.RevisionRows.HasRevision}
+use Rattle.{store_rows.{specs.{claim.Rows.KeyMap, declared.value.{Counters.Counters, PlanRow.PlanRow}}, proofs.Forked.can_hold}, desk_model.proofs.Maps.insert_again}
+use Rattle.plan_revisions.proofs.{ChunkLists.few_counties, Creating.{IsSize, created_desk}, Desks.{is_with, is_still, numbers_are}, LastRevision.{as_many, told_plan, last_named}}
+use Rattle.{plan_revisions.proofs.{Limits.{put_there, with_one_more}, Looking.{StandsAt, stands_at}, Within.revision_within}, plan_rows.proofs.Made.{numbers_moved, rows_keep}}
+use Rattle.store_rows.proofs.{Frames.{chunk_stays, other_tag, put_is_there, put_keeps}, TidyParts.naming_moves}
 
 -- ---- chunks that can be kept stay so where the parts and the pieces do
 kept_stay : (m n : KeyMap) (plan : ℕ) (numbers : List ℕ) (counties : List (List ℕ)) → SameTag 82 m n → SameTag 107 m n → AreKept m plan numbers counties → AreKept n plan numbers counties
@@ -47,8 +44,11 @@ module _ (told : PlansAreTold) (made : PlansAreMade) (tidily : PlansComeAndGoTid
     source_is : (source ≡ plan_row_of source.number origin.plan) × HasPlan m g from.0 source.number origin.plan
     source_is = told_plan told m d g from.0 source origin.plan is.desk origin.geography origin.there read.found can.row_fits
 
-    there : HasRevision m source.number from.1 (cut g says.districts)
-    there = (stands_at told cut_law g (ranges_of g) from.0 source from.1 says.districts m d refl can.row_fits read.found is origin).is.has
+    stands : StandsAt g (ranges_of g) source from.1 says.districts m
+    stands = stands_at told cut_law g (ranges_of g) from.0 source from.1 says.districts m d refl can.row_fits read.found is origin
+
+    abbrev there : HasRevision m source.number from.1 (cut g says.districts)
+    there = stands.is.has
 
     same : numbers ≡ there.numbers
     same = read.names there.numbers (last_named m g source.number from.1 says.districts (length (ranges_of g)) refl there)
@@ -58,48 +58,37 @@ module _ (told : PlansAreTold) (made : PlansAreMade) (tidily : PlansComeAndGoTid
 
     kept : AreKept m source.number numbers (cut g says.districts)
     kept =
-        let few = (stands_at told cut_law g (ranges_of g) from.0 source from.1 says.districts m d refl can.row_fits read.found is origin).few in
+        let few = stands.few in
         let most = can.row_fits.revisions_fit in
         subst (λ (l : List ℕ). AreKept m source.number l (cut g says.districts)) (sym same)
         (kept_law m source.number from.1 there.numbers (cut g says.districts) can.row_fits.number_fits (omega arith) there.names there)
-
-    long : length says.districts ≡ length g.blocks
-    long = (stands_at told cut_law g (ranges_of g) from.0 source from.1 says.districts m d refl can.row_fits read.found is origin).long
 
     -- ---- the plan is made
     sized : IsSize size
     sized =
         let limits = is.limits.sizes from.0 origin.plan origin.there in
         let some = limits.some in
-        let most = limits.most in
         let kind : source.kind ≡ origin.plan.kind = ap (λ (r : PlanRow). r.kind) source_is.0 in
         let n : source.districts ≡ origin.plan.n = ap (λ (r : PlanRow). r.districts) source_is.0 in
         record {
           some = subst (λ (k : ℕ). 1 ≤ k) (sym n) some;
-          few = subst (λ (k : ℕ). k ≤ most_districts source.kind) (sym n) (subst (λ (k : Kind). origin.plan.n ≤ most_districts k) (sym kind) most);
+          few = subst (λ (k : ℕ). k ≤ most_districts source.kind) (sym n) (subst (λ (k : Kind). origin.plan.n ≤ most_districts k) (sym kind) limits.most);
           fits = can.row_fits.districts_fit;
         }
 
-    takes : TakesPlan name d
-    takes = record { g = g; geography = origin.geography; missing = says.missing; room = says.room }
-
     created : IsDeskMap then (with_plan name size d)
-    created = created_desk made tidily one name size can.is_name sized m d next is takes can.fit read.is_next can.room
-
-    next_fits : CountersFit (one_plan_more next)
-    next_fits = record { plan_fits = can.room; chunk_fits = can.fit.chunk_fits; load_fits = can.fit.load_fits }
+    created = created_desk made tidily one name size can.is_name sized m d next is
+        (record { g = g; geography = origin.geography; missing = says.missing; room = says.room }) can.fit read.is_next can.room
 
     next_is : created.tidy.next ≡ one_plan_more next
-    next_is = numbers_are one then created.tidy (one_plan_more next) next_fits (numbers_moved m name row (one_plan_more next))
-
-    found : IsFound then name (Some row)
-    found = search (rules, put_keeps, other_tag, put_is_there)
-
-    fits : RowFits row
-    fits = record { number_fits = can.fit.plan_fits; districts_fit = can.row_fits.districts_fit; revisions_fit = omega arith }
+    next_is = numbers_are one then created.tidy (one_plan_more next)
+        (record { plan_fits = can.room; chunk_fits = can.fit.chunk_fits; load_fits = can.fit.load_fits }) (numbers_moved m name row (one_plan_more next))
 
     has : HasPlan then g name next.plan first
-    has = (told_plan told then (with_plan name size d) g name row first created.desk origin.geography (put_there d.plans name first) found fits).1
+    has =
+        let found : IsFound then name (Some row) = search (rules, put_keeps, other_tag, put_is_there) in
+        let fits : RowFits row = record { number_fits = can.fit.plan_fits; districts_fit = can.row_fits.districts_fit; revisions_fit = omega arith } in
+        (told_plan told then (with_plan name size d) g name row first created.desk origin.geography (put_there d.plans name first) found fits).1
 
     -- ---- it can hold the chunks, and gets the revision
     few : length numbers ≤ 128 * 2 ^ 8
@@ -109,22 +98,16 @@ module _ (told : PlansAreTold) (made : PlansAreMade) (tidily : PlansComeAndGoTid
         let as_many = as_many g says.districts in
         omega arith
 
-    parts_stay : SameTag 82 m then
-    parts_stay = rows_keep 82 m name row (one_plan_more next) (λ e. absurd (omega arith)) (λ e. absurd (omega arith))
-
-    pieces_stay : SameTag 107 m then
-    pieces_stay = rows_keep 107 m name row (one_plan_more next) (λ e. absurd (omega arith)) (λ e. absurd (omega arith))
-
     kept_then : AreKept then source.number numbers (cut g says.districts)
-    kept_then = kept_stay m then source.number numbers (cut g says.districts) parts_stay pieces_stay kept
-
-    made_then : MakesRevision g (insert d.plans name first) name first says.districts (chunks_more created.tidy.next 0) true (with_shared then created.tidy.next name row numbers)
-    made_then =
-        shares then created.tidy created.version source.number g (insert d.plans name first) name next.plan first says.districts numbers
-        (is_with then (with_plan name size d) g origin.geography created.desk) (put_there d.plans name first) has long (omega arith) few kept_then
+    kept_then =
+        let parts = rows_keep 82 m name row (one_plan_more next) (λ e. absurd (omega arith)) (λ e. absurd (omega arith)) in
+        let pieces = rows_keep 107 m name row (one_plan_more next) (λ e. absurd (omega arith)) (λ e. absurd (omega arith)) in
+        kept_stay m then source.number numbers (cut g says.districts) parts pieces kept
 
     forked : MakesRevision g (insert d.plans name first) name first says.districts (chunks_more (one_plan_more next) 0) true (forked_map name source next numbers m)
-    forked = subst (λ (n : Counters). MakesRevision g (insert d.plans name first) name first says.districts (chunks_more n 0) true (with_shared then n name row numbers)) next_is made_then
+    forked = subst (λ (n : Counters). MakesRevision g (insert d.plans name first) name first says.districts (chunks_more n 0) true (with_shared then n name row numbers)) next_is
+        (shares then created.tidy created.version source.number g (insert d.plans name first) name next.plan first says.districts numbers
+        (is_with then (with_plan name size d) g origin.geography created.desk) (put_there d.plans name first) has stands.long (omega arith) few kept_then)
 
     -- ---- the desk
     abbrev new_plan : Plan

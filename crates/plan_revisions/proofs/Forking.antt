@@ -1,18 +1,17 @@
 -- A fork that is read and put is a step of the desk.
-use Rattle.std.proofs.Common.{rules, ◌≡◌, ◌+◌, ◌*◌, ◌-◌, ◌^◌, ℕ, List, length, Some, refl, ap, subst, ◌∙◌, arith, length-append}
-use Rattle.sector_device.specs.declared.SectorDevice.{Ghosts}
-use Rattle.desk_model.specs.{Ranges.{ranges_of, ListsAreCut}, claim.Desk.Desk, claim.Geography.GeographyModel, claim.Room.{rows_for, fork_rows}}
-use Rattle.page_store.specs.{claim.Transactions.{stored, disk_in, IsQuiet, Passed}, declared.pages.Pages.Pages, declared.txn.Txn.Txn}
-use Rattle.page_btree.specs.{claim.Map.InTxn as HasMap, declared.error.TreeError.TreeError}
-use Rattle.store_rows.specs.{declared.value.Counters.Counters, declared.value.PlanRow.PlanRow, claim.Rows.KeyMap, claim.Puts.{Row, put_rows}, Shares.{hold_all, shared_rows}}
-use Rattle.store_rows.{specs.Steps.one_plan_more, specs.claim.Tidy.CountersFit, specs.TidyLaws.NextIsOne, proofs.Puts.length-rows_told}
-use Rattle.desk_pages.specs.{claim.Puts.{HasPut, PutsErr}, claim.Desks.IsDeskMap}
-use Rattle.plan_rows.specs.{ChunkChanging.{HasChanged, MapErr}, Holding.CanHoldAll, RevisionReading.AreNames, PlanRows.{IsFound, created_rows}, claim.PlanRows.HasPlanNumber}
-use Rattle.plan_rows.specs.{PlanLaws.{PlansAreTold, RowFits}, claim.Outcomes.HasExhausted}
-use Rattle.plan_rows.proofs.{Changed.{changed_as, prefix_unchanged, more_by_rows, more_changed, rows_by_rows, rows_changed, rows_unchanged, then_unchanged}, HeldAll.held_by_rows}
-use Rattle.plan_revisions.specs.{claim.Steps.{HasStepped, LeavesNumbers, StepErr}, Plans.{TakesFork, with_fork}, Lookups.HasSomeRevision}
-use Rattle.plan_revisions.{specs.Forking.{CanFork, CanMake, ForksAreMade, IsSource, forked_map, row_like, rows_of_fork}, proofs.LastRevision.{ranges_long, last_named}}
-use Rattle.plan_revisions.proofs.{Looking.stands_at, Retiring.{stepped_by, not_stepped_by}}
+use Rattle.std.proofs.Common.{rules, ◌≢◌, ◌≤◌, Result, Ok, ◌≡◌, ◌+◌, ◌*◌, ◌-◌, ◌^◌, ℕ, List, length, Some, refl, ap, subst, ◌∙◌, arith, length-append}
+use Rattle.desk_model.specs.{Ranges.{ranges_of, ListsAreCut}, claim.{Desk.Desk, Geography.GeographyModel, GeographyModels.AreBlocks, Name.IsPlanName, Room.{rows_for, fork_rows}}}
+use Rattle.{desk_model.specs.declared.ranges.CountyRange.CountyRange, desk_pages.specs.{Looking.Gathers, Outcomes.Writes, claim.{Desks.IsDeskMap, Puts.{HasPut, PutsErr}}}}
+use Rattle.{page_btree.specs.{claim.Map.InTxn as HasMap, declared.error.TreeError.TreeError}, page_store.specs.claim.Transactions.{stored, disk_in, IsQuiet}}
+use Rattle.{page_store.specs.declared.{pages.Pages.Pages, txn.Txn.Txn}, plan_revisions.{specs.{Lookups.HasSomeRevision, Plans.{TakesFork, with_fork}}, proofs.Looking.stands_at}}
+use Rattle.plan_revisions.specs.{Forking.{CanFork, CanMake, ForksAreMade, IsSource, MakesFork, PutsFork, forked_map, row_like, rows_of_fork}, declared.reads.Reading.Reading}
+use Rattle.{plan_revisions.specs.claim.Steps.{HasStepped, LeavesNumbers, StepErr}, plan_rows.specs.{ChunkChanging.{HasChanged, MapErr}, Holding.CanHoldAll}}
+use Rattle.plan_rows.specs.{PlanLaws.{PlansAreTold, RowFits}, PlanRows.{IsFound, created_rows}, RevisionReading.AreNames, claim.{Outcomes.HasExhausted, PlanRows.HasPlanNumber}}
+use Rattle.{sector_device.specs.declared.SectorDevice.Ghosts, store_rows.specs.{Shares.{hold_all, shared_rows}, Steps.one_plan_more, TidyLaws.NextIsOne, claim.Rows.KeyMap}}
+use Rattle.{store_rows.specs.{claim.{Puts.{Row, put_rows}, Tidy.CountersFit}, declared.value.{Counters.Counters, PlanRow.PlanRow}}, plan_rows.proofs.HeldAll.held_by_rows}
+use Rattle.{plan_revisions.proofs.{LastRevision.{ranges_long, last_named}, Retiring.{stepped_by, not_stepped_by}}, plan_rows.proofs.Writing.{after_reads, writes_as}}
+use Rattle.plan_rows.proofs.Changed.{changed_as, prefix_unchanged, more_by_rows, more_changed, rows_by_rows, rows_changed, rows_unchanged, then_unchanged}
+use Rattle.store_rows.proofs.Puts.{length-rows_told}
 
 -- ---- what is read
 module _ (told : PlansAreTold) (cut_law : ListsAreCut) (the_geography : GeographyModel) (from : List ℕ) (k : ℕ) (row : PlanRow) (count : ℕ) (many : count ≡ length (ranges_of the_geography)) (fits : RowFits row) where
@@ -49,49 +48,71 @@ module _ (name : List ℕ) (source : PlanRow) (next : Counters) (numbers : List 
     pub not_made : (t : Txn) (a b : Pages D g) (e : TreeError) → PutsErr made_rows t a b e → MapErr can all t a b e
     not_made t a b e why = prefix_unchanged 2 all can can t a b e (omega arith) (λ m is. is) (rows_unchanged can made_rows t a b e why)
 
-    pub not_held : (t u : Txn) (a b c : Pages D g) (e : TreeError) → HasPut made_rows t u a b → IsQuiet b c → MapErr (CanHoldAll next.plan numbers) (2 * length numbers) u b c e → MapErr can all t a c e
-    not_held t u a b c e put quiet why =
+    pub not_held : {t u : Txn} {a b c : Pages D g} (e : TreeError) → HasPut made_rows t u a b → IsQuiet b c → MapErr (CanHoldAll next.plan numbers) (2 * length numbers) u b c e → MapErr can all t a c e
+    not_held {t} {u} {a} {b} {c} e put quiet why =
         prefix_unchanged (2 + 2 * length numbers) all can can t a c e (omega arith) (λ m is. is)
         (then_unchanged making 2 (2 * length numbers) can (CanHoldAll next.plan numbers) t u a b c e (rows_by_rows made_rows) (λ m is. is) (rows_changed made_rows t u a b put) quiet why)
 
-    pub made_held : (t u v : Txn) (a b c : Pages D g) → HasPut made_rows t u a b → HasChanged holding (2 * length numbers) u v b c → HasChanged (λ m. holding (making m)) (2 + 2 * length numbers) t v a c
-    made_held t u v a b c put held = more_changed making holding 2 (2 * length numbers) t u v a b c (rows_changed made_rows t u a b put) held
+    pub made_held : {t u v : Txn} {a b c : Pages D g} → HasPut made_rows t u a b → HasChanged holding (2 * length numbers) u v b c → HasChanged (λ m. holding (making m)) (2 + 2 * length numbers) t v a c
+    made_held {t} {u} {v} {a} {b} {c} put held = more_changed making holding 2 (2 * length numbers) t u v a b c (rows_changed made_rows t u a b put) held
 
-    pub not_shared : (t v : Txn) (a c d : Pages D g) (e : TreeError) → HasChanged (λ m. holding (making m)) (2 + 2 * length numbers) t v a c → IsQuiet c d → PutsErr last_rows v c d e → MapErr can all t a d e
-    not_shared t v a c d e did quiet why =
+    pub not_shared : {t v : Txn} {a c d : Pages D g} (e : TreeError) → HasChanged (λ m. holding (making m)) (2 + 2 * length numbers) t v a c → IsQuiet c d → PutsErr last_rows v c d e → MapErr can all t a d e
+    not_shared {t} {v} {a} {c} {d} e did quiet why =
         let long = last_long in
         prefix_unchanged (2 + 2 * length numbers + length last_rows) all can can t a d e (omega arith) (λ m is. is)
         (then_unchanged (λ m. holding (making m)) (2 + 2 * length numbers) (length last_rows) can (λ m. Unit {0}) t v a c d e
         (more_by_rows making holding 2 (2 * length numbers) (rows_by_rows made_rows) (held_by_rows next.plan numbers))
         (λ m is. tt) did quiet (rows_unchanged (λ m. Unit {0}) last_rows v c d e why))
 
-    pub all_put : (t v w : Txn) (a c d : Pages D g) → HasChanged (λ m. holding (making m)) (2 + 2 * length numbers) t v a c → HasPut last_rows v w c d → HasChanged (forked_map name source next numbers) all t w a d
-    all_put t v w a c d did put =
+    pub all_put : {t v w : Txn} {a c d : Pages D g} → HasChanged (λ m. holding (making m)) (2 + 2 * length numbers) t v a c → HasPut last_rows v w c d → HasChanged (forked_map name source next numbers) all t w a d
+    all_put {t} {v} {w} {a} {c} {d} did put =
         let long = last_long in
         changed_as (λ m. put_rows (holding (making m)) last_rows) (forked_map name source next numbers) (2 + 2 * length numbers + length last_rows) all t w a d (λ m. refl) (omega arith)
         (more_changed (λ m. holding (making m)) (λ m. put_rows m last_rows) (2 + 2 * length numbers) (length last_rows) t v w a c d did (rows_changed last_rows v w c d put))
 
 -- ---- the step
-module _ (the_geography : GeographyModel) (name : List ℕ) (from : List ℕ × ℕ) (source : PlanRow) (next : Counters) (kept : List ℕ) where
-  module _ {D : Type 0} {g : Ghosts D} (t : Txn) (a b : Pages D g) (passed : Passed a b) (read : (disk_in b).is_honest → (m : KeyMap) → HasMap t (stored a) m → IsSource from (length (ranges_of the_geography)) source next kept m) where
-    -- no number was left
-    pub none_left : CountersFit next → next.plan ≡ 2 ^ 64 - 1 → HasExhausted HasPlanNumber t t a b
-    none_left fit last = search rules
+module _ {D : Type 0} {g : Ghosts D} {from : List ℕ × ℕ} {ranges : List CountyRange} {has : KeyMap → Type 0} {t : Txn} {a b : Pages D g} {r : Reading}
+    (the_geography : GeographyModel) (gathers : Gathers (λ m x. IsSource from (length ranges) x.row x.next x.kept.items m) has t a b (Ok r))
+    (fits : RowFits r.row × CountersFit r.next × (length r.kept.items ≡ length ranges)) (cut_is : ranges ≡ ranges_of the_geography) where
+  read : (disk_in b).is_honest → (m : KeyMap) → HasMap t (stored a) m → IsSource from (length (ranges_of the_geography)) r.row r.next r.kept.items m
+  read honest m holds = subst (λ (cs : List CountyRange). IsSource from (length cs) r.row r.next r.kept.items m) cut_is (gathers.there honest m holds)
 
-    module _ (law : ForksAreMade) (can_make : CanMake the_geography name source next) (many : length kept ≡ length (ranges_of the_geography)) (c : Pages D g) where
-      rows_are : rows_of_fork (length kept) ≡ fork_rows the_geography
-      rows_are = ap rows_of_fork (many ∙ ranges_long the_geography)
+  -- no number was left
+  pub none_left : r.next.plan ≡ 2 ^ 64 - 1 → HasExhausted HasPlanNumber t t a b
+  none_left last =
+      let passed = gathers.passed in
+      let fit = fits.1 in
+      let before = read in
+      search rules
 
-      pub forked : (u : Txn) → HasChanged (forked_map name source next kept) (rows_of_fork (length kept)) t u b c → HasStepped (TakesFork the_geography name from) (with_fork name from) (fork_rows the_geography) t u a c
-      forked u did = stepped_by (TakesFork the_geography name from) (with_fork name from) (fork_rows the_geography) (forked_map name source next kept) (rows_of_fork (length kept)) t a b c passed (let long = rows_are in omega arith) u
-          (λ before m d holds is says. (law the_geography name from source next kept can_make m d is says (read before m holds)).is) did
+  module _ (name : List ℕ) (blocks : AreBlocks the_geography.blocks) (is_name : IsPlanName name) (left : r.next.plan ≢ 2 ^ 64 - 1) (law : ForksAreMade) (one : NextIsOne) where
+    abbrev says : Desk → Type 0
+    says = TakesFork the_geography name from
 
-      -- the numbers that were read are those of each map
-      pub leaves : NextIsOne → IsQuiet b c → LeavesNumbers HasPlanNumber t a c
-      leaves one quiet honest m after holds fit is =
-          let before = quiet.honest honest in
-          subst HasPlanNumber (one m next after can_make.fit fit (read before m holds).is_next is) can_make.room
+    can_make : CanMake the_geography name r.row r.next
+    can_make = record { blocks = blocks; is_name = is_name; row_fits = fits.0; fit = fits.1; room = let most = fits.1.plan_fits in omega arith }
 
-      pub not_forked : (e : TreeError) → IsQuiet b c → MapErr (CanFork name source next kept) (rows_of_fork (length kept)) t b c e → StepErr (TakesFork the_geography name from) (fork_rows the_geography) t a c e
-      not_forked e quiet why = not_stepped_by (TakesFork the_geography name from) (with_fork name from) (fork_rows the_geography) (forked_map name source next kept) (rows_of_fork (length kept)) t a b c passed (let long = rows_are in omega arith)
-          (CanFork name source next kept) (λ before m d holds is says. (law the_geography name from source next kept can_make m d is says (read before m holds)).can) e quiet why
+    few_rows : rows_of_fork (length r.kept.items) ≤ fork_rows the_geography
+    few_rows = let rows = ap rows_of_fork (fits.2 ∙ ap length cut_is ∙ ranges_long the_geography) in omega arith
+
+    makes : (disk_in b).is_honest → (m : KeyMap) (d : Desk) → HasMap t (stored a) m → IsDeskMap m d → says d → MakesFork name from r.row r.next r.kept.items m d
+    makes honest m d holds is takes = law the_geography name from r.row r.next r.kept.items can_make m d is takes (read honest m holds)
+
+    -- the numbers that were read are those of each map
+    leaves : (d : Pages D g) → IsQuiet b d → LeavesNumbers HasPlanNumber t a d
+    leaves d quiet honest m after holds fit is = subst HasPlanNumber (one m r.next after fits.1 fit (read (quiet.honest honest) m holds).is_next is) can_make.room
+
+    pub forks : {X : Type 0} {u : Txn} {d : Pages D g} {numbers : List ℕ} (result : Result X TreeError) → numbers ≡ r.kept.items → PutsFork name r.row r.next numbers t u b d result
+        → Writes (λ _. HasStepped says (with_fork name from) (fork_rows the_geography) t u a d × LeavesNumbers HasPlanNumber t a d) (StepErr says (fork_rows the_geography) t a d) u a d result
+    forks {X} {u} {d} result same put =
+        let now = subst (λ (l : List ℕ). PutsFork name r.row r.next l t u b d result) same put in
+        let change = forked_map name r.row r.next r.kept.items in
+        let rows = rows_of_fork (length r.kept.items) in
+        writes_as result (after_reads result gathers.quiet now)
+        (λ _ did. (
+          stepped_by says (with_fork name from) (fork_rows the_geography) change rows t a b d gathers.passed few_rows u (λ before m desk holds is takes. (makes before m desk holds is takes).is) did,
+          leaves d put.quiet,
+        ))
+        (λ e why.
+        not_stepped_by says (with_fork name from) (fork_rows the_geography) change rows t a b d gathers.passed few_rows
+        (CanFork name r.row r.next r.kept.items) (λ before m desk holds is takes. (makes before m desk holds is takes).can) e why.0 why.1)

@@ -1,13 +1,9 @@
 -- No block of a revision that a command makes is in a district above its plan's last.
-use Rattle.std.specs.{Prelude.{◌==◌, ◌&&◌, All, nat_le, unwrap_or}, List.{slice_get, slice_split, zip}, Str.Lines.lines}
-use Rattle.std.proofs.Common.{rules, ◌≡◌, ◌≤◌, ◌+◌, ◌-◌, ℕ, Bool, true, false, cond, List, [], ◌∷◌, ◌++◌, length, Option, Some, None, Result, Ok, Err, refl, sym, subst, ◌∙◌, inl, inr, arith}
-use Rattle.std.proofs.lemmas.Bool.{leb-true}
-use Rattle.std.proofs.lemmas.Option.{get_or_from_slice_get, slice_get_cases}
-use Rattle.std.proofs.lemmas.List.Elements.{All-nil, All-cons, All-head, All-tail, All-push, All-map, All-get_or}
-use Rattle.desk_model.specs.{declared.reply.BodyFault.BodyFault, declared.block.BlockRow.BlockRow}
-use Rattle.desk_model.specs.{claim.Baf.{Values, Fault, at_line, body_read, fields_of, in_range, line_read, placed, rows_read, value_at, with_header, whole}, claim.Desk.Plan}
-use Rattle.desk_model.specs.{claim.Geography.GeographyModel, claim.Step.patched, claim.Subject.revision_at}
-use Rattle.desk_pages.specs.claim.Desks.{AreWithin}
+use Rattle.{std.{specs.{List.{slice_split, zip}, Prelude.{◌==◌, ◌&&◌, All, nat_le, unwrap_or}, Str.Lines.lines}, proofs.lemmas.Bool.leb-true}, desk_model.specs.claim.Desk.Plan}
+use Rattle.std.proofs.Common.{rules, ◌≡◌, ◌≤◌, ◌+◌, ◌-◌, ℕ, Bool, true, false, cond, List, [], ◌∷◌, ◌++◌, length, Option, Some, None, Result, Ok, Err, refl, subst, arith}
+use Rattle.{std.proofs.lemmas.List.Elements.{All-nil, All-cons, All-head, All-tail, All-push, All-map, All-get_or}, desk_model.specs.claim.{Geography.GeographyModel, Step.patched}}
+use Rattle.desk_model.specs.claim.{Baf.{Values, Fault, at_line, body_read, fields_of, in_range, line_read, placed, rows_read, value_at, with_header, whole}, Subject.revision_at}
+use Rattle.{desk_model.specs.declared.{block.BlockRow.BlockRow, reply.BodyFault.BodyFault}, desk_pages.specs.claim.Desks.AreWithin, plan_revisions.proofs.Looking.among}
 use Rattle.plan_revisions.proofs.Limits.{some_is, none_is as no_some}
 
 -- each value that is listed is n at most
@@ -90,15 +86,7 @@ patched_within g n listed None small kept = whole_within g n listed small
 patched_within g n listed (Some last) small kept = search (All-map, or_small, value_small, beside_within)
 
 -- ---- a revision of a plan
-at_within : (n : ℕ) (revisions : List (List ℕ)) (k : ℕ) (districts : List ℕ) → All (AreWithin n) revisions → slice_get revisions k ≡ Some districts → AreWithin n districts
-at_within n revisions k districts all is = elim (slice_get_cases revisions k).1 [
-  | inl found ↦ subst (AreWithin n) (get_or_from_slice_get revisions k districts [] is) (All-get_or (AreWithin n) revisions k [] found.1 all)
-  | inr past ↦ absurd (no_some districts (sym past.1 ∙ is))
-]
-
-counted_within : (b : Bool) (n : ℕ) (revisions : List (List ℕ)) (k : ℕ) (districts : List ℕ) → All (AreWithin n) revisions → cond b None (slice_get revisions k) ≡ Some districts → AreWithin n districts
-counted_within true n revisions k districts all is = absurd (no_some districts is)
-counted_within false n revisions k districts all is = at_within n revisions k districts all is
-
 pub revision_within : (p : Plan) (k : ℕ) (districts : List ℕ) → revision_at p k ≡ Some districts → All (AreWithin p.n) p.revisions → AreWithin p.n districts
-revision_within p k districts is all = counted_within (k == 0) p.n p.revisions (k - 1) districts all is
+revision_within p k districts is all =
+    let at = among p k districts is in
+    subst (AreWithin p.n) at.is (All-get_or (AreWithin p.n) p.revisions (k - 1) [] (omega arith) all)

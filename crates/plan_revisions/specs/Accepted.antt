@@ -1,9 +1,8 @@
 -- What a command that is accepted tells of the desk before it and after it.
 use Rattle.std.proofs.Common.{◌≡◌, ◌<◌, ℕ, List, length, Some}
-use Rattle.std.specs.FinMap as map_of
-use Rattle.desk_model.specs.{claim.Geography.GeographyModel, claim.Desk.{Plan, Desk}, claim.Step.revision_limit}
+use Rattle.{desk_model.specs.claim.{Desk.{Plan, Desk}, Geography.GeographyModel, Step.revision_limit}, desk_pages.specs.claim.Desks.{AreWithin, IsWithinLimits}}
 use Rattle.store_rows.specs.Changes.{with_revision}
-use Rattle.desk_pages.specs.claim.Desks.{AreWithin, IsWithinLimits}
+use Rattle.std.specs.FinMap as map_of
 
 -- a plan got a revision more
 pub record IsRevised (d : Desk) (name : List ℕ) (after : ℕ) (e : Desk) : Type 0 where

@@ -1,20 +1,15 @@
 -- The rows of a revision that is added, and what is read before they are put.
 use Rattle.std.specs.Prelude.{◌<◌, ◌+◌, ◌≡◌, ℕ, List, ◌++◌, length, Option, Some}
-use Rattle.desk_model.specs.{Ranges.ranges_of, claim.Geography.GeographyModel}
-use Rattle.store_rows.specs.{claim.DeskRows.most_revisions, declared.value.Counters.Counters, declared.value.PlanRow.PlanRow, claim.Rows.KeyMap, claim.Puts.Row, NameRows.name_rows}
-use Rattle.store_rows.specs.{RevisionSteps.{new_chunk_rows, new_holding_rows}, claim.Tidy.IsNext}
-use Rattle.plan_rows.specs.{RevisionReading.AreNames, PlanRows.{IsFound, revised_rows}, PlanLaws.RowFits}
-use Rattle.desk_pages.specs.Looking.{Says}
-use Rattle.plan_revisions.specs.Plans.{IsOfDesk, TakesRevision}
+use Rattle.{desk_model.specs.{Ranges.ranges_of, claim.Geography.GeographyModel}, desk_pages.specs.Looking.Says, plan_revisions.specs.Plans.{IsOfDesk, TakesRevision}}
+use Rattle.{plan_rows.specs.{PlanLaws.RowFits, PlanRows.{IsFound, revised_rows}, RevisionReading.AreNames}, store_rows.specs.{NameRows.name_rows, claim.DeskRows.most_revisions}}
+use Rattle.store_rows.specs.{RevisionSteps.{new_chunk_rows, new_holding_rows}, claim.{Puts.Row, Rows.KeyMap, Tidy.IsNext}, declared.value.{Counters.Counters, PlanRow.PlanRow}}
 
--- the rows of a revision's chunks, of which so many are new, those by which the plan holds these, and those of all names
-abbrev pub prefix_rows : ℕ → List (List ℕ) → PlanRow → List ℕ → ℕ → List Row
-prefix_rows first lists row numbers used = (new_chunk_rows first lists ++ new_holding_rows row.number first used)
-    ++ name_rows row.number (row.revisions + 1) numbers
-
--- and then the plan's and that of the numbers, of which so many are used
+-- the rows of a revision's chunks, of which so many are new, those by which the plan holds these, those of all names, and then the plan's
+-- and that of the numbers, of which so many are used
 abbrev pub rows_put : List ℕ → PlanRow → Counters → List (List ℕ) → List ℕ → ℕ → List Row
-rows_put name row counters lists numbers used = prefix_rows counters.chunk lists row numbers used ++ revised_rows name row used counters
+rows_put name row counters lists numbers used =
+    ((new_chunk_rows counters.chunk lists ++ new_holding_rows row.number counters.chunk used) ++ name_rows row.number (row.revisions + 1) numbers)
+    ++ revised_rows name row used counters
 
 -- these are the names of the chunks of a plan's last revision, which are so many, where it has one
 abbrev pub AreLastNames : PlanRow → ℕ → List ℕ → KeyMap → Type 0

@@ -1,16 +1,11 @@
 -- The rows of a fork: a plan is made, holds the chunks of another plan's revision, and gets a revision that names them.
 use Rattle.std.specs.Prelude.{◌≡◌, ◌+◌, ◌*◌, ℕ, List, length, Some, Result}
-use Rattle.sector_device.specs.declared.SectorDevice.{Ghosts}
-use Rattle.page_store.specs.{declared.pages.Pages.Pages, declared.txn.Txn.Txn}
-use Rattle.page_btree.specs.declared.error.TreeError.{TreeError}
-use Rattle.desk_model.specs.{Ranges.ranges_of, claim.Desk.Desk, claim.GeographyModels.AreBlocks, claim.Geography.GeographyModel, claim.Name.IsPlanName}
-use Rattle.desk_model.specs.claim.Room.{rows_for, fork_rows}
-use Rattle.store_rows.specs.{declared.value.Counters.Counters, declared.value.PlanRow.PlanRow, claim.Rows.KeyMap, claim.Puts.put_rows, Shares.with_shared, Steps.one_plan_more}
-use Rattle.store_rows.specs.claim.Tidy.{IsNext, CountersFit}
-use Rattle.plan_rows.specs.{ChunkChanging.ChangesMap, Holding.CanHoldAll, RevisionReading.AreNames, PlanRows.{IsFound, created_rows}, claim.PlanRows.HasPlanNumber}
-use Rattle.plan_rows.specs.{PlanLaws.RowFits, declared.change.ChangeOutcome.ChangeOutcome}
-use Rattle.desk_pages.specs.claim.Desks.{IsDeskMap}
-use Rattle.plan_revisions.specs.{Plans.{IsOfDesk, TakesFork, with_fork}, Lookups.HasSomeRevision, Outcomes.StepsWhereLeft}
+use Rattle.desk_model.specs.{Ranges.ranges_of, claim.{Desk.Desk, Geography.GeographyModel, GeographyModels.AreBlocks, Name.IsPlanName, Room.{rows_for, fork_rows}}}
+use Rattle.{desk_pages.specs.claim.Desks.IsDeskMap, page_btree.specs.declared.error.TreeError.TreeError, page_store.specs.declared.{pages.Pages.Pages, txn.Txn.Txn}}
+use Rattle.{plan_revisions.specs.{Lookups.HasSomeRevision, Outcomes.StepsWhereLeft, Plans.{IsOfDesk, TakesFork, with_fork}}, plan_rows.specs.ChunkChanging.ChangesMap}
+use Rattle.plan_rows.specs.{Holding.CanHoldAll, PlanLaws.RowFits, PlanRows.{IsFound, created_rows}, RevisionReading.AreNames, claim.PlanRows.HasPlanNumber}
+use Rattle.{plan_rows.specs.declared.change.ChangeOutcome.ChangeOutcome, sector_device.specs.declared.SectorDevice.Ghosts, store_rows.specs.{Shares.with_shared, claim.Rows.KeyMap}}
+use Rattle.store_rows.specs.{Steps.one_plan_more, claim.{Puts.put_rows, Tidy.{IsNext, CountersFit}}, declared.value.{Counters.Counters, PlanRow.PlanRow}}
 
 -- what a map says of a plan of which a revision is forked: its row, and the names of that revision's chunks, which are so many
 pub record IsSource (from : List ℕ × ℕ) (count : ℕ) (row : PlanRow) (next : Counters) (kept : List ℕ) (m : KeyMap) : Type 0 where

@@ -1,11 +1,9 @@
 -- The rows of one revision more make the next desk.
 use Rattle.std.specs.Prelude.{◌≡◌, ◌<◌, ◌+◌, ◌^◌, ℕ, List, length, All, Option}
-use Rattle.desk_model.specs.{Ranges.ranges_of, claim.Desk.Desk, claim.GeographyModels.AreBlocks, claim.Geography.GeographyModel, claim.Room.{changed, revision_rows}}
-use Rattle.store_rows.specs.{declared.value.Counters.Counters, declared.value.PlanRow.PlanRow, claim.Rows.KeyMap, claim.Puts.{Row, put_rows}, claim.Tidy.CountersFit}
-use Rattle.plan_rows.specs.PlanLaws.{RowFits}
-use Rattle.desk_pages.specs.claim.Desks.{IsDeskMap}
-use Rattle.desk_catalogue.specs.Cutting.{changes_in}
-use Rattle.plan_revisions.specs.{Plans.{TakesNext, with_next}, Counties.drawn, Adding.{AreRead, rows_put}}
+use Rattle.{desk_catalogue.specs.Cutting.changes_in, desk_model.specs.{Ranges.ranges_of, claim.{Desk.Desk, Geography.GeographyModel, GeographyModels.AreBlocks}}}
+use Rattle.{desk_model.specs.claim.Room.{changed, revision_rows}, desk_pages.specs.claim.Desks.IsDeskMap, plan_revisions.specs.{Adding.{AreRead, rows_put}, Counties.drawn}}
+use Rattle.{plan_revisions.specs.Plans.{TakesNext, with_next}, plan_rows.specs.PlanLaws.RowFits, store_rows.specs.claim.{Puts.{Row, put_rows}, Rows.KeyMap, Tidy.CountersFit}}
+use Rattle.store_rows.specs.declared.value.{Counters.Counters, PlanRow.PlanRow}
 
 -- A plan's row and numbers that fit in theirs, the chunks of its last revision, and the districts of all blocks: there are numbers left
 -- for the chunks of the counties that change.

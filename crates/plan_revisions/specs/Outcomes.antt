@@ -1,14 +1,10 @@
 -- What becomes of a step of a desk's plans, and of a revision that is added.
 use Rattle.std.specs.Prelude.{◌≡◌, ℕ, Bool, List, length, Option, Result}
-use Rattle.sector_device.specs.declared.SectorDevice.{Ghosts}
-use Rattle.desk_model.specs.{declared.ranges.CountyRange.CountyRange, Ranges.ranges_of, claim.Geography.GeographyModel, claim.Desk.Desk, claim.Room.{changed, revision_rows}}
-use Rattle.page_store.specs.{declared.pages.Pages.Pages, declared.txn.Txn.Txn}
-use Rattle.page_btree.specs.declared.error.TreeError.{TreeError}
-use Rattle.store_rows.specs.{declared.value.Counters.Counters, declared.value.PlanRow.PlanRow}
-use Rattle.desk_pages.specs.Outcomes.{PutsRows, Writes}
-use Rattle.plan_rows.specs.{claim.PlanRows.HasChunkNumbers, declared.change.ChangeOutcome.ChangeOutcome}
-use Rattle.desk_catalogue.specs.Cutting.{changes_in}
-use Rattle.plan_revisions.specs.{claim.Steps.{HasStepped, IsStepped, StepErr}, Plans.{TakesNext, with_next}, Counties.new_lists, Adding.rows_put}
+use Rattle.{desk_catalogue.specs.Cutting.changes_in, desk_model.specs.{Ranges.ranges_of, claim.{Desk.Desk, Geography.GeographyModel, Room.{changed, revision_rows}}}}
+use Rattle.{desk_model.specs.declared.ranges.CountyRange.CountyRange, desk_pages.specs.Outcomes.{PutsRows, Writes}, page_btree.specs.declared.error.TreeError.TreeError}
+use Rattle.{page_store.specs.declared.{pages.Pages.Pages, txn.Txn.Txn}, plan_revisions.specs.{Adding.rows_put, Counties.new_lists, Plans.{TakesNext, with_next}}}
+use Rattle.{plan_revisions.specs.claim.Steps.{HasStepped, IsStepped, StepErr}, plan_rows.specs.{claim.PlanRows.HasChunkNumbers, declared.change.ChangeOutcome.ChangeOutcome}}
+use Rattle.{sector_device.specs.declared.SectorDevice.Ghosts, store_rows.specs.declared.value.{Counters.Counters, PlanRow.PlanRow}}
 
 module _ {D : Type 0} {g : Ghosts D} where
   -- the step was made, or it is told why not

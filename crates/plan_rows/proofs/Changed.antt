@@ -1,13 +1,10 @@
 -- Changes of a map that come one after the other.
-use Rattle.std.proofs.Common.{rules, ◌≡◌, ◌≤◌, ◌+◌, ℕ, List, ◌++◌, length, refl, sym, ap, subst, ◌∙◌, arith, append_assoc, length-append}
-use Rattle.sector_device.specs.declared.SectorDevice.{Ghosts}
-use Rattle.page_store.specs.{claim.Transactions.{stored, txn_root, over, IsQuiet, Passed}, declared.pages.Pages.Pages, declared.txn.Txn.Txn}
-use Rattle.page_store.proofs.Stops.{passed_more, failed_more}
-use Rattle.page_btree.specs.{claim.Map.InTxn, claim.Errors.level_in, declared.error.TreeError.TreeError}
-use Rattle.page_btree.specs.declared.error.TreeError.TheVariants.{DeviceFault, NotAStore, Halted, NoPages, TooDeep, Memory}
-use Rattle.store_rows.{specs.claim.Rows.KeyMap, specs.claim.Puts.{Row, put_rows}, proofs.Puts.put_rows-append}
-use Rattle.desk_pages.specs.{claim.Puts.{HasPut, HasDeepened, PutsErr}, Reading.ReadErr}
-use Rattle.plan_rows.specs.ChunkChanging.{IsByRows, HasChanged, MapErr}
+use Rattle.{std.proofs.Common.{rules, ◌≡◌, ◌≤◌, ◌+◌, ℕ, List, ◌++◌, length, refl, sym, ap, subst, ◌∙◌, arith, append_assoc, length-append}, desk_pages.specs.Reading.ReadErr}
+use Rattle.{desk_pages.specs.claim.Puts.{HasPut, HasDeepened, PutsErr}, page_btree.specs.{claim.{Errors.level_in, Map.InTxn}, declared.error.TreeError.TreeError}}
+use Rattle.{page_btree.specs.declared.error.TreeError.TheVariants.{DeviceFault, NotAStore, Halted, NoPages, TooDeep, Memory}, page_store.specs.declared.pages.Pages.Pages}
+use Rattle.{page_store.specs.{claim.Transactions.{stored, txn_root, over, IsQuiet, Passed}, declared.txn.Txn.Txn}, plan_rows.specs.ChunkChanging.{IsByRows, HasChanged, MapErr}}
+use Rattle.{sector_device.specs.declared.SectorDevice.Ghosts, store_rows.specs.claim.{Puts.{Row, put_rows}, Rows.KeyMap}, page_store.proofs.Stops.{passed_more, failed_more}}
+use Rattle.store_rows.proofs.Puts.{put_rows-append}
 
 module _ {D : Type 0} {g : Ghosts D} where
   pub more_changed : (f h : KeyMap → KeyMap) (x y : ℕ) (t u v : Txn) (a b c : Pages D g) → HasChanged f x t u a b → HasChanged h y u v b c → HasChanged (λ m. h (f m)) (x + y) t v a c

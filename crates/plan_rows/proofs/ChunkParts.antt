@@ -1,10 +1,7 @@
 -- A list is read part by part.
 use Rattle.std.proofs.Common.{rules, ◌≡◌, ◌<◌, ◌≤◌, ◌+◌, ◌*◌, ◌++◌, ℕ, List, length, take, drop, Some, sym, ap, subst, ◌∙◌, inl, inr, arith, append_assoc, length-append, take_all}
-use Rattle.std.proofs.lemmas.Bool.{cases_lt}
-use Rattle.std.proofs.lemmas.List.{append-nil, drop_at, drop-append-le, length-drop, take-append-le}
-use Rattle.std.proofs.lemmas.List.Elements.{All-append, All-nil}
-use Rattle.store_rows.specs.{claim.Keys.RowKey, claim.Rows.{KeyMap, row_in}}
-use Rattle.plan_rows.specs.Parts.{AppendsAll, AppendsPrefix, AppendsPart}
+use Rattle.std.proofs.lemmas.{Bool.cases_lt, List.{append-nil, drop_at, drop-append-le, length-drop, take-append-le, Elements.{All-append, All-nil}}}
+use Rattle.{plan_rows.specs.Parts.{AppendsAll, AppendsPrefix, AppendsPart}, store_rows.specs.claim.{Keys.RowKey, Rows.{KeyMap, row_in}}}
 
 -- ---- a part of a list that goes on
 module _ (size limit : ℕ) (bytes : List ℕ → List ℕ) (row : ℕ → RowKey) (count : ℕ) (m : KeyMap) where

@@ -1,13 +1,10 @@
 -- A transaction that is begun, in which rows change, and that is committed then.
-use Rattle.std.{specs.Prelude.◌⊎◌, proofs.Common.{◌≡◌, ◌+◌, ℕ, Bool, true, false, length, sym, ◌∙◌, inl, ⊎_elim, arith}}
-use Rattle.sector_device.{specs.claim.Disk.{Disk, Image}, specs.claim.Moments.LeavesOnly, specs.declared.SectorDevice.Ghosts, proofs.Moments.{leaves_more, leaves_wider}}
-use Rattle.page_store.specs.{gate_journal.claim.Store.home, claim.Chain.{free_in, root_in}}
+use Rattle.{std.{specs.Prelude.◌⊎◌, proofs.Common.{◌≡◌, ◌+◌, ℕ, Bool, true, false, length, sym, ◌∙◌, inl, ⊎_elim, arith}}, desk_model.specs.claim.Desk.Desk}
+use Rattle.{desk_pages.specs.claim.Desks.{InPagesOf, InTxnOf, OpensDesk, OpensDeskOf}, page_btree.specs.claim.Map.{InTxn, InPages}, page_store.specs.claim.Chain.{free_in, root_in}}
 use Rattle.page_store.specs.claim.Transactions.{stored, disk_in, count_of, journal_of, has_halted, txn_pages, txn_root, txn_free, txn_writes, over, free_over, HasFailed, HasShape, IsQuiet, Passed}
-use Rattle.page_store.{specs.declared.pages.Pages.Pages, specs.declared.txn.Txn.Txn, proofs.Chains.length_chain, proofs.Stops.{leaves_here, leaves_quiet}}
-use Rattle.page_btree.{specs.claim.Map.{InTxn, InPages}, proofs.MapLaws.begun_holds}
-use Rattle.desk_model.specs.claim.Desk.{Desk}
-use Rattle.store_rows.specs.claim.Rows.{KeyMap}
-use Rattle.desk_pages.{specs.claim.Desks.{InPagesOf, InTxnOf, OpensDesk, OpensDeskOf}, proofs.Kept.opens_now}
+use Rattle.{page_store.specs.{declared.{pages.Pages.Pages, txn.Txn.Txn}, gate_journal.claim.Store.home}, sector_device.specs.claim.{Disk.{Disk, Image}, Moments.LeavesOnly}}
+use Rattle.{sector_device.specs.declared.SectorDevice.Ghosts, store_rows.specs.claim.Rows.KeyMap, desk_pages.proofs.Kept.opens_now, page_btree.proofs.MapLaws.begun_holds}
+use Rattle.{page_store.proofs.{Chains.length_chain, Stops.{leaves_here, leaves_quiet}}, sector_device.proofs.Moments.{leaves_more, leaves_wider}}
 
 pub both : {X : Type 0} (b : Bool) → b ≡ true → b ≡ false → X
 both b one other = let clash : true ≡ false = sym one ∙ other in absurd (cc)

@@ -1,32 +1,13 @@
 -- A plan comes to hold chunks, one after the other.
-use Rattle.std.specs.Prelude.{Contains}
-use Rattle.std.proofs.Common.{rules, Bool, ◌≡◌, ◌≤◌, ◌+◌, ◌*◌, ℕ, zero, suc, List, [], ◌∷◌, ◌++◌, length, drop, Option, Some, None, refl, sym, ap, subst, ◌∙◌, arith, append_assoc, length-append}
-use Rattle.sector_device.specs.{claim.Disk.Image, declared.SectorDevice.Ghosts}
-use Rattle.page_store.specs.{claim.Transactions.{stored, disk_in, IsQuiet, Passed}, declared.pages.Pages.Pages, declared.txn.Txn.Txn}
-use Rattle.page_store.proofs.Stops.{passed_more, failed_more}
-use Rattle.page_btree.specs.{claim.Map.InTxn, declared.error.TreeError.TreeError, declared.error.TreeError.TheVariants.{DeviceFault, NotAStore, Halted, NoPages, TooDeep, Memory}}
-use Rattle.store_rows.specs.{claim.Keys.{holding, holder_count}, claim.Rows.{KeyMap, row_in}, claim.Puts.{Row, put_rows}, claim.Holders.holding_rows, Shares.hold_all}
-use Rattle.store_rows.specs.{claim.Shares.{count_of, hold_by, hold}, ForkLaws.ChunksAreHeld}
-use Rattle.desk_pages.{specs.btree_puts.Fingers.Stand, specs.btree_puts.declared.finger.Fingers.Fingers, proofs.Rising.fresh_stand}
-use Rattle.plan_rows.specs.{ChunkChanging.{IsByRows, HasChanged, MapErr}, Holding.{HasHeld, HasHeldWith, HoldErrWith, IsFreeFrom, IsHolding, CanHoldAll}}
+use Rattle.{std.{specs.Prelude.Contains, proofs.lemmas.List.{append-nil, Elements.{Contains-append_left, Contains-append_right}}}, desk_pages.specs.btree_puts.Fingers.Stand}
+use Rattle.std.proofs.Common.{rules, ◌≡◌, ◌≤◌, ◌+◌, ◌*◌, ℕ, suc, List, [], ◌∷◌, ◌++◌, length, Option, Some, None, refl, sym, ap, subst, ◌∙◌, arith, append_assoc, length-append}
+use Rattle.{desk_pages.specs.btree_puts.declared.finger.Fingers.Fingers, page_btree.specs.{claim.Map.InTxn, declared.error.TreeError.TreeError}, store_rows.specs.Shares.hold_all}
+use Rattle.{page_btree.specs.declared.error.TreeError.TheVariants.{DeviceFault, NotAStore, Halted, NoPages, TooDeep, Memory}, page_store.specs.declared.pages.Pages.Pages}
+use Rattle.{page_store.specs.{claim.Transactions.{stored, disk_in, IsQuiet, Passed}, declared.txn.Txn.Txn}, plan_rows.specs.ChunkChanging.{IsByRows, HasChanged, MapErr}}
+use Rattle.{plan_rows.specs.Holding.{HasHeldWith, HoldErrWith, IsFreeFrom, CanHoldAll}, sector_device.specs.{claim.Disk.Image, declared.SectorDevice.Ghosts}}
+use Rattle.store_rows.specs.{ForkLaws.ChunksAreHeld, claim.{Holders.holding_rows, Keys.{holding, holder_count}, Puts.{Row, put_rows}, Rows.{KeyMap, row_in}}}
+use Rattle.{store_rows.specs.claim.Shares.{count_of, hold_by, hold}, desk_pages.proofs.Rising.fresh_stand, page_store.proofs.Stops.{passed_more, failed_more}}
 use Rattle.plan_rows.proofs.Changed.{read_changed, changed_as, deep_after, prefix_unchanged, more_by_rows}
-
--- ---- lists
-in_prefix : (xs ys : List ℕ) (x : ℕ) → Contains xs x → Contains (xs ++ ys) x
-in_prefix [] ys x (k, within, is) = absurd (omega arith)
-in_prefix (y ∷ xs) ys x (zero, within, is) = (zero, omega arith, is)
-in_prefix (y ∷ xs) ys x (suc k, within, is) = let rest = in_prefix xs ys x (k, omega arith, is) in let less = rest.1 in (suc rest.0, omega arith, rest.2)
-
-in_rest : (xs ys : List ℕ) (x : ℕ) → Contains ys x → Contains (xs ++ ys) x
-in_rest [] ys x there = there
-in_rest (y ∷ xs) ys x there = let rest = in_rest xs ys x there in let less = rest.1 in (suc rest.0, omega arith, rest.2)
-
--- after the last place nothing is left
-pub none_left : (xs : List ℕ) (k : ℕ) → length xs ≤ k → drop k xs ≡ []
-none_left [] zero past = refl
-none_left [] (suc k) past = refl
-none_left (x ∷ xs) zero past = absurd (omega arith)
-none_left (x ∷ xs) (suc k) past = none_left xs k (omega arith)
 
 -- ---- by how many rows
 held_by_two : (o : Option (List ℕ)) (m : KeyMap) (plan number : ℕ) → (put : List Row) × (length put ≤ 2) × (hold_by o m plan number ≡ put_rows m put)
@@ -46,9 +27,6 @@ held-append m plan (x ∷ xs) ys = held-append (hold m plan x) plan xs ys
 
 -- ---- one after the other
 module _ {D : Type 0} {g : Ghosts D} where
-  pub either_held : (put : Bool) (plan number : ℕ) (t u : Txn) (a b : Pages D g) → IsHolding put plan number t u a b → HasHeld plan number t u a b
-  either_held put plan number t u a b did = search (arith)
-
   -- a change was made, of which it is known what it says, and then a chunk was not held
   then_not_held : (f : KeyMap → KeyMap) (x : ℕ) (can says : KeyMap → Type 0) (fs : Fingers) (plan number : ℕ) (t u : Txn) (a b c : Pages D g) (e : TreeError) → IsByRows f x → ((m : KeyMap) → can m → CanHoldAll plan (number ∷ []) (f m))
       → ((disk_in b).is_honest → (m : KeyMap) → InTxn t (stored a) m → says (f m) × Stand u (stored a) fs) → HasChanged f x t u a b → IsQuiet b c → HoldErrWith fs says plan number u b c e → MapErr can (x + 2) t a c e
@@ -71,11 +49,7 @@ module _ {D : Type 0} {g : Ghosts D} where
       let rows = holding_rows plan number deep.0 in
       let few = prefix.1 in
       let long = length-append prefix.0 rows in
-      record {
-        put = prefix.0 ++ rows;
-        few = omega arith;
-        deep = deep_after prefix.0 rows t u a b m (f m) same prefix.2 deep.1;
-      }
+      record { put = prefix.0 ++ rows; few = omega arith; deep = deep_after prefix.0 rows t u a b m (f m) same prefix.2 deep.1 }
   then_not_held f x can says fs plan number t u a b c Memory by gives known did quiet why = tt
 
   -- of all chunks only the rest is not held yet, the plan holds none from a number on, and both fingers stand
@@ -123,10 +97,6 @@ module _ {D : Type 0} {g : Ghosts D} where
 
   pub all_held : (plan : ℕ) (all rest : List ℕ) (free : Option ℕ) (fs : Fingers) (t u : Txn) (a b : Pages D g) → rest ≡ [] → HasHeldTo plan all rest free fs t u a b → HasChanged (λ m. hold_all m plan all) (2 * length all) t u a b
   all_held plan all rest free fs t u a b none before = search (rules, append-nil)
-    where
-      append-nil : (l : List ℕ) → l ++ [] ≡ l
-      append-nil [] = refl
-      append-nil (x ∷ l) = ap (λ (m : List ℕ). x ∷ m) (append-nil l)
 
   pub next_not_held : ChunksAreHeld → (plan number : ℕ) (all rest now : List ℕ) (free : Option ℕ) (fs : Fingers) (t u : Txn) (a b c : Pages D g) (e : TreeError) → now ≡ number ∷ rest → HasHeldTo plan all now free fs t u a b → IsQuiet b c
       → HoldErrWith fs (IsFreeFrom free plan) plan number u b c e → MapErr (CanHoldAll plan all) (2 * length all) t a c e
@@ -139,7 +109,7 @@ module _ {D : Type 0} {g : Ghosts D} where
       (then_not_held (λ m. hold_all m plan prefix) (2 * length prefix) (CanHoldAll plan all) (IsFreeFrom free plan) fs plan number t u a b c e (held_by_rows plan prefix)
       (λ m is. (
         is.0,
-        (law m is.0 plan prefix is.1 (λ x there. is.2 x (among x (in_prefix prefix (number ∷ rest) x there)))).can,
-        λ x there. is.2 x (among x (in_rest prefix (number ∷ rest) x (in_prefix (number ∷ []) rest x there))),
+        (law m is.0 plan prefix is.1 (λ x there. is.2 x (among x (Contains-append_left prefix (number ∷ rest) x there)))).can,
+        λ x there. is.2 x (among x (Contains-append_right prefix (number ∷ rest) x (Contains-append_left (number ∷ []) rest x there))),
       ))
       before.none before.held quiet why)

@@ -1,21 +1,14 @@
 -- A plan comes to hold a chunk by two rows, or holds it already.
-use Rattle.std.specs.Prelude.{option_map, Result, Ok, Err, IfOk}
-use Rattle.std.proofs.Common.{◌≡◌, ◌<◌, ◌+◌, ◌-◌, ◌^◌, ℕ, zero, suc, true, false, List, [], ◌∷◌, Option, Some, None, refl, sym, ap, subst, ◌∙◌, arith}
-use Rattle.sector_device.specs.{claim.Disk.Image, declared.SectorDevice.Ghosts}
-use Rattle.page_store.specs.{claim.Transactions.{stored, disk_in, IsQuiet, Passed}, declared.pages.Pages.Pages, declared.txn.Txn.Txn}
-use Rattle.page_store.proofs.Stops.{passed_more, failed_more}
-use Rattle.page_btree.specs.{claim.Map.InTxn, declared.error.TreeError.TreeError, declared.error.TreeError.TheVariants.{DeviceFault, NotAStore, Halted, NoPages, TooDeep, Memory}}
-use Rattle.store_rows.specs.{claim.Keys.{key_of, holding, holder_count, in_eight}, claim.Rows.{KeyMap, row_in, Lacks}, claim.Puts.{Row, put_rows}}
-use Rattle.store_rows.specs.{claim.Holders.{holder_count_row, holding_rows}, Shares.CanHold, claim.Shares.{count_of, hold_by, hold}, Values.holder_count_bytes}
-use Rattle.store_rows.{specs.declared.value.HolderCount.HolderCount, proofs.HolderCounts.joins_holders, proofs.Sharing.count_back}
-use Rattle.desk_pages.specs.{Rising.{HasPutWith, PutsErrWith}, btree_puts.Fingers.Stand, btree_puts.declared.finger.Fingers.Fingers, Looking.Looks}
-use Rattle.desk_pages.specs.Reading.{ReadErr, ReadErrWith, StandsAs}
-use Rattle.desk_pages.proofs.Rising.{fresh_stand, more_put_with, then_not_put_with, prefix_not_put_with, put_with_after, not_put_with_after}
-use Rattle.desk_pages.proofs.Looking.{looked, not_looked as unlooked}
-use Rattle.plan_rows.{specs.Holding.{Stands, HasHolderCount, HasHeld, HasHeldWith, WasHeld, HoldErrOf, HoldErrWith, IsCountOf, IsUnheld}, proofs.Changed.deep_after}
-
-one_row : (k v key value : List ℕ) → k ≡ key → v ≡ value → ◌≡◌ {A = List Row} ((k, v) ∷ []) ((key, value) ∷ [])
-one_row k v key value a b = λ i. (a i, b i) ∷ []
+use Rattle.{std.specs.Prelude.{option_map, Result, Ok, Err, IfOk}, desk_pages.specs.{Looking.Looks, Reading.{ReadErr, ReadErrWith, StandsAs}, Rising.{HasPutWith, PutsErrWith}}}
+use Rattle.{std.proofs.Common.{◌≡◌, ◌<◌, ◌+◌, ◌-◌, ◌^◌, ℕ, zero, suc, true, false, List, [], Option, Some, None, refl, sym, ap, subst, ◌∙◌, arith}, store_rows.specs.Shares.CanHold}
+use Rattle.{desk_pages.specs.btree_puts.{Fingers.Stand, declared.finger.Fingers.Fingers}, page_btree.specs.{claim.Map.InTxn, declared.error.TreeError.TreeError}}
+use Rattle.{page_btree.specs.declared.error.TreeError.TheVariants.{DeviceFault, NotAStore, Halted, NoPages, TooDeep, Memory}, page_store.specs.declared.pages.Pages.Pages}
+use Rattle.{page_store.specs.{claim.Transactions.{stored, disk_in, IsQuiet, Passed}, declared.txn.Txn.Txn}, sector_device.specs.{claim.Disk.Image, declared.SectorDevice.Ghosts}}
+use Rattle.{plan_rows.specs.Holding.{Stands, HasHolderCount, HasHeld, HasHeldWith, WasHeld, HoldErrOf, HoldErrWith, IsCountOf, IsUnheld}, store_rows.specs.claim.Puts.put_rows}
+use Rattle.store_rows.specs.{Values.holder_count_bytes, claim.{Holders.{holder_count_row, holding_rows}, Keys.{key_of, holding, holder_count}, Rows.{KeyMap, row_in, Lacks}}}
+use Rattle.{store_rows.specs.{claim.Shares.{count_of, hold_by, hold}, declared.value.HolderCount.HolderCount}, desk_pages.proofs.Looking.{looked, not_looked as unlooked}}
+use Rattle.{desk_pages.proofs.Rising.{fresh_stand, put_with_after, not_put_with_after}, page_store.proofs.Stops.{passed_more, failed_more}, plan_rows.proofs.Changed.deep_after}
+use Rattle.store_rows.proofs.{HolderCounts.joins_holders, Sharing.count_back}
 
 -- ---- a count is a value of its row
 holder_count_in : (row : Option (List ℕ)) (count : ℕ) → row ≡ holder_count_row count → (value : Option HolderCount) × (option_map holder_count_bytes value ≡ row)
@@ -53,26 +46,6 @@ module _ {D : Type 0} {g : Ghosts D} (number : ℕ) (t : Txn) (a b : Pages D g) 
   -- or no row is read
   pub count_unread_with : (f : Fingers) (has : KeyMap → Type 0) → ((m : KeyMap) → HasHolderCount number m → has m) → (e : TreeError) → ReadErrWith f has t a b e → ReadErr (λ m. HasHolderCount number m × Stand t (stored a) f) t a b e
   count_unread_with f has gives e why = search (arith, why, gives)
-
-module _ {D : Type 0} {g : Ghosts D} (plan number count : ℕ) where
-  pub both_put : (f h x : Fingers) (k v l w : List ℕ) → k ≡ key_of (holding plan number) → v ≡ [] → l ≡ key_of (holder_count number) → w ≡ in_eight (count + 1)
-      → (t u y : Txn) (a b c : Pages D g) → HasPutWith f h ((k, v) ∷ []) t u a b → HasPutWith h x ((l, w) ∷ []) u y b c → HasPutWith f x (holding_rows plan number count) t y a c
-  both_put f h x k v l w k_is v_is l_is w_is t u y a b c first second =
-      more_put_with f h x ((key_of (holding plan number), []) ∷ []) ((key_of (holder_count number), in_eight (count + 1)) ∷ []) t u y a b c
-      (subst (λ rs. HasPutWith f h rs t u a b) (one_row k v (key_of (holding plan number)) [] k_is v_is) first)
-      (subst (λ rs. HasPutWith h x rs u y b c) (one_row l w (key_of (holder_count number)) (in_eight (count + 1)) l_is w_is) second)
-
-  pub first_not_put : (f : Fingers) (k v : List ℕ) → k ≡ key_of (holding plan number) → v ≡ [] → (t : Txn) (a b : Pages D g) (e : TreeError) → PutsErrWith f ((k, v) ∷ []) t a b e → PutsErrWith f (holding_rows plan number count) t a b e
-  first_not_put f k v k_is v_is t a b e why =
-      prefix_not_put_with f ((key_of (holding plan number), []) ∷ []) ((key_of (holder_count number), in_eight (count + 1)) ∷ []) t a b e
-      (subst (λ rs. PutsErrWith f rs t a b e) (one_row k v (key_of (holding plan number)) [] k_is v_is) why)
-
-  pub second_not_put : (f h : Fingers) (k v l w : List ℕ) → k ≡ key_of (holding plan number) → v ≡ [] → l ≡ key_of (holder_count number) → w ≡ in_eight (count + 1)
-      → (t u : Txn) (a b c : Pages D g) (e : TreeError) → HasPutWith f h ((k, v) ∷ []) t u a b → IsQuiet b c → PutsErrWith h ((l, w) ∷ []) u b c e → PutsErrWith f (holding_rows plan number count) t a c e
-  second_not_put f h k v l w k_is v_is l_is w_is t u a b c e first quiet why =
-      then_not_put_with f h ((key_of (holding plan number), []) ∷ []) ((key_of (holder_count number), in_eight (count + 1)) ∷ []) t u a b c e
-      (subst (λ rs. HasPutWith f h rs t u a b) (one_row k v (key_of (holding plan number)) [] k_is v_is) first) quiet
-      (subst (λ rs. PutsErrWith h rs u b c e) (one_row l w (key_of (holder_count number)) (in_eight (count + 1)) l_is w_is) why)
 
 module _ {D : Type 0} {g : Ghosts D} (plan number : ℕ) where
   -- ---- what is held

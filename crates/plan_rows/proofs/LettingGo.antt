@@ -1,19 +1,13 @@
 -- A plan lets a chunk go: its row is taken out, and the count goes down by one.
 use Rattle.std.{specs.FinMap.{get, insert, remove}, proofs.Common.{◌≡◌, ◌<◌, ◌≤◌, ◌+◌, ◌-◌, ◌^◌, ℕ, suc, List, length, Option, Some, None, sym, ap, subst, ◌∙◌, arith}}
-use Rattle.sector_device.specs.{claim.Disk.Image, declared.SectorDevice.Ghosts}
-use Rattle.page_store.specs.{claim.Transactions.{stored, disk_in, txn_pages, txn_free, txn_writes, IsQuiet, Passed}, declared.pages.Pages.Pages, declared.txn.Txn.Txn}
-use Rattle.page_store.proofs.Stops.{passed_more, failed_more}
-use Rattle.page_btree.specs.{claim.Map.InTxn, claim.Errors.{PutErr, RemoveErr}, Errors.IsNoWant, declared.error.TreeError.TreeError}
-use Rattle.page_btree.specs.declared.error.TreeError.TheVariants.{DeviceFault, NotAStore, Halted, NoPages, TooDeep, Memory}
-use Rattle.store_rows.specs.{claim.Keys.{key_of, holding, holder_count, in_eight}, claim.Rows.{KeyMap, row_in}, claim.Holders.holder_count_row}
-use Rattle.store_rows.{specs.Holders.{with_holder_count, released}, proofs.Frames.remove_keeps_tag}
-use Rattle.desk_pages.specs.Reading.{ReadErr}
-use Rattle.plan_rows.specs.{Holding.HasHolderCount, Releasing.{TellsMore, HasCount, HasLowered, LowerErr, HasReleased, ReleaseErr}}
+use Rattle.{desk_pages.specs.Reading.ReadErr, page_btree.specs.{Errors.IsNoWant, claim.{Errors.{PutErr, RemoveErr}, Map.InTxn}, declared.error.TreeError.TreeError}}
+use Rattle.{page_btree.specs.declared.error.TreeError.TheVariants.{DeviceFault, NotAStore, Halted, NoPages, TooDeep, Memory}, page_store.specs.declared.pages.Pages.Pages}
+use Rattle.{page_store.specs.{claim.Transactions.{stored, disk_in, txn_pages, txn_free, txn_writes, IsQuiet, Passed}, declared.txn.Txn.Txn}, plan_rows.specs.Holding.HasHolderCount}
+use Rattle.{plan_rows.specs.Releasing.{TellsMore, HasCount, HasLowered, LowerErr, HasReleased, ReleaseErr}, sector_device.specs.{claim.Disk.Image, declared.SectorDevice.Ghosts}}
+use Rattle.store_rows.specs.{Holders.{with_holder_count, released}, claim.{Holders.holder_count_row, Keys.{key_of, holding, holder_count, in_eight}, Rows.{KeyMap, row_in}}}
+use Rattle.{page_store.proofs.Stops.{passed_more, failed_more}, store_rows.proofs.Frames.remove_keeps_tag}
 
 -- ---- the row of a count
-none_told : (m : KeyMap) (number count : ℕ) (key : List ℕ) → count ≡ 0 → key ≡ key_of (holder_count number) → remove m key ≡ with_holder_count m number count
-none_told m number count key none is = ap (λ (k : List ℕ). remove m k) is ∙ ap (λ (n : ℕ). with_holder_count m number n) (sym none)
-
 some_told : (m : KeyMap) (number count : ℕ) (key value : List ℕ) → (count ≡ 0 → ⊥) → key ≡ key_of (holder_count number) → value ≡ in_eight count → insert m key value ≡ with_holder_count m number count
 some_told m number count key value some is told = (λ i. insert m (is i) (told i)) ∙ (search (arith, some))
 
@@ -22,7 +16,7 @@ module _ {D : Type 0} {g : Ghosts D} (number count : ℕ) (t u : Txn) (a b : Pag
   count_gone none passed pages removed writes given = record {
     passed = passed;
     pages = pages;
-    lowered = λ honest m holds. subst (λ (n : KeyMap). InTxn u (stored a) n) (none_told m number count key none is) (removed honest m holds);
+    lowered = λ honest m holds. subst (λ (n : KeyMap). InTxn u (stored a) n) (ap (λ (k : List ℕ). remove m k) is ∙ ap (λ (n : ℕ). with_holder_count m number n) (sym none)) (removed honest m holds);
     writes = omega arith;
     given = λ honest m holds told. given;
   }
@@ -46,13 +40,10 @@ pub count_not_gone : {D : Type 0} {g : Ghosts D} (number count : ℕ) (t : Txn) 
 count_not_gone number count t a b e why = search (arith)
 
 -- ---- both rows
-one_fewer : (count : ℕ) → (count ≡ 0 → ⊥) → count ≡ suc (count - 1)
-one_fewer count some = omega arith
-
 module _ {D : Type 0} {g : Ghosts D} (number count : ℕ) (t : Txn) (a b : Pages D g) (read : Passed a b) (told : (disk_in b).is_honest → (m : KeyMap) → InTxn t (stored a) m → row_in m (holder_count number) ≡ holder_count_row count) (fits : count < 2 ^ 64) where
   module _ (some : count ≡ 0 → ⊥) where
     abbrev counted : (disk_in b).is_honest → (m : KeyMap) → InTxn t (stored a) m → HasCount number m
-    counted honest m holds = record { count = count - 1; fits = omega arith; told = told honest m holds ∙ ap holder_count_row (one_fewer count some) }
+    counted honest m holds = (let fewer : count ≡ suc (count - 1) = omega arith in record { count = count - 1; fits = omega arith; told = told honest m holds ∙ ap holder_count_row fewer })
 
     still : (disk_in b).is_honest → (m : KeyMap) → InTxn t (stored a) m → InTxn t (stored b) m
     still honest m holds = subst (λ (P : Image). InTxn t P m) (sym (read.quiet.same honest)) holds

@@ -1,21 +1,17 @@
 -- The rows of plans, with the row of numbers after them, make the desk that the plans' rows make.
-use Rattle.std.{specs.Prelude.{Option, MatchOption}, specs.FinMap.{FinMap, get, insert}, proofs.Common.{◌≡◌, ◌<◌, ℕ, List, [], length, Some, ap, ◌∙◌, arith, length-append}}
-use Rattle.desk_model.specs.{claim.Geography.GeographyModel, claim.Desk.{Desk, Plan, name_cmp}}
-use Rattle.store_rows.specs.{claim.Keys.{key_of, counters, named}, claim.Values.{counters_bytes, plan_bytes}, declared.value.Counters.Counters, declared.value.PlanRow.PlanRow}
-use Rattle.store_rows.specs.{claim.Rows.KeyMap, Rows.SameTag, claim.Puts.put_rows, claim.DeskRows.{HasPlan, IsDesk, most_revisions}}
-use Rattle.store_rows.specs.{Changes.{IsRevised, desk_with, plan_row_of, with_revision}, Steps.one_revision_more, claim.Tidy.{IsNext, no_numbers}}
-use Rattle.store_rows.proofs.Frames.{put_is_there, put_keeps, put_keeps_tag, tag_follows, desk_stays, revision_stays}
+use Rattle.std.{specs.{FinMap.{FinMap, get, insert}, Prelude.{Option, MatchOption}}, proofs.Common.{◌≡◌, ◌<◌, ℕ, List, [], length, Some, ap, ◌∙◌, arith, length-append}}
+use Rattle.{desk_model.specs.claim.{Desk.{Desk, Plan, name_cmp}, Geography.GeographyModel}, plan_rows.specs.PlanLaws.{MakesAndTakes, HasRevisionRows}}
+use Rattle.{plan_rows.specs.PlanRows.{plan_rows, revised_rows}, store_rows.specs.{Changes.{IsRevised, desk_with, plan_row_of, with_revision}, Rows.SameTag, claim.Puts.put_rows}}
+use Rattle.store_rows.specs.{Steps.one_revision_more, claim.{DeskRows.{HasPlan, IsDesk, most_revisions}, Keys.{key_of, counters, named}, Rows.KeyMap, Tidy.{IsNext, no_numbers}}}
+use Rattle.store_rows.specs.{claim.Values.{counters_bytes, plan_bytes}, declared.value.{Counters.Counters, PlanRow.PlanRow}}
 use Rattle.store_rows.proofs.Changes.{plan_created, plan_retired, plan_revised, other_row as other_name}
-use Rattle.plan_rows.specs.{PlanRows.{plan_rows, revised_rows}, PlanLaws.{MakesAndTakes, HasRevisionRows}}
+use Rattle.store_rows.proofs.Frames.{put_is_there, put_keeps, put_keeps_tag, tag_follows, desk_stays, revision_stays}
 
 -- ---- the row of numbers says nothing of the desk
 numbers_keep : (m : KeyMap) (d : Desk) (value : List ℕ) → IsDesk m d → IsDesk (insert m (key_of counters) value) d
-numbers_keep m d value is = desk_stays m (insert m (key_of counters) value) d
-    (put_keeps_tag m 80 65 [] value (λ same. absurd (omega arith)))
-    (put_keeps_tag m 82 65 [] value (λ same. absurd (omega arith)))
-    (put_keeps_tag m 83 65 [] value (λ same. absurd (omega arith)))
-    (put_keeps_tag m 103 65 [] value (λ same. absurd (omega arith)))
-    (put_keeps_tag m 107 65 [] value (λ same. absurd (omega arith))) is
+numbers_keep m d value is =
+    let same = λ (tag : ℕ) (apart : tag ≡ 65 → ⊥). put_keeps_tag m tag 65 [] value apart in
+    desk_stays m (insert m (key_of counters) value) d (same 80 (λ e. absurd (omega arith))) (same 82 (λ e. absurd (omega arith))) (same 83 (λ e. absurd (omega arith))) (same 103 (λ e. absurd (omega arith))) (same 107 (λ e. absurd (omega arith))) is
 
 pub plans_made : (m : KeyMap) (g : GeographyModel) (plans : FinMap name_cmp Plan) (name : List ℕ) → IsDesk m (desk_with g plans) → MakesAndTakes m g plans name
 plans_made m g plans name is = record {

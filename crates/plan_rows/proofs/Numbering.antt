@@ -1,11 +1,9 @@
 -- The numbers are read, and then rows are put.
-use Rattle.std.proofs.Common.{◌≡◌, List, [], length, arith}
-use Rattle.sector_device.specs.declared.SectorDevice.{Ghosts}
-use Rattle.page_store.specs.{claim.Transactions.{stored, disk_in, IsQuiet, Passed}, declared.pages.Pages.Pages, declared.txn.Txn.Txn}
-use Rattle.page_btree.specs.{claim.Map.InTxn, declared.error.TreeError.TreeError, declared.error.TreeError.TheVariants.{NotAStore, NoPages, TooDeep, Memory}}
-use Rattle.store_rows.specs.{declared.value.Counters.Counters, claim.Rows.KeyMap, claim.Puts.Row, claim.Tidy.{IsNext, CountersFit}}
-use Rattle.desk_pages.{specs.claim.Puts.{HasPut, PutsErr}, specs.Reading.{HasNext, ReadErr}, proofs.RowsPut.{more_put, then_not_put}}
-use Rattle.plan_rows.specs.claim.Outcomes.{AreNext, HasNumbered, ChangeErr}
+use Rattle.{std.proofs.Common.{◌≡◌, List, [], length, arith}, desk_pages.specs.{Reading.{HasNext, ReadErr}, claim.Puts.{HasPut, PutsErr}}, page_btree.specs.claim.Map.InTxn}
+use Rattle.{page_btree.specs.declared.error.TreeError.{TreeError, TheVariants.{NotAStore, NoPages, TooDeep, Memory}}, page_store.specs.declared.{pages.Pages.Pages, txn.Txn.Txn}}
+use Rattle.{page_store.specs.claim.Transactions.{stored, disk_in, IsQuiet, Passed}, plan_rows.specs.claim.Outcomes.{AreNext, HasNumbered, ChangeErr}}
+use Rattle.{sector_device.specs.declared.SectorDevice.Ghosts, store_rows.specs.{claim.{Puts.Row, Rows.KeyMap, Tidy.{IsNext, CountersFit}}, declared.value.Counters.Counters}}
+use Rattle.desk_pages.proofs.RowsPut.{more_put, then_not_put}
 
 module _ {D : Type 0} {g : Ghosts D} where
   nothing_put : (t : Txn) (a b : Pages D g) → Passed a b → HasPut [] t t a b

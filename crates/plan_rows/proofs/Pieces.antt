@@ -1,8 +1,7 @@
 -- A piece of a chunk, as its row has it.
-use Rattle.std.{specs.FinMap.get, proofs.Common.{rules, ◌≡◌, ◌<◌, ◌*◌, ◌^◌, ℕ, List, take, drop, Some, sym, subst, ◌∙◌, arith}}
-use Rattle.store_rows.specs.{claim.Keys.{key_of, chunk}, claim.Lists.{AreDistricts, districts_bytes}, claim.Rows.KeyMap}
+use Rattle.{std.{specs.FinMap.get, proofs.Common.{rules, ◌≡◌, ◌<◌, ◌*◌, ◌^◌, ℕ, List, take, drop, Some, sym, subst, ◌∙◌, arith}}, plan_rows.specs.ChunkReading.IsChunk}
+use Rattle.store_rows.specs.claim.{Keys.{key_of, chunk}, Lists.{AreDistricts, districts_bytes}, Rows.KeyMap}
 use Rattle.desk_pages.proofs.ListParts.{part_there, some_of_part, most_of_part, each_of_part}
-use Rattle.plan_rows.specs.ChunkReading.{IsChunk}
 
 pub piece_there : (m : KeyMap) (number count index : ℕ) (districts key : List ℕ) → IsChunk number count m districts → key ≡ key_of (chunk number index) → index < 2 ^ 16 → 512 * index < count → get m key ≡ Some (districts_bytes (take 512 (drop (512 * index) districts)))
 piece_there m number count index districts key is same small within =

@@ -1,33 +1,26 @@
 -- A plan's row is read back from its bytes, so it tells one plan.
-use Rattle.std.specs.{Prelude.IfSome, Int.from_be_bytes, FinMap.{FinMap, get}}
-use Rattle.std.proofs.Common.{◌≡◌, ◌%◌, ℕ, zero, suc, List, drop, get_or, Option, Some, w16, w32, w64, arith}
-use Rattle.std.proofs.lemmas.Nat.{from_be_bytes-to_be_bytes_2, from_be_bytes-to_be_bytes_4, from_be_bytes-to_be_bytes_8}
-use Rattle.desk_model.specs.{declared.kind.Kind.Kind, declared.kind.Kind.TheVariants.{Congress, Senate, House}, claim.Geography.GeographyModel, claim.Desk.{Plan, name_cmp}}
-use Rattle.store_rows.specs.{claim.Values.{plan_bytes, kind_code}, declared.value.PlanRow.PlanRow, claim.Rows.KeyMap, claim.DeskRows.{HasPlan, IsPlanAt, IsDesk}}
-use Rattle.store_rows.{specs.Changes.{desk_with, plan_row_of}, proofs.OneGeography.no_value as clash}
-use Rattle.plan_rows.specs.{PlanRows.IsFound, PlanLaws.{RowFits, IsTold}}
+use Rattle.std.{specs.{FinMap.{FinMap, get}, Int.from_be_bytes, Prelude.IfSome}, proofs.Common.{sym, ap, ◌∙◌, ◌≡◌, ◌%◌, ℕ, List, drop, get_or, Option, Some, w16, arith}}
+use Rattle.{std.proofs.lemmas.Nat.from_be_bytes-to_be_bytes_2, desk_model.specs.{claim.{Desk.{Plan, name_cmp}, Geography.GeographyModel}, declared.kind.Kind.Kind}}
+use Rattle.{plan_rows.specs.{PlanLaws.{RowFits, IsTold}, PlanRows.IsFound}, store_rows.specs.{Changes.{desk_with, plan_row_of}, claim.DeskRows.{HasPlan, IsPlanAt, IsDesk}}}
+use Rattle.store_rows.{specs.{claim.{Rows.KeyMap, Values.{plan_bytes, kind_code}}, declared.value.PlanRow.PlanRow}, proofs.OneDesk.{row_number, row_revisions}}
+use Rattle.store_rows.proofs.OneGeography.{value_is, no_value as clash}
 
-kind_of : ℕ → Kind
-kind_of zero = Congress
-kind_of (suc zero) = Senate
-kind_of (suc (suc n)) = House
+same_kind : (a b : Kind) → kind_code a % 256 ≡ kind_code b % 256 → a ≡ b
+same_kind a b same = search (arith)
 
-kind_again : (kind : Kind) → kind_of (kind_code kind % 256) ≡ kind
-unfolding kind_of
-kind_again kind = search (arith)
-
-row_of_bytes : List ℕ → PlanRow
-row_of_bytes bytes = record { number = from_be_bytes w64 bytes; kind = kind_of (get_or bytes 8 0); districts = from_be_bytes w16 (drop 9 bytes); revisions = from_be_bytes w32 (drop 11 bytes) }
-
-row_again : (row : PlanRow) → RowFits row → row_of_bytes (plan_bytes row) ≡ row
-unfolding row_of_bytes
-row_again row fits = search (arith, from_be_bytes-to_be_bytes_8, row.number, kind_again, row.kind, from_be_bytes-to_be_bytes_2, row.districts, from_be_bytes-to_be_bytes_4, row.revisions)
+one_row : (a b : PlanRow) → RowFits a → RowFits b → plan_bytes a ≡ plan_bytes b → a ≡ b
+one_row a b fa fb same =
+    let number : a.number ≡ b.number = row_number a b fa.number_fits fb.number_fits same in
+    let kind : a.kind ≡ b.kind = same_kind a.kind b.kind (ap (λ l. get_or l 8 0) same) in
+    let districts : a.districts ≡ b.districts = sym (from_be_bytes-to_be_bytes_2 a.districts fa.districts_fit) ∙ ap (λ l. from_be_bytes w16 (drop 9 l)) same ∙ from_be_bytes-to_be_bytes_2 b.districts fb.districts_fit in
+    let revisions : a.revisions ≡ b.revisions = row_revisions a b fa.revisions_fit fb.revisions_fit same in
+    λ i. record { number = number i; kind = kind i; districts = districts i; revisions = revisions i }
 
 row_fits : (m : KeyMap) (g : GeographyModel) (name : List ℕ) (number : ℕ) (p : Plan) → HasPlan m g name number p → RowFits (plan_row_of number p)
 row_fits m g name number p has = let few = has.few in record { number_fits = has.number_fits; districts_fit = has.districts_fit; revisions_fit = omega arith }
 
 told_at : (m : KeyMap) (g : GeographyModel) (name : List ℕ) (p : Option Plan) (found : Option PlanRow) → IsPlanAt m (Some g) name p → IsFound m name found → IfSome found RowFits → IsTold m g name p found
-told_at m g name p found is there fits = search (arith, clash, row_again, row_fits)
+told_at m g name p found is there fits = search (arith, clash, one_row, value_is, row_fits)
 
 pub plans_told : (m : KeyMap) (g : GeographyModel) (plans : FinMap name_cmp Plan) (name : List ℕ) (found : Option PlanRow) → IsDesk m (desk_with g plans) → IsFound m name found → IfSome found RowFits → IsTold m g name (get plans name) found
 plans_told m g plans name found is there fits = told_at m g name (get plans name) found (is.plans name) there fits

@@ -1,10 +1,8 @@
 -- What no promise rests on, beside claim/PlanRows.antt.
 use Rattle.std.specs.Prelude.{◌<◌, ℕ, List, [], ◌∷◌, Option}
-use Rattle.desk_model.specs.declared.kind.Kind.{Kind}
-use Rattle.store_rows.specs.{claim.Keys.{key_of, counters, named}, claim.Values.{counters_bytes, plan_bytes}, declared.value.Counters.Counters, declared.value.PlanRow.PlanRow}
-use Rattle.store_rows.specs.{claim.DeskRows.most_revisions, claim.Rows.KeyMap, claim.Puts.Row, Steps.{one_plan_more, chunks_more, one_revision_more}}
-use Rattle.desk_pages.specs.Reading.{StandsAs}
-use Rattle.plan_rows.specs.claim.PlanRows.{HasChunkNumbers}
+use Rattle.{desk_model.specs.declared.kind.Kind.Kind, desk_pages.specs.Reading.StandsAs, plan_rows.specs.claim.PlanRows.HasChunkNumbers, store_rows.specs.claim.Puts.Row}
+use Rattle.store_rows.specs.{Steps.{one_plan_more, chunks_more, one_revision_more}, claim.{DeskRows.most_revisions, Keys.{key_of, counters, named}, Rows.KeyMap}}
+use Rattle.store_rows.specs.{claim.Values.{counters_bytes, plan_bytes}, declared.value.{Counters.Counters, PlanRow.PlanRow}}
 
 -- the row under a plan's name, or none
 abbrev pub IsFound : KeyMap → List ℕ → Option PlanRow → Type 0

@@ -1,8 +1,7 @@
 -- What is read of a revision.
 use Rattle.std.specs.Prelude.{◌≡◌, ◌<◌, ◌*◌, ◌^◌, ℕ, List, [], length, get_or, map, take, drop}
-use Rattle.desk_model.specs.declared.ranges.CountyRange.{CountyRange}
-use Rattle.store_rows.specs.{claim.Keys.part, claim.Lists.chunks_bytes, claim.Rows.KeyMap, claim.RevisionRows.{HasChunk, NamesChunks, HasRevision}}
-use Rattle.plan_rows.specs.Parts.{AppendsAll, AppendsPart, StandsInParts}
+use Rattle.{desk_model.specs.declared.ranges.CountyRange.CountyRange, plan_rows.specs.Parts.{AppendsAll, AppendsPart, StandsInParts}, store_rows.specs.claim.Keys.part}
+use Rattle.store_rows.specs.claim.{Lists.chunks_bytes, RevisionRows.{HasChunk, NamesChunks, HasRevision}, Rows.KeyMap}
 
 -- the revision names these chunks, and they are so many
 pub record AreNames (plan revision count : ℕ) (m : KeyMap) (numbers : List ℕ) : Type 0 where

@@ -1,17 +1,12 @@
 -- Rows that belong to a store.
-use Rattle.std.specs.{Prelude.Option, List.AllByRecursion, FinMap.{entries, get}}
-use Rattle.std.proofs.Common.{◌≡◌, ℕ, List, [], Bool, true, false, Some, None, Ok, refl, sym, ap, subst, ◌∙◌}
-use Rattle.sector_device.specs.declared.SectorDevice.{Ghosts}
-use Rattle.page_store.specs.{claim.Transactions.{IsQuiet, Passed}, declared.pages.Pages.Pages, declared.txn.Txn.Txn}
-use Rattle.page_btree.specs.page_node.claim.Entries.{Entry}
-use Rattle.btree_walks.specs.{Prefixes.under, Scanning.{TakesNextRow, fault_in, has_ended}, declared.rows.Row.Row, declared.scans.Scan.Scan}
-use Rattle.btree_walks.proofs.{RowsFound.all_found, Walked.{HasNext, HasWalked, walk_next, walk_passed}}
-use Rattle.desk_model.specs.declared.ranges.CountyRange.{CountyRange}
-use Rattle.desk_pages.{specs.Looking.Looks, proofs.Looking.looked}
-use Rattle.store_rows.{specs.claim.Keys.{RowKey, key_of, part}, specs.claim.Lists.{AreChunks, chunks_bytes}, specs.claim.Rows.KeyMap, proofs.ListLaws.chunks_differ}
-use Rattle.store_rows.proofs.RowLaws.{keys_differ}
+use Rattle.std.{specs.{FinMap.{entries, get}, List.AllByRecursion, Prelude.Option}, proofs.Common.{◌≡◌, ℕ, List, [], Bool, true, false, Some, None, Ok, refl, sym, ap, subst, ◌∙◌}}
+use Rattle.{btree_walks.specs.{Prefixes.under, Scanning.{TakesNextRow, fault_in, has_ended}, declared.{rows.Row.Row, scans.Scan.Scan}}, desk_pages.specs.Looking.Looks}
+use Rattle.{desk_model.specs.declared.ranges.CountyRange.CountyRange, page_btree.specs.page_node.claim.Entries.Entry, page_store.specs.claim.Transactions.{IsQuiet, Passed}}
+use Rattle.{page_store.specs.declared.{pages.Pages.Pages, txn.Txn.Txn}, row_owners.{specs.declared.{kinds.Kind.TheVariants.{Mark, Other}, wrong.Wrong.Wrong}, proofs.Whole.get_is}}
 use Rattle.row_owners.specs.Strays.{AllBelong, Belongs, IsAny, IsJudged, IsNamed, IsNaming, IsOf, IsOfKind, IsRight, IsStray, IsWrong, NamesAt, Tells}
-use Rattle.row_owners.{specs.declared.kinds.Kind.TheVariants.{Mark, Other}, specs.declared.wrong.Wrong.Wrong, proofs.Whole.get_is}
+use Rattle.{sector_device.specs.declared.SectorDevice.Ghosts, store_rows.specs.claim.{Keys.{RowKey, key_of, part}, Lists.{AreChunks, chunks_bytes}, Rows.KeyMap}}
+use Rattle.{btree_walks.proofs.{RowsFound.all_found, Walked.{HasNext, HasWalked, walk_next, walk_passed}}, desk_pages.proofs.Looking.looked, store_rows.proofs.RowLaws.keys_differ}
+use Rattle.store_rows.proofs.ListLaws.{chunks_differ}
 
 -- ---- a row with a key is one
 right_by : (ranges : List CountyRange) (m : KeyMap) (key value : List ℕ) (row : RowKey) → IsOf row key → Belongs ranges m row value → IsRight ranges m (key, value)

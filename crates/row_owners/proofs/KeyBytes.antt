@@ -1,8 +1,6 @@
 -- Keys of rows after the version's, by their bytes.
-use Rattle.std.proofs.Common.{◌≡◌, ℕ, List, [], ◌∷◌, ◌++◌, drop, get_or, inl, inr, sym, ap, ◌∙◌, arith}
-use Rattle.store_rows.specs.{claim.Keys.{RowKey, key_of, Fits, part, block, pair, chunk, in_two, in_four, in_eight}, claim.Tidy.IsPiece}
-use Rattle.store_check.specs.Rows.{IsKind, IsRow}
-use Rattle.row_owners.specs.Wholes.{IsWhole, SaysSo}
+use Rattle.{std.proofs.Common.{◌≡◌, ℕ, List, [], ◌∷◌, ◌++◌, drop, get_or, inl, inr, sym, ap, ◌∙◌, arith}, row_owners.specs.Wholes.{IsWhole, SaysSo}}
+use Rattle.{store_check.specs.Rows.{IsKind, IsRow}, store_rows.specs.claim.{Keys.{RowKey, key_of, Fits, part, block, pair, chunk, in_two, in_four, in_eight}, Tidy.IsPiece}}
 
 -- ---- what a key's first byte is
 first_is : (key : List ℕ) (row : RowKey) → key ≡ key_of row → get_or key 0 0 ≡ get_or (key_of row) 0 0
@@ -46,7 +44,4 @@ whole_place key value first is = record {
 }
 
 pub whole_piece : (key value : List ℕ) → get_or key 0 0 ≡ 107 → IsRow key → IsPiece value → IsWhole (key, value)
-whole_piece key value first is says = record {
-  past = λ past. is;
-  says = λ row fits same. piece_says key value first says row same;
-}
+whole_piece key value first is says = record { past = λ past. is; says = λ row fits same. piece_says key value first says row same }

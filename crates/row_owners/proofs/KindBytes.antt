@@ -1,7 +1,7 @@
 -- Which kinds keys are of.
-use Rattle.std.proofs.Common.{◌≡◌, ◌<◌, ◌^◌, ℕ, List, [], ◌∷◌, ◌++◌, drop, get_or, arith}
+use Rattle.{std.proofs.Common.{◌≡◌, ◌<◌, ◌^◌, ℕ, List, [], ◌∷◌, ◌++◌, drop, get_or, arith}, row_owners.specs.Strays.{IsNoneOf, IsOf, IsOfKind, TakesAny}}
+use Rattle.row_owners.specs.declared.kinds.Kind.TheVariants.{Mark, Other}
 use Rattle.store_rows.specs.claim.Keys.{RowKey, key_of, Fits, retired, begun, holding, part, block, pair, chunk, in_four, in_eight}
-use Rattle.row_owners.specs.{Strays.{IsNoneOf, IsOf, IsOfKind, TakesAny}, declared.kinds.Kind.TheVariants.{Mark, Other}}
 
 pub retired_of : (key : List ℕ) (plan : ℕ) → get_or key 0 0 ≡ 68 → plan < 2 ^ 64 → drop 1 key ≡ in_eight plan → IsOf (retired plan) key
 retired_of [] plan is fits rest = absurd (omega (arith, is))

@@ -1,9 +1,8 @@
 -- All rows say what they are.
-use Rattle.std.{specs.List.AllByRecursion, specs.FinMap.{entries, find, get}, proofs.Common.{◌≡◌, ℕ, List, [], length, Some, refl, sym, ap, ◌∙◌}}
-use Rattle.page_btree.specs.{page_node.claim.Entries.Entry, page_node.claim.Places.key_cmp}
-use Rattle.btree_walks.{specs.Prefixes.under, proofs.RowsFound.{all_found, found_among}, proofs.Ready.{under_nothing as under_all, all_under}}
-use Rattle.store_rows.specs.{claim.Keys.{RowKey, key_of, Fits, part, chunk}, claim.Rows.{KeyMap, Has}, claim.Tidy.Tidy}
-use Rattle.row_owners.specs.Wholes.{AllSay, AreWhole, IsWhole, SaysSo}
+use Rattle.{std.{specs.{FinMap.{entries, find, get}, List.AllByRecursion}, proofs.Common.{◌≡◌, ℕ, List, [], length, Some, refl, sym, ap, ◌∙◌}}, btree_walks.specs.Prefixes.under}
+use Rattle.{page_btree.specs.page_node.claim.{Entries.Entry, Places.key_cmp}, row_owners.specs.Wholes.{AllSay, AreWhole, IsWhole, SaysSo}, store_rows.specs.claim.Tidy.Tidy}
+use Rattle.{store_rows.specs.claim.{Keys.{RowKey, key_of, Fits, part, chunk}, Rows.{KeyMap, Has}}, btree_walks.proofs.Ready.{under_nothing as under_all, all_under}}
+use Rattle.btree_walks.proofs.RowsFound.{all_found, found_among}
 
 -- ---- rows of a tidy map say so
 says_so : (m : KeyMap) → Tidy m → (row : RowKey) (value : List ℕ) → Fits row → Has m row value → SaysSo row value

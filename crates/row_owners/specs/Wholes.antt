@@ -1,9 +1,7 @@
 -- Rows that say what they are.
-use Rattle.std.specs.{Prelude.{◌≡◌, ℕ, List, length, Some}, FinMap.{entries, get}}
-use Rattle.page_btree.specs.page_node.claim.Entries.{Entry}
+use Rattle.std.specs.{FinMap.{entries, get}, Prelude.{◌≡◌, ℕ, List, length, Some}}
+use Rattle.{page_btree.specs.page_node.claim.Entries.Entry, store_check.specs.Rows.{IsPast, IsRow}, store_rows.specs.claim.{Rows.{KeyMap, Has}, Tidy.{IsPart, IsPiece}}}
 use Rattle.store_rows.specs.claim.Keys.{RowKey, key_of, Fits, counters, retired, begun, holding, holder_count, named, part, seal, version, block, pair, chunk}
-use Rattle.store_rows.specs.{claim.Rows.{KeyMap, Has}, claim.Tidy.{IsPart, IsPiece}}
-use Rattle.store_check.specs.Rows.{IsPast, IsRow}
 
 -- a part of a revision names chunks, and a piece of a chunk has districts
 abbrev pub SaysSo : RowKey → List ℕ → Type 0

@@ -1,9 +1,7 @@
 -- Lemmas on the definitions of Held.
-use Rattle.std.specs.Prelude.{◌≡◌, ◌⊎◌, ◌≤◌, ◌<◌, ◌^◌, ℕ, Bool, true, false, List, [], ◌∷◌, length, cond, ◌+◌}
-use Rattle.std.proofs.Common.{get_or, set, nat_eq, ◌≢◌, inl, inr, sym, subst, ◌∙◌, arith, get_or-set_other}
-use Rattle.std.proofs.lemmas.Bool.{cases_eq}
-use Rattle.std.proofs.lemmas.Bool.Decides.{nat_tests}
-use Rattle.sector_device.specs.{claim.Disk.{Disk, Image, AgreeOff, Touches}, Disk.Only, Held.{Leaves, State, disk_from, refused}}
+use Rattle.std.{specs.Prelude.{◌≡◌, ◌⊎◌, ◌≤◌, ◌<◌, ◌^◌, ℕ, Bool, true, false, List, [], ◌∷◌, length, cond, ◌+◌}, proofs.lemmas.Bool.{cases_eq, Decides.nat_tests}}
+use Rattle.{std.proofs.Common.{get_or, set, nat_eq, ◌≢◌, inl, inr, sym, subst, ◌∙◌, arith, get_or-set_other}, sector_device.specs.Disk.Only}
+use Rattle.sector_device.specs.{Held.{Leaves, State, disk_from, refused}, claim.Disk.{Disk, Image, AgreeOff, Touches}}
 
 -- c, with the sector as it was
 abbrev put_back : List (List ℕ) → ℕ → Image → Image

@@ -1,6 +1,6 @@
 -- Lemmas on the definitions of Moments.
-use Rattle.std.{specs.Prelude.{◌≡◌, ◌⊎◌, ℕ, Result, Ok, Err, OnOk}, proofs.Common.{inl, inr, ⊎_elim, refl, sym, subst, ◌∙◌, arith}}
-use Rattle.sector_device.specs.{claim.Disk.{Disk, Image, AgreeOff, LeavesBut, Touches, Nowhere}, Disk.{IsSynced, HasCause, Step}, claim.Moments.LeavesOnly}
+use Rattle.{std.{specs.Prelude.{◌≡◌, ◌⊎◌, ℕ, Result, Ok, Err, OnOk}, proofs.Common.{inl, inr, ⊎_elim, refl, sym, subst, ◌∙◌, arith}}, sector_device.specs.claim.Moments.LeavesOnly}
+use Rattle.sector_device.specs.{Disk.{IsSynced, HasCause, Step}, claim.Disk.{Disk, Image, AgreeOff, LeavesBut, Touches, Nowhere}}
 
 pub agree_trans : (S T : ℕ → Type 0) (a b c : Image) → ((i : ℕ) → T i → S i) → AgreeOff S a b → AgreeOff T b c → AgreeOff S a c
 agree_trans S T a b c within ab bc = record { same = λ i off. bc.same i (λ t. off (within i t)) ∙ ab.same i off }
@@ -23,9 +23,7 @@ touches_more S T a b c within ab bc = record {
 }
   where
     earlier : (x : Image) → LeavesBut T b x → LeavesBut S a x
-    earlier x but =
-        let from = now_but S a b ab but.0 but.1 in
-        (from.0, from.1, agree_trans S T from.0 but.0 x within from.2 but.2)
+    earlier x but = let from = now_but S a b ab but.0 but.1 in (from.0, from.1, agree_trans S T from.0 but.0 x within from.2 but.2)
 
 pub touches_wider : (S T : ℕ → Type 0) (a b : Disk) → ((i : ℕ) → S i → T i) → Touches S a b → Touches T a b
 touches_wider S T a b within ab = record {

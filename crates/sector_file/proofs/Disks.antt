@@ -1,9 +1,8 @@
 -- What a write and a sync leave of the disk.
 use Rattle.std.proofs.Common.{rules, ◌≡◌, ◌<◌, ◌^◌, ◌∙◌, List, ℕ, suc, Bool, [], ◌∷◌, length, get_or, set, replicate, false, true, inl, inr, refl, sym, subst, ap, arith, IsTrue, get_or-set_other}
-use Rattle.std.proofs.lemmas.List.{length-set}
-use Rattle.sector_device.{specs.Disk.Only, specs.claim.Disk.{Touches, Nowhere, Image, AgreeOff}, specs.Held.{Leaves, image_of}, proofs.Held.write_touches}
-use Rattle.sector_file.specs.{Told.{Told, same_bytes, after_read, after_write, after_torn, after_sync, after_fault, told_disk, IsAsOpened}, Recalled.Recalls}
-use Rattle.sector_file.{specs.declared.recent.Recent.Recent, proofs.Steps.first_true}
+use Rattle.{std.proofs.lemmas.List.length-set, sector_device.specs.{Disk.Only, Held.{Leaves, image_of}, claim.Disk.{Touches, Nowhere, Image, AgreeOff}}}
+use Rattle.sector_file.specs.{Recalled.Recalls, Told.{Told, same_bytes, after_read, after_write, after_torn, after_sync, after_fault, told_disk, IsAsOpened}}
+use Rattle.{sector_file.{specs.declared.recent.Recent.Recent, proofs.Steps.first_true}, sector_device.proofs.Held.write_touches}
 
 -- nothing is unsynced
 pub all_synced : (n i : ℕ) → get_or (replicate n false) i false ≡ false

@@ -1,11 +1,9 @@
 -- What calls that only read leave of the disk, and whether a reader was honest.
 use Rattle.std.proofs.Common.{rules, ◌≡◌, ◌≢◌, ◌<◌, ◌+◌, ◌^◌, ◌⊎◌, ◌∙◌, ℕ, Bool, length, cond, get_or, true, false, List, [], ◌∷◌, ◌++◌, refl, sym, ap, subst, inl, inr, nat_eq, arith, IsTrue, ◌&&◌, ◌||◌, slice_index, replicate}
-use Rattle.std.proofs.lemmas.Bool.{cases_eq}
-use Rattle.std.proofs.lemmas.Bool.Decides.{nat_tests}
-use Rattle.sector_device.{specs.claim.Disk.{Image, Touches, Nowhere}, specs.Disk.{IsSynced, Only}, specs.Held.{refused, image_of}, proofs.Moments.{touches_more, touches_wider}}
-use Rattle.sector_file.specs.Reader.{IsReader}
+use Rattle.{std.proofs.lemmas.Bool.{cases_eq, Decides.nat_tests}, sector_device.specs.{Disk.{IsSynced, Only}, Held.{refused, image_of}, claim.Disk.{Image, Touches, Nowhere}}}
+use Rattle.{sector_file.{specs.Reader.IsReader, proofs.Disks.{all_synced, read_is, fault_is}}, sector_device.proofs.Moments.{touches_more, touches_wider}}
 use Rattle.sector_file.specs.Told.{Told, Call, same_bytes, first_held, step, after_opening, after_read, after_fault, after_write, after_torn, after_sync, after_sharing, replay, replay_on, only_reads, read_call, failed_call, told_disk}
-use Rattle.sector_file.proofs.{Steps.{not_true, first_true, is_4096, not_4096, length_held, whole_read, short_read}, Disks.{all_synced, read_is, fault_is}}
+use Rattle.sector_file.proofs.Steps.{not_true, first_true, is_4096, not_4096, length_held, whole_read, short_read}
 
 second_true : (a b : Bool) → IsTrue (a && b) → IsTrue b
 second_true true b is = is
@@ -53,14 +51,11 @@ module _ (sector : ℕ → List ℕ) where
 
     pub same_on : (calls : List Call) → IsTrue (only_reads calls) → Same (replay_on sector t calls)
     same_on [] only = (refl, refl)
-    same_on (call ∷ calls) only =
-        let had = same_on calls (second_true _ _ only) in
-        search (rules, step_is, first_true)
+    same_on (call ∷ calls) only = let had = same_on calls (second_true _ _ only) in search (rules, step_is, first_true)
 
     pub honest_on : (calls : List Call) → IsTrue (only_reads calls) → IsTrue (replay_on sector t calls).3 → IsTrue t.3
     honest_on [] only honest = honest
-    honest_on (call ∷ calls) only honest = honest_on calls (second_true _ _ only)
-        (search (rules, step_is, first_true))
+    honest_on (call ∷ calls) only honest = honest_on calls (second_true _ _ only) (search (rules, step_is, first_true))
 
     pub touches_on : (few : length t.0 < 2 ^ 32) (calls : List Call) → IsTrue (only_reads calls) → (few' : length (replay_on sector t calls).0 < 2 ^ 32) → IsTrue (replay_on sector t calls).3
         → Touches Nowhere (told_disk t few) (told_disk (replay_on sector t calls) few')
@@ -80,9 +75,7 @@ module _ (sector : ℕ → List ℕ) where
   module _ (t s : Told) where
     pub faults_on : refused s.2 ≡ 0 → (calls : List Call) → IsTrue (only_reads calls) → refused (replay_on sector t calls).2 ≡ refused t.2 + refused (replay_on sector s calls).2
     faults_on none [] only = omega (arith, none)
-    faults_on none (call ∷ calls) only =
-        let had = faults_on none calls (second_true _ _ only) in
-        search (rules, step_is, first_true, one_more)
+    faults_on none (call ∷ calls) only = let had = faults_on none calls (second_true _ _ only) in search (rules, step_is, first_true, one_more)
 
     pub honest_too : ((i : ℕ) → get_or t.0 i [] ≡ get_or s.0 i []) → IsTrue s.3 → (calls : List Call) → IsTrue (only_reads calls) → IsTrue (replay_on sector t calls).3 → IsTrue (replay_on sector s calls).3
     honest_too same began [] only honest = began

@@ -1,12 +1,8 @@
 -- What reading a run of sectors leaves of the disk.
-use Rattle.std.specs.Prelude.{Result}
+use Rattle.{std.{specs.Prelude.Result, proofs.{Math.Seq.take-append_seam, lemmas.{Bool.cases_eq, List.{drop_all, drop_more}}}}, sector_device.specs.Disk.HasCause}
 use Rattle.std.proofs.Common.{rules, ◌≡◌, ◌<◌, ◌+◌, ◌^◌, ◌∙◌, ℕ, zero, suc, false, List, [], ◌∷◌, length, take, drop, ◌++◌, get_or, refl, sym, ap, subst, arith, IsTrue, ◌&&◌}
-use Rattle.std.proofs.Math.Seq.{take-append_seam}
-use Rattle.std.proofs.lemmas.Bool.{cases_eq}
-use Rattle.std.proofs.lemmas.List.{drop_all, drop_more}
-use Rattle.sector_device.specs.{claim.Disk.{Disk, Touches, Nowhere}, Disk.HasCause}
-use Rattle.sector_file.specs.{Told.{Told, Call, same_bytes, replay_on, only_reads, read_call, told_disk}, Runs.{IsHeldRun, IsRunOf, with_run}, declared.run.HeldRun.HeldRun}
-use Rattle.sector_file.proofs.{Steps.{bytes_same, first_true}, Readers.{whole_more, short_more}}
+use Rattle.{sector_device.specs.claim.Disk.{Disk, Touches, Nowhere}, sector_file.specs.{Runs.{IsHeldRun, IsRunOf, with_run}, declared.run.HeldRun.HeldRun}}
+use Rattle.sector_file.{specs.Told.{Told, Call, same_bytes, replay_on, only_reads, read_call, told_disk}, proofs.{Readers.{whole_more, short_more}, Steps.{bytes_same, first_true}}}
 
 pub run_begins : (first : ℕ) (run : List (List ℕ)) (calls : List Call) → with_run (first + 0) run calls ≡ with_run first run calls
 run_begins first run calls = let none : first + 0 ≡ first = omega arith in ap (λ n. with_run n run calls) none

@@ -1,8 +1,5 @@
 use Rattle.std.proofs.Common.{◌≡◌, ◌≢◌, ◌<◌, ◌+◌, ◌∙◌, ℕ, zero, suc, Bool, length, cond, get_or, get_or-set_other, true, false, List, [], ◌∷◌, refl, ap, subst, inl, inr, nat_eq, arith, IsTrue, ◌&&◌, rules}
-use Rattle.std.proofs.lemmas.List.{length-set}
-use Rattle.std.proofs.lemmas.Bool.{cases_eq}
-use Rattle.std.proofs.lemmas.Bool.Decides.{nat_tests}
-use Rattle.sector_file.specs.{Recalled.Recalls, declared.recent.Recent.Recent}
+use Rattle.{std.proofs.lemmas.{Bool.{cases_eq, Decides.nat_tests}, List.length-set}, sector_file.specs.{Recalled.Recalls, declared.recent.Recent.Recent}}
 use Rattle.sector_file.specs.Told.{Told, same_bytes, held_from, after_opening, step, after_read, after_fault, after_write, after_torn}
 
 pub not_true : IsTrue false → ⊥
@@ -51,9 +48,7 @@ module _ (sector : ℕ → List ℕ) where
   held_at : (from count i : ℕ) → i < count → get_or (held_from sector from count) i [] ≡ sector (from + i)
   held_at from zero i less = absurd (omega (arith, less))
   held_at from (suc n) zero less = search rules
-  held_at from (suc n) (suc i) less =
-      let e : from + 1 + i ≡ from + suc i = omega arith in
-      held_at (from + 1) n i (omega (arith, less)) ∙ ap sector e
+  held_at from (suc n) (suc i) less = let e : from + 1 + i ≡ from + suc i = omega arith in held_at (from + 1) n i (omega (arith, less)) ∙ ap sector e
 
   pub first_at : (t : Told) (count : ℕ) → t ≡ after_opening sector count → (i : ℕ) → i < count → get_or t.0 i [] ≡ sector i
   first_at t count is i less = search (rules, held_at)

@@ -1,8 +1,6 @@
 -- A file as a disk.
-use Rattle.std.specs.Prelude.{ℕ, List}
-use Rattle.sector_device.specs.{claim.Disk.{Disk, Image}, Held.image_of}
-use Rattle.sector_file.specs.{Told.{first_held, replay, replay_on, after_sharing, told_disk}, declared.contents.Contents.Ghosts, declared.device.FileDevice.FileDevice}
-use Rattle.sector_file.specs.declared.reader.FileReader.{FileReader}
+use Rattle.{std.specs.Prelude.{ℕ, List}, sector_device.specs.{Held.image_of, claim.Disk.{Disk, Image}}, sector_file.specs.declared.contents.Contents.Ghosts}
+use Rattle.sector_file.specs.{Told.{first_held, replay, replay_on, after_sharing, told_disk}, declared.{device.FileDevice.FileDevice, reader.FileReader.FileReader}}
 
 abbrev pub file_disk : {S : Type 0} {start : Ghosts S} → FileDevice S start → Disk
 file_disk {start = start} f = told_disk (replay start.sector f.log.calls) f.few

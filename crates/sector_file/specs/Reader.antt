@@ -1,6 +1,6 @@
 -- A device beside another one, for reads alone.
 use Rattle.std.specs.Prelude.{◌≡◌}
-use Rattle.sector_device.specs.{claim.Disk.Disk, Disk.IsSynced}
+use Rattle.sector_device.specs.{Disk.IsSynced, claim.Disk.Disk}
 
 -- A new reader of what the disk holds. A stop leaves what it reads.
 pub record IsReader (disk reader : Disk) : Type 0 where

@@ -1,6 +1,6 @@
 -- Sectors that are held in memory.
 use Rattle.std.{specs.Prelude.{◌≡◌, ℕ, true, List, []}, proofs.Common.get_or}
-use Rattle.sector_file.specs.{declared.recent.HeldSector.HeldSector, declared.recent.Recent.Recent}
+use Rattle.sector_file.specs.declared.recent.{HeldSector.HeldSector, Recent.Recent}
 
 -- what is held of a sector is what these sectors have
 abbrev pub IsRight : HeldSector → List (List ℕ) → Type 0

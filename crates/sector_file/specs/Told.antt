@@ -1,7 +1,6 @@
 -- What a file holds, by what it held as it was opened, what it was told and what it answered.
 use Rattle.std.specs.Prelude.{◌≡◌, ◌<◌, ◌+◌, ◌^◌, ℕ, zero, suc, Bool, true, false, List, [], ◌∷◌, length, cond, ◌&&◌, ◌||◌, IsTrue, slice_index, replicate}
-use Rattle.std.proofs.Common.{get_or, set, nat_eq}
-use Rattle.sector_device.specs.{claim.Disk.Disk, Held.{State, disk_from}}
+use Rattle.{std.proofs.Common.{get_or, set, nat_eq}, sector_device.specs.{Held.{State, disk_from}, claim.Disk.Disk}}
 
 -- the sectors, which of them were written since the last sync, the states before, and whether each sector that was read was
 -- as it is here

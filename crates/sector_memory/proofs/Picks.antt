@@ -1,6 +1,5 @@
 use Rattle.std.proofs.Common.{◌≡◌, ◌+◌, ◌<◌, ℕ, zero, suc, Bool, true, false, List, [], ◌∷◌, length, take, get_or, cond, nat_eq, refl, arith, add-one}
-use Rattle.sector_device.specs.claim.Disk.{Image}
-use Rattle.sector_memory.specs.Memory.{last_pick, after_stop, after_pick}
+use Rattle.{sector_device.specs.claim.Disk.Image, sector_memory.specs.Memory.{last_pick, after_stop, after_pick}}
 
 last_more : (picks : List (ℕ × List ℕ)) (k i : ℕ) (bytes : List ℕ) → k < length picks → last_pick (take (suc k) picks) i bytes ≡ cond (nat_eq i (get_or picks k (0, [])).0) (get_or picks k (0, [])).1 (last_pick (take k picks) i bytes)
 last_more [] k i bytes lt = absurd (omega arith)

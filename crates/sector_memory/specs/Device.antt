@@ -1,6 +1,4 @@
-use Rattle.std.specs.Prelude.{Bool, List}
-use Rattle.sector_device.specs.{claim.Disk.Disk, Held.disk_from}
-use Rattle.sector_memory.specs.declared.memory.MemoryDevice.{MemoryDevice}
+use Rattle.{std.specs.Prelude.{Bool, List}, sector_device.specs.{Held.disk_from, claim.Disk.Disk}, sector_memory.specs.declared.memory.MemoryDevice.MemoryDevice}
 
 -- A device in memory is honest.
 abbrev pub disk_of : MemoryDevice → Disk

@@ -1,7 +1,6 @@
 -- A device in memory that fails at a chosen call.
 use Rattle.std.specs.Prelude.{◌≡◌, ◌+◌, ℕ, Bool, Option, Some, None, Result, IsOk, IsErr, cond}
-use Rattle.sector_device.specs.claim.Disk.{Disk}
-use Rattle.sector_memory.specs.{Device.disk_of, declared.memory.MemoryDevice.MemoryDevice, declared.fused.Fused.Fused}
+use Rattle.{sector_device.specs.claim.Disk.Disk, sector_memory.specs.{Device.disk_of, declared.{fused.Fused.Fused, memory.MemoryDevice.MemoryDevice}}}
 
 abbrev pub inner : Fused → MemoryDevice
 inner f = f.device

@@ -1,6 +1,6 @@
 -- What a stop of a device in memory leaves.
 use Rattle.std.{specs.Prelude.{◌≡◌, ℕ, Bool, false, List, [], ◌∷◌, cond}, proofs.Common.{get_or, nat_eq}}
-use Rattle.sector_device.specs.{claim.Disk.{Disk, Image}, Disk.IsSynced}
+use Rattle.sector_device.specs.{Disk.IsSynced, claim.Disk.{Disk, Image}}
 
 -- the last of the picks that is of this sector, or else these bytes
 abbrev pub last_pick : List (ℕ × List ℕ) → ℕ → List ℕ → List ℕ

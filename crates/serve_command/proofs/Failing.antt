@@ -1,9 +1,7 @@
 -- Whether the device failed in a run, by induction on its calls.
-use Rattle.std.proofs.Common.{◌≡◌, ◌<◌, Bool, true, false, List, inl, inr, refl, sym, subst, ◌∙◌, arith}
-use Rattle.sector_device.specs.declared.SectorDevice.{Ghosts}
+use Rattle.{std.proofs.Common.{◌≡◌, ◌<◌, Bool, true, false, List, inl, inr, refl, sym, subst, ◌∙◌, arith}, inspect_command.specs.desk_runs.claim.{Runs.Call, SweptRuns.SweptRun}}
+use Rattle.{inspect_command.specs.desk_store.{claim.Clerks.{disk_of, pages_of, HaltsByDevice, Keeps}, declared.clerk.Clerk.Clerk}, sector_device.specs.declared.SectorDevice.Ghosts}
 use Rattle.page_store.{specs.claim.Transactions.{has_halted, IsSame}, proofs.Chains.either}
-use Rattle.inspect_command.specs.{desk_store.declared.clerk.Clerk.Clerk, desk_store.claim.Clerks.{disk_of, pages_of, HaltsByDevice, Keeps}, desk_runs.claim.Runs.Call}
-use Rattle.inspect_command.specs.desk_runs.claim.SweptRuns.{SweptRun}
 
 module _ {D : Type 0} {g : Ghosts D} where
   pub honest_before : (a : Bool) (x : Clerk D g) (calls : List Call) (b : Bool) (z : Clerk D g) → SweptRun a x calls b z → (disk_of z).is_honest → (disk_of x).is_honest
@@ -33,8 +31,7 @@ module _ {D : Type 0} {g : Ghosts D} where
     calm = λ off honest. elim (either (has_halted (pages_of y))) [
       | inl fell ↦ (
           let on : has_halted (pages_of z) ≡ true = subst (λ j. j.halted ≡ true) (sym (still (halted_by y fell))) fell in
-          absurd (let clash : true ≡ false = sym on ∙ off in cc)
-          )
+          absurd (let clash : true ≡ false = sym on ∙ off in cc))
       | inr works ↦ two.calm off honest ∙ one.calm works (met honest)
     ];
   }

@@ -1,8 +1,6 @@
 -- What no promise rests on, beside claim/Lasting.antt.
-use Rattle.std.specs.{Prelude.{Result, Ok, Err}, declared.alloc.AllocError.AllocError}
-use Rattle.sector_device.specs.declared.SectorDevice.{Ghosts}
-use Rattle.inspect_command.specs.desk_store.declared.clerk.Clerk.{Clerk}
-use Rattle.http_connections.specs.declared.ran.Ran.{Ran}
+use Rattle.{std.specs.{Prelude.{Result, Ok, Err}, declared.alloc.AllocError.AllocError}, http_connections.specs.declared.ran.Ran.Ran}
+use Rattle.{inspect_command.specs.desk_store.declared.clerk.Clerk.Clerk, sector_device.specs.declared.SectorDevice.Ghosts}
 
 -- the clerk after a run, and after one for which memory was refused
 abbrev pub clerk_in : {D : Type 0} {g : Ghosts D} → Result (Clerk D g × Ran) (AllocError × Clerk D g) → Clerk D g

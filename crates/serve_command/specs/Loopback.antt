@@ -1,5 +1,5 @@
 -- Where a desk's socket listens.
-use Rattle.std.specs.{Prelude.{◌≡◌, ℕ, [], ◌∷◌}, Net.Addr.ipv4_octets, Net.Socket.{v4_ip, v4_port}, declared.net.socket_addr.SocketAddrV4.SocketAddrV4}
+use Rattle.std.specs.{Net.{Addr.ipv4_octets, Socket.{v4_ip, v4_port}}, Prelude.{◌≡◌, ℕ, [], ◌∷◌}, declared.net.socket_addr.SocketAddrV4.SocketAddrV4}
 
 -- 127.0.0.1, which no other machine reaches, at this port
 pub record IsLoopback (port : ℕ) (address : SocketAddrV4) : Type 0 where

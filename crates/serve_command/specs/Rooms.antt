@@ -1,8 +1,7 @@
 -- How much room a store has.
 use Rattle.std.specs.Prelude.{◌≡◌, ◌-◌, ◌^◌, ℕ, nat_le, if◌then◌else◌}
-use Rattle.sector_device.specs.declared.SectorDevice.{Ghosts}
-use Rattle.desk_model.specs.{declared.command.Command.Command, claim.Room.need}
-use Rattle.inspect_command.specs.{desk_store.declared.clerk.Clerk.Clerk, desk_store.claim.Clerks.{desk_of, disk_of, free_of}, Needs.{all_change, IsRevision}}
+use Rattle.{desk_model.specs.{claim.Room.need, declared.command.Command.Command}, inspect_command.specs.{Needs.{all_change, IsRevision}, desk_store.declared.clerk.Clerk.Clerk}}
+use Rattle.{inspect_command.specs.desk_store.claim.Clerks.{desk_of, disk_of, free_of}, sector_device.specs.declared.SectorDevice.Ghosts}
 
 -- the greatest u64 stands for all above it
 abbrev pub capped : ℕ → ℕ

@@ -1,20 +1,15 @@
 -- A store that is served: what is opened, printed and told, and the status that goes with it.
-use Rattle.std.specs.{Prelude.{◌≡◌, ◌⊎◌, ℕ, List, ◌++◌, codes, decimal, Bool, true, false, Option, Some, None, Result, Ok, Err}, Borrow.Bor}
-use Rattle.byte_stream.specs.declared.sink.WriteFault.{WriteFault}
-use Rattle.sector_device.specs.declared.SectorDevice.{Ghosts}
-use Rattle.page_store.specs.claim.Transactions.{device_in}
-use Rattle.command_output.specs.{declared.status.Status.Status, claim.Writing.{Written, Writes, Told}, claim.Faults.status_of_open}
+use Rattle.std.specs.{Borrow.Bor, Prelude.{◌≡◌, ◌⊎◌, ℕ, List, ◌++◌, codes, decimal, Bool, true, false, Option, Some, None, Result, Ok, Err}}
+use Rattle.{byte_stream.specs.declared.sink.WriteFault.WriteFault, command_output.specs.claim.{Faults.status_of_open, Writing.{Written, Writes, Told}}}
+use Rattle.{command_output.specs.declared.status.Status.Status, desk_model.specs.claim.Desk.Desk, http_connections.specs.declared.ran.Ran.Ran}
+use Rattle.{http_seats.specs.{claim.Streams.Traffic, desk_gallery.Working.IsRunFrom}, inspect_command.specs.{desk_loading.Openings.IsOpened, desk_store.declared.clerk.Clerk.Clerk}}
+use Rattle.inspect_command.specs.{desk_store.claim.Clerks.{desk_of, disk_of, is_halted, pages_of, Keeps}, store_command.{Filling.IsNotOpened, Reading.{ReadsDesk, ShowsWhatIsRead}}}
+use Rattle.inspect_command.specs.store_command.{Telling.{store_line, status_of as status_of_store}, declared.fault.StoreFault.StoreFault}
+use Rattle.{inspect_command.specs.store_command.declared.fault.StoreFault.TheVariants.{Memory, NotAStore, DeviceFault}, page_store.specs.claim.Transactions.device_in}
+use Rattle.{sector_device.specs.declared.SectorDevice.Ghosts, serve_command.specs.{Outlasting.{FailsSince, OutlastsWhatIsRead}, claim.Lasting.{LastsAsked, ServesStreams}}}
+use Rattle.{serve_command.specs.declared.fault.ServeFault.{ServeFault, TheVariants.{Store, Socket, Output}}, state_files.specs.declared.fault.OpenFault.OpenFault}
+use Rattle.state_files.specs.declared.fault.OpenFault.TheVariants.{Unreadable, Memory as NoMemory}
 use Rattle.command_output.specs.declared.status.Status.TheVariants as status
-use Rattle.state_files.specs.{declared.fault.OpenFault.OpenFault, declared.fault.OpenFault.TheVariants.{Unreadable, Memory as NoMemory}}
-use Rattle.desk_model.specs.claim.Desk.{Desk}
-use Rattle.inspect_command.specs.{desk_store.declared.clerk.Clerk.Clerk, desk_store.claim.Clerks.{desk_of, disk_of, is_halted, pages_of, Keeps}}
-use Rattle.inspect_command.specs.{store_command.Reading.{ReadsDesk, ShowsWhatIsRead}, desk_loading.Openings.IsOpened, store_command.Filling.IsNotOpened}
-use Rattle.inspect_command.specs.{store_command.Telling.{store_line, status_of as status_of_store}, store_command.declared.fault.StoreFault.StoreFault}
-use Rattle.inspect_command.specs.store_command.declared.fault.StoreFault.TheVariants.{Memory, NotAStore, DeviceFault}
-use Rattle.http_seats.specs.{desk_gallery.Working.IsRunFrom, claim.Streams.Traffic}
-use Rattle.http_connections.specs.declared.ran.Ran.{Ran}
-use Rattle.serve_command.specs.{claim.Lasting.{LastsAsked, ServesStreams}, Outlasting.{FailsSince, OutlastsWhatIsRead}, declared.fault.ServeFault.ServeFault}
-use Rattle.serve_command.specs.declared.fault.ServeFault.TheVariants.{Store, Socket, Output}
 
 abbrev pub listening_text : (port : ℕ) → List ℕ
 listening_text port = codes "listening on 127.0.0.1:" ++ decimal port ++ codes "\n"

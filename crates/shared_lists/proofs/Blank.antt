@@ -1,7 +1,6 @@
 -- Pieces of blocks without a district.
 use Rattle.std.proofs.Common.{rules, ◌≡◌, ◌+◌, ◌*◌, ◌/◌, ◌%◌, ◌<◌, ◌^◌, ℕ, suc, List, [], ◌∷◌, ◌++◌, length, get_or, replicate, arith, ap, sym, ◌∙◌, subst, lit<}
-use Rattle.std.proofs.lemmas.List.{flat_map_more, replicate-append-replicate, length-replicate}
-use Rattle.shared_lists.{specs.Pieces.{Piece, joined, AreFull, IsCut}, proofs.Cut.full_more}
+use Rattle.{std.proofs.lemmas.List.{flat_map_more, replicate-append-replicate, length-replicate}, shared_lists.{specs.Pieces.{Piece, joined, AreFull, IsCut}, proofs.Cut.full_more}}
 
 module _ (ps new : List Piece) (p : Piece) (place : ℕ) (put : new ≡ ps ++ p ∷ []) (is : p.value.items ≡ replicate 512 0) where
   pub blank_full : AreFull ps → AreFull new

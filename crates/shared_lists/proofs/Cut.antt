@@ -1,9 +1,7 @@
 -- Where a place lies among pieces.
-use Rattle.std.specs.{Prelude.{nat_eq, not, ◌&&◌}, Cmp.Lexicographic.pointwise}
+use Rattle.std.{specs.{Cmp.Lexicographic.pointwise, Prelude.{nat_eq, not, ◌&&◌}}, proofs.Math.Seq.{drop-append-add, take-append_seam, take-add}}
 use Rattle.std.proofs.Common.{rules, ◌≡◌, ℕ, zero, suc, ◌+◌, ◌-◌, ◌*◌, ◌/◌, ◌%◌, ◌<◌, ◌≤◌, ◌^◌, Bool, true, false, List, [], ◌∷◌, ◌++◌, length, take, drop, get_or, arith, refl, ap, sym, ◌∙◌, length-append, append_assoc, subst}
-use Rattle.std.proofs.Math.Seq.{drop-append-add, take-append_seam, take-add}
-use Rattle.std.proofs.lemmas.List.{drop-append-le, take_all, drop-drop, length-drop, length-take, flat_map_more, take-append-drop}
-use Rattle.std.proofs.lemmas.Nat.{div-add-mod', mod_below}
+use Rattle.std.proofs.lemmas.{List.{drop-append-le, take_all, drop-drop, length-drop, length-take, flat_map_more, take-append-drop}, Nat.{div-add-mod', mod_below}}
 use Rattle.shared_lists.specs.Pieces.{Piece, joined, AreFull, IsCut}
 
 rest_full : (p : Piece) (ps : List Piece) → AreFull (p ∷ ps) → AreFull ps

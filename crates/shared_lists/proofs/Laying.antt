@@ -1,9 +1,8 @@
 -- Listed districts that are laid over others.
-use Rattle.std.specs.Prelude.{unwrap_or, nat_lt, Bool, true, false, ◌-◌, if◌then◌else◌}
+use Rattle.{std.{specs.Prelude.{unwrap_or, nat_lt, Bool, true, false, ◌-◌, if◌then◌else◌}, proofs.lemmas.Bool.lt-ltb}, shared_lists.specs.Laid.{listed_at, laid}}
 use Rattle.std.proofs.Common.{rules, ◌≡◌, ℕ, zero, suc, ◌+◌, ◌*◌, ◌^◌, ◌<◌, ◌≤◌, List, [], ◌∷◌, ◌++◌, length, get_or, take, subst, length-append, Option, None, arith, refl, ap, sym, ◌∙◌, ◌⊎◌}
-use Rattle.std.proofs.lemmas.Bool.{lt-ltb}
-use Rattle.std.proofs.lemmas.List.{ext_get_or, get_or_past, flat_map_more, take_more, take_all, length-take, get_or-take}
-use Rattle.shared_lists.{specs.Laid.{listed_at, laid}, specs.Pieces.{Piece, joined, AreFull, IsCut}, proofs.Cut.{joined_long, full_more}}
+use Rattle.{std.proofs.lemmas.List.{ext_get_or, get_or_past, flat_map_more, take_more, take_all, length-take, get_or-take}, shared_lists.proofs.Cut.{joined_long, full_more}}
+use Rattle.shared_lists.specs.Pieces.{Piece, joined, AreFull, IsCut}
 
 module _ (first : ℕ) (listed : List (Option ℕ)) where
   pub length-laid : (place : ℕ) (ds : List ℕ) → length (laid first listed place ds) ≡ length ds

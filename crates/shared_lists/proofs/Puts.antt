@@ -1,11 +1,9 @@
 -- A part of a list in the place of its own.
-use Rattle.std.specs.Prelude.{unwrap_or}
+use Rattle.{std.{specs.Prelude.unwrap_or, proofs.lemmas.Bool.{cases_lt, le-ltb}}, shared_lists.{specs.Laid.{listed_at, laid, with_at}, proofs.Cut.joined_long}}
 use Rattle.std.proofs.Common.{rules, ◌≡◌, ℕ, zero, suc, ◌+◌, ◌-◌, ◌*◌, ◌^◌, ◌<◌, ◌≤◌, List, [], ◌∷◌, ◌++◌, length, get_or, take, take_all, drop, map, subst, length-append, length-take, length-drop, Option, Some, None, arith, refl, ap, sym, ◌∙◌, ◌⊎◌, inl, inr, min, max}
-use Rattle.std.proofs.lemmas.Bool.{cases_lt, le-ltb}
-use borrow.Rule.Slice.PartMut.{put_mid}
 use Rattle.std.proofs.lemmas.List.{ext_get_or, drop-drop, get_or-map, length-map, get_or-take, get_or-drop, get_or_append_left, get_or-append_right, take-append-drop}
-use Rattle.shared_lists.{specs.Laid.{listed_at, laid, with_at}, specs.Pieces.{Piece, joined, AreFull, ArePut, IsCut}, proofs.Cut.joined_long}
-use Rattle.shared_lists.proofs.Laying.{Fit, length-laid, get_or-laid, laid-append, unlaid_apart, not_before, not_after}
+use Rattle.shared_lists.{specs.Pieces.{Piece, joined, AreFull, ArePut, IsCut}, proofs.Laying.{Fit, length-laid, get_or-laid, laid-append, unlaid_apart, not_before, not_after}}
+use borrow.Rule.Slice.PartMut.{put_mid}
 
 get_same : (xs : List ℕ) (i j : ℕ) → i ≡ j → get_or xs i 0 ≡ get_or xs j 0
 get_same xs i j same = ap (λ (k : ℕ). get_or xs k 0) same

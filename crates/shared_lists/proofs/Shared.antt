@@ -1,7 +1,6 @@
 -- The same pieces once more.
-use Rattle.std.proofs.Common.{rules, ◌≡◌, ◌+◌, ◌<◌, ◌≤◌, ℕ, List, [], ◌∷◌, ◌++◌, length, take, get_or, ap, sym, ◌∙◌, subst, length-append}
-use Rattle.std.proofs.lemmas.List.{flat_map_more, take_all, take_more}
-use Rattle.shared_lists.{specs.Pieces.{Piece, joined, AreFull, IsCut}, proofs.Cut.full_more}
+use Rattle.{std.proofs.Common.{rules, ◌≡◌, ◌+◌, ◌<◌, ◌≤◌, ℕ, List, [], ◌∷◌, ◌++◌, length, take, get_or, ap, sym, ◌∙◌, subst, length-append}, shared_lists.proofs.Cut.full_more}
+use Rattle.{std.proofs.lemmas.List.{flat_map_more, take_all, take_more}, shared_lists.specs.Pieces.{Piece, joined, AreFull, IsCut}}
 
 module _ (ps all new : List Piece) (k : ℕ) (p d : Piece) (is : p.value.items ≡ (get_or all k d).value.items) (put : new ≡ ps ++ p ∷ []) (within : k < length all) where
   pub shared_more : joined ps ≡ joined (take k all) → joined new ≡ joined (take (k + 1) all)

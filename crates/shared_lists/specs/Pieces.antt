@@ -1,6 +1,5 @@
 -- Districts in pieces.
-use Rattle.std.specs.{Prelude.{◌≡◌, ◌+◌, ◌*◌, ◌<◌, ◌^◌, ℕ, List, Some, ◌++◌, length, get_or, map, All}, List.flat_map, declared.sync.Arc.Arc, declared.vec.Vec.Vec}
-use Rattle.std.specs.declared.alloc.Global.{Global}
+use Rattle.std.specs.{List.flat_map, Prelude.{◌≡◌, ◌+◌, ◌*◌, ◌<◌, ◌^◌, ℕ, List, Some, ◌++◌, length, get_or, map, All}, declared.{alloc.Global.Global, sync.Arc.Arc, vec.Vec.Vec}}
 use Rattle.shared_lists.specs.Laid.{laid}
 
 -- the districts of blocks that stand one after the other

@@ -1,10 +1,7 @@
 -- Files that were read at once, and judged in their order, are as if they had been read in turn up to the first fault.
-use Rattle.std.proofs.Common.{ℕ, ◌<◌, inl, inr, Result, Ok, Err, Vec, Global, refl}
-use Rattle.byte_stream.specs.declared.source.Source.{Ghosts}
-use Rattle.desk_model.specs.declared.block.BlockRow.{BlockRow}
-use Rattle.pl94.specs.{declared.geo.GeoRows.GeoRows, declared.segment.SegRows.SegRows}
-use Rattle.state_files.specs.{claim.Opening.census_of, claim.State.ReadsState, AtOnce.{ReadsEach, JudgesEach, ReadsStateBy}, declared.fault.FileFault.FileFault}
-use Rattle.state_files.specs.declared.census.CensusFiles.{CensusFiles}
+use Rattle.{std.proofs.Common.{ℕ, ◌<◌, inl, inr, Result, Ok, Err, Vec, Global, refl}, byte_stream.specs.declared.source.Source.Ghosts, pl94.specs.declared.geo.GeoRows.GeoRows}
+use Rattle.{desk_model.specs.declared.block.BlockRow.BlockRow, pl94.specs.declared.segment.SegRows.SegRows, state_files.specs.AtOnce.{ReadsEach, JudgesEach, ReadsStateBy}}
+use Rattle.state_files.specs.{claim.{Opening.census_of, State.ReadsState}, declared.{census.CensusFiles.CensusFiles, fault.FileFault.FileFault}}
 
 module _ {R : Type 0} (r : Ghosts R) (workers : ℕ) (before after : CensusFiles R) where
   pub at_once : 1 < workers → (header : Result GeoRows FileFault) (first second third : Result SegRows FileFault) (outcome : Result (Vec BlockRow Global) FileFault) → ReadsEach r before after header first second third → JudgesEach header first second third outcome → ReadsStateBy r workers before after outcome

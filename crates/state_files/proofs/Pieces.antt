@@ -1,6 +1,5 @@
 -- The bytes of a file, piece by piece.
-use Rattle.std.proofs.{Common.{◌≡◌, ℕ, ◌+◌, List, [], ◌++◌, length, take, drop, ap, ◌∙◌}, Math.Seq.take-add}
-use Rattle.std.proofs.lemmas.List.{take_at}
+use Rattle.std.proofs.{Common.{◌≡◌, ℕ, ◌+◌, List, [], ◌++◌, length, take, drop, ap, ◌∙◌}, Math.Seq.take-add, lemmas.List.take_at}
 
 -- so many bytes more after those that came
 pub piece_more : (filled n : ℕ) (old new : List ℕ) → take filled new ≡ take filled old → take (filled + n) new ≡ take filled old ++ take n (drop filled new)

@@ -1,7 +1,6 @@
 -- A plan's districts from what its file lists.
-use Rattle.std.{specs.Prelude.unwrap_or, proofs.Common.{◌≡◌, ℕ, List, [], ◌∷◌, map, Option, Result, Ok, Err, IsOkAnd, refl, ap, ◌∙◌}}
-use Rattle.desk_model.specs.{declared.block.BlockRow.BlockRow, claim.Baf.{Values, Fault, value_at, whole}, claim.Geography.{GeographyModel, ids_of}}
-use Rattle.baf_text.specs.Listed.{listed_of}
+use Rattle.{std.{specs.Prelude.unwrap_or, proofs.Common.{◌≡◌, ℕ, List, [], ◌∷◌, map, Option, Result, Ok, Err, IsOkAnd, refl, ap, ◌∙◌}}, baf_text.specs.Listed.listed_of}
+use Rattle.desk_model.specs.{claim.{Baf.{Values, Fault, value_at, whole}, Geography.{GeographyModel, ids_of}}, declared.block.BlockRow.BlockRow}
 
 in_turn : (values : Values) (blocks : List BlockRow) → map (λ (d : Option ℕ). unwrap_or d 0) (map (value_at values) (ids_of blocks)) ≡ map (λ (b : BlockRow). unwrap_or (value_at values b.id) 0) blocks
 in_turn values [] = refl

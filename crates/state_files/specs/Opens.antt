@@ -1,8 +1,7 @@
 -- Which file is opened by which name, one after the other.
-use Rattle.std.specs.{Prelude.{◌≡◌, ℕ, List, Option, Some, None, is_some, Result}, Option.option_copied}
-use Rattle.desk_model.specs.declared.companions.Companions.{Companions}
-use Rattle.state_files.specs.{declared.fault.OpenFault.OpenFault, declared.census.CensusFiles.CensusFiles, declared.plan_file.Companion.Companion}
-use Rattle.state_files.specs.{declared.open.AuditFiles.AuditFiles, declared.open.CensusPaths.CensusPaths, declared.open.AuditPaths.AuditPaths}
+use Rattle.std.specs.{Option.option_copied, Prelude.{◌≡◌, ℕ, List, Option, Some, None, is_some, Result}}
+use Rattle.{desk_model.specs.declared.companions.Companions.Companions, state_files.specs.declared.{census.CensusFiles.CensusFiles, fault.OpenFault.OpenFault}}
+use Rattle.state_files.specs.{declared.open.{AuditFiles.AuditFiles, AuditPaths.AuditPaths, CensusPaths.CensusPaths}, declared.plan_file.Companion.Companion}
 
 -- the header by its name, and then each segment by its own
 abbrev pub OpensCensus : {R O : Type 0} → (O → List ℕ → Result R OpenFault → O → Type 0) → O → CensusPaths → CensusFiles R → O → Type 0

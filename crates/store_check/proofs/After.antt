@@ -1,25 +1,17 @@
 -- Rows as commands keep them have none after the seal's that no desk has.
-use Rattle.std.specs.{Prelude.IfSome, Int.from_be_bytes, List.starts_with, Ordering.{is_gt, nat_cmp, ordering_then}, declared.cmp.Ordering.Ordering}
-use Rattle.std.specs.{declared.cmp.Ordering.TheVariants.{Less, Greater}, Cmp.nat_cmp_is, FinMap.{entries, get}}
+use Rattle.std.specs.{Cmp.nat_cmp_is, FinMap.{entries, get}, Int.from_be_bytes, List.starts_with, Ordering.{is_gt, nat_cmp, ordering_then}, Prelude.IfSome}
+use Rattle.std.{specs.declared.cmp.Ordering.{Ordering, TheVariants.{Less, Greater}}, proofs.lemmas.{Bool.{cases_lt, Decides.nat_tests}, List.length-take, Option.slice_get_past}}
 use Rattle.std.proofs.Common.{◌≡◌, ◌⊎◌, inl, inr, ◌<◌, ◌≤◌, ◌+◌, ◌-◌, ◌^◌, ℕ, List, [], ◌∷◌, ◌++◌, length, take, drop, get_or, Bool, true, false, cond, nat_eq, Option, Some, None, refl, sym, ap, subst, ◌∙◌, w64, arith}
-use Rattle.std.proofs.lemmas.Bool.{cases_lt}
-use Rattle.std.proofs.lemmas.Bool.Decides.{nat_tests}
-use Rattle.std.proofs.lemmas.List.{length-take}
-use Rattle.std.proofs.lemmas.Option.{slice_get_past}
-use Rattle.std.proofs.lemmas.Nat.{from_be_bytes-to_be_bytes_8}
-use Rattle.page_btree.specs.{page_node.claim.Entries.Entry, page_node.claim.Places.key_cmp, page_node.Places.entries_from}
-use Rattle.page_btree.proofs.page_node.Laws.{flip_less}
-use Rattle.btree_walks.proofs.Prefixes.{between_under, under_is_from}
-use Rattle.desk_model.specs.{claim.Geography.GeographyModel, claim.Desk.Desk}
-use Rattle.store_rows.specs.claim.Keys.{RowKey, key_of, Fits, begun, seal, block, pair, chunk, in_two, in_four, in_eight, blocks_prefix, pairs_prefix, chunk_prefix}
-use Rattle.store_rows.specs.{Keys.{load_prefix, chunks_prefix}, claim.Values.{seal_bytes, block_bytes}, declared.value.Counters.Counters, declared.value.SealRow.SealRow}
-use Rattle.store_rows.specs.{claim.Rows.{KeyMap, Has, element_row}, claim.GeographyRows.{IsGeography, IsSealed, geography_rows, neighbours_bytes}, claim.DeskRows.IsDesk}
-use Rattle.store_rows.{specs.claim.Tidy.{AreOwned, AreRows, IsLoad, Tidy}, proofs.Frames.either_way, proofs.KeyPrefixes.{starts_itself, starts_same}, proofs.Numbers.numbers_decide}
-use Rattle.store_rows.proofs.{OneGeography.{no_value, seal_load, value_is, seal_blocks, seal_pairs}, TidyFree.one_next}
-use Rattle.desk_pages.specs.Reading.{StandsAs}
+use Rattle.{std.proofs.lemmas.Nat.from_be_bytes-to_be_bytes_8, desk_model.specs.claim.{Desk.Desk, Geography.GeographyModel}, desk_pages.specs.Reading.StandsAs}
+use Rattle.{page_btree.specs.page_node.{Places.entries_from, claim.{Entries.Entry, Places.key_cmp}}, store_check.specs.{Numbers.IsDue, claim.Rows.IsFrom}}
 use Rattle.store_check.specs.Rows.{AreOfLoadsTo, AreSealCounted, ComesBefore, HasChunksBelow, IsNextLoad, IsOfLoad, IsPast, IsSealCounted, IsUnder, NoneFrom, after_load}
-use Rattle.store_check.specs.{claim.Rows.IsFrom, Numbers.IsDue}
-use Rattle.store_check.proofs.FirstRows.{above_more, clash, first_is_from, first_least, first_there, from_trans, less_from, lower_tag}
+use Rattle.store_rows.specs.{Keys.{load_prefix, chunks_prefix}, claim.{DeskRows.IsDesk, GeographyRows.{IsGeography, IsSealed, geography_rows, neighbours_bytes}}}
+use Rattle.store_rows.specs.claim.Keys.{RowKey, key_of, Fits, begun, seal, block, pair, chunk, in_two, in_four, in_eight, blocks_prefix, pairs_prefix, chunk_prefix}
+use Rattle.store_rows.specs.{claim.{Rows.{KeyMap, Has, element_row}, Tidy.{AreOwned, AreRows, IsLoad, Tidy}, Values.{seal_bytes, block_bytes}}, declared.value.Counters.Counters}
+use Rattle.{store_rows.{specs.declared.value.SealRow.SealRow, proofs.{Frames.either_way, Numbers.numbers_decide}}, btree_walks.proofs.Prefixes.{between_under, under_is_from}}
+use Rattle.{store_check.proofs.FirstRows.{above_more, clash, first_is_from, first_least, first_there, from_trans, less_from, lower_tag}, store_rows.proofs.TidyFree.one_next}
+use Rattle.store_rows.proofs.{KeyPrefixes.{starts_itself, starts_same}, OneGeography.{no_value, seal_load, value_is, seal_blocks, seal_pairs}}
+use Rattle.page_btree.proofs.page_node.Laws.{flip_less}
 
 -- ---- what keys begin with
 pub prefix_same : (prefix a b : List ℕ) → key_cmp (prefix ++ a) (prefix ++ b) ≡ key_cmp a b

@@ -1,11 +1,10 @@
 -- The first row from a key on, and the rows after it.
-use Rattle.std.specs.{List.starts_with, Ordering.{is_gt, nat_cmp, ordering_then}, declared.cmp.Ordering.TheVariants.{Less, Equal, Greater}, FinMap.entries}
-use Rattle.std.proofs.Common.{◌≡◌, ◌⊎◌, inl, inr, ◌<◌, ℕ, List, [], ◌∷◌, ◌++◌, length, Bool, true, false, nat_eq, None, ap, subst, arith}
-use Rattle.page_btree.specs.{page_node.claim.Entries.Entry, page_node.claim.Places.key_cmp, page_node.Places.entries_from}
+use Rattle.std.specs.{FinMap.entries, List.starts_with, Ordering.{is_gt, nat_cmp, ordering_then}, declared.cmp.Ordering.TheVariants.{Less, Equal, Greater}}
+use Rattle.{std.proofs.Common.{◌≡◌, ◌⊎◌, inl, inr, ◌<◌, ℕ, List, [], ◌∷◌, ◌++◌, length, Bool, true, false, nat_eq, None, ap, subst, arith}, btree_walks.specs.declared.rows.Row.Row}
+use Rattle.{btree_walks.specs.{Scanning.{IsNextRow, fault_in}, declared.scans.Scan.Scan}, page_btree.specs.page_node.{Places.entries_from, claim.{Entries.Entry, Places.key_cmp}}}
+use Rattle.{store_check.specs.{Rows.{IsFirst, NoneFrom}, claim.Rows.IsFrom}, store_rows.specs.claim.Rows.KeyMap, btree_walks.proofs.Prefixes.{none_above, under_is_from}}
+use Rattle.store_rows.proofs.Frames.{same_key}
 use Rattle.page_btree.proofs.page_node.Laws.{less_trans}
-use Rattle.btree_walks.{specs.Scanning.{IsNextRow, fault_in}, specs.declared.rows.Row.Row, specs.declared.scans.Scan.Scan, proofs.Prefixes.{none_above, under_is_from}}
-use Rattle.store_rows.{specs.claim.Rows.KeyMap, proofs.Frames.same_key}
-use Rattle.store_check.specs.{Rows.{IsFirst, NoneFrom}, claim.Rows.IsFrom}
 pub use Rattle.btree_walks.proofs.RowsFound.{first_is_from, first_least, first_none, first_there}
 
 -- ---- the order of keys

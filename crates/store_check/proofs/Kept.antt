@@ -1,16 +1,12 @@
 -- Rows as commands keep them have numbers below those that come next, and where all rows have, no number in use comes next.
-use Rattle.std.specs.{Int.from_be_bytes, FinMap.get}
+use Rattle.std.{specs.{FinMap.get, Int.from_be_bytes}, proofs.lemmas.{List.Elements.{All-contains, All-contains_itself}, Nat.from_be_bytes-to_be_bytes_8}}
 use Rattle.std.proofs.Common.{◌≡◌, ◌<◌, ◌≤◌, ◌+◌, ◌^◌, ℕ, zero, suc, Bool, true, false, List, [], All, Option, Some, None, inl, inr, refl, sym, ap, subst, ◌∙◌, w64, arith}
-use Rattle.std.proofs.lemmas.Nat.{from_be_bytes-to_be_bytes_8}
-use Rattle.std.proofs.lemmas.List.Elements.{All-contains, All-contains_itself}
-use Rattle.desk_pages.specs.Reading.{StandsAs}
-use Rattle.desk_model.specs.{claim.Geography.GeographyModel, claim.Desk.{Desk, Plan}}
+use Rattle.{desk_model.specs.claim.{Desk.{Desk, Plan}, Geography.GeographyModel}, desk_pages.specs.Reading.StandsAs, store_check.specs.Rows.{AreAfterSeal, AreRowsToVersion}}
+use Rattle.{store_check.specs.Numbers.{IsBelow, IsCount, AllBelow, NumbersFit, IsDue, HasNumbersBelow}, store_rows.specs.{Changes.plan_row_of, claim.DeskRows.{IsPlanAt, IsDesk}}}
+use Rattle.store_rows.specs.claim.{GeographyRows.IsGeography, Holders.{AreHolders, holder_count_row}, Lists.{AreChunks, chunks_bytes}, Rows.{KeyMap, row_in, Has}}
 use Rattle.store_rows.specs.claim.Keys.{RowKey, key_of, Fits, retired, begun, holding, holder_count, named, part, seal, version, chunk, in_four, in_eight}
-use Rattle.store_rows.specs.{claim.Values.{plan_bytes, seal_bytes}, claim.Lists.{AreChunks, chunks_bytes}, declared.value.Counters.Counters, declared.value.SealRow.SealRow}
-use Rattle.store_rows.specs.{claim.Rows.{KeyMap, row_in, Has}, claim.Holders.{AreHolders, holder_count_row}, claim.GeographyRows.IsGeography, claim.DeskRows.{IsPlanAt, IsDesk}}
-use Rattle.store_rows.{specs.Changes.plan_row_of, specs.claim.Tidy.{IsNext, CountersFit, IsNumbered, IsNamedBy, IsKnown, Tidy, version_row}, proofs.ListLaws.chunks_differ}
-use Rattle.store_rows.proofs.{Counting.few_holders, OneGeography.{value_is, no_value}, TidyFree.one_next}
-use Rattle.store_check.specs.{Numbers.{IsBelow, IsCount, AllBelow, NumbersFit, IsDue, HasNumbersBelow}, Rows.{AreAfterSeal, AreRowsToVersion}}
+use Rattle.store_rows.specs.{claim.{Tidy.{IsNext, CountersFit, IsNumbered, IsNamedBy, IsKnown, Tidy, version_row}, Values.{plan_bytes, seal_bytes}}, declared.value.SealRow.SealRow}
+use Rattle.store_rows.{specs.declared.value.Counters.Counters, proofs.{Counting.few_holders, ListLaws.chunks_differ, OneGeography.{value_is, no_value}, TidyFree.one_next}}
 
 -- ---- what is kept is below
 module _ (m : KeyMap) (tidy : Tidy m) where

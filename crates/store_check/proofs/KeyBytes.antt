@@ -1,7 +1,6 @@
 -- Keys of rows by their bytes.
-use Rattle.std.proofs.Common.{◌≡◌, ◌<◌, ◌≤◌, ◌^◌, ◌%◌, ℕ, List, [], ◌∷◌, ◌++◌, length, drop, get_or, sym, ap, ◌∙◌, arith}
+use Rattle.{std.proofs.Common.{◌≡◌, ◌<◌, ◌≤◌, ◌^◌, ◌%◌, ℕ, List, [], ◌∷◌, ◌++◌, length, drop, get_or, sym, ap, ◌∙◌, arith}, store_check.specs.Rows.IsRow}
 use Rattle.store_rows.specs.claim.Keys.{Fits, counters, retired, begun, holding, holder_count, named, part, seal, version, in_four, in_eight}
-use Rattle.store_check.specs.Rows.{IsRow}
 
 pub counters_row : (key : List ℕ) → length key ≡ 1 → get_or key 0 0 ≡ 65 → IsRow key
 counters_row [] long is = absurd (omega arith)

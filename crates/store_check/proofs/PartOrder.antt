@@ -1,15 +1,13 @@
 -- Parts of revisions stand in the order of their plans and revisions.
-use Rattle.std.specs.{Int.from_be_bytes, Ordering.{is_gt, nat_cmp, ordering_then}, BTreeMap.BTreeMap, declared.cmp.Ordering.TheVariants.{Less, Equal, Greater}, Cmp.nat_cmp_is}
-use Rattle.std.{specs.FinMap.{entries, get}, proofs.Common.{◌≡◌, inl, inr, ◌<◌, ◌≤◌, ◌^◌, ℕ, List, [], ◌∷◌, ◌++◌, length, drop, true, refl, sym, ap, subst, ◌∙◌, w64, arith}}
-use Rattle.std.proofs.lemmas.Bool.{cases_lt}
-use Rattle.std.proofs.lemmas.Nat.{from_be_bytes-to_be_bytes_8}
-use Rattle.page_btree.specs.{page_node.claim.Entries.Entry, page_node.claim.Places.key_cmp, page_node.Places.entries_from}
+use Rattle.std.{specs.{BTreeMap.BTreeMap, Cmp.nat_cmp_is, FinMap.{entries, get}, Int.from_be_bytes, Ordering.{is_gt, nat_cmp, ordering_then}}, proofs.lemmas.Bool.cases_lt}
+use Rattle.{std.{specs.declared.cmp.Ordering.TheVariants.{Less, Equal, Greater}, proofs.lemmas.Nat.from_be_bytes-to_be_bytes_8}, page_btree.specs.page_node.Places.entries_from}
+use Rattle.{std.proofs.Common.{◌≡◌, inl, inr, ◌<◌, ◌≤◌, ◌^◌, ℕ, List, [], ◌∷◌, ◌++◌, length, drop, true, refl, sym, ap, subst, ◌∙◌, w64, arith}, store_check.specs.Rows.NoneFrom}
+use Rattle.{page_btree.specs.page_node.claim.{Entries.Entry, Places.key_cmp}, store_check.specs.claim.Rows.IsFrom, store_rows.specs.Keys.{parts_prefix, plan_parts_prefix}}
+use Rattle.{store_check.specs.Owners.{AreOwnedBelow, AreOwnedBy, IsOwned, IsOwnedTo, IsPartKey, IsUnderParts, Passes, after_revision}, store_rows.specs.claim.Rows.KeyMap}
+use Rattle.store_rows.{specs.claim.{Keys.{RowKey, key_of, Fits, part, in_one, in_four, in_eight, revision_prefix}, Tidy.AreRows}, proofs.Frames.either_way}
+use Rattle.{btree_walks.proofs.Prefixes.{between_under, under_is_from}, store_check.proofs.After.{fewer_rows, from_tag, prefix_same}, store_rows.proofs.Numbers.numbers_decide}
+use Rattle.{store_check.proofs.FirstRows.{clash, first_least, first_there, from_trans}, store_rows.proofs.KeyPrefixes.{starts_itself, starts_same}}
 use Rattle.page_btree.proofs.page_node.Laws.{flip_less}
-use Rattle.btree_walks.proofs.Prefixes.{between_under, under_is_from}
-use Rattle.store_rows.specs.{claim.Keys.{RowKey, key_of, Fits, part, in_one, in_four, in_eight, revision_prefix}, Keys.{parts_prefix, plan_parts_prefix}, claim.Rows.KeyMap}
-use Rattle.store_rows.{specs.claim.Tidy.AreRows, proofs.Numbers.numbers_decide, proofs.Frames.either_way, proofs.KeyPrefixes.{starts_itself, starts_same}}
-use Rattle.store_check.specs.{claim.Rows.IsFrom, Rows.NoneFrom, Owners.{AreOwnedBelow, AreOwnedBy, IsOwned, IsOwnedTo, IsPartKey, IsUnderParts, Passes, after_revision}}
-use Rattle.store_check.proofs.{After.{fewer_rows, from_tag, prefix_same}, FirstRows.{clash, first_least, first_there, from_trans}}
 
 -- what stands after numbers of as many bytes doesn't count
 below_more : (x y w z : List ℕ) → length x ≡ length y → key_cmp x y ≡ Less → key_cmp (x ++ w) (y ++ z) ≡ Less

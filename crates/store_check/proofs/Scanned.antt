@@ -1,14 +1,11 @@
 -- The rows that a scan takes from the first on are rows of the map.
-use Rattle.std.proofs.lemmas.Bool.{cases_lt}
-use Rattle.std.specs.{Prelude.Option, List.AllByRecursion, Ordering.{eq_by_cmp, nat_cmp, ordering_then}, declared.cmp.Ordering.TheVariants.Less, Cmp.nat_cmp_is}
-use Rattle.std.specs.{Cmp.Lexicographic.slice_cmp, FinMap.{entries, find, get}}
-use Rattle.std.proofs.Common.{◌≡◌, inl, inr, ◌≤◌, ◌<◌, ℕ, List, [], ◌∷◌, ◌++◌, cond, Some, drop, refl, sym, ap, subst, arith}
-use Rattle.page_btree.specs.{page_node.claim.Entries.Entry, page_node.claim.Places.{key_cmp, Rises}}
-use Rattle.page_btree.proofs.page_node.Laws.{flip_less, above_middle, find_none}
-use Rattle.btree_walks.{specs.Prefixes.under, proofs.Prefixes.{head_rises, under_rises}, proofs.RowsFound.{all_found, all_rises, found_among}}
+use Rattle.std.specs.{Cmp.{nat_cmp_is, Lexicographic.slice_cmp}, FinMap.{entries, find, get}, List.AllByRecursion, Ordering.{eq_by_cmp, nat_cmp, ordering_then}, Prelude.Option}
+use Rattle.std.{specs.declared.cmp.Ordering.TheVariants.Less, proofs.Common.{◌≡◌, inl, inr, ◌≤◌, ◌<◌, ℕ, List, [], ◌∷◌, ◌++◌, cond, Some, drop, refl, sym, ap, subst, arith}}
+use Rattle.{std.proofs.lemmas.Bool.cases_lt, btree_walks.specs.Prefixes.under, page_btree.specs.page_node.claim.{Entries.Entry, Places.{key_cmp, Rises}}}
+use Rattle.{store_check.specs.{Numbers.{IsBelow, AllBelow, AreSoundRows, NumbersFit}, Rows.{IsPast, IsRow}}, store_rows.specs.claim.Rows.{KeyMap, Has}}
 use Rattle.store_rows.specs.{claim.Keys.{RowKey, key_of, retired, begun, holding, holder_count, named, part, seal, version}, declared.value.Counters.Counters}
-use Rattle.store_rows.specs.claim.Rows.{KeyMap, Has}
-use Rattle.store_check.specs.{Numbers.{IsBelow, AllBelow, AreSoundRows, NumbersFit}, Rows.{IsPast, IsRow}}
+use Rattle.btree_walks.proofs.{Prefixes.{head_rises, under_rises}, RowsFound.{all_found, all_rises, found_among}}
+use Rattle.page_btree.proofs.page_node.Laws.{flip_less, above_middle, find_none}
 
 all_rise : (m : KeyMap) → Rises (under [] (entries m))
 all_rise m = under_rises [] (entries m) (all_rises m)

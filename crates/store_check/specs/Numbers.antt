@@ -1,10 +1,9 @@
 -- Numbers in use, and those that come next.
 use Rattle.std.specs.Prelude.{◌≡◌, ◌<◌, ◌≤◌, ◌^◌, ℕ, List, [], All}
-use Rattle.desk_model.specs.claim.Desk.{Desk}
+use Rattle.{desk_model.specs.claim.Desk.Desk, store_check.specs.Rows.{AreAfterSeal, AreRowsToVersion}, store_rows.specs.claim.{DeskRows.IsDesk, Lists.{AreChunks, chunks_bytes}}}
 use Rattle.store_rows.specs.claim.Keys.{RowKey, Fits, counters, retired, begun, holding, holder_count, named, part, seal, version, block, pair, chunk, in_four, in_eight}
-use Rattle.store_rows.specs.{claim.Values.{plan_bytes, seal_bytes}, claim.Lists.{AreChunks, chunks_bytes}, declared.value.Counters.Counters, declared.value.PlanRow.PlanRow}
-use Rattle.store_rows.specs.{declared.value.SealRow.SealRow, claim.Rows.{KeyMap, Has}, claim.DeskRows.IsDesk, claim.Tidy.{IsNext, CountersFit, AreBelow, Tidy}}
-use Rattle.store_check.specs.Rows.{AreAfterSeal, AreRowsToVersion}
+use Rattle.store_rows.specs.{claim.{Rows.{KeyMap, Has}, Tidy.{IsNext, CountersFit, AreBelow, Tidy}, Values.{plan_bytes, seal_bytes}}, declared.value.Counters.Counters}
+use Rattle.store_rows.specs.declared.value.{PlanRow.PlanRow, SealRow.SealRow}
 
 -- how many plans hold a chunk: 1 or more, and no more than were numbered
 abbrev pub IsCount : ℕ → List ℕ → Type 0

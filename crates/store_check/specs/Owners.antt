@@ -1,9 +1,8 @@
 -- Which plans the parts of revisions are of.
-use Rattle.std.specs.{Prelude.{◌≡◌, ◌<◌, ◌≤◌, ℕ, List, [], ◌∷◌, ◌++◌, length, nat_eq, Option, None, Some, Bool, true, false}, List.starts_with, Ordering.nat_cmp}
-use Rattle.std.specs.{BTreeMap.{BTreeMap, get as count_at}, FinMap.entries}
-use Rattle.page_btree.specs.{page_node.claim.Entries.Entry, page_node.Places.entries_from}
-use Rattle.store_rows.specs.{claim.Keys.{key_of, Fits, part, retired}, Keys.parts_prefix, claim.Rows.{KeyMap, Has}, claim.Tidy.AreRows}
-use Rattle.store_check.specs.{claim.Rows.IsFrom, Rows.NoneFrom}
+use Rattle.{std.specs.{BTreeMap.{BTreeMap, get as count_at}, FinMap.entries, List.starts_with, Ordering.nat_cmp}, page_btree.specs.page_node.Places.entries_from}
+use Rattle.std.specs.Prelude.{◌≡◌, ◌<◌, ◌≤◌, ℕ, List, [], ◌∷◌, ◌++◌, length, nat_eq, Option, None, Some, Bool, true, false}
+use Rattle.{page_btree.specs.page_node.claim.Entries.Entry, store_check.specs.{Rows.NoneFrom, claim.Rows.IsFrom}, store_rows.specs.{Keys.parts_prefix, claim.Rows.{KeyMap, Has}}}
+use Rattle.store_rows.specs.claim.{Keys.{key_of, Fits, part, retired}, Tidy.AreRows}
 
 -- the revision is one of so many; a plan of which no count is known was taken away
 abbrev pub IsOwnedAs : KeyMap → ℕ → ℕ → Option ℕ → Type 0

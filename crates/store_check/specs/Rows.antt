@@ -1,11 +1,8 @@
 -- What no promise rests on, beside claim/Rows.antt.
-use Rattle.std.specs.{Prelude.{◌≡◌, ◌⊎◌, ◌<◌, ◌^◌, ℕ, List, [], ◌∷◌, ◌++◌, length, Option, None, Bool, true, false, Some, nat_eq}, List.starts_with, FinMap.{entries, get}}
-use Rattle.page_btree.specs.{page_node.claim.Entries.Entry, page_node.Places.entries_from}
-use Rattle.btree_walks.specs.declared.rows.Row.{Row}
-use Rattle.store_rows.specs.{claim.Keys.{RowKey, key_of, Fits, seal, block, pair, blocks_prefix, pairs_prefix, chunk_prefix}, Keys.{load_prefix, chunks_prefix}}
-use Rattle.store_rows.specs.{claim.Values.seal_bytes, declared.value.SealRow.SealRow, claim.Rows.{KeyMap, Has}, claim.Tidy.{AreOwned, AreRows, IsLoad}}
-use Rattle.desk_pages.specs.Reading.{StandsAs}
-use Rattle.store_check.specs.claim.Rows.{IsFrom}
+use Rattle.std.specs.{FinMap.{entries, get}, List.starts_with, Prelude.{◌≡◌, ◌⊎◌, ◌<◌, ◌^◌, ℕ, List, [], ◌∷◌, ◌++◌, length, Option, None, Bool, true, false, Some, nat_eq}}
+use Rattle.{btree_walks.specs.declared.rows.Row.Row, desk_pages.specs.Reading.StandsAs, page_btree.specs.page_node.{Places.entries_from, claim.Entries.Entry}}
+use Rattle.{store_check.specs.claim.Rows.IsFrom, store_rows.specs.{Keys.{load_prefix, chunks_prefix}, claim.{Rows.{KeyMap, Has}, Tidy.{AreOwned, AreRows, IsLoad}}}}
+use Rattle.store_rows.specs.{claim.{Keys.{RowKey, key_of, Fits, seal, block, pair, blocks_prefix, pairs_prefix, chunk_prefix}, Values.seal_bytes}, declared.value.SealRow.SealRow}
 
 -- a key after those of the seal and of the version: the rows of geographies and of chunks' pieces alone stand there
 pub record IsPast (key : List ℕ) : Type 0 where

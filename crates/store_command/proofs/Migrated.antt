@@ -1,27 +1,18 @@
 -- Steps of a migration, one after the other, and the end after them.
-use Rattle.std.{specs.Prelude.{Result, Ok, Err}, proofs.Common.{◌≡◌, ◌⊎◌, ◌≤◌, ◌+◌, ℕ, true, false, inl, inr, ⊎_elim, refl, sym, subst, ◌∙◌, arith}}
-use Rattle.sector_device.{specs.claim.Disk.{Disk, Image}, specs.claim.Moments.LeavesOnly, specs.declared.SectorDevice.Ghosts, proofs.Moments.{leaves_more, leaves_wider}}
-use Rattle.desk_model.specs.claim.Desk.{Desk}
-use Rattle.store_rows.specs.claim.Rows.{KeyMap}
-use Rattle.desk_pages.specs.claim.Desks.{OpensDesk, OpensOld, OpensEither}
-use Rattle.store_command.specs.{Reading.BeginsAtWhatIsRead, declared.fault.StoreFault.StoreFault, declared.fault.StoreFault.TheVariants.NotAStore}
-use Rattle.store_command.specs.Migrating.{HasMigrated, HasNew, HasOld, HasPut, HasStopped, IsBegun, IsMigrated, IsStopped, LeavesEither, MigratesAll, MigratesDevice, WhereItReadsOld}
-use Rattle.desk_runs.proofs.desk_migration.Pairs.{then_by, none_by}
+use Rattle.std.{specs.Prelude.{Result, Ok, Err}, proofs.Common.{rules, ◌≡◌, ◌⊎◌, ◌≤◌, ◌+◌, ℕ, false, inl, inr, ⊎_elim, refl, sym, subst, ◌∙◌, arith}}
+use Rattle.{desk_model.specs.claim.Desk.Desk, desk_pages.specs.claim.Desks.{OpensDesk, OpensOld, OpensEither}, sector_device.specs.claim.{Disk.{Disk, Image}, Moments.LeavesOnly}}
 use Rattle.desk_runs.specs.desk_migration.claim.Migrating.{device_of, disk_of, is_halted, sectors_of, Ends, HasMore, HasRows, Keeps, KeepsNew, Moves}
-use Rattle.desk_runs.specs.desk_migration.declared.migration.Migration.{Migration}
+use Rattle.{desk_runs.specs.desk_migration.declared.migration.Migration.Migration, sector_device.specs.declared.SectorDevice.Ghosts, store_command.specs.Reading.BeginsAtWhatIsRead}
+use Rattle.store_command.specs.Migrating.{HasMigrated, HasNew, HasOld, HasPut, HasStopped, IsBegun, IsMigrated, IsStopped, LeavesEither, MigratesAll, MigratesDevice, WhereItReadsOld}
+use Rattle.{store_command.specs.declared.fault.StoreFault.{StoreFault, TheVariants.NotAStore}, store_rows.specs.claim.Rows.KeyMap}
+use Rattle.sector_device.proofs.Moments.{leaves_more, leaves_wider}
+use Rattle.desk_runs.proofs.desk_migration.Pairs.{then_by, none_by}
 
 module _ {D : Type 0} {g : Ghosts D} where
   -- ---- steps
   pub unmoved : (x : Migration D g) → is_halted x ≡ false → Moves x x
   unmoved x working = record {
-    goes = record {
-      sectors = refl;
-      room = refl;
-      honest = λ honest. honest;
-      still = λ on. refl;
-      rose = λ off on. absurd (let clash : true ≡ false = sym on ∙ off in cc);
-      calm = λ off honest. refl;
-    };
+    goes = search rules;
     any_moment = λ d keeps off honest. record {
       later = omega arith;
       each = λ c left. keeps.left honest c ((disk_of x).only_now c left);
@@ -32,14 +23,7 @@ module _ {D : Type 0} {g : Ghosts D} where
 
   pub then_moved : (x y z : Migration D g) → is_halted x ≡ false → is_halted y ≡ false → Moves x y → Moves y z → Moves x z
   then_moved x y z off working one two = record {
-    goes = record {
-      sectors = two.goes.sectors ∙ one.goes.sectors;
-      room = two.goes.room ∙ one.goes.room;
-      honest = λ honest. one.goes.honest (two.goes.honest honest);
-      still = λ on. absurd (let clash : true ≡ false = sym on ∙ off in cc);
-      rose = λ was on honest. (let rises = two.goes.rose working on honest in let same = one.goes.calm working (two.goes.honest honest) in omega (arith, rises, same));
-      calm = λ works honest. two.goes.calm works honest ∙ one.goes.calm working (two.goes.honest honest);
-    };
+    goes = search rules;
     any_moment = λ d keeps was honest. leaves_more (OpensOld (sectors_of x) d) (disk_of x) (disk_of y) (disk_of z)
         (one.any_moment d keeps was (two.goes.honest honest))
         (subst (λ (n : ℕ). LeavesOnly (OpensOld n d) (disk_of y) (disk_of z)) one.goes.sectors (two.any_moment d (one.keeps d keeps) working honest));
@@ -108,16 +92,7 @@ module _ {D : Type 0} {g : Ghosts D} where
 
     -- what was opened, migrated and given back
     pub has_migrated : (z : Migration D g) (rows : ℕ) → IsMigrated x rows z → (left : D) → left ≡ device_of z → HasMigrated g device rows left
-    has_migrated z rows did left back = subst (λ (d : D). HasMigrated g device rows d) (sym back) (record {
-      x = x;
-      begun = begun;
-      begins = begins;
-      z = z;
-      migrated = did;
-      back = refl;
-      any_moment = ended did.y z did.moves did.put.works did.ends;
-      after = new_left did.y z did.moves did.ends did.told;
-    })
+    has_migrated z rows did left back = subst (λ (d : D). HasMigrated g device rows d) (sym back) (search (ended, new_left))
 
     any_left : (z : Migration D g) (fault : StoreFault) → MigratesAll x (Err fault) z → WhereItReadsOld old (disk_of z) (λ d. LeavesEither old (disk_of z) d)
     any_left z fault (inl did) = stepped z did.0
@@ -130,16 +105,7 @@ module _ {D : Type 0} {g : Ghosts D} where
         old_left z (it.ends.goes.sectors ∙ it.moves.goes.sectors) (λ is. it.moves.goes.honest (it.ends.goes.honest is)) (λ d keeps. it.stays works d (it.moves.keeps d keeps))
 
     pub has_stopped : (z : Migration D g) (fault : StoreFault) → MigratesAll x (Err fault) z → (left : D) → left ≡ device_of z → HasStopped g device fault left
-    has_stopped z fault why left back = subst (λ (d : D). HasStopped g device fault d) (sym back) (record {
-      x = x;
-      begun = begun;
-      begins = begins;
-      z = z;
-      why = why;
-      back = refl;
-      any_moment = any_left z fault why;
-      after = old_after z fault why;
-    })
+    has_stopped z fault why left back = subst (λ (d : D). HasStopped g device fault d) (sym back) (search (any_left, old_after))
 
     pub device_migrated : (z : Migration D g) (did : Result ℕ StoreFault) → MigratesAll x did z → (left : D) → left ≡ device_of z → MigratesDevice g device did left
     device_migrated z (Ok rows) is left back = has_migrated z rows is left back

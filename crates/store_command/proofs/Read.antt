@@ -1,12 +1,10 @@
 -- A synced device, by what it reads.
-use Rattle.std.proofs.Common.{◌≡◌, Bool, true, false, sym, subst}
-use Rattle.sector_device.{specs.claim.Disk.{Disk, Image}, specs.Disk.IsSynced, specs.claim.Moments.LeavesOnly, specs.declared.SectorDevice.Ghosts, proofs.Moments.leaves_wider}
-use Rattle.desk_model.specs.claim.Desk.{Desk}
-use Rattle.desk_pages.specs.{claim.Desks.{OpensDeskOf, OpensAs, OpensDesk, OpensOld, OpensEither}, Openings.{AllDesks, AllOld, LeavesOneOf, OpensOneOf}}
-use Rattle.desk_pages.specs.{claim.Openings.{AllVersions, IsOneAs, LeavesOneAs, OpensOneAs}, declared.error.StoreError.StoreError}
-use Rattle.desk_runs.specs.{desk_store.declared.clerk.Clerk.Clerk, desk_store.claim.Clerks.{desk_of, disk_of, Keeps}, desk_store.Openings.OpenRefused}
-use Rattle.desk_runs.specs.{desk_migration.declared.migration.Migration.Migration, desk_migration.claim.Migrating.{disk_of as migrated_disk, Keeps as KeepsOld}}
-use Rattle.desk_runs.{specs.desk_migration.Openings.{IsRefused, KeepsOne}, specs.Recovery.ImagesAreOne, specs.claim.Lives.left_by, proofs.One.{one_version, few_sectors}}
+use Rattle.{std.proofs.Common.{rules, ◌≡◌, Bool, true, false, sym, subst}, desk_model.specs.claim.Desk.Desk, desk_pages.specs.Openings.{AllDesks, AllOld, LeavesOneOf, OpensOneOf}}
+use Rattle.desk_pages.specs.claim.{Desks.{OpensDeskOf, OpensAs, OpensDesk, OpensOld, OpensEither}, Openings.{AllVersions, IsOneAs, LeavesOneAs, OpensOneAs}}
+use Rattle.{desk_pages.specs.declared.error.StoreError.StoreError, desk_runs.specs.{Recovery.ImagesAreOne, claim.Lives.left_by, desk_migration.Openings.{IsRefused, KeepsOne}}}
+use Rattle.desk_runs.specs.{desk_migration.{claim.Migrating.{disk_of as migrated_disk, Keeps as KeepsOld}, declared.migration.Migration.Migration}, desk_store.Openings.OpenRefused}
+use Rattle.{desk_runs.specs.desk_store.{claim.Clerks.{desk_of, disk_of, Keeps}, declared.clerk.Clerk.Clerk}, sector_device.specs.{Disk.IsSynced, claim.Disk.{Disk, Image}}}
+use Rattle.{sector_device.{specs.{claim.Moments.LeavesOnly, declared.SectorDevice.Ghosts}, proofs.Moments.leaves_wider}, desk_runs.proofs.One.{one_version, few_sectors}}
 use Rattle.store_command.specs.Reading.{ReadsDesk, ReadsOld, ShowsWhatIsRead, BeginsAtWhatIsRead, RefusesWhatIsRead, BarsWhatIsRead, HoldsWhatIsRead, FindsWhatIsRead}
 
 module _ (disk : Disk) (synced : IsSynced disk) where
@@ -61,15 +59,8 @@ module _ (disk : Disk) (synced : IsSynced disk) where
     -- ---- openings for a migration that were refused
     bars : (new : Disk) (error : StoreError) → new.is_honest → LeavesOneAs disk new → IsRefused disk new error → BarsWhatIsRead disk new error
     bars new error honest leaves why = record {
-      old_desk = λ d reads. record {
-        a_store = λ is. subst (λ (e : StoreError). IsRefused disk new e) is why honest (all_either false d reads);
-        not_yet = λ is. (subst (λ (e : StoreError). IsRefused disk new e) is why honest).1 (all_old d reads);
-        any_moment = leaves_old new honest leaves d reads;
-      };
-      desk = λ d reads. record {
-        a_store = λ is. subst (λ (e : StoreError). IsRefused disk new e) is why honest (all_either true d reads);
-        any_moment = leaves_new_as new honest leaves d reads;
-      };
+      old_desk = λ d reads. search (rules, all_either false d reads, all_old d reads, leaves_old new honest leaves d reads);
+      desk = λ d reads. search (rules, all_either true d reads, leaves_new_as new honest leaves d reads);
     }
 
 module _ {D : Type 0} (g : Ghosts D) (law : ImagesAreOne) (device : D) (synced : IsSynced (g.disk device)) where
@@ -96,11 +87,7 @@ module _ {D : Type 0} (g : Ghosts D) (law : ImagesAreOne) (device : D) (synced :
   -- an opening that was refused
   pub refuses : (left : D) (error : StoreError) → (g.disk left).is_honest → LeavesOneOf old (g.disk left) → LeavesOneAs old (g.disk left) → OpenRefused g device left error → RefusesWhatIsRead old (g.disk left) error
   refuses left error honest leaves versions why = record {
-    desk = λ d reads. record {
-      a_store = λ is. subst (λ (e : StoreError). OpenRefused g device left e) is why honest (all_either old synced true d reads);
-      of_today = λ is. (subst (λ (e : StoreError). OpenRefused g device left e) is why honest).1 (all_new old synced d reads);
-      any_moment = leaves_new old synced law (g.disk left) honest leaves d reads;
-    };
+    desk = λ d reads. search (rules, all_either old synced true d reads, all_new old synced d reads, leaves_new old synced law (g.disk left) honest leaves d reads);
     old_desk = λ d reads. record {
       a_store = λ is. subst (λ (e : StoreError). OpenRefused g device left e) is why honest (all_either old synced false d reads);
       any_moment = leaves_old old synced law (g.disk left) honest versions d reads;

@@ -1,20 +1,14 @@
 -- Steps of a sweep, one after the other.
-use Rattle.std.{specs.Prelude.{Result, Ok, Err}, proofs.Common.{◌≡◌, ◌≤◌, ◌+◌, ℕ, [], Option, false, inl, inr, refl, sym, subst, ◌∙◌, arith}}
-use Rattle.sector_device.specs.declared.SectorDevice.{Ghosts}
-use Rattle.page_store.specs.claim.Transactions.{device_in, IsQuiet}
-use Rattle.page_btree.specs.claim.Map.{InPages as HoldsRows}
-use Rattle.desk_model.specs.claim.Desk.{Desk}
-use Rattle.store_rows.specs.claim.Rows.{KeyMap}
-use Rattle.desk_runs.specs.{store_sweep.Leftovers.IsSweptBy, desk_store.declared.clerk.Clerk.Clerk, desk_store.claim.Clerks.{desk_of, disk_of, pages_of, Keeps, Moves}}
-use Rattle.desk_runs.specs.desk_store.Sweeps.{HasRows, HasSwept as HasSweptStep, SweepRefused}
+use Rattle.{std.{specs.Prelude.{Result, Ok, Err}, proofs.Common.{◌≡◌, ◌≤◌, ◌+◌, ℕ, [], Option, false, inl, inr, refl, sym, subst, ◌∙◌, arith}}, desk_model.specs.claim.Desk.Desk}
+use Rattle.{desk_loading.specs.Openings.IsOpened, desk_pages.specs.declared.error.StoreError.StoreError, desk_runs.specs.desk_store.declared.clerk.Clerk.Clerk}
+use Rattle.desk_runs.specs.desk_store.{Sweeps.{HasRows, HasSwept as HasSweptStep, SweepRefused}, claim.Clerks.{desk_of, disk_of, pages_of, Keeps, Moves}}
+use Rattle.{desk_runs.specs.store_sweep.Leftovers.IsSweptBy, desk_store.specs.store_sweep.claim.Checks.AreSoundHoldings, page_btree.specs.claim.Map.InPages as HoldsRows}
+use Rattle.{page_store.specs.claim.Transactions.{device_in, IsQuiet}, sector_device.specs.declared.SectorDevice.Ghosts, store_command.specs.Faults.fault_of_store}
+use Rattle.store_command.specs.{Reading.ShowsWhatIsRead, Sweeping.{KeepsDesk, HasTaken, HasSweptAll, IsChecked, IsStopped, SweepsAll, SweepsSteps, HasSwept, SweepsDevice}}
+use Rattle.{store_command.specs.declared.fault.StoreFault.{StoreFault, TheVariants.NotAStore}, store_rows.specs.claim.Rows.KeyMap, desk_loading.proofs.Moves.then_moved}
+use Rattle.store_command.proofs.Used.{kept_left, left_same}
 use Rattle.desk_runs.proofs.store_sweep.Taken.{then_by}
 use Rattle.desk_runs.proofs.desk_store.Moved.{unmoved}
-use Rattle.store_command.specs.{Reading.ShowsWhatIsRead, declared.fault.StoreFault.StoreFault, declared.fault.StoreFault.TheVariants.NotAStore, Faults.fault_of_store}
-use Rattle.store_command.specs.Sweeping.{KeepsDesk, HasTaken, HasSweptAll, IsChecked, IsStopped, SweepsAll, SweepsSteps, HasSwept, SweepsDevice}
-use Rattle.store_command.proofs.Used.{kept_left, left_same}
-use Rattle.desk_loading.{specs.Openings.IsOpened, proofs.Moves.then_moved}
-use Rattle.desk_pages.specs.declared.error.StoreError.{StoreError}
-use Rattle.desk_store.specs.store_sweep.claim.Checks.{AreSoundHoldings}
 
 module _ {D : Type 0} {g : Ghosts D} where
   pub none_kept : (x : Clerk D g) → KeepsDesk x x
@@ -76,17 +70,7 @@ module _ {D : Type 0} {g : Ghosts D} where
   -- ---- the device
   -- what was opened, swept and given back
   pub has_swept : (device : D) (x y : Clerk D g) → IsOpened device x → ShowsWhatIsRead device x → (swept : Result ℕ StoreFault) → KeepsDesk x y → SweepsAll x swept y → (left : D) → left ≡ device_in (pages_of y) → HasSwept g device swept left
-  has_swept device x y opened shows swept keeps sweeps left back = subst (λ (d : D). HasSwept g device swept d) (sym back) (record {
-    x = x;
-    opened = opened;
-    shows = shows;
-    y = y;
-    keeps = keeps;
-    sweeps = sweeps;
-    back = refl;
-    any_moment = kept_left device x y opened shows keeps.moves;
-    after = λ works. left_same device x y opened shows (desk_of x) keeps.moves keeps.desk works;
-  })
+  has_swept device x y opened shows swept keeps sweeps left back = subst (λ (d : D). HasSwept g device swept d) (sym back) (search (kept_left, left_same))
 
   pub device_swept : (device : D) (swept : Result ℕ StoreFault) (left : D) → HasSwept g device swept left → SweepsDevice g device swept left
   device_swept device (Ok rows) left has = has

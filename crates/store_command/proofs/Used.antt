@@ -1,13 +1,10 @@
 -- A device that was opened, used by the clerk, and given back.
-use Rattle.std.proofs.Common.{◌≡◌, ℕ, false, inl, inr, ⊎_elim, refl, sym, subst, ◌∙◌}
-use Rattle.sector_device.{specs.claim.Disk.{Disk, Image}, specs.claim.Moments.LeavesOnly, specs.declared.SectorDevice.Ghosts, proofs.Moments.{leaves_more, leaves_wider}}
-use Rattle.page_store.specs.claim.Transactions.{device_in}
-use Rattle.desk_model.specs.{claim.Desk.Desk, claim.Geography.GeographyModel}
-use Rattle.desk_pages.specs.{claim.Desks.OpensDesk, declared.error.StoreError.StoreError}
-use Rattle.desk_runs.specs.{desk_store.declared.clerk.Clerk.Clerk, desk_store.claim.Clerks.{desk_of, disk_of, pages_of, sectors_of, Keeps, Moves}, desk_store.Keeping.sealed_desk}
-use Rattle.desk_runs.proofs.One.{left_working}
-use Rattle.store_command.specs.{Reading.{LeavesDesk, ReadsDesk, ShowsWhatIsRead}, Filling.{HasDesk, HasLoaded, HasKept, OpensOr, WhereItReads}}
-use Rattle.desk_loading.{specs.Loads.{IsLoaded, LoadRefused}, specs.Openings.IsOpened, proofs.Moves.OneOf}
+use Rattle.{std.proofs.Common.{◌≡◌, ℕ, false, inl, inr, ⊎_elim, sym, subst, ◌∙◌}, desk_loading.{specs.{Loads.{IsLoaded, LoadRefused}, Openings.IsOpened}, proofs.Moves.OneOf}}
+use Rattle.{desk_model.specs.claim.{Desk.Desk, Geography.GeographyModel}, desk_pages.specs.{claim.Desks.OpensDesk, declared.error.StoreError.StoreError}}
+use Rattle.desk_runs.specs.desk_store.{Keeping.sealed_desk, claim.Clerks.{desk_of, disk_of, pages_of, sectors_of, Keeps, Moves}, declared.clerk.Clerk.Clerk}
+use Rattle.{page_store.specs.claim.Transactions.device_in, sector_device.specs.{claim.{Disk.{Disk, Image}, Moments.LeavesOnly}, declared.SectorDevice.Ghosts}}
+use Rattle.{store_command.specs.{Filling.{HasDesk, HasLoaded, HasKept, OpensOr, WhereItReads}, Reading.{LeavesDesk, ReadsDesk, ShowsWhatIsRead}}, desk_runs.proofs.One.left_working}
+use Rattle.sector_device.proofs.Moments.{leaves_more, leaves_wider}
 
 module _ {D : Type 0} {g : Ghosts D} (device : D) (x y : Clerk D g) (opened : IsOpened device x) (shows : ShowsWhatIsRead device x) where
   abbrev old : Disk
@@ -47,26 +44,7 @@ module _ {D : Type 0} {g : Ghosts D} (device : D) (x y : Clerk D g) (opened : Is
   -- a load
   module _ (area : GeographyModel) (moves : Moves (sealed_desk area) x y) (left : D) (back : left ≡ device_in (pages_of y)) where
     pub has_loaded : IsLoaded x area y → HasLoaded g device area left
-    has_loaded loaded = subst (λ (d : D). HasLoaded g device area d) (sym back) (record {
-      x = x;
-      opened = opened;
-      shows = shows;
-      y = y;
-      loaded = loaded;
-      back = refl;
-      any_moment = used_left (sealed_desk area) moves;
-      after = left_next (sealed_desk area) moves loaded.desk loaded.works;
-    })
+    has_loaded loaded = subst (λ (d : D). HasLoaded g device area d) (sym back) (search (used_left, left_next))
 
     pub has_kept : (e : StoreError) → LoadRefused x area e y → desk_of y ≡ desk_of x → HasKept g device area e left
-    has_kept e why desk = subst (λ (d : D). HasKept g device area e d) (sym back) (record {
-      x = x;
-      opened = opened;
-      shows = shows;
-      y = y;
-      why = why;
-      desk = desk;
-      back = refl;
-      any_moment = used_left (sealed_desk area) moves;
-      after = λ works. left_same (sealed_desk area) moves desk works;
-    })
+    has_kept e why desk = subst (λ (d : D). HasKept g device area e d) (sym back) (search (used_left, left_same))

@@ -1,12 +1,10 @@
 -- A store that is filled with a geography.
 use Rattle.std.specs.Prelude.{◌≡◌, ◌⊎◌, ℕ, false, Result, Ok, Err}
-use Rattle.sector_device.specs.{claim.Disk.{Disk, Image}, claim.Moments.LeavesOnly, declared.SectorDevice.Ghosts}
-use Rattle.page_store.specs.claim.Transactions.{device_in}
-use Rattle.desk_model.specs.{claim.Desk.Desk, claim.Geography.GeographyModel}
-use Rattle.desk_pages.specs.{claim.Desks.OpensDesk, declared.error.StoreError.StoreError}
-use Rattle.desk_runs.specs.{desk_store.declared.clerk.Clerk.Clerk, desk_store.claim.Clerks.{desk_of, is_halted, pages_of}, desk_store.Keeping.sealed_desk}
-use Rattle.store_command.specs.{Reading.{ReadsDesk, RefusesWhatIsRead, ShowsWhatIsRead}, Faults.fault_of_store, declared.fault.StoreFault.StoreFault}
-use Rattle.desk_loading.specs.{Openings.{IsOpened, IsUnopened}, Loads.{IsLoaded, LoadRefused}}
+use Rattle.{desk_loading.specs.{Loads.{IsLoaded, LoadRefused}, Openings.{IsOpened, IsUnopened}}, desk_model.specs.claim.{Desk.Desk, Geography.GeographyModel}}
+use Rattle.{desk_pages.specs.{claim.Desks.OpensDesk, declared.error.StoreError.StoreError}, desk_runs.specs.desk_store.{Keeping.sealed_desk, declared.clerk.Clerk.Clerk}}
+use Rattle.{desk_runs.specs.desk_store.claim.Clerks.{desk_of, is_halted, pages_of}, page_store.specs.claim.Transactions.device_in, sector_device.specs.claim.Disk.{Disk, Image}}
+use Rattle.{sector_device.specs.{claim.Moments.LeavesOnly, declared.SectorDevice.Ghosts}, store_command.specs.{Faults.fault_of_store, declared.fault.StoreFault.StoreFault}}
+use Rattle.store_command.specs.Reading.{ReadsDesk, RefusesWhatIsRead, ShowsWhatIsRead}
 
 -- the image opens to the desk, or to the next one
 abbrev pub OpensOr : ℕ → (d next : Desk) → Image → Type 0

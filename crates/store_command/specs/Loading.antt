@@ -1,11 +1,9 @@
 -- A state that is loaded: its files are read and judged one after the other, and then a store is filled with what they say.
 use Rattle.std.specs.{Prelude.{◌≡◌, ℕ, List, Option, codes, Result, Ok, Err, Vec}, declared.alloc.Global.Global}
-use Rattle.sector_device.specs.declared.SectorDevice.{Ghosts}
-use Rattle.desk_model.specs.claim.Geography.{GeographyModel}
-use Rattle.command_output.specs.{declared.status.Status.Status, claim.Telling.Tells, claim.Writing.{Written, write_fault_line}}
-use Rattle.state_files.specs.{claim.Opening.{Opening, opening_of, Census, census_of}, claim.State.{Then, ReadsState}, claim.GeographyModels.ReadsWithNeighbours}
-use Rattle.state_files.specs.declared.fault.FileFault.{FileFault}
-use Rattle.store_command.specs.{Filling.FillsDevice, Telling.EndsStore, Texts.loaded_text, Using.Uses, declared.fault.StoreFault.StoreFault, declared.load.StateFiles.StateFiles}
+use Rattle.{command_output.specs.{claim.{Telling.Tells, Writing.{Written, write_fault_line}}, declared.status.Status.Status}, desk_model.specs.claim.Geography.GeographyModel}
+use Rattle.{sector_device.specs.declared.SectorDevice.Ghosts, state_files.specs.claim.{GeographyModels.ReadsWithNeighbours, Opening.{Opening, opening_of, Census, census_of}}}
+use Rattle.{state_files.specs.{claim.State.{Then, ReadsState}, declared.fault.FileFault.FileFault}, store_command.specs.{Filling.FillsDevice, Telling.EndsStore, Texts.loaded_text}}
+use Rattle.store_command.specs.{Using.Uses, declared.{fault.StoreFault.StoreFault, load.StateFiles.StateFiles}}
 
 -- the openings of the files, in the order in which they are judged
 pub record Openings : Type 0 where

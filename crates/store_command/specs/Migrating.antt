@@ -1,17 +1,13 @@
 -- A store of the old version that is led to the new one.
 use Rattle.std.specs.{Prelude.{◌≡◌, ◌⊎◌, ◌≤◌, ◌+◌, ◌*◌, ◌^◌, ℕ, List, codes, true, false, Result, Ok, Err, Vec}, declared.alloc.Global.Global}
-use Rattle.sector_device.specs.{claim.Disk.{Disk, Image}, claim.Moments.LeavesOnly, declared.SectorDevice.Ghosts}
-use Rattle.desk_model.specs.claim.Desk.{Desk}
-use Rattle.store_rows.specs.claim.Rows.{KeyMap}
-use Rattle.desk_pages.specs.{claim.Desks.{OpensDesk, OpensEither, OpensOld}, claim.Openings.{AllVersions, IsOneOld, OpensOneAs}, Openings.IsSpared}
-use Rattle.desk_pages.specs.declared.error.StoreError.{StoreError}
-use Rattle.store_command.specs.{Reading.{BarsWhatIsRead, BeginsAtWhatIsRead, ReadsOld}, Faults.fault_of_store, Telling.EndsStore, Texts.rows_text, Using.Uses}
-use Rattle.store_command.specs.{declared.fault.StoreFault.StoreFault, declared.fault.StoreFault.TheVariants.NotAStore}
-use Rattle.desk_runs.specs.desk_migration.claim.Holding.{IsHeldBy}
+use Rattle.{command_output.specs.{claim.Writing.{Written, write_fault_line}, declared.status.Status.Status}, desk_model.specs.claim.Desk.Desk, desk_pages.specs.Openings.IsSpared}
+use Rattle.desk_pages.specs.{claim.{Desks.{OpensDesk, OpensEither, OpensOld}, Openings.{AllVersions, IsOneOld, OpensOneAs}}, declared.error.StoreError.StoreError}
+use Rattle.desk_runs.specs.desk_migration.{Openings.{IsFound, IsRefused}, Puts.{FinishErr, StepErr}, claim.Holding.IsHeldBy, declared.migration.Migration.Migration}
 use Rattle.desk_runs.specs.desk_migration.claim.Migrating.{device_of, disk_of, has_ended, is_halted, sectors_of, Ends, HasRows, Keeps, KeepsNew, Moves}
-use Rattle.desk_runs.specs.{desk_migration.Openings.{IsFound, IsRefused}, desk_migration.Puts.{FinishErr, StepErr}, desk_migration.declared.migration.Migration.Migration}
+use Rattle.{sector_device.specs.{claim.{Disk.{Disk, Image}, Moments.LeavesOnly}, declared.SectorDevice.Ghosts}, store_command.specs.{Faults.fault_of_store, Telling.EndsStore}}
+use Rattle.store_command.specs.{Reading.{BarsWhatIsRead, BeginsAtWhatIsRead, ReadsOld}, Texts.rows_text, Using.Uses, declared.fault.StoreFault.{StoreFault, TheVariants.NotAStore}}
+use Rattle.store_rows.specs.claim.Rows.{KeyMap}
 use Rattle.desk_pages.specs.declared.error.StoreError.TheVariants as store
-use Rattle.command_output.specs.{declared.status.Status.Status, claim.Writing.{Written, write_fault_line}}
 
 -- what is printed of so many rows that were put
 abbrev pub migrated_text : ℕ → List ℕ

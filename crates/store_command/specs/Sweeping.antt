@@ -1,17 +1,11 @@
 -- A store that is swept until nothing is left to be taken out.
 use Rattle.std.specs.{Prelude.{◌≡◌, ◌⊎◌, ◌≤◌, ◌^◌, ℕ, List, codes, false, Result, Ok, Err, Vec}, declared.alloc.Global.Global}
-use Rattle.sector_device.specs.declared.SectorDevice.{Ghosts}
-use Rattle.page_store.specs.claim.Transactions.{device_in, IsQuiet}
-use Rattle.page_btree.specs.claim.Map.{InPages as HoldsRows}
-use Rattle.command_output.specs.{declared.status.Status.Status, claim.Writing.{Written, write_fault_line}}
-use Rattle.store_rows.specs.claim.Rows.{KeyMap}
-use Rattle.desk_store.specs.store_sweep.claim.Checks.{AreSoundHoldings}
-use Rattle.desk_runs.specs.{store_sweep.Leftovers.IsSweptBy, desk_store.declared.clerk.Clerk.Clerk, desk_store.claim.Clerks.{desk_of, disk_of, is_halted, pages_of, Moves}}
-use Rattle.desk_runs.specs.desk_store.Sweeps.{HasRows, IsClean, SweepRefused}
-use Rattle.desk_pages.specs.declared.error.StoreError.{StoreError}
-use Rattle.store_command.specs.{Reading.{LeavesDesk, ShowsWhatIsRead}, Faults.fault_of_store, Filling.{HasDesk, IsNotOpened, WhereItReads}, Telling.EndsStore, Texts.rows_text}
-use Rattle.store_command.specs.{Using.Uses, declared.fault.StoreFault.StoreFault, declared.fault.StoreFault.TheVariants.NotAStore}
-use Rattle.desk_loading.specs.Openings.{IsOpened}
+use Rattle.{command_output.specs.{claim.Writing.{Written, write_fault_line}, declared.status.Status.Status}, desk_loading.specs.Openings.IsOpened, store_command.specs.Using.Uses}
+use Rattle.{desk_pages.specs.declared.error.StoreError.StoreError, desk_runs.specs.desk_store.{Sweeps.{HasRows, IsClean, SweepRefused}, declared.clerk.Clerk.Clerk}}
+use Rattle.{desk_runs.specs.{desk_store.claim.Clerks.{desk_of, disk_of, is_halted, pages_of, Moves}, store_sweep.Leftovers.IsSweptBy}, store_command.specs.Faults.fault_of_store}
+use Rattle.{desk_store.specs.store_sweep.claim.Checks.AreSoundHoldings, page_btree.specs.claim.Map.InPages as HoldsRows, page_store.specs.claim.Transactions.{device_in, IsQuiet}}
+use Rattle.{sector_device.specs.declared.SectorDevice.Ghosts, store_command.specs.{Filling.{HasDesk, IsNotOpened, WhereItReads}, Reading.{LeavesDesk, ShowsWhatIsRead}}}
+use Rattle.{store_command.specs.{Telling.EndsStore, Texts.rows_text, declared.fault.StoreFault.{StoreFault, TheVariants.NotAStore}}, store_rows.specs.claim.Rows.KeyMap}
 
 -- what is printed of so many rows that were taken out or changed
 abbrev pub swept_text : ℕ → List ℕ

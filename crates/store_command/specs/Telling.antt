@@ -1,9 +1,8 @@
 -- What is told of a store that isn't made or filled, and the status that goes with it.
 use Rattle.std.specs.{Prelude.{◌≡◌, ℕ, List, ◌++◌, codes, Result, Ok, Err, Vec}, declared.alloc.Global.Global}
-use Rattle.command_output.specs.{declared.status.Status.Status, claim.Writing.{Written, Told, Prints}}
-use Rattle.command_output.specs.declared.status.Status.TheVariants as status
-use Rattle.store_command.specs.declared.fault.StoreFault.{StoreFault}
+use Rattle.{command_output.specs.{claim.Writing.{Written, Told, Prints}, declared.status.Status.Status}, store_command.specs.declared.fault.StoreFault.StoreFault}
 use Rattle.store_command.specs.declared.fault.StoreFault.TheVariants.{NotFound, WrongSize, Exists, TooSmall, NotAStore, OldVersion, AlreadyNew, AlreadySealed, Full, DeviceFault, Memory}
+use Rattle.command_output.specs.declared.status.Status.TheVariants as status
 
 abbrev pub name_of : StoreFault → List ℕ
 name_of NotFound = codes "NotFound"

@@ -1,7 +1,6 @@
 -- What is printed of a store.
 use Rattle.std.specs.Prelude.{ℕ, ◌*◌, Bool, true, false, List, ◌++◌, length, codes, decimal}
-use Rattle.desk_model.specs.{claim.Geography.GeographyModel, Ranges.ranges_of}
-use Rattle.audit_report.specs.audit_clauses.claim.People.{state_people}
+use Rattle.{audit_report.specs.audit_clauses.claim.People.state_people, desk_model.specs.{Ranges.ranges_of, claim.Geography.GeographyModel}}
 
 -- words, and a number after them
 abbrev pub number_after : List ℕ → ℕ → List ℕ

@@ -1,6 +1,6 @@
 -- A store that is opened by its name, used and closed, and the text that is printed of it.
 use Rattle.std.specs.{Prelude.{◌≡◌, ◌⊎◌, ℕ, List, Result, Ok, Err, Vec}, declared.alloc.Global.Global}
-use Rattle.store_command.specs.{declared.fault.StoreFault.StoreFault, declared.fault.StoreFault.TheVariants.Memory}
+use Rattle.store_command.specs.declared.fault.StoreFault.{StoreFault, TheVariants.Memory}
 
 module _ {D O A : Type 0} (opens : O → List ℕ → Result D StoreFault → O → Type 0) (closes : O → D → O → Type 0) (becomes : D → Result A StoreFault → D → Type 0) where
   -- the device of the name was opened, and closed as what was done left it

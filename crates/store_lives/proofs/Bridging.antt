@@ -1,12 +1,8 @@
 -- A run of commands as a life.
-use Rattle.std.proofs.Common.{◌≡◌, ℕ, false, List, [], ◌∷◌, ◌++◌, inl, refl, sym, subst, ◌∙◌, append_assoc}
-use Rattle.std.proofs.lemmas.List.{append-nil}
-use Rattle.sector_device.specs.declared.SectorDevice.{Ghosts}
-use Rattle.desk_model.specs.claim.Desk.{Desk}
-use Rattle.desk_store.specs.{declared.clerk.Clerk.Clerk, claim.Clerks.{desk_of, disk_of, is_halted, sectors_of, Keeps}}
-use Rattle.desk_runs.{specs.claim.Runs.{Call, Run}, proofs.Following.honest_before}
-use Rattle.store_lives.specs.{declared.desk_lives.Request.Request, declared.desk_lives.Request.TheVariants.Change, declared.desk_lives.Answer.Answer}
-use Rattle.store_lives.specs.{declared.desk_lives.Answer.TheVariants.Said, claim.DeskLives.Lived, DeskInside.{LivedThrough, Stands}, claim.Calls.{asked_in, told_in}}
+use Rattle.{std.proofs.{Common.{◌≡◌, ℕ, false, List, [], ◌∷◌, ◌++◌, inl, refl, sym, subst, ◌∙◌, append_assoc}, lemmas.List.append-nil}, desk_model.specs.claim.Desk.Desk}
+use Rattle.{desk_runs.specs.claim.Runs.{Call, Run}, desk_store.specs.{claim.Clerks.{desk_of, disk_of, is_halted, sectors_of, Keeps}, declared.clerk.Clerk.Clerk}}
+use Rattle.{sector_device.specs.declared.SectorDevice.Ghosts, store_lives.specs.{DeskInside.{LivedThrough, Stands}, claim.{Calls.{asked_in, told_in}, DeskLives.Lived}}}
+use Rattle.{store_lives.specs.declared.desk_lives.{Answer.{Answer, TheVariants.Said}, Request.{Request, TheVariants.Change}}, desk_runs.proofs.Following.honest_before}
 use Rattle.store_lives.proofs.DeskLiving.{ends, fails_no_less, goes_on}
 
 module _ {D : Type 0} {g : Ghosts D} where

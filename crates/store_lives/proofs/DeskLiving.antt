@@ -1,27 +1,20 @@
 -- Requests in a life, and lives in turn.
-use Rattle.std.specs.{Prelude.{⊤, None, Some}, List.remove, declared.alloc.Global.Global, declared.sync.Arc.Arc}
+use Rattle.std.{specs.{List.remove, Prelude.{⊤, None, Some}, declared.{alloc.Global.Global, sync.Arc.Arc}}, proofs.lemmas.{Bool.both_ways, List.append-nil}}
 use Rattle.std.proofs.Common.{◌≡◌, ◌≢◌, ◌⊎◌, ℕ, ◌≤◌, ◌<◌, Bool, true, false, List, [], ◌∷◌, ◌++◌, length, get_or, inl, inr, ⊎_elim, refl, sym, subst, ◌∙◌, arith, append_assoc, rules}
-use Rattle.std.proofs.lemmas.Bool.{both_ways}
-pub use Rattle.std.proofs.lemmas.Bool.{cases_Bool as either}
-use Rattle.std.proofs.lemmas.List.{append-nil}
-use Rattle.sector_device.{specs.claim.Disk.{Disk, Image}, specs.claim.Moments.LeavesOnly, specs.declared.SectorDevice.Ghosts, proofs.Moments.leaves_now}
-use Rattle.page_store.specs.claim.Transactions.{device_in, IsSame}
-use Rattle.desk_model.specs.{declared.command.Command.Command, declared.reply.Reply.Reply, declared.reply.Refusal.Refusal, claim.Geography.GeographyModel, claim.Desk.Desk}
-use Rattle.desk_model.specs.{claim.Outcome.{IsStep, RefusalMay, CommandMay}, claim.Step.step}
+use Rattle.{desk_loading.specs.Loads.{BeginStopped, StageStopped, SealStopped, Stopped, LoadRefused}, desk_model.specs.claim.{Desk.Desk, Geography.GeographyModel, Step.step}}
+use Rattle.desk_model.specs.{claim.Outcome.{IsStep, RefusalMay, CommandMay}, declared.{command.Command.Command, reply.{Refusal.Refusal, Reply.Reply}}}
+use Rattle.desk_pages.specs.{Formats.OpensNew, Openings.{AllDesks, OpensOneOf}, claim.{Desks.OpensDesk, Openings.{AllVersions, IsOneOf}}, declared.error.StoreError.StoreError}
+use Rattle.{desk_runs.specs.Recovery.{ImagesAreOne, HoldsOne}, desk_store.specs.{Loads.HasGeography, Openings.OpenRefused, Sweeps.SweepRefused, declared.clerk.Clerk.Clerk}}
+use Rattle.desk_store.specs.claim.{Clerks.{desk_of, disk_of, is_halted, pages_of, sectors_of, Keeps, Moves}, Commands.{Does, MustBeFull, MayBeFull}}
+use Rattle.{page_store.specs.claim.Transactions.{device_in, IsSame}, sector_device.specs.{claim.{Disk.{Disk, Image}, Moments.LeavesOnly}, declared.SectorDevice.Ghosts}}
+use Rattle.store_lives.specs.{DeskInside.{Holds, Going, GoingFailed, Stands, Loads, Sweeps, Answers, LivedThrough, LivesOnce, GoingOn}, Lives.new_desk}
+use Rattle.store_lives.specs.{claim.DeskLives.{loaded_desk, after_load, MayFail, MayRefuse, Failed, FailsAt, Lived, IsPassing, LifeAfterLife}, declared.desk_lives.Answer.Answer}
+use Rattle.store_lives.specs.declared.desk_lives.{Answer.TheVariants.{Said, Loaded, Unloaded, Swept, Unswept}, Request.{Request, TheVariants.{Change, Look, Load, Sweep}}}
+use Rattle.{desk_pages.proofs.Found.all_versions, sector_device.proofs.Moments.leaves_now}
+pub use Rattle.{std.proofs.lemmas.Bool.cases_Bool as either, desk_runs.proofs.One.left_working}
 use Rattle.desk_model.specs.declared.reply.Reply.TheVariants as reply
 use Rattle.desk_model.specs.declared.reply.Refusal.TheVariants as refusal
-use Rattle.desk_pages.specs.{Formats.OpensNew, declared.error.StoreError.StoreError, claim.Desks.OpensDesk, Openings.{AllDesks, OpensOneOf}, claim.Openings.{AllVersions, IsOneOf}}
-use Rattle.desk_pages.proofs.Found.{all_versions}
 use Rattle.desk_pages.specs.declared.error.StoreError.TheVariants as store
-use Rattle.desk_loading.specs.Loads.{BeginStopped, StageStopped, SealStopped, Stopped, LoadRefused}
-use Rattle.desk_store.specs.{Loads.HasGeography, declared.clerk.Clerk.Clerk, claim.Clerks.{desk_of, disk_of, is_halted, pages_of, sectors_of, Keeps, Moves}}
-use Rattle.desk_store.specs.{claim.Commands.{Does, MustBeFull, MayBeFull}, Sweeps.SweepRefused, Openings.OpenRefused}
-use Rattle.desk_runs.specs.Recovery.{ImagesAreOne, HoldsOne}
-pub use Rattle.desk_runs.proofs.One.{left_working}
-use Rattle.store_lives.specs.{declared.desk_lives.Request.Request, declared.desk_lives.Request.TheVariants.{Change, Look, Load, Sweep}, declared.desk_lives.Answer.Answer}
-use Rattle.store_lives.specs.{declared.desk_lives.Answer.TheVariants.{Said, Loaded, Unloaded, Swept, Unswept}, Lives.new_desk}
-use Rattle.store_lives.specs.claim.DeskLives.{loaded_desk, after_load, MayFail, MayRefuse, Failed, FailsAt, Lived, IsPassing, LifeAfterLife}
-use Rattle.store_lives.specs.DeskInside.{Holds, Going, GoingFailed, Stands, Loads, Sweeps, Answers, LivedThrough, LivesOnce, GoingOn}
 
 -- ---- what a command was answered, seen without the store
 calm_step : (must : Type 0) (d : Desk) (c : Command) (r : Reply) (new : Desk) → IsStep must d c r new → IsStep ⊥ d c r new
@@ -166,8 +159,7 @@ module _ {D : Type 0} {g : Ghosts D} where
         ⊎_elim
         (λ none. failed_at t d n all rest so_far x (Load area) (Unloaded why) y (loaded_desk area.value) (after_load (desk_of x).geography (desk_of x) area.value) long on (moves.keeps keeps) rose loads.0 (λ u told e more fails. inr (inr (more, loads.2 on keeps honest, fails))) (moves.any_moment keeps off honest) (after_none (desk_of x) area.value none) going)
         (λ still. failed_at t d n all rest so_far x (Load area) (Unloaded why) y (desk_of x) (desk_of x) long on (moves.keeps keeps) rose loads.0 (λ u told e more fails. inr (inr (more, loads.2 on keeps honest, (fails.0, ⊎_elim (λ is. inl is) (λ is. inl is) fails.1)))) (still.any_moment keeps off honest) refl going)
-        loads.3
-        )
+        loads.3)
   ]
   loaded t d n all rest so_far x area _ y long honest moves loads off keeps was going = absurd loads
 

@@ -1,15 +1,10 @@
 -- Steps of a migration, and what stops them.
-use Rattle.std.proofs.Common.{◌≡◌, ◌≤◌, ℕ, true, false, inr, refl, subst, rules}
-use Rattle.std.proofs.lemmas.Bool.{both_ways, cases_Bool}
-use Rattle.sector_device.{specs.claim.Disk.Image, specs.declared.SectorDevice.Ghosts, proofs.Moments.leaves_now}
-use Rattle.page_store.{specs.claim.Transactions.IsQuiet, proofs.Stops.{leaves_here, leaves_quiet}}
-use Rattle.desk_model.specs.claim.Desk.{Desk}
-use Rattle.desk_pages.specs.{claim.Desks.OpensOld, declared.error.StoreError.StoreError}
-use Rattle.desk_runs.specs.desk_migration.declared.migration.Migration.{Migration}
-use Rattle.desk_runs.specs.desk_migration.claim.Migrating.{disk_of, has_ended, is_halted, sectors_of, Ends, Goes, Keeps, KeepsNew, Moves}
-use Rattle.desk_runs.specs.desk_migration.Puts.{FinishErr, HoldsAll, HoldsTo, StepErr}
+use Rattle.{std.proofs.{Common.{◌≡◌, ◌≤◌, ℕ, true, false, inr, refl, subst, rules}, lemmas.Bool.{both_ways, cases_Bool}}, desk_model.specs.claim.Desk.Desk}
+use Rattle.{desk_pages.specs.{claim.Desks.OpensOld, declared.error.StoreError.StoreError}, desk_runs.specs.desk_migration.Puts.{FinishErr, HoldsAll, HoldsTo, StepErr}}
+use Rattle.desk_runs.specs.desk_migration.{claim.Migrating.{disk_of, has_ended, is_halted, sectors_of, Ends, Goes, Keeps, KeepsNew, Moves}, declared.migration.Migration.Migration}
+use Rattle.{page_store.specs.claim.Transactions.IsQuiet, sector_device.specs.{claim.Disk.Image, declared.SectorDevice.Ghosts}, store_lives.specs.declared.leading.Led.Led}
+use Rattle.{store_lives.specs.VersionInside.{StepsOn, LeadsOn, LedTo}, page_store.proofs.Stops.{leaves_here, leaves_quiet}, sector_device.proofs.Moments.leaves_now}
 use Rattle.desk_pages.specs.declared.error.StoreError.TheVariants as store
-use Rattle.store_lives.specs.{declared.leading.Led.Led, VersionInside.{StepsOn, LeadsOn, LedTo}}
 use Rattle.store_lives.specs.declared.leading.Led.TheVariants as led
 
 module _ {D : Type 0} {g : Ghosts D} where

@@ -1,17 +1,15 @@
 -- Lives of a store of either version.
-use Rattle.std.specs.{Prelude.{⊤, Vec}, declared.alloc.Global.Global}
-use Rattle.std.proofs.Common.{◌≡◌, ◌≢◌, ◌≤◌, ◌^◌, ℕ, Bool, true, false, List, [], ◌∷◌, ◌++◌, Ok, refl, sym, subst, ◌∙◌, arith, rules}
-use Rattle.std.proofs.lemmas.List.{append-nil}
-use Rattle.sector_device.{specs.claim.Disk.{Disk, Image}, specs.Disk.IsSynced, specs.declared.SectorDevice.Ghosts, proofs.Moments.leaves_now}
-use Rattle.desk_model.specs.claim.Desk.{Desk}
-use Rattle.desk_pages.specs.{claim.Desks.{OpensDeskOf, OpensDesk}, claim.Openings.{AllVersions, IsOneAs, IsOneOf, LeavesOneAs, OpensOneAs}, declared.error.StoreError.StoreError}
-use Rattle.desk_store.specs.{declared.clerk.Clerk.Clerk, claim.Clerks.{desk_of, disk_of, is_halted, sectors_of, Keeps}, Openings.OpenRefused}
+use Rattle.{std.{specs.{Prelude.{⊤, Vec}, declared.alloc.Global.Global}, proofs.lemmas.List.append-nil}, desk_model.specs.claim.Desk.Desk, desk_runs.specs.Recovery.ImagesAreOne}
+use Rattle.{std.proofs.Common.{◌≡◌, ◌≢◌, ◌≤◌, ◌^◌, ℕ, Bool, true, false, List, [], ◌∷◌, ◌++◌, Ok, refl, sym, subst, ◌∙◌, arith, rules}, desk_store.specs.Openings.OpenRefused}
+use Rattle.desk_pages.specs.{claim.{Desks.{OpensDeskOf, OpensDesk}, Openings.{AllVersions, IsOneAs, IsOneOf, LeavesOneAs, OpensOneAs}}, declared.error.StoreError.StoreError}
+use Rattle.desk_runs.specs.desk_migration.{Openings.{IsRefused, KeepsOne, LeavesNew}, claim.Migrating.{disk_of as migrated_disk, sectors_of as migrated_sectors}}
+use Rattle.{desk_runs.specs.desk_migration.declared.migration.Migration.Migration, desk_store.specs.claim.Clerks.{desk_of, disk_of, is_halted, sectors_of, Keeps}}
+use Rattle.{desk_store.specs.declared.clerk.Clerk.Clerk, sector_device.{specs.{Disk.IsSynced, claim.Disk.{Disk, Image}, declared.SectorDevice.Ghosts}, proofs.Moments.leaves_now}}
+use Rattle.store_lives.specs.{DeskInside.{Asks, GoingOn, LivedThrough}, VersionInside.{OpensIn, HoldsIn, AllIn, IsOneIn, Knows, Becomes, LivesIn, IsAsked, IsLed, LedTo, LeadsOn}}
+use Rattle.store_lives.specs.claim.{DeskLives.{Asked, Lived, LifeAfterLife}, Versions.{Version, version_1, version_2, either, MayBeOld, MayBeNew, Store, MayBar, Leads}}
+use Rattle.{store_lives.specs.declared.{desk_lives.Answer.Answer, leading.Led.Led}, desk_runs.proofs.One.{one_version, few_sectors, in_either, either_as}}
+use Rattle.store_lives.proofs.DeskLiving.{further}
 use Rattle.desk_pages.specs.declared.error.StoreError.TheVariants as store
-use Rattle.desk_runs.specs.{desk_migration.declared.migration.Migration.Migration, desk_migration.claim.Migrating.{disk_of as migrated_disk, sectors_of as migrated_sectors}}
-use Rattle.desk_runs.{specs.desk_migration.Openings.{IsRefused, KeepsOne, LeavesNew}, specs.Recovery.ImagesAreOne, proofs.One.{one_version, few_sectors, in_either, either_as}}
-use Rattle.store_lives.specs.{declared.desk_lives.Answer.Answer, claim.DeskLives.{Asked, Lived, LifeAfterLife}, DeskInside.{Asks, GoingOn, LivedThrough}, declared.leading.Led.Led}
-use Rattle.store_lives.specs.claim.Versions.{Version, version_1, version_2, either, MayBeOld, MayBeNew, Store, MayBar, Leads}
-use Rattle.store_lives.{specs.VersionInside.{OpensIn, HoldsIn, AllIn, IsOneIn, Knows, Becomes, LivesIn, IsAsked, IsLed, LedTo, LeadsOn}, proofs.DeskLiving.further}
 use Rattle.store_lives.specs.declared.leading.Led.TheVariants as led
 
 -- ---- what a store may be of

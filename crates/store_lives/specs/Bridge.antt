@@ -1,9 +1,6 @@
 -- A run of commands as a life.
-use Rattle.std.specs.Prelude.{List}
-use Rattle.sector_device.specs.declared.SectorDevice.{Ghosts}
-use Rattle.desk_store.specs.declared.clerk.Clerk.{Clerk}
-use Rattle.desk_runs.specs.claim.Runs.{Call, Run}
-use Rattle.store_lives.specs.{claim.DeskLives.Lived, DeskInside.LivedThrough, claim.Calls.{asked_in, told_in}}
+use Rattle.{std.specs.Prelude.List, desk_runs.specs.claim.Runs.{Call, Run}, desk_store.specs.declared.clerk.Clerk.Clerk, sector_device.specs.declared.SectorDevice.Ghosts}
+use Rattle.store_lives.specs.{DeskInside.LivedThrough, claim.{Calls.{asked_in, told_in}, DeskLives.Lived}}
 
 -- whatever commands were carried out by a clerk from x to y
 abbrev pub RunsAreLives : {D : Type 0} {g : Ghosts D} → Clerk D g → Type 0

@@ -1,14 +1,11 @@
 -- What the loops know: which desks the images of a device open to.
 use Rattle.std.specs.Prelude.{◌≡◌, ◌⊎◌, ◌≤◌, ◌<◌, ◌++◌, ℕ, true, false, List, None}
-use Rattle.sector_device.specs.{claim.Disk.{Disk, Image}, declared.SectorDevice.Ghosts}
-use Rattle.desk_model.specs.{declared.reply.Reply.Reply, claim.Geography.GeographyModel, claim.Desk.Desk}
-use Rattle.desk_pages.specs.{claim.Desks.OpensDesk, Openings.AllDesks, claim.Openings.IsOneOf}
-use Rattle.desk_store.specs.{declared.clerk.Clerk.Clerk, claim.Clerks.{desk_of, disk_of, is_halted, sectors_of, Keeps, Moves}, claim.Commands.Does}
+use Rattle.{desk_catalogue.specs.claim.Audits.AskMay, desk_model.specs.{claim.{Desk.Desk, Geography.GeographyModel}, declared.reply.Reply.Reply}}
+use Rattle.{desk_pages.specs.{Openings.AllDesks, claim.{Desks.OpensDesk, Openings.IsOneOf}}, desk_store.specs.claim.Clerks.{desk_of, disk_of, is_halted, sectors_of, Keeps, Moves}}
+use Rattle.{desk_store.specs.{claim.Commands.Does, declared.clerk.Clerk.Clerk}, sector_device.specs.{claim.Disk.{Disk, Image}, declared.SectorDevice.Ghosts}}
+use Rattle.store_lives.specs.{claim.DeskLives.{loaded_desk, MayFail, MayRefuse, Asked, Told, Failed, Lived, Life, LifeAfterLife}, declared.desk_lives.Answer.Answer}
+use Rattle.store_lives.specs.declared.desk_lives.{Answer.TheVariants.{Said, Loaded, Unloaded, Swept, Unswept}, Request.{Request, TheVariants.{Change, Look, Load, Sweep}}}
 use Rattle.desk_pages.specs.declared.error.StoreError.TheVariants as store
-use Rattle.desk_catalogue.specs.claim.Audits.{AskMay}
-use Rattle.store_lives.specs.{declared.desk_lives.Request.Request, declared.desk_lives.Request.TheVariants.{Change, Look, Load, Sweep}, declared.desk_lives.Answer.Answer}
-use Rattle.store_lives.specs.declared.desk_lives.Answer.TheVariants.{Said, Loaded, Unloaded, Swept, Unswept}
-use Rattle.store_lives.specs.claim.DeskLives.{loaded_desk, MayFail, MayRefuse, Asked, Told, Failed, Lived, Life, LifeAfterLife}
 
 -- an image of n sectors opens to one of these desks
 abbrev pub OpensTo : ℕ → (Desk → Type 0) → Image → Type 0

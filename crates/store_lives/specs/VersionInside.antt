@@ -1,12 +1,10 @@
 -- What is known of the device of a store that may be of either version.
 use Rattle.std.specs.Prelude.{◌≡◌, ◌≤◌, ◌<◌, ℕ, false, Ok, Err}
-use Rattle.sector_device.specs.{claim.Disk.{Disk, Image}, declared.SectorDevice.Ghosts}
-use Rattle.desk_model.specs.claim.Desk.{Desk}
-use Rattle.desk_pages.specs.{claim.Desks.{OpensDesk, OpensOld, OpensEither}, claim.Openings.AllVersions}
-use Rattle.desk_runs.specs.{desk_migration.declared.migration.Migration.Migration, desk_migration.claim.Migrating.{disk_of, is_halted, sectors_of, Keeps}}
-use Rattle.desk_pages.specs.declared.error.StoreError.TheVariants as store
-use Rattle.store_lives.specs.{claim.DeskLives.{Asked, Told, Lived}, declared.leading.Led.Led}
+use Rattle.{desk_model.specs.claim.Desk.Desk, desk_pages.specs.claim.{Desks.{OpensDesk, OpensOld, OpensEither}, Openings.AllVersions}, sector_device.specs.claim.Disk.{Disk, Image}}
+use Rattle.desk_runs.specs.desk_migration.{claim.Migrating.{disk_of, is_halted, sectors_of, Keeps}, declared.migration.Migration.Migration}
+use Rattle.{sector_device.specs.declared.SectorDevice.Ghosts, store_lives.specs.{claim.DeskLives.{Asked, Told, Lived}, declared.leading.Led.Led}}
 use Rattle.store_lives.specs.claim.Versions.{Version, version_1, version_2, either, Store, MayBeNew, MayBar, Leads}
+use Rattle.desk_pages.specs.declared.error.StoreError.TheVariants as store
 use Rattle.store_lives.specs.declared.leading.Led.TheVariants as led
 
 -- an image of n sectors opens to the desk, in a version that the store may be of

@@ -1,12 +1,10 @@
 -- Chunks are drawn county by county.
-use Rattle.std.specs.{Prelude.{Bool, nat_eq, filter, sum_by}, List.zip, Cmp.Lexicographic.{pointwise, same_text}}
+use Rattle.std.{specs.{Cmp.Lexicographic.{pointwise, same_text}, List.zip, Prelude.{Bool, nat_eq, filter, sum_by}}, proofs.lemmas.Bool.{cases_Bool, not-false}}
 use Rattle.std.proofs.Common.{rules, true, ◌≡◌, ◌⊎◌, ◌<◌, ◌≤◌, ◌+◌, ◌*◌, ◌^◌, ℕ, zero, suc, cond, List, [], ◌∷◌, map, length, get_or, All, Option, refl, sym, ap, subst, ◌∙◌, inl, inr, arith, length-append}
-use Rattle.std.proofs.lemmas.Bool.{cases_Bool, not-false}
-use Rattle.std.proofs.lemmas.List.Elements.{All-cons}
-use Rattle.std.proofs.lemmas.List.Sums.{sum_by-cons}
-use Rattle.desk_model.specs.{claim.Geography.GeographyModel, claim.Ranges.sizes, claim.Room.{rows_for, differs, changed, revision_rows}}
-use Rattle.store_rows.specs.{declared.value.Counters.Counters, declared.value.PlanRow.PlanRow, claim.Rows.KeyMap}
-use Rattle.store_rows.{specs.RevisionSteps.{IsChunkList, AreKept, IsDrawn, new_chunk_rows, rows_of_revision}, specs.Draws.{draw, redrawn, draw_all}, proofs.Puts.length-rows_told}
+use Rattle.{std.proofs.lemmas.List.{Elements.{All-cons, All-tail}, Sums.sum_by-cons}, desk_model.specs.claim.{Geography.GeographyModel, Ranges.sizes}}
+use Rattle.{desk_model.specs.claim.Room.{rows_for, differs, changed, revision_rows}, store_rows.specs.{Draws.{draw, redrawn, draw_all}, claim.Rows.KeyMap}}
+use Rattle.store_rows.specs.{RevisionSteps.{IsChunkList, AreKept, IsDrawn, new_chunk_rows, rows_of_revision}, declared.value.{Counters.Counters, PlanRow.PlanRow}}
+use Rattle.store_rows.proofs.Puts.{length-rows_told}
 
 -- a county keeps its chunk where it is as before, or gets one of the new ones
 abbrev IsDrawnAt : ℕ → List ℕ → List (List ℕ) → List (List ℕ) → List ℕ → List (List ℕ) → ℕ → Type 0
@@ -19,20 +17,14 @@ record Draws (next : ℕ) (numbers : List ℕ) (olds lists : List (List ℕ)) (d
   used : (place : ℕ) → place < length lists → (k : ℕ) × (k < length news) × (get_or drawn k 0 ≡ next + place)
   sound : All IsChunkList news → All IsChunkList lists
 
-rest_sound : (new : List ℕ) (news : List (List ℕ)) → All IsChunkList (new ∷ news) → All IsChunkList news
-rest_sound new news sound k d within = sound (suc k) d (omega arith)
-
 -- ---- one county more
 module _ (next number : ℕ) (numbers : List ℕ) (old new : List ℕ) (olds lists news : List (List ℕ)) (drawn : List ℕ) where
-  kept_each : Draws next numbers olds lists drawn news → old ≡ new → (k : ℕ) → k < length (new ∷ news) → IsDrawnAt next (number ∷ numbers) (old ∷ olds) lists (number ∷ drawn) (new ∷ news) k
-  kept_each draws same k within = search (arith, draws.each)
-
   kept_one : Draws next numbers olds lists drawn news → old ≡ new → Draws next (number ∷ numbers) (old ∷ olds) lists (number ∷ drawn) (new ∷ news)
   kept_one draws same = record {
     count = ap suc draws.count;
-    each = kept_each draws same;
+    each = λ k within. search (arith, draws.each);
     used = λ place within. let (k, less, is) = draws.used place within in (suc k, omega arith, is);
-    sound = λ all. draws.sound (rest_sound new news all);
+    sound = λ all. draws.sound (All-tail IsChunkList new news all);
   }
 
   new_each : Draws (next + 1) numbers olds lists drawn news → (k : ℕ) → k < length (new ∷ news) → IsDrawnAt next (number ∷ numbers) (old ∷ olds) (new ∷ lists) (next ∷ drawn) (new ∷ news) k
@@ -51,7 +43,7 @@ module _ (next number : ℕ) (numbers : List ℕ) (old new : List ℕ) (olds lis
     count = ap suc draws.count;
     each = new_each draws;
     used = new_used draws;
-    sound = λ all. All-cons IsChunkList new lists (all 0 new (omega arith)) (draws.sound (rest_sound new news all));
+    sound = λ all. All-cons IsChunkList new lists (all 0 new (omega arith)) (draws.sound (All-tail IsChunkList new news all));
   }
 
 all_drawn : (next : ℕ) (numbers : List ℕ) (olds news : List (List ℕ)) → length numbers ≡ length news → length olds ≡ length news → Draws next numbers olds (redrawn olds news) (draw next numbers olds news) news

@@ -1,13 +1,10 @@
 -- The counts of the plans that hold a chunk go up and down.
-use Rattle.std.specs.{Int.from_be_bytes, FinMap.{get, empty, insert, remove, get-empty}}
-use Rattle.std.proofs.Common.{◌≡◌, ◌<◌, ◌≤◌, ◌+◌, ◌^◌, ℕ, zero, suc, List, [], ◌++◌, Some, sym, ap, subst, ◌∙◌, inl, inr, w64, arith}
-use Rattle.std.proofs.lemmas.Bool.{cases_eq}
-use Rattle.std.proofs.lemmas.Nat.{from_be_bytes-to_be_bytes_8}
-use Rattle.store_rows.specs.{claim.Keys.{key_of, holding, holder_count, in_eight}, claim.Order.key_cmp, claim.Rows.{KeyMap, row_in, Has, Lacks}, Rows.SameTag, claim.Puts.put_rows}
-use Rattle.store_rows.specs.{claim.Holders.{IsHeld, AreHolders, IsTallied, AreTallied, holder_count_row, holding_rows}, Holders.{AreHoldersBelow, with_holder_count, released}}
-use Rattle.store_rows.specs.HolderLaws.{JoinsHolders, IsHeldByAnother}
+use Rattle.std.{specs.{FinMap.{get, empty, insert, remove, get-empty}, Int.from_be_bytes}, proofs.lemmas.{Bool.cases_eq, Nat.from_be_bytes-to_be_bytes_8}}
+use Rattle.{std.proofs.Common.{◌≡◌, ◌<◌, ◌≤◌, ◌+◌, ◌^◌, ℕ, zero, suc, List, [], ◌++◌, Some, sym, ap, subst, ◌∙◌, inl, inr, w64, arith}, store_rows.specs.Rows.SameTag}
+use Rattle.store_rows.specs.{HolderLaws.{JoinsHolders, IsHeldByAnother}, Holders.{AreHoldersBelow, with_holder_count, released}, claim.{Order.key_cmp, Puts.put_rows}}
+use Rattle.store_rows.specs.claim.{Holders.{IsHeld, AreHolders, IsTallied, AreTallied, holder_count_row, holding_rows}, Keys.{key_of, holding, holder_count, in_eight}}
+use Rattle.store_rows.{specs.claim.Rows.{KeyMap, row_in, Has, Lacks}, proofs.Counting.{OthersHold, few_holders, holders_moved, no_holders, holders_joined, holders_left}}
 use Rattle.store_rows.proofs.{Frames.{put_is_there, put_keeps_row, put_keeps_tag, removed_is_gone, remove_keeps_row, remove_keeps_tag}, OneGeography.{value_is, no_value}}
-use Rattle.store_rows.proofs.Counting.{OthersHold, few_holders, holders_moved, no_holders, holders_joined, holders_left}
 
 -- ---- a row of a count tells one number
 pub eight_says : (a b : ℕ) → a < 2 ^ 64 → b < 2 ^ 64 → in_eight a ≡ in_eight b → a ≡ b
@@ -22,9 +19,6 @@ other_plan plan number other apart same = apart (cc)
 
 pub other_chunk : (plan number p other : ℕ) → (other ≡ number → ⊥) → holding p other ≡ holding plan number → ⊥
 other_chunk plan number p other apart same = apart (cc)
-
-other_holder_count : (number other : ℕ) → (other ≡ number → ⊥) → holder_count other ≡ holder_count number → ⊥
-other_holder_count number other apart same = apart (cc)
 
 -- ---- all stay
 pub counted_by_holders_moved : (m n : KeyMap) (number : ℕ) → ((plan : ℕ) → plan < 2 ^ 64 → row_in n (holding plan number) ≡ row_in m (holding plan number)) → row_in n (holder_count number) ≡ row_in m (holder_count number) → IsTallied m number → IsTallied n number
@@ -46,13 +40,6 @@ held_so_many m number count is fits row = subst (λ (k : ℕ). AreHolders m numb
 pub none_holds : (m : KeyMap) (plan number : ℕ) → AreTallied m → plan < 2 ^ 64 → number < 2 ^ 64 → Lacks m (holder_count number) → IsHeld m plan number → ⊥
 none_holds m plan number all plan_fits fits lacks held = (let is = all number fits in (search (arith, is.holders.all, no_value)))
 
-another_then : (m : KeyMap) (plan number count : ℕ) (value : List ℕ) → AreHolders m number count → row_in m (holder_count number) ≡ holder_count_row count → Has m (holder_count number) value → Lacks m (holding plan number) → IsHeldByAnother m plan number
-another_then m plan number zero value h row has lacks = absurd (no_value value (sym has ∙ row))
-another_then m plan number (suc more) value h row has lacks = search (arith, h.each 0 (omega arith), no_value)
-
-pub another_holds : (m : KeyMap) (plan number : ℕ) (value : List ℕ) → AreTallied m → number < 2 ^ 64 → Has m (holder_count number) value → Lacks m (holding plan number) → IsHeldByAnother m plan number
-another_holds m plan number value all fits has lacks = (let is = all number fits in another_then m plan number is.count value is.holders is.row has lacks)
-
 counted_by_holders_then : (m : KeyMap) (plan number count : ℕ) → count < 2 ^ 64 → AreHolders m number count → row_in m (holder_count number) ≡ holder_count_row count → plan < 2 ^ 64 → IsHeld m plan number → (more : ℕ) × (more + 1 < 2 ^ 64) × Has m (holder_count number) (in_eight (more + 1))
 counted_by_holders_then m plan number zero fits h row plan_fits held = (let (place, less, is) = h.all plan plan_fits held in absurd (omega arith))
 counted_by_holders_then m plan number (suc more) fits h row plan_fits held = (more, omega arith, row)
@@ -67,6 +54,9 @@ some_then m number (suc more) value h row has = (let is = h.each 0 (omega arith)
 pub some_holder : (m : KeyMap) (number : ℕ) (value : List ℕ) → AreTallied m → number < 2 ^ 64 → Has m (holder_count number) value → (plan : ℕ) × (plan < 2 ^ 64) × IsHeld m plan number
 some_holder m number value all fits has = (let is = all number fits in some_then m number is.count value is.holders is.row has)
 
+pub another_holds : (m : KeyMap) (plan number : ℕ) (value : List ℕ) → AreTallied m → number < 2 ^ 64 → Has m (holder_count number) value → Lacks m (holding plan number) → IsHeldByAnother m plan number
+another_holds m plan number value all fits has lacks = search (arith, some_holder m number value all fits has, no_value)
+
 -- ---- one more
 module _ (m : KeyMap) (plan number count : ℕ) (plan_fits : plan < 2 ^ 64) (fits : number < 2 ^ 64) where
   abbrev pub with_holding : KeyMap
@@ -78,27 +68,16 @@ module _ (m : KeyMap) (plan number count : ℕ) (plan_fits : plan < 2 ^ 64) (fit
   pub too_holdings : SameTag 72 with_holding held_too
   too_holdings = put_keeps_tag with_holding 72 75 (in_eight number) (in_eight (count + 1)) (λ e. absurd (omega arith))
 
-  pub too_others : OthersHold m held_too plan number
-  too_others other other_fits apart = too_holdings _ ∙ put_keeps_row m (holding plan number) [] (holding other number) (plan_fits, fits) (other_fits, fits) (other_plan plan number other apart)
-
   pub too_held : IsHeld held_too plan number
   too_held = too_holdings _ ∙ put_is_there m (key_of (holding plan number)) []
-
-  too_row : row_in held_too (holder_count number) ≡ holder_count_row (suc count)
-  too_row = put_is_there with_holding (key_of (holder_count number)) (in_eight (count + 1))
-
-  too_rest : (other : ℕ) → other < 2 ^ 64 → (other ≡ number → ⊥) → IsTallied m other → IsTallied held_too other
-  too_rest other other_fits apart = counted_by_holders_moved m held_too other
-      (λ p p_fits. too_holdings _ ∙ put_keeps_row m (holding plan number) [] (holding p other) (plan_fits, fits) (p_fits, other_fits) (other_chunk plan number p other apart))
-      (put_keeps_row with_holding (holder_count number) (in_eight (count + 1)) (holder_count other) fits other_fits (other_holder_count number other apart)
-      ∙ put_keeps_tag m 75 72 (in_eight plan ++ in_eight number) [] (λ e. absurd (omega arith)) (in_eight other))
 
 pub joins_holders : (m : KeyMap) (limit plan number count : ℕ) → AreTallied m → AreHoldersBelow m limit → limit < 2 ^ 64 → plan < limit → number < 2 ^ 64 → count < 2 ^ 64
     → Lacks m (holding plan number) → row_in m (holder_count number) ≡ holder_count_row count → JoinsHolders m limit plan number count
 joins_holders m limit plan number count all below limit_fits less fits count_fits lacks row =
     let plan_fits : plan < 2 ^ 64 = omega arith in
     let n = held_too m plan number count plan_fits fits in
-    let others = too_others m plan number count plan_fits fits in
+    let others : OthersHold m n plan number = λ other other_fits apart. too_holdings m plan number count plan_fits fits _
+    ∙ put_keeps_row m (holding plan number) [] (holding other number) (plan_fits, fits) (other_fits, fits) (other_plan plan number other apart) in
     let held = too_held m plan number count plan_fits fits in
     let h : AreHolders n number (suc count) = holders_joined m n plan number count plan_fits others (λ there. no_value [] (sym there ∙ lacks)) held (held_so_many m number count (all number fits) count_fits row) in
     let most : suc count ≤ limit = few_holders n number (suc count) limit h (λ p p_fits there. elim (cases_eq p plan) [
@@ -108,47 +87,35 @@ joins_holders m limit plan number count all below limit_fits less fits count_fit
     record {
       fits = omega arith;
       counted_by_holders = λ other other_fits. elim (cases_eq other number) [
-        | inl same ↦ subst (λ (k : ℕ). IsTallied n k) (sym same) (record { count = suc count; fits = omega arith; row = too_row m plan number count plan_fits fits; holders = h })
-        | inr apart ↦ too_rest m plan number count plan_fits fits other other_fits apart (all other other_fits)
+        | inl same ↦ subst (λ (k : ℕ). IsTallied n k) (sym same) (record { count = suc count; fits = omega arith; row = put_is_there (with_holding m plan number count plan_fits fits) (key_of (holder_count number)) (in_eight (count + 1)); holders = h })
+        | inr apart ↦ counted_by_holders_moved m n other
+            (λ p p_fits. too_holdings m plan number count plan_fits fits _ ∙ put_keeps_row m (holding plan number) [] (holding p other) (plan_fits, fits) (p_fits, other_fits) (other_chunk plan number p other apart))
+            (put_keeps_row (with_holding m plan number count plan_fits fits) (holder_count number) (in_eight (count + 1)) (holder_count other) fits other_fits (λ e. apart (cc))
+            ∙ put_keeps_tag m 75 72 (in_eight plan ++ in_eight number) [] (λ e. absurd (omega arith)) (in_eight other)) (all other other_fits)
       ];
     }
 
 -- ---- one fewer
 holder_count_keeps : (m : KeyMap) (number count other : ℕ) → number < 2 ^ 64 → other < 2 ^ 64 → (other ≡ number → ⊥) → row_in (with_holder_count m number count) (holder_count other) ≡ row_in m (holder_count other)
-holder_count_keeps m number zero other fits other_fits apart = remove_keeps_row m (holder_count number) (holder_count other) fits other_fits (other_holder_count number other apart)
-holder_count_keeps m number (suc more) other fits other_fits apart = put_keeps_row m (holder_count number) (in_eight (more + 1)) (holder_count other) fits other_fits (other_holder_count number other apart)
-
-module _ (m : KeyMap) (plan number count : ℕ) (plan_fits : plan < 2 ^ 64) (fits : number < 2 ^ 64) where
-  abbrev without : KeyMap
-  without = remove m (key_of (holding plan number))
-
-  abbrev let_go : KeyMap
-  let_go = released m plan number count
-
-  go_holdings : SameTag 72 without let_go
-  go_holdings = search (arith, remove_keeps_tag, put_keeps_tag)
-
-  go_others : OthersHold m let_go plan number
-  go_others other other_fits apart = go_holdings _ ∙ remove_keeps_row m (holding plan number) (holding other number) (plan_fits, fits) (other_fits, fits) (other_plan plan number other apart)
-
-  go_none : IsHeld let_go plan number → ⊥
-  go_none there = no_value [] (sym there ∙ go_holdings _ ∙ removed_is_gone m (key_of (holding plan number)))
-
-  go_rest : (other : ℕ) → other < 2 ^ 64 → (other ≡ number → ⊥) → IsTallied m other → IsTallied let_go other
-  go_rest other other_fits apart = counted_by_holders_moved m let_go other
-      (λ p p_fits. go_holdings _ ∙ remove_keeps_row m (holding plan number) (holding p other) (plan_fits, fits) (p_fits, other_fits) (other_chunk plan number p other apart))
-      (holder_count_keeps without number count other fits other_fits apart ∙ remove_keeps_tag m 75 72 (in_eight plan ++ in_eight number) (λ e. absurd (omega arith)) (in_eight other))
+holder_count_keeps m number zero other fits other_fits apart = remove_keeps_row m (holder_count number) (holder_count other) fits other_fits (λ e. apart (cc))
+holder_count_keeps m number (suc more) other fits other_fits apart = put_keeps_row m (holder_count number) (in_eight (more + 1)) (holder_count other) fits other_fits (λ e. apart (cc))
 
 pub holders_leave : (m : KeyMap) (plan number count : ℕ) → AreTallied m → plan < 2 ^ 64 → number < 2 ^ 64 → count + 1 < 2 ^ 64 → IsHeld m plan number → row_in m (holder_count number) ≡ holder_count_row (suc count)
     → AreTallied (released m plan number count)
 holders_leave m plan number count all plan_fits fits count_fits held row other other_fits =
-    let n = let_go m plan number count plan_fits fits in
+    let without = remove m (key_of (holding plan number)) in
+    let n = released m plan number count in
+    let holdings : SameTag 72 without n = search (arith, remove_keeps_tag, put_keeps_tag) in
     elim (cases_eq other number) [
       | inl same ↦ subst (λ (k : ℕ). IsTallied n k) (sym same) (record {
         count = count;
         fits = omega arith;
         row = search (arith, removed_is_gone, put_is_there);
-        holders = holders_left m n plan number count plan_fits (go_others m plan number count plan_fits fits) held (go_none m plan number count plan_fits fits) (held_so_many m number (suc count) (all number fits) (omega arith) row);
+        holders = holders_left m n plan number count plan_fits
+            (λ o o_fits apart. holdings _ ∙ remove_keeps_row m (holding plan number) (holding o number) (plan_fits, fits) (o_fits, fits) (other_plan plan number o apart)) held
+            (λ there. no_value [] (sym there ∙ holdings _ ∙ removed_is_gone m (key_of (holding plan number)))) (held_so_many m number (suc count) (all number fits) (omega arith) row);
       })
-      | inr apart ↦ go_rest m plan number count plan_fits fits other other_fits apart (all other other_fits)
+      | inr apart ↦ counted_by_holders_moved m n other
+          (λ p p_fits. holdings _ ∙ remove_keeps_row m (holding plan number) (holding p other) (plan_fits, fits) (p_fits, other_fits) (other_chunk plan number p other apart))
+          (holder_count_keeps without number count other fits other_fits apart ∙ remove_keeps_tag m 75 72 (in_eight plan ++ in_eight number) (λ e. absurd (omega arith)) (in_eight other)) (all other other_fits)
     ]

@@ -1,6 +1,5 @@
 -- What keys begin with.
-use Rattle.std.{specs.List.starts_with, proofs.Common.{◌≡◌, ℕ, List, [], ◌∷◌, ◌++◌, length, drop, true, nat_eq, refl, arith}}
-use Rattle.std.proofs.lemmas.Bool.{and_from, and_parts, eq-eqb, eqb-true}
+use Rattle.std.{specs.List.starts_with, proofs.{Common.{◌≡◌, ℕ, List, [], ◌∷◌, ◌++◌, length, drop, true, nat_eq, refl, arith}, lemmas.Bool.{and_from, and_parts, eq-eqb, eqb-true}}}
 
 pub starts_itself : (p rest : List ℕ) → starts_with nat_eq (p ++ rest) p ≡ true
 starts_itself (a ∷ p) rest = and_from (nat_eq a a) (starts_with nat_eq (p ++ rest) p) (eq-eqb a a refl) (starts_itself p rest)

@@ -1,11 +1,7 @@
 -- Lists of numbers as bytes: how long they are, and one number more.
-use Rattle.std.specs.List.{slice_range, flat_map}
+use Rattle.std.{specs.List.{slice_range, flat_map}, proofs.{Math.Seq.take-add, lemmas.{Grind.flat_map-append, List.{append-nil, take_more_set, Elements.All-push}}}}
 use Rattle.std.proofs.Common.{rules, ◌≡◌, ◌<◌, ◌≤◌, ◌+◌, ◌-◌, ◌*◌, ℕ, List, [], ◌∷◌, ◌++◌, All, Result, IsOk, OnOk, length, take, set, refl, sym, ap, subst, ◌∙◌, arith, length-append}
-use Rattle.std.proofs.Math.Seq.{take-add}
-use Rattle.std.proofs.lemmas.List.{append-nil, take_more_set}
-use Rattle.std.proofs.lemmas.List.Elements.{All-push}
-use Rattle.std.proofs.lemmas.Grind.{flat_map-append}
-use Rattle.store_rows.specs.{claim.Keys.{in_two, in_eight}, claim.Lists.{chunks_bytes, districts_bytes}}
+use Rattle.store_rows.specs.claim.{Keys.{in_two, in_eight}, Lists.{chunks_bytes, districts_bytes}}
 
 pub length-chunks : (numbers : List ℕ) → length (chunks_bytes numbers) ≡ 8 * length numbers
 length-chunks [] = refl
@@ -16,14 +12,8 @@ length-districts [] = refl
 length-districts (x ∷ districts) = let more = length-districts districts in omega (arith, more, length-append (in_two x) (districts_bytes districts))
 
 -- the bytes of the first k of them, and then of the next
-grown : (f : ℕ → List ℕ) (size : ℕ) (xs : List ℕ) (x k : ℕ) (bytes : List ℕ) → flat_map f xs ≡ take (size * k) bytes → f x ≡ slice_range bytes (size * k) (size * k + size) → flat_map f (xs ++ x ∷ []) ≡ take (size * k + size) bytes
+pub grown : (f : ℕ → List ℕ) (size : ℕ) (xs : List ℕ) (x k : ℕ) (bytes : List ℕ) → flat_map f xs ≡ take (size * k) bytes → f x ≡ slice_range bytes (size * k) (size * k + size) → flat_map f (xs ++ x ∷ []) ≡ take (size * k + size) bytes
 grown f size xs x k bytes before next = search (rules, flat_map-append, append-nil, take-add)
-
-pub one_chunk_more : (numbers : List ℕ) (x k : ℕ) (bytes : List ℕ) → chunks_bytes numbers ≡ take (8 * k) bytes → in_eight x ≡ slice_range bytes (8 * k) (8 * k + 8) → chunks_bytes (numbers ++ x ∷ []) ≡ take (8 * (k + 1)) bytes
-one_chunk_more numbers x k bytes before next = search (arith, grown in_eight 8 numbers x k bytes before next)
-
-pub one_district_more : (districts : List ℕ) (x k : ℕ) (bytes : List ℕ) → districts_bytes districts ≡ take (2 * k) bytes → in_two x ≡ slice_range bytes (2 * k) (2 * k + 2) → districts_bytes (districts ++ x ∷ []) ≡ take (2 * (k + 1)) bytes
-one_district_more districts x k bytes before next = search (arith, grown in_two 2 districts x k bytes before next)
 
 -- ---- numbers that are put into an array by their places, and taken from it
 -- one number more

@@ -1,24 +1,12 @@
 -- The bytes of numbers, the highest first, stand in the order of the numbers.
-use Rattle.std.specs.{Int.{byte_at, bytes_high_first}, Ordering.{nat_cmp, ordering_then}, declared.cmp.Ordering.TheVariants.{Less, Equal, Greater}}
-use Rattle.std.proofs.Common.{◌≡◌, ◌<◌, ◌≤◌, ◌+◌, ◌*◌, ◌%◌, ◌^◌, ℕ, zero, suc, List, [], ◌∷◌, ◌++◌, refl, ◌∙◌, arith, pow-suc, suc-mul, ⊎_elim}
-use Rattle.std.proofs.{Math.Nat.{pow-le-pow_right, mul-le-mul_right, mod-lt}, Math.Arith.mod-mul}
-use Rattle.std.proofs.lemmas.Bool.{cases_order}
-use Rattle.std.proofs.lemmas.Bool.Decides.{nat_tests}
-use Rattle.store_rows.specs.{claim.Order.key_cmp, Order.NumbersDecide}
-
-nat_cmp_same : (n : ℕ) → nat_cmp n n ≡ Equal
-nat_cmp_same n = grind (arith, nat_tests)
-
-is_less : {a b : ℕ} → a < b → nat_cmp a b ≡ Less
-is_less less = grind (arith, nat_tests)
-
-is_greater : {a b : ℕ} → b < a → nat_cmp a b ≡ Greater
-is_greater more = grind (arith, nat_tests)
+use Rattle.std.{specs.{Int.{byte_at, bytes_high_first}, Ordering.{nat_cmp, ordering_then}, declared.cmp.Ordering.TheVariants.Equal}, proofs.Math.Arith.mod-mul}
+use Rattle.std.proofs.{Common.{◌≡◌, ◌<◌, ◌≤◌, ◌+◌, ◌*◌, ◌%◌, ◌^◌, ℕ, zero, suc, List, [], ◌∷◌, ◌++◌, refl, ◌∙◌, arith, pow-suc, suc-mul}, lemmas.Bool.Decides.nat_tests}
+use Rattle.{std.proofs.Math.Nat.{pow-le-pow_right, mul-le-mul_right, mod-lt}, store_rows.specs.{Order.NumbersDecide, claim.Order.key_cmp}}
 
 -- what two lists begin with says nothing of their order
 pub prefix_same : (prefix a b : List ℕ) → key_cmp (prefix ++ a) (prefix ++ b) ≡ key_cmp a b
 prefix_same [] a b = refl
-prefix_same (x ∷ prefix) a b = rw (nat_cmp_same x) (prefix_same prefix a b)
+prefix_same (x ∷ prefix) a b = let tied : nat_cmp x x ≡ Equal = grind (arith, nat_tests) in rw tied (prefix_same prefix a b)
 
 higher : (a b u x y : ℕ) → x < u → a < b → a * u + x < b * u + y
 higher a b u x y xs less =
@@ -27,12 +15,7 @@ higher a b u x y xs less =
     omega arith
 
 digits_then : (a b u x y : ℕ) → x < u → y < u → ordering_then (nat_cmp a b) (nat_cmp x y) ≡ nat_cmp (a * u + x) (b * u + y)
-digits_then a b u x y xs ys = ⊎_elim
-    (λ (same : a ≡ b). rw (same, nat_cmp_same b) (grind (arith, nat_tests)))
-    (⊎_elim
-    (λ (less : a < b). let more : a * u + x < b * u + y = higher a b u x y xs less in rw (is_less less, is_less more) refl)
-    (λ (above : b < a). let more : b * u + y < a * u + x = higher b a u y x ys above in rw (is_greater above, is_greater more) refl))
-    (cases_order a b)
+digits_then a b u x y xs ys = grind (arith, nat_tests, higher a b u x y xs, higher b a u y x ys)
 
 -- the last k + 1 bytes are one byte and the last k
 one_more : (k n : ℕ) → n % 256 ^ suc k ≡ byte_at k n * 256 ^ k + n % 256 ^ k

@@ -1,9 +1,7 @@
 -- Lemmas on the definitions of Puts.
-use Rattle.std.specs.FinMap.{get, insert}
+use Rattle.{std.{specs.FinMap.{get, insert}, proofs.lemmas.{Bool.cases_eq, List.append-nil}}, store_rows.specs.{Puts.rows_told, claim.{Puts.{Row, put_rows}, Rows.KeyMap}}}
 use Rattle.std.proofs.Common.{◌≡◌, ◌<◌, ◌≤◌, ℕ, zero, suc, List, [], ◌∷◌, ◌++◌, length, Some, refl, sym, ap, subst, ◌∙◌, inl, inr, arith, length-append, append_assoc}
-use Rattle.std.proofs.lemmas.Bool.{cases_eq}
-use Rattle.std.proofs.lemmas.List.{append-nil}
-use Rattle.store_rows.{specs.claim.Rows.KeyMap, specs.claim.Puts.{Row, put_rows}, specs.Puts.rows_told, proofs.Frames.{put_is_there, put_keeps}}
+use Rattle.store_rows.proofs.Frames.{put_is_there, put_keeps}
 
 pub put_rows-append : (m : KeyMap) (rows more : List Row) → put_rows m (rows ++ more) ≡ put_rows (put_rows m rows) more
 put_rows-append m [] more = refl

@@ -1,16 +1,12 @@
 -- The rows of one revision more make the desk with that revision.
-use Rattle.std.specs.FinMap.{FinMap, get}
+use Rattle.{std.{specs.FinMap.{FinMap, get}, proofs.lemmas.{Bool.lt-ltb, List.get_or_default}}, desk_model.specs.claim.{Desk.{Plan, name_cmp}, Geography.GeographyModel}}
 use Rattle.std.proofs.Common.{All, ◌≡◌, ◌<◌, ◌≤◌, ◌+◌, ◌-◌, ◌*◌, ◌^◌, ℕ, List, [], length, get_or, Some, refl, sym, ap, subst, ◌∙◌, inl, inr, arith, length-append}
-use Rattle.std.proofs.lemmas.Bool.{lt-ltb}
-use Rattle.std.proofs.lemmas.List.{get_or_default}
-use Rattle.desk_model.specs.{claim.Geography.GeographyModel, claim.Ranges.cut, claim.Desk.{Plan, name_cmp}}
-use Rattle.store_rows.specs.{claim.Keys.{Fits, named}, claim.Values.plan_bytes, declared.value.Counters.Counters, declared.value.PlanRow.PlanRow, claim.Rows.{KeyMap, Has}}
-use Rattle.store_rows.specs.{claim.RevisionRows.{HasChunk, NamesChunks, HasRevision}, claim.Puts.put_rows, claim.DeskRows.{HasPlan, IsDesk, most_revisions}}
-use Rattle.store_rows.specs.{Changes.{IsRevised, RevisionsStay, desk_with, plan_row_of}, Steps.chunks_more}
-use Rattle.store_rows.specs.{RevisionSteps.{IsGiven, AreItsChunks, AddsRevision, IsChunkList, AreKept, IsDrawn, new_chunk_rows, rows_of_revision}, claim.Tidy.{IsNumbered, Tidy}}
-use Rattle.store_rows.{specs.TidyLaws.MakesRevision, proofs.Changes.plan_revised, proofs.Frames.chunk_stays, proofs.OneChunk.one_naming, proofs.PartNumbers.numbers_named}
-use Rattle.store_rows.proofs.{OneGeography.no_value, TidyParts.name_fits, TidyFree.free_chunk, TidyRevisions.revised_tidy, RevisionPuts.{revision_put, chunks_put}}
-use Rattle.store_rows.proofs.NewChunks.{new_there}
+use Rattle.{desk_model.specs.claim.Ranges.cut, store_rows.specs.{Changes.{IsRevised, RevisionsStay, desk_with, plan_row_of}, Steps.chunks_more, TidyLaws.MakesRevision}}
+use Rattle.store_rows.specs.{RevisionSteps.{IsGiven, AreItsChunks, AddsRevision, IsChunkList, AreKept, IsDrawn, new_chunk_rows, rows_of_revision}, claim.Keys.{Fits, named}}
+use Rattle.store_rows.specs.claim.{DeskRows.{HasPlan, IsDesk, most_revisions}, Puts.put_rows, RevisionRows.{HasChunk, NamesChunks, HasRevision}, Rows.{KeyMap, Has}}
+use Rattle.store_rows.{specs.{claim.{Tidy.{IsNumbered, Tidy}, Values.plan_bytes}, declared.value.{Counters.Counters, PlanRow.PlanRow}}, proofs.Changes.plan_revised}
+use Rattle.store_rows.proofs.{ChunkRows.new_there, Frames.chunk_stays, NameRows.numbers_named, OneGeography.no_value, OneList.one_naming, RevisionPuts.{revision_put, chunks_put}}
+use Rattle.store_rows.proofs.{TidyFree.numbers_free, TidyParts.name_fits, TidyRevisions.revised_tidy}
 
 -- ---- the numbers that are drawn are the plan's own, or given
 pub its_chunks : (m : KeyMap) (next : Counters) (plan : ℕ) (lists : List (List ℕ)) (numbers : List ℕ) (counties : List (List ℕ)) → IsDrawn m next plan lists numbers counties → AreItsChunks m next (length lists) plan numbers
@@ -27,7 +23,7 @@ its_chunks m next plan lists numbers counties drawn = record {
 -- ---- what is there stays
 -- a chunk that is there has a number that was given before
 chunk_below : (m : KeyMap) (tidy : Tidy m) (given number : ℕ) (districts : List ℕ) → HasChunk m number districts → IsGiven tidy.next given number → ⊥
-chunk_below m tidy given number districts has is = search (arith, has.pieces 0 (omega arith), lt-ltb, no_value, free_chunk m tidy number is.0 has.number_fits 0 (omega arith))
+chunk_below m tidy given number districts has is = search (arith, has.pieces 0 (omega arith), lt-ltb, no_value, (numbers_free m tidy).chunks number is.0 has.number_fits 0 (omega arith))
 
 module _ (m n : KeyMap) (tidy : Tidy m) (given : ℕ) (name : List ℕ) (p : PlanRow) (numbers : List ℕ) (adds : AddsRevision m n tidy.new tidy.next given name p numbers) where
   chunk_moves : (number : ℕ) (districts : List ℕ) → HasChunk m number districts → HasChunk n number districts
@@ -65,20 +61,18 @@ module _ (m n : KeyMap) (tidy : Tidy m) (g : GeographyModel) (plans : FinMap nam
   few_more : row.revisions + 1 < 2 ^ 32
   few_more = omega arith
 
-  -- a revision that is there is not the new one
-  not_new : (other : List ℕ) (plan : ℕ) (q : Plan) (revision : ℕ) → get plans other ≡ Some q → HasPlan m g other plan q → revision ≤ length q.revisions → (plan ≡ number) × (revision ≡ length p.revisions + 1) → ⊥
-  not_new other plan q revision found held within is =
+  stays : (other : List ℕ) (plan : ℕ) (q : Plan) → get plans other ≡ Some q → HasPlan m g other plan q → RevisionsStay m n plan (length q.revisions)
+  stays other plan q found held revision counties some within was =
+      -- (a revision that is there is not the new one)
+      let not_new : (plan ≡ number) × (revision ≡ length p.revisions + 1) → ⊥ = λ is.
       let here : IsNumbered m name number = record { plan = row; row = has.row; is = refl; fits = has.number_fits } in
       let also : IsNumbered m other number = record { plan = plan_row_of plan q; row = held.row; is = is.0; fits = has.number_fits } in
       let same : other ≡ name = tidy.owned.one other name number also here in
       let equal : q ≡ p = cc in
       let count : length q.revisions ≡ length p.revisions = ap (λ (r : Plan). length r.revisions) equal in
       let last = is.1 in
-      absurd (omega arith)
-
-  stays : (other : List ℕ) (plan : ℕ) (q : Plan) → get plans other ≡ Some q → HasPlan m g other plan q → RevisionsStay m n plan (length q.revisions)
-  stays other plan q found held revision counties some within was =
-      revision_moves m n tidy (length lists) name row numbers adds plan revision counties held.number_fits (omega arith) (not_new other plan q revision found held within) was
+      absurd (omega arith) in
+      revision_moves m n tidy (length lists) name row numbers adds plan revision counties held.number_fits (omega arith) not_new was
 
   is_revised : IsRevised m n g plans name number p districts
   is_revised = search (adds.seals, adds.loads, adds.others, length-append, stays, revision_added, m, tidy, adds, drawn, room)
@@ -103,7 +97,7 @@ module _ (m : KeyMap) (tidy : Tidy m) (name : List ℕ) (p : PlanRow) (lists : L
   pub rows_make : (place : ℕ) → place < length lists → HasChunk after (tidy.next.chunk + place) (get_or lists place [])
   rows_make place within = chunk_stays (put_rows m (new_chunk_rows tidy.next.chunk lists)) after (tidy.next.chunk + place) (get_or lists place [])
       (chunks_put m tidy name p lists numbers number_fits few_more fits_key room has few sound its)
-      (new_there m tidy.next.chunk lists place sound room (free_chunk m tidy) within)
+      (new_there m tidy.next.chunk lists place sound room (numbers_free m tidy).chunks within)
 
 -- ---- chunks of the revision before
 pub before_kept : (m : KeyMap) (plan revision : ℕ) (numbers : List ℕ) (counties : List (List ℕ)) → plan < 2 ^ 64 → revision < 2 ^ 32 → NamesChunks m plan revision numbers → HasRevision m plan revision counties → AreKept m plan numbers counties

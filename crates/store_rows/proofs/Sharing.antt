@@ -1,12 +1,9 @@
 -- A plan comes to hold chunks, one after the other.
-use Rattle.std.specs.{Prelude.Contains, FinMap.insert}
-use Rattle.std.proofs.Common.{rules, ◌≡◌, ◌<◌, ◌+◌, ◌^◌, ℕ, suc, List, [], ◌∷◌, ◌++◌, None, refl, sym, ap, subst, ◌∙◌, inl, inr, arith}
-use Rattle.std.proofs.lemmas.Bool.{cases_eq}
-use Rattle.std.proofs.lemmas.Nat.{from_be_bytes-to_be_bytes_8}
-use Rattle.store_rows.specs.{claim.Keys.{key_of, Fits, holding, holder_count, in_eight}, claim.Rows.{KeyMap, row_in, Has}, Rows.SameTag, claim.Holders.{IsHeld, holder_count_row}}
-use Rattle.store_rows.specs.{Holders.AreHoldersBelow, HolderLaws.JoinsHolders, claim.Shares.{count_of, hold}, Shares.{hold_all, AreEmpty, CanHold, Holds}}
-use Rattle.store_rows.proofs.{Frames.{put_keeps_tag, put_keeps_row, tag_follows}, OneGeography.value_is, TidyParts.rows_put}
-use Rattle.store_rows.proofs.{HolderCounts.{joins_holders, held_too, too_holdings, too_held}, TidyRevisions.contains_or_not}
+use Rattle.std.{specs.{FinMap.insert, Prelude.Contains}, proofs.Common.{rules, ◌≡◌, ◌<◌, ◌+◌, ◌^◌, ℕ, suc, List, [], ◌∷◌, ◌++◌, None, refl, sym, ap, subst, ◌∙◌, inl, inr, arith}}
+use Rattle.{std.proofs.lemmas.{Bool.cases_eq, Nat.from_be_bytes-to_be_bytes_8}, store_rows.specs.{HolderLaws.JoinsHolders, Shares.{hold_all, CanHold, Holds}}}
+use Rattle.store_rows.specs.claim.{Holders.{IsHeld, holder_count_row}, Keys.{key_of, Fits, holding, holder_count, in_eight}, Rows.{KeyMap, row_in, Has}, Shares.{count_of, hold}}
+use Rattle.store_rows.proofs.{Frames.{put_keeps_tag, put_keeps_row, tag_follows}, HolderCounts.{joins_holders, held_too, too_holdings, too_held}, OneGeography.value_is}
+use Rattle.store_rows.proofs.{TidyParts.rows_put, TidyRevisions.contains_or_not}
 
 -- ---- a count is read back
 pub count_back : (count : ℕ) → count < 2 ^ 64 → count_of (holder_count_row count) ≡ count
@@ -37,26 +34,11 @@ module _ (m : KeyMap) (limit plan number : ℕ) (can : CanHold m limit plan) (fi
   abbrev made : KeyMap
   made = held_too m plan number count plan_fits fits
 
-  holdings_then : SameTag 72 (insert m (key_of (holding plan number)) []) made
-  holdings_then = too_holdings m plan number count plan_fits fits
-
   others_then : (other x : ℕ) → Fits (holding other x) → ((other ≡ plan) × Contains (number ∷ []) x → ⊥) → row_in made (holding other x) ≡ row_in m (holding other x)
-  others_then other x other_fits apart = holdings_then _ ∙ put_keeps_row m (holding plan number) [] (holding other x) (plan_fits, fits) other_fits (λ same. search rules)
-
-  below_then : AreHoldersBelow made limit
-  below_then other x other_fits x_fits there = elim (cases_eq other plan) [
-    | inl same ↦ (let less = can.plan_below in omega arith)
-    | inr apart ↦ can.below other x other_fits x_fits (sym (others_then other x (other_fits, x_fits) (λ both. apart both.0)) ∙ there)
-  ]
+  others_then other x other_fits apart = too_holdings m plan number count plan_fits fits _ ∙ put_keeps_row m (holding plan number) [] (holding other x) (plan_fits, fits) other_fits (λ same. search rules)
 
   held_then : IsHeld made plan number
   held_then = too_held m plan number count plan_fits fits
-
-  empty_then : AreEmpty made plan
-  empty_then x value x_fits there = elim (cases_eq number x) [
-    | inl same ↦ value_is value [] (sym there ∙ ap (λ (k : ℕ). row_in made (holding plan k)) (sym same) ∙ held_then)
-    | inr apart ↦ can.empty x value x_fits (sym (others_then plan x x_fits (λ both. apart (only_one number x both.1))) ∙ there)
-  ]
 
   holds_now : row_in m (holding plan number) ≡ None → Holds m made limit plan (number ∷ [])
   holds_now lacks =
@@ -64,7 +46,19 @@ module _ (m : KeyMap) (limit plan number : ℕ) (can : CanHold m limit plan) (fi
       let same : count ≡ is.count = ap count_of is.row ∙ count_back is.count is.fits in
       let joins : JoinsHolders m limit plan number count = joins_holders m limit plan number count can.counted_by_holders can.below can.limit_fits can.plan_below fits (omega arith) lacks (is.row ∙ ap holder_count_row (sym same)) in
       record {
-        can = record { counted_by_holders = joins.counted_by_holders; below = below_then; empty = empty_then; limit_fits = can.limit_fits; plan_below = can.plan_below };
+        can = record {
+          counted_by_holders = joins.counted_by_holders;
+          below = λ other x other_fits x_fits there. elim (cases_eq other plan) [
+            | inl same ↦ (let less = can.plan_below in omega arith)
+            | inr apart ↦ can.below other x other_fits x_fits (sym (others_then other x (other_fits, x_fits) (λ both. apart both.0)) ∙ there)
+          ];
+          empty = λ x value x_fits there. elim (cases_eq number x) [
+            | inl same ↦ value_is value [] (sym there ∙ ap (λ (k : ℕ). row_in made (holding plan k)) (sym same) ∙ held_then)
+            | inr apart ↦ can.empty x value x_fits (sym (others_then plan x x_fits (λ both. apart (only_one number x both.1))) ∙ there)
+          ];
+          limit_fits = can.limit_fits;
+          plan_below = can.plan_below;
+        };
         held = λ x among. subst (λ (k : ℕ). IsHeld made plan k) (only_one number x among) held_then;
         others = others_then;
         rest = λ tag a b. tag_follows tag m (insert m (key_of (holding plan number)) []) made (put_keeps_tag m tag 72 (in_eight plan ++ in_eight number) [] a) (put_keeps_tag (insert m (key_of (holding plan number)) []) tag 75 (in_eight number) (in_eight (count + 1)) b);

@@ -1,15 +1,11 @@
 -- Lemmas on the definitions of Staging.
-use Rattle.std.specs.{Prelude.option_map, List.slice_get, FinMap.{FinMap, insert}}
+use Rattle.std.{specs.{FinMap.{FinMap, insert}, List.slice_get, Prelude.option_map}, proofs.lemmas.{Bool.{cases_eq, cases_lt}, List.{take_all, take_more, Elements.All-push}}}
 use Rattle.std.proofs.Common.{rules, ◌≡◌, ◌<◌, ◌≤◌, ◌+◌, ◌-◌, ◌^◌, ℕ, zero, suc, List, [], ◌∷◌, ◌++◌, length, take, All, Option, Some, None, refl, sym, ap, subst, ◌∙◌, inl, inr, arith}
-use Rattle.std.proofs.lemmas.Bool.{cases_eq, cases_lt}
-use Rattle.std.proofs.lemmas.List.{take_all, take_more}
-use Rattle.std.proofs.lemmas.List.Elements.{All-push}
-use Rattle.std.proofs.lemmas.Option.{get_or_from_slice_get, slice_get_within}
-use Rattle.desk_model.specs.{declared.block.BlockRow.BlockRow, declared.geography.Pair.Pair, claim.Geography.GeographyModel, claim.GeographyModels.IsGeographyModel}
-use Rattle.desk_model.specs.claim.Desk.{Plan, name_cmp}
-use Rattle.store_rows.specs.{claim.Keys.{key_of, block, pair, seal, named}, claim.Values.{block_bytes, seal_bytes}, claim.Rows.{KeyMap, row_in, element_row}}
-use Rattle.store_rows.specs.{claim.GeographyRows.{IsBlockRow, IsStaged, geography_rows, neighbours_bytes}, claim.DeskRows.{IsPlanAt, IsDesk}, Changes.desk_with}
-use Rattle.store_rows.{specs.Staging.desk_without, proofs.Frames.{put_is_there, put_keeps_row, put_keeps_tag, staged_stays}}
+use Rattle.{std.proofs.lemmas.Option.{get_or_from_slice_get, slice_get_within}, desk_model.specs.claim.{Desk.{Plan, name_cmp}, Geography.GeographyModel}}
+use Rattle.{desk_model.specs.{claim.GeographyModels.IsGeographyModel, declared.{block.BlockRow.BlockRow, geography.Pair.Pair}}, store_rows.specs.Changes.desk_with}
+use Rattle.store_rows.specs.{Staging.desk_without, claim.{DeskRows.{IsPlanAt, IsDesk}, GeographyRows.{IsBlockRow, IsStaged, geography_rows, neighbours_bytes}}}
+use Rattle.store_rows.specs.claim.{Keys.{key_of, block, pair, seal, named}, Rows.{KeyMap, row_in, element_row}, Values.{block_bytes, seal_bytes}}
+use Rattle.store_rows.proofs.Frames.{put_is_there, put_keeps_row, put_keeps_tag, staged_stays}
 
 -- ---- elements of a prefix
 taken : {X : Type 0} (xs : List X) (n k : ℕ) → k < n → slice_get (take n xs) k ≡ slice_get xs k
@@ -28,19 +24,6 @@ row_there bytes xs n x is = ap (option_map bytes) (taken xs (n + 1) n (omega ari
 
 row_same : {X : Type 0} (bytes : X → List ℕ) (xs : List X) (n k : ℕ) → (k ≡ n → ⊥) → element_row bytes (take n xs) k ≡ element_row bytes (take (n + 1) xs) k
 row_same bytes xs n k apart = ap (option_map bytes) (sym (search (arith, cases_lt, taken, not_taken)))
-
--- ---- keys
-not_block : (load place other : ℕ) → pair load place ≡ block load other → ⊥
-not_block load place other same = cc
-
-not_pair : (load place other : ℕ) → block load place ≡ pair load other → ⊥
-not_pair load place other same = cc
-
-other_block : (load place other : ℕ) → (place ≡ other → ⊥) → block load place ≡ block load other → ⊥
-other_block load place other apart same = apart (cc)
-
-other_pair : (load place other : ℕ) → (place ≡ other → ⊥) → pair load place ≡ pair load other → ⊥
-other_pair load place other apart same = apart (cc)
 
 -- ---- no row yet, and one row more
 pub none_staged : (m : KeyMap) (load : ℕ) (g : GeographyModel) → ((place : ℕ) → place < 2 ^ 32 → row_in m (block load place) ≡ None) → ((place : ℕ) → place < 2 ^ 32 → row_in m (pair load place) ≡ None) → IsStaged m load g 0
@@ -62,9 +45,9 @@ block_staged m load g done b staged load_fits done_fits is fits =
       fit = subst (λ (l : List BlockRow). All IsBlockRow l) prefix (All-push IsBlockRow (take done g.blocks) b staged.fit fits);
       blocks = λ place small. elim (cases_eq place done) [
         | inl same ↦ search (put_is_there m (key_of (block load done)) value, row_there block_bytes g.blocks done b is)
-        | inr apart ↦ put_keeps_row m (block load done) value (block load place) (load_fits, done_fits) (load_fits, small) (other_block load place done apart) ∙ staged.blocks place small ∙ row_same block_bytes g.blocks done place apart
+        | inr apart ↦ put_keeps_row m (block load done) value (block load place) (load_fits, done_fits) (load_fits, small) (λ e. apart (cc)) ∙ staged.blocks place small ∙ row_same block_bytes g.blocks done place apart
       ];
-      pairs = λ place small. put_keeps_row m (block load done) value (pair load place) (load_fits, done_fits) (load_fits, small) (not_block load place done) ∙ staged.pairs place small ∙ ap (λ n. element_row neighbours_bytes (take n g.pairs) place) pairs_same;
+      pairs = λ place small. put_keeps_row m (block load done) value (pair load place) (load_fits, done_fits) (load_fits, small) (λ e. cc) ∙ staged.pairs place small ∙ ap (λ n. element_row neighbours_bytes (take n g.pairs) place) pairs_same;
     }
 
 pub pair_staged : (m : KeyMap) (load : ℕ) (g : GeographyModel) (place : ℕ) (p : Pair) → IsStaged m load g (length g.blocks + place) → load < 2 ^ 64 → place < 2 ^ 32 → slice_get g.pairs place ≡ Some p → IsStaged (insert m (key_of (pair load place)) (neighbours_bytes p)) load g (length g.blocks + place + 1)
@@ -76,25 +59,22 @@ pair_staged m load g place p staged load_fits place_fits is =
     let all : take (count + place) g.blocks ≡ take (count + place + 1) g.blocks = take_all (count + place) g.blocks (omega arith) ∙ sym (take_all (count + place + 1) g.blocks (omega arith)) in
     record {
       fit = subst (λ (l : List BlockRow). All IsBlockRow l) all staged.fit;
-      blocks = λ other small. put_keeps_row m (pair load place) value (block load other) (load_fits, place_fits) (load_fits, small) (not_pair load other place) ∙ staged.blocks other small ∙ ap (λ (l : List BlockRow). element_row block_bytes l other) all;
+      blocks = λ other small. put_keeps_row m (pair load place) value (block load other) (load_fits, place_fits) (load_fits, small) (λ e. cc) ∙ staged.blocks other small ∙ ap (λ (l : List BlockRow). element_row block_bytes l other) all;
       pairs = λ other small. elim (cases_eq other place) [
         | inl same ↦ subst (λ k. row_in (insert m (key_of (pair load place)) value) (pair load k) ≡ element_row neighbours_bytes (take (count + place + 1 - count) g.pairs) k) (sym same)
             (put_is_there m (key_of (pair load place)) value ∙ sym (row_there neighbours_bytes g.pairs place p is) ∙ ap (λ n. element_row neighbours_bytes (take n g.pairs) place) after)
-        | inr apart ↦ put_keeps_row m (pair load place) value (pair load other) (load_fits, place_fits) (load_fits, small) (other_pair load other place apart) ∙ staged.pairs other small
+        | inr apart ↦ put_keeps_row m (pair load place) value (pair load other) (load_fits, place_fits) (load_fits, small) (λ e. apart (cc)) ∙ staged.pairs other small
             ∙ ap (λ n. element_row neighbours_bytes (take n g.pairs) other) before ∙ row_same neighbours_bytes g.pairs place other apart ∙ ap (λ n. element_row neighbours_bytes (take n g.pairs) other) after
       ];
     }
 
 -- ---- the desk
-unseen_at : (m n : KeyMap) (name : List ℕ) (p : Option Plan) → row_in n (named name) ≡ row_in m (named name) → IsPlanAt m None name p → IsPlanAt n None name p
-unseen_at m n name p same is = search (arith)
-
-seen_at : (m n : KeyMap) (g : GeographyModel) (name : List ℕ) (p : Option Plan) → row_in n (named name) ≡ row_in m (named name) → IsPlanAt m None name p → IsPlanAt n (Some g) name p
+seen_at : (m n : KeyMap) (g : Option GeographyModel) (name : List ℕ) (p : Option Plan) → row_in n (named name) ≡ row_in m (named name) → IsPlanAt m None name p → IsPlanAt n g name p
 seen_at m n g name p same is = search (arith)
 
 -- a row of a load that isn't sealed is no part of the desk
 pub staged_unseen : (m : KeyMap) (plans : FinMap name_cmp Plan) (rest value : List ℕ) → IsDesk m (desk_without plans) → IsDesk (insert m (103 ∷ rest) value) (desk_without plans)
-staged_unseen m plans rest value is = search (rules, put_keeps_tag, unseen_at)
+staged_unseen m plans rest value is = search (rules, put_keeps_tag, seen_at)
 
 -- once it is sealed, it is the desk's geography
 pub load_sealed : (m : KeyMap) (plans : FinMap name_cmp Plan) (load : ℕ) (g : GeographyModel) → IsDesk m (desk_without plans) → IsStaged m load g (geography_rows g) → IsGeographyModel g → load < 2 ^ 64 → length g.pairs < 2 ^ 32

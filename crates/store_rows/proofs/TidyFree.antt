@@ -1,11 +1,9 @@
 -- A map without rows is tidy; in a tidy map the numbers that come next are free, and it has one row of counters' numbers.
-use Rattle.std.{specs.FinMap.{get, empty, get-empty}, proofs.Common.{rules, false, ◌≡◌, ◌<◌, ◌≤◌, ◌^◌, ℕ, List, [], None, refl, sym, ◌∙◌, inl, inr, arith}}
-use Rattle.std.proofs.lemmas.Nat.{from_be_bytes-to_be_bytes_8}
-use Rattle.store_rows.specs.claim.Keys.{key_of, Fits, counters, retired, begun, holding, holder_count, named, part, version, block, pair, chunk}
-use Rattle.store_rows.specs.{claim.Values.{plan_bytes, counters_bytes}, declared.value.Counters.Counters, declared.value.PlanRow.PlanRow, claim.Order.key_cmp}
-use Rattle.store_rows.specs.{claim.Lists.chunks_bytes, claim.Rows.{KeyMap, row_in, Has, Lacks}, ChunkRows.IsFreeChunk}
-use Rattle.store_rows.{specs.claim.Tidy.{no_numbers, IsNext, CountersFit, IsKnown, IsLoad, Tidy}, specs.Tidy.TidyWith, proofs.OneGeography.no_value}
-use Rattle.store_rows.proofs.{HolderCounts.{nothing_counted_by_holders, some_holder, never}, TidyParts.{some_or_none, AllKept, tidy_at}}
+use Rattle.std.{specs.FinMap.{get, empty, get-empty}, proofs.Common.{rules, false, ◌≡◌, ◌<◌, ◌≤◌, ◌^◌, ℕ, List, [], None, refl, sym, ◌∙◌, inl, inr, arith, Option, Some}}
+use Rattle.{std.proofs.lemmas.Nat.from_be_bytes-to_be_bytes_8, store_rows.specs.{Tidy.TidyWith, TidyLaws.AreFree, claim.Keys.{key_of, Fits, counters, holding, version, chunk}}}
+use Rattle.store_rows.specs.claim.{Lists.chunks_bytes, Order.key_cmp, Rows.{KeyMap, Lacks}, Tidy.{no_numbers, IsNext, CountersFit, IsKnown, IsLoad, Tidy, IsNamedBy}}
+use Rattle.store_rows.{specs.{claim.Values.counters_bytes, declared.value.Counters.Counters}, proofs.HolderCounts.{nothing_counted_by_holders, some_holder, never}}
+use Rattle.store_rows.proofs.{OneGeography.no_value, TidyParts.{some_or_none, tidy_at}}
 
 -- ---- no rows
 nothing_there : (key : List ℕ) → get {K = List ℕ} {X = List ℕ} {R = key_cmp} empty key ≡ None
@@ -15,7 +13,7 @@ pub empty_tidy : TidyWith empty no_numbers false
 empty_tidy =
     let m : KeyMap = empty in
     let is : IsNext m no_numbers = rw (nothing_there (key_of counters)) refl in
-    let kept : AllKept m no_numbers false = record {
+    tidy_at m no_numbers false is (record { plan_fits = omega arith; chunk_fits = omega arith; load_fits = omega arith }) (record {
       rows = λ key value there. absurd (never key value there);
       plans = search (rules, never);
       chunks = record {
@@ -30,8 +28,7 @@ empty_tidy =
         counted_by_holders = nothing_counted_by_holders;
         hold = λ is_new name plan number is naming. absurd (never _ _ is.row);
       };
-    } in
-    tidy_at m no_numbers false is (record { plan_fits = omega arith; chunk_fits = omega arith; load_fits = omega arith }) kept
+    })
 
 -- ---- one row of counters
 counters_say : (a b : Counters) → CountersFit a → CountersFit b → counters_bytes a ≡ counters_bytes b → a ≡ b
@@ -45,56 +42,34 @@ pub known_below : (m : KeyMap) (tidy : Tidy m) (plan : ℕ) → plan < 2 ^ 64 �
 known_below m tidy plan fits (inl (name, is)) = tidy.below.plans name plan is
 known_below m tidy plan fits (inr mark) = tidy.below.retired_plans plan [] fits mark
 
+-- and so is a plan that names a chunk
+pub named_below : (m : KeyMap) (tidy : Tidy m) (plan number : ℕ) → IsNamedBy m plan number → plan < tidy.next.plan
+named_below m tidy plan number naming = known_below m tidy plan naming.part_fits.0 (tidy.owned.parts plan naming.revision naming.index (chunks_bytes naming.numbers) naming.part_fits naming.row)
+
 load_below : (m : KeyMap) (tidy : Tidy m) (load : ℕ) → load < 2 ^ 64 → IsLoad m load → load < tidy.next.load
 load_below m tidy load fits given = search (arith, tidy.below.sealed_load, tidy.below.begun_loads)
 
-pub free_chunk : (m : KeyMap) (tidy : Tidy m) (number : ℕ) → tidy.next.chunk ≤ number → number < 2 ^ 64 → IsFreeChunk m number
-free_chunk m tidy number more fits index few = some_or_none (row_in m (chunk number index)) (λ value there.
-    let is = tidy.owned.chunks number index value (fits, few) there in
-    let below = tidy.below.named_chunks is.0 number is.1 in
-    absurd (omega arith))
+-- what can only have a number below the next one is not there
+next_free : (o : Option (List ℕ)) (number next : ℕ) → next ≤ number → ((value : List ℕ) → o ≡ Some value → number < next) → o ≡ None
+next_free o number next more below = some_or_none o (λ value there. let less = below value there in absurd (omega arith))
 
--- a chunk that is next or later is held by none, and has no count
-pub free_holding : (m : KeyMap) (tidy : Tidy m) (plan number : ℕ) → tidy.next.chunk ≤ number → Fits (holding plan number) → Lacks m (holding plan number)
-free_holding m tidy plan number more fits = some_or_none (row_in m (holding plan number)) (λ value there.
-    let below = tidy.below.named_chunks plan number (tidy.holdings.held plan number value fits there).1 in
-    absurd (omega arith))
-
-pub free_holder_count : (m : KeyMap) (tidy : Tidy m) (number : ℕ) → tidy.next.chunk ≤ number → number < 2 ^ 64 → Lacks m (holder_count number)
-free_holder_count m tidy number more fits = some_or_none (row_in m (holder_count number)) (λ value there.
-    let is = some_holder m number value tidy.holdings.counted_by_holders fits there in
-    absurd (no_value [] (sym is.2 ∙ free_holding m tidy is.0 number more (is.1, fits))))
-
--- and a plan that is next or later holds none
-pub free_holder : (m : KeyMap) (tidy : Tidy m) (plan number : ℕ) → tidy.next.plan ≤ plan → Fits (holding plan number) → Lacks m (holding plan number)
-free_holder m tidy plan number more fits = some_or_none (row_in m (holding plan number)) (λ value there.
-    let naming = (tidy.holdings.held plan number value fits there).1 in
-    let below = known_below m tidy plan fits.0 (tidy.owned.parts plan naming.revision naming.index (chunks_bytes naming.numbers) naming.part_fits naming.row) in
-    absurd (omega arith))
-
-pub free_mark : (m : KeyMap) (tidy : Tidy m) (plan : ℕ) → tidy.next.plan ≤ plan → plan < 2 ^ 64 → Lacks m (retired plan)
-free_mark m tidy plan more fits = some_or_none (row_in m (retired plan)) (λ value there. let below = tidy.below.retired_plans plan value fits there in absurd (omega arith))
-
-pub free_part : (m : KeyMap) (tidy : Tidy m) (plan revision index : ℕ) → tidy.next.plan ≤ plan → Fits (part plan revision index) → Lacks m (part plan revision index)
-free_part m tidy plan revision index more fits = some_or_none (row_in m (part plan revision index)) (λ value there.
-    let below = known_below m tidy plan fits.0 (tidy.owned.parts plan revision index value fits there) in
-    absurd (omega arith))
-
-pub free_revision : (m : KeyMap) (tidy : Tidy m) (name : List ℕ) (p : PlanRow) → p.number < 2 ^ 64 → p.revisions < 2 ^ 32 → Has m (named name) (plan_bytes p)
-    → (revision index : ℕ) → p.revisions < revision → Fits (part p.number revision index) → Lacks m (part p.number revision index)
-free_revision m tidy name p fits small has revision index more part_fits = some_or_none (row_in m (part p.number revision index)) (λ value there.
-    let few = (tidy.counted.counted name p fits small has revision index value part_fits there).1 in
-    absurd (omega arith))
-
-pub free_load : (m : KeyMap) (tidy : Tidy m) (load : ℕ) → tidy.next.load ≤ load → load < 2 ^ 64 → Lacks m (begun load)
-free_load m tidy load more fits = some_or_none (row_in m (begun load)) (λ value there. let below = tidy.below.begun_loads load value fits there in absurd (omega arith))
-
-pub free_block : (m : KeyMap) (tidy : Tidy m) (load place : ℕ) → tidy.next.load ≤ load → Fits (block load place) → Lacks m (block load place)
-free_block m tidy load place more fits = some_or_none (row_in m (block load place)) (λ value there.
-    let below = load_below m tidy load fits.0 (tidy.owned.blocks load place value fits there) in
-    absurd (omega arith))
-
-pub free_pair : (m : KeyMap) (tidy : Tidy m) (load place : ℕ) → tidy.next.load ≤ load → Fits (pair load place) → Lacks m (pair load place)
-free_pair m tidy load place more fits = some_or_none (row_in m (pair load place)) (λ value there.
-    let below = load_below m tidy load fits.0 (tidy.owned.pairs load place value fits there) in
-    absurd (omega arith))
+pub numbers_free : (m : KeyMap) (tidy : Tidy m) → AreFree m tidy.next
+numbers_free m tidy =
+    let holding_free : (plan number : ℕ) → tidy.next.chunk ≤ number → Fits (holding plan number) → Lacks m (holding plan number) = λ plan number more fits.
+    next_free _ _ _ more (λ value there. tidy.below.named_chunks plan number (tidy.holdings.held plan number value fits there).1) in
+    record {
+      chunks = λ number more fits index few. next_free _ _ _ more (λ value there. let is = tidy.owned.chunks number index value (fits, few) there in tidy.below.named_chunks is.0 number is.1);
+      holdings = holding_free;
+      holder_counts = λ number more fits. some_or_none _ (λ value there.
+          let is = some_holder m number value tidy.holdings.counted_by_holders fits there in
+          no_value [] (sym is.2 ∙ holding_free is.0 number more (is.1, fits)));
+      holders = λ plan number more fits. next_free _ _ _ more (λ value there. named_below m tidy plan number (tidy.holdings.held plan number value fits there).1);
+      marks = λ plan more fits. next_free _ _ _ more (λ value there. tidy.below.retired_plans plan value fits there);
+      parts = λ plan revision index more fits. next_free _ _ _ more (λ value there. known_below m tidy plan fits.0 (tidy.owned.parts plan revision index value fits there));
+      revisions = λ name p fits small has revision index more part_fits. some_or_none _ (λ value there.
+          let few = (tidy.counted.counted name p fits small has revision index value part_fits there).1 in
+          omega arith);
+      loads = λ load more fits. next_free _ _ _ more (λ value there. tidy.below.begun_loads load value fits there);
+      blocks = λ load place more fits. next_free _ _ _ more (λ value there. load_below m tidy load fits.0 (tidy.owned.blocks load place value fits there));
+      pairs = λ load place more fits. next_free _ _ _ more (λ value there. load_below m tidy load fits.0 (tidy.owned.pairs load place value fits there));
+    }

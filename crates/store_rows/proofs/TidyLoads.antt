@@ -1,16 +1,11 @@
 -- Loads are begun, staged and sealed, and the rows stay tidy.
 use Rattle.std.{specs.FinMap.{insert, remove}, proofs.Common.{rules, ◌≡◌, ◌<◌, ◌+◌, ◌^◌, ℕ, suc, List, [], ◌∷◌, ◌++◌, All, None, refl, sym, ap, subst, ◌∙◌, inl, inr, arith}}
-use Rattle.std.proofs.lemmas.Bool.{cases_eq}
-use Rattle.desk_model.specs.claim.Geography.{GeographyModel}
-use Rattle.store_rows.specs.{claim.Keys.{RowKey, key_of, Fits, counters, begun, seal, block, pair, in_eight, in_four}, claim.Values.{seal_bytes, counters_bytes}}
-use Rattle.store_rows.specs.{declared.value.SealRow.SealRow, claim.Rows.{KeyMap, row_in, Has, Lacks}, Rows.SameTag, claim.Puts.{Row, put_rows}, Steps.{one_load_more, IsLoadKey}}
-use Rattle.store_rows.{specs.claim.GeographyRows.IsStaged, specs.claim.Tidy.{IsLoad, Tidy}, specs.Tidy.TidyWith, proofs.RowLaws.keys_differ, proofs.Changes.cases_key}
-use Rattle.store_rows.proofs.{Frames.{put_is_there, put_keeps, put_keeps_tag, put_keeps_row, removed_is_gone, remove_keeps_row, remove_keeps_tag, tag_follows}, Staging.none_staged}
-use Rattle.store_rows.proofs.{OneGeography.{value_is, no_value, seal_load}, TidyFree.{free_block, free_pair}}
+use Rattle.{std.proofs.lemmas.Bool.cases_eq, desk_model.specs.claim.Geography.GeographyModel, store_rows.specs.{Rows.SameTag, Steps.{one_load_more, IsLoadKey}, Tidy.TidyWith}}
+use Rattle.store_rows.specs.claim.{GeographyRows.IsStaged, Keys.{RowKey, key_of, Fits, counters, begun, seal, block, pair, in_eight, in_four}, Puts.{Row, put_rows}}
+use Rattle.store_rows.specs.{claim.{Rows.{KeyMap, row_in, Has, Lacks}, Tidy.{IsLoad, Tidy}, Values.{seal_bytes, counters_bytes}}, declared.value.SealRow.SealRow}
+use Rattle.store_rows.proofs.{Changes.cases_key, Frames.{put_is_there, put_keeps, put_keeps_tag, put_keeps_row, removed_is_gone, remove_keeps_row, remove_keeps_tag, tag_follows}}
+use Rattle.store_rows.proofs.{OneGeography.{value_is, no_value, seal_load}, RowLaws.keys_differ, Staging.none_staged, TidyFree.numbers_free}
 use Rattle.store_rows.proofs.TidyParts.{load_moves, LoadsKept, kept_of, rows_put, rows_removed, counters_put, stays_tidy, loads_kept}
-
-other_load : (load other : ℕ) → (load ≡ other → ⊥) → begun load ≡ begun other → ⊥
-other_load load other apart same = apart (cc)
 
 -- ---- a load is begun
 module _ (m : KeyMap) (limit : ℕ) (kept : LoadsKept m limit) (fits : limit < 2 ^ 64) where
@@ -24,7 +19,7 @@ module _ (m : KeyMap) (limit : ℕ) (kept : LoadsKept m limit) (fits : limit < 2
   started_rows = put_keeps_tag m 103 76 _ [] (λ e. absurd (omega arith))
 
   others_begun : (load : ℕ) → load < 2 ^ 64 → (load ≡ limit → ⊥) → row_in started (begun load) ≡ row_in m (begun load)
-  others_begun load few apart = put_keeps_row m (begun limit) [] (begun load) fits few (other_load load limit apart)
+  others_begun load few apart = put_keeps_row m (begun limit) [] (begun load) fits few (λ e. apart (cc))
 
   load_there : (load : ℕ) → load < 2 ^ 64 → IsLoad m load → IsLoad started load
   load_there load few given = search (arith, started_seal, kept.below, others_begun)
@@ -45,9 +40,7 @@ begun_tidy m tidy room =
     let kept = kept_of m tidy in
     let n = insert m (key_of (begun next.load)) [] in
     let same = λ (tag : ℕ) (apart : tag ≡ 76 → ⊥). put_keeps_tag m tag 76 (in_eight next.load) [] apart in
-    let plan_fits = tidy.fits.plan_fits in
-    let chunk_fits = tidy.fits.chunk_fits in
-    counters_put n (one_load_more next) tidy.new (record { plan_fits = plan_fits; chunk_fits = chunk_fits; load_fits = room }) (loads_kept m n tidy (one_load_more next) (omega arith) (omega arith) (λ tag a b c. same tag a) (rows_put m (begun next.load) [] tidy.fits.load_fits kept.rows) (loads_started m next.load kept.loads tidy.fits.load_fits))
+    counters_put n (one_load_more next) tidy.new (record { plan_fits = tidy.fits.plan_fits; chunk_fits = tidy.fits.chunk_fits; load_fits = room }) (loads_kept m n tidy (one_load_more next) (omega arith) (omega arith) (λ tag a b c. same tag a) (rows_put m (begun next.load) [] tidy.fits.load_fits kept.rows) (loads_started m next.load kept.loads tidy.fits.load_fits))
 
 -- no row stands under its number
 pub begun_unstaged : (m : KeyMap) (tidy : Tidy m) (g : GeographyModel) → IsStaged (insert (insert m (key_of (begun tidy.next.load)) []) (key_of counters) (counters_bytes (one_load_more tidy.next))) tidy.next.load g 0
@@ -58,14 +51,20 @@ begun_unstaged m tidy g =
     let n = insert mid (key_of counters) value in
     let rows : SameTag 103 m n = tag_follows 103 m mid n (put_keeps_tag m 103 76 (in_eight load) [] (λ e. absurd (omega arith))) (put_keeps_tag mid 103 65 [] value (λ e. absurd (omega arith))) in
     none_staged n load g
-    (λ place small. rows _ ∙ free_block m tidy load place (omega arith) (tidy.fits.load_fits, small))
-    (λ place small. rows _ ∙ free_pair m tidy load place (omega arith) (tidy.fits.load_fits, small))
+    (λ place small. rows _ ∙ (numbers_free m tidy).blocks load place (omega arith) (tidy.fits.load_fits, small))
+    (λ place small. rows _ ∙ (numbers_free m tidy).pairs load place (omega arith) (tidy.fits.load_fits, small))
 
 -- ---- a row of a load is put
+-- what stands under a key then is the row, of the load, or stood there
+row_or_there : (m : KeyMap) (load other : ℕ) (row there : RowKey) (value got : List ℕ) → Fits row → Fits there → IsLoad m load → (there ≡ row → other ≡ load) → (Has m there got → IsLoad m other) → Has (insert m (key_of row) value) there got → IsLoad m other
+row_or_there m load other row there value got row_fits fits is same before has = elim (cases_key (key_of there) (key_of row)) [
+  | inl equal ↦ subst (λ k. IsLoad m k) (sym (same (keys_differ there row fits row_fits equal))) is
+  | inr apart ↦ before (sym (put_keeps m (key_of row) value (key_of there) apart) ∙ has)
+]
+
 -- a row of a load is that of a block or of a pair of the load
-pub load_row_tidy : (m : KeyMap) (tidy : Tidy m) (load : ℕ) (row : RowKey) (rest value : List ℕ) → key_of row ≡ 103 ∷ rest → Fits row → IsLoad m load
-    → ((other place : ℕ) → Fits (block other place) → row ≡ block other place → other ≡ load) → ((other place : ℕ) → Fits (pair other place) → row ≡ pair other place → other ≡ load)
-    → TidyWith (insert m (key_of row) value) tidy.next tidy.new
+load_row_tidy : (m : KeyMap) (tidy : Tidy m) (load : ℕ) (row : RowKey) (rest value : List ℕ) → key_of row ≡ 103 ∷ rest → Fits row → IsLoad m load
+    → ((other place : ℕ) → block other place ≡ row → other ≡ load) → ((other place : ℕ) → pair other place ≡ row → other ≡ load) → TidyWith (insert m (key_of row) value) tidy.next tidy.new
 load_row_tidy m tidy load row rest value tagged fits is block_load pair_load =
     let next = tidy.next in
     let kept = kept_of m tidy in
@@ -76,28 +75,18 @@ load_row_tidy m tidy load row rest value tagged fits is block_load pair_load =
     let loads : LoadsKept n next.load = record {
       below = λ other got few there. kept.loads.below other got few (sym (marks _) ∙ there);
       sealed_below = λ sealed few there. kept.loads.sealed_below sealed few (sym (seals _) ∙ there);
-      blocks = λ other place got few there. load_moves m n other seals marks (elim (cases_key (key_of (block other place)) (key_of row)) [
-        | inl equal ↦ subst (λ k. IsLoad m k) (sym (block_load other place few (sym (keys_differ (block other place) row few fits equal)))) is
-        | inr apart ↦ kept.loads.blocks other place got few (sym (put_keeps m (key_of row) value (key_of (block other place)) apart) ∙ there)
-      ]);
-      pairs = λ other place got few there. load_moves m n other seals marks (elim (cases_key (key_of (pair other place)) (key_of row)) [
-        | inl equal ↦ subst (λ k. IsLoad m k) (sym (pair_load other place few (sym (keys_differ (pair other place) row few fits equal)))) is
-        | inr apart ↦ kept.loads.pairs other place got few (sym (put_keeps m (key_of row) value (key_of (pair other place)) apart) ∙ there)
-      ]);
+      blocks = λ other place got few there. load_moves m n other seals marks (row_or_there m load other row (block other place) value got fits few is (block_load other place) (kept.loads.blocks other place got few) there);
+      pairs = λ other place got few there. load_moves m n other seals marks (row_or_there m load other row (pair other place) value got fits few is (pair_load other place) (kept.loads.pairs other place got few) there);
       ended = λ sealed few there. marks _ ∙ kept.loads.ended sealed few (sym (seals _) ∙ there);
     } in
     stays_tidy m n tidy (same 65 (λ e. absurd (omega arith)) []) (loads_kept m n tidy next (omega arith) (omega arith) (λ tag a b c. same tag c) (rows_put m row value fits kept.rows) loads)
 
-pub block_tidy : (m : KeyMap) (tidy : Tidy m) (load place : ℕ) (value : List ℕ) → Fits (block load place) → IsLoad m load → TidyWith (insert m (key_of (block load place)) value) tidy.next tidy.new
-block_tidy m tidy load place value fits is = load_row_tidy m tidy load (block load place) (in_eight load ++ (98 ∷ in_four place)) value refl fits is (λ other at few same. cc) (λ other at few same. cc)
-
-pub pair_tidy : (m : KeyMap) (tidy : Tidy m) (load place : ℕ) (value : List ℕ) → Fits (pair load place) → IsLoad m load → TidyWith (insert m (key_of (pair load place)) value) tidy.next tidy.new
-pair_tidy m tidy load place value fits is = load_row_tidy m tidy load (pair load place) (in_eight load ++ (112 ∷ in_four place)) value refl fits is (λ other at few same. cc) (λ other at few same. cc)
-
 -- ---- rows of a load, one after the other
 one_staged : (m : KeyMap) (tidy : Tidy m) (load : ℕ) (key value : List ℕ) → load < 2 ^ 64 → IsLoad m load → IsLoadKey load key → TidyWith (insert m key value) tidy.next tidy.new
-one_staged m tidy load key value fits is (inl (place, few, same)) = subst (λ (k : List ℕ). TidyWith (insert m k value) tidy.next tidy.new) (sym same) (block_tidy m tidy load place value (fits, few) is)
-one_staged m tidy load key value fits is (inr (place, few, same)) = subst (λ (k : List ℕ). TidyWith (insert m k value) tidy.next tidy.new) (sym same) (pair_tidy m tidy load place value (fits, few) is)
+one_staged m tidy load key value fits is (inl (place, few, same)) = subst (λ (k : List ℕ). TidyWith (insert m k value) tidy.next tidy.new) (sym same)
+    (load_row_tidy m tidy load (block load place) (in_eight load ++ (98 ∷ in_four place)) value refl (fits, few) is (λ other at e. cc) (λ other at e. cc))
+one_staged m tidy load key value fits is (inr (place, few, same)) = subst (λ (k : List ℕ). TidyWith (insert m k value) tidy.next tidy.new) (sym same)
+    (load_row_tidy m tidy load (pair load place) (in_eight load ++ (112 ∷ in_four place)) value refl (fits, few) is (λ other at e. cc) (λ other at e. cc))
 
 still_there : (m : KeyMap) (load other : ℕ) (key value : List ℕ) → IsLoadKey load key → IsLoad m other → IsLoad (insert m key value) other
 still_there m load other key value given is = search (arith, load_moves, put_keeps_tag)
@@ -124,14 +113,11 @@ module _ (m : KeyMap) (limit : ℕ) (s : SealRow) (kept : LoadsKept m limit) (fi
   closed_rows : SameTag 103 m closed
   closed_rows = tag_follows 103 m with_seal closed (put_keeps_tag m 103 83 [] (seal_bytes s) (λ e. absurd (omega arith))) (remove_keeps_tag with_seal 103 76 _ (λ e. absurd (omega arith)))
 
-  seal_marks : SameTag 76 m with_seal
-  seal_marks = put_keeps_tag m 76 83 [] (seal_bytes s) (λ e. absurd (omega arith))
-
   ended_mark : row_in closed (begun s.load) ≡ None
   ended_mark = removed_is_gone with_seal (key_of (begun s.load))
 
   others_open : (load : ℕ) → load < 2 ^ 64 → (load ≡ s.load → ⊥) → row_in closed (begun load) ≡ row_in m (begun load)
-  others_open load few apart = remove_keeps_row with_seal (begun s.load) (begun load) fits few (other_load load s.load apart) ∙ seal_marks _
+  others_open load few apart = remove_keeps_row with_seal (begun s.load) (begun load) fits few (λ e. apart (cc)) ∙ put_keeps_tag m 76 83 [] (seal_bytes s) (λ e. absurd (omega arith)) _
 
   -- the seal names this load alone
   seal_says : (sealed : SealRow) → sealed.load < 2 ^ 64 → Has closed seal (seal_bytes sealed) → sealed.load ≡ s.load

@@ -1,28 +1,26 @@
 -- A plan gets one revision more, and the rows stay tidy.
-use Rattle.std.specs.Prelude.{Contains}
-use Rattle.std.proofs.Common.{rules, Bool, true, ◌≡◌, ◌⊎◌, ◌<◌, ◌≤◌, ◌+◌, ◌^◌, ℕ, suc, List, [], ◌∷◌, get_or, All, Some, refl, sym, subst, ◌∙◌, inl, inr, arith}
-use Rattle.std.proofs.lemmas.Bool.{cases_eq, cases_lt}
-use Rattle.std.proofs.lemmas.List.{get_or_default}
-use Rattle.store_rows.specs.{claim.Keys.{Fits, holding, named, part, chunk}, claim.Values.plan_bytes, claim.Lists.chunks_bytes, declared.value.Counters.Counters}
-use Rattle.store_rows.specs.{declared.value.PlanRow.PlanRow, claim.Rows.{KeyMap, Has, part_row}, Steps.{chunks_more, one_revision_more}}
-use Rattle.store_rows.specs.{RevisionSteps.{IsGiven, AreItsChunks, AddsRevision}, claim.Tidy.{IsNext, IsNumbered, IsNamedBy, IsPart, IsPiece, IsKnown, AreHoldings, Tidy}}
-use Rattle.store_rows.{specs.Tidy.TidyWith, specs.claim.Holders.IsHeld, proofs.ListLaws.chunks_differ, proofs.Changes.cases_key, proofs.OneDesk.{row_number, row_revisions}}
-use Rattle.store_rows.proofs.PartNumbers.{part_at, part_within, part_says, part_chunks, part_among, numbers_named}
+use Rattle.std.{specs.{Prelude.Contains, Set.is_member}, proofs.lemmas.{Bool.{cases_Bool, cases_eq, cases_lt, Decides.{Decides-eqb, not_from_Decides}}, List.get_or_default}}
+use Rattle.std.proofs.{Common.{eqb, Bool, ◌≡◌, ◌⊎◌, ◌<◌, ◌≤◌, ◌+◌, ◌^◌, ℕ, List, get_or, All, Some, refl, sym, subst, ◌∙◌, inl, inr, arith}, lemmas.Map.Made.is_member-Decides}
+use Rattle.store_rows.specs.{RevisionSteps.{IsGiven, AreItsChunks, AddsRevision}, Steps.{chunks_more, one_revision_more}, Tidy.TidyWith, claim.{Holders.IsHeld, Lists.chunks_bytes}}
+use Rattle.store_rows.specs.claim.{Keys.{Fits, named, part, chunk}, Rows.{KeyMap, Has, part_row}, Tidy.{IsNext, IsNumbered, IsNamedBy, IsKnown, AreHoldings, Tidy}}
+use Rattle.store_rows.{specs.{claim.Values.plan_bytes, declared.value.{Counters.Counters, PlanRow.PlanRow}}, proofs.{Changes.cases_key, ListLaws.chunks_differ}}
+use Rattle.store_rows.proofs.{NameRows.{part_at, part_within, part_says, part_chunks, part_among, numbers_named}, OneDesk.{row_number, row_revisions}}
 use Rattle.store_rows.proofs.{TidyParts.{PlansKept, ChunksKept, kept_of, tidy_at, numbered_moves, loads_stay}, TidyPlans.{row_says, number_says}}
 
 -- whether a list has a number
-not_among : (x : ℕ) (numbers : List ℕ) (number : ℕ) → (x ≡ number → ⊥) → (Contains numbers number → ⊥) → Contains (x ∷ numbers) number → ⊥
-not_among x numbers number apart none given = search (arith, apart, none)
-
 pub contains_or_not : (numbers : List ℕ) (number : ℕ) → Contains numbers number ⊎ (Contains numbers number → ⊥)
-contains_or_not [] number = inr (λ there. let within = there.1 in absurd (omega arith))
-contains_or_not (x ∷ numbers) number = elim (cases_eq x number) [
-  | inl same ↦ inl (0, omega arith, same)
-  | inr apart ↦ elim (contains_or_not numbers number) [
-    | inl there ↦ (let within = there.1 in inl (suc there.0, omega arith, there.2))
-    | inr none ↦ inr (not_among x numbers number apart none)
-  ]
-]
+contains_or_not numbers number =
+    let decides = is_member-Decides {eq = eqb} Decides-eqb numbers number in
+    elim (cases_Bool (is_member eqb numbers number)) [ inl is ↦ inl (decides.0 is) | inr none ↦ inr (not_from_Decides _ decides none) ]
+
+both_or_not : {P Q : Type 0} → P ⊎ (P → ⊥) → Q ⊎ (Q → ⊥) → (P × Q) ⊎ (P × Q → ⊥)
+both_or_not (inl p) (inl q) = inl (p, q)
+both_or_not (inr none) _ = inr (λ both. none both.0)
+both_or_not _ (inr none) = inr (λ both. none both.1)
+
+-- whether the plan is this one, and its number is among them
+pub held_or_not : (plan one : ℕ) (numbers : List ℕ) (number : ℕ) → ((plan ≡ one) × Contains numbers number) ⊎ ((plan ≡ one) × Contains numbers number → ⊥)
+held_or_not plan one numbers number = both_or_not (cases_eq plan one) (contains_or_not numbers number)
 
 -- whether a number of chunks was given
 pub given_or_not : (next : Counters) (given number : ℕ) → IsGiven next given number ⊎ (IsGiven next given number → ⊥)
@@ -33,13 +31,7 @@ module _ (m n : KeyMap) (new : Bool) (next : Counters) (given source : ℕ) (nam
   IsNew plan revision = (plan ≡ p.number) × (revision ≡ p.revisions + 1)
 
   new_or_not : (plan revision : ℕ) → IsNew plan revision ⊎ (IsNew plan revision → ⊥)
-  new_or_not plan revision = elim (cases_eq plan p.number) [
-    | inl same ↦ elim (cases_eq revision (p.revisions + 1)) [
-      | inl last ↦ inl (same, last)
-      | inr other ↦ inr (λ is. other is.1)
-    ]
-    | inr apart ↦ inr (λ is. apart is.0)
-  ]
+  new_or_not plan revision = both_or_not (cases_eq plan p.number) (cases_eq revision (p.revisions + 1))
 
   -- ---- numbers of plans are as they were
   numbered : IsNumbered m name p.number
@@ -66,9 +58,6 @@ module _ (m n : KeyMap) (new : Bool) (next : Counters) (given source : ℕ) (nam
   stays_known plan (inr mark) = inr (adds.marks _ ∙ mark)
 
   -- ---- parts
-  none_before : (index : ℕ) (value : List ℕ) → Fits (part p.number (p.revisions + 1) index) → Has m (part p.number (p.revisions + 1) index) value → ⊥
-  none_before index value fits there = (let few = (plans.counted name p number_fits (omega arith) has (p.revisions + 1) index value fits there).1 in absurd (omega arith))
-
   new_part : (plan revision index : ℕ) (value : List ℕ) → IsNew plan revision → Fits (part plan revision index) → Has n (part plan revision index) value → part_row 128 chunks_bytes numbers index ≡ Some value
   new_part plan revision index value is fits there = search (adds.parts index fits.2, is.0, is.1)
 
@@ -79,18 +68,6 @@ module _ (m n : KeyMap) (new : Bool) (next : Counters) (given source : ℕ) (nam
         | inl old ↦ (let less = kept.below source x old in omega arith)
         | inr new ↦ (let less = new.1 in omega arith)
       ]
-
-  told_now : (plan revision index : ℕ) (value : List ℕ) → Fits (part plan revision index) → Has n (part plan revision index) value → IsPart value
-  told_now plan revision index value fits there = elim (new_or_not plan revision) [
-    | inl new ↦ search (new_part plan revision index value new fits there, part_at numbers index, part_chunks, each_fits, part_within, part_says)
-    | inr old ↦ plans.told plan revision index value fits (sym (adds.other_parts plan revision index fits old) ∙ there)
-  ]
-
-  known_now : (plan revision index : ℕ) (value : List ℕ) → Fits (part plan revision index) → Has n (part plan revision index) value → IsKnown n plan
-  known_now plan revision index value fits there = elim (new_or_not plan revision) [
-    | inl new ↦ inl (name, subst (λ k. IsNumbered n name k) (sym new.0) numbered_now)
-    | inr old ↦ stays_known plan (plans.parts plan revision index value fits (sym (adds.other_parts plan revision index fits old) ∙ there))
-  ]
 
   counted_here : (q : PlanRow) → q.number < 2 ^ 64 → q.revisions < 2 ^ 32 → Has n (named name) (plan_bytes q) → (revision index : ℕ) (value : List ℕ) → Fits (part q.number revision index) → Has n (part q.number revision index) value → (0 < revision) × (revision ≤ q.revisions)
   counted_here q fits small there revision index value part_fits row =
@@ -105,25 +82,26 @@ module _ (m n : KeyMap) (new : Bool) (next : Counters) (given source : ℕ) (nam
             (before.0, omega arith))
       ]
 
-  counted_there : (other : List ℕ) (q : PlanRow) → (other ≡ name → ⊥) → q.number < 2 ^ 64 → q.revisions < 2 ^ 32 → Has n (named other) (plan_bytes q) → (revision index : ℕ) (value : List ℕ) → Fits (part q.number revision index) → Has n (part q.number revision index) value → (0 < revision) × (revision ≤ q.revisions)
-  counted_there other q apart fits small there revision index value part_fits row =
-      let before : Has m (named other) (plan_bytes q) = sym (adds.others other apart) ∙ there in
-      elim (new_or_not q.number revision) [
-        | inl new ↦ absurd (apart (plans.one other name p.number (record { plan = q; row = before; is = new.0; fits = number_fits }) numbered))
-        | inr old ↦ plans.counted other q fits small before revision index value part_fits (sym (adds.other_parts q.number revision index part_fits old) ∙ row)
-      ]
-
   plans_revised : PlansKept n next.plan
   plans_revised = record {
     below = λ other number there. plans.below other number (was_numbered other number there);
     marks_below = λ plan value fits there. plans.marks_below plan value fits (sym (adds.marks _) ∙ there);
     one = λ one other number there also. plans.one one other number (was_numbered one number there) (was_numbered other number also);
     gone = λ other number there. adds.marks _ ∙ plans.gone other number (was_numbered other number there);
-    parts = known_now;
-    told = told_now;
+    parts = λ plan revision index value fits there. elim (new_or_not plan revision) [
+      | inl new ↦ inl (name, subst (λ k. IsNumbered n name k) (sym new.0) numbered_now)
+      | inr old ↦ stays_known plan (plans.parts plan revision index value fits (sym (adds.other_parts plan revision index fits old) ∙ there))
+    ];
+    told = λ plan revision index value fits there. elim (new_or_not plan revision) [
+      | inl new ↦ search (new_part plan revision index value new fits there, part_at numbers index, part_chunks, each_fits, part_within, part_says)
+      | inr old ↦ plans.told plan revision index value fits (sym (adds.other_parts plan revision index fits old) ∙ there)
+    ];
     counted = λ other q fits small there revision index value part_fits row. elim (cases_key other name) [
       | inl same ↦ counted_here q fits small (subst (λ o. Has n (named o) (plan_bytes q)) same there) revision index value part_fits row
-      | inr apart ↦ counted_there other q apart fits small there revision index value part_fits row
+      | inr apart ↦ (let before : Has m (named other) (plan_bytes q) = sym (adds.others other apart) ∙ there in elim (new_or_not q.number revision) [
+        | inl new ↦ absurd (apart (plans.one other name p.number (record { plan = q; row = before; is = new.0; fits = number_fits }) numbered))
+        | inr old ↦ plans.counted other q fits small before revision index value part_fits (sym (adds.other_parts q.number revision index part_fits old) ∙ row)
+      ])
     ];
   }
 
@@ -140,62 +118,53 @@ module _ (m n : KeyMap) (new : Bool) (next : Counters) (given source : ℕ) (nam
 
   stays_named : (plan number : ℕ) → IsNamedBy m plan number → IsNamedBy n plan number
   stays_named plan number is =
-      let row : Has n (part plan is.revision is.index) (chunks_bytes is.numbers) = adds.other_parts plan is.revision is.index is.part_fits (λ new. none_before is.index (chunks_bytes is.numbers) (subst (λ k. Fits (part k (p.revisions + 1) is.index)) new.0 (subst (λ r. Fits (part plan r is.index)) new.1 is.part_fits))
-      (subst (λ k. Has m (part k (p.revisions + 1) is.index) (chunks_bytes is.numbers)) new.0 (subst (λ r. Has m (part plan r is.index) (chunks_bytes is.numbers)) new.1 is.row))) ∙ is.row in
-      search row
+      let kept_part = adds.other_parts plan is.revision is.index is.part_fits (λ new.
+      let few = (plans.counted name p number_fits (omega arith) has is.revision is.index (chunks_bytes is.numbers) (subst (λ k. Fits (part k is.revision is.index)) new.0 is.part_fits)
+      (subst (λ k. Has m (part k is.revision is.index) (chunks_bytes is.numbers)) new.0 is.row)).1 in
+      let last = new.1 in
+      absurd (omega arith)) in
+      search (kept_part ∙ is.row)
 
   named_now : (number : ℕ) → Contains numbers number → IsNamedBy n p.number number
   named_now = numbers_named n p.number (p.revisions + 1) numbers number_fits few_revisions (record { few = its.few; each = each_fits; parts = adds.parts })
 
-  below_now : (plan number : ℕ) → IsNamedBy n plan number → number < next.chunk + given
-  below_now plan number is = elim (came plan number is) [
-    | inl new ↦ elim (its.own number new.1) [
-      | inl own ↦ (let less = kept.below source number own in omega arith)
-      | inr made ↦ made.1
-    ]
-    | inr old ↦ (let less = kept.below plan number old in omega arith)
-  ]
-
-  chunk_named : (number index : ℕ) (value : List ℕ) → Fits (chunk number index) → Has n (chunk number index) value → (plan : ℕ) × IsNamedBy n plan number
-  chunk_named number index value fits there = elim (given_or_not next given number) [
-    | inl is ↦ (p.number, named_now number (its.whole number is))
-    | inr other ↦ (let before = kept.chunks number index value fits (sym (adds.other_chunks number index fits other) ∙ there) in (before.0, stays_named before.0 number before.1))
-  ]
-
-  piece_now : (number piece : ℕ) (value : List ℕ) → Fits (chunk number piece) → Has n (chunk number piece) value → IsPiece value
-  piece_now number piece value fits there = elim (given_or_not next given number) [
-    | inl is ↦ adds.pieces number piece value fits is there
-    | inr other ↦ kept.pieces number piece value fits (sym (adds.other_chunks number piece fits other) ∙ there)
-  ]
-
   chunks_revised : ChunksKept n (next.chunk + given)
-  chunks_revised = record { below = below_now; chunks = chunk_named; pieces = piece_now }
+  chunks_revised = record {
+    below = λ plan number is. elim (came plan number is) [
+      | inl new ↦ elim (its.own number new.1) [
+        | inl own ↦ (let less = kept.below source number own in omega arith)
+        | inr made ↦ made.1
+      ]
+      | inr old ↦ (let less = kept.below plan number old in omega arith)
+    ];
+    chunks = λ number index value fits there. elim (given_or_not next given number) [
+      | inl is ↦ (p.number, named_now number (its.whole number is))
+      | inr other ↦ (let before = kept.chunks number index value fits (sym (adds.other_chunks number index fits other) ∙ there) in (before.0, stays_named before.0 number before.1))
+    ];
+    pieces = λ number piece value fits there. elim (given_or_not next given number) [
+      | inl is ↦ adds.pieces number piece value fits is there
+      | inr other ↦ kept.pieces number piece value fits (sym (adds.other_chunks number piece fits other) ∙ there)
+    ];
+  }
 
   -- ---- holdings
-  abbrev IsNewHolding : ℕ → ℕ → Type 0
-  IsNewHolding plan number = (plan ≡ p.number) × Contains numbers number
-
-  new_holding_or_not : (plan number : ℕ) → IsNewHolding plan number ⊎ (IsNewHolding plan number → ⊥)
-  new_holding_or_not plan number = search (rules, cases_eq plan p.number, contains_or_not numbers number)
-
   -- the plan holds what the revision names, and names what it holds
-  held_now : AreHoldings m new → (plan number : ℕ) (value : List ℕ) → Fits (holding plan number) → Has n (holding plan number) value → (value ≡ []) × IsNamedBy n plan number
-  held_now holders plan number value fits there = elim (new_holding_or_not plan number) [
-    | inl is ↦ (adds.empty plan number value fits there, subst (λ k. IsNamedBy n k number) (sym is.0) (named_now number is.1))
-    | inr old ↦ (let before = holders.held plan number value fits (sym (adds.other_holdings plan number fits old) ∙ there) in (before.0, stays_named plan number before.1))
-  ]
-
-  hold_now : AreHoldings m new → new ≡ true → (other : List ℕ) (plan number : ℕ) → IsNumbered n other plan → IsNamedBy n plan number → IsHeld n plan number
-  hold_now holders is_new other plan number there is = elim (came plan number is) [
-    | inl mine ↦ subst (λ k. IsHeld n k number) (sym mine.0) (adds.holdings is_new number mine.1)
-    | inr old ↦ elim (new_holding_or_not plan number) [
-      | inl mine ↦ subst (λ k. IsHeld n k number) (sym mine.0) (adds.holdings is_new number mine.1)
-      | inr apart ↦ (let less = kept.below plan number old in adds.other_holdings plan number (there.fits, omega arith) apart ∙ holders.hold is_new other plan number (was_numbered other plan there) old)
-    ]
-  ]
-
   holders_revised : AreHoldings m new → AreHoldings n new
-  holders_revised holders = record { told = adds.told ∙ holders.told; held = held_now holders; counted_by_holders = adds.counted_by_holders; hold = hold_now holders }
+  holders_revised holders = record {
+    told = adds.told ∙ holders.told;
+    held = λ plan number value fits there. elim (held_or_not plan p.number numbers number) [
+      | inl is ↦ (adds.empty plan number value fits there, subst (λ k. IsNamedBy n k number) (sym is.0) (named_now number is.1))
+      | inr old ↦ (let before = holders.held plan number value fits (sym (adds.other_holdings plan number fits old) ∙ there) in (before.0, stays_named plan number before.1))
+    ];
+    counted_by_holders = adds.counted_by_holders;
+    hold = λ is_new other plan number there is. elim (held_or_not plan p.number numbers number) [
+      | inl mine ↦ subst (λ k. IsHeld n k number) (sym mine.0) (adds.holdings is_new number mine.1)
+      | inr apart ↦ elim (came plan number is) [
+        | inl mine ↦ absurd (apart mine)
+        | inr old ↦ (let less = kept.below plan number old in adds.other_holdings plan number (there.fits, omega arith) apart ∙ holders.hold is_new other plan number (was_numbered other plan there) old)
+      ]
+    ];
+  }
 
 pub revised_tidy : (m n : KeyMap) (tidy : Tidy m) (given source : ℕ) (name : List ℕ) (p : PlanRow) (numbers : List ℕ) → p.number < 2 ^ 64 → p.revisions + 1 < 2 ^ 32 → tidy.next.chunk + given < 2 ^ 64
     → Has m (named name) (plan_bytes p) → AreItsChunks m tidy.next given source numbers → AddsRevision m n tidy.new tidy.next given name p numbers → TidyWith n (chunks_more tidy.next given) tidy.new
@@ -203,10 +172,8 @@ revised_tidy m n tidy given source name p numbers number_fits few room has its a
     let next = tidy.next in
     let kept = kept_of m tidy in
     let more = chunks_more next given in
-    let plan_fits = tidy.fits.plan_fits in
-    let load_fits = tidy.fits.load_fits in
     let is : IsNext n more = rw (← (sym adds.moved)) refl in
-    tidy_at n more tidy.new is (record { plan_fits = plan_fits; chunk_fits = room; load_fits = load_fits }) (record {
+    tidy_at n more tidy.new is (record { plan_fits = tidy.fits.plan_fits; chunk_fits = room; load_fits = tidy.fits.load_fits }) (record {
       rows = adds.rows;
       plans = plans_revised m n tidy.new next given source name p numbers kept.plans kept.chunks number_fits few room has its adds;
       chunks = chunks_revised m n tidy.new next given source name p numbers kept.plans kept.chunks number_fits few room has its adds;

@@ -1,7 +1,6 @@
 -- The rows of a chunk, and what they say once they are put.
 use Rattle.std.proofs.Common.{◌<◌, ◌*◌, ◌^◌, ℕ, List, length, take, drop}
-use Rattle.desk_model.specs.claim.Room.{rows_for}
-use Rattle.store_rows.specs.{claim.Keys.{key_of, chunk}, claim.Lists.districts_bytes, claim.Rows.{KeyMap, Lacks}, claim.Puts.Row, Puts.rows_told}
+use Rattle.{desk_model.specs.claim.Room.rows_for, store_rows.specs.{Puts.rows_told, claim.{Keys.{key_of, chunk}, Lists.districts_bytes, Puts.Row, Rows.{KeyMap, Lacks}}}}
 
 -- a piece of a chunk, from 0
 abbrev pub piece_row : ℕ → List ℕ → ℕ → Row

@@ -1,7 +1,7 @@
 -- Which chunks a new revision names: a county that is as before keeps its chunk, each other one gets the next number.
-use Rattle.std.specs.{Prelude.{true, ◌≡◌, ◌≤◌, ◌+◌, ◌*◌, ◌^◌, ℕ, if◌then◌else◌, List, [], ◌∷◌, map, filter, length, Option, All}, List.zip}
-use Rattle.desk_model.specs.{claim.Geography.GeographyModel, claim.Ranges.sizes, claim.Room.{differs, changed, revision_rows}}
-use Rattle.store_rows.specs.{declared.value.Counters.Counters, declared.value.PlanRow.PlanRow, claim.Rows.KeyMap, RevisionSteps.{IsChunkList, AreKept, IsDrawn, rows_of_revision}}
+use Rattle.std.specs.{List.zip, Prelude.{true, ◌≡◌, ◌≤◌, ◌+◌, ◌*◌, ◌^◌, ℕ, if◌then◌else◌, List, [], ◌∷◌, map, filter, length, Option, All}}
+use Rattle.{desk_model.specs.claim.{Geography.GeographyModel, Ranges.sizes, Room.{differs, changed, revision_rows}}, store_rows.specs.claim.Rows.KeyMap}
+use Rattle.store_rows.specs.{RevisionSteps.{IsChunkList, AreKept, IsDrawn, rows_of_revision}, declared.value.{Counters.Counters, PlanRow.PlanRow}}
 
 -- the chunks of a later revision, from those of the one before
 abbrev pub draw : ℕ → List ℕ → List (List ℕ) → List (List ℕ) → List ℕ

@@ -1,8 +1,8 @@
 -- A plan gets a revision with the chunks of another plan's, as a fork does.
-use Rattle.std.specs.{Prelude.{true, ◌≡◌, ◌<◌, ◌≤◌, ◌*◌, ◌^◌, ℕ, List, length, Some, Contains}, FinMap.{FinMap, get}}
-use Rattle.desk_model.specs.{claim.Geography.GeographyModel, claim.Ranges.cut, claim.Desk.{Plan, name_cmp}}
-use Rattle.store_rows.specs.{claim.Rows.KeyMap, claim.DeskRows.{HasPlan, IsDesk, most_revisions}, Changes.{desk_with, plan_row_of}, Steps.chunks_more, RevisionSteps.AreKept}
-use Rattle.store_rows.specs.{claim.Tidy.Tidy, TidyLaws.MakesRevision, Shares.{CanHold, Holds, hold_all, with_shared}}
+use Rattle.std.specs.{FinMap.{FinMap, get}, Prelude.{true, ◌≡◌, ◌<◌, ◌≤◌, ◌*◌, ◌^◌, ℕ, List, length, Some, Contains}}
+use Rattle.{desk_model.specs.claim.{Desk.{Plan, name_cmp}, Geography.GeographyModel, Ranges.cut}, store_rows.specs.{Changes.{desk_with, plan_row_of}, RevisionSteps.AreKept}}
+use Rattle.store_rows.specs.{Shares.{CanHold, Holds, hold_all, with_shared}, Steps.chunks_more, TidyLaws.MakesRevision, claim.DeskRows.{HasPlan, IsDesk, most_revisions}}
+use Rattle.store_rows.specs.claim.{Rows.KeyMap, Tidy.Tidy}
 
 -- a plan comes to hold so many chunks, one after the other
 abbrev pub ChunksAreHeld : Type 0

@@ -1,7 +1,7 @@
 -- What keeps the plans that hold a chunk counted.
-use Rattle.std.specs.{Prelude.{◌≡◌, ◌<◌, ◌+◌, ◌^◌, ℕ, suc, List}, FinMap.empty}
-use Rattle.store_rows.specs.{claim.Keys.{holding, holder_count, in_eight}, claim.Rows.{KeyMap, row_in, Has, Lacks}, Rows.SameTag, claim.Puts.put_rows}
-use Rattle.store_rows.specs.{claim.Holders.{IsHeld, AreTallied, holder_count_row, holding_rows}, Holders.{AreHoldersBelow, released}}
+use Rattle.std.specs.{FinMap.empty, Prelude.{◌≡◌, ◌<◌, ◌+◌, ◌^◌, ℕ, suc, List}}
+use Rattle.store_rows.specs.{Holders.{AreHoldersBelow, released}, Rows.SameTag, claim.{Holders.{IsHeld, AreTallied, holder_count_row, holding_rows}, Puts.put_rows}}
+use Rattle.store_rows.specs.claim.{Keys.{holding, holder_count, in_eight}, Rows.{KeyMap, row_in, Has, Lacks}}
 
 -- in a map without rows each chunk is held by none
 abbrev pub NothingIsTallied : Type 0

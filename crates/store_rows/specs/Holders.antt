@@ -1,6 +1,6 @@
 -- What no promise rests on, beside claim/Holders.antt.
-use Rattle.std.specs.{Prelude.{◌<◌, ◌+◌, ◌^◌, ℕ, zero, suc}, FinMap.{insert, remove}}
-use Rattle.store_rows.specs.{claim.Keys.{key_of, holding, holder_count, in_eight}, claim.Rows.KeyMap, claim.Holders.IsHeld}
+use Rattle.std.specs.{FinMap.{insert, remove}, Prelude.{◌<◌, ◌+◌, ◌^◌, ℕ, zero, suc}}
+use Rattle.store_rows.specs.claim.{Holders.IsHeld, Keys.{key_of, holding, holder_count, in_eight}, Rows.KeyMap}
 
 -- the plans that hold a chunk have numbers below this one
 abbrev pub AreHoldersBelow : KeyMap → ℕ → Type 0

@@ -1,8 +1,7 @@
 -- From the old version of the rows to the new one: plans come to hold what they name, and then the version is told.
-use Rattle.std.specs.{Prelude.{Bool, true, ◌≡◌, ◌<◌, ◌^◌, ℕ}, FinMap.{empty, insert}}
-use Rattle.desk_model.specs.claim.Desk.{Desk}
-use Rattle.store_rows.specs.{claim.Keys.{key_of, Fits, holding, version, in_four}, declared.value.Counters.Counters, claim.Rows.KeyMap, Rows.SameTag, claim.DeskRows.IsDesk}
-use Rattle.store_rows.specs.{claim.Holders.IsHeld, claim.Tidy.{no_numbers, IsNamedBy, AllHold, Tidy}, Tidy.TidyWith, claim.Shares.hold}
+use Rattle.std.specs.{FinMap.{empty, insert}, Prelude.{Bool, true, ◌≡◌, ◌<◌, ◌^◌, ℕ}}
+use Rattle.{desk_model.specs.claim.Desk.Desk, store_rows.specs.{Rows.SameTag, Tidy.TidyWith, claim.{DeskRows.IsDesk, Holders.IsHeld, Rows.KeyMap, Shares.hold}}}
+use Rattle.store_rows.specs.{claim.{Keys.{key_of, Fits, holding, version, in_four}, Tidy.{no_numbers, IsNamedBy, AllHold, Tidy}}, declared.value.Counters.Counters}
 
 -- a map that tells the new version
 abbrev pub as_new : KeyMap → KeyMap

@@ -1,6 +1,6 @@
 -- What no promise rests on, beside claim/Order.antt.
-use Rattle.std.specs.{Prelude.{◌≡◌, ◌<◌, ◌^◌, ℕ, List, ◌++◌}, Ordering.nat_cmp}
-use Rattle.store_rows.specs.{claim.Keys.{RowKey, key_of, Fits, in_two, in_four, in_eight}, claim.Order.key_cmp}
+use Rattle.std.specs.{Ordering.nat_cmp, Prelude.{◌≡◌, ◌<◌, ◌^◌, ℕ, List, ◌++◌}}
+use Rattle.store_rows.specs.claim.{Keys.{RowKey, key_of, Fits, in_two, in_four, in_eight}, Order.key_cmp}
 
 -- different rows have different keys
 abbrev pub KeysDiffer : Type 0

@@ -1,9 +1,9 @@
 -- The rows that change as one revision of a plan is added.
 use Rattle.std.specs.Prelude.{Bool, true, false, ◌≡◌, ◌⊎◌, ◌<◌, ◌≤◌, ◌+◌, ◌*◌, ◌^◌, ℕ, List, [], ◌∷◌, ◌++◌, length, get_or, All, Contains}
-use Rattle.store_rows.specs.{claim.Keys.{key_of, Fits, counters, holding, holder_count, named, part, version, chunk, in_eight}, claim.Values.{counters_bytes, plan_bytes}}
-use Rattle.store_rows.specs.{claim.Lists.chunks_bytes, declared.value.Counters.Counters, declared.value.PlanRow.PlanRow, claim.Rows.{KeyMap, row_in, Has, part_row}, Rows.SameTag}
-use Rattle.store_rows.specs.{claim.RevisionRows.HasChunk, claim.Puts.Row, Puts.rows_told, claim.Holders.{IsHeld, AreTallied}, ChunkRows.chunk_rows, NameRows.name_rows}
-use Rattle.store_rows.specs.{Steps.{chunks_more, one_revision_more}, claim.Tidy.{IsNamedBy, IsPiece, AreRows}}
+use Rattle.store_rows.specs.{ChunkRows.chunk_rows, NameRows.name_rows, Puts.rows_told, Rows.SameTag, Steps.{chunks_more, one_revision_more}, claim.Holders.{IsHeld, AreTallied}}
+use Rattle.store_rows.specs.claim.{Keys.{key_of, Fits, counters, holding, holder_count, named, part, version, chunk, in_eight}, Lists.chunks_bytes, Puts.Row, RevisionRows.HasChunk}
+use Rattle.store_rows.specs.{claim.{Rows.{KeyMap, row_in, Has, part_row}, Tidy.{IsNamedBy, IsPiece, AreRows}, Values.{counters_bytes, plan_bytes}}, declared.value.PlanRow.PlanRow}
+use Rattle.store_rows.specs.declared.value.Counters.{Counters}
 
 -- so many numbers from the counter on are given to new chunks
 abbrev pub IsGiven : Counters → ℕ → ℕ → Type 0

@@ -1,8 +1,8 @@
 -- What no promise rests on, beside claim/Shares.antt.
 use Rattle.std.specs.Prelude.{◌≡◌, ◌<◌, ◌+◌, ◌^◌, ℕ, List, [], ◌∷◌, ◌++◌, Contains}
-use Rattle.store_rows.specs.{claim.Keys.{key_of, Fits, counters, holding, named}, claim.Values.{counters_bytes, plan_bytes}, declared.value.Counters.Counters}
-use Rattle.store_rows.specs.{declared.value.PlanRow.PlanRow, claim.Rows.{KeyMap, row_in, Has}, Rows.SameTag, claim.Puts.{Row, put_rows}, NameRows.name_rows}
-use Rattle.store_rows.specs.{Steps.{chunks_more, one_revision_more}, claim.Holders.{IsHeld, AreTallied}, Holders.AreHoldersBelow, claim.Tidy.AreRows, claim.Shares.hold}
+use Rattle.store_rows.specs.{Holders.AreHoldersBelow, NameRows.name_rows, Rows.SameTag, Steps.{chunks_more, one_revision_more}, claim.{Holders.{IsHeld, AreTallied}, Shares.hold}}
+use Rattle.store_rows.specs.{claim.{Keys.{key_of, Fits, counters, holding, named}, Puts.{Row, put_rows}, Rows.{KeyMap, row_in, Has}, Tidy.AreRows}, declared.value.PlanRow.PlanRow}
+use Rattle.store_rows.specs.{claim.Values.{counters_bytes, plan_bytes}, declared.value.Counters.Counters}
 
 abbrev pub hold_all : KeyMap → ℕ → List ℕ → KeyMap
 hold_all m plan [] = m

@@ -1,9 +1,8 @@
 -- What a sweep keeps, and what is there once it is done.
 use Rattle.std.specs.Prelude.{Bool, ◌≡◌, ◌<◌, ◌^◌, ℕ, List, Contains}
-use Rattle.desk_model.specs.claim.Desk.{Desk}
-use Rattle.store_rows.specs.{claim.Keys.{Fits, retired, begun, part, seal, block, pair, chunk}, claim.Values.seal_bytes, declared.value.Counters.Counters}
-use Rattle.store_rows.specs.{declared.value.SealRow.SealRow, claim.Rows.{KeyMap, Has, Lacks}, claim.RevisionRows.NamesChunks, claim.DeskRows.IsDesk}
-use Rattle.store_rows.specs.{claim.Tidy.{IsNumbered, IsNamedBy, Tidy}, Tidy.TidyWith}
+use Rattle.{desk_model.specs.claim.Desk.Desk, store_rows.specs.{Tidy.TidyWith, claim.{DeskRows.IsDesk, Keys.{Fits, retired, begun, part, seal, block, pair, chunk}}}}
+use Rattle.store_rows.specs.{claim.{RevisionRows.NamesChunks, Rows.{KeyMap, Has, Lacks}, Tidy.{IsNumbered, IsNamedBy, Tidy}, Values.seal_bytes}, declared.value.Counters.Counters}
+use Rattle.store_rows.specs.declared.value.SealRow.{SealRow}
 
 -- the numbers of a revision are named by parts of it
 abbrev pub NumbersAreNamed : Type 0

@@ -1,6 +1,6 @@
 -- What no promise rests on, beside claim/Tidy.antt.
 use Rattle.std.specs.Prelude.{◌≡◌, Bool}
-use Rattle.store_rows.specs.{declared.value.Counters.Counters, claim.Rows.KeyMap, claim.Tidy.Tidy}
+use Rattle.store_rows.specs.{claim.{Rows.KeyMap, Tidy.Tidy}, declared.value.Counters.Counters}
 
 -- and these are its counters, and its version
 abbrev pub TidyWith : KeyMap → Counters → Bool → Type 0

@@ -1,13 +1,12 @@
 -- What keeps the rows tidy.
-use Rattle.std.specs.{Prelude.{Bool, false, ◌≡◌, ◌<◌, ◌≤◌, ◌+◌, ◌*◌, ◌^◌, ℕ, List, [], length, get_or, All, Some}, FinMap.{FinMap, empty, get, insert, remove}}
-use Rattle.desk_model.specs.{declared.kind.Kind.Kind, claim.Geography.GeographyModel, claim.Ranges.cut, claim.Desk.{Plan, name_cmp}, claim.Name.IsPlanName}
-use Rattle.store_rows.specs.claim.Keys.{key_of, Fits, counters, retired, begun, holding, holder_count, named, part, seal, block, pair}
-use Rattle.store_rows.specs.{claim.Values.{counters_bytes, plan_bytes, seal_bytes}, declared.value.Counters.Counters, declared.value.PlanRow.PlanRow}
-use Rattle.store_rows.specs.{declared.value.SealRow.SealRow, claim.Rows.{KeyMap, Has, Lacks}, claim.Puts.{Row, put_rows}, Puts.rows_told, claim.GeographyRows.IsStaged}
-use Rattle.store_rows.specs.{claim.RevisionRows.{HasChunk, NamesChunks, HasRevision}, ChunkRows.IsFreeChunk, claim.DeskRows.{HasPlan, IsDesk, most_revisions}}
-use Rattle.store_rows.specs.{Changes.{desk_with, plan_row_of, with_revision}, Steps.{one_plan_more, chunks_more, one_load_more, IsLoadKey}}
-use Rattle.store_rows.specs.RevisionSteps.{AreItsChunks, AddsRevision, IsChunkList, AreKept, IsDrawn, rows_of_revision}
-use Rattle.store_rows.specs.{claim.Tidy.{no_numbers, IsNext, CountersFit, IsNumbered, IsLoad, Tidy}, Tidy.TidyWith}
+use Rattle.std.specs.{FinMap.{FinMap, empty, get, insert, remove}, Prelude.{Bool, false, ◌≡◌, ◌<◌, ◌≤◌, ◌+◌, ◌*◌, ◌^◌, ℕ, List, [], length, get_or, All, Some}}
+use Rattle.{desk_model.specs.{claim.{Desk.{Plan, name_cmp}, Geography.GeographyModel, Name.IsPlanName, Ranges.cut}, declared.kind.Kind.Kind}, store_rows.specs.Puts.rows_told}
+use Rattle.store_rows.specs.{Changes.{desk_with, plan_row_of, with_revision}, ChunkRows.IsFreeChunk, Steps.{one_plan_more, chunks_more, one_load_more, IsLoadKey}, Tidy.TidyWith}
+use Rattle.store_rows.specs.{RevisionSteps.{AreItsChunks, AddsRevision, IsChunkList, AreKept, IsDrawn, rows_of_revision}, claim.DeskRows.{HasPlan, IsDesk, most_revisions}}
+use Rattle.store_rows.specs.claim.{GeographyRows.IsStaged, Keys.{key_of, Fits, counters, retired, begun, holding, holder_count, named, part, seal, block, pair}}
+use Rattle.store_rows.specs.{claim.{Puts.{Row, put_rows}, RevisionRows.{HasChunk, NamesChunks, HasRevision}, Rows.{KeyMap, Has, Lacks}}, declared.value.Counters.Counters}
+use Rattle.store_rows.specs.claim.{Tidy.{no_numbers, IsNext, CountersFit, IsNumbered, IsLoad, Tidy}, Values.{counters_bytes, plan_bytes, seal_bytes}}
+use Rattle.store_rows.specs.declared.value.{PlanRow.PlanRow, SealRow.SealRow}
 
 -- a map without rows is tidy, and nothing was numbered
 abbrev pub NothingIsTidy : Type 0

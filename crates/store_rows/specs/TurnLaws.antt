@@ -1,10 +1,9 @@
 -- Rows that nothing needs any more where it is told which plans hold a chunk: taken out turn by turn, they leave the desk as it is and
 -- the rows tidy.
-use Rattle.std.specs.{Prelude.{true, ◌≡◌, ◌⊎◌, ◌<◌, ◌+◌, ◌^◌, ℕ, suc, List, [], ◌∷◌, Contains}, FinMap.remove}
-use Rattle.desk_model.specs.claim.Desk.{Desk}
-use Rattle.store_rows.specs.{claim.Keys.{RowKey, key_of, Fits, retired, begun, holding, holder_count, part, block, pair, chunk}, claim.Lists.{chunks_bytes, AreChunks}}
-use Rattle.store_rows.specs.{claim.Rows.{KeyMap, row_in, Has, Lacks}, ChunkRows.IsFreeChunk, claim.DeskRows.IsDesk, claim.Holders.{IsHeld, holder_count_row}, Holders.released}
-use Rattle.store_rows.specs.{claim.Tidy.{IsNamedBy, Tidy}, SweepLaws.IsSwept}
+use Rattle.std.specs.{FinMap.remove, Prelude.{true, ◌≡◌, ◌⊎◌, ◌<◌, ◌+◌, ◌^◌, ℕ, suc, List, [], ◌∷◌, Contains}}
+use Rattle.{desk_model.specs.claim.Desk.Desk, store_rows.specs.{ChunkRows.IsFreeChunk, Holders.released, SweepLaws.IsSwept, claim.{DeskRows.IsDesk, Tidy.{IsNamedBy, Tidy}}}}
+use Rattle.store_rows.specs.claim.{Holders.{IsHeld, holder_count_row}, Keys.{RowKey, key_of, Fits, retired, begun, holding, holder_count, part, block, pair, chunk}}
+use Rattle.store_rows.specs.claim.{Lists.{chunks_bytes, AreChunks}, Rows.{KeyMap, row_in, Has, Lacks}}
 
 -- some plan holds the chunk
 abbrev pub IsShared : KeyMap → ℕ → Type 0

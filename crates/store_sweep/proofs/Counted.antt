@@ -1,16 +1,11 @@
 -- The plans that hold chunks, counted row by row.
-use Rattle.std.specs.{BTreeMap.{BTreeMap, IsEmpty, is_at, get as count_at}, Map.lookup, Ordering.{nat_cmp, eq_by_cmp}}
-use Rattle.std.specs.{FinMap.{empty, entries, find, get, get-empty, get-insert, insert}, FinMap.Entries.find-append, Cmp.Lexicographic.nat_list_cmp_total}
+use Rattle.std.specs.{BTreeMap.{BTreeMap, IsEmpty, is_at, get as count_at}, Cmp.Lexicographic.nat_list_cmp_total, FinMap.{empty, entries, find, get, get-empty, get-insert, insert}}
+use Rattle.std.{specs.{FinMap.Entries.find-append, Map.lookup, Ordering.{nat_cmp, eq_by_cmp}}, proofs.lemmas.{Bool.cases_eq, Map.{Lookups.exact_unsigned, Views.tells_apart}}}
 use Rattle.std.proofs.Common.{◌≡◌, ◌<◌, ◌≤◌, ◌+◌, ◌^◌, ◌++◌, ℕ, suc, Bool, false, List, [], ◌∷◌, cond, Some, None, refl, sym, ap, subst, ◌∙◌, inl, inr, arith}
-use Rattle.std.proofs.lemmas.Bool.{cases_eq}
-use Rattle.std.proofs.lemmas.Map.Lookups.{exact_unsigned}
-use Rattle.std.proofs.lemmas.Map.Views.{tells_apart}
-use Rattle.page_btree.specs.page_node.claim.Entries.{Entry}
-use Rattle.btree_walks.{specs.Prefixes.under, specs.declared.rows.Row.Row, proofs.RowsFound.{IsNextUnder, found_among}}
-use Rattle.store_rows.specs.{claim.Keys.{key_of, holding, in_eight}, claim.Order.key_cmp, claim.Rows.{KeyMap, Lacks}, claim.Holders.AreHolders, TurnLaws.IsShared}
-use Rattle.store_rows.proofs.{Frames.{put_is_there, put_keeps_row}, OneGeography.no_value, Counting.{holders_moved, no_holders, holders_joined}, KeyPrefixes.after_tag}
-use Rattle.store_rows.proofs.HolderCounts.{other_chunk, other_plan}
-use Rattle.store_sweep.specs.Checks.{so_many, noted, IsOneMore, IsCounted, AreCounts}
+use Rattle.{btree_walks.specs.{Prefixes.under, declared.rows.Row.Row}, page_btree.specs.page_node.claim.Entries.Entry, store_rows.specs.{TurnLaws.IsShared, claim.Order.key_cmp}}
+use Rattle.{store_rows.specs.claim.{Holders.AreHolders, Keys.{key_of, holding, in_eight}, Rows.{KeyMap, Lacks}}, btree_walks.proofs.RowsFound.{IsNextUnder, found_among}}
+use Rattle.{store_sweep.specs.Checks.{so_many, noted, IsOneMore, IsCounted, AreCounts}, store_rows.proofs.Counting.{holders_moved, no_holders, holders_joined}}
+use Rattle.store_rows.proofs.{Frames.{put_is_there, put_keeps_row}, HolderCounts.{other_chunk, other_plan}, KeyPrefixes.after_tag, OneGeography.no_value}
 
 -- so many of the plans in a map hold the chunk as were counted, and no more than rows were taken
 pub record IsCountedSo (counts : BTreeMap ℕ ℕ) (so m : KeyMap) (taken number : ℕ) : Type 0 where

@@ -1,6 +1,5 @@
 -- Which rows a key with a tag can be of.
-use Rattle.std.{specs.List.starts_with, proofs.Common.{◌≡◌, ℕ, true, nat_eq, [], ◌∷◌, arith}}
-use Rattle.store_rows.specs.claim.Keys.{RowKey, key_of, holding, holder_count, part}
+use Rattle.{std.{specs.List.starts_with, proofs.Common.{◌≡◌, ℕ, true, nat_eq, [], ◌∷◌, arith}}, store_rows.specs.claim.Keys.{RowKey, key_of, holding, holder_count, part}}
 
 pub holding_is : (row : RowKey) → starts_with nat_eq (key_of row) (72 ∷ []) ≡ true → (plan : ℕ) × (number : ℕ) × (row ≡ holding plan number)
 holding_is row on = search (arith)

@@ -1,7 +1,7 @@
 -- Which rows a key that begins with a prefix can be of.
 use Rattle.std.{specs.List.starts_with, proofs.Common.{◌≡◌, ◌<◌, ◌≤◌, ◌^◌, ◌+◌, ◌++◌, ℕ, true, nat_eq, List, ◌∷◌, length, refl, sym, ap, subst, arith}}
+use Rattle.store_rows.{specs.Keys.{plan_parts_prefix, load_prefix}, proofs.{KeyPrefixes.starts_same, RowLaws.keys_differ}}
 use Rattle.store_rows.specs.claim.Keys.{RowKey, key_of, Fits, retired, begun, holding, part, block, pair, chunk, in_one, in_two, in_four, in_eight, retired_prefix, begun_prefix, holdings_prefix, chunk_prefix}
-use Rattle.store_rows.{specs.Keys.{plan_parts_prefix, load_prefix}, proofs.KeyPrefixes.starts_same, proofs.RowLaws.keys_differ}
 
 plan_in : RowKey → ℕ
 plan_in (retired plan) = plan

@@ -1,18 +1,15 @@
 -- The first key that isn't below another, and chunks by their numbers.
-use Rattle.store_rows.specs.{claim.Keys.{key_of, Fits, holder_count, chunk, in_two, in_eight, chunk_prefix}, claim.Rows.{KeyMap, Lacks}, claim.Tidy.AreRows}
-use Rattle.store_rows.proofs.{KeyPrefixes.starts_itself, TidyParts.some_or_none, Numbers.numbers_decide, Frames.either_way}
-use Rattle.std.specs.{Prelude.{Result, Ok, Err, Contains}, List.starts_with, Ordering.{nat_cmp, is_gt}, declared.cmp.Ordering.Ordering}
-use Rattle.std.specs.{declared.cmp.Ordering.TheVariants.{Less, Equal, Greater}, Cmp.nat_cmp_is, FinMap.{entries, get}}
+use Rattle.std.specs.{Cmp.nat_cmp_is, FinMap.{entries, get}, List.starts_with, Ordering.{nat_cmp, is_gt}, Prelude.{Result, Ok, Err, Contains}, declared.cmp.Ordering.Ordering}
+use Rattle.{std.{specs.declared.cmp.Ordering.TheVariants.{Less, Equal, Greater}, proofs.lemmas.Bool.Decides.nat_tests}, desk_pages.specs.Looking.Looks}
 use Rattle.std.proofs.Common.{zero, suc, get_or, ◌≡◌, ◌⊎◌, ◌<◌, ◌≤◌, ◌^◌, ◌++◌, ℕ, List, [], ◌∷◌, Bool, true, false, nat_eq, length, take, drop, Some, None, refl, sym, ap, subst, ◌∙◌, inl, inr, ⊎_elim, arith}
-use Rattle.std.proofs.lemmas.Bool.Decides.{nat_tests}
-use Rattle.sector_device.specs.declared.SectorDevice.{Ghosts}
-use Rattle.page_store.specs.{claim.Transactions.{stored, disk_in, Passed}, declared.pages.Pages.Pages, declared.txn.Txn.Txn}
-use Rattle.page_btree.specs.{page_node.claim.Entries.Entry, page_node.claim.Places.key_cmp, page_node.Places.entries_from, page_node.claim.Node.IsNode, page_node.Walking.IsAhead}
-use Rattle.page_btree.specs.{Seeking.{AreLeaves, IsFrom}, declared.seeks.Leaf.Leaf, declared.error.TreeError.TreeError, claim.Map.InTxn}
+use Rattle.page_btree.specs.{Seeking.{AreLeaves, IsFrom}, claim.Map.InTxn, declared.{error.TreeError.TreeError, seeks.Leaf.Leaf}, page_node.{Places.entries_from, Walking.IsAhead}}
+use Rattle.{page_btree.specs.page_node.claim.{Entries.Entry, Node.IsNode, Places.key_cmp}, page_store.specs.{claim.Transactions.{stored, disk_in, Passed}, declared.txn.Txn.Txn}}
+use Rattle.{page_store.specs.declared.pages.Pages.Pages, sector_device.specs.declared.SectorDevice.Ghosts, store_rows.specs.claim.{Rows.{KeyMap, Lacks}, Tidy.AreRows}}
+use Rattle.{store_rows.{specs.claim.Keys.{key_of, Fits, holder_count, chunk, in_two, in_eight, chunk_prefix}, proofs.Frames.either_way}, btree_walks.proofs.Prefixes.under_is_from}
+use Rattle.{store_sweep.specs.Finding.{IsCopiedKey, IsLeast, IsFirstFrom, IsPieceKey, IsNextChunk, IsPieceOf, IsSought}, btree_walks.proofs.Ready.no_others as no_leaves}
+use Rattle.{btree_walks.proofs.RowsFound.{first_is_from, first_least, first_none, first_there}, desk_pages.proofs.Looking.{looked, not_looked}}
+use Rattle.{store_rows.proofs.{KeyPrefixes.starts_itself, Numbers.numbers_decide, TidyParts.some_or_none}, store_sweep.proofs.Keys.{piece_is, eights_same}}
 use Rattle.page_btree.proofs.page_node.Walking.{node_ahead}
-use Rattle.btree_walks.proofs.{Prefixes.under_is_from, RowsFound.{first_is_from, first_least, first_none, first_there}, Ready.no_others as no_leaves}
-use Rattle.desk_pages.{specs.Looking.Looks, proofs.Looking.{looked, not_looked}}
-use Rattle.store_sweep.{specs.Finding.{IsCopiedKey, IsLeast, IsFirstFrom, IsPieceKey, IsNextChunk, IsPieceOf, IsSought}, proofs.Keys.{piece_is, eights_same}}
 
 -- ---- entries from a key on
 pub least_found : (m : KeyMap) (key : List ℕ) (e : Entry) (rest : List Entry) → entries_from key (entries m) ≡ e ∷ rest → (found : List ℕ) → found ≡ e.0 → IsLeast key found m
@@ -98,9 +95,7 @@ pub record IsPieceRow (number : ℕ) (key : List ℕ) : Type 0 where
 
 module _ (m : KeyMap) where
   least_piece : (number : ℕ) (key : List ℕ) → AreRows m → IsLeast (chunk_prefix number) key m → IsPieceRow number key
-  least_piece number key rows least =
-      let (row, fits, same) = rows key least.value least.there in
-      (search (arith))
+  least_piece number key rows least = let (row, fits, same) = rows key least.value least.there in (search (arith))
 
   -- its key is long enough, and its number stands after the tag
   pub least_long : (number : ℕ) (key : List ℕ) → AreRows m → IsLeast (chunk_prefix number) key m → length key ≡ 11

@@ -1,12 +1,10 @@
 -- What is found under a prefix is left over.
-use Rattle.std.specs.{Prelude.{Contains, Option}, List.starts_with, FinMap.get}
+use Rattle.{std.specs.{FinMap.get, List.starts_with, Prelude.{Contains, Option}}, btree_walks.specs.declared.rows.Row.Row, store_rows.specs.Keys.{plan_parts_prefix, load_prefix}}
 use Rattle.std.proofs.Common.{◌≡◌, ◌<◌, ◌^◌, ℕ, List, [], length, drop, nat_eq, true, Some, None, refl, sym, ap, subst, ◌∙◌, ◌++◌, ◌∷◌, arith}
-use Rattle.btree_walks.specs.declared.rows.Row.{Row}
 use Rattle.store_rows.specs.claim.Keys.{RowKey, key_of, Fits, counters, retired, begun, holding, holder_count, named, part, seal, version, block, pair, chunk, in_eight, retired_prefix, begun_prefix, holdings_prefix, in_four, in_one}
-use Rattle.store_rows.specs.{Keys.{plan_parts_prefix, load_prefix}, claim.Lists.{AreChunks, chunks_bytes}, claim.Rows.{KeyMap, Has}, claim.Tidy.{AreRows, Tidy}}
-use Rattle.store_rows.proofs.{RowLaws.keys_differ, KeyPrefixes.{after_tag, starts_itself}}
-use Rattle.store_sweep.specs.{Leftovers.{IsNoLoads, IsOfLoad, IsSpared}, declared.leftovers.Left.Left}
+use Rattle.{store_rows.specs.claim.{Lists.{AreChunks, chunks_bytes}, Rows.{KeyMap, Has}, Tidy.{AreRows, Tidy}}, store_sweep.specs.Leftovers.{IsNoLoads, IsOfLoad, IsSpared}}
 use Rattle.store_sweep.specs.Finding.{IsUnder, IsMark, IsPieceOf, IsDone, IsLeft, IsLeftKey, IsLeftHolding, HasPlanMark, HasLoadMark, HoldsNone, spared_key}
+use Rattle.{store_sweep.specs.declared.leftovers.Left.Left, store_rows.proofs.{KeyPrefixes.{after_tag, starts_itself}, RowLaws.keys_differ}}
 use Rattle.store_sweep.proofs.Keys.{eights_same, retired_is, begun_is, holding_is, part_is, staged_is}
 
 abbrev pub NoneUnder : List ℕ → KeyMap → Type 0

@@ -1,13 +1,9 @@
 -- Rows that are looked up.
-use Rattle.std.{specs.Prelude.{Option, Result, IsErrAnd}, specs.FinMap.get as row_at, proofs.Common.{◌≡◌, ◌≤◌, ℕ, Bool, List, length, take, Some, nat_eq, arith}}
-use Rattle.std.proofs.lemmas.List.{length-take}
-use Rattle.std.proofs.lemmas.Bool.Decides.{nat_tests}
-use Rattle.sector_device.specs.declared.SectorDevice.{Ghosts}
-use Rattle.page_store.specs.{claim.Transactions.IsQuiet, declared.pages.Pages.Pages, declared.txn.Txn.Txn}
-use Rattle.page_btree.specs.{claim.Errors.GetErr, declared.error.TreeError.TreeError}
-use Rattle.desk_pages.{specs.Looking.Looks, proofs.Looking.fails_from, proofs.Reading.get_unread}
-use Rattle.store_rows.{specs.claim.Rows.KeyMap, proofs.OneGeography.value_is}
-use Rattle.store_sweep.specs.Checks.{IsMarkedAs}
+use Rattle.std.{specs.{FinMap.get as row_at, Prelude.{Option, Result, IsErrAnd}}, proofs.Common.{◌≡◌, ◌≤◌, ℕ, Bool, List, length, take, Some, nat_eq, arith}}
+use Rattle.{std.proofs.lemmas.{Bool.Decides.nat_tests, List.length-take}, desk_pages.specs.Looking.Looks, page_btree.specs.claim.Errors.GetErr, store_rows.specs.claim.Rows.KeyMap}
+use Rattle.{page_btree.specs.declared.error.TreeError.TreeError, page_store.specs.{claim.Transactions.IsQuiet, declared.{pages.Pages.Pages, txn.Txn.Txn}}}
+use Rattle.{sector_device.specs.declared.SectorDevice.Ghosts, store_sweep.specs.Checks.IsMarkedAs, desk_pages.proofs.{Looking.fails_from, Reading.get_unread}}
+use Rattle.store_rows.proofs.OneGeography.{value_is}
 
 -- a value of no byte is none
 pub marked_by : (bytes key : List ℕ) (m : KeyMap) (long : ℕ) → length bytes ≡ 1024 → long ≤ 1024 → ◌≡◌ {A = Option (List ℕ)} (Some (take long bytes)) (row_at m key) → (b : Bool) → nat_eq long 0 ≡ b → IsMarkedAs key m b

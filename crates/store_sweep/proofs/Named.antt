@@ -1,13 +1,11 @@
 -- What parts of revisions name.
-use Rattle.std.specs.{Prelude.{All, Contains, get_or}, List.{AllByRecursion, starts_with}, FinMap.{entries, get}}
+use Rattle.{std.specs.{FinMap.{entries, get}, List.{AllByRecursion, starts_with}, Prelude.{All, Contains, get_or}}, btree_walks.specs.{Prefixes.under, declared.rows.Row.Row}}
 use Rattle.std.proofs.Common.{◌≡◌, ◌<◌, ◌^◌, ◌+◌, ◌++◌, ℕ, true, List, [], ◌∷◌, Some, None, nat_eq, refl, sym, ap, subst, ◌∙◌, inl, inr, take, drop, arith}
-use Rattle.std.proofs.lemmas.List.Elements.{All-contains, All-nil, All-push, All-set, Contains-get_or}
-use Rattle.page_btree.specs.page_node.claim.Entries.{Entry}
-use Rattle.btree_walks.{specs.Prefixes.under, specs.declared.rows.Row.Row, proofs.RowsFound.{IsNextUnder, all_found, found_among}}
-use Rattle.store_rows.specs.{claim.Keys.{key_of, Fits, holding, holder_count, part, in_eight}, claim.Lists.{AreChunks, chunks_bytes}, claim.Rows.{KeyMap, Has}}
-use Rattle.store_rows.{specs.claim.Tidy.IsNamedBy, proofs.ListLaws.chunks_differ, proofs.OneGeography.no_value, proofs.HolderCounts.{eight_says, held_counted_by_holders}}
-use Rattle.store_sweep.specs.{claim.Checks.{AreNamesHeld, IsHeldOrGone}, Checks.{IsEntryNamed, IsHoldingRow, IsNewTidy, IsPartRow, IsPlansList, IsWithOne}}
-use Rattle.store_sweep.proofs.HoldingKeys.{holding_is, part_is}
+use Rattle.{std.proofs.lemmas.List.Elements.{All-contains, All-nil, All-push, All-set, Contains-get_or}, page_btree.specs.page_node.claim.Entries.Entry}
+use Rattle.store_rows.specs.claim.{Keys.{key_of, Fits, holding, holder_count, part, in_eight}, Lists.{AreChunks, chunks_bytes}, Rows.{KeyMap, Has}, Tidy.IsNamedBy}
+use Rattle.store_sweep.specs.{Checks.{IsEntryNamed, IsHoldingRow, IsNewTidy, IsPartRow, IsPlansList, IsWithOne}, claim.Checks.{AreNamesHeld, IsHeldOrGone}}
+use Rattle.{btree_walks.proofs.RowsFound.{IsNextUnder, all_found, found_among}, store_rows.proofs.{HolderCounts.{eight_says, held_counted_by_holders}, ListLaws.chunks_differ}}
+use Rattle.{store_rows.proofs.OneGeography.no_value, store_sweep.proofs.HoldingKeys.{holding_is, part_is}}
 
 -- ---- rows of a tidy map
 -- a holding

@@ -1,12 +1,10 @@
 -- Rows that a scan passes over.
-use Rattle.std.{specs.Prelude.{Some, None, Ok, Err, IfSome}, specs.List.AllByRecursion, specs.FinMap.find, proofs.Common.{◌≡◌, ℕ, Bool, true, false, List, [], refl}}
-use Rattle.sector_device.specs.declared.SectorDevice.{Ghosts}
-use Rattle.page_store.specs.{claim.Transactions.{IsQuiet, Passed}, declared.pages.Pages.Pages, declared.txn.Txn.Txn}
-use Rattle.page_btree.specs.{page_node.claim.Entries.Entry, page_node.claim.Places.key_cmp, declared.error.TreeError.TreeError}
-use Rattle.btree_walks.specs.{Scanning.{CanScan, ScanErr, TakesNextRow, fault_in, has_ended}, declared.rows.Row.Row, declared.scans.Scan.Scan}
-use Rattle.btree_walks.proofs.{RowsFound.all_found, Walked.{HasNext, HasWalked, walk_next, walk_passed, walk_quiet, walk_refused}}
-use Rattle.desk_pages.{specs.Looking.{Looks, Seeks}, proofs.Looking.{looked, not_looked}, proofs.Reading.get_unread}
-use Rattle.store_rows.specs.claim.Rows.{KeyMap}
+use Rattle.std.{specs.{FinMap.find, List.AllByRecursion, Prelude.{Some, None, Ok, Err, IfSome}}, proofs.Common.{◌≡◌, ℕ, Bool, true, false, List, [], refl}}
+use Rattle.{btree_walks.specs.{Scanning.{CanScan, ScanErr, TakesNextRow, fault_in, has_ended}, declared.{rows.Row.Row, scans.Scan.Scan}}, desk_pages.specs.Looking.{Looks, Seeks}}
+use Rattle.{page_btree.specs.{declared.error.TreeError.TreeError, page_node.claim.{Entries.Entry, Places.key_cmp}}, page_store.specs.claim.Transactions.{IsQuiet, Passed}}
+use Rattle.{page_store.specs.declared.{pages.Pages.Pages, txn.Txn.Txn}, sector_device.specs.declared.SectorDevice.Ghosts, store_rows.specs.claim.Rows.KeyMap}
+use Rattle.{btree_walks.proofs.{RowsFound.all_found, Walked.{HasNext, HasWalked, walk_next, walk_passed, walk_quiet, walk_refused}}, desk_pages.proofs.Looking.{looked, not_looked}}
+use Rattle.desk_pages.proofs.Reading.{get_unread}
 
 -- each has a value, or is the one that is spared
 abbrev pub IsPassed : List ℕ → Entry → Type 0

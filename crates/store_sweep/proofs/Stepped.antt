@@ -1,20 +1,15 @@
 -- A sweep: a transaction that is begun, out of which rows are taken, and that is committed then.
-use Rattle.std.specs.Prelude.{Result, Ok, Err, IsErrAnd}
+use Rattle.{std.specs.Prelude.{Result, Ok, Err, IsErrAnd}, desk_model.specs.claim.Desk.Desk, desk_pages.specs.{Commits.{Commits, Leaves, FittingErr}, Reading.SeekErr}}
 use Rattle.std.proofs.Common.{◌≡◌, ◌<◌, ◌≤◌, ◌+◌, ℕ, Bool, List, [], ◌∷◌, length, Option, Some, None, true, false, refl, sym, ap, subst, ◌∙◌, inl, arith}
-use Rattle.sector_device.specs.{claim.Disk.Image, claim.Moments.LeavesOnly, declared.SectorDevice.Ghosts}
-use Rattle.page_store.specs.{gate_journal.claim.Store.home, claim.Chain.free_in}
-use Rattle.page_store.specs.claim.Transactions.{stored, disk_in, count_of, journal_of, has_halted, txn_free, txn_writes, HasFailed, HasShape, IsQuiet, Passed}
-use Rattle.page_store.specs.{declared.pages.Pages.Pages, declared.txn.Txn.Txn}
-use Rattle.page_btree.specs.{claim.Map.{InTxn, InPages}, declared.error.TreeError.TreeError}
-use Rattle.page_btree.specs.declared.error.TreeError.TheVariants as tree
-use Rattle.desk_model.specs.claim.Desk.{Desk}
-use Rattle.store_rows.specs.{claim.Keys.{RowKey, Fits, retired, begun, part, version, block, pair, chunk}, claim.Rows.KeyMap}
-use Rattle.store_rows.specs.{TurnLaws.{IsUnneeded, CanTurn, Turn, goes, lets_go, rows_in, take_turns, AreTurns}, claim.Tidy.Tidy}
-use Rattle.desk_pages.specs.{claim.Desks.{IsDeskMap, InPages as DeskInPages, OpensDesk}, declared.error.StoreError.StoreError}
-use Rattle.desk_pages.specs.{declared.error.StoreError.TheVariants.{Memory, DeviceFault}, Errors.{missing, row_refusal}, Reading.SeekErr, Commits.{Commits, Leaves, FittingErr}}
+use Rattle.desk_pages.specs.{Errors.{missing, row_refusal}, claim.Desks.{IsDeskMap, InPages as DeskInPages, OpensDesk}, declared.error.StoreError.StoreError}
+use Rattle.{desk_pages.specs.declared.error.StoreError.TheVariants.{Memory, DeviceFault}, page_btree.specs.{claim.Map.{InTxn, InPages}, declared.error.TreeError.TreeError}}
+use Rattle.page_store.specs.claim.{Chain.free_in, Transactions.{stored, disk_in, count_of, journal_of, has_halted, txn_free, txn_writes, HasFailed, HasShape, IsQuiet, Passed}}
+use Rattle.{page_store.specs.{declared.{pages.Pages.Pages, txn.Txn.Txn}, gate_journal.claim.Store.home}, sector_device.specs.claim.{Disk.Image, Moments.LeavesOnly}}
+use Rattle.{sector_device.specs.declared.SectorDevice.Ghosts, store_rows.specs.TurnLaws.{IsUnneeded, CanTurn, Turn, goes, lets_go, rows_in, take_turns, AreTurns}}
+use Rattle.{store_rows.specs.claim.{Keys.{RowKey, Fits, retired, begun, part, version, block, pair, chunk}, Rows.KeyMap, Tidy.Tidy}, store_sweep.specs.Checks.IsNewTidy}
+use Rattle.store_sweep.specs.{Leftovers.{IsSpared, IsApart, AreNotSpared, rows_of, IsSweptClean}, Sweeping.{IsSweptMap, HasSwept, HasDesk, TakeErr, SweepErr, Sweeps}}
 use Rattle.plan_rows.proofs.Committing.{IsBegun, both, commit_leaves, failed_after, one_leaves, quiet_rows}
-use Rattle.store_sweep.specs.{Checks.IsNewTidy, Leftovers.{IsSpared, IsApart, AreNotSpared, rows_of, IsSweptClean}}
-use Rattle.store_sweep.specs.Sweeping.{IsSweptMap, HasSwept, HasDesk, TakeErr, SweepErr, Sweeps}
+use Rattle.page_btree.specs.declared.error.TreeError.TheVariants as tree
 
 -- ---- no commit was made
 pub not_made : {D T : Type 0} {g : Ghosts D} {failed : StoreError → Type 0} {a b : Pages D g} (e : StoreError) (r : Result T StoreError)

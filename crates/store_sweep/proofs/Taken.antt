@@ -1,17 +1,13 @@
 -- Turns that are taken one after the other.
-use Rattle.std.{specs.Prelude.Option, specs.FinMap.remove, proofs.Common.{◌≡◌, ◌<◌, ◌≤◌, ◌+◌, ◌-◌, ◌++◌, ℕ, zero, suc, List, [], ◌∷◌, length, refl, sym, ap, subst, ◌∙◌, arith}}
-use Rattle.sector_device.specs.{claim.Disk.Image, declared.SectorDevice.Ghosts}
-use Rattle.page_store.specs.{claim.Transactions.{stored, disk_in, txn_pages, txn_free, txn_writes, IsQuiet, Passed}, declared.pages.Pages.Pages, declared.txn.Txn.Txn}
-use Rattle.page_store.proofs.Stops.{passed_more, failed_more}
-use Rattle.page_btree.specs.{claim.Map.InTxn, claim.Errors.RemoveErr, declared.error.TreeError.TreeError}
-use Rattle.page_btree.specs.declared.error.TreeError.TheVariants.{DeviceFault, NotAStore, Halted, NoPages, TooDeep, Memory}
-use Rattle.desk_model.specs.claim.Desk.{Desk}
-use Rattle.store_rows.specs.{claim.Keys.{RowKey, key_of}, claim.Rows.KeyMap, TurnLaws.{Turn, goes, lets_go, rows_in, CanTurn, turned, take_turns, AreTurns, TurnsAreSwept}}
-use Rattle.store_rows.specs.{Holders.released, HolderLaws.HeldIsTallied, claim.Tidy.Tidy}
-use Rattle.desk_pages.specs.{Reading.ReadErr, claim.Desks.IsDeskMap}
-use Rattle.plan_rows.specs.Releasing.{HasReleased, ReleaseErr}
-use Rattle.store_sweep.specs.{Leftovers.{IsSpared, IsApart, AreNotSpared, rows_of, IsSweptBy, IsSweptClean}, Finding.{IsLeftKey, IsLeftHolding}}
-use Rattle.store_sweep.{specs.Sweeping.{IsSweptMap, HasSwept, IsTurn, TakeErr, HasDesk}, proofs.Keys.key_short}
+use Rattle.std.{specs.{FinMap.remove, Prelude.Option}, proofs.Common.{◌≡◌, ◌<◌, ◌≤◌, ◌+◌, ◌-◌, ◌++◌, ℕ, zero, suc, List, [], ◌∷◌, length, refl, sym, ap, subst, ◌∙◌, arith}}
+use Rattle.{desk_model.specs.claim.Desk.Desk, desk_pages.specs.{Reading.ReadErr, claim.Desks.IsDeskMap}, page_btree.specs.claim.{Errors.RemoveErr, Map.InTxn}}
+use Rattle.{page_btree.specs.declared.error.TreeError.{TreeError, TheVariants.{DeviceFault, NotAStore, Halted, NoPages, TooDeep, Memory}}, page_store.specs.declared.txn.Txn.Txn}
+use Rattle.{page_store.specs.{claim.Transactions.{stored, disk_in, txn_pages, txn_free, txn_writes, IsQuiet, Passed}, declared.pages.Pages.Pages}, store_rows.specs.claim.Tidy.Tidy}
+use Rattle.{plan_rows.specs.Releasing.{HasReleased, ReleaseErr}, sector_device.specs.{claim.Disk.Image, declared.SectorDevice.Ghosts}, store_rows.specs.HolderLaws.HeldIsTallied}
+use Rattle.store_rows.specs.{Holders.released, TurnLaws.{Turn, goes, lets_go, rows_in, CanTurn, turned, take_turns, AreTurns, TurnsAreSwept}, claim.Keys.{RowKey, key_of}}
+use Rattle.{store_rows.specs.claim.Rows.KeyMap, store_sweep.specs.{Finding.{IsLeftKey, IsLeftHolding}, Sweeping.{IsSweptMap, HasSwept, IsTurn, TakeErr, HasDesk}}}
+use Rattle.{store_sweep.specs.Leftovers.{IsSpared, IsApart, AreNotSpared, rows_of, IsSweptBy, IsSweptClean}, page_store.proofs.Stops.{passed_more, failed_more}}
+use Rattle.store_sweep.proofs.Keys.{key_short}
 
 turns_more : (m : KeyMap) (turns more : List Turn) → AreTurns m turns → AreTurns (take_turns m turns) more → AreTurns m (turns ++ more)
 turns_more m [] more left next = next

@@ -1,13 +1,10 @@
 -- What counts tell beside what was counted.
-use Rattle.std.specs.{BTreeMap.{BTreeMap, get as count_at}, Ordering.nat_cmp, List.{AllByRecursion, starts_with}, FinMap.{entries, find, get}}
+use Rattle.std.{specs.{BTreeMap.{BTreeMap, get as count_at}, FinMap.{entries, find, get}, List.{AllByRecursion, starts_with}, Ordering.nat_cmp}, proofs.lemmas.Bool.cases_lt}
 use Rattle.std.proofs.Common.{◌≡◌, ◌⊎◌, ◌<◌, ◌≤◌, ◌+◌, ◌^◌, ℕ, zero, suc, true, List, [], ◌∷◌, Option, Some, None, nat_eq, refl, sym, ap, subst, ◌∙◌, inl, inr, arith, drop, length}
-use Rattle.std.proofs.lemmas.Bool.{cases_lt}
-use Rattle.page_btree.specs.page_node.claim.Entries.{Entry}
-use Rattle.btree_walks.{specs.Prefixes.under, proofs.RowsFound.{IsNextUnder, all_found, found_among}}
-use Rattle.store_rows.specs.{claim.Keys.{key_of, Fits, holder_count, in_eight}, claim.Order.key_cmp, claim.Rows.{KeyMap, row_in, Has}}
-use Rattle.store_rows.{specs.claim.Holders.{AreHolders, IsTallied, AreTallied, holder_count_row}, proofs.OneGeography.{no_value, value_is}, proofs.Counting.few}
-use Rattle.store_rows.proofs.HolderCounts.{eight_says}
-use Rattle.store_sweep.{specs.Checks.{noted, HasCount, AreCounts, HasCounts, IsEntryTold, AreTold}, proofs.HoldingKeys.holder_count_is}
+use Rattle.{btree_walks.specs.Prefixes.under, page_btree.specs.page_node.claim.Entries.Entry, store_rows.specs.claim.Holders.{AreHolders, IsTallied, AreTallied, holder_count_row}}
+use Rattle.store_rows.{specs.claim.{Keys.{key_of, Fits, holder_count, in_eight}, Order.key_cmp, Rows.{KeyMap, row_in, Has}}, proofs.{Counting.few, HolderCounts.eight_says}}
+use Rattle.{store_sweep.specs.Checks.{noted, HasCount, AreCounts, HasCounts, IsEntryTold, AreTold}, btree_walks.proofs.RowsFound.{IsNextUnder, all_found, found_among}}
+use Rattle.{store_rows.proofs.OneGeography.{no_value, value_is}, store_sweep.proofs.HoldingKeys.holder_count_is}
 
 -- ---- one set is of one size
 -- the place at which the other counting off has a plan

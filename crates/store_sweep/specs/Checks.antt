@@ -1,11 +1,8 @@
 -- What no promise rests on, beside claim/Checks.antt.
+use Rattle.{std.specs.{BTreeMap.{BTreeMap, Updates, get as count_at}, FinMap.get as row_at, Ordering.nat_cmp}, btree_walks.specs.declared.rows.Row.Row}
 use Rattle.std.specs.Prelude.{◌≡◌, ◌⊎◌, ◌<◌, ◌+◌, ◌^◌, ℕ, zero, suc, Bool, true, false, List, [], ◌∷◌, ◌++◌, set, drop, length, Option, Some, None, Contains}
-use Rattle.std.specs.{FinMap.get as row_at, BTreeMap.{BTreeMap, Updates, get as count_at}, Ordering.nat_cmp}
-use Rattle.page_btree.specs.page_node.claim.Entries.{Entry}
-use Rattle.btree_walks.specs.declared.rows.Row.{Row}
-use Rattle.store_rows.specs.{claim.Keys.{key_of, Fits, holding, holder_count, part, in_eight}, claim.Lists.{AreChunks, chunks_bytes}, claim.Rows.{KeyMap, Has}}
-use Rattle.store_rows.specs.{claim.Holders.AreHolders, TurnLaws.IsShared, claim.Tidy.Tidy}
-use Rattle.store_sweep.specs.claim.Checks.{IsHeldOrGone}
+use Rattle.{page_btree.specs.page_node.claim.Entries.Entry, store_rows.specs.{TurnLaws.IsShared, claim.{Holders.AreHolders, Lists.{AreChunks, chunks_bytes}, Rows.{KeyMap, Has}}}}
+use Rattle.{store_rows.specs.claim.{Keys.{key_of, Fits, holding, holder_count, part, in_eight}, Tidy.Tidy}, store_sweep.specs.claim.Checks.IsHeldOrGone}
 
 -- the rows are tidy, in the new version
 pub record IsNewTidy (m : KeyMap) : Type 0 where

@@ -1,12 +1,10 @@
 -- Rows that are looked for.
-use Rattle.std.specs.{Prelude.{◌≡◌, ◌⊎◌, ◌<◌, ◌≤◌, ◌^◌, ℕ, Bool, true, false, nat_eq, List, [], ◌∷◌, Option, Some, None, Result, Ok, Err, Contains}, List.starts_with, FinMap.get}
-use Rattle.std.specs.Ordering.{is_gt}
-use Rattle.page_btree.specs.{page_node.claim.Entries.Entry, page_node.claim.Places.key_cmp, page_node.Walking.IsAhead, declared.error.TreeError.TreeError}
-use Rattle.page_btree.specs.declared.error.TreeError.TheVariants.{NotAStore}
-use Rattle.btree_walks.specs.declared.rows.Row.{Row}
-use Rattle.store_rows.specs.{claim.Keys.{RowKey, key_of, Fits, counters, retired, begun, holding, holder_count, chunk}, claim.Rows.{KeyMap, Has, Lacks}, ChunkRows.IsFreeChunk}
-use Rattle.store_rows.specs.{claim.Holders.IsHeld, TurnLaws.{IsShared, IsUnneeded}, claim.Tidy.Tidy}
-use Rattle.store_sweep.specs.{Leftovers.{IsNoLoads, IsSpared, IsSweptClean}, declared.leftovers.Left.Left, declared.pieces.PieceGap.PieceGap}
+use Rattle.{std.specs.{FinMap.get, List.starts_with, Ordering.is_gt}, btree_walks.specs.declared.rows.Row.Row, page_btree.specs.declared.error.TreeError.TreeError}
+use Rattle.std.specs.Prelude.{◌≡◌, ◌⊎◌, ◌<◌, ◌≤◌, ◌^◌, ℕ, Bool, true, false, nat_eq, List, [], ◌∷◌, Option, Some, None, Result, Ok, Err, Contains}
+use Rattle.{page_btree.specs.{declared.error.TreeError.TheVariants.NotAStore, page_node.{Walking.IsAhead, claim.{Entries.Entry, Places.key_cmp}}}, store_rows.specs.claim.Tidy.Tidy}
+use Rattle.store_rows.specs.{ChunkRows.IsFreeChunk, TurnLaws.{IsShared, IsUnneeded}, claim.{Holders.IsHeld, Rows.{KeyMap, Has, Lacks}}}
+use Rattle.{store_rows.specs.claim.Keys.{RowKey, key_of, Fits, counters, retired, begun, holding, holder_count, chunk}, store_sweep.specs.declared.leftovers.Left.Left}
+use Rattle.store_sweep.specs.{Leftovers.{IsNoLoads, IsSpared, IsSweptClean}, declared.pieces.PieceGap.PieceGap}
 use Rattle.store_sweep.specs.declared.leftovers.Left.TheVariants as left
 
 -- a row whose key begins with a prefix, where there is one

@@ -1,15 +1,11 @@
 -- What a sweep did.
 use Rattle.std.specs.Prelude.{◌≡◌, ◌⊎◌, ◌<◌, ◌≤◌, ◌+◌, ◌*◌, ◌↔◌, ℕ, true, false, length, Option, Result}
-use Rattle.sector_device.specs.declared.SectorDevice.{Ghosts}
-use Rattle.page_store.specs.{claim.Chain.free_in, claim.Transactions.{stored, disk_in, has_halted, txn_pages, txn_free, txn_writes, HasFailed, IsQuiet, IsSame, Passed}}
-use Rattle.page_store.specs.{declared.pages.Pages.Pages, declared.txn.Txn.Txn}
-use Rattle.page_btree.specs.{claim.Map.{InTxn, InPages}, declared.error.TreeError.TreeError}
+use Rattle.{desk_model.specs.claim.Desk.Desk, desk_pages.specs.{Outcomes.Writes, claim.Desks.{IsDeskMap, InPages as DeskInPages}, declared.error.StoreError.StoreError}}
+use Rattle.{desk_pages.specs.declared.error.StoreError.TheVariants.{Memory, NotAStore, DeviceFault, Halted}, page_btree.specs.claim.Map.{InTxn, InPages}}
+use Rattle.{page_btree.specs.declared.error.TreeError.TreeError, page_store.specs.{claim.Chain.free_in, declared.{pages.Pages.Pages, txn.Txn.Txn}}}
+use Rattle.page_store.specs.claim.Transactions.{stored, disk_in, has_halted, txn_pages, txn_free, txn_writes, HasFailed, IsQuiet, IsSame, Passed}
+use Rattle.{sector_device.specs.declared.SectorDevice.Ghosts, store_rows.specs.claim.{Rows.KeyMap, Tidy.Tidy}, store_sweep.specs.Leftovers.{IsSweptBy, IsSweptClean}}
 use Rattle.page_btree.specs.declared.error.TreeError.TheVariants as tree
-use Rattle.desk_model.specs.claim.Desk.{Desk}
-use Rattle.store_rows.specs.{claim.Rows.KeyMap, claim.Tidy.Tidy}
-use Rattle.desk_pages.specs.{claim.Desks.{IsDeskMap, InPages as DeskInPages}, Outcomes.Writes, declared.error.StoreError.StoreError}
-use Rattle.desk_pages.specs.declared.error.StoreError.TheVariants.{Memory, NotAStore, DeviceFault, Halted}
-use Rattle.store_sweep.specs.Leftovers.{IsSweptBy, IsSweptClean}
 
 -- a map of the same desk, of which so many rows were changed or taken out
 pub record IsSweptMap (running : Option ℕ) (count : ℕ) (m : KeyMap) (d : Desk) (n : KeyMap) : Type 0 where

@@ -1,16 +1,13 @@
 -- A talk of clerks is one of the desks that they show.
 use Rattle.std.{specs.Prelude.{◌⊎◌, ℕ, ◌+◌, Bool, false, List, [], ◌++◌, Option, Result, Ok, Err}, proofs.Common.{refl, sym, ap, subst, inl, inr, ⊎_elim, add-zero}}
-use Rattle.std.proofs.lemmas.List.{append-nil}
-use Rattle.sector_device.specs.declared.SectorDevice.{Ghosts}
-use Rattle.desk_model.specs.{declared.command.Command.Command, declared.command.Query.Query, declared.reply.Reply.Reply, declared.reply.Refusal.Refusal}
+use Rattle.{std.proofs.lemmas.List.append-nil, desk_model.specs.{claim.{Desk.Desk, Outcome.{CommandMay, RefusalMay, IsStep}, Sample.sample_desk}, declared.command.Command.Command}}
+use Rattle.{desk_model.specs.declared.{command.Query.Query, reply.{Refusal.Refusal, Reply.Reply}}, desk_store.specs.{claim.Clerks.desk_of, declared.clerk.Clerk.Clerk}}
 use Rattle.desk_model.specs.declared.reply.Refusal.TheVariants.{NoPlan, NoRevision, PlanExists, Stale, BadBody, NotWholeCounty, BadCompanion, Limit, Full, Memory, Halted, NotSealed}
-use Rattle.desk_model.specs.{claim.Desk.Desk, claim.Outcome.{CommandMay, RefusalMay, IsStep}, claim.Sample.sample_desk}
+use Rattle.http_desk.specs.{claim.{Serving.{ServesTo, IsPrefixTalk, IsCutInHead, IsShortTalk}, Talk.Talk}, declared.serve.{Served.Served, StreamFault.StreamFault}}
+use Rattle.{sector_device.specs.declared.SectorDevice.Ghosts, talk_command.specs.Desks.{desk_commands, desk_asks, DeskTalk, IsTalkToHead, IsTalkSoFar, DeskServesTo, ServesDesk}}
+use Rattle.talk_command.{specs.claim.Talking.{clerk_commands, clerk_asks, ServesSample, ServesClerk, IsUnserved}, proofs.Seen.talk_seen}
 use Rattle.desk_model.specs.declared.reply.Reply.TheVariants as reply
-use Rattle.desk_store.specs.{declared.clerk.Clerk.Clerk, claim.Clerks.desk_of}
-use Rattle.http_desk.specs.{claim.Talk.Talk, claim.Serving.{ServesTo, IsPrefixTalk, IsCutInHead, IsShortTalk}, declared.serve.Served.Served, declared.serve.StreamFault.StreamFault}
 use Rattle.http_desk.specs.declared.serve.StreamFault.TheVariants as fault
-use Rattle.talk_command.specs.claim.Talking.{clerk_commands, clerk_asks, ServesSample, ServesClerk, IsUnserved}
-use Rattle.talk_command.{specs.Desks.{desk_commands, desk_asks, DeskTalk, IsTalkToHead, IsTalkSoFar, DeskServesTo, ServesDesk}, proofs.Seen.talk_seen}
 
 step_seen : (must : Type 0) (d : Desk) (c : Command) (r : Reply) (e : Desk) → IsStep must d c r e → IsStep ⊥ d c r e
 step_seen must d c r e is = record { reply = is.reply; desk = is.desk; room = λ accepted none. none }

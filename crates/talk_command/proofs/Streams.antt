@@ -1,13 +1,11 @@
 -- The commands of a talk are a run.
-use Rattle.std.proofs.Common.{◌≡◌, ℕ, ◌+◌, Bool, true, false, List, [], ◌++◌, Option, Result, Ok, Err, inl, inr, subst}
+use Rattle.{std.proofs.Common.{◌≡◌, ℕ, ◌+◌, Bool, true, false, List, [], ◌++◌, Option, Result, Ok, Err, inl, inr, subst}, desk_runs.specs.claim.Runs.{Call, Run, SurvivesEachRun}}
+use Rattle.{desk_store.specs.declared.clerk.Clerk.Clerk, http_desk.specs.{claim.{Serving.{ServesTo, IsShortTalk}, Talk.{Talk, MayAnswer}}, declared.serve.Served.Served}}
+use Rattle.http_desk.specs.{declared.serve.StreamFault.StreamFault, http_routes.{claim.Orders.order_of, declared.order.Order.Order}, http_wire.claim.Prefix.{closes_after, is_head}}
 use Rattle.sector_device.specs.declared.SectorDevice.{Ghosts}
-use Rattle.desk_store.specs.declared.clerk.Clerk.{Clerk}
-use Rattle.desk_runs.specs.claim.Runs.{Call, Run, SurvivesEachRun}
-use Rattle.http_desk.specs.{http_routes.declared.order.Order.Order, http_routes.claim.Orders.order_of, http_wire.claim.Prefix.{closes_after, is_head}, declared.serve.Served.Served}
-use Rattle.http_desk.specs.{declared.serve.StreamFault.StreamFault, claim.Talk.{Talk, MayAnswer}, claim.Serving.{ServesTo, IsShortTalk}}
+use Rattle.talk_command.specs.claim.Served.{DoesAtCounter, AsksAtCounter, calls_with, calls_in, short_calls, calls_served, SurvivesEachStream}
 use Rattle.http_desk.specs.http_routes.declared.order.Order.TheVariants as order
 use Rattle.http_desk.specs.declared.serve.StreamFault.TheVariants as fault
-use Rattle.talk_command.specs.claim.Served.{DoesAtCounter, AsksAtCounter, calls_with, calls_in, short_calls, calls_served, SurvivesEachStream}
 
 module _ {D : Type 0} {g : Ghosts D} where
   same_run : (x y z : Clerk D g) (calls : List Call) → y ≡ x → Run y calls z → Run x calls z

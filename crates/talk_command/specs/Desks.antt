@@ -1,13 +1,11 @@
 -- The same talk, told of desks alone.
-use Rattle.std.specs.{Prelude.{◌≡◌, ◌⊎◌, ⊤, ℕ, false, Bool, List, [], ◌++◌, Option, IfSome, Result, Ok, Err}, Io.KnownBytes.{Appends, Consumes, IsAtEnd}}
-use Rattle.desk_model.specs.{declared.command.Command.Command, declared.command.Query.Query, declared.reply.Reply.Reply, declared.reply.Reply.TheVariants.Refused}
-use Rattle.desk_model.specs.{declared.reply.Refusal.TheVariants.Halted, claim.Desk.Desk, claim.Outcome.CommandMay, claim.Sample.sample_desk}
-use Rattle.desk_catalogue.specs.claim.Audits.{AskMay}
-use Rattle.desk_store.specs.{claim.Clerks.{desk_of, is_halted, room_of, sectors_of, Keeps}, declared.clerk.Clerk.Clerk}
-use Rattle.http_desk.specs.{http_wire.claim.Interim.IsCutHead, claim.Talk.Talk, claim.Serving.IsCutTalk, declared.serve.Served.Served, declared.serve.StreamFault.StreamFault}
-use Rattle.http_desk.specs.declared.serve.StreamFault.TheVariants as fault
-use Rattle.sector_device.specs.declared.SectorDevice.{Ghosts}
+use Rattle.std.specs.{Io.KnownBytes.{Appends, Consumes, IsAtEnd}, Prelude.{◌≡◌, ◌⊎◌, ⊤, ℕ, false, Bool, List, [], ◌++◌, Option, IfSome, Result, Ok, Err}}
+use Rattle.{desk_catalogue.specs.claim.Audits.AskMay, desk_model.specs.{claim.{Desk.Desk, Outcome.CommandMay, Sample.sample_desk}, declared.command.{Command.Command, Query.Query}}}
+use Rattle.{desk_model.specs.declared.reply.{Refusal.TheVariants.Halted, Reply.{Reply, TheVariants.Refused}}, desk_store.specs.declared.clerk.Clerk.Clerk}
+use Rattle.{desk_store.specs.claim.Clerks.{desk_of, is_halted, room_of, sectors_of, Keeps}, http_desk.specs.{claim.{Serving.IsCutTalk, Talk.Talk}, declared.serve.Served.Served}}
+use Rattle.{http_desk.specs.{declared.serve.StreamFault.StreamFault, http_wire.claim.Interim.IsCutHead}, sector_device.specs.declared.SectorDevice.Ghosts}
 use Rattle.talk_command.specs.claim.Talking.{ServesSample}
+use Rattle.http_desk.specs.declared.serve.StreamFault.TheVariants as fault
 
 -- A command has the desk's step, or it is refused for want of room or of memory, or since the device failed, and the desk is as it was.
 abbrev pub desk_commands : Desk → Command → Reply → Desk → Type 0

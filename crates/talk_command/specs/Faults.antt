@@ -1,6 +1,5 @@
 -- What is told of a fault of `talk`.
-use Rattle.std.specs.Prelude.{ℕ, List, codes}
-use Rattle.http_desk.specs.{declared.serve.StreamFault.StreamFault, declared.serve.StreamFault.TheVariants.{Read, Write, Memory, TurnLimit}}
+use Rattle.{std.specs.Prelude.{ℕ, List, codes}, http_desk.specs.declared.serve.StreamFault.{StreamFault, TheVariants.{Read, Write, Memory, TurnLimit}}}
 
 abbrev pub fault_line : StreamFault → List ℕ
 fault_line Read = codes "plandesk: talk: ReadFault\n"

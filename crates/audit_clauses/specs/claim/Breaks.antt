@@ -1,7 +1,6 @@
 -- What is told of the districts that don't hold together (Iowa Code 42.4(3)).
-use Rattle.std.specs.{Prelude.{◌≡◌, ℕ, ◌≤◌, List, map, All, Contains, MatchOption}, List.Sorted.IsStrictlyIncreasing}
-use Rattle.desk_model.specs.claim.Geography.{GeographyModel, id_at}
-use Rattle.audit_clauses.specs.{declared.breaks.Gap.Gap, declared.breaks.Break.Break, claim.Paths.{IsIn, AreJoined, HoldsTogether}}
+use Rattle.std.specs.{List.Sorted.IsStrictlyIncreasing, Prelude.{◌≡◌, ℕ, ◌≤◌, List, map, All, Contains, MatchOption}}
+use Rattle.{audit_clauses.specs.{claim.Paths.{IsIn, AreJoined, HoldsTogether}, declared.breaks.{Break.Break, Gap.Gap}}, desk_model.specs.claim.Geography.{GeographyModel, id_at}}
 
 -- the least number of which this holds
 pub record IsLeast (P : ℕ → Type 0) (a : ℕ) : Type 0 where

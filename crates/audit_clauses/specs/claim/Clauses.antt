@@ -1,7 +1,7 @@
 -- The population clauses of Iowa Code 42.4(1). The populations are those of districts 1 to n, and the total is the state's. The ideal
 -- population is the total divided by n: each clause is multiplied until nothing is divided, so nothing is rounded.
-use Rattle.std.specs.{Prelude.{ℕ, ◌-◌, ◌*◌, ◌<◌, ◌≤◌, Bool, nat_lt, List, length, get_or, filter, sum_by}, Int.abs_diff}
-use Rattle.audit_clauses.specs.{declared.deviations.Extremes.Extremes, claim.People.districts}
+use Rattle.std.specs.{Int.abs_diff, Prelude.{ℕ, ◌-◌, ◌*◌, ◌<◌, ◌≤◌, Bool, nat_lt, List, length, get_or, filter, sum_by}}
+use Rattle.audit_clauses.specs.{claim.People.districts, declared.deviations.Extremes.Extremes}
 
 -- n times how far a district of n is from the ideal
 abbrev pub deviation : ℕ → ℕ → ℕ → ℕ

@@ -1,7 +1,7 @@
 -- Counties and cities that are divided (Iowa Code 42.4(2)). Blocks are told by their places; a plan has the district of each block beside
 -- it, where 0 is none.
 use Rattle.std.specs.Prelude.{◌≡◌, ◌≢◌, ℕ, ◌<◌, List, map, length, get_or, Option, Some, None}
-use Rattle.desk_model.specs.{declared.block.BlockRow.BlockRow, claim.Block.county_of, claim.Geography.id_at}
+use Rattle.desk_model.specs.{claim.{Block.county_of, Geography.id_at}, declared.block.BlockRow.BlockRow}
 
 -- the county of the block at a place
 abbrev pub county_at : List BlockRow → ℕ → ℕ

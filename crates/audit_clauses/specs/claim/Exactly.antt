@@ -1,5 +1,5 @@
 -- Lists of the numbers of which something holds.
-use Rattle.std.specs.{Prelude.{ℕ, List, All, Contains}, List.Sorted.IsStrictlyIncreasing}
+use Rattle.std.specs.{List.Sorted.IsStrictlyIncreasing, Prelude.{ℕ, List, All, Contains}}
 
 -- the numbers of which this holds, rising: it holds of each that is listed, and each of which it holds is listed
 pub record AreExactly (Holds : ℕ → Type 0) (numbers : List ℕ) : Type 0 where

@@ -1,5 +1,5 @@
 -- The people of a plan's districts. A plan has the district of each block beside it, where 0 is none.
-use Rattle.std.specs.{Prelude.{ℕ, ◌==◌, if◌then◌else◌, List, map, sum_by}, List.{zip, range_with_len}}
+use Rattle.std.specs.{List.{zip, range_with_len}, Prelude.{ℕ, ◌==◌, if◌then◌else◌, List, map, sum_by}}
 use Rattle.desk_model.specs.declared.block.BlockRow.{BlockRow}
 
 -- the people of the blocks that the plan gives to a district

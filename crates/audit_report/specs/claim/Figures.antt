@@ -1,8 +1,6 @@
 -- What a report holds.
-use Rattle.std.specs.Prelude.{ℕ, List, Option}
+use Rattle.{std.specs.Prelude.{ℕ, List, Option}, audit_clauses.specs.declared.{breaks.Break.Break, deviations.Extremes.Extremes}, audit_report.specs.declared.clause.Clause.Clause}
 use Rattle.desk_model.specs.declared.kind.Kind.{Kind}
-use Rattle.audit_clauses.specs.{declared.deviations.Extremes.Extremes, declared.breaks.Break.Break}
-use Rattle.audit_report.specs.declared.clause.Clause.{Clause}
 
 pub record Figures : Type 0 where
   pub broken : List Clause

@@ -1,9 +1,7 @@
 -- A report as compact JSON with its keys in byte order (RFC 8259).
-use Rattle.std.specs.Prelude.{ℕ, List, map, codes, Option, Some, None}
+use Rattle.{std.specs.Prelude.{ℕ, List, map, codes, Option, Some, None}, audit_clauses.specs.declared.{breaks.{Break.Break, Gap.Gap}, deviations.Extremes.Extremes}}
+use Rattle.{audit_report.specs.{claim.{Clauses.clause_name, Figures.Figures}, declared.clause.Clause.Clause}, desk_model.specs.claim.{Kind.kind_name, Padded.padded_decimal}}
 use Rattle.serde_json.specs.{Data.{Data, null, number, unsigned, string, array, item, no_items, object, member, no_members}, View.items_of, Written.compact_text}
-use Rattle.desk_model.specs.{claim.Kind.kind_name, claim.Padded.padded_decimal}
-use Rattle.audit_clauses.specs.{declared.deviations.Extremes.Extremes, declared.breaks.Gap.Gap, declared.breaks.Break.Break}
-use Rattle.audit_report.specs.{declared.clause.Clause.Clause, claim.Clauses.clause_name, claim.Figures.Figures}
 
 abbrev pub clause_data : Clause → Data
 clause_data clause = string (clause_name clause)

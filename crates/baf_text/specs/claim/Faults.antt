@@ -1,7 +1,6 @@
 -- What is told of a text that isn't read.
 use Rattle.std.specs.Prelude.{◌≡◌, Result, Err}
-use Rattle.desk_model.specs.claim.Baf.{Values, Fault}
-use Rattle.baf_text.specs.{declared.reading.BafFault.BafFault, declared.reading.BafFault.TheVariants.{Body, Memory}}
+use Rattle.{baf_text.specs.declared.reading.BafFault.{BafFault, TheVariants.{Body, Memory}}, desk_model.specs.claim.Baf.{Values, Fault}}
 
 -- a fault of the text is the first one; want of memory says nothing of the text
 abbrev pub IsFaultOf : Result Values Fault → BafFault → Type 0

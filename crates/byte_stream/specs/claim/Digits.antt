@@ -1,5 +1,5 @@
 -- Numbers in ASCII digits.
-use Rattle.std.specs.{Prelude.{ℕ, ◌&&◌, if◌then◌else◌, ◌==◌, nat_le, List, length, Option, Some, None}, Char.is_ascii_digit, List.list_all, Str.Parse.digits_value}
+use Rattle.std.specs.{Char.is_ascii_digit, List.list_all, Prelude.{ℕ, ◌&&◌, if◌then◌else◌, ◌==◌, nat_le, List, length, Option, Some, None}, Str.Parse.digits_value}
 
 -- the number that 1 to `most` digits write
 abbrev pub number_of : ℕ → List ℕ → Option ℕ

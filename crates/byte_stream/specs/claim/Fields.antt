@@ -1,5 +1,5 @@
 -- The fields of a line.
-use Rattle.std.specs.{Prelude.{ℕ, ◌==◌, List}, List.slice_split}
+use Rattle.std.specs.{List.slice_split, Prelude.{ℕ, ◌==◌, List}}
 
 -- the parts between bars
 abbrev pub fields : List ℕ → List (List ℕ)

@@ -1,5 +1,5 @@
 -- A text whose lines are judged one after the other.
-use Rattle.std.specs.{Prelude.{◌≡◌, ℕ, ◌+◌, ◌⊎◌, List, [], ◌∷◌, ◌++◌, map, length, Option, Some, None}, Io.KnownBytes.IsAtEnd, Str.Lines.{lines, strip_carriage_return}}
+use Rattle.std.specs.{Io.KnownBytes.IsAtEnd, Prelude.{◌≡◌, ℕ, ◌+◌, ◌⊎◌, List, [], ◌∷◌, ◌++◌, map, length, Option, Some, None}, Str.Lines.{lines, strip_carriage_return}}
 use Rattle.byte_stream.specs.claim.Reading.{NoLineFeed, IsBroken}
 
 -- the fault of a line, given the lines before it, or none

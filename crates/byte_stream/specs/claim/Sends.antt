@@ -1,5 +1,5 @@
 -- What a writer holds after a write, and how often it has failed.
-use Rattle.std.specs.{Prelude.{◌≡◌, ℕ, List, ◌++◌, Option, Result, Ok, Err}, Io.KnownBytes.Appends}
+use Rattle.std.specs.{Io.KnownBytes.Appends, Prelude.{◌≡◌, ℕ, List, ◌++◌, Option, Result, Ok, Err}}
 use Rattle.byte_stream.specs.claim.Counts.{counted}
 
 -- all bytes, or at a fault a prefix of them

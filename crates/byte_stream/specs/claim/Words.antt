@@ -1,5 +1,5 @@
 -- The words of a text, and what a reader gives of them.
-use Rattle.std.specs.{Prelude.{◌≡◌, ℕ, ◌+◌, ◌≤◌, ◌==◌, ◌||◌, Bool, true, false, List, [], ◌∷◌, ◌++◌, length, All}, List.{slice_split, filter}}
+use Rattle.std.specs.{List.{slice_split, filter}, Prelude.{◌≡◌, ℕ, ◌+◌, ◌≤◌, ◌==◌, ◌||◌, Bool, true, false, List, [], ◌∷◌, ◌++◌, length, All}}
 
 -- a space, a tab, a carriage return or a line feed
 unfoldable pub is_separator : ℕ → Bool

@@ -1,16 +1,14 @@
 -- What the audit of a plan from files comes to: after the census files the neighbour file, the plan and its companions are read and judged
 -- in turn, and the first fault ends it.
 use Rattle.std.specs.Prelude.{◌≡◌, ℕ, Bool, true, false, nat_lt, List, ◌++◌, length, codes, Option, Result, Ok, Err, string_bytes}
-use Rattle.desk_model.specs.{claim.Geography.GeographyModel, declared.companions.Companions.Companions, declared.kind.Kind.Kind}
-use Rattle.audit_report.specs.{claim.Figures.Figures, claim.Report.IsReport, claim.ReportText.report_text}
-use Rattle.command_output.specs.{declared.status.Status.Status, declared.status.Status.TheVariants.{Done, Broken}, claim.Telling.Tells, claim.Writing.Written}
-use Rattle.state_files.specs.{claim.Opening.{Opening, opening_of, Census, census_of}, claim.State.{Then, NoFile, ReadsState, AreLeftBy}, claim.GeographyModels.ReadsWithNeighbours}
-use Rattle.state_files.specs.{claim.PlanFiles.{ReadsPlan, companion_of, ReadsCompanion, beside}, declared.open.AuditFiles.AuditFiles, declared.fault.FileFault.FileFault}
-use Rattle.state_files.specs.declared.fault.FileFault.TheVariants.{Plan}
+use Rattle.{audit_report.specs.claim.{Figures.Figures, Report.IsReport, ReportText.report_text}, byte_stream.specs.declared.source.Source.Ghosts}
+use Rattle.{check_command.specs.{claim.Writing.Prints, declared.report.Audited.Audited}, command_output.specs.claim.{Telling.Tells, Writing.Written}}
+use Rattle.{command_output.specs.declared.status.Status.{Status, TheVariants.{Done, Broken}}, desk_model.specs.{claim.Geography.GeographyModel, declared.kind.Kind.Kind}}
+use Rattle.{desk_model.specs.declared.companions.Companions.Companions, state_files.specs.claim.{GeographyModels.ReadsWithNeighbours, State.{Then, NoFile, ReadsState, AreLeftBy}}}
+use Rattle.state_files.specs.claim.{Opening.{Opening, opening_of, Census, census_of}, PlanFiles.{ReadsPlan, companion_of, ReadsCompanion, beside}}
+use Rattle.state_files.specs.{declared.fault.FileFault.{FileFault, TheVariants.Plan}, declared.open.AuditFiles.AuditFiles}
 use Rattle.state_files.specs.declared.fault.PlanFile.TheVariants as file
 use Rattle.state_files.specs.declared.fault.PlanFault.TheVariants as plan
-use Rattle.byte_stream.specs.declared.source.Source.{Ghosts}
-use Rattle.check_command.specs.{claim.Writing.Prints, declared.report.Audited.Audited}
 
 -- the report of the plan, as text, and whether it names a clause
 pub record IsAudited (g : GeographyModel) (kind : Kind) (n : ℕ) (plan : List ℕ) (beside : Companions (List ℕ)) (audited : Audited) : Type 0 where

@@ -1,6 +1,5 @@
 -- What `check` prints.
-use Rattle.std.specs.Prelude.{ℕ, List, codes}
-use Rattle.command_output.specs.{declared.status.Status.Status, claim.Writing.{Written, write_fault_line, Prints as PrintsOr}}
+use Rattle.{std.specs.Prelude.{ℕ, List, codes}, command_output.specs.{claim.Writing.{Written, write_fault_line, Prints as PrintsOr}, declared.status.Status.Status}}
 
 -- a text is printed, and the status says how that ended
 abbrev pub Prints : List ℕ → Status → Status → (before after told_before told_after : Written) → Type 0

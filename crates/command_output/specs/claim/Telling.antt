@@ -1,8 +1,8 @@
 -- What is told of a fault, and the status that goes with it.
 use Rattle.std.specs.Prelude.{◌≡◌, ◌⊎◌, ℕ, List, ◌++◌, codes}
-use Rattle.command_output.specs.{declared.status.Status.Status, claim.Faults.status_of_fault, claim.Writing.{Written, Told}}
+use Rattle.{command_output.specs.{claim.{Faults.status_of_fault, Writing.{Written, Told}}, declared.status.Status.Status}, state_files.specs.claim.Texts.{file_text, fault_text}}
+use Rattle.state_files.specs.declared.fault.FileFault.{FileFault}
 use Rattle.command_output.specs.declared.status.Status.TheVariants as status
-use Rattle.state_files.specs.{claim.Texts.{file_text, fault_text}, declared.fault.FileFault.FileFault}
 
 abbrev pub fault_line : FileFault → List ℕ
 fault_line fault = codes "plandesk: " ++ fault_text fault ++ codes "\n"

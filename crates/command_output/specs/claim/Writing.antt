@@ -1,7 +1,6 @@
 -- What a writer is given.
 use Rattle.std.specs.Prelude.{◌≡◌, ℕ, List, ◌++◌, codes, Option, Result, Ok, Err}
-use Rattle.byte_stream.specs.{claim.Sends.{Sends, failures_with}, declared.sink.WriteFault.WriteFault}
-use Rattle.command_output.specs.{declared.status.Status.Status, declared.status.Status.TheVariants.Stream}
+use Rattle.{byte_stream.specs.{claim.Sends.{Sends, failures_with}, declared.sink.WriteFault.WriteFault}, command_output.specs.declared.status.Status.{Status, TheVariants.Stream}}
 
 -- what a writer holds, where that is known, and how often it failed
 pub record Written : Type 0 where

@@ -1,7 +1,7 @@
 -- What a catalogue makes of a command.
 use Rattle.std.specs.Prelude.{◌≡◌, ℕ, ◌+◌, ◌≤◌}
-use Rattle.desk_model.specs.{declared.command.Command.Command, declared.command.Command.TheVariants.{Create, Whole, Counties, Retire, Fork}, declared.reply.Reply.Reply}
-use Rattle.desk_model.specs.{claim.Desk.Desk, claim.Step.{step, revision_limit}}
+use Rattle.desk_model.specs.{claim.{Desk.Desk, Step.{step, revision_limit}}, declared.command.Command.{Command, TheVariants.{Create, Whole, Counties, Retire, Fork}}}
+use Rattle.desk_model.specs.declared.reply.Reply.{Reply}
 use Rattle.desk_model.specs.declared.reply.Reply.TheVariants as reply
 
 -- the number of revisions of the plan after a command that is accepted

@@ -1,8 +1,7 @@
 -- The texts of audits.
 use Rattle.std.specs.Prelude.{◌≡◌, ℕ, List}
-use Rattle.desk_model.specs.{declared.command.Query.Query, declared.reply.Reply.Reply, claim.Geography.GeographyModel, claim.Desk.Desk, claim.Subject.AuditSubject}
-use Rattle.desk_model.specs.claim.Outcome.{QueryMay}
-use Rattle.audit_report.specs.{claim.Figures.Figures, claim.Report.IsReport, claim.ReportText.report_text}
+use Rattle.{audit_report.specs.claim.{Figures.Figures, Report.IsReport, ReportText.report_text}, desk_model.specs.claim.{Desk.Desk, Geography.GeographyModel, Outcome.QueryMay}}
+use Rattle.desk_model.specs.{claim.Subject.AuditSubject, declared.{command.Query.Query, reply.Reply.Reply}}
 
 -- the text tells the figures of a report on the subject
 pub record IsReportText (g : GeographyModel) (subject : AuditSubject) (text : List ℕ) : Type 0 where

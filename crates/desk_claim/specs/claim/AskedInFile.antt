@@ -1,10 +1,7 @@
 -- Lives of a store in a file that is asked in each, as those see them who ask it.
-use Rattle.std.specs.Prelude.{ℕ, Result}
-use Rattle.sector_device.specs.claim.Disk.{Image}
-use Rattle.desk_pages.specs.declared.error.StoreError.{StoreError}
-use Rattle.serve_command.specs.http_seats.claim.Streams.{Traffic}
-use Rattle.desk_claim.specs.{claim.Streams.Ends, declared.asking.Asking.Asking, declared.asking.Told.Told, declared.lives.Task.TheVariants.Ask, claim.AskedLives.AskedLife}
-use Rattle.desk_claim.specs.{claim.Files.{LivesFrom, AreLives}, claim.InFile.LivesFrom as StoreLivesFrom}
+use Rattle.{std.specs.Prelude.{ℕ, Result}, desk_claim.specs.claim.{AskedLives.AskedLife, Files.{LivesFrom, AreLives}, InFile.LivesFrom as StoreLivesFrom, Streams.Ends}}
+use Rattle.{desk_claim.specs.declared.{asking.{Asking.Asking, Told.Told}, lives.Task.TheVariants.Ask}, desk_pages.specs.declared.error.StoreError.StoreError}
+use Rattle.{sector_device.specs.claim.Disk.Image, serve_command.specs.http_seats.claim.Streams.Traffic}
 use Rattle.desk_claim.specs.declared.lives.Done.TheVariants as done
 
 module _ {R W P Q A : Type 0} (ends : R → W → Ends) (streams : A → Traffic P Q) (workers : ℕ) where

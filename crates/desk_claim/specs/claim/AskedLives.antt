@@ -1,11 +1,8 @@
 -- Lives of a store that is asked in each, as those see them who ask it.
 use Rattle.std.specs.Prelude.{◌≡◌, ℕ, List, map, Result, Ok, Err}
-use Rattle.desk_model.specs.claim.Desk.{Desk}
-use Rattle.desk_pages.specs.declared.error.StoreError.{StoreError}
-use Rattle.store_lives.specs.{claim.DeskLives.{IsPassing, LifeAfterLife}, claim.Versions.{Store, version_2}}
-use Rattle.serve_command.specs.http_seats.claim.Streams.{Traffic}
-use Rattle.desk_claim.specs.{claim.Streams.Ends, declared.asking.Asking.Asking, declared.asking.Told.Told, declared.lives.Task.Task, declared.lives.Task.TheVariants.Ask}
-use Rattle.desk_claim.specs.{declared.lives.Done.Done, claim.Sentence.{AskedMay, LifeMay, PlanDesk}}
+use Rattle.desk_claim.specs.{claim.{Sentence.{AskedMay, LifeMay, PlanDesk}, Streams.Ends}, declared.{asking.{Asking.Asking, Told.Told}, lives.{Done.Done, Task.Task}}}
+use Rattle.{desk_claim.specs.declared.lives.Task.TheVariants.Ask, desk_model.specs.claim.Desk.Desk, desk_pages.specs.declared.error.StoreError.StoreError}
+use Rattle.{serve_command.specs.http_seats.claim.Streams.Traffic, store_lives.specs.claim.{DeskLives.{IsPassing, LifeAfterLife}, Versions.{Store, version_2}}}
 use Rattle.desk_claim.specs.declared.lives.Done.TheVariants as done
 
 module _ {R W P Q A : Type 0} (ends : R → W → Ends) (streams : A → Traffic P Q) (workers : ℕ) where

@@ -1,12 +1,10 @@
 -- The requests of a stream with their answers, as they stand in the talk over what was read and written.
 use Rattle.std.specs.Prelude.{ℕ, Bool, true, false, List, [], ◌∷◌, ◌++◌, Option, Result, Ok, Err}
-use Rattle.store_lives.specs.{declared.desk_lives.Request.Request, declared.desk_lives.Request.TheVariants.{Change, Look}, declared.desk_lives.Answer.Answer}
-use Rattle.store_lives.specs.declared.desk_lives.Answer.TheVariants.{Said}
-use Rattle.http_desk.specs.{http_wire.claim.Prefix.{closes_after, is_head}, http_routes.declared.order.Order.Order, http_routes.claim.Orders.order_of, declared.serve.Served.Served}
-use Rattle.http_desk.specs.{declared.serve.StreamFault.StreamFault, claim.Talk.{Talk, MayAnswer}}
+use Rattle.{desk_claim.specs.claim.Streams.{State, Takes, Looks, ServedAs}, http_desk.specs.{claim.Talk.{Talk, MayAnswer}, declared.serve.{Served.Served, StreamFault.StreamFault}}}
+use Rattle.http_desk.specs.{http_routes.{claim.Orders.order_of, declared.order.Order.Order}, http_wire.claim.Prefix.{closes_after, is_head}}
+use Rattle.store_lives.specs.declared.desk_lives.{Answer.{Answer, TheVariants.Said}, Request.{Request, TheVariants.{Change, Look}}}
 use Rattle.http_desk.specs.http_routes.declared.order.Order.TheVariants as order
 use Rattle.http_desk.specs.declared.serve.StreamFault.TheVariants as fault
-use Rattle.desk_claim.specs.claim.Streams.{State, Takes, Looks, ServedAs}
 
 module _ (t u : ℕ) where
   -- what an order asks of the desk, with the reply that its answer tells

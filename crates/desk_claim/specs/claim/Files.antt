@@ -1,9 +1,6 @@
 -- Lives of a store in a file, as those see them who ask it.
 use Rattle.std.specs.Prelude.{◌≡◌, ℕ, List, [], ◌∷◌}
-use Rattle.sector_device.specs.claim.Disk.{Image}
-use Rattle.desk_model.specs.claim.Desk.{Desk}
-use Rattle.desk_pages.specs.claim.Desks.{OpensDesk}
-use Rattle.store_lives.specs.claim.DeskLives.{LifeAfterLife}
+use Rattle.{desk_model.specs.claim.Desk.Desk, desk_pages.specs.claim.Desks.OpensDesk, sector_device.specs.claim.Disk.Image, store_lives.specs.claim.DeskLives.LifeAfterLife}
 
 -- `life` says what one may come to.
 module _ {Asks Tells : Type 0} (life : (t u : ℕ) → Desk → Asks → Tells → Desk → Type 0) where

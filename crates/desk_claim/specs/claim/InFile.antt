@@ -1,10 +1,7 @@
 -- The same of a store in a file, as `main` hands it in.
 use Rattle.std.specs.Prelude.{◌≡◌, ◌≤◌, ℕ, List, [], ◌∷◌}
-use Rattle.sector_device.specs.claim.Disk.{Disk, Image}
-use Rattle.desk_model.specs.claim.Desk.{Desk}
-use Rattle.desk_pages.specs.claim.Desks.{OpensDesk, OpensOld, OpensEither}
-use Rattle.serve_command.specs.http_seats.claim.Streams.{Traffic}
-use Rattle.desk_claim.specs.{claim.Streams.Ends, declared.lives.Task.Task, declared.lives.Done.Done, claim.Sentence.LifeHolds}
+use Rattle.{desk_claim.specs.{claim.{Sentence.LifeHolds, Streams.Ends}, declared.lives.{Done.Done, Task.Task}}, desk_model.specs.claim.Desk.Desk}
+use Rattle.{desk_pages.specs.claim.Desks.{OpensDesk, OpensOld, OpensEither}, sector_device.specs.claim.Disk.{Disk, Image}, serve_command.specs.http_seats.claim.Streams.Traffic}
 use Rattle.store_lives.specs.claim.Versions.{Version, version_1, version_2, either, Store}
 
 -- an image of so many sectors is a store with this desk, in a version that it may be of

@@ -1,9 +1,8 @@
 -- What holds of every list of events.
 use Rattle.std.specs.Prelude.{ℕ, ◌≤◌, All, List, [], ◌∷◌, length, replicate, take, ⊤}
+use Rattle.desk_claim.specs.{claim.World.{World, world, move, run, shown_list, seen}, declared.event.Event.{Event, TheVariants.{Commit, Acknowledge, Show, Visit, Learn, Stop}}}
+use Rattle.desk_model.specs.{claim.Desk.Desk, declared.command.Command.Command}
 use mathlib.Core.List.{IsPrefix}
-use Rattle.desk_model.specs.{declared.command.Command.Command, claim.Desk.Desk}
-use Rattle.desk_claim.specs.{declared.event.Event.Event, declared.event.Event.TheVariants.{Commit, Acknowledge, Show, Visit, Learn, Stop}}
-use Rattle.desk_claim.specs.claim.World.{World, world, move, run, shown_list, seen}
 
 -- what each visitor knows is shown, what is shown is acknowledged, and that is changed
 pub record IsOrdered (w : World) : Type 0 where

@@ -1,9 +1,8 @@
 -- A life of a store that an office serves to many streams, as those see it who wrote and read these.
 use Rattle.std.specs.Prelude.{◌≡◌, ℕ, All, List, [], length}
-use Rattle.desk_model.specs.{declared.command.Command.Command, declared.reply.Reply.Reply, claim.Desk.Desk}
-use Rattle.serve_command.specs.{desk_gallery.claim.Telling.halts_of, desk_gallery.claim.Working.AreAccepted, http_seats.claim.Streams.{Traffic, IsAskedOf, AreCounted}}
-use Rattle.http_connections.specs.declared.ran.Ran.{Ran}
-use Rattle.store_lives.specs.{claim.DeskLives.Lived, claim.Calls.{asked_in, told_in, acknowledged}}
+use Rattle.{desk_model.specs.{claim.Desk.Desk, declared.{command.Command.Command, reply.Reply.Reply}}, http_connections.specs.declared.ran.Ran.Ran}
+use Rattle.serve_command.specs.{desk_gallery.claim.{Telling.halts_of, Working.AreAccepted}, http_seats.claim.Streams.{Traffic, IsAskedOf, AreCounted}}
+use Rattle.store_lives.specs.claim.{Calls.{asked_in, told_in, acknowledged}, DeskLives.Lived}
 
 module _ {R W : Type 0} (s : Traffic R W) (workers : ℕ) where
   -- In one life commands were done one after the other from the desk d on, each of which one of the streams asked for; what a stop after

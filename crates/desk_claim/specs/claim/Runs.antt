@@ -1,9 +1,8 @@
 -- An office and its visitors as a world that events lead to.
-use Rattle.std.specs.{Prelude.{◌≡◌, ◌==◌, ◌&&◌, if◌then◌else◌, nat_lt, ℕ, All, List, [], ◌∷◌, ◌++◌, length, map, replicate, Some, ⊤}, List.slice_get}
+use Rattle.std.specs.{List.slice_get, Prelude.{◌≡◌, ◌==◌, ◌&&◌, if◌then◌else◌, nat_lt, ℕ, All, List, [], ◌∷◌, ◌++◌, length, map, replicate, Some, ⊤}}
+use Rattle.{desk_claim.specs.{claim.{Law.IsNoStop, World.{World, world, move, run, shown_list}}, declared.event.Event.Event}, desk_model.specs.claim.Desk.Desk}
+use Rattle.{desk_claim.specs.declared.event.Event.TheVariants.{Commit, Acknowledge, Show, Visit, Learn, Stop}, desk_model.specs.declared.command.{Command.Command, Query.Query}}
 use mathlib.Core.List.{IsPrefix}
-use Rattle.desk_model.specs.{declared.command.Command.Command, declared.command.Query.Query, claim.Desk.Desk}
-use Rattle.desk_claim.specs.{declared.event.Event.Event, declared.event.Event.TheVariants.{Commit, Acknowledge, Show, Visit, Learn, Stop}}
-use Rattle.desk_claim.specs.{claim.World.{World, world, move, run, shown_list}, claim.Law.IsNoStop}
 
 -- with the office's lock free all that is shown is acknowledged, and only a fault leaves a change after it
 abbrev pub standing : List Command → List Command → List (List Command) → World

@@ -4,21 +4,16 @@
 -- is promised stands here from top to bottom: in the words of the desk's model (`step` and `answer`), of the law, and of what is read and
 -- written.
 use Rattle.std.specs.{Prelude.{◌≡◌, ◌≢◌, ◌⊎◌, ◌<◌, ⊤, ℕ, Bool, true, false, if◌then◌else◌, All, List, [], ◌∷◌, ◌++◌, fold, map, Ok, Err}, declared.alloc.Global.Global}
-use Rattle.std.specs.declared.sync.Arc.{Arc}
-use Rattle.desk_model.specs.{declared.command.Command.Command, declared.command.Query.Query, declared.reply.Reply.Reply, declared.reply.Reply.TheVariants.{Audited, Refused}}
-use Rattle.desk_model.specs.{declared.reply.Refusal.TheVariants.Memory, claim.Geography.GeographyModel, claim.Desk.Desk, claim.Subject.AuditSubject}
-use Rattle.desk_model.specs.claim.Step.{step, reports, answer}
-use Rattle.audit_report.specs.{claim.Clauses.{IsNamed, AreExactlyClauses}, claim.Figures.Figures, claim.ReportText.report_text}
-use Rattle.desk_catalogue.specs.claim.Audits.{AskMay}
+use Rattle.{std.specs.declared.sync.Arc.Arc, audit_report.specs.claim.{Clauses.{IsNamed, AreExactlyClauses}, Figures.Figures, ReportText.report_text}}
+use Rattle.{desk_catalogue.specs.claim.Audits.AskMay, desk_claim.specs.claim.{Exchanges.exchanges_in, Offices.{Officed, Answered}, Streams.{Ends, working, Streamed}}}
+use Rattle.desk_claim.specs.declared.asking.{Asking.{Asking, TheVariants.{Requests, Stream, Office}}, Told.{Told, TheVariants.{Answers, Served, Seated, Unseated}}}
+use Rattle.{desk_claim.specs.declared.lives.{Done.Done, Task.{Task, TheVariants.{Ask, Migrate}}}, desk_model.specs.claim.{Desk.Desk, Geography.GeographyModel}}
+use Rattle.desk_model.specs.{claim.{Step.{step, reports, answer}, Subject.AuditSubject}, declared.{command.{Command.Command, Query.Query}, reply.Refusal.TheVariants.Memory}}
+use Rattle.{desk_model.specs.declared.reply.Reply.{Reply, TheVariants.{Audited, Refused}}, serve_command.specs.desk_gallery.claim.After.after}
+use Rattle.{serve_command.specs.http_seats.claim.Streams.{Traffic, Worker}, store_lives.specs.{claim.Calls.{asked_in, told_in, is_done}, declared.desk_lives.Answer.Answer}}
+use Rattle.store_lives.specs.{claim.{DeskLives.{Lived, LifeAfterLife, after_load}, Versions.{Store, version_2, MayBeNew, MayBar, Leads}}, declared.desk_lives.Request.Request}
+use Rattle.store_lives.specs.declared.desk_lives.{Answer.TheVariants.{Said, Loaded, Unloaded, Swept, Unswept}, Request.TheVariants.{Change, Look, Load, Sweep}}
 use Rattle.desk_pages.specs.declared.error.StoreError.TheVariants as store
-use Rattle.serve_command.specs.{desk_gallery.claim.After.after, http_seats.claim.Streams.{Traffic, Worker}}
-use Rattle.store_lives.specs.{declared.desk_lives.Request.Request, declared.desk_lives.Request.TheVariants.{Change, Look, Load, Sweep}, declared.desk_lives.Answer.Answer}
-use Rattle.store_lives.specs.{declared.desk_lives.Answer.TheVariants.{Said, Loaded, Unloaded, Swept, Unswept}, claim.DeskLives.{Lived, LifeAfterLife, after_load}}
-use Rattle.store_lives.specs.{claim.Calls.{asked_in, told_in, is_done}, claim.Versions.{Store, version_2, MayBeNew, MayBar, Leads}}
-use Rattle.desk_claim.specs.{claim.Streams.{Ends, working, Streamed}, claim.Offices.{Officed, Answered}, declared.asking.Asking.Asking}
-use Rattle.desk_claim.specs.{declared.asking.Asking.TheVariants.{Requests, Stream, Office}, declared.asking.Told.Told}
-use Rattle.desk_claim.specs.{declared.asking.Told.TheVariants.{Answers, Served, Seated, Unseated}, declared.lives.Task.Task, declared.lives.Task.TheVariants.{Ask, Migrate}}
-use Rattle.desk_claim.specs.{declared.lives.Done.Done, claim.Exchanges.exchanges_in}
 use Rattle.desk_claim.specs.declared.lives.Done.TheVariants as done
 
 -- ==== What the words of the sentence mean

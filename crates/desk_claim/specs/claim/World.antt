@@ -1,9 +1,8 @@
 -- What happens to a desk with visitors, as events on a list of changes.
+use Rattle.{std.specs.List.slice_get, desk_claim.specs.declared.event.Event.{Event, TheVariants.{Commit, Acknowledge, Show, Visit, Learn, Stop}}, desk_model.specs.claim.Desk.Desk}
 use Rattle.std.specs.Prelude.{ℕ, ◌==◌, ◌&&◌, if◌then◌else◌, nat_le, nat_lt, max, Bool, true, false, List, [], ◌∷◌, ◌++◌, length, take, map, fold, slice_set, Option, Some, None}
-use Rattle.std.specs.List.{slice_get}
-use Rattle.desk_model.specs.{declared.command.Command.Command, declared.reply.Reply.Reply, claim.Desk.Desk, claim.Step.step}
+use Rattle.desk_model.specs.{claim.Step.step, declared.{command.Command.Command, reply.Reply.Reply}}
 use Rattle.desk_model.specs.declared.reply.Reply.TheVariants as reply
-use Rattle.desk_claim.specs.{declared.event.Event.Event, declared.event.Event.TheVariants.{Commit, Acknowledge, Show, Visit, Learn, Stop}}
 
 -- the desk after a list of commands
 abbrev pub after : Desk → List Command → Desk

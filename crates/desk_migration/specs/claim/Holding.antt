@@ -1,7 +1,6 @@
 -- Which chunks the plans of a map hold, of those that parts of their revisions name.
 use Rattle.std.specs.Prelude.{◌≡◌, ℕ, List, [], ◌∷◌, length}
-use Rattle.store_rows.specs.{claim.Keys.{key_of, Fits, holding, part}, claim.Rows.{KeyMap, Lacks}, claim.Holders.IsHeld, claim.Tidy.IsNamedBy, claim.Shares.hold}
-use Rattle.store_check.specs.claim.Rows.{IsFrom}
+use Rattle.{store_check.specs.claim.Rows.IsFrom, store_rows.specs.claim.{Holders.IsHeld, Keys.{key_of, Fits, holding, part}, Rows.{KeyMap, Lacks}, Shares.hold, Tidy.IsNamedBy}}
 
 -- Each chunk that a part of a plan's revisions names is held by the plan. This is said also of plans that were taken away.
 abbrev pub AllAreHeld : KeyMap → Type 0

@@ -1,8 +1,7 @@
 -- Block assignment files (the Census Bureau's layout BLOCKID|DISTRICT), read and printed.
+use Rattle.std.specs.{Char.is_ascii_digit, Cmp.Lexicographic.pointwise, List.{list_all, slice_split, list_any}, Str.{Lines.lines, Parse.digits_value}}
 use Rattle.std.specs.Prelude.{ℕ, ◌+◌, Bool, not, ◌&&◌, ◌||◌, if◌then◌else◌, ◌==◌, nat_le, List, [], ◌∷◌, ◌++◌, length, Option, Some, None, Result, Ok, Err, codes, nat_eq, is_some, map, unwrap_or}
-use Rattle.std.specs.{List.{list_all, slice_split, list_any}, Char.is_ascii_digit, Str.Lines.lines, Str.Parse.digits_value, Cmp.Lexicographic.pointwise}
-use Rattle.desk_model.specs.{declared.reply.BodyFault.BodyFault, declared.reply.BodyFault.TheVariants.{Header, Shape, UnknownBlock, RepeatedBlock, OutOfRange}}
-use Rattle.desk_model.specs.claim.Geography.{GeographyModel, ids}
+use Rattle.desk_model.specs.{claim.Geography.{GeographyModel, ids}, declared.reply.BodyFault.{BodyFault, TheVariants.{Header, Shape, UnknownBlock, RepeatedBlock, OutOfRange}}}
 
 abbrev pub header : List ℕ
 header = codes "BLOCKID|DISTRICT"

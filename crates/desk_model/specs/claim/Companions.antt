@@ -1,6 +1,5 @@
 -- Which plans a plan is audited beside.
-use Rattle.std.specs.Prelude.{Bool, true, false, None}
-use Rattle.desk_model.specs.{declared.companions.Companions.Companions, declared.kind.Kind.Kind, declared.kind.Kind.TheVariants.{Congress, Senate, House}}
+use Rattle.{std.specs.Prelude.{Bool, true, false, None}, desk_model.specs.declared.{companions.Companions.Companions, kind.Kind.{Kind, TheVariants.{Congress, Senate, House}}}}
 
 -- a plan of the kind takes that companion: house districts lie in senate districts (Iowa Code 42.4(6)), and of both it is told which a plan
 -- for the congress divides

@@ -1,7 +1,7 @@
 -- A desk: a geography or none, and plans by their names.
-use Rattle.std.specs.{Prelude.{ℕ, List, Option}, Ordering.nat_cmp, Cmp.Lexicographic.slice_cmp, declared.cmp.Ordering.Ordering}
+use Rattle.{std.specs.{Cmp.Lexicographic.slice_cmp, Ordering.nat_cmp, Prelude.{ℕ, List, Option}, declared.cmp.Ordering.Ordering}, desk_model.specs.claim.Geography.GeographyModel}
+use Rattle.desk_model.specs.declared.kind.Kind.{Kind}
 use Rattle.std.specs.FinMap as map_of
-use Rattle.desk_model.specs.{declared.kind.Kind.Kind, claim.Geography.GeographyModel}
 
 -- names in the order of their bytes
 abbrev pub name_cmp : List ℕ → List ℕ → Ordering

@@ -1,6 +1,5 @@
 -- A state's blocks, and which of them share an edge.
-use Rattle.std.specs.Prelude.{ℕ, List, map, get_or}
-use Rattle.desk_model.specs.{declared.block.BlockRow.BlockRow, declared.geography.Pair.Pair}
+use Rattle.{std.specs.Prelude.{ℕ, List, map, get_or}, desk_model.specs.declared.{block.BlockRow.BlockRow, geography.Pair.Pair}}
 
 -- The blocks, rising by number, and the pairs of neighbours. A block is told by its place in the list, from 0.
 pub record GeographyModel : Type 0 where

@@ -1,7 +1,7 @@
 -- Which blocks and neighbours are a state that can be loaded.
+use Rattle.{std.specs.List.Sorted.IsStrictlyIncreasing, desk_model.specs.{claim.{Block.state_of, Geography.{GeographyModel, id_at, ids_of}}, declared.block.BlockRow.BlockRow}}
 use Rattle.std.specs.Prelude.{◌≡◌, ◌⊎◌, ◌↔◌, ℕ, ◌+◌, ◌^◌, ◌<◌, ◌≤◌, Bool, ◌&&◌, ◌||◌, ◌==◌, nat_lt, IsTrue, List, length, get_or, sum_by, All, Contains}
-use Rattle.std.specs.List.Sorted.{IsStrictlyIncreasing}
-use Rattle.desk_model.specs.{claim.Block.state_of, declared.block.BlockRow.BlockRow, declared.geography.Pair.Pair, claim.Geography.{GeographyModel, id_at, ids_of}}
+use Rattle.desk_model.specs.declared.geography.Pair.{Pair}
 
 -- a store keeps this many blocks at most
 abbrev pub block_limit : ℕ

@@ -1,5 +1,5 @@
 -- Names of plans.
-use Rattle.std.specs.{Prelude.{ℕ, Bool, ◌||◌, ◌&&◌, List, length, ◌==◌, nat_le, if◌then◌else◌, Option, Some, None, IsTrue}, List.list_all, Char.is_ascii_alphanumeric}
+use Rattle.std.specs.{Char.is_ascii_alphanumeric, List.list_all, Prelude.{ℕ, Bool, ◌||◌, ◌&&◌, List, length, ◌==◌, nat_le, if◌then◌else◌, Option, Some, None, IsTrue}}
 
 -- a letter, a digit, a dot, an underscore or a dash
 abbrev pub is_name_byte : ℕ → Bool

@@ -1,8 +1,8 @@
 -- What a counter may answer: the desk's own step, or that there was no room, no memory or no device.
 use Rattle.std.specs.Prelude.{◌≡◌, ◌≢◌, ℕ, List, ⊤}
-use Rattle.desk_model.specs.{declared.command.Command.Command, declared.command.Query.Query, declared.reply.Reply.Reply, declared.reply.Refusal.Refusal}
+use Rattle.desk_model.specs.{claim.{Desk.Desk, Geography.GeographyModel, Step.{step, Answer, says, reports, answer}, Subject.AuditSubject}, declared.command.Command.Command}
+use Rattle.desk_model.specs.declared.{command.Query.Query, reply.{Refusal.Refusal, Reply.Reply}}
 use Rattle.desk_model.specs.declared.reply.Refusal.TheVariants.{NoPlan, NoRevision, PlanExists, Stale, BadBody, NotWholeCounty, BadCompanion, Limit, Full, Memory, Halted, NotSealed}
-use Rattle.desk_model.specs.{claim.Geography.GeographyModel, claim.Desk.Desk, claim.Subject.AuditSubject, claim.Step.{step, Answer, says, reports, answer}}
 use Rattle.desk_model.specs.declared.reply.Reply.TheVariants as reply
 
 -- the reply of an accepted command

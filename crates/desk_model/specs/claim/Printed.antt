@@ -1,7 +1,6 @@
 -- The one printed form of a plan's revision.
-use Rattle.std.specs.{Prelude.{ℕ, ◌+◌, if◌then◌else◌, ◌==◌, List, [], ◌∷◌, ◌++◌, codes}, List.{flat_map, zip}}
-use Rattle.desk_model.specs.{declared.kind.Kind.Kind, declared.kind.Kind.TheVariants.{Congress, Senate, House}, claim.Geography.{GeographyModel, ids}, claim.Baf.header}
-use Rattle.desk_model.specs.claim.Padded.{padded_decimal}
+use Rattle.std.specs.{List.{flat_map, zip}, Prelude.{ℕ, ◌+◌, if◌then◌else◌, ◌==◌, List, [], ◌∷◌, ◌++◌, codes}}
+use Rattle.desk_model.specs.{claim.{Baf.header, Geography.{GeographyModel, ids}, Padded.padded_decimal}, declared.kind.Kind.{Kind, TheVariants.{Congress, Senate, House}}}
 
 abbrev pub code_text : Kind → ℕ → List ℕ
 code_text Congress d = if d == 0 then codes "ZZ" else padded_decimal 2 d

@@ -1,6 +1,6 @@
 -- The counties of a state's blocks. Blocks rise by number, so a county's stand together, and counties rise.
 use Rattle.std.specs.Prelude.{ℕ, ◌+◌, ◌==◌, if◌then◌else◌, List, [], ◌∷◌, map, take, drop}
-use Rattle.desk_model.specs.{claim.Block.county_of, claim.Geography.{GeographyModel, ids}}
+use Rattle.desk_model.specs.claim.{Block.county_of, Geography.{GeographyModel, ids}}
 
 -- a run of a number has come so far: how long it gets, and how long the runs after it are
 abbrev pub runs_from : ℕ → ℕ → List ℕ → List ℕ

@@ -1,9 +1,8 @@
 -- How much room a store needs for a command.
-use Rattle.std.specs.{Prelude.{ℕ, ◌+◌, ◌-◌, ◌*◌, ◌/◌, Bool, not, nat_eq, List, [], map, filter, length, sum_by, Option, Some, None, unwrap_or}, List.zip}
-use Rattle.std.specs.Cmp.Lexicographic.{pointwise}
+use Rattle.{std.specs.{Cmp.Lexicographic.pointwise, List.zip}, desk_model.specs.claim.{Desk.{Plan, Desk}, Geography.GeographyModel, Ranges.{sizes, cut}, Step.step}}
+use Rattle.std.specs.Prelude.{ℕ, ◌+◌, ◌-◌, ◌*◌, ◌/◌, Bool, not, nat_eq, List, [], map, filter, length, sum_by, Option, Some, None, unwrap_or}
+use Rattle.desk_model.specs.{claim.Subject.revision_at, declared.command.Command.{Command, TheVariants.{Create, Whole, Counties, Retire, Fork}}}
 use Rattle.std.specs.FinMap as map_of
-use Rattle.desk_model.specs.{declared.command.Command.Command, declared.command.Command.TheVariants.{Create, Whole, Counties, Retire, Fork}, claim.Geography.GeographyModel}
-use Rattle.desk_model.specs.{claim.Desk.{Plan, Desk}, claim.Subject.revision_at, claim.Step.step, claim.Ranges.{sizes, cut}}
 
 -- so many rows of that size hold the number
 abbrev pub rows_for : ℕ → ℕ → ℕ

@@ -1,7 +1,7 @@
 -- The sample geography, four invented blocks two by two: a is north-west, b north-east, c south-west and d south-east.
 use Rattle.std.specs.Prelude.{ℕ, [], ◌∷◌, Option, Some, None}
+use Rattle.desk_model.specs.{claim.{Desk.Desk, Geography.GeographyModel}, declared.{block.BlockRow.BlockRow, geography.Pair.Pair}}
 use Rattle.std.specs.FinMap as map_of
-use Rattle.desk_model.specs.{declared.block.BlockRow.BlockRow, declared.geography.Pair.Pair, claim.Geography.GeographyModel, claim.Desk.Desk}
 
 abbrev pub block_row : ℕ → Option ℕ → ℕ → BlockRow
 block_row id city population = record { id = id; city = city; population = population }

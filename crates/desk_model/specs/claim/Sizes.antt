@@ -1,6 +1,6 @@
 -- The kind that a word names, and how many districts its plans may have.
 use Rattle.std.specs.{Prelude.{ℕ, ◌&&◌, if◌then◌else◌, nat_le, List, Option, Some, None, codes}, Str.bytes_eq}
-use Rattle.desk_model.specs.{declared.kind.Kind.Kind, declared.kind.Kind.TheVariants.{Congress, Senate, House}}
+use Rattle.desk_model.specs.declared.kind.Kind.{Kind, TheVariants.{Congress, Senate, House}}
 
 -- the kind that a word names
 abbrev pub kind_named : List ℕ → Option Kind

@@ -1,13 +1,11 @@
 -- What a desk answers, and the desk that follows.
+use Rattle.{std.specs.List.{slice_get, flat_map, find, list_any, zip}, desk_model.specs.claim.{Baf.{Values, Fault, value_at, body_read, whole}, Block.county_of, Desk.{Plan, Desk}}}
 use Rattle.std.specs.Prelude.{ℕ, ◌+◌, ◌-◌, ◌==◌, Bool, not, ◌&&◌, if◌then◌else◌, nat_le, List, [], ◌∷◌, ◌++◌, map, length, Option, Some, None, option_map, is_some, Result, Ok, Err, unwrap_or, codes, decimal}
-use Rattle.std.specs.List.{slice_get, flat_map, find, list_any, zip}
+use Rattle.desk_model.specs.{claim.{Geography.GeographyModel, Padded.padded_decimal, Printed.printed, Subject.{AuditSubject, subject_of, revision_at}}, declared.kind.Kind.Kind}
+use Rattle.desk_model.specs.declared.{block.BlockRow.BlockRow, command.{Command.{Command, TheVariants.{Create, Whole, Counties, Retire, Fork}}, Query.Query}, reply.Refusal.Refusal}
+use Rattle.desk_model.specs.declared.{command.Query.TheVariants.{Plans, Blocks, Revision, Audit}, reply.{PlanLine.PlanLine, Reply.Reply}}
+use Rattle.desk_model.specs.declared.reply.Refusal.TheVariants.{NoPlan, NoRevision, PlanExists, Stale, BadBody, NotWholeCounty, Limit, NotSealed}
 use Rattle.std.specs.FinMap as map_of
-use Rattle.desk_model.specs.{declared.kind.Kind.Kind, declared.command.Command.Command, declared.command.Command.TheVariants.{Create, Whole, Counties, Retire, Fork}}
-use Rattle.desk_model.specs.{declared.command.Query.Query, declared.command.Query.TheVariants.{Plans, Blocks, Revision, Audit}, declared.reply.PlanLine.PlanLine}
-use Rattle.desk_model.specs.{declared.reply.Reply.Reply, declared.reply.Refusal.Refusal}
-use Rattle.desk_model.specs.{declared.reply.Refusal.TheVariants.{NoPlan, NoRevision, PlanExists, Stale, BadBody, NotWholeCounty, Limit, NotSealed}, claim.Block.county_of}
-use Rattle.desk_model.specs.{declared.block.BlockRow.BlockRow, claim.Baf.{Values, Fault, value_at, body_read, whole}, claim.Printed.printed, claim.Padded.padded_decimal}
-use Rattle.desk_model.specs.{claim.Geography.GeographyModel, claim.Desk.{Plan, Desk}, claim.Subject.{AuditSubject, subject_of, revision_at}}
 use Rattle.desk_model.specs.declared.reply.Reply.TheVariants as reply
 
 -- a desk has this many plans at most

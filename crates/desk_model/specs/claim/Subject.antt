@@ -1,8 +1,8 @@
 -- What an audit judges: a revision of a plan, alone or beside its companions.
-use Rattle.std.specs.{Prelude.{ℕ, ◌-◌, ◌==◌, if◌then◌else◌, List, Option, Some, None, Result, Ok, Err}, List.slice_get}
+use Rattle.std.specs.{List.slice_get, Prelude.{ℕ, ◌-◌, ◌==◌, if◌then◌else◌, List, Option, Some, None, Result, Ok, Err}}
+use Rattle.desk_model.specs.{claim.{Companions.{takes, is_kind}, Desk.{Plan, Desk}}, declared.{companions.Companions.Companions, kind.Kind.{Kind, TheVariants.{Congress, Senate}}}}
+use Rattle.desk_model.specs.declared.reply.Refusal.{Refusal, TheVariants.{NoPlan, NoRevision, BadCompanion}}
 use Rattle.std.specs.FinMap as map_of
-use Rattle.desk_model.specs.{declared.companions.Companions.Companions, declared.kind.Kind.Kind, declared.kind.Kind.TheVariants.{Congress, Senate}, declared.reply.Refusal.Refusal}
-use Rattle.desk_model.specs.{declared.reply.Refusal.TheVariants.{NoPlan, NoRevision, BadCompanion}, claim.Companions.{takes, is_kind}, claim.Desk.{Plan, Desk}}
 
 -- a plan's kind and number of districts, the districts of one of its revisions, and those of its companions
 pub record AuditSubject : Type 0 where

@@ -1,8 +1,6 @@
 -- What an opening finds on a device, and what it leaves.
-use Rattle.std.specs.Prelude.{Bool, true, false}
-use Rattle.sector_device.specs.{claim.Disk.{Disk, Image}, claim.Moments.LeavesOnly}
-use Rattle.desk_model.specs.claim.Desk.{Desk}
-use Rattle.desk_pages.specs.claim.Desks.{OpensAs}
+use Rattle.{std.specs.Prelude.{Bool, true, false}, desk_model.specs.claim.Desk.Desk, desk_pages.specs.claim.Desks.OpensAs, sector_device.specs.claim.Disk.{Disk, Image}}
+use Rattle.sector_device.specs.claim.Moments.{LeavesOnly}
 
 -- each does in either version
 abbrev pub AllVersions : Disk → Type 0

@@ -1,11 +1,10 @@
 -- Lives of a store. In each it is opened, given commands or migrated, and stopped; the next one finds what that stop may have left.
 use Rattle.std.specs.Prelude.{◌≡◌, ◌≤◌, ℕ, false, List, [], ◌∷◌, ◌++◌, length, take, get_or, Result, Ok, IfOk}
-use Rattle.sector_device.specs.{claim.Disk.Image, declared.SectorDevice.Ghosts}
-use Rattle.desk_model.specs.{declared.command.Command.Command, claim.Desk.Desk}
-use Rattle.desk_pages.specs.{claim.Desks.OpensEither, claim.Openings.{AllVersions, IsOneOf, LeavesOneAs}, declared.error.StoreError.StoreError}
-use Rattle.desk_store.specs.{declared.clerk.Clerk.Clerk, claim.Clerks.{desk_of, disk_of, is_halted, sectors_of, Keeps}, claim.Openings.device_after}
-use Rattle.desk_migration.specs.{declared.migration.Migration.Migration, claim.Migrating.disk_of as migrated_disk, claim.Openings.device_after as device_left}
-use Rattle.desk_runs.specs.{claim.Migrations.{IsEntry, Migrates}, claim.Runs.{Call, Run, after, acknowledged, acknowledged_at, in_flight}, claim.Recovery.HoldsEither}
+use Rattle.desk_migration.specs.{claim.{Migrating.disk_of as migrated_disk, Openings.device_after as device_left}, declared.migration.Migration.Migration}
+use Rattle.{desk_model.specs.{claim.Desk.Desk, declared.command.Command.Command}, desk_pages.specs.claim.{Desks.OpensEither, Openings.{AllVersions, IsOneOf, LeavesOneAs}}}
+use Rattle.{desk_pages.specs.declared.error.StoreError.StoreError, desk_runs.specs.claim.{Migrations.{IsEntry, Migrates}, Recovery.HoldsEither}}
+use Rattle.{desk_runs.specs.claim.Runs.{Call, Run, after, acknowledged, acknowledged_at, in_flight}, desk_store.specs.claim.Clerks.{desk_of, disk_of, is_halted, sectors_of, Keeps}}
+use Rattle.{desk_store.specs.{claim.Openings.device_after, declared.clerk.Clerk.Clerk}, sector_device.specs.{claim.Disk.Image, declared.SectorDevice.Ghosts}}
 
 -- What an opening comes to. At each moment of it a stop leaves an image that opens to a desk to which one opened before, in the same
 -- version; a clerk who comes of it shows one of these desks, keeps it, and has not halted.

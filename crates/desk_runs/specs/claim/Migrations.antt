@@ -1,9 +1,8 @@
 -- Migrations of a store: what an opening for one comes to, and the steps of one.
 use Rattle.std.specs.Prelude.{◌≡◌, false, Result, IfOk}
+use Rattle.desk_migration.specs.{claim.{Migrating.{disk_of, is_halted, sectors_of, Keeps, Moves, Ends}, Openings.device_after}, declared.migration.Migration.Migration}
+use Rattle.{desk_model.specs.claim.Desk.Desk, desk_pages.specs.{claim.Openings.{AllVersions, IsOneOld, LeavesOneAs}, declared.error.StoreError.StoreError}}
 use Rattle.sector_device.specs.declared.SectorDevice.{Ghosts}
-use Rattle.desk_model.specs.claim.Desk.{Desk}
-use Rattle.desk_pages.specs.{claim.Openings.{AllVersions, IsOneOld, LeavesOneAs}, declared.error.StoreError.StoreError}
-use Rattle.desk_migration.specs.{declared.migration.Migration.Migration, claim.Migrating.{disk_of, is_halted, sectors_of, Keeps, Moves, Ends}, claim.Openings.device_after}
 
 -- What an opening for a migration comes to. At each moment of it a stop leaves an image that opens to a desk to which one opened before,
 -- in the same version; a migration that comes of it keeps one of these desks, in the old version, and has not halted.

@@ -1,7 +1,5 @@
 -- What an opening makes of a device that holds one desk.
-use Rattle.sector_device.specs.claim.Disk.{Disk, Image}
-use Rattle.desk_model.specs.claim.Desk.{Desk}
-use Rattle.desk_pages.specs.claim.Desks.{OpensEither}
+use Rattle.{desk_model.specs.claim.Desk.Desk, desk_pages.specs.claim.Desks.OpensEither, sector_device.specs.claim.Disk.{Disk, Image}}
 
 -- each does so in either version: so it is where a migration was stopped
 abbrev pub HoldsEither : Disk → Desk → Type 0

@@ -1,10 +1,9 @@
 -- Runs of a clerk, and what a stop at any moment of one leaves.
 use Rattle.std.specs.Prelude.{◌≡◌, ℕ, ◌≤◌, false, if◌then◌else◌, List, [], ◌∷◌, ◌++◌, length, take, fold}
-use Rattle.sector_device.specs.{claim.Disk.{Disk, Image}, declared.SectorDevice.Ghosts}
-use Rattle.desk_model.specs.{declared.command.Command.Command, declared.reply.Reply.Reply, claim.Desk.Desk, claim.Step.step}
+use Rattle.{desk_model.specs.{claim.{Desk.Desk, Step.step}, declared.{command.Command.Command, reply.Reply.Reply}}, desk_pages.specs.claim.Desks.OpensDesk}
+use Rattle.{desk_store.specs.{claim.{Clerks.{desk_of, disk_of, sectors_of, Keeps}, Commands.Does}, declared.clerk.Clerk.Clerk}, sector_device.specs.claim.Disk.{Disk, Image}}
+use Rattle.sector_device.specs.declared.SectorDevice.{Ghosts}
 use Rattle.desk_model.specs.declared.reply.Reply.TheVariants as reply
-use Rattle.desk_pages.specs.claim.Desks.{OpensDesk}
-use Rattle.desk_store.specs.{declared.clerk.Clerk.Clerk, claim.Clerks.{desk_of, disk_of, sectors_of, Keeps}, claim.Commands.Does}
 
 -- a command with its reply
 abbrev pub Call : Type 0

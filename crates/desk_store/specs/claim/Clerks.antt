@@ -1,11 +1,8 @@
 -- A clerk, who keeps a desk in the pages of a store, as the layers above see it.
 use Rattle.std.specs.Prelude.{◌≡◌, ◌⊎◌, ◌<◌, ◌+◌, ℕ, Bool, true, false, length}
-use Rattle.sector_device.specs.{claim.Disk.{Disk, Image}, claim.Moments.LeavesOnly, declared.SectorDevice.Ghosts}
-use Rattle.page_store.specs.{gate_journal.claim.Store.home, claim.Chain.free_in, declared.pages.Pages.Pages}
-use Rattle.page_store.specs.claim.Transactions.{stored, disk_in, count_of, journal_of, has_halted, IsSame, IsQuiet}
-use Rattle.desk_model.specs.claim.Desk.{Desk}
-use Rattle.desk_pages.specs.claim.Desks.{InPages, OpensDesk}
-use Rattle.desk_store.specs.{claim.Keeping.IsLeft, declared.clerk.Clerk.Clerk}
+use Rattle.{desk_model.specs.claim.Desk.Desk, desk_pages.specs.claim.Desks.{InPages, OpensDesk}, desk_store.specs.{claim.Keeping.IsLeft, declared.clerk.Clerk.Clerk}}
+use Rattle.page_store.specs.{claim.{Chain.free_in, Transactions.{stored, disk_in, count_of, journal_of, has_halted, IsSame, IsQuiet}}, declared.pages.Pages.Pages}
+use Rattle.{page_store.specs.gate_journal.claim.Store.home, sector_device.specs.{claim.{Disk.{Disk, Image}, Moments.LeavesOnly}, declared.SectorDevice.Ghosts}}
 
 module _ {D : Type 0} {g : Ghosts D} where
   -- the desk that is shown

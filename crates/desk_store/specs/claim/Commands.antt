@@ -1,17 +1,12 @@
 -- What a clerk makes of a command.
 use Rattle.std.specs.Prelude.{◌≡◌, ◌⊎◌, ◌≤◌, ◌<◌, ◌+◌, ◌*◌, ℕ, true, false, length}
-use Rattle.sector_device.specs.declared.SectorDevice.{Ghosts}
-use Rattle.page_store.specs.{claim.Chain.free_in, declared.pages.Pages.Pages, claim.Transactions.{stored, disk_in, count_of, prepared_pages, prepared_writes, after, IsQuiet}}
-use Rattle.page_store.specs.{declared.txn.Prepared.Prepared as Written, declared.txn.Txn.Txn}
-use Rattle.page_btree.specs.claim.Map.{InPages as HoldsRows}
-use Rattle.desk_model.specs.{declared.command.Command.Command, declared.reply.Reply.Reply, declared.reply.Reply.TheVariants.Refused, declared.reply.Refusal.Refusal}
-use Rattle.desk_model.specs.{declared.reply.Refusal.TheVariants.Halted, claim.Desk.Desk, claim.Outcome.{IsAcceptance, CommandMay, RefusalMay}, claim.Room.{need, command_rows}}
-use Rattle.desk_model.specs.claim.Step.{step}
-use Rattle.desk_catalogue.specs.claim.Accepting.{IsAfter, acceptance}
-use Rattle.store_rows.specs.{declared.value.Counters.Counters, claim.Rows.KeyMap, claim.Tidy.{IsNext, CountersFit}}
-use Rattle.plan_revisions.specs.{claim.Steps.IsDeep, claim.Rows.HasNumbers}
-use Rattle.desk_pages.specs.{claim.Commits.HoldsAfter, claim.Desks.IsDeskMap}
-use Rattle.desk_store.specs.{declared.clerk.Clerk.Clerk, declared.ready.Ready.Ready, claim.Clerks.{desk_of, disk_of, free_of, pages_of, room_of, HaltsByDevice, Keeps, Moves}}
+use Rattle.{desk_catalogue.specs.claim.Accepting.{IsAfter, acceptance}, desk_model.specs.claim.{Desk.Desk, Outcome.{IsAcceptance, CommandMay, RefusalMay}, Step.step}}
+use Rattle.desk_model.specs.{claim.Room.{need, command_rows}, declared.{command.Command.Command, reply.{Refusal.{Refusal, TheVariants.Halted}, Reply.{Reply, TheVariants.Refused}}}}
+use Rattle.{desk_pages.specs.claim.{Commits.HoldsAfter, Desks.IsDeskMap}, desk_store.specs.claim.Clerks.{desk_of, disk_of, free_of, pages_of, room_of, HaltsByDevice, Keeps, Moves}}
+use Rattle.{desk_store.specs.declared.{clerk.Clerk.Clerk, ready.Ready.Ready}, page_btree.specs.claim.Map.InPages as HoldsRows, page_store.specs.claim.Chain.free_in}
+use Rattle.page_store.specs.{claim.Transactions.{stored, disk_in, count_of, prepared_pages, prepared_writes, after, IsQuiet}, declared.{pages.Pages.Pages, txn.Txn.Txn}}
+use Rattle.{page_store.specs.declared.txn.Prepared.Prepared as Written, plan_revisions.specs.claim.{Rows.HasNumbers, Steps.IsDeep}, store_rows.specs.claim.Rows.KeyMap}
+use Rattle.{sector_device.specs.declared.SectorDevice.Ghosts, store_rows.specs.{claim.Tidy.{IsNext, CountersFit}, declared.value.Counters.Counters}}
 
 abbrev pub command_of : Ready → Command
 command_of r = r.command.value

@@ -1,7 +1,6 @@
 -- What a clerk's store keeps of its desk.
 use Rattle.std.specs.Prelude.{◌≡◌, ◌⊎◌, ℕ, Bool, true, Some, None}
-use Rattle.sector_device.specs.claim.Disk.{Image}
-use Rattle.desk_model.specs.{declared.command.Command.Command, claim.Desk.Desk, claim.Geography.GeographyModel, claim.Outcome.IsAcceptance, claim.Step.step}
+use Rattle.{desk_model.specs.{claim.{Desk.Desk, Geography.GeographyModel, Outcome.IsAcceptance, Step.step}, declared.command.Command.Command}, sector_device.specs.claim.Disk.Image}
 use Rattle.desk_pages.specs.claim.Desks.{OpensDesk}
 
 -- the desk after a command that is accepted

@@ -1,9 +1,6 @@
 -- What an opening finds, and what it leaves.
-use Rattle.std.specs.Prelude.{Result, Ok, Err}
-use Rattle.sector_device.specs.declared.SectorDevice.{Ghosts}
-use Rattle.page_store.specs.claim.Transactions.{device_in}
-use Rattle.desk_store.specs.{claim.Clerks.pages_of, declared.clerk.Clerk.Clerk}
-use Rattle.desk_pages.specs.declared.error.StoreError.{StoreError}
+use Rattle.{std.specs.Prelude.{Result, Ok, Err}, desk_pages.specs.declared.error.StoreError.StoreError, desk_store.specs.{claim.Clerks.pages_of, declared.clerk.Clerk.Clerk}}
+use Rattle.{page_store.specs.claim.Transactions.device_in, sector_device.specs.declared.SectorDevice.Ghosts}
 
 abbrev pub device_after : {D : Type 0} {g : Ghosts D} → Result (Clerk D g) (StoreError × D) → D
 device_after (Ok x) = device_in (pages_of x)

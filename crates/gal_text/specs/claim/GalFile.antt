@@ -1,8 +1,8 @@
 -- A neighbour file as a whole: which texts are neighbour files, and what they say.
-use Rattle.std.specs.{Prelude.{◌≡◌, ℕ, ◌+◌, ◌⊎◌, List, [], ◌++◌, Option, Result, Ok, Err, Vec, ⊤}, declared.alloc.Global.Global, Io.KnownBytes.IsAtEnd}
-use Rattle.byte_stream.specs.{claim.Counts.counted, claim.Reading.{NoLineFeed, BeginsWithLine, IsBroken}, claim.Words.{words, IsBrokenWord}}
-use Rattle.gal_text.specs.{claim.Units.{Progress, progress_after, units_read}, claim.Links.{AreComplete, IsLeastMissing, AreMutual, IsLeastOneWay, ArePairsOf}}
-use Rattle.gal_text.specs.{declared.fault.TextFault.TextFault, declared.fault.GalFault.GalFault}
+use Rattle.std.specs.{Io.KnownBytes.IsAtEnd, Prelude.{◌≡◌, ℕ, ◌+◌, ◌⊎◌, List, [], ◌++◌, Option, Result, Ok, Err, Vec, ⊤}, declared.alloc.Global.Global}
+use Rattle.{byte_stream.specs.claim.{Counts.counted, Reading.{NoLineFeed, BeginsWithLine, IsBroken}, Words.{words, IsBrokenWord}}, gal_text.specs.declared.fault.GalFault.GalFault}
+use Rattle.gal_text.specs.claim.{Links.{AreComplete, IsLeastMissing, AreMutual, IsLeastOneWay, ArePairsOf}, Units.{Progress, progress_after, units_read}}
+use Rattle.gal_text.specs.declared.fault.TextFault.{TextFault}
 use Rattle.gal_text.specs.declared.fault.GalFault.TheVariants as fault
 
 -- the text is one line

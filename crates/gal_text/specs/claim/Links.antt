@@ -1,6 +1,6 @@
 -- What units list, as a symmetric set of pairs.
 use Rattle.std.specs.Prelude.{◌≡◌, ℕ, ◌<◌, ◌≤◌, ◌⊎◌, List, [], ◌∷◌, All, Contains}
-use Rattle.gal_text.specs.{declared.units.Link.Link, claim.Units.link_of}
+use Rattle.gal_text.specs.{claim.Units.link_of, declared.units.Link.Link}
 
 -- the unit lists the block
 abbrev pub Lists : List Link → ℕ → ℕ → Type 0

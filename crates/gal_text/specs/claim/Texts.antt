@@ -1,7 +1,6 @@
 -- How a fault of a neighbour file is told: its code and what it carries.
 use Rattle.std.specs.Prelude.{ℕ, List, ◌++◌, codes, decimal}
-use Rattle.desk_model.specs.claim.Padded.{padded_decimal}
-use Rattle.gal_text.specs.{declared.fault.TextFault.TextFault, declared.fault.GalFault.GalFault}
+use Rattle.{desk_model.specs.claim.Padded.padded_decimal, gal_text.specs.declared.fault.{GalFault.GalFault, TextFault.TextFault}}
 use Rattle.gal_text.specs.declared.fault.TextFault.TheVariants as word
 use Rattle.gal_text.specs.declared.fault.GalFault.TheVariants as gal
 

@@ -1,8 +1,7 @@
 -- A journal as the layers above see it.
 use Rattle.std.specs.Prelude.{◌≡◌, ◌≤◌, ◌<◌, ℕ, Bool, true, false, Result, Ok, Err}
+use Rattle.gate_journal.specs.{claim.Store.{pages, Opens}, declared.{error.PageError.{PageError, TheVariants.{DeviceFault, Halted, TooManyPages}}, journal.Journal.Journal}}
 use Rattle.sector_device.specs.{claim.Disk.{Disk, Image}, declared.SectorDevice.Ghosts}
-use Rattle.gate_journal.specs.{claim.Store.{pages, Opens}, declared.journal.Journal.Journal, declared.error.PageError.PageError}
-use Rattle.gate_journal.specs.declared.error.PageError.TheVariants.{DeviceFault, Halted, TooManyPages}
 
 module _ {D : Type 0} {g : Ghosts D} where
   -- the device, and the disk in it

@@ -4,9 +4,8 @@
 --   2 ..                the list: how many pages a commit writes, and their numbers
 --   first_copy J ..     the copies of those pages, in the order of the list
 --   home J ..           the pages
-use Rattle.std.specs.{Prelude.{◌≡◌, ◌≤◌, ◌<◌, ◌+◌, ◌*◌, ◌/◌, ◌%◌, ℕ, List, [], ◌∷◌, cond, replicate}, Int.{w32, from_be_bytes, to_be_bytes}}
-use Rattle.std.proofs.Common.{get_or, set, zero, suc, nat_eq}
-use Rattle.sector_device.specs.claim.Disk.{Image}
+use Rattle.std.specs.{Int.{w32, from_be_bytes, to_be_bytes}, Prelude.{◌≡◌, ◌≤◌, ◌<◌, ◌+◌, ◌*◌, ◌/◌, ◌%◌, ℕ, List, [], ◌∷◌, cond, replicate}}
+use Rattle.{std.proofs.Common.{get_or, set, zero, suc, nat_eq}, sector_device.specs.claim.Disk.Image}
 
 -- the number in the k-th four bytes of a sector
 abbrev pub word : List ℕ → ℕ → ℕ

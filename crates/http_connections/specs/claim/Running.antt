@@ -1,7 +1,6 @@
 -- What a run over many streams counts.
 use Rattle.std.specs.Prelude.{ℕ, ◌+◌, ◌-◌, ◌^◌, min, Option, Some, None, Result, Ok, Err}
-use Rattle.http_desk.specs.{declared.serve.Served.Served, declared.serve.StreamFault.StreamFault}
-use Rattle.http_connections.specs.declared.ran.Ran.{Ran}
+use Rattle.{http_connections.specs.declared.ran.Ran.Ran, http_desk.specs.declared.serve.{Served.Served, StreamFault.StreamFault}}
 
 -- the numbers stay at the greatest u64
 abbrev pub counted : (so_far more : ℕ) → ℕ

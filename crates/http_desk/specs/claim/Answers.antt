@@ -1,14 +1,12 @@
 -- Answers: what each says, and their bytes.
 use Rattle.std.specs.Prelude.{◌≡◌, ◌⊎◌, ◌||◌, ℕ, Bool, true, false, List, Option, Some, None, option_map, codes, ⊤}
-use Rattle.desk_model.specs.{declared.reply.Reply.Reply, declared.reply.Refusal.Refusal}
+use Rattle.{desk_model.specs.declared.reply.{Refusal.Refusal, Reply.Reply}, http_desk.specs.claim.Bodies.{plans_body, created_body, retired_body, error_body, refusal_body}}
 use Rattle.desk_model.specs.declared.reply.Refusal.TheVariants.{NoPlan, NoRevision, PlanExists, Stale, BadBody, NotWholeCounty, BadCompanion, Limit, Full, Memory, Halted, NotSealed}
+use Rattle.{http_intake.specs.declared.bad_request.BadRequest.BadRequest, http_routes.specs.{claim.Methods.methods_text, declared.{method.Methods.Methods, order.Error.Error}}}
+use Rattle.http_wire.specs.{claim.Answer.answer_text, declared.response.ContentType.{ContentType, TheVariants.{Json, PlainText}}}
 use Rattle.desk_model.specs.declared.reply.Reply.TheVariants as reply
-use Rattle.http_intake.specs.declared.bad_request.BadRequest.{BadRequest}
 use Rattle.http_intake.specs.declared.bad_request.BadRequest.TheVariants as fault
-use Rattle.http_wire.specs.{declared.response.ContentType.ContentType, declared.response.ContentType.TheVariants.{Json, PlainText}, claim.Answer.answer_text}
-use Rattle.http_routes.specs.{declared.order.Error.Error, declared.method.Methods.Methods, claim.Methods.methods_text}
 use Rattle.http_routes.specs.declared.order.Error.TheVariants as error
-use Rattle.http_desk.specs.claim.Bodies.{plans_body, created_body, retired_body, error_body, refusal_body}
 
 -- what an answer says, whichever request it is for
 pub record Message : Type 0 where

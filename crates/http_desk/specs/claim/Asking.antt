@@ -1,10 +1,7 @@
 -- Which commands the bytes of a stream ask for.
-use Rattle.std.specs.{Prelude.{◌≡◌, ℕ, List, [], ◌++◌, Option}, Io.KnownBytes.Consumes}
-use Rattle.desk_model.specs.declared.command.Command.{Command}
-use Rattle.httparse.specs.Grammar.{RequestHead}
-use Rattle.http_wire.specs.claim.Prefix.{HasRequest}
+use Rattle.std.specs.{Io.KnownBytes.Consumes, Prelude.{◌≡◌, ℕ, List, [], ◌++◌, Option}}
+use Rattle.{desk_model.specs.declared.command.Command.Command, http_routes.specs.claim.Orders.order_of, http_wire.specs.claim.Prefix.HasRequest, httparse.specs.Grammar.RequestHead}
 use Rattle.http_routes.specs.declared.order.Order.TheVariants as order
-use Rattle.http_routes.specs.claim.Orders.{order_of}
 
 -- Whole requests stand at the start of the input, one after the other, and one of them asks for the command
 pub data Asks : List ℕ → Command → Type 0 where

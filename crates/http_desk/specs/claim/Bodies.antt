@@ -1,9 +1,8 @@
 -- The bodies of answers, as compact JSON with its keys in byte order (RFC 8259).
 use Rattle.std.specs.Prelude.{ℕ, List, ◌++◌, map, codes, decimal}
-use Rattle.serde_json.specs.{Data.{Data, number, unsigned, string, array, object, member, no_members}, View.items_of, Written.compact_text}
-use Rattle.desk_model.specs.{declared.reply.PlanLine.PlanLine, declared.reply.Refusal.Refusal}
+use Rattle.{desk_model.specs.{claim.{Baf.fault_code, Kind.kind_name, Padded.padded_decimal}, declared.reply.{PlanLine.PlanLine, Refusal.Refusal}}, serde_json.specs.View.items_of}
 use Rattle.desk_model.specs.declared.reply.Refusal.TheVariants.{NoPlan, NoRevision, PlanExists, Stale, BadBody, NotWholeCounty, BadCompanion, Limit, Full, Memory, Halted, NotSealed}
-use Rattle.desk_model.specs.{claim.Baf.fault_code, claim.Padded.padded_decimal, claim.Kind.kind_name}
+use Rattle.serde_json.specs.{Data.{Data, number, unsigned, string, array, object, member, no_members}, Written.compact_text}
 
 -- a line of the list of plans
 abbrev pub row_data : PlanLine → Data

@@ -1,11 +1,9 @@
 -- What a served stream comes to.
-use Rattle.std.specs.{Prelude.{◌≡◌, ◌⊎◌, ℕ, suc, ◌+◌, Bool, true, false, List, [], ◌++◌, Option, Result, Ok, Err}, Io.KnownBytes.{Appends, Consumes, IsAtEnd}}
-use Rattle.desk_model.specs.{declared.command.Command.Command, declared.command.Query.Query, declared.reply.Reply.Reply}
-use Rattle.http_desk.specs.{declared.serve.Served.Served, declared.serve.Next.Next, declared.serve.StreamFault.StreamFault, claim.Asking.Asks, claim.Talk.Talk}
+use Rattle.std.specs.{Io.KnownBytes.{Appends, Consumes, IsAtEnd}, Prelude.{◌≡◌, ◌⊎◌, ℕ, suc, ◌+◌, Bool, true, false, List, [], ◌++◌, Option, Result, Ok, Err}}
+use Rattle.{byte_stream.specs.claim.Counts.counted, desk_model.specs.declared.{command.{Command.Command, Query.Query}, reply.Reply.Reply}, http_desk.specs.claim.Asking.Asks}
+use Rattle.{http_desk.specs.{claim.Talk.Talk, declared.serve.{Next.Next, Served.Served, StreamFault.StreamFault}}, http_wire.specs.claim.Interim.IsCutHead}
 use Rattle.http_desk.specs.declared.serve.Next.TheVariants as next
 use Rattle.http_desk.specs.declared.serve.StreamFault.TheVariants as fault
-use Rattle.byte_stream.specs.claim.Counts.{counted}
-use Rattle.http_wire.specs.claim.Interim.{IsCutHead}
 
 -- a read fault is one failure of the reader more, and all else none
 abbrev pub read_failures : {A : Type 0} → ℕ → Result A StreamFault → ℕ

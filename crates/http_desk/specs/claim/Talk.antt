@@ -1,13 +1,10 @@
 -- What may be written for what is read, request by request: the talk of a stream of bytes.
 use Rattle.std.specs.Prelude.{◌≡◌, ◌⊎◌, ℕ, suc, Bool, true, false, List, [], ◌++◌}
-use Rattle.desk_model.specs.{declared.command.Command.Command, declared.command.Query.Query, declared.reply.Reply.Reply}
-use Rattle.httparse.specs.Grammar.{RequestHead}
-use Rattle.http_intake.specs.declared.bad_request.BadRequest.{BadRequest}
+use Rattle.{desk_model.specs.declared.{command.{Command.Command, Query.Query}, reply.Reply.Reply}, http_intake.specs.declared.bad_request.BadRequest.BadRequest}
+use Rattle.{http_desk.specs.claim.Answers.{bytes_of, memory_text, error_message, fault_message, Tells}, http_routes.specs.{claim.Orders.order_of, declared.order.Order.Order}}
+use Rattle.{http_wire.specs.claim.Interim.{Interim, continue_text, asks_to_continue}, httparse.specs.Grammar.RequestHead}
 use Rattle.http_wire.specs.claim.Prefix.{HasRequest, HasFault, IsOutOfMemory, IsIncomplete, closes_after as closes_after_head, is_head}
-use Rattle.http_wire.specs.claim.Interim.{Interim, continue_text, asks_to_continue}
-use Rattle.http_routes.specs.{declared.order.Order.Order, claim.Orders.order_of}
 use Rattle.http_routes.specs.declared.order.Order.TheVariants as order
-use Rattle.http_desk.specs.claim.Answers.{bytes_of, memory_text, error_message, fault_message, Tells}
 
 -- Generic in what answers: the two relations say which reply a command or a query may have, and what it leaves.
 module _ {X : Type 0} (commands : X → Command → Reply → X → Type 0) (asks : X → Query → Reply → X → Type 0) where

@@ -1,9 +1,8 @@
 -- A body in chunks (RFC 9112, section 7.1), over all the bytes after a head.
 use Rattle.std.specs.Prelude.{◌≡◌, ◌≢◌, ◌⊎◌, ℕ, ◌+◌, ◌<◌, ◌≤◌, List, [], ◌∷◌, ◌++◌, length, take}
+use Rattle.http_intake.specs.{claim.{Limits.{head_limit, field_limit, body_limit, window}, Lines.section_lines}, declared.bad_request.BadRequest.BadRequest}
+use Rattle.{http_intake.specs.declared.bad_request.BadRequest.TheVariants.{BadHead, HeadTooLarge, BodyTooLarge, BadChunk}, httparse.specs.Spans.SectionOverflows}
 use Rattle.httparse.specs.Grammar.{LineEnd, Field, ReadsSection, HasNoSection, NeverHasSection, MayBecomeSection, print_section, ChunkLine, ReadsChunkLine, HasNoChunkLine, NeverHasChunkLine, MayBecomeChunkLine, print_chunk_line, chunk_size}
-use Rattle.httparse.specs.Spans.{SectionOverflows}
-use Rattle.http_intake.specs.{claim.Lines.section_lines, claim.Limits.{head_limit, field_limit, body_limit, window}, declared.bad_request.BadRequest.BadRequest}
-use Rattle.http_intake.specs.declared.bad_request.BadRequest.TheVariants.{BadHead, HeadTooLarge, BodyTooLarge, BadChunk}
 
 -- a chunk's line has this many bytes at most, its CR LF among them
 abbrev pub line_limit : ℕ

@@ -1,6 +1,6 @@
 -- The methods that pages take.
 use Rattle.std.specs.{Prelude.{ℕ, Bool, ◌||◌, List, codes}, Str.bytes_eq}
-use Rattle.http_routes.specs.{declared.method.Methods.Methods, declared.method.Methods.TheVariants.{Look, Make, Post}, declared.route.Route.Route}
+use Rattle.http_routes.specs.declared.{method.Methods.{Methods, TheVariants.{Look, Make, Post}}, route.Route.Route}
 use Rattle.http_routes.specs.declared.route.Route.TheVariants as route
 
 -- the method is the word; case matters (RFC 9110, section 9.1)

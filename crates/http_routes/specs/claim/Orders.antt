@@ -1,15 +1,13 @@
 -- What a request asks for, by its method, its target and its body.
-use Rattle.std.specs.{Prelude.{ℕ, ◌==◌, if◌then◌else◌, List, Option, Some, None, codes}, List.{before_first, after_first}}
+use Rattle.std.specs.{List.{before_first, after_first}, Prelude.{ℕ, ◌==◌, if◌then◌else◌, List, Option, Some, None, codes}}
+use Rattle.{byte_stream.specs.claim.Digits.number_of, desk_model.specs.{claim.Name.plan_name_of, declared.command.Command.TheVariants.{Create, Whole, Counties, Retire, Fork}}}
+use Rattle.desk_model.specs.declared.{command.Query.{Query, TheVariants.{Plans, Blocks, Revision, Audit}}, companions.Companions.Companions, kind.Kind.Kind}
+use Rattle.http_routes.specs.claim.{Methods.{is_method, is_known, methods_of, takes}, Queries.{create_query, after_query, from_query, companions_query, is_no_query}}
+use Rattle.http_routes.specs.{claim.Routes.{route_of, plan_part, revision_part}, declared.{method.Methods.TheVariants.Make, order.Order.Order, route.Route.Route}}
+use Rattle.http_routes.specs.declared.order.Error.TheVariants.{UnknownMethod, NoRoute, MethodNotAllowed, BadName, BadNumber, BadQuery}
 use Rattle.percent_encoding.specs.Percent.{percent_decode}
-use Rattle.desk_model.specs.{claim.Name.plan_name_of, declared.companions.Companions.Companions, declared.kind.Kind.Kind, declared.command.Query.Query}
-use Rattle.desk_model.specs.{declared.command.Command.TheVariants.{Create, Whole, Counties, Retire, Fork}, declared.command.Query.TheVariants.{Plans, Blocks, Revision, Audit}}
-use Rattle.http_routes.specs.{declared.route.Route.Route, declared.order.Order.Order}
-use Rattle.http_routes.specs.{declared.order.Error.TheVariants.{UnknownMethod, NoRoute, MethodNotAllowed, BadName, BadNumber, BadQuery}, declared.method.Methods.TheVariants.Make}
-use Rattle.http_routes.specs.{claim.Methods.{is_method, is_known, methods_of, takes}, claim.Routes.{route_of, plan_part, revision_part}}
-use Rattle.http_routes.specs.claim.Queries.{create_query, after_query, from_query, companions_query, is_no_query}
 use Rattle.http_routes.specs.declared.route.Route.TheVariants as route
 use Rattle.http_routes.specs.declared.order.Order.TheVariants as order
-use Rattle.byte_stream.specs.claim.Digits.{number_of}
 
 -- the path is what stands before the first question mark, and the query what stands after it (RFC 9112, section 3.2.1)
 abbrev pub path_of : List ℕ → List ℕ

@@ -1,7 +1,7 @@
 -- The table of paths, and which of them a path is.
-use Rattle.std.specs.{Prelude.{ℕ, ◌==◌, List, [], Option, option_map, Result, Ok, Err, codes}, List.{before_first, after_first}}
-use Rattle.matchit.specs.{Rows.RowsOf, Route.{Scan, parse_route}, Order.placed, Router.{RouteOf, route_from}, Seek.first, declared.InsertError.InsertError}
-use Rattle.http_routes.specs.{declared.route.Route.Route, declared.route.Route.TheVariants.{Blocks, Plans, Plan, Revisions, Counties, Revision, Audit}}
+use Rattle.std.specs.{List.{before_first, after_first}, Prelude.{ℕ, ◌==◌, List, [], Option, option_map, Result, Ok, Err, codes}}
+use Rattle.{http_routes.specs.declared.route.Route.{Route, TheVariants.{Blocks, Plans, Plan, Revisions, Counties, Revision, Audit}}, matchit.specs.{Order.placed, Rows.RowsOf}}
+use Rattle.matchit.specs.{Route.{Scan, parse_route}, Router.{RouteOf, route_from}, Seek.first, declared.InsertError.InsertError}
 
 -- the rows with one more route
 abbrev pub with_read : Result Scan InsertError → Route → RowsOf (RouteOf Route) → RowsOf (RouteOf Route)

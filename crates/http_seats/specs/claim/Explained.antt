@@ -1,11 +1,9 @@
 -- What a call at a seat may answer, by a list of changes between what the seat heard of before and what it heard of after, and what it
 -- counts there.
 use Rattle.std.specs.Prelude.{◌≡◌, ◌+◌, List, [], ◌∷◌, ◌++◌}
+use Rattle.{desk_catalogue.specs.claim.Audits.AskMay, desk_gallery.specs.claim.{After.after, Outcomes.OutcomeMay, Telling.{accepted_in, halted_in}}}
+use Rattle.{desk_model.specs.{claim.{Desk.Desk, Outcome.IsAcceptance}, declared.{command.{Command.Command, Query.Query}, reply.Reply.Reply}}, http_seats.specs.claim.Seated.Seated}
 use mathlib.Core.List.{IsPrefix}
-use Rattle.desk_model.specs.{declared.command.Command.Command, declared.command.Query.Query, declared.reply.Reply.Reply, claim.Desk.Desk, claim.Outcome.IsAcceptance}
-use Rattle.desk_catalogue.specs.claim.Audits.{AskMay}
-use Rattle.desk_gallery.specs.{claim.After.after, claim.Outcomes.OutcomeMay, claim.Telling.{accepted_in, halted_in}}
-use Rattle.http_seats.specs.claim.Seated.{Seated}
 
 -- The answer is that after a list that begins with all that was heard of before, and all of it is heard of then. No command is done.
 pub record ExplainsQuery (first : Desk) (before : Seated) (q : Query) (r : Reply) (after_it : Seated) : Type 0 where

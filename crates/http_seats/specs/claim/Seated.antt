@@ -1,6 +1,5 @@
 -- A seat as calls at it leave it.
-use Rattle.std.specs.Prelude.{ℕ, List}
-use Rattle.desk_model.specs.declared.command.Command.{Command}
+use Rattle.{std.specs.Prelude.{ℕ, List}, desk_model.specs.declared.command.Command.Command}
 
 -- the changes that it heard of, and how many of its commands were told as accepted and how many as halted
 pub record Seated : Type 0 where

@@ -1,9 +1,6 @@
 -- What streams that an office served came to, and what its clerk did.
-use Rattle.std.specs.Prelude.{ℕ, List}
-use Rattle.sector_device.specs.declared.SectorDevice.{Ghosts}
-use Rattle.desk_model.specs.{declared.command.Command.Command, claim.Desk.Desk}
-use Rattle.desk_gallery.specs.{desk_store.declared.clerk.Clerk.Clerk, claim.Begun.{Beginning, HasRun}, claim.Working.AreAccepted}
-use Rattle.http_connections.specs.declared.ran.Ran.{Ran}
+use Rattle.{std.specs.Prelude.{ℕ, List}, desk_gallery.specs.{claim.{Begun.{Beginning, HasRun}, Working.AreAccepted}, desk_store.declared.clerk.Clerk.Clerk}}
+use Rattle.{desk_model.specs.{claim.Desk.Desk, declared.command.Command.Command}, http_connections.specs.declared.ran.Ran.Ran, sector_device.specs.declared.SectorDevice.Ghosts}
 use Rattle.http_seats.specs.claim.Streams.{Traffic, IsAskedOf, AreCounted}
 
 module _ {R W : Type 0} (s : Traffic R W) (first : Desk) {D : Type 0} {g : Ghosts D} where

@@ -1,10 +1,9 @@
 -- What the streams of many workers came to, and what they were answered.
-use Rattle.std.specs.{Prelude.{◌≡◌, ℕ, All, List, [], ◌∷◌, length, map, reverse, fold, Option, Some, None, Result, ⊤}, List.sum_by}
+use Rattle.std.specs.{List.sum_by, Prelude.{◌≡◌, ℕ, All, List, [], ◌∷◌, length, map, reverse, fold, Option, Some, None, Result, ⊤}}
+use Rattle.{desk_model.specs.{claim.Desk.Desk, declared.command.Command.Command}, http_connections.specs.claim.Running.{joined, no_streams, one_more, requests_of}}
+use Rattle.{http_connections.specs.declared.ran.Ran.Ran, http_desk.specs.{claim.{Asking.IsAskedIn, Serving.{Serves, read_failures, write_failures}}, declared.serve.Served.Served}}
+use Rattle.{http_desk.specs.declared.serve.StreamFault.StreamFault, http_seats.specs.claim.{Explained.{ExplainsCommand, ExplainsQuery}, Seated.{Seated, newcomer}}}
 use mathlib.Core.List.{IsPrefix}
-use Rattle.desk_model.specs.{declared.command.Command.Command, claim.Desk.Desk}
-use Rattle.http_desk.specs.{declared.serve.Served.Served, declared.serve.StreamFault.StreamFault, claim.Asking.IsAskedIn, claim.Serving.{Serves, read_failures, write_failures}}
-use Rattle.http_connections.specs.{declared.ran.Ran.Ran, claim.Running.{joined, no_streams, one_more, requests_of}}
-use Rattle.http_seats.specs.{claim.Explained.{ExplainsCommand, ExplainsQuery}, claim.Seated.{Seated, newcomer}}
 
 -- the streams of one worker, the last first
 abbrev pub counts_of : List (Result Served StreamFault) → Ran

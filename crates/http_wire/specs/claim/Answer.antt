@@ -1,7 +1,6 @@
 -- The bytes of an answer (RFC 9112, section 4).
 use Rattle.std.specs.Prelude.{ℕ, Bool, true, false, List, [], ◌∷◌, ◌++◌, length, Option, Some, None, codes, decimal}
-use Rattle.http.specs.StatusCode.{code_digits}
-use Rattle.http_wire.specs.{claim.Phrases.phrase_of, declared.response.ContentType.ContentType, declared.response.ContentType.TheVariants.{Json, PlainText}}
+use Rattle.{http.specs.StatusCode.code_digits, http_wire.specs.{claim.Phrases.phrase_of, declared.response.ContentType.{ContentType, TheVariants.{Json, PlainText}}}}
 
 abbrev pub line_end : List ℕ
 line_end = 13 ∷ 10 ∷ []

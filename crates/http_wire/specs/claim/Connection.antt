@@ -1,7 +1,6 @@
 -- What the words of a list in a field say.
-use Rattle.std.specs.{Prelude.{ℕ, Bool, false, ◌||◌, ◌&&◌, ◌==◌, List, [], ◌∷◌, codes}, List.{list_any, slice_split}}
-use Rattle.httparse.specs.Grammar.{trim_ows}
-use Rattle.http_wire.specs.claim.Target.{is_word}
+use Rattle.std.specs.{List.{list_any, slice_split}, Prelude.{ℕ, Bool, false, ◌||◌, ◌&&◌, ◌==◌, List, [], ◌∷◌, codes}}
+use Rattle.{http_wire.specs.claim.Target.is_word, httparse.specs.Grammar.trim_ows}
 
 -- the word stands between two commas, without the spaces and tabs round it (RFC 9110, section 5.6.1)
 abbrev pub is_element : List ℕ → List ℕ → Bool

@@ -1,6 +1,6 @@
 -- The forms of a request target (RFC 9112, section 3.2).
-use Rattle.std.specs.{Prelude.{ℕ, Bool, false, ◌||◌, ◌==◌, if◌then◌else◌, nat_lt, List, [], ◌∷◌, map, take, drop, Option, Some, None, option_map, codes}, List.list_all}
-use Rattle.std.specs.{Char.to_ascii_lowercase, Str.bytes_eq}
+use Rattle.std.specs.{Char.to_ascii_lowercase, List.list_all, Str.bytes_eq}
+use Rattle.std.specs.Prelude.{ℕ, Bool, false, ◌||◌, ◌==◌, if◌then◌else◌, nat_lt, List, [], ◌∷◌, map, take, drop, Option, Some, None, option_map, codes}
 
 -- the same word, whatever the case (RFC 9110, section 5.1)
 abbrev pub is_word : List ℕ → List ℕ → Bool

@@ -1,9 +1,8 @@
 -- Why a call on a tree is refused.
 use Rattle.std.{specs.Prelude.{◌≡◌, ◌<◌, ℕ, true}, proofs.Common.get_or}
+use Rattle.page_btree.specs.{claim.{Keys.KeyMap, Map.InTxn}, declared.error.TreeError.{TreeError, TheVariants.{DeviceFault, NotAStore, Halted, NoPages, TooDeep, Memory}}}
+use Rattle.page_store.specs.{claim.Transactions.{stored, disk_in, has_halted, HasFailed, txn_free, txn_root, over}, declared.{pages.Pages.Pages, txn.Txn.Txn}}
 use Rattle.sector_device.specs.{claim.Disk.Image, declared.SectorDevice.Ghosts}
-use Rattle.page_store.specs.{claim.Transactions.{stored, disk_in, has_halted, HasFailed, txn_free, txn_root, over}, declared.pages.Pages.Pages, declared.txn.Txn.Txn}
-use Rattle.page_btree.specs.{claim.Keys.KeyMap, claim.Map.InTxn, declared.error.TreeError.TreeError}
-use Rattle.page_btree.specs.declared.error.TreeError.TheVariants.{DeviceFault, NotAStore, Halted, NoPages, TooDeep, Memory}
 
 -- the level of the node at the root
 abbrev pub level_in : Image → ℕ → ℕ

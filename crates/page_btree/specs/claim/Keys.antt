@@ -1,7 +1,7 @@
 -- Keys between bounds, and the map that a tree stands for.
-use Rattle.std.specs.{Prelude.{◌≡◌, ℕ, List, false, Option, Some, None}, Ordering.is_gt, declared.cmp.Ordering.TheVariants.Less}
-use Rattle.std.specs.FinMap as map_of
+use Rattle.std.specs.{Ordering.is_gt, Prelude.{◌≡◌, ℕ, List, false, Option, Some, None}, declared.cmp.Ordering.TheVariants.Less}
 use Rattle.page_node.specs.claim.Places.{key_cmp}
+use Rattle.std.specs.FinMap as map_of
 
 -- keys to values; keys in the order of their bytes, a key before its longer continuations
 abbrev pub KeyMap : Type 0

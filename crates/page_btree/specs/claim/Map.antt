@@ -1,9 +1,8 @@
 -- Pages that hold a map.
-use Rattle.std.specs.{Prelude.{◌≡◌, ◌⊎◌, ◌<◌, ◌≤◌, ◌+◌, ℕ, List, [], length, None}, FinMap.entries}
+use Rattle.std.specs.{FinMap.entries, Prelude.{◌≡◌, ◌⊎◌, ◌<◌, ◌≤◌, ◌+◌, ℕ, List, [], length, None}}
+use Rattle.{page_btree.specs.claim.{Keys.KeyMap, Tree.{Tree, IsTree, IsApart, page_of, owns, rows, size}}, page_store.specs.claim.Chain.{IsIn, AreFree, root_in, free_in}}
+use Rattle.page_store.specs.{claim.Transactions.{stored, count_of, txn_pages, txn_root, over, free_over}, declared.{pages.Pages.Pages, txn.Txn.Txn}}
 use Rattle.sector_device.specs.{claim.Disk.Image, declared.SectorDevice.Ghosts}
-use Rattle.page_store.specs.{claim.Chain.{IsIn, AreFree, root_in, free_in}, claim.Transactions.{stored, count_of, txn_pages, txn_root, over, free_over}, declared.pages.Pages.Pages}
-use Rattle.page_store.specs.declared.txn.Txn.{Txn}
-use Rattle.page_btree.specs.{claim.Keys.KeyMap, claim.Tree.{Tree, IsTree, IsApart, page_of, owns, rows, size}}
 
 -- the tree's pages are pages of the store other than page 0, each stands once in it, and none of them is free
 pub record IsSound (n : ℕ) (free : List ℕ) (t : Tree) : Type 0 where

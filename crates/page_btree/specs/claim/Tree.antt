@@ -1,9 +1,7 @@
 -- A tree of pages: a leaf has rows, a node above has children, each after a key. Rows of a child are from its key on, and below
 -- the next child's. The first child's key says nothing.
-use Rattle.std.specs.{Prelude.{◌≡◌, ◌⊎◌, ◌<◌, ◌+◌, ◌-◌, ℕ, List, [], ◌∷◌, ◌++◌, length, Option, Some}, List.AllByRecursion}
-use Rattle.sector_device.specs.claim.Disk.{Image}
-use Rattle.page_node.specs.{claim.Entries.{Entry, child_bytes}, claim.Node.IsNode, claim.Places.Rises}
-use Rattle.page_btree.specs.claim.Keys.{IsBetween, Parts}
+use Rattle.std.specs.{List.AllByRecursion, Prelude.{◌≡◌, ◌⊎◌, ◌<◌, ◌+◌, ◌-◌, ℕ, List, [], ◌∷◌, ◌++◌, length, Option, Some}}
+use Rattle.{page_btree.specs.claim.Keys.{IsBetween, Parts}, page_node.specs.claim.{Entries.{Entry, child_bytes}, Node.IsNode, Places.Rises}, sector_device.specs.claim.Disk.Image}
 
 mutual
   pub data Tree : Type 0 where

@@ -1,5 +1,5 @@
 -- Entries, each a key and a value, and their bytes.
-use Rattle.std.specs.{Prelude.{◌≤◌, ◌+◌, ◌/◌, ◌%◌, ℕ, List, [], ◌∷◌, ◌++◌, length}, Int.{w32, to_be_bytes}}
+use Rattle.std.specs.{Int.{w32, to_be_bytes}, Prelude.{◌≤◌, ◌+◌, ◌/◌, ◌%◌, ℕ, List, [], ◌∷◌, ◌++◌, length}}
 
 abbrev pub Entry : Type 0
 Entry = List ℕ × List ℕ

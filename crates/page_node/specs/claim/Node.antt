@@ -2,7 +2,7 @@
 --   byte 0         the level, 0 for a leaf
 --   bytes 2, 3     the number of entries
 --   from byte 4    the entries, and zeros
-use Rattle.std.{specs.Prelude.{◌≡◌, ◌≤◌, ◌<◌, ◌+◌, ◌*◌, ℕ, List, length, take, drop}, specs.List.All, proofs.Common.get_or}
+use Rattle.std.{specs.{List.All, Prelude.{◌≡◌, ◌≤◌, ◌<◌, ◌+◌, ◌*◌, ℕ, List, length, take, drop}}, proofs.Common.get_or}
 use Rattle.page_node.specs.claim.Entries.{Entry, IsEntry, body_of, size_of}
 
 pub record Node : Type 0 where

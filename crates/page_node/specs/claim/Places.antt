@@ -1,5 +1,5 @@
 -- Where a key stands among entries whose keys rise.
-use Rattle.std.specs.{Prelude.{◌≡◌, ℕ, true, List}, Ordering.nat_cmp, Cmp.Lexicographic.slice_cmp, declared.cmp.Ordering.Ordering, FinMap.is_sorted}
+use Rattle.std.specs.{Cmp.Lexicographic.slice_cmp, FinMap.is_sorted, Ordering.nat_cmp, Prelude.{◌≡◌, ℕ, true, List}, declared.cmp.Ordering.Ordering}
 use Rattle.page_node.specs.claim.Entries.{Entry}
 
 -- keys in the order of their bytes, a key before its longer continuations

@@ -1,8 +1,7 @@
 -- The meta page and the free pages. Page 0 begins with three words: the root, the first free page, and how many pages are
 -- free. Each free page begins with the number of the next one, and has no bytes but these.
 use Rattle.std.{specs.Prelude.{◌≡◌, ◌⊎◌, ◌<◌, ◌&&◌, ℕ, Bool, true, List, [], ◌∷◌, cond}, proofs.Common.{zero, suc, nat_eq}}
-use Rattle.sector_device.specs.claim.Disk.{Image}
-use Rattle.gate_journal.specs.claim.Store.{word}
+use Rattle.{gate_journal.specs.claim.Store.word, sector_device.specs.claim.Disk.Image}
 
 -- so many words after a page's first one are zero
 abbrev pub are_zero : List ℕ → ℕ → Bool

@@ -1,10 +1,9 @@
 -- Pages and transactions over them, as the layers above see them.
 use Rattle.std.specs.Prelude.{◌≡◌, ◌≤◌, ◌<◌, ℕ, Bool, true, false, List, Result, Ok, Err, length}
-use Rattle.sector_device.specs.{claim.Disk.{Disk, Image, Touches, Nowhere}, declared.SectorDevice.Ghosts}
-use Rattle.gate_journal.specs.{claim.Store.overlay, claim.Writes.writes_of}
-use Rattle.gate_journal.specs.claim.Contents.{content, disk_of, device_of, page_count, journal_size, is_halted, HasShapeOf, HasHalted, IsKept as kept}
-use Rattle.gate_journal.specs.{declared.error.PageError.PageError, declared.error.PageError.TheVariants.{NotAStore, DeviceFault, Halted, TooManyPages, NoPages}}
-use Rattle.page_store.specs.{claim.Chain.{chain, AreFree}, declared.pages.Pages.Pages, declared.txn.Txn.Txn, declared.txn.Prepared.Prepared}
+use Rattle.gate_journal.specs.claim.{Contents.{content, disk_of, device_of, page_count, journal_size, is_halted, HasShapeOf, HasHalted, IsKept as kept}, Store.overlay}
+use Rattle.gate_journal.specs.{claim.Writes.writes_of, declared.error.PageError.{PageError, TheVariants.{NotAStore, DeviceFault, Halted, TooManyPages, NoPages}}}
+use Rattle.{page_store.specs.{claim.Chain.{chain, AreFree}, declared.{pages.Pages.Pages, txn.{Prepared.Prepared, Txn.Txn}}}, sector_device.specs.declared.SectorDevice.Ghosts}
+use Rattle.sector_device.specs.claim.Disk.{Disk, Image, Touches, Nowhere}
 
 -- ---- a transaction, over the pages P that are stored
 -- of how many pages the store is

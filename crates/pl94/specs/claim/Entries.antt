@@ -1,8 +1,7 @@
 -- The records of the geographic header that are taken: 2020 Census PL 94-171 summary file, fields of the geographic header.
+use Rattle.{std.specs.Cmp.Lexicographic.pointwise, byte_stream.specs.claim.{Digits.{number_of, number_of_digits}, Fields.fields, Reading.line_limit}}
 use Rattle.std.specs.Prelude.{ℕ, ◌+◌, ◌-◌, ◌*◌, ◌^◌, Bool, not, ◌||◌, if◌then◌else◌, ◌==◌, nat_lt, nat_eq, List, [], length, get_or, slice_index, Option, Some, None, Result, Ok, Err, codes}
-use Rattle.std.specs.Cmp.Lexicographic.{pointwise}
-use Rattle.byte_stream.specs.{claim.Digits.{number_of, number_of_digits}, claim.Fields.fields, claim.Reading.line_limit}
-use Rattle.pl94.specs.{declared.entry.GeoRecord.GeoRecord, declared.entry.HeaderLineFault.HeaderLineFault, declared.entry.HeaderLineFault.TheVariants.{Shape, RecordNumber, Codes}}
+use Rattle.pl94.specs.declared.entry.{GeoRecord.GeoRecord, HeaderLineFault.{HeaderLineFault, TheVariants.{Shape, RecordNumber, Codes}}}
 
 -- field n of a line, counted from 1
 abbrev pub field : ℕ → List (List ℕ) → List ℕ

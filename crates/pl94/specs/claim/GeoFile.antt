@@ -1,7 +1,7 @@
 -- The geographic header as a whole: which texts are headers, and what they say.
-use Rattle.std.specs.{Prelude.{◌≡◌, ℕ, ◌<◌, List, [], length, Option, Result, Ok, Err, ⊤}, Io.KnownBytes.IsAtEnd, Str.Lines.lines}
-use Rattle.byte_stream.specs.{claim.Counts.counted, claim.Judged.{AreGood, ShowsFault, IsCutShort}}
-use Rattle.pl94.specs.{claim.Judging.{entries, blocks_of, state_record_of, ids_of, judge}, declared.geo.GeoRows.GeoRows, declared.geo.GeoFault.GeoFault}
+use Rattle.std.specs.{Io.KnownBytes.IsAtEnd, Prelude.{◌≡◌, ℕ, ◌<◌, List, [], length, Option, Result, Ok, Err, ⊤}, Str.Lines.lines}
+use Rattle.{byte_stream.specs.claim.{Counts.counted, Judged.{AreGood, ShowsFault, IsCutShort}}, pl94.specs.claim.Judging.{entries, blocks_of, state_record_of, ids_of, judge}}
+use Rattle.pl94.specs.declared.geo.{GeoFault.GeoFault, GeoRows.GeoRows}
 use Rattle.pl94.specs.declared.geo.GeoFault.TheVariants as fault
 
 -- the lines are a header, and these are its blocks and its state record

@@ -1,6 +1,6 @@
 -- How a fault of a header is told: its code and its line.
 use Rattle.std.specs.Prelude.{ℕ, List, ◌++◌, codes, decimal}
-use Rattle.pl94.specs.{declared.entry.HeaderLineFault.HeaderLineFault, declared.geo.GeoFault.GeoFault}
+use Rattle.pl94.specs.declared.{entry.HeaderLineFault.HeaderLineFault, geo.GeoFault.GeoFault}
 use Rattle.pl94.specs.declared.entry.HeaderLineFault.TheVariants as line
 use Rattle.pl94.specs.declared.geo.GeoFault.TheVariants as geo
 

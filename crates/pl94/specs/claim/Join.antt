@@ -1,10 +1,9 @@
 -- The header and the segments together: 2020 Census PL 94-171 summary file, joined by LOGRECNO.
+use Rattle.{std.specs.{List.Sorted.IsPermutation, Option.{option_map, option_to_list}, declared.alloc.Global.Global}, desk_model.specs.claim.GeographyModels.AreBlocks}
 use Rattle.std.specs.Prelude.{◌≡◌, ◌≢◌, ℕ, ◌<◌, ◌≤◌, ◌^◌, if◌then◌else◌, List, ◌++◌, map, sum_by, All, Contains, Option, Some, None, IsSome, IfSome, Result, Ok, Err, is_none, unwrap_or, ⊤, Vec}
-use Rattle.std.specs.{declared.alloc.Global.Global, List.Sorted.IsPermutation, Option.{option_map, option_to_list}}
-use Rattle.desk_model.specs.{claim.GeographyModels.AreBlocks, declared.block.BlockRow.BlockRow}
-use Rattle.pl94.specs.{declared.geo.GeoRows.GeoRows, declared.header.GeoBlock.GeoBlock, claim.SegFile.people_of, declared.record.SegmentNumber.SegmentNumber}
-use Rattle.pl94.specs.{declared.record.SegmentNumber.TheVariants.{One, Two, Three}, declared.segment.SegRows.SegRows, declared.join.JoinFault.JoinFault}
-use Rattle.pl94.specs.declared.join.JoinFault.TheVariants.{Missing, TooManyPeople, OtherTotal, Memory}
+use Rattle.{desk_model.specs.declared.block.BlockRow.BlockRow, pl94.specs.{claim.SegFile.people_of, declared.{geo.GeoRows.GeoRows, header.GeoBlock.GeoBlock}}}
+use Rattle.pl94.specs.{declared.join.JoinFault.{JoinFault, TheVariants.{Missing, TooManyPeople, OtherTotal, Memory}}, declared.record.SegmentNumber.SegmentNumber}
+use Rattle.pl94.specs.{declared.record.SegmentNumber.TheVariants.{One, Two, Three}, declared.segment.SegRows.SegRows}
 
 -- the record numbers of all taken records
 abbrev pub taken_numbers : GeoRows → List ℕ

@@ -1,9 +1,7 @@
 -- When the lines of a geographic header are good: each taken record against those before it.
+use Rattle.{std.specs.{List.{list_any, filter_map}, Option.option_map}, byte_stream.specs.claim.Judged.Judge, desk_model.specs.claim.GeographyModels.block_limit}
 use Rattle.std.specs.Prelude.{ℕ, Bool, not, if◌then◌else◌, ◌==◌, nat_le, nat_eq, List, [], ◌∷◌, map, length, Option, Some, None, Result, Ok, Err, is_some, is_none}
-use Rattle.std.specs.{List.{list_any, filter_map}, Option.option_map}
-use Rattle.desk_model.specs.claim.GeographyModels.{block_limit}
-use Rattle.byte_stream.specs.claim.Judged.{Judge}
-use Rattle.pl94.specs.{claim.Entries.line_read, declared.entry.GeoRecord.GeoRecord, declared.header.GeoBlock.GeoBlock, declared.entry.HeaderLineFault.HeaderLineFault}
+use Rattle.pl94.specs.{claim.Entries.line_read, declared.{entry.{GeoRecord.GeoRecord, HeaderLineFault.HeaderLineFault}, header.GeoBlock.GeoBlock}}
 use Rattle.pl94.specs.declared.entry.HeaderLineFault.TheVariants.{State, RepeatedBlock, RepeatedRecord, TooManyBlocks}
 
 -- the states, the record numbers and the blocks' numbers of taken records

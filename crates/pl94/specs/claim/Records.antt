@@ -1,9 +1,8 @@
 -- The records of a segment: 2020 Census PL 94-171 summary file, fields of segments 1 to 3.
+use Rattle.{std.specs.{List.{list_any, filter_map}, Result.result_ok}, byte_stream.specs.claim.{Digits.number_of, Fields.fields, Judged.Judge, Reading.line_limit}}
 use Rattle.std.specs.Prelude.{ℕ, ◌-◌, Bool, not, ◌||◌, if◌then◌else◌, ◌==◌, nat_lt, List, [], ◌∷◌, length, get_or, Option, Some, None, Result, Ok, Err}
-use Rattle.std.specs.{List.{list_any, filter_map}, Result.result_ok}
-use Rattle.byte_stream.specs.{claim.Digits.number_of, claim.Fields.fields, claim.Judged.Judge, claim.Reading.line_limit}
-use Rattle.pl94.specs.{declared.record.SegmentNumber.SegmentNumber, declared.record.SegmentNumber.TheVariants.{One, Two, Three}, declared.record.SegmentLineFault.SegmentLineFault}
-use Rattle.pl94.specs.{declared.record.SegmentLineFault.TheVariants.{Shape, RecordNumber, People, RepeatedRecord}, declared.record.SegRecord.SegRecord}
+use Rattle.pl94.specs.declared.record.{SegRecord.SegRecord, SegmentLineFault.{SegmentLineFault, TheVariants.{Shape, RecordNumber, People, RepeatedRecord}}}
+use Rattle.pl94.specs.declared.record.SegmentNumber.{SegmentNumber, TheVariants.{One, Two, Three}}
 
 abbrev pub part_number : SegmentNumber → ℕ
 part_number One = 1

@@ -1,8 +1,7 @@
 -- A segment as a whole: which texts are segments, and what they say.
-use Rattle.std.specs.{Prelude.{◌≡◌, ℕ, ◌-◌, List, get_or, if◌then◌else◌, nat_lt, Option, Some, None, Result, Ok, Err, ⊤}, BTreeMap.get, Ordering.nat_cmp, Io.KnownBytes.IsAtEnd}
-use Rattle.std.specs.Str.Lines.{lines}
-use Rattle.byte_stream.specs.{claim.Counts.counted, claim.Judged.{AreGood, ShowsFault, IsCutShort}}
-use Rattle.pl94.specs.{claim.Records.{people_at, records, judge}, declared.record.SegmentNumber.SegmentNumber, declared.segment.SegRows.SegRows, declared.segment.SegFault.SegFault}
+use Rattle.std.specs.{BTreeMap.get, Io.KnownBytes.IsAtEnd, Ordering.nat_cmp, Prelude.{◌≡◌, ℕ, ◌-◌, List, get_or, if◌then◌else◌, nat_lt, Option, Some, None, Result, Ok, Err, ⊤}}
+use Rattle.{std.specs.Str.Lines.lines, byte_stream.specs.claim.{Counts.counted, Judged.{AreGood, ShowsFault, IsCutShort}}, pl94.specs.claim.Records.{people_at, records, judge}}
+use Rattle.pl94.specs.{declared.record.SegmentNumber.SegmentNumber, declared.segment.{SegFault.SegFault, SegRows.SegRows}}
 use Rattle.pl94.specs.declared.segment.SegFault.TheVariants as fault
 
 -- the people of a number in the run

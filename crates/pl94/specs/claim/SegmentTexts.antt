@@ -1,6 +1,6 @@
 -- How a fault of a segment is told, and one of the join: its code and what it carries.
 use Rattle.std.specs.Prelude.{ℕ, List, ◌++◌, codes, decimal}
-use Rattle.pl94.specs.{claim.Records.part_number, declared.record.SegmentLineFault.SegmentLineFault, declared.segment.SegFault.SegFault, declared.join.JoinFault.JoinFault}
+use Rattle.pl94.specs.{claim.Records.part_number, declared.{join.JoinFault.JoinFault, segment.SegFault.SegFault}, declared.record.SegmentLineFault.SegmentLineFault}
 use Rattle.pl94.specs.declared.record.SegmentLineFault.TheVariants as line
 use Rattle.pl94.specs.declared.segment.SegFault.TheVariants as segment
 use Rattle.pl94.specs.declared.join.JoinFault.TheVariants as join

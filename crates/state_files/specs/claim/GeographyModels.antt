@@ -1,10 +1,9 @@
 -- What a neighbour file comes to: the pairs that it says of the blocks, and the geography of both.
-use Rattle.std.specs.{Prelude.{◌≡◌, ℕ, List, Result, Ok, Err, Vec}, declared.alloc.Global.Global, Io.KnownBytes.Consumes}
-use Rattle.desk_model.specs.{claim.Geography.{GeographyModel, ids_of}, claim.GeographyModels.AreTold, declared.block.BlockRow.BlockRow}
-use Rattle.gal_text.specs.{claim.GalFile.{IsRead, failures_after_file}, declared.fault.GalFault.GalFault}
+use Rattle.std.specs.{Io.KnownBytes.Consumes, Prelude.{◌≡◌, ℕ, List, Result, Ok, Err, Vec}, declared.alloc.Global.Global}
+use Rattle.desk_model.specs.{claim.{Geography.{GeographyModel, ids_of}, GeographyModels.AreTold}, declared.block.BlockRow.BlockRow}
+use Rattle.{gal_text.specs.{claim.GalFile.{IsRead, failures_after_file}, declared.fault.GalFault.GalFault}, state_files.specs.claim.Opening.{File, Opening}}
+use Rattle.state_files.specs.{claim.State.{IsAtLimit, Then, NoFile}, declared.fault.FileFault.{FileFault, TheVariants.{NoGal, Gal}}}
 use Rattle.gal_text.specs.declared.fault.GalFault.TheVariants as gal
-use Rattle.state_files.specs.{claim.Opening.{File, Opening}, claim.State.{IsAtLimit, Then, NoFile}, declared.fault.FileFault.FileFault}
-use Rattle.state_files.specs.declared.fault.FileFault.TheVariants.{NoGal, Gal}
 
 abbrev pub gal_outcome : Result (Vec (ℕ × ℕ) Global) GalFault → Result (Vec (ℕ × ℕ) Global) FileFault
 gal_outcome (Ok pairs) = Ok pairs

@@ -1,6 +1,5 @@
 -- A file that a command reads: how it was opened, and how it stands after some of it was read.
-use Rattle.std.specs.Prelude.{ℕ, List, Option, Result, Ok, Err}
-use Rattle.state_files.specs.{declared.fault.OpenFault.OpenFault, declared.census.CensusFiles.CensusFiles}
+use Rattle.{std.specs.Prelude.{ℕ, List, Option, Result, Ok, Err}, state_files.specs.declared.{census.CensusFiles.CensusFiles, fault.OpenFault.OpenFault}}
 
 -- the bytes that its reader has left, where they are known; how often it was asked for more; and how often that failed
 pub record File : Type 0 where

@@ -1,12 +1,10 @@
 -- What a plan's file comes to: its bytes, and what they say of the blocks.
-use Rattle.std.specs.{Prelude.{◌≡◌, ℕ, List, Option, Some, None, option_map, Result, Ok, Err, IsOkAnd, Vec}, declared.alloc.Global.Global, Io.KnownBytes.Consumes}
-use Rattle.desk_model.specs.{claim.Baf.{body_read, whole}, claim.Geography.GeographyModel}
-use Rattle.baf_text.specs.{claim.Faults.IsFaultOf, declared.reading.BafFault.BafFault}
+use Rattle.std.specs.{Io.KnownBytes.Consumes, Prelude.{◌≡◌, ℕ, List, Option, Some, None, option_map, Result, Ok, Err, IsOkAnd, Vec}, declared.alloc.Global.Global}
+use Rattle.{baf_text.specs.{claim.Faults.IsFaultOf, declared.reading.BafFault.BafFault}, desk_model.specs.claim.{Baf.{body_read, whole}, Geography.GeographyModel}}
+use Rattle.state_files.specs.claim.{Opening.{File, Opening, opening_of}, State.{IsAtLimit, Then, NoFile}, Whole.{IsWholeFile, failures_after_whole}}
+use Rattle.state_files.specs.declared.fault.{FileFault.{FileFault, TheVariants.Plan}, OpenFault.OpenFault, PlanFault.{PlanFault, TheVariants.{Unreadable, TooLarge, Body, Memory}}}
+use Rattle.state_files.specs.declared.{fault.PlanFile.PlanFile, plan_file.Companion.Companion, whole.WholeFault.WholeFault}
 use Rattle.baf_text.specs.declared.reading.BafFault.TheVariants as baf
-use Rattle.state_files.specs.{claim.Opening.{File, Opening, opening_of}, claim.State.{IsAtLimit, Then, NoFile}, claim.Whole.{IsWholeFile, failures_after_whole}}
-use Rattle.state_files.specs.{declared.whole.WholeFault.WholeFault, declared.plan_file.Companion.Companion, declared.fault.OpenFault.OpenFault, declared.fault.PlanFile.PlanFile}
-use Rattle.state_files.specs.{declared.fault.PlanFault.PlanFault, declared.fault.PlanFault.TheVariants.{Unreadable, TooLarge, Body, Memory}, declared.fault.FileFault.FileFault}
-use Rattle.state_files.specs.declared.fault.FileFault.TheVariants.{Plan}
 use Rattle.state_files.specs.declared.whole.WholeFault.TheVariants as whole_file
 use Rattle.state_files.specs.declared.fault.OpenFault.TheVariants as opening
 

@@ -1,11 +1,8 @@
 -- How a fault is shown: its file, the fault's code, and what it carries.
 use Rattle.std.specs.Prelude.{ℕ, List, ◌++◌, codes, decimal}
-use Rattle.desk_model.specs.claim.Baf.{fault_code}
-use Rattle.pl94.specs.{claim.GeoTexts.header_text, claim.SegmentTexts.{segment_text, join_text}, declared.record.SegmentNumber.SegmentNumber}
-use Rattle.pl94.specs.declared.record.SegmentNumber.TheVariants.{One, Two, Three}
-use Rattle.gal_text.specs.claim.Texts.{gal_fault_text}
-use Rattle.state_files.specs.{declared.fault.OpenFault.OpenFault, declared.fault.PlanFile.PlanFile, declared.fault.PlanFault.PlanFault, declared.fault.FileFault.FileFault}
-use Rattle.state_files.specs.declared.fault.FileFault.TheVariants.{NoHeader, Header, NoSegment, Segment, Join, NoGal, Gal, Plan}
+use Rattle.{desk_model.specs.claim.Baf.fault_code, gal_text.specs.claim.Texts.gal_fault_text, pl94.specs.claim.{GeoTexts.header_text, SegmentTexts.{segment_text, join_text}}}
+use Rattle.{pl94.specs.declared.record.SegmentNumber.{SegmentNumber, TheVariants.{One, Two, Three}}, state_files.specs.declared.fault.{FileFault.FileFault, OpenFault.OpenFault}}
+use Rattle.state_files.specs.declared.fault.{FileFault.TheVariants.{NoHeader, Header, NoSegment, Segment, Join, NoGal, Gal, Plan}, PlanFault.PlanFault, PlanFile.PlanFile}
 use Rattle.state_files.specs.declared.fault.OpenFault.TheVariants as opening
 use Rattle.state_files.specs.declared.fault.PlanFile.TheVariants as file
 use Rattle.state_files.specs.declared.fault.PlanFault.TheVariants as plan

@@ -1,7 +1,6 @@
 -- A file that is read whole, up to a limit.
-use Rattle.std.specs.{Prelude.{◌≡◌, ℕ, ◌<◌, ◌≤◌, List, length, Option, Result, Ok, Err, Vec, ⊤}, declared.alloc.Global.Global, Io.KnownBytes.IsAtEnd}
-use Rattle.byte_stream.specs.claim.Counts.{counted}
-use Rattle.state_files.specs.declared.whole.WholeFault.{WholeFault}
+use Rattle.std.specs.{Io.KnownBytes.IsAtEnd, Prelude.{◌≡◌, ℕ, ◌<◌, ◌≤◌, List, length, Option, Result, Ok, Err, Vec, ⊤}, declared.alloc.Global.Global}
+use Rattle.{byte_stream.specs.claim.Counts.counted, state_files.specs.declared.whole.WholeFault.WholeFault}
 use Rattle.state_files.specs.declared.whole.WholeFault.TheVariants as fault
 
 -- a plan's file has at most this many bytes

@@ -1,5 +1,5 @@
 -- Rows that stand where a store has none.
-use Rattle.std.specs.{Prelude.{◌≡◌, ℕ, List, false}, Ordering.is_gt}
+use Rattle.std.specs.{Ordering.is_gt, Prelude.{◌≡◌, ℕ, List, false}}
 use Rattle.page_btree.specs.page_node.claim.Places.{key_cmp}
 
 -- a key isn't below another one

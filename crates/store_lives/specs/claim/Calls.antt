@@ -1,9 +1,8 @@
 -- Commands with their replies, as requests of a life.
 use Rattle.std.specs.Prelude.{Bool, true, false, if◌then◌else◌, List, [], ◌∷◌, ◌++◌}
-use Rattle.desk_model.specs.{declared.command.Command.Command, declared.reply.Reply.Reply}
+use Rattle.{desk_model.specs.declared.{command.Command.Command, reply.Reply.Reply}, store_lives.specs.declared.desk_lives.{Answer.{Answer, TheVariants.Said}, Request.Request}}
+use Rattle.store_lives.specs.declared.desk_lives.Request.TheVariants.{Change}
 use Rattle.desk_model.specs.declared.reply.Reply.TheVariants as reply
-use Rattle.store_lives.specs.{declared.desk_lives.Request.Request, declared.desk_lives.Request.TheVariants.Change, declared.desk_lives.Answer.Answer}
-use Rattle.store_lives.specs.declared.desk_lives.Answer.TheVariants.{Said}
 
 -- the commands as requests, and their replies as answers
 abbrev pub asked_in : List (Command × Reply) → List Request

@@ -1,13 +1,10 @@
 -- Lives of a store, as those see them who ask it: what they asked, and what they were told.
 use Rattle.std.specs.{Prelude.{◌≡◌, ◌⊎◌, ◌≤◌, ◌<◌, ℕ, List, [], ◌∷◌, Option, Some, None, Result, Ok, Err, Vec, ⊤}, declared.alloc.Global.Global}
+use Rattle.{desk_catalogue.specs.claim.Audits.AskMay, desk_model.specs.{claim.{Desk.Desk, Geography.GeographyModel, Outcome.CommandMay, Step.step}, declared.reply.Reply.Reply}}
+use Rattle.{desk_model.specs.declared.reply.{Refusal.TheVariants.Halted, Reply.TheVariants.Refused}, desk_pages.specs.declared.error.StoreError.StoreError}
+use Rattle.store_lives.specs.declared.desk_lives.{Answer.{Answer, TheVariants.{Said, Loaded, Unloaded, Swept, Unswept}}, Request.{Request, TheVariants.{Change, Look, Load, Sweep}}}
 use Rattle.std.specs.FinMap as map_of
-use Rattle.desk_model.specs.{declared.reply.Reply.Reply, declared.reply.Reply.TheVariants.Refused, declared.reply.Refusal.TheVariants.Halted, claim.Geography.GeographyModel}
-use Rattle.desk_model.specs.{claim.Desk.Desk, claim.Step.step, claim.Outcome.CommandMay}
-use Rattle.desk_catalogue.specs.claim.Audits.{AskMay}
 use Rattle.desk_pages.specs.declared.error.StoreError.TheVariants as store
-use Rattle.desk_pages.specs.declared.error.StoreError.{StoreError}
-use Rattle.store_lives.specs.{declared.desk_lives.Request.Request, declared.desk_lives.Request.TheVariants.{Change, Look, Load, Sweep}, declared.desk_lives.Answer.Answer}
-use Rattle.store_lives.specs.declared.desk_lives.Answer.TheVariants.{Said, Loaded, Unloaded, Swept, Unswept}
 
 abbrev pub loaded_desk : GeographyModel → Desk
 loaded_desk g = record { geography = Some g; plans = map_of.empty }

@@ -1,9 +1,7 @@
 -- A store that may be of the old version, as those see it who ask it or lead it on.
 use Rattle.std.specs.Prelude.{◌≡◌, ◌<◌, ⊤, ℕ}
-use Rattle.desk_model.specs.claim.Desk.{Desk}
-use Rattle.desk_pages.specs.declared.error.StoreError.{StoreError}
+use Rattle.{desk_model.specs.claim.Desk.Desk, desk_pages.specs.declared.error.StoreError.StoreError, store_lives.specs.declared.leading.Led.Led}
 use Rattle.desk_pages.specs.declared.error.StoreError.TheVariants as store
-use Rattle.store_lives.specs.declared.leading.Led.{Led}
 use Rattle.store_lives.specs.declared.leading.Led.TheVariants as led
 
 -- the old version, the new one, or, where the device failed as a store was led on, one of the two

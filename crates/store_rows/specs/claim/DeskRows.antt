@@ -1,8 +1,8 @@
 -- The desk in a store.
 use Rattle.std.specs.Prelude.{◌≡◌, ◌<◌, ◌≤◌, ◌+◌, ◌^◌, ℕ, List, [], length, get_or, Option, Some, None}
+use Rattle.{desk_model.specs.claim.{Desk.{Desk, Plan}, Geography.GeographyModel, Name.IsPlanName, Ranges.cut}, store_rows.specs.claim.{GeographyRows.IsGeography, Keys.named}}
+use Rattle.store_rows.specs.claim.{RevisionRows.HasRevision, Rows.{KeyMap, Has, Lacks}, Values.plan_bytes}
 use Rattle.std.specs.FinMap as map_of
-use Rattle.desk_model.specs.{claim.Geography.GeographyModel, claim.Ranges.cut, claim.Desk.{Desk, Plan}, claim.Name.IsPlanName}
-use Rattle.store_rows.specs.{claim.Keys.named, claim.Values.plan_bytes, claim.Rows.{KeyMap, Has, Lacks}, claim.GeographyRows.IsGeography, claim.RevisionRows.HasRevision}
 
 -- a desk keeps this many revisions of a plan at most
 abbrev pub most_revisions : ℕ

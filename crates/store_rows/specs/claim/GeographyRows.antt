@@ -1,7 +1,7 @@
 -- The geography in a store: the blocks and the pairs of one load, and the row that names that load.
 use Rattle.std.specs.Prelude.{◌≡◌, ◌<◌, ◌+◌, ◌-◌, ◌^◌, ℕ, List, length, take, All, IfSome, Option, Some, None}
-use Rattle.desk_model.specs.{claim.Geography.GeographyModel, claim.GeographyModels.IsGeographyModel, declared.block.BlockRow.BlockRow, declared.geography.Pair.Pair}
-use Rattle.store_rows.specs.{claim.Keys.{seal, block, pair}, claim.Values.{seal_bytes, block_bytes, pair_bytes}, claim.Rows.{KeyMap, row_in, Has, Lacks, element_row}}
+use Rattle.desk_model.specs.{claim.{Geography.GeographyModel, GeographyModels.IsGeographyModel}, declared.{block.BlockRow.BlockRow, geography.Pair.Pair}}
+use Rattle.store_rows.specs.claim.{Keys.{seal, block, pair}, Rows.{KeyMap, row_in, Has, Lacks, element_row}, Values.{seal_bytes, block_bytes, pair_bytes}}
 
 -- the value of a pair of neighbours
 abbrev pub neighbours_bytes : Pair → List ℕ

@@ -1,6 +1,6 @@
 -- Which plans hold a chunk, and how many they are.
 use Rattle.std.specs.Prelude.{◌≡◌, ◌<◌, ◌+◌, ◌^◌, ℕ, zero, suc, List, [], ◌∷◌, Option, Some, None}
-use Rattle.store_rows.specs.{claim.Keys.{key_of, holding, holder_count, in_eight}, claim.Rows.{KeyMap, row_in, Has}, claim.Puts.Row}
+use Rattle.store_rows.specs.claim.{Keys.{key_of, holding, holder_count, in_eight}, Puts.Row, Rows.{KeyMap, row_in, Has}}
 
 -- the plan holds the chunk
 abbrev pub IsHeld : KeyMap → ℕ → ℕ → Type 0

@@ -1,7 +1,7 @@
 -- The rows of a store and their keys. A key is a tag and numbers, the highest byte of each first, so that the order of the
 -- bytes is the order of the numbers. The tags of rows that come and go are capital letters; the rows of geographies and of
 -- chunks, which grow, stand after them.
-use Rattle.std.specs.{Prelude.{◌<◌, ◌^◌, ℕ, List, [], ◌∷◌, ◌++◌, length}, Int.bytes_high_first}
+use Rattle.std.specs.{Int.bytes_high_first, Prelude.{◌<◌, ◌^◌, ℕ, List, [], ◌∷◌, ◌++◌, length}}
 
 -- the number in 1, 2, 4 and 8 bytes
 abbrev pub in_one : ℕ → List ℕ

@@ -1,5 +1,5 @@
 -- The values of rows that hold a list of numbers, one after the other, each with its highest byte first.
-use Rattle.std.specs.{Prelude.{◌<◌, ◌≤◌, ◌^◌, ℕ, List, length, All}, List.flat_map}
+use Rattle.std.specs.{List.flat_map, Prelude.{◌<◌, ◌≤◌, ◌^◌, ℕ, List, length, All}}
 use Rattle.store_rows.specs.claim.Keys.{in_two, in_eight}
 
 -- The chunks that one part of a revision names: some, and 128 at most.

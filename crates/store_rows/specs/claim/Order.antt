@@ -1,5 +1,5 @@
 -- Keys in the order of their bytes.
-use Rattle.std.specs.{Prelude.{ℕ, List}, Ordering.nat_cmp, Cmp.Lexicographic.slice_cmp, declared.cmp.Ordering.Ordering}
+use Rattle.std.specs.{Cmp.Lexicographic.slice_cmp, Ordering.nat_cmp, Prelude.{ℕ, List}, declared.cmp.Ordering.Ordering}
 
 -- keys by their bytes
 abbrev pub key_cmp : List ℕ → List ℕ → Ordering

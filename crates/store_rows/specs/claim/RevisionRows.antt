@@ -1,6 +1,6 @@
 -- Chunks, each one county's districts in the order of its blocks, and revisions, which name a chunk for each county.
 use Rattle.std.specs.Prelude.{◌≡◌, ◌<◌, ◌≤◌, ◌*◌, ◌^◌, ℕ, List, [], length, get_or, All}
-use Rattle.store_rows.specs.{claim.Keys.{part, chunk}, claim.Lists.{chunks_bytes, districts_bytes}, claim.Rows.{KeyMap, row_in, part_row}}
+use Rattle.store_rows.specs.claim.{Keys.{part, chunk}, Lists.{chunks_bytes, districts_bytes}, Rows.{KeyMap, row_in, part_row}}
 
 -- the number names these districts, in pieces of 512
 pub record HasChunk (m : KeyMap) (number : ℕ) (districts : List ℕ) : Type 0 where

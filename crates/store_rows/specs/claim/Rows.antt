@@ -1,7 +1,7 @@
 -- The rows of a store as a finite map from keys to values.
-use Rattle.std.specs.{Prelude.{◌≡◌, ◌*◌, ℕ, nat_lt, if◌then◌else◌, List, length, take, drop, Option, Some, None, option_map}, List.slice_get}
+use Rattle.std.specs.{List.slice_get, Prelude.{◌≡◌, ◌*◌, ℕ, nat_lt, if◌then◌else◌, List, length, take, drop, Option, Some, None, option_map}}
+use Rattle.store_rows.specs.claim.{Keys.{RowKey, key_of}, Order.key_cmp}
 use Rattle.std.specs.FinMap as map_of
-use Rattle.store_rows.specs.{claim.Keys.{RowKey, key_of}, claim.Order.key_cmp}
 
 abbrev pub KeyMap : Type 0
 KeyMap = map_of.FinMap key_cmp (List ℕ)

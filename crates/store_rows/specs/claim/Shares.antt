@@ -1,6 +1,6 @@
 -- A plan comes to hold chunks of another plan.
-use Rattle.std.{specs.Prelude.{ℕ, List, Option, Some, None}, specs.Int.from_be_bytes, proofs.Common.w64}
-use Rattle.store_rows.specs.{claim.Keys.{holding, holder_count}, claim.Rows.{KeyMap, row_in}, claim.Puts.put_rows, claim.Holders.holding_rows}
+use Rattle.{std.{specs.{Int.from_be_bytes, Prelude.{ℕ, List, Option, Some, None}}, proofs.Common.w64}, store_rows.specs.claim.{Holders.holding_rows, Keys.{holding, holder_count}}}
+use Rattle.store_rows.specs.claim.{Puts.put_rows, Rows.{KeyMap, row_in}}
 
 -- how many plans the row of a count tells
 abbrev pub count_of : Option (List ℕ) → ℕ

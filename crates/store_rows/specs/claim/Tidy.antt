@@ -1,11 +1,10 @@
 -- What is kept from the first day on, so that rows which nothing needs can be told from those that something does, and so that
 -- no number is used again.
 use Rattle.std.specs.Prelude.{◌≡◌, ◌⊎◌, ◌<◌, ◌≤◌, ◌^◌, ℕ, Bool, true, false, Option, List, [], Some, None, Contains, MatchOption}
-use Rattle.std.specs.FinMap as map_of
+use Rattle.store_rows.specs.claim.{Holders.{IsHeld, AreTallied}, Lists.{chunks_bytes, districts_bytes, AreChunks, AreDistricts}, Rows.{KeyMap, row_in, Has}}
 use Rattle.store_rows.specs.claim.Keys.{RowKey, key_of, Fits, counters, retired, begun, holding, named, part, seal, version, block, pair, chunk, in_four}
-use Rattle.store_rows.specs.{claim.Values.{counters_bytes, plan_bytes, seal_bytes}, claim.Lists.{chunks_bytes, districts_bytes, AreChunks, AreDistricts}}
-use Rattle.store_rows.specs.{declared.value.Counters.Counters, declared.value.PlanRow.PlanRow, declared.value.SealRow.SealRow, claim.Rows.{KeyMap, row_in, Has}}
-use Rattle.store_rows.specs.claim.Holders.{IsHeld, AreTallied}
+use Rattle.store_rows.specs.{claim.Values.{counters_bytes, plan_bytes, seal_bytes}, declared.value.{Counters.Counters, PlanRow.PlanRow, SealRow.SealRow}}
+use Rattle.std.specs.FinMap as map_of
 
 -- before the first row of counters no number was given
 abbrev pub no_numbers : Counters

@@ -1,7 +1,7 @@
 -- The values of rows. Each number stands in its bytes, the highest first.
 use Rattle.std.specs.Prelude.{ℕ, List, ◌++◌, Option, Some, None}
-use Rattle.desk_model.specs.{declared.kind.Kind.Kind, declared.kind.Kind.TheVariants.{Congress, Senate, House}, declared.block.BlockRow.BlockRow}
-use Rattle.store_rows.specs.{claim.Keys.{in_one, in_two, in_four, in_eight}, declared.value.Counters.Counters, declared.value.PlanRow.PlanRow, declared.value.SealRow.SealRow}
+use Rattle.{desk_model.specs.declared.{block.BlockRow.BlockRow, kind.Kind.{Kind, TheVariants.{Congress, Senate, House}}}, store_rows.specs.declared.value.Counters.Counters}
+use Rattle.store_rows.specs.{claim.Keys.{in_one, in_two, in_four, in_eight}, declared.value.{PlanRow.PlanRow, SealRow.SealRow}}
 
 abbrev pub counters_bytes : Counters → List ℕ
 counters_bytes c = in_eight c.plan ++ (in_eight c.chunk ++ in_eight c.load)

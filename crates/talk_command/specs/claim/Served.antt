@@ -1,12 +1,10 @@
 -- What a stop at any moment of a served stream leaves.
-use Rattle.std.{specs.Prelude.{◌≡◌, ℕ, ◌+◌, Bool, true, false, List, [], ◌∷◌, ◌++◌, Option, Result, Ok, Err}, specs.Io.KnownBytes.{Appends, Consumes}, proofs.Common.{inl, inr}}
+use Rattle.std.{specs.{Io.KnownBytes.{Appends, Consumes}, Prelude.{◌≡◌, ℕ, ◌+◌, Bool, true, false, List, [], ◌∷◌, ◌++◌, Option, Result, Ok, Err}}, proofs.Common.{inl, inr}}
+use Rattle.{desk_catalogue.specs.claim.Audits.AskMay, desk_model.specs.declared.{command.{Command.Command, Query.Query}, reply.Reply.Reply}, desk_store.specs.claim.Commands.Does}
+use Rattle.{desk_runs.specs.claim.Runs.{Call, Run, Survives}, desk_store.specs.{claim.Clerks.{desk_of, disk_of, Keeps}, declared.clerk.Clerk.Clerk}}
+use Rattle.http_desk.specs.{claim.{Serving.{ServesTo, IsShortTalk}, Talk.{Talk, MayAnswer}}, declared.serve.{Served.Served, StreamFault.StreamFault}}
+use Rattle.http_desk.specs.{http_routes.{claim.Orders.order_of, declared.order.Order.Order}, http_wire.claim.Prefix.{closes_after, is_head}}
 use Rattle.sector_device.specs.declared.SectorDevice.{Ghosts}
-use Rattle.desk_catalogue.specs.claim.Audits.{AskMay}
-use Rattle.desk_model.specs.{declared.command.Command.Command, declared.command.Query.Query, declared.reply.Reply.Reply}
-use Rattle.desk_store.specs.{declared.clerk.Clerk.Clerk, claim.Clerks.{desk_of, disk_of, Keeps}, claim.Commands.Does}
-use Rattle.desk_runs.specs.claim.Runs.{Call, Run, Survives}
-use Rattle.http_desk.specs.{http_routes.declared.order.Order.Order, http_routes.claim.Orders.order_of, http_wire.claim.Prefix.{closes_after, is_head}, declared.serve.Served.Served}
-use Rattle.http_desk.specs.{declared.serve.StreamFault.StreamFault, claim.Talk.{Talk, MayAnswer}, claim.Serving.{ServesTo, IsShortTalk}}
 use Rattle.http_desk.specs.http_routes.declared.order.Order.TheVariants as order
 use Rattle.http_desk.specs.declared.serve.StreamFault.TheVariants as fault
 

@@ -1,14 +1,11 @@
 -- What `talk` comes to.
-use Rattle.std.specs.{Prelude.{◌≡◌, ◌⊎◌, ℕ, false, List, [], Option, Result, Ok, Err}, Io.KnownBytes.{Appends, Consumes}}
-use Rattle.sector_device.specs.declared.SectorDevice.{Ghosts}
-use Rattle.desk_model.specs.{declared.command.Command.Command, declared.command.Query.Query, declared.reply.Reply.Reply, claim.Sample.sample_desk}
-use Rattle.desk_catalogue.specs.claim.Audits.{AskMay}
-use Rattle.desk_store.specs.{declared.clerk.Clerk.Clerk, claim.Clerks.{desk_of, disk_of, is_halted, room_of, sectors_of, Keeps}, claim.Commands.Does}
-use Rattle.byte_stream.specs.claim.Counts.{counted}
-use Rattle.http_desk.specs.{claim.Serving.{read_failures, write_failures}, declared.serve.Served.Served, declared.serve.StreamFault.StreamFault}
-use Rattle.http_desk.specs.declared.serve.StreamFault.TheVariants as fault
+use Rattle.std.specs.{Io.KnownBytes.{Appends, Consumes}, Prelude.{◌≡◌, ◌⊎◌, ℕ, false, List, [], Option, Result, Ok, Err}}
+use Rattle.{byte_stream.specs.claim.Counts.counted, command_output.specs.declared.status.Status.{Status, TheVariants.{Done, Memory, Stream}}, desk_store.specs.claim.Commands.Does}
+use Rattle.{desk_catalogue.specs.claim.Audits.AskMay, desk_model.specs.{claim.Sample.sample_desk, declared.{command.{Command.Command, Query.Query}, reply.Reply.Reply}}}
+use Rattle.{desk_store.specs.{claim.Clerks.{desk_of, disk_of, is_halted, room_of, sectors_of, Keeps}, declared.clerk.Clerk.Clerk}, http_desk.specs.declared.serve.Served.Served}
+use Rattle.{http_desk.specs.{claim.Serving.{read_failures, write_failures}, declared.serve.StreamFault.StreamFault}, sector_device.specs.declared.SectorDevice.Ghosts}
 use Rattle.talk_command.specs.claim.Served.{ServesDurably}
-use Rattle.command_output.specs.{declared.status.Status.Status, declared.status.Status.TheVariants.{Done, Memory, Stream}}
+use Rattle.http_desk.specs.declared.serve.StreamFault.TheVariants as fault
 
 abbrev pub status_of : Result Served StreamFault → Status
 status_of (Ok served) = Done

@@ -1,5 +1,5 @@
-use Rattle.std.proofs.Common.{◌<◌, ◌+◌, length, arith, subst, refl}
-use Rattle.audit_clauses.{specs.declared.lowest.Lowest.Lowest, specs.Lowest.AreLowest, proofs.Telling.{told_break, told_whole, told_all, no_block, together, gap_there, id_here}}
+use Rattle.{std.proofs.Common.{◌<◌, ◌+◌, length, arith, subst, refl}, audit_clauses.specs.{Lowest.AreLowest, declared.lowest.Lowest.Lowest}}
+use Rattle.audit_clauses.proofs.Telling.{told_break, told_whole, told_all, no_block, together, gap_there, id_here}
 use Rattle.audit_clauses.proofs.breaks.tell.Goals as goal
 use Rattle.audit_clauses.proofs.breaks.tell.Goals.{in-Zero+in_ok-push-in-Zero, in-One, in-Two+in_ok-push-in-Two}
 

@@ -1,5 +1,4 @@
-use Rattle.std.proofs.Common.{rules}
-use Rattle.audit_clauses.proofs.Extreme.{listed, passed}
+use Rattle.{std.proofs.Common.rules, audit_clauses.proofs.Extreme.{listed, passed}}
 use Rattle.audit_clauses.proofs.deviations.congress_breaks.Goals as goal
 use Rattle.audit_clauses.proofs.deviations.congress_breaks.Goals.{then-deviation_of-total+in_ok-push, else-deviation_of-total}
 

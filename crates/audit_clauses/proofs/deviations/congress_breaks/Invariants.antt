@@ -1,5 +1,4 @@
-use Rattle.std.proofs.Common.{◌≡◌, filter}
-use Rattle.audit_clauses.specs.{claim.People.districts, claim.Clauses.deviates}
+use Rattle.{std.proofs.Common.{◌≡◌, filter}, audit_clauses.specs.claim.{Clauses.deviates, People.districts}}
 use Rattle.audit_clauses.proofs.deviations.congress_breaks.Given as goal
 
 abbrev pub invariant-loop-i : goal.invariant-loop-i

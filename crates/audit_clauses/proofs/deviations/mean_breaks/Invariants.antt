@@ -1,5 +1,4 @@
-use Rattle.std.proofs.Common.{◌≡◌, ◌≤◌, ◌*◌, ◌^◌, take, length, sum_by}
-use Rattle.audit_clauses.specs.claim.Clauses.{deviation}
+use Rattle.{std.proofs.Common.{◌≡◌, ◌≤◌, ◌*◌, ◌^◌, take, length, sum_by}, audit_clauses.specs.claim.Clauses.deviation}
 use Rattle.audit_clauses.proofs.deviations.mean_breaks.Given as goal
 
 abbrev pub invariant-loop-people : goal.invariant-loop-people

@@ -1,5 +1,4 @@
-use Rattle.std.proofs.Common.{arith, rules}
-use Rattle.audit_clauses.proofs.Rooting.{both_roots, joined_low, joined_high, joined_same}
+use Rattle.{std.proofs.Common.{arith, rules}, audit_clauses.proofs.Rooting.{both_roots, joined_low, joined_high, joined_same}}
 use Rattle.audit_clauses.proofs.forest.join.Goals as goal
 
 pub returns-then-one_root-other_root : goal.returns-then-one_root-other_root

@@ -1,6 +1,4 @@
-use Rattle.std.proofs.Common.{◌≡◌, ◌<◌, length, get_or, arith, sym, ◌∙◌, refl}
-use Rattle.std.proofs.lemmas.List.{get_or_default}
-use Rattle.desk_model.specs.declared.geography.Pair.{Pair}
+use Rattle.{std.proofs.{Common.{◌≡◌, ◌<◌, length, get_or, arith, sym, ◌∙◌, refl}, lemmas.List.get_or_default}, desk_model.specs.declared.geography.Pair.Pair}
 use Rattle.audit_clauses.proofs.Growth.{forest_skip, forest_join}
 use Rattle.audit_clauses.proofs.forest.join_pairs.Goals as goal
 use Rattle.audit_clauses.proofs.forest.join_pairs.Goals.{then-first-district+then-district-last+then-district-plan, else-first-district, else-first-district-via-then-first-district+then-district-last+else-district-plan, else-first-district-via-then-first-district+else-district-last, else-first-district-via-else-first-district}

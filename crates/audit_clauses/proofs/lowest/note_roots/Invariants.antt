@@ -1,5 +1,4 @@
-use Rattle.std.proofs.Common.{length}
-use Rattle.audit_clauses.specs.Lowest.{AreAllLowest}
+use Rattle.{std.proofs.Common.length, audit_clauses.specs.Lowest.AreAllLowest}
 use Rattle.audit_clauses.proofs.lowest.note_roots.Given as goal
 
 abbrev pub invariant-loop-i : goal.invariant-loop-i

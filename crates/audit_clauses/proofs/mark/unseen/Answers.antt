@@ -1,5 +1,4 @@
-use Rattle.std.proofs.lemmas.Result.{IfOk-weaker}
-use Rattle.audit_clauses.proofs.Marking.{unseen_are}
+use Rattle.{std.proofs.lemmas.Result.IfOk-weaker, audit_clauses.proofs.Marking.unseen_are}
 use Rattle.audit_clauses.proofs.mark.unseen.Goals as goal
 
 pub returns : goal.returns

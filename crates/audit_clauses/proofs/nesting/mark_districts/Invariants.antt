@@ -1,5 +1,4 @@
-use Rattle.std.proofs.Common.{length}
-use Rattle.audit_clauses.specs.{claim.Nested.IsIn, Marks.{AreMarks, one_part, value_at}}
+use Rattle.{std.proofs.Common.length, audit_clauses.specs.{Marks.{AreMarks, one_part, value_at}, claim.Nested.IsIn}}
 use Rattle.audit_clauses.proofs.nesting.mark_districts.Given as goal
 
 abbrev pub invariant-loop-i : goal.invariant-loop-i

@@ -1,7 +1,4 @@
-use Rattle.std.proofs.Common.{◌≡◌, ◌+◌, length, arith, ap, ◌∙◌}
-use Rattle.std.proofs.lemmas.List.{take_at}
-use Rattle.std.proofs.lemmas.Result.{IfOk-weaker}
-use Rattle.audit_clauses.proofs.Meaning.{nesting_are}
+use Rattle.{std.proofs.{Common.{◌≡◌, ◌+◌, length, arith, ap, ◌∙◌}, lemmas.{List.take_at, Result.IfOk-weaker}}, audit_clauses.proofs.Meaning.nesting_are}
 use Rattle.audit_clauses.proofs.nesting.nesting_breaks.Goals as goal
 
 pub returns : goal.returns

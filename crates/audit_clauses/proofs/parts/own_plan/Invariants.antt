@@ -1,5 +1,4 @@
-use Rattle.std.proofs.Common.{◌≡◌, map, take}
-use Rattle.audit_clauses.specs.Parts.{kept}
+use Rattle.{std.proofs.Common.{◌≡◌, map, take}, audit_clauses.specs.Parts.kept}
 use Rattle.audit_clauses.proofs.parts.own_plan.Given as goal
 
 abbrev pub invariant-loop-district : goal.invariant-loop-district

@@ -1,7 +1,4 @@
-use Rattle.std.proofs.Common.{◌+◌, ◌-◌, length, get_or, take, sum_by, arith, rules}
-use Rattle.std.proofs.lemmas.List.{take_all}
-use Rattle.std.proofs.lemmas.List.Sums.{sum_by_more}
-use Rattle.desk_model.specs.declared.block.BlockRow.{BlockRow}
+use Rattle.{std.proofs.{Common.{◌+◌, ◌-◌, length, get_or, take, sum_by, arith, rules}, lemmas.List.{take_all, Sums.sum_by_more}}, desk_model.specs.declared.block.BlockRow.BlockRow}
 use Rattle.audit_clauses.proofs.Counted.{counted_skip, counted_add, counted_all, people_fit}
 use Rattle.audit_clauses.proofs.people.count_people.Goals as goal
 use Rattle.audit_clauses.proofs.people.count_people.Goals.{then-district-ge1+then-district-people, else-district-ge1, else-district-ge1-via-then-district-ge1+else-district-people, else-district-ge1-via-else-district-ge1}

@@ -1,6 +1,4 @@
-use Rattle.std.proofs.Common.{◌≡◌, length, take, sum_by}
-use Rattle.desk_model.specs.declared.block.BlockRow.{BlockRow}
-use Rattle.audit_clauses.proofs.Counted.{AreCounted}
+use Rattle.{std.proofs.Common.{◌≡◌, length, take, sum_by}, desk_model.specs.declared.block.BlockRow.BlockRow, audit_clauses.proofs.Counted.AreCounted}
 use Rattle.audit_clauses.proofs.people.count_people.Given as goal
 
 abbrev pub invariant-loop-i : goal.invariant-loop-i

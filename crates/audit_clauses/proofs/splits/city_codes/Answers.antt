@@ -1,5 +1,4 @@
-use Rattle.std.proofs.Common.{rules}
-use Rattle.audit_clauses.proofs.Places.{codes_more, one_city, in_city, in_no_city}
+use Rattle.{std.proofs.Common.rules, audit_clauses.proofs.Places.{codes_more, one_city, in_city, in_no_city}}
 use Rattle.audit_clauses.proofs.splits.city_codes.Goals as goal
 use Rattle.audit_clauses.proofs.splits.city_codes.Goals.{in-Some+then-codes-city, in-Some+else-codes-city, in_default}
 

@@ -1,7 +1,5 @@
-use Rattle.std.proofs.Common.{◌≡◌, ℕ, ◌<◌, List, length, arith, ap, subst, ◌∙◌}
-use Rattle.std.proofs.lemmas.List.{take_at}
-use Rattle.desk_model.specs.declared.block.BlockRow.{BlockRow}
-use Rattle.audit_clauses.{specs.Splits.AreDividedGroups, specs.claim.Divided.IsInCity, proofs.Meaning.{counties_are, cities_are, cities_within_are}}
+use Rattle.{std.proofs.{Common.{◌≡◌, ℕ, ◌<◌, List, length, arith, ap, subst, ◌∙◌}, lemmas.List.take_at}, audit_clauses.specs.{Splits.AreDividedGroups, claim.Divided.IsInCity}}
+use Rattle.{desk_model.specs.declared.block.BlockRow.BlockRow, audit_clauses.proofs.Meaning.{counties_are, cities_are, cities_within_are}}
 use Rattle.audit_clauses.proofs.splits.divided_groups.Goals as goal
 
 pub returns : goal.returns

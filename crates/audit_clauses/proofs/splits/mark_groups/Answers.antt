@@ -1,6 +1,5 @@
-use Rattle.std.proofs.Common.{length, arith, sym, ◌∙◌, rules}
-use Rattle.audit_clauses.{specs.claim.Divided.{county_at, IsInCounty, IsInCity}, specs.Marks.{one_part, value_at}, proofs.Marking.{marks_take, marks_pass}}
-use Rattle.audit_clauses.proofs.Places.{in_city, in_no_city, one_city, in_county, county_below, counties_rise}
+use Rattle.{std.proofs.Common.{length, arith, sym, ◌∙◌, rules}, audit_clauses.specs.{Marks.{one_part, value_at}, claim.Divided.{county_at, IsInCounty, IsInCity}}}
+use Rattle.audit_clauses.proofs.{Marking.{marks_take, marks_pass}, Places.{in_city, in_no_city, one_city, in_county, county_below, counties_rise}}
 use Rattle.audit_clauses.proofs.splits.mark_groups.Goals as goal
 use Rattle.audit_clauses.proofs.splits.mark_groups.Goals.{in-Some, in_default}
 

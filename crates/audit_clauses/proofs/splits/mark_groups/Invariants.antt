@@ -1,5 +1,4 @@
-use Rattle.std.proofs.Common.{length}
-use Rattle.audit_clauses.specs.Splits.{AreGroupMarks}
+use Rattle.{std.proofs.Common.length, audit_clauses.specs.Splits.AreGroupMarks}
 use Rattle.audit_clauses.proofs.splits.mark_groups.Given as goal
 
 abbrev pub invariant-loop-i : goal.invariant-loop-i

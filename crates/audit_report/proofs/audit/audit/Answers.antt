@@ -1,7 +1,4 @@
-use Rattle.std.proofs.Common.{◌∙◌, sym, rules}
-use Rattle.std.proofs.lemmas.Result.{IfOk-weaker}
-use Rattle.desk_model.specs.Companions.{companions_at}
-use Rattle.audit_report.proofs.Reporting.{copied_same}
+use Rattle.{std.proofs.{Common.{◌∙◌, sym, rules}, lemmas.Result.IfOk-weaker}, desk_model.specs.Companions.companions_at, audit_report.proofs.Reporting.copied_same}
 use Rattle.audit_report.proofs.audit.audit.Goals as goal
 
 pub returns : goal.returns

@@ -1,5 +1,4 @@
-use Rattle.std.proofs.Common.{arith}
-use Rattle.audit_report.proofs.Gathering.{found_at, breaks_more, breaks_all}
+use Rattle.{std.proofs.Common.arith, audit_report.proofs.Gathering.{found_at, breaks_more, breaks_all}}
 use Rattle.audit_report.proofs.gather.all_breaks.Goals as goal
 
 pub loop-piece-preserved : goal.loop-piece-preserved

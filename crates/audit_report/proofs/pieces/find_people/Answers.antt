@@ -1,5 +1,4 @@
-use Rattle.std.proofs.Common.{◌∙◌, arith, rules}
-use Rattle.audit_report.proofs.Reporting.{populations_long}
+use Rattle.{std.proofs.Common.{◌∙◌, arith, rules}, audit_report.proofs.Reporting.populations_long}
 use Rattle.audit_report.proofs.pieces.find_people.Goals as goal
 
 pub congress-requires : goal.congress-requires

@@ -1,6 +1,5 @@
-use Rattle.std.proofs.Common.{◌≡◌, ◌+◌, ◌-◌, ◌%◌, ap, ◌∙◌, arith}
+use Rattle.{std.proofs.Common.{◌≡◌, ◌+◌, ◌-◌, ◌%◌, ap, ◌∙◌, arith}, audit_report.proofs.Sharing.{next_is_own, next_more, next_all, breaks_of_piece}}
 use Rattle.audit_report.specs.declared.work.Found.TheVariants as found
-use Rattle.audit_report.proofs.Sharing.{next_is_own, next_more, next_all, breaks_of_piece}
 use Rattle.audit_report.proofs.share.find_parts.Goals as goal
 
 pub breaks-requires-clause-own : goal.breaks-requires-clause-own

@@ -1,5 +1,4 @@
-use Rattle.std.proofs.Common.{◌-◌}
-use Rattle.audit_report.specs.Share.{AreNextParts}
+use Rattle.{std.proofs.Common.◌-◌, audit_report.specs.Share.AreNextParts}
 use Rattle.audit_report.proofs.share.find_parts.Given as goal
 
 abbrev pub invariant-loop-piece : goal.invariant-loop-piece

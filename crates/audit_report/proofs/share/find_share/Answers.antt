@@ -1,5 +1,4 @@
-use Rattle.std.proofs.Common.{rules}
-use Rattle.audit_report.proofs.Sharing.{next_more, next_all}
+use Rattle.{std.proofs.Common.rules, audit_report.proofs.Sharing.{next_more, next_all}}
 use Rattle.audit_report.proofs.share.find_share.Goals as goal
 
 pub loop-piece-preserved : goal.loop-piece-preserved

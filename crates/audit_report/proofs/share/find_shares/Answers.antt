@@ -1,6 +1,4 @@
-use Rattle.std.proofs.Common.{◌∙◌, sym, Err, alloc_error, rules}
-use Rattle.std.proofs.lemmas.Result.{IfOk-weaker}
-use Rattle.audit_report.proofs.Sharing.{shares_all}
+use Rattle.{std.proofs.{Common.{◌∙◌, sym, Err, alloc_error, rules}, lemmas.Result.IfOk-weaker}, audit_report.proofs.Sharing.shares_all}
 use Rattle.audit_report.proofs.share.find_shares.Goals as goal
 
 pub returns-clause-shares : goal.returns-clause-shares

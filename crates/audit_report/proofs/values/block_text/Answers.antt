@@ -1,6 +1,4 @@
-use Rattle.std.proofs.Common.{rules}
-use Rattle.std.proofs.lemmas.Result.{IfOk-weaker}
-use Rattle.audit_report.proofs.Padded.{padded_zeros}
+use Rattle.{std.proofs.{Common.rules, lemmas.Result.IfOk-weaker}, audit_report.proofs.Padded.padded_zeros}
 use Rattle.audit_report.proofs.values.block_text.Goals as goal
 
 pub returns : goal.returns

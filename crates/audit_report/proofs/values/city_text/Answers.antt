@@ -1,9 +1,5 @@
-use Rattle.std.proofs.Common.{◌∙◌}
-use Rattle.std.proofs.lemmas.Result.{IfOk-weaker}
-use Rattle.audit_report.proofs.Padded.{padded_zeros}
+use Rattle.{std.proofs.{Common.◌∙◌, lemmas.Result.IfOk-weaker}, audit_report.proofs.Padded.padded_zeros}
 use Rattle.audit_report.proofs.values.city_text.Goals as goal
 
 pub returns : goal.returns
-returns c =
-    let e = rw c.laid_out.ensures at c.format.ensures.ok in
-    IfOk-weaker c.format.result _ _ (λ s is. is ∙ padded_zeros 5 c.args.city) e
+returns c = let e = rw c.laid_out.ensures at c.format.ensures.ok in IfOk-weaker c.format.result _ _ (λ s is. is ∙ padded_zeros 5 c.args.city) e

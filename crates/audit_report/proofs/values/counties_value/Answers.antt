@@ -1,5 +1,4 @@
-use Rattle.std.proofs.Common.{arith, rules}
-use Rattle.audit_report.{specs.claim.ReportText.code_data, proofs.Lists.{AreFirst, first_written, text_more}}
+use Rattle.{std.proofs.Common.{arith, rules}, audit_report.{specs.claim.ReportText.code_data, proofs.Lists.{AreFirst, first_written, text_more}}}
 use Rattle.audit_report.proofs.values.counties_value.Goals as goal
 
 pub returns : goal.returns

@@ -1,5 +1,4 @@
-use Rattle.std.proofs.Common.{arith}
-use Rattle.audit_report.{specs.claim.ReportText.number_data, proofs.Lists.first_written}
+use Rattle.{std.proofs.Common.arith, audit_report.{specs.claim.ReportText.number_data, proofs.Lists.first_written}}
 use Rattle.audit_report.proofs.values.people_value.Goals as goal
 
 pub returns : goal.returns

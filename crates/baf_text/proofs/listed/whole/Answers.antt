@@ -1,5 +1,4 @@
-use Rattle.std.proofs.Common.{rules}
-use Rattle.baf_text.proofs.Parts.{whole_all}
+use Rattle.{std.proofs.Common.rules, baf_text.proofs.Parts.whole_all}
 use Rattle.baf_text.proofs.listed.whole.Goals as goal
 
 pub returns : goal.returns

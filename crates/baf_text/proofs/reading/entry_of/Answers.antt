@@ -1,5 +1,4 @@
-use Rattle.std.{specs.Prelude.is_some, proofs.Common.{◌≡◌, ◌<◌, length, ap, sym, ◌∙◌, rules}}
-use Rattle.desk_model.specs.claim.Geography.{id_at}
+use Rattle.{std.{specs.Prelude.is_some, proofs.Common.{◌≡◌, ◌<◌, length, ap, sym, ◌∙◌, rules}}, desk_model.specs.claim.Geography.id_at}
 use Rattle.baf_text.proofs.Values.{line_unknown, line_entered}
 use Rattle.baf_text.proofs.reading.entry_of.Goals as goal
 

@@ -1,5 +1,4 @@
-use Rattle.std.proofs.Common.{rules}
-use Rattle.baf_text.proofs.Parts.{spread_none}
+use Rattle.{std.proofs.Common.rules, baf_text.proofs.Parts.spread_none}
 use Rattle.baf_text.proofs.reading.none_listed.Goals as goal
 
 pub returns : goal.returns

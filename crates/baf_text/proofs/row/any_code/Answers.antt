@@ -1,5 +1,4 @@
-use Rattle.std.proofs.Common.{rules}
-use Rattle.baf_text.proofs.Rows.{number_small}
+use Rattle.{std.proofs.Common.rules, baf_text.proofs.Rows.number_small}
 use Rattle.baf_text.proofs.row.any_code.Goals as goal
 
 pub overflow_cast-result : goal.overflow_cast-result

@@ -1,5 +1,4 @@
-use Rattle.std.proofs.Common.{sym, ◌∙◌, rules}
-use Rattle.baf_text.proofs.{Codes.code_of_three, Rows.id_small}
+use Rattle.{std.proofs.Common.{sym, ◌∙◌, rules}, baf_text.proofs.{Codes.code_of_three, Rows.id_small}}
 use Rattle.baf_text.proofs.row.code_number.Goals as goal
 
 pub overflow_cast-result : goal.overflow_cast-result

@@ -1,5 +1,4 @@
-use Rattle.std.proofs.Common.{take, sym, ◌∙◌}
-use Rattle.baf_text.proofs.Rows.{id_small}
+use Rattle.{std.proofs.Common.{take, sym, ◌∙◌}, baf_text.proofs.Rows.id_small}
 use Rattle.baf_text.proofs.row.head_of.Goals as goal
 
 pub from_number-requires : goal.from_number-requires

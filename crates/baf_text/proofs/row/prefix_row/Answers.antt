@@ -1,6 +1,4 @@
-use Rattle.std.proofs.Common.{ℕ, List, subst}
-use Rattle.std.proofs.lemmas.List.{take_rest}
-use Rattle.baf_text.{specs.Prefix.HasCode, proofs.Nearby.prefix_of}
+use Rattle.{std.proofs.{Common.{ℕ, List, subst}, lemmas.List.take_rest}, baf_text.{specs.Prefix.HasCode, proofs.Nearby.prefix_of}}
 use Rattle.baf_text.proofs.row.prefix_row.Goals as goal
 
 pub returns-in-Some-code_of : goal.returns-in-Some-code_of

@@ -1,5 +1,4 @@
-use Rattle.std.proofs.Common.{arith, append-nil, refl, sym, rules}
-use Rattle.baf_text.proofs.Printing.{text_more, text_whole}
+use Rattle.{std.proofs.Common.{arith, append-nil, refl, sym, rules}, baf_text.proofs.Printing.{text_more, text_whole}}
 use Rattle.baf_text.proofs.writing.push_rows.Goals as goal
 
 pub loop-place-init : goal.loop-place-init

@@ -1,5 +1,4 @@
-use Rattle.std.{specs.List.{flat_map, zip}, proofs.Common.{◌≡◌, ◌++◌, take}}
-use Rattle.desk_model.specs.{claim.Printed.row_text, claim.Geography.ids_of}
+use Rattle.{std.{specs.List.{flat_map, zip}, proofs.Common.{◌≡◌, ◌++◌, take}}, desk_model.specs.claim.{Geography.ids_of, Printed.row_text}}
 use Rattle.baf_text.proofs.writing.push_rows.Given as goal
 
 abbrev pub invariant-loop-place : goal.invariant-loop-place

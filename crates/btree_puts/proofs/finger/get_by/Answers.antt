@@ -1,9 +1,6 @@
-use Rattle.std.{specs.FinMap.{find, get as row_at}, proofs.Common.{◌≢◌, sym, ◌∙◌}}
-use Rattle.sector_device.specs.claim.Disk.{Image}
-use Rattle.page_store.specs.claim.Transactions.{stored, txn_pages, txn_root, over}
-use Rattle.page_node.specs.claim.Places.{key_cmp}
-use Rattle.page_btree.{specs.Getting.{CanGetIn, IsCopied}, proofs.Outcomes.{map_ok, reads_as}, proofs.Tops.no_root}
-use Rattle.btree_puts.{specs.Fingers.StandsIn, proofs.Fits.get_where_err, proofs.Placed.known_found}
+use Rattle.{std.{specs.FinMap.{find, get as row_at}, proofs.Common.{◌≢◌, sym, ◌∙◌}}, btree_puts.specs.Fingers.StandsIn, page_btree.specs.Getting.{CanGetIn, IsCopied}}
+use Rattle.{page_node.specs.claim.Places.key_cmp, page_store.specs.claim.Transactions.{stored, txn_pages, txn_root, over}, sector_device.specs.claim.Disk.Image}
+use Rattle.{btree_puts.proofs.{Fits.get_where_err, Placed.known_found}, page_btree.proofs.{Outcomes.{map_ok, reads_as}, Tops.no_root}}
 use Rattle.btree_puts.proofs.finger.get_by.Goals as goal
 
 pub returns-then-root-eq0-clause-get : goal.returns-then-root-eq0-clause-get

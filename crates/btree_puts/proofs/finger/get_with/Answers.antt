@@ -1,5 +1,4 @@
-use Rattle.page_btree.proofs.Outcomes.{reads_as}
-use Rattle.btree_puts.{specs.Fingers.{StandsIn, Stand}, proofs.Fits.{get_fewer_err, get_any_err}}
+use Rattle.{btree_puts.{specs.Fingers.{StandsIn, Stand}, proofs.Fits.{get_fewer_err, get_any_err}}, page_btree.proofs.Outcomes.reads_as}
 use Rattle.btree_puts.proofs.finger.get_with.Goals as goal
 
 pub returns-then-has-clause-get : goal.returns-then-has-clause-get

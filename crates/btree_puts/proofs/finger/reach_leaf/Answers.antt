@@ -1,5 +1,4 @@
-use Rattle.std.proofs.Common.{rules}
-use Rattle.btree_puts.proofs.Placed.{reached_known}
+use Rattle.{std.proofs.Common.rules, btree_puts.proofs.Placed.reached_known}
 use Rattle.btree_puts.proofs.finger.reach_leaf.Goals as goal
 
 pub returns-then-has-clause-reached : goal.returns-then-has-clause-reached

@@ -1,5 +1,4 @@
-use Rattle.std.proofs.Common.{rules}
-use Rattle.btree_puts.proofs.Edits.{leaf_put}
+use Rattle.{std.proofs.Common.rules, btree_puts.proofs.Edits.leaf_put}
 use Rattle.btree_puts.proofs.fitting.edit_leaf.Goals as goal
 
 pub returns-clause-put : goal.returns-clause-put

@@ -1,8 +1,6 @@
-use Rattle.std.{specs.Prelude.IfSome, specs.FinMap.{insert, contains_key}, proofs.Common.{refl, ◌≡◌, ◌+◌, sym, subst, ◌∙◌, rules}}
-use Rattle.page_store.specs.claim.Transactions.{stored, txn_free}
-use Rattle.page_btree.{specs.claim.Map.InTxn, specs.Errors.IsNoWant, specs.declared.error.TreeError.TheVariants.TooDeep, proofs.Outcomes.{map_ok, map_err, map_both, reads_after}}
-use Rattle.page_btree.proofs.Editing.{still_in}
-use Rattle.btree_puts.{specs.Fingers.IsPutBy, proofs.Fits.{put_failed_more, put_failed_alike, by_err}}
+use Rattle.{std.{specs.{FinMap.{insert, contains_key}, Prelude.IfSome}, proofs.Common.{refl, ◌≡◌, ◌+◌, sym, subst, ◌∙◌, rules}}, btree_puts.specs.Fingers.IsPutBy}
+use Rattle.{page_btree.specs.{Errors.IsNoWant, claim.Map.InTxn, declared.error.TreeError.TheVariants.TooDeep}, page_store.specs.claim.Transactions.{stored, txn_free}}
+use Rattle.{btree_puts.proofs.Fits.{put_failed_more, put_failed_alike, by_err}, page_btree.proofs.{Editing.still_in, Outcomes.{map_ok, map_err, map_both, reads_after}}}
 use Rattle.btree_puts.proofs.fitting.put.Goals as goal
 
 pub returns-in-Some-clause-put : goal.returns-in-Some-clause-put

@@ -1,6 +1,4 @@
-use Rattle.std.proofs.Common.{rules}
-use Rattle.page_store.specs.claim.Transactions.{stored}
-use Rattle.page_btree.proofs.Editing.{some_of}
+use Rattle.{std.proofs.Common.rules, page_store.specs.claim.Transactions.stored, page_btree.proofs.Editing.some_of}
 use Rattle.btree_puts.proofs.fitting.put_leaf.Goals as goal
 
 pub returns : goal.returns

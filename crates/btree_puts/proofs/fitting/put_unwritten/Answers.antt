@@ -1,5 +1,4 @@
-use Rattle.std.proofs.Common.{◌∙◌, rules, refl}
-use Rattle.page_store.specs.claim.Transactions.{stored, over}
+use Rattle.{std.proofs.Common.{◌∙◌, rules, refl}, page_store.specs.claim.Transactions.{stored, over}}
 use Rattle.page_store.proofs.gate_journal.Images.{put_on, put_off}
 use Rattle.btree_puts.proofs.fitting.put_unwritten.Goals as goal
 

@@ -1,32 +1,22 @@
-use Rattle.std.{specs.Prelude.{Ok, Err, is_some}, specs.FinMap.{find, put}, proofs.Common.{◌≡◌, ◌-◌, ℕ, List, None, arith, rules}}
-use Rattle.page_store.{specs.claim.Transactions.{stored, txn_pages, txn_free, over, free_over}, proofs.Stops.passed_more}
-use Rattle.page_node.specs.claim.Places.{key_cmp}
-use Rattle.page_btree.{specs.Errors.IsNoWant, proofs.Outcomes.{map_ok, match_of, reads_ok, reads_as, refused_as, refused_after}}
-use Rattle.btree_puts.{specs.Putting.{IsWritten, IsRaised, CanPutSome}, proofs.Failing.{step_failed, below_failed, link_failed}}
-use Rattle.btree_puts.proofs.{FromNode.{can_some, same_length, put_none, has_node, put_some}, Leaves.{leaf_rows, leaf_node, leaf_rises, leaf_off, leaf_raised}}
-use Rattle.btree_puts.proofs.Counting.{few_none, few_some, few_taken, none_some}
+use Rattle.{std.{specs.{FinMap.{find, put}, Prelude.{Ok, Err, is_some}}, proofs.Common.{◌≡◌, ◌-◌, ℕ, List, None, arith, rules}}, btree_puts.specs.Outcomes.IsRaisedBy}
+use Rattle.{btree_puts.specs.Putting.{IsWritten, CanPutSome}, page_btree.specs.Errors.IsNoWant, page_node.specs.claim.Places.key_cmp, page_store.proofs.Stops.passed_more}
+use Rattle.{page_store.specs.claim.Transactions.{stored, txn_pages, txn_free, over, free_over}, btree_puts.proofs.Counting.{few_none, few_some, few_taken, none_some}}
+use Rattle.btree_puts.proofs.{Failing.{step_failed, below_failed, link_failed}, FromNode.{can_some, same_length, put_none, has_node, put_some}}
+use Rattle.btree_puts.proofs.Leaves.{leaf_rows, leaf_node, leaf_rises, leaf_off, leaf_raised}
+use Rattle.page_btree.proofs.Outcomes.{map_ok, match_of, reads_ok, reads_as, refused_as, refused_after}
 use Rattle.btree_puts.proofs.puts.+put_at.Goals as goal
 
 -- ---- a leaf
 pub returns-then-level-eq0-clause-put : goal.returns-then-level-eq0-clause-put
 returns-then-level-eq0-clause-put g t c = λ honest low high tree can.
-    let S = stored c.args.pages.now in
-    let P = over c.args.txn.now S in
-    let Q = over c.put_row.new.txn S in
-    let free = free_over c.args.txn.now S in
-    let left = free_over c.put_row.new.txn S in
-    let n = txn_pages c.args.txn.now in
     let z = c.if-level-eq0.true in
-    let es = leaf_rows n P low high free c.args.page c.args.room.now.page c.args.key.now c.args.level tree z can in
+    let es = leaf_rows _ _ _ _ _ _ _ _ _ tree z can in
+    let S = stored c.args.pages.now in
     map_ok c.put_row.result
-    (λ placed. (placed.had ≡ is_some (find key_cmp c.args.key.now es)) × IsWritten P Q free left c.args.page placed.right (record { level = 0; entries = put key_cmp c.args.key.now c.args.value.now es }) c.put_row.new.room.upper)
-    (λ placed. (k : List ℕ) → IsRaised P Q c.args.level low high free left c.args.key.now c.args.value.now placed.had k c.args.page tree placed.right c.put_row.new.room.upper)
-    (λ placed w. leaf_raised n P low high free c.args.page c.args.room.now.page c.args.key.now c.args.level tree z can Q left c.args.value.now placed.had placed.right c.put_row.new.room.upper w)
-    (c.put_row.ensures.put honest es
-    (leaf_node n P low high free c.args.page c.args.room.now.page c.args.key.now c.args.level tree z can)
-    (leaf_rises n P low high free c.args.page c.args.room.now.page c.args.key.now c.args.level tree z can)
-    can.free_are
-    (leaf_off n P low high free c.args.page c.args.room.now.page c.args.key.now c.args.level tree z can))
+    (λ placed. (placed.had ≡ is_some (find key_cmp c.args.key.now es)) × IsWritten (over c.args.txn.now S) (over c.put_row.new.txn S) (free_over c.args.txn.now S) (free_over c.put_row.new.txn S) c.args.page placed.right (record { level = 0; entries = put key_cmp c.args.key.now c.args.value.now es }) c.put_row.new.room.upper)
+    (λ placed. (k : List ℕ) → IsRaisedBy c.args.txn.now c.put_row.new.txn S c.args.level low high (c.args.key.now, c.args.value.now) placed k c.args.page tree c.put_row.new.room.upper)
+    (λ placed w. leaf_raised _ _ _ _ _ _ _ _ _ tree z can _ _ c.args.value.now placed.had placed.right c.put_row.new.room.upper w)
+    (c.put_row.ensures.put honest es (leaf_node _ _ _ _ _ _ _ _ _ tree z can) (leaf_rises _ _ _ _ _ _ _ _ _ tree z can) can.free_are (leaf_off _ _ _ _ _ _ _ _ _ tree z can))
 
 pub returns-then-level-eq0-clause-fixed : goal.returns-then-level-eq0-clause-fixed
 returns-then-level-eq0-clause-fixed g t c = λ honest low high tree held can there same.
@@ -48,8 +38,7 @@ pub returns-in_err-child-clause-reading : goal.returns-in_err-child-clause-readi
 returns-in_err-child-clause-reading g t c = refused_as _ c.in_err-child.ensures.reading c.from_residual.ensures.1 (step_failed c.args.level (CanPutSome (txn_pages c.args.txn.now) (over c.args.txn.now) c.args.level (free_over c.args.txn.now) c.args.page c.args.room.now.page c.args.key.now) c.args.txn.now c.args.pages.now c.step_down.new.pages _)
 
 pub returns-in_err-child-clause-fixed : goal.returns-in_err-child-clause-fixed
-returns-in_err-child-clause-fixed g t c =
-    λ honest low high tree held can there same. search rules
+returns-in_err-child-clause-fixed g t c = λ honest low high tree held can there same. search rules
 
 -- ---- refused below
 pub returns-in_err-below-clause-reading : goal.returns-in_err-below-clause-reading

@@ -1,7 +1,5 @@
-use Rattle.std.proofs.Common.{◌≡◌, ◌∙◌, ◌∷◌, ℕ, [], sym, ap, subst, rules}
-use Rattle.page_store.specs.{claim.Chain.AreFree, claim.Transactions.{stored, txn_pages, over, free_over}}
-use Rattle.page_node.specs.{claim.Entries.{Entry, child_bytes}, Entries.key_at}
-use Rattle.btree_puts.specs.Putting.{IsGrown}
+use Rattle.{std.proofs.Common.{◌≡◌, ◌∙◌, ◌∷◌, ℕ, [], sym, ap, subst, rules}, btree_puts.specs.Putting.IsGrown, page_node.specs.{Entries.key_at, claim.Entries.{Entry, child_bytes}}}
+use Rattle.page_store.specs.claim.{Chain.AreFree, Transactions.{stored, txn_pages, over, free_over}}
 use Rattle.btree_puts.proofs.puts.grow.Goals as goal
 
 pub returns-clause-grown : goal.returns-clause-grown

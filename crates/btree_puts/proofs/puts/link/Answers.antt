@@ -1,7 +1,5 @@
-use Rattle.std.proofs.Common.{◌≡◌, sym, subst, rules}
-use Rattle.page_store.specs.claim.Transactions.{stored}
-use Rattle.page_node.{specs.claim.Entries.{Entry, child_bytes}, specs.Entries.key_at, specs.claim.Node.IsNode, proofs.Laws.node_unique}
-use Rattle.btree_puts.proofs.Failing.{link_read_failed, link_written_failed}
+use Rattle.{std.proofs.Common.{◌≡◌, sym, subst, rules}, page_node.{specs.{Entries.key_at, claim.{Entries.{Entry, child_bytes}, Node.IsNode}}, proofs.Laws.node_unique}}
+use Rattle.{page_store.specs.claim.Transactions.stored, btree_puts.proofs.Failing.{link_read_failed, link_written_failed}}
 use Rattle.page_btree.proofs.Outcomes.{reads_after, refused_as, refused_by}
 use Rattle.btree_puts.proofs.puts.link.Goals as goal
 

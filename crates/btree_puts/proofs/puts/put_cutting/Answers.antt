@@ -1,8 +1,7 @@
-use Rattle.std.{specs.Prelude.{Ok, Err, is_some}, proofs.Common.{◌≡◌, sym, ap, ◌∙◌, arith, rules, false}}
-use Rattle.page_store.{specs.claim.Transactions.{txn_pages, txn_root, over, free_over}, proofs.Stops.passed_more}
-use Rattle.page_btree.{specs.Errors.IsNoWant, proofs.Outcomes.{match_of, reads_ok, refused_as, refused_after}, proofs.Tops.no_root}
-use Rattle.btree_puts.{specs.Putting.CanPutSome, specs.Outcomes.TakesNoPage, proofs.Failing.{first_failed, root_read_failed, place_failed, grow_failed}}
-use Rattle.btree_puts.proofs.{Counting.{none_some, few_some_taken}, FromRoot.{can_some, same_length, put_whole, free_then, put_grown}}
+use Rattle.{std.{specs.Prelude.{Ok, Err, is_some}, proofs.Common.{◌≡◌, sym, ap, ◌∙◌, arith, rules}}, btree_puts.specs.{Outcomes.TakesNoPage, Putting.CanPutSome}}
+use Rattle.{page_btree.specs.Errors.IsNoWant, page_store.specs.claim.Transactions.{txn_pages, txn_root, over, free_over}, btree_puts.proofs.Counting.{none_some, few_some_taken}}
+use Rattle.btree_puts.proofs.{Failing.{first_failed, root_read_failed, place_failed, grow_failed}, FromRoot.{can_some, same_length, put_whole, free_then, put_grown}}
+use Rattle.{page_btree.proofs.{Outcomes.{match_of, reads_ok, refused_as, refused_after}, Tops.no_root}, page_store.proofs.Stops.passed_more}
 use Rattle.btree_puts.proofs.puts.put_cutting.Goals as goal
 
 -- ---- no root

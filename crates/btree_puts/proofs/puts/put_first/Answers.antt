@@ -1,8 +1,6 @@
-use Rattle.std.{specs.FinMap.insert, proofs.Common.{◌≡◌, ◌∙◌, ◌∷◌, [], sym, ap, subst, refl, rules}}
-use Rattle.page_store.specs.{claim.Chain.AreFree, claim.Transactions.{stored, txn_pages, txn_root, over, free_over}}
-use Rattle.page_node.specs.claim.Node.{IsNode}
+use Rattle.{std.proofs.Common.{◌≡◌, ◌∙◌, ◌∷◌, [], sym, ap, subst, refl, rules}, page_node.specs.claim.Node.IsNode, page_store.specs.claim.Chain.AreFree}
+use Rattle.{page_store.specs.claim.Transactions.{stored, txn_pages, txn_root, over, free_over}, btree_puts.proofs.{Failing.take_failed, Placing.first_node, Roots.first_holds}}
 use Rattle.page_btree.proofs.Outcomes.{refused_as}
-use Rattle.btree_puts.proofs.{Roots.first_holds, Placing.first_node, Failing.take_failed}
 use Rattle.page_store.proofs.gate_journal.Images.{put_on}
 use Rattle.btree_puts.proofs.puts.put_first.Goals as goal
 

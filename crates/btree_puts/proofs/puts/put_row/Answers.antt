@@ -1,7 +1,6 @@
-use Rattle.std.{specs.Prelude.None, proofs.Common.{◌≡◌, sym, subst}}
-use Rattle.page_store.{specs.claim.Transactions.{stored, over, free_over}, proofs.Stops.quiet_none}
-use Rattle.btree_puts.{specs.Putting.IsWritten, proofs.Placing.{found_had, found_node, found_fits, gap_had, gap_missing, gap_node}, proofs.Failing.row_written_failed}
-use Rattle.page_btree.{specs.Errors.IsNoWant, proofs.Outcomes.{match_of, refused_as, refused_by}}
+use Rattle.{std.{specs.Prelude.None, proofs.Common.{◌≡◌, sym, subst}}, btree_puts.{specs.Putting.IsWritten, proofs.Failing.row_written_failed}, page_btree.specs.Errors.IsNoWant}
+use Rattle.{page_store.specs.claim.Transactions.{stored, over, free_over}, btree_puts.proofs.Placing.{found_had, found_node, found_fits, gap_had, gap_missing, gap_node}}
+use Rattle.{page_btree.proofs.Outcomes.{match_of, refused_as, refused_by}, page_store.proofs.Stops.quiet_none}
 use Rattle.btree_puts.proofs.puts.put_row.Goals as goal
 
 pub returns-in_err-read-clause-reading : goal.returns-in_err-read-clause-reading

@@ -1,8 +1,5 @@
-use Rattle.std.proofs.Common.{◌≡◌, ◌∷◌, inr, sym, ap, subst, ◌∙◌, rules}
-use Rattle.page_store.specs.{claim.Chain.{IsIn, AreFree}, claim.Transactions.{stored, txn_pages, over, free_over}}
-use Rattle.page_node.specs.claim.Node.{IsNode}
-use Rattle.btree_puts.proofs.Failing.{take_failed}
-use Rattle.page_btree.proofs.Outcomes.{refused_as}
+use Rattle.{std.proofs.Common.{◌≡◌, ◌∷◌, inr, sym, ap, subst, ◌∙◌, rules}, page_node.specs.claim.Node.IsNode, page_store.specs.claim.Chain.{IsIn, AreFree}}
+use Rattle.{page_store.specs.claim.Transactions.{stored, txn_pages, over, free_over}, btree_puts.proofs.Failing.take_failed, page_btree.proofs.Outcomes.refused_as}
 use Rattle.btree_puts.proofs.tree.cut.Goals as goal
 
 pub returns-clause-written : goal.returns-clause-written

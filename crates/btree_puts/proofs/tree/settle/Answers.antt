@@ -1,5 +1,4 @@
-use Rattle.std.proofs.Common.{rules}
-use Rattle.page_store.specs.claim.Transactions.{stored, txn_pages}
+use Rattle.{std.proofs.Common.rules, page_store.specs.claim.Transactions.{stored, txn_pages}}
 use Rattle.btree_puts.proofs.tree.settle.Goals as goal
 
 pub returns-clause-written : goal.returns-clause-written

@@ -1,8 +1,7 @@
-use Rattle.std.proofs.Common.{inl, refl, sym, ◌∙◌, arith}
-use Rattle.page_store.{specs.claim.Transactions.{stored, txn_pages, over}, proofs.Stops.{quiet_none, quiet_more, passed_more}}
-use Rattle.page_btree.proofs.Outcomes.{err_of, reads_ok, reads_err, refused_by}
-use Rattle.btree_walks.{specs.Faults.TellsOf, proofs.Errors.{unread, unsound_after}, proofs.Faults.{name_told, unread_told}, proofs.Header.{list_there, walked_there}}
-use Rattle.btree_walks.proofs.PageWhole.{some_pages, can_list, can_root, are_owned, none_lost, is_lost}
+use Rattle.{std.proofs.Common.{inl, refl, sym, ◌∙◌, arith}, btree_walks.specs.Faults.TellsOf, page_store.specs.claim.Transactions.{stored, txn_pages, over}}
+use Rattle.{btree_walks.proofs.{Errors.{unread, unsound_after}, Faults.{name_told, unread_told}}, page_btree.proofs.Outcomes.{err_of, reads_ok, reads_err, refused_by}}
+use Rattle.btree_walks.proofs.PageWhole.{list_there, walked_there, some_pages, can_list, can_root, are_owned, none_lost, is_lost}
+use Rattle.page_store.proofs.Stops.{quiet_none, quiet_more, passed_more}
 use Rattle.btree_walks.proofs.checks.check_owners.Goals as goal
 
 pub returns-in_err-name-clause-reading : goal.returns-in_err-name-clause-reading

@@ -1,7 +1,5 @@
-use Rattle.std.proofs.Common.{◌≡◌}
-use Rattle.page_store.{specs.claim.Transactions.{stored, over}, proofs.Stops.quiet_none}
-use Rattle.page_btree.proofs.Outcomes.{reads_err}
-use Rattle.btree_walks.proofs.Errors.{checked}
+use Rattle.{std.proofs.Common.◌≡◌, page_store.specs.claim.Transactions.{stored, over}, btree_walks.proofs.Errors.checked, page_btree.proofs.Outcomes.reads_err}
+use Rattle.page_store.proofs.Stops.{quiet_none}
 use Rattle.btree_walks.proofs.checks.check_pages.Goals as goal
 
 pub returns-in_default-clause-reading : goal.returns-in_default-clause-reading

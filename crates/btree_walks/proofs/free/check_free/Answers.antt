@@ -1,7 +1,6 @@
-use Rattle.std.proofs.Common.{sym, ◌∙◌, arith, rules}
-use Rattle.page_store.{specs.claim.Transactions.{stored, txn_pages, over}, proofs.Stops.passed_more}
-use Rattle.page_btree.proofs.Outcomes.{err_of, reads_err}
-use Rattle.btree_walks.{specs.Faults.TellsOf, proofs.Errors.unsound_after, proofs.Faults.listed_at, proofs.Lists.{more_listed, all_listed, can_name, ends_with}}
+use Rattle.{std.proofs.Common.{sym, ◌∙◌, arith, rules}, btree_walks.{specs.Faults.TellsOf, proofs.Faults.listed_at}, page_store.specs.claim.Transactions.{stored, txn_pages, over}}
+use Rattle.{btree_walks.proofs.{Errors.unsound_after, Lists.{more_listed, all_listed, can_name, ends_with}}, page_btree.proofs.Outcomes.{err_of, reads_err}}
+use Rattle.page_store.proofs.Stops.{passed_more}
 use Rattle.btree_walks.proofs.free.check_free.Goals as goal
 
 pub loop-taken-init : goal.loop-taken-init
@@ -37,8 +36,7 @@ pub returns-clause-long : goal.returns-clause-long
 returns-clause-long g c = c.loop-taken.invariant.long ∙ sym c.requires.long
 
 pub returns-clause-free : goal.returns-clause-free
-returns-clause-free g c = λ honest.
-    all_listed _ _ _ _ _ _ _ (c.loop-taken.invariant.listed honest) (omega arith) (omega arith)
+returns-clause-free g c = λ honest. all_listed _ _ _ _ _ _ _ (c.loop-taken.invariant.listed honest) (omega arith) (omega arith)
 
 pub returns-in_err-next-clause-told : goal.returns-in_err-next-clause-told
 returns-in_err-next-clause-told g c = λ honest first_is count_is.

@@ -1,6 +1,4 @@
-use Rattle.std.proofs.Common.{◌≡◌, length}
-use Rattle.page_store.specs.claim.Transactions.{stored, disk_in, count_of, txn_pages, over, Passed}
-use Rattle.btree_walks.proofs.Lists.{AreListed}
+use Rattle.{std.proofs.Common.{◌≡◌, length}, page_store.specs.claim.Transactions.{stored, disk_in, count_of, txn_pages, over, Passed}, btree_walks.proofs.Lists.AreListed}
 use Rattle.btree_walks.proofs.free.check_free.Given as goal
 
 abbrev pub invariant-loop-taken : goal.invariant-loop-taken

@@ -1,7 +1,6 @@
-use Rattle.std.proofs.Common.{inl, inr, refl, sym, ap, ◌∙◌, arith, rules}
-use Rattle.page_store.{specs.claim.Transactions.{stored, txn_pages, over}, specs.claim.Chain.is_blank, proofs.Chains.both_ways, proofs.Stops.quiet_none}
-use Rattle.page_btree.proofs.Outcomes.{reads_ok, reads_err, refused_by}
-use Rattle.btree_walks.proofs.{Errors.unread, Faults.{name_told, unread_told}}
+use Rattle.{std.proofs.Common.{inl, inr, refl, sym, ap, ◌∙◌, arith, rules}, page_store.specs.claim.{Chain.is_blank, Transactions.{stored, txn_pages, over}}}
+use Rattle.{btree_walks.proofs.{Errors.unread, Faults.{name_told, unread_told}}, page_btree.proofs.Outcomes.{reads_ok, reads_err, refused_by}, page_store.proofs.Chains.both_ways}
+use Rattle.page_store.proofs.Stops.{quiet_none}
 use Rattle.btree_walks.proofs.free.check_free_page.Goals as goal
 
 pub returns-in_err-name-clause-reading : goal.returns-in_err-name-clause-reading
@@ -30,5 +29,4 @@ pub returns-in_err-own-clause-told : goal.returns-in_err-own-clause-told
 returns-in_err-own-clause-told g c = λ honest listed. unread_told _ (txn_pages c.args.txn.now) (over c.args.txn.now (stored c.args.pages.now)) c.in_err-own.field-0.0 c.from_residual-in_err-own.ensures.1
 
 pub returns-then-not-is_blank_page-clause-told : goal.returns-then-not-is_blank_page-clause-told
-returns-then-not-is_blank_page-clause-told g c =
-    λ honest listed. search rules
+returns-then-not-is_blank_page-clause-told g c = λ honest listed. search rules

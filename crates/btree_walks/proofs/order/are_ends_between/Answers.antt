@@ -1,5 +1,4 @@
-use Rattle.std.{specs.Option.option_copied, proofs.Common.{◌-◌, subst, rules}}
-use Rattle.page_btree.specs.claim.Keys.{IsBetween}
+use Rattle.{std.{specs.Option.option_copied, proofs.Common.{subst, rules}}, page_btree.specs.claim.Keys.IsBetween}
 use Rattle.btree_walks.proofs.order.are_ends_between.Goals as goal
 
 pub returns-then-not-is_between-clause-no : goal.returns-then-not-is_between-clause-no

@@ -1,4 +1,4 @@
-use Rattle.std.proofs.Common.{◌-◌, rules}
+use Rattle.std.proofs.Common.{rules}
 use Rattle.btree_walks.proofs.order.are_parts.Goals as goal
 
 pub returns-then-not-is_part : goal.returns-then-not-is_part

@@ -1,7 +1,4 @@
-use Rattle.std.{specs.Option.option_copied, proofs.Common.{◌<◌, ℕ, suc}}
-use Rattle.page_node.specs.Entries.{key_at}
-use Rattle.page_btree.specs.claim.Keys.{Parts}
-use Rattle.btree_walks.specs.Order.{lower_of}
+use Rattle.{std.{specs.Option.option_copied, proofs.Common.{◌<◌, ℕ, suc}}, btree_walks.specs.Order.lower_of, page_btree.specs.claim.Keys.Parts, page_node.specs.Entries.key_at}
 use Rattle.btree_walks.proofs.order.are_parts.Given as goal
 
 abbrev pub invariant-loop-k : goal.invariant-loop-k

@@ -1,6 +1,4 @@
-use Rattle.std.proofs.Common.{◌-◌, rules}
-use Rattle.page_node.proofs.Laws.{rises_at}
-use Rattle.btree_walks.proofs.Keys.{rises_from}
+use Rattle.{std.proofs.Common.rules, btree_walks.proofs.Keys.rises_from, page_node.proofs.Laws.rises_at}
 use Rattle.btree_walks.proofs.order.do_rise.Goals as goal
 
 pub returns-then-not-is_below : goal.returns-then-not-is_below

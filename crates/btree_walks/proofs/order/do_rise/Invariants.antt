@@ -1,5 +1,4 @@
-use Rattle.std.{specs.Ordering.is_lt, proofs.Common.{◌≡◌, ◌<◌, ℕ, suc, true}}
-use Rattle.page_node.specs.{Entries.key_at, claim.Places.key_cmp}
+use Rattle.{std.{specs.Ordering.is_lt, proofs.Common.{◌≡◌, ◌<◌, ℕ, suc, true}}, page_node.specs.{Entries.key_at, claim.Places.key_cmp}}
 use Rattle.btree_walks.proofs.order.do_rise.Given as goal
 
 abbrev pub invariant-loop-k : goal.invariant-loop-k

@@ -1,4 +1,4 @@
-use Rattle.std.proofs.Common.{◌-◌, rules}
+use Rattle.std.proofs.Common.{rules}
 use Rattle.btree_walks.proofs.order.is_part.Goals as goal
 
 pub returns-then-not-is_below : goal.returns-then-not-is_below

@@ -1,5 +1,4 @@
-use Rattle.std.proofs.Common.{◌∙◌}
-use Rattle.btree_walks.proofs.Keys.{lower_first, lower_some}
+use Rattle.{std.proofs.Common.◌∙◌, btree_walks.proofs.Keys.{lower_first, lower_some}}
 use Rattle.btree_walks.proofs.order.lower.Goals as goal
 
 pub returns-then-k-eq0 : goal.returns-then-k-eq0

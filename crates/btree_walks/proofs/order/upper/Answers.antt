@@ -1,5 +1,4 @@
-use Rattle.std.{specs.Option.option_copied, proofs.Common.{Some, ap, ◌∙◌, arith}}
-use Rattle.btree_walks.proofs.Keys.{upper_some, upper_last}
+use Rattle.{std.{specs.Option.option_copied, proofs.Common.{Some, ap, ◌∙◌, arith}}, btree_walks.proofs.Keys.{upper_some, upper_last}}
 use Rattle.btree_walks.proofs.order.upper.Goals as goal
 
 pub returns-then-k-count : goal.returns-then-k-count

@@ -1,11 +1,8 @@
-use Rattle.std.proofs.Common.{◌≡◌, ◌-◌, sym, subst, arith, ℕ}
-use Rattle.sector_device.specs.claim.Disk.{Image}
-use Rattle.page_store.{specs.claim.Transactions.{stored, txn_pages, over, free_over}, proofs.Stops.{passed_more, quiet_none, passed_none}}
-use Rattle.page_node.specs.claim.Node.{IsNode}
-use Rattle.page_btree.{specs.claim.Tree.rows, specs.Getting.IsLevel, proofs.Descent.{goes_on, some_child}}
-use Rattle.page_btree.proofs.Outcomes.{map_ok, map_err, on_ok, reads_ok, refused_by, refused_as, refused_after}
-use Rattle.btree_walks.{specs.Removing.{CanRemove, Removes, RowRemoves, IsDone, StaysAt}, proofs.Refusals.{level_fails, below_more, link_fails, row_fails}}
-use Rattle.btree_walks.proofs.{FromNode.{can_below, absent, kept, has_node, emptied}, Steps.{row_removes, leaf_there, as_get, has_rows, both_ok, done_stays}}
+use Rattle.{std.proofs.Common.{◌≡◌, ◌-◌, sym, subst, arith, ℕ}, btree_walks.specs.Removing.{CanRemove, Removes, RowRemoves, IsDone, StaysAt}, page_btree.specs.Getting.IsLevel}
+use Rattle.{page_btree.specs.claim.Tree.rows, page_node.specs.claim.Node.IsNode, page_store.specs.claim.Transactions.{stored, txn_pages, over, free_over}}
+use Rattle.{sector_device.specs.claim.Disk.Image, btree_walks.proofs.FromNode.{can_below, absent, kept, has_node, emptied}, page_btree.proofs.Descent.{goes_on, some_child}}
+use Rattle.btree_walks.proofs.{Refusals.{level_fails, below_more, link_fails, row_fails}, Steps.{row_removes, leaf_there, as_get, has_rows, both_ok, done_stays}}
+use Rattle.{page_btree.proofs.Outcomes.{map_ok, map_err, on_ok, reads_ok, refused_by, refused_as, refused_after}, page_store.proofs.Stops.{passed_more, quiet_none, passed_none}}
 use Rattle.btree_walks.proofs.removes.+remove_below.Goals as goal
 
 pub returns-then-level-eq0-clause-removed : goal.returns-then-level-eq0-clause-removed

@@ -1,5 +1,4 @@
-use Rattle.std.proofs.Common.{◌-◌, rules}
-use Rattle.btree_walks.proofs.Edits.{unlinked_at}
+use Rattle.{std.proofs.Common.rules, btree_walks.proofs.Edits.unlinked_at}
 use Rattle.btree_walks.proofs.removes.link_of.Goals as goal
 
 pub returns-then-is_gt-clause-place : goal.returns-then-is_gt-clause-place

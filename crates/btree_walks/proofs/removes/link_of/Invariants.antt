@@ -1,5 +1,4 @@
-use Rattle.std.{specs.Ordering.is_gt, proofs.Common.{◌≡◌, ℕ, ◌<◌, ◌≤◌, false, length}}
-use Rattle.page_node.specs.{Entries.key_at, claim.Places.key_cmp}
+use Rattle.{std.{specs.Ordering.is_gt, proofs.Common.{◌≡◌, ℕ, ◌<◌, ◌≤◌, false, length}}, page_node.specs.{Entries.key_at, claim.Places.key_cmp}}
 use Rattle.btree_walks.proofs.removes.link_of.Given as goal
 
 abbrev pub invariant-loop-i : goal.invariant-loop-i

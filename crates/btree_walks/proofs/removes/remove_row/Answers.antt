@@ -1,7 +1,5 @@
-use Rattle.std.proofs.Common.{subst}
-use Rattle.page_node.specs.Spots.{IsRowTaken}
-use Rattle.btree_walks.{specs.Removing.{IsDone, StaysAt, BackErr, TakenErr}, proofs.Steps.{row_done, done_stays}, proofs.Refusals.back_taken}
-use Rattle.page_btree.{specs.declared.error.TreeError.TheVariants.NotAStore, proofs.Outcomes.{map_ok, map_err, err_of}}
+use Rattle.{std.proofs.Common.subst, btree_walks.specs.Removing.{IsDone, StaysAt, BackErr, TakenErr}, page_btree.specs.declared.error.TreeError.TheVariants.NotAStore}
+use Rattle.{page_node.specs.Spots.IsRowTaken, btree_walks.proofs.{Refusals.back_taken, Steps.{row_done, done_stays}}, page_btree.proofs.Outcomes.{map_ok, map_err, err_of}}
 use Rattle.btree_walks.proofs.removes.remove_row.Goals as goal
 
 pub returns-in_err-take_row-clause-err : goal.returns-in_err-take_row-clause-err

@@ -1,8 +1,6 @@
-use Rattle.std.proofs.Common.{◌≡◌, sym, ◌∙◌, rules}
-use Rattle.sector_device.specs.claim.Disk.{Image}
-use Rattle.page_store.{specs.claim.Transactions.{stored, txn_pages, over, free_over}, proofs.Stops.passed_more}
-use Rattle.btree_walks.{specs.Removing.CanRemove, proofs.Refusals.remove_fails, proofs.FromRoot.{can_there, absent, kept, emptied}, proofs.Lefts.none_there}
-use Rattle.page_btree.proofs.{Outcomes.{reads_ok, refused_after}, Tops.no_root}
+use Rattle.{std.proofs.Common.{◌≡◌, sym, ◌∙◌, rules}, btree_walks.specs.Removing.CanRemove, page_store.specs.claim.Transactions.{stored, txn_pages, over, free_over}}
+use Rattle.{sector_device.specs.claim.Disk.Image, btree_walks.proofs.{FromRoot.{can_there, absent, kept, emptied}, Lefts.none_there, Refusals.remove_fails}}
+use Rattle.{page_btree.proofs.{Outcomes.{reads_ok, refused_after}, Tops.no_root}, page_store.proofs.Stops.passed_more}
 use Rattle.btree_walks.proofs.removes.remove_through.Goals as goal
 
 pub returns-then-root-eq0 : goal.returns-then-root-eq0

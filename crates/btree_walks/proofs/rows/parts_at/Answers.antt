@@ -1,5 +1,4 @@
-use Rattle.page_node.proofs.Walking.{ahead_lies, ahead_next}
-use Rattle.std.proofs.Common.{rules}
+use Rattle.{std.proofs.Common.rules, page_node.proofs.Walking.{ahead_lies, ahead_next}}
 use Rattle.btree_walks.proofs.rows.parts_at.Goals as goal
 
 pub returns-in-Some-clause-taken : goal.returns-in-Some-clause-taken

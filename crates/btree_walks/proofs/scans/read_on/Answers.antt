@@ -1,6 +1,5 @@
-use Rattle.std.{specs.Prelude.{Some, None}, specs.FinMap.entries, proofs.Common.{◌≡◌, ℕ, List, cond, ap, refl, subst, ◌∙◌}}
-use Rattle.page_btree.specs.Seeking.{bound_in, IsFrom}
-use Rattle.btree_walks.{specs.declared.held.HeldLeaves.HeldLeaves, proofs.Ready.{ready_last, ready_read}}
+use Rattle.{std.{specs.{FinMap.entries, Prelude.{Some, None}}, proofs.Common.{◌≡◌, ℕ, List, cond, ap, refl, subst, ◌∙◌}}, btree_walks.specs.declared.held.HeldLeaves.HeldLeaves}
+use Rattle.{page_btree.specs.Seeking.{bound_in, IsFrom}, btree_walks.proofs.Ready.{ready_last, ready_read}}
 use Rattle.btree_walks.proofs.scans.read_on.Goals as goal
 
 pub returns-then-not-leaf-clause-rows : goal.returns-then-not-leaf-clause-rows

@@ -1,7 +1,6 @@
-use Rattle.std.{specs.FinMap.entries, proofs.Common.{◌≡◌, arith, rules}}
-use Rattle.btree_walks.proofs.{Ready.{ready_turn, scan_fails}, Errors.ok_then}
-use Rattle.btree_walks.proofs.scans.refill.Goals as goal
+use Rattle.{std.{specs.FinMap.entries, proofs.Common.{◌≡◌, arith, rules}}, btree_walks.proofs.{Errors.ok_then, Ready.{ready_turn, scan_fails}}}
 use Rattle.page_btree.proofs.Outcomes.{refused_as, fault_refused, on_err}
+use Rattle.btree_walks.proofs.scans.refill.Goals as goal
 
 pub returns-then-leaf-gt0-2-clause-rows : goal.returns-then-leaf-gt0-2-clause-rows
 returns-then-leaf-gt0-2-clause-rows g c = λ honest m rest holds is.

@@ -1,7 +1,6 @@
-use Rattle.std.{specs.List.starts_with, proofs.Common.{◌∙◌, ℕ, List, nat_eq, ap, arith}}
-use Rattle.btree_walks.{specs.Parts.row_at, proofs.Ready.{head_of, step_of, covered_step}}
-use Rattle.btree_walks.proofs.scans.step.Goals as goal
+use Rattle.{std.{specs.List.starts_with, proofs.Common.{◌∙◌, ℕ, List, nat_eq, ap, arith}}, btree_walks.{specs.Parts.row_at, proofs.Ready.{head_of, step_of, covered_step}}}
 use Rattle.page_btree.proofs.Outcomes.{refused_as, refused_by}
+use Rattle.btree_walks.proofs.scans.step.Goals as goal
 
 pub returns-in_err-refill-clause-reading : goal.returns-in_err-refill-clause-reading
 returns-in_err-refill-clause-reading g c = refused_as _ c.in_err-refill.ensures.reading c.from_residual.ensures.1 (λ why. why)

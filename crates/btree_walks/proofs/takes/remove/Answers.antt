@@ -1,7 +1,6 @@
-use Rattle.std.{specs.Prelude.IfSome, specs.FinMap.{contains_key, remove as remove_key}, proofs.Common.{◌≡◌, ◌≤◌, ◌+◌, subst, arith, rules}}
-use Rattle.page_store.specs.claim.Transactions.{stored, txn_free, txn_writes}
-use Rattle.page_btree.{specs.claim.Map.InTxn, proofs.Outcomes.{map_ok, reads_after}, proofs.Editing.still_in}
-use Rattle.btree_walks.proofs.Spares.{remove_failed_more}
+use Rattle.{std.{specs.{FinMap.{contains_key, remove as remove_key}, Prelude.IfSome}, proofs.Common.{◌≡◌, ◌≤◌, ◌+◌, subst, arith, rules}}, page_btree.specs.claim.Map.InTxn}
+use Rattle.{page_store.specs.claim.Transactions.{stored, txn_free, txn_writes}, btree_walks.proofs.Spares.remove_failed_more, page_btree.proofs.Editing.still_in}
+use Rattle.page_btree.proofs.Outcomes.{map_ok, reads_after}
 use Rattle.btree_walks.proofs.takes.remove.Goals as goal
 
 pub returns-in-Some : goal.returns-in-Some

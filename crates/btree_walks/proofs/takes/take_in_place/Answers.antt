@@ -1,5 +1,4 @@
-use Rattle.std.proofs.Common.{rules}
-use Rattle.btree_walks.proofs.Spares.{leaf_taken}
+use Rattle.{std.proofs.Common.rules, btree_walks.proofs.Spares.leaf_taken}
 use Rattle.btree_walks.proofs.takes.take_in_place.Goals as goal
 
 pub returns-clause-taken : goal.returns-clause-taken

@@ -1,11 +1,9 @@
-use Rattle.std.{specs.Prelude.{IfOk, IfSome, Some, true, false}, specs.FinMap.{contains_key, remove as remove_key}, proofs.Common.{◌≡◌, ℕ, List, refl, sym, subst, ◌∙◌}}
-use Rattle.sector_device.specs.claim.Disk.{Image}
-use Rattle.page_store.specs.claim.Transactions.{stored, txn_pages, txn_root, over, free_over}
-use Rattle.page_node.specs.{claim.Entries.Entry, claim.Node.IsNode, claim.Places.Rises}
-use Rattle.page_btree.{specs.claim.Map.{Holds, InTxn}, specs.Editing.IsAlike, specs.Leading.CanLead, proofs.Outcomes.{refused_as, reads_after}}
-use Rattle.page_btree.proofs.{Tops.{rooted, can_get, at_root}, Editing.still_in, Leads.{can_lead, leads_leaf}}
-use Rattle.btree_walks.{specs.Sparing.IsLeafTaken, proofs.Refusals.remove_fails, proofs.Lefts.{can_remove, absent_same, had_none, had_after, kept_holds, holds_at}}
-use Rattle.btree_walks.proofs.{Leads.{removes_there, reads_remove}, Spares.{top_some, none_only, leaf_fails}}
+use Rattle.std.{specs.{FinMap.{contains_key, remove as remove_key}, Prelude.{IfOk, IfSome, Some, true, false}}, proofs.Common.{◌≡◌, List, refl, sym, subst, ◌∙◌}}
+use Rattle.{btree_walks.specs.Sparing.IsLeafTaken, page_btree.specs.{Editing.IsAlike, Leading.CanLead, claim.Map.{Holds, InTxn}}, page_node.specs.claim.Entries.Entry}
+use Rattle.{page_node.specs.claim.{Node.IsNode, Places.Rises}, page_store.specs.claim.Transactions.{stored, txn_pages, txn_root, over, free_over}}
+use Rattle.{sector_device.specs.claim.Disk.Image, btree_walks.proofs.{Lefts.{can_remove, absent_same, had_none, had_after, kept_holds, holds_at}, Refusals.remove_fails}}
+use Rattle.{btree_walks.proofs.Spares.{removes_there, reads_remove, top_some, none_only, leaf_fails}, page_btree.proofs.{Editing.still_in, Leads.{can_lead, leads_leaf}}}
+use Rattle.page_btree.proofs.{Outcomes.{refused_as, reads_after}, Tops.{rooted, can_get, at_root}}
 use Rattle.btree_walks.proofs.takes.take_spare.Goals as goal
 
 pub returns-in_err-leaf-clause-reading : goal.returns-in_err-leaf-clause-reading
@@ -36,19 +34,14 @@ returns-clause-remove g c = λ honest m holds.
     let S = stored c.args.pages.now in
     let t0 = c.args.txn.now in
     let t1 = c.take_leaf.new.txn in
-    let n = txn_pages t0 in
     let key = c.args.key.now in
     let root = c.root-root.result in
     let leaf = c.in_ok-leaf.leaf in
-    let P = over t0 S in
-    let Q = over t1 S in
-    let free = free_over t0 S in
-    let left = free_over t1 S in
     let before = c.take_leaf.ensures.reading.quiet.honest honest in
-    let at : Holds n P root free m = subst (λ (r : ℕ). Holds n P r free m) (sym c.root-root.ensures.root) holds in
-    let r = rooted n P root free m at c.if-root-eq0.false in
-    let can = can_remove n P root free m r key r.level root at.free_are refl refl in
-    let leads = c.in_ok-leaf.ensures.leads before r.level (can_get n P root free m r key (P root) r.level refl refl, at_root n P root free m r r.level refl) in
+    let at : Holds (txn_pages t0) (over t0 S) root (free_over t0 S) m = rw c.root-root.ensures.root holds in
+    let r = rooted _ _ _ _ m at c.if-root-eq0.false in
+    let can = can_remove _ _ _ _ m r key r.level root at.free_are refl refl in
+    let leads = c.in_ok-leaf.ensures.leads before r.level (can_get _ _ _ _ m r key (over t0 S root) r.level refl refl, at_root _ _ _ _ m r r.level refl) in
     let same_stored : stored c.find_leaf.new.pages ≡ S = c.find_leaf.ensures.reading.quiet.same before in
     let root_is : txn_root t1 ≡ root = c.take_leaf.ensures.rooted.root ∙ sym c.root-root.ensures.root in
     top_some c.take_leaf.result
@@ -56,14 +49,14 @@ returns-clause-remove g c = λ honest m holds.
     (λ had. InTxn t1 S (remove_key m key) × (had ≡ contains_key m key))
     (IsAlike t0 t1)
     (λ w.
-    let gone = removes_there n S t0 t1 key true c.find_leaf.ensures.few leaf w r.level root leads can in
-    let kept = kept_holds n P Q root free left m key r at.free_are r.level gone.0 refl gone.1 in (
-      holds_at n (txn_pages t1) Q Q root (txn_root t1) left left (remove_key m key) c.take_leaf.ensures.rooted.pages refl root_is refl kept,
-      sym (had_after n P Q root free left m key r at.free_are r.level (Some gone.0) gone.1),
+    let gone = removes_there _ S t0 t1 key true c.find_leaf.ensures.few leaf w r.level root leads can in
+    let kept = kept_holds _ _ _ _ m key r _ _ at.free_are r.level gone.0 refl gone.1 in (
+      holds_at _ _ _ _ _ _ _ _ _ c.take_leaf.ensures.rooted.pages refl root_is refl kept,
+      sym (had_after _ _ _ _ m key r _ _ at.free_are r.level (Some gone.0) gone.1),
     ))
     (λ w alike.
-    let gone = removes_there n S t0 t1 key false c.find_leaf.ensures.few leaf w r.level root leads can in (
-      still_in t0 t1 S (remove_key m key) alike (subst (λ k. InTxn t0 S k) (sym (absent_same n P Q root free left m key r at.free_are gone)) holds),
-      sym (had_none n P Q root free left m key r at.free_are gone),
+    let gone = removes_there _ S t0 t1 key false c.find_leaf.ensures.few leaf w r.level root leads can in (
+      still_in t0 t1 S (remove_key m key) alike (subst (λ k. InTxn t0 S k) (sym (absent_same _ _ _ _ m key r gone)) holds),
+      sym (had_none _ _ _ _ m key r gone),
     ))
     (subst (λ (T : Image). IfOk c.take_leaf.result (λ did. IfSome did (IsLeafTaken t0 t1 T leaf key))) same_stored (c.take_leaf.ensures.taken honest)) c.take_leaf.ensures.kept

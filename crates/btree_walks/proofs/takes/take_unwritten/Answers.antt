@@ -1,6 +1,4 @@
-use Rattle.std.proofs.Common.{◌∙◌, Some, refl, ap, rules}
-use Rattle.gate_journal.proofs.Images.{put_on, put_off}
-use Rattle.page_store.specs.claim.Transactions.{stored, over}
+use Rattle.{std.proofs.Common.{◌∙◌, Some, refl, ap, rules}, page_store.specs.claim.Transactions.{stored, over}, gate_journal.proofs.Images.{put_on, put_off}}
 use Rattle.btree_walks.proofs.takes.take_unwritten.Goals as goal
 
 pub returns-in_ok-write-in-Some-true : goal.returns-in_ok-write-in-Some-true

@@ -1,8 +1,7 @@
-use Rattle.std.{specs.Option.option_copied, proofs.Common.{◌≡◌, ◌<◌, ◌≤◌, ◌+◌, ◌-◌, ◌^◌, length, refl, sym, ◌∙◌, arith, rules}}
-use Rattle.page_store.{specs.claim.Transactions.{stored, txn_pages, over}, proofs.Stops.{passed_none, passed_more}}
-use Rattle.page_btree.proofs.Outcomes.{err_of, reads_err}
-use Rattle.btree_walks.{specs.Faults.TellsOf, proofs.Errors.unsound_after, proofs.Faults.place_more, proofs.Keys.above_ordered}
-use Rattle.btree_walks.proofs.{Trees.{walked_leaf, walked_inner, walked_next}, Children.{can_level, can_order, can_walk_all, can_walk_child, can_walk_next}}
+use Rattle.{std.{specs.Option.option_copied, proofs.Common.{◌≡◌, ◌<◌, ◌≤◌, ◌+◌, ◌-◌, ◌^◌, length, refl, sym, ◌∙◌, arith, rules}}, btree_walks.specs.Faults.TellsOf}
+use Rattle.{page_store.specs.claim.Transactions.{stored, txn_pages, over}, btree_walks.proofs.Children.{can_level, can_order, can_walk_all, can_walk_child, can_walk_next}}
+use Rattle.btree_walks.proofs.{Errors.unsound_after, Faults.place_more, Keys.above_ordered, Trees.{walked_leaf, walked_inner, walked_next}}
+use Rattle.{page_btree.proofs.Outcomes.{err_of, reads_err}, page_store.proofs.Stops.{passed_none, passed_more}}
 use Rattle.btree_walks.proofs.tree.+check_tree.Goals as goal
 
 pub returns-in_err-name-clause-reading : goal.returns-in_err-name-clause-reading
@@ -20,8 +19,7 @@ returns-then-not-is_ordered-clause-reading g t c = reads_err c.in_ok-read_node.e
     c.is_ordered.ensures.no c.if-not-is_ordered.true (rw c.in_ok-read_node.ensures.level (can_order _ _ _ _ _ _ is _ (c.in_ok-read_node.ensures.node honest))))
 
 pub returns-then-level-eq0-clause-walked : goal.returns-then-level-eq0-clause-walked
-returns-then-level-eq0-clause-walked g t c =
-    λ honest. search (rules, walked_leaf)
+returns-then-level-eq0-clause-walked g t c = λ honest. search (rules, walked_leaf)
 
 pub returns-then-level-eq0-clause-long : goal.returns-then-level-eq0-clause-long
 returns-then-level-eq0-clause-long g t c = c.in_ok-name.ensures.named.long

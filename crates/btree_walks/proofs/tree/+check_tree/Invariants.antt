@@ -1,7 +1,5 @@
-use Rattle.std.{specs.Option.option_copied, proofs.Common.{◌≡◌, length}}
+use Rattle.{std.{specs.Option.option_copied, proofs.Common.{◌≡◌, length}}, page_node.specs.claim.Node.IsNode, btree_walks.proofs.Children.AreBelow}
 use Rattle.page_store.specs.claim.Transactions.{stored, disk_in, count_of, txn_pages, over, Passed}
-use Rattle.page_node.specs.claim.Node.{IsNode}
-use Rattle.btree_walks.proofs.Children.{AreBelow}
 use Rattle.btree_walks.proofs.tree.+check_tree.Given as goal
 
 abbrev pub invariant-loop-k : goal.invariant-loop-k

@@ -1,7 +1,6 @@
-use Rattle.std.{specs.Prelude.None, proofs.Common.{[], inl, inr, refl, ◌∙◌, arith, rules}}
-use Rattle.page_store.{specs.claim.Transactions.{stored, txn_pages, over}, proofs.Stops.{quiet_none, passed_none}}
+use Rattle.{std.{specs.Prelude.None, proofs.Common.{[], inl, inr, refl, ◌∙◌, arith, rules}}, page_store.specs.claim.Transactions.{stored, txn_pages, over}}
+use Rattle.{btree_walks.proofs.{Children.can_name_root, Errors.{unread, unsound_more}, Faults.{place_root, unread_told}}, page_store.proofs.Stops.{quiet_none, passed_none}}
 use Rattle.page_btree.proofs.Outcomes.{reads_ok, reads_err, reads_after}
-use Rattle.btree_walks.proofs.{Errors.{unread, unsound_more}, Faults.{place_root, unread_told}, Children.can_name_root}
 use Rattle.btree_walks.proofs.tree.check_root.Goals as goal
 
 pub returns-then-root-eq0-clause-reading : goal.returns-then-root-eq0-clause-reading
@@ -21,8 +20,7 @@ returns-clause-reading g c = reads_after c.in_ok-own.ensures.reading.passed c.ch
     ]))
 
 pub returns-clause-walked : goal.returns-clause-walked
-returns-clause-walked g c =
-    λ honest. search rules
+returns-clause-walked g c = λ honest. search rules
 
 pub returns-then-root-page_count-clause-reading : goal.returns-then-root-page_count-clause-reading
 returns-then-root-page_count-clause-reading g c = reads_err (quiet_none c.args.pages.now) (λ honest is. elim is [

@@ -1,7 +1,5 @@
-use Rattle.std.proofs.Common.{◌∙◌, rules}
-use Rattle.page_store.specs.claim.Transactions.{stored, txn_pages, over}
+use Rattle.{std.proofs.Common.{◌∙◌, rules}, page_store.specs.claim.Transactions.{stored, txn_pages, over}, btree_walks.proofs.{Errors.unread, Faults.unread_told}}
 use Rattle.page_btree.proofs.Outcomes.{reads_ok}
-use Rattle.btree_walks.proofs.{Errors.unread, Faults.unread_told}
 use Rattle.btree_walks.proofs.tree.read_node.Goals as goal
 
 pub returns-in_err-own-clause-reading : goal.returns-in_err-own-clause-reading

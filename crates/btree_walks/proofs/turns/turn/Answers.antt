@@ -1,10 +1,9 @@
-use Rattle.std.proofs.Common.{List, ℕ, ◌+◌, length, sym, ap, subst, ◌∙◌}
-use Rattle.page_node.specs.{claim.Entries.Entry, claim.Node.IsNode, Walking.IsAhead}
-use Rattle.btree_walks.proofs.Leaves.{next_leaf, from_empty, where_err}
+use Rattle.{std.proofs.Common.{List, [], ℕ, ◌+◌, length, sym, ap, subst, ◌∙◌, rules}, page_node.specs.{Walking.IsAhead, claim.{Entries.Entry, Node.IsNode}}}
+use Rattle.{btree_walks.proofs.{Leaves.next_leaf, Ready.all_from_nothing}, page_btree.proofs.Seeking.from_all, page_node.proofs.PageEdits.refused}
 use Rattle.btree_walks.proofs.turns.turn.Goals as goal
 
 pub returns-in_err-place-clause-refused : goal.returns-in_err-place-clause-refused
-returns-in_err-place-clause-refused c = where_err c.from_residual.result _ (λ rows are.
+returns-in_err-place-clause-refused c = refused c.from_residual.result _ (λ rows are.
     let next = next_leaf (c.args.held.now.which + 1) c.args.leaf.now.more c.args.held.now.pages rows c.requires are in
     c.in_err-place.ensures.err (record { level = 0; entries = next.here }) (subst (λ (page : List ℕ). IsNode page (record { level = 0; entries = next.here })) (sym c.page.ensures) next.node))
 
@@ -13,13 +12,7 @@ returns-clause-turned c = λ rows are.
     let next = next_leaf (c.args.held.now.which + 1) c.args.leaf.now.more c.args.held.now.pages rows c.requires are in
     let node = subst (λ (page : List ℕ). IsNode page (record { level = 0; entries = next.here })) (sym c.page.ensures) next.node in
     let placed = c.in_ok-place.ensures.place (record { level = 0; entries = next.here }) node next.rises in
-    let all = from_empty next.here in
-    record {
-      here = next.here;
-      others = next.others;
-      rows_are = next.rows_are;
-      some = next.some;
-      ahead = subst (λ (page : List ℕ). IsAhead page c.in_ok-place.place.at next.here) c.page.ensures (subst (λ (es : List Entry). IsAhead c.page.result.now c.in_ok-place.place.at es) all placed.0);
-      left_is = placed.1 ∙ ap (λ (es : List Entry). length es) all;
-      others_are = next.others_are;
-    }
+    let all = from_all [] next.here (all_from_nothing next.here) in
+    let ahead = subst (λ (page : List ℕ). IsAhead page c.in_ok-place.place.at next.here) c.page.ensures (subst (λ (es : List Entry). IsAhead c.page.result.now c.in_ok-place.place.at es) all placed.0) in
+    let left = placed.1 ∙ ap (λ (es : List Entry). length es) all in
+    search rules

@@ -1,5 +1,4 @@
-use Rattle.std.proofs.Common.{length}
-use Rattle.byte_stream.proofs.DigitLemmas.{below_pow}
+use Rattle.{std.proofs.Common.length, byte_stream.proofs.DigitLemmas.below_pow}
 use Rattle.byte_stream.proofs.digits.number.Goals as goal
 
 pub returns-then-all_digits-clause-small : goal.returns-then-all_digits-clause-small

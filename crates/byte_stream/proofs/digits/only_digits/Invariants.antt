@@ -1,4 +1,4 @@
-use Rattle.std.{specs.Char.is_ascii_digit, specs.List.list_all, proofs.Common.{◌≡◌, true, take, All}}
+use Rattle.std.{specs.{Char.is_ascii_digit, List.list_all}, proofs.Common.{◌≡◌, true, take, All}}
 use Rattle.byte_stream.proofs.digits.only_digits.Given as goal
 
 abbrev pub invariant-loop-b : goal.invariant-loop-b

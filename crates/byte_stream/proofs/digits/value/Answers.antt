@@ -1,5 +1,4 @@
-use Rattle.std.proofs.Common.{arith, get_or, rules}
-use Rattle.byte_stream.proofs.DigitLemmas.{fits_more, small_more, value_more}
+use Rattle.{std.proofs.Common.{arith, get_or, rules}, byte_stream.proofs.DigitLemmas.{fits_more, small_more, value_more}}
 use Rattle.byte_stream.proofs.digits.value.Goals as goal
 
 pub overflow_mul-n : goal.overflow_mul-n

@@ -2,7 +2,4 @@ use Rattle.std.{specs.Str.Parse.digits_value, proofs.Common.{◌≡◌, ◌<◌,
 use Rattle.byte_stream.proofs.digits.value.Given as goal
 
 abbrev pub invariant-loop-b : goal.invariant-loop-b
-invariant-loop-b l = record {
-  value : l.n ≡ digits_value 10 (take l.b-index l.bytes);
-  small : l.n < 10 ^ l.b-index;
-}
+invariant-loop-b l = record { value : l.n ≡ digits_value 10 (take l.b-index l.bytes); small : l.n < 10 ^ l.b-index }

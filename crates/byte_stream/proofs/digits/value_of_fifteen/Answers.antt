@@ -1,6 +1,4 @@
-use Rattle.std.{specs.Str.Parse.digits_value, proofs.Common.{◌∙◌, ap}}
-use Rattle.std.proofs.lemmas.List.{take_rest}
-use Rattle.byte_stream.proofs.DigitLemmas.{value_by_fives}
+use Rattle.{std.{specs.Str.Parse.digits_value, proofs.{Common.{◌∙◌, ap}, lemmas.List.take_rest}}, byte_stream.proofs.DigitLemmas.value_by_fives}
 use Rattle.byte_stream.proofs.digits.value_of_fifteen.Goals as goal
 
 pub returns-clause-value : goal.returns-clause-value

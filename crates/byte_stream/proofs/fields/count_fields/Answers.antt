@@ -1,5 +1,4 @@
-use Rattle.std.proofs.Common.{arith, eqb}
-use Rattle.std.proofs.lemmas.List.Splits.{length-slice_split}
+use Rattle.std.proofs.{Common.{arith, eqb}, lemmas.List.Splits.length-slice_split}
 use Rattle.byte_stream.proofs.fields.count_fields.Goals as goal
 
 pub returns : goal.returns

@@ -1,6 +1,4 @@
-use Rattle.std.proofs.Common.{rules}
-use Rattle.std.proofs.lemmas.Bool.Decides.{nat_tests}
-use Rattle.byte_stream.proofs.TextLemmas.{lines-cut, lines-last, lines-past}
+use Rattle.{std.proofs.{Common.rules, lemmas.Bool.Decides.nat_tests}, byte_stream.proofs.TextLemmas.{lines-cut, lines-last, lines-past}}
 use Rattle.byte_stream.proofs.lines.first_line.Goals as goal
 
 pub returns-in-Some-clause-line : goal.returns-in-Some-clause-line

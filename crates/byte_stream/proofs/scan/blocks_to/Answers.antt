@@ -1,5 +1,4 @@
-use Rattle.std.proofs.Common.{rules}
-use Rattle.byte_stream.proofs.ScanLemmas.{none_more}
+use Rattle.{std.proofs.Common.rules, byte_stream.proofs.ScanLemmas.none_more}
 use Rattle.byte_stream.proofs.scan.blocks_to.Goals as goal
 
 pub loop-at-preserved : goal.loop-at-preserved

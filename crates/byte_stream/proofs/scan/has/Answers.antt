@@ -1,7 +1,4 @@
-use Rattle.std.proofs.Common.{◌≡◌, false, eqb, arith, rules}
-use Rattle.std.proofs.lemmas.List.{take_all}
-use Rattle.std.proofs.lemmas.List.Elements.{All-more}
-use Rattle.byte_stream.proofs.ScanLemmas.{first_no, second_no}
+use Rattle.{std.proofs.{Common.{◌≡◌, false, eqb, arith, rules}, lemmas.List.{take_all, Elements.All-more}}, byte_stream.proofs.ScanLemmas.{first_no, second_no}}
 use Rattle.byte_stream.proofs.scan.has.Goals as goal
 
 pub loop-b-preserved : goal.loop-b-preserved

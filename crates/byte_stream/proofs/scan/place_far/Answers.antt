@@ -1,5 +1,4 @@
-use Rattle.std.proofs.Common.{rules}
-use Rattle.byte_stream.proofs.ScanLemmas.{none_before}
+use Rattle.{std.proofs.Common.rules, byte_stream.proofs.ScanLemmas.none_before}
 use Rattle.byte_stream.proofs.scan.place_far.Goals as goal
 
 pub returns-clause-before : goal.returns-clause-before

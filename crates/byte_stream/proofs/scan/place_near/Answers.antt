@@ -1,5 +1,4 @@
-use Rattle.std.proofs.Common.{◌≡◌, false, eqb, ne_eqb, arith}
-use Rattle.std.proofs.lemmas.List.Elements.{All-more}
+use Rattle.std.proofs.{Common.{◌≡◌, false, eqb, ne_eqb, arith}, lemmas.List.Elements.All-more}
 use Rattle.byte_stream.proofs.scan.place_near.Goals as goal
 
 pub loop-i-preserved : goal.loop-i-preserved

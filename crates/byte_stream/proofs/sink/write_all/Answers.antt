@@ -1,5 +1,4 @@
-use Rattle.std.proofs.Common.{◌+◌, rules}
-use Rattle.byte_stream.proofs.SendLemmas.{sent_more, piece_within, sent_prefix, sent_stays}
+use Rattle.{std.proofs.Common.{◌+◌, rules}, byte_stream.proofs.SendLemmas.{sent_more, piece_within, sent_prefix, sent_stays}}
 use Rattle.byte_stream.proofs.sink.write_all.Goals as goal
 
 pub returns-in-Ok-eq0 : goal.returns-in-Ok-eq0

@@ -1,5 +1,4 @@
-use Rattle.std.proofs.Common.{take}
-use Rattle.byte_stream.specs.claim.Words.{NoSeparator}
+use Rattle.{std.proofs.Common.take, byte_stream.specs.claim.Words.NoSeparator}
 use Rattle.byte_stream.proofs.words.bytes_before.Given as goal
 
 abbrev pub invariant-loop-i : goal.invariant-loop-i

@@ -1,6 +1,4 @@
-use Rattle.std.proofs.Common.{◌≡◌, true, sym, ◌∙◌, arith}
-use Rattle.std.proofs.lemmas.List.Elements.{All-more}
-use Rattle.byte_stream.specs.claim.Words.{is_separator}
+use Rattle.{std.proofs.{Common.{◌≡◌, true, sym, ◌∙◌, arith}, lemmas.List.Elements.All-more}, byte_stream.specs.claim.Words.is_separator}
 use Rattle.byte_stream.proofs.words.separators_before.Goals as goal
 
 pub loop-i-preserved : goal.loop-i-preserved

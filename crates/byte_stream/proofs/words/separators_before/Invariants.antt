@@ -1,5 +1,4 @@
-use Rattle.std.proofs.Common.{take}
-use Rattle.byte_stream.specs.claim.Words.{AreSeparators}
+use Rattle.{std.proofs.Common.take, byte_stream.specs.claim.Words.AreSeparators}
 use Rattle.byte_stream.proofs.words.separators_before.Given as goal
 
 abbrev pub invariant-loop-i : goal.invariant-loop-i

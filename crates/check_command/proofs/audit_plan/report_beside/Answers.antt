@@ -1,5 +1,4 @@
-use Rattle.std.{specs.Option.option_copied, proofs.Common.{sym, ◌∙◌}}
-use Rattle.check_command.proofs.Beside.{copied_same, is_long}
+use Rattle.{std.{specs.Option.option_copied, proofs.Common.{sym, ◌∙◌}}, check_command.proofs.Beside.{copied_same, is_long}}
 use Rattle.check_command.proofs.audit_plan.report_beside.Goals as goal
 
 pub report_of-requires-clause-ready : goal.report_of-requires-clause-ready

@@ -1,5 +1,4 @@
-use Rattle.std.proofs.Common.{arith, sym}
-use Rattle.check_command.proofs.Counted.{one, counted_none, counted_fit, counted_add, counted_all, ones_length}
+use Rattle.{std.proofs.Common.{arith, sym}, check_command.proofs.Counted.{one, counted_none, counted_fit, counted_add, counted_all, ones_length}}
 use Rattle.check_command.proofs.counts.count_blocks.Goals as goal
 
 pub loop-row-init : goal.loop-row-init

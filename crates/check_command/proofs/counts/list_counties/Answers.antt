@@ -1,5 +1,4 @@
-use Rattle.std.proofs.Common.{arith}
-use Rattle.check_command.proofs.Counted.{counties_more}
+use Rattle.{std.proofs.Common.arith, check_command.proofs.Counted.counties_more}
 use Rattle.check_command.proofs.counts.list_counties.Goals as goal
 
 pub loop-county-preserved : goal.loop-county-preserved

@@ -1,5 +1,4 @@
-use Rattle.std.{specs.List.flat_map, proofs.Common.{◌≡◌, ◌++◌, take}}
-use Rattle.check_command.specs.Counts.{county_line}
+use Rattle.{std.{specs.List.flat_map, proofs.Common.{◌≡◌, ◌++◌, take}}, check_command.specs.Counts.county_line}
 use Rattle.check_command.proofs.counts.print_counts.Given as goal
 
 abbrev pub invariant-loop-county : goal.invariant-loop-county

@@ -1,5 +1,4 @@
-use Rattle.std.proofs.Common.{◌≡◌, take, sum_by}
-use Rattle.desk_model.specs.declared.block.BlockRow.{BlockRow}
+use Rattle.{std.proofs.Common.{◌≡◌, take, sum_by}, desk_model.specs.declared.block.BlockRow.BlockRow}
 use Rattle.check_command.proofs.counts.total.Given as goal
 
 abbrev pub invariant-loop-row : goal.invariant-loop-row

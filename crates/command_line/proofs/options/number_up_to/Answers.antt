@@ -1,5 +1,4 @@
-use Rattle.std.{specs.Char.is_ascii_digit, proofs.Common.{◌≡◌, true, get_or, sym, ◌∙◌}}
-use Rattle.command_line.proofs.Numbers.{digits_more, stopped_more}
+use Rattle.{std.{specs.Char.is_ascii_digit, proofs.Common.{◌≡◌, true, get_or, sym, ◌∙◌}}, command_line.proofs.Numbers.{digits_more, stopped_more}}
 use Rattle.command_line.proofs.options.number_up_to.Goals as goal
 
 pub loop-digit-preserved : goal.loop-digit-preserved

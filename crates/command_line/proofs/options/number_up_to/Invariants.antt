@@ -1,4 +1,4 @@
-use Rattle.std.{specs.Char.is_ascii_digit, specs.List.list_all, specs.Str.Parse.digits_value, proofs.Common.{◌≡◌, true, take, min}}
+use Rattle.std.{specs.{Char.is_ascii_digit, List.list_all, Str.Parse.digits_value}, proofs.Common.{◌≡◌, true, take, min}}
 use Rattle.command_line.proofs.options.number_up_to.Given as goal
 
 abbrev pub invariant-loop-digit : goal.invariant-loop-digit

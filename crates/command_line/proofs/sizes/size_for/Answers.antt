@@ -1,5 +1,4 @@
-use Rattle.std.proofs.Common.{◌≡◌, ◌*◌, None, sym, ap, ◌∙◌}
-use Rattle.command_line.{specs.Sizes.{few_enough, revision_pages}, proofs.Reckoning.{too_many, more_than, one_plan}}
+use Rattle.{std.proofs.Common.{◌≡◌, ◌*◌, None, sym, ap, ◌∙◌}, command_line.{specs.Sizes.{few_enough, revision_pages}, proofs.Reckoning.{too_many, more_than, one_plan}}}
 use Rattle.command_line.proofs.sizes.size_for.Goals as goal
 
 pub returns-in_err-times-clause-value : goal.returns-in_err-times-clause-value

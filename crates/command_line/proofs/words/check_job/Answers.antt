@@ -1,6 +1,5 @@
-use Rattle.std.proofs.Common.{◌≡◌, Some, is_some, sym, ap, ◌∙◌, rules}
-use Rattle.clap.specs.Matches.{found_of}
-use Rattle.command_line.{specs.Options.{form_read, workers_read}, specs.Jobs.form_asked, proofs.Forms.is_copied}
+use Rattle.{std.proofs.Common.{◌≡◌, Some, is_some, sym, ap, ◌∙◌, rules}, clap.specs.Matches.found_of, command_line.specs.{Jobs.form_asked, Options.{form_read, workers_read}}}
+use Rattle.command_line.proofs.Forms.{is_copied}
 use Rattle.command_line.proofs.words.check_job.Goals as goal
 
 pub returns-in-Counts : goal.returns-in-Counts

@@ -1,5 +1,4 @@
-use Rattle.std.proofs.Common.{◌≡◌, drop, map}
-use Rattle.command_line.specs.Jobs.{first_code}
+use Rattle.{std.proofs.Common.{◌≡◌, drop, map}, command_line.specs.Jobs.first_code}
 use Rattle.command_line.proofs.words.first_code.Given as goal
 
 abbrev pub invariant-loop-word : goal.invariant-loop-word

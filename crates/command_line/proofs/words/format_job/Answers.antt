@@ -1,5 +1,4 @@
-use Rattle.std.proofs.Common.{sym, ◌∙◌, rules}
-use Rattle.command_line.specs.Options.{format_read}
+use Rattle.{std.proofs.Common.{sym, ◌∙◌, rules}, command_line.specs.Options.format_read}
 use Rattle.command_line.proofs.words.format_job.Goals as goal
 
 pub returns : goal.returns
@@ -12,7 +11,6 @@ returns c = record {
       let plans = c.word_of-5.ensures in
       let revisions = c.word_of-6.ensures in (
         sym c.in_ok-store.ensures,
-        sym (c.in_ok-size.ensures.value
-            ∙ (λ i. format_read (sectors i) (journal i) (blocks i) (counties i) (plans i) (revisions i))),
+        sym (c.in_ok-size.ensures.value ∙ (λ i. format_read (sectors i) (journal i) (blocks i) (counties i) (plans i) (revisions i))),
       );
 }

@@ -1,5 +1,4 @@
-use Rattle.std.proofs.Common.{sym, ◌∙◌, not, rules}
-use Rattle.command_line.specs.Options.{serving_read}
+use Rattle.{std.proofs.Common.{sym, ◌∙◌, not, rules}, command_line.specs.Options.serving_read}
 use Rattle.command_line.proofs.words.serve_job.Goals as goal
 
 pub returns : goal.returns

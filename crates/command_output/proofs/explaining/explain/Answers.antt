@@ -1,5 +1,5 @@
-use Rattle.std.proofs.Common.{ℕ, List, codes, ◌∙◌, inl, subst}
-use Rattle.command_output.specs.{claim.Writing.{Prints, write_fault_line}, Writing.written_of, declared.status.Status.TheVariants.Done}
+use Rattle.{std.proofs.Common.{ℕ, List, codes, ◌∙◌, inl, subst}, command_output.specs.{Writing.written_of, claim.Writing.{Prints, write_fault_line}}}
+use Rattle.command_output.specs.declared.status.Status.TheVariants.{Done}
 use Rattle.command_output.proofs.explaining.explain.Goals as goal
 
 pub returns-in-Ok : goal.returns-in-Ok

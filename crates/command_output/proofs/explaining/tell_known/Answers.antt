@@ -1,5 +1,5 @@
-use Rattle.std.proofs.Common.{ℕ, List, Option, Ok, ◌∙◌, subst, map}
-use Rattle.command_output.specs.{Tables.{Words, told}, Lines.{line_path, named}, Sentences.sentence_of, claim.Writing.Told, Writing.written_of, Explaining.TellsKnown}
+use Rattle.{std.proofs.Common.{ℕ, List, Option, Ok, ◌∙◌, subst, map}, command_output.specs.{Explaining.TellsKnown, Lines.{line_path, named}, Sentences.sentence_of}}
+use Rattle.command_output.specs.{Tables.{Words, told}, Writing.written_of, claim.Writing.Told}
 use Rattle.command_output.proofs.explaining.tell_known.Goals as goal
 
 pub returns-in-Ok : goal.returns-in-Ok

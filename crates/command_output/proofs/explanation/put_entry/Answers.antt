@@ -1,5 +1,4 @@
-use Rattle.std.proofs.Common.{codes}
-use Rattle.command_output.{specs.Tables.told, specs.Sentences.{words_of, case_text}, proofs.Parts.six_parts}
+use Rattle.{std.proofs.Common.codes, command_output.{specs.{Sentences.{words_of, case_text}, Tables.told}, proofs.Parts.six_parts}}
 use Rattle.command_output.proofs.explanation.put_entry.Goals as goal
 
 pub returns : goal.returns

@@ -1,5 +1,4 @@
-use Rattle.std.proofs.Common.{codes}
-use Rattle.command_output.proofs.Parts.{four_parts}
+use Rattle.{std.proofs.Common.codes, command_output.proofs.Parts.four_parts}
 use Rattle.command_output.proofs.explanation.put_words.Goals as goal
 
 pub returns : goal.returns

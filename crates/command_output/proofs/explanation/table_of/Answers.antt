@@ -1,5 +1,4 @@
-use Rattle.std.proofs.Common.{sym, ap}
-use Rattle.command_output.specs.Tables.{words_at}
+use Rattle.{std.proofs.Common.{sym, ap}, command_output.specs.Tables.words_at}
 use Rattle.command_output.proofs.explanation.table_of.Goals as goal
 
 pub returns-in-EveryFile : goal.returns-in-EveryFile

@@ -1,5 +1,4 @@
-use Rattle.std.proofs.Common.{◌≡◌, ◌++◌, take, drop}
-use Rattle.command_output.specs.Lines.{word_to}
+use Rattle.{std.proofs.Common.{◌≡◌, ◌++◌, take, drop}, command_output.specs.Lines.word_to}
 use Rattle.command_output.proofs.finding.before.Given as goal
 
 abbrev pub invariant-loop-i : goal.invariant-loop-i

@@ -1,5 +1,4 @@
-use Rattle.std.proofs.Common.{◌≡◌, drop, map}
-use Rattle.command_output.specs.{Codes.code_among, Tables.row_words}
+use Rattle.{std.proofs.Common.{◌≡◌, drop, map}, command_output.specs.{Codes.code_among, Tables.row_words}}
 use Rattle.command_output.proofs.finding.code_among.Given as goal
 
 abbrev pub invariant-loop-row : goal.invariant-loop-row

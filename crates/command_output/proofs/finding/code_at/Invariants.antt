@@ -1,5 +1,4 @@
-use Rattle.std.proofs.Common.{◌≡◌, drop}
-use Rattle.command_output.specs.Codes.{code_at}
+use Rattle.{std.proofs.Common.{◌≡◌, drop}, command_output.specs.Codes.code_at}
 use Rattle.command_output.proofs.finding.code_at.Given as goal
 
 abbrev pub invariant-loop-place : goal.invariant-loop-place

@@ -1,5 +1,4 @@
-use Rattle.std.proofs.Common.{◌≡◌, false, drop}
-use Rattle.command_output.specs.Codes.{code_from}
+use Rattle.{std.proofs.Common.{◌≡◌, false, drop}, command_output.specs.Codes.code_from}
 use Rattle.command_output.proofs.finding.code_in.Given as goal
 
 abbrev pub invariant-loop-i : goal.invariant-loop-i

@@ -1,5 +1,4 @@
-use Rattle.std.proofs.Common.{◌≡◌, drop, map}
-use Rattle.command_output.specs.Lines.{path_among, named}
+use Rattle.{std.proofs.Common.{◌≡◌, drop, map}, command_output.specs.Lines.{path_among, named}}
 use Rattle.command_output.proofs.finding.path_of.Given as goal
 
 abbrev pub invariant-loop-file : goal.invariant-loop-file

@@ -1,5 +1,4 @@
-use Rattle.std.proofs.Common.{◌≡◌, ◌++◌, take, drop}
-use Rattle.command_output.specs.Codes.{prefix_word}
+use Rattle.{std.proofs.Common.{◌≡◌, ◌++◌, take, drop}, command_output.specs.Codes.prefix_word}
 use Rattle.command_output.proofs.finding.prefix_of.Given as goal
 
 abbrev pub invariant-loop-i : goal.invariant-loop-i

@@ -1,5 +1,4 @@
-use Rattle.std.proofs.Common.{◌≡◌, ◌++◌, drop}
-use Rattle.command_output.specs.Entries.{entries_in}
+use Rattle.{std.proofs.Common.{◌≡◌, ◌++◌, drop}, command_output.specs.Entries.entries_in}
 use Rattle.command_output.proofs.finding.put_all.Given as goal
 
 abbrev pub invariant-loop-place : goal.invariant-loop-place

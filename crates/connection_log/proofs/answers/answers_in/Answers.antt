@@ -1,5 +1,4 @@
-use Rattle.std.proofs.Common.{◌≡◌, drop, ap, ◌∙◌, arith}
-use Rattle.connection_log.{specs.Answers.{class_of, one_from}, proofs.Heads.{count_more, rest_of}}
+use Rattle.{std.proofs.Common.{◌≡◌, drop, ap, ◌∙◌, arith}, connection_log.{specs.Answers.{class_of, one_from}, proofs.Heads.{count_more, rest_of}}}
 use Rattle.connection_log.proofs.answers.answers_in.Goals as goal
 
 pub loop-place-preserved : goal.loop-place-preserved

@@ -1,5 +1,4 @@
-use Rattle.std.proofs.Common.{◌≡◌, ◌+◌, ◌≤◌, drop}
-use Rattle.connection_log.specs.Answers.{count_from}
+use Rattle.{std.proofs.Common.{◌≡◌, ◌+◌, ◌≤◌, drop}, connection_log.specs.Answers.count_from}
 use Rattle.connection_log.proofs.answers.answers_in.Given as goal
 
 abbrev pub invariant-loop-place : goal.invariant-loop-place

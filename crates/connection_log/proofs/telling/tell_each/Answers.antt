@@ -1,5 +1,4 @@
-use Rattle.std.proofs.Common.{rules}
-use Rattle.connection_log.proofs.Each.{each_more}
+use Rattle.{std.proofs.Common.rules, connection_log.proofs.Each.each_more}
 use Rattle.connection_log.proofs.telling.tell_each.Goals as goal
 
 pub loop-line-preserved : goal.loop-line-preserved

@@ -1,5 +1,4 @@
-use Rattle.std.proofs.Common.{ℕ, List, Option, drop}
-use Rattle.connection_log.specs.Lines.{TellsEach}
+use Rattle.{std.proofs.Common.{ℕ, List, Option, drop}, connection_log.specs.Lines.TellsEach}
 use Rattle.connection_log.proofs.telling.tell_each.Given as goal
 
 -- what is told of those that are left is, after what was told, told of all

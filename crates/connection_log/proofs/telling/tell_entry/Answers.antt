@@ -1,7 +1,6 @@
-use Rattle.std.proofs.Common.{rules, ◌≡◌, ◌++◌, ◌∙◌, ℕ, List, Option, Result, Ok, Err, refl, ap, subst}
-use Rattle.byte_stream.specs.{claim.Sends.Sends, declared.sink.WriteFault.WriteFault}
+use Rattle.{std.proofs.Common.{rules, ◌≡◌, ◌++◌, ◌∙◌, ℕ, List, Option, Result, Ok, Err, refl, ap, subst}, byte_stream.specs.claim.Sends.Sends}
+use Rattle.{byte_stream.specs.declared.sink.WriteFault.WriteFault, connection_log.specs.Lines.{dropped_line, entry_line, entry_moment}}
 use Rattle.jiff_core.specs.declared.civil.datetime.DateTime.{DateTime}
-use Rattle.connection_log.specs.Lines.{dropped_line, entry_line, entry_moment}
 use Rattle.connection_log.proofs.telling.tell_entry.Goals as goal
 
 pub returns-in-Ok : goal.returns-in-Ok

@@ -1,7 +1,4 @@
-use Rattle.std.proofs.Common.{◌++◌, ℕ, List, codes, ap, ◌∙◌, rules}
-use Rattle.std.proofs.lemmas.List.{take_all}
-use Rattle.std.proofs.lemmas.Result.{IfOk-from_err}
-use Rattle.desk_catalogue.proofs.Lines.{lines_on}
+use Rattle.{std.proofs.{Common.{◌++◌, ℕ, List, codes, ap, ◌∙◌, rules}, lemmas.{List.take_all, Result.IfOk-from_err}}, desk_catalogue.proofs.Lines.lines_on}
 use Rattle.desk_catalogue.proofs.blocks.blocks_text.Goals as goal
 
 pub returns-in_err-text : goal.returns-in_err-text

@@ -1,5 +1,4 @@
-use Rattle.std.{specs.List.flat_map, proofs.Common.{◌≡◌, ◌++◌, take, codes}}
-use Rattle.desk_model.specs.claim.Step.{block_text}
+use Rattle.{std.{specs.List.flat_map, proofs.Common.{◌≡◌, ◌++◌, take, codes}}, desk_model.specs.claim.Step.block_text}
 use Rattle.desk_catalogue.proofs.blocks.blocks_text.Given as goal
 
 abbrev pub invariant-loop-block : goal.invariant-loop-block

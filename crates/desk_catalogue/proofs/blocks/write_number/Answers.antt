@@ -1,7 +1,4 @@
-use Rattle.std.proofs.Common.{arith, rules}
-use Rattle.std.proofs.lemmas.Fmt.{length-decimal-le}
-use Rattle.desk_model.specs.claim.Padded.{padded_decimal}
-use Rattle.desk_catalogue.proofs.Lines.{length-padded, width_of}
+use Rattle.{std.proofs.{Common.{arith, rules}, lemmas.Fmt.length-decimal-le}, desk_model.specs.claim.Padded.padded_decimal, desk_catalogue.proofs.Lines.{length-padded, width_of}}
 use Rattle.desk_catalogue.proofs.blocks.write_number.Goals as goal
 
 pub returns : goal.returns

@@ -1,6 +1,4 @@
-use Rattle.std.proofs.lemmas.Result.{IfOk-from_err}
-use Rattle.std.{specs.Option.option_copied, proofs.Common.rules}
-use Rattle.desk_catalogue.proofs.Cutting.{changes_on, within_last}
+use Rattle.{std.{specs.Option.option_copied, proofs.{Common.rules, lemmas.Result.IfOk-from_err}}, desk_catalogue.proofs.Cutting.{changes_on, within_last}}
 use Rattle.desk_catalogue.proofs.changes.changed_counties.Goals as goal
 
 pub returns-in_err-changes : goal.returns-in_err-changes

@@ -1,5 +1,4 @@
-use Rattle.std.{specs.Option.option_copied, proofs.Common.{◌≡◌, ◌++◌, drop}}
-use Rattle.desk_catalogue.specs.Cutting.{changes_in}
+use Rattle.{std.{specs.Option.option_copied, proofs.Common.{◌≡◌, ◌++◌, drop}}, desk_catalogue.specs.Cutting.changes_in}
 use Rattle.desk_catalogue.proofs.changes.changed_counties.Given as goal
 
 abbrev pub invariant-loop-range : goal.invariant-loop-range

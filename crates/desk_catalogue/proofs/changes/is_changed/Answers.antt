@@ -1,5 +1,4 @@
-use Rattle.std.proofs.Common.{sym}
-use Rattle.desk_catalogue.proofs.Outside.{unchanged}
+use Rattle.{std.proofs.Common.sym, desk_catalogue.proofs.Outside.unchanged}
 use Rattle.desk_catalogue.proofs.changes.is_changed.Goals as goal
 
 pub returns-then-is_outside : goal.returns-then-is_outside

@@ -1,5 +1,4 @@
-use Rattle.std.proofs.Common.{◌≡◌}
-use Rattle.std.proofs.lemmas.Result.{IfOk-from_err}
+use Rattle.std.proofs.{Common.◌≡◌, lemmas.Result.IfOk-from_err}
 use Rattle.desk_catalogue.proofs.made.report_again.Goals as goal
 
 pub returns-in-Some-text_for-clause-text : goal.returns-in-Some-text_for-clause-text

@@ -1,5 +1,4 @@
-use Rattle.std.proofs.Common.{◌≤◌}
-use Rattle.desk_catalogue.proofs.Neighbours.{Agree}
+use Rattle.{std.proofs.Common.◌≤◌, desk_catalogue.proofs.Neighbours.Agree}
 use Rattle.desk_catalogue.proofs.patch.county_in_part.Given as goal
 
 abbrev pub invariant-loop-place : goal.invariant-loop-place

@@ -1,5 +1,4 @@
-use Rattle.std.proofs.Common.{rules}
-use Rattle.desk_catalogue.proofs.{Overlays.{listed_length, listed_long, no_patch, overlaid_stays, part_told, read_patched, read_long}, Results.match_of}
+use Rattle.{std.proofs.Common.rules, desk_catalogue.proofs.{Overlays.{listed_length, listed_long, no_patch, overlaid_stays, part_told, read_patched, read_long}, Results.match_of}}
 use Rattle.desk_catalogue.proofs.patch.patched_districts.Goals as goal
 
 pub returns-in-Ok : goal.returns-in-Ok

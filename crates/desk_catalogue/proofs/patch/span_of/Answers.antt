@@ -1,5 +1,4 @@
-use Rattle.std.proofs.Common.{arith}
-use Rattle.desk_catalogue.proofs.Overlays.{none_outside}
+use Rattle.{std.proofs.Common.arith, desk_catalogue.proofs.Overlays.none_outside}
 use Rattle.desk_catalogue.proofs.patch.span_of.Goals as goal
 
 pub returns : goal.returns

@@ -1,6 +1,4 @@
-use Rattle.std.proofs.Common.{rules}
-use Rattle.std.proofs.lemmas.List.{length-map}
-use Rattle.desk_catalogue.proofs.{Overlays.listed_length, Results.match_of, Whole.read_whole}
+use Rattle.{std.proofs.{Common.rules, lemmas.List.length-map}, desk_catalogue.proofs.{Overlays.listed_length, Results.match_of, Whole.read_whole}}
 use Rattle.desk_catalogue.proofs.posted.districts_of.Goals as goal
 
 pub returns-in_err-listed : goal.returns-in_err-listed

@@ -1,6 +1,6 @@
-use Rattle.std.proofs.Common.{◌≡◌, ◌<◌, ◌+◌, Bool, List, false, length, drop, ap, sym, subst, ◌∙◌, arith, rules}
-use Rattle.desk_model.{specs.claim.Room.rows_for, specs.declared.ranges.CountyRange.CountyRange, proofs.Runs.lists_cut}
-use Rattle.desk_catalogue.{specs.Cutting.changes_in, proofs.Cutting.changed_rows, proofs.Counted.{nothing_left, rows_at, rows_told}}
+use Rattle.{std.proofs.Common.{◌≡◌, ◌<◌, ◌+◌, Bool, List, false, length, drop, ap, sym, subst, ◌∙◌, arith, rules}, desk_catalogue.specs.Cutting.changes_in}
+use Rattle.{desk_model.specs.{claim.Room.rows_for, declared.ranges.CountyRange.CountyRange}, desk_catalogue.proofs.Counted.{nothing_left, rows_at, rows_told}}
+use Rattle.{desk_catalogue.proofs.Cutting.changed_rows, desk_model.proofs.Runs.lists_cut}
 use Rattle.desk_catalogue.proofs.rows.revision_rows.Goals as goal
 
 pub loop-place-preserved : goal.loop-place-preserved

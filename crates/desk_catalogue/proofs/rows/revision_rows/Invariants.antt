@@ -1,6 +1,4 @@
-use Rattle.std.proofs.Common.{◌≡◌, ◌+◌, ◌*◌, ◌≤◌, ◌^◌, drop, length}
-use Rattle.desk_model.specs.claim.Room.{rows_for}
-use Rattle.desk_catalogue.proofs.Cutting.{changed_rows}
+use Rattle.{std.proofs.Common.{◌≡◌, ◌+◌, ◌*◌, ◌≤◌, ◌^◌, drop, length}, desk_model.specs.claim.Room.rows_for, desk_catalogue.proofs.Cutting.changed_rows}
 use Rattle.desk_catalogue.proofs.rows.revision_rows.Given as goal
 
 abbrev pub invariant-loop-place : goal.invariant-loop-place

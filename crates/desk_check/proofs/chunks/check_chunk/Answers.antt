@@ -1,5 +1,4 @@
-use Rattle.std.proofs.Common.{◌++◌, List, ℕ, ap, subst, ◌∙◌}
-use Rattle.desk_pages.{specs.claim.Desks.AreWithin, proofs.Looking.{fails, finds, not_looked}}
+use Rattle.{std.proofs.Common.{◌++◌, List, ℕ, ap, subst, ◌∙◌}, desk_pages.{specs.claim.Desks.AreWithin, proofs.Looking.{fails, finds, not_looked}}}
 use Rattle.desk_check.proofs.chunks.check_chunk.Goals as goal
 
 pub returns-in_err-append_chunk : goal.returns-in_err-append_chunk

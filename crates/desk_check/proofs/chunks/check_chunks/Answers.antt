@@ -1,8 +1,5 @@
-use Rattle.std.proofs.Common.{◌≡◌, ℕ, get_or, inl, inr, subst, sym, ◌∙◌, arith}
-use Rattle.std.proofs.lemmas.Bool.{cases_lt}
+use Rattle.{std.proofs.{Common.{◌≡◌, ℕ, get_or, inl, inr, subst, sym, ◌∙◌, arith}, lemmas.Bool.cases_lt}, desk_check.specs.Checking.IsChunkSeen, desk_opening.specs.Reading.no_cut}
 use Rattle.desk_pages.proofs.Looking.{begins, both, fails_then, finds}
-use Rattle.desk_opening.specs.Reading.{no_cut}
-use Rattle.desk_check.specs.Checking.{IsChunkSeen}
 use Rattle.desk_check.proofs.chunks.check_chunks.Goals as goal
 
 pub loop-county-init : goal.loop-county-init

@@ -1,7 +1,5 @@
-use Rattle.std.proofs.Common.{◌≡◌, ◌<◌, ℕ, Ok, length, get_or}
+use Rattle.{std.proofs.Common.{◌≡◌, ◌<◌, ℕ, Ok, length, get_or}, desk_check.specs.Checking.{AreChunksSeen, Checks, IsChunkSeen}, desk_opening.specs.Reading.no_cut}
 use Rattle.page_store.specs.claim.Transactions.{count_of, txn_pages}
-use Rattle.desk_opening.specs.Reading.{no_cut}
-use Rattle.desk_check.specs.Checking.{AreChunksSeen, Checks, IsChunkSeen}
 use Rattle.desk_check.proofs.chunks.check_chunks.Given as goal
 
 abbrev pub invariant-loop-county : goal.invariant-loop-county

@@ -1,6 +1,4 @@
-use Rattle.std.proofs.Common.{ℕ, subst}
-use Rattle.desk_pages.proofs.Looking.{begins, tells}
-use Rattle.desk_check.specs.Checking.{IsChunkSeen}
+use Rattle.{std.proofs.Common.{ℕ, subst}, desk_check.specs.Checking.IsChunkSeen, desk_pages.proofs.Looking.{begins, tells}}
 use Rattle.desk_check.proofs.chunks.check_county.Goals as goal
 
 pub returns-then-is_known : goal.returns-then-is_known

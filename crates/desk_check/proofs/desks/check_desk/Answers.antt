@@ -1,5 +1,4 @@
-use Rattle.desk_pages.proofs.Looking.{both, fails, fails_then, finds, gathered}
-use Rattle.desk_opening.proofs.Owned.{parts_owned}
+use Rattle.{desk_opening.proofs.Owned.parts_owned, desk_pages.proofs.Looking.{both, fails, fails_then, finds, gathered}}
 use Rattle.desk_check.proofs.desks.check_desk.Goals as goal
 
 pub returns-in_err-check_rows : goal.returns-in_err-check_rows

@@ -1,8 +1,5 @@
-use Rattle.std.proofs.Common.{subst}
-use Rattle.geo_tables.specs.Elements.{IsGeographyRead}
-use Rattle.desk_pages.proofs.Looking.{both, fails, fails_then, finds, gathered}
-use Rattle.desk_opening.proofs.PlanNumbers.{none_counted}
-use Rattle.desk_check.proofs.Told.{copies, desk_shown, new_desk_shown}
+use Rattle.{std.proofs.Common.subst, geo_tables.specs.Elements.IsGeographyRead, desk_check.proofs.Told.{copies, desk_shown, new_desk_shown}}
+use Rattle.{desk_opening.proofs.PlanNumbers.none_counted, desk_pages.proofs.Looking.{both, fails, fails_then, finds, gathered}}
 use Rattle.desk_check.proofs.desks.check_shown.Goals as goal
 
 pub returns-in_err-the_geography : goal.returns-in_err-the_geography

@@ -1,8 +1,5 @@
-use Rattle.std.proofs.Common.{sym, ◌∙◌}
-use Rattle.page_store.proofs.Stops.{quiet_none}
+use Rattle.{std.proofs.Common.{sym, ◌∙◌}, desk_check.{specs.Checking.IsSizedRow, proofs.Told.at_ok}, desk_opening.proofs.WholeDesks.with_also, page_store.proofs.Stops.quiet_none}
 use Rattle.desk_pages.proofs.Looking.{not_looked, tells}
-use Rattle.desk_opening.proofs.WholeDesks.{with_also}
-use Rattle.desk_check.{specs.Checking.IsSizedRow, proofs.Told.at_ok}
 use Rattle.desk_check.proofs.plans.check_named.Goals as goal
 
 pub returns-in_default : goal.returns-in_default

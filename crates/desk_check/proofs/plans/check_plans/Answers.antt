@@ -1,10 +1,8 @@
-use Rattle.std.{specs.FinMap.entries, proofs.Common.{ℕ, List, Ok, sym, subst, ◌∙◌, arith}}
+use Rattle.{std.{specs.FinMap.entries, proofs.Common.{ℕ, List, Ok, sym, subst, ◌∙◌, arith}}, btree_walks.specs.{Prefixes.under, Scanning.Rest}, desk_check.specs.Checking.IsNever}
+use Rattle.{desk_pages.specs.Looking.Gathers, store_rows.specs.claim.Keys.plans_prefix, desk_check.proofs.Told.{AreTold, all_told, none_told, one_more_told}}
+use Rattle.{btree_walks.proofs.Walked.{HasNext, walk_all, walk_begins, walk_next, walk_on, walk_passed, walk_quiet, walk_refused}, desk_pages.proofs.Reading.get_unread}
+use Rattle.{desk_opening.proofs.PlanNumbers.{all_apart, are_counts, none_noted}, desk_pages.proofs.Looking.{fails_then, looked, may_lack, not_looked}}
 use Rattle.page_store.proofs.Stops.{passed_more}
-use Rattle.btree_walks.{specs.Prefixes.under, specs.Scanning.Rest, proofs.Walked.{HasNext, walk_all, walk_begins, walk_next, walk_on, walk_passed, walk_quiet, walk_refused}}
-use Rattle.store_rows.specs.claim.Keys.{plans_prefix}
-use Rattle.desk_pages.{specs.Looking.Gathers, proofs.Looking.{fails_then, looked, may_lack, not_looked}, proofs.Reading.get_unread}
-use Rattle.desk_opening.proofs.PlanNumbers.{all_apart, are_counts, none_noted}
-use Rattle.desk_check.{specs.Checking.IsNever, proofs.Told.{AreTold, all_told, none_told, one_more_told}}
 use Rattle.desk_check.proofs.plans.check_plans.Goals as goal
 
 pub loop-taken-init : goal.loop-taken-init

@@ -1,9 +1,5 @@
-use Rattle.std.proofs.Common.{◌≡◌, ◌≤◌}
-use Rattle.page_store.specs.claim.Transactions.{count_of, txn_pages}
-use Rattle.btree_walks.proofs.Walked.{HasWalked}
-use Rattle.desk_model.specs.claim.Step.{plan_limit}
-use Rattle.store_rows.specs.claim.Keys.{plans_prefix}
-use Rattle.desk_check.proofs.Told.{AreTold}
+use Rattle.{std.proofs.Common.{◌≡◌, ◌≤◌}, desk_model.specs.claim.Step.plan_limit, page_store.specs.claim.Transactions.{count_of, txn_pages}, btree_walks.proofs.Walked.HasWalked}
+use Rattle.{store_rows.specs.claim.Keys.plans_prefix, desk_check.proofs.Told.AreTold}
 use Rattle.desk_check.proofs.plans.check_plans.Given as goal
 
 abbrev pub invariant-loop-taken : goal.invariant-loop-taken

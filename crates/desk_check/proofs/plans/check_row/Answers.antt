@@ -1,5 +1,4 @@
-use Rattle.desk_pages.proofs.Looking.{fails, gathered, looks}
-use Rattle.desk_check.proofs.Told.{unnoted}
+use Rattle.{desk_check.proofs.Told.unnoted, desk_pages.proofs.Looking.{fails, gathered, looks}}
 use Rattle.desk_check.proofs.plans.check_row.Goals as goal
 
 pub returns-in_err-note_number-clause-seen : goal.returns-in_err-note_number-clause-seen

@@ -1,8 +1,5 @@
-use Rattle.std.proofs.Common.{◌≡◌, ◌++◌, List, ℕ, length, ap, sym, subst, ◌∙◌, arith}
-use Rattle.page_store.proofs.Stops.{quiet_none}
-use Rattle.desk_pages.proofs.Looking.{both, fails, fails_then, finds, not_looked}
-use Rattle.desk_opening.specs.plan_rows.RevisionReading.{HasParts}
-use Rattle.desk_check.specs.Checking.{AreChunksSeen}
+use Rattle.{std.proofs.Common.{◌≡◌, ◌++◌, List, ℕ, length, ap, sym, subst, ◌∙◌, arith}, desk_check.specs.Checking.AreChunksSeen, page_store.proofs.Stops.quiet_none}
+use Rattle.{desk_opening.specs.plan_rows.RevisionReading.HasParts, desk_pages.proofs.Looking.{both, fails, fails_then, finds, not_looked}}
 use Rattle.desk_check.proofs.revisions.check_revision.Goals as goal
 
 pub returns-in_default : goal.returns-in_default

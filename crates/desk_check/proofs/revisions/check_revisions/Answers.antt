@@ -1,8 +1,5 @@
-use Rattle.std.proofs.Common.{◌≡◌, ◌+◌, List, ℕ, length, inl, inr, ap, sym, subst, ◌∙◌, arith}
-use Rattle.std.proofs.lemmas.Bool.{cases_lt}
-use Rattle.page_store.proofs.Stops.{quiet_none}
-use Rattle.desk_pages.proofs.Looking.{begins, both, fails_then, finds, not_looked}
-use Rattle.desk_check.specs.Checking.{IsRevisionSeen}
+use Rattle.{std.proofs.{Common.{◌≡◌, ◌+◌, List, ℕ, length, inl, inr, ap, sym, subst, ◌∙◌, arith}, lemmas.Bool.cases_lt}, desk_check.specs.Checking.IsRevisionSeen}
+use Rattle.{desk_pages.proofs.Looking.{begins, both, fails_then, finds, not_looked}, page_store.proofs.Stops.quiet_none}
 use Rattle.desk_check.proofs.revisions.check_revisions.Goals as goal
 
 pub returns-then-not-is_sized-clause-seen : goal.returns-then-not-is_sized-clause-seen

@@ -1,6 +1,4 @@
-use Rattle.std.proofs.Common.{◌≡◌, Ok}
-use Rattle.page_store.specs.claim.Transactions.{count_of, txn_pages}
-use Rattle.desk_check.specs.Checking.{AreChunksSeen, AreRevisionsSeen, Checks}
+use Rattle.{std.proofs.Common.{◌≡◌, Ok}, desk_check.specs.Checking.{AreChunksSeen, AreRevisionsSeen, Checks}, page_store.specs.claim.Transactions.{count_of, txn_pages}}
 use Rattle.desk_check.proofs.revisions.check_revisions.Given as goal
 
 abbrev pub invariant-loop-before : goal.invariant-loop-before

@@ -1,5 +1,4 @@
-use Rattle.serve_command.specs.http_seats.Streams.{traffic}
-use Rattle.desk_claim.{specs.claim.Streams.Ends, proofs.Alone.asked_law}
+use Rattle.{desk_claim.{specs.claim.Streams.Ends, proofs.Alone.asked_law}, serve_command.specs.http_seats.Streams.traffic}
 use Rattle.desk_claim.proofs.asked_law.asked_lives.Goals as goal
 
 pub returns : goal.returns

@@ -1,7 +1,5 @@
-use Rattle.std.proofs.Common.{sym, subst}
-use Rattle.store_lives.specs.DeskInside.{LivedThrough}
-use Rattle.serve_command.specs.http_seats.Streams.{traffic}
-use Rattle.desk_claim.{specs.claim.Streams.Ends, specs.declared.asking.Asking.Asking, specs.Inside.IsAsked, proofs.Offices.{office_lived, streams_lived}}
+use Rattle.{std.proofs.Common.{sym, subst}, desk_claim.specs.{Inside.IsAsked, claim.Streams.Ends, declared.asking.Asking.Asking}, serve_command.specs.http_seats.Streams.traffic}
+use Rattle.{store_lives.specs.DeskInside.LivedThrough, desk_claim.proofs.Offices.{office_lived, streams_lived}}
 use Rattle.desk_claim.specs.declared.asking.Asking.TheVariants as asking
 use Rattle.desk_claim.specs.declared.asking.Told.TheVariants as told
 use Rattle.desk_claim.proofs.asking.ask.Goals as goal

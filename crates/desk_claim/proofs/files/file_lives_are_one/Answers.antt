@@ -1,5 +1,4 @@
-use Rattle.serve_command.specs.http_seats.Streams.{traffic}
-use Rattle.desk_claim.{specs.claim.Streams.Ends, proofs.InFile.are_lives}
+use Rattle.{desk_claim.{specs.claim.Streams.Ends, proofs.InFile.are_lives}, serve_command.specs.http_seats.Streams.traffic}
 use Rattle.desk_claim.proofs.files.file_lives_are_one.Goals as goal
 
 pub returns : goal.returns

@@ -1,8 +1,6 @@
 use denote.Param.Send.{sendable}
-use Rattle.std.proofs.Crossing.{crosses}
-use Rattle.serve_command.specs.http_seats.Streams.{traffic}
-use Rattle.desk_claim.{specs.claim.Streams.Ends, proofs.InFile.lives_from}
-use Rattle.sector_file.{specs.Device.{file_disk, first_image}, proofs.Sending.{record_send, record_sync}}
+use Rattle.{std.proofs.Crossing.crosses, desk_claim.specs.claim.Streams.Ends, sector_file.specs.Device.{file_disk, first_image}, serve_command.specs.http_seats.Streams.traffic}
+use Rattle.{desk_claim.proofs.InFile.lives_from, sector_file.proofs.Sending.{record_send, record_sync}}
 use Rattle.desk_claim.proofs.files.live_in_file.Goals as goal
 
 pub live_in-requires-send-D : goal.live_in-requires-send-D

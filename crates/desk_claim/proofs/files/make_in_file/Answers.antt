@@ -1,6 +1,4 @@
-use Rattle.std.proofs.Common.{ℕ, subst, ◌∙◌}
-use Rattle.desk_pages.specs.claim.Desks.{OpensDesk}
-use Rattle.store_lives.specs.Lives.{new_desk}
+use Rattle.{std.proofs.Common.{ℕ, subst, ◌∙◌}, desk_pages.specs.claim.Desks.OpensDesk, store_lives.specs.Lives.new_desk}
 use Rattle.desk_claim.proofs.files.make_in_file.Goals as goal
 
 pub returns-in-Ok-format-clause-opens : goal.returns-in-Ok-format-clause-opens

@@ -1,6 +1,4 @@
-use Rattle.std.proofs.Common.{Ok}
-use Rattle.serve_command.specs.http_seats.Streams.{traffic}
-use Rattle.desk_claim.{specs.claim.Streams.Ends, specs.Inside.{IsAsked, IsLife}, proofs.Left.given_back}
+use Rattle.{std.proofs.Common.Ok, desk_claim.{specs.{Inside.{IsAsked, IsLife}, claim.Streams.Ends}, proofs.Left.given_back}, serve_command.specs.http_seats.Streams.traffic}
 use Rattle.store_lives.proofs.VersionLiving.{clerk_lives, refused_lives}
 use Rattle.desk_claim.specs.declared.lives.Task.TheVariants as task
 use Rattle.desk_claim.specs.declared.lives.Done.TheVariants as done

@@ -1,7 +1,5 @@
-use Rattle.std.proofs.Common.{ℕ, subst, ◌∙◌}
-use Rattle.store_lives.{specs.Lives.new_desk, specs.claim.Versions.version_2, proofs.DeskLiving.first_life}
-use Rattle.serve_command.specs.http_seats.Streams.{traffic}
-use Rattle.desk_claim.specs.{claim.Streams.Ends, claim.Sentence.PlanDesk}
+use Rattle.{std.proofs.Common.{ℕ, subst, ◌∙◌}, desk_claim.specs.claim.{Sentence.PlanDesk, Streams.Ends}, serve_command.specs.http_seats.Streams.traffic}
+use Rattle.store_lives.{specs.{Lives.new_desk, claim.Versions.version_2}, proofs.DeskLiving.first_life}
 use Rattle.desk_claim.proofs.lives.live.Goals as goal
 
 pub returns-in-Ok-live_on : goal.returns-in-Ok-live_on

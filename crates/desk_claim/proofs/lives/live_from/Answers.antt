@@ -1,8 +1,6 @@
-use Rattle.std.proofs.Common.{ℕ, subst}
-use Rattle.desk_model.specs.claim.Desk.{Desk}
-use Rattle.serve_command.specs.http_seats.Streams.{traffic}
-use Rattle.desk_claim.{specs.claim.Streams.Ends, specs.claim.Sentence.PlanDesk, proofs.Left.both_ok}
-use Rattle.store_lives.{specs.claim.Versions.{Version, Store}, specs.VersionInside.{HoldsIn, OpensIn}, proofs.VersionLiving.holds_read}
+use Rattle.{std.proofs.Common.{ℕ, subst}, desk_claim.{specs.claim.{Sentence.PlanDesk, Streams.Ends}, proofs.Left.both_ok}, desk_model.specs.claim.Desk.Desk}
+use Rattle.{serve_command.specs.http_seats.Streams.traffic, store_lives.specs.{VersionInside.{HoldsIn, OpensIn}, claim.Versions.{Version, Store}}}
+use Rattle.store_lives.proofs.VersionLiving.{holds_read}
 use Rattle.desk_claim.proofs.lives.live_from.Goals as goal
 
 pub returns : goal.returns

@@ -1,7 +1,5 @@
-use Rattle.std.{specs.Result.IfOk, proofs.Common.{sym, subst}}
-use Rattle.serve_command.specs.http_seats.Streams.{traffic}
-use Rattle.desk_claim.specs.{claim.Streams.Ends, declared.lives.Task.Task, Inside.IsLife}
-use Rattle.store_lives.specs.VersionInside.{LivesIn}
+use Rattle.{std.{specs.Result.IfOk, proofs.Common.{sym, subst}}, desk_claim.specs.{Inside.IsLife, claim.Streams.Ends, declared.lives.Task.Task}}
+use Rattle.{serve_command.specs.http_seats.Streams.traffic, store_lives.specs.VersionInside.LivesIn}
 use Rattle.desk_claim.specs.declared.lives.Task.TheVariants as task_of
 use Rattle.desk_claim.specs.declared.lives.Done.TheVariants as done
 use Rattle.desk_claim.proofs.lives.live_in.Goals as goal

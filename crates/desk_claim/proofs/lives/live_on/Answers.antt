@@ -1,10 +1,7 @@
-use Rattle.std.proofs.Common.{◌≡◌, ◌<◌, length, List, [], ◌∷◌, ◌++◌, sym, ap, subst, arith}
-use Rattle.std.proofs.lemmas.Bool.Decides.{nat_tests}
-use Rattle.std.proofs.lemmas.List.{nil_from_length}
-use Rattle.std.proofs.lemmas.Result.{IfOk-from_err}
-use Rattle.store_lives.{specs.DeskInside.GoingOn, specs.VersionInside.Knows, proofs.DeskLiving.popped, proofs.VersionLiving.{begun, lives_on, all_lived}}
-use Rattle.serve_command.specs.http_seats.Streams.{traffic}
-use Rattle.desk_claim.{specs.claim.Streams.Ends, specs.declared.lives.Task.Task, specs.declared.lives.Done.Done, specs.claim.Sentence.LifeMay, proofs.Sentence.desk_of_lives}
+use Rattle.std.proofs.{Common.{◌≡◌, ◌<◌, length, List, [], ◌∷◌, ◌++◌, sym, ap, subst, arith}, lemmas.{Bool.Decides.nat_tests, List.nil_from_length, Result.IfOk-from_err}}
+use Rattle.{desk_claim.specs.{claim.{Sentence.LifeMay, Streams.Ends}, declared.lives.{Done.Done, Task.Task}}, serve_command.specs.http_seats.Streams.traffic}
+use Rattle.{store_lives.{specs.{DeskInside.GoingOn, VersionInside.Knows}, proofs.DeskLiving.popped}, desk_claim.proofs.Sentence.desk_of_lives}
+use Rattle.store_lives.proofs.VersionLiving.{begun, lives_on, all_lived}
 use Rattle.desk_claim.proofs.lives.live_on.Goals as goal
 
 pub loop-alloc-init : goal.loop-alloc-init

@@ -1,8 +1,5 @@
-use Rattle.std.proofs.Common.{length}
-use Rattle.desk_model.specs.claim.Desk.{Desk}
-use Rattle.store_lives.specs.{DeskInside.GoingOn, claim.Versions.Version, VersionInside.{HoldsIn, Knows}}
-use Rattle.serve_command.specs.http_seats.Streams.{traffic}
-use Rattle.desk_claim.specs.{claim.Streams.Ends, claim.Sentence.LifeMay}
+use Rattle.{std.proofs.Common.length, desk_claim.specs.claim.{Sentence.LifeMay, Streams.Ends}, desk_model.specs.claim.Desk.Desk, serve_command.specs.http_seats.Streams.traffic}
+use Rattle.store_lives.specs.{DeskInside.GoingOn, VersionInside.{HoldsIn, Knows}, claim.Versions.Version}
 use Rattle.desk_claim.proofs.lives.live_on.Given as goal
 
 abbrev pub invariant-loop-alloc : goal.invariant-loop-alloc

@@ -1,6 +1,4 @@
-use Rattle.serve_command.specs.http_seats.Streams.{traffic}
-use Rattle.desk_claim.specs.{claim.Streams.Ends, Inside.IsLife}
-use Rattle.store_lives.proofs.VersionLiving.{starts_in, stops_in}
+use Rattle.{desk_claim.specs.{Inside.IsLife, claim.Streams.Ends}, serve_command.specs.http_seats.Streams.traffic, store_lives.proofs.VersionLiving.{starts_in, stops_in}}
 use Rattle.desk_claim.proofs.lives.live_once.Goals as goal
 
 pub returns-in-Ok : goal.returns-in-Ok

@@ -1,6 +1,4 @@
-use Rattle.std.proofs.Common.{sym, subst}
-use Rattle.serve_command.specs.desk_gallery.Fronts.{Kept}
-use Rattle.desk_claim.{specs.Runs.IsReached, proofs.Weaving.{AllBegin, runs_of, reached}}
+use Rattle.{std.proofs.Common.{sym, subst}, desk_claim.{specs.Runs.IsReached, proofs.Weaving.{AllBegin, runs_of, reached}}, serve_command.specs.desk_gallery.Fronts.Kept}
 use Rattle.desk_claim.proofs.office.are_standing.Goals as goal
 
 pub returns-clause-reached : goal.returns-clause-reached

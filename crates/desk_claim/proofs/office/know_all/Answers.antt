@@ -1,6 +1,4 @@
-use Rattle.std.proofs.Common.{◌∙◌, List, sym, subst, take, take_all, arith}
-use Rattle.desk_model.specs.declared.command.Command.{Command}
-use Rattle.serve_command.specs.desk_gallery.Fronts.{Kept}
+use Rattle.{std.proofs.Common.{◌∙◌, List, sym, subst, take, take_all, arith}, desk_model.specs.declared.command.Command.Command, serve_command.specs.desk_gallery.Fronts.Kept}
 use Rattle.desk_claim.proofs.Weaving.{AllBegin, one_more_begins}
 use Rattle.desk_claim.proofs.office.know_all.Goals as goal
 

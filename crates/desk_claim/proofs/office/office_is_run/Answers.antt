@@ -1,6 +1,4 @@
-use Rattle.std.proofs.Common.{sym, subst}
-use Rattle.serve_command.specs.desk_gallery.Fronts.{Kept}
-use Rattle.desk_claim.{specs.claim.Runs.HasRuns, proofs.Weaving.{AllBegin, runs_of, runs_for}}
+use Rattle.{std.proofs.Common.{sym, subst}, desk_claim.{specs.claim.Runs.HasRuns, proofs.Weaving.{AllBegin, runs_of, runs_for}}, serve_command.specs.desk_gallery.Fronts.Kept}
 use Rattle.desk_claim.proofs.office.office_is_run.Goals as goal
 
 pub returns-clause-runs : goal.returns-clause-runs

@@ -1,6 +1,4 @@
-use Rattle.std.proofs.Common.{◌≡◌, ◌++◌, ◌∷◌, [], sym, ◌∙◌, ap, subst, List, ℕ, refl}
-use Rattle.desk_gallery.{specs.declared.book.LogEntry.LogEntry, specs.Rules.{key_after, lent_change, lists_of, NoneBy}, proofs.Chaining.key_more, proofs.Keeping.add_moves}
-use Rattle.desk_gallery.proofs.Weighing.{lists_more}
+use Rattle.{std.proofs.Common.{sym, ◌∙◌, ap, refl, rules}, desk_gallery.proofs.{Chaining.key_more, Keeping.add_moves, Weighing.lists_more}}
 use Rattle.desk_gallery.proofs.book.add_entry.Goals as goal
 
 pub compare_exchange-requires : goal.compare_exchange-requires
@@ -16,14 +14,4 @@ compare_exchange-requires c =
     )
 
 pub returns-clause-added : goal.returns-clause-added
-returns-clause-added c = λ k key.
-    let old : List LogEntry = c.args.seen.now.log in
-    let e : LogEntry = record { what = lent_change c.args.what; by = c.args.pen.now.nib.key; next = c.make_key-next.result.nib.key } in
-    let then = c.compare_exchange.ensures.7 in
-    let rest : List LogEntry = then.0 in
-    let log : c.compare_exchange.new.seen.log ≡ old ++ rest ++ e ∷ [] = then.1 ∙ ap (λ (a : LogEntry). old ++ rest ++ a ∷ []) c.plain-offer.ensures.1 in
-    let none : NoneBy (key_after k old) rest = subst (λ (n : ℕ). NoneBy n rest) key then.2 in
-    record {
-      key = sym (ap (key_after k) log ∙ key_more k old rest e key none);
-      lists = ap (lists_of k) log ∙ lists_more k old rest e key none;
-    }
+returns-clause-added c = λ k key. search (rules, key_more, lists_more)

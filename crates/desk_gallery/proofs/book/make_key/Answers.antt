@@ -1,5 +1,4 @@
-use Rattle.std.proofs.Common.{sym, ◌∙◌, ap}
-use Rattle.desk_gallery.proofs.Keeping.{make_moves, no_entry}
+use Rattle.{std.proofs.Common.{sym, ◌∙◌, ap}, desk_gallery.proofs.Keeping.{make_moves, no_entry}}
 use Rattle.desk_gallery.proofs.book.make_key.Goals as goal
 
 pub compare_exchange-requires : goal.compare_exchange-requires

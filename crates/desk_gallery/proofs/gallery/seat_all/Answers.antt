@@ -1,5 +1,4 @@
-use Rattle.std.proofs.Common.{◌≡◌, ◌+◌, [], ◌∷◌, ◌++◌, length, arith, length-append, ap}
-use Rattle.std.proofs.lemmas.List.Elements.{All-same, All-push}
+use Rattle.std.proofs.{Common.{◌≡◌, ◌+◌, [], ◌∷◌, ◌++◌, length, arith, length-append, ap}, lemmas.List.Elements.{All-same, All-push}}
 use Rattle.desk_gallery.proofs.gallery.seat_all.Goals as goal
 
 pub loop-preserved : goal.loop-preserved

@@ -1,5 +1,4 @@
-use Rattle.std.proofs.Common.{rules, ◌≡◌, true, is_ok, sym, subst}
-use Rattle.desk_gallery.{specs.Shelves.WaitsFor, proofs.Showing.from_ok}
+use Rattle.{std.proofs.Common.{rules, ◌≡◌, true, is_ok, sym, subst}, desk_gallery.{specs.Shelves.WaitsFor, proofs.Showing.from_ok}}
 use Rattle.desk_gallery.proofs.shower.publish.Goals as goal
 
 pub replace_with-requires : goal.replace_with-requires

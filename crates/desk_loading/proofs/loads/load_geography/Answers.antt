@@ -1,16 +1,13 @@
-use Rattle.std.proofs.Common.{◌≡◌, ◌-◌, ℕ, ap, subst, arith}
-use Rattle.store_rows.specs.claim.GeographyRows.{geography_rows}
-use Rattle.desk_store.specs.{geo_tables.Loading.{geography_model_of, done_of}, Keeping.sealed_desk, claim.Clerks.Keeps, Loads.Stages}
-use Rattle.desk_loading.proofs.{Moves.may_move, Staged.{begun_moved, begin_refused, staging_refused, load_moved, load_sealed, seal_refused}}
+use Rattle.{std.proofs.Common.{◌≡◌, ◌-◌, ℕ, ap, subst, arith}, desk_store.specs.{Keeping.sealed_desk, Loads.Stages, claim.Clerks.Keeps}, desk_loading.proofs.Moves.may_move}
+use Rattle.{desk_store.specs.geo_tables.Loading.{geography_model_of, done_of}, store_rows.specs.claim.GeographyRows.geography_rows}
+use Rattle.desk_loading.proofs.Staged.{begun_moved, begin_refused, staging_refused, load_moved, load_sealed, seal_refused}
 use Rattle.desk_loading.proofs.loads.load_geography.Goals as goal
 
 pub returns-in-Err-clause-moves : goal.returns-in-Err-clause-moves
 returns-in-Err-clause-moves g c = may_move (Keeps c.args.clerk.now) (sealed_desk c.args.geography.value) c.args.clerk.now c.begin_load.new.self c.in-Err.ensures.moves
 
 pub returns-in-Err-clause-err : goal.returns-in-Err-clause-err
-returns-in-Err-clause-err g c =
-    let did = c.in-Err.ensures in
-    begin_refused c.args.clerk.now c.begin_load.new.self c.args.geography.value c.in-Err.e (record { moves = did.moves; desk = did.loads.desk; loading = did.loading; quiet = did.loads.quiet; why = did.err })
+returns-in-Err-clause-err g c = search (c.in-Err.ensures, begin_refused)
 
 pub returns-in-Err-stage_rows-clause-moves : goal.returns-in-Err-stage_rows-clause-moves
 returns-in-Err-stage_rows-clause-moves g c =

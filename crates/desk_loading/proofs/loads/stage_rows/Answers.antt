@@ -1,32 +1,13 @@
-use Rattle.std.{specs.Prelude.min, proofs.Common.{◌≡◌, ◌-◌, ◌∙◌, ℕ, ap, subst, arith}}
-use Rattle.store_rows.specs.claim.GeographyRows.{geography_rows}
-use Rattle.desk_store.specs.{geo_tables.Loading.{geography_model_of, done_of}, claim.Clerks.room_of}
-use Rattle.desk_loading.{specs.Loads.batch_rows, proofs.Staged.{none_staged, more_staged, batch_moved, stage_refused}}
+use Rattle.{std.{specs.Prelude.min, proofs.Common.{◌≡◌, ◌-◌, ◌∙◌, ap, arith, rules}}, desk_loading.specs.Loads.batch_rows, desk_store.specs.claim.Clerks.room_of}
+use Rattle.{desk_store.specs.geo_tables.Loading.{geography_model_of, done_of}, store_rows.specs.claim.GeographyRows.geography_rows}
+use Rattle.desk_loading.proofs.Staged.{none_staged, more_staged, batch_moved, stage_refused}
 use Rattle.desk_loading.proofs.loads.stage_rows.Goals as goal
 
 pub loop-left-init : goal.loop-left-init
-loop-left-init g c = record {
-  staged = none_staged c.args.clerk.now c.args.load.now;
-  last = c.requires.last;
-  unsealed = c.requires.unsealed;
-  left = c.left-all.ensures;
-  told =
-      let left = c.left-all.ensures in
-      let rows : c.left-all.result ≡ geography_rows (geography_model_of c.args.load.now) - done_of c.args.load.now = omega (arith, left) in
-      subst (λ (n : ℕ). g.P.Progress.is_told c.expect.new.self n) rows c.expect.ensures;
-}
+loop-left-init g c = search (rules, none_staged)
 
 pub loop-left-preserved : goal.loop-left-preserved
-loop-left-preserved g c =
-    let before = c.loop-left.invariant in
-    let did = c.in-Ok.ensures in
-    record {
-      staged = more_staged c.args.clerk.now c.loop-left.clerk c.load_batch.new.self c.args.load.now c.loop-left.load c.load_batch.new.load c.min.result before.staged did.moves did.loads.desk did.loading did.further did.staged did.loads.working.1;
-      last = did.last;
-      unsealed = ap (λ d. d.geography) did.loads.desk ∙ before.unsealed;
-      left = did.left;
-      told = c.note.ensures (geography_rows (geography_model_of c.args.load.now) - done_of c.args.load.now) before.told;
-    }
+loop-left-preserved g c = search (c.loop-left.invariant, c.in-Ok.ensures, more_staged, c.note.ensures)
 
 pub returns-in-Err-clause-moves : goal.returns-in-Err-clause-moves
 returns-in-Err-clause-moves g c = batch_moved c.args.clerk.now c.loop-left.clerk c.load_batch.new.self c.args.load.now c.loop-left.load c.loop-left.invariant.staged c.in-Err.ensures.moves

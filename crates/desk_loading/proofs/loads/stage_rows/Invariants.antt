@@ -1,7 +1,5 @@
-use Rattle.std.proofs.Common.{◌≡◌, ◌+◌, ◌-◌, None}
-use Rattle.store_rows.specs.claim.GeographyRows.{geography_rows}
-use Rattle.desk_store.specs.{geo_tables.Loading.{geography_model_of, done_of}, claim.Clerks.desk_of, Loads.IsLast}
-use Rattle.desk_loading.specs.Loads.{HasStaged}
+use Rattle.{std.proofs.Common.{◌≡◌, ◌+◌, ◌-◌, None}, desk_loading.specs.Loads.HasStaged, desk_store.specs.{Loads.IsLast, claim.Clerks.desk_of}}
+use Rattle.{desk_store.specs.geo_tables.Loading.{geography_model_of, done_of}, store_rows.specs.claim.GeographyRows.geography_rows}
 use Rattle.desk_loading.proofs.loads.stage_rows.Given as goal
 
 abbrev pub invariant-loop-left : goal.invariant-loop-left

@@ -1,14 +1,8 @@
-use Rattle.std.proofs.Common.{◌∙◌, inl, inr}
-use Rattle.desk_loading.proofs.Opened.{opened_journal}
+use Rattle.{std.proofs.Common.{◌∙◌, inr, rules}, desk_loading.proofs.Opened.opened_journal}
 use Rattle.desk_loading.proofs.starts.start.Goals as goal
 
 pub returns-in-Err-opened-clause-err : goal.returns-in-Err-opened-clause-err
-returns-in-Err-opened-clause-err g c = inr (inl (record {
-  new = c.in-Ok.device;
-  formatted = c.in-Ok.ensures.ok;
-  left = c.in-Err-opened.field-0-1;
-  why = c.in-Err-opened.ensures.err;
-}))
+returns-in-Err-opened-clause-err g c = search rules
 
 pub returns-in-Ok-load_geography-clause-size : goal.returns-in-Ok-load_geography-clause-size
 returns-in-Ok-load_geography-clause-size g c = c.load_geography.ensures.moves.sectors ∙ c.in-Ok-opened.ensures.ok.sectors ∙ c.in-Ok.ensures.ok.sectors
@@ -20,13 +14,7 @@ returns-in-Ok-load_geography-clause-journal g c = λ honest.
     moves.room ∙ opened_journal c.args.journal_pages c.in-Ok.device x c.requires.size.most c.journal_fits.ensures c.in-Ok.ensures.ok.journal c.in-Ok-opened.ensures.ok (moves.honest honest)
 
 pub returns-in-Ok-load_geography-clause-started : goal.returns-in-Ok-load_geography-clause-started
-returns-in-Ok-load_geography-clause-started g c = record {
-  new = c.in-Ok.device;
-  formatted = c.in-Ok.ensures.ok;
-  x = c.in-Ok-opened.clerk;
-  opened = c.in-Ok-opened.ensures.ok;
-  loaded = c.in-Ok-load_geography.ensures.loaded;
-}
+returns-in-Ok-load_geography-clause-started g c = search (c.in-Ok.ensures.ok, c.in-Ok-opened.ensures.ok, c.in-Ok-load_geography.ensures.loaded)
 
 pub returns-in-Err-load_geography-clause-err : goal.returns-in-Err-load_geography-clause-err
 returns-in-Err-load_geography-clause-err g c = inr (inr (record {

@@ -1,8 +1,6 @@
-use Rattle.std.proofs.Common.{◌≡◌, ◌≤◌, Bool, true, false, subst, arith}
-use Rattle.page_store.specs.claim.Transactions.{stored}
+use Rattle.{std.proofs.Common.{◌≡◌, ◌≤◌, true, false, arith}, desk_migration.{specs.Walks.IsWalking, proofs.Turns.{full_held, more_held, none_held, not_later, stop_held}}}
 use Rattle.desk_pages.proofs.Writing.{does, told_on}
 use Rattle.desk_opening.proofs.plan_rows.Writing.{after_reads}
-use Rattle.desk_migration.{specs.Puts.{AndStand, IsTurn}, specs.Walks.IsWalking, proofs.Turns.{full_held, more_held, none_held, not_later, stop_held}}
 use Rattle.desk_migration.proofs.holds.hold_along.Goals as goal
 
 pub loop-held-init : goal.loop-held-init
@@ -16,30 +14,19 @@ returns-in_err-hold_next-clause-holds g c =
 
 pub returns-then-not-branch-clause-holds : goal.returns-then-not-branch-clause-holds
 returns-then-not-branch-clause-holds g c =
-    let u = c.loop-held.txn in
-    let v = c.hold_next.new.txn in
-    let b = c.loop-held.pages in
-    let d = c.hold_next.new.pages in
-    let mid = IsWalking c.loop-held.walk in
-    let then = IsWalking c.hold_next.new.walk in
-    let f = c.loop-held.fingers in
-    let h = c.hold_next.new.fingers in
-    let turn : IsTurn false (AndStand mid f u (stored b)) (AndStand then h v (stored b)) u v b d = subst (λ (found : Bool). IsTurn found (AndStand mid f u (stored b)) (AndStand then h v (stored b)) u v b d) c.if-not-branch.true c.in_ok-hold_next.ensures.holds.put in
     let before = c.loop-held.invariant.held in
     let few : c.loop-held.held ≤ 8 = let less = c.loop-held-test.true in omega arith in
-    does (after_reads _ before.passed.quiet c.in_ok-hold_next.ensures.holds) (λ did. (few, stop_held c.loop-held.held (IsWalking c.args.walk.now) mid f c.args.txn.now u c.args.pages.now b d c.loop-held.invariant.held then h v turn))
+    let turn = rw c.if-not-branch.true at c.in_ok-hold_next.ensures.holds.put in
+    does (after_reads _ before.passed.quiet c.in_ok-hold_next.ensures.holds)
+    (λ did. (
+      few,
+      stop_held c.loop-held.held (IsWalking c.args.walk.now) (IsWalking c.loop-held.walk) c.loop-held.fingers c.args.txn.now c.loop-held.txn c.args.pages.now c.loop-held.pages c.hold_next.new.pages before
+          (IsWalking c.hold_next.new.walk) c.hold_next.new.fingers c.hold_next.new.txn turn,
+    ))
 
 pub loop-held-preserved : goal.loop-held-preserved
 loop-held-preserved g c =
-    let u = c.loop-held.txn in
-    let v = c.hold_next.new.txn in
-    let b = c.loop-held.pages in
-    let d = c.hold_next.new.pages in
-    let mid = IsWalking c.loop-held.walk in
-    let then = IsWalking c.hold_next.new.walk in
-    let f = c.loop-held.fingers in
-    let h = c.hold_next.new.fingers in
-    let turn : IsTurn true (AndStand mid f u (stored b)) (AndStand then h v (stored b)) u v b d = subst (λ (found : Bool). IsTurn found (AndStand mid f u (stored b)) (AndStand then h v (stored b)) u v b d) c.if-not-branch.false c.in_ok-hold_next.ensures.holds.put in
+    let turn = rw c.if-not-branch.false at c.in_ok-hold_next.ensures.holds.put in
     search (c.in_ok-hold_next.ensures.holds.begun, c.in_ok-hold_next.ensures.under, more_held)
 
 pub returns-clause-holds : goal.returns-clause-holds

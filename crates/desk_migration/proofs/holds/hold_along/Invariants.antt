@@ -1,6 +1,5 @@
-use Rattle.std.proofs.Common.{◌≡◌}
+use Rattle.{std.proofs.Common.◌≡◌, desk_migration.specs.{Puts.{AndStand, HasHeldAs}, Walks.{IsWalking, StandsUnder}}}
 use Rattle.page_store.specs.claim.Transactions.{count_of, stored, txn_pages}
-use Rattle.desk_migration.specs.{Puts.{AndStand, HasHeldAs}, Walks.{IsWalking, StandsUnder}}
 use Rattle.desk_migration.proofs.holds.hold_along.Given as goal
 
 abbrev pub invariant-loop-held : goal.invariant-loop-held

@@ -1,19 +1,12 @@
-use Rattle.std.{specs.Prelude.Option, proofs.Common.{refl, subst, rules}}
-use Rattle.desk_pages.proofs.Writing.{does, told_on}
+use Rattle.{std.{specs.Prelude.Option, proofs.Common.{refl, subst, rules}}, desk_migration.specs.{Walks.{IsNextPair, IsWalking}, declared.parts.HeldPair.HeldPair}}
+use Rattle.{desk_migration.proofs.{Pairs.still_walking, Turns.{less_not_held, not_found, pair_not_taken, pair_taken}}, desk_pages.proofs.Writing.{does, told_on}}
 use Rattle.desk_opening.proofs.plan_rows.Writing.{after_reads, only_read, unread}
-use Rattle.desk_migration.{specs.Walks.{IsNextPair, IsWalking}, specs.declared.parts.HeldPair.HeldPair, proofs.Pairs.still_walking}
-use Rattle.desk_migration.proofs.Turns.{less_not_held, not_found, pair_not_taken, pair_taken}
 use Rattle.desk_migration.proofs.holds.hold_next.Goals as goal
 
 pub returns-in_err-next_pair-clause-holds : goal.returns-in_err-next_pair-clause-holds
 returns-in_err-next_pair-clause-holds g c =
-    let t = c.args.txn.now in
-    let a = c.args.pages.now in
-    let b = c.next_pair.new.pages in
-    let has = IsWalking c.args.walk.now in
-    let e = c.in_err-next_pair.field-0.0 in
     let why = c.in_err-next_pair.ensures.looks in
-    search (rules, unread, c.requires.begun, why.quiet, c.from_residual.ensures.1, less_not_held, not_found 1 has t a b e why.err)
+    search (rules, unread, c.requires.begun, why.quiet, c.from_residual.ensures.1, less_not_held, not_found 1 (IsWalking c.args.walk.now) c.args.txn.now c.args.pages.now c.next_pair.new.pages c.in_err-next_pair.field-0.0 why.err)
 
 pub returns-in-None-clause-holds : goal.returns-in-None-clause-holds
 returns-in-None-clause-holds g c = only_read c.requires.begun c.in_ok-next_pair.ensures.looks.quiet (

@@ -1,8 +1,5 @@
-use Rattle.std.proofs.Common.{◌≡◌}
+use Rattle.{std.proofs.Common.◌≡◌, desk_migration.specs.TurningBack.IsLess, page_btree.specs.claim.Map.InTxn, store_rows.specs.claim.Rows.KeyMap}
 use Rattle.page_store.specs.claim.Transactions.{stored, disk_in, count_of, txn_pages, Passed}
-use Rattle.page_btree.specs.claim.Map.{InTxn}
-use Rattle.store_rows.specs.claim.Rows.{KeyMap}
-use Rattle.desk_migration.specs.TurningBack.{IsLess}
 use Rattle.desk_migration.proofs.old.take_all.Given as goal
 
 abbrev pub invariant-loop-taken : goal.invariant-loop-taken

@@ -1,10 +1,7 @@
-use Rattle.std.{specs.List.starts_with, specs.FinMap.remove as without, proofs.Common.{◌∷◌, [], Bool, nat_eq, sym, subst, ◌∙◌, rules}}
-use Rattle.sector_device.specs.claim.Disk.{Image}
+use Rattle.{std.{specs.{FinMap.remove as without, List.starts_with}, proofs.Common.{◌∷◌, [], Bool, nat_eq, sym, subst, ◌∙◌, rules}}, page_btree.specs.claim.Map.InTxn}
+use Rattle.{sector_device.specs.claim.Disk.Image, store_check.specs.Rows.IsFirst, desk_migration.proofs.Back.{none_found, none_later, one_less}}
 use Rattle.page_store.proofs.Stops.{passed_more, quiet_more}
-use Rattle.page_btree.specs.claim.Map.{InTxn}
-use Rattle.store_check.specs.Rows.{IsFirst}
 use Rattle.desk_opening.proofs.plan_rows.Writing.{only_read, unread}
-use Rattle.desk_migration.proofs.Back.{none_found, none_later, one_less}
 use Rattle.desk_migration.proofs.old.take_first.Goals as goal
 
 pub returns-in_err-first_from : goal.returns-in_err-first_from
@@ -34,10 +31,9 @@ returns g c =
     only_read (gone.pages ∙ c.requires.begun) (quiet_more c.args.pages.now c.first_from.new.pages c.remove.new.pages c.in_ok-first_from.ensures.quiet gone.reading.quiet) (
       passed_more c.args.pages.now c.first_from.new.pages c.remove.new.pages c.in_ok-first_from.ensures.passed gone.reading.passed,
       λ honest m holds.
-          let tag = c.args.tag in
           let key = c.as_slice-key.result.now in
           let same = c.in_ok-first_from.ensures.quiet.same (c.in_ok-remove.ensures.reading.quiet.honest honest) in
           let there = subst (λ (P : Image). InTxn c.args.txn.now P m) (sym same) holds in
           let after = subst (λ (P : Image). InTxn c.remove.new.txn P (without m key)) same (c.in_ok-remove.ensures.remove honest m there).0 in
-          (without m key, after, one_less tag m key (sym c.starts_with.ensures.value ∙ c.if-not-starts_with.false)),
+          (without m key, after, one_less c.args.tag m key (sym c.starts_with.ensures.value ∙ c.if-not-starts_with.false)),
     )

@@ -1,17 +1,12 @@
-use Rattle.std.proofs.Common.{Bool, nat_eq, subst, rules}
-use Rattle.store_rows.specs.Keys.{parts_prefix}
-use Rattle.store_check.{specs.Rows.IsFirst, proofs.FirstRows.none_at_all}
-use Rattle.desk_pages.proofs.Looking.{fails, finds}
-use Rattle.desk_migration.proofs.PartRows.{part_found}
+use Rattle.{std.proofs.Common.{nat_eq, rules}, store_rows.specs.Keys.parts_prefix, desk_migration.proofs.PartRows.part_found, desk_pages.proofs.Looking.{fails, finds}}
+use Rattle.store_check.proofs.FirstRows.{none_at_all}
 use Rattle.desk_migration.proofs.parts.part_from.Goals as goal
 
 pub returns-in_err-first_from-clause-looks : goal.returns-in_err-first_from-clause-looks
 returns-in_err-first_from-clause-looks g c = fails c.from_residual.result c.in_err-first_from.ensures c.from_residual.ensures.1 (λ m is. is)
 
 pub returns-then-not-branch-clause-looks : goal.returns-then-not-branch-clause-looks
-returns-then-not-branch-clause-looks g c = finds c.in_ok-first_from.ensures (λ m is.
-    let first = subst (λ (b : Bool). IsFirst b c.args.from.now c.first_from.new.row m) c.if-not-branch.true is in
-    none_at_all m c.args.from.now parts_prefix first)
+returns-then-not-branch-clause-looks g c = finds c.in_ok-first_from.ensures (λ m is. none_at_all m c.args.from.now parts_prefix (rw c.if-not-branch.true at is))
 
 pub returns-clause-looks : goal.returns-clause-looks
 returns-clause-looks g c = search (rules, finds, c.in_ok-first_from.ensures, c.if-not-branch.false, nat_eq, c.parts.ensures, part_found)

@@ -1,8 +1,7 @@
-use Rattle.std.proofs.Common.{◌<◌, ℕ, List, refl, sym, subst, ◌∙◌, arith, rules}
-use Rattle.page_store.specs.claim.Transactions.{has_halted}
-use Rattle.desk_pages.{specs.Errors.tree_refusal, specs.declared.error.StoreError.TheVariants.Full, proofs.Outcomes.err_of, proofs.Kept.kept_working}
-use Rattle.desk_migration.specs.{Parts.IsUnderParts, Puts.{HasHeld, HoldErr, StepErr, free_of}}
+use Rattle.{std.proofs.Common.{◌<◌, ℕ, List, refl, sym, subst, ◌∙◌, arith, rules}, desk_migration.specs.{Parts.IsUnderParts, Puts.{HasHeld, HoldErr, StepErr, free_of}}}
+use Rattle.{desk_pages.{specs.{Errors.tree_refusal, declared.error.StoreError.TheVariants.Full}, proofs.Kept.kept_working}, page_store.specs.claim.Transactions.has_halted}
 use Rattle.desk_migration.proofs.Stepped.{to_quiet, quiet_faults, halted_steps, refused_steps, commit_faults, no_faults, taken_writes, still_working, none_more, some_more, some_leaves, short_of, not_committed, not_taken, no_room}
+use Rattle.desk_pages.proofs.Outcomes.{err_of}
 use Rattle.desk_opening.proofs.plan_rows.Committing.{IsBegun, begun_now, both, quiet_shape, shape_after}
 use Rattle.desk_migration.proofs.steps.put_holdings.Given.{Over}
 use Rattle.desk_migration.proofs.steps.put_holdings.Goals.{After-begin-txn, In_ok-pairs}

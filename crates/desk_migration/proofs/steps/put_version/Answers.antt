@@ -1,10 +1,8 @@
-use Rattle.std.proofs.Common.{List, refl, sym, subst, ◌∙◌, rules}
-use Rattle.page_store.{specs.claim.Transactions.has_halted, proofs.Stops.quiet_none}
-use Rattle.store_rows.specs.claim.Puts.{Row}
-use Rattle.desk_pages.{specs.claim.Puts.{HasPut, PutsErr}, specs.Errors.tree_refusal, specs.declared.error.StoreError.TheVariants.Full, proofs.Outcomes.err_of}
-use Rattle.desk_migration.{specs.Puts.{version_rows, FinishErr}, proofs.Stepped.{halted_steps, refused_steps}}
-use Rattle.desk_migration.proofs.Finished.{either_faults, err_then, ok_so, ok_then, one_row, all_quiet, short_now, room_now, version_writes, version_working, version_leaves, version_holds, version_not_committed, version_not_put}
-use Rattle.desk_opening.proofs.plan_rows.Committing.{IsBegun, begun_now, both, shape_after}
+use Rattle.{std.proofs.Common.{List, refl, sym, subst, ◌∙◌, inl, arith, rules}, desk_migration.specs.Puts.{version_rows, FinishErr}, desk_pages.specs.Errors.tree_refusal}
+use Rattle.{desk_pages.{specs.{claim.Puts.{HasPut, PutsErr}, declared.error.StoreError.TheVariants.Full}, proofs.Outcomes.err_of}, page_store.specs.claim.Transactions.has_halted}
+use Rattle.{store_rows.specs.claim.Puts.Row, desk_migration.proofs.Stepped.{halted_steps, refused_steps}, page_store.proofs.Stops.quiet_none}
+use Rattle.desk_migration.proofs.Finished.{either_faults, ok_then, one_row, all_quiet, room_now, version_writes, version_working, version_leaves, version_holds, version_not_committed, version_not_put}
+use Rattle.{page_btree.proofs.Outcomes.{map_err, on_ok}, desk_opening.proofs.plan_rows.Committing.{IsBegun, begun_now, both, shape_after}}
 use Rattle.desk_migration.proofs.steps.put_version.Given.{Over}
 use Rattle.desk_migration.proofs.steps.put_version.Goals.{After-begin-txn, In_ok-put_row}
 use Rattle.desk_migration.proofs.steps.put_version.Goals as goal
@@ -33,7 +31,10 @@ pub returns-then-free_pages-lt-ROW_PAGES-clause-steps : goal.returns-then-free_p
 returns-then-free_pages-lt-ROW_PAGES-clause-steps g c = refused_steps c.args.pages.now c.args.pages.now _ Full (quiet_none c.args.pages.now) (sym c.is_halted.ensures ∙ c.if-is_halted.false) refl
 
 pub returns-then-free_pages-lt-ROW_PAGES-clause-err : goal.returns-then-free_pages-lt-ROW_PAGES-clause-err
-returns-then-free_pages-lt-ROW_PAGES-clause-err g c = short_now c.args.pages.now c.free_pages.result (c.free_pages.ensures (sym c.is_halted.ensures ∙ c.if-is_halted.false)) c.if-free_pages-lt-ROW_PAGES.true
+returns-then-free_pages-lt-ROW_PAGES-clause-err g c = (
+  quiet_none c.args.pages.now,
+  inl (λ honest. let same = c.free_pages.ensures (sym c.is_halted.ensures ∙ c.if-is_halted.false) honest in omega arith),
+)
 
 -- ---- the row isn't put
 pub returns-in_err-put_row-clause-steps : goal.returns-in_err-put_row-clause-steps
@@ -77,9 +78,11 @@ returns-clause-told g c = λ honest d holds.
     ok_then c.commit_fitting.result _ _ (λ committed. version_holds c.version_is_told.ensures c.begin-txn.result c.put_row.new.txn c.args.pages.now c.put_row.new.pages (begun g at.After-begin-txn) (put g at.In_ok-put_row) c.commit_fitting.new.pages (λ m reads. (committed m reads).0) (c.commit_fitting.ensures.commits.honest honest) d holds) (c.commit_fitting.ensures.held honest)
 
 pub returns-clause-room : goal.returns-clause-room
-returns-clause-room g c = λ honest. ok_so c.commit_fitting.result _ ((room_now c.args.pages.now c.free_pages.result (c.free_pages.ensures (sym c.is_halted.ensures ∙ c.if-is_halted.false)) c.if-free_pages-lt-ROW_PAGES.false) (c.in_ok-put_row.ensures.puts.quiet.honest (c.commit_fitting.ensures.commits.honest honest)))
+returns-clause-room g c = λ honest.
+    on_ok c.commit_fitting.result _ (room_now c.args.pages.now c.free_pages.result (c.free_pages.ensures (sym c.is_halted.ensures ∙ c.if-is_halted.false)) c.if-free_pages-lt-ROW_PAGES.false
+    (c.in_ok-put_row.ensures.puts.quiet.honest (c.commit_fitting.ensures.commits.honest honest)))
 
 pub returns-clause-err : goal.returns-clause-err
 returns-clause-err g c =
     let at = goal.at.returns-clause-err g c in
-    err_then c.commit_fitting.result _ _ (λ e why. version_not_committed c.version_is_told.ensures c.begin-txn.result c.put_row.new.txn c.args.pages.now c.put_row.new.pages (begun g at.After-begin-txn) (put g at.In_ok-put_row) c.commit_fitting.new.pages (room_now c.args.pages.now c.free_pages.result (c.free_pages.ensures (sym c.is_halted.ensures ∙ c.if-is_halted.false)) c.if-free_pages-lt-ROW_PAGES.false) c.commit_fitting.ensures.commits.honest e why) c.commit_fitting.ensures.err
+    map_err c.commit_fitting.result _ _ (λ e why. version_not_committed c.version_is_told.ensures c.begin-txn.result c.put_row.new.txn c.args.pages.now c.put_row.new.pages (begun g at.After-begin-txn) (put g at.In_ok-put_row) c.commit_fitting.new.pages (room_now c.args.pages.now c.free_pages.result (c.free_pages.ensures (sym c.is_halted.ensures ∙ c.if-is_halted.false)) c.if-free_pages-lt-ROW_PAGES.false) c.commit_fitting.ensures.commits.honest e why) c.commit_fitting.ensures.err

@@ -1,8 +1,5 @@
-use Rattle.std.{specs.Prelude.All, proofs.Common.{◌<◌, ◌≤◌, ℕ, List, length, get_or, sym, subst, ◌∙◌, take_all}}
-use Rattle.std.proofs.lemmas.List.Elements.{All-more}
-use Rattle.desk_pages.proofs.Looking.{begins, both, fails_then, finds}
-use Rattle.store_rows.specs.{claim.Keys.holding, claim.Rows.Lacks}
-use Rattle.desk_migration.specs.Walks.{HoldsIt}
+use Rattle.std.{specs.Prelude.All, proofs.{Common.{◌<◌, ◌≤◌, ℕ, List, length, get_or, sym, subst, ◌∙◌, take_all}, lemmas.List.Elements.All-more}}
+use Rattle.{desk_migration.specs.Walks.HoldsIt, store_rows.specs.claim.{Keys.holding, Rows.Lacks}, desk_pages.proofs.Looking.{begins, both, fails_then, finds}}
 use Rattle.desk_migration.proofs.walks.first_unheld.Goals as goal
 
 pub loop-place-init : goal.loop-place-init

@@ -1,7 +1,6 @@
-use Rattle.std.{specs.Prelude.Option, proofs.Common.{◌<◌, ℕ, List, length, get_or, Bool, true, false, sym, subst, rules}}
+use Rattle.{std.{specs.Prelude.Option, proofs.Common.{◌<◌, ℕ, List, length, get_or, Bool, true, false, sym, subst, rules}}, desk_migration.specs.claim.Holding.IsUnheld}
+use Rattle.{desk_migration.{specs.Walks.{Enters, IsHeldTo, IsNextPart}, proofs.Walking.{passes, reaches, some_of}}, store_rows.specs.claim.{Keys.holding, Rows.Lacks}}
 use Rattle.desk_pages.proofs.Looking.{both, fails, fails_then, finds}
-use Rattle.store_rows.specs.{claim.Keys.holding, claim.Rows.Lacks}
-use Rattle.desk_migration.{specs.claim.Holding.IsUnheld, specs.Walks.{Enters, IsHeldTo, IsNextPart}, proofs.Walking.{passes, reaches, some_of}}
 use Rattle.desk_migration.proofs.walks.look.Goals as goal
 
 pub returns-in_err-enter-clause-looks : goal.returns-in_err-enter-clause-looks
@@ -10,9 +9,7 @@ returns-in_err-enter-clause-looks g c = fails c.from_residual.result c.in_err-en
 pub returns-then-not-branch-clause-looks : goal.returns-then-not-branch-clause-looks
 returns-then-not-branch-clause-looks g c = finds c.in_ok-enter.ensures.looks (λ m is. (
   tt,
-  λ walking.
-      let now = is walking in
-      (now.0, subst (λ (b : Bool). Enters b c.args.walk.now c.enter.new.walk m) c.if-not-branch.true now.1),
+  λ walking. let now = is walking in (now.0, rw c.if-not-branch.true at now.1),
 ))
 
 pub returns-in_err-found-clause-looks : goal.returns-in_err-found-clause-looks

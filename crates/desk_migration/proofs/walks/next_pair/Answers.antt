@@ -1,7 +1,5 @@
-use Rattle.std.proofs.Common.{sym, subst, ◌∙◌, arith, rules}
+use Rattle.{std.proofs.Common.{sym, subst, ◌∙◌, arith, rules}, desk_migration.specs.{Walks.Looks, declared.parts.PartLook.PartLook}, store_check.proofs.After.all_left}
 use Rattle.desk_pages.proofs.Looking.{begins, both, fails_then, finds, not_looked}
-use Rattle.store_check.proofs.After.{all_left}
-use Rattle.desk_migration.specs.{Walks.Looks, declared.parts.PartLook.PartLook}
 use Rattle.desk_migration.proofs.walks.next_pair.Goals as goal
 
 pub loop-taken-init : goal.loop-taken-init

@@ -1,5 +1,4 @@
-use Rattle.std.proofs.Common.{List, ℕ, length, ap, ◌∙◌, rules}
-use Rattle.desk_migration.{specs.Walks.after, proofs.Order.starts_more}
+use Rattle.{std.proofs.Common.{List, ℕ, length, ap, ◌∙◌, rules}, desk_migration.{specs.Walks.after, proofs.Order.starts_more}}
 use Rattle.desk_migration.proofs.walks.pass.Goals as goal
 
 pub key_after-after-requires : goal.key_after-after-requires

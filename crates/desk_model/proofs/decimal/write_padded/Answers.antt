@@ -1,6 +1,4 @@
-use Rattle.std.proofs.Common.{◌-◌, ◌<◌, ◌^◌, arith, rules}
-use Rattle.std.proofs.lemmas.Fmt.{length-decimal-le}
-use Rattle.desk_model.proofs.Decimals.{zeros_below, padded_from}
+use Rattle.{std.proofs.{Common.{◌-◌, ◌<◌, ◌^◌, arith, rules}, lemmas.Fmt.length-decimal-le}, desk_model.proofs.Decimals.{zeros_below, padded_from}}
 use Rattle.desk_model.proofs.decimal.write_padded.Goals as goal
 
 pub write_digits-start-requires : goal.write_digits-start-requires

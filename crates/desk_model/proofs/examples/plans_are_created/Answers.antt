@@ -1,6 +1,6 @@
-use Rattle.std.{specs.FinMap.{get-empty, get-insert, len-empty, entries-insert}, specs.Cmp.Lexicographic.nat_list_cmp_total, proofs.Common.{ap, map, refl, []}}
+use Rattle.std.{specs.{Cmp.Lexicographic.nat_list_cmp_total, FinMap.{get-empty, get-insert, len-empty, entries-insert}}, proofs.Common.{ap, map, refl, []}}
+use Rattle.desk_model.{specs.{Examples.{name_a, plan_of}, claim.{Desk.{Plan, name_cmp}, Step.{says, plan_row}}}, proofs.Maps.entries-empty}
 use Rattle.std.specs.FinMap as map_of
-use Rattle.desk_model.{specs.claim.Desk.{Plan, name_cmp}, specs.claim.Step.{says, plan_row}, specs.Examples.{name_a, plan_of}, proofs.Maps.entries-empty}
 use Rattle.desk_model.specs.declared.reply.Reply.TheVariants as reply
 use Rattle.desk_model.proofs.examples.plans_are_created.Goals as goal
 

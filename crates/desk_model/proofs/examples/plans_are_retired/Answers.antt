@@ -1,5 +1,5 @@
-use Rattle.std.{specs.FinMap.{get-insert, get-empty}, specs.Cmp.Lexicographic.nat_list_cmp_total, proofs.Common.{[], ◌∷◌, ap}}
-use Rattle.desk_model.{specs.claim.Desk.{Plan, name_cmp}, specs.claim.Sample.sample_desk, specs.Examples.{name_a, plan_of}, proofs.Maps.remove_only}
+use Rattle.{std.{specs.{Cmp.Lexicographic.nat_list_cmp_total, FinMap.{get-insert, get-empty}}, proofs.Common.{[], ◌∷◌, ap}}, desk_model.specs.Examples.{name_a, plan_of}}
+use Rattle.desk_model.{specs.claim.{Desk.{Plan, name_cmp}, Sample.sample_desk}, proofs.Maps.remove_only}
 use Rattle.desk_model.specs.declared.reply.Reply.TheVariants as reply
 use Rattle.desk_model.proofs.examples.plans_are_retired.Goals as goal
 

@@ -1,7 +1,7 @@
-use Rattle.std.{specs.Fmt.digits, specs.FinMap.get-insert, specs.Cmp.Lexicographic.nat_list_cmp_total, proofs.Common.{◌≡◌, [], ◌∷◌, refl, ap}}
+use Rattle.{std.{specs.{Cmp.Lexicographic.nat_list_cmp_total, FinMap.get-insert, Fmt.digits}, proofs.Common.{◌≡◌, [], ◌∷◌, refl, ap}}, desk_model.specs.claim.Desk.Plan}
+use Rattle.desk_model.specs.{Examples.{name_a, county_text, sample_text, plan_of, desk_of}, claim.{Printed.printed, Sample.sample, Step.{says, blocks_text}}}
+use Rattle.desk_model.{specs.declared.kind.Kind.TheVariants.Congress, proofs.Maps.insert_again}
 use Rattle.std.specs.FinMap as map_of
-use Rattle.desk_model.specs.{claim.Desk.Plan, claim.Printed.printed, claim.Sample.sample, claim.Step.{says, blocks_text}}
-use Rattle.desk_model.{specs.Examples.{name_a, county_text, sample_text, plan_of, desk_of}, specs.declared.kind.Kind.TheVariants.Congress, proofs.Maps.insert_again}
 use Rattle.desk_model.specs.declared.reply.Reply.TheVariants as reply
 use Rattle.desk_model.proofs.examples.revisions_are_kept.Goals as goal
 

@@ -1,5 +1,4 @@
-use Rattle.std.{specs.FinMap.get-insert, specs.Cmp.Lexicographic.nat_list_cmp_total, proofs.Common.refl}
-use Rattle.desk_model.specs.claim.Desk.{Plan}
+use Rattle.{std.{specs.{Cmp.Lexicographic.nat_list_cmp_total, FinMap.get-insert}, proofs.Common.refl}, desk_model.specs.claim.Desk.Plan}
 use Rattle.desk_model.proofs.examples.room_is_counted.Goals as goal
 
 pub returns : goal.returns

@@ -1,5 +1,4 @@
-use Rattle.std.proofs.Common.{ℕ, ◌+◌, ◌<◌, IsTrue, get_or}
-use Rattle.desk_model.specs.{claim.GeographyModels.is_before, declared.geography.Pair.Pair}
+use Rattle.{std.proofs.Common.{ℕ, ◌+◌, ◌<◌, IsTrue, get_or}, desk_model.specs.{claim.GeographyModels.is_before, declared.geography.Pair.Pair}}
 use Rattle.desk_model.proofs.geography.are_rising.Given as goal
 
 abbrev pub invariant-loop-k : goal.invariant-loop-k

@@ -1,5 +1,4 @@
-use Rattle.std.proofs.Common.{arith, ap}
-use Rattle.desk_model.{specs.declared.block.BlockRow.BlockRow, proofs.Places.{go_down, from_at}}
+use Rattle.{std.proofs.Common.{arith, ap}, desk_model.{specs.declared.block.BlockRow.BlockRow, proofs.Places.{go_down, from_at}}}
 use Rattle.desk_model.proofs.geography.downward.Goals as goal
 
 pub returns-then-number-wanted : goal.returns-then-number-wanted

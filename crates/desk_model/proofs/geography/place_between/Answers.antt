@@ -1,5 +1,4 @@
-use Rattle.std.proofs.Common.{arith, ap}
-use Rattle.desk_model.{specs.declared.block.BlockRow.BlockRow, proofs.Places.{go_up, go_down, not_there}}
+use Rattle.{std.proofs.Common.{arith, ap}, desk_model.{specs.declared.block.BlockRow.BlockRow, proofs.Places.{go_up, go_down, not_there}}}
 use Rattle.desk_model.proofs.geography.place_between.Goals as goal
 
 pub loop-low-preserved-then-number-wanted-2 : goal.loop-low-preserved-then-number-wanted-2

@@ -1,5 +1,4 @@
-use Rattle.std.proofs.Common.{◌-◌}
-use Rattle.desk_model.specs.Geography.{IsBetween}
+use Rattle.{std.proofs.Common.◌-◌, desk_model.specs.Geography.IsBetween}
 use Rattle.desk_model.proofs.geography.place_between.Given as goal
 
 abbrev pub invariant-loop-low : goal.invariant-loop-low

@@ -1,5 +1,4 @@
-use Rattle.std.proofs.Common.{arith, ap}
-use Rattle.desk_model.{specs.declared.block.BlockRow.BlockRow, proofs.Places.{between_all, from_after, go_down}}
+use Rattle.{std.proofs.Common.{arith, ap}, desk_model.{specs.declared.block.BlockRow.BlockRow, proofs.Places.{between_all, from_after, go_down}}}
 use Rattle.desk_model.proofs.geography.place_near.Goals as goal
 
 pub upward-requires-clause-between : goal.upward-requires-clause-between

@@ -1,5 +1,4 @@
-use Rattle.std.proofs.Common.{arith}
-use Rattle.desk_model.proofs.Pairs.{told_next, told_all}
+use Rattle.{std.proofs.Common.arith, desk_model.proofs.Pairs.{told_next, told_all}}
 use Rattle.desk_model.proofs.geography.placed_pairs.Goals as goal
 
 pub placed-last-requires-clause-told : goal.placed-last-requires-clause-told

@@ -1,5 +1,4 @@
-use Rattle.std.proofs.Common.{take}
-use Rattle.desk_model.specs.claim.GeographyModels.{AreTold}
+use Rattle.{std.proofs.Common.take, desk_model.specs.claim.GeographyModels.AreTold}
 use Rattle.desk_model.proofs.geography.placed_pairs.Given as goal
 
 abbrev pub invariant-loop-pair : goal.invariant-loop-pair

@@ -1,7 +1,4 @@
-use Rattle.std.proofs.lemmas.List.Filters.{dedup_is}
-use Rattle.std.proofs.Common.{rules}
-use Rattle.std.proofs.lemmas.List.Kept.{Contains-dedup, Contains-from_dedup}
-use Rattle.std.proofs.lemmas.List.Sorted.{Contains-permutation, IsPermutation-sym}
+use Rattle.std.proofs.{Common.rules, lemmas.List.{Filters.dedup_is, Kept.{Contains-dedup, Contains-from_dedup}, Sorted.{Contains-permutation, IsPermutation-sym}}}
 use Rattle.desk_model.proofs.Pairs.{pair_eq, pair_eq_equiv, pair_eq_is, deduped_rising}
 use Rattle.desk_model.proofs.geography.sort_pairs.Goals as goal
 

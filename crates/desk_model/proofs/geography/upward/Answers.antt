@@ -1,5 +1,4 @@
-use Rattle.std.proofs.Common.{arith, ap}
-use Rattle.desk_model.{specs.declared.block.BlockRow.BlockRow, proofs.Places.{up_to, from_after}}
+use Rattle.{std.proofs.Common.{arith, ap}, desk_model.{specs.declared.block.BlockRow.BlockRow, proofs.Places.{up_to, from_after}}}
 use Rattle.desk_model.proofs.geography.upward.Goals as goal
 
 pub returns-then-number-wanted : goal.returns-then-number-wanted

@@ -1,5 +1,4 @@
-use Rattle.std.proofs.Common.{◌≤◌, ◌-◌, length}
-use Rattle.desk_model.specs.Geography.{IsBetween}
+use Rattle.{std.proofs.Common.{◌≤◌, ◌-◌, length}, desk_model.specs.Geography.IsBetween}
 use Rattle.desk_model.proofs.geography.upward.Given as goal
 
 abbrev pub invariant-loop-at : goal.invariant-loop-at

@@ -1,5 +1,5 @@
-use Rattle.std.proofs.Common.{◌≡◌, ◌<◌, ◌+◌, ◌-◌, [], length, get_or, arith, sym, ◌∙◌, ap, subst, rules}
-use Rattle.desk_model.specs.{claim.Block.county_of, claim.Ranges.counties, claim.Geography.GeographyModel, declared.block.BlockRow.BlockRow}
+use Rattle.{std.proofs.Common.{◌≡◌, ◌<◌, ◌+◌, ◌-◌, [], length, get_or, arith, sym, ◌∙◌, ap, subst, rules}, desk_model.specs.claim.{Block.county_of, Geography.GeographyModel}}
+use Rattle.desk_model.specs.{claim.Ranges.counties, declared.block.BlockRow.BlockRow}
 use Rattle.desk_model.proofs.Runs.{IsCutTo, cut_start, cut_same, cut_more, cut_end, cut_at, county_there, counties_long}
 use Rattle.desk_model.proofs.ranges.ranges.Goals as goal
 use Rattle.desk_model.proofs.ranges.ranges.Goals.{then-county+in_ok-push, else-county}
@@ -21,8 +21,7 @@ loop-place-preserved c =
     let known : length (counties g) ≡ length c.args.blocks.now = counties_long g in
     let long : c.loop-place.place < length (counties g) = omega (arith, known, inside) in
     elim c.if-county.branch [
-      | then-county+in_ok-push w ↦
-          search (rules, cut_more)
+      | then-county+in_ok-push w ↦ search (rules, cut_more)
       | else-county w ↦ search (rules, cut_same)
     ]
 

@@ -1,5 +1,4 @@
-use Rattle.std.proofs.Common.{map}
-use Rattle.desk_model.{specs.claim.Block.county_of, specs.claim.Geography.ids_of, proofs.Runs.IsCutTo}
+use Rattle.{std.proofs.Common.map, desk_model.{specs.claim.{Block.county_of, Geography.ids_of}, proofs.Runs.IsCutTo}}
 use Rattle.desk_model.proofs.ranges.ranges.Given as goal
 
 abbrev pub invariant-loop-place : goal.invariant-loop-place

@@ -1,5 +1,4 @@
-use Rattle.std.proofs.Common.{◌≡◌, ◌<◌, ◌≤◌, true, false, get_or, ℕ}
-use Rattle.desk_pages.specs.claim.Desks.{AreWithin}
+use Rattle.{std.proofs.Common.{◌≡◌, ◌<◌, ◌≤◌, true, false, get_or, ℕ}, desk_pages.specs.claim.Desks.AreWithin}
 use Rattle.desk_opening.proofs.counties.is_above.Given as goal
 
 abbrev pub invariant-loop-district : goal.invariant-loop-district

@@ -1,6 +1,4 @@
-use Rattle.std.proofs.Common.{inl, inr, refl}
-use Rattle.desk_pages.proofs.Looking.{begins, tells}
-use Rattle.desk_opening.proofs.Laying.{known_stays}
+use Rattle.{std.proofs.Common.{inl, inr, refl}, desk_opening.proofs.Laying.known_stays, desk_pages.proofs.Looking.{begins, tells}}
 use Rattle.desk_opening.proofs.counties.lay_changed.Goals as goal
 
 pub returns-then-is_known-clause-reads : goal.returns-then-is_known-clause-reads

@@ -1,11 +1,6 @@
-use Rattle.std.proofs.Common.{◌<◌, length, get_or, take, drop, refl, sym, ◌∙◌, arith}
-use Rattle.desk_model.specs.declared.ranges.CountyRange.{CountyRange}
-use Rattle.desk_pages.proofs.Looking.{begins, both, fails_then, finds}
-use Rattle.desk_opening.proofs.Laying.{all_laid, county_fits, county_more, is_county, laid_one_more, none_laid}
+use Rattle.{std.proofs.Common.{◌<◌, length, get_or, take, drop, refl, sym, ◌∙◌, arith}, desk_opening.specs.Reading.no_cut}
+use Rattle.{desk_opening.proofs.Laying.{all_laid, county_fits, county_more, is_county, laid_one_more, none_laid}, desk_pages.proofs.Looking.{begins, both, fails_then, finds}}
 use Rattle.desk_opening.proofs.counties.lay_counties.Goals as goal
-
-abbrev none : CountyRange
-none = record { first = 0; count = 0 }
 
 pub loop-county-init : goal.loop-county-init
 loop-county-init g c = record {
@@ -17,15 +12,15 @@ loop-county-init g c = record {
 
 pub lay_changed-requires-clause-within : goal.lay_changed-requires-clause-within
 lay_changed-requires-clause-within g c =
-    county_fits c.lists_are_cut.ensures c.args.ranges.now (length c.args.before) c.requires.cut c.loop-county.county none c.loop-county-test.true c.loop-county.districts c.loop-county.invariant.long
+    county_fits c.lists_are_cut.ensures c.args.ranges.now (length c.args.before) c.requires.cut c.loop-county.county no_cut c.loop-county-test.true c.loop-county.districts c.loop-county.invariant.long
 
 pub returns-in_err-districts-clause-reads : goal.returns-in_err-districts-clause-reads
 returns-in_err-districts-clause-reads g c =
     let k = c.loop-county.county in
-    let cut = get_or c.args.ranges.now k none in
+    let cut = get_or c.args.ranges.now k no_cut in
     fails_then c.loop-county.invariant.reads c.from_residual.result c.in_err-districts.ensures.reads c.from_residual.ensures.1 (λ m so is. (
       take cut.count (drop cut.first is.0),
-      is_county c.lists_are_cut.ensures c.args.ranges.now (length c.args.before) c.requires.cut k none c.loop-county-test.true
+      is_county c.lists_are_cut.ensures c.args.ranges.now (length c.args.before) c.requires.cut k no_cut c.loop-county-test.true
           c.args.n c.args.names.now c.args.last.now c.args.before is.0 c.loop-county.districts (get_or c.args.names.now k 0) m refl is.1 c.requires.each refl (so.read is.0 is.1),
     ))
 
@@ -36,7 +31,7 @@ loop-county-preserved g c =
     let last = c.args.last.now in
     let first = c.args.before in
     let k = c.loop-county.county in
-    let cut = get_or ranges k none in
+    let cut = get_or ranges k no_cut in
     let before = c.loop-county.invariant in
     let now = c.in_ok-districts.ensures in
     record {
@@ -46,9 +41,9 @@ loop-county-preserved g c =
         read = λ x said.
             let so = is.0.read x said in
             is.1.read (take cut.count (drop cut.first x))
-            (is_county c.lists_are_cut.ensures ranges (length first) c.requires.cut k none c.loop-county-test.true
+            (is_county c.lists_are_cut.ensures ranges (length first) c.requires.cut k no_cut c.loop-county-test.true
             c.args.n names last first x c.loop-county.districts (get_or names k 0) m refl said c.requires.each refl so)
-            ∙ county_more c.lists_are_cut.ensures ranges (length first) c.requires.cut k none c.loop-county-test.true
+            ∙ county_more c.lists_are_cut.ensures ranges (length first) c.requires.cut k no_cut c.loop-county-test.true
             c.args.n names last first x c.loop-county.districts (get_or names k 0) m refl said c.requires.each refl so;
       });
       long = now.long ∙ before.long;

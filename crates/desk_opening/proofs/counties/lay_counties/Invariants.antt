@@ -1,7 +1,5 @@
-use Rattle.std.proofs.Common.{◌≡◌, Ok, length}
+use Rattle.{std.proofs.Common.{◌≡◌, Ok, length}, desk_opening.{specs.Reading.{AreNamed, Reads}, proofs.Laying.{LaidTo, so_far}}, desk_pages.specs.claim.Desks.AreWithin}
 use Rattle.page_store.specs.claim.Transactions.{count_of, txn_pages}
-use Rattle.desk_pages.specs.claim.Desks.{AreWithin}
-use Rattle.desk_opening.{specs.Reading.{AreNamed, Reads}, proofs.Laying.{LaidTo, so_far}}
 use Rattle.desk_opening.proofs.counties.lay_counties.Given as goal
 
 abbrev pub invariant-loop-county : goal.invariant-loop-county

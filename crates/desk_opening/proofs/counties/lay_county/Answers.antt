@@ -1,6 +1,5 @@
-use Rattle.std.proofs.Common.{◌≡◌, ◌++◌, List, ℕ, ap, sym, subst, ◌∙◌, arith, rules}
-use Rattle.desk_pages.{specs.claim.Desks.AreWithin, proofs.Looking.{fails, not_looked, refuses}}
-use Rattle.desk_opening.proofs.{Laying.with_long, Within.with_at_within}
+use Rattle.{std.proofs.Common.{◌≡◌, ◌++◌, List, ℕ, ap, sym, subst, ◌∙◌, arith, rules}, desk_pages.specs.claim.Desks.AreWithin, desk_opening.proofs.Laying.with_long}
+use Rattle.{desk_opening.proofs.Within.with_at_within, desk_pages.proofs.Looking.{fails, not_looked, refuses}}
 use Rattle.desk_opening.proofs.counties.lay_county.Goals as goal
 
 pub returns-in_err-append_chunk-clause-reads : goal.returns-in_err-append_chunk-clause-reads

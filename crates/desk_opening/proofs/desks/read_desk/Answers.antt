@@ -1,10 +1,6 @@
-use Rattle.std.proofs.Common.{sym, subst, rules}
-use Rattle.sector_device.specs.claim.Disk.{Image}
-use Rattle.page_store.proofs.Stops.{quiet_more, passed_more}
-use Rattle.page_btree.specs.claim.Map.{InTxn as InTree}
-use Rattle.desk_pages.proofs.Outcomes.{err_of}
-use Rattle.store_check.specs.Owners.{HasOwners}
-use Rattle.desk_opening.{specs.Opening.OpenErr, proofs.Owned.{has_owners, parts_owned}, proofs.WholeDesks.{unkept, unopened, unread_unopened, then_unopened, still_reads}}
+use Rattle.{std.proofs.Common.{sym, subst, rules}, desk_opening.specs.Opening.OpenErr, page_btree.specs.claim.Map.InTxn as InTree, sector_device.specs.claim.Disk.Image}
+use Rattle.{store_check.specs.Owners.HasOwners, desk_opening.proofs.{Owned.{has_owners, parts_owned}, WholeDesks.{unkept, unopened, unread_unopened, then_unopened, still_reads}}}
+use Rattle.{desk_pages.proofs.Outcomes.err_of, page_store.proofs.Stops.{quiet_more, passed_more}}
 use Rattle.desk_opening.proofs.desks.read_desk.Goals as goal
 
 pub returns-in_err-check_rows-clause-reading : goal.returns-in_err-check_rows-clause-reading
@@ -14,41 +10,27 @@ pub returns-in_err-catalogue-clause-reading : goal.returns-in_err-catalogue-clau
 returns-in_err-catalogue-clause-reading g c = record {
   quiet = quiet_more c.args.pages.now c.check_rows.new.pages c.read_rows.new.pages c.check_rows.ensures.quiet c.read_rows.ensures.quiet;
   passed = search rules;
-  err = let t = c.args.txn.now in
-      let a = c.args.pages.now in
-      let b = c.check_rows.new.pages in
-      let d = c.read_rows.new.pages in
-      let error = c.in_err-catalogue.field-0.0 in
-      err_of c.from_residual-in_err-catalogue.result error (λ e. OpenErr t a d e) c.from_residual-in_err-catalogue.ensures.1
-      (then_unopened t a b d c.in_ok-check_rows.ensures.passed c.read_rows.ensures.quiet error (unopened t b d error c.in_err-catalogue.ensures.err));
+  err = err_of c.from_residual-in_err-catalogue.result c.in_err-catalogue.field-0.0 (OpenErr c.args.txn.now c.args.pages.now c.read_rows.new.pages) c.from_residual-in_err-catalogue.ensures.1
+      (then_unopened c.args.txn.now c.args.pages.now c.check_rows.new.pages c.read_rows.new.pages c.in_ok-check_rows.ensures.passed c.read_rows.ensures.quiet c.in_err-catalogue.field-0.0
+      (unopened c.args.txn.now c.check_rows.new.pages c.read_rows.new.pages c.in_err-catalogue.field-0.0 c.in_err-catalogue.ensures.err));
 }
 
 pub returns-in_err-check_owners-clause-reading : goal.returns-in_err-check_owners-clause-reading
 returns-in_err-check_owners-clause-reading g c = record {
   quiet = search quiet_more;
   passed = search rules;
-  err = let t = c.args.txn.now in
-      let a = c.args.pages.now in
-      let b = c.check_rows.new.pages in
-      let d = c.read_rows.new.pages in
-      let f = c.check_owners.new.pages in
-      let counts = c.read_rows.new.counts in
-      let first = c.in_ok-check_rows.ensures.passed in
-      let error = c.in_err-check_owners.field-0.0 in
-      err_of c.from_residual-in_err-check_owners.result error (λ e. OpenErr t a f e) c.from_residual-in_err-check_owners.ensures.1
-      (unread_unopened (HasOwners counts) t a d f (passed_more a b d first c.in_ok-catalogue.ensures.passed) c.check_owners.ensures.quiet
+  err = let first = c.in_ok-check_rows.ensures.passed in
+      err_of c.from_residual-in_err-check_owners.result c.in_err-check_owners.field-0.0 (OpenErr c.args.txn.now c.args.pages.now c.check_owners.new.pages) c.from_residual-in_err-check_owners.ensures.1
+      (unread_unopened (HasOwners c.read_rows.new.counts) c.args.txn.now c.args.pages.now c.read_rows.new.pages c.check_owners.new.pages
+      (passed_more c.args.pages.now c.check_rows.new.pages c.read_rows.new.pages first c.in_ok-catalogue.ensures.passed) c.check_owners.ensures.quiet
       (λ honest m x holds is.
-      let there = subst (λ (P : Image). InTree t P m) (sym (first.quiet.same (c.read_rows.ensures.quiet.honest honest))) holds in
-      has_owners m counts (c.in_ok-catalogue.ensures.there honest m there).there.1 x.1 is)
-      error c.in_err-check_owners.ensures.err);
+      let there = subst (λ (P : Image). InTree c.args.txn.now P m) (sym (first.quiet.same (c.read_rows.ensures.quiet.honest honest))) holds in
+      has_owners m c.read_rows.new.counts (c.in_ok-catalogue.ensures.there honest m there).there.1 x.1 is)
+      c.in_err-check_owners.field-0.0 c.in_err-check_owners.ensures.err);
 }
 
 pub returns-clause-reading : goal.returns-clause-reading
-returns-clause-reading g c = record {
-  quiet = search quiet_more;
-  passed = search (rules, passed_more);
-  err = search rules;
-}
+returns-clause-reading g c = record { quiet = search quiet_more; passed = search (rules, passed_more); err = search rules }
 
 pub returns-clause-read : goal.returns-clause-read
 returns-clause-read g c = λ honest new d held.

@@ -1,10 +1,7 @@
-use Rattle.std.proofs.Common.{◌≡◌, Option, Some, sym, ap, subst, ◌∙◌}
-use Rattle.page_store.proofs.Stops.{quiet_more}
-use Rattle.desk_model.specs.{claim.Geography.GeographyModel, Ranges.ranges_of, claim.Desk.Desk}
-use Rattle.geo_tables.specs.Elements.{IsGeographyRead}
-use Rattle.desk_pages.{specs.Desks.new_desk, proofs.Looking.{both, fails, fails_then, finds, gathered, looks, not_looked}}
-use Rattle.desk_opening.{specs.Opening.{ArePlansShown, IsShown}, proofs.WholeDesks.{is_new, are_plans, has_nothing, with_also}, proofs.PlanNumbers.none_counted}
-use Rattle.desk_opening.proofs.Shown.{nothing_shown}
+use Rattle.{std.proofs.Common.{◌≡◌, Option, Some, sym, ap, subst, ◌∙◌}, desk_model.specs.{Ranges.ranges_of, claim.{Desk.Desk, Geography.GeographyModel}}}
+use Rattle.{desk_opening.{specs.Opening.{ArePlansShown, IsShown}, proofs.PlanNumbers.none_counted}, desk_pages.specs.Desks.new_desk, geo_tables.specs.Elements.IsGeographyRead}
+use Rattle.{desk_opening.proofs.{Shown.nothing_shown, WholeDesks.{is_new, are_plans, has_nothing, with_also}}, page_store.proofs.Stops.quiet_more}
+use Rattle.desk_pages.proofs.Looking.{both, fails, fails_then, finds, gathered, looks, not_looked}
 use Rattle.desk_opening.proofs.desks.read_rows.Goals as goal
 
 pub returns-in_err-the_geography : goal.returns-in_err-the_geography

@@ -1,7 +1,6 @@
-use Rattle.std.proofs.Common.{◌<◌, ◌≤◌, ◌+◌, List, ℕ, [], length, get_or, sym, ap, subst, ◌∙◌, take_all, arith, rules}
-use Rattle.desk_model.specs.{Ranges.ranges_of, claim.Desk.Plan}
-use Rattle.desk_pages.{specs.claim.Desks.AreWithin, proofs.Looking.{both, fails_then, finds}}
-use Rattle.desk_opening.{specs.Reading.{IsAfter, IsPlanRow}, proofs.Readings.one_more_read, proofs.Revisions.{of_blocks, one_revision_more, within_at}}
+use Rattle.{std.proofs.Common.{◌<◌, ◌≤◌, ◌+◌, List, ℕ, [], length, get_or, sym, ap, subst, ◌∙◌, take_all, arith, rules}, desk_model.specs.{Ranges.ranges_of, claim.Desk.Plan}}
+use Rattle.{desk_opening.{specs.Reading.{IsAfter, IsPlanRow}, proofs.Readings.one_more_read}, desk_pages.{specs.claim.Desks.AreWithin, proofs.Looking.{both, fails_then, finds}}}
+use Rattle.desk_opening.proofs.Revisions.{of_blocks, one_revision_more, within_at}
 use Rattle.desk_opening.proofs.entries.read_entry.Goals as goal
 
 pub returns-in_err-entry-clause-reads : goal.returns-in_err-entry-clause-reads

@@ -1,7 +1,5 @@
-use Rattle.std.proofs.Common.{◌≡◌, Ok, length}
-use Rattle.page_store.specs.claim.Transactions.{count_of, txn_pages}
-use Rattle.desk_pages.specs.Looking.{Gathers, Says}
-use Rattle.desk_opening.{specs.Reading.{AreAllWithin, IsPlanRow, IsWhole}, proofs.Readings.IsEntryRead}
+use Rattle.{std.proofs.Common.{◌≡◌, Ok, length}, desk_opening.specs.Reading.{AreAllWithin, IsPlanRow, IsWhole}, desk_pages.specs.Looking.{Gathers, Says}}
+use Rattle.{page_store.specs.claim.Transactions.{count_of, txn_pages}, desk_opening.proofs.Readings.IsEntryRead}
 use Rattle.desk_opening.proofs.entries.read_entry.Given as goal
 
 abbrev pub invariant-loop-before : goal.invariant-loop-before

@@ -1,7 +1,5 @@
-use Rattle.std.proofs.Common.{Ok, length, arith, rules}
-use Rattle.page_store.proofs.Stops.{quiet_none}
-use Rattle.desk_pages.{specs.Looking.Gathers, proofs.Looking.{both, fails, fails_then, finds, not_looked, refuses}}
-use Rattle.desk_opening.proofs.Revisions.{AreNamesRead, names_of, are_named, next_read}
+use Rattle.{std.proofs.Common.{arith, rules}, desk_opening.proofs.Revisions.{names_of, are_named, next_read}, page_store.proofs.Stops.quiet_none}
+use Rattle.desk_pages.proofs.Looking.{both, fails, fails_then, finds, not_looked, refuses}
 use Rattle.desk_opening.proofs.entries.read_next.Goals as goal
 
 pub returns-in_default-clause-reads : goal.returns-in_default-clause-reads
@@ -12,8 +10,7 @@ returns-in_err-append_names-clause-reads g c = fails c.from_residual.result c.in
     (λ m is. (is.1.is.has.numbers, names_of c.args.geography.now c.counties-ranges.result.now c.args.plan c.args.revision m is.0 c.counties-ranges.ensures is.1.is))
 
 pub returns-then-len-ranges-clause-reads : goal.returns-then-len-ranges-clause-reads
-returns-then-len-ranges-clause-reads g c = refuses c.in_ok-append_names.ensures (λ m appends is.
-    c.if-len-ranges.true (search rules))
+returns-then-len-ranges-clause-reads g c = refuses c.in_ok-append_names.ensures (λ m appends is. c.if-len-ranges.true (search rules))
 
 pub lay_counties-requires-clause-cut : goal.lay_counties-requires-clause-cut
 lay_counties-requires-clause-cut g c = record { the_geography = c.args.geography.now; are = c.counties-ranges.ensures; blocks = c.requires.whole }
@@ -23,10 +20,7 @@ lay_counties-requires-clause-each g c = let long = c.as_slice.ensures.len in let
 
 pub returns-in_err-next-clause-reads : goal.returns-in_err-next-clause-reads
 returns-in_err-next-clause-reads g c =
-    let names : Gathers (λ m u. AreNamesRead c.args.plan c.args.revision (length c.counties-ranges.result.now) c.in-Ok.names.items c.append_names.new.into.items m) (λ m. Unit {0})
-    c.args.txn.now c.args.pages.now c.append_names.new.pages (Ok (tt {0})) =
-    finds c.in_ok-append_names.ensures (λ m is. record { there = is.1; read = is.0 }) in
-    fails_then names c.from_residual-in_err-next.result c.in_err-next.ensures.reads c.from_residual-in_err-next.ensures.1 (λ m read is. (
+    fails_then c.in_ok-append_names.ensures c.from_residual-in_err-next.result c.in_err-next.ensures.reads c.from_residual-in_err-next.ensures.1 (λ m read is. (
       is.0,
       are_named c.args.geography.now c.counties-ranges.result.now c.args.plan c.args.revision c.args.last.now.items c.args.before c.in-Ok.names.items c.append_names.new.into.items m c.counties-ranges.ensures c.in-Ok.ensures.items read
           c.args.n c.requires.whole c.as_slice.result.now c.as_slice-2.result.now c.as_slice.ensures.value c.as_slice-2.ensures.value is.0 is.1,
@@ -34,10 +28,7 @@ returns-in_err-next-clause-reads g c =
 
 pub returns-clause-reads : goal.returns-clause-reads
 returns-clause-reads g c =
-    let names : Gathers (λ m u. AreNamesRead c.args.plan c.args.revision (length c.counties-ranges.result.now) c.in-Ok.names.items c.append_names.new.into.items m) (λ m. Unit {0})
-    c.args.txn.now c.args.pages.now c.append_names.new.pages (Ok (tt {0})) =
-    finds c.in_ok-append_names.ensures (λ m is. record { there = is.1; read = is.0 }) in
-    finds (both names c.in_ok-next.ensures.reads) (λ m is.
+    finds (both c.in_ok-append_names.ensures c.in_ok-next.ensures.reads) (λ m is.
     next_read c.args.geography.now c.counties-ranges.result.now c.args.plan c.args.revision c.args.last.now.items c.args.before c.in-Ok.names.items c.append_names.new.into.items m c.counties-ranges.ensures c.in-Ok.ensures.items is.0
     c.args.n c.requires.whole c.as_slice.result.now c.as_slice-2.result.now c.as_slice.ensures.value c.as_slice-2.ensures.value c.in_ok-next.next is.1)
 

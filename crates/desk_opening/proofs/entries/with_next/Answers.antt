@@ -1,10 +1,7 @@
-use Rattle.std.proofs.Common.{◌≡◌, List, ℕ, length, sym, ap, subst, ◌∙◌, rules}
-use Rattle.std.proofs.lemmas.List.Elements.{All-push}
+use Rattle.{std.proofs.{Common.{◌≡◌, List, ℕ, length, sym, ap, subst, ◌∙◌, rules}, lemmas.List.Elements.All-push}, desk_model.specs.claim.Desk.Plan}
+use Rattle.{desk_opening.specs.Reading.{BecomesKnown, BecomesLast, IsNext, IsWhole}, desk_pages.specs.claim.Desks.AreWithin, store_rows.specs.Changes.with_revision}
+use Rattle.{desk_opening.proofs.{Revisions.{next_of, becomes_last}, Within.one_more_within}, desk_pages.proofs.Looking.{fails, finds, lacks_memory, not_looked}}
 use Rattle.page_store.proofs.Stops.{quiet_none}
-use Rattle.desk_model.specs.claim.Desk.{Plan}
-use Rattle.store_rows.specs.Changes.{with_revision}
-use Rattle.desk_pages.{specs.claim.Desks.AreWithin, proofs.Looking.{fails, finds, lacks_memory, not_looked}}
-use Rattle.desk_opening.{specs.Reading.{BecomesKnown, BecomesLast, IsNext, IsWhole}, proofs.Within.one_more_within, proofs.Revisions.{next_of, becomes_last}}
 use Rattle.desk_opening.proofs.entries.with_next.Goals as goal
 
 pub returns-in_err-before-clause-reads : goal.returns-in_err-before-clause-reads

@@ -1,5 +1,4 @@
-use Rattle.desk_pages.proofs.Looking.{looks}
-use Rattle.desk_opening.proofs.Seals.{seal_kept}
+use Rattle.{desk_opening.proofs.Seals.seal_kept, desk_pages.proofs.Looking.looks}
 use Rattle.desk_opening.proofs.marks.check_rows.Goals as goal
 
 pub returns : goal.returns

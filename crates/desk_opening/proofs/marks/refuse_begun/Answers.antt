@@ -1,6 +1,4 @@
-use Rattle.std.{specs.FinMap.get as row_at, proofs.Common.{sym, ap, ◌∙◌, rules}}
-use Rattle.store_rows.specs.claim.Keys.{seal}
-use Rattle.desk_pages.proofs.Looking.{fails, looks}
+use Rattle.{std.{specs.FinMap.get as row_at, proofs.Common.{sym, ap, ◌∙◌, rules}}, store_rows.specs.claim.Keys.seal, desk_pages.proofs.Looking.{fails, looks}}
 use Rattle.desk_opening.proofs.marks.refuse_begun.Goals as goal
 
 pub returns-in_err-found : goal.returns-in_err-found

@@ -1,6 +1,4 @@
-use Rattle.std.proofs.Common.{sym, ◌∙◌, rules}
-use Rattle.page_store.proofs.Stops.{quiet_none}
-use Rattle.desk_pages.proofs.Looking.{not_looked, tells}
+use Rattle.{std.proofs.Common.{sym, ◌∙◌, rules}, desk_pages.proofs.Looking.{not_looked, tells}, page_store.proofs.Stops.quiet_none}
 use Rattle.desk_opening.proofs.marks.refuse_gone.Goals as goal
 
 pub returns-in_default : goal.returns-in_default

@@ -1,5 +1,4 @@
-use Rattle.std.{specs.Prelude.None, specs.FinMap.get as row_at, proofs.Common.◌≡◌}
-use Rattle.desk_pages.proofs.{Looking.not_looked, Reading.get_unread}
+use Rattle.{std.{specs.{FinMap.get as row_at, Prelude.None}, proofs.Common.◌≡◌}, desk_pages.proofs.{Looking.not_looked, Reading.get_unread}}
 use Rattle.desk_opening.proofs.marks.refuse_row.Goals as goal
 
 pub returns-in-Err : goal.returns-in-Err

@@ -1,5 +1,4 @@
-use Rattle.std.{specs.FinMap.get, proofs.Common.{None, sym, ap, ◌∙◌}}
-use Rattle.desk_pages.proofs.Looking.{fails}
+use Rattle.{std.{specs.FinMap.get, proofs.Common.{None, sym, ap, ◌∙◌}}, desk_pages.proofs.Looking.fails}
 use Rattle.desk_opening.proofs.none.refuse_seal.Goals as goal
 
 pub returns-in_err-found : goal.returns-in_err-found

@@ -1,8 +1,5 @@
-use Rattle.std.{specs.FinMap.insert, proofs.Common.{◌≡◌, List, ℕ, sym, ap, ◌∙◌}}
-use Rattle.page_store.proofs.Stops.{quiet_none}
-use Rattle.store_rows.specs.{claim.Keys.{key_of, named}, claim.Values.plan_bytes}
-use Rattle.desk_pages.proofs.Looking.{not_looked, tells}
-use Rattle.desk_opening.proofs.NewPlans.{is_plan_row, same_name, value_told}
+use Rattle.{std.{specs.FinMap.insert, proofs.Common.{◌≡◌, List, ℕ, sym, ap, ◌∙◌}}, store_rows.specs.claim.{Keys.{key_of, named}, Values.plan_bytes}}
+use Rattle.{desk_opening.proofs.NewPlans.{is_plan_row, same_name, value_told}, desk_pages.proofs.Looking.{not_looked, tells}, page_store.proofs.Stops.quiet_none}
 use Rattle.desk_opening.proofs.rows.add_named.Goals as goal
 
 pub returns-in_default-read_plan-clause-reads : goal.returns-in_default-read_plan-clause-reads

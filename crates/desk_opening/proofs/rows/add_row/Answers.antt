@@ -1,6 +1,4 @@
-use Rattle.std.proofs.Common.{rules}
-use Rattle.desk_pages.proofs.Looking.{fails, gathered, looks}
-use Rattle.desk_opening.proofs.{PlanNumbers.unnoted, NewPlans.is_kept_plan}
+use Rattle.{std.proofs.Common.rules, desk_opening.proofs.{NewPlans.is_kept_plan, PlanNumbers.unnoted}, desk_pages.proofs.Looking.{fails, gathered, looks}}
 use Rattle.desk_opening.proofs.rows.add_row.Goals as goal
 
 pub returns-in_err-note_number-clause-reads : goal.returns-in_err-note_number-clause-reads

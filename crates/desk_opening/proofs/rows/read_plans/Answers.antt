@@ -1,13 +1,9 @@
-use Rattle.std.{specs.Prelude.Some, specs.FinMap.entries, proofs.Common.{◌++◌, ℕ, List, [], ◌∷◌, Ok, sym, subst, ◌∙◌, arith, rules}}
-use Rattle.page_store.proofs.Stops.{passed_more}
-use Rattle.btree_walks.specs.{Prefixes.under, Scanning.Rest}
-use Rattle.btree_walks.proofs.Walked.{HasNext, walk_all, walk_begins, walk_ends, walk_next, walk_on, walk_passed, walk_quiet, walk_refused}
-use Rattle.desk_model.specs.Ranges.{ranges_of}
-use Rattle.desk_catalogue.specs.Kept.{AreWhole}
-use Rattle.store_rows.specs.{claim.Keys.plans_prefix, claim.Rows.KeyMap}
-use Rattle.desk_pages.{specs.Looking.{Gathers, Says}, proofs.Looking.{fails_then, looked, may_lack, not_looked}, proofs.Reading.{get_unread, less_sought}}
-use Rattle.desk_opening.{specs.Opening.ArePlans, proofs.PlanNumbers.{AreNoted, all_apart, are_counts, noted_more, unused}, proofs.Parts.{Plans, AreRead, none_read, all_read}}
-use Rattle.desk_opening.proofs.{Shown.{AreShown, none_shown, more_shown, all_shown}, Turns.new_plan, Wholes.none_whole}
+use Rattle.{std.{specs.{FinMap.entries, Prelude.Some}, proofs.Common.{◌++◌, ℕ, List, [], ◌∷◌, Ok, sym, subst, ◌∙◌, arith, rules}}, btree_walks.specs.Prefixes.under}
+use Rattle.{btree_walks.specs.Scanning.Rest, desk_catalogue.specs.Kept.AreWhole, desk_model.specs.Ranges.ranges_of, desk_opening.{specs.Opening.ArePlans, proofs.Turns.new_plan}}
+use Rattle.{desk_pages.specs.Looking.{Gathers, Says}, store_rows.specs.claim.{Keys.plans_prefix, Rows.KeyMap}, desk_opening.proofs.Parts.{Plans, AreRead, none_read, all_read}}
+use Rattle.{btree_walks.proofs.Walked.{HasNext, walk_all, walk_begins, walk_ends, walk_next, walk_on, walk_passed, walk_quiet, walk_refused}, desk_opening.proofs.Wholes.none_whole}
+use Rattle.desk_opening.proofs.{PlanNumbers.{AreNoted, all_apart, are_counts, noted_more, unused}, Shown.{AreShown, none_shown, more_shown, all_shown}}
+use Rattle.{desk_pages.proofs.{Looking.{fails_then, looked, may_lack, not_looked}, Reading.{get_unread, less_sought}}, page_store.proofs.Stops.passed_more}
 use Rattle.desk_opening.proofs.rows.read_plans.Goals as goal
 
 abbrev IsAny : KeyMap → Type 0
@@ -40,12 +36,9 @@ returns-in-Some-clause-reads g c =
 
 pub returns-in_err-plans-clause-reads : goal.returns-in_err-plans-clause-reads
 returns-in_err-plans-clause-reads g c =
-    let t = c.args.txn.now in
-    let a = c.args.pages.now in
-    let b = c.next.new.pages in
     let the_geography = c.args.geography.now in
     let row = c.next.new.row in
-    let taken : Gathers (λ m u. HasNext plans_prefix (λ m rows. ((all : Plans) → ArePlans the_geography m all → AreRead rows c.loop-taken.plans all) × AreShown m (ranges_of the_geography) rows c.loop-taken.plans × AreNoted rows c.loop-taken.counts) m row) IsAny t a b (Ok (tt {0})) =
+    let taken : Gathers (λ m u. HasNext plans_prefix (λ m rows. ((all : Plans) → ArePlans the_geography m all → AreRead rows c.loop-taken.plans all) × AreShown m (ranges_of the_geography) rows c.loop-taken.plans × AreNoted rows c.loop-taken.counts) m row) IsAny c.args.txn.now c.args.pages.now c.next.new.pages (Ok (tt {0})) =
     looked (walk_passed c.loop-taken.invariant.walked c.next.ensures.quiet c.next.new.self c.next.new.row c.next.result c.next.ensures.rows c.if-not-next.false c.next.ensures.going c.next.ensures.passed)
     (λ honest m holds. walk_next c.loop-taken.invariant.walked c.next.ensures.quiet c.next.new.self c.next.new.row c.next.result c.next.ensures.rows c.if-not-next.false honest m holds) in
     fails_then taken c.from_residual.result c.in_err-plans.ensures.reads c.from_residual.ensures.1 (λ m h is.

@@ -1,10 +1,6 @@
-use Rattle.std.proofs.Common.{◌≡◌, Some}
-use Rattle.page_store.specs.claim.Transactions.{count_of, txn_pages}
-use Rattle.btree_walks.proofs.Walked.{HasWalked}
-use Rattle.desk_model.specs.Ranges.{ranges_of}
-use Rattle.desk_catalogue.specs.Kept.{AreWhole}
-use Rattle.store_rows.specs.claim.Keys.{plans_prefix}
-use Rattle.desk_opening.{specs.Opening.ArePlans, proofs.Parts.{Plans, AreRead}, proofs.Shown.AreShown, proofs.PlanNumbers.AreNoted}
+use Rattle.{std.proofs.Common.{◌≡◌, Some}, desk_catalogue.specs.Kept.AreWhole, desk_model.specs.Ranges.ranges_of, desk_opening.{specs.Opening.ArePlans, proofs.Shown.AreShown}}
+use Rattle.{page_store.specs.claim.Transactions.{count_of, txn_pages}, store_rows.specs.claim.Keys.plans_prefix, btree_walks.proofs.Walked.HasWalked}
+use Rattle.desk_opening.proofs.{Parts.{Plans, AreRead}, PlanNumbers.AreNoted}
 use Rattle.desk_opening.proofs.rows.read_plans.Given as goal
 
 abbrev pub invariant-loop-taken : goal.invariant-loop-taken

@@ -1,5 +1,4 @@
-use Rattle.desk_pages.proofs.{Looking.not_looked, Reading.get_unread}
-use Rattle.desk_opening.specs.Opening.{HasVersion}
+use Rattle.{desk_opening.specs.Opening.HasVersion, desk_pages.proofs.{Looking.not_looked, Reading.get_unread}}
 use Rattle.desk_opening.proofs.versions.is_new.Goals as goal
 
 pub returns-in-Err : goal.returns-in-Err

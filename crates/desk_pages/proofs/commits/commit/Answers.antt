@@ -1,5 +1,4 @@
-use Rattle.std.proofs.Common.{rules}
-use Rattle.page_store.specs.claim.Transactions.{stored, disk_in, count_of, journal_of}
+use Rattle.{std.proofs.Common.rules, page_store.specs.claim.Transactions.{stored, disk_in, count_of, journal_of}}
 use Rattle.desk_pages.proofs.Committed.{stops_between, pages_sound, held_then}
 use Rattle.desk_pages.proofs.commits.commit.Goals as goal
 

@@ -1,6 +1,5 @@
-use Rattle.std.{specs.Prelude.◌⊎◌, proofs.Common.{inl, rules}}
-use Rattle.page_store.{specs.claim.Transactions.{stored, disk_in}, proofs.Stops.leaves_here}
-use Rattle.desk_pages.{specs.claim.Desks.{OpensDesk, OpensAs}, proofs.Committed.commit_refused, proofs.Kept.opens_now, proofs.Openings.leaves_desk, proofs.Outcomes.err_of}
+use Rattle.{std.{specs.Prelude.◌⊎◌, proofs.Common.{inl, rules}}, desk_pages.specs.claim.Desks.{OpensDesk, OpensAs}, page_store.specs.claim.Transactions.{stored, disk_in}}
+use Rattle.{desk_pages.proofs.{Committed.commit_refused, Kept.opens_now, Openings.leaves_desk, Outcomes.err_of}, page_store.proofs.Stops.leaves_here}
 use Rattle.desk_pages.proofs.commits.commit_fitting.Goals as goal
 
 pub returns-in_err-prepared : goal.returns-in_err-prepared

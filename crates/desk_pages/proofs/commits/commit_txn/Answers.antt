@@ -1,6 +1,5 @@
-use Rattle.std.{specs.Prelude.◌⊎◌, proofs.Common.{inl, rules}}
-use Rattle.page_store.{specs.claim.Transactions.{stored, disk_in}, proofs.Stops.leaves_here}
-use Rattle.desk_pages.{specs.claim.Desks.{OpensDesk, OpensAs}, proofs.Openings.leaves_desk, proofs.Kept.{opens_now, rows_after}}
+use Rattle.{std.{specs.Prelude.◌⊎◌, proofs.Common.{inl, rules}}, desk_pages.specs.claim.Desks.{OpensDesk, OpensAs}, page_store.specs.claim.Transactions.{stored, disk_in}}
+use Rattle.{desk_pages.proofs.{Kept.{opens_now, rows_after}, Openings.leaves_desk}, page_store.proofs.Stops.leaves_here}
 use Rattle.desk_pages.proofs.commits.commit_txn.Goals as goal
 
 pub returns-in_err-prepared : goal.returns-in_err-prepared

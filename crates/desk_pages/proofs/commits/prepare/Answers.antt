@@ -1,5 +1,4 @@
-use Rattle.std.proofs.Common.{rules}
-use Rattle.desk_pages.proofs.Committed.{holds_after, free_after}
+use Rattle.{std.proofs.Common.rules, desk_pages.proofs.Committed.{holds_after, free_after}}
 use Rattle.desk_pages.proofs.commits.prepare.Goals as goal
 
 pub returns : goal.returns

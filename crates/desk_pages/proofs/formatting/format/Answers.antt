@@ -1,5 +1,4 @@
-use Rattle.std.proofs.Common.{rules}
-use Rattle.desk_pages.proofs.{Formatted.{format_refused, new_opens, new_journal}, Outcomes.err_of}
+use Rattle.{std.proofs.Common.rules, desk_pages.proofs.{Formatted.{format_refused, new_opens, new_journal}, Outcomes.err_of}}
 use Rattle.desk_pages.proofs.formatting.format.Goals as goal
 
 pub returns-in_err-format_with-clause-formats : goal.returns-in_err-format_with-clause-formats

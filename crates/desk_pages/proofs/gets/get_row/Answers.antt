@@ -1,6 +1,5 @@
-use Rattle.std.{specs.Prelude.option_map, specs.FinMap.get as row_at, proofs.Common.{ℕ, Option, take, ap, ◌∙◌}}
-use Rattle.store_rows.specs.claim.Rows.{KeyMap}
-use Rattle.desk_pages.{specs.Reading.StandsAs, proofs.Looking.{fails_from, reads_as}, proofs.Reading.get_unread}
+use Rattle.{std.{specs.{FinMap.get as row_at, Prelude.option_map}, proofs.Common.{ℕ, Option, take, ap, ◌∙◌}}, desk_pages.specs.Reading.StandsAs, store_rows.specs.claim.Rows.KeyMap}
+use Rattle.desk_pages.proofs.{Looking.{fails_from, reads_as}, Reading.get_unread}
 use Rattle.desk_pages.proofs.gets.get_row.Goals as goal
 
 pub returns-in_err-found : goal.returns-in_err-found

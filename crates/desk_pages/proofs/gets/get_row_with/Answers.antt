@@ -1,6 +1,5 @@
-use Rattle.std.{specs.Prelude.option_map, specs.FinMap.get as row_at, proofs.Common.{ℕ, Option, take, ap, ◌∙◌, rules}}
-use Rattle.store_rows.specs.claim.Rows.{KeyMap}
-use Rattle.desk_pages.{specs.Reading.{ReadErrWith, StandsAs}, proofs.Reading.{get_unread_with, value_read, value_unread_with}, proofs.Outcomes.err_of}
+use Rattle.{std.{specs.{FinMap.get as row_at, Prelude.option_map}, proofs.Common.{ℕ, Option, take, ap, ◌∙◌, rules}}, desk_pages.specs.Reading.{ReadErrWith, StandsAs}}
+use Rattle.{store_rows.specs.claim.Rows.KeyMap, desk_pages.proofs.{Outcomes.err_of, Reading.{get_unread_with, value_read, value_unread_with}}}
 use Rattle.desk_pages.proofs.gets.get_row_with.Goals as goal
 
 pub returns-in_err-found-clause-reading : goal.returns-in_err-found-clause-reading

@@ -1,6 +1,5 @@
-use Rattle.std.proofs.Common.{Option, subst, sym}
-use Rattle.store_rows.specs.{declared.value.Counters.Counters, claim.Values.counters_bytes}
-use Rattle.desk_pages.{specs.Reading.StandsAs, proofs.Reading.next_stands, proofs.Looking.fails}
+use Rattle.{std.proofs.Common.{Option, subst, sym}, desk_pages.specs.Reading.StandsAs, store_rows.specs.{claim.Values.counters_bytes, declared.value.Counters.Counters}}
+use Rattle.desk_pages.proofs.{Looking.fails, Reading.next_stands}
 use Rattle.desk_pages.proofs.gets.next_numbers.Goals as goal
 
 pub returns-in_err-found-clause-looks : goal.returns-in_err-found-clause-looks

@@ -1,6 +1,5 @@
-use Rattle.std.proofs.Common.{ℕ, List, [], ◌∷◌, sym, subst, ◌∙◌, rules}
-use Rattle.page_store.specs.claim.Transactions.{stored}
-use Rattle.desk_pages.{specs.claim.Puts.HasPut, proofs.Rising.{none_stands, plain_err}, proofs.RowsPut.{one_put, one_not_put}}
+use Rattle.{std.proofs.Common.{ℕ, List, [], ◌∷◌, sym, subst, ◌∙◌, rules}, desk_pages.specs.claim.Puts.HasPut, page_store.specs.claim.Transactions.stored}
+use Rattle.desk_pages.proofs.{Rising.{none_stands, plain_err}, RowsPut.{one_put, one_not_put}}
 use Rattle.desk_pages.proofs.puts.put_row.Goals as goal
 
 pub returns-in-Ok-clause-puts : goal.returns-in-Ok-clause-puts

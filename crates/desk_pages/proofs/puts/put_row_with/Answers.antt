@@ -1,7 +1,5 @@
-use Rattle.std.proofs.Common.{ℕ, List, [], ◌∷◌, subst, sym}
-use Rattle.page_store.specs.claim.Transactions.{stored}
-use Rattle.btree_puts.specs.Fingers.{Stand, StandsIn, IsPutBy}
-use Rattle.desk_pages.{specs.Rising.{HasPutWith, PutsErrWith}, proofs.Rising.{one_put_with, one_not_put_with}}
+use Rattle.{std.proofs.Common.{ℕ, List, [], ◌∷◌, subst, sym}, btree_puts.specs.Fingers.{Stand, StandsIn, IsPutBy}, desk_pages.specs.Rising.{HasPutWith, PutsErrWith}}
+use Rattle.{page_store.specs.claim.Transactions.stored, desk_pages.proofs.Rising.{one_put_with, one_not_put_with}}
 use Rattle.desk_pages.proofs.puts.put_row_with.Goals as goal
 
 pub returns-in-Ok-clause-put : goal.returns-in-Ok-clause-put

@@ -1,4 +1,4 @@
-use Rattle.desk_pages.{specs.Reading.HasRow, proofs.Looking.not_looked, proofs.Reading.get_unread}
+use Rattle.desk_pages.{specs.Reading.HasRow, proofs.{Looking.not_looked, Reading.get_unread}}
 use Rattle.desk_pages.proofs.reads.read_row.Goals as goal
 
 pub returns-in-Err-clause-looks : goal.returns-in-Err-clause-looks

@@ -1,5 +1,4 @@
-use Rattle.std.proofs.Common.{[], subst, ap, sym, refl}
-use Rattle.desk_plans.{specs.Rows.IsRemoved, specs.Tree.rows_of, proofs.Splits.made_alone}
+use Rattle.{std.proofs.Common.{[], subst, ap, sym, refl}, desk_plans.{specs.{Rows.IsRemoved, Tree.rows_of}, proofs.Splits.made_alone}}
 use Rattle.desk_plans.proofs.plans.without.Goals as goal
 
 pub returns-in-None : goal.returns-in-None

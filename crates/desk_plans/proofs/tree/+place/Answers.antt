@@ -1,5 +1,5 @@
-use Rattle.std.proofs.Common.{◌∷◌, ◌++◌, refl, subst, ap, sym, ◌∙◌, []}
-use Rattle.desk_plans.{specs.Rows.IsPut, specs.Tree.rows_of, proofs.Splits.{made_left, made_right, made_here, made_alone}}
+use Rattle.{std.proofs.Common.{◌∷◌, ◌++◌, refl, subst, ap, sym, ◌∙◌, []}, desk_plans.specs.{Rows.IsPut, Tree.rows_of}}
+use Rattle.desk_plans.proofs.Splits.{made_left, made_right, made_here, made_alone}
 use Rattle.desk_plans.proofs.tree.+place.Goals as goal
 
 pub returns-in_ok-place-in-Some-left-clause-put : goal.returns-in_ok-place-in-Some-left-clause-put

@@ -1,5 +1,4 @@
-use Rattle.std.proofs.Common.{◌≡◌, true, false, rules}
-use Rattle.desk_runs.proofs.Stepping.{check_tends, checked_may, refused_may}
+use Rattle.{std.proofs.Common.{◌≡◌, true, false, rules}, desk_runs.proofs.Stepping.{check_tends, checked_may, refused_may}}
 use Rattle.desk_runs.proofs.tending.check.Goals as goal
 
 pub returns-in-Ok-clause-tends : goal.returns-in-Ok-clause-tends

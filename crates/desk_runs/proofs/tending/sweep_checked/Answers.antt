@@ -1,5 +1,4 @@
-use Rattle.desk_runs.proofs.Stepping.{step_tends, swept_may, refused_may}
-use Rattle.std.proofs.Common.{true, rules}
+use Rattle.{std.proofs.Common.{true, rules}, desk_runs.proofs.Stepping.{step_tends, swept_may, refused_may}}
 use Rattle.desk_runs.proofs.tending.sweep_checked.Goals as goal
 
 pub returns-in-Ok-clause-tends : goal.returns-in-Ok-clause-tends

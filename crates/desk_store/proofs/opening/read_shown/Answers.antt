@@ -1,8 +1,6 @@
-use Rattle.std.proofs.Common.{sym, subst, ◌∙◌, rules}
-use Rattle.page_store.{specs.claim.Transactions.IsQuiet, proofs.Stops.{quiet_more, passed_more}}
-use Rattle.desk_opening.proofs.WholeDesks.{still_reads, then_unopened}
-use Rattle.desk_pages.{specs.declared.error.StoreError.StoreError, proofs.Refusals.calm_told}
-use Rattle.desk_store.{specs.Finding.FindErr, proofs.Prepared.{IsBegun, begun_reads}, proofs.Opened.{none_read, rows_begun, version_unread}}
+use Rattle.{std.proofs.Common.{sym, subst, ◌∙◌, rules}, desk_pages.{specs.declared.error.StoreError.StoreError, proofs.Refusals.calm_told}, desk_store.specs.Finding.FindErr}
+use Rattle.{page_store.specs.claim.Transactions.IsQuiet, desk_opening.proofs.WholeDesks.{still_reads, then_unopened}, desk_store.proofs.Prepared.{IsBegun, begun_reads}}
+use Rattle.{desk_store.proofs.Opened.{none_read, rows_begun, version_unread}, page_store.proofs.Stops.{quiet_more, passed_more}}
 use Rattle.desk_store.proofs.opening.read_shown.Given.{Over}
 use Rattle.desk_store.proofs.opening.read_shown.Goals.{After-begin-txn, After-read_desk}
 use Rattle.desk_store.proofs.opening.read_shown.Goals as goal

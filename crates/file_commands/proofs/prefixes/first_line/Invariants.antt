@@ -1,5 +1,4 @@
-use Rattle.std.proofs.Common.{◌≡◌, ◌++◌, take, drop}
-use Rattle.file_commands.specs.Prefixes.{line_prefix}
+use Rattle.{std.proofs.Common.{◌≡◌, ◌++◌, take, drop}, file_commands.specs.Prefixes.line_prefix}
 use Rattle.file_commands.proofs.prefixes.first_line.Given as goal
 
 abbrev pub invariant-loop-i : goal.invariant-loop-i

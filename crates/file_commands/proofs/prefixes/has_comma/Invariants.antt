@@ -1,5 +1,4 @@
-use Rattle.std.proofs.Common.{◌≡◌, drop}
-use Rattle.file_commands.specs.Prefixes.{has_comma}
+use Rattle.{std.proofs.Common.{◌≡◌, drop}, file_commands.specs.Prefixes.has_comma}
 use Rattle.file_commands.proofs.prefixes.has_comma.Given as goal
 
 abbrev pub invariant-loop-byte : goal.invariant-loop-byte

@@ -1,5 +1,4 @@
-use Rattle.std.proofs.Common.{◌≡◌, ◌++◌, drop, map}
-use Rattle.file_commands.specs.Prefixes.{shown}
+use Rattle.{std.proofs.Common.{◌≡◌, ◌++◌, drop, map}, file_commands.specs.Prefixes.shown}
 use Rattle.file_commands.proofs.prefixes.put_shown.Given as goal
 
 abbrev pub invariant-loop-byte : goal.invariant-loop-byte

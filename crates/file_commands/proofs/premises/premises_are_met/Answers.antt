@@ -1,5 +1,4 @@
-use Rattle.sector_file.specs.Device.{first_image}
-use Rattle.file_commands.proofs.JustOpened.{no_premise}
+use Rattle.{sector_file.specs.Device.first_image, file_commands.proofs.JustOpened.no_premise}
 use Rattle.file_commands.proofs.premises.premises_are_met.Goals as goal
 
 pub returns-in-Ok-open_clerk : goal.returns-in-Ok-open_clerk

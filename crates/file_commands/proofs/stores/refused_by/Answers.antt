@@ -1,6 +1,5 @@
-use Rattle.std.proofs.Common.{◌≡◌, ◌∙◌, inr, sym}
+use Rattle.{std.proofs.Common.{◌≡◌, ◌∙◌, inr, sym}, store_command.specs.declared.fault.StoreFault.TheVariants.{NotFound, DeviceFault, Memory}}
 use Rattle.sector_file.specs.declared.error.FileError.TheVariants as file
-use Rattle.store_command.specs.declared.fault.StoreFault.TheVariants.{NotFound, DeviceFault, Memory}
 use Rattle.file_commands.proofs.stores.refused_by.Goals as goal
 
 pub returns-in-NotFound-clause-told : goal.returns-in-NotFound-clause-told

@@ -1,5 +1,4 @@
-use Rattle.std.proofs.Crossing.{crosses}
-use Rattle.sector_file.proofs.Sending.{record_send}
+use Rattle.{std.proofs.Crossing.crosses, sector_file.proofs.Sending.record_send}
 use denote.Param.Send.{sendable}
 use Rattle.file_commands.proofs.verifying.verify_desk.Goals as goal
 

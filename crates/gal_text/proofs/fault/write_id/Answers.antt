@@ -1,5 +1,4 @@
-use Rattle.std.proofs.{Common.rules, Output.has_written_of_eq}
-use Rattle.gal_text.proofs.Texts.{padded_id, block_shown}
+use Rattle.{std.proofs.{Common.rules, Output.has_written_of_eq}, gal_text.proofs.Texts.{padded_id, block_shown}}
 use Rattle.gal_text.proofs.fault.write_id.Goals as goal
 
 pub returns : goal.returns

@@ -1,5 +1,4 @@
-use Rattle.std.proofs.{Common.{rules, append_assoc}, Output.has_written_of_eq}
-use Rattle.gal_text.proofs.Texts.{padded_id, block_shown}
+use Rattle.{std.proofs.{Common.{rules, append_assoc}, Output.has_written_of_eq}, gal_text.proofs.Texts.{padded_id, block_shown}}
 use Rattle.gal_text.proofs.fault.write_ids.Goals as goal
 
 pub returns : goal.returns

@@ -1,5 +1,4 @@
-use Rattle.std.proofs.Common.{◌≡◌, true, sym, ◌∙◌, arith, rules}
-use Rattle.gal_text.proofs.FinishLemmas.{finished, least_missing, id_there}
+use Rattle.{std.proofs.Common.{◌≡◌, true, sym, ◌∙◌, arith, rules}, gal_text.proofs.FinishLemmas.{finished, least_missing, id_there}}
 use Rattle.gal_text.proofs.gal.finish.Goals as goal
 
 pub returns-in-Some : goal.returns-in-Some

@@ -1,5 +1,4 @@
-use Rattle.std.proofs.Common.{sym, ◌∙◌, rules}
-use Rattle.gal_text.proofs.{FileLemmas.{told_end, no_failure, no_turn, counts_start, most_turns}, ValidLemmas.valid_pairs}
+use Rattle.{std.proofs.Common.{sym, ◌∙◌, rules}, gal_text.proofs.{FileLemmas.{told_end, no_failure, no_turn, counts_start, most_turns}, ValidLemmas.valid_pairs}}
 use Rattle.gal_text.proofs.gal.read.Goals as goal
 
 pub returns-in-Ok-read_graph-clause-read : goal.returns-in-Ok-read_graph-clause-read

@@ -1,5 +1,4 @@
-use Rattle.std.proofs.Common.{◌≡◌, ℕ, List, [], ◌++◌, Ok, Err, sym, subst}
-use Rattle.byte_stream.specs.{claim.Reading.BeginsWithLine, Reading.{IsLastLine, Gives}}
+use Rattle.{std.proofs.Common.{◌≡◌, ℕ, List, [], ◌++◌, Ok, Err, sym, subst}, byte_stream.specs.{Reading.{IsLastLine, Gives}, claim.Reading.BeginsWithLine}}
 use Rattle.gal_text.specs.{Parts.Begins, declared.fault.GalFault.GalFault}
 use Rattle.gal_text.proofs.FileLemmas.{Told, told_words, told_refused, told_refused_last, told_header_alone, told_none, told_fault}
 use Rattle.gal_text.proofs.gal.read_graph.Goals as goal

@@ -1,5 +1,4 @@
-use Rattle.std.proofs.Common.{◌-◌, ◌++◌, Ok, Err, sym, subst, ◌∙◌, arith, rules}
-use Rattle.gal_text.specs.{Parts.{Stands, read_told}, declared.fault.GalFault.GalFault}
+use Rattle.{std.proofs.Common.{◌-◌, ◌++◌, Ok, Err, sym, subst, ◌∙◌, arith, rules}, gal_text.specs.{Parts.{Stands, read_told}, declared.fault.GalFault.GalFault}}
 use Rattle.gal_text.proofs.StandLemmas.{Told, stands_start, stands_more, stands_word, told_refused, told_refused_last, told_fault, told_last_end, took_at, long_at}
 use Rattle.gal_text.proofs.gal.read_words.Goals as goal
 

@@ -1,6 +1,4 @@
-use Rattle.std.proofs.Common.{◌≡◌, ◌-◌, ◌^◌, ℕ}
-use Rattle.byte_stream.specs.Reading.{CountsFrom}
-use Rattle.gal_text.specs.Parts.{Stands}
+use Rattle.{std.proofs.Common.{◌≡◌, ◌-◌, ◌^◌, ℕ}, byte_stream.specs.Reading.CountsFrom, gal_text.specs.Parts.Stands}
 use Rattle.gal_text.proofs.gal.read_words.Given as goal
 
 abbrev pub invariant-loop-graph : goal.invariant-loop-graph

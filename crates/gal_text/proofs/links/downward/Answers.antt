@@ -1,5 +1,4 @@
-use Rattle.std.proofs.Common.{arith, rules}
-use Rattle.gal_text.{specs.Pairing.downward_pair, proofs.LinkLemmas.{more_kept, pushed, passed_over}}
+use Rattle.{std.proofs.Common.{arith, rules}, gal_text.{specs.Pairing.downward_pair, proofs.LinkLemmas.{more_kept, pushed, passed_over}}}
 use Rattle.gal_text.proofs.links.downward.Goals as goal
 use Rattle.gal_text.proofs.links.downward.Goals.{then-number+in_ok-push, else-number}
 

@@ -1,5 +1,4 @@
-use Rattle.std.proofs.Common.{rules}
-use Rattle.gal_text.proofs.LinkLemmas.{searched_pair}
+use Rattle.{std.proofs.Common.rules, gal_text.proofs.LinkLemmas.searched_pair}
 use Rattle.gal_text.proofs.links.has_pair.Goals as goal
 
 pub returns : goal.returns

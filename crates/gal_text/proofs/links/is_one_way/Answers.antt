@@ -1,5 +1,4 @@
-use Rattle.std.proofs.Common.{◌<◌, arith}
-use Rattle.gal_text.proofs.LinkLemmas.{one_way_up, one_way_down}
+use Rattle.{std.proofs.Common.{◌<◌, arith}, gal_text.proofs.LinkLemmas.{one_way_up, one_way_down}}
 use Rattle.gal_text.proofs.links.is_one_way.Goals as goal
 
 pub returns-then-number : goal.returns-then-number

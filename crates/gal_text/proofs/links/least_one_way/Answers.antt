@@ -1,6 +1,5 @@
-use Rattle.std.proofs.Common.{List, take, sym, subst, arith}
-use Rattle.std.proofs.lemmas.List.{take_all}
-use Rattle.gal_text.{specs.Pairing.IsLeastOrNone, specs.declared.units.Link.Link, proofs.LinkLemmas.taken_more}
+use Rattle.{std.proofs.{Common.{List, take, sym, subst, arith}, lemmas.List.take_all}, gal_text.specs.{Pairing.IsLeastOrNone, declared.units.Link.Link}}
+use Rattle.gal_text.proofs.LinkLemmas.{taken_more}
 use Rattle.gal_text.proofs.links.least_one_way.Goals as goal
 
 pub loop-link-preserved : goal.loop-link-preserved

@@ -1,5 +1,4 @@
-use Rattle.std.proofs.Common.{take}
-use Rattle.gal_text.specs.Pairing.{IsLeastOrNone}
+use Rattle.{std.proofs.Common.take, gal_text.specs.Pairing.IsLeastOrNone}
 use Rattle.gal_text.proofs.links.least_one_way.Given as goal
 
 abbrev pub invariant-loop-link : goal.invariant-loop-link

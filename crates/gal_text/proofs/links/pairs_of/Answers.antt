@@ -1,5 +1,5 @@
-use Rattle.std.{specs.List.filter_map, proofs.Common.{◌≡◌, ap, ◌∙◌}}
-use Rattle.gal_text.{specs.Pairing.{upward_pair, downward_pair}, proofs.LinkLemmas.{cut_from_sorted, pairs_from_cut, mutual_at_none}}
+use Rattle.{std.{specs.List.filter_map, proofs.Common.{◌≡◌, ap, ◌∙◌}}, gal_text.specs.Pairing.{upward_pair, downward_pair}}
+use Rattle.gal_text.proofs.LinkLemmas.{cut_from_sorted, pairs_from_cut, mutual_at_none}
 use Rattle.gal_text.proofs.links.pairs_of.Goals as goal
 
 pub find_one_way-requires : goal.find_one_way-requires

@@ -1,6 +1,4 @@
-use Rattle.std.proofs.lemmas.List.Filters.{dedup_is}
-use Rattle.std.proofs.lemmas.List.Kept.{Contains-dedup, Contains-from_dedup}
-use Rattle.std.proofs.lemmas.List.Sorted.{Contains-permutation, IsPermutation-sym}
+use Rattle.std.proofs.lemmas.List.{Filters.dedup_is, Kept.{Contains-dedup, Contains-from_dedup}, Sorted.{Contains-permutation, IsPermutation-sym}}
 use Rattle.gal_text.proofs.LinkLemmas.{pair_eq, pair_eq_equiv, pair_eq_is, deduped_rising}
 use Rattle.gal_text.proofs.links.sort_pairs.Goals as goal
 

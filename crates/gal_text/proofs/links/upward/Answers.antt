@@ -1,5 +1,4 @@
-use Rattle.std.proofs.Common.{arith, rules}
-use Rattle.gal_text.{specs.Pairing.upward_pair, proofs.LinkLemmas.{more_kept, pushed, passed_over}}
+use Rattle.{std.proofs.Common.{arith, rules}, gal_text.{specs.Pairing.upward_pair, proofs.LinkLemmas.{more_kept, pushed, passed_over}}}
 use Rattle.gal_text.proofs.links.upward.Goals as goal
 use Rattle.gal_text.proofs.links.upward.Goals.{then-number+in_ok-push, else-number}
 

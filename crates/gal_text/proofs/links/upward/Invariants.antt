@@ -1,5 +1,4 @@
-use Rattle.std.{specs.List.filter_map, proofs.Common.{◌≡◌, take}}
-use Rattle.gal_text.specs.Pairing.{upward_pair}
+use Rattle.{std.{specs.List.filter_map, proofs.Common.{◌≡◌, take}}, gal_text.specs.Pairing.upward_pair}
 use Rattle.gal_text.proofs.links.upward.Given as goal
 
 abbrev pub invariant-loop-link : goal.invariant-loop-link

@@ -1,5 +1,4 @@
-use Rattle.std.proofs.Common.{rules}
-use Rattle.gal_text.proofs.LinkLemmas.{answered_more}
+use Rattle.{std.proofs.Common.rules, gal_text.proofs.LinkLemmas.answered_more}
 use Rattle.gal_text.proofs.links.with_link.Goals as goal
 
 pub returns-then-is_one_way : goal.returns-then-is_one_way

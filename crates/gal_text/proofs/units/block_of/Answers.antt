@@ -1,5 +1,4 @@
-use Rattle.std.proofs.Common.{rules}
-use Rattle.gal_text.proofs.HoldingLemmas.{unknown}
+use Rattle.{std.proofs.Common.rules, gal_text.proofs.HoldingLemmas.unknown}
 use Rattle.gal_text.proofs.units.block_of.Goals as goal
 
 pub returns-in_err-place : goal.returns-in_err-place

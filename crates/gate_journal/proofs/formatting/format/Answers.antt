@@ -1,6 +1,4 @@
-use Rattle.std.proofs.Common.{arith, rules}
-use Rattle.sector_device.{specs.claim.Disk.Touches, specs.Disk.Only, proofs.Moments.{touches_more, touches_wider}}
-use Rattle.gate_journal.specs.Format.{Front}
+use Rattle.{std.proofs.Common.{arith, rules}, gate_journal.specs.Format.Front, sector_device.{specs.{Disk.Only, claim.Disk.Touches}, proofs.Moments.{touches_more, touches_wider}}}
 use Rattle.gate_journal.proofs.formatting.format.Goals as goal
 
 pub returns-in_err-set_gate : goal.returns-in_err-set_gate

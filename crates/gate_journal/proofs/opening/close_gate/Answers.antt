@@ -1,7 +1,6 @@
-use Rattle.std.proofs.Common.{◌≡◌, ◌∙◌, ℕ, List, get_or, sym, ap, subst, refl, arith, rules}
-use Rattle.sector_device.{specs.claim.Disk.{Nowhere, Image}, proofs.Moments.{touches_more, synced_still}}
-use Rattle.gate_journal.{specs.claim.Store.{IsStore, gate, list_word}, specs.Recovery.NamesPages, proofs.Lists.not_true}
-use Rattle.gate_journal.proofs.Quiet.{opens_so, same_reads, quiet_recovers, fault_recovers, back_recovers}
+use Rattle.{std.proofs.Common.{◌≡◌, ◌∙◌, ℕ, List, get_or, sym, ap, subst, refl, arith, rules}, gate_journal.specs.{Recovery.NamesPages, claim.Store.{IsStore, gate, list_word}}}
+use Rattle.{sector_device.specs.claim.Disk.{Nowhere, Image}, gate_journal.proofs.{Lists.not_true, Quiet.{opens_so, same_reads, quiet_recovers, fault_recovers, back_recovers}}}
+use Rattle.sector_device.proofs.Moments.{touches_more, synced_still}
 use Rattle.gate_journal.proofs.opening.close_gate.Goals as goal
 
 pub returns-in_err-read : goal.returns-in_err-read

@@ -1,7 +1,6 @@
-use Rattle.std.proofs.Common.{◌≡◌, ◌-◌, ◌∙◌, ℕ, List, true, false, sym, subst, arith, rules}
-use lib.Pointwise.{pointwise}
-use lib.Dec.{eqb}
-use Rattle.gate_journal.{specs.claim.Store.{home, header_of}, proofs.Headers.{journal_is, same_bytes}, proofs.Quiet.looks_so}
+use Rattle.{std.proofs.Common.{◌≡◌, ◌-◌, ◌∙◌, ℕ, List, true, false, sym, subst, arith, rules}, gate_journal.{specs.claim.Store.{home, header_of}, proofs.Quiet.looks_so}}
+use Rattle.gate_journal.proofs.Headers.{journal_is, same_bytes}
+use lib.{Dec.eqb, Pointwise.pointwise}
 use Rattle.gate_journal.proofs.opening.find_layout.Goals as goal
 
 pub returns-then-journal_pages-lt-LEAST_JOURNAL-clause-looks : goal.returns-then-journal_pages-lt-LEAST_JOURNAL-clause-looks

@@ -1,6 +1,5 @@
-use Rattle.std.proofs.Common.{◌∙◌, sym, subst, arith, ℕ, rules}
-use Rattle.sector_device.{specs.claim.Disk.Nowhere, proofs.Moments.{touches_more, synced_still}}
-use Rattle.gate_journal.{specs.Recovery.HasRoom, proofs.Quiet.{opens_so, quiet_reads, reads_store, fault_starts, starts_ok, starts_err}}
+use Rattle.{std.proofs.Common.{◌∙◌, sym, subst, arith, ℕ, rules}, gate_journal.specs.Recovery.HasRoom, sector_device.specs.claim.Disk.Nowhere}
+use Rattle.{gate_journal.proofs.Quiet.{opens_so, quiet_reads, reads_store, fault_starts, starts_ok, starts_err}, sector_device.proofs.Moments.{touches_more, synced_still}}
 use Rattle.gate_journal.proofs.opening.start.Goals as goal
 
 pub returns-in_err-sync-clause-opens : goal.returns-in_err-sync-clause-opens

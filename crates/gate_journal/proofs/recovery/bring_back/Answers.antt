@@ -1,7 +1,5 @@
-use Rattle.std.proofs.Common.{◌≡◌, ◌∙◌, ◌+◌, rules}
-use Rattle.sector_device.{specs.claim.Disk.Nowhere, specs.claim.Moments.LeavesOnly, proofs.Moments.touches_more}
-use Rattle.gate_journal.{specs.claim.Store.{Opens, pages, home, copies}, specs.Store.Homes, specs.Steps.HasHomes, proofs.Commit.{back_leaves, shut_leaves, reopened, reshut}}
-use Rattle.gate_journal.proofs.Quiet.{opens_so}
+use Rattle.{std.proofs.Common.{◌≡◌, ◌∙◌, ◌+◌, rules}, gate_journal.{specs.{Steps.HasHomes, Store.Homes, claim.Store.{Opens, pages, home, copies}}, proofs.Quiet.opens_so}}
+use Rattle.{sector_device.{specs.claim.{Disk.Nowhere, Moments.LeavesOnly}, proofs.Moments.touches_more}, gate_journal.proofs.Commit.{back_leaves, shut_leaves, reopened, reshut}}
 use Rattle.gate_journal.proofs.recovery.bring_back.Goals as goal
 
 pub returns-in_err-copy_back : goal.returns-in_err-copy_back

@@ -1,7 +1,5 @@
-use Rattle.std.proofs.Common.{◌≡◌, ◌+◌, ◌∙◌, rules, arith}
-use Rattle.std.proofs.lemmas.List.{take_all}
-use Rattle.gate_journal.{specs.Store.Homes, specs.claim.Store.{home, copies}, proofs.Commit.{back_more, back_touches, entry_same, count_is}, proofs.Quiet.opens_so}
-use Rattle.sector_device.{specs.claim.Disk.Nowhere, proofs.Moments.touches_more}
+use Rattle.{std.proofs.{Common.{◌≡◌, ◌+◌, ◌∙◌, rules, arith}, lemmas.List.take_all}, gate_journal.{specs.{Store.Homes, claim.Store.{home, copies}}, proofs.Quiet.opens_so}}
+use Rattle.{sector_device.{specs.claim.Disk.Nowhere, proofs.Moments.touches_more}, gate_journal.proofs.Commit.{back_more, back_touches, entry_same, count_is}}
 use Rattle.gate_journal.proofs.recovery.copy_back.Goals as goal
 
 pub loop-k-preserved : goal.loop-k-preserved

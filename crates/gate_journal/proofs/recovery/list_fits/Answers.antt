@@ -1,6 +1,4 @@
-use Rattle.std.proofs.Common.{◌∙◌, ◌+◌, rules}
-use Rattle.sector_device.{specs.claim.Disk.Nowhere, proofs.Moments.touches_more}
-use Rattle.gate_journal.proofs.Lists.{names_more, names_of, not_true}
+use Rattle.{std.proofs.Common.{◌∙◌, ◌+◌, rules}, sector_device.{specs.claim.Disk.Nowhere, proofs.Moments.touches_more}, gate_journal.proofs.Lists.{names_more, names_of, not_true}}
 use Rattle.gate_journal.proofs.recovery.list_fits.Goals as goal
 
 pub returns-then-not-names_pages : goal.returns-then-not-names_pages

@@ -1,14 +1,11 @@
-use Rattle.std.proofs.Common.{rules, arith}
-use Rattle.sector_device.proofs.Moments.{touches_more}
-use Rattle.gate_journal.{specs.Store.Homes, proofs.Images.{writes_at, homes_more}, proofs.SoFar.step_so}
+use Rattle.{std.proofs.Common.{rules, arith}, gate_journal.{specs.Store.Homes, proofs.{Images.{writes_at, homes_more}, SoFar.step_so}}, sector_device.proofs.Moments.touches_more}
 use Rattle.gate_journal.proofs.steps.write_homes.Goals as goal
 
 pub overflow_add-home : goal.overflow_add-home
 overflow_add-home g c = search rules
 
 pub write-requires : goal.write-requires
-write-requires g c =
-    omega (arith, (c.requires c.loop-k.k c.loop-k-test.true), c.loop-k.invariant.sectors)
+write-requires g c = omega (arith, (c.requires c.loop-k.k c.loop-k-test.true), c.loop-k.invariant.sectors)
 
 pub returns-in_err-write : goal.returns-in_err-write
 returns-in_err-write g c = step_so (search rules) (λ honest.

@@ -1,6 +1,5 @@
-use Rattle.std.proofs.Common.{◌+◌, ◌/◌, ◌∙◌, ap, length, rules, arith}
+use Rattle.{std.proofs.Common.{◌+◌, ◌/◌, ◌∙◌, ap, length, rules, arith}, gate_journal.{specs.{Steps.Span, claim.Store.word}, proofs.Images.list_more}}
 use Rattle.sector_device.proofs.Moments.{touches_more}
-use Rattle.gate_journal.{specs.Steps.Span, specs.claim.Store.word, proofs.Images.list_more}
 use Rattle.gate_journal.proofs.steps.write_list.Goals as goal
 
 pub loop-s-preserved : goal.loop-s-preserved

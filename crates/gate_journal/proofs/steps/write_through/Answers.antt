@@ -1,7 +1,6 @@
-use Rattle.std.proofs.Common.{◌≡◌, ◌∙◌, rules, arith}
-use Rattle.sector_device.{specs.claim.Moments.LeavesOnly, proofs.Moments.{cause_after, on_ok}}
-use Rattle.gate_journal.specs.{claim.Store.pages, Store.{IsSettled, IsBeforeOrAfter}}
+use Rattle.{std.proofs.Common.{◌≡◌, ◌∙◌, rules, arith}, gate_journal.specs.{Store.{IsSettled, IsBeforeOrAfter}, claim.Store.pages}, sector_device.specs.claim.Moments.LeavesOnly}
 use Rattle.gate_journal.proofs.{Commit.{shut_pages, after_stage, after_gate, after_home, after_close, committed, resettled}, SoFar.commits_so}
+use Rattle.sector_device.proofs.Moments.{cause_after, on_ok}
 use Rattle.gate_journal.proofs.steps.write_through.Goals as goal
 
 pub returns-in_err-stage : goal.returns-in_err-stage

@@ -1,5 +1,4 @@
-use Rattle.std.proofs.Common.{ap, ◌∙◌, ℕ, List}
-use Rattle.gate_journal.specs.claim.Store.{put_word, header_of}
+use Rattle.{std.proofs.Common.{ap, ◌∙◌, ℕ, List}, gate_journal.specs.claim.Store.{put_word, header_of}}
 use Rattle.gate_journal.proofs.words.fill_header.Goals as goal
 
 pub returns : goal.returns

@@ -1,5 +1,4 @@
-use Rattle.std.proofs.Common.{refl}
-use Rattle.geo_tables.proofs.Steps.{step_made, step_told}
+use Rattle.{std.proofs.Common.refl, geo_tables.proofs.Steps.{step_made, step_told}}
 use Rattle.geo_tables.proofs.batches.load_batch.Goals as goal
 
 pub returns-clause-staged : goal.returns-clause-staged

@@ -1,11 +1,9 @@
-use Rattle.std.proofs.Common.{◌≡◌, ◌+◌, ℕ, subst}
-use Rattle.page_store.{specs.claim.Transactions.disk_in, specs.declared.pages.Pages.Pages, specs.declared.txn.Txn.Txn, proofs.Stops.leaves_here}
-use Rattle.desk_model.specs.claim.Geography.{GeographyModel}
-use Rattle.desk_pages.{specs.claim.Puts.{HasPut, PutsErr}, specs.claim.Desks.OpensDesk, specs.Errors.tree_refusal, proofs.Kept.opens_now}
-use Rattle.geo_tables.specs.{Rows.staged_rows, Staging.Stages, Loading.{HoldsFurther, number_of, geography_model_of, done_of}, declared.load.Load.Load}
-use Rattle.geo_tables.proofs.{Joins.{quiet_leaves, step_leaves, one_leaves, room_of}, Refused.{batch_refused, batch_unfinished, batch_unstarted}, Results.ok_then}
-use Rattle.geo_tables.proofs.{Steps.{commits_after, not_started, not_stepped}, Staged.{rows_of, rows_count, put_fits, batch_desk, batch_holds}}
-use Rattle.sector_device.specs.declared.SectorDevice.{Ghosts}
+use Rattle.{std.proofs.Common.{◌≡◌, ◌+◌, ℕ, subst}, desk_model.specs.claim.Geography.GeographyModel, desk_pages.specs.{Errors.tree_refusal, claim.Desks.OpensDesk}}
+use Rattle.{desk_pages.specs.claim.Puts.{HasPut, PutsErr}, geo_tables.specs.{Loading.{HoldsFurther, number_of, geography_model_of, done_of}, Rows.staged_rows, Staging.Stages}}
+use Rattle.{geo_tables.specs.declared.load.Load.Load, page_store.specs.{claim.Transactions.disk_in, declared.{pages.Pages.Pages, txn.Txn.Txn}}, desk_pages.proofs.Kept.opens_now}
+use Rattle.{sector_device.specs.declared.SectorDevice.Ghosts, geo_tables.proofs.{Joins.{quiet_leaves, step_leaves, one_leaves, room_of}, Results.ok_then}}
+use Rattle.geo_tables.proofs.{Refused.{batch_refused, batch_unfinished, batch_unstarted}, Staged.{rows_of, rows_count, put_fits, batch_desk, batch_holds}}
+use Rattle.{geo_tables.proofs.Steps.{commits_after, not_started, not_stepped}, page_store.proofs.Stops.leaves_here}
 use Rattle.geo_tables.proofs.batches.stage.Goals as goal
 
 -- what was put, of the geography itself

@@ -1,8 +1,6 @@
-use Rattle.std.{specs.Prelude.IsTrue, proofs.Common.{◌≡◌, Err, ◌<◌, ◌≤◌, ◌*◌, ◌^◌, length, refl, false, sym, subst}}
-use Rattle.sector_device.{specs.declared.SectorDevice.Ghosts, proofs.Moments.leaves_more}
-use Rattle.page_store.specs.{claim.Transactions.{disk_in, journal_of, txn_free}, declared.pages.Pages.Pages, declared.txn.Txn.Txn}
-use Rattle.desk_model.specs.claim.Geography.{GeographyModel}
-use Rattle.desk_pages.specs.{declared.error.StoreError.TheVariants.Full, claim.Desks.OpensDesk}
+use Rattle.{std.{specs.Prelude.IsTrue, proofs.Common.{◌≡◌, Err, ◌<◌, ◌≤◌, ◌*◌, ◌^◌, length, refl, false, sym, subst}}, desk_model.specs.claim.Geography.GeographyModel}
+use Rattle.{desk_pages.specs.{claim.Desks.OpensDesk, declared.error.StoreError.TheVariants.Full}, page_store.specs.claim.Transactions.{disk_in, journal_of, txn_free}}
+use Rattle.{page_store.specs.declared.{pages.Pages.Pages, txn.Txn.Txn}, sector_device.{specs.declared.SectorDevice.Ghosts, proofs.Moments.leaves_more}}
 use Rattle.geo_tables.proofs.{Joins.{quiet_leaves, quiet_desk, quiet_rows, started_then, whole_then}, Refused.{begin_after, begin_full, desk_unsealed, sealed_refused}}
 use Rattle.geo_tables.proofs.Steps.{not_stepped, not_stepped_after, step_after, was_halted}
 use Rattle.geo_tables.proofs.begins.begin_load.Goals as goal

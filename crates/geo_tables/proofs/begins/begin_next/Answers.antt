@@ -1,8 +1,6 @@
-use Rattle.std.proofs.Common.{ℕ, Err, Some, refl, subst, ◌∙◌}
-use Rattle.sector_device.specs.declared.SectorDevice.{Ghosts}
-use Rattle.page_store.specs.{claim.Transactions.disk_in, declared.pages.Pages.Pages, declared.txn.Txn.Txn}
-use Rattle.desk_pages.specs.{declared.error.StoreError.TheVariants.Full, Errors.tree_refusal}
-use Rattle.geo_tables.{specs.Loads.{Begins, HasBegun}, proofs.Joins.{quiet_leaves, shape_after, step_leaves, one_leaves, room_of}}
+use Rattle.{std.proofs.Common.{ℕ, Err, Some, refl, subst, ◌∙◌}, desk_pages.specs.{Errors.tree_refusal, declared.error.StoreError.TheVariants.Full}}
+use Rattle.{geo_tables.specs.Loads.{Begins, HasBegun}, page_store.specs.{claim.Transactions.disk_in, declared.{pages.Pages.Pages, txn.Txn.Txn}}}
+use Rattle.{sector_device.specs.declared.SectorDevice.Ghosts, geo_tables.proofs.Joins.{quiet_leaves, shape_after, step_leaves, one_leaves, room_of}}
 use Rattle.geo_tables.proofs.{Refused.{next_refused, next_exhausted, next_unfinished}, Staged.{begun_fits, begun_told, begun_desk, begun_holds}}
 use Rattle.geo_tables.proofs.Steps.{not_stepped, step_failed, stepped}
 use Rattle.geo_tables.proofs.begins.begin_next.Goals as goal

@@ -1,7 +1,5 @@
-use Rattle.std.proofs.Common.{Option, rules, subst}
-use Rattle.store_rows.specs.{claim.Values.seal_bytes, declared.value.SealRow.SealRow}
-use Rattle.desk_pages.{specs.Reading.StandsAs, specs.Errors.tree_refusal, proofs.Outcomes.match_of}
-use Rattle.geo_tables.{specs.Refusals.SealedErr, proofs.Refused.{seal_unread, seal_seen}}
+use Rattle.{std.proofs.Common.{Option, rules, subst}, desk_pages.{specs.{Errors.tree_refusal, Reading.StandsAs}, proofs.Outcomes.match_of}, geo_tables.specs.Refusals.SealedErr}
+use Rattle.{store_rows.specs.{claim.Values.seal_bytes, declared.value.SealRow.SealRow}, geo_tables.proofs.Refused.{seal_unread, seal_seen}}
 use Rattle.geo_tables.proofs.begins.refuse_sealed.Goals as goal
 
 pub returns-in_err-found-clause-none : goal.returns-in_err-found-clause-none

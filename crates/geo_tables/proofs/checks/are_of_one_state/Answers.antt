@@ -1,6 +1,4 @@
-use Rattle.std.proofs.Common.{◌≡◌, ◌∙◌, ℕ, sym, ap, subst, inl, inr, arith, rules}
-use Rattle.std.proofs.lemmas.Bool.{cases_eq}
-use Rattle.desk_model.specs.{claim.Block.state_of, claim.Geography.id_at}
+use Rattle.{std.proofs.{Common.{◌≡◌, ◌∙◌, ℕ, sym, ap, subst, inl, inr, arith, rules}, lemmas.Bool.cases_eq}, desk_model.specs.claim.{Block.state_of, Geography.id_at}}
 use Rattle.geo_tables.proofs.Ids.{any_default, id_there, length-ids}
 use Rattle.geo_tables.proofs.checks.are_of_one_state.Goals as goal
 

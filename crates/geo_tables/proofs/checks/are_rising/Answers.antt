@@ -1,6 +1,4 @@
-use Rattle.std.proofs.Common.{◌≡◌, ◌∙◌, ◌<◌, ◌+◌, ◌-◌, ℕ, sym, subst, inl, inr, arith, rules}
-use Rattle.std.proofs.lemmas.Bool.{cases_eq}
-use Rattle.desk_model.specs.claim.Geography.{id_at}
+use Rattle.{std.proofs.{Common.{◌≡◌, ◌∙◌, ◌<◌, ◌+◌, ◌-◌, ℕ, sym, subst, inl, inr, arith, rules}, lemmas.Bool.cases_eq}, desk_model.specs.claim.Geography.id_at}
 use Rattle.geo_tables.proofs.Ids.{id_there, length-ids}
 use Rattle.geo_tables.proofs.checks.are_rising.Goals as goal
 

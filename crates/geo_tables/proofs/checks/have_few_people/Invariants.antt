@@ -1,5 +1,4 @@
-use Rattle.std.proofs.Common.{◌≡◌, ◌<◌, ◌^◌, take, sum_by}
-use Rattle.desk_model.specs.declared.block.BlockRow.{BlockRow}
+use Rattle.{std.proofs.Common.{◌≡◌, ◌<◌, ◌^◌, take, sum_by}, desk_model.specs.declared.block.BlockRow.BlockRow}
 use Rattle.geo_tables.proofs.checks.have_few_people.Given as goal
 
 abbrev pub invariant-loop-block : goal.invariant-loop-block

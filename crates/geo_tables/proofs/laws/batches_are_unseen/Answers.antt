@@ -1,5 +1,4 @@
-use Rattle.std.proofs.Common.{[], ◌∙◌, arith}
-use Rattle.geo_tables.proofs.LoadRows.{batch_next, batch_tag, batch_unseen}
+use Rattle.{std.proofs.Common.{[], ◌∙◌, arith}, geo_tables.proofs.LoadRows.{batch_next, batch_tag, batch_unseen}}
 use Rattle.geo_tables.proofs.laws.batches_are_unseen.Goals as goal
 
 pub returns : goal.returns

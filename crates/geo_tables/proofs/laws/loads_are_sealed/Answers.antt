@@ -1,5 +1,4 @@
-use Rattle.std.proofs.Common.{arith, rules}
-use Rattle.geo_tables.proofs.LoadRows.{sealed_desk, sealed_is, sealed_next, sealed_unmarked}
+use Rattle.{std.proofs.Common.{arith, rules}, geo_tables.proofs.LoadRows.{sealed_desk, sealed_is, sealed_next, sealed_unmarked}}
 use Rattle.geo_tables.proofs.laws.loads_are_sealed.Goals as goal
 
 pub returns : goal.returns

@@ -1,11 +1,8 @@
-use Rattle.std.{specs.FinMap.{insert, remove}, proofs.Common.{List, ℕ, [], ◌∷◌, ◌≡◌, ◌∙◌, length, sym, subst, arith, rules}}
-use Rattle.sector_device.specs.claim.Disk.{Image}
-use Rattle.page_store.{specs.claim.Transactions.stored, proofs.Stops.{quiet_more, passed_more}}
-use Rattle.page_btree.specs.claim.Map.{InTxn}
-use Rattle.desk_model.specs.{declared.block.BlockRow.BlockRow, declared.geography.Pair.Pair, claim.Geography.GeographyModel}
-use Rattle.store_rows.specs.{claim.Keys.{key_of, seal}, claim.Values.seal_bytes, claim.Puts.Row}
-use Rattle.desk_pages.{specs.claim.Puts.{HasPut, PutsErr}, proofs.Outcomes.match_of}
-use Rattle.geo_tables.{specs.Rows.seal_row, proofs.RowAfterRow.then_not_removed}
+use Rattle.{std.{specs.FinMap.{insert, remove}, proofs.Common.{List, ℕ, [], ◌∷◌, ◌≡◌, ◌∙◌, length, sym, subst, arith, rules}}, desk_model.specs.claim.Geography.GeographyModel}
+use Rattle.{desk_model.specs.declared.{block.BlockRow.BlockRow, geography.Pair.Pair}, desk_pages.specs.claim.Puts.{HasPut, PutsErr}, geo_tables.specs.Rows.seal_row}
+use Rattle.{page_btree.specs.claim.Map.InTxn, page_store.specs.claim.Transactions.stored, sector_device.specs.claim.Disk.Image, store_rows.specs.claim.Keys.{key_of, seal}}
+use Rattle.{store_rows.specs.claim.{Puts.Row, Values.seal_bytes}, desk_pages.proofs.Outcomes.match_of, geo_tables.proofs.RowAfterRow.then_not_removed}
+use Rattle.page_store.proofs.Stops.{quiet_more, passed_more}
 use Rattle.geo_tables.proofs.load_rows.seal_rows.Goals as goal
 
 row_is : (load : ℕ) (g : GeographyModel) (blocks : List BlockRow) (pairs : List Pair) (key value : List ℕ) → blocks ≡ g.blocks → pairs ≡ g.pairs → key ≡ key_of seal → value ≡ seal_bytes (record { load = load; blocks = length blocks; pairs = length pairs }) → ◌≡◌ {A = Row} (key, value) (seal_row load g)

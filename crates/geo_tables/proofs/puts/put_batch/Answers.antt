@@ -1,8 +1,6 @@
-use Rattle.std.proofs.Common.{◌≡◌, ◌+◌, ℕ, subst, arith}
-use Rattle.store_rows.specs.claim.Puts.{Row}
-use Rattle.page_store.proofs.Stops.{quiet_more}
-use Rattle.desk_pages.{specs.claim.Puts.{HasPut, PutsErr}, proofs.Rising.{from_none, told_more_from, told_not_put_from, all_from}, proofs.Outcomes.match_of}
-use Rattle.geo_tables.{specs.Rows.{staged_row, staged_rows}, specs.Staging.Stages, proofs.Staging.{more_stage, none_stage}}
+use Rattle.{std.proofs.Common.{◌≡◌, ◌+◌, ℕ, subst, arith}, desk_pages.specs.claim.Puts.{HasPut, PutsErr}, geo_tables.specs.{Rows.{staged_row, staged_rows}, Staging.Stages}}
+use Rattle.{store_rows.specs.claim.Puts.Row, desk_pages.proofs.{Outcomes.match_of, Rising.{from_none, told_more_from, told_not_put_from, all_from}}}
+use Rattle.{geo_tables.proofs.Staging.{more_stage, none_stage}, page_store.proofs.Stops.quiet_more}
 use Rattle.geo_tables.proofs.puts.put_batch.Goals as goal
 
 pub loop-k-init : goal.loop-k-init
@@ -33,8 +31,7 @@ loop-k-preserved g c =
     }
 
 pub returns-clause-staged : goal.returns-clause-staged
-returns-clause-staged g c =
-    subst (λ (n : ℕ). Stages c.args.load c.args.geography.now c.args.done n) (omega arith) c.loop-k.invariant.staged
+returns-clause-staged g c = subst (λ (n : ℕ). Stages c.args.load c.args.geography.now c.args.done n) (omega arith) c.loop-k.invariant.staged
 
 pub returns-clause-puts : goal.returns-clause-puts
 returns-clause-puts g c =

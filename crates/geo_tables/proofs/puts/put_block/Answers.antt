@@ -1,6 +1,4 @@
-use Rattle.std.proofs.Common.{subst}
-use Rattle.store_rows.specs.claim.Puts.{Row}
-use Rattle.geo_tables.specs.Staging.{PutsRow}
+use Rattle.{std.proofs.Common.subst, geo_tables.specs.Staging.PutsRow, store_rows.specs.claim.Puts.Row}
 use Rattle.geo_tables.proofs.puts.put_block.Goals as goal
 
 pub returns-clause-puts : goal.returns-clause-puts

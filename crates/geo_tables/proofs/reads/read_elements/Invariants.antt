@@ -1,8 +1,5 @@
-use Rattle.std.proofs.Common.{◌≡◌, None, Ok}
-use Rattle.page_store.specs.claim.Transactions.{count_of, txn_pages}
-use Rattle.btree_walks.specs.Scanning.{fault_in}
-use Rattle.desk_pages.specs.Looking.{Gathers, Says}
-use Rattle.geo_tables.{specs.Elements.HoldsElements, specs.Following.Scans, proofs.OneMore.HoldsFirst}
+use Rattle.{std.proofs.Common.{◌≡◌, None, Ok}, btree_walks.specs.Scanning.fault_in, desk_pages.specs.Looking.{Gathers, Says}, geo_tables.specs.Elements.HoldsElements}
+use Rattle.{geo_tables.{specs.Following.Scans, proofs.OneMore.HoldsFirst}, page_store.specs.claim.Transactions.{count_of, txn_pages}}
 use Rattle.geo_tables.proofs.reads.read_elements.Given as goal
 
 abbrev pub invariant-loop-place : goal.invariant-loop-place

@@ -1,6 +1,5 @@
-use Rattle.std.proofs.Common.{List, ℕ, Option, Some, ap, sym, subst, ◌∙◌, arith, rules}
-use Rattle.store_rows.specs.{declared.value.SealRow.SealRow, claim.Values.seal_bytes}
-use Rattle.desk_pages.{specs.Reading.StandsAs, proofs.Looking.{both, fails, fails_then, finds, gathered}}
+use Rattle.{std.proofs.Common.{List, ℕ, Option, Some, ap, sym, subst, ◌∙◌, arith, rules}, desk_pages.specs.Reading.StandsAs, store_rows.specs.claim.Values.seal_bytes}
+use Rattle.{store_rows.specs.declared.value.SealRow.SealRow, desk_pages.proofs.Looking.{both, fails, fails_then, finds, gathered}}
 use Rattle.geo_tables.proofs.SealedRows.{none_by_seal, seal_stands, told_by_seal}
 use Rattle.geo_tables.proofs.sealed.geography.Goals as goal
 

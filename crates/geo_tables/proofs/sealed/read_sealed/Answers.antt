@@ -1,5 +1,4 @@
-use Rattle.desk_pages.proofs.Looking.{both, fails, fails_then, finds}
-use Rattle.geo_tables.proofs.GeographyModels.{geography_read}
+use Rattle.{desk_pages.proofs.Looking.{both, fails, fails_then, finds}, geo_tables.proofs.GeographyModels.geography_read}
 use Rattle.geo_tables.proofs.sealed.read_sealed.Goals as goal
 
 pub returns-in_err-blocks : goal.returns-in_err-blocks

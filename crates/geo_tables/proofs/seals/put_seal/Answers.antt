@@ -1,12 +1,9 @@
-use Rattle.std.{specs.Prelude.◌⊎◌, proofs.Common.{◌≡◌, [], ◌∷◌, subst, inl, arith}}
-use Rattle.sector_device.{specs.declared.SectorDevice.Ghosts, proofs.Moments.leaves_wider}
-use Rattle.page_store.{specs.claim.Transactions.disk_in, specs.declared.pages.Pages.Pages, specs.declared.txn.Txn.Txn, proofs.Stops.leaves_here}
-use Rattle.desk_model.specs.claim.Geography.{GeographyModel}
-use Rattle.store_rows.specs.Changes.{desk_with}
-use Rattle.desk_pages.{specs.claim.Puts.PutsErr, specs.claim.Desks.{InPages, OpensDesk}, specs.Errors.tree_refusal, proofs.Kept.opens_now}
-use Rattle.geo_tables.specs.{Rows.seal_row, Loads.HasSealed, declared.load.Load.Load, Loading.{number_of, geography_model_of}}
-use Rattle.geo_tables.proofs.{Joins.{quiet_leaves, step_leaves, room_of}, Refused.{seal_refused, seal_unfinished, seal_unstarted}, Results.ok_then}
-use Rattle.geo_tables.proofs.{Steps.{commits_after, not_started, not_stepped}, Staged.{seal_fits, seal_desk}}
+use Rattle.{std.{specs.Prelude.◌⊎◌, proofs.Common.{◌≡◌, [], ◌∷◌, subst, inl, arith}}, desk_model.specs.claim.Geography.GeographyModel, desk_pages.specs.Errors.tree_refusal}
+use Rattle.{desk_pages.specs.claim.{Desks.{InPages, OpensDesk}, Puts.PutsErr}, geo_tables.specs.{Loading.{number_of, geography_model_of}, Loads.HasSealed, Rows.seal_row}}
+use Rattle.{geo_tables.specs.declared.load.Load.Load, page_store.specs.{claim.Transactions.disk_in, declared.{pages.Pages.Pages, txn.Txn.Txn}}, store_rows.specs.Changes.desk_with}
+use Rattle.{sector_device.specs.declared.SectorDevice.Ghosts, desk_pages.proofs.Kept.opens_now, geo_tables.proofs.{Joins.{quiet_leaves, step_leaves, room_of}, Results.ok_then}}
+use Rattle.geo_tables.proofs.{Refused.{seal_refused, seal_unfinished, seal_unstarted}, Staged.{seal_fits, seal_desk}, Steps.{commits_after, not_started, not_stepped}}
+use Rattle.{page_store.proofs.Stops.leaves_here, sector_device.proofs.Moments.leaves_wider}
 use Rattle.geo_tables.proofs.seals.put_seal.Goals as goal
 
 -- what was put, of the geography itself

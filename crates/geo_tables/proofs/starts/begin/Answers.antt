@@ -1,6 +1,4 @@
-use Rattle.std.proofs.Common.{sym, ap, ◌∙◌, length, arith}
-use Rattle.page_store.specs.claim.Transactions.{stored}
-use Rattle.geo_tables.proofs.Begun.{free_count, reads_rows}
+use Rattle.{std.proofs.Common.{sym, ap, ◌∙◌, length, arith}, page_store.specs.claim.Transactions.stored, geo_tables.proofs.Begun.{free_count, reads_rows}}
 use Rattle.geo_tables.proofs.starts.begin.Goals as goal
 
 pub returns : goal.returns

@@ -1,6 +1,4 @@
-use Rattle.std.proofs.Common.{[], ◌∙◌}
-use Rattle.sector_device.specs.claim.Disk.{Image}
-use Rattle.geo_tables.proofs.Begun.{free_count}
+use Rattle.{std.proofs.Common.{[], ◌∙◌}, sector_device.specs.claim.Disk.Image, geo_tables.proofs.Begun.free_count}
 use Rattle.geo_tables.proofs.starts.free_pages.Goals as goal
 
 none : Image

@@ -1,5 +1,4 @@
-use Rattle.std.proofs.Common.{refl, arith, rules}
-use Rattle.geo_tables.proofs.Begun.{short_of}
+use Rattle.{std.proofs.Common.{refl, arith, rules}, geo_tables.proofs.Begun.short_of}
 use Rattle.geo_tables.proofs.starts.start.Goals as goal
 
 pub returns-then-not-has_room : goal.returns-then-not-has_room

@@ -1,5 +1,4 @@
-use Rattle.std.{specs.Io.KnownBytes.Keeps, proofs.Common.◌<◌}
-use Rattle.http_connections.specs.Paces.{silence_of}
+use Rattle.{std.{specs.Io.KnownBytes.Keeps, proofs.Common.◌<◌}, http_connections.specs.Paces.silence_of}
 use Rattle.http_connections.proofs.source.take_turn.Given as goal
 
 abbrev pub invariant-loop : goal.invariant-loop

@@ -1,5 +1,4 @@
-use Rattle.std.proofs.Common.{rules}
-use Rattle.http_desk.proofs.BodyLemmas.{item_written}
+use Rattle.{std.proofs.Common.rules, http_desk.proofs.BodyLemmas.item_written}
 use Rattle.http_desk.proofs.body.put_item.Goals as goal
 
 pub returns : goal.returns

@@ -1,5 +1,4 @@
-use Rattle.std.proofs.Common.{sym, rules}
-use Rattle.http_desk.proofs.BodyLemmas.{begins, kept}
+use Rattle.{std.proofs.Common.{sym, rules}, http_desk.proofs.BodyLemmas.{begins, kept}}
 use Rattle.http_desk.proofs.body.put_plans.Goals as goal
 
 pub loop-row-init : goal.loop-row-init

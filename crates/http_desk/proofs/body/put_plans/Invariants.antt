@@ -1,5 +1,4 @@
-use Rattle.std.proofs.Common.{◌≡◌, ◌++◌, drop}
-use Rattle.http_desk.{specs.claim.Bodies.plans_body, proofs.BodyLemmas.rest_of}
+use Rattle.{std.proofs.Common.{◌≡◌, ◌++◌, drop}, http_desk.{specs.claim.Bodies.plans_body, proofs.BodyLemmas.rest_of}}
 use Rattle.http_desk.proofs.body.put_plans.Given as goal
 
 abbrev pub invariant-loop-row : goal.invariant-loop-row

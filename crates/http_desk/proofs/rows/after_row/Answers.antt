@@ -1,6 +1,4 @@
-use Rattle.std.proofs.Common.{sym, ◌∙◌, arith}
-use Rattle.std.proofs.lemmas.List.{take_rest}
-use Rattle.http_desk.proofs.Prefixes.{row_in_prefix}
+use Rattle.{std.proofs.{Common.{sym, ◌∙◌, arith}, lemmas.List.take_rest}, http_desk.proofs.Prefixes.row_in_prefix}
 use Rattle.http_desk.proofs.rows.after_row.Goals as goal
 
 pub returns : goal.returns

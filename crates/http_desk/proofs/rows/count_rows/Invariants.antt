@@ -1,5 +1,4 @@
-use Rattle.std.{specs.Prelude.filter, specs.Str.Lines.lines, proofs.Common.{◌≡◌, ◌+◌, ◌≤◌, length}}
-use Rattle.http_desk.{specs.Accepting.rows_in, proofs.RowLines.has_bytes}
+use Rattle.{std.{specs.{Prelude.filter, Str.Lines.lines}, proofs.Common.{◌≡◌, ◌+◌, ◌≤◌, length}}, http_desk.{specs.Accepting.rows_in, proofs.RowLines.has_bytes}}
 use Rattle.http_desk.proofs.rows.count_rows.Given as goal
 
 abbrev pub invariant-loop-line : goal.invariant-loop-line

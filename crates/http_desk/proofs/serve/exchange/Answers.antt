@@ -1,8 +1,6 @@
-use Rattle.std.proofs.Common.{None, inl, inr, ◌++◌, refl, ap, ◌∙◌, rules}
-use Rattle.desk_model.specs.declared.command.Query.TheVariants.{Plans}
+use Rattle.{std.proofs.Common.{None, inl, inr, ◌++◌, refl, ap, ◌∙◌, rules}, desk_model.specs.declared.command.Query.TheVariants.Plans, http_desk.specs.claim.Serving.write_failures}
+use Rattle.http_desk.proofs.{TalkLemmas.{may_handle, answered_by, takes_by, unanswered, cut_next, cut_short, put, queued_as}, TurnLemmas.put_reads}
 use Rattle.http_desk.specs.declared.serve.Asked.TheVariants as asked
-use Rattle.http_desk.{specs.claim.Serving.write_failures, proofs.TalkLemmas.{may_handle, answered_by, takes_by, unanswered, cut_next, cut_short, put, queued_as}}
-use Rattle.http_desk.proofs.TurnLemmas.{put_reads}
 use Rattle.http_desk.proofs.serve.exchange.Goals as goal
 
 pub returns-in-Err-Read-clause-talks : goal.returns-in-Err-Read-clause-talks

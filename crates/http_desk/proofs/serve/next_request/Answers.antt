@@ -1,9 +1,8 @@
 use Rattle.std.proofs.{Common.{List, ℕ, [], Some, None, Ok, Err, refl, ap, subst, inl, ◌∙◌, arith, length, length-append, rules}, KnownBytes.Consumes-nil}
-use Rattle.http_wire.specs.Incoming.{Taken}
+use Rattle.{http_wire.specs.Incoming.Taken, http_desk.proofs.TurnLemmas.spends_none, http_intake.proofs.DrawsLemmas.spends_more}
+use Rattle.http_desk.proofs.NextLemmas.{no_turn, turn, next_from, nothing_came, no_bytes, next_cut, next_taken, next_read, next_ended, next_failed}
 use Rattle.http_wire.specs.declared.fault.RequestFault.TheVariants as fault
 use Rattle.http_desk.specs.declared.serve.Asked.TheVariants as asked
-use Rattle.http_desk.proofs.{NextLemmas.{no_turn, turn, next_from, nothing_came, no_bytes, next_cut, next_taken, next_read, next_ended, next_failed}, TurnLemmas.spends_none}
-use Rattle.http_intake.proofs.DrawsLemmas.{spends_more}
 use Rattle.http_desk.proofs.serve.next_request.Goals as goal
 
 pub loop-stream-init : goal.loop-stream-init

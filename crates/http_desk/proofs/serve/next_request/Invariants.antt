@@ -1,6 +1,4 @@
-use Rattle.std.proofs.Common.{◌≡◌, ◌≤◌}
-use Rattle.http_intake.specs.Budget.{reading_left, Spends}
-use Rattle.http_desk.proofs.NextLemmas.{Turned}
+use Rattle.{std.proofs.Common.{◌≡◌, ◌≤◌}, http_intake.specs.Budget.{reading_left, Spends}, http_desk.proofs.NextLemmas.Turned}
 use Rattle.http_desk.proofs.serve.next_request.Given as goal
 
 abbrev pub invariant-loop-stream : goal.invariant-loop-stream

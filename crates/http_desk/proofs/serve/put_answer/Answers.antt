@@ -1,5 +1,4 @@
-use Rattle.std.proofs.Common.{[], sym, rules}
-use Rattle.http_desk.proofs.TalkLemmas.{flushed, flushed_cut, queued_as}
+use Rattle.{std.proofs.Common.{[], sym, rules}, http_desk.proofs.TalkLemmas.{flushed, flushed_cut, queued_as}}
 use Rattle.http_desk.proofs.serve.put_answer.Goals as goal
 
 pub returns-in-Err-flush-clause-bytes : goal.returns-in-Err-flush-clause-bytes

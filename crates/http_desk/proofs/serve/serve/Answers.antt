@@ -1,7 +1,5 @@
-use Rattle.std.proofs.{Common.{◌+◌, true, false, ◌∙◌, arith, rules}, KnownBytes.Consumes-nil}
-use Rattle.http_desk.{specs.claim.Serving.{read_failures, write_failures}, proofs.TurnLemmas.{spends_none, all_spent}}
-use Rattle.http_desk.proofs.TalkLemmas.{asked_of, starts, goes, ends, fails, counted_as}
-use Rattle.http_intake.proofs.DrawsLemmas.{spends_more}
+use Rattle.{std.proofs.{Common.{◌+◌, true, false, ◌∙◌, arith, rules}, KnownBytes.Consumes-nil}, http_desk.specs.claim.Serving.{read_failures, write_failures}}
+use Rattle.{http_desk.proofs.{TalkLemmas.{asked_of, starts, goes, ends, fails, counted_as}, TurnLemmas.{spends_none, all_spent}}, http_intake.proofs.DrawsLemmas.spends_more}
 use Rattle.http_desk.proofs.serve.serve.Goals as goal
 
 pub loop-requests-init : goal.loop-requests-init

@@ -1,6 +1,4 @@
-use Rattle.std.proofs.Common.{◌≡◌, ◌+◌, ◌*◌, ◌≤◌}
-use Rattle.http_intake.specs.Budget.{reading_left, Spends}
-use Rattle.http_desk.proofs.TalkLemmas.{Stands}
+use Rattle.{std.proofs.Common.{◌≡◌, ◌+◌, ◌*◌, ◌≤◌}, http_intake.specs.Budget.{reading_left, Spends}, http_desk.proofs.TalkLemmas.Stands}
 use Rattle.http_desk.proofs.serve.serve.Given as goal
 
 abbrev pub invariant-loop-requests : goal.invariant-loop-requests

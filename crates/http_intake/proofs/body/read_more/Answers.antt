@@ -1,6 +1,5 @@
-use Rattle.std.proofs.Common.{◌≡◌, ◌∙◌, length, vec_len, rules, arith}
-use Rattle.std.proofs.lemmas.List.{places}
-use Rattle.http_intake.proofs.{DrawsLemmas.{spends_more, same_more}, BodyLemmas.{body_grown, came_still, room_grown}}
+use Rattle.{std.proofs.{Common.{◌≡◌, ◌∙◌, length, vec_len, rules, arith}, lemmas.List.places}, http_intake.proofs.BodyLemmas.{body_grown, came_still, room_grown}}
+use Rattle.http_intake.proofs.DrawsLemmas.{spends_more, same_more}
 use Rattle.http_intake.proofs.body.read_more.Goals as goal
 
 pub loop-filled-preserved : goal.loop-filled-preserved

@@ -1,5 +1,4 @@
-use Rattle.std.{specs.Io.KnownBytes.Consumes, proofs.Common.{◌≡◌, ◌≤◌, ◌+◌, ◌*◌, List, ℕ, ◌++◌, take, vec_len}}
-use Rattle.http_intake.specs.{Budget.Spends, Draws.{SameParts, left_of}}
+use Rattle.{std.{specs.Io.KnownBytes.Consumes, proofs.Common.{◌≡◌, ◌≤◌, ◌+◌, ◌*◌, List, ℕ, ◌++◌, take, vec_len}}, http_intake.specs.{Budget.Spends, Draws.{SameParts, left_of}}}
 use Rattle.http_intake.proofs.body.read_more.Given as goal
 
 abbrev pub invariant-loop-filled : goal.invariant-loop-filled

@@ -1,5 +1,4 @@
-use Rattle.std.proofs.Common.{inl, inr, refl, subst, arith, rules}
-use Rattle.httparse.specs.Grammar.{HasNoChunkLine, NeverHasChunkLine}
+use Rattle.{std.proofs.Common.{inl, inr, refl, subst, arith, rules}, httparse.specs.Grammar.{HasNoChunkLine, NeverHasChunkLine}}
 use Rattle.http_intake.proofs.ChunkLookLemmas.{line_window_is, line_at}
 use Rattle.http_intake.proofs.chunk_line.look_at_line.Goals as goal
 

@@ -1,5 +1,4 @@
-use Rattle.std.proofs.Common.{rules}
-use Rattle.http_intake.proofs.ChunkReadLemmas.{end_failed}
+use Rattle.{std.proofs.Common.rules, http_intake.proofs.ChunkReadLemmas.end_failed}
 use Rattle.http_intake.proofs.chunks.drop_end.Goals as goal
 
 pub returns-in-Err-clause-read : goal.returns-in-Err-clause-read

@@ -1,5 +1,4 @@
-use Rattle.std.proofs.Common.{List, ℕ, Err, subst}
-use Rattle.http_intake.{specs.ChunkParts.TrailersCame, proofs.ChunkReadLemmas.trailers_failed}
+use Rattle.{std.proofs.Common.{List, ℕ, Err, subst}, http_intake.{specs.ChunkParts.TrailersCame, proofs.ChunkReadLemmas.trailers_failed}}
 use Rattle.http_intake.proofs.chunks.drop_trailers.Goals as goal
 
 pub returns-in-Err-clause-read : goal.returns-in-Err-clause-read

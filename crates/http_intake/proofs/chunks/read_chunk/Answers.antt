@@ -1,5 +1,5 @@
-use Rattle.std.proofs.Common.{List, ℕ, length, subst, sym, rules}
-use Rattle.http_intake.{specs.claim.Chunks.{HasChunkFault, LacksChunks}, specs.ChunkParts.StepCame, proofs.ChunkReadLemmas.line_failed, proofs.DrawsLemmas.goes_on}
+use Rattle.{std.proofs.Common.{List, ℕ, length, subst, sym, rules}, http_intake.specs.{ChunkParts.StepCame, claim.Chunks.{HasChunkFault, LacksChunks}}}
+use Rattle.http_intake.proofs.{ChunkReadLemmas.line_failed, DrawsLemmas.goes_on}
 use Rattle.http_intake.proofs.chunks.read_chunk.Goals as goal
 
 pub returns-in-Ok-Found-clause-read : goal.returns-in-Ok-Found-clause-read

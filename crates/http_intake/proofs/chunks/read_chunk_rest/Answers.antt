@@ -1,5 +1,4 @@
-use Rattle.std.proofs.{Common.{◌≡◌, ◌+◌, [], List, ℕ, ◌++◌, length, vec_len, subst, sym, rules, arith}, KnownBytes.Consumes-nil}
-use Rattle.std.proofs.lemmas.List.{places}
+use Rattle.std.proofs.{Common.{◌≡◌, ◌+◌, [], List, ℕ, ◌++◌, length, vec_len, subst, sym, rules, arith}, KnownBytes.Consumes-nil, lemmas.List.places}
 use Rattle.http_intake.{specs.ChunkParts.{TrailersCame, StepCame}, proofs.ChunkReadLemmas.{line_too_large, last_reads, data_reads}}
 use Rattle.http_intake.proofs.chunks.read_chunk_rest.Goals as goal
 

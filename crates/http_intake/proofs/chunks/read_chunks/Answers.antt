@@ -1,6 +1,5 @@
-use Rattle.std.proofs.Common.{rules}
-use Rattle.std.proofs.lemmas.List.{places}
-use Rattle.http_intake.proofs.{DrawsLemmas.{spends_more, same_more}, ChunkReadLemmas.{stands_more, stands_ended, stands_failed, step_within}}
+use Rattle.{std.proofs.{Common.rules, lemmas.List.places}, http_intake.proofs.ChunkReadLemmas.{stands_more, stands_ended, stands_failed, step_within}}
+use Rattle.http_intake.proofs.DrawsLemmas.{spends_more, same_more}
 use Rattle.http_intake.proofs.chunks.read_chunks.Goals as goal
 
 pub loop-chunked-preserved : goal.loop-chunked-preserved

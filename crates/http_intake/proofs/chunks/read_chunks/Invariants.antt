@@ -1,5 +1,4 @@
-use Rattle.std.proofs.Common.{◌≡◌, ◌≤◌, vec_len}
-use Rattle.http_intake.{specs.Budget.Spends, specs.Draws.{SameParts, left_of}, proofs.ChunkReadLemmas.Stands}
+use Rattle.{std.proofs.Common.{◌≡◌, ◌≤◌, vec_len}, http_intake.{specs.{Budget.Spends, Draws.{SameParts, left_of}}, proofs.ChunkReadLemmas.Stands}}
 use Rattle.http_intake.proofs.chunks.read_chunks.Given as goal
 
 abbrev pub invariant-loop-chunked : goal.invariant-loop-chunked

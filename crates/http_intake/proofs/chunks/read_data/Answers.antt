@@ -1,6 +1,5 @@
-use Rattle.std.proofs.{Common.{◌≤◌, List, ℕ, ◌++◌, length, subst, rules, append_assoc}, KnownBytes.Consumes-trans}
-use Rattle.std.proofs.lemmas.List.{places}
-use Rattle.http_intake.{specs.ChunkParts.DataCame, proofs.ChunkReadLemmas.whole_data}
+use Rattle.{std.proofs.{Common.{◌≤◌, List, ℕ, ◌++◌, length, subst, rules, append_assoc}, KnownBytes.Consumes-trans, lemmas.List.places}, http_intake.specs.ChunkParts.DataCame}
+use Rattle.http_intake.proofs.ChunkReadLemmas.{whole_data}
 use Rattle.http_intake.proofs.chunks.read_data.Goals as goal
 
 pub returns-in-Ok-true-clause-read : goal.returns-in-Ok-true-clause-read

@@ -1,5 +1,4 @@
-use Rattle.std.proofs.Common.{◌≡◌, drop}
-use Rattle.http_intake.specs.claim.Lines.{head_lines}
+use Rattle.{std.proofs.Common.{◌≡◌, drop}, http_intake.specs.claim.Lines.head_lines}
 use Rattle.http_intake.proofs.lines.head_lines.Given as goal
 
 abbrev pub invariant-loop-i : goal.invariant-loop-i

@@ -1,5 +1,4 @@
-use Rattle.std.proofs.Common.{◌≡◌, List, ℕ}
-use Rattle.http_intake.proofs.DrawsLemmas.{goes_on}
+use Rattle.{std.proofs.Common.{◌≡◌, List, ℕ}, http_intake.proofs.DrawsLemmas.goes_on}
 use Rattle.http_intake.proofs.sought.read_prefix.Goals as goal
 
 pub returns-in-Err-clause-read : goal.returns-in-Err-clause-read

@@ -1,5 +1,4 @@
-use Rattle.std.proofs.Common.{◌≡◌, ◌≤◌}
-use Rattle.http_intake.specs.{Budget.Spends, Draws.{SameParts, Reads, left_of}}
+use Rattle.{std.proofs.Common.{◌≡◌, ◌≤◌}, http_intake.specs.{Budget.Spends, Draws.{SameParts, Reads, left_of}}}
 use Rattle.http_intake.proofs.sought.read_prefix.Given as goal
 
 abbrev pub invariant-loop-part : goal.invariant-loop-part

@@ -1,5 +1,4 @@
-use Rattle.std.proofs.Common.{◌∙◌, length, ap, arith}
-use Rattle.http_intake.proofs.{DrawsLemmas.{spends_more, same_more}, LookLemmas.waits_more}
+use Rattle.{std.proofs.Common.{◌∙◌, length, ap, arith}, http_intake.proofs.{DrawsLemmas.{spends_more, same_more}, LookLemmas.waits_more}}
 use Rattle.http_intake.proofs.sought.read_until_due.Goals as goal
 
 pub loop-fault-preserved : goal.loop-fault-preserved

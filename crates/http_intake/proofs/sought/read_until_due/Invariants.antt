@@ -1,5 +1,4 @@
-use Rattle.std.{specs.Prelude.All, specs.Io.KnownBytes.Consumes, proofs.Common.{◌≡◌, ◌<◌, ◌≤◌, List, ℕ, ◌++◌, length}}
-use Rattle.http_intake.specs.{Budget.Spends, Draws.{SameParts, left_of}}
+use Rattle.{std.{specs.{Io.KnownBytes.Consumes, Prelude.All}, proofs.Common.{◌≡◌, ◌<◌, ◌≤◌, List, ℕ, ◌++◌, length}}, http_intake.specs.{Budget.Spends, Draws.{SameParts, left_of}}}
 use Rattle.http_intake.proofs.sought.read_until_due.Given as goal
 
 abbrev pub invariant-loop-fault : goal.invariant-loop-fault

@@ -1,6 +1,5 @@
-use Rattle.std.proofs.Common.{◌≤◌, inr, subst, refl, rules}
-use Rattle.httparse.specs.{Grammar.NeverHasSection, Spans.SectionOverflows}
-use Rattle.http_intake.{specs.claim.Lines.section_lines, proofs.Prefixes.window_is, proofs.ChunkLookLemmas.{trailers_at, exceeds_lines}}
+use Rattle.{std.proofs.Common.{◌≤◌, inr, subst, refl, rules}, http_intake.specs.claim.Lines.section_lines, httparse.specs.{Grammar.NeverHasSection, Spans.SectionOverflows}}
+use Rattle.http_intake.proofs.{ChunkLookLemmas.{trailers_at, exceeds_lines}, Prefixes.window_is}
 use Rattle.http_intake.proofs.trailers.look_at_trailers.Goals as goal
 
 pub returns-in-Ok-Complete-clause-sees : goal.returns-in-Ok-Complete-clause-sees

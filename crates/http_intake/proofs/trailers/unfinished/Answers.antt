@@ -1,5 +1,4 @@
-use Rattle.std.proofs.Common.{rules}
-use Rattle.http_intake.{specs.claim.Lines.section_lines, proofs.ChunkLookLemmas.section_overflows_at}
+use Rattle.{std.proofs.Common.rules, http_intake.{specs.claim.Lines.section_lines, proofs.ChunkLookLemmas.section_overflows_at}}
 use Rattle.http_intake.proofs.trailers.unfinished.Goals as goal
 
 pub returns-then-bytes-ge-HEAD_LIMIT-clause-sees : goal.returns-then-bytes-ge-HEAD_LIMIT-clause-sees

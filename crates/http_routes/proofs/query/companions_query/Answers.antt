@@ -1,5 +1,4 @@
-use Rattle.std.proofs.Common.{◌∙◌, sym}
-use Rattle.http_routes.proofs.Told.{none_unless, nothing_told}
+use Rattle.{std.proofs.Common.{◌∙◌, sym}, http_routes.proofs.Told.{none_unless, nothing_told}}
 use Rattle.http_routes.proofs.query.companions_query.Goals as goal
 
 pub returns-in_default : goal.returns-in_default

@@ -1,6 +1,4 @@
-use Rattle.std.proofs.Common.{◌≡◌}
-use Rattle.form_urlencoded.specs.Parse.{raw_pairs_left}
-use Rattle.http_routes.{specs.claim.Queries.companions_query as companions_query_of, proofs.Told.told_by}
+use Rattle.{std.proofs.Common.◌≡◌, form_urlencoded.specs.Parse.raw_pairs_left, http_routes.{specs.claim.Queries.companions_query as companions_query_of, proofs.Told.told_by}}
 use Rattle.http_routes.proofs.query.companions_query.Given as goal
 
 abbrev pub invariant-loop-pair : goal.invariant-loop-pair

@@ -1,5 +1,4 @@
-use Rattle.matchit.specs.Route.{parse_route}
-use Rattle.http_routes.proofs.Adds.{added_ok, declined_err}
+use Rattle.{matchit.specs.Route.parse_route, http_routes.proofs.Adds.{added_ok, declined_err}}
 use Rattle.http_routes.proofs.route.add.Goals as goal
 
 pub returns-clause-row : goal.returns-clause-row

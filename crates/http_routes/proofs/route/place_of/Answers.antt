@@ -1,5 +1,4 @@
-use Rattle.std.proofs.Common.{◌≡◌, ◌==◌, true, get_or, length, sym, arith}
-use Rattle.std.proofs.lemmas.List.Sums.{position_or_len_is}
+use Rattle.std.proofs.{Common.{◌≡◌, ◌==◌, true, get_or, length, sym, arith}, lemmas.List.Sums.position_or_len_is}
 use Rattle.http_routes.proofs.route.place_of.Goals as goal
 
 pub returns-then-b-byte-clause-place : goal.returns-then-b-byte-clause-place

@@ -1,5 +1,4 @@
-use Rattle.std.proofs.Common.{◌≡◌, ◌+◌, sum_by}
-use Rattle.http_seats.specs.Seated.{accepted_at, halted_at, seats_at}
+use Rattle.{std.proofs.Common.{◌≡◌, ◌+◌, sum_by}, http_seats.specs.Seated.{accepted_at, halted_at, seats_at}}
 use Rattle.http_seats.proofs.many.gather.Given as goal
 
 abbrev pub invariant-loop-place : goal.invariant-loop-place

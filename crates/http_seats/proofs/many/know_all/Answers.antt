@@ -1,7 +1,5 @@
-use Rattle.std.proofs.Common.{◌∙◌, All, IfSome, sym, subst, take, take_all, arith}
+use Rattle.{std.proofs.Common.{◌∙◌, All, IfSome, sym, subst, take, take_all, arith}, desk_gallery.specs.Fronts.Kept, http_seats.proofs.Counts.one_more_begins}
 use mathlib.Core.List.{IsPrefix}
-use Rattle.desk_gallery.specs.Fronts.{Kept}
-use Rattle.http_seats.proofs.Counts.{one_more_begins}
 use Rattle.http_seats.proofs.many.know_all.Goals as goal
 
 pub loop-place-preserved : goal.loop-place-preserved

@@ -1,5 +1,4 @@
-use Rattle.std.proofs.Common.{◌≡◌, ◌+◌, ◌++◌, length, map, reverse}
-use Rattle.http_seats.specs.Streams.{places_of}
+use Rattle.{std.proofs.Common.{◌≡◌, ◌+◌, ◌++◌, length, map, reverse}, http_seats.specs.Streams.places_of}
 use Rattle.http_seats.proofs.many.places_for.Given as goal
 
 abbrev pub invariant-loop-visitor : goal.invariant-loop-visitor

@@ -1,7 +1,5 @@
-use Rattle.std.proofs.Common.{rules, ◌≡◌, ◌∙◌, ◌++◌, ℕ, Option, List, map, length, take, drop, vec_len, sym, ap, subst, arith}
-use Rattle.std.proofs.lemmas.List.{length-map}
-use Rattle.http_connections.specs.declared.ran.Ran.{Ran}
-use Rattle.http_seats.{specs.claim.Seated.Seated, specs.Streams.{PlacesAreLeft, traffic}, proofs.Counts.{left_many, handed_back}}
+use Rattle.std.proofs.{Common.{rules, ◌≡◌, ◌∙◌, ◌++◌, ℕ, Option, List, map, length, take, drop, vec_len, sym, ap, subst, arith}, lemmas.List.length-map}
+use Rattle.{http_connections.specs.declared.ran.Ran.Ran, http_seats.{specs.{Streams.{PlacesAreLeft, traffic}, claim.Seated.Seated}, proofs.Counts.{left_many, handed_back}}}
 use Rattle.http_seats.proofs.many.serve_all.Goals as goal
 
 pub returns : goal.returns

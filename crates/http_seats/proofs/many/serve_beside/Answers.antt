@@ -1,8 +1,5 @@
-use denote.Exit.{no}
-use denote.Param.{param}
-use denote.Param.Send.{param_send, arg_send, shr_send}
-use Rattle.std.proofs.Crossing.{send as heap_send}
-use Rattle.http_seats.proofs.Offices.{office_sync, flag_send, captures_send}
+use denote.{Exit.no, Param.{param, Send.{param_send, arg_send, shr_send}}}
+use Rattle.{std.proofs.Crossing.send as heap_send, http_seats.proofs.Offices.{office_sync, flag_send, captures_send}}
 use Rattle.http_seats.proofs.many.serve_beside.Goals as goal
 
 pub join-left-requires-send-F : goal.join-left-requires-send-F

@@ -1,8 +1,7 @@
-use Rattle.std.proofs.Common.{◌≡◌, ◌∙◌, ◌+◌, All, IfSome, refl, map, reverse, length, sum_by, ap, subst, arith}
-use mathlib.Core.List.{IsPrefix}
-use Rattle.desk_gallery.proofs.Running.{has_run_as}
-use Rattle.http_seats.specs.{Seated.{seats_at, accepted_at, halted_at}, claim.Streams.{IsAskedOf, total_of}, Streams.traffic}
+use Rattle.{std.proofs.Common.{◌≡◌, ◌∙◌, ◌+◌, All, IfSome, refl, map, reverse, length, sum_by, ap, subst, arith}, http_seats.specs.Seated.{seats_at, accepted_at, halted_at}}
+use Rattle.{http_seats.specs.{Streams.traffic, claim.Streams.{IsAskedOf, total_of}}, desk_gallery.proofs.Running.has_run_as}
 use Rattle.http_seats.proofs.Counts.{workers_of, rans_of, heard_of, sum_of, all_back, as_many, reversed_many}
+use mathlib.Core.List.{IsPrefix}
 use Rattle.http_seats.proofs.many.serve_many.Goals as goal
 
 pub close_counted-last-requires : goal.close_counted-last-requires

@@ -1,8 +1,6 @@
-use denote.Exit.{no}
-use denote.Param.{param}
-use denote.Param.Send.{sendable, param_sync, arg_sync, shr_sync}
-use Rattle.std.proofs.{Common.{rules, ◌≡◌, length}, Crossing.sync as heap_sync}
-use Rattle.http_seats.{specs.Streams.traffic, proofs.Counts.{each_left, stood}, proofs.Offices.{worker_send, office_sync, captures_sync}}
+use denote.{Exit.no, Param.{param, Send.{sendable, param_sync, arg_sync, shr_sync}}}
+use Rattle.{std.proofs.{Common.{rules, ◌≡◌, length}, Crossing.sync as heap_sync}, http_seats.{specs.Streams.traffic, proofs.Counts.{each_left, stood}}}
+use Rattle.http_seats.proofs.Offices.{worker_send, office_sync, captures_sync}
 use Rattle.http_seats.proofs.many.serve_places.Goals as goal
 
 pub for_each_mut-requires-send-T : goal.for_each_mut-requires-send-T

@@ -1,6 +1,4 @@
-use Rattle.std.proofs.Common.{◌≡◌, map, drop, fold}
-use Rattle.http_connections.specs.claim.Running.{joined}
-use Rattle.http_seats.specs.claim.Streams.{total_of}
+use Rattle.{std.proofs.Common.{◌≡◌, map, drop, fold}, http_connections.specs.claim.Running.joined, http_seats.specs.claim.Streams.total_of}
 use Rattle.http_seats.proofs.many.together.Given as goal
 
 abbrev pub invariant-loop-place : goal.invariant-loop-place

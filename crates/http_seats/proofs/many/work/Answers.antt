@@ -1,5 +1,4 @@
-use Rattle.std.proofs.Common.{◌∙◌, Some, subst}
-use Rattle.http_seats.{specs.Streams.traffic, proofs.Counts.{given_as, served_more}}
+use Rattle.{std.proofs.Common.{◌∙◌, Some, subst}, http_seats.{specs.Streams.traffic, proofs.Counts.{given_as, served_more}}}
 use Rattle.http_seats.proofs.many.work.Goals as goal
 
 pub serve-served-requires : goal.serve-served-requires

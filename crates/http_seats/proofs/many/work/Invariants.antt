@@ -1,5 +1,4 @@
-use Rattle.std.proofs.Common.{◌≡◌}
-use Rattle.http_seats.specs.{claim.Streams.AreServed, Streams.traffic}
+use Rattle.{std.proofs.Common.◌≡◌, http_seats.specs.{Streams.traffic, claim.Streams.AreServed}}
 use Rattle.http_seats.proofs.many.work.Given as goal
 
 abbrev pub invariant-loop : goal.invariant-loop

@@ -1,5 +1,4 @@
-use Rattle.std.proofs.Common.{subst, sym}
-use Rattle.http_seats.specs.Streams.{MayBeAsked, traffic}
+use Rattle.{std.proofs.Common.{subst, sym}, http_seats.specs.Streams.{MayBeAsked, traffic}}
 use Rattle.http_seats.proofs.many.work_at.Goals as goal
 
 pub work-place-requires-clause-asked : goal.work-place-requires-clause-asked

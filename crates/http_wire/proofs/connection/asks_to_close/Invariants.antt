@@ -1,6 +1,4 @@
-use Rattle.std.{specs.List.list_any, proofs.Common.{◌≡◌, map, drop}}
-use Rattle.httparse.specs.Spans.{header_bytes}
-use Rattle.http_wire.specs.claim.Connection.{is_closing}
+use Rattle.{std.{specs.List.list_any, proofs.Common.{◌≡◌, map, drop}}, http_wire.specs.claim.Connection.is_closing, httparse.specs.Spans.header_bytes}
 use Rattle.http_wire.proofs.connection.asks_to_close.Given as goal
 
 abbrev pub invariant-loop-h : goal.invariant-loop-h

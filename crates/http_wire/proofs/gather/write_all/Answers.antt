@@ -1,5 +1,4 @@
-use Rattle.std.proofs.Common.{◌+◌, ◌++◌, rules}
-use Rattle.http_wire.proofs.GatherLemmas.{piece_more, piece_within, piece_prefix, piece_stays}
+use Rattle.{std.proofs.Common.{◌+◌, ◌++◌, rules}, http_wire.proofs.GatherLemmas.{piece_more, piece_within, piece_prefix, piece_stays}}
 use Rattle.http_wire.proofs.gather.write_all.Goals as goal
 
 pub returns-in-Ok-eq0 : goal.returns-in-Ok-eq0

@@ -1,5 +1,4 @@
-use Rattle.std.{specs.Io.WritesAtMost, proofs.Common.{List, ℕ, sym, subst, arith, rules}}
-use Rattle.http_wire.proofs.GatherLemmas.{first_alone, in_first, past_first}
+use Rattle.{std.{specs.Io.WritesAtMost, proofs.Common.{List, ℕ, sym, subst, arith, rules}}, http_wire.proofs.GatherLemmas.{first_alone, in_first, past_first}}
 use Rattle.http_wire.proofs.gather.write_rest.Goals as goal
 
 pub returns-then-done-first-clause-bytes : goal.returns-then-done-first-clause-bytes

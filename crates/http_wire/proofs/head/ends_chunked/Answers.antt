@@ -1,7 +1,5 @@
-use Rattle.std.{specs.Prelude.codes, specs.List.flat_map, proofs.Common.{List, ℕ, map, take, sym, ap, ◌∙◌, rules}}
-use Rattle.httparse.specs.Spans.{header_bytes}
-use Rattle.http_wire.{specs.claim.Connection.{parts, ends_in}, specs.claim.Prefix.values, specs.claim.Target.is_word, proofs.ConnectionLemmas.ends_last}
-use Rattle.http_wire.proofs.FieldLemmas.{values-more, with_value, without_value}
+use Rattle.{std.{specs.{List.flat_map, Prelude.codes}, proofs.Common.{List, ℕ, map, take, sym, ap, ◌∙◌, rules}}, http_wire.specs.claim.{Connection.{parts, ends_in}, Prefix.values}}
+use Rattle.{http_wire.{specs.claim.Target.is_word, proofs.{ConnectionLemmas.ends_last, FieldLemmas.{values-more, with_value, without_value}}}, httparse.specs.Spans.header_bytes}
 use Rattle.http_wire.proofs.head.ends_chunked.Goals.{then-is_named, else-is_named}
 use Rattle.http_wire.proofs.head.ends_chunked.Goals as goal
 

@@ -1,6 +1,5 @@
-use Rattle.std.{specs.Prelude.codes, specs.List.flat_map, proofs.Common.{◌≡◌, take, map}}
+use Rattle.{std.{specs.{List.flat_map, Prelude.codes}, proofs.Common.{◌≡◌, take, map}}, http_wire.specs.claim.{Connection.{parts, ends_in}, Prefix.values}}
 use Rattle.httparse.specs.Spans.{header_bytes}
-use Rattle.http_wire.specs.{claim.Connection.{parts, ends_in}, claim.Prefix.values}
 use Rattle.http_wire.proofs.head.ends_chunked.Given as goal
 
 abbrev pub invariant-loop-h : goal.invariant-loop-h

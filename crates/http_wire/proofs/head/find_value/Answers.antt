@@ -1,5 +1,5 @@
-use Rattle.std.proofs.Common.{sym, ap, ◌∙◌, length-append, rules}
-use Rattle.http_wire.{specs.claim.Target.is_word, proofs.FieldLemmas.{values-more, with_value, without_value, first_stays, first_comes}}
+use Rattle.{std.proofs.Common.{sym, ap, ◌∙◌, length-append, rules}, http_wire.specs.claim.Target.is_word}
+use Rattle.http_wire.proofs.FieldLemmas.{values-more, with_value, without_value, first_stays, first_comes}
 use Rattle.http_wire.proofs.head.find_value.Goals.{then-is_named, then-count-eq0, else-count-eq0, else-is_named}
 use Rattle.http_wire.proofs.head.find_value.Goals as goal
 
@@ -13,8 +13,7 @@ loop-h-preserved c =
           elim w.if-count-eq0.branch [
             | then-count-eq0 w' ↦
                 rw (w.count-is, more, w.first-is, w'.first-is, w'.of-first.ensures) (search (rules, before, length-append, first_comes))
-            | else-count-eq0 w' ↦
-                rw (w.count-is, more, w.first-is, w'.first-is) (search (rules, before, length-append, first_stays))
+            | else-count-eq0 w' ↦ rw (w.count-is, more, w.first-is, w'.first-is) (search (rules, before, length-append, first_stays))
           ]
       | else-is_named w ↦ search (rules, c.is_named.ensures, c.of.ensures, without_value)
     ]

@@ -1,6 +1,4 @@
-use Rattle.std.{specs.List.slice_get, proofs.Common.{◌≡◌, ◌<◌, ◌≤◌, length, take, map, Some}}
-use Rattle.httparse.specs.Spans.{header_bytes}
-use Rattle.http_wire.specs.claim.Prefix.{values}
+use Rattle.{std.{specs.List.slice_get, proofs.Common.{◌≡◌, ◌<◌, ◌≤◌, length, take, map, Some}}, http_wire.specs.claim.Prefix.values, httparse.specs.Spans.header_bytes}
 use Rattle.http_wire.proofs.head.find_value.Given as goal
 
 abbrev pub invariant-loop-h : goal.invariant-loop-h

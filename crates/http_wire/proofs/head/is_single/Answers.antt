@@ -1,5 +1,4 @@
-use Rattle.std.proofs.Common.{◌∙◌, ◌==◌, ℕ, ap, sym, arith}
-use Rattle.http_wire.proofs.FieldLemmas.{single_one, single_more}
+use Rattle.{std.proofs.Common.{◌∙◌, ◌==◌, ℕ, ap, sym, arith}, http_wire.proofs.FieldLemmas.{single_one, single_more}}
 use Rattle.http_wire.proofs.head.is_single.Goals as goal
 
 pub returns-then-lines-ne1 : goal.returns-then-lines-ne1

@@ -1,6 +1,4 @@
-use Rattle.std.{specs.List.list_any, proofs.Common.{◌≡◌, map, drop}}
-use Rattle.httparse.specs.Spans.{header_bytes}
-use Rattle.http_wire.specs.claim.Interim.{is_expecting}
+use Rattle.{std.{specs.List.list_any, proofs.Common.{◌≡◌, map, drop}}, http_wire.specs.claim.Interim.is_expecting, httparse.specs.Spans.header_bytes}
 use Rattle.http_wire.proofs.interim.expects_continue.Given as goal
 
 abbrev pub invariant-loop-h : goal.invariant-loop-h

@@ -1,5 +1,4 @@
-use Rattle.std.proofs.Common.{◌==◌, length, sym, arith, rules}
-use Rattle.std.proofs.lemmas.List.Sums.{position_or_len_is}
+use Rattle.std.proofs.{Common.{◌==◌, length, sym, arith, rules}, lemmas.List.Sums.position_or_len_is}
 use Rattle.http_wire.proofs.lists.comma_at.Goals as goal
 
 pub returns-then-b-eq44-clause-place : goal.returns-then-b-eq44-clause-place

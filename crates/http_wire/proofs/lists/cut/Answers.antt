@@ -1,6 +1,4 @@
-use Rattle.std.proofs.Common.{arith, rules}
-use Rattle.std.proofs.lemmas.List.{take_rest}
-use Rattle.http_wire.proofs.ConnectionLemmas.{whole_part, first_part}
+use Rattle.{std.proofs.{Common.{arith, rules}, lemmas.List.take_rest}, http_wire.proofs.ConnectionLemmas.{whole_part, first_part}}
 use Rattle.http_wire.proofs.lists.cut.Goals as goal
 
 pub returns-then-end-bytes : goal.returns-then-end-bytes

@@ -1,5 +1,4 @@
-use Rattle.std.{specs.Prelude.codes, proofs.Common.{◌≡◌, length}}
-use Rattle.http_wire.specs.claim.Connection.{parts, ends_in}
+use Rattle.{std.{specs.Prelude.codes, proofs.Common.{◌≡◌, length}}, http_wire.specs.claim.Connection.{parts, ends_in}}
 use Rattle.http_wire.proofs.lists.ends_in_chunked.Given as goal
 
 abbrev pub invariant-loop-next : goal.invariant-loop-next

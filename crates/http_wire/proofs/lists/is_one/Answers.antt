@@ -1,5 +1,4 @@
-use Rattle.std.proofs.Common.{rules}
-use Rattle.http_wire.proofs.ConnectionLemmas.{two_parts}
+use Rattle.{std.proofs.Common.rules, http_wire.proofs.ConnectionLemmas.two_parts}
 use Rattle.http_wire.proofs.lists.is_one.Goals as goal
 
 pub returns-in-Some : goal.returns-in-Some

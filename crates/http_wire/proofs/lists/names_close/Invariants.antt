@@ -1,5 +1,4 @@
-use Rattle.std.proofs.Common.{◌≡◌, length}
-use Rattle.http_wire.specs.claim.Connection.{names_close}
+use Rattle.{std.proofs.Common.{◌≡◌, length}, http_wire.specs.claim.Connection.names_close}
 use Rattle.http_wire.proofs.lists.names_close.Given as goal
 
 abbrev pub invariant-loop-more : goal.invariant-loop-more

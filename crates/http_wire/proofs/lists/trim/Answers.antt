@@ -1,5 +1,4 @@
-use Rattle.std.proofs.Common.{rules}
-use Rattle.httparse.specs.Grammar.{trim_ows}
+use Rattle.{std.proofs.Common.rules, httparse.specs.Grammar.trim_ows}
 use Rattle.http_wire.proofs.lists.trim.Goals as goal
 
 pub returns : goal.returns

@@ -1,5 +1,4 @@
-use Rattle.std.proofs.Common.{◌≡◌, length}
-use Rattle.httparse.specs.Grammar.{skip_ows}
+use Rattle.{std.proofs.Common.{◌≡◌, length}, httparse.specs.Grammar.skip_ows}
 use Rattle.http_wire.proofs.lists.trim_start.Given as goal
 
 abbrev pub invariant-loop-s : goal.invariant-loop-s

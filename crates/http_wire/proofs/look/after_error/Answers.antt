@@ -1,5 +1,4 @@
-use Rattle.std.proofs.Common.{[], subst, sym, append-nil}
-use Rattle.httparse.specs.Grammar.{ReadsRequest}
+use Rattle.{std.proofs.Common.{[], subst, sym, append-nil}, httparse.specs.Grammar.ReadsRequest}
 use Rattle.http_wire.proofs.look.after_error.Goals as goal
 
 pub unfinished-requires-clause-none : goal.unfinished-requires-clause-none

@@ -1,5 +1,4 @@
-use Rattle.std.proofs.Common.{◌≡◌, drop, false}
-use Rattle.http_wire.specs.InTarget.{in_blank}
+use Rattle.{std.proofs.Common.{◌≡◌, drop, false}, http_wire.specs.InTarget.in_blank}
 use Rattle.http_wire.proofs.look.ends_after_blank.Given as goal
 
 abbrev pub invariant-loop-i : goal.invariant-loop-i

@@ -1,5 +1,4 @@
-use Rattle.std.proofs.Common.{◌≡◌, drop, nat_lt, false}
-use Rattle.http_wire.specs.InTarget.{in_method}
+use Rattle.{std.proofs.Common.{◌≡◌, drop, nat_lt, false}, http_wire.specs.InTarget.in_method}
 use Rattle.http_wire.proofs.look.ends_after_method.Given as goal
 
 abbrev pub invariant-loop-i : goal.invariant-loop-i

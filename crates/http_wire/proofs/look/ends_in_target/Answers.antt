@@ -1,5 +1,4 @@
-use Rattle.std.proofs.Common.{rules}
-use Rattle.http_wire.proofs.TargetLemmas.{in_target_yes, in_target_no}
+use Rattle.{std.proofs.Common.rules, http_wire.proofs.TargetLemmas.{in_target_yes, in_target_no}}
 use Rattle.http_wire.proofs.look.ends_in_target.Goals as goal
 
 pub returns : goal.returns

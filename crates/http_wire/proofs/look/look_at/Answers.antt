@@ -1,7 +1,5 @@
-use Rattle.std.proofs.Common.{◌≤◌, ℕ, length, take, inl, inr, subst, refl, rules}
-use Rattle.httparse.specs.Spans.{RequestOverflows, RequestExceeds}
-use Rattle.http_intake.{specs.claim.Lines.head_lines, proofs.Prefixes.window_is}
-use Rattle.http_wire.proofs.LookLemmas.{parsed_at, exceeds_lines}
+use Rattle.{std.proofs.Common.{◌≤◌, ℕ, length, take, inl, inr, subst, refl, rules}, http_intake.{specs.claim.Lines.head_lines, proofs.Prefixes.window_is}}
+use Rattle.{httparse.specs.Spans.{RequestOverflows, RequestExceeds}, http_wire.proofs.LookLemmas.{parsed_at, exceeds_lines}}
 use Rattle.http_wire.proofs.look.look_at.Goals as goal
 
 pub after_parse-requires : goal.after_parse-requires

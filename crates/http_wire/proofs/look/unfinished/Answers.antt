@@ -1,6 +1,4 @@
-use Rattle.std.proofs.Common.{◌≤◌, inl, inr, subst, refl, arith, rules}
-use Rattle.httparse.specs.Grammar.{HasNoRequest, MayBecomeRequest}
-use Rattle.http_intake.specs.claim.Lines.{head_lines}
+use Rattle.{std.proofs.Common.{◌≤◌, inl, inr, subst, refl, arith, rules}, http_intake.specs.claim.Lines.head_lines, httparse.specs.Grammar.{HasNoRequest, MayBecomeRequest}}
 use Rattle.http_wire.proofs.LookLemmas.{overflows_at}
 use Rattle.http_wire.proofs.look.unfinished.Goals as goal
 
@@ -17,7 +15,4 @@ returns-then-bytes-ge-HEAD_LIMIT c = inl (
 pub returns-then-head_lines : goal.returns-then-head_lines
 returns-then-head_lines c =
     let lines : 66 ≤ head_lines c.args.part.now = omega (arith, c.head_lines.ensures, c.if-head_lines.true) in
-    inl (
-      inr (search (rules, c.requires.part_is, c.requires.none, lines, overflows_at)),
-      refl,
-    )
+    inl (inr (search (rules, c.requires.part_is, c.requires.none, lines, overflows_at)), refl)

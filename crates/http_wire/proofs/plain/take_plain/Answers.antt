@@ -1,5 +1,4 @@
-use Rattle.std.proofs.Common.{rules}
-use Rattle.http_wire.proofs.PlainLemmas.{plain_is}
+use Rattle.{std.proofs.Common.rules, http_wire.proofs.PlainLemmas.plain_is}
 use Rattle.http_wire.proofs.plain.take_plain.Goals as goal
 
 pub returns-clause-taken : goal.returns-clause-taken

@@ -1,8 +1,6 @@
-use Rattle.std.proofs.{Common.{List, [], ℕ, ◌++◌, length, ◌∙◌, ap, sym, subst, rules}, KnownBytes.Consumes-nil}
-use Rattle.httparse.specs.Spans.{span_bytes, IsWithin}
-use Rattle.http_wire.specs.{Framed.BodyRead, Incoming.{ReadsPrefix, IsTargetOf}, claim.Interim.continue_text}
-use Rattle.http_wire.proofs.{FinishLemmas.{finish_draws, finish_ends, finish_writes, out_of_memory_draws, write_draws}, InterimLemmas.{found_asks, found_cut}}
-use Rattle.http_wire.proofs.RequestLemmas.{rest_reads, out_of_memory, due}
+use Rattle.{std.proofs.{Common.{List, [], ℕ, ◌++◌, length, ◌∙◌, ap, sym, subst, rules}, KnownBytes.Consumes-nil}, http_wire.specs.{Framed.BodyRead, claim.Interim.continue_text}}
+use Rattle.{http_wire.{specs.Incoming.{ReadsPrefix, IsTargetOf}, proofs.InterimLemmas.{found_asks, found_cut}}, httparse.specs.Spans.{span_bytes, IsWithin}}
+use Rattle.http_wire.proofs.{FinishLemmas.{finish_draws, finish_ends, finish_writes, out_of_memory_draws, write_draws}, RequestLemmas.{rest_reads, out_of_memory, due}}
 use Rattle.http_wire.proofs.request.read_rest.Goals as goal
 
 pub returns : goal.returns

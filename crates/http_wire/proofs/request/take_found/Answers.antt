@@ -1,6 +1,5 @@
-use Rattle.std.proofs.Common.{◌≤◌, List, ℕ, length, drop, ◌∙◌, ap, sym, subst, arith, length-drop, rules}
-use Rattle.httparse.specs.Spans.{span_bytes, IsWithin}
-use Rattle.http_wire.{specs.Incoming.{Taken, IsTargetOf}, proofs.FinishLemmas.targeted_takes, proofs.TakenLemmas.{body_cut, taken_out_of_memory, taken_whole}}
+use Rattle.{std.proofs.Common.{◌≤◌, List, ℕ, length, drop, ◌∙◌, ap, sym, subst, arith, length-drop, rules}, http_wire.specs.Incoming.{Taken, IsTargetOf}}
+use Rattle.{httparse.specs.Spans.{span_bytes, IsWithin}, http_wire.proofs.{FinishLemmas.targeted_takes, TakenLemmas.{body_cut, taken_out_of_memory, taken_whole}}}
 use Rattle.http_wire.proofs.request.take_found.Goals as goal
 
 pub returns-clause-taken : goal.returns-clause-taken

@@ -1,5 +1,4 @@
-use Rattle.std.proofs.Common.{subst, sym}
-use Rattle.http_wire.{specs.Incoming.Taken, proofs.TakenLemmas.taken_refused}
+use Rattle.{std.proofs.Common.{subst, sym}, http_wire.{specs.Incoming.Taken, proofs.TakenLemmas.taken_refused}}
 use Rattle.http_wire.proofs.request.take_request.Goals as goal
 
 pub returns-in-Refused-clause-taken : goal.returns-in-Refused-clause-taken

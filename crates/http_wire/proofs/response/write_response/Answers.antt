@@ -1,5 +1,4 @@
-use Rattle.std.proofs.Common.{List, ℕ, ◌++◌, subst, rules}
-use Rattle.http_wire.{specs.Answer.head_of, specs.Queue.Queues, proofs.QueueLemmas.{waits, sent_waits, sent_cut, sent_both}}
+use Rattle.{std.proofs.Common.{List, ℕ, ◌++◌, subst, rules}, http_wire.{specs.{Answer.head_of, Queue.Queues}, proofs.QueueLemmas.{waits, sent_waits, sent_cut, sent_both}}}
 use Rattle.http_wire.proofs.response.write_response.Goals as goal
 
 pub returns-then-has_room-clause-bytes : goal.returns-then-has_room-clause-bytes

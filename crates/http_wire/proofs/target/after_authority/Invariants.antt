@@ -1,5 +1,4 @@
-use Rattle.std.proofs.Common.{◌≡◌, drop}
-use Rattle.http_wire.specs.claim.Target.{after_authority}
+use Rattle.{std.proofs.Common.{◌≡◌, drop}, http_wire.specs.claim.Target.after_authority}
 use Rattle.http_wire.proofs.target.after_authority.Given as goal
 
 abbrev pub invariant-loop-i : goal.invariant-loop-i

@@ -1,8 +1,5 @@
-use Rattle.std.{specs.Prelude.Ok, proofs.Common.{ap, ◌∙◌, rules}}
-use Rattle.page_store.proofs.Stops.{quiet_none}
-use Rattle.desk_pages.specs.declared.error.StoreError.{StoreError}
-use Rattle.store_command.specs.Faults.{fault_of_store}
-use Rattle.inspect_command.proofs.Devices.{holds_at, looked_at, not_opened_verifies, opened_leaves, verified}
+use Rattle.{std.{specs.Prelude.Ok, proofs.Common.{ap, ◌∙◌, rules}}, desk_pages.specs.declared.error.StoreError.StoreError, store_command.specs.Faults.fault_of_store}
+use Rattle.{inspect_command.proofs.Devices.{holds_at, looked_at, not_opened_verifies, opened_leaves, verified}, page_store.proofs.Stops.quiet_none}
 use Rattle.inspect_command.proofs.beside.open_sound.Goals as goal
 
 pub returns-in-Err : goal.returns-in-Err

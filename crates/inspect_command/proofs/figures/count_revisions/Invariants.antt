@@ -1,5 +1,4 @@
-use Rattle.std.proofs.Common.{◌≡◌, ◌≤◌, ◌*◌, ◌^◌, take, sum_by}
-use Rattle.desk_model.specs.declared.reply.PlanLine.{PlanLine}
+use Rattle.{std.proofs.Common.{◌≡◌, ◌≤◌, ◌*◌, ◌^◌, take, sum_by}, desk_model.specs.declared.reply.PlanLine.PlanLine}
 use Rattle.inspect_command.proofs.figures.count_revisions.Given as goal
 
 abbrev pub invariant-loop-line : goal.invariant-loop-line

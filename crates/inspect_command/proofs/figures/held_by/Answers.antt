@@ -1,7 +1,5 @@
-use Rattle.std.{specs.Option.option_copied, proofs.Common.{◌≡◌, ap, ◌∙◌}}
-use Rattle.desk_model.specs.claim.Desk.{Desk}
-use Rattle.store_command.specs.desk_store.claim.Clerks.{desk_of}
-use Rattle.inspect_command.{specs.Figures.{blocks_in, pairs_in}, proofs.Told.are_held}
+use Rattle.{std.{specs.Option.option_copied, proofs.Common.{◌≡◌, ap, ◌∙◌, rules}}, desk_model.specs.claim.Desk.Desk, store_command.specs.desk_store.claim.Clerks.desk_of}
+use Rattle.inspect_command.proofs.Told.{are_held}
 use Rattle.inspect_command.proofs.figures.held_by.Goals as goal
 
 pub returns-clause-held : goal.returns-clause-held
@@ -12,16 +10,5 @@ returns-clause-held g c =
     let two : option_copied c.geography-2.result ≡ (desk_of x).geography = c.geography-2.ensures ∙ ap (λ (d : Desk). d.geography) (c.deref-2.ensures ∙ shown) in
     let three : option_copied c.geography-3.result ≡ (desk_of x).geography = c.geography-3.ensures ∙ ap (λ (d : Desk). d.geography) (c.deref-3.ensures ∙ shown) in
     are_held x c.in_ok-needed.needed _ (option_copied c.geography.result) one c.in_ok-needed.ensures
-    (record {
-      journal = c.journal_pages-journal_pages.ensures;
-      free = λ honest. c.free_pages-free_pages.ensures c.requires honest;
-      revision = c.need_of.ensures;
-      patch = c.need_of-2.ensures;
-      fork = c.need_of-3.ensures;
-    })
-    (record {
-      blocks = c.count_blocks.ensures ∙ ap blocks_in two;
-      pairs = c.count_pairs.ensures ∙ ap pairs_in three;
-      plans = c.in_ok-plans.ensures.plans;
-      revisions = c.in_ok-plans.ensures.revisions;
-    })
+    (search rules)
+    (search rules)

@@ -1,5 +1,4 @@
-use Rattle.std.proofs.Common.{◌<◌, ◌≤◌, ℕ, length, get_or}
-use Rattle.inspect_command.specs.Needs.{no_cut}
+use Rattle.{std.proofs.Common.{◌<◌, ◌≤◌, ℕ, length, get_or}, inspect_command.specs.Needs.no_cut}
 use Rattle.inspect_command.proofs.needs.largest.Given as goal
 
 abbrev pub invariant-loop-next : goal.invariant-loop-next

@@ -1,5 +1,4 @@
-use Rattle.std.proofs.Common.{ℕ, List, inl, inr, rules, subst, sym}
-use Rattle.inspect_command.specs.SoundTexts.{IsLongLine}
+use Rattle.{std.proofs.Common.{ℕ, List, inl, inr, rules, subst, sym}, inspect_command.specs.SoundTexts.IsLongLine}
 use Rattle.inspect_command.proofs.refusal.tell_refusal.Goals as goal
 
 pub returns-in-Some : goal.returns-in-Some

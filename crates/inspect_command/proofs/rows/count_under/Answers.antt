@@ -1,16 +1,10 @@
-use Rattle.std.proofs.Common.{◌+◌, List, [], ◌∷◌, length, length-append, refl, sym, ap, ◌∙◌, arith}
-use Rattle.page_store.proofs.Stops.{passed_more, passed_none}
-use Rattle.page_btree.specs.page_node.claim.Entries.{Entry}
-use Rattle.btree_walks.{specs.Parts.row_of, proofs.Walked.{walk_all, walk_begins, walk_ends, walk_on, walk_quiet, walk_refused}}
-use Rattle.desk_pages.proofs.{Looking.{looked, not_looked}, Reading.get_unread}
-use Rattle.row_owners.specs.Strays.{IsAny}
+use Rattle.{std.proofs.Common.{◌+◌, List, [], ◌∷◌, length, length-append, sym, ap, ◌∙◌, arith}, btree_walks.specs.Parts.row_of, page_btree.specs.page_node.claim.Entries.Entry}
+use Rattle.{row_owners.specs.Strays.IsAny, btree_walks.proofs.Walked.{walk_all, walk_begins, walk_ends, walk_on, walk_quiet, walk_refused}, desk_pages.proofs.Reading.get_unread}
+use Rattle.{desk_pages.proofs.Looking.{looked, not_looked}, page_store.proofs.Stops.{passed_more, passed_none}}
 use Rattle.inspect_command.proofs.rows.count_under.Goals as goal
 
 pub loop-taken-init : goal.loop-taken-init
-loop-taken-init g c = record {
-  begun = c.requires.begun;
-  walked = walk_begins c.args.pages.now c.new-scan.result c.new-scan.ensures.fault c.new-scan.ensures.rows (λ m. refl);
-}
+loop-taken-init g c = search walk_begins
 
 pub returns-in-None : goal.returns-in-None
 returns-in-None g c =

@@ -1,14 +1,11 @@
-use Rattle.std.proofs.Common.{sym, ap, subst, ◌∙◌}
-use Rattle.sector_device.specs.claim.Moments.{LeavesOnly}
-use Rattle.page_store.{specs.claim.Transactions.disk_in, proofs.Stops.leaves_quiet}
-use Rattle.desk_pages.{specs.Openings.{AllDesks, OpensOneOf}, specs.declared.error.StoreError.StoreError, proofs.Found.{all_versions, stores_of, open_leaves}}
-use Rattle.store_command.specs.{Faults.fault_of_store, declared.fault.StoreFault.StoreFault}
-use Rattle.inspect_command.{specs.Rows.IsUncounted, proofs.Looked.counts, proofs.Unread.{page_uncounted, rows_uncounted}}
+use Rattle.{std.proofs.Common.{sym, ap, subst, ◌∙◌}, desk_pages.specs.{Openings.{AllDesks, OpensOneOf}, declared.error.StoreError.StoreError}, inspect_command.proofs.Looked.counts}
+use Rattle.{inspect_command.specs.Rows.IsUncounted, page_store.{specs.claim.Transactions.disk_in, proofs.Stops.leaves_quiet}, sector_device.specs.claim.Moments.LeavesOnly}
+use Rattle.{store_command.specs.{Faults.fault_of_store, declared.fault.StoreFault.StoreFault}, desk_pages.proofs.Found.{all_versions, stores_of, open_leaves}}
+use Rattle.inspect_command.proofs.Unread.{page_uncounted, rows_uncounted}
 use Rattle.inspect_command.proofs.rows.rows_of.Goals as goal
 
 pub returns-in-Err-clause-any_moment : goal.returns-in-Err-clause-any_moment
-returns-in-Err-clause-any_moment g c = λ honest all.
-    open_leaves (g.D.SectorDevice.disk c.args.device) (g.D.SectorDevice.disk c.in-Err.left) all (c.in-Err.ensures.any_moment honest (stores_of (g.D.SectorDevice.disk c.args.device) (all_versions (g.D.SectorDevice.disk c.args.device) all)))
+returns-in-Err-clause-any_moment g c = λ honest all. search (open_leaves, c.in-Err.ensures.any_moment, stores_of, all_versions)
 
 pub returns-clause-any_moment : goal.returns-clause-any_moment
 returns-clause-any_moment g c =

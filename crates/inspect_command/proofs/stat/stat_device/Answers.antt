@@ -1,6 +1,5 @@
-use Rattle.std.{specs.Prelude.Result, proofs.Common.{sym, subst}}
+use Rattle.{std.{specs.Prelude.Result, proofs.Common.{sym, subst}}, inspect_command.{specs.{Stats.StatsDevice, declared.figures.Figures.Figures}, proofs.Looked.stated}}
 use Rattle.store_command.specs.declared.fault.StoreFault.{StoreFault}
-use Rattle.inspect_command.{specs.declared.figures.Figures.Figures, specs.Stats.StatsDevice, proofs.Looked.stated}
 use Rattle.inspect_command.proofs.stat.stat_device.Goals as goal
 
 pub returns : goal.returns

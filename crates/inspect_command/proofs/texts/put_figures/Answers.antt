@@ -10,6 +10,4 @@ returns c =
     let patched = c.push_need-2.new.text.items in
     let forked = c.push_need-3.new.text.items in
     let prefix = four start first c.push_store.new.text.items c.push_desk.new.text.items rows _ _ _ _ c.in_ok-push_first.ensures c.in_ok-push_store.ensures c.in_ok-push_desk.ensures c.in_ok-push_rows.ensures in
-    two start forked c.push_end.new.text.items _ _
-    (two start patched forked _ _ (two start whole patched _ _ (two start rows whole _ _ prefix c.in_ok-push_need.ensures) c.in_ok-push_need-2.ensures) c.in_ok-push_need-3.ensures)
-    c.in_ok-push_end.ensures
+    search (two, c.in_ok-push_need.ensures, c.in_ok-push_need-2.ensures, c.in_ok-push_need-3.ensures, c.in_ok-push_end.ensures)

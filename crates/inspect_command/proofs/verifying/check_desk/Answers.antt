@@ -1,25 +1,13 @@
-use Rattle.std.proofs.Common.{◌≡◌, true, sym, ap, subst, ◌∙◌}
-use Rattle.page_store.proofs.Stops.{quiet_more, passed_more}
-use Rattle.desk_model.specs.{Ranges.ranges_in, claim.Desk.Desk}
-use Rattle.desk_pages.proofs.Outcomes.{err_of}
-use Rattle.inspect_command.{specs.Sound.CheckErr, proofs.Unsound.{opening_check, whole_check, holdings_check, then_check, still_rows, found_as, found_stray, not_stray}}
+use Rattle.{std.proofs.Common.{◌≡◌, true, sym, ap, ◌∙◌, rules}, desk_model.specs.{Ranges.ranges_in, claim.Desk.Desk}, inspect_command.specs.Sound.CheckErr}
+use Rattle.{desk_pages.proofs.Outcomes.err_of, page_store.proofs.Stops.{quiet_more, passed_more}}
+use Rattle.inspect_command.proofs.Unsound.{opening_check, whole_check, holdings_check, then_check, still_rows, found_as, found_stray, not_stray}
 use Rattle.inspect_command.proofs.verifying.check_desk.Goals as goal
 
 pub returns-in_err-catalogue-clause-err : goal.returns-in_err-catalogue-clause-err
-returns-in_err-catalogue-clause-err g c =
-    let t = c.args.txn.now in
-    let a = c.args.pages.now in
-    let b = c.read_desk.new.pages in
-    let e = c.in_err-catalogue.field-0.0 in
-    err_of c.from_residual.result e (CheckErr t a b) c.from_residual.ensures.1 (opening_check t a b e c.in_err-catalogue.ensures.reading.err)
+returns-in_err-catalogue-clause-err g c = search (rules, opening_check)
 
 pub returns-in_err-ranges-clause-err : goal.returns-in_err-ranges-clause-err
-returns-in_err-ranges-clause-err g c =
-    let t = c.args.txn.now in
-    let a = c.args.pages.now in
-    let b = c.read_desk.new.pages in
-    let e = c.in_err-ranges.field-0.0 in
-    err_of c.from_residual-in_err-ranges.result e (CheckErr t a b) c.from_residual-in_err-ranges.ensures.1 (subst (CheckErr t a b) (sym c.in_err-ranges.ensures.err) tt)
+returns-in_err-ranges-clause-err g c = search rules
 
 pub returns-in_err-checked-clause-quiet : goal.returns-in_err-checked-clause-quiet
 returns-in_err-checked-clause-quiet g c = quiet_more c.args.pages.now c.read_desk.new.pages c.check_rows.new.pages c.read_desk.ensures.reading.quiet c.check_rows.ensures.quiet
@@ -61,10 +49,7 @@ returns-then-is_some-clause-right g c = λ honest e h belong.
     not_stray h.m e c.as_slice.result.now same checked.stray checked.rows belong (c.in_ok-checked.ensures.there honest h.m (still_rows t a b d h.m c.in_ok-catalogue.ensures.reading.passed c.check_rows.ensures.quiet honest h.holds))
 
 pub returns-in_err-check_holdings-clause-quiet : goal.returns-in_err-check_holdings-clause-quiet
-returns-in_err-check_holdings-clause-quiet g c =
-    let a = c.args.pages.now in
-    let d = c.check_rows.new.pages in
-    quiet_more a d c.check_holdings.new.pages (quiet_more a c.read_desk.new.pages d c.read_desk.ensures.reading.quiet c.check_rows.ensures.quiet) c.check_holdings.ensures.quiet
+returns-in_err-check_holdings-clause-quiet g c = search quiet_more
 
 pub returns-in_err-check_holdings-clause-err : goal.returns-in_err-check_holdings-clause-err
 returns-in_err-check_holdings-clause-err g c =
@@ -74,14 +59,10 @@ returns-in_err-check_holdings-clause-err g c =
     let f = c.check_holdings.new.pages in
     let e = c.in_err-check_holdings.field-0.0 in
     let passed = passed_more a c.read_desk.new.pages d c.in_ok-catalogue.ensures.reading.passed c.in_ok-checked.ensures.passed in
-    err_of c.from_residual-in_err-check_holdings.result e (CheckErr t a f) c.from_residual-in_err-check_holdings.ensures.1
-    (then_check t a d f e passed c.check_holdings.ensures.quiet (holdings_check t d f e c.in_err-check_holdings.ensures.err))
+    search (rules, then_check, holdings_check)
 
 pub returns-clause-quiet : goal.returns-clause-quiet
-returns-clause-quiet g c =
-    let a = c.args.pages.now in
-    let d = c.check_rows.new.pages in
-    quiet_more a d c.check_holdings.new.pages (quiet_more a c.read_desk.new.pages d c.read_desk.ensures.reading.quiet c.check_rows.ensures.quiet) c.check_holdings.ensures.quiet
+returns-clause-quiet g c = search quiet_more
 
 pub returns-clause-found : goal.returns-clause-found
 returns-clause-found g c = λ honest m holds.

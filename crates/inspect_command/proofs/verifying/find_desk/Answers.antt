@@ -1,17 +1,9 @@
-use Rattle.std.proofs.Common.{ap, ◌∙◌}
-use Rattle.page_store.proofs.Stops.{quiet_more}
-use Rattle.desk_pages.{specs.declared.error.StoreError.StoreError, proofs.Outcomes.err_of}
-use Rattle.store_command.specs.Faults.{fault_of_store}
-use Rattle.inspect_command.{specs.Sound.UnsoundIn, proofs.Unsound.{then_check, told_of, old_unsound, sound_as, still_rows}}
+use Rattle.{std.proofs.Common.{ap, ◌∙◌, rules}, desk_pages.specs.declared.error.StoreError.StoreError, store_command.specs.Faults.fault_of_store}
+use Rattle.{inspect_command.proofs.Unsound.{then_check, told_of, old_unsound, sound_as, still_rows}, page_store.proofs.Stops.quiet_more}
 use Rattle.inspect_command.proofs.verifying.find_desk.Goals as goal
 
 pub returns-in_err-refuse_old-clause-err : goal.returns-in_err-refuse_old-clause-err
-returns-in_err-refuse_old-clause-err g c =
-    let t = c.args.txn.now in
-    let a = c.args.pages.now in
-    let b = c.refuse_old.new.pages in
-    let fault = c.in_err-refuse_old.field-0.0 in
-    err_of c.from_residual.result fault (λ f. UnsoundIn t a b f) c.from_residual.ensures.1 (old_unsound t a b fault c.in_err-refuse_old.ensures.err)
+returns-in_err-refuse_old-clause-err g c = search (rules, old_unsound)
 
 pub returns-in-Ok-clause-quiet : goal.returns-in-Ok-clause-quiet
 returns-in-Ok-clause-quiet g c = quiet_more c.args.pages.now c.refuse_old.new.pages c.check_desk.new.pages c.in_ok-refuse_old.ensures.quiet c.check_desk.ensures.quiet

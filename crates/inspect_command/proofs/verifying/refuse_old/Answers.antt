@@ -1,6 +1,4 @@
-use Rattle.std.proofs.Common.{ap, ◌∙◌}
-use Rattle.desk_pages.specs.declared.error.StoreError.{StoreError}
-use Rattle.store_command.specs.Faults.{fault_of_store}
+use Rattle.{std.proofs.Common.{ap, ◌∙◌}, desk_pages.specs.declared.error.StoreError.StoreError, store_command.specs.Faults.fault_of_store}
 use Rattle.inspect_command.proofs.Unsound.{version_of}
 use Rattle.inspect_command.proofs.verifying.refuse_old.Goals as goal
 

@@ -1,6 +1,4 @@
-use Rattle.std.proofs.Common.{rules}
-use Rattle.page_store.proofs.Stops.{quiet_more}
-use Rattle.inspect_command.proofs.Devices.{pages_told, then_owned, then_unsound}
+use Rattle.{std.proofs.Common.rules, inspect_command.proofs.Devices.{pages_told, then_owned, then_unsound}, page_store.proofs.Stops.quiet_more}
 use Rattle.inspect_command.proofs.verifying.verify_all.Goals as goal
 
 pub returns-in-Ok : goal.returns-in-Ok
@@ -12,9 +10,4 @@ returns-in-Ok g c = record {
 }
 
 pub returns-in-Err : goal.returns-in-Err
-returns-in-Err g c = record {
-  quiet = search rules;
-  told = search rules;
-  sound = search rules;
-  err = pages_told c.args.pages.now c.check_pages.new.pages c.in-Err.e c.refusal_of.result c.requires c.check_pages.ensures.reading.quiet c.refusal_of.ensures c.in-Err.ensures.reading.err c.in-Err.ensures.told;
-}
+returns-in-Err g c = search (rules, pages_told)

@@ -1,6 +1,4 @@
-use Rattle.std.proofs.Common.{ap, ◌∙◌, rules}
-use Rattle.desk_pages.specs.declared.error.StoreError.{StoreError}
-use Rattle.store_command.specs.Faults.{fault_of_store}
+use Rattle.{std.proofs.Common.{ap, ◌∙◌, rules}, desk_pages.specs.declared.error.StoreError.StoreError, store_command.specs.Faults.fault_of_store}
 use Rattle.inspect_command.proofs.Devices.{looked_at, not_opened_verifies, opened_leaves, verified}
 use Rattle.inspect_command.proofs.verifying.verify_device.Goals as goal
 
@@ -20,7 +18,6 @@ returns g c = record {
       let b = c.verify_all-found.new.pages in
       let opened = c.in-Ok.ensures in
       let leaves = opened_leaves d law c.args.device c.requires (d.disk a.journal.device) opened.any_moment in
-      verified d law c.args.device c.requires a b opened.room opened.found opened.working opened.passed opened.kept c.verify_all-found.ensures.quiet c.verify_all-found.result c.into_device.result c.into_device.ensures
-      (looked_at d law c.args.device c.requires a.journal.device opened.sectors opened.honest leaves) leaves c.verify_all-found.ensures.sound c.verify_all-found.ensures.err;
+      search (verified, looked_at);
   told = search rules;
 }

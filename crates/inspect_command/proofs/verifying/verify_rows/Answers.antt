@@ -1,7 +1,6 @@
-use Rattle.std.proofs.Common.{refl, subst, rules}
-use Rattle.store_command.proofs.desk_store.Prepared.{IsBegun}
+use Rattle.{std.proofs.Common.{refl, subst, rules}, inspect_command.{specs.Sound.IsSoundAs, proofs.{Devices.{holds_sound, holds_stray}, Unsound.pages_unsound}}}
 use Rattle.page_store.proofs.Stops.{quiet_more}
-use Rattle.inspect_command.{specs.Sound.IsSoundAs, proofs.Unsound.pages_unsound, proofs.Devices.{holds_sound, holds_stray}}
+use Rattle.store_command.proofs.desk_store.Prepared.{IsBegun}
 use Rattle.inspect_command.proofs.verifying.verify_rows.Goals as goal
 
 pub returns-in-None : goal.returns-in-None
@@ -36,8 +35,5 @@ returns g c = record {
   quiet = quiet_more c.args.pages.now c.find_desk.new.pages c.row_for-row.new.pages c.find_desk.ensures.quiet c.row_for-row.ensures.quiet;
   told = search rules;
   sound = search rules;
-  err = let begin = c.begin-txn.ensures in
-      let a = c.args.pages.now in
-      let begun : IsBegun a c.begin-txn.result = record { pages = begin.pages; none = begin.none; over_is = begin.over; root = begin.root c.requires; free = begin.free c.requires } in
-      (pages_unsound c.begin-txn.result a c.find_desk.new.pages c.row_for-row.new.pages c.in-Err.fault begun c.find_desk.ensures.quiet c.row_for-row.ensures.quiet c.in-Err.ensures.err, refl);
+  err = search (rules, pages_unsound);
 }

@@ -1,5 +1,4 @@
-use Rattle.std.proofs.Common.{sym, ◌∙◌}
-use Rattle.key_order.proofs.Comparing.{settles}
+use Rattle.{std.proofs.Common.{sym, ◌∙◌}, key_order.proofs.Comparing.settles}
 use Rattle.key_order.proofs.keys.compare_at.Goals as goal
 
 pub returns-then-x-y-clause-alike : goal.returns-then-x-y-clause-alike

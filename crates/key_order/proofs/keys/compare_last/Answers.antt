@@ -1,6 +1,4 @@
-use Rattle.std.proofs.Common.{◌≡◌, ◌+◌, ◌-◌, ℕ, take, min, sym, subst, ◌∙◌, arith}
-use Rattle.std.proofs.lemmas.List.{take_rest}
-use Rattle.key_order.proofs.Comparing.{key_cmp, fewer, past, by_lengths}
+use Rattle.{std.proofs.{Common.{◌≡◌, ◌+◌, ◌-◌, ℕ, take, min, sym, subst, ◌∙◌, arith}, lemmas.List.take_rest}, key_order.proofs.Comparing.{key_cmp, fewer, past, by_lengths}}
 use Rattle.key_order.proofs.keys.compare_last.Goals as goal
 
 pub returns-then-both-le16 : goal.returns-then-both-le16

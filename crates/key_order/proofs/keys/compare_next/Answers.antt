@@ -1,5 +1,4 @@
-use Rattle.std.proofs.Common.{◌≡◌, ◌+◌, ℕ, take, min, subst, arith}
-use Rattle.key_order.proofs.Comparing.{fewer}
+use Rattle.{std.proofs.Common.{◌≡◌, ◌+◌, ℕ, take, min, subst, arith}, key_order.proofs.Comparing.fewer}
 use Rattle.key_order.proofs.keys.compare_next.Goals as goal
 
 pub compare_at-requires-clause-alike : goal.compare_at-requires-clause-alike

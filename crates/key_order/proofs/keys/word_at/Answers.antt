@@ -1,5 +1,4 @@
-use Rattle.std.proofs.Common.{◌∙◌}
-use Rattle.key_order.proofs.Comparing.{eight_are}
+use Rattle.{std.proofs.Common.◌∙◌, key_order.proofs.Comparing.eight_are}
 use Rattle.key_order.proofs.keys.word_at.Goals as goal
 
 pub returns : goal.returns

@@ -1,5 +1,4 @@
-use Rattle.std.proofs.Common.{◌≡◌}
-use Rattle.page_store.specs.claim.Transactions.{txn_pages, count_of}
+use Rattle.{std.proofs.Common.◌≡◌, page_store.specs.claim.Transactions.{txn_pages, count_of}}
 use Rattle.library_trials.proofs.long_trials.put_four.Given as goal
 
 abbrev pub invariant-loop-i : goal.invariant-loop-i

@@ -1,5 +1,4 @@
-use Rattle.std.proofs.Common.{◌≤◌, arith}
-use Rattle.std.proofs.lemmas.Bool.Decides.{nat_tests}
+use Rattle.std.proofs.{Common.{◌≤◌, arith}, lemmas.Bool.Decides.nat_tests}
 use Rattle.library_trials.proofs.scan_trials.scanned.Goals as goal
 
 pub range-n-items-requires : goal.range-n-items-requires

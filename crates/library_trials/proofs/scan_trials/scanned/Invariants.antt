@@ -1,5 +1,4 @@
-use Rattle.std.proofs.Common.{◌≡◌}
-use Rattle.page_store.specs.claim.Transactions.{txn_pages, count_of}
+use Rattle.{std.proofs.Common.◌≡◌, page_store.specs.claim.Transactions.{txn_pages, count_of}}
 use Rattle.library_trials.proofs.scan_trials.scanned.Given as goal
 
 abbrev pub invariant-loop-n : goal.invariant-loop-n

@@ -1,9 +1,7 @@
-use Rattle.std.{specs.FinMap.find, specs.Prelude.IfOk, proofs.Common.{◌-◌, refl, subst, ◌∙◌}}
-use Rattle.sector_device.specs.claim.Disk.{Image}
-use Rattle.page_store.specs.claim.Transactions.{stored, txn_pages, over}
-use Rattle.page_node.{specs.claim.Places.key_cmp, proofs.Nearing.first_below}
-use Rattle.page_btree.specs.{claim.Tree.rows, Getting.{CanGet, IsCopied}, declared.error.TreeError.TheVariants.NotAStore}
-use Rattle.page_btree.proofs.{Below.{down, not_lent, no_child, not_below}, Descent.leaf_page, Outcomes.{map_ok, refused_by}}
+use Rattle.{std.{specs.{FinMap.find, Prelude.IfOk}, proofs.Common.{◌-◌, refl, subst, ◌∙◌}}, page_btree.specs.{Getting.{CanGet, IsCopied}, claim.Tree.rows}}
+use Rattle.{page_btree.specs.declared.error.TreeError.TheVariants.NotAStore, page_node.specs.claim.Places.key_cmp, page_store.specs.claim.Transactions.{stored, txn_pages, over}}
+use Rattle.{sector_device.specs.claim.Disk.Image, page_btree.proofs.{Below.{down, not_lent, no_child, not_below}, Descent.leaf_page, Outcomes.{map_ok, refused_by}}}
+use Rattle.page_node.proofs.Nearing.{first_below}
 use Rattle.page_btree.proofs.gets.+get_below.Goals as goal
 
 -- ---- the page isn't lent

@@ -1,8 +1,6 @@
-use Rattle.std.{specs.Prelude.IfOk, specs.FinMap.{find, get as row_at}, proofs.Common.{sym, subst, ◌∙◌}}
-use Rattle.sector_device.specs.claim.Disk.{Image}
-use Rattle.page_store.specs.claim.Transactions.{stored, txn_pages, over}
-use Rattle.page_node.specs.claim.Places.{key_cmp}
-use Rattle.page_btree.{specs.claim.Tree.rows, specs.Getting.{CanGet, IsCopied}, proofs.Outcomes.map_ok, proofs.Below.not_from_root, proofs.Tops.{rooted, no_root, top, found_rows}}
+use Rattle.{std.{specs.{FinMap.{find, get as row_at}, Prelude.IfOk}, proofs.Common.{sym, subst, ◌∙◌}}, page_btree.specs.{Getting.{CanGet, IsCopied}, claim.Tree.rows}}
+use Rattle.{page_node.specs.claim.Places.key_cmp, page_store.specs.claim.Transactions.{stored, txn_pages, over}, sector_device.specs.claim.Disk.Image}
+use Rattle.page_btree.proofs.{Below.not_from_root, Outcomes.map_ok, Tops.{rooted, no_root, top, found_rows}}
 use Rattle.page_btree.proofs.gets.get_from_root.Goals as goal
 
 pub returns-then-root-eq0-clause-get : goal.returns-then-root-eq0-clause-get

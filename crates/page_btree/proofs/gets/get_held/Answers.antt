@@ -1,7 +1,6 @@
-use Rattle.std.{specs.Prelude.{IfSome, Some}, specs.FinMap.{find, get as row_at}, proofs.Common.{◌∙◌, arith}}
-use Rattle.page_store.specs.claim.Transactions.{stored}
-use Rattle.page_node.{specs.claim.Places.key_cmp, proofs.Nearing.first_below}
-use Rattle.page_btree.{specs.Getting.IsCopied, proofs.Outcomes.{map_ok, on_err, fault_refused}, proofs.Placed.{placed_as, some_copied}}
+use Rattle.{std.{specs.{FinMap.{find, get as row_at}, Prelude.{IfSome, Some}}, proofs.Common.{◌∙◌, arith}}, page_btree.specs.Getting.IsCopied, page_node.specs.claim.Places.key_cmp}
+use Rattle.{page_store.specs.claim.Transactions.stored, page_btree.proofs.{Outcomes.{map_ok, on_err, fault_refused}, Placed.{placed_as, some_copied}}}
+use Rattle.page_node.proofs.Nearing.{first_below}
 use Rattle.page_btree.proofs.gets.get_held.Goals as goal
 
 pub returns-clause-get : goal.returns-clause-get

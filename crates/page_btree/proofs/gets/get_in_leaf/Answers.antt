@@ -1,7 +1,5 @@
-use Rattle.std.proofs.Common.{refl, ◌∙◌}
-use Rattle.sector_device.specs.claim.Disk.{Image}
-use Rattle.page_store.{specs.claim.Transactions.{txn_pages, over}, proofs.Stops.passed_none}
-use Rattle.page_btree.{specs.Getting.{CanGetIn, IsLevel}, proofs.Outcomes.refused_by, proofs.Refusals.refused_below}
+use Rattle.{std.proofs.Common.{refl, ◌∙◌}, page_btree.{specs.Getting.{CanGetIn, IsLevel}, proofs.Outcomes.refused_by}, page_store.specs.claim.Transactions.{txn_pages, over}}
+use Rattle.{sector_device.specs.claim.Disk.Image, page_btree.proofs.Refusals.refused_below, page_store.proofs.Stops.passed_none}
 use Rattle.page_btree.proofs.gets.get_in_leaf.Goals as goal
 
 pub returns-in_err-own-clause-reading : goal.returns-in_err-own-clause-reading

@@ -1,5 +1,4 @@
-use Rattle.std.proofs.Common.{◌∙◌, arith}
-use Rattle.page_store.proofs.Chains.{blank_words}
+use Rattle.{std.proofs.Common.{◌∙◌, arith}, page_store.proofs.Chains.blank_words}
 use Rattle.page_btree.proofs.gets.is_small_leaf.Goals as goal
 
 pub returns-then-page-le8-clause-used : goal.returns-then-page-le8-clause-used

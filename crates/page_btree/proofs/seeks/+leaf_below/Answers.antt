@@ -1,10 +1,8 @@
-use Rattle.std.{specs.Prelude.OnOk, proofs.Common.{◌≡◌, ◌-◌, ℕ, List, [], length, get_or, slice_set, refl, sym, ap, subst, ◌∙◌, arith}}
-use Rattle.std.proofs.lemmas.List.{get_or-set_same}
-use Rattle.sector_device.specs.claim.Disk.{Image}
-use Rattle.page_store.specs.claim.Transactions.{stored, txn_pages, over}
-use Rattle.page_node.specs.{claim.Node.{Node, IsNode}, claim.Entries.Entry, Places.{ceiling, entries_from}, Walking.IsAhead}
-use Rattle.page_btree.{specs.claim.Tree.rows, specs.Getting.CanGet, specs.Seeking.{bound_in, nearer, leaf_of, bound_of, IsRead}, proofs.Below.{down, not_lent, no_child, not_below}}
-use Rattle.page_btree.proofs.{Descent.leaf_page, Outcomes.{map_ok, on_err, fault_refused}, Rising.node_rises, Following.{leaf_alone, held_alone, read_held, read_more}}
+use Rattle.std.{specs.Prelude.OnOk, proofs.{Common.{◌≡◌, ◌-◌, ℕ, List, [], length, get_or, slice_set, refl, sym, ap, subst, ◌∙◌, arith}, lemmas.List.get_or-set_same}}
+use Rattle.{page_btree.specs.{Getting.CanGet, Seeking.{bound_in, nearer, leaf_of, bound_of, IsRead}, claim.Tree.rows}, page_node.specs.Places.{ceiling, entries_from}}
+use Rattle.{page_node.specs.{Walking.IsAhead, claim.{Entries.Entry, Node.{Node, IsNode}}}, page_store.specs.claim.Transactions.{stored, txn_pages, over}}
+use Rattle.{sector_device.specs.claim.Disk.Image, page_btree.proofs.{Below.{down, not_lent, no_child, not_below}, Descent.leaf_page, Outcomes.{map_ok, on_err, fault_refused}}}
+use Rattle.page_btree.proofs.{Following.{leaf_alone, held_alone, read_held, read_more}, Rising.node_rises}
 use Rattle.page_btree.proofs.seeks.+leaf_below.Goals as goal
 
 -- ---- a leaf

@@ -1,5 +1,4 @@
-use Rattle.std.{specs.Prelude.{None, OnOk}, proofs.Common.{List, ℕ, subst, ◌∙◌}}
-use Rattle.page_btree.specs.Seeking.{IsRead}
+use Rattle.{std.{specs.Prelude.{None, OnOk}, proofs.Common.{List, ℕ, subst, ◌∙◌}}, page_btree.specs.Seeking.IsRead}
 use Rattle.page_btree.proofs.seeks.leaf_after.Goals as goal
 
 pub returns-clause-read : goal.returns-clause-read

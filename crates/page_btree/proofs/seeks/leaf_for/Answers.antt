@@ -1,7 +1,5 @@
-use Rattle.std.{specs.Prelude.{None, OnOk}, proofs.Common.{subst, ◌∙◌, arith}}
-use Rattle.sector_device.specs.claim.Disk.{Image}
-use Rattle.page_store.specs.claim.Transactions.{stored, txn_pages, over}
-use Rattle.page_btree.{specs.claim.Tree.page_of, specs.Getting.CanGet, specs.Seeking.IsRead, proofs.Descent.owns_page, proofs.Below.not_from_root, proofs.Tops.top}
+use Rattle.{std.{specs.Prelude.{None, OnOk}, proofs.Common.{subst, ◌∙◌, arith}}, page_btree.{specs.{Getting.CanGet, Seeking.IsRead, claim.Tree.page_of}, proofs.Descent.owns_page}}
+use Rattle.{page_store.specs.claim.Transactions.{stored, txn_pages, over}, sector_device.specs.claim.Disk.Image, page_btree.proofs.{Below.not_from_root, Tops.top}}
 use Rattle.page_btree.proofs.seeks.leaf_for.Goals as goal
 
 pub returns-then-root-eq0-clause-read : goal.returns-then-root-eq0-clause-read

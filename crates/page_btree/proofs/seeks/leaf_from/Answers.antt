@@ -1,7 +1,5 @@
-use Rattle.std.{specs.Prelude.{Some, None}, proofs.Common.{◌≡◌, ◌<◌, ⊎_elim, cond, ap, arith}}
-use Rattle.page_store.proofs.Stops.{quiet_more, passed_more}
-use Rattle.page_btree.{specs.Seeking.bound_in, proofs.Outcomes.{reads_ok, reads_err, refused_after}, proofs.Refusals.get_more}
-use Rattle.page_btree.proofs.Following.{from_found, from_after, some_after}
+use Rattle.{std.{specs.Prelude.{Some, None}, proofs.Common.{◌≡◌, ◌<◌, ⊎_elim, cond, ap, arith}}, page_btree.{specs.Seeking.bound_in, proofs.Refusals.get_more}}
+use Rattle.{page_btree.proofs.{Following.{from_found, from_after, some_after}, Outcomes.{reads_ok, reads_err, refused_after}}, page_store.proofs.Stops.{quiet_more, passed_more}}
 use Rattle.page_btree.proofs.seeks.leaf_from.Goals as goal
 
 pub returns-then-leaf-gt0-clause-rows : goal.returns-then-leaf-gt0-clause-rows

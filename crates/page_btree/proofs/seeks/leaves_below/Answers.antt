@@ -1,9 +1,6 @@
-use Rattle.std.proofs.Common.{◌≡◌, ◌≤◌, ℕ, get_or, ◌∙◌, arith}
-use Rattle.sector_device.specs.claim.Disk.{Image}
-use Rattle.page_store.{specs.claim.Transactions.{stored, txn_pages, over}, proofs.Stops.passed_more}
-use Rattle.page_node.specs.claim.Node.{Node}
-use Rattle.page_btree.{specs.Getting.{CanGetAt, IsLevel}, specs.Seeking.{bound_in, leaf_of}, proofs.Below.no_child, proofs.Following.{held_leaves, held_levels, read_held}}
-use Rattle.page_btree.proofs.{Outcomes.{on_err, fault_refused}, Refusals.refused_below}
+use Rattle.{std.proofs.Common.{◌≡◌, ◌≤◌, ℕ, get_or, ◌∙◌, arith}, page_btree.{specs.{Getting.{CanGet, CanGetAt, IsLevel}, Seeking.{bound_in, leaf_of}}, proofs.Below.no_child}}
+use Rattle.{page_node.specs.claim.Node.Node, page_store.specs.claim.Transactions.{stored, disk_in, txn_pages, over}, sector_device.specs.claim.Disk.Image}
+use Rattle.{page_btree.proofs.{Following.{IsHeld, are_held, read_held}, Outcomes.{on_err, fault_refused}, Refusals.refused_below}, page_store.proofs.Stops.passed_more}
 use Rattle.page_btree.proofs.seeks.leaves_below.Goals as goal
 
 -- ---- no way down
@@ -21,27 +18,25 @@ returns-in_err-read_leaves-clause-reading g c =
     let before = c.in_err-read_leaves.ensures.reading.quiet.honest honest in
     let there = c.lent-bytes.ensures ∙ c.in_ok-own.ensures.lends before in
     rw (c.in_ok-own.ensures.reaches.reading.quiet.same before)
-    (held_levels _ _ _ _ is.0 c.lend_level.ensures.reaches.few _ c.ways_in.new.leaf c.ways_in.new.children (λ node at. c.in_ok-ways_in.ensures.ways node (rw there at))))
+    (are_held _ _ _ _ is.0 c.lend_level.ensures.reaches.few _ c.ways_in.new.leaf c.ways_in.new.children (λ node at. c.in_ok-ways_in.ensures.ways node (rw there at))).levels)
 
 -- ---- the leaves
-pub returns-clause-reading : goal.returns-clause-reading
-returns-clause-reading g c = fault_refused (passed_more _ _ _ c.in_ok-own.ensures.reaches.reading.passed c.in_ok-read_leaves.ensures.reading.passed) c.stand.ensures.err (on_err c.stand.result _ _ (λ none honest is.
+held : (g : _) (c : goal.After-stand g) → (disk_in c.read_leaves.new.pages).is_honest → (is : CanGet (txn_pages c.args.txn.now) (over c.args.txn.now (stored c.args.pages.now)) 1 c.args.key.now (over c.args.txn.now (stored c.args.pages.now) c.args.p))
+    → IsHeld is.tree is.high (bound_in c.args.leaf.now) c.args.key.now c.ways_in.new.leaf c.read_leaves.new.held
+held g c honest is =
     let before = c.in_ok-read_leaves.ensures.reading.quiet.honest honest in
     let few = c.in_ok-ways_in.ensures.few in
     let four = c.read_leaves.array_long in
-    let held = held_leaves _ (over c.args.txn.now (stored c.args.pages.now)) c.args.key.now _ is.0 c.lend_level.ensures.reaches.few (bound_in c.args.leaf.now) c.ways_in.new.leaf c.ways_in.new.children
-    (λ node at. c.in_ok-ways_in.ensures.ways node (rw (c.lent-bytes.ensures ∙ c.in_ok-own.ensures.lends before) at)) c.read_leaves.new.held (omega arith)
-    (λ j le. rw (c.in_ok-own.ensures.reaches.reading.quiet.same before) at (c.in_ok-read_leaves.ensures.reads honest j le)) in
-    none (record { level = 0; entries = leaf_of is.0.tree c.args.key.now }) held.node) c.stand.ensures.refused)
+    (are_held _ _ _ _ is c.lend_level.ensures.reaches.few _ c.ways_in.new.leaf c.ways_in.new.children (λ node at. c.in_ok-ways_in.ensures.ways node (rw (c.lent-bytes.ensures ∙ c.in_ok-own.ensures.lends before) at))).leaves
+    c.read_leaves.new.held (omega arith) (λ j le. rw (c.in_ok-own.ensures.reaches.reading.quiet.same before) at (c.in_ok-read_leaves.ensures.reads honest j le))
+
+pub returns-clause-reading : goal.returns-clause-reading
+returns-clause-reading g c = fault_refused (passed_more _ _ _ c.in_ok-own.ensures.reaches.reading.passed c.in_ok-read_leaves.ensures.reading.passed) c.stand.ensures.err (on_err c.stand.result _ _ (λ none honest is.
+    none (record { level = 0; entries = leaf_of is.0.tree c.args.key.now }) (held g c honest is.0).node) c.stand.ensures.refused)
 
 pub returns-clause-read : goal.returns-clause-read
 returns-clause-read g c = λ honest is.
-    let before = c.in_ok-read_leaves.ensures.reading.quiet.honest honest in
-    let few = c.in_ok-ways_in.ensures.few in
-    let four = c.read_leaves.array_long in
-    let held = held_leaves _ (over c.args.txn.now (stored c.args.pages.now)) c.args.key.now _ is c.lend_level.ensures.reaches.few (bound_in c.args.leaf.now) c.ways_in.new.leaf c.ways_in.new.children
-    (λ node at. c.in_ok-ways_in.ensures.ways node (rw (c.lent-bytes.ensures ∙ c.in_ok-own.ensures.lends before) at)) c.read_leaves.new.held (omega arith)
-    (λ j le. rw (c.in_ok-own.ensures.reaches.reading.quiet.same before) at (c.in_ok-read_leaves.ensures.reads honest j le)) in
+    let at = held g c honest is in
     let node : Node = record { level = 0; entries = leaf_of is.tree c.args.key.now } in
-    read_held is.tree is.high (bound_in c.args.leaf.now) c.args.key.now c.read_leaves.new.held c.stand.result c.ways_in.new.leaf c.stand.new.leaf held c.stand.ensures.more c.stand.ensures.bound
-    (c.stand.ensures.rows node held.node held.rises) (c.stand.ensures.left node held.node held.rises)
+    read_held is.tree is.high (bound_in c.args.leaf.now) c.args.key.now c.read_leaves.new.held c.stand.result c.ways_in.new.leaf c.stand.new.leaf at c.stand.ensures.more c.stand.ensures.bound
+    (c.stand.ensures.rows node at.node at.rises) (c.stand.ensures.left node at.node at.rises)

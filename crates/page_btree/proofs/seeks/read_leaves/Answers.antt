@@ -1,8 +1,5 @@
-use Rattle.std.proofs.Common.{◌≤◌, ℕ, get_or, sym, ◌∙◌, arith}
-use Rattle.std.proofs.lemmas.List.{length-set}
-use Rattle.sector_device.specs.claim.Disk.{Image}
-use Rattle.page_store.{specs.claim.Transactions.{stored, txn_pages, over}, proofs.Stops.passed_more}
-use Rattle.page_btree.{specs.Getting.IsLevel, proofs.Following.page_more, proofs.Refusals.refused_below}
+use Rattle.{std.proofs.{Common.{◌≤◌, ℕ, get_or, sym, ◌∙◌, arith}, lemmas.List.length-set}, page_btree.specs.Getting.IsLevel, sector_device.specs.claim.Disk.Image}
+use Rattle.{page_store.{specs.claim.Transactions.{stored, txn_pages, over}, proofs.Stops.passed_more}, page_btree.proofs.{Following.page_more, Refusals.refused_below}}
 use Rattle.page_btree.proofs.seeks.read_leaves.Goals as goal
 
 pub returns-in_err-read_level-clause-reading : goal.returns-in_err-read_level-clause-reading

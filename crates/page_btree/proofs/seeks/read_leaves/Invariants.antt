@@ -1,5 +1,4 @@
-use Rattle.std.proofs.Common.{◌≡◌, ◌<◌, ℕ, List, [], length, get_or}
-use Rattle.page_store.specs.claim.Transactions.{stored, disk_in, count_of, txn_pages, over, Passed}
+use Rattle.{std.proofs.Common.{◌≡◌, ◌<◌, ℕ, List, [], length, get_or}, page_store.specs.claim.Transactions.{stored, disk_in, count_of, txn_pages, over, Passed}}
 use Rattle.page_btree.proofs.seeks.read_leaves.Given as goal
 
 abbrev pub invariant-loop-j : goal.invariant-loop-j

@@ -1,5 +1,5 @@
-use Rattle.std.{specs.Prelude.{Option, Some}, proofs.Common.{◌∷◌, ℕ, List, refl, ap, sym, subst, ◌∙◌, arith, option_copied, rules}}
-use Rattle.page_btree.{specs.Seeking.AreWays, proofs.Following.{ways_of, three_of}}
+use Rattle.{std.{specs.Prelude.{Option, Some}, proofs.Common.{◌∷◌, ℕ, List, refl, ap, sym, subst, ◌∙◌, arith, option_copied, rules}}, page_btree.specs.Seeking.AreWays}
+use Rattle.page_btree.proofs.Following.{ways_of, three_of}
 use Rattle.page_btree.proofs.seeks.ways_in.Goals as goal
 
 pub returns-in-None-clause-ways : goal.returns-in-None-clause-ways

@@ -1,9 +1,5 @@
-use Rattle.std.{specs.Prelude.IfOk, proofs.Common.{◌≡◌, ◌-◌, refl, sym, subst, ◌∙◌, arith}}
-use Rattle.sector_device.specs.claim.Disk.{Image}
-use Rattle.page_store.specs.claim.Transactions.{stored, over}
-use Rattle.page_node.specs.claim.Node.{IsNode}
-use Rattle.page_btree.specs.{Getting.IsChild, Leading.{LeadsTo, LeadsAll, end_of}, declared.error.TreeError.TheVariants.NotAStore}
-use Rattle.page_btree.proofs.{Below.{down, not_lent, no_child, not_below}, Outcomes.{map_ok, reads_err}, Leads.{leads_none, leads_more}, Reaching.reaches_more}
+use Rattle.{std.proofs.Common.{refl, ◌∙◌, arith}, page_btree.{specs.{Leading.end_of, declared.error.TreeError.TheVariants.NotAStore}, proofs.Leads.leads_none}}
+use Rattle.{page_store.specs.claim.Transactions.{stored, over}, page_btree.proofs.{Below.{down, leads_up, reach_up, not_lent, no_child, not_below}, Outcomes.reads_err}}
 use Rattle.page_btree.proofs.ways.+leaf_below.Goals as goal
 
 pub returns-then-level-eq0-clause-leads : goal.returns-then-level-eq0-clause-leads
@@ -25,13 +21,8 @@ returns-then-child-count-clause-reading g t c = reads_err c.in_ok-own.ensures.re
 -- ---- below
 pub returns-clause-leads : goal.returns-clause-leads
 returns-clause-leads g t c = λ honest.
-    let P = over c.args.txn.now (stored c.args.pages.now) in
-    let child = c.in_ok-child.child in
-    let before = c.leaf_below.ensures.reading.quiet.honest honest in
-    let there : c.lent-bytes.result.now ≡ P c.args.p = c.lent-bytes.ensures ∙ c.in_ok-own.ensures.lends before in
-    map_ok c.leaf_below.result (λ leaf. LeadsTo P (c.args.level - 1) child c.args.key.now leaf) (λ leaf. LeadsTo P c.args.level c.args.p c.args.key.now leaf)
-    (λ leaf h. leads_more P c.args.level c.args.p c.args.key.now leaf child (omega arith) (subst (λ b. IsChild b c.args.key.now child) there c.in_ok-child.ensures.child) h)
-    (subst (λ (T : Image). IfOk c.leaf_below.result (λ leaf. LeadsTo (over c.args.txn.now T) (c.args.level - 1) child c.args.key.now leaf)) (c.in_ok-own.ensures.reaches.reading.quiet.same before) (c.leaf_below.ensures.leads honest))
+    leads_up c.leaf_below.result c.args.txn.now c.args.level c.args.key.now c.args.p c.in_ok-child.child c.if-level-eq0.false c.in_ok-own.ensures.reaches.reading.quiet
+    c.lent-bytes.ensures c.in_ok-own.ensures.lends c.in_ok-child.ensures.child (c.leaf_below.ensures.reading.quiet.honest honest) (c.leaf_below.ensures.leads honest)
 
 pub returns-clause-reading : goal.returns-clause-reading
 returns-clause-reading g t c = not_below c.args.txn.now c.args.level c.args.key.now c.args.p c.in_ok-child.child c.if-level-eq0.false c.lend_level.ensures.reaches.few
@@ -43,17 +34,9 @@ returns-then-level-eq0-clause-reach g t c = λ honest other between. leads_none 
 
 pub returns-clause-reach : goal.returns-clause-reach
 returns-clause-reach g t c = λ honest.
-    let P = over c.args.txn.now (stored c.args.pages.now) in
-    let child = c.in_ok-child.child in
-    let before = c.leaf_below.ensures.reading.quiet.honest honest in
-    let there : c.lent-bytes.result.now ≡ P c.args.p = c.lent-bytes.ensures ∙ c.in_ok-own.ensures.lends before in
-    let high = end_of c.leaf_below.new.reach in
-    map_ok c.leaf_below.result (λ leaf. LeadsAll P (c.args.level - 1) child c.args.key.now high leaf) (λ leaf. LeadsAll P c.args.level c.args.p c.args.key.now high leaf)
-    (λ leaf h other between. reaches_more P c.args.level c.args.p c.args.key.now other leaf child high (omega arith) between
-    (subst (λ b. IsChild b c.args.key.now child) there c.in_ok-child.ensures.child)
-    (λ node at rises. c.in_ok-child.ensures.within node (subst (λ b. IsNode b node) (sym there) at) rises other (c.leaf_below.ensures.nearer other between.under))
-    (h other between))
-    (subst (λ (T : Image). IfOk c.leaf_below.result (λ leaf. LeadsAll (over c.args.txn.now T) (c.args.level - 1) child c.args.key.now high leaf)) (c.in_ok-own.ensures.reaches.reading.quiet.same before) (c.leaf_below.ensures.reach honest))
+    reach_up c.leaf_below.result c.args.txn.now c.args.level c.args.key.now c.args.p c.in_ok-child.child c.if-level-eq0.false c.in_ok-own.ensures.reaches.reading.quiet
+    c.lent-bytes.ensures c.in_ok-own.ensures.lends c.in_ok-child.ensures.child (c.leaf_below.ensures.reading.quiet.honest honest) (end_of c.leaf_below.new.reach)
+    (λ node at rises other under. c.in_ok-child.ensures.within node at rises other (c.leaf_below.ensures.nearer other under)) (c.leaf_below.ensures.reach honest)
 
 pub returns-clause-nearer : goal.returns-clause-nearer
 returns-clause-nearer g t c = λ other under. c.in_ok-child.ensures.nearer other (c.leaf_below.ensures.nearer other under)

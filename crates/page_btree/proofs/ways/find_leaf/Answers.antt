@@ -1,9 +1,6 @@
-use Rattle.std.{specs.Prelude.IfOk, proofs.Common.{get_or, ap, ℕ, ◌≡◌, ◌-◌, refl, sym, subst, ◌∙◌, arith, rules}}
-use Rattle.sector_device.specs.claim.Disk.{Image}
-use Rattle.page_store.specs.claim.Transactions.{stored, txn_pages, over}
-use Rattle.page_node.specs.claim.Node.{IsNode}
-use Rattle.page_btree.{specs.Getting.{CanGetAt, IsChild}, specs.claim.Errors.level_in, specs.Leading.{LeadsTo, LeadsAll, CanLead, end_of}, proofs.Below.down}
-use Rattle.page_btree.proofs.{Descent.some_child, Outcomes.{map_ok, reads_err, refused_by, reads_after}, Refusals.reads_more, Leads.{leads_none, leads_more}, Reaching.reaches_more}
+use Rattle.{std.{specs.Prelude.IfOk, proofs.Common.{get_or, ap, ℕ, ◌-◌, refl, sym, subst, ◌∙◌, arith, rules}}, page_btree.{specs.Getting.CanGetAt, proofs.Descent.some_child}}
+use Rattle.{page_btree.specs.Leading.{LeadsTo, LeadsAll, CanLead, end_of}, page_store.specs.claim.Transactions.{stored, txn_pages, over}, sector_device.specs.claim.Disk.Image}
+use Rattle.page_btree.proofs.{Below.{down, leads_up, reach_up}, Leads.leads_none, Outcomes.{reads_err, refused_by, reads_after}, Refusals.reads_more}
 use Rattle.page_btree.proofs.ways.find_leaf.Goals as goal
 
 pub returns-then-level-gt5-clause-reading : goal.returns-then-level-gt5-clause-reading
@@ -11,8 +8,7 @@ returns-then-level-gt5-clause-reading g c = search (rules, reads_err)
 
 -- ---- the root is a leaf
 pub returns-then-level-eq0-clause-leads : goal.returns-then-level-eq0-clause-leads
-returns-then-level-eq0-clause-leads g c =
-    λ honest d is. search (rules, leads_none)
+returns-then-level-eq0-clause-leads g c = λ honest d is. search (rules, leads_none)
 
 -- ---- no way down
 pub returns-in_err-child-clause-reading : goal.returns-in_err-child-clause-reading
@@ -46,35 +42,22 @@ returns-clause-reading g c =
 
 pub returns-clause-leads : goal.returns-clause-leads
 returns-clause-leads g c = λ honest d is.
-    let P = over c.args.txn.now (stored c.args.pages.now) in
     let before = c.leaf_below.ensures.reading.quiet.honest honest in
-    let node = is.1.node in
-    let child = c.in_ok-child.child in
-    let there : c.lent-bytes.result.now ≡ P c.args.root = c.lent-bytes.ensures ∙ c.in_ok-own.ensures.lends before in
-    let told = c.level_of-level.ensures.level node (subst (λ b. IsNode b node) (sym there) is.1.node_is) ∙ is.1.level_is in
-    map_ok c.leaf_below.result (λ leaf. LeadsTo P (d - 1) child c.args.key.now leaf) (λ leaf. LeadsTo P d c.args.root c.args.key.now leaf)
-    (λ leaf h. leads_more P d c.args.root c.args.key.now leaf child (omega arith) (subst (λ b. IsChild b c.args.key.now child) there c.in_ok-child.ensures.child) h)
-    (subst (λ d. IfOk c.leaf_below.result (λ leaf. LeadsTo P (d - 1) child c.args.key.now leaf)) told
-    (subst (λ (T : Image). IfOk c.leaf_below.result (λ leaf. LeadsTo (over c.args.txn.now T) (c.level_of-level.result - 1) child c.args.key.now leaf)) (c.in_ok-own.ensures.reading.quiet.same before) (c.leaf_below.ensures.leads honest)))
+    let told = c.level_of-level.ensures.level is.1.node (rw (c.lent-bytes.ensures ∙ c.in_ok-own.ensures.lends before) is.1.node_is) ∙ is.1.level_is in
+    subst (λ d. IfOk c.leaf_below.result (λ leaf. LeadsTo (over c.args.txn.now (stored c.args.pages.now)) d c.args.root c.args.key.now leaf)) told
+    (leads_up c.leaf_below.result c.args.txn.now c.level_of-level.result c.args.key.now c.args.root c.in_ok-child.child c.if-level-eq0.false c.in_ok-own.ensures.reading.quiet
+    c.lent-bytes.ensures c.in_ok-own.ensures.lends c.in_ok-child.ensures.child before (c.leaf_below.ensures.leads honest))
 
 -- ---- how far
 pub returns-then-level-eq0-clause-reach : goal.returns-then-level-eq0-clause-reach
-returns-then-level-eq0-clause-reach g c =
-    λ honest other between. search (rules, leads_none)
+returns-then-level-eq0-clause-reach g c = λ honest other between. search (rules, leads_none)
 
 pub returns-clause-reach : goal.returns-clause-reach
 returns-clause-reach g c = λ honest.
-    let P = over c.args.txn.now (stored c.args.pages.now) in
-    let child = c.in_ok-child.child in
-    let level = c.level_of-level.result in
     let before = c.leaf_below.ensures.reading.quiet.honest honest in
-    let there : c.lent-bytes.result.now ≡ P c.args.root = c.lent-bytes.ensures ∙ c.in_ok-own.ensures.lends before in
-    let level_is : level ≡ level_in P c.args.root = c.level_of-level.ensures.byte ∙ ap (λ b. get_or b 0 0) there in
+    let level_is = c.level_of-level.ensures.byte ∙ ap (λ b. get_or b 0 0) (c.lent-bytes.ensures ∙ c.in_ok-own.ensures.lends before) in
     let high = end_of c.leaf_below.new.reach in
-    subst (λ (d : ℕ). IfOk c.leaf_below.result (λ leaf. LeadsAll P d c.args.root c.args.key.now high leaf)) level_is
-    (map_ok c.leaf_below.result (λ leaf. LeadsAll P (level - 1) child c.args.key.now high leaf) (λ leaf. LeadsAll P level c.args.root c.args.key.now high leaf)
-    (λ leaf h other between. reaches_more P level c.args.root c.args.key.now other leaf child high (omega arith) between
-    (subst (λ b. IsChild b c.args.key.now child) there c.in_ok-child.ensures.child)
-    (λ node at rises. c.in_ok-child.ensures.within node (subst (λ b. IsNode b node) (sym there) at) rises other (c.leaf_below.ensures.nearer other between.under))
-    (h other between))
-    (subst (λ (T : Image). IfOk c.leaf_below.result (λ leaf. LeadsAll (over c.args.txn.now T) (level - 1) child c.args.key.now high leaf)) (c.in_ok-own.ensures.reading.quiet.same before) (c.leaf_below.ensures.reach honest)))
+    subst (λ (d : ℕ). IfOk c.leaf_below.result (λ leaf. LeadsAll (over c.args.txn.now (stored c.args.pages.now)) d c.args.root c.args.key.now high leaf)) level_is
+    (reach_up c.leaf_below.result c.args.txn.now c.level_of-level.result c.args.key.now c.args.root c.in_ok-child.child c.if-level-eq0.false c.in_ok-own.ensures.reading.quiet
+    c.lent-bytes.ensures c.in_ok-own.ensures.lends c.in_ok-child.ensures.child before high
+    (λ node at rises other under. c.in_ok-child.ensures.within node at rises other (c.leaf_below.ensures.nearer other under)) (c.leaf_below.ensures.reach honest))

@@ -1,5 +1,5 @@
-use Rattle.std.{specs.Prelude.insert, proofs.Common.{sym, subst, arith, rules}}
-use Rattle.page_node.{specs.claim.Node.IsNode, proofs.Editing.count_small, proofs.PageEdits.{inserted_node, inserted_size}}
+use Rattle.{std.{specs.Prelude.insert, proofs.Common.{sym, subst, arith, rules}}, page_node.{specs.claim.Node.IsNode, proofs.Editing.count_small}}
+use Rattle.page_node.proofs.PageEdits.{inserted_node, inserted_size}
 use Rattle.page_node.proofs.edit.insert_in.Goals as goal
 
 pub returns-then-count-eq65535 : goal.returns-then-count-eq65535

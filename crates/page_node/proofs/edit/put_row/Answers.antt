@@ -1,5 +1,4 @@
-use Rattle.std.proofs.Common.{List, subst, arith, rules}
-use Rattle.page_node.specs.{claim.Entries.Entry, claim.Node.IsNode, claim.Places.Rises, Searching.IsBelow, Spots.IsSpot}
+use Rattle.{std.proofs.Common.{List, subst, arith, rules}, page_node.specs.{Searching.IsBelow, Spots.IsSpot, claim.{Entries.Entry, Node.IsNode, Places.Rises}}}
 use Rattle.page_node.proofs.PageEdits.{refused, none_told, put_found, put_gap}
 use Rattle.page_node.proofs.edit.put_row.Goals as goal
 
@@ -20,9 +19,8 @@ returns-in_err-fits c = search (
 pub returns-then-spot : goal.returns-then-spot
 returns-then-spot c = record {
   put = λ es is rises begun.
-      let at_spot = c.in_ok-spot.ensures.spot _ is rises begun in
-      let spot = subst (λ b. IsSpot c.args.key.now es b c.in_ok-spot.spot.index c.in_ok-spot.spot.at c.in_ok-spot.spot.end) c.if-spot.true at_spot in
-      put_found c.args.page.now c.replace_in.new.page c.args.key.now es c.args.value.now _ _ _ _ _ _ c.if-spot.true at_spot (c.in_ok-fits.ensures.replaced _ is (λ inner. absurd (omega arith)) spot.0.within spot.1 spot.2) c.told.ensures;
+      let spot = subst (λ b. IsSpot c.args.key.now es b c.in_ok-spot.spot.index c.in_ok-spot.spot.at c.in_ok-spot.spot.end) c.if-spot.true (c.in_ok-spot.ensures.spot _ is rises begun) in
+      put_found c.args.page.now c.replace_in.new.page c.args.key.now es c.args.value.now _ _ _ _ _ spot (c.in_ok-fits.ensures.replaced _ is (λ inner. absurd (omega arith)) spot.0.within spot.1 spot.2) c.told.ensures;
   kept = λ none. c.in_ok-fits.ensures.kept (none_told _ _ _ c.told.ensures none);
   err = search rules;
 }
@@ -38,9 +36,8 @@ returns-in_err-fits-2 c = search (
 pub returns : goal.returns
 returns c = record {
   put = λ es is rises begun.
-      let at_spot = c.in_ok-spot.ensures.spot _ is rises begun in
-      let spot = subst (λ b. IsSpot c.args.key.now es b c.in_ok-spot.spot.index c.in_ok-spot.spot.at c.in_ok-spot.spot.end) c.if-spot.false at_spot in
-      put_gap c.args.page.now c.insert_in.new.page c.args.key.now es c.args.value.now _ _ _ _ _ _ c.if-spot.false at_spot (c.in_ok-fits-2.ensures.inserted _ is (λ inner. absurd (omega arith)) spot.0.within spot.1) c.told-2.ensures;
+      let spot = subst (λ b. IsSpot c.args.key.now es b c.in_ok-spot.spot.index c.in_ok-spot.spot.at c.in_ok-spot.spot.end) c.if-spot.false (c.in_ok-spot.ensures.spot _ is rises begun) in
+      put_gap c.args.page.now c.insert_in.new.page c.args.key.now es c.args.value.now _ _ _ _ _ spot (c.in_ok-fits-2.ensures.inserted _ is (λ inner. absurd (omega arith)) spot.0.within spot.1) c.told-2.ensures;
   kept = λ none. c.in_ok-fits-2.ensures.kept (none_told _ _ _ c.told-2.ensures none);
   err = search rules;
 }

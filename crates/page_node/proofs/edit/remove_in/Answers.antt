@@ -1,5 +1,4 @@
-use Rattle.std.{specs.Prelude.remove, proofs.Common.{◌+◌, refl, sym, subst, arith}}
-use Rattle.page_node.{specs.claim.Entries.size_of, specs.claim.Node.IsNode, proofs.PageEdits.removed_node}
+use Rattle.{std.{specs.Prelude.remove, proofs.Common.{◌+◌, refl, sym, subst, arith}}, page_node.{specs.claim.{Entries.size_of, Node.IsNode}, proofs.PageEdits.removed_node}}
 use Rattle.page_node.proofs.edit.remove_in.Goals as goal
 
 pub returns : goal.returns

@@ -1,5 +1,4 @@
-use Rattle.std.proofs.Common.{◌+◌, refl, arith, rules}
-use Rattle.page_node.{specs.claim.Entries.size_of, proofs.PageEdits.{replaced_here, replaced_node, replaced_size}}
+use Rattle.{std.proofs.Common.{◌+◌, refl, arith, rules}, page_node.{specs.claim.Entries.size_of, proofs.PageEdits.{replaced_here, replaced_node, replaced_size}}}
 use Rattle.page_node.proofs.edit.replace_in.Goals as goal
 
 pub returns-then-at-key : goal.returns-then-at-key

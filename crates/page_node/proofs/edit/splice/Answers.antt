@@ -1,5 +1,4 @@
-use Rattle.std.proofs.Common.{◌≡◌, ◌+◌, ◌-◌, ◌++◌, length, take, drop, arith, ◌∙◌}
-use Rattle.page_node.{specs.claim.Entries.{entry_bytes, entry_size}, proofs.Editing.placed}
+use Rattle.{std.proofs.Common.{◌≡◌, ◌+◌, ◌-◌, ◌++◌, length, take, drop, arith, ◌∙◌}, page_node.{specs.claim.Entries.{entry_bytes, entry_size}, proofs.Editing.placed}}
 use Rattle.page_node.proofs.edit.splice.Goals as goal
 
 pub returns : goal.returns

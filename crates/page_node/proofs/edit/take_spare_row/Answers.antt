@@ -1,6 +1,5 @@
-use Rattle.std.proofs.Common.{List, refl, subst, arith, rules}
-use Rattle.page_node.{specs.claim.Entries.Entry, specs.claim.Node.IsNode, specs.claim.Places.Rises, specs.Spots.IsSpot, proofs.Laws.gap_find, proofs.Nearing.first_below}
-use Rattle.page_node.proofs.PageEdits.{refused, some_left}
+use Rattle.{std.proofs.Common.{List, refl, subst, arith, rules}, page_node.{specs.{Spots.IsSpot, claim.{Entries.Entry, Node.IsNode, Places.Rises}}, proofs.Laws.gap_find}}
+use Rattle.page_node.proofs.{Nearing.first_below, PageEdits.{refused, some_left}}
 use Rattle.page_node.proofs.edit.take_spare_row.Goals as goal
 
 pub returns-in_err-spot : goal.returns-in_err-spot

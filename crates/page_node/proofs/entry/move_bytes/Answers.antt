@@ -1,5 +1,4 @@
-use Rattle.std.{specs.List.copy_within, proofs.Common.{ap, ◌∙◌}}
-use Rattle.page_node.proofs.Writing.{moved_nowhere}
+use Rattle.{std.{specs.List.copy_within, proofs.Common.{ap, ◌∙◌}}, page_node.proofs.Writing.moved_nowhere}
 use Rattle.page_node.proofs.entry.move_bytes.Goals as goal
 
 pub returns-then-from-to : goal.returns-then-from-to

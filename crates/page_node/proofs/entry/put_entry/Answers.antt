@@ -1,6 +1,4 @@
-use Rattle.std.proofs.Common.{rules}
-use borrow.Rule.Slice.PartMut.{put_mid}
-use Rattle.page_node.proofs.Writing.{entry_written}
+use Rattle.{std.proofs.Common.rules, page_node.proofs.Writing.entry_written}
 use Rattle.page_node.proofs.entry.put_entry.Goals as goal
 
 pub returns : goal.returns

@@ -1,5 +1,4 @@
-use Rattle.std.proofs.Common.{arith, rules}
-use Rattle.page_node.proofs.Passed.{passes_none, passes_both, passes_found, passes_not}
+use Rattle.{std.proofs.Common.{arith, rules}, page_node.proofs.Passed.{passes_none, passes_both, passes_found, passes_not}}
 use Rattle.page_node.proofs.passing.each_in.Goals as goal
 
 pub loop-k-init : goal.loop-k-init

@@ -1,5 +1,4 @@
-use Rattle.std.proofs.Common.{◌≤◌}
-use Rattle.page_node.specs.Walking.{PassesTo}
+use Rattle.{std.proofs.Common.◌≤◌, page_node.specs.Walking.PassesTo}
 use Rattle.page_node.proofs.passing.each_in.Given as goal
 
 abbrev pub invariant-loop-k : goal.invariant-loop-k

@@ -1,5 +1,4 @@
-use Rattle.std.proofs.Common.{◌+◌, ◌*◌, arith}
-use Rattle.page_node.proofs.Passed.{passes_both}
+use Rattle.{std.proofs.Common.{◌+◌, ◌*◌, arith}, page_node.proofs.Passed.passes_both}
 use Rattle.page_node.proofs.passing.eight_in.Goals as goal
 
 pub returns-then-four_in : goal.returns-then-four_in

@@ -1,5 +1,4 @@
-use Rattle.std.proofs.Common.{rules}
-use Rattle.page_node.proofs.Passed.{passes_four}
+use Rattle.{std.proofs.Common.rules, page_node.proofs.Passed.passes_four}
 use Rattle.page_node.proofs.passing.four_in.Goals as goal
 
 pub returns : goal.returns

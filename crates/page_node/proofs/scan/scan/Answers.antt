@@ -1,5 +1,4 @@
-use Rattle.std.proofs.Common.{arith, refl, rules}
-use Rattle.page_node.proofs.{Editing.count_small, Scanning.{scanned_not, scanned_no_child, scanned_next, scanned_end}}
+use Rattle.{std.proofs.Common.{arith, refl, rules}, page_node.proofs.{Editing.count_small, Scanning.{scanned_not, scanned_no_child, scanned_next, scanned_end}}}
 use Rattle.page_node.proofs.scan.scan.Goals as goal
 use Rattle.page_node.proofs.scan.scan.Goals.{else-level-gt0-via-then-level-gt0+else-bounds-ne4, else-level-gt0-via-else-level-gt0}
 

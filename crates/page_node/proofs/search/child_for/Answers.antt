@@ -1,5 +1,5 @@
-use Rattle.std.{specs.Ordering.is_gt, proofs.Common.{◌≡◌, ◌+◌, ◌-◌, true, arith, sym, ap, ◌∙◌, rules}}
-use Rattle.page_node.{specs.Entries.key_at, specs.claim.Places.key_cmp, proofs.Laws.floor_stop, proofs.Scanning.{lies_there, entry_of, key_part, last_next, child_ok}}
+use Rattle.{std.{specs.Ordering.is_gt, proofs.Common.{◌≡◌, true, arith, sym, ap, ◌∙◌, rules}}, page_node.specs.{Entries.key_at, claim.Places.key_cmp}}
+use Rattle.page_node.proofs.Scanning.{lies_there, entry_of, key_part, last_next, child_ok}
 use Rattle.page_node.proofs.search.child_for.Goals as goal
 use Rattle.page_node.proofs.search.child_for.Goals.{else-k-gt0-via-then-k-gt0+else-is_above, else-k-gt0-via-else-k-gt0}
 
@@ -11,9 +11,7 @@ returns-then-is_above-clause-child c = λ node is.
     let last = c.loop-k.invariant.2 node is in
     let e = entry_of _ node c.loop-k.k c.loop-k.at is (omega arith) last.place in
     let above : is_gt (key_cmp (key_at node.entries c.loop-k.k) c.args.key.now) ≡ true = ap (λ l. is_gt (key_cmp l c.args.key.now)) (sym (key_part _ _ _ _ _ _ e c.in-Some.ensures.some)) ∙ sym c.is_above.ensures ∙ c.if-is_above.true in
-    let next : c.loop-k.k - 1 + 1 ≡ c.loop-k.k = omega arith in
-    child_ok _ c.args.key.now node.entries c.loop-k.k _ _ c.child_at.result last c.child_at.ensures.ok
-    (λ some. floor_stop c.args.key.now node.entries (c.loop-k.k - 1) (omega arith) (λ j more le. last.below j more (omega arith)) (λ long. ap (λ k. is_gt (key_cmp (key_at node.entries k) c.args.key.now)) next ∙ above))
+    child_ok _ c.args.key.now node.entries c.loop-k.k _ _ c.child_at.result last (omega arith) (λ _. above) c.child_at.ensures.ok
 
 pub loop-k-preserved : goal.loop-k-preserved
 loop-k-preserved c =
@@ -32,6 +30,4 @@ loop-k-preserved c =
 
 pub returns-clause-child : goal.returns-clause-child
 returns-clause-child c = λ node is.
-    let last = c.loop-k.invariant.2 node is in
-    child_ok _ c.args.key.now node.entries c.loop-k.k _ _ c.child_at-2.result last c.child_at-2.ensures.ok
-    (λ some. floor_stop c.args.key.now node.entries (c.loop-k.k - 1) (omega arith) (λ j more le. last.below j more (omega arith)) (λ long. absurd (omega arith)))
+    child_ok _ c.args.key.now node.entries c.loop-k.k _ _ c.child_at-2.result (c.loop-k.invariant.2 node is) (omega arith) (λ more. absurd (omega arith)) c.child_at-2.ensures.ok

@@ -1,6 +1,6 @@
-use Rattle.std.{specs.Ordering.is_gt, proofs.Common.{◌≡◌, ℕ, ◌+◌, take, false, arith, sym, ap, ◌∙◌, subst, rules}}
-use Rattle.page_node.specs.{Entries.key_at, claim.Entries.size_of, claim.Places.key_cmp, Searching.IsLast}
-use Rattle.page_node.proofs.{Scanning.{lies_there, entry_of, end_there, key_part}, Nearing.last_after, Passed.{node_passed, node_passed_not}}
+use Rattle.{std.{specs.Ordering.is_gt, proofs.Common.{◌≡◌, ℕ, ◌+◌, take, false, arith, sym, ap, ◌∙◌, subst, rules}}, page_node.specs.{Entries.key_at, Searching.IsLast}}
+use Rattle.page_node.{specs.claim.{Entries.size_of, Places.key_cmp}, proofs.{Nearing.last_after, Passed.{node_passed, node_passed_not}}}
+use Rattle.page_node.proofs.Scanning.{lies_there, entry_of, end_there, key_part}
 use Rattle.page_node.proofs.search.near_for.Goals as goal
 
 pub returns-in-None : goal.returns-in-None

@@ -1,5 +1,4 @@
-use Rattle.std.proofs.Common.{◌≡◌, ◌+◌, ◌-◌, ◌≤◌, take}
-use Rattle.page_node.specs.{claim.Entries.size_of, claim.Node.{Node, IsNode}, Searching.{IsLast, RisesAfter}}
+use Rattle.{std.proofs.Common.{◌≡◌, ◌+◌, ◌-◌, ◌≤◌, take}, page_node.specs.{Searching.{IsLast, RisesAfter}, claim.{Entries.size_of, Node.{Node, IsNode}}}}
 use Rattle.page_node.proofs.search.near_for.Given as goal
 
 abbrev pub invariant-loop-near : goal.invariant-loop-near

@@ -1,9 +1,7 @@
-use Rattle.std.specs.{Ordering.{is_gt, is_lt}, declared.cmp.Ordering.TheVariants.Less}
-use Rattle.std.proofs.Common.{rules, ◌≡◌, ℕ, ◌+◌, ◌-◌, ◌<◌, ◌≤◌, List, length, take, true, false, arith, sym, ap, ◌∙◌, below_more}
-use Rattle.std.proofs.lemmas.List.{length-drop}
-use Rattle.page_node.specs.{claim.Entries.size_of, Entries.key_at, claim.Node.{Node, IsNode}, claim.Places.key_cmp, Places.entries_from, Walking.IsAhead}
-use Rattle.page_node.proofs.{Walking.node_ahead_at, Laws.{entries_from_at, from_middle, not_below, is_less}, Nearing.first_below}
-use Rattle.page_node.proofs.Scanning.{lies_there, entry_of, end_there, key_part}
+use Rattle.{std.{specs.{Ordering.{is_gt, is_lt}, declared.cmp.Ordering.TheVariants.Less}, proofs.lemmas.List.length-drop}, page_node.specs.{Entries.key_at, Places.entries_from}}
+use Rattle.{std.proofs.Common.{rules, ◌≡◌, ℕ, ◌+◌, ◌-◌, ◌<◌, ◌≤◌, List, length, take, true, false, arith, sym, ap, ◌∙◌, below_more}, page_node.specs.Walking.IsAhead}
+use Rattle.page_node.{specs.claim.{Entries.size_of, Node.{Node, IsNode}, Places.key_cmp}, proofs.{Laws.{entries_from_at, from_middle, not_below, is_less}, Nearing.first_below}}
+use Rattle.page_node.proofs.{Scanning.{lies_there, entry_of, end_there, key_part}, Walking.node_ahead_at}
 use Rattle.page_node.proofs.search.place_from.Goals as goal
 
 found : (page key : List ℕ) (node : Node) (k at left : ℕ) → IsNode page node → at ≡ 4 + size_of (take k node.entries) → k ≤ length node.entries → left ≡ length node.entries - k → ((j : ℕ) → j < k → key_cmp (key_at node.entries j) key ≡ Less) → ((j : ℕ) → k ≤ j → j < length node.entries → is_gt (key_cmp key (key_at node.entries j)) ≡ false)

@@ -1,4 +1,4 @@
-use Rattle.page_node.specs.{claim.Node.{Node, IsNode}, Searching.IsBelow}
+use Rattle.page_node.specs.{Searching.IsBelow, claim.Node.{Node, IsNode}}
 use Rattle.page_node.proofs.search.place_from.Given as goal
 
 abbrev pub invariant-loop-k : goal.invariant-loop-k

@@ -1,6 +1,6 @@
-use Rattle.std.{specs.Ordering.is_lt, proofs.Common.{◌≡◌, ℕ, ◌+◌, take, true, arith, sym, ap, ◌∙◌, subst, rules}}
-use Rattle.page_node.{specs.Entries.key_at, specs.claim.Entries.size_of, specs.claim.Places.key_cmp, proofs.Laws.{below_middle, is_less}}
-use Rattle.page_node.proofs.{Scanning.{lies_there, entry_of, end_there, key_part}, Passed.{node_passed, node_passed_not}}
+use Rattle.{std.{specs.Ordering.is_lt, proofs.Common.{◌≡◌, ℕ, ◌+◌, take, true, arith, sym, ap, ◌∙◌, subst, rules}}, page_node.specs.{Entries.key_at, claim.Entries.size_of}}
+use Rattle.page_node.{specs.claim.Places.key_cmp, proofs.{Laws.{below_middle, is_less}, Passed.{node_passed, node_passed_not}}}
+use Rattle.page_node.proofs.Scanning.{lies_there, entry_of, end_there, key_part}
 use Rattle.page_node.proofs.search.row_after.Goals as goal
 
 pub returns-in-None : goal.returns-in-None

@@ -1,6 +1,5 @@
-use Rattle.std.{specs.Prelude.Ok, specs.Ordering.is_gt, proofs.Common.{◌≡◌, ◌≤◌, ◌+◌, ◌-◌, ℕ, true, arith, sym, ap, ◌∙◌, rules}}
-use Rattle.page_node.{specs.Entries.key_at, specs.claim.Places.key_cmp, proofs.Laws.{floor_stop, ceiling_at, ceiling_none}}
-use Rattle.page_node.proofs.Scanning.{lies_there, entry_of, key_part, last_next, child_ok}
+use Rattle.{std.{specs.{Ordering.is_gt, Prelude.Ok}, proofs.Common.{◌≡◌, ◌≤◌, ℕ, true, arith, sym, ap, ◌∙◌, rules}}, page_node.specs.{Entries.key_at, claim.Places.key_cmp}}
+use Rattle.page_node.proofs.{Laws.{ceiling_at, ceiling_none}, Scanning.{lies_there, entry_of, key_part, last_next, child_ok}}
 use Rattle.page_node.proofs.search.turn_for.Goals as goal
 use Rattle.page_node.proofs.search.turn_for.Goals.{else-k-gt0-via-then-k-gt0+else-is_above, else-k-gt0-via-else-k-gt0}
 
@@ -28,9 +27,7 @@ returns-then-is_above c = record {
       let last = c.loop-k.invariant.2 node is rises in
       let e = entry_of _ node c.loop-k.k c.loop-k.at is (omega arith) last.place in
       let above : is_gt (key_cmp (key_at node.entries c.loop-k.k) c.args.key.now) ≡ true = ap (λ l. is_gt (key_cmp l c.args.key.now)) (sym (key_part _ _ _ _ _ _ e c.in-Some-bounds_in.ensures.some)) ∙ sym c.is_above.ensures ∙ c.if-is_above.true in
-      let next : c.loop-k.k - 1 + 1 ≡ c.loop-k.k = omega arith in
-      child_ok {E = ℕ} _ c.args.key.now node.entries c.loop-k.k c.loop-k.value c.loop-k.at (Ok c.in_ok-child.child) last c.in_ok-child.ensures.ok
-      (λ some. floor_stop c.args.key.now node.entries (c.loop-k.k - 1) (omega arith) (λ j more le. last.below j more (omega arith)) (λ long. ap (λ k. is_gt (key_cmp (key_at node.entries k) c.args.key.now)) next ∙ above));
+      child_ok {E = ℕ} _ c.args.key.now node.entries c.loop-k.k c.loop-k.value c.loop-k.at (Ok c.in_ok-child.child) last (omega arith) (λ _. above) c.in_ok-child.ensures.ok;
   lies = search rules;
   few = search rules;
   above = λ node is rises.
@@ -45,9 +42,7 @@ pub returns : goal.returns
 returns c = record {
   child = λ node is rises.
       let few : c.in-Some.near.k ≤ c.count_of-count.result = let most = c.in-Some.ensures.within.2 in let count_is = c.count_of-count.ensures.count in omega arith in
-      let last = c.loop-k.invariant.2 node is rises in
-      child_ok {E = ℕ} _ c.args.key.now node.entries c.loop-k.k c.loop-k.value c.loop-k.at (Ok c.in_ok-child-2.child) last c.in_ok-child-2.ensures.ok
-      (λ some. floor_stop c.args.key.now node.entries (c.loop-k.k - 1) (omega arith) (λ j more le. last.below j more (omega arith)) (λ long. absurd (omega arith)));
+      child_ok {E = ℕ} _ c.args.key.now node.entries c.loop-k.k c.loop-k.value c.loop-k.at (Ok c.in_ok-child-2.child) (c.loop-k.invariant.2 node is rises) (omega arith) (λ more. absurd (omega arith)) c.in_ok-child-2.ensures.ok;
   lies = search rules;
   few = search rules;
   above = search rules;

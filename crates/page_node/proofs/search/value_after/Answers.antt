@@ -1,5 +1,5 @@
-use Rattle.std.{specs.Prelude.Some, specs.declared.cmp.Ordering.TheVariants.{Less, Greater}, proofs.Common.{◌≡◌, ◌≤◌, arith, sym, ap, ◌∙◌, below_more, rules}}
-use Rattle.page_node.{specs.Entries.key_at, specs.claim.Places.key_cmp, proofs.Laws.{find_none, find_at, above_middle, same_key}}
+use Rattle.std.{specs.{Prelude.Some, declared.cmp.Ordering.TheVariants.{Less, Greater}}, proofs.Common.{◌≡◌, ◌≤◌, arith, sym, ap, ◌∙◌, below_more, rules}}
+use Rattle.page_node.{specs.{Entries.key_at, claim.Places.key_cmp}, proofs.Laws.{find_none, find_at, above_middle, same_key}}
 use Rattle.page_node.proofs.Scanning.{lies_there, entry_of, end_there, key_part, value_part}
 use Rattle.page_node.proofs.search.value_after.Goals as goal
 

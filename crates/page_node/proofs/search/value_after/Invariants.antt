@@ -1,5 +1,4 @@
-use Rattle.std.proofs.Common.{◌≤◌}
-use Rattle.page_node.specs.{claim.Node.{Node, IsNode}, Searching.IsBelow}
+use Rattle.{std.proofs.Common.◌≤◌, page_node.specs.{Searching.IsBelow, claim.Node.{Node, IsNode}}}
 use Rattle.page_node.proofs.search.value_after.Given as goal
 
 abbrev pub invariant-loop-k : goal.invariant-loop-k

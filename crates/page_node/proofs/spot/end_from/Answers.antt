@@ -1,5 +1,4 @@
-use Rattle.std.proofs.Common.{arith, rules}
-use Rattle.page_node.proofs.Scanning.{lies_there, entry_of, end_there}
+use Rattle.{std.proofs.Common.{arith, rules}, page_node.proofs.Scanning.{lies_there, entry_of, end_there}}
 use Rattle.page_node.proofs.spot.end_from.Goals as goal
 
 pub returns-in-None : goal.returns-in-None

@@ -1,5 +1,4 @@
-use Rattle.std.proofs.Common.{arith}
-use Rattle.page_node.proofs.Passed.{node_passed, node_passed_not}
+use Rattle.{std.proofs.Common.arith, page_node.proofs.Passed.{node_passed, node_passed_not}}
 use Rattle.page_node.proofs.spot.passed_from.Goals as goal
 
 pub returns-in-None : goal.returns-in-None

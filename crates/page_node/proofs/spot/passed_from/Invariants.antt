@@ -1,5 +1,4 @@
-use Rattle.std.proofs.Common.{◌≡◌, ◌+◌, ◌-◌, ◌≤◌, take, length}
-use Rattle.page_node.specs.{claim.Entries.size_of, claim.Node.{Node, IsNode}}
+use Rattle.{std.proofs.Common.{◌≡◌, ◌+◌, ◌-◌, ◌≤◌, take, length}, page_node.specs.claim.{Entries.size_of, Node.{Node, IsNode}}}
 use Rattle.page_node.proofs.spot.passed_from.Given as goal
 
 abbrev pub invariant-loop-near : goal.invariant-loop-near

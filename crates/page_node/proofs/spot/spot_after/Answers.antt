@@ -1,6 +1,5 @@
-use Rattle.std.{specs.declared.cmp.Ordering.TheVariants.{Less, Greater}, proofs.Common.{◌≡◌, arith, sym, ap, ◌∙◌, below_more, rules}}
-use Rattle.page_node.{specs.Entries.key_at, specs.claim.Places.key_cmp, proofs.Laws.{found_here, above_middle, same_key}}
-use Rattle.page_node.proofs.Scanning.{lies_there, entry_of, end_there, key_part}
+use Rattle.{std.{specs.declared.cmp.Ordering.TheVariants.{Less, Greater}, proofs.Common.{◌≡◌, arith, sym, ap, ◌∙◌, below_more, rules}}, page_node.specs.Entries.key_at}
+use Rattle.page_node.{specs.claim.Places.key_cmp, proofs.{Laws.{found_here, above_middle, same_key}, Scanning.{lies_there, entry_of, end_there, key_part}}}
 use Rattle.page_node.proofs.spot.spot_after.Goals as goal
 
 pub returns-in-None-bounds_in : goal.returns-in-None-bounds_in

@@ -1,6 +1,5 @@
-use Rattle.std.{specs.Prelude.Some, specs.List.starts_with, proofs.Common.{◌≡◌, ℕ, ◌+◌, true, nat_eq, arith, sym, ap, ◌∙◌, subst, rules}}
-use Rattle.page_node.{specs.Entries.key_at, specs.Ways.AreWays, specs.Walking.part_of, proofs.Scanning.lies_there}
-use Rattle.page_node.proofs.Following.{here_key, here_next, here_child, here_no_child, ways_there, ways_next}
+use Rattle.{std.{specs.{List.starts_with, Prelude.Some}, proofs.Common.{◌≡◌, ℕ, ◌+◌, true, nat_eq, arith, sym, ap, ◌∙◌, subst, rules}}, page_node.specs.Entries.key_at}
+use Rattle.page_node.{specs.{Walking.part_of, Ways.AreWays}, proofs.{Following.{here_key, here_next, here_child, here_no_child, ways_there, ways_next}, Scanning.lies_there}}
 use Rattle.page_node.proofs.ways.follow.Goals as goal
 
 pub returns-then-bound-count : goal.returns-then-bound-count

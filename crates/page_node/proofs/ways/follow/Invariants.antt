@@ -1,6 +1,5 @@
-use Rattle.std.{specs.Prelude.Some, specs.List.starts_with, specs.Option.option_map, proofs.Common.{◌≡◌, ◌<◌, ◌+◌, ℕ, List, true, nat_eq}}
-use Rattle.page_node.specs.{Bytes.LiesAt, Entries.{key_at, child_in}, claim.Node.{Node, IsNode}, Places.floor, Searching.{IsTurn, RisesAfter}, Walking.part_of, Ways.AreWays}
-use Rattle.page_node.proofs.Following.{IsHere}
+use Rattle.{std.{specs.{List.starts_with, Option.option_map, Prelude.Some}, proofs.Common.{◌≡◌, ◌<◌, ◌+◌, ℕ, List, true, nat_eq}}, page_node.specs.{Bytes.LiesAt, Places.floor}}
+use Rattle.page_node.{specs.{Entries.{key_at, child_in}, Searching.{IsTurn, RisesAfter}, Walking.part_of, Ways.AreWays, claim.Node.{Node, IsNode}}, proofs.Following.IsHere}
 use Rattle.page_node.proofs.ways.follow.Given as goal
 
 abbrev pub invariant-loop-more : goal.invariant-loop-more

@@ -1,5 +1,5 @@
-use Rattle.std.{specs.Prelude.Some, specs.List.starts_with, proofs.Common.{◌≡◌, ◌≤◌, ℕ, List, length, true, nat_eq, ap, sym, subst, ◌∙◌, rules}}
-use Rattle.page_node.proofs.{Following.{some_of, turn_bound}, Scanning.key_there}
+use Rattle.{std.{specs.{List.starts_with, Prelude.Some}, proofs.Common.{◌≡◌, ◌≤◌, ℕ, List, length, true, nat_eq, ap, sym, subst, ◌∙◌, rules}}, page_node.proofs.Scanning.key_there}
+use Rattle.page_node.proofs.Following.{some_of, turn_bound}
 use Rattle.page_node.proofs.ways.ways_for.Goals as goal
 
 pub returns-then-not-starts_with : goal.returns-then-not-starts_with
@@ -21,8 +21,7 @@ returns c =
     let last = c.in_ok-found.found.bound in
     let there = c.in_ok-found.ensures.there in
     record {
-      ways = λ node is rises.
-          search rules;
+      ways = λ node is rises. search rules;
       few = c.in_ok-found.ensures.few;
       under = λ _. subst (λ (l : List ℕ). starts_with nat_eq l c.args.prefix.now ≡ true) (sym c.part.ensures) there.under;
       short = subst (λ (l : List ℕ). length l ≤ 72) (sym (c.part.ensures ∙ key_there c.args.page.now last.at last.value last.end there.lies)) there.lies.entry.0;

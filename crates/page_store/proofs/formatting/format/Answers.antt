@@ -1,6 +1,4 @@
-use Rattle.std.proofs.Common.{◌∙◌, ℕ, sym, subst}
-use Rattle.gate_journal.specs.{Recovery.HasRoom, claim.Writes.writes_of}
-use Rattle.page_store.{specs.New.IsNew, proofs.Made.new_store}
+use Rattle.{std.proofs.Common.{◌∙◌, ℕ, sym, subst}, gate_journal.specs.{Recovery.HasRoom, claim.Writes.writes_of}, page_store.{specs.New.IsNew, proofs.Made.new_store}}
 use Rattle.page_store.proofs.formatting.format.Goals as goal
 
 pub returns-clause-new : goal.returns-clause-new

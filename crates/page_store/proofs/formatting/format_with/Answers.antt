@@ -1,6 +1,5 @@
-use Rattle.std.proofs.Common.{◌-◌, ◌∙◌, ℕ, refl, sym, subst, arith}
-use Rattle.gate_journal.{specs.Recovery.HasRoom, specs.claim.Store.{overlay, pages}, specs.claim.Writes.writes_of, proofs.Images.{put_on, put_off}}
-use Rattle.page_store.{specs.New.IsNewWith, proofs.Made.{new_store_with, meta_under}}
+use Rattle.{std.proofs.Common.{◌-◌, ◌∙◌, ℕ, refl, sym, subst, arith}, gate_journal.specs.{Recovery.HasRoom, claim.{Store.{overlay, pages}, Writes.writes_of}}}
+use Rattle.{page_store.{specs.New.IsNewWith, proofs.Made.{new_store_with, meta_under}}, gate_journal.proofs.Images.{put_on, put_off}}
 use Rattle.page_store.proofs.formatting.format_with.Goals as goal
 
 pub returns-clause-new : goal.returns-clause-new

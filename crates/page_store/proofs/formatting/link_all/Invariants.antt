@@ -1,6 +1,4 @@
-use Rattle.std.proofs.Common.{◌≡◌, ◌≤◌, ◌*◌, ◌+◌}
-use Rattle.gate_journal.specs.{Store.IsSettled, claim.Store.pages, Writes.room_of}
-use Rattle.page_store.specs.New.{AreLinked}
+use Rattle.{std.proofs.Common.{◌≡◌, ◌≤◌, ◌*◌, ◌+◌}, gate_journal.specs.{Store.IsSettled, Writes.room_of, claim.Store.pages}, page_store.specs.New.AreLinked}
 use Rattle.page_store.proofs.formatting.link_all.Given as goal
 
 abbrev pub invariant-loop-batch : goal.invariant-loop-batch

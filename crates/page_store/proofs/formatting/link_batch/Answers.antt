@@ -1,5 +1,4 @@
-use Rattle.gate_journal.specs.{claim.Store.pages, claim.Writes.writes_of}
-use Rattle.page_store.proofs.Made.{linked_batch}
+use Rattle.{gate_journal.specs.claim.{Store.pages, Writes.writes_of}, page_store.proofs.Made.linked_batch}
 use Rattle.page_store.proofs.formatting.link_batch.Goals as goal
 
 pub returns-clause-model : goal.returns-clause-model

@@ -1,5 +1,4 @@
-use Rattle.std.proofs.Common.{◌∙◌, ◌≤◌, ℕ, arith}
-use Rattle.gate_journal.{specs.claim.Store.overlay, specs.claim.Writes.writes_of, specs.Writes.room_of, proofs.Images.put_off}
+use Rattle.{std.proofs.Common.{◌∙◌, ◌≤◌, ℕ, arith}, gate_journal.{specs.{Writes.room_of, claim.{Store.overlay, Writes.writes_of}}, proofs.Images.put_off}}
 use Rattle.page_store.proofs.{Chains.link_blank, Linked.linked_more}
 use Rattle.page_store.proofs.formatting.link_pages.Goals as goal
 

@@ -1,7 +1,5 @@
-use Rattle.std.proofs.Common.{◌≡◌, ◌≢◌, ◌≤◌, ◌<◌, ◌+◌, ℕ, length, replicate}
-use Rattle.sector_device.specs.claim.Disk.{Image}
-use Rattle.gate_journal.specs.{Store.IsWithin, claim.Store.{overlay, word}, claim.Writes.writes_of, Writes.room_of}
-use Rattle.page_store.specs.New.{AreLinked}
+use Rattle.{std.proofs.Common.{◌≡◌, ◌≢◌, ◌≤◌, ◌<◌, ◌+◌, ℕ, length, replicate}, gate_journal.specs.{Store.IsWithin, Writes.room_of, claim.{Store.{overlay, word}, Writes.writes_of}}}
+use Rattle.{page_store.specs.New.AreLinked, sector_device.specs.claim.Disk.Image}
 use Rattle.page_store.proofs.formatting.link_pages.Given as goal
 
 abbrev pub invariant-loop-p : goal.invariant-loop-p

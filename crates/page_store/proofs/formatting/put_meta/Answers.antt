@@ -1,5 +1,4 @@
-use Rattle.std.proofs.Common.{◌≡◌, ◌∙◌, List, ℕ, refl, ap, arith}
-use Rattle.gate_journal.{specs.claim.Store.{overlay, word}, specs.claim.Writes.writes_of, proofs.Images.put_on}
+use Rattle.{std.proofs.Common.{◌≡◌, ◌∙◌, List, ℕ, refl, ap, arith}, gate_journal.{specs.claim.{Store.{overlay, word}, Writes.writes_of}, proofs.Images.put_on}}
 use Rattle.page_store.proofs.formatting.put_meta.Goals as goal
 
 pub returns-clause-meta : goal.returns-clause-meta

@@ -1,5 +1,4 @@
-use Rattle.std.proofs.Common.{arith}
-use Rattle.page_store.proofs.Chains.{blank_as}
+use Rattle.{std.proofs.Common.arith, page_store.proofs.Chains.blank_as}
 use Rattle.page_store.proofs.txn.is_blank_page.Goals as goal
 
 pub returns : goal.returns

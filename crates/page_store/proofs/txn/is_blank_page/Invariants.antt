@@ -1,5 +1,4 @@
-use Rattle.std.proofs.Common.{◌≡◌, ◌<◌, ℕ, true, false}
-use Rattle.gate_journal.specs.claim.Store.{word}
+use Rattle.{std.proofs.Common.{◌≡◌, ◌<◌, ℕ, true, false}, gate_journal.specs.claim.Store.word}
 use Rattle.page_store.proofs.txn.is_blank_page.Given as goal
 
 abbrev pub invariant-loop-k : goal.invariant-loop-k

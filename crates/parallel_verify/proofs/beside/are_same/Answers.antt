@@ -1,6 +1,4 @@
-use Rattle.std.proofs.Common.{◌≡◌, ℕ, get_or, inl, inr, subst, arith}
-use Rattle.std.proofs.lemmas.Bool.{cases_lt}
-use Rattle.std.proofs.lemmas.List.{ext_get_or}
+use Rattle.std.proofs.{Common.{◌≡◌, ℕ, get_or, inl, inr, subst, arith}, lemmas.{Bool.cases_lt, List.ext_get_or}}
 use Rattle.parallel_verify.proofs.beside.are_same.Goals as goal
 
 pub loop-k-preserved : goal.loop-k-preserved

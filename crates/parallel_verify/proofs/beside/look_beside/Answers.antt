@@ -1,6 +1,4 @@
-use Rattle.std.proofs.Common.{refl}
-use Rattle.sector_device.{specs.claim.Disk.Nowhere, proofs.Moments.touches_none}
-use Rattle.parallel_verify.proofs.Seen.{joined_whole}
+use Rattle.{std.proofs.Common.refl, sector_device.{specs.claim.Disk.Nowhere, proofs.Moments.touches_none}, parallel_verify.proofs.Seen.joined_whole}
 use Rattle.parallel_verify.proofs.beside.look_beside.Goals as goal
 
 pub returns-then-not-is_closed-clause-sectors : goal.returns-then-not-is_closed-clause-sectors

@@ -1,6 +1,4 @@
-use Rattle.std.proofs.Common.{sym, ◌∙◌}
-use Rattle.page_store.proofs.Stops.{quiet_more}
-use Rattle.parallel_verify.{specs.Looking.HasDesk, proofs.Rows.{desk_seen, nothing_found}}
+use Rattle.{std.proofs.Common.{sym, ◌∙◌}, parallel_verify.{specs.Looking.HasDesk, proofs.Rows.{desk_seen, nothing_found}}, page_store.proofs.Stops.quiet_more}
 use Rattle.parallel_verify.proofs.jobs.desk_in.Goals as goal
 
 pub is_new-requires : goal.is_new-requires

@@ -1,5 +1,4 @@
-use Rattle.std.proofs.Common.{ap, ◌∙◌}
-use Rattle.parallel_verify.{specs.Looking.HasSeen, proofs.Opened.{looked, not_opened, same_sectors}}
+use Rattle.{std.proofs.Common.{ap, ◌∙◌}, parallel_verify.{specs.Looking.HasSeen, proofs.Opened.{looked, not_opened, same_sectors}}}
 use Rattle.parallel_verify.proofs.jobs.look_at_rows.Goals as goal
 
 pub returns-in-Err : goal.returns-in-Err

@@ -1,6 +1,4 @@
-use Rattle.std.proofs.Common.{sym, ◌∙◌}
-use Rattle.page_store.proofs.Stops.{quiet_more}
-use Rattle.parallel_verify.{specs.Looking.HasSeen, proofs.Rows.{nothing_found, rows_seen}}
+use Rattle.{std.proofs.Common.{sym, ◌∙◌}, parallel_verify.{specs.Looking.HasSeen, proofs.Rows.{nothing_found, rows_seen}}, page_store.proofs.Stops.quiet_more}
 use Rattle.parallel_verify.proofs.jobs.rows_in.Goals as goal
 
 pub check_holdings-requires : goal.check_holdings-requires

@@ -1,5 +1,4 @@
-use Rattle.byte_stream.specs.claim.Fields.{fields}
-use Rattle.pl94.proofs.FieldLemmas.{field_at, left_after}
+use Rattle.{byte_stream.specs.claim.Fields.fields, pl94.proofs.FieldLemmas.{field_at, left_after}}
 use Rattle.pl94.proofs.entry.block_fields.Goals as goal
 
 pub returns : goal.returns

@@ -1,7 +1,5 @@
-use Rattle.std.proofs.Common.{◌<◌, ap, arith, length, rules}
-use Rattle.std.proofs.lemmas.Bool.Decides.{nat_tests}
-use Rattle.std.proofs.lemmas.List.{nil_from_length}
-use Rattle.pl94.{specs.claim.Judging.blocks_of, proofs.HoldingLemmas.length-blocks_of, proofs.GeoLemmas.rows_from}
+use Rattle.{std.proofs.{Common.{◌<◌, ap, arith, length, rules}, lemmas.{Bool.Decides.nat_tests, List.nil_from_length}}, pl94.specs.claim.Judging.blocks_of}
+use Rattle.pl94.proofs.{GeoLemmas.rows_from, HoldingLemmas.length-blocks_of}
 use Rattle.pl94.proofs.geo.finish.Goals as goal
 
 pub returns-then-is_empty : goal.returns-then-is_empty

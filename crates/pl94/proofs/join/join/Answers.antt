@@ -1,5 +1,4 @@
-use Rattle.std.proofs.Common.{◌≡◌, ◌<◌, ◌^◌, List, map, sum_by, arith, ap, ◌∙◌, subst, IsPermutation}
-use Rattle.desk_model.specs.declared.block.BlockRow.{BlockRow}
+use Rattle.{std.proofs.Common.{◌≡◌, ◌<◌, ◌^◌, List, map, sum_by, arith, ap, ◌∙◌, subst, IsPermutation}, desk_model.specs.declared.block.BlockRow.BlockRow}
 use Rattle.pl94.{specs.claim.Join.{rows_of, row_of, total_people, state_people_of}, proofs.JoinLemmas.{are_blocks, state_agrees, some_agrees, none_agrees}}
 use Rattle.pl94.proofs.join.join.Goals as goal
 use Rattle.pl94.proofs.join.join.Goals.{in-Some-state_people+else-state-total, in_default-state_people}

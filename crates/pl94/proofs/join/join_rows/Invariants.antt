@@ -1,5 +1,4 @@
-use Rattle.std.proofs.Common.{◌≡◌, take, map}
-use Rattle.pl94.specs.claim.Join.{row_of}
+use Rattle.{std.proofs.Common.{◌≡◌, take, map}, pl94.specs.claim.Join.row_of}
 use Rattle.pl94.proofs.join.join_rows.Given as goal
 
 abbrev pub invariant-loop-block : goal.invariant-loop-block

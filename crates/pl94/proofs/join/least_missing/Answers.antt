@@ -1,5 +1,5 @@
-use Rattle.std.proofs.Common.{◌<◌, ◌≤◌, List, length, get_or, ap, ◌∙◌, arith}
-use Rattle.pl94.{specs.declared.header.GeoBlock.GeoBlock, proofs.JoinLemmas.{least_of_all, least_of_blocks, least_more}}
+use Rattle.{std.proofs.Common.{◌<◌, ◌≤◌, List, length, get_or, ap, ◌∙◌, arith}, pl94.specs.declared.header.GeoBlock.GeoBlock}
+use Rattle.pl94.proofs.JoinLemmas.{least_of_all, least_of_blocks, least_more}
 use Rattle.pl94.proofs.join.least_missing.Goals as goal
 
 pub returns-in-Some : goal.returns-in-Some

@@ -1,5 +1,4 @@
-use Rattle.std.proofs.Common.{take, map}
-use Rattle.pl94.specs.{declared.header.GeoBlock.GeoBlock, Join.IsLeast}
+use Rattle.{std.proofs.Common.{take, map}, pl94.specs.{Join.IsLeast, declared.header.GeoBlock.GeoBlock}}
 use Rattle.pl94.proofs.join.least_missing.Given as goal
 
 abbrev pub invariant-loop-block : goal.invariant-loop-block

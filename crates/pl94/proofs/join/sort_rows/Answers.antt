@@ -1,7 +1,4 @@
-use Rattle.std.proofs.Common.{rules}
-use Rattle.std.proofs.lemmas.List.Sorted.{IsNonDecreasingBy-from_sort_by_key}
-use Rattle.desk_model.specs.declared.block.BlockRow.{BlockRow}
-use Rattle.pl94.proofs.JoinLemmas.{ids_rise}
+use Rattle.{std.proofs.{Common.rules, lemmas.List.Sorted.IsNonDecreasingBy-from_sort_by_key}, desk_model.specs.declared.block.BlockRow.BlockRow, pl94.proofs.JoinLemmas.ids_rise}
 use Rattle.pl94.proofs.join.sort_rows.Goals as goal
 
 pub returns-clause-sorted : goal.returns-clause-sorted

@@ -1,5 +1,4 @@
-use Rattle.std.proofs.Common.{◌≡◌, ◌*◌, ◌^◌, ◌≤◌, take, sum_by}
-use Rattle.desk_model.specs.declared.block.BlockRow.{BlockRow}
+use Rattle.{std.proofs.Common.{◌≡◌, ◌*◌, ◌^◌, ◌≤◌, take, sum_by}, desk_model.specs.declared.block.BlockRow.BlockRow}
 use Rattle.pl94.proofs.join.total_of.Given as goal
 
 abbrev pub invariant-loop-row : goal.invariant-loop-row

@@ -1,6 +1,5 @@
-use Rattle.std.proofs.Common.{ℕ, ◌∷◌, ◌++◌, [], Option, sym, subst, ◌∙◌, arith}
-use Rattle.std.proofs.lemmas.Bool.Decides.{nat_tests}
-use Rattle.pl94.{specs.Join.IsLeast, specs.declared.record.SegmentNumber.SegmentNumber, proofs.LeastLemmas.{least_kept, least_of_less, least_of_none}}
+use Rattle.{std.proofs.{Common.{ℕ, ◌∷◌, ◌++◌, [], Option, sym, subst, ◌∙◌, arith}, lemmas.Bool.Decides.nat_tests}, pl94.specs.Join.IsLeast}
+use Rattle.pl94.{specs.declared.record.SegmentNumber.SegmentNumber, proofs.LeastLemmas.{least_kept, least_of_less, least_of_none}}
 use Rattle.pl94.proofs.join.with_number.Goals as goal
 
 pub returns-then-other-number : goal.returns-then-other-number

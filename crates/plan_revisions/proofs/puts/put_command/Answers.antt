@@ -1,37 +1,32 @@
-use Rattle.std.proofs.Common.{◌≡◌, ℕ, List, length, Some, refl, ap, ◌∙◌, rules}
-use Rattle.std.specs.FinMap as map_of
-use Rattle.std.proofs.lemmas.List.{length-map}
-use Rattle.desk_model.specs.{Ranges.ranges_of, claim.Desk.Desk}
-use Rattle.desk_catalogue.specs.{Cutting.is_changed, Kept.revision_in}
-use Rattle.desk_pages.proofs.Writing.{does, told_on}
+use Rattle.{std.proofs.Common.{is_some, ◌≡◌, ℕ, List, length, Some, refl, ap, ◌∙◌, rules}, desk_catalogue.specs.Kept.revision_in, desk_model.specs.Ranges.ranges_of}
+use Rattle.{desk_model.specs.claim.Desk.Desk, desk_pages.proofs.Writing.{does, told_on}, plan_revisions.proofs.{Accepted.next_is, Stepped.revision_put}}
+use Rattle.plan_revisions.proofs.{Commands.{create_put, fork_put, retire_put, revision_as}, Counted.{changes_by, changes_now, each_told, revised_by}}
 use Rattle.plan_rows.proofs.Writing.{writes_as}
-use Rattle.plan_revisions.proofs.{Accepted.next_is, Commands.{create_put, fork_put, retire_put, retire_not_put, revision_as}}
-use Rattle.plan_revisions.proofs.{Counted.{changes_by, changes_now, changes_told, revised_by, there_is}, Stepped.revision_put}
+use Rattle.std.specs.FinMap as map_of
 use Rattle.plan_revisions.proofs.puts.put_command.Goals as goal
 
 pub returns-in-Create : goal.returns-in-Create
 returns-in-Create g c = search (create_put, c.in-Create.is, c.requires.after, c.create.ensures)
 
 pub returns-in-Ok : goal.returns-in-Ok
-returns-in-Ok g c = search (does, c.in-Ok.ensures, retire_put, c.in-Retire.plan, c.in-Retire.is, c.requires.after)
+returns-in-Ok g c = does (retire_put c.args.shown.now c.args.command.now c.args.then.now c.in-Retire.plan c.in-Retire.is c.requires.after c.in-Ok.ensures) (λ did. did)
 
 pub returns-in-Err : goal.returns-in-Err
-returns-in-Err g c = search (told_on, c.in-Err.ensures, retire_not_put, c.in-Retire.plan)
+returns-in-Err g c = told_on _ (retire_put c.args.shown.now c.args.command.now c.args.then.now c.in-Retire.plan c.in-Retire.is c.requires.after c.in-Err.ensures) refl (λ why. why)
 
 -- ---- a revision, by its whole or by counties
 pub next_of-next-requires : goal.next_of-next-requires
 next_of-next-requires g c =
     let r = revised_by c.args.shown.now c.args.command.now c.in-Whole.plan c.in-Whole.after c.args.then.now c.in-Whole.is c.requires.after in
-    there_is _ r.districts (next_is c.args.shown.now c.in-Whole.plan c.in-Whole.after c.args.then.now r)
+    ap is_some (next_is c.args.shown.now c.in-Whole.plan c.in-Whole.after c.args.then.now r)
 
 pub add-requires-clause-each : goal.add-requires-clause-each
 add-requires-clause-each g c =
     let d = c.args.shown.now in
-    let last = revision_in (map_of.get d.plans c.in-Whole.plan) c.in-Whole.after in
     let geography : d.geography ≡ Some c.in-Some.geography.now = search rules in
     let r = revised_by d c.args.command.now c.in-Whole.plan c.in-Whole.after c.args.then.now c.in-Whole.is c.requires.after in
-    let are = changes_by d c.args.command.now c.in-Whole.plan c.in-Whole.after c.args.then.now c.in-Some.geography.now c.args.changes.now geography c.in-Whole.is c.requires.changes in
-    ap length (changes_told d c.in-Whole.plan c.in-Whole.after c.args.then.now r (ranges_of c.in-Some.geography.now) c.args.changes.now are) ∙ length-map (ranges_of c.in-Some.geography.now) (is_changed last r.districts)
+    each_told d c.in-Whole.plan c.in-Whole.after c.args.then.now r (ranges_of c.in-Some.geography.now) c.args.changes.now
+    (changes_by d c.args.command.now c.in-Whole.plan c.in-Whole.after c.args.then.now c.in-Some.geography.now c.args.changes.now geography c.in-Whole.is c.requires.changes)
 
 pub add-requires-clause-next : goal.add-requires-clause-next
 add-requires-clause-next g c =

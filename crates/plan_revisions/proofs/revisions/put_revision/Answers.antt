@@ -1,32 +1,19 @@
-use Rattle.std.proofs.Common.{◌+◌, Ok, Err}
-use Rattle.store_rows.specs.{NameRows.name_rows, RevisionSteps.new_holding_rows}
-use Rattle.desk_pages.proofs.Writing.{puts_fail, puts_more, puts_none}
-use Rattle.plan_rows.specs.PlanRows.{revised_rows}
+use Rattle.{std.proofs.Common.{Ok, Err}, desk_pages.proofs.Writing.{puts_fail, puts_more, puts_none}}
 use Rattle.plan_revisions.proofs.revisions.put_revision.Goals as goal
 
 pub returns-in_err-put_changes : goal.returns-in_err-put_changes
 returns-in_err-put_changes g c =
-    let row = c.args.row.now in
-    puts_fail c.from_residual.result
-    (puts_none (revised_rows c.args.name.now row c.args.used c.args.counters.now)
-    (puts_none (name_rows row.number (row.revisions + 1) c.args.numbers.now)
-    (puts_none (new_holding_rows row.number c.args.counters.now.chunk c.args.used) c.in_err-put_changes.ensures))) c.from_residual.ensures.1
+    puts_fail c.from_residual.result (puts_none _ (puts_none _ (puts_none _ c.in_err-put_changes.ensures))) c.from_residual.ensures.1
 
 pub returns-in_err-put_holdings : goal.returns-in_err-put_holdings
-returns-in_err-put_holdings g c =
-    let row = c.args.row.now in
-    puts_fail c.from_residual-in_err-put_holdings.result
-    (puts_none (revised_rows c.args.name.now row c.args.used c.args.counters.now)
-    (puts_none (name_rows row.number (row.revisions + 1) c.args.numbers.now)
-    (puts_more (Err c.in_err-put_holdings.field-0.0) c.in_ok-put_changes.ensures c.in_err-put_holdings.ensures))) c.from_residual-in_err-put_holdings.ensures.1
+returns-in_err-put_holdings g c = puts_fail c.from_residual-in_err-put_holdings.result
+    (puts_none _ (puts_none _ (puts_more (Err c.in_err-put_holdings.field-0.0) c.in_ok-put_changes.ensures c.in_err-put_holdings.ensures))) c.from_residual-in_err-put_holdings.ensures.1
 
 pub returns-in_err-put_names : goal.returns-in_err-put_names
-returns-in_err-put_names g c =
-    puts_fail c.from_residual-in_err-put_names.result
-    (puts_none (revised_rows c.args.name.now c.args.row.now c.args.used c.args.counters.now)
-    (puts_more (Err c.in_err-put_names.field-0.0) (puts_more (Ok c.in_ok-put_holdings.field-0) c.in_ok-put_changes.ensures c.in_ok-put_holdings.ensures) c.in_err-put_names.ensures)) c.from_residual-in_err-put_names.ensures.1
+returns-in_err-put_names g c = puts_fail c.from_residual-in_err-put_names.result
+    (puts_none _ (puts_more (Err c.in_err-put_names.field-0.0) (puts_more (Ok c.in_ok-put_holdings.field-0) c.in_ok-put_changes.ensures c.in_ok-put_holdings.ensures)
+    c.in_err-put_names.ensures)) c.from_residual-in_err-put_names.ensures.1
 
 pub returns : goal.returns
-returns g c =
-    puts_more c.revise_plan.result
+returns g c = puts_more c.revise_plan.result
     (puts_more (Ok c.in_ok-put_names.field-0) (puts_more (Ok c.in_ok-put_holdings.field-0) c.in_ok-put_changes.ensures c.in_ok-put_holdings.ensures) c.in_ok-put_names.ensures) c.revise_plan.ensures.did

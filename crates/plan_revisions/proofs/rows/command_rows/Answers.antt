@@ -1,5 +1,4 @@
-use Rattle.std.proofs.Common.{rules, arith}
-use Rattle.plan_revisions.proofs.{Accepted.rows_forked, CommandCounties.few_ranges, Counted.{changes_by, revised_by}, LastRevision.ranges_long}
+use Rattle.{std.proofs.Common.{rules, arith}, plan_revisions.proofs.{Accepted.rows_forked, CommandCounties.few_ranges, Counted.{changes_by, revised_by}, LastRevision.ranges_long}}
 use Rattle.plan_revisions.proofs.rows.command_rows.Goals as goal
 
 pub rows_between-requires-clause-changes : goal.rows_between-requires-clause-changes

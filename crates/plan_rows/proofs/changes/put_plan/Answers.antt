@@ -1,5 +1,4 @@
-use Rattle.std.proofs.Common.{◌∷◌, [], rules}
-use Rattle.store_rows.specs.{claim.Keys.{key_of, counters}, claim.Values.counters_bytes}
+use Rattle.{std.proofs.Common.{◌∷◌, [], rules}, store_rows.specs.claim.{Keys.{key_of, counters}, Values.counters_bytes}}
 use Rattle.desk_pages.proofs.Writing.{puts_as, puts_fail, puts_more, puts_none}
 use Rattle.plan_rows.proofs.changes.put_plan.Goals as goal
 

@@ -1,5 +1,4 @@
-use Rattle.std.proofs.Common.{◌∷◌, [], ap, ◌∙◌}
-use Rattle.store_rows.specs.{claim.Lists.districts_bytes, ChunkRows.piece_row}
+use Rattle.{std.proofs.Common.{◌∷◌, [], ap, ◌∙◌}, store_rows.specs.{ChunkRows.piece_row, claim.Lists.districts_bytes}}
 use Rattle.desk_pages.proofs.Writing.{puts_as, puts_nothing, told_fail, told_puts}
 use Rattle.plan_rows.proofs.chunk_puts.put_chunk.Goals as goal
 

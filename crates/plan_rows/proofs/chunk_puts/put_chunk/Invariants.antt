@@ -1,7 +1,5 @@
-use Rattle.std.proofs.Common.{◌≡◌, Ok}
-use Rattle.page_store.specs.claim.Transactions.{count_of, txn_pages}
-use Rattle.store_rows.specs.{Puts.rows_told, ChunkRows.piece_row}
-use Rattle.desk_pages.specs.Outcomes.{PutsRows}
+use Rattle.{std.proofs.Common.{◌≡◌, Ok}, desk_pages.specs.Outcomes.PutsRows, page_store.specs.claim.Transactions.{count_of, txn_pages}, store_rows.specs.ChunkRows.piece_row}
+use Rattle.store_rows.specs.Puts.{rows_told}
 use Rattle.plan_rows.proofs.chunk_puts.put_chunk.Given as goal
 
 abbrev pub invariant-loop-index : goal.invariant-loop-index

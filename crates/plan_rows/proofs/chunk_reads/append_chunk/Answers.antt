@@ -1,8 +1,6 @@
-use Rattle.std.proofs.Common.{◌<◌, ◌≤◌, ◌*◌, ◌^◌, ◌++◌, ◌+◌, List, ℕ, length, take, drop, sym, ap, ◌∙◌, take_all, arith, rules}
-use Rattle.std.proofs.lemmas.List.{append-nil}
-use Rattle.store_rows.specs.{claim.Keys.chunk, claim.Lists.districts_bytes}
-use Rattle.desk_pages.proofs.{ListParts.parts_more, Looking.{begins, both, fails_then, finds}}
-use Rattle.plan_rows.{specs.ChunkReading.IsChunk, proofs.Appended.more_on, proofs.ChunkParts.{all_read, none_read, one_part_more}}
+use Rattle.std.proofs.{Common.{◌<◌, ◌≤◌, ◌*◌, ◌^◌, ◌++◌, ◌+◌, List, ℕ, length, take, drop, sym, ap, ◌∙◌, take_all, arith, rules}, lemmas.List.append-nil}
+use Rattle.{plan_rows.{specs.ChunkReading.IsChunk, proofs.Appended.more_on}, store_rows.specs.claim.{Keys.chunk, Lists.districts_bytes}, desk_pages.proofs.ListParts.parts_more}
+use Rattle.{desk_pages.proofs.Looking.{begins, both, fails_then, finds}, plan_rows.proofs.ChunkParts.{all_read, none_read, one_part_more}}
 use Rattle.plan_rows.proofs.chunk_reads.append_chunk.Goals as goal
 
 pub returns-in_err-append_piece : goal.returns-in_err-append_piece

@@ -1,7 +1,5 @@
-use Rattle.std.proofs.Common.{◌≡◌, ◌*◌, ◌^◌, Ok, take}
-use Rattle.page_store.specs.claim.Transactions.{count_of, txn_pages}
-use Rattle.store_rows.specs.{claim.Keys.chunk, claim.Lists.districts_bytes}
-use Rattle.plan_rows.specs.{Appended.AppendsRows, Parts.AppendsPrefix, ChunkReading.IsChunk}
+use Rattle.{std.proofs.Common.{◌≡◌, ◌*◌, ◌^◌, Ok, take}, page_store.specs.claim.Transactions.{count_of, txn_pages}, plan_rows.specs.{Appended.AppendsRows, ChunkReading.IsChunk}}
+use Rattle.{plan_rows.specs.Parts.AppendsPrefix, store_rows.specs.claim.{Keys.chunk, Lists.districts_bytes}}
 use Rattle.plan_rows.proofs.chunk_reads.append_chunk.Given as goal
 
 abbrev pub invariant-loop-index : goal.invariant-loop-index

@@ -1,7 +1,6 @@
-use Rattle.std.proofs.Common.{◌≡◌, ◌-◌, ◌*◌, ◌++◌, List, ℕ, length, length-drop, length-take, take, drop, ap, sym, ◌∙◌, arith, rules}
-use Rattle.store_rows.{specs.claim.Lists.districts_bytes, proofs.ListLaws.districts_differ}
-use Rattle.desk_pages.proofs.{Looking.{fails, finds, gathered, not_looked, refuses}, Reading.one_value}
-use Rattle.plan_rows.proofs.Pieces.{piece_there, piece_is}
+use Rattle.{std.proofs.Common.{◌≡◌, ◌-◌, ◌*◌, ◌++◌, List, ℕ, length, length-drop, length-take, take, drop, ap, sym, ◌∙◌, arith, rules}, desk_pages.proofs.Reading.one_value}
+use Rattle.{store_rows.specs.claim.Lists.districts_bytes, desk_pages.proofs.Looking.{fails, finds, gathered, not_looked, refuses}, plan_rows.proofs.Pieces.{piece_there, piece_is}}
+use Rattle.store_rows.proofs.ListLaws.{districts_differ}
 use Rattle.plan_rows.proofs.chunk_reads.append_piece.Goals as goal
 
 pub returns-in_err-length : goal.returns-in_err-length

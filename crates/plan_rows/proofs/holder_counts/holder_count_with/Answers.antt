@@ -1,8 +1,7 @@
-use Rattle.std.{specs.Prelude.option_map, specs.FinMap.get, proofs.Common.{Option, sym, ap, subst, ◌∙◌}}
-use Rattle.store_rows.specs.{Values.holder_count_bytes, declared.value.HolderCount.HolderCount, claim.Rows.KeyMap}
-use Rattle.page_store.specs.claim.Transactions.{stored}
-use Rattle.desk_pages.{specs.btree_puts.Fingers.Stand, specs.Reading.StandsAs, proofs.Looking.fails_from}
-use Rattle.plan_rows.{specs.Holding.HasHolderCount, proofs.HeldChunks.{holder_count_stands, count_looked_with, count_unread_with}}
+use Rattle.{std.{specs.{FinMap.get, Prelude.option_map}, proofs.Common.{Option, sym, ap, subst, ◌∙◌}}, desk_pages.specs.{Reading.StandsAs, btree_puts.Fingers.Stand}}
+use Rattle.{page_store.specs.claim.Transactions.stored, plan_rows.specs.Holding.HasHolderCount, store_rows.specs.{Values.holder_count_bytes, claim.Rows.KeyMap}}
+use Rattle.{store_rows.specs.declared.value.HolderCount.HolderCount, desk_pages.proofs.Looking.fails_from}
+use Rattle.plan_rows.proofs.HeldChunks.{holder_count_stands, count_looked_with, count_unread_with}
 use Rattle.plan_rows.proofs.holder_counts.holder_count_with.Goals as goal
 
 pub returns-in_err-found-clause-looks : goal.returns-in_err-found-clause-looks

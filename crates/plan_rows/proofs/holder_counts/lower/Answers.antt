@@ -1,6 +1,4 @@
-use Rattle.std.proofs.Common.{sym, ◌∙◌, rules}
-use Rattle.page_store.specs.claim.Transactions.{stored}
-use Rattle.desk_pages.proofs.Rising.{none_stands, plain_err}
+use Rattle.{std.proofs.Common.{sym, ◌∙◌, rules}, page_store.specs.claim.Transactions.stored, desk_pages.proofs.Rising.{none_stands, plain_err}}
 use Rattle.plan_rows.proofs.LettingGo.{count_gone, count_not_gone, count_put, count_not_put}
 use Rattle.plan_rows.proofs.holder_counts.lower.Goals as goal
 

@@ -1,6 +1,4 @@
-use Rattle.std.proofs.Common.{◌≡◌}
-use Rattle.page_store.specs.claim.Transactions.{count_of, txn_pages}
-use Rattle.store_rows.specs.{Puts.rows_told, RevisionSteps.new_holder_count}
+use Rattle.{std.proofs.Common.◌≡◌, page_store.specs.claim.Transactions.{count_of, txn_pages}, store_rows.specs.{Puts.rows_told, RevisionSteps.new_holder_count}}
 use Rattle.desk_pages.proofs.Rising.{HasPutFrom}
 use Rattle.plan_rows.proofs.holdings.put_counts.Given as goal
 

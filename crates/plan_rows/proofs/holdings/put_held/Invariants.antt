@@ -1,6 +1,4 @@
-use Rattle.std.proofs.Common.{◌≡◌}
-use Rattle.page_store.specs.claim.Transactions.{count_of, txn_pages}
-use Rattle.store_rows.specs.{Puts.rows_told, RevisionSteps.new_holding}
+use Rattle.{std.proofs.Common.◌≡◌, page_store.specs.claim.Transactions.{count_of, txn_pages}, store_rows.specs.{Puts.rows_told, RevisionSteps.new_holding}}
 use Rattle.desk_pages.proofs.Rising.{HasPutFrom}
 use Rattle.plan_rows.proofs.holdings.put_held.Given as goal
 

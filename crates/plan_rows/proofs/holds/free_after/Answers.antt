@@ -1,5 +1,4 @@
-use Rattle.std.proofs.Common.{arith, rules}
-use Rattle.plan_rows.proofs.Free.{free_above, free_next}
+use Rattle.{std.proofs.Common.{arith, rules}, plan_rows.proofs.Free.{free_above, free_next}}
 use Rattle.plan_rows.proofs.holds.free_after.Goals as goal
 
 pub returns-then-number-from : goal.returns-then-number-from

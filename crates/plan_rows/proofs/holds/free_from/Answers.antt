@@ -1,7 +1,5 @@
-use Rattle.std.{specs.Prelude.IfSome, specs.FinMap.entries, proofs.Common.{◌≡◌, List, [], ℕ, sym, subst, ◌∙◌, rules}}
-use Rattle.page_store.proofs.Stops.{passed_none}
-use Rattle.btree_walks.{specs.Prefixes.under, specs.Scanning.{CanScan, ScanErr}, proofs.Refused.scan_refused}
-use Rattle.desk_pages.proofs.{Looking.{looked, not_looked}, Reading.get_unread}
+use Rattle.{std.{specs.{FinMap.entries, Prelude.IfSome}, proofs.Common.{◌≡◌, List, [], ℕ, sym, subst, ◌∙◌, rules}}, btree_walks.specs.{Prefixes.under, Scanning.{CanScan, ScanErr}}}
+use Rattle.{btree_walks.proofs.Refused.scan_refused, desk_pages.proofs.{Looking.{looked, not_looked}, Reading.get_unread}, page_store.proofs.Stops.passed_none}
 use Rattle.plan_rows.proofs.Free.{none_held}
 use Rattle.plan_rows.proofs.holds.free_from.Goals as goal
 

@@ -1,7 +1,5 @@
-use Rattle.std.proofs.Common.{Bool, true, false, subst, refl}
-use Rattle.desk_pages.proofs.Writing.{does, told_on}
-use Rattle.plan_rows.{specs.Holding.{Stands, WasHeld}, proofs.HeldChunks.{held_already, held_after, unheld_there, not_held_after, not_told}}
-use Rattle.plan_rows.proofs.Writing.{after_reads, only_read, unread}
+use Rattle.{std.proofs.Common.{Bool, true, false, subst, refl}, plan_rows.specs.Holding.{Stands, WasHeld}, desk_pages.proofs.Writing.{does, told_on}}
+use Rattle.plan_rows.proofs.{HeldChunks.{held_already, held_after, unheld_there, not_held_after, not_told}, Writing.{after_reads, only_read, unread}}
 use Rattle.plan_rows.proofs.holds.hold.Goals as goal
 
 pub returns-in_err-is_held : goal.returns-in_err-is_held

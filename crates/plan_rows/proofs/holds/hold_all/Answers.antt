@@ -1,8 +1,5 @@
-use Rattle.std.proofs.Common.{◌+◌, ◌*◌, drop, length, sym, ◌∙◌, arith}
-use Rattle.std.proofs.lemmas.List.{drop_more}
-use Rattle.desk_pages.proofs.Writing.{told_on}
-use Rattle.plan_rows.{specs.Holding.CanHoldAll, proofs.Changed.unread_unchanged, proofs.HeldAll.{begun_held, next_held, all_held, next_not_held, none_left}}
-use Rattle.plan_rows.proofs.Writing.{after_reads, unread}
+use Rattle.{std.proofs.{Common.{◌+◌, ◌*◌, drop, length, sym, ◌∙◌, arith}, Math.ListN.drop_of_length-le, lemmas.List.drop_more}, plan_rows.specs.Holding.CanHoldAll}
+use Rattle.{desk_pages.proofs.Writing.told_on, plan_rows.proofs.{Changed.unread_unchanged, HeldAll.{begun_held, next_held, all_held, next_not_held}, Writing.{after_reads, unread}}}
 use Rattle.plan_rows.proofs.holds.hold_all.Goals as goal
 
 pub returns-in_err-free : goal.returns-in_err-free
@@ -46,5 +43,5 @@ returns g c =
     record {
       quiet = held.held.passed.quiet;
       begun = c.loop-number.invariant.begun;
-      put = all_held c.args.plan numbers (drop c.loop-number.number-index numbers) c.loop-number.free c.loop-number.fingers _ _ _ _ (none_left numbers c.loop-number.number-index c.loop-number-test.false) held;
+      put = all_held c.args.plan numbers (drop c.loop-number.number-index numbers) c.loop-number.free c.loop-number.fingers _ _ _ _ (drop_of_length-le numbers c.loop-number-test.false) held;
     }

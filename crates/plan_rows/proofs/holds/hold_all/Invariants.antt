@@ -1,6 +1,4 @@
-use Rattle.std.proofs.Common.{◌≡◌, drop}
-use Rattle.page_store.specs.claim.Transactions.{count_of, txn_pages}
-use Rattle.plan_rows.proofs.HeldAll.{HasHeldTo}
+use Rattle.{std.proofs.Common.{◌≡◌, drop}, page_store.specs.claim.Transactions.{count_of, txn_pages}, plan_rows.proofs.HeldAll.HasHeldTo}
 use Rattle.plan_rows.proofs.holds.hold_all.Given as goal
 
 abbrev pub invariant-loop-number : goal.invariant-loop-number

@@ -1,8 +1,6 @@
-use Rattle.std.proofs.Common.{◌<◌, ◌^◌, ℕ, Option, subst, arith, rules}
-use Rattle.page_store.specs.claim.Transactions.{stored}
-use Rattle.desk_pages.{specs.btree_puts.Fingers.Stand, proofs.Writing.{does, told_on}}
-use Rattle.store_rows.specs.{claim.Keys.holding, claim.Rows.{KeyMap, Lacks}}
-use Rattle.plan_rows.{specs.Holding.IsFreeFrom, proofs.HeldAll.either_held, proofs.HeldChunks.{held_of_all, held_of_fewer, not_held_of}, proofs.Writing.writes_as}
+use Rattle.{std.proofs.Common.{◌<◌, ◌^◌, ℕ, Option, subst, arith, rules}, desk_pages.specs.btree_puts.Fingers.Stand, page_store.specs.claim.Transactions.stored}
+use Rattle.{plan_rows.{specs.Holding.IsFreeFrom, proofs.Writing.writes_as}, store_rows.specs.claim.{Keys.holding, Rows.{KeyMap, Lacks}}, desk_pages.proofs.Writing.{does, told_on}}
+use Rattle.plan_rows.proofs.HeldChunks.{held_of_all, held_of_fewer, not_held_of}
 use Rattle.plan_rows.proofs.holds.hold_next.Goals as goal
 
 pub returns-then-from-number : goal.returns-then-from-number
@@ -19,8 +17,7 @@ returns-then-from-number g c =
     writes_as c.hold_unheld_with.result c.hold_unheld_with.ensures (λ _ did. held_of_fewer plan number gives did) (not_held_of plan number may t a c.hold_unheld_with.new.pages more (λ honest m holds is. (gives m is.0, is.1)))
 
 pub returns-in-Ok : goal.returns-in-Ok
-returns-in-Ok g c =
-    does c.in-Ok.ensures (λ did. held_of_all c.args.plan c.args.number c.none.ensures.first c.none.ensures.second (either_held c.in-Ok.field-0 c.args.plan c.args.number c.args.txn.now c.hold.new.txn c.args.pages.now c.hold.new.pages did))
+returns-in-Ok g c = does c.in-Ok.ensures (λ did. held_of_all c.args.plan c.args.number c.none.ensures.first c.none.ensures.second (search arith))
 
 pub returns-in-Err : goal.returns-in-Err
 returns-in-Err g c = search (rules, told_on, not_held_of)

@@ -1,6 +1,4 @@
-use Rattle.page_store.specs.claim.Transactions.{stored}
-use Rattle.desk_pages.{specs.btree_puts.Fingers.Stand, proofs.Rising.fresh_stand}
-use Rattle.store_rows.specs.{claim.Keys.holding, claim.Rows.Lacks}
+use Rattle.{desk_pages.{specs.btree_puts.Fingers.Stand, proofs.Rising.fresh_stand}, page_store.specs.claim.Transactions.stored, store_rows.specs.claim.{Keys.holding, Rows.Lacks}}
 use Rattle.plan_rows.proofs.{HeldChunks.{held_unheld, not_held_of}, Writing.writes_as}
 use Rattle.plan_rows.proofs.holds.hold_unheld.Goals as goal
 

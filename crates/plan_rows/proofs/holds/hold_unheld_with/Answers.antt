@@ -1,7 +1,6 @@
-use Rattle.page_store.specs.claim.Transactions.{stored}
-use Rattle.desk_pages.specs.btree_puts.Fingers.{Stand}
-use Rattle.store_rows.specs.{claim.Keys.holding, claim.Rows.{KeyMap, Lacks}}
-use Rattle.plan_rows.{specs.Holding.HasHolderCount, proofs.HeldChunks.{held_then, too_many, holding_not_put, not_told}, proofs.Writing.{after_reads, only_read, unread, writes_as}}
+use Rattle.{desk_pages.specs.btree_puts.Fingers.Stand, page_store.specs.claim.Transactions.stored, plan_rows.specs.Holding.HasHolderCount, store_rows.specs.claim.Keys.holding}
+use Rattle.{store_rows.specs.claim.Rows.{KeyMap, Lacks}, plan_rows.proofs.HeldChunks.{held_then, too_many, holding_not_put, not_told}}
+use Rattle.plan_rows.proofs.Writing.{after_reads, only_read, unread, writes_as}
 use Rattle.plan_rows.proofs.holds.hold_unheld_with.Goals as goal
 
 pub returns-in_err-count : goal.returns-in_err-count

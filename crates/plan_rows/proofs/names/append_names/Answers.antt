@@ -1,8 +1,6 @@
-use Rattle.std.proofs.Common.{◌<◌, ◌≤◌, ◌*◌, ◌^◌, ◌++◌, ◌+◌, List, ℕ, take, drop, sym, ap, ◌∙◌, take_all, arith, rules}
-use Rattle.std.proofs.lemmas.List.{append-nil}
-use Rattle.store_rows.specs.{claim.Keys.part, claim.Lists.chunks_bytes}
-use Rattle.desk_pages.proofs.{ListParts.parts_more, Looking.{begins, both, fails_then, finds}}
-use Rattle.plan_rows.{specs.RevisionReading.AreNames, proofs.Appended.more_on, proofs.ChunkParts.{all_read, none_read, one_part_more}}
+use Rattle.std.proofs.{Common.{◌<◌, ◌≤◌, ◌*◌, ◌^◌, ◌++◌, ◌+◌, List, ℕ, take, drop, sym, ap, ◌∙◌, take_all, arith, rules}, lemmas.List.append-nil}
+use Rattle.{plan_rows.{specs.RevisionReading.AreNames, proofs.Appended.more_on}, store_rows.specs.claim.{Keys.part, Lists.chunks_bytes}, desk_pages.proofs.ListParts.parts_more}
+use Rattle.{desk_pages.proofs.Looking.{begins, both, fails_then, finds}, plan_rows.proofs.ChunkParts.{all_read, none_read, one_part_more}}
 use Rattle.plan_rows.proofs.names.append_names.Goals as goal
 
 pub returns-in_err-append_part : goal.returns-in_err-append_part
@@ -32,7 +30,6 @@ returns g c =
     let end : c.args.count ≤ 128 * i = omega arith in
     let among : (index : ℕ) → 128 * index < c.args.count → index < i = λ index within. omega arith in
     finds c.loop-index.invariant.appends (λ m is. (
-      λ l said.
-          is.0 l said ∙ ap (λ (l : List ℕ). c.args.into.now.items ++ l) (take_all (128 * i) l ((let long = said.long in omega arith))),
+      λ l said. is.0 l said ∙ ap (λ (l : List ℕ). c.args.into.now.items ++ l) (take_all (128 * i) l ((let long = said.long in omega arith))),
       all_read 128 (2 ^ 64) chunks_bytes (part c.args.plan c.args.revision) c.args.count m i c.args.into.now.items c.loop-index.into.items end among is.1,
     ))

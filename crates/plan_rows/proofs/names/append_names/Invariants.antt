@@ -1,7 +1,5 @@
-use Rattle.std.proofs.Common.{◌≡◌, ◌*◌, ◌^◌, Ok, take}
-use Rattle.page_store.specs.claim.Transactions.{count_of, txn_pages}
-use Rattle.store_rows.specs.{claim.Keys.part, claim.Lists.chunks_bytes}
-use Rattle.plan_rows.specs.{Appended.AppendsRows, Parts.AppendsPrefix, RevisionReading.AreNames}
+use Rattle.{std.proofs.Common.{◌≡◌, ◌*◌, ◌^◌, Ok, take}, page_store.specs.claim.Transactions.{count_of, txn_pages}, plan_rows.specs.{Appended.AppendsRows, Parts.AppendsPrefix}}
+use Rattle.{plan_rows.specs.RevisionReading.AreNames, store_rows.specs.claim.{Keys.part, Lists.chunks_bytes}}
 use Rattle.plan_rows.proofs.names.append_names.Given as goal
 
 abbrev pub invariant-loop-index : goal.invariant-loop-index

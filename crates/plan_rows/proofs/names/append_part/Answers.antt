@@ -1,7 +1,6 @@
-use Rattle.std.proofs.Common.{◌≡◌, ◌-◌, ◌*◌, ◌++◌, List, ℕ, length, length-drop, length-take, take, drop, ap, sym, ◌∙◌, arith, rules}
-use Rattle.store_rows.{specs.claim.Lists.chunks_bytes, proofs.ListLaws.chunks_differ}
-use Rattle.desk_pages.proofs.{Looking.{fails, finds, gathered, not_looked, refuses}, Reading.one_value}
-use Rattle.plan_rows.proofs.RevisionParts.{part_is_there, part_is}
+use Rattle.{std.proofs.Common.{◌≡◌, ◌-◌, ◌*◌, ◌++◌, List, ℕ, length, length-drop, length-take, take, drop, ap, sym, ◌∙◌, arith, rules}, store_rows.specs.claim.Lists.chunks_bytes}
+use Rattle.{desk_pages.proofs.{Looking.{fails, finds, gathered, not_looked, refuses}, Reading.one_value}, plan_rows.proofs.RevisionParts.{part_is_there, part_is}}
+use Rattle.store_rows.proofs.ListLaws.{chunks_differ}
 use Rattle.plan_rows.proofs.names.append_part.Goals as goal
 
 pub returns-in_err-length : goal.returns-in_err-length

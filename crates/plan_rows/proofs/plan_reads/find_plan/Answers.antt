@@ -1,6 +1,4 @@
-use Rattle.std.{specs.FinMap.get, proofs.Common.{sym, ap, subst, ◌∙◌}}
-use Rattle.store_rows.specs.claim.Values.{plan_bytes}
-use Rattle.desk_pages.{specs.Reading.StandsAs, proofs.Looking.tells}
+use Rattle.{std.{specs.FinMap.get, proofs.Common.{sym, ap, subst, ◌∙◌}}, desk_pages.{specs.Reading.StandsAs, proofs.Looking.tells}, store_rows.specs.claim.Values.plan_bytes}
 use Rattle.plan_rows.proofs.plan_reads.find_plan.Goals as goal
 
 pub returns : goal.returns

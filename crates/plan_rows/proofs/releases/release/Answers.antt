@@ -1,8 +1,5 @@
-use Rattle.std.proofs.Common.{sym, ◌∙◌}
-use Rattle.page_store.proofs.Stops.{quiet_more}
-use Rattle.desk_pages.proofs.Outcomes.{match_of}
-use Rattle.plan_rows.{specs.Releasing.{HasReleased, ReleaseErr}, proofs.LettingGo.{none_counted, not_counted_here, not_removed, released_then, not_lowered}}
-use Rattle.plan_rows.proofs.Writing.{after_reads, only_read, unread, writes_as}
+use Rattle.{std.proofs.Common.{sym, ◌∙◌}, plan_rows.specs.Releasing.{HasReleased, ReleaseErr}, desk_pages.proofs.Outcomes.match_of, page_store.proofs.Stops.quiet_more}
+use Rattle.plan_rows.proofs.{LettingGo.{none_counted, not_counted_here, not_removed, released_then, not_lowered}, Writing.{after_reads, only_read, unread, writes_as}}
 use Rattle.plan_rows.proofs.releases.release.Goals as goal
 
 pub returns-in_err-count : goal.returns-in_err-count

@@ -1,5 +1,4 @@
-use Rattle.std.proofs.Common.{arith, rules}
-use Rattle.store_rows.proofs.NameRows.{names_put, names_kept, revision_kept, names_keep_tag}
+use Rattle.{std.proofs.Common.{arith, rules}, store_rows.proofs.NameRows.{names_put, names_kept, revision_kept, names_keep_tag}}
 use Rattle.plan_rows.proofs.revision_laws.names_are_put.Goals as goal
 
 pub returns : goal.returns

@@ -1,5 +1,4 @@
-use Rattle.std.proofs.Common.{◌∷◌, [], ap, ◌∙◌}
-use Rattle.store_rows.specs.{claim.Lists.chunks_bytes, NameRows.name_row}
+use Rattle.{std.proofs.Common.{◌∷◌, [], ap, ◌∙◌}, store_rows.specs.{NameRows.name_row, claim.Lists.chunks_bytes}}
 use Rattle.desk_pages.proofs.Writing.{puts_as, puts_nothing, told_fail, told_puts}
 use Rattle.plan_rows.proofs.revision_puts.put_names.Goals as goal
 

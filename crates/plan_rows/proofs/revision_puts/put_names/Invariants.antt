@@ -1,7 +1,5 @@
-use Rattle.std.proofs.Common.{◌≡◌, Ok}
-use Rattle.page_store.specs.claim.Transactions.{count_of, txn_pages}
-use Rattle.store_rows.specs.{Puts.rows_told, NameRows.name_row}
-use Rattle.desk_pages.specs.Outcomes.{PutsRows}
+use Rattle.{std.proofs.Common.{◌≡◌, Ok}, desk_pages.specs.Outcomes.PutsRows, page_store.specs.claim.Transactions.{count_of, txn_pages}, store_rows.specs.NameRows.name_row}
+use Rattle.store_rows.specs.Puts.{rows_told}
 use Rattle.plan_rows.proofs.revision_puts.put_names.Given as goal
 
 abbrev pub invariant-loop-index : goal.invariant-loop-index

@@ -1,7 +1,6 @@
-use Rattle.std.{specs.List.concat, proofs.Common.{◌≡◌, ◌<◌, ◌≤◌, ◌+◌, ◌++◌, List, ℕ, [], length, get_or, take, sym, ap, ◌∙◌, take_all, arith}}
-use Rattle.std.proofs.lemmas.List.{append-nil}
-use Rattle.desk_pages.proofs.Looking.{begins, both, fails_then, finds}
-use Rattle.plan_rows.{specs.RevisionReading.AreCounties, proofs.Appended.more_on, proofs.Counties.{as_many, one_county_more}}
+use Rattle.std.{specs.List.concat, proofs.{Common.{◌≡◌, ◌<◌, ◌≤◌, ◌+◌, ◌++◌, List, ℕ, [], length, get_or, take, sym, ap, ◌∙◌, take_all, arith}, lemmas.List.append-nil}}
+use Rattle.{plan_rows.{specs.RevisionReading.AreCounties, proofs.Appended.more_on}, desk_pages.proofs.Looking.{begins, both, fails_then, finds}}
+use Rattle.plan_rows.proofs.Counties.{as_many, one_county_more}
 use Rattle.plan_rows.proofs.revision_reads.append_counties.Goals as goal
 
 pub returns-in_err-append_county : goal.returns-in_err-append_county

@@ -1,6 +1,5 @@
-use Rattle.std.{specs.List.concat, proofs.Common.{◌≡◌, Ok, take}}
-use Rattle.page_store.specs.claim.Transactions.{count_of, txn_pages}
-use Rattle.plan_rows.specs.{Appended.Appends, RevisionReading.AreCounties}
+use Rattle.{std.{specs.List.concat, proofs.Common.{◌≡◌, Ok, take}}, page_store.specs.claim.Transactions.{count_of, txn_pages}, plan_rows.specs.Appended.Appends}
+use Rattle.plan_rows.specs.RevisionReading.{AreCounties}
 use Rattle.plan_rows.proofs.revision_reads.append_counties.Given as goal
 
 abbrev pub invariant-loop-county : goal.invariant-loop-county

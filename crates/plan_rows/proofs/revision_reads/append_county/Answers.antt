@@ -1,6 +1,4 @@
-use Rattle.std.proofs.Common.{[], get_or}
-use Rattle.desk_pages.proofs.Looking.{tells}
-use Rattle.plan_rows.proofs.Counties.{county_there}
+use Rattle.{std.proofs.Common.{[], get_or}, desk_pages.proofs.Looking.tells, plan_rows.proofs.Counties.county_there}
 use Rattle.plan_rows.proofs.revision_reads.append_county.Goals as goal
 
 pub returns : goal.returns

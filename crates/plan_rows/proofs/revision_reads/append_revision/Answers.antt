@@ -1,6 +1,4 @@
-use Rattle.std.proofs.Common.{◌++◌, List, ℕ, length, ap, ◌∙◌}
-use Rattle.desk_pages.proofs.Looking.{fails, looks, refuses}
-use Rattle.plan_rows.proofs.Counties.{named, counties_of}
+use Rattle.{std.proofs.Common.{◌++◌, List, ℕ, length, ap, ◌∙◌}, desk_pages.proofs.Looking.{fails, looks, refuses}, plan_rows.proofs.Counties.{named, counties_of}}
 use Rattle.plan_rows.proofs.revision_reads.append_revision.Goals as goal
 
 pub returns-in_err-append_names : goal.returns-in_err-append_names

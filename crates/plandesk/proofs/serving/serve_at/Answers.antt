@@ -1,6 +1,5 @@
 use denote.Param.Send.{sendable}
-use Rattle.std.proofs.Crossing.{crosses}
-use Rattle.sector_file.proofs.Sending.{record_send, record_sync}
+use Rattle.{std.proofs.Crossing.crosses, sector_file.proofs.Sending.{record_send, record_sync}}
 use Rattle.plandesk.proofs.serving.serve_at.Goals as goal
 
 pub serve-status-requires-send-D : goal.serve-status-requires-send-D

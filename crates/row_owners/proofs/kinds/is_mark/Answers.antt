@@ -1,5 +1,4 @@
-use Rattle.std.proofs.Common.{ℕ, List, length, ap}
-use Rattle.row_owners.proofs.KindBytes.{retired_of, begun_of, retired_mark, begun_mark}
+use Rattle.{std.proofs.Common.{ℕ, List, length, ap}, row_owners.proofs.KindBytes.{retired_of, begun_of, retired_mark, begun_mark}}
 use Rattle.row_owners.proofs.kinds.is_mark.Goals as goal
 
 pub returns-in-68-clause-yes : goal.returns-in-68-clause-yes

@@ -1,6 +1,4 @@
-use Rattle.std.proofs.Common.{ℕ, ap, ◌∙◌, ◌++◌, ◌∷◌}
-use Rattle.store_rows.specs.claim.Keys.{in_four, in_eight}
-use Rattle.row_owners.proofs.KindBytes.{block_of, pair_of, other_of}
+use Rattle.{std.proofs.Common.{ℕ, ap, ◌∙◌, ◌++◌, ◌∷◌}, store_rows.specs.claim.Keys.{in_four, in_eight}, row_owners.proofs.KindBytes.{block_of, pair_of, other_of}}
 use Rattle.row_owners.proofs.kinds.kind_after.Goals as goal
 
 pub returns-then-load_key : goal.returns-then-load_key

@@ -1,5 +1,4 @@
-use Rattle.std.proofs.Common.{sym, ◌∙◌}
-use Rattle.page_store.proofs.Stops.{quiet_more, quiet_none}
+use Rattle.{std.proofs.Common.{sym, ◌∙◌}, page_store.proofs.Stops.{quiet_more, quiet_none}}
 use Rattle.row_owners.proofs.naming.first_wrong.Goals as goal
 
 pub loop-taken-init : goal.loop-taken-init

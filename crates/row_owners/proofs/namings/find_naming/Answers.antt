@@ -1,9 +1,6 @@
-use Rattle.std.proofs.Common.{sym, subst, ◌∙◌, arith}
-use Rattle.page_store.proofs.Stops.{passed_more, passed_none}
-use Rattle.page_btree.specs.page_node.claim.Entries.{Entry}
-use Rattle.btree_walks.proofs.{RowsFound.all_more, Walked.{walk_all, walk_begins, walk_ends, walk_on, walk_quiet, walk_refused}}
-use Rattle.desk_pages.proofs.{Looking.{finds, looked, not_looked}, Reading.get_unread}
-use Rattle.row_owners.{specs.Strays.{IsAny, IsNaming}, proofs.Belonging.{none_named, walk_looks}}
+use Rattle.{std.proofs.Common.{sym, subst, ◌∙◌, arith}, page_btree.specs.page_node.claim.Entries.Entry, row_owners.specs.Strays.{IsAny, IsNaming}}
+use Rattle.{btree_walks.proofs.{RowsFound.all_more, Walked.{walk_all, walk_begins, walk_ends, walk_on, walk_quiet, walk_refused}}, desk_pages.proofs.Reading.get_unread}
+use Rattle.{desk_pages.proofs.Looking.{finds, looked, not_looked}, page_store.proofs.Stops.{passed_more, passed_none}, row_owners.proofs.Belonging.{none_named, walk_looks}}
 use Rattle.row_owners.proofs.namings.find_naming.Goals as goal
 
 pub loop-taken-init : goal.loop-taken-init

@@ -1,7 +1,4 @@
-use Rattle.std.proofs.Common.{◌≡◌, []}
-use Rattle.page_store.specs.claim.Transactions.{count_of, txn_pages}
-use Rattle.btree_walks.proofs.Walked.{HasWalked}
-use Rattle.row_owners.proofs.Belonging.{NoneName}
+use Rattle.{std.proofs.Common.{◌≡◌, []}, page_store.specs.claim.Transactions.{count_of, txn_pages}, btree_walks.proofs.Walked.HasWalked, row_owners.proofs.Belonging.NoneName}
 use Rattle.row_owners.proofs.namings.find_naming.Given as goal
 
 abbrev pub invariant-loop-taken : goal.invariant-loop-taken

@@ -1,6 +1,5 @@
-use Rattle.std.{specs.Prelude.{Some, option_map}, specs.FinMap.get, proofs.Common.{◌≡◌, ℕ, true, false, take, inl, inr, sym, ap, ◌∙◌}}
+use Rattle.{std.{specs.{FinMap.get, Prelude.{Some, option_map}}, proofs.Common.{◌≡◌, ℕ, true, false, take, inl, inr, sym, ap, ◌∙◌}}, row_owners.specs.Strays.IsAny}
 use Rattle.desk_pages.proofs.{Looking.{begins, fails_from, looked}, Reading.get_unread}
-use Rattle.row_owners.specs.Strays.{IsAny}
 use Rattle.row_owners.proofs.namings.hold_row.Goals as goal
 
 pub returns-then-is_held : goal.returns-then-is_held

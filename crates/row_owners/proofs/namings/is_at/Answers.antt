@@ -1,6 +1,4 @@
-use Rattle.std.{specs.Prelude.get_or, proofs.Common.{◌≡◌, ◌*◌, ◌+◌, ℕ, inl, inr, subst, arith, rules}}
-use Rattle.std.proofs.lemmas.Bool.{cases_lt}
-use Rattle.row_owners.specs.Strays.{HasPiece}
+use Rattle.{std.{specs.Prelude.get_or, proofs.{Common.{◌≡◌, ◌*◌, ◌+◌, ℕ, inl, inr, subst, arith, rules}, lemmas.Bool.cases_lt}}, row_owners.specs.Strays.HasPiece}
 use Rattle.row_owners.proofs.namings.is_at.Goals as goal
 
 pub returns-then-is_this : goal.returns-then-is_this

@@ -1,5 +1,4 @@
-use Rattle.std.{specs.Prelude.get_or, proofs.Common.{◌≡◌, ◌<◌, ◌*◌, ◌+◌, ℕ}}
-use Rattle.row_owners.specs.Strays.{HasPiece}
+use Rattle.{std.{specs.Prelude.get_or, proofs.Common.{◌≡◌, ◌<◌, ◌*◌, ◌+◌, ℕ}}, row_owners.specs.Strays.HasPiece}
 use Rattle.row_owners.proofs.namings.is_at.Given as goal
 
 abbrev pub invariant-loop-place : goal.invariant-loop-place

@@ -1,7 +1,5 @@
-use Rattle.std.proofs.Common.{◌≡◌, true, false, subst}
-use Rattle.page_btree.specs.page_node.claim.Entries.{Entry}
+use Rattle.{std.proofs.Common.{◌≡◌, true, false, subst}, page_btree.specs.page_node.claim.Entries.Entry, row_owners.specs.Strays.IsNaming}
 use Rattle.desk_pages.proofs.Looking.{begins, fails, finds}
-use Rattle.row_owners.specs.Strays.{IsNaming}
 use Rattle.row_owners.proofs.namings.is_named_first.Goals as goal
 
 pub returns-in_default : goal.returns-in_default

@@ -1,12 +1,8 @@
-use Rattle.std.proofs.Common.{ℕ, List, sym, subst, rules}
-use Rattle.row_owners.{specs.Strays.NamesAt, proofs.Belonging.naming_at}
+use Rattle.{std.proofs.Common.{ℕ, List, sym, subst, rules}, row_owners.{specs.Strays.NamesAt, proofs.Belonging.naming_at}}
 use Rattle.row_owners.proofs.namings.is_naming.Goals as goal
 
 pub returns-in_default : goal.returns-in_default
-returns-in_default c = record {
-  yes = search rules;
-  no = λ _ is. c.in_default.ensures is.plan is.revision is.index is.key;
-}
+returns-in_default c = record { yes = search rules; no = λ _ is. c.in_default.ensures is.plan is.revision is.index is.key }
 
 pub returns : goal.returns
 returns c = record {

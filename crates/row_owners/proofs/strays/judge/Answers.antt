@@ -1,5 +1,4 @@
-use Rattle.desk_pages.proofs.Looking.{begins, tells}
-use Rattle.store_rows.specs.claim.Keys.{block, chunk, holding, pair, part}
+use Rattle.{store_rows.specs.claim.Keys.{block, chunk, holding, pair, part}, desk_pages.proofs.Looking.{begins, tells}}
 use Rattle.row_owners.proofs.Belonging.{judged, mark_judged, other_judged}
 use Rattle.row_owners.proofs.strays.judge.Goals as goal
 

@@ -1,6 +1,4 @@
-use Rattle.std.proofs.Common.{Bool, subst}
-use Rattle.desk_pages.proofs.Looking.{fails, finds}
-use Rattle.row_owners.specs.Strays.{IsNamedAs}
+use Rattle.{std.proofs.Common.{Bool, subst}, row_owners.specs.Strays.IsNamedAs, desk_pages.proofs.Looking.{fails, finds}}
 use Rattle.row_owners.proofs.strays.judge_named.Goals as goal
 
 pub returns-in_err-is_named : goal.returns-in_err-is_named

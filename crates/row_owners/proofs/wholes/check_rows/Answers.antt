@@ -1,10 +1,8 @@
-use Rattle.std.{specs.Prelude.Some, specs.FinMap.get, proofs.Common.{◌≡◌, ◌+◌, ℕ, List, [], ◌∷◌, refl, inl, sym, ap, subst, ◌∙◌, arith, length-append}}
-use Rattle.page_store.proofs.Stops.{passed_more}
-use Rattle.page_btree.specs.page_node.claim.Entries.{Entry}
-use Rattle.btree_walks.{specs.Parts.row_of, proofs.RowsFound.all_more, proofs.Walked.{walk_all, walk_begins, walk_ends, walk_on, walk_quiet, walk_refused}}
-use Rattle.desk_pages.proofs.{Looking.{both, fails_then, finds, looked, not_looked, refuses}, Reading.get_unread}
-use Rattle.row_owners.{specs.Strays.{IsJudged, IsRight, IsStray}, specs.Wholes.{AllSay, IsRowOf, IsWhole}, proofs.Whole.all_whole}
-use Rattle.row_owners.proofs.Belonging.{all_right, stray_by, walk_looks}
+use Rattle.std.{specs.{FinMap.get, Prelude.Some}, proofs.Common.{◌≡◌, ◌+◌, ℕ, List, [], ◌∷◌, refl, inl, sym, ap, subst, ◌∙◌, arith, length-append}}
+use Rattle.{btree_walks.{specs.Parts.row_of, proofs.RowsFound.all_more}, page_btree.specs.page_node.claim.Entries.Entry, row_owners.specs.Strays.{IsJudged, IsRight, IsStray}}
+use Rattle.{row_owners.specs.Wholes.{AllSay, IsRowOf, IsWhole}, btree_walks.proofs.Walked.{walk_all, walk_begins, walk_ends, walk_on, walk_quiet, walk_refused}}
+use Rattle.{desk_pages.proofs.{Looking.{both, fails_then, finds, looked, not_looked, refuses}, Reading.get_unread}, page_store.proofs.Stops.passed_more}
+use Rattle.row_owners.proofs.{Belonging.{all_right, stray_by, walk_looks}, Whole.all_whole}
 use Rattle.row_owners.proofs.wholes.check_rows.Goals as goal
 
 pub loop-taken-init : goal.loop-taken-init

@@ -1,7 +1,5 @@
-use Rattle.std.proofs.Common.{◌≡◌, [], length}
-use Rattle.page_store.specs.claim.Transactions.{count_of, txn_pages}
-use Rattle.btree_walks.proofs.Walked.{HasWalked}
-use Rattle.row_owners.{specs.Strays.IsHeldRow, proofs.Whole.AllWhole, proofs.Belonging.AllRight}
+use Rattle.{std.proofs.Common.{◌≡◌, [], length}, page_store.specs.claim.Transactions.{count_of, txn_pages}, row_owners.specs.Strays.IsHeldRow, btree_walks.proofs.Walked.HasWalked}
+use Rattle.row_owners.proofs.{Belonging.AllRight, Whole.AllWhole}
 use Rattle.row_owners.proofs.wholes.check_rows.Given as goal
 
 abbrev pub invariant-loop-taken : goal.invariant-loop-taken

@@ -1,6 +1,4 @@
-use Rattle.std.proofs.Common.{◌≡◌, ◌*◌, ◌/◌, length, ap, ◌∙◌, arith, rules}
-use Rattle.store_rows.proofs.ListValues.{length-districts}
-use Rattle.row_owners.proofs.PieceBytes.{twos}
+use Rattle.{std.proofs.Common.{◌≡◌, ◌*◌, ◌/◌, length, ap, ◌∙◌, arith, rules}, row_owners.proofs.PieceBytes.twos, store_rows.proofs.ListValues.length-districts}
 use Rattle.row_owners.proofs.wholes.is_piece.Goals as goal
 use Rattle.row_owners.proofs.wholes.is_piece.Goals.{then-count-eq0-via-then-count-eq0, then-count-eq0-via-else-count-eq0+then-count-gt-PIECE_DISTRICTS, then-count-eq0-via-else-count-eq0+else-count-gt-PIECE_DISTRICTS+then-value-count}
 

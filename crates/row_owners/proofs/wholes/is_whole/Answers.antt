@@ -1,5 +1,4 @@
-use Rattle.std.proofs.Common.{refl}
-use Rattle.row_owners.proofs.KeyBytes.{place_row, piece_row, whole_place, whole_piece}
+use Rattle.{std.proofs.Common.refl, row_owners.proofs.KeyBytes.{place_row, piece_row, whole_place, whole_piece}}
 use Rattle.row_owners.proofs.wholes.is_whole.Goals as goal
 
 pub returns-in-103-clause-yes : goal.returns-in-103-clause-yes

@@ -1,6 +1,5 @@
 use denote.Param.Send.{sendable}
-use Rattle.std.proofs.Crossing.{crosses}
-use Rattle.seat_trials.proofs.Crosses.{memory_send, memory_sync}
+use Rattle.{std.proofs.Crossing.crosses, seat_trials.proofs.Crosses.{memory_send, memory_sync}}
 use Rattle.seat_trials.proofs.seated.serve_at.Goals as goal
 
 pub serve_many-ran-requires-send-D : goal.serve_many-ran-requires-send-D

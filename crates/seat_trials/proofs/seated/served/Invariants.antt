@@ -1,5 +1,4 @@
-use Rattle.desk_store.specs.claim.Clerks.{Keeps}
-use Rattle.desk_claim.specs.{http_seats.claim.Streams.IsAskedOf, http_seats.Streams.traffic}
+use Rattle.{desk_claim.specs.http_seats.{Streams.traffic, claim.Streams.IsAskedOf}, desk_store.specs.claim.Clerks.Keeps}
 use Rattle.seat_trials.proofs.seated.served.Given as goal
 
 -- the gallery that is opened

@@ -1,5 +1,4 @@
-use Rattle.std.proofs.Common.{sym, ◌∙◌, arith, rules}
-use Rattle.sector_file.proofs.Runs.{run_begins, run_more, run_ends}
+use Rattle.{std.proofs.Common.{sym, ◌∙◌, arith, rules}, sector_file.proofs.Runs.{run_begins, run_more, run_ends}}
 use Rattle.sector_file.proofs.calls.note_run.Goals as goal
 
 pub loop-k-init : goal.loop-k-init

@@ -1,6 +1,4 @@
-use Rattle.std.proofs.Common.{◌∙◌}
-use Rattle.sector_device.specs.Held.{image_of}
-use Rattle.sector_memory.proofs.Picks.{stop_more}
+use Rattle.{std.proofs.Common.◌∙◌, sector_device.specs.Held.image_of, sector_memory.proofs.Picks.stop_more}
 use Rattle.sector_memory.proofs.memory.put_picks.Goals as goal
 
 pub loop-pick-preserved : goal.loop-pick-preserved

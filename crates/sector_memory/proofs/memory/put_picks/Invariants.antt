@@ -1,6 +1,4 @@
-use Rattle.std.proofs.Common.{ℕ, ◌≡◌, take}
-use Rattle.sector_device.specs.Held.{image_of}
-use Rattle.sector_memory.specs.Memory.{after_stop}
+use Rattle.{std.proofs.Common.{ℕ, ◌≡◌, take}, sector_device.specs.Held.image_of, sector_memory.specs.Memory.after_stop}
 use Rattle.sector_memory.proofs.memory.put_picks.Given as goal
 
 abbrev pub invariant-loop-pick : goal.invariant-loop-pick

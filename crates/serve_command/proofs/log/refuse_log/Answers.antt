@@ -1,5 +1,4 @@
-use Rattle.std.proofs.Common.{ℕ, List, subst}
-use Rattle.command_output.specs.{claim.Writing.Told, Writing.written_of}
+use Rattle.{std.proofs.Common.{ℕ, List, subst}, command_output.specs.{Writing.written_of, claim.Writing.Told}}
 use Rattle.serve_command.proofs.log.refuse_log.Goals as goal
 
 pub returns : goal.returns

@@ -1,8 +1,5 @@
-use Rattle.std.proofs.Common.{ap, subst, ◌∙◌}
-use Rattle.desk_model.specs.claim.Desk.{Desk}
-use Rattle.inspect_command.specs.desk_store.claim.Clerks.{desk_of}
-use Rattle.http_seats.specs.{desk_gallery.Working.IsRunFrom, Streams.traffic}
-use Rattle.serve_command.{specs.Lasting.clerk_in, proofs.Lasts.{all_serve, lasts_asked, none_asked}}
+use Rattle.{std.proofs.Common.{ap, subst, ◌∙◌}, desk_model.specs.claim.Desk.Desk, http_seats.specs.{Streams.traffic, desk_gallery.Working.IsRunFrom}}
+use Rattle.{inspect_command.specs.desk_store.claim.Clerks.desk_of, serve_command.{specs.Lasting.clerk_in, proofs.Lasts.{all_serve, lasts_asked, none_asked}}}
 use Rattle.serve_command.proofs.office.serve_clerk.Goals as goal
 
 pub returns-clause-ran : goal.returns-clause-ran

@@ -1,9 +1,6 @@
-use Rattle.std.proofs.Common.{◌≡◌, ℕ, List, Some, Result, Ok, Err, ◌∙◌, inl, inr, refl, sym, subst}
-use Rattle.command_output.specs.{claim.Writing.Writes, Writing.written_of}
-use Rattle.page_store.specs.claim.Transactions.{has_halted}
-use Rattle.inspect_command.specs.desk_store.claim.Clerks.{pages_of}
-use Rattle.http_seats.specs.Streams.{traffic}
-use Rattle.serve_command.{specs.declared.fault.ServeFault.ServeFault, specs.Serving.{listening_text, HasAnnounced, Announces}, specs.Outlasting.FailsSince, proofs.Ends.run_ends}
+use Rattle.{std.proofs.Common.{◌≡◌, ℕ, List, Some, Result, Ok, Err, ◌∙◌, inl, inr, refl, sym, subst}, command_output.specs.{Writing.written_of, claim.Writing.Writes}}
+use Rattle.{http_seats.specs.Streams.traffic, inspect_command.specs.desk_store.claim.Clerks.pages_of, page_store.specs.claim.Transactions.has_halted}
+use Rattle.serve_command.{specs.{Outlasting.FailsSince, Serving.{listening_text, HasAnnounced, Announces}, declared.fault.ServeFault.ServeFault}, proofs.Ends.run_ends}
 use Rattle.serve_command.proofs.Lasts.{fails_since, lasts_on, none_read}
 use Rattle.serve_command.proofs.serve.serve_store.Goals as goal
 

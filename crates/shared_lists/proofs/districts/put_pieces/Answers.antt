@@ -1,5 +1,4 @@
-use Rattle.std.proofs.Common.{◌/◌, arith, rules}
-use Rattle.shared_lists.proofs.Puts.{put_none, put_all}
+use Rattle.{std.proofs.Common.{◌/◌, arith, rules}, shared_lists.proofs.Puts.{put_none, put_all}}
 use Rattle.shared_lists.proofs.districts.put_pieces.Goals as goal
 
 pub loop-place-init : goal.loop-place-init

@@ -1,5 +1,4 @@
-use Rattle.std.proofs.Common.{arith}
-use Rattle.shared_lists.proofs.Laying.{laid_all}
+use Rattle.{std.proofs.Common.arith, shared_lists.proofs.Laying.laid_all}
 use Rattle.shared_lists.proofs.pieces.lay.Goals as goal
 
 pub returns : goal.returns

@@ -1,5 +1,4 @@
-use Rattle.std.proofs.Common.{ℕ, length, ap, ◌∙◌, Vec, Global}
-use Rattle.shared_lists.proofs.Laying.{unlaid_apart}
+use Rattle.{std.proofs.Common.{ℕ, length, ap, ◌∙◌, Vec, Global}, shared_lists.proofs.Laying.unlaid_apart}
 use Rattle.shared_lists.proofs.pieces.piece_with.Goals as goal
 
 pub returns-then-is_apart-clause-laid : goal.returns-then-is_apart-clause-laid

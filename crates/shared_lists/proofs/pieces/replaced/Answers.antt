@@ -1,5 +1,4 @@
-use Rattle.std.proofs.Common.{◌≡◌, ◌≤◌, ◌++◌, List, ℕ, length, take, drop, arith, ap, sym, subst, ◌∙◌}
-use Rattle.shared_lists.proofs.Grown.{written_over}
+use Rattle.{std.proofs.Common.{◌≡◌, ◌≤◌, ◌++◌, List, ℕ, length, take, drop, arith, ap, sym, subst, ◌∙◌}, shared_lists.proofs.Grown.written_over}
 use Rattle.shared_lists.proofs.pieces.replaced.Goals as goal
 
 pub replace-requires-clause-within : goal.replace-requires-clause-within

@@ -1,5 +1,4 @@
-use Rattle.std.proofs.Common.{◌≡◌, ◌+◌, ◌<◌, ◌∙◌, ap, length, take, drop, vec_len, arith, length-drop}
-use Rattle.state_files.proofs.Pieces.{piece_more, put_back, none_came}
+use Rattle.{std.proofs.Common.{◌≡◌, ◌+◌, ◌<◌, ◌∙◌, ap, length, take, drop, vec_len, arith, length-drop}, state_files.proofs.Pieces.{piece_more, put_back, none_came}}
 use Rattle.state_files.proofs.whole.read_piece.Goals as goal
 
 pub returns-in-Read-clause-bytes : goal.returns-in-Read-clause-bytes

@@ -1,5 +1,4 @@
-use Rattle.std.{specs.Io.KnownBytes.Consumes, proofs.Common.{◌≡◌, ◌+◌, ◌-◌, ◌≤◌, vec_len}}
-use Rattle.byte_stream.specs.{Reading.CountsFrom, claim.Reading.turn_limit}
+use Rattle.{std.{specs.Io.KnownBytes.Consumes, proofs.Common.{◌≡◌, ◌+◌, ◌-◌, ◌≤◌, vec_len}}, byte_stream.specs.{Reading.CountsFrom, claim.Reading.turn_limit}}
 use Rattle.state_files.specs.claim.Whole.{plan_limit}
 use Rattle.state_files.proofs.whole.read_whole.Given as goal
 

@@ -1,5 +1,4 @@
-use Rattle.desk_pages.proofs.Looking.{both, fails, fails_then, looks}
-use Rattle.store_check.proofs.Kept.{are_below, counters_fit}
+use Rattle.{desk_pages.proofs.Looking.{both, fails, fails_then, looks}, store_check.proofs.Kept.{are_below, counters_fit}}
 use Rattle.store_check.proofs.checks.check_numbers.Goals as goal
 
 pub returns-in_err-next : goal.returns-in_err-next

@@ -1,7 +1,6 @@
-use Rattle.std.{specs.FinMap.get, proofs.Common.{[], sym, ap, subst, ◌∙◌, refl}}
-use Rattle.desk_pages.{specs.Reading.StandsAs, proofs.Looking.{both, fails, fails_then, looks}}
-use Rattle.store_rows.specs.{claim.Keys.{chunk_prefix, seal}, claim.Values.seal_bytes}
-use Rattle.store_check.proofs.{Kept.seal_of, After.{due_chunks, kept_counted, none_moved}}
+use Rattle.{std.{specs.FinMap.get, proofs.Common.{[], sym, ap, subst, ◌∙◌, refl}}, desk_pages.specs.Reading.StandsAs, store_rows.specs.claim.Keys.{chunk_prefix, seal}}
+use Rattle.{store_rows.specs.claim.Values.seal_bytes, desk_pages.proofs.Looking.{both, fails, fails_then, looks}, store_check.proofs.After.{due_chunks, kept_counted, none_moved}}
+use Rattle.store_check.proofs.Kept.{seal_of}
 use Rattle.store_check.proofs.counts.check_after.Goals as goal
 
 pub returns-in_err-sealed : goal.returns-in_err-sealed

@@ -1,7 +1,5 @@
-use Rattle.std.{specs.Prelude.Option, proofs.Common.{sym, subst}}
-use Rattle.desk_pages.{specs.Reading.StandsAs, proofs.Looking.tells}
-use Rattle.store_rows.specs.{claim.Keys.{key_of, seal}, claim.Values.seal_bytes, declared.value.SealRow.SealRow}
-use Rattle.store_check.proofs.After.{one_counted}
+use Rattle.{std.{specs.Prelude.Option, proofs.Common.{sym, subst}}, desk_pages.specs.Reading.StandsAs, store_rows.specs.claim.{Keys.{key_of, seal}, Values.seal_bytes}}
+use Rattle.{store_rows.specs.declared.value.SealRow.SealRow, desk_pages.proofs.Looking.tells, store_check.proofs.After.one_counted}
 use Rattle.store_check.proofs.counts.check_sealed.Goals as goal
 
 pub returns-in-Some : goal.returns-in-Some

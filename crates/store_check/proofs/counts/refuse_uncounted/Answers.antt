@@ -1,6 +1,4 @@
-use Rattle.std.proofs.Common.{sym, ◌∙◌}
-use Rattle.desk_pages.proofs.Looking.{fails, looks}
-use Rattle.store_rows.specs.claim.Keys.{block, pair, key_of, blocks_prefix, pairs_prefix}
+use Rattle.{std.proofs.Common.{sym, ◌∙◌}, store_rows.specs.claim.Keys.{block, pair, key_of, blocks_prefix, pairs_prefix}, desk_pages.proofs.Looking.{fails, looks}}
 use Rattle.store_check.proofs.After.{none_moved}
 use Rattle.store_check.proofs.counts.refuse_uncounted.Goals as goal
 

@@ -1,9 +1,6 @@
-use Rattle.std.{specs.Prelude.{Some, IfSome}, specs.FinMap.entries, proofs.Common.{◌≡◌, sym, subst, ◌∙◌}}
-use Rattle.page_store.proofs.Stops.{passed_none}
-use Rattle.page_btree.specs.page_node.Places.{entries_from}
-use Rattle.btree_walks.{specs.Scanning.{fault_in, CanScan, ScanErr}, proofs.Refused.scan_refused}
-use Rattle.desk_pages.proofs.{Looking.{looked, not_looked}, Reading.get_unread}
-use Rattle.store_check.proofs.FirstRows.{is_first}
+use Rattle.{std.{specs.{FinMap.entries, Prelude.{Some, IfSome}}, proofs.Common.{◌≡◌, sym, subst, ◌∙◌}}, btree_walks.specs.Scanning.{fault_in, CanScan, ScanErr}}
+use Rattle.{page_btree.specs.page_node.Places.entries_from, btree_walks.proofs.Refused.scan_refused, desk_pages.proofs.{Looking.{looked, not_looked}, Reading.get_unread}}
+use Rattle.{page_store.proofs.Stops.passed_none, store_check.proofs.FirstRows.is_first}
 use Rattle.store_check.proofs.firsts.first_from.Goals as goal
 
 pub returns-in-Some : goal.returns-in-Some

@@ -1,7 +1,5 @@
-use Rattle.std.{specs.List.starts_with, proofs.Common.{◌≡◌, List, ℕ, Bool, true, false, nat_eq, sym, ap, subst, ◌∙◌}}
-use Rattle.page_btree.specs.page_node.claim.Entries.{Entry}
-use Rattle.desk_pages.proofs.Looking.{fails, finds, refuses}
-use Rattle.store_check.{specs.Rows.IsFirst, proofs.FirstRows.{none_at_all, none_after, one_there}}
+use Rattle.{std.{specs.List.starts_with, proofs.Common.{◌≡◌, List, ℕ, Bool, true, false, nat_eq, sym, ap, subst, ◌∙◌}}, page_btree.specs.page_node.claim.Entries.Entry}
+use Rattle.{store_check.{specs.Rows.IsFirst, proofs.FirstRows.{none_at_all, none_after, one_there}}, desk_pages.proofs.Looking.{fails, finds, refuses}}
 use Rattle.store_check.proofs.firsts.refuse_from.Goals as goal
 
 pub returns-in_err-found : goal.returns-in_err-found

@@ -1,6 +1,4 @@
-use Rattle.std.proofs.Common.{◌≤◌, length, arith}
-use Rattle.std.proofs.lemmas.Bool.{eqb-true}
-use Rattle.std.proofs.lemmas.Bool.Decides.{nat_tests}
+use Rattle.std.proofs.{Common.{◌≤◌, length, arith}, lemmas.Bool.{eqb-true, Decides.nat_tests}}
 use Rattle.store_check.proofs.KeyBytes.{begun_row, counters_row, holding_row, named_row, part_row, retired_row, seal_row, holder_count_row, version_row}
 use Rattle.store_check.proofs.keys.is_row.Goals as goal
 

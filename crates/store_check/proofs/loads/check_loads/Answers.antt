@@ -1,7 +1,6 @@
-use Rattle.std.{specs.FinMap.entries, proofs.Common.{List, ℕ, Bool, sym, subst, ◌∙◌, arith}}
-use Rattle.page_store.specs.claim.Transactions.{stored}
-use Rattle.desk_pages.proofs.Looking.{begins, both, fails_then, finds, not_looked}
-use Rattle.store_check.{specs.Rows.{AreOfLoadsTo, ComesBefore, IsPast}, proofs.After.{all_left, begin_past, begins as begins_loads}}
+use Rattle.{std.{specs.FinMap.entries, proofs.Common.{List, ℕ, Bool, sym, subst, ◌∙◌, arith}}, page_store.specs.claim.Transactions.stored}
+use Rattle.{store_check.specs.Rows.{AreOfLoadsTo, ComesBefore, IsPast}, desk_pages.proofs.Looking.{begins, both, fails_then, finds, not_looked}}
+use Rattle.store_check.proofs.After.{all_left, begin_past, begins as begins_loads}
 use Rattle.store_check.proofs.loads.check_loads.Goals as goal
 
 pub loop-taken-init : goal.loop-taken-init

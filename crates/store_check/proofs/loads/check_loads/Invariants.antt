@@ -1,9 +1,6 @@
-use Rattle.std.{specs.FinMap.entries, proofs.Common.{◌≡◌, ◌+◌, ◌≤◌, length, Ok}}
-use Rattle.page_store.specs.claim.Transactions.{count_of, txn_pages}
-use Rattle.page_btree.specs.page_node.Places.{entries_from}
-use Rattle.desk_pages.specs.{Looking.Looks, Reading.StandsAs}
-use Rattle.store_rows.specs.{claim.Keys.{key_of, seal}, claim.Values.seal_bytes}
-use Rattle.store_check.specs.Rows.{AreOfLoadsTo, HasKnownLoads, IsPast}
+use Rattle.{std.{specs.FinMap.entries, proofs.Common.{◌≡◌, ◌+◌, ◌≤◌, length, Ok}}, desk_pages.specs.{Looking.Looks, Reading.StandsAs}, store_rows.specs.claim.Keys.{key_of, seal}}
+use Rattle.{page_btree.specs.page_node.Places.entries_from, page_store.specs.claim.Transactions.{count_of, txn_pages}, store_check.specs.Rows.{AreOfLoadsTo, HasKnownLoads, IsPast}}
+use Rattle.store_rows.specs.claim.Values.{seal_bytes}
 use Rattle.store_check.proofs.loads.check_loads.Given as goal
 
 abbrev pub invariant-loop-taken : goal.invariant-loop-taken

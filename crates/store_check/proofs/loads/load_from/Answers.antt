@@ -1,8 +1,6 @@
-use Rattle.std.proofs.Common.{◌≡◌, ◌⊎◌, ℕ, List, Bool, refl, sym, subst}
-use Rattle.page_btree.specs.page_node.claim.Entries.{Entry}
-use Rattle.desk_pages.proofs.Looking.{fails, finds, refuses}
-use Rattle.store_rows.specs.{claim.Keys.{block, key_of, pair}, Keys.chunks_prefix}
-use Rattle.store_check.{specs.Rows.{IsFirst, IsUnder}, specs.claim.Rows.IsFrom, proofs.After.no_load, proofs.FirstRows.{first_least, first_none, from_trans}}
+use Rattle.{std.proofs.Common.{◌≡◌, ◌⊎◌, ℕ, List, Bool, refl, sym, subst}, page_btree.specs.page_node.claim.Entries.Entry, store_check.specs.Rows.{IsFirst, IsUnder}}
+use Rattle.{store_check.specs.claim.Rows.IsFrom, store_rows.specs.{Keys.chunks_prefix, claim.Keys.{block, key_of, pair}}, desk_pages.proofs.Looking.{fails, finds, refuses}}
+use Rattle.store_check.proofs.{After.no_load, FirstRows.{first_least, first_none, from_trans}}
 use Rattle.store_check.proofs.loads.load_from.Goals as goal
 
 pub returns-in_err-found : goal.returns-in_err-found

@@ -1,6 +1,5 @@
-use Rattle.std.{specs.Prelude.{Option, Some, None}, proofs.Common.{ℕ, List, true, sym, subst, ◌∙◌}}
-use Rattle.desk_pages.proofs.Looking.{both, fails, fails_then, finds}
-use Rattle.store_check.{specs.Rows.{ComesBefore, IsNextLoad}, proofs.FirstRows.first_there, proofs.After.{ends_there, goes_on, kept_load}}
+use Rattle.{std.{specs.Prelude.{Option, Some, None}, proofs.Common.{ℕ, List, true, sym, subst, ◌∙◌}}, store_check.specs.Rows.{ComesBefore, IsNextLoad}}
+use Rattle.{desk_pages.proofs.Looking.{both, fails, fails_then, finds}, store_check.proofs.{After.{ends_there, goes_on, kept_load}, FirstRows.first_there}}
 use Rattle.store_check.proofs.loads.pass_load.Goals as goal
 
 pub returns-in_err-found-clause-looks : goal.returns-in_err-found-clause-looks

@@ -1,5 +1,4 @@
-use Rattle.std.{specs.FinMap.get as row_at, proofs.Common.{inr, refl, sym, ap, ◌∙◌}}
-use Rattle.desk_pages.proofs.Looking.{begins, tells}
+use Rattle.{std.{specs.FinMap.get as row_at, proofs.Common.{inr, refl, sym, ap, ◌∙◌}}, desk_pages.proofs.Looking.{begins, tells}}
 use Rattle.store_check.proofs.After.{sealed_known, mark_known}
 use Rattle.store_check.proofs.loads.refuse_unknown.Goals as goal
 

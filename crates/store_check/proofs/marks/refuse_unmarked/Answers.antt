@@ -1,7 +1,5 @@
-use Rattle.std.proofs.Common.{◌≡◌, ℕ, List, [], length, take, ap, sym, ◌∙◌, arith, rules}
-use Rattle.std.proofs.lemmas.List.{length-take}
+use Rattle.{std.proofs.{Common.{◌≡◌, ℕ, List, [], length, take, ap, sym, ◌∙◌, arith, rules}, lemmas.List.length-take}, desk_pages.proofs.Looking.{fails, looked, not_looked}}
 use Rattle.store_rows.proofs.OneGeography.{value_is}
-use Rattle.desk_pages.proofs.Looking.{fails, looked, not_looked}
 use Rattle.store_check.proofs.marks.refuse_unmarked.Goals as goal
 
 pub returns-in_err-length : goal.returns-in_err-length

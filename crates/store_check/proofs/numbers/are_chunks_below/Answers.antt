@@ -1,5 +1,4 @@
-use Rattle.std.proofs.Common.{◌<◌, ℕ, List, All, sym, subst, ◌∙◌}
-use Rattle.store_rows.proofs.ListLaws.{chunks_differ}
+use Rattle.{std.proofs.Common.{◌<◌, ℕ, List, All, sym, subst, ◌∙◌}, store_rows.proofs.ListLaws.chunks_differ}
 use Rattle.store_check.proofs.numbers.are_chunks_below.Goals as goal
 
 pub returns-in-Some-clause-above : goal.returns-in-Some-clause-above

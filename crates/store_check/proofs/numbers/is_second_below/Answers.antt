@@ -1,6 +1,4 @@
-use Rattle.std.proofs.Common.{arith, rules}
-use Rattle.std.proofs.lemmas.Bool.Decides.{nat_tests}
-use Rattle.store_rows.proofs.HolderCounts.{eight_says}
+use Rattle.{std.proofs.{Common.{arith, rules}, lemmas.Bool.Decides.nat_tests}, store_rows.proofs.HolderCounts.eight_says}
 use Rattle.store_check.proofs.numbers.is_second_below.Goals as goal
 
 pub returns-clause-below : goal.returns-clause-below

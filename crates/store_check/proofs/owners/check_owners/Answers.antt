@@ -1,7 +1,5 @@
-use Rattle.std.proofs.Common.{Bool, sym, subst, ◌∙◌, arith, rules}
-use Rattle.page_store.specs.claim.Transactions.{stored}
-use Rattle.desk_pages.proofs.Looking.{begins, both, fails_then, finds, not_looked}
-use Rattle.store_check.{specs.Owners.Passes, proofs.After.all_left, proofs.PartOrder.{begins_owned, parts_begin}}
+use Rattle.{std.proofs.Common.{Bool, sym, subst, ◌∙◌, arith, rules}, page_store.specs.claim.Transactions.stored, store_check.{specs.Owners.Passes, proofs.After.all_left}}
+use Rattle.{desk_pages.proofs.Looking.{begins, both, fails_then, finds, not_looked}, store_check.proofs.PartOrder.{begins_owned, parts_begin}}
 use Rattle.store_check.proofs.owners.check_owners.Goals as goal
 
 pub loop-taken-init : goal.loop-taken-init

@@ -1,8 +1,5 @@
-use Rattle.std.{specs.FinMap.entries, proofs.Common.{◌≡◌, ◌+◌, ◌≤◌, length, Ok}}
-use Rattle.page_store.specs.claim.Transactions.{count_of, txn_pages}
-use Rattle.page_btree.specs.page_node.Places.{entries_from}
-use Rattle.desk_pages.specs.Looking.{Looks}
-use Rattle.store_check.specs.Owners.{AreOwnedBelow, HasOwners, IsUnderParts}
+use Rattle.{std.{specs.FinMap.entries, proofs.Common.{◌≡◌, ◌+◌, ◌≤◌, length, Ok}}, desk_pages.specs.Looking.Looks, page_btree.specs.page_node.Places.entries_from}
+use Rattle.{page_store.specs.claim.Transactions.{count_of, txn_pages}, store_check.specs.Owners.{AreOwnedBelow, HasOwners, IsUnderParts}}
 use Rattle.store_check.proofs.owners.check_owners.Given as goal
 
 abbrev pub invariant-loop-taken : goal.invariant-loop-taken

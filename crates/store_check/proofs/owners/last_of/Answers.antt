@@ -1,7 +1,5 @@
-use Rattle.std.{specs.FinMap.get as row_at, proofs.Common.{sym, ap, subst, ◌∙◌, arith, rules}}
-use Rattle.page_store.proofs.Stops.{quiet_none}
+use Rattle.{std.{specs.FinMap.get as row_at, proofs.Common.{sym, ap, subst, ◌∙◌, arith, rules}}, store_check.specs.Owners.IsOwnedAs, page_store.proofs.Stops.quiet_none}
 use Rattle.desk_pages.proofs.Looking.{begins, fails, finds, not_looked}
-use Rattle.store_check.specs.Owners.{IsOwnedAs}
 use Rattle.store_check.proofs.owners.last_of.Goals as goal
 
 pub returns-in_err-refuse_unmarked-in-None : goal.returns-in_err-refuse_unmarked-in-None
@@ -21,7 +19,4 @@ pub returns-else-revision-count : goal.returns-else-revision-count
 returns-else-revision-count g c = begins (λ m holds.
     let some = c.if-revision-eq0.false in
     let few = c.if-revision-count.false in
-    record {
-      within = omega arith;
-      owned = λ other from to. subst (IsOwnedAs m c.args.plan other) c.in-Some.ensures.value (omega arith, to);
-    })
+    record { within = omega arith; owned = λ other from to. subst (IsOwnedAs m c.args.plan other) c.in-Some.ensures.value (omega arith, to) })

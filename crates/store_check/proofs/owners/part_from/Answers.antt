@@ -1,8 +1,6 @@
-use Rattle.std.{specs.List.starts_with, proofs.Common.{◌≡◌, ℕ, List, Bool, true, false, nat_eq, sym, ap, subst, ◌∙◌}}
-use Rattle.page_btree.specs.page_node.claim.Entries.{Entry}
-use Rattle.desk_pages.proofs.Looking.{fails, finds, refuses}
-use Rattle.store_rows.specs.Keys.{parts_prefix}
-use Rattle.store_check.{specs.Rows.IsFirst, specs.Owners.IsPartKey, proofs.FirstRows.{none_at_all, none_after}, proofs.PartOrder.no_part}
+use Rattle.{std.{specs.List.starts_with, proofs.Common.{◌≡◌, ℕ, List, Bool, true, false, nat_eq, sym, ap, subst, ◌∙◌}}, page_btree.specs.page_node.claim.Entries.Entry}
+use Rattle.{store_check.{specs.{Owners.IsPartKey, Rows.IsFirst}, proofs.PartOrder.no_part}, store_rows.specs.Keys.parts_prefix, desk_pages.proofs.Looking.{fails, finds, refuses}}
+use Rattle.store_check.proofs.FirstRows.{none_at_all, none_after}
 use Rattle.store_check.proofs.owners.part_from.Goals as goal
 
 pub returns-in_err-found : goal.returns-in_err-found

@@ -1,6 +1,5 @@
-use Rattle.std.{specs.Prelude.{Option, Some, None}, proofs.Common.{ℕ, List, true, sym, subst, ◌∙◌}}
-use Rattle.desk_pages.proofs.Looking.{both, fails, fails_then, finds}
-use Rattle.store_check.{specs.Owners.{IsNextPart, IsUnderParts, Passes}, proofs.PartOrder.{ends_owned, first_owned, passes_on, starts_after}}
+use Rattle.{std.{specs.Prelude.{Option, Some, None}, proofs.Common.{ℕ, List, true, sym, subst, ◌∙◌}}, store_check.specs.Owners.{IsNextPart, IsUnderParts, Passes}}
+use Rattle.{desk_pages.proofs.Looking.{both, fails, fails_then, finds}, store_check.proofs.PartOrder.{ends_owned, first_owned, passes_on, starts_after}}
 use Rattle.store_check.proofs.owners.pass_plan.Goals as goal
 
 pub returns-in_err-found-clause-looks : goal.returns-in_err-found-clause-looks

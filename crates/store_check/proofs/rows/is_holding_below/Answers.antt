@@ -1,7 +1,4 @@
-use Rattle.std.proofs.Common.{◌≡◌, length, refl, arith}
-use Rattle.std.proofs.lemmas.Bool.Decides.{nat_tests}
-use Rattle.std.proofs.lemmas.List.{nil_from_length}
-use Rattle.store_rows.specs.claim.Keys.{in_eight}
+use Rattle.{std.proofs.{Common.{◌≡◌, length, refl, arith}, lemmas.{Bool.Decides.nat_tests, List.nil_from_length}}, store_rows.specs.claim.Keys.in_eight}
 use Rattle.store_check.proofs.rows.is_holding_below.Goals as goal
 
 pub returns-then-is_key_below-clause-below : goal.returns-then-is_key_below-clause-below

@@ -1,9 +1,7 @@
-use Rattle.std.proofs.Common.{refl, sym, ◌∙◌, arith, rules}
-use Rattle.page_store.proofs.Stops.{passed_more, passed_none}
-use Rattle.page_btree.specs.page_node.claim.Entries.{Entry}
+use Rattle.{std.proofs.Common.{refl, sym, ◌∙◌, arith, rules}, page_btree.specs.page_node.claim.Entries.Entry, store_check.{specs.{Numbers.IsDue, Rows.IsRow}, proofs.Kept.no_due}}
 use Rattle.btree_walks.proofs.{RowsFound.all_more, Walked.{walk_all, walk_begins, walk_ends, walk_next, walk_on, walk_passed, walk_quiet, walk_refused}}
-use Rattle.desk_pages.proofs.{Looking.{looked, not_looked}, Reading.get_unread}
-use Rattle.store_check.{specs.Numbers.IsDue, specs.Rows.IsRow, proofs.Scanned.{IsEntryBelow, all_sound, past_sound}, proofs.Kept.no_due}
+use Rattle.{desk_pages.proofs.{Looking.{looked, not_looked}, Reading.get_unread}, page_store.proofs.Stops.{passed_more, passed_none}}
+use Rattle.store_check.proofs.Scanned.{IsEntryBelow, all_sound, past_sound}
 use Rattle.store_check.proofs.scans.check_rows.Goals as goal
 
 pub loop-taken-init : goal.loop-taken-init

@@ -1,6 +1,4 @@
-use Rattle.std.proofs.Common.{◌≡◌, []}
-use Rattle.page_store.specs.claim.Transactions.{count_of, txn_pages}
-use Rattle.btree_walks.proofs.Walked.{HasWalked}
+use Rattle.{std.proofs.Common.{◌≡◌, []}, page_store.specs.claim.Transactions.{count_of, txn_pages}, btree_walks.proofs.Walked.HasWalked}
 use Rattle.store_check.proofs.Scanned.{AreEntriesBelow, AreRowEntries}
 use Rattle.store_check.proofs.scans.check_rows.Given as goal
 

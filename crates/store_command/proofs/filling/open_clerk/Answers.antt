@@ -2,9 +2,7 @@ use Rattle.store_command.proofs.Read.{shows, refuses}
 use Rattle.store_command.proofs.filling.open_clerk.Goals as goal
 
 pub returns-in-Ok-clause-shows : goal.returns-in-Ok-clause-shows
-returns-in-Ok-clause-shows g c =
-    let opened = c.in-Ok.ensures.ok in
-    shows g.D.SectorDevice c.one_desk_opens.ensures c.args.device c.requires c.in-Ok.clerk opened.any_moment opened.keeps opened.one
+returns-in-Ok-clause-shows g c = search (c.in-Ok.ensures.ok, shows, c.one_desk_opens.ensures)
 
 pub returns-in-Err-clause-err : goal.returns-in-Err-clause-err
 returns-in-Err-clause-err g c = record {

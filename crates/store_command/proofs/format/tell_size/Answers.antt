@@ -1,5 +1,4 @@
-use Rattle.std.proofs.Common.{◌∙◌, ℕ, List, subst, arith}
-use Rattle.command_output.specs.{Writing.written_of, claim.Writing.Told}
+use Rattle.{std.proofs.Common.{◌∙◌, ℕ, List, subst, arith}, command_output.specs.{Writing.written_of, claim.Writing.Told}}
 use Rattle.store_command.proofs.format.tell_size.Goals as goal
 
 pub returns-clause-told : goal.returns-clause-told

@@ -5,19 +5,7 @@ pub returns-in-Err : goal.returns-in-Err
 returns-in-Err g c = inl (c.put_all.ensures.moves, c.in-Err.ensures.puts)
 
 pub returns-in-Ok-finish : goal.returns-in-Ok-finish
-returns-in-Ok-finish g c =
-    let steps = c.put_all.ensures in
-    let did = c.in-Ok-finish.ensures in
-    record {
-      y = c.put_all.new.migration;
-      moves = steps.moves;
-      before = c.in-Ok.rows;
-      rows_are = refl;
-      put = c.in-Ok.ensures.puts;
-      ends = did.ends;
-      told = did.told;
-      works = did.working.1;
-    }
+returns-in-Ok-finish g c = search (c.in-Ok-finish.ensures, c.in-Ok.ensures.puts)
 
 pub returns-in-Err-finish : goal.returns-in-Err-finish
 returns-in-Err-finish g c =

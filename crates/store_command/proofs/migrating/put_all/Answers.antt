@@ -1,15 +1,8 @@
-use Rattle.std.proofs.Common.{inl, arith}
-use Rattle.store_command.proofs.Migrated.{unmoved, then_moved, none_put, more_put, all_put, endless}
+use Rattle.{std.proofs.Common.{inl, arith, rules}, store_command.proofs.Migrated.{unmoved, then_moved, none_put, more_put, all_put, endless}}
 use Rattle.store_command.proofs.migrating.put_all.Goals as goal
 
 pub loop-steps-init : goal.loop-steps-init
-loop-steps-init g c = record {
-  working = c.requires;
-  least = omega arith;
-  most = omega arith;
-  moves = unmoved c.args.migration.now c.requires;
-  put = λ honest d m has. none_put c.args.migration.now d m has;
-}
+loop-steps-init g c = search (rules, unmoved, none_put)
 
 pub loop-steps-preserved : goal.loop-steps-preserved
 loop-steps-preserved g c =

@@ -1,15 +1,8 @@
-use Rattle.std.proofs.Common.{arith}
-use Rattle.store_command.proofs.Swept.{none_kept, more_kept, none_taken, more_taken, all_taken, step_stopped, endless}
+use Rattle.{std.proofs.Common.{arith, rules}, store_command.proofs.Swept.{none_kept, more_kept, none_taken, more_taken, all_taken, step_stopped, endless}}
 use Rattle.store_command.proofs.sweeping.sweep_steps.Goals as goal
 
 pub loop-steps-init : goal.loop-steps-init
-loop-steps-init g c = record {
-  working = c.requires;
-  least = omega arith;
-  most = omega arith;
-  kept = none_kept c.args.clerk.now;
-  taken = λ honest m has. none_taken c.args.clerk.now m has;
-}
+loop-steps-init g c = search (rules, none_kept, none_taken)
 
 pub loop-steps-preserved : goal.loop-steps-preserved
 loop-steps-preserved g c =
@@ -29,9 +22,7 @@ loop-steps-preserved g c =
     }
 
 pub returns-then-count-eq0-clause-keeps : goal.returns-then-count-eq0-clause-keeps
-returns-then-count-eq0-clause-keeps g c =
-    let did = c.in-Ok.ensures in
-    more_kept c.args.clerk.now c.loop-steps.clerk c.sweep_step.new.self c.loop-steps.invariant.kept did.maintains.moves did.maintains.desk did.maintains.loading
+returns-then-count-eq0-clause-keeps g c = search more_kept
 
 pub returns-then-count-eq0-clause-sweeps : goal.returns-then-count-eq0-clause-sweeps
 returns-then-count-eq0-clause-sweeps g c =
@@ -43,14 +34,10 @@ returns-then-count-eq0-clause-sweeps g c =
     }
 
 pub returns-in-Err-clause-keeps : goal.returns-in-Err-clause-keeps
-returns-in-Err-clause-keeps g c =
-    let did = c.in-Err.ensures in
-    more_kept c.args.clerk.now c.loop-steps.clerk c.sweep_step.new.self c.loop-steps.invariant.kept did.maintains.moves did.maintains.desk did.maintains.loading
+returns-in-Err-clause-keeps g c = search more_kept
 
 pub returns-in-Err-clause-sweeps : goal.returns-in-Err-clause-sweeps
-returns-in-Err-clause-sweeps g c =
-    let before = c.loop-steps.invariant in
-    step_stopped c.args.clerk.now c.loop-steps.clerk c.sweep_step.new.self c.in-Err.e c.store_fault.result c.store_fault.ensures before.kept before.working c.in-Err.ensures.maintains.err
+returns-in-Err-clause-sweeps g c = search (step_stopped, c.in-Err.ensures.maintains.err)
 
 pub returns-clause-sweeps : goal.returns-clause-sweeps
 returns-clause-sweeps g c =

@@ -1,6 +1,4 @@
-use Rattle.std.proofs.Common.{◌≡◌, ◌≤◌, ◌*◌, false}
-use Rattle.store_rows.specs.claim.Rows.{KeyMap}
-use Rattle.desk_runs.specs.{desk_store.claim.Clerks.{disk_of, is_halted}, desk_store.Sweeps.HasRows}
+use Rattle.{std.proofs.Common.{◌≡◌, ◌≤◌, ◌*◌, false}, desk_runs.specs.desk_store.{Sweeps.HasRows, claim.Clerks.{disk_of, is_halted}}, store_rows.specs.claim.Rows.KeyMap}
 use Rattle.store_command.specs.Sweeping.{KeepsDesk, HasTaken}
 use Rattle.store_command.proofs.sweeping.sweep_steps.Given as goal
 

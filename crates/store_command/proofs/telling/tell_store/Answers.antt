@@ -1,5 +1,4 @@
-use Rattle.std.proofs.Common.{ℕ, List, subst}
-use Rattle.command_output.specs.{claim.Writing.Told, Writing.written_of}
+use Rattle.{std.proofs.Common.{ℕ, List, subst}, command_output.specs.{Writing.written_of, claim.Writing.Told}}
 use Rattle.store_command.proofs.telling.tell_store.Goals as goal
 
 pub returns : goal.returns

@@ -1,9 +1,6 @@
-use Rattle.std.proofs.Common.{◌≡◌, ◌<◌, false, length, List, [], sym, subst, ◌∙◌, arith}
-use Rattle.std.proofs.lemmas.Bool.Decides.{nat_tests}
-use Rattle.std.proofs.lemmas.List.{nil_from_length}
-use Rattle.store_lives.specs.{declared.desk_lives.Answer.Answer, declared.desk_lives.Request.Request, DeskInside.Stands}
-use Rattle.store_lives.proofs.DeskLiving.{popped, same_sectors, was_honest, goes_on, ends, fails_no_less}
-use Rattle.desk_store.specs.claim.Clerks.{desk_of, disk_of, is_halted, sectors_of, Keeps}
+use Rattle.std.proofs.{Common.{◌≡◌, ◌<◌, false, length, List, [], sym, subst, ◌∙◌, arith}, lemmas.{Bool.Decides.nat_tests, List.nil_from_length}}
+use Rattle.{desk_store.specs.claim.Clerks.{desk_of, disk_of, is_halted, sectors_of, Keeps}, store_lives.specs.{DeskInside.Stands, declared.desk_lives.Answer.Answer}}
+use Rattle.store_lives.{specs.declared.desk_lives.Request.Request, proofs.DeskLiving.{popped, same_sectors, was_honest, goes_on, ends, fails_no_less}}
 use Rattle.store_lives.proofs.desk_lives.answer_all.Goals as goal
 
 -- src/lives.rt:47:5

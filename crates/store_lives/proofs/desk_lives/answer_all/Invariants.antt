@@ -1,6 +1,4 @@
-use Rattle.std.proofs.Common.{◌≡◌, false, length}
-use Rattle.desk_store.specs.claim.Clerks.{desk_of, disk_of, is_halted, sectors_of, Keeps}
-use Rattle.store_lives.specs.DeskInside.{Stands}
+use Rattle.{std.proofs.Common.{◌≡◌, false, length}, desk_store.specs.claim.Clerks.{desk_of, disk_of, is_halted, sectors_of, Keeps}, store_lives.specs.DeskInside.Stands}
 use Rattle.store_lives.proofs.desk_lives.answer_all.Given as goal
 
 abbrev pub invariant-loop-alloc : goal.invariant-loop-alloc

@@ -1,5 +1,4 @@
-use Rattle.std.proofs.Common.{ℕ, subst, ◌∙◌}
-use Rattle.store_lives.{specs.Lives.new_desk, specs.claim.DeskLives.Lives, proofs.DeskLiving.first_life}
+use Rattle.{std.proofs.Common.{ℕ, subst, ◌∙◌}, store_lives.{specs.{Lives.new_desk, claim.DeskLives.Lives}, proofs.DeskLiving.first_life}}
 use Rattle.store_lives.proofs.desk_lives.live.Goals as goal
 
 pub returns-in-Ok-live_on : goal.returns-in-Ok-live_on

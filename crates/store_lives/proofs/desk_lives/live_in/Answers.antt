@@ -1,5 +1,5 @@
-use Rattle.std.proofs.Common.{Err, refl, rules}
-use Rattle.store_lives.{specs.DeskInside.IsLife, proofs.DeskLiving.{refused_life, opened_life}, proofs.VersionLiving.{asked_lives, refused_lives}}
+use Rattle.{std.proofs.Common.{Err, refl, rules}, store_lives.{specs.DeskInside.IsLife, proofs.DeskLiving.{refused_life, opened_life}}}
+use Rattle.store_lives.proofs.VersionLiving.{asked_lives, refused_lives}
 use Rattle.store_lives.proofs.desk_lives.live_in.Goals as goal
 
 pub returns-in-Err-clause-once : goal.returns-in-Err-clause-once

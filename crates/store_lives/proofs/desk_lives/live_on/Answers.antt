@@ -1,7 +1,5 @@
-use Rattle.std.proofs.Common.{◌≡◌, ◌<◌, length, List, sym, subst, arith}
-use Rattle.std.proofs.lemmas.Bool.Decides.{nat_tests}
-use Rattle.std.proofs.lemmas.List.{nil_from_length}
-use Rattle.store_lives.{specs.claim.DeskLives.{Asked, Told, Life}, specs.DeskInside.{Holds, GoingOn}, proofs.DeskLiving.{popped, begun, lives_on, all_lived}}
+use Rattle.{std.proofs.{Common.{◌≡◌, ◌<◌, length, List, sym, subst, arith}, lemmas.{Bool.Decides.nat_tests, List.nil_from_length}}, store_lives.specs.DeskInside.{Holds, GoingOn}}
+use Rattle.store_lives.{specs.claim.DeskLives.{Asked, Told, Life}, proofs.DeskLiving.{popped, begun, lives_on, all_lived}}
 use Rattle.store_lives.proofs.desk_lives.live_on.Goals as goal
 
 pub loop-alloc-init : goal.loop-alloc-init

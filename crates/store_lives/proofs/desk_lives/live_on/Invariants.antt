@@ -1,7 +1,4 @@
-use Rattle.std.proofs.Common.{length}
-use Rattle.desk_model.specs.claim.Desk.{Desk}
-use Rattle.desk_runs.specs.Recovery.{HoldsOne}
-use Rattle.store_lives.specs.{claim.DeskLives.Life, DeskInside.{Holds, GoingOn}}
+use Rattle.{std.proofs.Common.length, desk_model.specs.claim.Desk.Desk, desk_runs.specs.Recovery.HoldsOne, store_lives.specs.{DeskInside.{Holds, GoingOn}, claim.DeskLives.Life}}
 use Rattle.store_lives.proofs.desk_lives.live_on.Given as goal
 
 abbrev pub invariant-loop-alloc : goal.invariant-loop-alloc

@@ -1,5 +1,4 @@
-use Rattle.std.proofs.Common.{rules}
-use Rattle.store_lives.proofs.DeskLiving.{swept_for}
+use Rattle.{std.proofs.Common.rules, store_lives.proofs.DeskLiving.swept_for}
 use Rattle.store_lives.proofs.desk_lives.sweep.Goals as goal
 
 pub returns-in-Err : goal.returns-in-Err

@@ -1,5 +1,4 @@
-use Rattle.std.proofs.Common.{rules}
-use Rattle.store_lives.proofs.Steps.{goes_nowhere, goes_further, then_led, in_part, step_stopped}
+use Rattle.{std.proofs.Common.rules, store_lives.proofs.Steps.{goes_nowhere, goes_further, then_led, in_part, step_stopped}}
 use Rattle.store_lives.proofs.leading.lead.Goals as goal
 
 pub loop-made-init : goal.loop-made-init

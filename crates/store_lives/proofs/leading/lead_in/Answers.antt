@@ -1,5 +1,4 @@
-use Rattle.std.proofs.Common.{rules}
-use Rattle.store_lives.proofs.VersionLiving.{barred_lives, led_lives}
+use Rattle.{std.proofs.Common.rules, store_lives.proofs.VersionLiving.{barred_lives, led_lives}}
 use Rattle.store_lives.proofs.leading.lead_in.Goals as goal
 
 pub returns-in-Err : goal.returns-in-Err

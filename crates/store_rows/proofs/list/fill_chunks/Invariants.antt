@@ -1,5 +1,4 @@
-use Rattle.std.proofs.Common.{◌≡◌, ◌*◌, length, take}
-use Rattle.store_rows.specs.claim.Lists.{chunks_bytes}
+use Rattle.{std.proofs.Common.{◌≡◌, ◌*◌, length, take}, store_rows.specs.claim.Lists.chunks_bytes}
 use Rattle.store_rows.proofs.list.fill_chunks.Given as goal
 
 abbrev pub invariant-loop-number : goal.invariant-loop-number

@@ -1,5 +1,4 @@
-use Rattle.std.proofs.Common.{◌≡◌, ◌*◌, length, take}
-use Rattle.store_rows.specs.claim.Lists.{districts_bytes}
+use Rattle.{std.proofs.Common.{◌≡◌, ◌*◌, length, take}, store_rows.specs.claim.Lists.districts_bytes}
 use Rattle.store_rows.proofs.list.fill_districts.Given as goal
 
 abbrev pub invariant-loop-district : goal.invariant-loop-district

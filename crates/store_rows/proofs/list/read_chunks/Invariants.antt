@@ -1,5 +1,4 @@
-use Rattle.std.proofs.Common.{◌≡◌, ◌*◌, ◌<◌, ◌^◌, All, length, take}
-use Rattle.store_rows.specs.claim.Lists.{chunks_bytes}
+use Rattle.{std.proofs.Common.{◌≡◌, ◌*◌, ◌<◌, ◌^◌, All, length, take}, store_rows.specs.claim.Lists.chunks_bytes}
 use Rattle.store_rows.proofs.list.read_chunks.Given as goal
 
 abbrev pub invariant-loop-k : goal.invariant-loop-k

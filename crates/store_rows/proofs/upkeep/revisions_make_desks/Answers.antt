@@ -1,6 +1,5 @@
-use Rattle.std.proofs.Common.{◌<◌, ◌+◌, ◌^◌, arith, length}
-use Rattle.desk_model.specs.claim.Ranges.{cut}
-use Rattle.store_rows.{specs.RevisionSteps.AreItsChunks, proofs.RevisionDesk.{its_chunks, revision_made, rows_add, rows_make}}
+use Rattle.{std.proofs.Common.{◌<◌, ◌+◌, ◌^◌, arith, length}, desk_model.specs.claim.Ranges.cut, store_rows.specs.RevisionSteps.AreItsChunks}
+use Rattle.store_rows.proofs.RevisionDesk.{its_chunks, revision_made, rows_add, rows_make}
 use Rattle.store_rows.proofs.upkeep.revisions_make_desks.Goals as goal
 
 pub returns : goal.returns

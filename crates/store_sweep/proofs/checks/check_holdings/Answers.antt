@@ -1,5 +1,4 @@
-use Rattle.desk_pages.proofs.Looking.{both, fails, fails_then, gathered, looks}
-use Rattle.store_sweep.proofs.Told.{counted_by_holders_by}
+use Rattle.{desk_pages.proofs.Looking.{both, fails, fails_then, gathered, looks}, store_sweep.proofs.Told.counted_by_holders_by}
 use Rattle.store_sweep.proofs.checks.check_holdings.Goals as goal
 
 pub returns-in_err-count_holders : goal.returns-in_err-count_holders

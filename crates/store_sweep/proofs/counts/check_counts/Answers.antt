@@ -1,8 +1,6 @@
-use Rattle.std.proofs.Common.{refl, sym, ◌∙◌, arith, rules}
-use Rattle.page_store.proofs.Stops.{passed_more, passed_none}
-use Rattle.btree_walks.proofs.{RowsFound.all_more, Walked.{walk_all, walk_begins, walk_ends, walk_on}}
-use Rattle.desk_pages.proofs.Looking.{looked, not_looked, refuses}
-use Rattle.store_sweep.{specs.Checks.IsEntryTold, proofs.Scanned.{comes, not_come}, proofs.Told.{all_told, not_told}}
+use Rattle.{std.proofs.Common.{refl, sym, ◌∙◌, arith, rules}, store_sweep.{specs.Checks.IsEntryTold, proofs.Scanned.{comes, not_come}}, btree_walks.proofs.RowsFound.all_more}
+use Rattle.{btree_walks.proofs.Walked.{walk_all, walk_begins, walk_ends, walk_on}, desk_pages.proofs.Looking.{looked, not_looked, refuses}}
+use Rattle.{page_store.proofs.Stops.{passed_more, passed_none}, store_sweep.proofs.Told.{all_told, not_told}}
 use Rattle.store_sweep.proofs.counts.check_counts.Goals as goal
 
 pub loop-taken-init : goal.loop-taken-init

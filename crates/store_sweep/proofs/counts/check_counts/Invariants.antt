@@ -1,7 +1,4 @@
-use Rattle.std.proofs.Common.{◌≡◌, [], ◌∷◌}
-use Rattle.page_store.specs.claim.Transactions.{count_of, txn_pages}
-use Rattle.btree_walks.proofs.Walked.{HasWalked}
-use Rattle.store_sweep.proofs.Told.{AllTold}
+use Rattle.{std.proofs.Common.{◌≡◌, [], ◌∷◌}, page_store.specs.claim.Transactions.{count_of, txn_pages}, btree_walks.proofs.Walked.HasWalked, store_sweep.proofs.Told.AllTold}
 use Rattle.store_sweep.proofs.counts.check_counts.Given as goal
 
 abbrev pub invariant-loop-taken : goal.invariant-loop-taken

@@ -1,6 +1,5 @@
-use Rattle.std.{specs.FinMap.get, proofs.Common.{List, ℕ, drop, refl, sym, ap, subst, ◌∙◌}}
+use Rattle.{std.{specs.FinMap.get, proofs.Common.{List, ℕ, drop, refl, sym, ap, subst, ◌∙◌}}, store_sweep.{specs.Checks.IsThere, proofs.{Named.count_there, Noted.notes}}}
 use Rattle.desk_pages.proofs.Looking.{fails, gathered, refuses}
-use Rattle.store_sweep.{specs.Checks.IsThere, proofs.Named.count_there, proofs.Noted.notes}
 use Rattle.store_sweep.proofs.counts.count_holder.Goals as goal
 
 pub returns-in_err-is_there : goal.returns-in_err-is_there

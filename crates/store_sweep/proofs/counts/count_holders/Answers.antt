@@ -1,8 +1,6 @@
-use Rattle.std.proofs.Common.{sym, ◌∙◌, arith}
-use Rattle.page_store.proofs.Stops.{passed_more}
-use Rattle.btree_walks.proofs.Walked.{walk_all, walk_begins, walk_ends, walk_on}
-use Rattle.desk_pages.proofs.Looking.{fails_then, gathered, looked, not_looked}
-use Rattle.store_sweep.proofs.{Counted.{none_counted, one_counted, all_counted}, Named.holding_next, Scanned.{comes, not_come}}
+use Rattle.{std.proofs.Common.{sym, ◌∙◌, arith}, btree_walks.proofs.Walked.{walk_all, walk_begins, walk_ends, walk_on}, page_store.proofs.Stops.passed_more}
+use Rattle.{desk_pages.proofs.Looking.{fails_then, gathered, looked, not_looked}, store_sweep.proofs.{Counted.{none_counted, one_counted, all_counted}, Named.holding_next}}
+use Rattle.store_sweep.proofs.Scanned.{comes, not_come}
 use Rattle.store_sweep.proofs.counts.count_holders.Goals as goal
 
 pub loop-taken-init : goal.loop-taken-init

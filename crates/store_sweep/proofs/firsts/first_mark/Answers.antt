@@ -1,8 +1,6 @@
-use Rattle.std.{specs.Prelude.Some, proofs.Common.{refl, sym, ap, ◌∙◌, arith, rules}}
-use Rattle.page_store.proofs.Stops.{passed_more, passed_none}
-use Rattle.btree_walks.proofs.{RowsFound.{all_more, found_among}, Walked.{walk_all, walk_begins, walk_ends, walk_on}}
-use Rattle.desk_pages.proofs.Looking.{finds, looked, not_looked}
-use Rattle.store_sweep.proofs.Scanned.{IsPassed, comes, none_passed, not_come}
+use Rattle.{std.{specs.Prelude.Some, proofs.Common.{refl, sym, ap, ◌∙◌, arith, rules}}, btree_walks.proofs.RowsFound.{all_more, found_among}}
+use Rattle.{btree_walks.proofs.Walked.{walk_all, walk_begins, walk_ends, walk_on}, desk_pages.proofs.Looking.{finds, looked, not_looked}}
+use Rattle.{page_store.proofs.Stops.{passed_more, passed_none}, store_sweep.proofs.Scanned.{IsPassed, comes, none_passed, not_come}}
 use Rattle.store_sweep.proofs.firsts.first_mark.Goals as goal
 
 pub loop-taken-init : goal.loop-taken-init

@@ -1,7 +1,4 @@
-use Rattle.std.proofs.Common.{◌≡◌}
-use Rattle.page_store.specs.claim.Transactions.{count_of, txn_pages}
-use Rattle.btree_walks.proofs.Walked.{HasWalked}
-use Rattle.store_sweep.proofs.Scanned.{ArePassed}
+use Rattle.{std.proofs.Common.◌≡◌, page_store.specs.claim.Transactions.{count_of, txn_pages}, btree_walks.proofs.Walked.HasWalked, store_sweep.proofs.Scanned.ArePassed}
 use Rattle.store_sweep.proofs.firsts.first_mark.Given as goal
 
 abbrev pub invariant-loop-taken : goal.invariant-loop-taken

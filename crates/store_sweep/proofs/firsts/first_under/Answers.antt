@@ -1,7 +1,5 @@
-use Rattle.std.{specs.Prelude.None, specs.FinMap.entries, proofs.Common.{◌≡◌, [], sym, subst, ◌∙◌}}
-use Rattle.btree_walks.{specs.Prefixes.under, specs.Scanning.{IsNextRow, fault_in}, proofs.RowsFound.{found_among, next_under}, proofs.Walked.walk_begins}
-use Rattle.desk_pages.proofs.Looking.{looked}
-use Rattle.store_sweep.proofs.Scanned.{not_come}
+use Rattle.{std.{specs.{FinMap.entries, Prelude.None}, proofs.Common.{◌≡◌, [], sym, subst, ◌∙◌}}, btree_walks.specs.{Prefixes.under, Scanning.{IsNextRow, fault_in}}}
+use Rattle.{btree_walks.proofs.{RowsFound.{found_among, next_under}, Walked.walk_begins}, desk_pages.proofs.Looking.looked, store_sweep.proofs.Scanned.not_come}
 use Rattle.store_sweep.proofs.firsts.first_under.Goals as goal
 
 pub returns-then-next : goal.returns-then-next

@@ -1,7 +1,5 @@
-use Rattle.std.proofs.Common.{◌≡◌, ℕ, List, sym, subst, subst₂, ◌∙◌, arith}
-use Rattle.desk_pages.proofs.Looking.{fails, finds}
-use Rattle.store_rows.specs.claim.Keys.{key_of, begun}
-use Rattle.store_sweep.{specs.Leftovers.IsOfLoad, specs.Finding.{IsFirst, IsLeftKey}, proofs.Left.{load_left, load_mark_left}}
+use Rattle.{std.proofs.Common.{◌≡◌, ℕ, List, sym, subst, subst₂, ◌∙◌, arith}, store_rows.specs.claim.Keys.{key_of, begun}, store_sweep.specs.Finding.{IsFirst, IsLeftKey}}
+use Rattle.{store_sweep.{specs.Leftovers.IsOfLoad, proofs.Left.{load_left, load_mark_left}}, desk_pages.proofs.Looking.{fails, finds}}
 use Rattle.store_sweep.proofs.leftovers.left_of_load.Goals as goal
 
 pub returns-in_err-first_under : goal.returns-in_err-first_under

@@ -1,6 +1,5 @@
-use Rattle.std.proofs.{Common.{ℕ, List, drop, length, ap, sym, subst₂, ◌∙◌}, Math.Path.subst₃}
-use Rattle.desk_pages.proofs.Looking.{both, fails, fails_then, finds, refuses}
-use Rattle.store_sweep.{specs.Finding.{IsFirstMark, spared_key}, proofs.Left.{begun_long, begun_mark, no_begun, load_next_left}}
+use Rattle.{std.proofs.{Common.{ℕ, List, drop, length, ap, sym, subst₂, ◌∙◌}, Math.Path.subst₃}, store_sweep.specs.Finding.{IsFirstMark, spared_key}}
+use Rattle.{desk_pages.proofs.Looking.{both, fails, fails_then, finds, refuses}, store_sweep.proofs.Left.{begun_long, begun_mark, no_begun, load_next_left}}
 use Rattle.store_sweep.proofs.leftovers.left_of_loads.Goals as goal
 
 pub returns-in_err-first_mark : goal.returns-in_err-first_mark

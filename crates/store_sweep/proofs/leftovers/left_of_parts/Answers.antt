@@ -1,7 +1,6 @@
-use Rattle.std.proofs.Common.{◌≡◌, ℕ, List, sym, subst, subst₂, ◌∙◌, arith}
-use Rattle.desk_pages.proofs.Looking.{both, fails, fails_then, finds, refuses}
-use Rattle.store_rows.specs.{claim.Keys.{key_of, retired}, claim.Lists.{AreChunks, chunks_bytes}}
-use Rattle.store_sweep.{specs.Leftovers.IsNoLoads, specs.Finding.{IsFirst, IsFirstPiece, IsLeftKey}, proofs.Left.{part_left, part_told, piece_left, plan_mark_left}}
+use Rattle.{std.proofs.Common.{◌≡◌, ℕ, List, sym, subst, subst₂, ◌∙◌, arith}, store_rows.specs.claim.{Keys.{key_of, retired}, Lists.{AreChunks, chunks_bytes}}}
+use Rattle.{store_sweep.specs.{Finding.{IsFirst, IsFirstPiece, IsLeftKey}, Leftovers.IsNoLoads}, desk_pages.proofs.Looking.{both, fails, fails_then, finds, refuses}}
+use Rattle.store_sweep.proofs.Left.{part_left, part_told, piece_left, plan_mark_left}
 use Rattle.store_sweep.proofs.leftovers.left_of_parts.Goals as goal
 
 pub returns-in_err-first_under : goal.returns-in_err-first_under

@@ -1,7 +1,5 @@
-use Rattle.std.proofs.Common.{◌≡◌, ℕ, List, length, drop, ap, sym, subst₂, ◌∙◌, arith}
-use Rattle.desk_pages.proofs.Looking.{both, fails, fails_then, finds, refuses}
-use Rattle.store_rows.specs.claim.Keys.{in_eight}
-use Rattle.store_sweep.{specs.Finding.IsFirst, proofs.Left.{holding_left, holding_long, holds_none}}
+use Rattle.{std.proofs.Common.{◌≡◌, ℕ, List, length, drop, ap, sym, subst₂, ◌∙◌, arith}, store_rows.specs.claim.Keys.in_eight, store_sweep.specs.Finding.IsFirst}
+use Rattle.{desk_pages.proofs.Looking.{both, fails, fails_then, finds, refuses}, store_sweep.proofs.Left.{holding_left, holding_long, holds_none}}
 use Rattle.store_sweep.proofs.leftovers.left_of_plan.Goals as goal
 
 pub returns-in_err-first_under : goal.returns-in_err-first_under

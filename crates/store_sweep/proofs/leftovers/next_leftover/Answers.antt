@@ -1,6 +1,4 @@
-use Rattle.std.proofs.Common.{subst}
-use Rattle.desk_pages.proofs.Looking.{both, fails, fails_then, finds}
-use Rattle.store_sweep.{specs.Finding.{IsPlanLeft, IsLoadLeft}, proofs.Left.plan_next}
+use Rattle.{std.proofs.Common.subst, store_sweep.{specs.Finding.{IsPlanLeft, IsLoadLeft}, proofs.Left.plan_next}, desk_pages.proofs.Looking.{both, fails, fails_then, finds}}
 use Rattle.store_sweep.proofs.leftovers.next_leftover.Goals as goal
 
 pub returns-in_err-left : goal.returns-in_err-left

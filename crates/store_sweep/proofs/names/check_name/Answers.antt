@@ -1,6 +1,5 @@
-use Rattle.std.{specs.FinMap.get, proofs.Common.{inl, inr, sym, ap, subst, ◌∙◌}}
+use Rattle.{std.{specs.FinMap.get, proofs.Common.{inl, inr, sym, ap, subst, ◌∙◌}}, store_sweep.specs.Checks.IsMarkedAs}
 use Rattle.desk_pages.proofs.Looking.{both, fails, fails_then, finds, refuses}
-use Rattle.store_sweep.specs.Checks.{IsMarkedAs}
 use Rattle.store_sweep.proofs.names.check_name.Goals as goal
 
 pub returns-in_err-is_marked : goal.returns-in_err-is_marked

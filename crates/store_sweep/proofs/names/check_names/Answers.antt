@@ -1,9 +1,6 @@
-use Rattle.std.{specs.Prelude.All, proofs.Common.{sym, subst, ◌∙◌, arith}}
-use Rattle.std.proofs.lemmas.List.Elements.{All-nil}
-use Rattle.page_store.proofs.Stops.{passed_more}
-use Rattle.btree_walks.proofs.{RowsFound.all_more, Walked.{walk_all, walk_begins, walk_ends, walk_on}}
-use Rattle.desk_pages.proofs.Looking.{fails_then, gathered, looked, not_looked}
-use Rattle.store_sweep.{specs.Checks.IsEntryNamed, specs.claim.Checks.IsHeldOrGone, proofs.Named.{part_next, all_named}, proofs.Scanned.{comes, not_come}}
+use Rattle.{std.{specs.Prelude.All, proofs.{Common.{sym, subst, ◌∙◌, arith}, lemmas.List.Elements.All-nil}}, store_sweep.specs.{Checks.IsEntryNamed, claim.Checks.IsHeldOrGone}}
+use Rattle.{btree_walks.proofs.{RowsFound.all_more, Walked.{walk_all, walk_begins, walk_ends, walk_on}}, desk_pages.proofs.Looking.{fails_then, gathered, looked, not_looked}}
+use Rattle.{page_store.proofs.Stops.passed_more, store_sweep.proofs.{Named.{part_next, all_named}, Scanned.{comes, not_come}}}
 use Rattle.store_sweep.proofs.names.check_names.Goals as goal
 
 pub loop-taken-init : goal.loop-taken-init

@@ -1,7 +1,5 @@
-use Rattle.std.{specs.Prelude.All, proofs.Common.{◌≡◌, [], ◌∷◌}}
-use Rattle.page_store.specs.claim.Transactions.{count_of, txn_pages}
-use Rattle.btree_walks.proofs.Walked.{HasWalked}
-use Rattle.store_sweep.{specs.claim.Checks.IsHeldOrGone, proofs.Named.AllNamed}
+use Rattle.{std.{specs.Prelude.All, proofs.Common.{◌≡◌, [], ◌∷◌}}, page_store.specs.claim.Transactions.{count_of, txn_pages}, store_sweep.specs.claim.Checks.IsHeldOrGone}
+use Rattle.{btree_walks.proofs.Walked.HasWalked, store_sweep.proofs.Named.AllNamed}
 use Rattle.store_sweep.proofs.names.check_names.Given as goal
 
 abbrev pub invariant-loop-taken : goal.invariant-loop-taken

@@ -1,15 +1,9 @@
-use Rattle.std.{specs.Prelude.{All, get_or}, proofs.Common.{take, sym, subst, ◌∙◌, take_all}}
-use Rattle.std.proofs.lemmas.List.{take_more}
-use Rattle.std.proofs.lemmas.List.Elements.{All-nil, All-push}
-use Rattle.desk_pages.proofs.Looking.{begins, both, fails_then, finds}
-use Rattle.store_sweep.specs.claim.Checks.{IsHeldOrGone}
+use Rattle.std.{specs.Prelude.{All, get_or}, proofs.{Common.{take, sym, subst, ◌∙◌, take_all}, lemmas.List.{take_more, Elements.{All-nil, All-push}}}}
+use Rattle.{store_sweep.specs.claim.Checks.IsHeldOrGone, desk_pages.proofs.Looking.{begins, both, fails_then, finds}}
 use Rattle.store_sweep.proofs.names.check_numbers.Goals as goal
 
 pub loop-number-init : goal.loop-number-init
-loop-number-init g c = record {
-  begun = c.requires.begun;
-  gathers = begins (λ m holds all. (All-nil (IsHeldOrGone m c.args.plan), all));
-}
+loop-number-init g c = record { begun = c.requires.begun; gathers = begins (λ m holds all. (All-nil (IsHeldOrGone m c.args.plan), all)) }
 
 pub returns-in_err-check_known : goal.returns-in_err-check_known
 returns-in_err-check_known g c = fails_then c.loop-number.invariant.gathers c.from_residual.result c.in_err-check_known.ensures c.from_residual.ensures.1 (λ m done all. all c.loop-number.number-index 0 c.loop-number-test.true)

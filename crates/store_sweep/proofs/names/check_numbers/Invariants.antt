@@ -1,6 +1,4 @@
-use Rattle.std.{specs.Prelude.All, proofs.Common.{◌≡◌, Ok, take}}
-use Rattle.page_store.specs.claim.Transactions.{count_of, txn_pages}
-use Rattle.desk_pages.specs.Looking.{Gathers}
+use Rattle.{std.{specs.Prelude.All, proofs.Common.{◌≡◌, Ok, take}}, desk_pages.specs.Looking.Gathers, page_store.specs.claim.Transactions.{count_of, txn_pages}}
 use Rattle.store_sweep.specs.claim.Checks.{IsHeldOrGone}
 use Rattle.store_sweep.proofs.names.check_numbers.Given as goal
 

@@ -1,6 +1,5 @@
-use Rattle.std.{specs.Prelude.All, proofs.Common.{ℕ, List, take, drop, sym, ap, subst, ◌∙◌}}
-use Rattle.desk_pages.proofs.Looking.{tells}
-use Rattle.store_sweep.{specs.claim.Checks.IsHeldOrGone, proofs.Named.{entry_named, part_all, plans_list}}
+use Rattle.{std.{specs.Prelude.All, proofs.Common.{ℕ, List, take, drop, sym, ap, subst, ◌∙◌}}, store_sweep.specs.claim.Checks.IsHeldOrGone, desk_pages.proofs.Looking.tells}
+use Rattle.store_sweep.proofs.Named.{entry_named, part_all, plans_list}
 use Rattle.store_sweep.proofs.names.check_part.Goals as goal
 
 pub returns : goal.returns

@@ -1,7 +1,6 @@
-use Rattle.std.{specs.List.starts_with, proofs.Common.{◌≡◌, ℕ, List, true, false, length, take, drop, ap, sym, subst₂, ◌∙◌, nat_eq, arith}}
-use Rattle.desk_pages.proofs.Looking.{fails, finds, refuses}
-use Rattle.store_rows.specs.claim.Keys.{chunk_prefix, in_eight}
-use Rattle.store_sweep.{specs.Finding.IsFirstFrom, proofs.Least.{least_long, least_starts, next_some, next_none}}
+use Rattle.{std.{specs.List.starts_with, proofs.Common.{◌≡◌, ℕ, List, true, false, length, take, drop, ap, sym, subst₂, ◌∙◌, nat_eq, arith}}, store_sweep.specs.Finding.IsFirstFrom}
+use Rattle.{store_rows.specs.claim.Keys.{chunk_prefix, in_eight}, desk_pages.proofs.Looking.{fails, finds, refuses}}
+use Rattle.store_sweep.proofs.Least.{least_long, least_starts, next_some, next_none}
 use Rattle.store_sweep.proofs.pieces.chunk_from.Goals as goal
 
 pub returns-in_err-key_from : goal.returns-in_err-key_from

@@ -1,8 +1,6 @@
-use Rattle.std.{specs.Prelude.{All, get_or}, proofs.Common.{take, sym, subst, ◌∙◌, take_all, arith}}
-use Rattle.std.proofs.lemmas.List.{take_more}
-use Rattle.std.proofs.lemmas.List.Elements.{All-contains, All-nil, All-push, Contains-get_or}
-use Rattle.desk_pages.proofs.Looking.{begins, both, fails_then, finds}
-use Rattle.store_sweep.{specs.Finding.{IsDone, IsSoughtLeft}, proofs.Least.piece_of}
+use Rattle.{std.{specs.Prelude.{All, get_or}, proofs.{Common.{take, sym, subst, ◌∙◌, take_all, arith}, lemmas.List.take_more}}, store_sweep.specs.Finding.{IsDone, IsSoughtLeft}}
+use Rattle.{std.proofs.lemmas.List.Elements.{All-contains, All-nil, All-push, Contains-get_or}, desk_pages.proofs.Looking.{begins, both, fails_then, finds}}
+use Rattle.store_sweep.proofs.Least.{piece_of}
 use Rattle.store_sweep.proofs.pieces.first_piece.Goals as goal
 
 pub loop-number-init : goal.loop-number-init

@@ -1,8 +1,5 @@
-use Rattle.std.{specs.Prelude.All, proofs.Common.{◌≡◌, take, Ok}}
-use Rattle.page_store.specs.claim.Transactions.{count_of, txn_pages}
-use Rattle.desk_pages.specs.Looking.{Looks}
-use Rattle.store_rows.specs.claim.Tidy.{AreRows}
-use Rattle.store_sweep.specs.Finding.{IsDone, IsGap}
+use Rattle.{std.{specs.Prelude.All, proofs.Common.{◌≡◌, take, Ok}}, desk_pages.specs.Looking.Looks, page_store.specs.claim.Transactions.{count_of, txn_pages}}
+use Rattle.{store_rows.specs.claim.Tidy.AreRows, store_sweep.specs.Finding.{IsDone, IsGap}}
 use Rattle.store_sweep.proofs.pieces.first_piece.Given as goal
 
 abbrev pub invariant-loop-number : goal.invariant-loop-number

@@ -1,6 +1,5 @@
-use Rattle.std.{specs.FinMap.entries, proofs.Common.{◌≡◌, [], arith}}
-use Rattle.desk_pages.proofs.Looking.{looked}
-use Rattle.store_sweep.proofs.{Least.{copied_at, leaf_next, leaf_none, leaf_some, none_found}, Marks.not_got}
+use Rattle.{std.{specs.FinMap.entries, proofs.Common.{◌≡◌, [], arith}}, desk_pages.proofs.Looking.looked, store_sweep.proofs.Marks.not_got}
+use Rattle.store_sweep.proofs.Least.{copied_at, leaf_next, leaf_none, leaf_some, none_found}
 use Rattle.store_sweep.proofs.pieces.key_from.Goals as goal
 
 pub returns-in_err-leaf_from : goal.returns-in_err-leaf_from

@@ -1,6 +1,4 @@
-use Rattle.std.proofs.Common.{inl, inr, subst, subst₂}
-use Rattle.desk_pages.proofs.Looking.{both, fails, fails_then, finds}
-use Rattle.store_sweep.specs.{Checks.IsThere, Finding.IsSought}
+use Rattle.{std.proofs.Common.{inl, inr, subst, subst₂}, store_sweep.specs.{Checks.IsThere, Finding.IsSought}, desk_pages.proofs.Looking.{both, fails, fails_then, finds}}
 use Rattle.store_sweep.proofs.pieces.seek_left.Goals as goal
 
 pub returns-in_err-seek_piece : goal.returns-in_err-seek_piece

@@ -1,6 +1,5 @@
-use Rattle.std.proofs.Common.{nat_eq, refl, sym, subst, subst₂, arith}
-use Rattle.desk_pages.proofs.Looking.{begins, fails, finds}
-use Rattle.store_sweep.{specs.Finding.{EndsAt, IsNextChunk}, proofs.Least.sought_next}
+use Rattle.{std.proofs.Common.{nat_eq, refl, sym, subst, subst₂, arith}, store_sweep.specs.Finding.{EndsAt, IsNextChunk}, desk_pages.proofs.Looking.{begins, fails, finds}}
+use Rattle.store_sweep.proofs.Least.{sought_next}
 use Rattle.store_sweep.proofs.pieces.seek_piece.Goals as goal
 
 pub returns-then-number-gap : goal.returns-then-number-gap

@@ -1,10 +1,6 @@
-use Rattle.page_store.proofs.Stops.{passed_none}
-use Rattle.std.proofs.Common.{ℕ, sym, subst, arith}
-use Rattle.sector_device.specs.claim.Disk.{Image}
-use Rattle.page_btree.specs.claim.Map.{InTxn}
-use Rattle.desk_pages.proofs.Writing.{does, told_on}
-use Rattle.plan_rows.proofs.Writing.{after_reads}
-use Rattle.store_sweep.{specs.Sweeping.HasSwept, proofs.Taken.{fewer_left, none_swept, more_swept, not_later}}
+use Rattle.{std.proofs.Common.{ℕ, sym, subst, arith}, page_btree.specs.claim.Map.InTxn, sector_device.specs.claim.Disk.Image, store_sweep.specs.Sweeping.HasSwept}
+use Rattle.{desk_pages.proofs.Writing.{does, told_on}, page_store.proofs.Stops.passed_none, plan_rows.proofs.Writing.after_reads}
+use Rattle.store_sweep.proofs.Taken.{fewer_left, none_swept, more_swept, not_later}
 use Rattle.store_sweep.proofs.rows.sweep_rows.Goals as goal
 
 pub loop-swept-init : goal.loop-swept-init

@@ -1,6 +1,4 @@
-use Rattle.std.proofs.Common.{◌≡◌, ◌≤◌, ◌-◌}
-use Rattle.page_store.specs.claim.Transactions.{count_of, txn_pages}
-use Rattle.store_sweep.specs.Sweeping.{HasSwept}
+use Rattle.{std.proofs.Common.{◌≡◌, ◌≤◌, ◌-◌}, page_store.specs.claim.Transactions.{count_of, txn_pages}, store_sweep.specs.Sweeping.HasSwept}
 use Rattle.store_sweep.proofs.rows.sweep_rows.Given as goal
 
 abbrev pub invariant-loop-swept : goal.invariant-loop-swept

@@ -1,10 +1,8 @@
-use Rattle.std.proofs.Common.{◌<◌, ◌≤◌, ℕ, List, Some, length, sym, ap, subst, ◌∙◌}
-use Rattle.page_store.{specs.claim.Transactions.stored, proofs.Stops.quiet_more}
-use Rattle.desk_pages.proofs.Writing.{does, told_on}
+use Rattle.{std.proofs.Common.{◌<◌, ◌≤◌, ℕ, List, Some, length, sym, ap, subst, ◌∙◌}, page_store.specs.claim.Transactions.stored, store_sweep.specs.Finding.IsNextLeft}
+use Rattle.{store_sweep.specs.Leftovers.IsSpared, desk_pages.proofs.Writing.{does, told_on}, page_store.proofs.Stops.quiet_more}
 use Rattle.plan_rows.proofs.Writing.{after_reads, only_read, unread}
-use Rattle.store_sweep.specs.declared.leftovers.Left.TheVariants as left
-use Rattle.store_sweep.specs.{Leftovers.IsSpared, Finding.IsNextLeft}
 use Rattle.store_sweep.proofs.Taken.{key_fits, turn_none, turn_row, turn_hold, FindsHolding, not_found, not_removed, not_released, removed_key}
+use Rattle.store_sweep.specs.declared.leftovers.Left.TheVariants as left
 use Rattle.store_sweep.proofs.rows.sweep_turn.Goals as goal
 
 pub returns-in_err-left : goal.returns-in_err-left

@@ -1,8 +1,5 @@
-use Rattle.std.proofs.Common.{Bool, refl, sym, ap, ◌∙◌}
-use Rattle.page_store.specs.claim.Transactions.{has_halted}
-use Rattle.desk_pages.specs.Errors.{row_refusal}
-use Rattle.plan_rows.proofs.Committing.{begun_now, both}
-use Rattle.store_sweep.proofs.Stepped.{not_checked, told_err}
+use Rattle.{std.proofs.Common.{Bool, refl, sym, ap, ◌∙◌}, desk_pages.specs.Errors.row_refusal, page_store.specs.claim.Transactions.has_halted}
+use Rattle.{plan_rows.proofs.Committing.{begun_now, both}, store_sweep.proofs.Stepped.{not_checked, told_err}}
 use Rattle.store_sweep.proofs.sweeps.check_holders.Goals as goal
 
 pub returns-then-is_halted-clause-err : goal.returns-then-is_halted-clause-err

@@ -1,7 +1,5 @@
-use Rattle.std.proofs.Common.{Bool, Err, true, refl, sym, ap, ◌∙◌, arith}
-use Rattle.page_store.specs.claim.Transactions.{has_halted}
-use Rattle.desk_pages.{specs.Errors.row_refusal, proofs.Kept.kept_working}
-use Rattle.plan_rows.proofs.Committing.{begun_now, both, quiet_leaves, quiet_shape, shape_after}
+use Rattle.{std.proofs.Common.{Bool, Err, true, refl, sym, ap, ◌∙◌, arith}, desk_pages.specs.Errors.row_refusal, page_store.specs.claim.Transactions.has_halted}
+use Rattle.{desk_pages.proofs.Kept.kept_working, plan_rows.proofs.Committing.{begun_now, both, quiet_leaves, quiet_shape, shape_after}}
 use Rattle.store_sweep.proofs.Stepped.{taken_writes, none_swept, not_made, some_leaves, some_swept, not_taken, told_err, not_committed}
 use Rattle.store_sweep.proofs.sweeps.sweep_step.Goals as goal
 

@@ -1,6 +1,5 @@
-use Rattle.std.proofs.Common.{arith, rules, length, get_or, false, min, ◌+◌, ◌-◌, ◌*◌, IsTrue, subst, ap, sym}
-use Rattle.std.proofs.lemmas.Result.{IfOk-weaker}
-use Rattle.audit_clauses.{specs.claim.Breaks.AreBreaks, specs.Parts.Shown, proofs.Keeping.{forest_within, lowest_within, own_breaks}}
+use Rattle.{std.proofs.{Common.{arith, rules, length, get_or, false, min, ◌+◌, ◌-◌, ◌*◌, IsTrue, subst, ap, sym}, lemmas.Result.IfOk-weaker}, audit_clauses.specs.Parts.Shown}
+use Rattle.audit_clauses.{specs.claim.Breaks.AreBreaks, proofs.Keeping.{forest_within, lowest_within, own_breaks}}
 use Rattle.audit_clauses.proofs.parts.DistrictTrees.breaks.Goals as goal
 
 pub tell-requires : goal.tell-requires

@@ -1,5 +1,4 @@
-use Rattle.std.proofs.Common.{length, ap, sym, ◌∙◌}
-use Rattle.baf_text.proofs.Parts.{length-spread}
+use Rattle.{std.proofs.Common.{length, ap, sym, ◌∙◌}, baf_text.proofs.Parts.length-spread}
 use Rattle.baf_text.proofs.listed.Listed.len.Goals as goal
 
 pub returns : goal.returns

@@ -1,5 +1,4 @@
-use Rattle.std.proofs.Common.{rules}
-use Rattle.baf_text.proofs.Parts.{length-spread, spread_set, ok_then}
+use Rattle.{std.proofs.Common.rules, baf_text.proofs.Parts.{length-spread, spread_set, ok_then}}
 use Rattle.baf_text.proofs.listed.Listed.put.Goals as goal
 
 pub invariant_of-self : goal.invariant_of-self

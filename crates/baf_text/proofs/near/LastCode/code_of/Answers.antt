@@ -1,6 +1,4 @@
-use Rattle.std.proofs.Common.{rules}
-use Rattle.std.proofs.lemmas.List.{take_rest}
-use Rattle.baf_text.proofs.Nearby.{same_code}
+use Rattle.{std.proofs.{Common.rules, lemmas.List.take_rest}, baf_text.proofs.Nearby.same_code}
 use Rattle.baf_text.proofs.near.LastCode.code_of.Goals as goal
 
 pub returns-then-begins_with : goal.returns-then-begins_with

@@ -1,5 +1,4 @@
-use Rattle.std.proofs.Common.{rules}
-use Rattle.baf_text.proofs.Nearby.{kept_code}
+use Rattle.{std.proofs.Common.rules, baf_text.proofs.Nearby.kept_code}
 use Rattle.baf_text.proofs.near.LastCode.parsed.Goals as goal
 
 pub invariant_of-self : goal.invariant_of-self

@@ -1,5 +1,4 @@
-use Rattle.std.proofs.Common.{take}
-use Rattle.baf_text.proofs.Rows.{id_small}
+use Rattle.{std.proofs.Common.take, baf_text.proofs.Rows.id_small}
 use Rattle.baf_text.proofs.near.LastHead.head_of.Goals as goal
 
 pub from_number-requires : goal.from_number-requires

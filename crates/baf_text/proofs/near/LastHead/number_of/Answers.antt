@@ -1,5 +1,4 @@
-use Rattle.std.proofs.Common.{sym, ◌∙◌, rules}
-use Rattle.baf_text.proofs.Nearby.{hundreds_small, low_worth, near_number}
+use Rattle.{std.proofs.Common.{sym, ◌∙◌, rules}, baf_text.proofs.Nearby.{hundreds_small, low_worth, near_number}}
 use Rattle.baf_text.proofs.near.LastHead.number_of.Goals as goal
 
 pub overflow_add-result : goal.overflow_add-result

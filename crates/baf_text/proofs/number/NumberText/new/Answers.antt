@@ -1,5 +1,4 @@
-use Rattle.std.proofs.Common.{rules}
-use Rattle.baf_text.proofs.Ends.{length_within}
+use Rattle.{std.proofs.Common.rules, baf_text.proofs.Ends.length_within}
 use Rattle.baf_text.proofs.number.NumberText.new.Goals as goal
 
 pub copy_from_slice-requires : goal.copy_from_slice-requires

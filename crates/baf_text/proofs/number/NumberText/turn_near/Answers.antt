@@ -1,5 +1,4 @@
-use Rattle.std.proofs.Common.{rules}
-use Rattle.baf_text.proofs.Ends.{number_turned}
+use Rattle.{std.proofs.Common.rules, baf_text.proofs.Ends.number_turned}
 use Rattle.baf_text.proofs.number.NumberText.turn_near.Goals as goal
 
 pub invariant_of-self : goal.invariant_of-self

@@ -1,5 +1,4 @@
-use Rattle.std.proofs.Common.{arith, rules}
-use Rattle.btree_walks.proofs.Named.{all_seen}
+use Rattle.{std.proofs.Common.{arith, rules}, btree_walks.proofs.Named.all_seen}
 use Rattle.btree_walks.proofs.marks.Marks.first_lost.Goals as goal
 
 pub overflow_cast-result : goal.overflow_cast-result

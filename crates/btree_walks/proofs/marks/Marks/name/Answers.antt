@@ -1,5 +1,4 @@
-use Rattle.std.proofs.Common.{rules}
-use Rattle.btree_walks.proofs.Named.{unseen_set, unseen_some}
+use Rattle.{std.proofs.Common.rules, btree_walks.proofs.Named.{unseen_set, unseen_some}}
 use Rattle.btree_walks.proofs.marks.Marks.name.Goals as goal
 
 pub overflow_sub-self : goal.overflow_sub-self

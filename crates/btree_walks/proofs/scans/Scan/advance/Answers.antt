@@ -1,5 +1,5 @@
-use Rattle.std.{specs.FinMap.entries, proofs.Common.{refl, sym, subst, rules}}
-use Rattle.btree_walks.{specs.Parts.{page_of, row_at}, specs.Scanning.{RestWhere, IsStep, CanScan, CanStep}, proofs.Ready.scan_wider}
+use Rattle.{std.{specs.FinMap.entries, proofs.Common.{refl, sym, subst, rules}}, btree_walks.specs.{Parts.{page_of, row_at}, Scanning.{RestWhere, IsStep, CanScan, CanStep}}}
+use Rattle.btree_walks.proofs.Ready.{scan_wider}
 use Rattle.btree_walks.proofs.scans.Scan.advance.Goals as goal
 
 pub returns-then-self : goal.returns-then-self

@@ -1,5 +1,4 @@
-use Rattle.std.proofs.Common.{rules}
-use Rattle.btree_walks.proofs.Places.{next_some, none_next}
+use Rattle.{std.proofs.Common.rules, btree_walks.proofs.Places.{next_some, none_next}}
 use Rattle.btree_walks.proofs.scans.Scan.take_at.Goals as goal
 
 pub returns-clause-rows : goal.returns-clause-rows

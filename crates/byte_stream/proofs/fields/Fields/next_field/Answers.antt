@@ -1,5 +1,4 @@
-use Rattle.std.proofs.Common.{sym, ◌∙◌, rules}
-use Rattle.byte_stream.proofs.TextLemmas.{fields-cut, fields-last}
+use Rattle.{std.proofs.Common.{sym, ◌∙◌, rules}, byte_stream.proofs.TextLemmas.{fields-cut, fields-last}}
 use Rattle.byte_stream.proofs.fields.Fields.next_field.Goals as goal
 
 pub returns-in-Some : goal.returns-in-Some

@@ -1,5 +1,4 @@
-use Rattle.std.proofs.Common.{◌≡◌, ℕ, drop, sym, ◌∙◌, ap, arith, rules}
-use Rattle.byte_stream.proofs.NthLemmas.{none_at, none_after, got_after, last_at, last_after}
+use Rattle.{std.proofs.Common.{◌≡◌, ℕ, drop, sym, ◌∙◌, ap, arith, rules}, byte_stream.proofs.NthLemmas.{none_at, none_after, got_after, last_at, last_after}}
 use Rattle.byte_stream.proofs.fields.Fields.nth_field.Goals as goal
 
 pub returns-in_err-next_field-clause-field : goal.returns-in_err-next_field-clause-field

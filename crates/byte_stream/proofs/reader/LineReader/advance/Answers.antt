@@ -1,5 +1,4 @@
-use Rattle.std.proofs.Common.{append_assoc, rules}
-use Rattle.byte_stream.proofs.ReadingLemmas.{counts_more, Consumes-then}
+use Rattle.{std.proofs.Common.{append_assoc, rules}, byte_stream.proofs.ReadingLemmas.{counts_more, Consumes-then}}
 use Rattle.byte_stream.proofs.reader.LineReader.advance.Goals as goal
 
 pub loop-self-preserved-else-n-eq0 : goal.loop-self-preserved-else-n-eq0

@@ -1,5 +1,4 @@
-use Rattle.std.{specs.Io.KnownBytes.Consumes, proofs.Common.{◌≡◌, ℕ, ◌-◌, List, ◌++◌}}
-use Rattle.byte_stream.specs.{Reading.CountsFrom, claim.Reading.turn_limit}
+use Rattle.{std.{specs.Io.KnownBytes.Consumes, proofs.Common.{◌≡◌, ℕ, ◌-◌, List, ◌++◌}}, byte_stream.specs.{Reading.CountsFrom, claim.Reading.turn_limit}}
 use Rattle.byte_stream.proofs.reader.LineReader.advance.Given as goal
 
 abbrev pub invariant-loop-self : goal.invariant-loop-self

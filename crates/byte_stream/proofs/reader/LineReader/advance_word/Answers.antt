@@ -1,7 +1,5 @@
-use Rattle.std.proofs.Common.{◌≡◌, ℕ, List, ◌++◌, refl, sym, subst, ap, ◌∙◌, rules}
-use Rattle.std.proofs.lemmas.List.{append-nil}
-use Rattle.byte_stream.{specs.Reading.CountsFrom, specs.Words.CutsPart, proofs.ReadingLemmas.counts_more}
-use Rattle.byte_stream.proofs.WordSteps.{past_nothing, past_part, past_turn, past_none, word_given, long_given, part_given, end_given}
+use Rattle.{std.proofs.{Common.{◌≡◌, ℕ, List, ◌++◌, refl, sym, subst, ap, ◌∙◌, rules}, lemmas.List.append-nil}, byte_stream.specs.{Reading.CountsFrom, Words.CutsPart}}
+use Rattle.byte_stream.proofs.{ReadingLemmas.counts_more, WordSteps.{past_nothing, past_part, past_turn, past_none, word_given, long_given, part_given, end_given}}
 use Rattle.byte_stream.proofs.reader.LineReader.advance_word.Goals as goal
 
 pub loop-self-init : goal.loop-self-init

@@ -1,5 +1,4 @@
-use Rattle.std.proofs.Common.{◌≡◌, ℕ, ◌-◌}
-use Rattle.byte_stream.{specs.Reading.CountsFrom, specs.claim.Reading.turn_limit, proofs.WordSteps.ReadsPast}
+use Rattle.{std.proofs.Common.{◌≡◌, ℕ, ◌-◌}, byte_stream.{specs.{Reading.CountsFrom, claim.Reading.turn_limit}, proofs.WordSteps.ReadsPast}}
 use Rattle.byte_stream.proofs.reader.LineReader.advance_word.Given as goal
 
 abbrev pub invariant-loop-self : goal.invariant-loop-self

@@ -1,5 +1,4 @@
-use Rattle.std.proofs.Common.{length-drop, rules}
-use Rattle.byte_stream.proofs.{BufferLemmas.{filled, filled_more, none_came}, ReadingLemmas.Consumes-keeps}
+use Rattle.{std.proofs.Common.{length-drop, rules}, byte_stream.proofs.{BufferLemmas.{filled, filled_more, none_came}, ReadingLemmas.Consumes-keeps}}
 use Rattle.byte_stream.proofs.reader.LineReader.fill.Goals as goal
 
 pub returns-in-Read-clause-bytes : goal.returns-in-Read-clause-bytes

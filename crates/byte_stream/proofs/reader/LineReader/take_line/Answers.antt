@@ -1,5 +1,4 @@
-use Rattle.std.proofs.Common.{rules}
-use Rattle.byte_stream.proofs.BufferLemmas.{found_line}
+use Rattle.{std.proofs.Common.rules, byte_stream.proofs.BufferLemmas.found_line}
 use Rattle.byte_stream.proofs.reader.LineReader.take_line.Goals as goal
 
 pub returns-clause-line : goal.returns-clause-line

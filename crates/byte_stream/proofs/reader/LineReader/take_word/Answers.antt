@@ -1,5 +1,4 @@
-use Rattle.std.{specs.List.slice_range, proofs.Common.{List, ℕ, length, drop, ◌-◌, sym, ap, arith, length-take, length-drop, rules}}
-use Rattle.std.proofs.lemmas.Slice.{between_to_end}
+use Rattle.std.{specs.List.slice_range, proofs.{Common.{List, ℕ, length, drop, ◌-◌, sym, ap, arith, length-take, length-drop, rules}, lemmas.Slice.between_to_end}}
 use Rattle.byte_stream.{specs.Reading.Reading, proofs.WordLemmas.{taken_word, taken_part, taken_long}}
 use Rattle.byte_stream.proofs.reader.LineReader.take_word.Goals as goal
 

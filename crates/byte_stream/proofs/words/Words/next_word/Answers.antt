@@ -1,6 +1,5 @@
-use Rattle.std.{specs.List.slice_range, proofs.Common.{length, sym, ap, ◌∙◌, arith, length-take, rules}}
-use Rattle.std.proofs.lemmas.Slice.{between_to_end}
-use Rattle.byte_stream.{specs.claim.Words.words, proofs.WordLemmas.{next_is, next_none}}
+use Rattle.{std.{specs.List.slice_range, proofs.{Common.{length, sym, ap, ◌∙◌, arith, length-take, rules}, lemmas.Slice.between_to_end}}, byte_stream.specs.claim.Words.words}
+use Rattle.byte_stream.proofs.WordLemmas.{next_is, next_none}
 use Rattle.byte_stream.proofs.words.Words.next_word.Goals as goal
 
 pub returns-then-len-eq0-clause-word : goal.returns-then-len-eq0-clause-word

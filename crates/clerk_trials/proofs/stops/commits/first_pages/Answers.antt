@@ -1,5 +1,5 @@
-use Rattle.std.{specs.Prelude.Result, specs.declared.alloc.AllocError.AllocError, proofs.Common.{◌<◌, ℕ, subst, arith, OnOk}}
-use Rattle.gate_journal.specs.{Store.IsWithin, claim.Writes.writes_of}
+use Rattle.{std.{specs.{Prelude.Result, declared.alloc.AllocError.AllocError}, proofs.Common.{◌<◌, ℕ, subst, arith, OnOk}}, gate_journal.specs.Store.IsWithin}
+use Rattle.gate_journal.specs.claim.Writes.{writes_of}
 use Rattle.clerk_trials.proofs.stops.commits.first_pages.Goals as goal
 
 pub loop-p-preserved : goal.loop-p-preserved

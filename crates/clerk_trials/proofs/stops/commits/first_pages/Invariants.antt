@@ -1,5 +1,4 @@
-use Rattle.std.proofs.Common.{◌≤◌, ℕ}
-use Rattle.gate_journal.specs.{Store.IsWithin, claim.Writes.writes_of}
+use Rattle.{std.proofs.Common.{◌≤◌, ℕ}, gate_journal.specs.{Store.IsWithin, claim.Writes.writes_of}}
 use Rattle.clerk_trials.proofs.stops.commits.first_pages.Given as goal
 
 abbrev pub invariant-loop-p : goal.invariant-loop-p

@@ -1,6 +1,5 @@
-use Rattle.std.proofs.Common.{List, ℕ, codes, ◌++◌, subst}
+use Rattle.{std.proofs.Common.{List, ℕ, codes, ◌++◌, subst}, http_desk.specs.http_wire.Adding.Adds}
 use Rattle.http_desk.proofs.http_wire.AddingLemmas.{adds}
-use Rattle.http_desk.specs.http_wire.Adding.{Adds}
 use Rattle.connection_log.proofs.line.LineText.put_change.Goals as goal
 
 pub returns : goal.returns

@@ -1,8 +1,6 @@
-use Rattle.std.proofs.Common.{◌≡◌, ◌++◌, ◌/◌, ◌∙◌, ℕ, ℤ, codes, subst, ap, unsigned_abs, FitsSigned, w16}
-use Rattle.std.proofs.lemmas.Int.{to_z-of_z}
+use Rattle.{std.proofs.{Common.{◌≡◌, ◌++◌, ◌/◌, ◌∙◌, ℕ, ℤ, codes, subst, ap, unsigned_abs, FitsSigned, w16}, lemmas.Int.to_z-of_z}, connection_log.specs.Lines.two_digits}
 use Rattle.http_desk.specs.http_wire.Adding.{Adds}
 use Rattle.http_desk.proofs.http_wire.AddingLemmas.{adds}
-use Rattle.connection_log.specs.Lines.{two_digits}
 use Rattle.connection_log.proofs.line.LineText.put_year.Goals as goal
 
 pub returns : goal.returns

@@ -1,5 +1,4 @@
-use Rattle.std.proofs.Common.{sym, rules}
-use Rattle.desk_catalogue.proofs.Audited.{audited, not_audited, may_be_audited}
+use Rattle.{std.proofs.Common.{sym, rules}, desk_catalogue.proofs.Audited.{audited, not_audited, may_be_audited}}
 use Rattle.desk_catalogue.proofs.catalogue.Catalogue.audited_again.Goals as goal
 
 pub returns-in-Err : goal.returns-in-Err

@@ -1,7 +1,6 @@
-use Rattle.std.proofs.Common.{rules, ◌≡◌, Err, ap, sym, subst, ◌∙◌}
+use Rattle.{std.proofs.Common.{rules, ◌≡◌, Err, ap, sym, subst, ◌∙◌}, desk_catalogue.specs.Kept.AreWhole, desk_model.specs.claim.{Desk.Desk, Subject.subject_of}}
+use Rattle.{desk_model.specs.declared.reply.Refusal.Refusal, desk_catalogue.proofs.{Audited.{subject_is, subject_refused, whole_found}, Results.match_of}}
 use Rattle.std.specs.FinMap as map_of
-use Rattle.desk_model.specs.{claim.Desk.Desk, claim.Subject.subject_of, declared.reply.Refusal.Refusal}
-use Rattle.desk_catalogue.{specs.Kept.AreWhole, proofs.Audited.{subject_is, subject_refused, whole_found}, proofs.Results.match_of}
 use Rattle.desk_catalogue.proofs.catalogue.Catalogue.subject.Goals as goal
 
 pub returns-in_err-beside : goal.returns-in_err-beside

@@ -1,6 +1,5 @@
-use Rattle.std.proofs.Common.{rules, IfOk}
-use Rattle.desk_model.specs.{Ranges.ranges_in, declared.command.Command.TheVariants.Counties, declared.reply.Refusal.Refusal}
-use Rattle.desk_catalogue.{specs.claim.Accepting.IsAfter, specs.Accepting.StepRefuses, proofs.Drafted.{drafted, drafts}, proofs.Results.match_of, proofs.Stepped.counties_refused}
+use Rattle.{std.proofs.Common.{rules, IfOk}, desk_catalogue.{specs.{Accepting.StepRefuses, claim.Accepting.IsAfter}, proofs.Results.match_of}, desk_model.specs.Ranges.ranges_in}
+use Rattle.{desk_model.specs.declared.{command.Command.TheVariants.Counties, reply.Refusal.Refusal}, desk_catalogue.proofs.{Drafted.{drafted, drafts}, Stepped.counties_refused}}
 use Rattle.desk_catalogue.proofs.catalogue.Catalogue.with_counties.Goals as goal
 
 pub returns-in_err-entry : goal.returns-in_err-entry

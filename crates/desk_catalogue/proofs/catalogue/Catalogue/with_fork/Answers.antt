@@ -1,5 +1,4 @@
-use Rattle.std.proofs.Common.{sym}
-use Rattle.desk_catalogue.proofs.Whole.{forked_whole}
+use Rattle.{std.proofs.Common.sym, desk_catalogue.proofs.Whole.forked_whole}
 use Rattle.desk_catalogue.proofs.catalogue.Catalogue.with_fork.Goals as goal
 
 pub with_plans-requires : goal.with_plans-requires

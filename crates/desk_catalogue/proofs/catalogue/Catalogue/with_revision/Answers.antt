@@ -1,6 +1,6 @@
-use Rattle.std.proofs.Common.{◌≡◌, ℕ, List, length, Option, ap, subst, sym, ◌∙◌, rules}
-use Rattle.desk_model.specs.{Ranges.{ranges_in, ranges_of}, declared.ranges.CountyRange.CountyRange, claim.Room.last_revision, claim.Subject.revision_at}
-use Rattle.desk_catalogue.{specs.Cutting.{AreComparable, AreWithin}, proofs.Cutting.within_all, proofs.Whole.{revised_whole, whole_of}}
+use Rattle.{std.proofs.Common.{◌≡◌, ℕ, List, length, Option, ap, subst, sym, ◌∙◌, rules}, desk_catalogue.{specs.Cutting.{AreComparable, AreWithin}, proofs.Cutting.within_all}}
+use Rattle.desk_model.specs.{Ranges.{ranges_in, ranges_of}, claim.{Room.last_revision, Subject.revision_at}, declared.ranges.CountyRange.CountyRange}
+use Rattle.desk_catalogue.proofs.Whole.{revised_whole, whole_of}
 use Rattle.desk_catalogue.proofs.catalogue.Catalogue.with_revision.Goals as goal
 
 pub with_plans-requires : goal.with_plans-requires
@@ -22,8 +22,4 @@ pub replace-requires : goal.replace-requires
 replace-requires c = search rules
 
 pub returns : goal.returns
-returns c = record {
-  ok = search rules;
-  changes = search rules;
-  err = tt;
-}
+returns c = record { ok = search rules; changes = search rules; err = tt }

@@ -1,6 +1,6 @@
-use Rattle.std.proofs.Common.{rules, ◌≡◌, length, Some}
-use Rattle.desk_model.specs.{Ranges.ranges_in, declared.command.Command.TheVariants.Whole, declared.reply.Refusal.Refusal, claim.Room.last_revision}
-use Rattle.desk_catalogue.{specs.Accepting.StepRefuses, proofs.Drafted.{all_stay, drafted, drafts}, proofs.Results.match_of, proofs.Stepped.{whole_after, whole_refused}}
+use Rattle.{std.proofs.Common.{rules, ◌≡◌, length, Some}, desk_catalogue.specs.Accepting.StepRefuses, desk_model.specs.{Ranges.ranges_in, claim.Room.last_revision}}
+use Rattle.{desk_model.specs.declared.{command.Command.TheVariants.Whole, reply.Refusal.Refusal}, desk_catalogue.proofs.{Drafted.{all_stay, drafted, drafts}, Results.match_of}}
+use Rattle.desk_catalogue.proofs.Stepped.{whole_after, whole_refused}
 use Rattle.desk_catalogue.proofs.catalogue.Catalogue.with_whole.Goals as goal
 
 pub with_revision-requires : goal.with_revision-requires

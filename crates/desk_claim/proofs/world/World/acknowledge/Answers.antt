@@ -1,7 +1,5 @@
-use Rattle.std.proofs.Common.{◌≡◌, ap, length, map, refl, sym, subst, arith}
-use Rattle.std.proofs.lemmas.List.{length-map}
-use Rattle.desk_claim.{specs.claim.Law.IsOrdered, specs.claim.World.{world, move}, specs.declared.event.Event.TheVariants.Acknowledge, proofs.Core.moved_ordered}
-use Rattle.desk_claim.proofs.Worlds.{acknowledged_to}
+use Rattle.{std.proofs.{Common.{◌≡◌, ap, length, map, refl, sym, subst, arith}, lemmas.List.length-map}, desk_claim.specs.claim.{Law.IsOrdered, World.{world, move}}}
+use Rattle.desk_claim.{specs.declared.event.Event.TheVariants.Acknowledge, proofs.{Core.moved_ordered, Worlds.acknowledged_to}}
 use Rattle.desk_claim.proofs.world.World.acknowledge.Goals as goal
 
 pub invariant_of-self : goal.invariant_of-self

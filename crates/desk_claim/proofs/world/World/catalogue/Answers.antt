@@ -1,5 +1,4 @@
-use Rattle.std.proofs.Common.{◌≡◌, ◌∙◌, ◌≤◌, ap, sym, subst, length, take}
-use Rattle.desk_claim.{specs.claim.World.after, proofs.Worlds.catalogued}
+use Rattle.{std.proofs.Common.{◌≡◌, ◌∙◌, ◌≤◌, ap, sym, subst, length, take}, desk_claim.{specs.claim.World.after, proofs.Worlds.catalogued}}
 use Rattle.desk_claim.proofs.world.World.catalogue.Goals as goal
 
 pub returns : goal.returns

@@ -1,6 +1,5 @@
-use Rattle.std.proofs.Common.{◌≡◌, ◌≤◌, length, map, refl, subst, arith}
-use Rattle.std.proofs.lemmas.List.{length-map}
-use Rattle.desk_claim.{specs.claim.World.{world, move}, specs.declared.event.Event.TheVariants.Commit, proofs.Worlds.{not_shown, changed_to}}
+use Rattle.{std.proofs.{Common.{◌≡◌, ◌≤◌, length, map, refl, subst, arith}, lemmas.List.length-map}, desk_claim.specs.claim.World.{world, move}}
+use Rattle.desk_claim.{specs.declared.event.Event.TheVariants.Commit, proofs.Worlds.{not_shown, changed_to}}
 use Rattle.desk_claim.proofs.world.World.changed.Goals as goal
 
 pub returns-then-self-len-clause-err : goal.returns-then-self-len-clause-err

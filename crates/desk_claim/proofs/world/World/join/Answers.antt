@@ -1,6 +1,4 @@
-use Rattle.std.{specs.Result.is_ok, proofs.Common.{◌≡◌, sym, subst}}
-use Rattle.desk_model.specs.claim.Step.{step}
-use Rattle.desk_claim.{specs.claim.World.after, proofs.Worlds.joined}
+use Rattle.{std.{specs.Result.is_ok, proofs.Common.{◌≡◌, sym, subst}}, desk_claim.{specs.claim.World.after, proofs.Worlds.joined}, desk_model.specs.claim.Step.step}
 use Rattle.desk_claim.proofs.world.World.join.Goals as goal
 
 pub invariant_of-self : goal.invariant_of-self

@@ -1,6 +1,5 @@
-use Rattle.std.proofs.Common.{◌≡◌, ◌≤◌, ◌<◌, ap, length, map, slice_set, vec_len, refl, sym, subst, arith}
-use Rattle.std.proofs.lemmas.Option.{slice_get_read}
-use Rattle.desk_claim.{specs.claim.Law.IsOrdered, specs.claim.World.{world, move}, specs.declared.event.Event.TheVariants.Learn, proofs.Core.moved_ordered, proofs.Worlds.learnt_to}
+use Rattle.{std.proofs.{Common.{◌≡◌, ◌≤◌, ◌<◌, ap, length, map, slice_set, vec_len, refl, sym, subst, arith}, lemmas.Option.slice_get_read}, desk_claim.specs.claim.Law.IsOrdered}
+use Rattle.desk_claim.{specs.{claim.World.{world, move}, declared.event.Event.TheVariants.Learn}, proofs.{Core.moved_ordered, Worlds.learnt_to}}
 use Rattle.desk_claim.proofs.world.World.learn.Goals as goal
 
 pub invariant_of-self : goal.invariant_of-self

@@ -1,7 +1,5 @@
-use Rattle.std.proofs.Common.{◌≡◌, ◌∙◌, ◌≤◌, ap, map, replicate, vec_len, sym, subst, refl, arith, length}
-use Rattle.std.proofs.lemmas.List.{length-map}
-use Rattle.desk_claim.specs.{claim.Law.IsOrdered, Steps.Follow, claim.World.{world, move}, declared.event.Event.TheVariants.Stop}
-use Rattle.desk_claim.proofs.Worlds.{stop_moves, stop_ordered, stopped, follow_prefix}
+use Rattle.{std.proofs.{Common.{◌≡◌, ◌∙◌, ◌≤◌, ap, map, replicate, vec_len, sym, subst, refl, arith, length}, lemmas.List.length-map}, desk_claim.specs.Steps.Follow}
+use Rattle.desk_claim.{specs.{claim.{Law.IsOrdered, World.{world, move}}, declared.event.Event.TheVariants.Stop}, proofs.Worlds.{stop_moves, stop_ordered, stopped, follow_prefix}}
 use Rattle.desk_claim.proofs.world.World.stop.Goals as goal
 
 pub invariant_of-self : goal.invariant_of-self

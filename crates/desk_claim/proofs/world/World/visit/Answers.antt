@@ -1,5 +1,5 @@
-use Rattle.std.proofs.Common.{◌≤◌, length, map, refl, subst, arith, le_trans}
-use Rattle.desk_claim.{specs.claim.World.world, specs.declared.event.Event.TheVariants.Visit, proofs.Core.moved_ordered}
+use Rattle.{std.proofs.Common.{◌≤◌, length, map, refl, subst, arith, le_trans}, desk_claim.specs.{claim.World.world, declared.event.Event.TheVariants.Visit}}
+use Rattle.desk_claim.proofs.Core.{moved_ordered}
 use Rattle.desk_claim.proofs.world.World.visit.Goals as goal
 
 pub catalogue-requires : goal.catalogue-requires

@@ -1,7 +1,6 @@
-use Rattle.std.proofs.Common.{◌≤◌, inl, inr, ap, subst, arith, length, List}
+use Rattle.{std.proofs.{Common.{◌≤◌, inl, inr, ap, subst, arith, length, List}, lemmas.Bool.Decides.{nat_tests, leb_tells}}, desk_gallery.specs.Rules.shown_of}
+use Rattle.desk_gallery.{specs.declared.book.LogEntry.LogEntry, proofs.{Pasts.prefix_shorter, Weighing.log_begins}}
 use mathlib.Core.List.{IsPrefix}
-use Rattle.std.proofs.lemmas.Bool.Decides.{nat_tests, leb_tells}
-use Rattle.desk_gallery.{specs.declared.book.LogEntry.LogEntry, specs.Rules.shown_of, proofs.Pasts.prefix_shorter, proofs.Weighing.log_begins}
 use Rattle.desk_gallery.proofs.book.Past.begins.Goals as goal
 
 pub returns-clause-yes : goal.returns-clause-yes

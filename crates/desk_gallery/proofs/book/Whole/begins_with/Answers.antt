@@ -1,7 +1,6 @@
-use Rattle.std.proofs.Common.{sym, ◌∙◌, ap, subst, List, ℕ}
+use Rattle.{std.proofs.Common.{sym, ◌∙◌, ap, subst, List, ℕ}, desk_gallery.{specs.{Rules.{key_after, NoneBy}, declared.book.LogEntry.LogEntry}, proofs.Chaining.prefix_on}}
+use Rattle.desk_gallery.proofs.{Keeping.{look_moves, no_entry}, Weighing.whole_begins}
 use mathlib.Core.List.{IsPrefix}
-use Rattle.desk_gallery.{specs.declared.book.LogEntry.LogEntry, specs.Rules.{key_after, NoneBy}, proofs.Chaining.prefix_on, proofs.Keeping.{look_moves, no_entry}}
-use Rattle.desk_gallery.proofs.Weighing.{whole_begins}
 use Rattle.desk_gallery.proofs.book.Whole.begins_with.Goals as goal
 
 pub compare_exchange-requires : goal.compare_exchange-requires

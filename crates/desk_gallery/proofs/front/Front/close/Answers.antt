@@ -1,5 +1,4 @@
-use Rattle.std.proofs.Common.{subst}
-use Rattle.desk_gallery.{specs.claim.Begun.HasRun, specs.Fronts.Kept, proofs.Working.{is_clerk_of, shown_accepted}}
+use Rattle.{std.proofs.Common.subst, desk_gallery.{specs.{Fronts.Kept, claim.Begun.HasRun}, proofs.Working.{is_clerk_of, shown_accepted}}}
 use Rattle.desk_gallery.proofs.front.Front.close.Goals as goal
 
 pub returns-clause-accepted : goal.returns-clause-accepted

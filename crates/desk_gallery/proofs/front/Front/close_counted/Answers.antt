@@ -1,14 +1,11 @@
-use Rattle.std.proofs.Common.{◌≡◌, ◌∙◌, ℕ, length, sym, subst}
-use Rattle.desk_gallery.{specs.claim.Begun.HasRun, specs.Fronts.Kept, proofs.Working.{is_clerk_of, shown_accepted}}
+use Rattle.{std.proofs.Common.{◌≡◌, ◌∙◌, length, sym, subst, rules}, desk_gallery.{specs.Fronts.Kept, proofs.Working.{is_clerk_of, shown_accepted}}}
 use Rattle.desk_gallery.proofs.front.Front.close_counted.Goals as goal
 
 pub returns-clause-accepted : goal.returns-clause-accepted
 returns-clause-accepted g c = shown_accepted g.J.GalleryId.first c.self.inside.clerk c.self.inside.shower c.args.self c.self.view_is c.self.invariant.0
 
 pub returns-clause-ran : goal.returns-clause-ran
-returns-clause-ran g c =
-    subst (λ (n : ℕ). HasRun g.J.GalleryId.begins g.J.GalleryId.asked c.self.inside.clerk c.args.self.shown n) (sym c.audit.ensures.halted)
-    (subst (λ (k : Kept g.row.D.Denot). HasRun g.J.GalleryId.begins g.J.GalleryId.asked c.self.inside.clerk k.shown c.self.inside.books.halted.total) c.self.view_is c.self.invariant.2)
+returns-clause-ran g c = search rules
 
 pub returns-clause-counted : goal.returns-clause-counted
 returns-clause-counted g c = subst (λ (k : Kept g.row.D.Denot). length k.shown ≡ c.args.tallies.accepted.amount) c.self.view_is (sym (c.audit.ensures.accepted ∙ c.self.invariant.4))

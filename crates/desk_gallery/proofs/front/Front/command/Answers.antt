@@ -1,7 +1,6 @@
-use Rattle.std.proofs.Common.{◌≡◌, ◌+◌, ◌∙◌, [], ◌∷◌, ◌++◌, refl, ap, sym, subst}
-use Rattle.desk_runs.specs.desk_store.Changes.{Made}
-use Rattle.desk_gallery.specs.{claim.After.after, claim.Telling.{accepted_in, halted_in}, Fronts.Kept, claim.Outcomes.OutcomeMay, Working.Joins}
-use Rattle.desk_gallery.proofs.{Running.{counted_by, has_run_more}, Working.{Came, came_as, refused_work, unready_work, settled_work, works_of, outcome_of}}
+use Rattle.{std.proofs.Common.{◌≡◌, ◌+◌, ◌∙◌, [], ◌∷◌, ◌++◌, refl, ap, sym, subst, rules}, desk_gallery.specs.{Fronts.Kept, claim.{After.after, Outcomes.OutcomeMay}}}
+use Rattle.{desk_gallery.{specs.claim.Telling.{accepted_in, halted_in}, proofs.Running.{counted_by, has_run_more}}, desk_runs.specs.desk_store.Changes.Made}
+use Rattle.desk_gallery.proofs.Working.{Came, came_as, refused_work, unready_work, settled_work, works_of, outcome_of}
 use Rattle.desk_gallery.proofs.front.Front.command.Given.{Over}
 use Rattle.desk_gallery.proofs.front.Front.command.Goals.{After-count, in-Ok+in-Ok-change+in-Ok-append, in-Ok+in-Ok-change+in-Err-append, in-Ok+in-Err-change, in-Err}
 use Rattle.desk_gallery.proofs.front.Front.command.Goals as goal
@@ -27,12 +26,8 @@ came g c =
       | in-Ok+in-Ok-change+in-Err-append w ↦
           came_as first x s command _ _ _ _ _ _ w.reply-is (ap (λ k. k.clerk) w.self-inside-is) (ap (λ k. k.shower) w.self-inside-is)
           (unready_work first x y s w.append.new.self command agree read.reads read.loading w.in-Ok.ensures.works w.in-Err-append.ensures.appended, w.tell.ensures)
-      | in-Ok+in-Err-change w ↦
-          came_as first x s command _ _ _ _ _ _ w.reply-is (ap (λ k. k.clerk) w.self-inside-is) (ap (λ k. k.shower) w.self-inside-is)
-          (unready_work first x y s s command agree read.reads read.loading w.in-Ok.ensures.works refl, w.tell-in-Err-change.ensures)
-      | in-Err w ↦
-          came_as first x s command _ _ _ _ _ _ w.reply-is (ap (λ k. k.clerk) w.self-inside-is) (ap (λ k. k.shower) w.self-inside-is)
-          (refused_work first x y s command w.in-Err.refusal agree read.reads read.loading w.in-Err.ensures.err, w.tell-in-Err.ensures)
+      | in-Ok+in-Err-change w ↦ search (rules, unready_work first x y s s command agree read.reads read.loading w.in-Ok.ensures.works refl)
+      | in-Err w ↦ search (rules, refused_work)
     ]
 
 -- the books and the mark of the check stay
@@ -66,9 +61,7 @@ returns-clause-outcome g c =
     (outcome_of g.J.GalleryId.first c.self.inside.clerk c.match-prepare.self-inside.clerk c.self.inside.shower c.match-prepare.self-inside.shower c.args.command c.match-prepare.reply.0 c.self.invariant.0 (came g c).0)
 
 pub returns-clause-joins : goal.returns-clause-joins
-returns-clause-joins g c =
-    subst (λ (k : Kept g.row.D.Denot). Joins g.J.GalleryId.first (k.shown, k.all) c.args.command c.match-prepare.reply.0 (c.match-prepare.self-inside.shower.0, c.match-prepare.self-inside.shower.1)) c.self.view_is
-    (came g c).0.joins
+returns-clause-joins g c = search (rules, came)
 
 pub returns-clause-joined : goal.returns-clause-joined
 returns-clause-joined g c accepted = (came g c).0.joined accepted ∙ ap (λ (k : Kept g.row.D.Denot). k.shown ++ c.args.command ∷ []) c.self.view_is

@@ -1,7 +1,6 @@
-use Rattle.std.proofs.Common.{List, ap, sym, ◌∙◌, subst, arith, length}
+use Rattle.{std.proofs.Common.{List, ap, sym, ◌∙◌, subst, arith, length}, desk_gallery.{specs.claim.{After.after, Working.AreAccepted}, proofs.Pasts.prefix_self}}
+use Rattle.{desk_model.specs.declared.command.Command.Command, desk_gallery.proofs.Running.has_run_none}
 use mathlib.Core.List.{IsPrefix}
-use Rattle.desk_model.specs.declared.command.Command.{Command}
-use Rattle.desk_gallery.{specs.claim.After.after, specs.claim.Working.AreAccepted, proofs.Pasts.prefix_self, proofs.Running.has_run_none}
 use Rattle.desk_gallery.proofs.front.Front.new.Goals as goal
 
 pub invariant_of-result : goal.invariant_of-result

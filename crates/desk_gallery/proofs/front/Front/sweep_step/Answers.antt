@@ -1,5 +1,4 @@
-use Rattle.std.proofs.Common.{ap}
-use Rattle.desk_gallery.proofs.{Running.has_run_tended, Working.{agree_tended, sweeps_of}}
+use Rattle.{std.proofs.Common.ap, desk_gallery.proofs.{Running.has_run_tended, Working.{agree_tended, sweeps_of}}}
 use Rattle.desk_gallery.proofs.front.Front.sweep_step.Goals as goal
 
 pub invariant_of-self : goal.invariant_of-self
@@ -17,9 +16,7 @@ invariant_of-self g c =
     )
 
 pub returns-clause-sweeps : goal.returns-clause-sweeps
-returns-clause-sweeps g c =
-    sweeps_of g.J.GalleryId.first c.self.inside.is_checked c.self.inside.clerk c.tend-is_checked.result.0 c.tend-is_checked.new.clerk c.self.inside.shower c.args.self.now c.tend-is_checked.result.1 c.self.view_is c.self.invariant.0
-    c.tend-is_checked.ensures.tends c.tend-is_checked.ensures.may
+returns-clause-sweeps g c = search sweeps_of
 
 pub returns-clause-shown : goal.returns-clause-shown
 returns-clause-shown g c = (ap (λ k. k.shown) c.self.view_is, ap (λ k. k.all) c.self.view_is)

@@ -1,6 +1,5 @@
-use Rattle.std.proofs.Common.{◌≡◌, ◌∙◌, List, [], ◌∷◌, ◌++◌, ap, sym, subst}
-use Rattle.desk_model.specs.{declared.command.Command.Command, claim.Step.step}
-use Rattle.desk_gallery.{specs.claim.After.after, proofs.Afters.after_appended}
+use Rattle.{std.proofs.Common.{◌≡◌, ◌∙◌, List, ap, sym, subst, rules}, desk_gallery.specs.claim.After.after, desk_model.specs.{claim.Step.step, declared.command.Command.Command}}
+use Rattle.desk_gallery.proofs.Afters.{after_appended}
 use Rattle.desk_gallery.proofs.shower.Shower.append.Goals as goal
 
 pub invariant_of-self : goal.invariant_of-self
@@ -16,9 +15,7 @@ invariant_of-self g c =
     )
 
 pub returns-clause-appended : goal.returns-clause-appended
-returns-clause-appended g c =
-    c.append.ensures ∙ (ap (λ (s : List Command × List Command). (s.0, s.1 ++ c.command.result.now ∷ [])) c.self.view_is
-    ∙ ap (λ (q : Command). (c.args.self.now.0, c.args.self.now.1 ++ q ∷ [])) c.command.ensures)
+returns-clause-appended g c = search rules
 
 pub returns-clause-after : goal.returns-clause-after
 returns-clause-after g c =

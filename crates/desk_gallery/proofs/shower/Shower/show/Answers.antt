@@ -1,6 +1,5 @@
-use Rattle.std.proofs.Common.{rules, ◌≡◌, List, Some, None, ap, sym, ◌∙◌}
-use Rattle.desk_model.specs.declared.command.Command.{Command}
-use Rattle.desk_gallery.{specs.declared.shelf.Shelf.Shelf, specs.claim.After.after, specs.Rules.shown_of, proofs.Showing.{waits_some, waits_none}}
+use Rattle.{std.proofs.Common.{rules, ◌≡◌, List, Some, None, ap, sym, ◌∙◌}, desk_gallery.specs.{Rules.shown_of, claim.After.after, declared.shelf.Shelf.Shelf}}
+use Rattle.{desk_model.specs.declared.command.Command.Command, desk_gallery.proofs.Showing.{waits_some, waits_none}}
 use Rattle.desk_gallery.proofs.shower.Shower.show.Goals as goal
 
 pub publish-requires : goal.publish-requires

@@ -1,7 +1,5 @@
-use Rattle.std.proofs.Common.{List, subst}
+use Rattle.{std.proofs.Common.{List, subst}, desk_model.specs.declared.command.Command.Command, desk_gallery.proofs.Pasts.prefix_self}
 use mathlib.Core.List.{IsPrefix}
-use Rattle.desk_model.specs.declared.command.Command.{Command}
-use Rattle.desk_gallery.proofs.Pasts.{prefix_self}
 use Rattle.desk_gallery.proofs.visitor.Visitor.visit.Goals as goal
 
 pub returns-in_default-clause-later : goal.returns-in_default-clause-later

@@ -1,5 +1,4 @@
-use Rattle.std.proofs.Common.{ap, subst, ◌∙◌}
-use Rattle.desk_model.{specs.claim.GeographyModels.AreTold, specs.Ranges.ranges_of_blocks, proofs.Pairs.{told_sorted, geography_made}}
+use Rattle.{std.proofs.Common.{ap, subst, ◌∙◌}, desk_model.{specs.{Ranges.ranges_of_blocks, claim.GeographyModels.AreTold}, proofs.Pairs.{told_sorted, geography_made}}}
 use Rattle.desk_model.proofs.geography.Geography.make.Goals as goal
 
 pub invariant_of-result : goal.invariant_of-result

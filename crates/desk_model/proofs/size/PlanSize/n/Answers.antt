@@ -1,5 +1,4 @@
-use Rattle.std.proofs.Common.{◌≤◌, arith}
-use Rattle.desk_model.specs.{claim.Sizes.most_districts, declared.kind.Kind.Kind, declared.kind.Kind.TheVariants.Congress}
+use Rattle.{std.proofs.Common.{◌≤◌, arith}, desk_model.specs.{claim.Sizes.most_districts, declared.kind.Kind.{Kind, TheVariants.Congress}}}
 use Rattle.desk_model.proofs.size.PlanSize.n.Goals as goal
 
 few : (kind : Kind) → most_districts kind ≤ 999

@@ -1,6 +1,5 @@
-use Rattle.std.{specs.Ordering.is_eq, specs.declared.sync.Arc.Arc, specs.declared.alloc.Global.Global, proofs.Common.{Option, Some, ap, sym, ◌∙◌}}
-use Rattle.desk_plans.{specs.Rows.Row, specs.Held.laid, specs.Tree.rows_of, proofs.AsMap.{found_row, named_row, missing_row}}
-use Rattle.desk_plans.proofs.Held.{named_pending, found_pending, found_after, missing_after}
+use Rattle.{std.{specs.{Ordering.is_eq, declared.{alloc.Global.Global, sync.Arc.Arc}}, proofs.Common.{Option, Some, ap, sym, ◌∙◌}}, desk_plans.specs.{Held.laid, Rows.Row}}
+use Rattle.desk_plans.{specs.Tree.rows_of, proofs.{AsMap.{found_row, named_row, missing_row}, Held.{named_pending, found_pending, found_after, missing_after}}}
 use Rattle.desk_plans.proofs.plans.Plans.get.Goals as goal
 
 pub returns-in_default-clause-found : goal.returns-in_default-clause-found

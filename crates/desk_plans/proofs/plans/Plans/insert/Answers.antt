@@ -1,5 +1,5 @@
-use Rattle.std.{specs.FinMap.{len, get}, proofs.Common.{◌≡◌, None, ap, sym, subst, ◌∙◌}}
-use Rattle.desk_plans.{specs.Tree.rows_of, specs.Rows.Row, proofs.Held.{AreMap, settled_map, held_more, laid_over}}
+use Rattle.{std.{specs.FinMap.{len, get}, proofs.Common.{◌≡◌, None, ap, sym, subst, ◌∙◌}}, desk_plans.specs.{Rows.Row, Tree.rows_of}}
+use Rattle.desk_plans.proofs.Held.{AreMap, settled_map, held_more, laid_over}
 use Rattle.desk_plans.proofs.plans.Plans.insert.Goals as goal
 use Rattle.std.specs.FinMap as map_of
 

@@ -1,5 +1,4 @@
-use Rattle.std.proofs.Common.{[], refl, sym}
-use Rattle.desk_plans.proofs.AsMap.{empty_of, len_of}
+use Rattle.{std.proofs.Common.{[], refl, sym}, desk_plans.proofs.AsMap.{empty_of, len_of}}
 use Rattle.desk_plans.proofs.plans.Plans.new.Goals as goal
 
 pub invariant_of-result : goal.invariant_of-result

@@ -1,5 +1,4 @@
-use Rattle.std.{specs.FinMap.len, proofs.Common.{ap, ◌∙◌}}
-use Rattle.desk_plans.{specs.Tree.rows_of, proofs.Held.{settled_map, held_less}}
+use Rattle.{std.{specs.FinMap.len, proofs.Common.{ap, ◌∙◌}}, desk_plans.{specs.Tree.rows_of, proofs.Held.{settled_map, held_less}}}
 use Rattle.desk_plans.proofs.plans.Plans.remove.Goals as goal
 
 pub overflow_sub-result : goal.overflow_sub-result

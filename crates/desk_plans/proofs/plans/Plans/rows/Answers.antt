@@ -1,7 +1,6 @@
-use Rattle.std.{specs.FinMap.entries, proofs.Common.{map, ap, sym, ◌∙◌}}
-use Rattle.desk_plans.{specs.Tree.rows_of, proofs.Held.{AreMap, settled_map}, proofs.AsMap.entries_of}
+use Rattle.{std.{specs.FinMap.entries, proofs.Common.{map, ap, sym, ◌∙◌}}, desk_model.specs.claim.Step.plan_row, desk_plans.{specs.Tree.rows_of, proofs.AsMap.entries_of}}
+use Rattle.desk_plans.proofs.Held.{AreMap, settled_map}
 use Rattle.desk_plans.proofs.plans.Plans.rows.Goals as goal
-use Rattle.desk_model.specs.claim.Step.{plan_row}
 
 pub returns : goal.returns
 returns c =

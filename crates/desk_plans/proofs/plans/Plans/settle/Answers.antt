@@ -1,5 +1,5 @@
-use Rattle.std.{specs.FinMap.len, proofs.Common.{◌≡◌, rules, ap, ◌∙◌}}
-use Rattle.desk_plans.{specs.Tree.rows_of, specs.Held.IsSettled, proofs.Held.{AreMap, settled_map, held_whole, on_ok}, proofs.AsMap.as_map}
+use Rattle.{std.{specs.FinMap.len, proofs.Common.{◌≡◌, rules, ap, ◌∙◌}}, desk_plans.{specs.{Held.IsSettled, Tree.rows_of}, proofs.AsMap.as_map}}
+use Rattle.desk_plans.proofs.Held.{AreMap, settled_map, held_whole, on_ok}
 use Rattle.desk_plans.proofs.plans.Plans.settle.Goals as goal
 
 pub invariant_of-self : goal.invariant_of-self

@@ -1,5 +1,5 @@
-use Rattle.std.{specs.Option.option_copied, proofs.Common.{subst, ap, sym, ◌∙◌, Some, None}}
-use Rattle.desk_plans.{specs.Rows.IsFound, specs.Tree.rows_of, proofs.Splits.{found_right, found_here, found_none}}
+use Rattle.{std.{specs.Option.option_copied, proofs.Common.{subst, ap, sym, ◌∙◌, Some, None}}, desk_plans.specs.{Rows.IsFound, Tree.rows_of}}
+use Rattle.desk_plans.proofs.Splits.{found_right, found_here, found_none}
 use Rattle.desk_plans.proofs.tree.Tree.+find.Goals as goal
 
 pub returns-in-Some-right : goal.returns-in-Some-right

@@ -1,5 +1,5 @@
-use Rattle.std.proofs.Common.{◌≡◌, List, ◌∷◌, ◌++◌, subst, ap, sym, ◌∙◌, []}
-use Rattle.desk_plans.{specs.Rows.{Row, IsPut}, specs.Tree.rows_of, proofs.Splits.{if_ok, made_left, made_right, made_here, made_alone}}
+use Rattle.{std.proofs.Common.{◌≡◌, List, ◌∷◌, ◌++◌, subst, ap, sym, ◌∙◌, []}, desk_plans.specs.{Rows.{Row, IsPut}, Tree.rows_of}}
+use Rattle.desk_plans.proofs.Splits.{if_ok, made_left, made_right, made_here, made_alone}
 use Rattle.desk_plans.proofs.tree.Tree.+put.Goals as goal
 use Rattle.desk_plans.proofs.tree.Tree.+put.Goals.{in-Some+in_ok-left-in-Some, in-None+in_ok-left-in-None, in-Some-right+in_ok-right-in-Some-right, in-None-right+in_ok-right-in-None-right}
 

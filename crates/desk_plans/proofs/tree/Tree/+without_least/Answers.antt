@@ -1,5 +1,4 @@
-use Rattle.std.proofs.Common.{◌≡◌, List, ◌<◌, ◌∷◌, ◌++◌, drop, length, subst, ap, sym, ◌∙◌}
-use Rattle.desk_plans.{specs.Rows.Row, specs.Tree.rows_of, proofs.Splits.others_of_more}
+use Rattle.{std.proofs.Common.{◌≡◌, List, ◌<◌, ◌∷◌, ◌++◌, drop, length, subst, ap, sym, ◌∙◌}, desk_plans.{specs.{Rows.Row, Tree.rows_of}, proofs.Splits.others_of_more}}
 use Rattle.desk_plans.proofs.tree.Tree.+without_least.Goals as goal
 
 pub returns-in_ok-balanced-in-Some-clause-rest : goal.returns-in_ok-balanced-in-Some-clause-rest

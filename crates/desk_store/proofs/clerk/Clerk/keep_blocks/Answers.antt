@@ -1,5 +1,4 @@
-use Rattle.std.proofs.Common.{◌∙◌}
-use Rattle.desk_store.proofs.Settled.{same_clerk, settled_clerk}
+use Rattle.{std.proofs.Common.◌∙◌, desk_store.proofs.Settled.{same_clerk, settled_clerk}}
 use Rattle.desk_store.proofs.clerk.Clerk.keep_blocks.Goals as goal
 
 pub returns-in-Some : goal.returns-in-Some

@@ -1,5 +1,5 @@
-use Rattle.std.{specs.Prelude.{Option, None, is_some}, specs.Option.option_copied, proofs.Common.{◌≡◌, true, Bor, Some, sym, ap, ◌∙◌}}
-use Rattle.desk_model.specs.{claim.Geography.GeographyModel, claim.Desk.Desk}
+use Rattle.{std.{specs.{Option.option_copied, Prelude.{Option, None, is_some}}, proofs.Common.{◌≡◌, true, Bor, Some, sym, ap, ◌∙◌}}, desk_model.specs.claim.Desk.Desk}
+use Rattle.desk_model.specs.claim.Geography.{GeographyModel}
 use Rattle.desk_store.proofs.clerk.Clerk.may_go_on.Goals as goal
 
 there_is : (o : Option (Bor GeographyModel)) (area : Option GeographyModel) → option_copied o ≡ area → is_some o ≡ true → (x : GeographyModel) × (area ≡ Some x)

@@ -1,7 +1,7 @@
-use Rattle.std.proofs.Common.{◌≡◌, false, true, inl, inr, refl, sym, ap, subst, ◌∙◌, rules}
-use Rattle.desk_model.specs.{declared.reply.Refusal.Refusal, declared.reply.Refusal.TheVariants.Full, claim.Outcome.RefusalMay}
-use Rattle.desk_store.specs.{claim.Clerks.{desk_of, pages_of}, claim.Commands.{MustBeFull, MayBeFull}, declared.clerk.Clerk.Clerk}
-use Rattle.desk_store.proofs.{Prepared.{IsBegun, made_ready, exhausted_full, fault_reads, not_put, made_of, exhausted_of, error_of}, Settled.{settled_may, settled_reads}}
+use Rattle.{std.proofs.Common.{◌≡◌, false, true, inl, inr, refl, sym, ap, subst, ◌∙◌, rules}, desk_model.specs.{claim.Outcome.RefusalMay, declared.reply.Refusal.Refusal}}
+use Rattle.{desk_model.specs.declared.reply.Refusal.TheVariants.Full, desk_store.specs.claim.{Clerks.{desk_of, pages_of}, Commands.{MustBeFull, MayBeFull}}}
+use Rattle.desk_store.{specs.declared.clerk.Clerk.Clerk, proofs.Prepared.{IsBegun, made_ready, exhausted_full, fault_reads, not_put, made_of, exhausted_of, error_of}}
+use Rattle.desk_store.proofs.Settled.{settled_may, settled_reads}
 use Rattle.desk_store.proofs.clerk.Clerk.prepare.Given.{Over}
 use Rattle.desk_store.proofs.clerk.Clerk.prepare.Goals.{After-begin-txn, then-is_fault-via-then-is_fault, then-is_fault-via-else-is_fault+then-is_halted}
 use Rattle.desk_store.proofs.clerk.Clerk.prepare.Goals as goal

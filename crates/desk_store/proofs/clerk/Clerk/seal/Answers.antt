@@ -1,8 +1,6 @@
-use Rattle.std.proofs.Common.{refl, ◌∙◌, rules}
-use Rattle.page_store.proofs.Stops.{quiet_none}
-use Rattle.desk_store.{specs.claim.Clerks.pages_of, specs.Keeping.sealed_desk, specs.Loads.Stages, proofs.Moved.{worked, faulted, quieted, unmoved}}
-use Rattle.desk_store.proofs.Loaded.{seal_left, seal_told, seal_refused, refused_rose, refused_quiet, refused_failed, seal_ended, seal_holds, seal_more}
-use Rattle.geo_tables.specs.Loading.{geography_model_of}
+use Rattle.{std.proofs.Common.{refl, ◌∙◌, rules}, desk_store.specs.{Keeping.sealed_desk, Loads.Stages, claim.Clerks.pages_of}, geo_tables.specs.Loading.geography_model_of}
+use Rattle.{geo_tables.specs.Refusals.SealErr, desk_store.proofs.Moved.{worked, faulted, quieted, unmoved}, page_store.proofs.Stops.quiet_none}
+use Rattle.desk_store.proofs.Loaded.{seal_left, seal_told, seal_refused, refused_rose, refused_quiet, refused_failed, step_ended, seal_holds, seal_more}
 use Rattle.desk_store.proofs.clerk.Clerk.seal.Goals as goal
 
 pub returns-in-Err : goal.returns-in-Err
@@ -11,7 +9,7 @@ returns-in-Err g c =
       rules,
       unmoved (Stages c.args.self.now c.args.load) (sealed_desk (geography_model_of c.args.load)) c.args.self.now (λ stages. stages.keeps),
       quiet_none (pages_of c.args.self.now),
-      seal_ended c.args.load c.args.self.now (pages_of c.args.self.now) c.in-Err.e c.in-Err.ensures.err,
+      step_ended (SealErr c.args.load (pages_of c.args.self.now) (pages_of c.args.self.now)) c.args.load c.args.self.now (pages_of c.args.self.now) c.in-Err.e c.in-Err.ensures.err,
     )
 
 pub returns-in_default-sealed : goal.returns-in_default-sealed

@@ -1,5 +1,4 @@
-use Rattle.std.proofs.Common.{refl}
-use Rattle.desk_store.proofs.Committed.{change_made, change_not_made}
+use Rattle.{std.proofs.Common.refl, desk_store.proofs.Committed.{change_made, change_not_made}}
 use Rattle.desk_store.proofs.ready.Ready.commit.Goals as goal
 
 pub returns-in-Ok : goal.returns-in-Ok

@@ -1,5 +1,4 @@
-use Rattle.std.proofs.Common.{sym, ◌∙◌}
-use Rattle.gal_text.proofs.HoldingLemmas.{met_as}
+use Rattle.{std.proofs.Common.{sym, ◌∙◌}, gal_text.proofs.HoldingLemmas.met_as}
 use Rattle.gal_text.proofs.units.Graph.take.Goals as goal
 
 pub returns-in-Block : goal.returns-in-Block

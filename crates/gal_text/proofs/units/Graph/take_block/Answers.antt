@@ -1,5 +1,4 @@
-use Rattle.std.proofs.Common.{rules}
-use Rattle.gal_text.proofs.HoldingLemmas.{block_said}
+use Rattle.{std.proofs.Common.rules, gal_text.proofs.HoldingLemmas.block_said}
 use Rattle.gal_text.proofs.units.Graph.take_block.Goals as goal
 
 pub returns-in-Some : goal.returns-in-Some

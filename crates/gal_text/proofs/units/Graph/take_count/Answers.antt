@@ -1,5 +1,4 @@
-use Rattle.std.proofs.Common.{refl, sym, ◌∙◌, ap, arith}
-use Rattle.gal_text.{specs.claim.Units.count_read, proofs.HoldingLemmas.count_taken}
+use Rattle.{std.proofs.Common.{refl, sym, ◌∙◌, ap, arith}, gal_text.{specs.claim.Units.count_read, proofs.HoldingLemmas.count_taken}}
 use Rattle.gal_text.proofs.units.Graph.take_count.Goals as goal
 
 pub returns : goal.returns

@@ -1,5 +1,4 @@
-use Rattle.std.proofs.Common.{refl, ◌∙◌}
-use Rattle.gal_text.proofs.HoldingLemmas.{unit_taken, mark_says}
+use Rattle.{std.proofs.Common.{refl, ◌∙◌}, gal_text.proofs.HoldingLemmas.{unit_taken, mark_says}}
 use Rattle.gal_text.proofs.units.Graph.take_unit.Goals as goal
 
 pub returns : goal.returns

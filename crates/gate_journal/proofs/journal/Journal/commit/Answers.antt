@@ -1,5 +1,4 @@
-use Rattle.std.proofs.Common.{rules}
-use Rattle.gate_journal.{specs.claim.Writes.writes_of, specs.Outcomes.LeavesAllOrNone, proofs.Commit.at_rest}
+use Rattle.{std.proofs.Common.rules, gate_journal.{specs.{Outcomes.LeavesAllOrNone, claim.Writes.writes_of}, proofs.Commit.at_rest}}
 use Rattle.gate_journal.proofs.journal.Journal.commit.Goals as goal
 
 pub returns-then-len-self : goal.returns-then-len-self

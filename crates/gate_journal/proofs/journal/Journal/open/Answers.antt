@@ -1,5 +1,4 @@
-use Rattle.std.proofs.Common.{rules}
-use Rattle.gate_journal.proofs.Commit.{settled_opens}
+use Rattle.{std.proofs.Common.rules, gate_journal.proofs.Commit.settled_opens}
 use Rattle.gate_journal.proofs.journal.Journal.open.Goals as goal
 
 pub returns-in-Ok : goal.returns-in-Ok

@@ -1,6 +1,4 @@
-use Rattle.std.proofs.Common.{◌≡◌, ap, rules}
-use Rattle.sector_device.specs.claim.Disk.{Image}
-use Rattle.gate_journal.{specs.claim.Store.{pages, home_pages}, proofs.Commit.shut_pages}
+use Rattle.{std.proofs.Common.{◌≡◌, ap, rules}, gate_journal.{specs.claim.Store.{pages, home_pages}, proofs.Commit.shut_pages}, sector_device.specs.claim.Disk.Image}
 use Rattle.gate_journal.proofs.journal.Journal.read_page.Goals as goal
 
 pub returns : goal.returns

@@ -1,6 +1,5 @@
-use Rattle.std.proofs.Common.{rules, ◌≡◌, ◌∙◌, ℕ, List, set, ap, sym}
-use Rattle.std.proofs.lemmas.List.{get_or_default}
-use Rattle.gate_journal.{specs.claim.Store.overlay, specs.claim.Writes.writes_of, proofs.Images.writes_at, proofs.Overlays.{overlay_set, writes_set, overlay_last}}
+use Rattle.{std.proofs.{Common.{rules, ◌≡◌, ◌∙◌, ℕ, List, set, ap, sym}, lemmas.List.get_or_default}, gate_journal.specs.claim.{Store.overlay, Writes.writes_of}}
+use Rattle.gate_journal.proofs.{Images.writes_at, Overlays.{overlay_set, writes_set, overlay_last}}
 use Rattle.gate_journal.proofs.writes.PageWrites.edit.Goals as goal
 
 pub returns : goal.returns

@@ -1,6 +1,4 @@
-use Rattle.std.proofs.Common.{rules}
-use Rattle.std.proofs.lemmas.List.{get_or_default}
-use Rattle.gate_journal.proofs.Overlays.{overlay_last}
+use Rattle.{std.proofs.{Common.rules, lemmas.List.get_or_default}, gate_journal.proofs.Overlays.overlay_last}
 use Rattle.gate_journal.proofs.writes.PageWrites.get.Goals as goal
 
 pub returns : goal.returns

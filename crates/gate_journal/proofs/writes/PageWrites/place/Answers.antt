@@ -1,5 +1,4 @@
-use Rattle.std.proofs.Common.{rules}
-use Rattle.gate_journal.proofs.Overlays.{found_by}
+use Rattle.{std.proofs.Common.rules, gate_journal.proofs.Overlays.found_by}
 use Rattle.gate_journal.proofs.writes.PageWrites.place.Goals as goal
 
 pub returns : goal.returns

@@ -1,7 +1,5 @@
-use Rattle.std.proofs.Common.{rules, length-append}
-use Rattle.std.proofs.lemmas.List.{get_or_default}
-use Rattle.sector_device.proofs.Moments.{on_ok}
-use Rattle.gate_journal.proofs.{Images.writes_at, Overlays.{overlay_set, overlay_push, writes_set, writes_push, within_push}}
+use Rattle.{std.proofs.{Common.{rules, length-append}, lemmas.List.get_or_default}, gate_journal.proofs.Images.writes_at, sector_device.proofs.Moments.on_ok}
+use Rattle.gate_journal.proofs.Overlays.{overlay_set, overlay_push, writes_set, writes_push, within_push}
 use Rattle.gate_journal.proofs.writes.PageWrites.put.Goals as goal
 
 pub returns-in-Some : goal.returns-in-Some

@@ -1,5 +1,4 @@
-use Rattle.std.proofs.Common.{true}
-use Rattle.http_desk.proofs.AnswerLemmas.{named_text}
+use Rattle.{std.proofs.Common.true, http_desk.proofs.AnswerLemmas.named_text}
 use Rattle.http_desk.proofs.answer.Answer.put_fault.Goals as goal
 
 pub returns : goal.returns

@@ -1,8 +1,6 @@
-use Rattle.std.proofs.Common.{◌≡◌, ◌⊎◌, ◌||◌, inl, inr, refl, ◌∙◌, Bool, List, ℕ, rules}
-use Rattle.desk_model.specs.declared.reply.Reply.{Reply}
+use Rattle.{std.proofs.Common.{◌≡◌, ◌⊎◌, ◌||◌, inl, inr, refl, ◌∙◌, Bool, List, ℕ, rules}, desk_model.specs.declared.reply.Reply.Reply, http_desk.proofs.AnswerLemmas.json_text}
+use Rattle.{http_desk.specs.claim.Answers.{bytes_of, saying, message_of, closes_after}, http_wire.specs.declared.response.ContentType.TheVariants.PlainText}
 use Rattle.desk_model.specs.declared.reply.Reply.TheVariants as reply
-use Rattle.http_wire.specs.declared.response.ContentType.TheVariants.{PlainText}
-use Rattle.http_desk.{specs.claim.Answers.{bytes_of, saying, message_of, closes_after}, proofs.AnswerLemmas.json_text}
 use Rattle.http_desk.proofs.answer.Answer.put_reply.Goals as goal
 
 file_text : (r : Reply) (text : List ℕ) (closing head_only : Bool) → (r ≡ reply.Blocks text) ⊎ (r ≡ reply.Baf text)

@@ -1,6 +1,4 @@
-use Rattle.std.proofs.Common.{◌-◌, drop, ap, ◌∙◌, rules}
-use Rattle.std.proofs.lemmas.Slice.{between_from_start}
-use Rattle.http_intake.proofs.ReadBufferLemmas.{part_rest}
+use Rattle.{std.proofs.{Common.{◌-◌, drop, ap, ◌∙◌, rules}, lemmas.Slice.between_from_start}, http_intake.proofs.ReadBufferLemmas.part_rest}
 use Rattle.http_intake.proofs.read_buffer.ReadBuffer.consume.Goals as goal
 
 pub returns-then-start-end : goal.returns-then-start-end

@@ -1,5 +1,4 @@
-use Rattle.std.proofs.Common.{rules, length-drop}
-use Rattle.std.proofs.lemmas.List.{with_items_is, places}
+use Rattle.std.proofs.{Common.{rules, length-drop}, lemmas.List.{with_items_is, places}}
 use Rattle.http_intake.proofs.ReadBufferLemmas.{part_filled, part_kept, part_room, Consumes-kept_nil, read_fills, interrupted_fills}
 use Rattle.http_intake.proofs.read_buffer.ReadBuffer.fill.Goals as goal
 

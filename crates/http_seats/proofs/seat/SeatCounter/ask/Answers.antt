@@ -1,6 +1,5 @@
-use Rattle.std.proofs.Common.{subst, ap}
+use Rattle.{std.proofs.Common.{subst, ap}, http_seats.{specs.claim.Seated.Seated, proofs.Geographies.{may_be_asked, same_geography}}}
 use mathlib.Core.List.{IsPrefix}
-use Rattle.http_seats.{specs.claim.Seated.Seated, proofs.Geographies.{may_be_asked, same_geography}}
 use Rattle.http_seats.proofs.seat.SeatCounter.ask.Goals as goal
 
 pub answered-requires : goal.answered-requires

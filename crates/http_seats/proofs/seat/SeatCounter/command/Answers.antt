@@ -1,8 +1,6 @@
-use Rattle.std.proofs.Common.{◌∙◌, List, sym, subst}
+use Rattle.{std.proofs.Common.{◌∙◌, List, sym, subst}, desk_gallery.specs.claim.{After.after, Outcomes.OutcomeMay}, desk_model.specs.declared.command.Command.Command}
+use Rattle.http_seats.{specs.{Seated.seated, claim.{Explained.ExplainsCommand, Seated.Seated}}, proofs.Seats.learned}
 use mathlib.Core.List.{IsPrefix}
-use Rattle.desk_model.specs.declared.command.Command.{Command}
-use Rattle.desk_gallery.specs.{claim.After.after, claim.Outcomes.OutcomeMay}
-use Rattle.http_seats.{specs.claim.Seated.Seated, specs.claim.Explained.ExplainsCommand, specs.Seated.seated, proofs.Seats.learned}
 use Rattle.http_seats.proofs.seat.SeatCounter.command.Goals as goal
 
 pub returns : goal.returns

@@ -1,5 +1,4 @@
-use Rattle.std.proofs.Common.{rules}
-use Rattle.http_wire.proofs.{AddingLemmas.adds, QueueLemmas.head_built}
+use Rattle.{std.proofs.Common.rules, http_wire.proofs.{AddingLemmas.adds, QueueLemmas.head_built}}
 use Rattle.http_wire.proofs.response.WriteBuffer.put_head.Goals as goal
 
 pub returns : goal.returns

@@ -1,5 +1,4 @@
-use Rattle.std.proofs.Common.{◌≡◌, ℕ, List, ◌++◌, ◌∙◌, ap, sym, arith}
-use Rattle.http_wire.specs.{Answer.start_text, declared.response.ContentType.ContentType, declared.response.ContentType.TheVariants.Json}
+use Rattle.{std.proofs.Common.{◌≡◌, ℕ, List, ◌++◌, ◌∙◌, ap, sym, arith}, http_wire.specs.{Answer.start_text, declared.response.ContentType.{ContentType, TheVariants.Json}}}
 use Rattle.http_wire.proofs.response.WriteBuffer.put_start.Goals as goal
 
 start_at : (old text : List ℕ) (status code : ℕ) (kind : ContentType) → text ≡ old ++ start_text code Json → code ≡ status → kind ≡ Json → text ≡ old ++ start_text status kind

@@ -1,6 +1,4 @@
-use Rattle.std.proofs.Common.{rules, ◌≡◌, ◌++◌, ◌∙◌, codes}
-use Rattle.http.specs.StatusCode.{code_digits}
-use Rattle.http_wire.{specs.claim.Phrases.phrase_of, proofs.AddingLemmas.adds}
+use Rattle.{std.proofs.Common.{rules, ◌≡◌, ◌++◌, ◌∙◌, codes}, http.specs.StatusCode.code_digits, http_wire.{specs.claim.Phrases.phrase_of, proofs.AddingLemmas.adds}}
 use Rattle.http_wire.proofs.response.WriteBuffer.put_status.Goals as goal
 
 pub returns : goal.returns

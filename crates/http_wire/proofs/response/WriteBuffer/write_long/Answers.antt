@@ -1,6 +1,4 @@
-use Rattle.std.proofs.Common.{ℕ, List, ◌++◌, ap, subst, ◌∙◌}
-use Rattle.byte_stream.specs.claim.Sends.{Sends}
-use Rattle.http_wire.specs.Answer.{head_of}
+use Rattle.{std.proofs.Common.{ℕ, List, ◌++◌, ap, subst, ◌∙◌}, byte_stream.specs.claim.Sends.Sends, http_wire.specs.Answer.head_of}
 use Rattle.http_wire.proofs.response.WriteBuffer.write_long.Goals as goal
 
 pub returns-clause-bytes : goal.returns-clause-bytes

@@ -1,6 +1,4 @@
-use Rattle.std.proofs.Common.{rules}
-use Rattle.page_node.proofs.Laws.{less_trans, is_less}
-use Rattle.page_btree.proofs.{Rows.less_from, Reaching.not_below}
+use Rattle.{std.proofs.Common.rules, page_btree.proofs.Rows.less_from, page_node.proofs.Laws.{less_trans, is_less, not_below}}
 use Rattle.page_btree.proofs.reach.Reach.end_at.Goals as goal
 use Rattle.page_btree.proofs.reach.Reach.end_at.Goals.{else-self-via-then-self+else-is_lt, else-self-via-else-self}
 

@@ -1,5 +1,4 @@
-use Rattle.std.proofs.Common.{ℕ, ◌+◌, ◌-◌, ◌/◌, arith, sym, ◌∙◌, rules}
-use Rattle.page_node.proofs.{Laws.{below_middle, above_middle, found_here, same_key}, Standing.count_is}
+use Rattle.{std.proofs.Common.{ℕ, ◌+◌, ◌-◌, ◌/◌, arith, sym, ◌∙◌, rules}, page_node.proofs.{Laws.{below_middle, above_middle, found_here, same_key}, Standing.count_is}}
 use Rattle.page_node.proofs.node_buf.NodeBuf.find.Goals as goal
 
 pub loop-low-init : goal.loop-low-init

@@ -1,5 +1,5 @@
-use Rattle.std.{specs.declared.cmp.Ordering.TheVariants.{Less, Greater}, proofs.Common.{◌≡◌, ℕ, ◌-◌, ◌<◌, ◌≤◌, length}}
-use Rattle.page_node.specs.{Entries.key_at, claim.Places.{key_cmp, Rises}}
+use Rattle.{std.{specs.declared.cmp.Ordering.TheVariants.{Less, Greater}, proofs.Common.{◌≡◌, ℕ, ◌-◌, ◌<◌, ◌≤◌, length}}, page_node.specs.Entries.key_at}
+use Rattle.page_node.specs.claim.Places.{key_cmp, Rises}
 use Rattle.page_node.proofs.node_buf.NodeBuf.find.Given as goal
 
 abbrev pub invariant-loop-low : goal.invariant-loop-low

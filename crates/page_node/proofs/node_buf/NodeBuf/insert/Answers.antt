@@ -1,6 +1,5 @@
-use Rattle.std.{specs.Prelude.insert, specs.List.copy_within, proofs.Common.{◌≡◌, ◌+◌, ◌≤◌, length, get_or, arith, ap, ◌∙◌}}
-use Rattle.std.proofs.lemmas.List.Edits.{length-insert}
-use Rattle.page_node.{specs.claim.Entries.size_of, proofs.Standing.{Stands, to_held}, proofs.Editing.{opened, closed, bounds_of, mark_most, insert_stands}}
+use Rattle.std.{specs.{List.copy_within, Prelude.insert}, proofs.{Common.{◌≡◌, ◌+◌, ◌≤◌, length, get_or, arith, ap, ◌∙◌}, lemmas.List.Edits.length-insert}}
+use Rattle.page_node.{specs.claim.Entries.size_of, proofs.{Editing.{opened, closed, bounds_of, mark_most, insert_stands}, Standing.{Stands, to_held}}}
 use Rattle.page_node.proofs.node_buf.NodeBuf.insert.Goals as goal
 
 pub offset_bounds-self-inside-i : goal.offset_bounds-self-inside-i

@@ -1,5 +1,4 @@
-use Rattle.std.proofs.Common.{◌≤◌, length, arith, sym, ap, subst, ◌∙◌, ℕ}
-use Rattle.page_node.proofs.Standing.{from_held, index_few, key_room, key_read, key_short}
+use Rattle.{std.proofs.Common.{◌≤◌, length, arith, sym, ap, subst, ◌∙◌, ℕ}, page_node.proofs.Standing.{from_held, index_few, key_room, key_read, key_short}}
 use Rattle.page_node.proofs.node_buf.NodeBuf.key.Goals as goal
 
 pub offset_bounds-self-inside-i : goal.offset_bounds-self-inside-i

@@ -1,5 +1,4 @@
-use Rattle.std.proofs.Common.{rules}
-use Rattle.page_node.proofs.Scanning.{read_held, read_node}
+use Rattle.{std.proofs.Common.rules, page_node.proofs.Scanning.{read_held, read_node}}
 use Rattle.page_node.proofs.node_buf.NodeBuf.read.Goals as goal
 
 pub invariant_of-self : goal.invariant_of-self

@@ -1,6 +1,5 @@
-use Rattle.std.{specs.Prelude.remove, specs.List.copy_within, proofs.Common.{◌≡◌, ◌+◌, ◌-◌, length, get_or, arith, ap, ◌∙◌, rules}}
-use Rattle.std.proofs.lemmas.List.Edits.{length-remove}
-use Rattle.page_node.proofs.{Standing.{Stands, to_held}, Editing.{opened, closed, bounds_of, marks_rise, remove_stands}}
+use Rattle.std.{specs.{List.copy_within, Prelude.remove}, proofs.{Common.{◌≡◌, ◌+◌, ◌-◌, length, get_or, arith, ap, ◌∙◌, rules}, lemmas.List.Edits.length-remove}}
+use Rattle.page_node.proofs.{Editing.{opened, closed, bounds_of, marks_rise, remove_stands}, Standing.{Stands, to_held}}
 use Rattle.page_node.proofs.node_buf.NodeBuf.remove.Goals as goal
 
 pub offset_bounds-self-inside-i : goal.offset_bounds-self-inside-i

@@ -1,6 +1,5 @@
-use Rattle.std.{specs.List.copy_within, proofs.Common.{◌≡◌, ◌+◌, ◌≤◌, length, get_or, set, arith, ap, ◌∙◌, rules}}
-use Rattle.std.proofs.lemmas.List.{length-set}
-use Rattle.page_node.{specs.claim.Entries.size_of, proofs.Standing.{Stands, to_held}, proofs.Editing.{opened, closed, bounds_of, marks_rise, mark_most, set_stands}}
+use Rattle.std.{specs.List.copy_within, proofs.{Common.{◌≡◌, ◌+◌, ◌≤◌, length, get_or, set, arith, ap, ◌∙◌, rules}, lemmas.List.length-set}}
+use Rattle.page_node.{specs.claim.Entries.size_of, proofs.{Editing.{opened, closed, bounds_of, marks_rise, mark_most, set_stands}, Standing.{Stands, to_held}}}
 use Rattle.page_node.proofs.node_buf.NodeBuf.set_entry.Goals as goal
 
 pub offset_bounds-self-inside-i : goal.offset_bounds-self-inside-i

@@ -1,5 +1,4 @@
-use Rattle.std.proofs.Common.{◌≡◌, ◌+◌, get_or, arith, ap, ◌∙◌}
-use Rattle.page_node.{specs.claim.Entries.size_of, proofs.Standing.{from_held, count_is, size_is}}
+use Rattle.{std.proofs.Common.{◌≡◌, ◌+◌, get_or, arith, ap, ◌∙◌}, page_node.{specs.claim.Entries.size_of, proofs.Standing.{from_held, count_is, size_is}}}
 use Rattle.page_node.proofs.node_buf.NodeBuf.size.Goals as goal
 
 pub returns-clause-size : goal.returns-clause-size

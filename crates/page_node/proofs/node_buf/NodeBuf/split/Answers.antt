@@ -1,5 +1,5 @@
-use Rattle.std.proofs.Common.{◌+◌, ◌-◌, ◌*◌, ◌<◌, ◌≤◌, List, ◌++◌, length, take, drop, arith, sym, ap, subst, ◌∙◌, take-append-drop, rules}
-use Rattle.page_node.{specs.claim.Entries.{Entry, size_of}, proofs.EntryLists.length-read, proofs.Standing.to_held, proofs.Editing.{opened, bounds_of, marks_rise}}
+use Rattle.{std.proofs.Common.{◌+◌, ◌-◌, ◌*◌, ◌<◌, ◌≤◌, List, ◌++◌, length, take, drop, arith, sym, ap, subst, ◌∙◌, take-append-drop, rules}, page_node.proofs.Standing.to_held}
+use Rattle.page_node.{specs.claim.Entries.{Entry, size_of}, proofs.{Editing.{opened, bounds_of, marks_rise}, EntryLists.length-read}}
 use Rattle.page_node.proofs.Splitting.{size_few, cut_steps, split_of, left_is, right_is}
 use Rattle.page_node.proofs.node_buf.NodeBuf.split.Goals as goal
 
@@ -46,9 +46,7 @@ returns c =
           let a = length-read c.cut_at-cut.result (drop 4 c.self.inside.bytes) in
           let b = length-read (c.self.inside.count - c.cut_at-cut.result) (drop 4 c.copy_body.new.to) in
           (omega arith, omega arith);
-      fits =
-          let P : List Entry → Type 0 = λ l. size_of l ≤ 4092 in
-          (subst P (sym left) (omega arith), subst P (sym right) (omega arith));
+      fits = let P : List Entry → Type 0 = λ l. size_of l ≤ 4092 in (subst P (sym left) (omega arith), subst P (sym right) (omega arith));
       last = λ is_last fits.
           let at = o.stands.places c.args.added (omega arith) in
           left ∙ ap (λ k. take k c.args.self.now.entries) (c.cut_at-cut.ensures.last (omega arith) (omega arith));

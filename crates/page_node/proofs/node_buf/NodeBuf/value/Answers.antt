@@ -1,5 +1,5 @@
-use Rattle.std.proofs.Common.{◌≤◌, length, arith, sym, ap, subst, ◌∙◌, ℕ}
-use Rattle.page_node.proofs.{Standing.{from_held, index_few, value_room, value_read, value_short, nothing}, Editing.opened}
+use Rattle.{std.proofs.Common.{◌≤◌, length, arith, sym, ap, subst, ◌∙◌, ℕ}, page_node.proofs.Editing.opened}
+use Rattle.page_node.proofs.Standing.{from_held, index_few, value_room, value_read, value_short, nothing}
 use Rattle.page_node.proofs.node_buf.NodeBuf.value.Goals as goal
 
 pub offset_bounds-self-inside-i : goal.offset_bounds-self-inside-i

@@ -1,5 +1,4 @@
-use Rattle.std.proofs.Common.{◌∙◌, sym}
-use Rattle.page_store.{specs.claim.Transactions.stored, proofs.Chains.length_chain}
+use Rattle.{std.proofs.Common.{◌∙◌, sym}, page_store.{specs.claim.Transactions.stored, proofs.Chains.length_chain}}
 use Rattle.page_store.proofs.pages.Pages.free_pages.Goals as goal
 
 pub returns : goal.returns

@@ -1,9 +1,7 @@
-use Rattle.std.proofs.Common.{◌≡◌, ℕ, inr, sym, subst}
-use Rattle.sector_device.{specs.claim.Moments.LeavesOnly, specs.claim.Disk.Image, proofs.Moments.leaves_still}
-use Rattle.gate_journal.specs.{claim.Contents.{disk_of, content, page_count}, Recovery.{AllStores, ReadsAs}, declared.error.PageError.PageError}
-use Rattle.gate_journal.specs.declared.error.PageError.TheVariants.{NotAStore}
-use Rattle.page_store.{specs.claim.Chain.IsPages, specs.Openings.MetaErr, specs.Transactions.IsUntouched, proofs.Stops.kept_still}
-use Rattle.page_store.proofs.Opened.{found_pages, bad_pages, opened_err, opened_calm}
+use Rattle.{std.proofs.Common.{◌≡◌, ℕ, inr, sym, subst}, gate_journal.specs.{Recovery.{AllStores, ReadsAs}, claim.Contents.{disk_of, content, page_count}}}
+use Rattle.{gate_journal.specs.declared.error.PageError.{PageError, TheVariants.NotAStore}, page_store.specs.{Openings.MetaErr, Transactions.IsUntouched, claim.Chain.IsPages}}
+use Rattle.{sector_device.specs.claim.{Disk.Image, Moments.LeavesOnly}, page_store.proofs.{Opened.{found_pages, bad_pages, opened_err, opened_calm}, Stops.kept_still}}
+use Rattle.sector_device.proofs.Moments.{leaves_still}
 use Rattle.page_store.proofs.pages.Pages.open.Goals as goal
 
 pub returns-in-Ok-read_meta-clause-any_moment : goal.returns-in-Ok-read_meta-clause-any_moment

@@ -1,9 +1,5 @@
-use Rattle.std.proofs.Common.{◌<◌, ℕ, sym, subst, arith, get_or, replicate, rules}
-use Rattle.std.proofs.lemmas.Bool.{cases_lt}
-use Rattle.std.proofs.lemmas.List.{get_or-replicate, get_or_past, length-replicate}
-use Rattle.sector_device.specs.claim.Disk.{Image}
-use Rattle.gate_journal.specs.claim.Contents.{content}
-use Rattle.page_store.specs.Chain.{IsMeta}
+use Rattle.std.proofs.{Common.{◌<◌, ℕ, sym, subst, arith, get_or, replicate, rules}, lemmas.{Bool.cases_lt, List.{get_or-replicate, get_or_past, length-replicate}}}
+use Rattle.{gate_journal.specs.claim.Contents.content, page_store.specs.Chain.IsMeta, sector_device.specs.claim.Disk.Image}
 use Rattle.page_store.proofs.txn.Prepared.commit.Goals as goal
 
 -- no place has a number

@@ -1,6 +1,4 @@
-use Rattle.std.specs.Fn.{FnOnceReturnsAtMut}
-use Rattle.gate_journal.specs.{Store.Writes, claim.Writes.writes_of}
-use Rattle.page_store.proofs.Chains.{edited_free}
+use Rattle.{std.specs.Fn.FnOnceReturnsAtMut, gate_journal.specs.{Store.Writes, claim.Writes.writes_of}, page_store.proofs.Chains.edited_free}
 use Rattle.page_store.proofs.txn.Txn.edit.Goals as goal
 
 pub returns-clause-free : goal.returns-clause-free

@@ -1,5 +1,4 @@
-use Rattle.std.proofs.Common.{sym}
-use Rattle.page_store.{specs.claim.Transactions.over, proofs.Chains.length_chain}
+use Rattle.{std.proofs.Common.sym, page_store.{specs.claim.Transactions.over, proofs.Chains.length_chain}}
 use Rattle.page_store.proofs.txn.Txn.free_pages.Goals as goal
 
 pub returns : goal.returns

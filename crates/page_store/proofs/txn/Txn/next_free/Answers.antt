@@ -1,6 +1,5 @@
-use Rattle.std.proofs.Common.{◌≡◌, ◌∙◌, List, ℕ, sym, ap, arith, rules}
-use Rattle.gate_journal.specs.claim.Store.{word}
-use Rattle.page_store.{specs.claim.Chain.is_blank, specs.claim.Transactions.{over, stored}, proofs.Chains.{chain_pop, first_blank, second_below, both_ways}}
+use Rattle.{std.proofs.Common.{◌≡◌, ◌∙◌, List, ℕ, sym, ap, arith, rules}, gate_journal.specs.claim.Store.word, page_store.specs.claim.{Chain.is_blank, Transactions.{over, stored}}}
+use Rattle.page_store.proofs.Chains.{chain_pop, first_blank, second_below, both_ways}
 use Rattle.page_store.proofs.txn.Txn.next_free.Goals as goal
 
 pub returns-then-not-is_blank_page-clause-reading : goal.returns-then-not-is_blank_page-clause-reading

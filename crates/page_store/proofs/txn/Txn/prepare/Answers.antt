@@ -1,5 +1,4 @@
-use Rattle.std.proofs.Common.{◌∙◌, arith, rules}
-use Rattle.page_store.{specs.claim.Transactions.over, proofs.Chains.{meta_free, meta_pages}}
+use Rattle.{std.proofs.Common.{◌∙◌, arith, rules}, page_store.{specs.claim.Transactions.over, proofs.Chains.{meta_free, meta_pages}}}
 use Rattle.page_store.proofs.txn.Txn.prepare.Goals as goal
 
 pub returns : goal.returns

@@ -1,5 +1,4 @@
-use Rattle.std.proofs.Common.{ℕ, ◌+◌, ◌++◌, Err, sym, subst, ap, ◌∙◌, rules}
-use Rattle.pl94.specs.{GeoFile.{told, refused}, declared.geo.GeoFault.GeoFault, claim.Judging.judge}
+use Rattle.{std.proofs.Common.{ℕ, ◌+◌, ◌++◌, Err, sym, subst, ap, ◌∙◌, rules}, pl94.specs.{GeoFile.{told, refused}, claim.Judging.judge, declared.geo.GeoFault.GeoFault}}
 use Rattle.pl94.proofs.GeoLemmas.{Stands, Told, told_refused, told_refused_last, told_fault, told_end, told_last_end, finishes_valid, finishes_failures, finishes_in_turns}
 use Rattle.pl94.proofs.LineLemmas.{judged_none, judged_on, judged_more}
 use Rattle.pl94.proofs.geo.GeoReader.read.Goals as goal

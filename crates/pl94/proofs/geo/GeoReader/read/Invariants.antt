@@ -1,6 +1,4 @@
-use Rattle.std.proofs.Common.{◌≡◌, ◌-◌, ◌^◌}
-use Rattle.byte_stream.specs.Reading.{CountsFrom}
-use Rattle.pl94.proofs.GeoLemmas.{Stands}
+use Rattle.{std.proofs.Common.{◌≡◌, ◌-◌, ◌^◌}, byte_stream.specs.Reading.CountsFrom, pl94.proofs.GeoLemmas.Stands}
 use Rattle.pl94.proofs.geo.GeoReader.read.Given as goal
 
 abbrev pub invariant-loop-header : goal.invariant-loop-header

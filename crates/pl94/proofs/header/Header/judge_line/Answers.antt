@@ -1,5 +1,4 @@
-use Rattle.std.proofs.Common.{rules}
-use Rattle.pl94.proofs.HoldingLemmas.{judges, entries_passed}
+use Rattle.{std.proofs.Common.rules, pl94.proofs.HoldingLemmas.{judges, entries_passed}}
 use Rattle.pl94.proofs.header.Header.judge_line.Goals as goal
 
 pub returns-in-Ok-Some : goal.returns-in-Ok-Some

@@ -1,5 +1,4 @@
-use Rattle.std.proofs.Common.{refl}
-use Rattle.pl94.proofs.HoldingLemmas.{holds_none}
+use Rattle.{std.proofs.Common.refl, pl94.proofs.HoldingLemmas.holds_none}
 use Rattle.pl94.proofs.header.Header.new.Goals as goal
 
 pub returns : goal.returns

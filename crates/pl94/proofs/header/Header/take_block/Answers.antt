@@ -1,6 +1,4 @@
-use Rattle.std.proofs.Common.{◌<◌, length, refl, arith, rules}
-use Rattle.std.proofs.lemmas.Bool.Decides.{nat_tests}
-use Rattle.desk_model.specs.claim.GeographyModels.{block_limit}
+use Rattle.{std.proofs.{Common.{◌<◌, length, refl, arith, rules}, lemmas.Bool.Decides.nat_tests}, desk_model.specs.claim.GeographyModels.block_limit}
 use Rattle.pl94.proofs.HoldingLemmas.{holds_block, too_many}
 use Rattle.pl94.proofs.header.Header.take_block.Goals as goal
 

@@ -1,5 +1,4 @@
-use Rattle.std.proofs.Common.{refl, sym, ◌∙◌}
-use Rattle.pl94.proofs.HoldingLemmas.{holds_state, none_from_test}
+use Rattle.{std.proofs.Common.{refl, sym, ◌∙◌}, pl94.proofs.HoldingLemmas.{holds_state, none_from_test}}
 use Rattle.pl94.proofs.header.Header.take_state.Goals as goal
 
 pub returns : goal.returns

@@ -1,5 +1,4 @@
-use Rattle.std.proofs.Common.{refl}
-use Rattle.pl94.proofs.SetLemmas.{none_yet}
+use Rattle.{std.proofs.Common.refl, pl94.proofs.SetLemmas.none_yet}
 use Rattle.pl94.proofs.number_set.NumberSet.new.Goals as goal
 
 pub returns : goal.returns

@@ -1,7 +1,4 @@
-use Rattle.std.proofs.Common.{rules}
-use Rattle.std.proofs.lemmas.Bool.Decides.{nat_tests}
-use Rattle.std.proofs.lemmas.List.{nil_from_length}
-use Rattle.pl94.proofs.RunLemmas.{same_begun}
+use Rattle.{std.proofs.{Common.rules, lemmas.{Bool.Decides.nat_tests, List.nil_from_length}}, pl94.proofs.RunLemmas.same_begun}
 use Rattle.pl94.proofs.segment.SegRows.begin_run.Goals as goal
 
 pub returns : goal.returns

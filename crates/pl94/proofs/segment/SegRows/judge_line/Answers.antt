@@ -1,5 +1,4 @@
-use Rattle.std.proofs.Common.{rules}
-use Rattle.pl94.proofs.SegLemmas.{judges}
+use Rattle.{std.proofs.Common.rules, pl94.proofs.SegLemmas.judges}
 use Rattle.pl94.proofs.segment.SegRows.judge_line.Goals as goal
 
 pub returns-in-Ok : goal.returns-in-Ok

@@ -1,5 +1,4 @@
-use Rattle.std.proofs.Common.{◌∙◌}
-use Rattle.pl94.proofs.RunLemmas.{people_first, people_else}
+use Rattle.{std.proofs.Common.◌∙◌, pl94.proofs.RunLemmas.{people_first, people_else}}
 use Rattle.pl94.proofs.segment.SegRows.people.Goals as goal
 
 pub returns-in-Some : goal.returns-in-Some

@@ -1,5 +1,4 @@
-use Rattle.std.proofs.Common.{refl, rules}
-use Rattle.pl94.proofs.RunLemmas.{grows_in_run, grows_outside}
+use Rattle.{std.proofs.Common.{refl, rules}, pl94.proofs.RunLemmas.{grows_in_run, grows_outside}}
 use Rattle.pl94.proofs.segment.SegRows.put.Goals as goal
 
 pub returns-then-is_near : goal.returns-then-is_near

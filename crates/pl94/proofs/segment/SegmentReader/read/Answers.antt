@@ -1,6 +1,5 @@
-use Rattle.std.proofs.Common.{ℕ, ◌+◌, ◌++◌, Err, sym, subst, ap, ◌∙◌, rules}
-use Rattle.pl94.specs.{SegFile.{told, refused}, declared.segment.SegFault.SegFault, claim.Records.judge}
-use Rattle.pl94.proofs.{SegLemmas.{Stands, Told, told_refused, told_refused_last, told_fault, told_end, told_last_end}, LineLemmas.{judged_none, judged_on, judged_more}}
+use Rattle.{std.proofs.Common.{ℕ, ◌+◌, ◌++◌, Err, sym, subst, ap, ◌∙◌, rules}, pl94.specs.{SegFile.{told, refused}, claim.Records.judge, declared.segment.SegFault.SegFault}}
+use Rattle.pl94.proofs.{LineLemmas.{judged_none, judged_on, judged_more}, SegLemmas.{Stands, Told, told_refused, told_refused_last, told_fault, told_end, told_last_end}}
 use Rattle.pl94.proofs.segment.SegmentReader.read.Goals as goal
 
 pub loop-rows-init : goal.loop-rows-init

@@ -1,6 +1,4 @@
-use Rattle.std.proofs.Common.{◌≡◌, ◌-◌, ◌^◌}
-use Rattle.byte_stream.specs.Reading.{CountsFrom}
-use Rattle.pl94.proofs.SegLemmas.{Stands}
+use Rattle.{std.proofs.Common.{◌≡◌, ◌-◌, ◌^◌}, byte_stream.specs.Reading.CountsFrom, pl94.proofs.SegLemmas.Stands}
 use Rattle.pl94.proofs.segment.SegmentReader.read.Given as goal
 
 abbrev pub invariant-loop-rows : goal.invariant-loop-rows

@@ -1,5 +1,4 @@
-use Rattle.std.proofs.Common.{◌≡◌, ◌<◌, ◌^◌, ◌∙◌, ℕ, List, [], false, IsTrue, get_or, length, replicate, sym, ap, subst}
-use Rattle.sector_device.specs.Held.{image_of}
+use Rattle.{std.proofs.Common.{◌≡◌, ◌<◌, ◌^◌, ◌∙◌, ℕ, List, [], false, IsTrue, get_or, length, replicate, sym, ap, subst}, sector_device.specs.Held.image_of}
 use Rattle.sector_file.{specs.Told.{Told, replay}, proofs.Disks.{recalled_still, as_opened_still, synced_is}}
 use Rattle.sector_file.proofs.device.FileDevice.open.Goals as goal
 

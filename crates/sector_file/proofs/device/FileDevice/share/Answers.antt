@@ -1,5 +1,4 @@
-use Rattle.std.proofs.Common.{◌∙◌, ap, rules}
-use Rattle.sector_file.{specs.Told.{replay, replay_on, after_sharing}, proofs.Readers.{reader_is, held_is, synced_as_opened}}
+use Rattle.{std.proofs.Common.{◌∙◌, ap, rules}, sector_file.{specs.Told.{replay, replay_on, after_sharing}, proofs.Readers.{reader_is, held_is, synced_as_opened}}}
 use Rattle.sector_file.proofs.device.FileDevice.share.Goals as goal
 
 pub returns-in-Ok-clause-reader : goal.returns-in-Ok-clause-reader

@@ -1,5 +1,4 @@
-use Rattle.std.proofs.Common.{◌≡◌, ◌∙◌, ◌++◌, ℕ, List, length, ap, refl}
-use Rattle.sector_file.specs.{Told.{Call, replay, replay_on, after_sharing}, declared.record.Record.Record}
+use Rattle.{std.proofs.Common.{◌≡◌, ◌∙◌, ◌++◌, ℕ, List, length, ap, refl}, sector_file.specs.{Told.{Call, replay, replay_on, after_sharing}, declared.record.Record.Record}}
 use Rattle.sector_file.proofs.Readers.{replay_joined, sectors_taken, unsynced_taken, honest_before, synced_taken, touches_taken, faults_taken, reader_taken}
 use Rattle.sector_file.proofs.device.FileDevice.take_back.Goals as goal
 

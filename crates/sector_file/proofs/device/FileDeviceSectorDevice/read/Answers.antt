@@ -1,5 +1,4 @@
-use Rattle.std.proofs.Common.{◌≡◌, ◌<◌, ◌^◌, ◌∙◌, ℕ, List, length, sym, ap, subst, IsTrue}
-use Rattle.sector_file.{specs.Told.{Told, replay}, proofs.Steps.{bytes_same, recalled_read}}
+use Rattle.{std.proofs.Common.{◌≡◌, ◌<◌, ◌^◌, ◌∙◌, ℕ, List, length, sym, ap, subst, IsTrue}, sector_file.{specs.Told.{Told, replay}, proofs.Steps.{bytes_same, recalled_read}}}
 use Rattle.sector_file.proofs.device.FileDeviceSectorDevice.read.Goals as goal
 
 pub returns-then-got-eq-SECTOR_SIZE-clause-reads : goal.returns-then-got-eq-SECTOR_SIZE-clause-reads

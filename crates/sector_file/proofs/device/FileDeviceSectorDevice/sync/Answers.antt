@@ -1,6 +1,5 @@
-use Rattle.std.proofs.Common.{ap, rules}
-use Rattle.sector_device.specs.Held.{refused}
-use Rattle.sector_file.{specs.Told.Told, proofs.Disks.{sync_is, fault_is, synced_is, sectors_kept, recalled_still, as_opened_still}}
+use Rattle.{std.proofs.Common.{ap, rules}, sector_device.specs.Held.refused, sector_file.specs.Told.Told}
+use Rattle.sector_file.proofs.Disks.{sync_is, fault_is, synced_is, sectors_kept, recalled_still, as_opened_still}
 use Rattle.sector_file.proofs.device.FileDeviceSectorDevice.sync.Goals as goal
 
 pub invariant_of-self : goal.invariant_of-self

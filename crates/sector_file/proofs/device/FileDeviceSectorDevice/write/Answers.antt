@@ -1,6 +1,5 @@
-use Rattle.std.proofs.Common.{◌∙◌, ap, sym, arith}
-use Rattle.sector_device.specs.Held.{refused}
-use Rattle.sector_file.{specs.Told.{Told, replay}, proofs.Disks.{write_is, torn_is}, proofs.Steps.{not_true, length_wrote, recalled_wrote}}
+use Rattle.{std.proofs.Common.{◌∙◌, ap, sym, arith}, sector_device.specs.Held.refused, sector_file.{specs.Told.{Told, replay}, proofs.Disks.{write_is, torn_is}}}
+use Rattle.sector_file.proofs.Steps.{not_true, length_wrote, recalled_wrote}
 use Rattle.sector_file.proofs.device.FileDeviceSectorDevice.write.Goals as goal
 
 pub returns-then-put-eq-SECTOR_SIZE-clause-model : goal.returns-then-put-eq-SECTOR_SIZE-clause-model

@@ -1,5 +1,4 @@
-use Rattle.std.proofs.Common.{rules}
-use Rattle.sector_file.proofs.{Readers.reader_long, Runs.none_held}
+use Rattle.{std.proofs.Common.rules, sector_file.proofs.{Readers.reader_long, Runs.none_held}}
 use Rattle.sector_file.proofs.reader.FileReader.new.Goals as goal
 
 pub invariant_of-result : goal.invariant_of-result

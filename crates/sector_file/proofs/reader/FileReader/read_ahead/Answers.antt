@@ -1,6 +1,5 @@
-use Rattle.std.{specs.Vec.with_items, proofs.Common.{◌∙◌, List, true, ap, sym, subst, rules}}
-use Rattle.sector_file.{specs.declared.run.HeldRun.HeldRun, specs.Told.{Call, replay_on, after_sharing, only_reads}, proofs.Readers.reader_long}
-use Rattle.sector_file.proofs.Runs.{HasRun, all_written, held_new, run_read, run_reads, run_touches}
+use Rattle.{std.{specs.Vec.with_items, proofs.Common.{◌∙◌, List, true, ap, sym, subst, rules}}, sector_file.specs.Told.{Call, replay_on, after_sharing, only_reads}}
+use Rattle.sector_file.{specs.declared.run.HeldRun.HeldRun, proofs.{Readers.reader_long, Runs.{HasRun, all_written, held_new, run_read, run_reads, run_touches}}}
 use Rattle.sector_file.proofs.reader.FileReader.read_ahead.Goals as goal
 
 pub invariant_of-self-2 : goal.invariant_of-self-2

@@ -1,7 +1,5 @@
-use Rattle.std.proofs.Common.{◌<◌, ◌^◌, ◌∙◌, arith, ap, sym, subst, rules}
-use Rattle.sector_device.specs.Held.{refused}
-use Rattle.sector_file.{specs.Told.{Told, replay_on, after_sharing, only_reads}, proofs.Steps.bytes_same, proofs.Disks.{read_is, fault_is}}
-use Rattle.sector_file.proofs.{Readers.{reader_long, same_on, whole_more, short_more}, Runs.{held_still, honest_before_read}}
+use Rattle.{std.proofs.Common.{◌<◌, ◌^◌, ◌∙◌, arith, ap, sym, subst, rules}, sector_device.specs.Held.refused, sector_file.specs.Told.{Told, replay_on, after_sharing, only_reads}}
+use Rattle.sector_file.proofs.{Disks.{read_is, fault_is}, Readers.{reader_long, same_on, whole_more, short_more}, Runs.{held_still, honest_before_read}, Steps.bytes_same}
 use Rattle.sector_file.proofs.reader.FileReader.read_one.Goals as goal
 
 pub invariant_of-self : goal.invariant_of-self
@@ -32,8 +30,7 @@ returns-then-got-eq-SECTOR_SIZE-clause-model g c = λ honest.
     (read_is _ c.args.self.now.few _ _ c.args.i _ is honest, record { failed = tt; passed = ap (λ (t : Told). refused t.2) is })
 
 pub returns-then-got-eq-SECTOR_SIZE-clause-reads : goal.returns-then-got-eq-SECTOR_SIZE-clause-reads
-returns-then-got-eq-SECTOR_SIZE-clause-reads g c =
-    λ honest. search (rules, whole_more, bytes_same)
+returns-then-got-eq-SECTOR_SIZE-clause-reads g c = λ honest. search (rules, whole_more, bytes_same)
 
 pub returns-else-got-eq-SECTOR_SIZE-clause-model : goal.returns-else-got-eq-SECTOR_SIZE-clause-model
 returns-else-got-eq-SECTOR_SIZE-clause-model g c = λ honest.

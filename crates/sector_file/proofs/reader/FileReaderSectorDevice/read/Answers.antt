@@ -1,5 +1,4 @@
-use Rattle.sector_device.{specs.claim.Disk.Nowhere, proofs.Moments.touches_more}
-use Rattle.sector_file.{specs.Device.reader_disk, proofs.Runs.cause_from}
+use Rattle.{sector_device.{specs.claim.Disk.Nowhere, proofs.Moments.touches_more}, sector_file.{specs.Device.reader_disk, proofs.Runs.cause_from}}
 use Rattle.sector_file.proofs.reader.FileReaderSectorDevice.read.Goals as goal
 
 pub returns-then-not-read_ahead-clause-model : goal.returns-then-not-read_ahead-clause-model

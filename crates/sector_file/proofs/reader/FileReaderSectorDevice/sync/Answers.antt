@@ -1,6 +1,4 @@
-use Rattle.std.proofs.Common.{refl}
-use Rattle.sector_device.{specs.claim.Disk.Nowhere, proofs.Moments.touches_none}
-use Rattle.sector_file.{specs.Device.reader_disk, proofs.Readers.reader_synced}
+use Rattle.{std.proofs.Common.refl, sector_device.{specs.claim.Disk.Nowhere, proofs.Moments.touches_none}, sector_file.{specs.Device.reader_disk, proofs.Readers.reader_synced}}
 use Rattle.sector_file.proofs.reader.FileReaderSectorDevice.sync.Goals as goal
 
 pub returns-clause-sectors : goal.returns-clause-sectors

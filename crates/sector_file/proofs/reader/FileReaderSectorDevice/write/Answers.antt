@@ -1,5 +1,4 @@
-use Rattle.std.proofs.Common.{rules}
-use Rattle.sector_file.proofs.{Readers.{reader_long, failed_more, failed_touches}, Runs.held_still}
+use Rattle.{std.proofs.Common.rules, sector_file.proofs.{Readers.{reader_long, failed_more, failed_touches}, Runs.held_still}}
 use Rattle.sector_file.proofs.reader.FileReaderSectorDevice.write.Goals as goal
 
 pub invariant_of-self : goal.invariant_of-self

@@ -1,27 +1,15 @@
 -- `new` makes a value of no bytes, at no call.
-use mathlib.Core.Path.{refl}
-use mathlib.Core.List.{[], ◌∷◌}
+use mathlib.Core.{List.{[], ◌∷◌}, Path.refl}
 use seplogic.Ra.Ura.{Ura}
 use mir.Val.{Val, vstruct, vcons, vnil}
 use base.Logic.{SProp}
-use prog.Memory.{Memory}
-use prog.Routine.{Routine}
-use prog.Wp.{WpFn, Tables}
-use types.Logic.{Logic}
-use contract.Monad.{Fun}
-use contract.Running.{tables, tables_of}
-use sound.WpLaws.{WpFn-mono}
-use types.Kit.{raw, ◌$◌, ◌∵◌, !, qed, keep, join, suffices, done}
+use prog.{Memory.Memory, Routine.Routine, Wp.{WpFn, Tables}}
+use types.{ByLocal.{alloc_all, pass_all, free_all, look_at, get, sets}, Kit.{raw, ◌$◌, ◌∵◌, !, qed, keep, join, suffices, done}, Logic.Logic, Part.agg}
 use types.Run.{no_more, and_then, returns, enter}
-use types.Part.{agg}
-use types.ByLocal.{alloc_all, pass_all, free_all, look_at, get, sets}
-use denote.Shadow.{pure_i}
-use denote.Steps.{nothing}
-use denote.Triple.Entry.{on_entry}
-use denote.Triple.Spec.{Meets, triple_of}
-use denote.Triple.Table.{entered}
-use denote.Triple.Walked.{says, ends_at, walked, walk_Meets}
-use Rattle.sector_file.specs.{declared.record.Record.Record, contracts.record.Record.new.Key.name as #it}
+use contract.{Monad.Fun, Running.{tables, tables_of}}
+use sound.WpLaws.{WpFn-mono}
+use denote.{Shadow.pure_i, Steps.nothing, Triple.{Entry.on_entry, Spec.{Meets, triple_of}, Table.entered, Walked.{says, ends_at, walked, walk_Meets}}}
+use Rattle.sector_file.specs.{contracts.record.Record.new.Key.name as #it, declared.record.Record.Record}
 use Rattle.sector_file.specs.contracts.record.Record as T
 use Rattle.sector_file.specs.contracts.record.Record.new as it
 use Rattle.sector_file.proofs.record.Record.new.Statement as stated

@@ -1,40 +1,20 @@
 -- An empty body. The borrow is opened and closed at another ghost value.
-use Rattle.std.proofs.Common.{ℕ, List, [], ◌∷◌, refl, MutBor, ◌<◌, ◌^◌, length}
+use Rattle.{std.proofs.Common.{ℕ, List, [], ◌∷◌, refl, MutBor, ◌<◌, ◌^◌, length}, sector_file.specs.{contracts.record.Record.note.Key.name as #it, declared.record.Record.Record}}
 use seplogic.Ra.Ura.{Ura}
-use mir.Syntax.{named}
-use mir.Val.{Val, vunit, vptr}
-use base.Logic.{SProp, ent, sep, emp, via, fst∗, id⊢}
-use base.Fml.{GName, Lft, Share, ftrue, flft, fobs, fbor}
-use prog.Memory.{Memory}
-use prog.Routine.{Routine}
-use prog.Wp.{Calls, Loops, WpFn, Tables}
-use types.Logic.{Logic}
-use contract.Monad.{Fun}
-use contract.Running.{tables, tables_of}
+use mir.{Syntax.named, Val.{Val, vunit, vptr}}
+use base.{Fml.{GName, Lft, Share, ftrue, flft, fobs, fbor}, Logic.{SProp, ent, sep, emp, via, fst∗, id⊢}}
+use prog.{Memory.Memory, Routine.Routine, Wp.{Calls, Loops, WpFn, Tables}}
+use types.{ByLocal.{alloc_all, pass_all, free_all, look_at, sets}, Logic.Logic, Run.{unit_lit, of_opd, returns, enter}, SemTy.Body}
 use types.Kit.{‵, ◌⊛◌, ◌$◌, ◌∵◌, !, qed, by, move, keep, drop, use1, split, join, fsplit, fsplit3, fjoin, fjoin3, feq_i, suffices, frame, done}
-use types.Run.{unit_lit, of_opd, returns, enter}
-use types.SemTy.{Body}
-use types.ByLocal.{alloc_all, pass_all, free_all, look_at, sets}
+use contract.{Monad.Fun, Running.{tables, tables_of}}
 use sound.WpLaws.{WpFn-mono}
-use denote.RattleType.{owns}
-use denote.Memory.{mem}
-use denote.Ref.{MutRef, mut_vals, mut_Tells}
-use denote.Signature.{plain}
-use denote.Steps.{opens, closes}
-use denote.Triple.Entry.{on_entry}
-use denote.Triple.Spec.{Meets, triple_of}
-use denote.Triple.Table.{entered}
-use denote.Triple.Walked.{says, Stays, stay_ref, walk_of, AllGo, Goes-ref, Walks, ends_at, walked, walk_Meets}
-use Rattle.sector_file.specs.{declared.record.Record.Record, contracts.record.Record.note.Key.name as #it}
+use denote.{Builtin.{u8, u64}, Exit.yes, Memory.mem, RattleType.owns, Ref.{MutRef, mut_vals, mut_Tells, Bor}, Signature.plain, Steps.{opens, closes}, Triple.Entry.on_entry}
+use denote.{Slice.{ShrSlice, slice_val, shr_slice_vals, shr_slice_Tells}, Triple.{Spec.{Meets, triple_of}, Table.entered}}
+use denote.Triple.Walked.{says, Stays, stay_ref, walk_of, AllGo, Goes-ref, Walks, ends_at, walked, walk_Meets, stay_none_slice, Goes-none_slice}
 use Rattle.sector_file.specs.contracts.record.Record as T
 use Rattle.sector_file.specs.contracts.record.Record.note as it
 use Rattle.sector_file.proofs.record.Record.note.Statement as stated
 use Rattle.sector_file.proofs.record.Record.note.Code as code
-use denote.Ref.{Bor}
-use denote.Builtin.{u8, u64}
-use denote.Exit.{yes}
-use denote.Slice.{ShrSlice, slice_val, shr_slice_vals, shr_slice_Tells}
-use denote.Triple.Walked.{stay_none_slice, Goes-none_slice}
 
 abbrev Arg : Type 0
 Arg = MutBor Record × (Bor (List ℕ) × (Bor (List ℕ) × Unit {0}))

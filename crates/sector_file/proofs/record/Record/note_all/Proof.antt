@@ -1,36 +1,20 @@
 -- An empty body. The borrow is opened and closed at another ghost value.
-use Rattle.std.proofs.Common.{ℕ, List, [], ◌∷◌, ◌++◌, refl, MutBor}
+use Rattle.{std.proofs.Common.{ℕ, List, [], ◌∷◌, ◌++◌, refl, MutBor}, sector_file.specs.{contracts.record.Record.note_all.Key.name as #it, declared.record.Record.Record}}
 use seplogic.Ra.Ura.{Ura}
-use mir.Syntax.{named}
-use mir.Val.{Val, vunit, vptr}
-use base.Logic.{SProp, ent, sep, emp, via, fst∗, id⊢}
-use base.Fml.{GName, Lft, Share, ftrue, flft, fobs, fbor}
-use prog.Memory.{Memory}
-use prog.Routine.{Routine}
-use prog.Wp.{Calls, Loops, WpFn, Tables}
-use types.Logic.{Logic}
-use contract.Monad.{Fun}
-use contract.Running.{tables, tables_of}
+use mir.{Syntax.named, Val.{Val, vunit, vptr}}
+use base.{Fml.{GName, Lft, Share, ftrue, flft, fobs, fbor}, Logic.{SProp, ent, sep, emp, via, fst∗, id⊢}}
+use prog.{Memory.Memory, Routine.Routine, Wp.{Calls, Loops, WpFn, Tables}}
+use types.{ByLocal.{alloc_all, pass_all, free_all, look_at, sets}, Logic.Logic, Run.{unit_lit, of_opd, returns, enter}, SemTy.Body}
 use types.Kit.{‵, ◌⊛◌, ◌$◌, ◌∵◌, !, qed, by, move, keep, drop, use1, split, join, fsplit, fsplit3, fjoin, fjoin3, feq_i, suffices, frame, done}
-use types.Run.{unit_lit, of_opd, returns, enter}
-use types.SemTy.{Body}
-use types.ByLocal.{alloc_all, pass_all, free_all, look_at, sets}
+use contract.{Monad.Fun, Running.{tables, tables_of}}
 use sound.WpLaws.{WpFn-mono}
-use denote.RattleType.{owns}
-use denote.Memory.{mem}
-use denote.Ref.{Bor, MutRef, ShrRef, mut_vals, mut_Tells, shr_vals, shr_Tells}
-use denote.Signature.{plain}
-use denote.Steps.{opens, closes}
-use denote.Triple.Entry.{on_entry}
-use denote.Triple.Spec.{Meets, triple_of}
-use denote.Triple.Table.{entered}
+use denote.{Exit.yes, Memory.mem, RattleType.owns, Ref.{Bor, MutRef, ShrRef, mut_vals, mut_Tells, shr_vals, shr_Tells}, Signature.plain, Steps.{opens, closes}}
+use denote.Triple.{Entry.on_entry, Spec.{Meets, triple_of}, Table.entered}
 use denote.Triple.Walked.{says, Stays, stay_ref, stay_none_ref, walk_of, AllGo, Goes-ref, Goes-none_ref, Walks, ends_at, walked, walk_Meets}
-use Rattle.sector_file.specs.{declared.record.Record.Record, contracts.record.Record.note_all.Key.name as #it}
 use Rattle.sector_file.specs.contracts.record.Record as T
 use Rattle.sector_file.specs.contracts.record.Record.note_all as it
 use Rattle.sector_file.proofs.record.Record.note_all.Statement as stated
 use Rattle.sector_file.proofs.record.Record.note_all.Code as code
-use denote.Exit.{yes}
 
 abbrev Arg : Type 0
 Arg = MutBor Record × (Bor Record × Unit {0})

@@ -1,5 +1,4 @@
-use Rattle.std.proofs.Common.{◌∙◌, length, ap}
-use Rattle.sector_file.{specs.Told.Told, proofs.Steps.length_held}
+use Rattle.{std.proofs.Common.{◌∙◌, length, ap}, sector_file.{specs.Told.Told, proofs.Steps.length_held}}
 use Rattle.sector_file.proofs.record.Record.opened.Goals as goal
 
 pub returns-clause-count : goal.returns-clause-count

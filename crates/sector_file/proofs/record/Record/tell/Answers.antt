@@ -1,5 +1,4 @@
-use Rattle.std.proofs.Common.{ap}
-use Rattle.sector_file.specs.Told.{replay}
+use Rattle.{std.proofs.Common.ap, sector_file.specs.Told.replay}
 use Rattle.sector_file.proofs.record.Record.tell.Goals as goal
 
 pub returns-clause-told : goal.returns-clause-told

@@ -1,5 +1,4 @@
-use Rattle.std.proofs.Common.{◌∙◌}
-use Rattle.sector_file.{specs.Told.replay, proofs.Steps.{whole_write, torn_write}}
+use Rattle.{std.proofs.Common.◌∙◌, sector_file.{specs.Told.replay, proofs.Steps.{whole_write, torn_write}}}
 use Rattle.sector_file.proofs.record.Record.written.Goals as goal
 
 pub returns-clause-whole : goal.returns-clause-whole

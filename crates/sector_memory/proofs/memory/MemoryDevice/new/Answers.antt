@@ -1,5 +1,4 @@
-use Rattle.std.{specs.List.each_same, proofs.Common.{◌∙◌, ap, get_or, [], List, ℕ, replicate}}
-use Rattle.std.proofs.lemmas.List.{get_or-replicate}
+use Rattle.std.{specs.List.each_same, proofs.{Common.{◌∙◌, ap, get_or, [], List, ℕ, replicate}, lemmas.List.get_or-replicate}}
 use Rattle.sector_memory.proofs.memory.MemoryDevice.new.Goals as goal
 
 pub returns-clause-zeros : goal.returns-clause-zeros

@@ -1,5 +1,4 @@
-use Rattle.std.proofs.Common.{refl, true}
-use Rattle.sector_device.proofs.Held.{write_touches}
+use Rattle.{std.proofs.Common.{refl, true}, sector_device.proofs.Held.write_touches}
 use Rattle.sector_memory.proofs.memory.MemoryDevice.refuse_write.Goals as goal
 
 pub returns-clause-touches : goal.returns-clause-touches

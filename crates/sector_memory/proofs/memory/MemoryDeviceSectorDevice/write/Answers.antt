@@ -1,6 +1,4 @@
-use Rattle.std.proofs.Common.{[], false, ap}
-use Rattle.std.proofs.lemmas.List.{length-set, get_or-set_other}
-use Rattle.sector_device.{specs.Held.refused, proofs.Held.write_touches}
+use Rattle.{std.proofs.{Common.{[], false, ap}, lemmas.List.{length-set, get_or-set_other}}, sector_device.{specs.Held.refused, proofs.Held.write_touches}}
 use Rattle.sector_memory.proofs.memory.MemoryDeviceSectorDevice.write.Goals as goal
 
 pub returns-clause-model : goal.returns-clause-model

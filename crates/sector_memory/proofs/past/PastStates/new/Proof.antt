@@ -1,27 +1,15 @@
 -- `new` makes a value of no bytes, at the empty list.
-use mathlib.Core.Path.{refl}
-use mathlib.Core.List.{[], ◌∷◌}
+use mathlib.Core.{List.{[], ◌∷◌}, Path.refl}
 use seplogic.Ra.Ura.{Ura}
 use mir.Val.{Val, vstruct, vcons, vnil}
 use base.Logic.{SProp}
-use prog.Memory.{Memory}
-use prog.Routine.{Routine}
-use prog.Wp.{WpFn, Tables}
-use types.Logic.{Logic}
-use contract.Monad.{Fun}
-use contract.Running.{tables, tables_of}
-use sound.WpLaws.{WpFn-mono}
-use types.Kit.{raw, ◌$◌, ◌∵◌, !, qed, keep, join, suffices, done}
+use prog.{Memory.Memory, Routine.Routine, Wp.{WpFn, Tables}}
+use types.{ByLocal.{alloc_all, pass_all, free_all, look_at, get, sets}, Kit.{raw, ◌$◌, ◌∵◌, !, qed, keep, join, suffices, done}, Logic.Logic, Part.agg}
 use types.Run.{no_more, and_then, returns, enter}
-use types.Part.{agg}
-use types.ByLocal.{alloc_all, pass_all, free_all, look_at, get, sets}
-use denote.Shadow.{pure_i}
-use denote.Steps.{nothing}
-use denote.Triple.Entry.{on_entry}
-use denote.Triple.Spec.{Meets, triple_of}
-use denote.Triple.Table.{entered}
-use denote.Triple.Walked.{says, ends_at, walked, walk_Meets}
-use Rattle.sector_memory.specs.{declared.past.PastStates.PastStates, contracts.past.PastStates.new.Key.name as #it}
+use contract.{Monad.Fun, Running.{tables, tables_of}}
+use sound.WpLaws.{WpFn-mono}
+use denote.{Shadow.pure_i, Steps.nothing, Triple.{Entry.on_entry, Spec.{Meets, triple_of}, Table.entered, Walked.{says, ends_at, walked, walk_Meets}}}
+use Rattle.sector_memory.specs.{contracts.past.PastStates.new.Key.name as #it, declared.past.PastStates.PastStates}
 use Rattle.sector_memory.specs.contracts.past.PastStates as T
 use Rattle.sector_memory.specs.contracts.past.PastStates.new as it
 use Rattle.sector_memory.proofs.past.PastStates.new.Statement as stated

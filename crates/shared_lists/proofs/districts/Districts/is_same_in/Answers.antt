@@ -1,5 +1,4 @@
-use Rattle.std.proofs.Common.{◌+◌, sym, ◌∙◌, arith, rules}
-use Rattle.shared_lists.proofs.Cut.{same_more, apart_here, counted_all, told_apart, told_same}
+use Rattle.{std.proofs.Common.{◌+◌, sym, ◌∙◌, arith, rules}, shared_lists.proofs.Cut.{same_more, apart_here, counted_all, told_apart, told_same}}
 use Rattle.shared_lists.proofs.districts.Districts.is_same_in.Goals as goal
 
 pub overflow_add-end : goal.overflow_add-end

@@ -1,5 +1,4 @@
-use Rattle.std.proofs.Common.{◌/◌, length, arith}
-use Rattle.shared_lists.proofs.Cut.{next_full, next_same, whole, is_cut}
+use Rattle.{std.proofs.Common.{◌/◌, length, arith}, shared_lists.proofs.Cut.{next_full, next_same, whole, is_cut}}
 use Rattle.shared_lists.proofs.districts.Districts.new.Goals as goal
 
 pub loop-place-preserved : goal.loop-place-preserved

@@ -1,5 +1,5 @@
-use Rattle.std.proofs.Common.{◌-◌, ◌*◌, ◌%◌, ◌++◌, drop, ap, subst, sym, ◌∙◌, arith, length}
-use Rattle.shared_lists.{specs.Pieces.{joined, AreFull}, proofs.Cut.{prefix_in_full, prefix_in_rest, some_in_rest, rest_long}}
+use Rattle.{std.proofs.Common.{◌-◌, ◌*◌, ◌%◌, ◌++◌, drop, ap, subst, sym, ◌∙◌, arith, length}, shared_lists.specs.Pieces.{joined, AreFull}}
+use Rattle.shared_lists.proofs.Cut.{prefix_in_full, prefix_in_rest, some_in_rest, rest_long}
 use Rattle.shared_lists.proofs.districts.Districts.piece_from.Goals as goal
 
 pub returns-then-at-full-clause-prefix : goal.returns-then-at-full-clause-prefix

@@ -1,5 +1,5 @@
-use Rattle.std.{specs.declared.vec.Vec.Vec, specs.declared.alloc.Global.Global, proofs.Common.{ℕ, length, sym, subst, ap, ◌∙◌, arith}}
-use Rattle.shared_lists.{specs.Pieces.{Piece, AreFull}, proofs.Shared.{shared_more, shared_full, shared_whole, shared_cut}}
+use Rattle.{std.{specs.declared.{alloc.Global.Global, vec.Vec.Vec}, proofs.Common.{ℕ, length, sym, subst, ap, ◌∙◌, arith}}, shared_lists.specs.Pieces.{Piece, AreFull}}
+use Rattle.shared_lists.proofs.Shared.{shared_more, shared_full, shared_whole, shared_cut}
 use Rattle.shared_lists.proofs.districts.Districts.share.Goals as goal
 
 pub loop-place-preserved : goal.loop-place-preserved

@@ -1,6 +1,4 @@
-use Rattle.std.proofs.Common.{◌++◌, Vec, Global, ℕ, ap, ◌∙◌}
-use Rattle.std.proofs.lemmas.List.{take_all}
-use Rattle.shared_lists.{specs.Pieces.{Piece, joined}, proofs.Shared.joined_more}
+use Rattle.{std.proofs.{Common.{◌++◌, Vec, Global, ℕ, ap, ◌∙◌}, lemmas.List.take_all}, shared_lists.{specs.Pieces.{Piece, joined}, proofs.Shared.joined_more}}
 use Rattle.shared_lists.proofs.districts.Districts.to_vec.Goals as goal
 
 pub loop-piece-preserved : goal.loop-piece-preserved

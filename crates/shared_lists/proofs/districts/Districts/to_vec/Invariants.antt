@@ -1,5 +1,4 @@
-use Rattle.std.proofs.Common.{◌≡◌, take}
-use Rattle.shared_lists.specs.Pieces.{joined}
+use Rattle.{std.proofs.Common.{◌≡◌, take}, shared_lists.specs.Pieces.joined}
 use Rattle.shared_lists.proofs.districts.Districts.to_vec.Given as goal
 
 abbrev pub invariant-loop-piece : goal.invariant-loop-piece

@@ -1,4 +1,4 @@
-use Rattle.std.{specs.declared.vec.Vec.Vec, specs.declared.alloc.Global.Global, proofs.Common.{ℕ, ap, ◌∙◌, arith, replicate, ◌≡◌}}
+use Rattle.std.{specs.declared.{alloc.Global.Global, vec.Vec.Vec}, proofs.Common.{ℕ, ap, ◌∙◌, arith, replicate, ◌≡◌}}
 use Rattle.shared_lists.proofs.Blank.{blank_full, blank_more, blank_cut, blank_all}
 use Rattle.shared_lists.proofs.districts.Districts.unassigned.Goals as goal
 

@@ -1,5 +1,5 @@
-use Rattle.std.proofs.Common.{◌≡◌, ◌*◌, length, sym, subst, ap, ◌∙◌, arith}
-use Rattle.shared_lists.{specs.Laid.laid, specs.Pieces.{Piece, AreFull}, proofs.Cut.joined_long, proofs.Laying.{next_laid, next_fit, next_full_laid, laid_whole, laid_cut}}
+use Rattle.{std.proofs.Common.{◌≡◌, ◌*◌, length, sym, subst, ap, ◌∙◌, arith}, shared_lists.{specs.{Laid.laid, Pieces.{Piece, AreFull}}, proofs.Cut.joined_long}}
+use Rattle.shared_lists.proofs.Laying.{next_laid, next_fit, next_full_laid, laid_whole, laid_cut}
 use Rattle.shared_lists.proofs.districts.Districts.with_listed.Goals as goal
 
 pub overflow_mul-place : goal.overflow_mul-place

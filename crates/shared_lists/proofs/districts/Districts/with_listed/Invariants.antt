@@ -1,5 +1,4 @@
-use Rattle.std.proofs.Common.{◌≡◌, take}
-use Rattle.shared_lists.{specs.Pieces.{joined, AreFull}, specs.Laid.laid, proofs.Laying.Fit}
+use Rattle.{std.proofs.Common.{◌≡◌, take}, shared_lists.{specs.{Laid.laid, Pieces.{joined, AreFull}}, proofs.Laying.Fit}}
 use Rattle.shared_lists.proofs.districts.Districts.with_listed.Given as goal
 
 abbrev pub invariant-loop-place : goal.invariant-loop-place

@@ -1,5 +1,5 @@
-use Rattle.std.proofs.Common.{◌≡◌, ◌*◌, Some, map, length, ap, ◌∙◌, arith}
-use Rattle.shared_lists.{specs.Laid.laid, proofs.Cut.{joined_long, counted_all}, proofs.Puts.{from_there, laid_at, put_cut, put_whole}}
+use Rattle.{std.proofs.Common.{◌≡◌, ◌*◌, Some, map, length, ap, ◌∙◌, arith}, shared_lists.{specs.Laid.laid, proofs.Cut.{joined_long, counted_all}}}
+use Rattle.shared_lists.proofs.Puts.{from_there, laid_at, put_cut, put_whole}
 use Rattle.shared_lists.proofs.districts.Districts.with_part.Goals as goal
 
 pub put_pieces-requires-clause-few : goal.put_pieces-requires-clause-few

@@ -1,5 +1,4 @@
-use Rattle.std.proofs.Common.{◌<◌, ◌^◌, List, length, length-append, ap, sym, subst, ◌∙◌, rules}
-use Rattle.shared_lists.specs.Parts.{part_of}
+use Rattle.{std.proofs.Common.{◌<◌, ◌^◌, List, length, length-append, ap, sym, subst, ◌∙◌, rules}, shared_lists.specs.Parts.part_of}
 use Rattle.shared_lists.proofs.list.SharedList.with.Goals as goal
 
 pub with-requires : goal.with-requires

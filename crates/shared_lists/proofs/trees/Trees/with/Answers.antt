@@ -1,5 +1,5 @@
-use Rattle.std.proofs.Common.{◌≡◌, List, [], ◌∷◌, ◌++◌, length, IfOk, ap, sym, subst, ◌∙◌, rules}
-use Rattle.shared_lists.{specs.Parts.part_of, proofs.Grown.{both_long, both_fit, two_fit, two_fit_and_one, joined_long, joined_is}}
+use Rattle.{std.proofs.Common.{◌≡◌, List, [], ◌∷◌, ◌++◌, length, IfOk, ap, sym, subst, ◌∙◌, rules}, shared_lists.specs.Parts.part_of}
+use Rattle.shared_lists.proofs.Grown.{both_long, both_fit, two_fit, two_fit_and_one, joined_long, joined_is}
 use Rattle.shared_lists.proofs.trees.Trees.with.Goals as goal
 
 pub overflow_add-result : goal.overflow_add-result
