@@ -1,6 +1,6 @@
 -- A sum over the blocks, block by block.
 use Rattle.std.{specs.List.zip, proofs.lemmas.{Bool.cases_eq, List.{get_or_default, get_or-replicate, length-set, get_or-set_same, get_or-set_other, take_all, same_lists}}}
-use Rattle.std.proofs.Common.{◌≡◌, ℕ, ◌+◌, ◌<◌, ◌≤◌, ◌≢◌, List, [], ◌∷◌, length, get_or, set, take, replicate, cond, eqb, true, false, sum_by, arith, sym, ◌∙◌, ap, ⊎_elim, add-zero, eq-eqb, ne_eqb, rules}
+use Rattle.std.proofs.Common.{◌≡◌, ℕ, ◌+◌, ◌<◌, ◌≤◌, ◌≢◌, List, [], ◌∷◌, length, get_or, set, take, replicate, cond, eqb, true, false, sum_by, arith, sym, ◌∙◌, ap, inl, inr, add-zero, eq-eqb, ne_eqb, rules}
 use Rattle.std.proofs.lemmas.List.{FromFn.{get_or-map-range_with_len, length-map-range_with_len}, Sums.{sum_by_more, sum_by_more_le_part, sum_by-cons}}
 use Rattle.{std.proofs.lemmas.Slice.Zip.{length-zip, get_or-zip}, audit_clauses.specs.claim.People.{people_in, populations_of, state_people}}
 use Rattle.desk_model.specs.declared.block.BlockRow.{BlockRow}
@@ -20,19 +20,6 @@ pub record AreCounted (blocks : List BlockRow) (plan : List ℕ) (count : ℕ) (
 pub counted_none : (blocks : List BlockRow) (plan : List ℕ) (n : ℕ) (people : List ℕ) → length people ≡ n → people ≡ replicate n 0 → AreCounted blocks plan 0 n people
 counted_none blocks plan n people long none = search (rules, get_or-replicate)
 
-inside_zip : (blocks : List BlockRow) (plan : List ℕ) (count : ℕ) → length plan ≡ length blocks → count < length blocks → count < length (zip blocks plan)
-inside_zip blocks plan count beside less = omega (arith, length-zip blocks plan)
-
-zip_there : (blocks : List BlockRow) (plan : List ℕ) (count : ℕ) (block : BlockRow) → length plan ≡ length blocks → count < length blocks
-    → block ≡ get_or blocks count block → get_or (zip blocks plan) count (block, 0) ≡ (block, get_or plan count 0)
-zip_there blocks plan count block beside less is = search (rules, get_or-zip)
-
-pub more_people : (blocks : List BlockRow) (plan : List ℕ) (count k : ℕ) (block : BlockRow) → length plan ≡ length blocks → count < length blocks
-    → block ≡ get_or blocks count block → people_so_far blocks plan (count + 1) k ≡ people_so_far blocks plan count k + cond (eqb (get_or plan count 0) (k + 1)) block.population 0
-more_people blocks plan count k block beside less is =
-    sum_by_more (share (k + 1)) (zip blocks plan) count (block, 0) (inside_zip blocks plan count beside less)
-    ∙ ap (λ p. people_so_far blocks plan count k + share (k + 1) p) (zip_there blocks plan count block beside less is)
-
 zip_people : (blocks : List BlockRow) (plan : List ℕ) → sum_by (λ (p : BlockRow × ℕ). p.0.population) (zip blocks plan) ≤ state_people blocks
 zip_people [] plan = omega arith
 zip_people (b ∷ bs) [] = omega arith
@@ -42,48 +29,44 @@ zip_people (b ∷ bs) (x ∷ xs) =
 share_small : (k : ℕ) (p : BlockRow × ℕ) → share (k + 1) p ≤ p.0.population
 share_small k p = elim (eqb p.1 (k + 1)) as (λ v. cond v p.0.population 0 ≤ p.0.population) [ true ↦ omega arith | false ↦ omega arith ]
 
--- a district's people so far and one block's are no more than the state's
-pub people_fit : (blocks : List BlockRow) (plan : List ℕ) (count k : ℕ) (block : BlockRow) → length plan ≡ length blocks → count < length blocks
-    → block ≡ get_or blocks count block → people_so_far blocks plan count k + block.population ≤ state_people blocks
-people_fit blocks plan count k block beside less is =
-    let e = sum_by_more_le_part (share (k + 1)) (λ (p : BlockRow × ℕ). p.0.population) (zip blocks plan) count (block, 0) (inside_zip blocks plan count beside less) (share_small k) in
-    let f : people_so_far blocks plan count k + block.population ≤ sum_by (λ (p : BlockRow × ℕ). p.0.population) (zip blocks plan)
-    = rw (zip_there blocks plan count block beside less is) at e in
-    omega (arith, f, zip_people blocks plan)
+module _ (blocks : List BlockRow) (plan : List ℕ) (count : ℕ) (block : BlockRow) (beside : length plan ≡ length blocks) (less : count < length blocks) (is : block ≡ get_or blocks count block) where
+  inside_zip : count < length (zip blocks plan)
+  inside_zip = omega (arith, length-zip blocks plan)
 
--- the block's district isn't one of those that are counted
-pub counted_skip : (blocks : List BlockRow) (plan : List ℕ) (count n : ℕ) (people : List ℕ) (block : BlockRow) → length plan ≡ length blocks → count < length blocks
-    → block ≡ get_or blocks count block → AreCounted blocks plan count n people → ((k : ℕ) → k < n → get_or plan count 0 ≢ k + 1) → AreCounted blocks plan (count + 1) n people
-counted_skip blocks plan count n people block beside less is was none = record {
-  long = was.long;
-  sums = λ k small. was.sums k small ∙ sym (more_people blocks plan count k block beside less is
-      ∙ ap (λ b. people_so_far blocks plan count k + cond b block.population 0) (ne_eqb _ _ (none k small)) ∙ add-zero (people_so_far blocks plan count k));
-}
+  zip_there : get_or (zip blocks plan) count (block, 0) ≡ (block, get_or plan count 0)
+  zip_there = search (rules, get_or-zip)
 
--- the block's people join those of its district
-pub counted_add : (blocks : List BlockRow) (plan : List ℕ) (count n : ℕ) (people : List ℕ) (block : BlockRow) (place : ℕ) → length plan ≡ length blocks → count < length blocks
-    → block ≡ get_or blocks count block → AreCounted blocks plan count n people → place < n → get_or plan count 0 ≡ place + 1
-    → AreCounted blocks plan (count + 1) n (set people place (get_or people place 0 + block.population))
-counted_add blocks plan count n people block place beside less is was inside here = record {
-  long = length-set people place (get_or people place 0 + block.population) ∙ was.long;
-  sums = λ k small. ⊎_elim (λ same. at_place k small same) (λ other. elsewhere k small other) (cases_eq k place);
-}
-  where
-    at_place : (k : ℕ) → k < n → k ≡ place → get_or (set people place (get_or people place 0 + block.population)) k 0 ≡ people_so_far blocks plan (count + 1) k
-    at_place k small same =
-        let e = more_people blocks plan count k block beside less is in
-        let f : eqb (get_or plan count 0) (k + 1) ≡ true = eq-eqb (get_or plan count 0) (k + 1) (here ∙ ap (λ m. m + 1) (sym same)) in
-        let inside_people : place < length people = rw was.long inside in
-        rw same (get_or-set_same people place (get_or people place 0 + block.population) 0 inside_people)
-        ∙ ap (λ m. m + block.population) (was.sums place inside) ∙ ap (λ m. people_so_far blocks plan count m + block.population) (sym same)
-        ∙ ap (λ b. people_so_far blocks plan count k + cond b block.population 0) (sym f) ∙ sym e
+  more_people : (k : ℕ) → people_so_far blocks plan (count + 1) k ≡ people_so_far blocks plan count k + cond (eqb (get_or plan count 0) (k + 1)) block.population 0
+  more_people k = sum_by_more (share (k + 1)) (zip blocks plan) count (block, 0) inside_zip ∙ ap (λ p. people_so_far blocks plan count k + share (k + 1) p) zip_there
 
-    elsewhere : (k : ℕ) → k < n → k ≢ place → get_or (set people place (get_or people place 0 + block.population)) k 0 ≡ people_so_far blocks plan (count + 1) k
-    elsewhere k small other =
-        let e = more_people blocks plan count k block beside less is in
-        let f : eqb (get_or plan count 0) (k + 1) ≡ false = ne_eqb (get_or plan count 0) (k + 1) (λ same. other (omega (arith, same, here))) in
-        get_or-set_other people place k (get_or people place 0 + block.population) 0 other ∙ was.sums k small
-        ∙ sym (add-zero (people_so_far blocks plan count k)) ∙ ap (λ b. people_so_far blocks plan count k + cond b block.population 0) (sym f) ∙ sym e
+  none_more : (k : ℕ) → get_or plan count 0 ≢ k + 1 → people_so_far blocks plan (count + 1) k ≡ people_so_far blocks plan count k
+  none_more k other = more_people k ∙ ap (λ b. people_so_far blocks plan count k + cond b block.population 0) (ne_eqb _ _ other) ∙ add-zero (people_so_far blocks plan count k)
+
+  -- a district's people so far and one block's are no more than the state's
+  pub people_fit : (k : ℕ) → people_so_far blocks plan count k + block.population ≤ state_people blocks
+  people_fit k =
+      let e = sum_by_more_le_part (share (k + 1)) (λ (p : BlockRow × ℕ). p.0.population) (zip blocks plan) count (block, 0) inside_zip (share_small k) in
+      let f : people_so_far blocks plan count k + block.population ≤ sum_by (λ (p : BlockRow × ℕ). p.0.population) (zip blocks plan)
+      = rw (zip_there) at e in
+      omega (arith, f, zip_people blocks plan)
+
+  module _ {n : ℕ} {people : List ℕ} (was : AreCounted blocks plan count n people) where
+    -- the block's district isn't one of those that are counted
+    pub counted_skip : ((k : ℕ) → k < n → get_or plan count 0 ≢ k + 1) → AreCounted blocks plan (count + 1) n people
+    counted_skip none = record { long = was.long; sums = λ k small. was.sums k small ∙ sym (none_more k (none k small)) }
+
+    -- the block's people join those of its district
+    pub counted_add : (place : ℕ) → place < n → get_or plan count 0 ≡ place + 1 → AreCounted blocks plan (count + 1) n (set people place (get_or people place 0 + block.population))
+    counted_add place inside here = record {
+      long = length-set people place (get_or people place 0 + block.population) ∙ was.long;
+      sums = λ k small. elim (cases_eq k place) [
+        | inl same ↦
+            rw same (get_or-set_same people place (get_or people place 0 + block.population) 0 (rw was.long inside) ∙ ap (λ m. m + block.population) (was.sums place inside)
+            ∙ sym (more_people place ∙ ap (λ b. people_so_far blocks plan count place + cond b block.population 0) (eq-eqb _ _ here)))
+        | inr other ↦
+            get_or-set_other people place k (get_or people place 0 + block.population) 0 other ∙ was.sums k small ∙ sym (none_more k (λ same. other (omega (arith, same, here))))
+      ];
+    }
 
 pub counted_all : (blocks : List BlockRow) (plan : List ℕ) (count n : ℕ) (people : List ℕ) → length plan ≡ length blocks → length blocks ≤ count → AreCounted blocks plan count n people
     → people ≡ populations_of blocks plan n

@@ -1,8 +1,8 @@
 -- Counties and cities of the blocks at places.
 use Rattle.std.proofs.{Common.{◌≡◌, ℕ, ◌+◌, ◌<◌, ◌≤◌, ◌^◌, Some, None, List, length, get_or, sym, ap, ◌∙◌, arith, rules}, lemmas.{Bool.cases_lt, List.{get_or-map, length-map}}}
-use Rattle.{std.proofs.lemmas.Map.Keys.{sorted_from_strictly_increasing, below_from_sorted}, audit_clauses.specs.Splits.AreCodesBelow, desk_model.proofs.Parts.county_rises}
-use Rattle.{audit_clauses.specs.claim.Divided.{county_at, city_at, IsInCounty, IsInCity}, desk_model.specs.claim.{Block.{county_of, state_of}, Geography.{ids_of, id_at}}}
-use Rattle.desk_model.specs.{claim.GeographyModels.AreBlocks, declared.block.BlockRow.BlockRow}
+use Rattle.{std.proofs.lemmas.{Map.Keys.{sorted_from_strictly_increasing, below_from_sorted}, Option.same_Some}, audit_clauses.specs.Splits.AreCodesBelow}
+use Rattle.{audit_clauses.specs.claim.Divided.{county_at, city_at, IsInCounty, IsInCity}, desk_model.specs.claim.{Block.county_of, Geography.{ids_of, id_at}}}
+use Rattle.desk_model.{specs.{claim.GeographyModels.AreBlocks, declared.block.BlockRow.BlockRow}, proofs.Parts.county_rises}
 
 pub county_here : (blocks : List BlockRow) (i : ℕ) (row : BlockRow) → i < length blocks → row ≡ get_or blocks i row → county_at blocks i ≡ county_of row.id
 county_here blocks i row within is = ap county_of (get_or-map (λ (b : BlockRow). b.id) blocks i row 0 within ∙ ap (λ (b : BlockRow). b.id) (sym is))
@@ -10,28 +10,18 @@ county_here blocks i row within is = ap county_of (get_or-map (λ (b : BlockRow)
 pub city_here : (blocks : List BlockRow) (i : ℕ) (row : BlockRow) → i < length blocks → row ≡ get_or blocks i row → city_at blocks i ≡ row.city
 city_here blocks i row within is = get_or-map (λ (b : BlockRow). b.city) blocks i row None within ∙ ap (λ (b : BlockRow). b.city) (sym is)
 
-county_small : (id : ℕ) → county_of id < 1000
-county_small id = omega arith
-
 pub county_below : (blocks : List BlockRow) (county i : ℕ) → IsInCounty blocks county i → county < 1000
-county_below blocks county i is = rw (← is.county_is) (county_small (id_at blocks i))
+county_below blocks county i is = rw (← is.county_is) (omega arith)
 
 -- counties never fall along the blocks
 pub counties_rise : (blocks : List BlockRow) (i j : ℕ) → AreBlocks blocks → i < j → j < length blocks → county_at blocks i ≤ county_at blocks j
-counties_rise blocks i j are less within = county_rises (id_at blocks i) (id_at blocks j) (omega (arith, rises)) (one i (omega arith) ∙ sym (one j within))
-  where
-    rises : id_at blocks i < id_at blocks j
-    rises = below_from_sorted (ids_of blocks) i j 0 (sorted_from_strictly_increasing (ids_of blocks) are.rising) less (rw length-map within)
-
-    one : (k : ℕ) → k < length blocks → state_of (id_at blocks k) ≡ state_of (id_at blocks 0)
-    one k inside = are.one_state k 0 (rw length-map inside)
-
-pub some_same : (a b : ℕ) → Some a ≡ Some b → a ≡ b
-some_same a b e = cc
+counties_rise blocks i j are less within =
+    let rises = below_from_sorted (ids_of blocks) i j 0 (sorted_from_strictly_increasing (ids_of blocks) are.rising) less (rw length-map within) in
+    county_rises (id_at blocks i) (id_at blocks j) (omega arith) (are.one_state i 0 (rw length-map (omega arith)) ∙ sym (are.one_state j 0 (rw length-map within)))
 
 -- a block lies in one city at most
 pub one_city : (blocks : List BlockRow) (a b i : ℕ) → IsInCity blocks a i → IsInCity blocks b i → a ≡ b
-one_city blocks a b i one other = some_same a b (sym one.city_is ∙ other.city_is)
+one_city blocks a b i one other = same_Some a b (sym one.city_is ∙ other.city_is)
 
 -- a bound above the cities so far, with one block more
 pub codes_more : (blocks : List BlockRow) (i old new : ℕ) → AreCodesBelow blocks i old → old ≤ new → new ≤ 2 ^ 32 → ((city : ℕ) → IsInCity blocks city i → city < new)

@@ -1,38 +1,21 @@
 -- Counts and filters that aren't empty.
-use Rattle.std.proofs.Common.{rules, ◌≡◌, ℕ, ◌+◌, ◌-◌, ◌<◌, ◌≤◌, Bool, true, false, cond, eqb, zero, suc, List, [], ◌∷◌, length, get_or, filter, count_by, All, Contains, ap, ◌∙◌, arith, ⊎_elim, eq-eqb}
-use Rattle.std.proofs.lemmas.{Bool.{cases_Bool, eqb-true}, List.{Elements.{All-filter, filter_passes}, FromFn.{get_or-range_with_len, length-range_with_len}, Sums.sum_by-cons}}
-use Rattle.audit_clauses.specs.claim.People.{districts}
-
-counted_at : (x : ℕ) (xs : List ℕ) → eqb x 0 ≡ true → count_by (λ d. eqb d 0) (x ∷ xs) ≡ 1 + count_by (λ d. eqb d 0) xs
-counted_at x xs is = sum_by-cons (λ d. cond (eqb d 0) 1 0) x xs ∙ ap (λ b. cond b 1 0 + count_by (λ d. eqb d 0) xs) is
-
-passed_at : (x : ℕ) (xs : List ℕ) → eqb x 0 ≡ false → count_by (λ d. eqb d 0) (x ∷ xs) ≡ 0 + count_by (λ d. eqb d 0) xs
-passed_at x xs is = sum_by-cons (λ d. cond (eqb d 0) 1 0) x xs ∙ ap (λ b. cond b 1 0 + count_by (λ d. eqb d 0) xs) is
-
--- one is counted, so it is there
-pub has_from_count : (xs : List ℕ) → 0 < count_by (λ d. eqb d 0) xs → Contains xs 0
-has_from_count [] some = absurd (omega arith)
-has_from_count (x ∷ xs) some =
-    ⊎_elim (λ (e : eqb x 0 ≡ true). (0, omega arith, eqb-true x 0 e))
-    (λ (e : eqb x 0 ≡ false). let later = has_from_count xs (omega (arith, some, passed_at x xs e)) in (suc later.0, omega (arith, later.1), later.2))
-    (cases_Bool (eqb x 0))
-
-count_from_at : (xs : List ℕ) (k : ℕ) → k < length xs → get_or xs k 0 ≡ 0 → 0 < count_by (λ d. eqb d 0) xs
-count_from_at [] k less is = absurd (omega arith)
-count_from_at (x ∷ xs) zero less is = omega (arith, counted_at x xs (eq-eqb x 0 is))
-count_from_at (x ∷ xs) (suc k) less is =
-    ⊎_elim (λ (e : eqb x 0 ≡ true). omega (arith, counted_at x xs e))
-    (λ (e : eqb x 0 ≡ false). omega (arith, passed_at x xs e, count_from_at xs k (omega arith) is))
-    (cases_Bool (eqb x 0))
-
-pub count_from_has : (xs : List ℕ) → Contains xs 0 → 0 < count_by (λ d. eqb d 0) xs
-count_from_has xs has = count_from_at xs has.0 has.1 has.2
+use Rattle.std.proofs.Common.{rules, ◌≡◌, ℕ, ◌-◌, ◌<◌, ◌≤◌, Bool, true, eqb, zero, suc, List, [], ◌∷◌, length, get_or, filter, count_by, All, Contains, inl, inr, arith, eq-eqb}
+use Rattle.std.proofs.lemmas.{Bool.{cases_Bool, eqb-true}, List.{Elements.{All-contains_itself, All-filter, filter_passes}, FromFn.{get_or-range_with_len, length-range_with_len}}}
+use Rattle.{std.proofs.lemmas.List.Sums.length-filter, audit_clauses.specs.claim.People.districts}
 
 filter_at : (p : ℕ → Bool) (xs : List ℕ) (k : ℕ) → k < length xs → p (get_or xs k 0) ≡ true → 0 < length (filter p xs)
 filter_at p [] k less passes = absurd (omega arith)
 filter_at p (x ∷ xs) zero less passes = rw passes (omega arith)
-filter_at p (x ∷ xs) (suc k) less passes =
-    ⊎_elim (λ (e : p x ≡ true). rw e (omega arith)) (λ (e : p x ≡ false). rw e (filter_at p xs k (omega arith) passes)) (cases_Bool (p x))
+filter_at p (x ∷ xs) (suc k) less passes = elim (cases_Bool (p x)) [ inl e ↦ rw e (omega arith) | inr e ↦ rw e (filter_at p xs k (omega arith) passes) ]
+
+-- one is counted, so it is there
+pub has_from_count : (xs : List ℕ) → 0 < count_by (λ d. eqb d 0) xs → Contains xs 0
+has_from_count xs some =
+    let less : 0 < length (filter (λ d. eqb d 0) xs) = omega (arith, length-filter (λ d. eqb d 0) xs) in
+    rw (eqb-true _ 0 (filter_passes (λ d. eqb d 0) xs 0 0 less)) at (All-filter (λ d. eqb d 0) (Contains xs) xs (All-contains_itself xs) 0 0 less)
+
+pub count_from_has : (xs : List ℕ) → Contains xs 0 → 0 < count_by (λ d. eqb d 0) xs
+count_from_has xs has = omega (arith, length-filter (λ d. eqb d 0) xs, filter_at (λ d. eqb d 0) xs has.0 has.1 (eq-eqb _ 0 has.2))
 
 -- a district that passes leaves the filtered districts not empty
 pub filter_from_district : (p : ℕ → Bool) (n d : ℕ) → 1 ≤ d → d ≤ n → p d ≡ true → 0 < length (filter p (districts n))

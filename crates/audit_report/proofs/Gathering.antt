@@ -1,6 +1,6 @@
 -- The pieces that are left when one is taken, and the breaks of all parts.
 use Rattle.std.{specs.{Prelude.Vec, declared.alloc.Global.Global}, proofs.{Math.Nat.{mul-le-mul_left, div-add-mod, mod-lt}, lemmas.Bool.{cases_lt, cases_eq}}}
-use Rattle.std.proofs.Common.{rules, ◌≡◌, ◌≢◌, ℕ, ◌+◌, ◌-◌, ◌*◌, ◌/◌, ◌%◌, ◌<◌, ◌≤◌, min, List, ◌++◌, length, get_or, set, remove, sym, ap, ◌∙◌, subst, arith, ⊎_elim}
+use Rattle.std.proofs.Common.{rules, ◌≡◌, ℕ, ◌+◌, ◌-◌, ◌*◌, ◌/◌, ◌%◌, ◌<◌, ◌≤◌, min, List, ◌++◌, length, get_or, set, remove, sym, ap, ◌∙◌, subst, inl, inr, arith}
 use Rattle.std.proofs.lemmas.List.{get_or_default, length-set, get_or-set_same, get_or-set_other, Edits.{get_or-remove_below, length-remove}}
 use Rattle.audit_clauses.specs.{Laws.BreaksFollow, claim.Breaks.AreBreaks, declared.{breaks.Break.Break, splits.DividedGroups.DividedGroups}}
 use Rattle.audit_report.specs.{Share.{AreNumberedBelow, IsHeld, AreShares, IsTaken, IsThere}, Work.{Audit, IsPieceOf, IsFound, breaks_in}, declared.pieces.People.People}
@@ -14,31 +14,28 @@ place_before workers p q some same less = search (rules, div-add-mod, mul-le-mul
 held_still : (a : Audit) (piece place out : ℕ) (old new : List Found) → place < out → out < length old → new ≡ remove old out → IsHeld a piece place old → IsHeld a piece place new
 held_still a piece place out old new before within is was = search (rules, length-remove, get_or-remove_below)
 
-pub taken_is : (a : Audit) (workers piece : ℕ) (old new : List (Vec Found Global)) (found : Found) → AreShares a (piece + 1) workers old → IsTaken piece workers old new found → IsFound a piece found
-taken_is a workers piece old new found held taken = search (arith, taken.was taken.share found)
+-- where the shares hold what the pieces up to one found, and this is taken
+module _ {a : Audit} {workers piece : ℕ} {old new : List (Vec Found Global)} {it : Found} (taken : IsTaken piece workers old new it) (held : AreShares a (piece + 1) workers old) where
+  pub taken_is : IsFound a piece it
+  taken_is = search (arith, taken.was taken.share it)
 
-pub taken_left : (a : Audit) (workers piece : ℕ) (old new : List (Vec Found Global)) (found : Found) → 0 < workers → AreShares a (piece + 1) workers old → IsTaken piece workers old new found
-    → AreShares a piece workers new
-taken_left a workers piece old new found some held taken = record {
-  wide = ap length taken.is ∙ length-set old (piece % workers) taken.share ∙ held.wide;
-  each = λ p s less.
-      let was = held.each p s (omega arith) in
-      ⊎_elim
-      (λ (same : p % workers ≡ piece % workers).
-      let inside : piece % workers < length old = omega (arith, held.wide, mod-lt piece some) in
-      rw (taken.is, same, get_or-set_same old (piece % workers) taken.share s inside)
-      (held_still a p (p / workers) (piece / workers) (get_or old (piece % workers) s).items taken.share.items (place_before workers p piece some same less)
-      (held.each piece s (omega arith)).within (taken.left s) (subst (λ w. IsHeld a p (p / workers) (get_or old w s).items) same was)))
-      (λ (other : p % workers ≢ piece % workers).
-      rw (taken.is, get_or-set_other old (piece % workers) (p % workers) taken.share s other) was)
-      (cases_eq (p % workers) (piece % workers));
-}
+  pub taken_left : 0 < workers → AreShares a piece workers new
+  taken_left some = record {
+    wide = ap length taken.is ∙ length-set old (piece % workers) taken.share ∙ held.wide;
+    each = λ p s less. elim (cases_eq (p % workers) (piece % workers)) [
+      | inl same ↦
+          rw (taken.is, same, get_or-set_same old (piece % workers) taken.share s (omega (arith, held.wide, mod-lt piece some)))
+          (held_still a p (p / workers) (piece / workers) (get_or old (piece % workers) s).items taken.share.items (place_before workers p piece some same less)
+          (held.each piece s (omega arith)).within (taken.left s) (subst (λ w. IsHeld a p (p / workers) (get_or old w s).items) same (held.each p s (omega arith))))
+      | inr other ↦ rw (taken.is, get_or-set_other old (piece % workers) (p % workers) taken.share s other) (held.each p s (omega arith))
+    ];
+  }
 
-pub shares_below : (a : Audit) (pieces workers below : ℕ) (shares : List (Vec Found Global)) → below ≤ pieces → AreShares a pieces workers shares → AreShares a below workers shares
-shares_below a pieces workers below shares less held = record { wide = held.wide; each = λ p s l. held.each p s (omega arith) }
+pub shares_below : {a : Audit} {pieces workers : ℕ} {shares : List (Vec Found Global)} (below : ℕ) → below ≤ pieces → AreShares a pieces workers shares → AreShares a below workers shares
+shares_below below less held = record { wide = held.wide; each = λ p s l. held.each p s (omega arith) }
 
-pub there_is : (a : Audit) (workers piece : ℕ) (shares : List (Vec Found Global)) → 0 < workers → AreShares a (piece + 1) workers shares → IsThere piece workers shares
-there_is a workers piece shares some held = record { some = some; wide = held.wide; within = λ s. (held.each piece s (omega arith)).within }
+pub there_is : {a : Audit} {workers piece : ℕ} {shares : List (Vec Found Global)} → 0 < workers → AreShares a (piece + 1) workers shares → IsThere piece workers shares
+there_is {piece = piece} some held = record { some = some; wide = held.wide; within = λ s. (held.each piece s (omega arith)).within }
 
 pub taken_by : (piece workers : ℕ) (old : List (Vec Found Global)) (share left : Vec Found Global) (found : Found) → IsThere piece workers old
     → share ≡ get_or old (piece % workers) share → found ≡ get_or share.items (piece / workers) found → left.items ≡ remove share.items (piece / workers)

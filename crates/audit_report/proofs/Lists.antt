@@ -1,6 +1,6 @@
 -- Lists as JSON, item by item.
-use Rattle.{std.{specs.declared.alloc.Global.Global, proofs.lemmas.List.{map_push, map_more, take_all}}, audit_report.specs.claim.ReportText.list_data}
-use Rattle.std.proofs.Common.{◌≡◌, ℕ, zero, suc, ◌+◌, ◌<◌, List, [], ◌∷◌, ◌++◌, length, get_or, map, take, Vec, String, string_bytes, refl, ap, sym, ◌∙◌, arith, rules}
+use Rattle.{std.{specs.declared.alloc.Global.Global, proofs.lemmas.List.{get_or_default, map_push, map_more, take_all}}, audit_report.specs.claim.ReportText.list_data}
+use Rattle.std.proofs.Common.{◌≡◌, ℕ, ◌+◌, ◌<◌, List, [], ◌∷◌, ◌++◌, length, get_or, map, take, Vec, String, string_bytes, ap, sym, ◌∙◌, arith, rules}
 use Rattle.serde_json.{specs.{Data.{Data, array, string}, View.{view, items_of}, declared.value.Value.{Value, Array, the_lemmas}}, proofs.Views.view-Array}
 use Rattle.serde_json.specs.declared.value.Value as json
 
@@ -24,11 +24,6 @@ first_written f xs count values all was = view-Array values ∙ first_all f xs c
 view-String : (s : String Global) → view (json.String s) ≡ string (string_bytes s)
 view-String s = search (rules, the_lemmas)
 
-within : {X : Type 0} (xs : List X) (count : ℕ) (d e : X) → count < length xs → get_or xs count d ≡ get_or xs count e
-within [] count d e less = absurd (omega arith)
-within (x ∷ xs) zero d e less = refl
-within (x ∷ xs) (suc count) d e less = within xs count d e (omega arith)
-
 pub text_more : {X : Type 0} (f : X → Data) (xs : List X) (count : ℕ) (values : List Value) (d : X) (s : String Global) → count < length xs → string (string_bytes s) ≡ f (get_or xs count d)
     → AreFirst f xs count values → AreFirst f xs (count + 1) (values ++ json.String s ∷ [])
-text_more f xs count values d s less same was = first_more f xs count values (get_or xs count d) (json.String s) less (within xs count d _ less) (view-String s ∙ same) was
+text_more f xs count values d s less same was = first_more f xs count values (get_or xs count d) (json.String s) less (get_or_default xs count d _ less) (view-String s ∙ same) was

@@ -1,8 +1,8 @@
 -- The broken clauses, one by one.
-use Rattle.std.{specs.List.Sorted.IsStrictlyIncreasing, proofs.lemmas.{Bool.{cases_lt, cases_Bool, false≢true}, List.{append-nil, length-map, map_push, get_or-map}}}
-use Rattle.std.proofs.Common.{rules, ◌≡◌, ℕ, ◌+◌, ◌<◌, Bool, true, false, IsTrue, zero, suc, List, [], ◌∷◌, ◌++◌, length, map, All, Contains, refl, ap, sym, ◌∙◌, arith, ⊎_elim}
-use Rattle.{std.proofs.lemmas.List.Elements.{All-push, All-nil, All-weaker, Contains-push, Contains-append_left}, audit_report.specs.Assembled.noted}
-use Rattle.audit_report.specs.{claim.Clauses.{rank, AreExactlyClauses}, declared.clause.Clause.{Clause, TheVariants.{Complete, Mean, Range, Congress, Contiguous, Nested}}}
+use Rattle.{std.{specs.List.Sorted.IsStrictlyIncreasing, proofs.lemmas.{Bool.{cases_lt, cases_Bool, false≢true}, List.{append-nil, map_push}}}, audit_report.specs.Assembled.noted}
+use Rattle.std.proofs.Common.{rules, ◌≡◌, ℕ, ◌+◌, ◌<◌, Bool, true, false, IsTrue, zero, suc, List, [], ◌∷◌, ◌++◌, map, All, Contains, refl, ap, sym, ◌∙◌, arith, ⊎_elim}
+use Rattle.{std.proofs.lemmas.List.Elements.{All-push, All-map, All-nil, All-weaker, Contains-push, Contains-append_left}, audit_report.specs.declared.clause.Clause.Clause}
+use Rattle.audit_report.specs.{claim.Clauses.{rank, AreExactlyClauses}, declared.clause.Clause.TheVariants.{Complete, Mean, Range, Congress, Contiguous, Nested}}
 use Rattle.audit_clauses.proofs.Telling.{rising_push}
 
 -- the clauses of a lower rank of which this holds are named
@@ -31,15 +31,10 @@ at_rank _ = refl
 same_rank : (a b : Clause) → rank a ≡ rank b → a ≡ b
 same_rank a b e = sym (at_rank a) ∙ ap clause_at e ∙ at_rank b
 
-below_map : (clauses : List Clause) (count : ℕ) → All (λ (c : Clause). rank c < count) clauses → All (λ x. x < count) (map rank clauses)
-below_map clauses count below k d less =
-    let inside : k < length clauses = rw length-map at less in
-    let e = get_or-map rank clauses k Complete d inside in rw e (below k Complete inside)
-
 named_push : (Holds : Clause → Type 0) (count : ℕ) (clauses : List Clause) (clause : Clause) → rank clause ≡ count → Holds clause → AreNamed Holds count clauses
     → AreNamed Holds (count + 1) (clauses ++ clause ∷ [])
 named_push Holds count clauses clause is holds was = record {
-  rising = rw (map_push rank clauses clause) (rising_push (map rank clauses) (rank clause) was.rising (rw is (below_map clauses count was.below)));
+  rising = rw (map_push rank clauses clause) (rising_push (map rank clauses) (rank clause) was.rising (rw is (All-map (λ x. x < count) rank clauses was.below)));
   below = All-push (λ (c : Clause). rank c < count + 1) clauses clause
       (All-weaker (λ (c : Clause). rank c < count) (λ (c : Clause). rank c < count + 1) (λ c less. omega arith) clauses was.below) (omega arith);
   listed = All-push Holds clauses clause was.listed holds;

@@ -63,36 +63,20 @@ divided_same n plan (Some c) (Some one) (Some other) law is too = ap Some (numbe
 divided_same n plan (Some c) _ _ law is too = search rules
 
 pub one_report : BreaksAreOneList → RisingListsAreOne → ReportIsOne
-one_report breaks law g k n plan beside one other are too =
-    let broken = clauses_same (IsNamed g k n plan beside.senate) one.broken other.broken law are.broken too.broken in
-    let cities = numbers_same (IsDividedCity g.blocks plan) one.cities other.cities law are.cities too.cities in
-    let within = numbers_same (IsDividedWithinCounty g.blocks plan) one.cities_in_county other.cities_in_county law are.cities_in_county too.cities_in_county in
-    let congress = are.congress ∙ sym too.congress in
-    let contiguity = breaks g plan 1 n one.contiguity other.contiguity are.contiguity too.contiguity in
-    let counties = numbers_same (IsDividedCounty g.blocks plan) one.counties other.counties law are.counties too.counties in
-    let districts = are.districts ∙ sym too.districts in
-    let divided = divided_same n plan beside.congress one.divided_by_congress other.divided_by_congress law are.divided_by_congress too.divided_by_congress in
-    let kind_is = are.kind_is ∙ sym too.kind_is in
-    let nesting = nesting_same n plan beside.senate one.nesting other.nesting law are.nesting too.nesting in
-    let not_asked = are.not_asked ∙ sym too.not_asked in
-    let population = are.population ∙ sym too.population in
-    let populations = are.populations ∙ sym too.populations in
-    let range = range_same k (populations_of g.blocks plan n) one.range other.range are.range too.range in
-    let unassigned = are.unassigned ∙ sym too.unassigned in
-    λ i. record {
-      broken = broken i;
-      cities = cities i;
-      cities_in_county = within i;
-      congress = congress i;
-      contiguity = contiguity i;
-      counties = counties i;
-      districts = districts i;
-      divided_by_congress = divided i;
-      kind = kind_is i;
-      nesting = nesting i;
-      not_asked = not_asked i;
-      population = population i;
-      populations = populations i;
-      range = range i;
-      unassigned = unassigned i;
-    }
+one_report breaks law g k n plan beside one other are too = λ i. record {
+  broken = clauses_same (IsNamed g k n plan beside.senate) one.broken other.broken law are.broken too.broken i;
+  cities = numbers_same (IsDividedCity g.blocks plan) one.cities other.cities law are.cities too.cities i;
+  cities_in_county = numbers_same (IsDividedWithinCounty g.blocks plan) one.cities_in_county other.cities_in_county law are.cities_in_county too.cities_in_county i;
+  congress = (are.congress ∙ sym too.congress) i;
+  contiguity = breaks g plan 1 n one.contiguity other.contiguity are.contiguity too.contiguity i;
+  counties = numbers_same (IsDividedCounty g.blocks plan) one.counties other.counties law are.counties too.counties i;
+  districts = (are.districts ∙ sym too.districts) i;
+  divided_by_congress = divided_same n plan beside.congress one.divided_by_congress other.divided_by_congress law are.divided_by_congress too.divided_by_congress i;
+  kind = (are.kind_is ∙ sym too.kind_is) i;
+  nesting = nesting_same n plan beside.senate one.nesting other.nesting law are.nesting too.nesting i;
+  not_asked = (are.not_asked ∙ sym too.not_asked) i;
+  population = (are.population ∙ sym too.population) i;
+  populations = (are.populations ∙ sym too.populations) i;
+  range = range_same k (populations_of g.blocks plan n) one.range other.range are.range too.range i;
+  unassigned = (are.unassigned ∙ sym too.unassigned) i;
+}

@@ -1,14 +1,14 @@
 -- From the pieces to the report.
 use Rattle.std.{specs.{Borrow.Bor, Option.option_copied}, proofs.lemmas.{Bool.{cases_lt, lt-ltb, ltb-true, false≢true, some_since, and_from}, List.length-map}}
-use Rattle.std.proofs.Common.{rules, ◌≡◌, ℕ, ◌<◌, ◌≤◌, Bool, IsTrue, List, [], length, get_or, filter, Option, Some, None, option_map, is_some, MatchOption, refl, ap, sym, ◌∙◌, arith, ⊎_elim}
+use Rattle.std.proofs.Common.{rules, ◌≡◌, ℕ, IsTrue, List, [], length, get_or, filter, Option, Some, None, is_some, MatchOption, refl, ap, sym, ◌∙◌, inl, inr, arith}
 use Rattle.{std.proofs.lemmas.List.FromFn.length-map-range_with_len, audit_clauses.specs.claim.{Breaks.{IsGap, AreBreaks}, Clauses.{deviates, RangeBreaks, AreExtremes}}}
 use Rattle.audit_clauses.specs.{claim.{Paths.{IsIn, HoldsTogether}, People.{people_in, populations_of, state_people, districts}}, declared.breaks.{Break.Break, Gap.Gap}}
-use Rattle.{audit_clauses.specs.declared.deviations.Extremes.Extremes, audit_report.specs.{Assembled.{is_listed, found_clauses}, Pieces.{ArePeople, ReportsPieces}}}
+use Rattle.{audit_clauses.specs.declared.deviations.Extremes.Extremes, audit_report.specs.{Assembled.{is_listed, found_clauses}, Pieces.ArePeople, declared.clause.Clause.Clause}}
 use Rattle.audit_report.specs.claim.Clauses.{is_house, is_congress, is_legislative, CongressBreaks, ContiguityBreaks, NestingBreaks, IsNamed, AreExactlyClauses}
-use Rattle.audit_report.specs.{claim.Report.{congress_of, IsRange, IsNesting, not_asked_of}, declared.{clause.Clause.Clause, pieces.Pieces.Pieces}}
-use Rattle.{audit_report.specs.declared.clause.Clause.TheVariants.{Complete, Mean, Range, Congress, Contiguous, Nested}, desk_model.specs.claim.Companions.takes}
-use Rattle.{desk_model.specs.{claim.Geography.GeographyModel, declared.{block.BlockRow.BlockRow, kind.Kind.Kind}}, audit_report.proofs.Naming.{named_none, named_more, named_all}}
-use Rattle.audit_report.proofs.Counting.{has_from_count, count_from_has, filter_from_district, first_filtered}
+use Rattle.audit_report.specs.{claim.Report.{congress_of, IsRange, IsNesting}, declared.clause.Clause.TheVariants.{Complete, Mean, Range, Congress, Contiguous, Nested}}
+use Rattle.{audit_report.specs.declared.pieces.Pieces.Pieces, desk_model.specs.{claim.{Companions.takes, Geography.GeographyModel}, declared.block.BlockRow.BlockRow}}
+use Rattle.{desk_model.specs.declared.kind.Kind.Kind, audit_report.proofs.Counting.{has_from_count, count_from_has, filter_from_district, first_filtered}}
+use Rattle.audit_report.proofs.Naming.{named_none, named_more, named_all}
 use Rattle.desk_model.specs.declared.kind.Kind.TheVariants as kind
 
 pub populations_long : (blocks : List BlockRow) (plan : List ℕ) (n : ℕ) (populations : List ℕ) → populations ≡ populations_of blocks plan n → length populations ≡ n
@@ -63,10 +63,10 @@ contiguity_holds g plan n breaks are some =
 
 contiguity_tells : (g : GeographyModel) (plan : List ℕ) (n : ℕ) (breaks : List Break) → AreBreaks g plan 1 n breaks → ContiguityBreaks g n plan → IsTrue (is_listed breaks)
 contiguity_tells g plan n breaks are broken =
-    ⊎_elim (λ (some : 0 < length breaks). lt-ltb 0 (length breaks) some)
-    (λ (empty : length breaks ≤ 0).
-    absurd (broken.broken (are.whole broken.district broken.from_first broken.to_last (λ has. omega (arith, has.1, length-map breaks (λ (b : Break). b.district))))))
-    (cases_lt 0 (length breaks))
+    lt-ltb 0 (length breaks) (elim (cases_lt 0 (length breaks)) [
+      | inl some ↦ some
+      | inr empty ↦ absurd (broken.broken (are.whole broken.district broken.from_first broken.to_last (λ has. omega (arith, has.1, length-map breaks (λ (b : Break). b.district)))))
+    ])
 
 nesting_holds : (n : ℕ) (plan : List ℕ) (companion : Option (List ℕ)) (listed : List ℕ) → IsNesting n plan companion listed → IsTrue (is_listed listed)
     → IsTrue (is_some companion) × MatchOption companion ⊥ (NestingBreaks n plan)
@@ -84,7 +84,7 @@ house_takes kind.Congress is = is
 house_takes _ is = is
 
 -- the clauses that the pieces found are those that apply and are broken
-named : (g : GeographyModel) (k : Kind) (n : ℕ) (plan : List ℕ) (companion : Option (List ℕ)) (p : Pieces) → (IsTrue (is_some companion) → IsTrue (takes kind.Senate k)) → ArePeople g k n plan p.people
+pub named : (g : GeographyModel) (k : Kind) (n : ℕ) (plan : List ℕ) (companion : Option (List ℕ)) (p : Pieces) → (IsTrue (is_some companion) → IsTrue (takes kind.Senate k)) → ArePeople g k n plan p.people
     → IsNesting n plan companion p.unnested.nesting.items → AreBreaks g plan 1 n p.contiguity.items → AreExactlyClauses (IsNamed g k n plan companion) (found_clauses p)
 named g k n plan companion p of_house people nesting contiguity =
     named_all Holds (found_clauses p)
@@ -117,39 +117,3 @@ named g k n plan companion p of_house people nesting contiguity =
 
     total : ℕ
     total = state_people g.blocks
-
-pub report_is : (k : Kind) (n : ℕ) (with_senate : Bool) (p : Pieces) (broken not_asked : List Clause) → broken ≡ found_clauses p → not_asked ≡ not_asked_of k with_senate
-    → ReportsPieces k n with_senate p (record {
-      broken = broken;
-      cities = p.splits.cities.items;
-      cities_in_county = p.splits.cities_in_county.items;
-      congress = p.people.congress.items;
-      contiguity = p.contiguity.items;
-      counties = p.splits.counties.items;
-      districts = n;
-      divided_by_congress = option_map (λ d. d.items) p.unnested.divided_by_congress;
-      kind = k;
-      nesting = p.unnested.nesting.items;
-      not_asked = not_asked;
-      population = p.people.total;
-      populations = p.people.populations.items;
-      range = p.people.range;
-      unassigned = p.people.unassigned;
-    })
-report_is k n with_senate p broken not_asked found wanting g plan beside same taken pieces = record {
-  broken = rw found (named g k n plan beside.senate p taken.senate pieces.people pieces.unnested.nesting pieces.contiguity);
-  cities = pieces.splits.cities;
-  cities_in_county = pieces.splits.cities_in_county;
-  congress = pieces.people.congress;
-  contiguity = pieces.contiguity;
-  counties = pieces.splits.counties;
-  districts = refl;
-  divided_by_congress = pieces.unnested.divided_by_congress;
-  kind_is = refl;
-  nesting = pieces.unnested.nesting;
-  not_asked = wanting ∙ ap (not_asked_of k) same;
-  population = pieces.people.total;
-  populations = pieces.people.populations;
-  range = pieces.people.range;
-  unassigned = pieces.people.unassigned;
-}

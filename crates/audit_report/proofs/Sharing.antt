@@ -1,6 +1,6 @@
 -- What a worker found so far, and all workers together.
 use Rattle.std.{specs.{Prelude.Vec, declared.alloc.{AllocError.AllocError, Global.Global}}, proofs.Math.Nat.{add_comm, add-mul, mul-le-mul_right, div-add-mod, mod-lt, mul_comm}}
-use Rattle.std.proofs.Common.{rules, ◌≡◌, ℕ, ◌+◌, ◌-◌, ◌*◌, ◌/◌, ◌%◌, ◌<◌, ◌≤◌, min, Bool, List, [], ◌∷◌, ◌++◌, length, map, get_or, Result, Ok, IfOk, sym, ap, ◌∙◌, subst, arith, ⊎_elim}
+use Rattle.std.proofs.Common.{rules, ◌≡◌, ℕ, ◌+◌, ◌-◌, ◌*◌, ◌/◌, ◌%◌, ◌<◌, ◌≤◌, min, Bool, List, [], ◌∷◌, ◌++◌, length, map, get_or, Result, Ok, IfOk, sym, ap, ◌∙◌, subst, inl, inr, arith}
 use Rattle.{std.proofs.lemmas.{Bool.cases_lt, List.{length-map, length_push, get_or-map, get_or_push, get_or_append_left}, Nat.mod-mul-add}, audit_clauses.specs.Parts.Shown}
 use Rattle.{audit_clauses.specs.{claim.Breaks.AreBreaks, declared.breaks.Break.Break}, audit_report.specs.Share.{IsHeld, IsShare, AreNext, AreOwnParts, AreShares}}
 use Rattle.audit_report.specs.{Work.{Audit, IsFound, shown_of}, declared.work.Found.Found}
@@ -10,27 +10,20 @@ pub next_more : (a : Audit) (workers worker piece : ℕ) (held : List Found) (x 
     → AreNext a workers worker (piece + workers) (held ++ x ∷ [])
 next_more a workers worker piece held x was is = record {
   next = let e = length_push held x in let f : (length held + 1) * workers ≡ length held * workers + 1 * workers = add-mul (length held) 1 workers in rw e (omega (arith, was.next, f));
-  each = λ place less. ⊎_elim
-      (λ (before : place < length held). record {
-        within = omega (arith, length_push held x);
-        is = λ d. rw (get_or_append_left held (x ∷ []) d place before) ((was.each place before).is d);
-      })
-      (λ (last : length held ≤ place). search (rules, length_push, get_or_push))
-      (cases_lt place (length held));
+  each = λ place less. elim (cases_lt place (length held)) [
+    | inl before ↦ record { within = omega (arith, length_push held x); is = λ d. rw (get_or_append_left held (x ∷ []) d place before) ((was.each place before).is d) }
+    | inr last ↦ search (rules, length_push, get_or_push)
+  ];
 }
 
 pub next_all : (a : Audit) (pieces workers worker piece : ℕ) (held : List Found) → pieces ≤ piece → AreNext a workers worker piece held → IsShare a pieces workers worker held
-next_all a pieces workers worker piece held all was place less =
-    ⊎_elim (λ (before : place < length held). was.each place before)
-    (λ (past : length held ≤ place). absurd (omega (arith, was.next, mul-le-mul_right {m = length held} {n = place} workers past)))
-    (cases_lt place (length held))
+next_all a pieces workers worker piece held all was place less = elim (cases_lt place (length held)) [
+  | inl before ↦ was.each place before
+  | inr past ↦ absurd (omega (arith, was.next, mul-le-mul_right {m = length held} {n = place} workers past))
+]
 
 abbrev pub Held : Type 0
 Held = Vec Found Global
-
-share_at : (a : Audit) (pieces workers worker : ℕ) (r : Result Held AllocError) (s : Held) → r ≡ Ok s → IfOk r (λ v. IsShare a pieces workers worker v.items)
-    → IsShare a pieces workers worker s.items
-share_at a pieces workers worker r s same is = rw same at is
 
 pub shares_all : (a : Audit) (pieces workers : ℕ) (shares : List Held) (results : List (Result Held AllocError)) → 0 < workers → length results ≡ workers → map Ok shares ≡ results
     → ((worker : ℕ) (d : Result Held AllocError) → worker < workers → IfOk (get_or results worker d) (λ v. IsShare a pieces workers worker v.items)) → AreShares a pieces workers shares
@@ -38,12 +31,10 @@ shares_all a pieces workers shares results some wide same each = record {
   wide = long;
   each = λ piece s less.
       let worker = piece % workers in
-      let place = piece / workers in
-      let own : worker < workers = mod-lt piece some in
-      let at : get_or results worker (Ok s) ≡ Ok (get_or shares worker s) = ap (λ rs. get_or rs worker (Ok s)) (sym same) ∙ get_or-map Ok shares worker s (Ok s) (omega (arith, long)) in
-      let is : worker + place * workers ≡ piece = omega (arith, div-add-mod piece workers, mul_comm place workers) in
-      subst (λ p. IsHeld a p place (get_or shares worker s).items) is
-      (share_at a pieces workers worker (get_or results worker (Ok s)) (get_or shares worker s) at (each worker (Ok s) own) place (omega (arith, is, less)));
+      let stands : get_or results worker (Ok s) ≡ Ok (get_or shares worker s) =
+      ap (λ rs. get_or rs worker (Ok s)) (sym same) ∙ get_or-map Ok shares worker s (Ok s) (omega (arith, long, mod-lt piece some)) in
+      let is : worker + (piece / workers) * workers ≡ piece = omega (arith, div-add-mod piece workers, mul_comm (piece / workers) workers) in
+      subst (λ p. IsHeld a p (piece / workers) (get_or shares worker s).items) is ((rw stands at (each worker (Ok s) (mod-lt piece some))) (piece / workers) (omega (arith, is, less)));
 }
   where
     long : length shares ≡ workers

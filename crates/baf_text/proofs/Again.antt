@@ -1,12 +1,13 @@
 -- A printed text is read line by line.
-use Rattle.std.specs.{Char.is_ascii_digit, List.{list_all, list_any, flat_map, zip}, Prelude.{codes, AllPairs}, Str.Lines.{lines, strip_carriage_return}}
-use Rattle.std.proofs.Common.{◌≡◌, ℕ, ◌+◌, ◌-◌, ◌<◌, ◌≤◌, ◌^◌, true, false, not, ◌&&◌, eqb, List, [], ◌∷◌, ◌++◌, map, length, get_or, zero, suc, refl, sym, ◌∙◌, ap, arith, All, Some, None, Result, Ok, append_assoc, append-nil, length-append, rules}
-use Rattle.std.proofs.{Math.Dec.eqb-suc-zero, lemmas.{Bool.{ne_eqb, eq-eqb, and_parts, and_from, cond-true, cond-false, not-true, Decides.nat_tests}, List.length-map}}
-use Rattle.std.proofs.lemmas.List.{Elements.{All-cons, All-nil, All-append, All-head, All-tail}, Folds.list_any_at, Kept.AllPairs-from_increasing}
-use Rattle.{baf_text.specs.{Laws.{IsAssignment, PrintedIsRead}, Listed.listed_of}, byte_stream.specs.claim.Fields.fields, desk_model.specs.claim.Geography.{GeographyModel, ids}}
-use Rattle.desk_model.specs.claim.{Baf.{Values, Fault, value_at, fields_of, line_read, rows_read, body_read}, GeographyModels.AreBlocks, Padded.padded_decimal}
-use Rattle.desk_model.specs.{claim.{Printed.{code_text, row_text, printed}, Sizes.most_districts}, declared.kind.Kind.{Kind, TheVariants.{Congress, Senate, House}}}
-use Rattle.baf_text.proofs.{Codes.{Writes, padded_writes, said, code_again, in_range_again}, Rows.{two_fields, fields_from_row}, Values.value_at-push_other}
+use Rattle.std.{specs.{Char.is_ascii_digit, List.{list_all, flat_map, zip}, Prelude.{codes, AllPairs}, Str.Lines.{lines, strip_carriage_return}}, proofs.Math.Dec.eqb-suc-zero}
+use Rattle.std.proofs.Common.{◌≡◌, ℕ, ◌+◌, ◌-◌, ◌<◌, ◌≤◌, ◌^◌, true, false, not, ◌&&◌, eqb, List, [], ◌∷◌, ◌++◌, map, length, get_or, zero, suc, refl, sym, ◌∙◌, ap, arith, All, Some, Result, Ok, append_assoc, length-append, rules}
+use Rattle.std.proofs.lemmas.{Bool.{ne_eqb, eq-eqb, and_parts, and_from, cond-true, cond-false, not-true, Decides.nat_tests}, List.{length-map, Kept.AllPairs-from_increasing}}
+use Rattle.{std.proofs.lemmas.List.{Elements.{All-cons, All-append, All-head, All-tail, All-weaker, Contains-get_or}, Sums.AllPass-from_list_all}, baf_text.specs.Listed.listed_of}
+use Rattle.{std.proofs.lemmas.Slice.Zip.{get_or-zip, length-zip, seconds-zip}, baf_text.specs.{Body.{IsBody, value_of}, Laws.{IsAssignment, PrintedIsRead}}}
+use Rattle.{byte_stream.specs.claim.Fields.fields, desk_model.specs.claim.{Baf.{Values, Fault, value_at, fields_of, body_read, header, with_header}, GeographyModels.AreBlocks}}
+use Rattle.desk_model.specs.{claim.{Geography.{GeographyModel, ids}, Padded.padded_decimal, Printed.{code_text, row_text, printed}, Sizes.most_districts}, declared.kind.Kind.Kind}
+use Rattle.{desk_model.specs.declared.{block.BlockRow.BlockRow, kind.Kind.TheVariants.Congress}, baf_text.proofs.Codes.{Writes, padded_writes, said, code_again, in_range_again}}
+use Rattle.baf_text.proofs.{Listing.{body_listed, rows_first, somes, value_in, with_bytes}, Rows.{digits_all, two_fields, fields_from_row}}
 use Rattle.byte_stream.proofs.TextLemmas.{lines-cut}
 
 -- a byte that ends no line
@@ -14,30 +15,20 @@ record IsInLine (b : ℕ) : Type 0 where
   feed : eqb b 10 ≡ false
   return : eqb b 13 ≡ false
 
-digit_in_line : (b : ℕ) → is_ascii_digit b ≡ true → IsInLine b
-digit_in_line b is = record { feed = grind (arith, nat_tests); return = grind (arith, nat_tests) }
-
 digits_in_line : (bytes : List ℕ) → list_all is_ascii_digit bytes ≡ true → All IsInLine bytes
-digits_in_line [] are = All-nil IsInLine
-digits_in_line (b ∷ bytes) are =
-    let parts = and_parts (is_ascii_digit b) (list_all is_ascii_digit bytes) are in
-    All-cons IsInLine b bytes (digit_in_line b parts.0) (digits_in_line bytes parts.1)
+digits_in_line = digits_all IsInLine (λ b is. record { feed = grind (arith, nat_tests); return = grind (arith, nat_tests) })
 
 -- by a test, for a text that is written out
 in_line : (bytes : List ℕ) → list_all (λ b. not (eqb b 10) && not (eqb b 13)) bytes ≡ true → All IsInLine bytes
-in_line [] are = All-nil IsInLine
-in_line (b ∷ bytes) are =
-    let parts = and_parts (not (eqb b 10) && not (eqb b 13)) (list_all (λ b. not (eqb b 10) && not (eqb b 13)) bytes) are in
-    let here = and_parts (not (eqb b 10)) (not (eqb b 13)) parts.0 in
-    All-cons IsInLine b bytes (record { feed = not-true _ here.0; return = not-true _ here.1 }) (in_line bytes parts.1)
+in_line bytes are = All-weaker (λ b. (not (eqb b 10) && not (eqb b 13)) ≡ true) IsInLine
+    (λ b is. let here = and_parts (not (eqb b 10)) (not (eqb b 13)) is in record { feed = not-true _ here.0; return = not-true _ here.1 })
+    bytes (AllPass-from_list_all (λ b. not (eqb b 10) && not (eqb b 13)) bytes are)
 
 code_in_line : (kind : Kind) (d : ℕ) → d ≤ most_districts kind → All IsInLine (code_text kind d)
 code_in_line Congress zero most = in_line (codes "ZZ") refl
-code_in_line Senate zero most = in_line (codes "ZZZ") refl
-code_in_line House zero most = in_line (codes "ZZZ") refl
 code_in_line Congress (suc d) most = rw (eqb-suc-zero d) (digits_in_line (padded_decimal 2 (suc d)) (padded_writes 2 (suc d) (omega arith) (omega arith) (omega arith)).digits)
-code_in_line Senate (suc d) most = rw (eqb-suc-zero d) (digits_in_line (padded_decimal 3 (suc d)) (padded_writes 3 (suc d) (omega arith) (omega arith) (omega arith)).digits)
-code_in_line House (suc d) most = rw (eqb-suc-zero d) (digits_in_line (padded_decimal 3 (suc d)) (padded_writes 3 (suc d) (omega arith) (omega arith) (omega arith)).digits)
+code_in_line _ zero most = in_line (codes "ZZZ") refl
+code_in_line _ (suc d) most = rw (eqb-suc-zero d) (digits_in_line (padded_decimal 3 (suc d)) (padded_writes 3 (suc d) (omega arith) (omega arith) (omega arith)).digits)
 
 -- the line of a block, without its end
 abbrev row_line : Kind → ℕ × ℕ → List ℕ
@@ -83,62 +74,49 @@ fields_again kind row is =
 not_empty : (kind : Kind) (row : ℕ × ℕ) → eqb (length (row_line kind row)) 0 ≡ false
 not_empty kind row = ne_eqb _ 0 (λ e. omega (arith, length-append (padded_decimal 15 row.0) (124 ∷ code_text kind row.1)))
 
-line_again : (g : GeographyModel) (kind : Kind) (n : ℕ) (so_far : Values) (row : ℕ × ℕ) → IsPrintable kind row → row.1 ≤ n → list_any (λ id. eqb id row.0) (ids g) ≡ true
-    → value_at so_far row.0 ≡ None → line_read g n so_far (fields_of (fields (row_line kind row))) ≡ Ok (so_far ++ (row.0, row.1) ∷ [])
-line_again g kind n so_far row is le known none = rw (fields_again kind row is, known, none, in_range_again n row.1 le) refl
-
--- rows with different blocks that aren't listed yet
-pub record AreNew (g : GeographyModel) (kind : Kind) (n : ℕ) (so_far : Values) (xs ds : List ℕ) : Type 0 where
-  pub same : length ds ≡ length xs
-  pub rising : AllPairs (λ x y. x < y) xs
-  pub known : All (λ x. list_any (λ id. eqb id x) (ids g) ≡ true) xs
-  pub unlisted : All (λ x. value_at so_far x ≡ None) xs
-  pub ids : All (λ x. x < 10 ^ 15) xs
-  pub districts : All (λ d. (d ≤ n) × (d ≤ most_districts kind)) ds
-
-first_of_rows : (kind : Kind) (g : GeographyModel) (n x d : ℕ) (so_far : Values) (xs ds : List ℕ) → AreNew g kind n so_far (x ∷ xs) (d ∷ ds) → IsPrintable kind (x, d)
-first_of_rows kind g n x d so_far xs ds are = search (rules, All-head)
-
-later_rows : (kind : Kind) (g : GeographyModel) (n x d : ℕ) (so_far : Values) (xs ds : List ℕ) → AreNew g kind n so_far (x ∷ xs) (d ∷ ds) → AreNew g kind n (so_far ++ (x, d) ∷ []) xs ds
-later_rows kind g n x d so_far xs ds are = record {
-  same = omega (arith, are.same);
-  rising = λ i j e less inside. are.rising (suc i) (suc j) e (omega arith) (omega arith);
-  known = All-tail (λ x. list_any (λ id. eqb id x) (ids g) ≡ true) x xs are.known;
-  unlisted = λ k e inside.
-      value_at-push_other so_far x d (get_or xs k e) (λ same. omega (arith, are.rising zero (suc k) e (omega arith) (omega arith)))
-      ∙ are.unlisted (suc k) e (omega arith);
-  ids = All-tail (λ x. x < 10 ^ 15) x xs are.ids;
-  districts = All-tail (λ d. (d ≤ n) × (d ≤ most_districts kind)) d ds are.districts;
-}
-
-pub rows_printable : (kind : Kind) (g : GeographyModel) (n : ℕ) (so_far : Values) (xs ds : List ℕ) → AreNew g kind n so_far xs ds → All (IsPrintable kind) (zip xs ds)
-rows_printable kind g n so_far [] ds are = All-nil (IsPrintable kind)
-rows_printable kind g n so_far (x ∷ xs) [] are = All-nil (IsPrintable kind)
-rows_printable kind g n so_far (x ∷ xs) (d ∷ ds) are =
-    All-cons (IsPrintable kind) (x, d) (zip xs ds) (first_of_rows kind g n x d so_far xs ds are)
-    (rows_printable kind g n (so_far ++ (x, d) ∷ []) xs ds (later_rows kind g n x d so_far xs ds are))
-
-rows_again : (kind : Kind) (g : GeographyModel) (n at : ℕ) (so_far : Values) (xs ds : List ℕ) → AreNew g kind n so_far xs ds
-    → rows_read g n at so_far (map (row_line kind) (zip xs ds)) ≡ Ok (so_far ++ zip xs ds)
-rows_again kind g n at so_far [] ds are = ap (λ (values : Values). Ok values) (sym (append-nil so_far))
-rows_again kind g n at so_far (x ∷ xs) [] are = absurd (omega (arith, are.same))
-rows_again kind g n at so_far (x ∷ xs) (d ∷ ds) are =
-    rw (
-      not_empty kind (x, d),
-      line_again g kind n so_far (x, d) (first_of_rows kind g n x d so_far xs ds are)
-          (All-head (λ d. (d ≤ n) × (d ≤ most_districts kind)) d ds are.districts).0
-          (All-head (λ x. list_any (λ id. eqb id x) (ids g) ≡ true) x xs are.known)
-          (All-head (λ x. value_at so_far x ≡ None) x xs are.unlisted),
-    )
-    (rows_again kind g n (at + 1) (so_far ++ (x, d) ∷ []) xs ds (later_rows kind g n x d so_far xs ds are)
-    ∙ ap (λ (values : Values). Ok values) (append_assoc so_far ((x, d) ∷ []) (zip xs ds)))
-
--- the printed text, read
-pub printed_again : (kind : Kind) (g : GeographyModel) (n : ℕ) (f : List ℕ) → AreNew g kind n [] (ids g) f → body_read g n (printed g kind f) ≡ Ok (zip (ids g) f)
-printed_again kind g n f are = search (rules, line_cut, in_line, rows_cut, rows_printable, rows_again)
-
 same_cons : {A : Type 0} (x y : A) (xs ys : List A) → x ≡ y → xs ≡ ys → x ∷ xs ≡ y ∷ ys
 same_cons x y xs ys first more = ap (λ a. a ∷ xs) first ∙ ap (λ rest. y ∷ rest) more
+
+rows_said : (kind : Kind) (n : ℕ) (rows : List (ℕ × ℕ)) → All (λ row. IsPrintable kind row × (row.1 ≤ n)) rows
+    → map (value_in n) (with_bytes (map (row_line kind) rows)) ≡ somes rows
+rows_said kind n [] are = refl
+rows_said kind n (row ∷ rows) are =
+    let first = are 0 row (omega arith) in
+    let says : value_in n (row_line kind row) ≡ Some row = ap (value_of n) (fields_again kind row first.0) ∙ rw (in_range_again n row.1 first.1) refl in
+    rows_first n (row_line kind row) (map (row_line kind) rows) (not_empty kind row)
+    ∙ same_cons _ _ _ _ says (rows_said kind n rows (All-tail (λ row. IsPrintable kind row × (row.1 ≤ n)) row rows are))
+
+as_many : (g : GeographyModel) (n : ℕ) (f : List ℕ) → IsAssignment g n f → length f ≡ length (ids g)
+as_many g n f is = is.whole ∙ sym (length-map g.blocks (λ (b : BlockRow). b.id))
+
+-- the printed text, read
+module _ (kind : Kind) (g : GeographyModel) (n : ℕ) (f : List ℕ) (blocks : AreBlocks g.blocks) (small : All (λ id. id < 10 ^ 15) (ids g)) (most : n ≤ most_districts kind) (is : IsAssignment g n f) where
+  within : (k : ℕ) → k < length (zip (ids g) f) → (k < length (ids g)) × (k < length f)
+  within k inside = let same = as_many g n f is in (omega (arith, length-zip (ids g) f), omega (arith, length-zip (ids g) f))
+
+  at : (k : ℕ) (e : ℕ × ℕ) → k < length (zip (ids g) f) → get_or (zip (ids g) f) k e ≡ (get_or (ids g) k e.0, get_or f k e.1)
+  at k e inside = get_or-zip (ids g) f k e (within k inside).0 (within k inside).1
+
+  each : All (λ row. IsPrintable kind row × (row.1 ≤ n)) (zip (ids g) f)
+  each k e inside =
+      let le = is.in_range k e.1 (within k inside).1 in
+      rw (at k e inside) (record { id = small k e.0 (within k inside).0; district = omega (arith, le) }, le)
+
+  body : IsBody g n (header ∷ map (row_line kind) (zip (ids g) f)) (zip (ids g) f)
+  body = record {
+    first = refl;
+    rows = rows_said kind n (zip (ids g) f) each;
+    known = λ k e inside. rw (at k e inside) (Contains-get_or (ids g) k e.0 (within k inside).0);
+    once = λ i j e less inside.
+        let rises = AllPairs-from_increasing (ids g) blocks.rising i j e.0 less (within j inside).0 in
+        rw (at i e (omega arith), at j e inside) (λ same. omega (arith, rises, same));
+  }
+
+  printed_again : body_read g n (printed g kind f) ≡ Ok (zip (ids g) f)
+  printed_again =
+      ap (with_header g n) (line_cut header (flat_map (row_text kind) (zip (ids g) f)) (in_line header refl)
+      ∙ ap (λ (ls : List (List ℕ)). header ∷ ls) (rows_cut kind (zip (ids g) f) (λ k e inside. (each k e inside).0)))
+      ∙ body_listed g n (header ∷ map (row_line kind) (zip (ids g) f)) (zip (ids g) f) body
 
 -- each block has its district
 listed_again : (xs ds : List ℕ) → length ds ≡ length xs → AllPairs (λ x y. x < y) xs → map (value_at (zip xs ds)) xs ≡ map (λ d. Some d) ds
@@ -157,33 +135,16 @@ listed_again (x ∷ xs) (d ∷ ds) same rising =
         (cond-false (eqb x y) (Some d) (value_at (zip xs ds) y) (ne_eqb x y (λ e. omega (arith, All-head (λ y. x < y) y more above))))
         (skipped more (All-tail (λ y. x < y) y more above))
 
-some_injective : (xs ys : List ℕ) → map (λ d. Some d) xs ≡ map (λ d. Some d) ys → xs ≡ ys
-some_injective [] [] e = refl
-some_injective [] (y ∷ ys) e = cc
-some_injective (x ∷ xs) [] e = cc
-some_injective (x ∷ xs) (y ∷ ys) e =
-    let first : x ≡ y = cc in
-    let more : map (λ d. Some d) xs ≡ map (λ d. Some d) ys = cc in
-    same_cons x y xs ys first (some_injective xs ys more)
-
-districts_small : (kind : Kind) (n : ℕ) (f : List ℕ) → n ≤ most_districts kind → All (λ d. d ≤ n) f → All (λ d. (d ≤ n) × (d ≤ most_districts kind)) f
-districts_small kind n f most in' = λ k e inside. (in' k e inside, omega (arith, in' k e inside))
-
-new_at_first : (g : GeographyModel) (kind : Kind) (n : ℕ) (f : List ℕ) → AreBlocks g.blocks → All (λ id. id < 10 ^ 15) (ids g) → n ≤ most_districts kind → IsAssignment g n f
-    → AreNew g kind n [] (ids g) f
-new_at_first g kind n f blocks small most is = search (rules, length-map, AllPairs-from_increasing, list_any_at, eq-eqb, districts_small)
-
 values_again : (g : GeographyModel) (n : ℕ) (f : List ℕ) → AreBlocks g.blocks → IsAssignment g n f → listed_of g (zip (ids g) f) ≡ map (λ d. Some d) f
 values_again g n f blocks is = search (rules, listed_again, length-map, AllPairs-from_increasing)
 
 pub printed_is_read : PrintedIsRead
 printed_is_read g kind n f blocks small most is = record {
-  read = printed_again kind g n f (new_at_first g kind n f blocks small most is);
+  read = printed_again kind g n f blocks small most is;
   values = values_again g n f blocks is;
   alone = λ other other_is same.
-      let read_other = printed_again kind g n other (new_at_first g kind n other blocks small most other_is) in
-      let read_this = printed_again kind g n f (new_at_first g kind n f blocks small most is) in
-      let both : ◌≡◌ {A = Result Values Fault} (Ok (zip (ids g) other)) (Ok (zip (ids g) f)) = sym read_other ∙ ap (body_read g n) same ∙ read_this in
+      let both : ◌≡◌ {A = Result Values Fault} (Ok (zip (ids g) other)) (Ok (zip (ids g) f)) =
+      sym (printed_again kind g n other blocks small most other_is) ∙ ap (body_read g n) same ∙ printed_again kind g n f blocks small most is in
       let zips : zip (ids g) other ≡ zip (ids g) f = cc both in
-      some_injective other f (sym (values_again g n other blocks other_is) ∙ ap (listed_of g) zips ∙ values_again g n f blocks is);
+      sym (seconds-zip (ids g) other (as_many g n other other_is)) ∙ ap (map (λ (p : ℕ × ℕ). p.1)) zips ∙ seconds-zip (ids g) f (as_many g n f is);
 }

@@ -3,8 +3,8 @@ use Rattle.std.{specs.{Char.is_ascii_digit, Cmp.Lexicographic.pointwise, Fmt.dec
 use Rattle.std.proofs.Common.{◌≡◌, ℕ, ◌-◌, ◌<◌, ◌≤◌, ◌^◌, true, false, cond, eqb, List, ◌++◌, length, replicate, zero, suc, refl, ◌∙◌, arith, Option, Some, None, rules}
 use Rattle.std.proofs.lemmas.{Bool.{ne_eqb, eqb-true, le-leb, and_from, and_parts, false_from_ne_true}, Fmt.{length-decimal-le, digits_decimal, digits_value-decimal}}
 use Rattle.{std.proofs.lemmas.{List.Folds.list_all-append, Option.cond_some, Slice.Eq.bytes_eq-Decides}, byte_stream.specs.claim.Digits.number_of_digits, baf_text.proofs.Rows.own}
-use Rattle.desk_model.specs.{claim.{Baf.{code_value, in_range}, Padded.padded_decimal, Printed.code_text, Sizes.most_districts}, declared.kind.Kind.Kind}
-use Rattle.{desk_model.specs.declared.kind.Kind.TheVariants.{Congress, Senate, House}, baf_text.proofs.Printing.length-padded}
+use Rattle.desk_model.specs.{claim.{Baf.{code_value, in_range}, Padded.padded_decimal, Printed.code_text, Sizes.most_districts}, declared.kind.Kind.{Kind, TheVariants.Congress}}
+use Rattle.baf_text.proofs.Printing.{length-padded}
 
 -- so many digits, which write n
 pub record Writes (width n : ℕ) (text : List ℕ) : Type 0 where
@@ -46,11 +46,9 @@ said d = cond (eqb d 0) None (Some d)
 
 pub code_again : (kind : Kind) (d : ℕ) → d ≤ most_districts kind → code_value (code_text kind d) ≡ Some (said d)
 code_again Congress zero most = refl
-code_again Senate zero most = refl
-code_again House zero most = refl
 code_again Congress (suc d) most = rw (eqb-suc-zero d) (code_of_digits 2 (suc d) _ (omega arith) (omega arith) (padded_writes 2 (suc d) (omega arith) (omega arith) (omega arith)))
-code_again Senate (suc d) most = rw (eqb-suc-zero d) (code_of_digits 3 (suc d) _ (omega arith) (omega arith) (padded_writes 3 (suc d) (omega arith) (omega arith) (omega arith)))
-code_again House (suc d) most = rw (eqb-suc-zero d) (code_of_digits 3 (suc d) _ (omega arith) (omega arith) (padded_writes 3 (suc d) (omega arith) (omega arith) (omega arith)))
+code_again _ zero most = refl
+code_again _ (suc d) most = rw (eqb-suc-zero d) (code_of_digits 3 (suc d) _ (omega arith) (omega arith) (padded_writes 3 (suc d) (omega arith) (omega arith) (omega arith)))
 
 pub in_range_again : (n d : ℕ) → d ≤ n → in_range n (said d) ≡ Some d
 in_range_again n zero le = refl

@@ -19,17 +19,8 @@ record FaultIn (g : GeographyModel) (n at : ℕ) (so_far : Values) (ls : List (L
 
 fault_here : (g : GeographyModel) (n at : ℕ) (so_far : Values) (line : List ℕ) (ls : List (List ℕ)) (code : BodyFault) (told : ℕ) → length line ≢ 0
     → line_read g n so_far (fields_of (fields line)) ≡ Err code → at ≡ told → FaultIn g n at so_far (line ∷ ls) code told
-fault_here g n at so_far line ls code told bytes fault same = record {
-  before = [];
-  line = line;
-  after = ls;
-  values = so_far;
-  cut = refl;
-  number = omega arith;
-  reads = refl;
-  bytes = bytes;
-  fault = fault;
-}
+fault_here g n at so_far line ls code told bytes fault same =
+    record { before = []; line = line; after = ls; values = so_far; cut = refl; number = omega arith; reads = refl; bytes = bytes; fault = fault }
 
 fault_later : (g : GeographyModel) (n at : ℕ) (so_far next : Values) (line : List ℕ) (ls : List (List ℕ)) (code : BodyFault) (told : ℕ)
     → ((more : List (List ℕ)) → rows_read g n at so_far (line ∷ more) ≡ rows_read g n (at + 1) next more) → FaultIn g n (at + 1) next ls code told

@@ -1,6 +1,6 @@
 -- The lines' own values, and what the reading of them in turn gives.
 use Rattle.std.{specs.{Cmp.Lexicographic.pointwise, List.list_any, Prelude.{AllPairs, nat_eq}, Str.Lines.lines}, proofs.lemmas.Bool.{eq-eqb, eqb-true, cases_Bool}}
-use Rattle.std.proofs.Common.{◌≡◌, ◌≢◌, ℕ, ◌+◌, Bool, true, false, not, cond, eqb, List, [], ◌∷◌, ◌++◌, map, filter, length, get_or, zero, suc, refl, sym, ◌∙◌, ap, arith, All, Contains, Option, Some, None, Result, Ok, Err, is_some, append_assoc, ⊎_elim, rules}
+use Rattle.std.proofs.Common.{inl, inr, ◌≡◌, ◌≢◌, ℕ, ◌+◌, Bool, true, false, not, cond, eqb, List, [], ◌∷◌, ◌++◌, map, filter, length, get_or, zero, suc, refl, sym, ◌∙◌, ap, arith, All, Contains, Option, Some, None, Result, Ok, Err, is_some, append_assoc, ⊎_elim, rules}
 use Rattle.std.proofs.lemmas.List.{append-nil, get_or_default, Elements.{All-cons, All-nil, All-head, All-tail}, Folds.{list_any_at, Any-from_list_any}, Kept.AllPairs-cons}
 use Rattle.{std.proofs.lemmas.{Option.same_Some, Slice.Eq.bytes_eq-Decides}, baf_text.specs.Body.{with_district, value_of, IsBody, ReadIsListed}}
 use Rattle.{byte_stream.specs.claim.Fields.fields, desk_model.specs.claim.Baf.{Values, value_at, header, fields_of, in_range, placed, line_read, at_line, rows_read, with_header}}
@@ -35,10 +35,8 @@ line_adds g n so_far (Some x) next ok = by_tests (list_any (λ id. eqb id x.0) (
     by_tests : (known : Bool) (seen d : Option ℕ) → list_any (λ id. eqb id x.0) (ids g) ≡ known → value_at so_far x.0 ≡ seen → in_range n x.1 ≡ d
         → ◌≡◌ {A = Result Values BodyFault} (cond (not known) (Err UnknownBlock) (cond (is_some seen) (Err RepeatedBlock) (placed so_far x.0 d))) (Ok next)
         → Added g n so_far (Some x) next
-    by_tests false seen d known_is seen_is d_is ok = cc
-    by_tests true (Some s) d known_is seen_is d_is ok = cc
-    by_tests true None None known_is seen_is d_is ok = cc
     by_tests true None (Some d) known_is seen_is d_is ok = search rules
+    by_tests _ _ _ known_is seen_is d_is ok = cc
 
 abbrev pub value_in : ℕ → List ℕ → Option (ℕ × ℕ)
 value_in n line = value_of n (fields_of (fields line))
@@ -75,17 +73,14 @@ pub rows_first : (n : ℕ) (line : List ℕ) (ls : List (List ℕ)) → eqb (len
     → map (value_in n) (with_bytes (line ∷ ls)) ≡ value_in n line ∷ map (value_in n) (with_bytes ls)
 rows_first n line ls bytes = rw bytes refl
 
-other_blocks : (e : ℕ × ℕ) (rest : Values) → AllPairs (λ d e. d.0 ≢ e.0) (e ∷ rest) → All (λ f. e.0 ≢ f.0) rest
-other_blocks e rest once = λ k f inside. once zero (suc k) f (omega arith) (omega arith)
-
-later_lists : (g : GeographyModel) (n : ℕ) (so_far : Values) (ls : List (List ℕ)) (e : ℕ × ℕ) (rest : Values) → map (value_in n) (with_bytes ls) ≡ somes rest
-    → All (λ e. list_any (λ id. eqb id e.0) (ids g) ≡ true) (e ∷ rest) → All (λ e. value_at so_far e.0 ≡ None) (e ∷ rest) → AllPairs (λ d e. d.0 ≢ e.0) (e ∷ rest)
-    → ListsMore g n (so_far ++ e ∷ []) ls rest
-later_lists g n so_far ls e rest rows known fresh once = record {
+later_lists : (g : GeographyModel) (n : ℕ) (so_far : Values) (ls past : List (List ℕ)) (e : ℕ × ℕ) (rest : Values) → map (value_in n) (with_bytes ls) ≡ somes rest
+    → ListsMore g n so_far past (e ∷ rest) → ListsMore g n (so_far ++ e ∷ []) ls rest
+later_lists g n so_far ls past e rest rows lists = record {
   rows = rows;
-  known = All-tail (λ e. list_any (λ id. eqb id e.0) (ids g) ≡ true) e rest known;
-  fresh = λ k f inside. value_at-push_other so_far e.0 e.1 (get_or rest k f).0 (other_blocks e rest once k f inside) ∙ fresh (suc k) f (omega arith);
-  once = λ i j f less inside. once (suc i) (suc j) f (omega arith) (omega arith);
+  known = All-tail (λ e. list_any (λ id. eqb id e.0) (ids g) ≡ true) e rest lists.known;
+  fresh = λ k f inside.
+      value_at-push_other so_far e.0 e.1 (get_or rest k f).0 (lists.once zero (suc k) f (omega arith) (omega arith)) ∙ lists.fresh (suc k) f (omega arith);
+  once = λ i j f less inside. lists.once (suc i) (suc j) f (omega arith) (omega arith);
 }
 
 pub rows_listed : (g : GeographyModel) (n at : ℕ) (so_far : Values) (ls : List (List ℕ)) (more : Values) → ListsMore g n so_far ls more → rows_read g n at so_far ls ≡ Ok (so_far ++ more)
@@ -96,16 +91,14 @@ rows_listed g n at so_far (line ∷ ls) more lists = ⊎_elim
     (rows_listed g n (at + 1) so_far ls more (record { rows = sym (rows_past n line ls empty) ∙ lists.rows; known = lists.known; fresh = lists.fresh; once = lists.once })))
     (λ (bytes : eqb (length line) 0 ≡ false).
     let s = begins (value_in n line) (map (value_in n) (with_bytes ls)) more (sym (rows_first n line ls bytes) ∙ lists.rows) in
-    let known = rw s.is at lists.known in
-    let fresh = rw s.is at lists.fresh in
-    let once = rw s.is at lists.once in
+    let all : ListsMore g n so_far (line ∷ ls) (s.e ∷ s.rest) = rw s.is at lists in
     let adds : Adds g n so_far (fields_of (fields line)) s.e = record {
       value = s.first;
-      known = All-head (λ e. list_any (λ id. eqb id e.0) (ids g) ≡ true) s.e s.rest known;
-      fresh = All-head (λ e. value_at so_far e.0 ≡ None) s.e s.rest fresh;
+      known = All-head (λ e. list_any (λ id. eqb id e.0) (ids g) ≡ true) s.e s.rest all.known;
+      fresh = All-head (λ e. value_at so_far e.0 ≡ None) s.e s.rest all.fresh;
     } in
     rw (bytes, line_added g n so_far (fields_of (fields line)) s.e adds)
-    (rows_listed g n (at + 1) (so_far ++ s.e ∷ []) ls s.rest (later_lists g n so_far ls s.e s.rest s.later known fresh once)
+    (rows_listed g n (at + 1) (so_far ++ s.e ∷ []) ls s.rest (later_lists g n so_far ls (line ∷ ls) s.e s.rest s.later all)
     ∙ ap (λ (values : Values). Ok values) (append_assoc so_far (s.e ∷ []) s.rest ∙ ap (λ (values : Values). so_far ++ values) (sym s.is))))
     (cases_Bool (eqb (length line) 0))
 
@@ -133,12 +126,10 @@ goes_on g n at so_far line ls values = by_line (line_read g n so_far (fields_of 
 -- a block that isn't listed after a line isn't listed before it, and isn't the line's
 not_before : (values : Values) (id d other : ℕ) → value_at (values ++ (id, d) ∷ []) other ≡ None → (value_at values other ≡ None) × (id ≢ other)
 not_before [] id d other none = (refl, λ same. let e : eqb id other ≡ true = eq-eqb id other same in let some = rw e at none in cc)
-not_before (e ∷ more) id d other none = by_test (eqb e.0 other) none (not_before more id d other)
-  where
-    by_test : (b : Bool) → cond b (Some e.1) (value_at (more ++ (id, d) ∷ []) other) ≡ None
-        → (value_at (more ++ (id, d) ∷ []) other ≡ None → (value_at more other ≡ None) × (id ≢ other)) → (cond b (Some e.1) (value_at more other) ≡ None) × (id ≢ other)
-    by_test true is later = cc
-    by_test false is later = later is
+not_before (e ∷ more) id d other none = elim (cases_Bool (eqb e.0 other)) [
+  | inl here ↦ let some = rw here at none in cc
+  | inr past ↦ rw past (not_before more id d other (rw past at none))
+]
 
 pub first_lists : (g : GeographyModel) (n : ℕ) (so_far : Values) (line : List ℕ) (ls : List (List ℕ)) (e : ℕ × ℕ) (more : Values) → eqb (length line) 0 ≡ false
     → Adds g n so_far (fields_of (fields line)) e → ListsMore g n (so_far ++ e ∷ []) ls more → ListsMore g n so_far (line ∷ ls) (e ∷ more)

@@ -23,16 +23,12 @@ spread_before (suc first) part (suc n) (suc k) less = spread_before first part n
 
 spread_there : (first : ℕ) (part : List (Option ℕ)) (n k j : ℕ) → k ≡ first + j → first + length part ≤ n → get_or (spread first part n) k None ≡ get_or part j None
 spread_there zero [] zero k j at within = refl
-spread_there zero (x ∷ part) zero k j at within = absurd (omega arith)
-spread_there (suc first) part zero k j at within = absurd (omega arith)
 spread_there zero [] (suc n) zero j at within = refl
 spread_there zero [] (suc n) (suc k) j at within = spread_there zero [] n k k (omega arith) (omega arith)
 spread_there zero (x ∷ part) (suc n) zero zero at within = refl
-spread_there zero (x ∷ part) (suc n) zero (suc j) at within = absurd (omega arith)
-spread_there zero (x ∷ part) (suc n) (suc k) zero at within = absurd (omega arith)
 spread_there zero (x ∷ part) (suc n) (suc k) (suc j) at within = spread_there zero part n k j (omega arith) (omega arith)
-spread_there (suc first) part (suc n) zero j at within = absurd (omega arith)
 spread_there (suc first) part (suc n) (suc k) j at within = spread_there first part n k j (omega arith) (omega arith)
+spread_there _ _ _ _ _ at within = absurd (omega arith)
 
 pub spread_at : (first : ℕ) (part : List (Option ℕ)) (n k : ℕ) → first + length part ≤ n → get_or (spread first part n) k None ≡ part_at first part k
 spread_at first part n k within = search (rules, cases_lt, spread_before, before, spread_there, there)

@@ -1,20 +1,14 @@
 -- A row at the start of a text, found without a look for the line's end first.
 use Rattle.std.{specs.{Char.is_ascii_digit, List.list_all, Str.{Lines.{lines, strip_carriage_return}, Parse.digits_value}}, proofs.{Math.Dec.eqb-suc-zero, lemmas.Bool.and_parts}}
 use Rattle.std.proofs.Common.{◌≡◌, ℕ, ◌-◌, Bool, true, false, cond, eqb, List, [], ◌∷◌, ◌++◌, length, take, drop, get_or, suc, refl, sym, ◌∙◌, ap, arith, All, Option, Some, append_assoc, length-append, length-drop, take-append-drop}
-use Rattle.{std.proofs.lemmas.{Bool.Decides.nat_tests, List.{drop_more, Elements.{All-cons, All-nil, All-append}}, Option.cond_some}, byte_stream.proofs.TextLemmas.lines-cut}
-use Rattle.{baf_text.{specs.Prefix.{HasHead, HasFirst, line_parts}, proofs.Rows.{IsRow, two_fields, fields_from_row}}, desk_model.specs.claim.Baf.{are_digits, code_value}}
+use Rattle.{std.proofs.lemmas.{Bool.Decides.nat_tests, List.{drop_more, Elements.{All-cons, All-append}}, Option.cond_some}, baf_text.specs.Prefix.{HasHead, HasFirst, line_parts}}
+use Rattle.{desk_model.specs.claim.Baf.{are_digits, code_value}, baf_text.proofs.Rows.{IsRow, digits_all, two_fields, fields_from_row}, byte_stream.proofs.TextLemmas.lines-cut}
 
 abbrev pub IsNoFeed : ℕ → Type 0
 IsNoFeed b = eqb b 10 ≡ false
 
-digit_feed : (b : ℕ) → is_ascii_digit b ≡ true → eqb b 10 ≡ false
-digit_feed b is = grind (arith, nat_tests)
-
 not_a_feed : (bytes : List ℕ) → list_all is_ascii_digit bytes ≡ true → All IsNoFeed bytes
-not_a_feed [] are = All-nil IsNoFeed
-not_a_feed (b ∷ bytes) are =
-    let parts = and_parts (is_ascii_digit b) (list_all is_ascii_digit bytes) are in
-    All-cons IsNoFeed b bytes (digit_feed b parts.0) (not_a_feed bytes parts.1)
+not_a_feed = digits_all IsNoFeed (λ b is. grind (arith, nat_tests))
 
 -- a return at the end of a text is one at the end of its last part
 strip_cons : (x y : ℕ) (ys : List ℕ) → strip_carriage_return (x ∷ y ∷ ys) ≡ x ∷ strip_carriage_return (y ∷ ys)

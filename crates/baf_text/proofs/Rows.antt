@@ -1,8 +1,8 @@
 -- The parts of a line.
 use Rattle.std.specs.{Char.is_ascii_digit, Cmp.Lexicographic.pointwise, List.{list_all, join_with_byte}, Prelude.{codes, nat_eq}, Str.Parse.digits_value}
 use Rattle.std.proofs.Common.{◌≡◌, ℕ, ◌<◌, ◌≤◌, ◌^◌, Bool, true, false, cond, ◌&&◌, ◌||◌, eqb, nat_le, List, [], ◌∷◌, ◌++◌, length, take, drop, get_or, refl, sym, ◌∙◌, ap, arith, rules, All, Option, Some, None, length-append}
-use Rattle.std.proofs.lemmas.{Bool.{eqb-true, leb-true, and_parts, or_cases, Decides.nat_tests}, List.Elements.{All-cons, All-nil, All-same}, Option.cond_some}
-use Rattle.std.proofs.lemmas.{List.{take_at, drop_at, drop-drop, drop_more, take-append-drop, get_or_at, nil_from_length}, Slice.Eq.bytes_eq-Decides}
+use Rattle.std.proofs.lemmas.{Bool.{eqb-true, leb-true, and_parts, or_cases, Decides.nat_tests}, List.Elements.{All-cons, All-nil, All-same, All-weaker}, Option.cond_some}
+use Rattle.std.proofs.lemmas.{List.{take_at, drop_at, drop-drop, drop_more, take-append-drop, get_or_at, nil_from_length, Sums.AllPass-from_list_all}, Slice.Eq.bytes_eq-Decides}
 use Rattle.{std.proofs.lemmas.List.Splits.{slice_split_at, slice_split_none, join_with_byte-slice_split}, byte_stream.specs.claim.Digits.{number_of, number_of_digits}}
 use Rattle.{std.proofs.lemmas.Str.Parse.{IsNumeralModel, IsDigitsTest, numerals_by_value, digits_value_short}, byte_stream.specs.claim.Fields.fields}
 use Rattle.desk_model.specs.claim.Baf.{are_digits, code_value, with_id, fields_of}
@@ -32,9 +32,6 @@ pub record IsRow (line : List ℕ) (e : ℕ × Option ℕ) : Type 0 where
 
 pub two_fields : (id code : List ℕ) (e : ℕ × Option ℕ) (b : Bool) (v : Option (Option ℕ)) → are_digits 15 id ≡ b → code_value code ≡ v
     → cond b (with_id (digits_value 10 id) v) None ≡ Some e → IsRow (id ++ 124 ∷ code) e
-two_fields id code e true None are value gives = cc
-two_fields id code e false None are value gives = cc
-two_fields id code e false (Some x) are value gives = cc
 two_fields id code e true (Some x) are value gives =
     let long : length id ≡ 15 = eqb-true (length id) 15 (and_parts _ _ are).0 in
     let pair : ◌≡◌ {A = ℕ × Option ℕ} (digits_value 10 id, x) e = cc in
@@ -42,17 +39,13 @@ two_fields id code e true (Some x) are value gives =
       long = omega (arith, length-append id (124 ∷ code));
       bar = get_or_at id 124 code 0 15 long;
       id = rw (take_at id (124 ∷ code) 15 long, are) (ap (λ (p : ℕ × Option ℕ). Some p.0) pair);
-      code = ap code_value (drop_after id code long) ∙ value ∙ ap (λ (p : ℕ × Option ℕ). Some p.1) pair;
+      code = ap code_value (sym (drop-drop 1 15 (id ++ 124 ∷ code)) ∙ ap (drop 1) (drop_at id (124 ∷ code) 15 long)) ∙ value ∙ ap (λ (p : ℕ × Option ℕ). Some p.1) pair;
     }
-  where
-    drop_after : (id code : List ℕ) → length id ≡ 15 → drop 16 (id ++ 124 ∷ code) ≡ code
-    drop_after id code long = sym (drop-drop 1 15 (id ++ 124 ∷ code)) ∙ ap (drop 1) (drop_at id (124 ∷ code) 15 long)
+two_fields id code e _ _ are value gives = cc
 
 row_from_parts : (parts : List (List ℕ)) (e : ℕ × Option ℕ) → fields_of parts ≡ Some e → IsRow (join_with_byte 124 parts) e
-row_from_parts [] e gives = cc
-row_from_parts (id ∷ []) e gives = cc
-row_from_parts (id ∷ code ∷ x ∷ more) e gives = cc
 row_from_parts (id ∷ code ∷ []) e gives = two_fields id code e (are_digits 15 id) (code_value code) refl refl gives
+row_from_parts _ e gives = cc
 
 pub row_from_fields : (line : List ℕ) (e : ℕ × Option ℕ) → fields_of (fields line) ≡ Some e → IsRow line e
 row_from_fields line e gives = rw join_with_byte-slice_split at (row_from_parts (fields line) e gives)
@@ -60,14 +53,12 @@ row_from_fields line e gives = rw join_with_byte-slice_split at (row_from_parts 
 abbrev IsNoBar : ℕ → Type 0
 IsNoBar b = eqb b 124 ≡ false
 
+-- what holds of digits holds of each byte of a text of digits
+pub digits_all : (P : ℕ → Type 0) → ((b : ℕ) → is_ascii_digit b ≡ true → P b) → (bytes : List ℕ) → list_all is_ascii_digit bytes ≡ true → All P bytes
+digits_all P digit bytes are = All-weaker (λ b. is_ascii_digit b ≡ true) P digit bytes (AllPass-from_list_all is_ascii_digit bytes are)
+
 not_a_bar : (bytes : List ℕ) → list_all is_ascii_digit bytes ≡ true → All IsNoBar bytes
-not_a_bar [] are = All-nil IsNoBar
-not_a_bar (b ∷ bytes) are =
-    let parts = and_parts (is_ascii_digit b) (list_all is_ascii_digit bytes) are in
-    All-cons IsNoBar b bytes (digit_bar b parts.0) (not_a_bar bytes parts.1)
-  where
-    digit_bar : (b : ℕ) → is_ascii_digit b ≡ true → eqb b 124 ≡ false
-    digit_bar b is = grind (arith, nat_tests)
+not_a_bar = digits_all IsNoBar (λ b is. grind (arith, nat_tests))
 
 two_letters : All IsNoBar (codes "ZZ")
 two_letters = All-cons IsNoBar 90 (90 ∷ []) refl (All-cons IsNoBar 90 [] refl (All-nil IsNoBar))

@@ -1,25 +1,16 @@
 -- The values that are listed so far.
-use Rattle.std.{specs.List.{list_any, Sorted.IsStrictlyIncreasing}, proofs.lemmas.Bool.{ne_eqb, eq-eqb, cond-true, cond-false, cases_eq, cases_order}}
-use Rattle.std.proofs.Common.{◌≡◌, ◌≢◌, ℕ, ◌<◌, Bool, true, false, cond, eqb, List, [], ◌∷◌, ◌++◌, map, length, get_or, set, refl, sym, ◌∙◌, ap, Contains, Option, Some, None, Err, IsOkAnd, is_some, ⊎_elim, rules}
+use Rattle.std.{specs.List.{list_any, Sorted.IsStrictlyIncreasing}, proofs.lemmas.{Bool.{ne_eqb, eq-eqb, cond-true, cond-false, cases_Bool, cases_eq, cases_order}, Simd.map-map}}
+use Rattle.std.proofs.Common.{inl, inr, ◌≡◌, ◌≢◌, ℕ, ◌<◌, true, false, cond, eqb, List, [], ◌∷◌, ◌++◌, map, length, get_or, set, refl, sym, ◌∙◌, ap, Contains, Option, Some, None, Err, IsOkAnd, is_some, ⊎_elim, rules}
 use Rattle.std.proofs.lemmas.List.{get_or-map, get_or_default, get_or-set_same, get_or-set_other, length-set, length-map, ext_get_or, Folds.{list_any_none, list_any_at}}
 use Rattle.{std.proofs.lemmas.Map.Keys.{sorted_from_strictly_increasing, below_from_sorted}, baf_text.specs.Listed.listed_of, desk_model.specs.declared.block.BlockRow.BlockRow}
-use Rattle.desk_model.specs.{claim.{Baf.{Values, value_at, in_range, line_read}, Geography.{GeographyModel, ids, ids_of, id_at}}, declared.reply.BodyFault.TheVariants.UnknownBlock}
-
--- a block that isn't there
-pub unknown : (xs : List ℕ) (id : ℕ) → ¬ Contains xs id → list_any (λ x. eqb x id) xs ≡ false
-unknown xs id missing = list_any_none (λ x. eqb x id) xs (λ k d inside. ne_eqb (get_or xs k d) id (λ e. missing (k, inside, get_or_default xs k id d inside ∙ e)))
-
-value_again : (id d : ℕ) → cond (eqb id id) (Some d) None ≡ Some d
-value_again id d = cond-true (eqb id id) (Some d) None (eq-eqb id id refl)
+use Rattle.desk_model.specs.{claim.{Baf.{Values, value_at, in_range, line_read}, Geography.{GeographyModel, ids, id_at}}, declared.reply.BodyFault.TheVariants.UnknownBlock}
 
 pub value_at-push_same : (values : Values) (id d : ℕ) → value_at values id ≡ None → value_at (values ++ (id, d) ∷ []) id ≡ Some d
-value_at-push_same [] id d none = value_again id d
-value_at-push_same (e ∷ more) id d none = by_test (eqb e.0 id) none (value_at-push_same more id d)
-  where
-    by_test : (b : Bool) → cond b (Some e.1) (value_at more id) ≡ None → (value_at more id ≡ None → value_at (more ++ (id, d) ∷ []) id ≡ Some d)
-        → cond b (Some e.1) (value_at (more ++ (id, d) ∷ []) id) ≡ Some d
-    by_test true is later = cc
-    by_test false is later = later is
+value_at-push_same [] id d none = cond-true (eqb id id) (Some d) None (eq-eqb id id refl)
+value_at-push_same (e ∷ more) id d none = elim (cases_Bool (eqb e.0 id)) [
+  | inl here ↦ let some = rw here at none in cc
+  | inr past ↦ rw past (value_at-push_same more id d (rw past at none))
+]
 
 pub value_at-push_other : (values : Values) (id d other : ℕ) → id ≢ other → value_at (values ++ (id, d) ∷ []) other ≡ value_at values other
 value_at-push_other [] id d other differ = cond-false (eqb id other) (Some d) None (ne_eqb id other differ)
@@ -54,15 +45,14 @@ listed_more xs values place d rising within none =
         (cases_eq i place)
 
 -- at first nothing is listed
-none_at_all : (blocks : List BlockRow) → map (λ _. None) blocks ≡ map (value_at []) (ids_of blocks)
-none_at_all [] = refl
-none_at_all (x ∷ xs) = ap (λ (more : List (Option ℕ)). None ∷ more) (none_at_all xs)
-
 pub listed_none : (g : GeographyModel) → map (λ _. None) g.blocks ≡ listed_of g []
-listed_none g = none_at_all g.blocks
+listed_none g = sym (map-map (value_at []) (λ (b : BlockRow). b.id) g.blocks)
 
 pub line_unknown : (g : GeographyModel) (n : ℕ) (so_far : Values) (e : ℕ × Option ℕ) → ¬ Contains (ids g) e.0 → line_read g n so_far (Some e) ≡ Err UnknownBlock
-line_unknown g n so_far e missing = rw (unknown (ids g) e.0 missing) refl
+line_unknown g n so_far e missing = rw unlisted refl
+  where
+    unlisted : list_any (λ x. eqb x e.0) (ids g) ≡ false
+    unlisted = list_any_none (λ x. eqb x e.0) (ids g) (λ k d inside. ne_eqb (get_or (ids g) k d) e.0 (λ same. missing (k, inside, get_or_default (ids g) k e.0 d inside ∙ same)))
 
 -- what the line's block has in the list
 listed_at : (g : GeographyModel) (so_far : Values) (listed : List (Option ℕ)) (place id : ℕ) → place < length g.blocks → id_at g.blocks place ≡ id → listed ≡ listed_of g so_far

@@ -2,15 +2,11 @@
 use Rattle.std.specs.{Cmp.nat_cmp_is, FinMap.{find, is_sorted, Entries.{below_all, where_key, find-where_key, is_sorted-where_key}}, List.{starts_with, AllByRecursion}}
 use Rattle.std.specs.{Ordering.{nat_cmp, is_gt, is_lt, ordering_then}, Prelude.{None, T}, declared.cmp.Ordering.{Ordering, TheVariants.{Less, Equal, Greater}}}
 use Rattle.std.proofs.Common.{rules, ◌≡◌, ◌⊎◌, ◌<◌, ◌≤◌, inl, inr, ℕ, List, [], ◌∷◌, ◌++◌, length, length-append, Bool, true, false, cond, ◌&&◌, nat_eq, refl, sym, ap, subst, ◌∙◌, arith}
-use Rattle.{std.proofs.lemmas.{Bool.{eqb-true, Decides.nat_tests}, List.Elements.filter-append}, btree_walks.specs.Prefixes.{AllFrom, AllUnder, is_under, under}}
-use Rattle.{page_node.specs.{Places.{is_from, entries_from}, claim.{Entries.Entry, Places.{key_cmp, Rises}}}, page_btree.proofs.Booleans.{either, first_so, second_so, true_is}}
-use Rattle.{page_btree.proofs.{Rows.all_both, Seeking.from_all}, page_node.proofs.Laws.{is_less, same_key, flip_greater}, page_store.proofs.Chains.both_ways as clash}
+use Rattle.{std.proofs.lemmas.{Bool.{and_parts, and_right, eqb-true, Decides.nat_tests}, List.Elements.filter-append}, page_node.specs.Places.{is_from, entries_from}}
+use Rattle.{btree_walks.specs.Prefixes.{AllFrom, AllUnder, is_under, under}, page_node.specs.claim.{Entries.Entry, Places.{key_cmp, Rises}}, page_btree.proofs.Rows.all_both}
+use Rattle.{page_btree.proofs.{Booleans.{either, true_is}, Seeking.from_all}, page_node.proofs.Laws.{is_less, same_key, flip_greater}, page_store.proofs.Chains.both_ways as clash}
 
 -- ---- one key
-
-not_both : (b c : Bool) → c ≡ false → (b && c) ≡ false
-not_both true c h = h
-not_both false c h = refl
 
 -- a key isn't below its prefix
 pub under_is_from : (prefix key : List ℕ) → starts_with nat_eq key prefix ≡ true → is_gt (key_cmp prefix key) ≡ false
@@ -18,9 +14,9 @@ under_is_from [] [] h = refl
 under_is_from [] (x ∷ xs) h = refl
 under_is_from (p ∷ ps) [] h = cc
 under_is_from (p ∷ ps) (x ∷ xs) h =
-    let same : p ≡ x = eqb-true p x (first_so (nat_eq p x) (starts_with nat_eq xs ps) h) in
+    let same : p ≡ x = eqb-true p x (and_parts (nat_eq p x) (starts_with nat_eq xs ps) h).0 in
     let tied : nat_cmp p x ≡ Equal = sym (nat_cmp_is p x Equal same) in
-    ap (λ (r : Ordering). is_gt (ordering_then r (key_cmp ps xs))) tied ∙ under_is_from ps xs (second_so (nat_eq p x) (starts_with nat_eq xs ps) h)
+    ap (λ (r : Ordering). is_gt (ordering_then r (key_cmp ps xs))) tied ∙ under_is_from ps xs (and_parts (nat_eq p x) (starts_with nat_eq xs ps) h).1
 
 compared : (a b : ℕ) → (a < b) ⊎ ((a ≡ b) ⊎ (b < a))
 compared a b = search (rules, either)
@@ -40,7 +36,7 @@ none_above (p ∷ ps) (x ∷ xs) (y ∷ ys) from off less = elim (compared p x) 
   | inl below ↦ search (rules, compared)
   | inr (inl tied) ↦ elim (compared x y) [
     | inl rises ↦ ap (λ (b : Bool). b && starts_with nat_eq ys ps) (unlike p y (omega arith))
-    | inr (inl same) ↦ not_both (nat_eq p y) (starts_with nat_eq ys ps) (none_above ps xs ys
+    | inr (inl same) ↦ and_right (nat_eq p y) (starts_with nat_eq ys ps) (none_above ps xs ys
         (sym (ap (λ (r : Ordering). is_gt (ordering_then r (key_cmp ps xs))) (sym (nat_cmp_is p x Equal tied))) ∙ from)
         (sym (ap (λ (b : Bool). b && starts_with nat_eq xs ps) (like p x tied)) ∙ off)
         (sym (ap (λ (r : Ordering). ordering_then r (key_cmp xs ys)) (sym (nat_cmp_is x y Equal same))) ∙ less))
@@ -68,9 +64,9 @@ under_from prefix (e ∷ es) = elim (either (is_gt (key_cmp prefix e.0))) [
 pub none_under : (prefix : List ℕ) (e : Entry) (es : List Entry) → is_gt (key_cmp prefix e.0) ≡ false → is_under prefix e ≡ false → below_all key_cmp e.0 es ≡ true → under prefix es ≡ []
 none_under prefix e [] from off below = refl
 none_under prefix e (f ∷ es) from off below =
-    let less : key_cmp e.0 f.0 ≡ Less = is_less (key_cmp e.0 f.0) (first_so (is_lt (key_cmp e.0 f.0)) (below_all key_cmp e.0 es) below) in
+    let less : key_cmp e.0 f.0 ≡ Less = is_less (key_cmp e.0 f.0) (and_parts (is_lt (key_cmp e.0 f.0)) (below_all key_cmp e.0 es) below).0 in
     ap (λ (b : Bool). cond b (f ∷ under prefix es) (under prefix es)) (none_above prefix e.0 f.0 from off less)
-    ∙ none_under prefix e es from off (second_so (is_lt (key_cmp e.0 f.0)) (below_all key_cmp e.0 es) below)
+    ∙ none_under prefix e es from off (and_parts (is_lt (key_cmp e.0 f.0)) (below_all key_cmp e.0 es) below).1
 
 -- rows whose keys pass a test rise
 rises_where : (test : List ℕ → Bool) (es : List Entry) → Rises es → Rises (where_key key_cmp test es)
@@ -91,7 +87,7 @@ all_from_key key [] = tt
 all_from_key key (e ∷ es) = from_where key e (entries_from key es) (is_gt (key_cmp key e.0)) refl (all_from_key key es)
 
 pub head_rises : (e : Entry) (es : List Entry) → Rises (e ∷ es) → (below_all key_cmp e.0 es ≡ true) × Rises es
-head_rises e es h = (first_so (below_all key_cmp e.0 es) (is_sorted key_cmp es) h, second_so (below_all key_cmp e.0 es) (is_sorted key_cmp es) h)
+head_rises e es = and_parts (below_all key_cmp e.0 es) (is_sorted key_cmp es)
 
 -- a key under the prefix is found among the rows under it
 pub find_under : (prefix key : List ℕ) (es : List Entry) → starts_with nat_eq key prefix ≡ true → find key_cmp key (under prefix es) ≡ find key_cmp key es

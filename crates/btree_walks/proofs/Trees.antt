@@ -1,7 +1,7 @@
 -- A tree whose children were walked.
 use Rattle.{std.{specs.Prelude.{Option, Some}, proofs.lemmas.List.drop_more}, btree_walks.{specs.Order.{lower_of, upper_of, next_key, AreRows, AreParts}, proofs.Named.named_more}}
 use Rattle.std.proofs.Common.{rules, ◌≡◌, ◌<◌, ◌≤◌, ◌+◌, ◌-◌, ℕ, suc, List, [], ◌∷◌, length, drop, get_or, refl, sym, ap, subst, ◌∙◌, arith, add-one, length-drop}
-use Rattle.{btree_walks.specs.{Owners.{AreNamed, IsWalked, AreWalked, AreWalkedFrom}, declared.marks.Marks.Marks}, page_btree.{specs.claim.Keys.Parts, proofs.MapLaws.key_of}}
+use Rattle.{btree_walks.specs.{Owners.{AreNamed, IsWalked, AreWalked, AreWalkedFrom}, declared.marks.Marks.Marks}, page_btree.specs.claim.Keys.Parts}
 use Rattle.{page_btree.specs.claim.Tree.{leaf, inner, one, more, links, owns, forest_owns, size, forest_size}, page_node.specs.Entries.{key_at, value_at}}
 use Rattle.{page_node.specs.claim.{Entries.{Entry, child_bytes}, Node.{Node, IsNode}}, sector_device.specs.claim.Disk.Image}
 
@@ -35,7 +35,7 @@ walked_before P d low high es k p old mid new lt w was child parts [] none =
     child
 walked_before P d low high es k p old mid new lt w was child parts (f ∷ rest) some =
     let within : suc k < length es = let l = length-drop (suc k) es in let z : length (drop (suc k) es) ≡ suc (length rest) = ap (λ (x : List Entry). length x) some in omega arith in
-    let key : key_at es (suc k) ≡ f.0 = ap key_of (sym (drop_next es (suc k) within) ∙ some) in
+    let key : key_at es (suc k) ≡ f.0 = ap (λ (l : List Entry). key_at l 0) (sym (drop_next es (suc k) within) ∙ some) in
     walked_more P d (lower_of low es k) high (get_or es k ([], [])) f rest p old mid new
     (subst (λ (l : List Entry). IsWalked P d (lower_of low es k) (next_key high l) p old mid) some w)
     (subst (λ (l : List Entry). AreWalked P d f.0 high l mid new) some (subst (λ (x : List ℕ). AreWalked P d x high (drop (suc k) es) mid new) key (was.some within)))

@@ -1,6 +1,6 @@
 -- Numbers digit by digit.
 use Rattle.std.{specs.{Char.{is_ascii_digit, digit_value}, Str.Parse.{digits_value, digits_value_after}}, proofs.{Math.Nat.{pow-le-pow_right, pow-suc}, lemmas.List.drop-drop}}
-use Rattle.std.proofs.Common.{◌≡◌, ℕ, ◌+◌, ◌-◌, ◌*◌, ◌^◌, ◌<◌, ◌≤◌, true, List, [], ◌∷◌, ◌++◌, length, take, drop, get_or, Fits, w64, refl, sym, ap, ◌∙◌, arith, lit<, add-one, length-drop, take-append-drop, rules}
+use Rattle.std.proofs.Common.{◌≡◌, ℕ, ◌+◌, ◌-◌, ◌*◌, ◌^◌, ◌<◌, ◌≤◌, true, List, [], ◌∷◌, ◌++◌, length, take, drop, get_or, Fits, w64, sym, ap, ◌∙◌, arith, lit<, add-one, length-drop, take-append-drop, rules}
 use Rattle.std.proofs.lemmas.{Bool.Decides.nat_tests, Int.Digits.digits_value_more, Str.digit_value_digit}
 
 pub digit_low : (c : ℕ) → is_ascii_digit c ≡ true → 48 ≤ c
@@ -24,24 +24,17 @@ pub below_pow : (n i j : ℕ) → n < 10 ^ i → i ≤ j → n < 10 ^ j
 below_pow n i j small le = search (rules, pow-le-pow_right, lit<)
 
 -- a number before another
-pub value_after-append : (n : ℕ) (xs ys : List ℕ) → digits_value_after 10 n (xs ++ ys) ≡ digits_value_after 10 (digits_value_after 10 n xs) ys
-value_after-append n [] ys = refl
-value_after-append n (x ∷ xs) ys = value_after-append (n * 10 + digit_value x) xs ys
-
-pub value_after-is : (n : ℕ) (ys : List ℕ) → digits_value_after 10 n ys ≡ n * 10 ^ length ys + digits_value 10 ys
+value_after-is : (n : ℕ) (ys : List ℕ) → digits_value_after 10 n ys ≡ n * 10 ^ length ys + digits_value 10 ys
 value_after-is n [] = omega arith
-value_after-is n (y ∷ ys) =
-    value_after-is (n * 10 + digit_value y) ys
-    ∙ parts n (digit_value y) (10 ^ length ys) (10 ^ length (y ∷ ys)) (digits_value 10 ys) (digits_value 10 (y ∷ ys)) (pow-suc 10 (length ys)) (value_after-is (0 * 10 + digit_value y) ys)
-  where
-    parts : (n y p q v w : ℕ) → q ≡ p * 10 → w ≡ (0 * 10 + y) * p + v → (n * 10 + y) * p + v ≡ n * q + w
-    parts n y p q v w power value = rw (power, value) (omega arith)
+value_after-is n (y ∷ ys) = value_after-is (n * 10 + digit_value y) ys ∙ rw (pow-suc 10 (length ys), value_after-is (0 * 10 + digit_value y) ys) (omega arith)
+
+value-append : (n : ℕ) (xs ys : List ℕ) → digits_value_after 10 n (xs ++ ys) ≡ digits_value_after 10 n xs * 10 ^ length ys + digits_value 10 ys
+value-append n [] ys = value_after-is n ys
+value-append n (x ∷ xs) ys = value-append (n * 10 + digit_value x) xs ys
 
 -- a text of digits, cut
-pub value_cut : (bytes : List ℕ) (i : ℕ) → digits_value 10 bytes ≡ digits_value 10 (take i bytes) * 10 ^ length (drop i bytes) + digits_value 10 (drop i bytes)
-value_cut bytes i =
-    ap (digits_value 10) (sym (take-append-drop i bytes)) ∙ value_after-append 0 (take i bytes) (drop i bytes)
-    ∙ value_after-is (digits_value 10 (take i bytes)) (drop i bytes)
+value_cut : (bytes : List ℕ) (i : ℕ) → digits_value 10 bytes ≡ digits_value 10 (take i bytes) * 10 ^ length (drop i bytes) + digits_value 10 (drop i bytes)
+value_cut bytes i = ap (digits_value 10) (sym (take-append-drop i bytes)) ∙ value-append 0 (take i bytes) (drop i bytes)
 
 -- three numbers of five digits each
 pub value_by_fives : (bytes : List ℕ) (high middle low : ℕ) → length bytes ≡ 15 → high ≡ digits_value 10 (take 5 bytes) → middle ≡ digits_value 10 (take 5 (drop 5 bytes))

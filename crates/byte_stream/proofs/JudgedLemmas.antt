@@ -1,9 +1,9 @@
 -- Lines that are judged one after the other.
-use Rattle.std.{specs.{Io.KnownBytes.IsAtEnd, Str.Lines.{lines, strip_carriage_return}}, proofs.lemmas.{Bool.eqb-true, List.{append-nil, map-append, Elements.All-append}}}
-use Rattle.std.proofs.Common.{◌≡◌, ℕ, zero, suc, ◌+◌, ◌<◌, ◌⊎◌, List, [], ◌∷◌, ◌++◌, Bool, true, false, eqb, Option, None, Some, length, map, refl, sym, ap, ◌∙◌, arith, append_assoc, inl, inr, length-append, ⊎_elim, rules}
-use Rattle.byte_stream.specs.{Reading.{IsLong, IsTooLong, IsLastLine}, claim.Judged.{Judge, AreGood, IsFirstFault, ShowsFault, with_ends, AreCut, BeginsWithLines, IsCutShort}}
-use Rattle.byte_stream.{specs.claim.Reading.{NoLineFeed, IsBroken, BeginsWithLine, line_limit}, proofs.BufferLemmas.{strip_by_one, strip_shorter}}
-use Rattle.byte_stream.proofs.TextLemmas.{lines-cut, lines-last}
+use Rattle.std.{specs.{Io.KnownBytes.IsAtEnd, Str.Lines.{lines, strip_carriage_return}}, proofs.lemmas.{Bool.eqb-true, List.{append-nil, map-append}}}
+use Rattle.std.proofs.Common.{◌≡◌, ℕ, ◌+◌, ◌<◌, ◌⊎◌, List, [], ◌∷◌, ◌++◌, Bool, true, false, eqb, Option, None, Some, length, map, refl, sym, ap, ◌∙◌, arith, append_assoc, inl, inr, length-append, rules}
+use Rattle.{std.proofs.lemmas.List.Elements.{All-append, All-cons, All-nil}, byte_stream.{specs.Reading.{IsLong, IsTooLong, IsLastLine}, proofs.TextLemmas.{lines-cut, lines-last}}}
+use Rattle.byte_stream.specs.claim.Judged.{Judge, AreGood, IsFirstFault, ShowsFault, with_ends, AreCut, BeginsWithLines, IsCutShort}
+use Rattle.byte_stream.{specs.claim.Reading.{NoLineFeed, IsBroken, BeginsWithLine, line_limit}, proofs.BufferLemmas.{stripped, strip_shorter}}
 
 -- ---- whole lines at the start of a text
 
@@ -48,55 +48,34 @@ lines-begins text rest ls b = search (rules, lines-with_ends)
 
 -- a text is one line, or begins with a line
 pub cut_or_one : (text : List ℕ) → NoLineFeed text ⊎ ((raw : List ℕ) × (rest : List ℕ) × (text ≡ raw ++ 10 ∷ rest) × NoLineFeed raw)
-cut_or_one [] = inl (λ k d inside. absurd (omega arith))
+cut_or_one [] = inl (All-nil (λ b. eqb b 10 ≡ false))
 cut_or_one (x ∷ xs) = at_first (eqb x 10) refl (cut_or_one xs)
   where
-    more : (raw : List ℕ) → eqb x 10 ≡ false → NoLineFeed raw → NoLineFeed (x ∷ raw)
-    more raw differs one zero d inside = differs
-    more raw differs one (suc k) d inside = one k d (omega arith)
-
     at_first : (b : Bool) → eqb x 10 ≡ b → NoLineFeed xs ⊎ ((raw : List ℕ) × (rest : List ℕ) × (xs ≡ raw ++ 10 ∷ rest) × NoLineFeed raw)
         → NoLineFeed (x ∷ xs) ⊎ ((raw : List ℕ) × (rest : List ℕ) × (x ∷ xs ≡ raw ++ 10 ∷ rest) × NoLineFeed raw)
-    at_first true is later = inr ([], xs, ap (λ (b : ℕ). b ∷ xs) (eqb-true x 10 is), λ k d inside. absurd (omega arith))
-    at_first false differs (inl one) = inl (more xs differs one)
-    at_first false differs (inr w) = inr (x ∷ w.0, w.1, ap (λ (t : List ℕ). x ∷ t) w.2, more w.0 differs w.3)
+    at_first true is later = inr ([], xs, ap (λ (b : ℕ). b ∷ xs) (eqb-true x 10 is), All-nil (λ b. eqb b 10 ≡ false))
+    at_first false differs (inl one) = inl (All-cons (λ b. eqb b 10 ≡ false) x xs differs one)
+    at_first false differs (inr w) = inr (x ∷ w.0, w.1, ap (λ (t : List ℕ). x ∷ t) w.2, All-cons (λ b. eqb b 10 ≡ false) x w.0 differs w.3)
 
 pub NoLineFeed-append : (xs ys : List ℕ) → NoLineFeed xs → NoLineFeed ys → NoLineFeed (xs ++ ys)
 NoLineFeed-append xs ys = All-append (λ b. eqb b 10 ≡ false) xs ys
 
 pub long_part : (text raw : List ℕ) → IsLong text → line_limit < length (strip_carriage_return (text ++ raw))
 long_part text [] long = rw (append-nil text) long
-long_part text (x ∷ raw) long = search (rules, strip_by_one, length-append, strip_shorter)
+long_part text (x ∷ raw) long = let s = stripped (text ++ x ∷ raw) in omega (arith, s.2, length-append text (x ∷ raw), strip_shorter text)
 
 -- whatever follows, the first line is too long
 pub long_line : (text more : List ℕ) → IsTooLong text → (line : List ℕ) × (after : List (List ℕ)) × (lines (text ++ more) ≡ line ∷ after) × (line_limit < length line)
-long_line text more t = ⊎_elim whole part (cut_or_one more)
-  where
-    bytes : line_limit < length text
-    bytes = omega (arith, strip_shorter text, t.long)
-
-    whole : NoLineFeed more → (line : List ℕ) × (after : List (List ℕ)) × (lines (text ++ more) ≡ line ∷ after) × (line_limit < length line)
-    whole one = (
-      text ++ more,
-      [],
-      lines-last (text ++ more) (NoLineFeed-append text more t.one one) (omega (arith, length-append text more, bytes)),
-      omega (arith, length-append text more, bytes),
-    )
-
-    part : ((raw : List ℕ) × (rest : List ℕ) × (more ≡ raw ++ 10 ∷ rest) × NoLineFeed raw) → (line : List ℕ) × (after : List (List ℕ)) × (lines (text ++ more) ≡ line ∷ after) × (line_limit < length line)
-    part w = (
-      strip_carriage_return (text ++ w.0),
-      lines w.1,
-      ap lines (ap (λ (t' : List ℕ). text ++ t') w.2 ∙ sym (append_assoc text w.0 (10 ∷ w.1))) ∙ lines-cut (text ++ w.0) w.1 (NoLineFeed-append text w.0 t.one w.3),
-      long_part text w.0 t.long,
-    )
+long_line text more t = elim (cut_or_one more) [
+  | inl one ↦
+      let bytes : line_limit < length (text ++ more) = omega (arith, strip_shorter text, t.long, length-append text more) in
+      (text ++ more, [], lines-last (text ++ more) (NoLineFeed-append text more t.one one) (omega arith), bytes)
+  | inr w ↦
+      let cut : text ++ more ≡ (text ++ w.0) ++ 10 ∷ w.1 = ap (λ (t' : List ℕ). text ++ t') w.2 ∙ sym (append_assoc text w.0 (10 ∷ w.1)) in
+      (strip_carriage_return (text ++ w.0), lines w.1, ap lines cut ∙ lines-cut (text ++ w.0) w.1 (NoLineFeed-append text w.0 t.one w.3), long_part text w.0 t.long)
+]
 
 -- ---- judging
-
-split_more : (x b : List ℕ) (xs bs : List (List ℕ)) (line l : List ℕ) → x ≡ b → ((xs ≡ bs) × (line ≡ l)) ⊎ ((mid : List (List ℕ)) × (xs ≡ bs ++ l ∷ mid))
-    → ((x ∷ xs ≡ b ∷ bs) × (line ≡ l)) ⊎ ((mid : List (List ℕ)) × (x ∷ xs ≡ b ∷ (bs ++ l ∷ mid)))
-split_more x b xs bs line l first (inl w) = inl (let same = w.0 in (cc), w.1)
-split_more x b xs bs line l first (inr w) = inr (w.0, let same = w.1 in (cc))
 
 split_push : (ls before after : List (List ℕ)) (line l : List ℕ) → ls ++ line ∷ [] ≡ before ++ l ∷ after
     → ((ls ≡ before) × (line ≡ l)) ⊎ ((mid : List (List ℕ)) × (ls ≡ before ++ l ∷ mid))
@@ -105,8 +84,7 @@ split_push (x ∷ xs) [] after line l e = inr (xs, (cc))
 split_push [] (b ∷ bs) after line l e = absurd (omega (arith, ap length e, length-append bs (l ∷ after)))
 split_push (x ∷ xs) (b ∷ bs) after line l e =
     let first : x ≡ b = cc in
-    let more : xs ++ line ∷ [] ≡ bs ++ l ∷ after = cc in
-    split_more x b xs bs line l first (split_push xs bs after line l more)
+    elim (split_push xs bs after line l cc) [ inl w ↦ inl (let same = w.0 in (cc), w.1) | inr w ↦ inr (w.0, let same = w.1 in (cc)) ]
 
 pub lines-ended : (text held : List ℕ) (ls : List (List ℕ)) → BeginsWithLines text ls held → held ≡ [] → lines text ≡ ls
 lines-ended text held ls b none = lines-begins text held ls b ∙ ap (λ (t : List ℕ). ls ++ lines t) none ∙ append-nil ls

@@ -1,32 +1,19 @@
 -- One element after others that are passed over.
-use Rattle.std.{specs.{List.slice_get, Option.option_copied}, proofs.lemmas.{List.{drop_all, drop-drop}, Option.slice_get_past}}
-use Rattle.std.proofs.Common.{◌≡◌, ◌∷◌, [], ◌+◌, ◌≤◌, ℕ, List, Option, Some, None, length, drop, sym, ◌∙◌, ap, arith, length-drop, MatchOption, zero, suc, Bor}
+use Rattle.std.{specs.{List.slice_get, Option.option_copied}, proofs.lemmas.{List.{drop_all, drop_more}, Option.{slice_get_past, slice_get-get_or}}}
+use Rattle.std.proofs.Common.{◌≡◌, ◌∷◌, [], ◌+◌, ◌<◌, ◌≤◌, ℕ, List, Option, Some, None, length, drop, get_or, sym, ◌∙◌, ap, arith, length-drop, MatchOption, Bor}
 
-short : {X : Type 0} (xs : List X) (i n : ℕ) → drop i xs ≡ [] → i ≤ n → length xs ≤ n
+pub short : {X : Type 0} (xs : List X) (i n : ℕ) → drop i xs ≡ [] → i ≤ n → length xs ≤ n
 short xs i n e le = omega (arith, length-drop i xs, ap length e)
 
-pub none_at : {X : Type 0} (xs : List X) (i n : ℕ) → drop i xs ≡ [] → i ≤ n → slice_get xs n ≡ None
-none_at xs i n e le = slice_get_past xs n (short xs i n e le)
-
-pub none_after : {X : Type 0} (xs : List X) (i n : ℕ) → drop i xs ≡ [] → i ≤ n → drop (n + 1) xs ≡ []
-none_after xs i n e le = drop_all (n + 1) xs (omega (arith, short xs i n e le))
-
-pub got_at : {X : Type 0} (xs rest : List X) (x : X) (n : ℕ) → drop n xs ≡ x ∷ rest → slice_get xs n ≡ Some x
-got_at [] rest x zero e = cc
-got_at [] rest x (suc n) e = cc
-got_at (y ∷ xs) rest x zero e = cc
-got_at (y ∷ xs) rest x (suc n) e = got_at xs rest x n e
-
-pub got_after : {X : Type 0} (xs rest : List X) (x : X) (n : ℕ) → drop n xs ≡ x ∷ rest → drop (n + 1) xs ≡ rest
-got_after xs rest x n e = sym (drop-drop 1 n xs) ∙ ap (drop 1) e
-
--- what a step gives after the elements that were passed over
-pub last_at : (r : Option (Bor (List ℕ))) (xs old new : List (List ℕ)) (n : ℕ) → MatchOption r ((old ≡ []) × (new ≡ [])) (λ f. old ≡ f.now ∷ new) → old ≡ drop n xs
-    → option_copied r ≡ slice_get xs n
-last_at None xs old new n gave at = sym (none_at xs n n (sym at ∙ gave.0) (omega arith))
-last_at (Some f) xs old new n gave at = sym (got_at xs new f.now n (sym at ∙ gave))
-
-pub last_after : (r : Option (Bor (List ℕ))) (xs old new : List (List ℕ)) (n : ℕ) → MatchOption r ((old ≡ []) × (new ≡ [])) (λ f. old ≡ f.now ∷ new) → old ≡ drop n xs
-    → new ≡ drop (n + 1) xs
-last_after None xs old new n gave at = gave.1 ∙ sym (none_after xs n n (sym at ∙ gave.0) (omega arith))
-last_after (Some f) xs old new n gave at = sym (got_after xs new f.now n (sym at ∙ gave))
+-- what a step gives, and leaves
+pub last : (r : Option (Bor (List ℕ))) (xs old new : List (List ℕ)) (i n : ℕ) → MatchOption r ((old ≡ []) × (new ≡ [])) (λ f. old ≡ f.now ∷ new) → old ≡ drop i xs → i ≡ n
+    → (option_copied r ≡ slice_get xs n) × (new ≡ drop (n + 1) xs)
+last None xs old new i n gave at same =
+    let past : length xs ≤ n = short xs i n (sym at ∙ gave.0) (omega arith) in
+    (sym (slice_get_past xs n past), gave.1 ∙ sym (drop_all (n + 1) xs (omega arith)))
+last (Some f) xs old new i n gave at same =
+    let cut : drop n xs ≡ f.now ∷ new = ap (λ (k : ℕ). drop k xs) (sym same) ∙ sym at ∙ gave in
+    let inside : n < length xs = omega (arith, length-drop n xs, ap length cut) in
+    let next = drop_more xs n f.now inside in
+    let here : f.now ≡ get_or xs n f.now = cc in
+    (ap Some here ∙ sym (slice_get-get_or xs n f.now inside), (cc))

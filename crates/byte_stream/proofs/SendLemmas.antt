@@ -11,12 +11,7 @@ sent_more a b c bytes done n p q = search (rules, take-add, Appends-trans, take_
 pub piece_within : (bytes : List ℕ) (done n : ℕ) → done ≤ length bytes → n ≤ length (take (length bytes - done) (drop done bytes)) → done + n ≤ length bytes
 piece_within bytes done n within h = omega (arith, rw take_rest at h, length-drop done bytes)
 
--- what was written is a prefix of the bytes
-pub sent_prefix : (a b : Option (List ℕ)) (bytes : List ℕ) (done : ℕ) → Appends a b (take done bytes) → (prefix : List ℕ) × (rest : List ℕ) × (bytes ≡ prefix ++ rest) × Appends a b prefix
-sent_prefix a b bytes done p = (take done bytes, drop done bytes, sym (take-append-drop done bytes), p)
-
--- and a write that took nothing leaves it so
-pub sent_stays : (a b c : Option (List ℕ)) (bytes : List ℕ) (done : ℕ) → Appends a b (take done bytes) → Keeps b c → (prefix : List ℕ) × (rest : List ℕ) × (bytes ≡ prefix ++ rest) × Appends a c prefix
-sent_stays a b c bytes done p k = sent_prefix a c bytes done (Appends-kept a b c (take done bytes) p k)
-
--- ---- a head with a part of its body, and then the rest
+-- what was written is a prefix of the bytes, also after a write that took nothing
+pub sent_prefix : (a b c : Option (List ℕ)) (bytes : List ℕ) (done : ℕ) → Appends a b (take done bytes) → Keeps b c
+    → (prefix : List ℕ) × (rest : List ℕ) × (bytes ≡ prefix ++ rest) × Appends a c prefix
+sent_prefix a b c bytes done p k = (take done bytes, drop done bytes, sym (take-append-drop done bytes), Appends-kept a b c (take done bytes) p k)

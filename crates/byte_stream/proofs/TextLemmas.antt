@@ -1,6 +1,6 @@
 -- Lines and fields, one after the other.
-use Rattle.{std.{specs.Str.Lines.{lines, lines_of_parts, strip_carriage_return}, proofs.Math.Dec.eqb-suc-zero}, byte_stream.specs.claim.Fields.fields}
-use Rattle.std.proofs.Common.{◌≡◌, ℕ, ◌<◌, false, List, [], ◌∷◌, ◌++◌, length, take, drop, refl, ap, ◌∙◌, arith, eqb, All, ◌-◌, length-take, rules}
+use Rattle.std.{specs.Str.Lines.{lines, lines_of_parts, strip_carriage_return}, proofs.Math.Dec.eqb-suc-zero}
+use Rattle.std.proofs.Common.{◌≡◌, ℕ, ◌<◌, false, List, [], ◌∷◌, ◌++◌, length, take, drop, refl, ap, ◌∙◌, arith, eqb, All, ◌-◌, rules}
 use Rattle.std.proofs.lemmas.List.Splits.{slice_split_at, slice_split_none, length-slice_split}
 
 lines_of_parts-cons : (x : List ℕ) (parts : List (List ℕ)) → 0 < length parts → lines_of_parts (x ∷ parts) ≡ strip_carriage_return x ∷ lines_of_parts parts
@@ -19,15 +19,5 @@ unended (x ∷ xs) some = rw (eqb-suc-zero (length xs)) refl
 pub lines-last : (line : List ℕ) → All (λ b. eqb b 10 ≡ false) line → 0 < length line → lines line ≡ line ∷ []
 lines-last line none some = ap lines_of_parts (slice_split_none (λ b. eqb b 10) line none) ∙ unended line some
 
-pub lines-none : (text : List ℕ) → length text ≡ 0 → lines text ≡ []
-lines-none [] none = refl
-lines-none (x ∷ xs) none = absurd (omega arith)
-
-pub fields-cut : (field rest : List ℕ) → All (λ b. eqb b 124 ≡ false) field → fields (field ++ 124 ∷ rest) ≡ field ∷ fields rest
-fields-cut field rest none = slice_split_at (λ b. eqb b 124) field 124 rest none refl
-
-pub fields-last : (field : List ℕ) → All (λ b. eqb b 124 ≡ false) field → fields field ≡ field ∷ []
-fields-last field none = slice_split_none (λ b. eqb b 124) field none
-
 pub lines-past : (text : List ℕ) → lines (take (length text - length text) (drop (length text) text)) ≡ []
-lines-past text = lines-none (take (length text - length text) (drop (length text) text)) (omega (arith, length-take (length text - length text) (drop (length text) text)))
+lines-past text = let none : length text - length text ≡ 0 = omega arith in ap (λ (n : ℕ). lines (take n (drop (length text) text))) none

@@ -1,9 +1,9 @@
 -- Steps of a reader of words, one after the other.
 use Rattle.std.{specs.Io.KnownBytes.{Consumes, IsAtEnd}, proofs.Common.{◌≡◌, ℕ, List, [], ◌++◌, Option, Ok, true, sym, ap, ◌∙◌, arith, append_assoc, length-append, rules}}
-use Rattle.{std.proofs.lemmas.List.{append-nil, Elements.All-append}, byte_stream.specs.{Reading.Reading, claim.Words.{is_separator, words, AreSeparators, IsBrokenWord}}}
+use Rattle.{std.proofs.{KnownBytes.{Consumes-nil, Consumes-trans}, lemmas.List.{append-nil, Elements.All-append}}, byte_stream.specs.Reading.{Reading, Fills}}
 use Rattle.byte_stream.specs.{Words.{IsWord, BeginsWithWord, BeginsWithLongWord, GivesWord, CutsWord, CutsPart, CutsLong, TakesLastWord}, declared.reader.WordStep.WordStep}
-use Rattle.byte_stream.{specs.declared.reader.WordStep.TheVariants.{Word, LastWord, End}, proofs.ReadingLemmas.{Consumes-nothing, Consumes-then}}
-use Rattle.byte_stream.proofs.WordLaws.{words-none, words-past, words-word, words-last, words-goes_on}
+use Rattle.byte_stream.specs.{claim.Words.{is_separator, words, AreSeparators, IsBrokenWord}, declared.{reader.WordStep.TheVariants.{Word, LastWord, End}, source.Turn.Turn}}
+use Rattle.byte_stream.{specs.declared.source.Turn.TheVariants.Read, proofs.WordLaws.{words-none, words-past, words-word, words-last, words-goes_on}}
 
 -- the source gave more bytes, and of all that came separators are passed and the rest is held
 pub record ReadsPast (before after : Option (List ℕ)) (old held : List ℕ) : Type 0 where
@@ -14,13 +14,8 @@ pub record ReadsPast (before after : Option (List ℕ)) (old held : List ℕ) : 
   pub blank : AreSeparators blanks
 
 pub past_nothing : (before : Option (List ℕ)) (old : List ℕ) → ReadsPast before before old old
-past_nothing before old = record {
-  more = [];
-  blanks = [];
-  consumes = Consumes-nothing before;
-  text = append-nil old;
-  blank = λ k d inside. absurd (omega arith);
-}
+past_nothing before old =
+    record { more = []; blanks = []; consumes = Consumes-nil before; text = append-nil old; blank = λ k d inside. absurd (omega arith) }
 
 pub past_part : (before after : Option (List ℕ)) (old held part : List ℕ) → ReadsPast before after old held → CutsPart held part → ReadsPast before after old part
 past_part before after old held part reads cuts = record {
@@ -31,13 +26,17 @@ past_part before after old held part reads cuts = record {
   blank = All-append (λ b. is_separator b ≡ true) reads.blanks cuts.blanks reads.blank cuts.blank;
 }
 
-pub past_turn : (before between after : Option (List ℕ)) (old held new piece : List ℕ) → ReadsPast before between old held → Consumes between after piece → new ≡ held ++ piece
+past_turn : (before between after : Option (List ℕ)) (old held new piece : List ℕ) → ReadsPast before between old held → Consumes between after piece → new ≡ held ++ piece
     → ReadsPast before after old new
-past_turn before between after old held new piece reads came is = search (rules, Consumes-then, append_assoc)
+past_turn before between after old held new piece reads came is = search (rules, Consumes-trans, append_assoc)
 
--- the same where no byte came
-pub past_none : (before between after : Option (List ℕ)) (old held new : List ℕ) → ReadsPast before between old held → Consumes between after [] → new ≡ held → ReadsPast before after old new
-past_none before between after old held new reads came is = past_turn before between after old held new [] reads came (is ∙ sym (append-nil held))
+-- after a turn too
+pub past_fill : (before between after : Option (List ℕ)) (old held part new : List ℕ) (turn : Turn) → ReadsPast before between old held → CutsPart held part
+    → Fills between after part turn new → ReadsPast before after old new
+past_fill before between after old held part new (Read n) reads cuts fills =
+    past_turn before between after old part new fills.0 (past_part before between old held part reads cuts) fills.1 fills.2
+past_fill before between after old held part new _ reads cuts fills =
+    past_turn before between after old part new [] (past_part before between old held part reads cuts) fills.0 (fills.1 ∙ sym (append-nil part))
 
 words_on : (before after : Option (List ℕ)) (old held next : List ℕ) (reads : ReadsPast before after old held) → words ((old ++ reads.more) ++ next) ≡ words (held ++ next)
 words_on before after old held next reads = search (rules, append_assoc, words-past)

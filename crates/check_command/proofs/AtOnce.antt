@@ -7,22 +7,16 @@ module _ {R : Type 0} (r : Ghosts R) (workers : ℕ) (before after : AuditFiles 
   -- the census files say these blocks
   pub read_on : (rows : Vec BlockRow Global) (outcome : Result Audited FileFault) → ReadsStateBy r workers before.census census (Ok rows) → after.census ≡ census → AuditsBlocksFiles r rows.items before after kind n outcome → AuditsStateBy r workers before after kind n outcome
   read_on rows outcome read same audits = (
-    record { census = read.0; gal = after.gal; plan = after.plan; senate = after.senate; congress = after.congress },
-    record {
-      census = subst (λ (c : CensusFiles R). AreLeftBy workers before.census read.0 c) (sym same) read.2;
-      neighbours = refl;
-      plan = refl;
-      senate = refl;
-      congress = refl;
-    },
+    record after { census = read.0 },
+    record { census = subst (λ (c : CensusFiles R). AreLeftBy workers before.census read.0 c) (sym same) read.2; neighbours = refl; plan = refl; senate = refl; congress = refl },
     (Ok rows, read.1, audits),
   )
 
 module _ {R : Type 0} (r : Ghosts R) (workers : ℕ) (before : AuditFiles R) (census : CensusFiles R) (kind : Kind) (n : ℕ) where
   -- one of them has a fault
-  pub read_no_more : (fault : FileFault) → ReadsStateBy r workers before.census census (Err fault) → AuditsStateBy r workers before (record { census = census; gal = before.gal; plan = before.plan; senate = before.senate; congress = before.congress }) kind n (Err fault)
+  pub read_no_more : (fault : FileFault) → ReadsStateBy r workers before.census census (Err fault) → AuditsStateBy r workers before (record before { census = census }) kind n (Err fault)
   read_no_more fault read = (
-    record { census = read.0; gal = before.gal; plan = before.plan; senate = before.senate; congress = before.congress },
+    record before { census = read.0 },
     record { census = read.2; neighbours = refl; plan = refl; senate = refl; congress = refl },
     (Err fault, read.1, ((refl, refl, refl), refl)),
   )

@@ -38,11 +38,8 @@ more f rows count k row less is = sum_by_more (share f k) rows count row less �
 pub counted_fit : (f : BlockRow → ℕ) (rows : List BlockRow) (count k : ℕ) (row : BlockRow) → count < length rows → row ≡ get_or rows count row
     → sum_by (share f k) (take count rows) + f row ≤ sum_by f rows
 counted_fit f rows count k row less is =
-    let e = sum_by_more_le_part (share f k) f rows count row less (λ b. small b) in
+    let e = sum_by_more_le_part (share f k) f rows count row less (λ b. elim (eqb (county_of b.id) k) as (λ v. cond v (f b) 0 ≤ f b) [ true ↦ omega arith | false ↦ omega arith ]) in
     rw (← is) at e
-  where
-    small : (b : BlockRow) → share f k b ≤ f b
-    small b = elim (eqb (county_of b.id) k) as (λ v. cond v (f b) 0 ≤ f b) [ true ↦ omega arith | false ↦ omega arith ]
 
 pub ones_length : (rows : List BlockRow) → sum_by one rows ≡ length rows
 ones_length [] = refl
@@ -86,10 +83,8 @@ pub counties_more : (rows : List BlockRow) (blocks people : List ℕ) (n : ℕ) 
     → blocks ≡ map (county_blocks rows) (range_with_len 0 county_codes) → people ≡ map (county_people rows) (range_with_len 0 county_codes)
     → old ≡ counties_to rows n → new ≡ old ++ if_there n (get_or blocks n 0) (get_or people n 0) → new ≡ counties_to rows (n + 1)
 counties_more rows blocks people n old new less blocks_are people_are so_far added =
-    let b : get_or blocks n 0 ≡ county_blocks rows n
-    = ap (λ (t : List ℕ). get_or t n 0) blocks_are ∙ get_or-map-range_with_len (county_blocks rows) 0 county_codes n n 0 less (omega arith) in
-    let p : get_or people n 0 ≡ county_people rows n
-    = ap (λ (t : List ℕ). get_or t n 0) people_are ∙ get_or-map-range_with_len (county_people rows) 0 county_codes n n 0 less (omega arith) in
+    let b = ap (λ (t : List ℕ). get_or t n 0) blocks_are ∙ get_or-map-range_with_len (county_blocks rows) 0 county_codes n n 0 less (omega arith) in
+    let p = ap (λ (t : List ℕ). get_or t n 0) people_are ∙ get_or-map-range_with_len (county_people rows) 0 county_codes n n 0 less (omega arith) in
     added ∙ ap (λ (xs : List CountyPeople). xs ++ if_there n (get_or blocks n 0) (get_or people n 0)) so_far
     ∙ ap (λ (m : ℕ). counties_to rows n ++ if_there n m (get_or people n 0)) b
     ∙ ap (λ (m : ℕ). counties_to rows n ++ if_there n (county_blocks rows n) m) p

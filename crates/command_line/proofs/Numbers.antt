@@ -2,19 +2,15 @@
 use Rattle.std.{specs.{Char.is_ascii_digit, List.list_all, Str.Parse.digits_value}, proofs.lemmas.{Bool.Decides.nat_tests, Int.Digits.digits_value_more, List.Folds.list_all_more}}
 use Rattle.std.proofs.{Common.{◌≡◌, ℕ, ◌+◌, ◌-◌, ◌*◌, ◌<◌, ◌≤◌, Bool, true, ◌&&◌, List, length, take, get_or, min, refl, sym, ap, ◌∙◌, arith}, lemmas.Str.digit_value_digit}
 
-pub digit_low : (c : ℕ) → is_ascii_digit c ≡ true → 48 ≤ c
-digit_low c is = grind (arith, nat_tests)
-
-pub digit_high : (c : ℕ) → is_ascii_digit c ≡ true → c ≤ 57
-digit_high c is = grind (arith, nat_tests)
+pub digit_in : (c : ℕ) → is_ascii_digit c ≡ true → (48 ≤ c) × (c ≤ 57)
+digit_in c is = (grind (arith, nat_tests), grind (arith, nat_tests))
 
 value_more : (bytes : List ℕ) (n i : ℕ) → n ≡ digits_value 10 (take i bytes) → i < length bytes → is_ascii_digit (get_or bytes i 0) ≡ true
     → n * 10 + (get_or bytes i 0 - 48) ≡ digits_value 10 (take (i + 1) bytes)
 value_more bytes n i value inside is =
-    let low = digit_low (get_or bytes i 0) is in
-    let high = digit_high (get_or bytes i 0) is in
+    let range = digit_in (get_or bytes i 0) is in
     let more = digits_value_more 10 bytes i inside in
-    let digit = digit_value_digit (get_or bytes i 0) (low, high) in
+    let digit = digit_value_digit (get_or bytes i 0) range in
     sym (rw (more, ← value) (omega arith))
 
 pub stopped_more : (bytes : List ℕ) (n i : ℕ) → n ≡ min (digits_value 10 (take i bytes)) 4294967296 → i < length bytes → is_ascii_digit (get_or bytes i 0) ≡ true

@@ -1,11 +1,10 @@
 -- A plan is made of the revisions that were seen: rows that have its chunks say which districts each of them has.
 use Rattle.std.proofs.Common.{◌≡◌, ◌<◌, ◌≤◌, ◌+◌, ◌++◌, ℕ, zero, suc, List, [], ◌∷◌, length, get_or, All, replicate, inl, inr, refl, sym, subst, ◌∙◌, arith, length-append}
 use Rattle.{std.proofs.lemmas.{Bool.cases_lt, List.{get_or_append_left, get_or_at, length-replicate, Elements.{All-push, All-replicate}}}, desk_model.specs.claim.Desk.Plan}
-use Rattle.{desk_catalogue.specs.shared_lists.Laid.with_at, desk_check.specs.Checking.{AreChunksSeen, AreRevisionsSeen, IsRevisionSeen, IsSizedRow}}
-use Rattle.{desk_model.specs.{Ranges.{ListsAreCut, ranges_of}, claim.Geography.GeographyModel, declared.ranges.CountyRange.CountyRange}, store_rows.specs.Changes.plan_row_of}
+use Rattle.{desk_catalogue.specs.shared_lists.Laid.with_at, desk_check.specs.Checking.{AreChunksSeen, AreRevisionsSeen, IsSizedRow}, store_rows.specs.Changes.plan_row_of}
+use Rattle.{desk_model.specs.{Ranges.{ListsAreCut, ranges_of}, claim.Geography.GeographyModel, declared.ranges.CountyRange.CountyRange}, store_rows.specs.claim.Rows.KeyMap}
 use Rattle.{desk_opening.{specs.Reading.{AreCountiesOf, AreRevisionsShown, IsRevisionShown, no_cut}, proofs.Shown.row_is}, desk_pages.specs.claim.Desks.{AreWithin, IsSized}}
-use Rattle.{store_rows.specs.{claim.Rows.KeyMap, declared.value.PlanRow.PlanRow}, desk_opening.proofs.Laying.{LaidTo, county_fits, laid_one_more, none_laid, with_long}}
-use Rattle.desk_opening.proofs.Within.{with_at_within}
+use Rattle.{store_rows.specs.declared.value.PlanRow.PlanRow, desk_opening.proofs.{Laying.{LaidTo, county_fits, laid_one_more, none_laid, with_long}, Within.with_at_within}}
 
 module _ (lists : ListsAreCut) (g : GeographyModel) (ranges : List CountyRange) (same : ranges ≡ ranges_of g) (m : KeyMap) where
   abbrev blocks : ℕ
@@ -36,7 +35,6 @@ module _ (lists : ListsAreCut) (g : GeographyModel) (ranges : List CountyRange) 
       let one = seen k (omega arith) (omega arith) in
       let range = get_or ranges k no_cut in
       let after = with_at range.first one.chunk before.districts in
-      let many = one.pieces.long in
       let all = county_fits lists ranges blocks are k no_cut (omega arith) before.districts before.long in
       let next : k + 1 ≡ suc k = omega arith in
       record {
@@ -49,20 +47,6 @@ module _ (lists : ListsAreCut) (g : GeographyModel) (ranges : List CountyRange) 
       }
 
   -- ---- the revisions of a plan
-  record IsRevisionMade (n plan revision : ℕ) : Type 0 where
-    pub districts : List ℕ
-    pub within : AreWithin n districts
-    pub shown : IsRevisionShown plan revision ranges m districts
-
-  revision_made : (n plan revision : ℕ) → IsRevisionSeen n plan revision ranges m → IsRevisionMade n plan revision
-  revision_made n plan revision seen =
-      let all = laid_so n seen.numbers seen.parts.long seen.chunks (length ranges) (omega arith) in
-      record {
-        districts = all.districts;
-        within = all.within;
-        shown = record { numbers = seen.numbers; parts = seen.parts; chunks = λ county named inside. all.laid.read (λ other last there. absurd (omega arith)) county inside inside };
-      }
-
   record AreRevisionsMade (row : PlanRow) (count : ℕ) : Type 0 where
     pub revisions : List (List ℕ)
     pub long : length revisions ≡ count
@@ -73,20 +57,21 @@ module _ (lists : ListsAreCut) (g : GeographyModel) (ranges : List CountyRange) 
   revisions_made row zero seen = record { revisions = []; long = refl; within = λ k d less. absurd (omega arith); shown = λ k less. absurd (omega arith) }
   revisions_made row (suc count) seen =
       let before = revisions_made row count (λ k less. seen k (omega arith)) in
-      let one = revision_made row.districts row.number (count + 1) (seen count (omega arith)) in
-      let long = length-append before.revisions (one.districts ∷ []) in
-      let many = before.long in
+      let one = seen count (omega arith) in
+      let all = laid_so row.districts one.numbers one.parts.long one.chunks (length ranges) (omega arith) in
+      let shown : IsRevisionShown row.number (count + 1) ranges m all.districts = record { numbers = one.numbers; parts = one.parts; chunks = λ county named inside. all.laid.read (λ other last there. absurd (omega arith)) county inside inside } in
+      let long = length-append before.revisions (all.districts ∷ []) in
       record {
-        revisions = before.revisions ++ one.districts ∷ [];
+        revisions = before.revisions ++ all.districts ∷ [];
         long = omega arith;
-        within = All-push (AreWithin row.districts) before.revisions one.districts before.within one.within;
+        within = All-push (AreWithin row.districts) before.revisions all.districts before.within all.within;
         shown = λ k less. elim (cases_lt k (length before.revisions)) [
-          | inl earlier ↦ subst (λ (l : List ℕ). IsRevisionShown row.number (k + 1) ranges m l) (sym (get_or_append_left before.revisions (one.districts ∷ []) [] k earlier)) (before.shown k earlier)
+          | inl earlier ↦ subst (λ (l : List ℕ). IsRevisionShown row.number (k + 1) ranges m l) (sym (get_or_append_left before.revisions (all.districts ∷ []) [] k earlier)) (before.shown k earlier)
           | inr not ↦
               let here : length before.revisions ≡ k = omega arith in
               let counted : count ≡ k = omega arith in
-              subst (λ (l : List ℕ). IsRevisionShown row.number (k + 1) ranges m l) (sym (get_or_at before.revisions one.districts [] [] k here))
-              (subst (λ (i : ℕ). IsRevisionShown row.number (i + 1) ranges m one.districts) counted one.shown)
+              subst (λ (l : List ℕ). IsRevisionShown row.number (k + 1) ranges m l) (sym (get_or_at before.revisions all.districts [] [] k here))
+              (subst (λ (i : ℕ). IsRevisionShown row.number (i + 1) ranges m all.districts) counted shown)
         ];
       }
 

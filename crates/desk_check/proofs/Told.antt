@@ -1,16 +1,15 @@
 -- The plans whose rows a scan took.
 use Rattle.std.specs.{BTreeMap.BTreeMap, Cmp.Lexicographic.nat_list_cmp_total, FinMap.{empty, entries, get, insert, len, get-empty, len-empty, len-insert}}
 use Rattle.{std.specs.{Prelude.{Option, is_some, Result, Ok, Err, IsErrAnd, OnOk, IfOk, IfErr, Vec}, declared.alloc.Global.Global}, btree_walks.specs.Prefixes.under}
-use Rattle.{std.proofs.Common.{◌≡◌, ◌≤◌, ◌+◌, ℕ, Bool, true, false, cond, List, [], ◌∷◌, ◌++◌, Some, refl, sym, ap, subst, ◌∙◌, inl, inr, arith}, desk_pages.specs.Desks.new_desk}
-use Rattle.{btree_walks.specs.declared.rows.Row.Row, desk_check.specs.Checking.{ArePlansTold, AreSized, IsDeskShown, IsNever, IsRowSeen}, desk_model.specs.claim.Step.plan_limit}
-use Rattle.desk_model.specs.{Ranges.{ListsAreCut, ranges_of}, claim.{Desk.{Plan, name_cmp}, Geography.GeographyModel}, declared.ranges.CountyRange.CountyRange}
-use Rattle.{desk_opening.specs.Opening.{ArePlansApart, ArePlansShown, HasNothing, IsNoted, IsNotGone, NoteErr}, desk_pages.specs.{Looking.Gathers, Reading.SeekErr}}
-use Rattle.{desk_pages.specs.claim.Desks.IsSized, geo_tables.specs.Elements.IsGeographyRead, page_btree.specs.{declared.error.TreeError.TreeError, page_node.claim.Entries.Entry}}
-use Rattle.{page_btree.specs.declared.error.TreeError.TheVariants.{DeviceFault, NotAStore, Halted, NoPages, TooDeep, Memory}, page_store.specs.declared.pages.Pages.Pages}
-use Rattle.{page_store.specs.declared.txn.Txn.Txn, sector_device.specs.declared.SectorDevice.Ghosts, store_rows.specs.claim.{Keys.plans_prefix, Rows.KeyMap, Values.plan_bytes}}
-use Rattle.{desk_check.proofs.Made.plan_made, desk_opening.proofs.{Parts.{Plans, put_keeps, put_there}, PlanNumbers.{AreNoted, noted_more}}, page_store.proofs.Stops.quiet_none}
-use Rattle.{desk_opening.proofs.Shown.{AreShown, all_shown, more_shown, none_shown, nothing_shown}, desk_pages.proofs.Looking.{finds, not_looked}}
-use Rattle.store_rows.proofs.Changes.{cases_key}
+use Rattle.{std.proofs.Common.{◌≡◌, ◌≤◌, ◌+◌, ℕ, true, false, cond, List, [], ◌∷◌, ◌++◌, Some, refl, sym, ap, subst, ◌∙◌, inl, inr, arith}, btree_walks.specs.declared.rows.Row.Row}
+use Rattle.{desk_check.specs.Checking.{ArePlansTold, AreSized, IsDeskShown, IsNever, IsRowSeen}, desk_model.specs.{Ranges.{ListsAreCut, ranges_of}, claim.Desk.{Plan, name_cmp}}}
+use Rattle.{desk_model.specs.{claim.{Geography.GeographyModel, Step.plan_limit}, declared.ranges.CountyRange.CountyRange}, desk_pages.specs.{Desks.new_desk, Looking.Gathers}}
+use Rattle.{desk_opening.specs.Opening.{ArePlansApart, ArePlansShown, HasNothing, IsNoted, IsNotGone, NoteErr}, desk_pages.specs.{Reading.SeekErr, claim.Desks.IsSized}}
+use Rattle.{geo_tables.specs.Elements.IsGeographyRead, page_btree.specs.{declared.error.TreeError.{TreeError, TheVariants.{NotAStore, Memory}}, page_node.claim.Entries.Entry}}
+use Rattle.{page_store.specs.declared.{pages.Pages.Pages, txn.Txn.Txn}, sector_device.specs.declared.SectorDevice.Ghosts, store_rows.specs.claim.{Keys.plans_prefix, Rows.KeyMap}}
+use Rattle.{store_rows.specs.claim.Values.plan_bytes, desk_check.proofs.Made.plan_made, desk_opening.proofs.Parts.{Plans, put_keeps, put_there}, page_store.proofs.Stops.quiet_none}
+use Rattle.{desk_opening.proofs.{PlanNumbers.{AreNoted, noted_more}, Shown.{AreShown, all_shown, more_shown, none_shown, nothing_shown}}, store_rows.proofs.Changes.cases_key}
+use Rattle.desk_pages.proofs.Looking.{finds, not_looked}
 
 -- plans that the rows tell, no more than so many, and their numbers
 pub record AreTold (ranges : List CountyRange) (taken : ℕ) (counts : BTreeMap ℕ ℕ) (m : KeyMap) (rows : List Entry) : Type 0 where
@@ -32,15 +31,10 @@ more_sized plans name p all one other q there = elim (cases_key other name) [
   | inr apart ↦ all other q (sym (put_keeps plans name p other apart) ∙ there)
 ]
 
-one_longer : (b : Bool) (n : ℕ) → cond b n (n + 1) ≤ n + 1
-one_longer true n = omega arith
-one_longer false n = omega arith
-
 more_few : (plans : Plans) (name : List ℕ) (p : Plan) → len (insert plans name p) ≤ len plans + 1
 more_few plans name p =
     let long = len-insert nat_list_cmp_total plans name p in
-    let most = one_longer (is_some (get plans name)) (len plans) in
-    omega arith
+    rw long (elim (is_some (get plans name)) as (λ b. cond b (len plans) (len plans + 1) ≤ len plans + 1) [ true ↦ omega arith | false ↦ omega arith ])
 
 pub none_told : (ranges : List CountyRange) (counts : BTreeMap ℕ ℕ) (m : KeyMap) → AreNoted [] counts → AreTold ranges 0 counts m []
 none_told ranges counts m noted = record { plans = empty; shown = none_shown m ranges; sizes = none_sized; few = let none = len-empty name_cmp Plan in omega arith; noted = noted }
@@ -51,7 +45,6 @@ module _ (lists : ListsAreCut) (g : GeographyModel) (ranges : List CountyRange) 
   one_more_told noted gone seen =
       let made = plan_made lists g ranges same m seen.plan seen.revisions in
       let all = insert told.plans seen.name made.plan in
-      let few = told.few in
       let more = more_few told.plans seen.name made.plan in
       record {
         plans = all;
@@ -65,9 +58,7 @@ module _ (lists : ListsAreCut) (g : GeographyModel) (ranges : List CountyRange) 
       }
 
 pub all_told : (ranges : List CountyRange) (taken : ℕ) (counts : BTreeMap ℕ ℕ) (m : KeyMap) (rows : List Entry) → under plans_prefix (entries m) ≡ rows → taken ≤ plan_limit → AreTold ranges taken counts m rows → ArePlansTold ranges m
-all_told ranges taken counts m rows whole limit told =
-    let few = told.few in
-    record { plans = told.plans; shown = all_shown m ranges rows told.plans whole told.shown; few = omega arith; sizes = told.sizes }
+all_told ranges taken counts m rows whole limit told = record { plans = told.plans; shown = all_shown m ranges rows told.plans whole told.shown; few = omega arith; sizes = told.sizes }
 
 -- what isn't noted isn't read
 pub unnoted : {D X : Type 0} {g : Ghosts D} {says : KeyMap → X → Type 0} (row : Row) (counts : BTreeMap ℕ ℕ) (t : Txn) (a : Pages D g) (e : TreeError) → NoteErr row counts e → (r : Result X TreeError) → IsErrAnd r (λ x. x ≡ e)
@@ -76,12 +67,9 @@ unnoted row counts t a e why (Ok x) is = absurd is
 unnoted row counts t a e why (Err x) is = not_looked (quiet_none a) (subst (SeekErr (Unit {0}) IsNever t a a) (sym is) (so e why))
   where
     so : (e : TreeError) → NoteErr row counts e → SeekErr (Unit {0}) IsNever t a a e
-    so DeviceFault why = absurd why
     so NotAStore why = λ honest m holds is. is
-    so Halted why = absurd why
-    so NoPages why = absurd why
-    so TooDeep why = absurd why
     so Memory why = tt
+    so _ why = absurd why
 
 -- what is so at Ok
 pub at_ok : {X E : Type 0} (P : Type 0) (r : Result X E) → OnOk r P → IfOk r (λ _. P)

@@ -64,6 +64,3 @@ chained_more k xs rest e same none = search (one_more, key_none, chained_on, cha
 
 pub key_more : (k : ℕ) (xs rest : List LogEntry) (e : LogEntry) → e.by ≡ key_after k xs → NoneBy (key_after k xs) rest → key_after k (xs ++ rest ++ e ∷ []) ≡ e.next
 key_more k xs rest e same none = search (append_assoc, key_on, one_key, key_none)
-
-pub prefix_on : (xs ys zs : List LogEntry) → IsPrefix xs ys → IsPrefix ys zs → IsPrefix xs zs
-prefix_on xs ys zs p q = (p.0 ++ q.0, sym (append_assoc xs p.0 q.0) ∙ (ap (λ (w : List LogEntry). w ++ q.0) p.1 ∙ q.1))

@@ -9,16 +9,10 @@ module _ {D : Type 0} {g : Ghosts D} where
 
   -- a call that leaves the desk may as well have come to the next one
   pub may_move : (sound : Type 0) (next : Desk) (x y : Clerk D g) → MovesIf sound (desk_of x) x y → MovesIf sound next x y
-  may_move sound next x y moves = record {
-    sectors = moves.sectors;
-    room = moves.room;
-    honest = moves.honest;
-    any_moment = λ is off honest. leaves_wider (OneOf x (desk_of x)) (OneOf x next) (disk_of x) (disk_of y) (λ c. ⊎_elim (λ was. inl was) (λ same. inl same)) (moves.any_moment is off honest);
-    keeps = moves.keeps;
-    still = moves.still;
-    rose = moves.rose;
-    calm = moves.calm;
-  }
+  may_move sound next x y moves =
+      let any_moment : sound → x.halted ≡ false → (disk_of y).is_honest → LeavesOnly (OneOf x next) (disk_of x) (disk_of y) = λ is off honest.
+      leaves_wider (OneOf x (desk_of x)) (OneOf x next) (disk_of x) (disk_of y) (λ c. ⊎_elim (λ was. inl was) (λ same. inl same)) (moves.any_moment is off honest) in
+      search rules
 
   -- a call that leaves the desk, and one more after it
   module _ (sound then : Type 0) (next : Desk) (x y z : Clerk D g) (one : MovesIf sound (desk_of x) x y) (desk : desk_of y ≡ desk_of x) (gives : sound → then) (two : MovesIf then next y z) where

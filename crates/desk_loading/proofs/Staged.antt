@@ -1,9 +1,9 @@
 -- Batches of a load, one after the other, and a whole load.
 use Rattle.{std.{specs.Prelude.min, proofs.Common.{◌≡◌, ◌-◌, ℕ, false, Some, None, inl, inr, refl, sym, ap, subst, ◌∙◌}}, desk_model.specs.claim.Desk.Desk}
-use Rattle.desk_loading.specs.Loads.{batch_rows, HasBegun, HasStaged, HasWhole, IsLoaded, BeginStopped, BatchStopped, StageRefused, StageStopped, SealStopped, LoadRefused}
+use Rattle.desk_loading.specs.Loads.{batch_rows, HasBegun, HasStaged, HasWhole, IsLoaded, BeginStopped, BatchStopped, StageRefused, SealStopped, LoadRefused}
 use Rattle.{desk_model.specs.claim.Geography.GeographyModel, desk_pages.specs.declared.error.StoreError.StoreError, desk_store.{specs.Keeping.sealed_desk, proofs.Moved.unmoved}}
 use Rattle.{desk_pages.specs.declared.error.StoreError.TheVariants.{AlreadySealed, Full, Memory, NotAStore, Halted, Ended}, desk_store.specs.declared.clerk.Clerk.Clerk}
-use Rattle.desk_store.specs.{Loads.{Stages, IsLast, HasGeography, BatchRefused, SealRefused}, claim.Clerks.{desk_of, pages_of, room_of, Keeps, Moves, MovesIf}}
+use Rattle.desk_store.specs.{Loads.{Stages, IsLast, BatchRefused, SealRefused}, claim.Clerks.{desk_of, pages_of, room_of, Keeps, Moves, MovesIf}}
 use Rattle.{desk_store.specs.geo_tables.{Loading.{IsFurther, geography_model_of, done_of}, declared.load.Load.Load}, page_store.specs.claim.Transactions.IsQuiet}
 use Rattle.{sector_device.specs.declared.SectorDevice.Ghosts, store_rows.specs.claim.GeographyRows.geography_rows, desk_loading.proofs.Moves.then_moved}
 
@@ -69,14 +69,11 @@ module _ {D : Type 0} {g : Ghosts D} where
   begin_refused x y area Halted stopped = inl stopped
   begin_refused x y area _ stopped = absurd stopped.why
 
-  stage_stopped : (x w y : Clerk D g) (area : GeographyModel) (load : Load) → HasBegun x area w load → (e : StoreError) → StageRefused w load e y → StageStopped x area e y
-  stage_stopped x w y area load begun e why = record { w = w; load = load; begun = begun; why = why }
-
   pub staging_refused : (x w y : Clerk D g) (area : GeographyModel) (load : Load) → HasBegun x area w load → (e : StoreError) → StageRefused w load e y → LoadRefused x area e y
-  staging_refused x w y area load begun Full why = inr (inl (stage_stopped x w y area load begun Full why))
-  staging_refused x w y area load begun Memory why = inr (inl (stage_stopped x w y area load begun Memory why))
-  staging_refused x w y area load begun NotAStore why = inr (inl (stage_stopped x w y area load begun NotAStore why))
-  staging_refused x w y area load begun Halted why = inr (inl (stage_stopped x w y area load begun Halted why))
+  staging_refused x w y area load begun Full why = inr (inl (record { w = w; load = load; begun = begun; why = why }))
+  staging_refused x w y area load begun Memory why = inr (inl (record { w = w; load = load; begun = begun; why = why }))
+  staging_refused x w y area load begun NotAStore why = inr (inl (record { w = w; load = load; begun = begun; why = why }))
+  staging_refused x w y area load begun Halted why = inr (inl (record { w = w; load = load; begun = begun; why = why }))
   staging_refused x w y area load begun _ why = absurd why
 
   module _ (x w v y : Clerk D g) (area : GeographyModel) (load all : Load) (begun : HasBegun x area w load) (staged : HasStaged w load v all) (done : done_of all ≡ geography_rows (geography_model_of all))
@@ -103,11 +100,8 @@ module _ {D : Type 0} {g : Ghosts D} where
       seal_stopped : (e : StoreError) → SealRefused all v e y.halted (pages_of y) → SealStopped x area e y
       seal_stopped e why = record { w = v; load = all; whole = whole; moves = moves; desk = desk; loading = loading; quiet = quiet; why = why }
 
-      sealed_before : HasGeography v → ⊥
-      sealed_before why = let clash : Some why.0 ≡ None = sym why.1 ∙ ap (λ (d : Desk). d.geography) (staged.desk ∙ begun.desk) ∙ begun.unsealed in cc
-
       pub seal_refused : (e : StoreError) → SealRefused all v e y.halted (pages_of y) → LoadRefused x area e y
-      seal_refused AlreadySealed why = absurd (sealed_before why)
+      seal_refused AlreadySealed why = absurd (let clash : Some why.0 ≡ None = sym why.1 ∙ ap (λ (d : Desk). d.geography) (staged.desk ∙ begun.desk) ∙ begun.unsealed in cc)
       seal_refused Full why = inr (inr (seal_stopped Full why))
       seal_refused Memory why = inr (inr (seal_stopped Memory why))
       seal_refused NotAStore why = inr (inr (seal_stopped NotAStore why))

@@ -27,12 +27,9 @@ before_by : (p q : Pair) (o r : Ordering) → o ≡ nat_cmp p.first q.first → 
 before_by p q Less r is also less = rw (lt-ltb p.first q.first (ranked p.first q.first Less is)) refl
 before_by p q _ r is also less = search (rules, lt-ltb)
 
-pub before_from_less : (p q : Pair) → pair_cmp p q ≡ Less → IsTrue (is_before p q)
-before_from_less p q less = before_by p q (nat_cmp p.first q.first) (nat_cmp p.second q.second) refl refl less
-
 pub rising_from_sorted : (ps : List Pair) → IsStrictlySortedBy pair_cmp ps → AreRising ps
 unfolding IsStrictlySortedBy
-rising_from_sorted (p ∷ q ∷ ps) sorted zero d inside = before_from_less p q (All-from_recursion (λ r. pair_cmp p r ≡ Less) (q ∷ ps) sorted.0 0 d (omega arith))
+rising_from_sorted (p ∷ q ∷ ps) sorted zero d inside = before_by p q _ _ refl refl (All-from_recursion (λ r. pair_cmp p r ≡ Less) (q ∷ ps) sorted.0 0 d (omega arith))
 rising_from_sorted (p ∷ q ∷ ps) sorted (suc k) d inside = let e : suc k + 1 ≡ suc (k + 1) = omega arith in rw e (rising_from_sorted (q ∷ ps) sorted.1 k d (omega arith))
 rising_from_sorted _ sorted k d inside = absurd (omega arith)
 
@@ -74,12 +71,6 @@ module _ (blocks : List BlockRow) (rising : IsStrictlyIncreasing (ids_of blocks)
   is_it p q t one other (inr a) (inl b) = absurd (other_way p q one other (ap turned (sym a ∙ b)))
   is_it p q t one other (inr a) (inr b) = same_way p q one other (ap turned (sym a ∙ b))
 
-  told_here : (told : List (ℕ × ℕ)) (p : Pair) (t : ℕ × ℕ) → Contains told t → (t ≡ pair_ids blocks p) ⊎ (t ≡ turned (pair_ids blocks p)) → IsTold blocks told p
-  told_here told p t there is = search arith
-
-  told_more : (told more : List (ℕ × ℕ)) (p : Pair) → IsTold blocks told p → IsTold blocks (told ++ more) p
-  told_more told more p there = search (arith, Contains-append_left)
-
   told_before : (told : List (ℕ × ℕ)) (t : ℕ × ℕ) (p : Pair) → IsTold blocks (told ++ t ∷ []) p → IsTold blocks told p ⊎ ((t ≡ pair_ids blocks p) ⊎ (t ≡ turned (pair_ids blocks p)))
   told_before told t p (inl there) = ⊎_elim (λ old. inl (inl old)) (λ is. inr (inl is)) (Contains-push_cases told t (pair_ids blocks p) there)
   told_before told t p (inr there) = ⊎_elim (λ old. inl (inr old)) (λ is. inr (inr is)) (Contains-push_cases told t (turned (pair_ids blocks p)) there)
@@ -94,8 +85,8 @@ module _ (blocks : List BlockRow) (rising : IsStrictlyIncreasing (ids_of blocks)
 
       forth : Contains (pairs ++ q ∷ []) p → IsPair (length blocks) p × IsTold blocks (told ++ t ∷ []) p
       forth there = ⊎_elim
-          (λ old. let facts = (was p).0 old in (facts.0, told_more told (t ∷ []) p facts.1))
-          (λ last. subst (λ (x : Pair). IsPair (length blocks) x × IsTold blocks (told ++ t ∷ []) x) last (valid, told_here (told ++ t ∷ []) q t here is))
+          (λ old. let facts = (was p).0 old in (facts.0, search (arith, Contains-append_left, facts.1)))
+          (λ last. subst (λ (x : Pair). IsPair (length blocks) x × IsTold blocks (told ++ t ∷ []) x) last (valid, search (arith, here, is)))
           (Contains-push_cases pairs q p there)
 
       back : IsPair (length blocks) p × IsTold blocks (told ++ t ∷ []) p → Contains (pairs ++ q ∷ []) p
@@ -119,10 +110,7 @@ module _ (blocks : List BlockRow) (rising : IsStrictlyIncreasing (ids_of blocks)
 pub told_sorted : (blocks : List BlockRow) (told : List (ℕ × ℕ)) (old new : List Pair) → AreTold blocks told old → ((p : Pair) → Contains old p ↔ Contains new p) → AreTold blocks told new
 told_sorted blocks told old new was kept p = (λ there. (was p).0 ((kept p).1 there), λ facts. (kept p).0 ((was p).1 facts))
 
-pub geography_made : (blocks : List BlockRow) (told : List (ℕ × ℕ)) (old new : List Pair) → AreBlocks blocks → AreTold blocks told old → ((p : Pair) → Contains old p ↔ Contains new p)
-    → AreRising new → IsGeographyModel (record { blocks = blocks; pairs = new })
-geography_made blocks told old new valid was kept rising = record {
-  blocks = valid;
-  pairs = λ k d inside. ((told_sorted blocks told old new was kept (get_or new k d)).0 (k, inside, get_or_default new k (get_or new k d) d inside)).0;
-  rising = rising;
-}
+pub geography_made : (blocks : List BlockRow) (told : List (ℕ × ℕ)) (pairs : List Pair) → AreBlocks blocks → AreTold blocks told pairs
+    → AreRising pairs → IsGeographyModel (record { blocks = blocks; pairs = pairs })
+geography_made blocks told pairs valid was rising =
+    record { blocks = valid; pairs = λ k d inside. ((was (get_or pairs k d)).0 (k, inside, get_or_default pairs k (get_or pairs k d) d inside)).0; rising = rising }

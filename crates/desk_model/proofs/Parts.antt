@@ -20,18 +20,12 @@ module _ (g : GeographyModel) (listed : Values) (valid : AreBlocks g.blocks) whe
   number_at : (place : ℕ) (row : BlockRow) → place < length g.blocks → get_or g.blocks place row ≡ row → id_at g.blocks place ≡ row.id
   number_at place row within here = get_or-map (λ b. b.id) g.blocks place row 0 within ∙ ap (λ b. b.id) here
 
-  same_state : (i j : ℕ) → i < length g.blocks → j < length g.blocks → state_of (id_at g.blocks i) ≡ state_of (id_at g.blocks j)
-  same_state i j first second = valid.one_state i 0 (rw length-map first) ∙ sym (valid.one_state j 0 (rw length-map second))
-
   pub climbs : (i j : ℕ) → i ≤ j → j < length g.blocks → county_of (id_at g.blocks i) ≤ county_of (id_at g.blocks j)
   climbs i j less within = ⊎_elim
-      (λ lower. county_rises _ _ (omega (arith, below_from_sorted (ids g) i j 0 (sorted_from_strictly_increasing (ids g) valid.rising) lower (rw length-map within))) (same_state i j (omega arith) within))
+      (λ lower. county_rises _ _ (omega (arith, below_from_sorted (ids g) i j 0 (sorted_from_strictly_increasing (ids g) valid.rising) lower (rw length-map within)))
+      (valid.one_state i 0 (rw length-map (omega arith)) ∙ sym (valid.one_state j 0 (rw length-map within))))
       (λ (over : j ≤ i). let e : i ≡ j = omega arith in rw e (omega arith))
       (cases_lt i j)
-
-  -- the test of a block that is left out, by its parts
-  left_out : (row : BlockRow) → value_at listed row.id ≡ None → is_county_listed g listed (county_of row.id) ≡ true → is_left_out g listed row ≡ true
-  left_out row missing some = rw (missing, some) refl
 
   missing_where : (o : Option ℕ) → not (is_some o) ≡ true → o ≡ None
   missing_where o e = search arith
@@ -67,7 +61,7 @@ module _ (g : GeographyModel) (listed : Values) (valid : AreBlocks g.blocks) whe
         record {
           within = within;
           here = here;
-          out = left_out row missing (list_any_at (λ (b : BlockRow). (county_of b.id == county_of row.id) && is_some (value_at listed b.id)) g.blocks j other also (rw there passes));
+          out = rw (missing, list_any_at (λ (b : BlockRow). (county_of b.id == county_of row.id) && is_some (value_at listed b.id)) g.blocks j other also (rw there passes)) refl;
         },
         of_county,
       )

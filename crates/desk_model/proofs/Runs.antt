@@ -131,19 +131,12 @@ counties_from c prefix [] of up = subst (λ (xs : List ℕ). ClimbFrom c (xs ∷
 counties_from c prefix (r ∷ rest) of up = ⊎_elim
     (λ (less : c < county_of r).
     let apart : county_of r ≢ c = λ e. omega (arith, less, e) in
-    let others : ClimbFrom (county_of r) (parts (runs_from (county_of r) 1 (map county_of rest)) (drop (length prefix) (prefix ++ r ∷ rest))) =
-    subst (λ (xs : List ℕ). ClimbFrom (county_of r) (parts (runs_from (county_of r) 1 (map county_of rest)) xs)) (sym (drop-append_seam prefix (r ∷ rest))) (counties_from (county_of r) (r ∷ []) rest (first_of r) up.1) in
-    subst (λ (b : Bool). ClimbFrom c (parts (cut_or_go_on b c (county_of r) (length prefix) (map county_of rest)) (prefix ++ r ∷ rest))) (sym (ne_eqb _ _ apart))
-    (subst (λ (xs : List ℕ). ClimbFrom c (xs ∷ parts (runs_from (county_of r) 1 (map county_of rest)) (drop (length prefix) (prefix ++ r ∷ rest)))) (sym (take-append_seam prefix (r ∷ rest)))
-    (with_prefix c (county_of r) prefix _ of less others)))
+    rw (ne_eqb _ _ apart, take-append_seam prefix (r ∷ rest), drop-append_seam prefix (r ∷ rest))
+    (with_prefix c (county_of r) prefix _ of less (counties_from (county_of r) (r ∷ []) rest (first_of r) up.1)))
     (λ (most : county_of r ≤ c).
     let same : county_of r ≡ c = omega (arith, up.0) in
     let long : length (prefix ++ r ∷ []) ≡ length prefix + 1 = length-append prefix (r ∷ []) in
-    let joined : (prefix ++ r ∷ []) ++ rest ≡ prefix ++ r ∷ rest = append_assoc prefix (r ∷ []) rest in
-    subst (λ (b : Bool). ClimbFrom c (parts (cut_or_go_on b c (county_of r) (length prefix) (map county_of rest)) (prefix ++ r ∷ rest))) (sym (eq-eqb _ _ same))
-    (subst (λ (xs : List ℕ). ClimbFrom c (parts (runs_from c (length prefix + 1) (map county_of rest)) xs)) joined
-    (subst (λ (n : ℕ). ClimbFrom c (parts (runs_from c n (map county_of rest)) ((prefix ++ r ∷ []) ++ rest))) long
-    (counties_from c (prefix ++ r ∷ []) rest (more_of c r prefix of same) (subst (λ (d : ℕ). climbing d (map county_of rest)) same up.1)))))
+    rw (eq-eqb _ _ same, ← long, ← append_assoc prefix (r ∷ []) rest) (counties_from c (prefix ++ r ∷ []) rest (more_of c r prefix of same) (rw same at up.1)))
     (cases_lt c (county_of r))
 
 counties_of_runs : (ks : List ℕ) → 0 < length ks → ((i j : ℕ) → i ≤ j → j < length (map county_of ks) → get_or (map county_of ks) i 0 ≤ get_or (map county_of ks) j 0)
@@ -157,7 +150,4 @@ counties_cut g valid = counties_of_runs (ids g) (rw length-map valid.some) rises
     rises : (i j : ℕ) → i ≤ j → j < length (map county_of (ids g)) → get_or (map county_of (ids g)) i 0 ≤ get_or (map county_of (ids g)) j 0
     rises i j less inside =
         let within : j < length g.blocks = omega (arith, counties_long g, inside) in
-        let low : get_or (map county_of (ids g)) i 0 ≡ county_of (get_or (ids g) i 0) = get_or-map county_of (ids g) i 0 0 (omega (arith, length-map g.blocks (λ (b : BlockRow). b.id))) in
-        let high : get_or (map county_of (ids g)) j 0 ≡ county_of (get_or (ids g) j 0) = get_or-map county_of (ids g) j 0 0 (omega (arith, length-map g.blocks (λ (b : BlockRow). b.id))) in
-        let up : county_of (get_or (ids g) i 0) ≤ county_of (get_or (ids g) j 0) = climbs g [] valid i j less within in
-        omega (arith, low, high, up)
+        rw (get_or-map county_of (ids g) i 0 0 (rw length-map (omega arith)), get_or-map county_of (ids g) j 0 0 (rw length-map within)) (climbs g [] valid i j less within)

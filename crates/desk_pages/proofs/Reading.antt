@@ -1,6 +1,6 @@
 -- Lemmas on the definitions of Reading.
 use Rattle.std.specs.{FinMap.get as row_at, Prelude.{◌≡◌, ℕ, List, [], Option, Some, None, Result, Ok, Err, IfOk, IfErr, option_map, MatchOption}}
-use Rattle.{std.proofs.Common.{rules, refl, sym, ap, subst, ◌∙◌}, btree_puts.specs.{Fingers.{Stand, GetWhereErr}, declared.finger.Fingers.Fingers, page_btree.claim.Errors.GetErr}}
+use Rattle.{std.proofs.Common.{rules, refl, sym, ap, ◌∙◌}, btree_puts.specs.{Fingers.{Stand, GetWhereErr}, declared.finger.Fingers.Fingers, page_btree.claim.Errors.GetErr}}
 use Rattle.{btree_puts.specs.page_btree.{claim.Map.InTxn, declared.error.TreeError.{TreeError, TheVariants.NotAStore}}, desk_pages.specs.claim.Puts.{HasPut, PutsErr}}
 use Rattle.{desk_pages.specs.Reading.{HasNext, IsReadAs, ReadErr, ReadErrWith, SeekErr, StandsAs}, page_store.specs.claim.Transactions.{stored, disk_in, IsQuiet, Passed}}
 use Rattle.{page_store.specs.declared.{pages.Pages.Pages, txn.Txn.Txn}, sector_device.specs.{claim.Disk.Image, declared.SectorDevice.Ghosts}, store_rows.specs.claim.Puts.Row}
@@ -62,7 +62,3 @@ module _ {D : Type 0} {g : Ghosts D} (t : Txn) (a b : Pages D g) (read : Passed 
 
   pub not_put_after : (rows : List Row) (c : Pages D g) (e : TreeError) → IsQuiet b c → PutsErr rows t b c e → PutsErr rows t a c e
   not_put_after rows c e quiet why = then_not_put [] rows t t a b c e first_read quiet why
-
-  -- and what is read is of the same map
-  pub read_after : (is : KeyMap → Type 0) (c : Pages D g) → IsQuiet b c → ((disk_in c).is_honest → (m : KeyMap) → InTxn t (stored b) m → is m) → (disk_in c).is_honest → (m : KeyMap) → InTxn t (stored a) m → is m
-  read_after is c quiet tells honest m holds = tells honest m (subst (λ P. InTxn t P m) (sym (read.quiet.same (quiet.honest honest))) holds)

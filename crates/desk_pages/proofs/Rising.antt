@@ -20,21 +20,14 @@ module _ {D : Type 0} {g : Ghosts D} where
   pub plain_err : (was : Finger) (t : Txn) (old new : Pages D g) → was.page ≡ 0 → (e : TreeError) → PutByErr was t old new e → PutErr t old new e
   plain_err was t old new none = search (rules, by_case, none_stands)
 
-  pub none_put_with : (fs : Fingers) (t : Txn) (a : Pages D g) → HasPutWith fs fs [] t t a a
-  none_put_with fs t a = search (rules, passed_none)
+  -- calls that read at most put no row
+  none_put_with : (fs : Fingers) (t : Txn) (a b : Pages D g) → Passed a b → HasPutWith fs fs [] t t a b
+  none_put_with fs t a b read = search rules
 
-  -- after calls that read at most
-  pub put_with_after : (f h : Fingers) (rows : List Row) (t u : Txn) (a b c : Pages D g) → Passed a b → HasPutWith f h rows t u b c → HasPutWith f h rows t u a c
-  put_with_after f h rows t u a b c read then = record {
-    passed = passed_more a b c read then.passed;
-    pages = then.pages;
-    put = λ honest m holds stand.
-        let same = read.quiet.same (then.passed.quiet.honest honest) in
-        let whole = then.put honest m (subst (λ P. InTxn t P m) (sym same) holds) (subst (λ P. Stand t P f) (sym same) stand) in
-        (subst (λ P. InTxn u P (put_rows m rows)) same whole.0, subst (λ P. Stand u P h) same whole.1);
-    writes = then.writes;
-    taken = then.taken;
-  }
+  -- what holds after some rows
+  held_with : (f h : Fingers) (rows : List Row) (t u : Txn) (a b : Pages D g) → HasPutWith f h rows t u a b → (disk_in b).is_honest → (m : KeyMap)
+      → InTxn t (stored a) m → Stand t (stored a) f → InTxn u (stored b) (put_rows m rows) × Stand u (stored b) h
+  held_with f h rows t u a b put honest m holds stand = subst (λ P. InTxn u P (put_rows m rows) × Stand u P h) (sym (put.passed.quiet.same honest)) (put.put honest m holds stand)
 
   pub more_put_with : (f h k : Fingers) (rows more : List Row) (t u v : Txn) (a b c : Pages D g) → HasPutWith f h rows t u a b → HasPutWith h k more u v b c → HasPutWith f k (rows ++ more) t v a c
   more_put_with f h k rows more t u v a b c first then =
@@ -44,15 +37,17 @@ module _ {D : Type 0} {g : Ghosts D} where
         pages = then.pages ∙ first.pages;
         put = λ honest m holds stand.
             let before = then.passed.quiet.honest honest in
-            let same = first.passed.quiet.same before in
-            let half = first.put before m holds stand in
-            let whole = then.put honest (put_rows m rows) (subst (λ P. InTxn u P (put_rows m rows)) (sym same) half.0) (subst (λ P. Stand u P h) (sym same) half.1) in (
-              subst (λ P. InTxn v P (put_rows m (rows ++ more))) same (subst (λ n. InTxn v (stored b) n) (sym (put_rows-append m rows more)) whole.0),
-              subst (λ P. Stand v P k) same whole.1,
-            );
+            let half = held_with f h rows t u a b first before m holds stand in
+            let whole = then.put honest (put_rows m rows) half.0 half.1 in
+            subst (λ P. InTxn v P (put_rows m (rows ++ more)) × Stand v P k) (first.passed.quiet.same before)
+            (subst (λ n. InTxn v (stored b) n) (sym (put_rows-append m rows more)) whole.0, whole.1);
         writes = let one = first.writes in let other = then.writes in omega arith;
         taken = let one = first.taken in let other = then.taken in omega arith;
       }
+
+  -- after calls that read at most
+  pub put_with_after : (f h : Fingers) (rows : List Row) (t u : Txn) (a b c : Pages D g) → Passed a b → HasPutWith f h rows t u b c → HasPutWith f h rows t u a c
+  put_with_after f h rows t u a b c read then = more_put_with f f h [] rows t t u a b c (none_put_with f t a b read) then
 
   -- one row was put
   pub one_put_with : (f h : Fingers) (key value : List ℕ) (t u : Txn) (a b : Pages D g) → Passed a b → txn_pages u ≡ txn_pages t → ((disk_in b).is_honest → (m : KeyMap) → InTxn t (stored a) m → Stand t (stored a) f → InTxn u (stored a) (insert m key value) × Stand u (stored a) h)
@@ -78,17 +73,15 @@ module _ {D : Type 0} {g : Ghosts D} where
   pub then_not_put_with : (f h : Fingers) (rows more : List Row) (t u : Txn) (a b c : Pages D g) (e : TreeError) → HasPutWith f h rows t u a b → IsQuiet b c → PutsErrWith h more u b c e → PutsErrWith f (rows ++ more) t a c e
   then_not_put_with f h rows more t u a b c DeviceFault put quiet why = failed_more a b c put.passed quiet why
   then_not_put_with f h rows more t u a b c NotAStore put quiet why = λ honest m holds stand.
-      let before = quiet.honest honest in
-      let same = put.passed.quiet.same before in
-      let half = put.put before m holds stand in
-      why honest (put_rows m rows) (subst (λ P. InTxn u P (put_rows m rows)) (sym same) half.0) (subst (λ P. Stand u P h) (sym same) half.1)
+      let half = held_with f h rows t u a b put (quiet.honest honest) m holds stand in
+      why honest (put_rows m rows) half.0 half.1
   then_not_put_with f h rows more t u a b c Halted put quiet why = sym put.passed.halted ∙ why
   then_not_put_with f h rows more t u a b c NoPages put quiet why = search (rules, length-append)
   then_not_put_with f h rows more t u a b c TooDeep put quiet why = λ honest m holds stand.
       let before = quiet.honest honest in
       let same = put.passed.quiet.same before in
-      let half = put.put before m holds stand in
-      let deep = why honest (put_rows m rows) (subst (λ P. InTxn u P (put_rows m rows)) (sym same) half.0) (subst (λ P. Stand u P h) (sym same) half.1) in
+      let half = held_with f h rows t u a b put before m holds stand in
+      let deep = why honest (put_rows m rows) half.0 half.1 in
       record {
         prefix = rows ++ deep.prefix;
         rest = deep.rest;
@@ -102,7 +95,7 @@ module _ {D : Type 0} {g : Ghosts D} where
 
   -- nothing is put after calls that read at most
   pub not_put_with_after : (f : Fingers) (rows : List Row) (t : Txn) (a b c : Pages D g) (e : TreeError) → Passed a b → IsQuiet b c → PutsErrWith f rows t b c e → PutsErrWith f rows t a c e
-  not_put_with_after f rows t a b c e read quiet why = then_not_put_with f f [] rows t t a b c e (put_with_after f f [] t t a b b read (none_put_with f t b)) quiet why
+  not_put_with_after f rows t a b c e read quiet why = then_not_put_with f f [] rows t t a b c e (none_put_with f t a b read) quiet why
 
   -- rows are not all put where the first of them are not
   pub prefix_not_put_with : (f : Fingers) (rows more : List Row) (t : Txn) (a b : Pages D g) (e : TreeError) → PutsErrWith f rows t a b e → PutsErrWith f (rows ++ more) t a b e
@@ -143,7 +136,7 @@ module _ {D : Type 0} {g : Ghosts D} where
     pub put : HasPutWith were fs rows t u old new
 
   pub from_none : (fs : Fingers) (t : Txn) (a : Pages D g) → fs.first.page ≡ 0 → fs.second.page ≡ 0 → HasPutFrom fs [] t t a a
-  from_none fs t a first second = record { were = fs; first = first; second = second; put = none_put_with fs t a }
+  from_none fs t a first second = record { were = fs; first = first; second = second; put = none_put_with fs t a a (passed_none a) }
 
   pub told_more_from : (row : ℕ → Row) (k : ℕ) (f h : Fingers) (t u v : Txn) (a b c : Pages D g) → HasPutFrom f (rows_told row k) t u a b → HasPutWith f h (row k ∷ []) u v b c → HasPutFrom h (rows_told row (k + 1)) t v a c
   told_more_from row k f h t u v a b c did more =

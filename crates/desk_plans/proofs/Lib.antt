@@ -1,4 +1,3 @@
-pub mod Rows
 pub mod AsMap
 pub mod Held
 pub mod Rising

@@ -1,15 +1,7 @@
 -- A name's place in a tree, from its place on one side.
 use Rattle.std.specs.{Cmp.Lexicographic.nat_list_cmp_total, Option.option_to_list, Ordering.{is_lt, ordering_reverse}, declared.cmp.Ordering.TheVariants.{Less, Equal, Greater}}
-use Rattle.std.proofs.{Common.{◌≡◌, ℕ, ◌<◌, true, List, [], ◌∷◌, ◌++◌, length, drop, Option, Some, None, Result, Ok, Err, IfOk, arith, refl, ap, ◌∙◌}, lemmas.List.append_assoc}
+use Rattle.std.proofs.{Common.{◌≡◌, ℕ, ◌<◌, true, List, [], ◌∷◌, ◌++◌, length, drop, Option, Some, None, arith, refl, ap, ◌∙◌}, lemmas.List.append_assoc}
 use Rattle.{desk_model.specs.claim.Desk.name_cmp, desk_plans.{specs.Rows.{Row, EndsBelow, StartsAbove, StandsAt, IsSplit, IsMade, IsFound}, proofs.Rising.ends_below_last}}
-
--- what follows at Ok
-pub if_ok : {T E : Type 0} (r : Result T E) (P Q : T → Type 0) → ((t : T) → P t → Q t) → IfOk r P → IfOk r Q
-if_ok (Ok t) P Q more is = more t is
-if_ok (Err e) P Q more is = tt
-
-pub below_of : (x y : List ℕ) → name_cmp x y ≡ Less → is_lt (name_cmp x y) ≡ true
-below_of x y less = ap is_lt less
 
 pub above_of : (x y : List ℕ) → name_cmp x y ≡ Greater → is_lt (name_cmp y x) ≡ true
 above_of x y more = ap is_lt (nat_list_cmp_total.antisymm y x ∙ ap ordering_reverse more)
@@ -55,39 +47,38 @@ pub split_none : (name : List ℕ) → IsSplit name [] [] [] []
 split_none name = record { all = refl; stands = (tt, tt) }
 
 -- a plan is put or taken away: on the left, on the right, there, and where there is none
-pub made_left : {name : List ℕ} {into : List Row} (l r : List Row) (e : Row) (new rows made : List Row) → l ++ e ∷ r ≡ rows → made ≡ new ++ e ∷ r → name_cmp name e.0 ≡ Less → IsMade name into l new → IsMade name into rows made
-made_left {name} {into} l r e new rows made was is less p = record {
-  prefix = p.prefix;
-  here = p.here;
-  back = p.back ++ e ∷ r;
-  split = rw (← was) (split_left name l r e p.prefix p.here p.back (below_of name e.0 less) p.split);
-  new_is = is ∙ ap (λ xs. xs ++ e ∷ r) p.new_is ∙ simp append_assoc;
-}
+module _ {name : List ℕ} {into rows made : List Row} where
+  pub made_left : {l new : List Row} (r : List Row) (e : Row) → l ++ e ∷ r ≡ rows → made ≡ new ++ e ∷ r → name_cmp name e.0 ≡ Less → IsMade name into l new → IsMade name into rows made
+  made_left {l} r e was is less p = record {
+    prefix = p.prefix;
+    here = p.here;
+    back = p.back ++ e ∷ r;
+    split = rw (← was) (split_left name l r e p.prefix p.here p.back (ap is_lt less) p.split);
+    new_is = is ∙ ap (λ xs. xs ++ e ∷ r) p.new_is ∙ simp append_assoc;
+  }
 
-pub made_right : {name : List ℕ} {into : List Row} (l r : List Row) (e : Row) (new rows made : List Row) → l ++ e ∷ r ≡ rows → made ≡ l ++ e ∷ new → name_cmp name e.0 ≡ Greater → IsMade name into r new → IsMade name into rows made
-made_right {name} {into} l r e new rows made was is more p = record {
-  prefix = l ++ e ∷ p.prefix;
-  here = p.here;
-  back = p.back;
-  split = rw (← was) (split_right name l r e p.prefix p.here p.back (above_of name e.0 more) p.split);
-  new_is = is ∙ ap (λ xs. l ++ e ∷ xs) p.new_is ∙ simp append_assoc;
-}
+  pub made_right : {r new : List Row} (l : List Row) (e : Row) → l ++ e ∷ r ≡ rows → made ≡ l ++ e ∷ new → name_cmp name e.0 ≡ Greater → IsMade name into r new → IsMade name into rows made
+  made_right {r} l e was is more p = record {
+    prefix = l ++ e ∷ p.prefix;
+    here = p.here;
+    back = p.back;
+    split = rw (← was) (split_right name l r e p.prefix p.here p.back (above_of name e.0 more) p.split);
+    new_is = is ∙ ap (λ xs. l ++ e ∷ xs) p.new_is ∙ simp append_assoc;
+  }
 
-pub made_here : {name : List ℕ} {into : List Row} (l r : List Row) (e : Row) (rows made : List Row) → l ++ e ∷ r ≡ rows → made ≡ l ++ (into ++ r) → name_cmp name e.0 ≡ Equal → IsMade name into rows made
-made_here {name} {into} l r e rows made was is same = record { prefix = l; here = e ∷ []; back = r; split = rw (← was) (split_here name l r e same); new_is = is }
+  pub made_here : (l r : List Row) (e : Row) → l ++ e ∷ r ≡ rows → made ≡ l ++ (into ++ r) → name_cmp name e.0 ≡ Equal → IsMade name into rows made
+  made_here l r e was is same = record { prefix = l; here = e ∷ []; back = r; split = rw (← was) (split_here name l r e same); new_is = is }
 
-pub made_alone : (name : List ℕ) (into made : List Row) → made ≡ into ++ [] → IsMade name into [] made
-made_alone name into made is = record { prefix = []; here = []; back = []; split = split_none name; new_is = is }
+pub made_alone : {name : List ℕ} {into made : List Row} → made ≡ into ++ [] → IsMade name into [] made
+made_alone {name} is = record { prefix = []; here = []; back = []; split = split_none name; new_is = is }
 
-pub found_right : (name : List ℕ) (l r : List Row) (e : Row) (rows : List Row) (found : Option Row) → l ++ e ∷ r ≡ rows → name_cmp name e.0 ≡ Greater → IsFound name r found → IsFound name rows found
-found_right name l r e rows found was more f = record {
-  prefix = l ++ e ∷ f.prefix;
-  back = f.back;
-  split = rw (← was) (split_right name l r e f.prefix (option_to_list found) f.back (above_of name e.0 more) f.split);
-}
+module _ {name : List ℕ} {rows : List Row} where
+  pub found_right : {r : List Row} (l : List Row) (e : Row) (found : Option Row) → l ++ e ∷ r ≡ rows → name_cmp name e.0 ≡ Greater → IsFound name r found → IsFound name rows found
+  found_right {r} l e found was more f =
+      record { prefix = l ++ e ∷ f.prefix; back = f.back; split = rw (← was) (split_right name l r e f.prefix (option_to_list found) f.back (above_of name e.0 more) f.split) }
 
-pub found_here : (name : List ℕ) (l r : List Row) (e : Row) (rows : List Row) → l ++ e ∷ r ≡ rows → name_cmp name e.0 ≡ Equal → IsFound name rows (Some e)
-found_here name l r e rows was same = record { prefix = l; back = r; split = rw (← was) (split_here name l r e same) }
+  pub found_here : (l r : List Row) (e : Row) → l ++ e ∷ r ≡ rows → name_cmp name e.0 ≡ Equal → IsFound name rows (Some e)
+  found_here l r e was same = record { prefix = l; back = r; split = rw (← was) (split_here name l r e same) }
 
 pub found_none : (name : List ℕ) → IsFound name [] None
 found_none name = record { prefix = []; back = []; split = split_none name }

@@ -4,7 +4,7 @@ pub mod One
 mod Runs
 mod Stepping
 pub mod Steps
-mod SweptRuns
+pub mod SweptRuns
 pub use Rattle.desk_store.proofs as desk_store
 pub use Rattle.desk_store.proofs.store_sweep
 pub use Rattle.desk_migration.proofs as desk_migration

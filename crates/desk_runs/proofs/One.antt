@@ -1,12 +1,11 @@
 -- One image, one desk, one version; and what an opening makes of that.
-use Rattle.{std.proofs.Common.{◌≡◌, ◌≢◌, ◌≤◌, ◌^◌, ℕ, Bool, true, false, Result, Ok, Err, IfOk, IfErr, inl, inr, ⊎_elim, sym, subst, ◌∙◌, arith}, desk_model.specs.claim.Desk.Desk}
-use Rattle.desk_pages.specs.{Laws.HoldsOneDesk, Openings.{AllDesks, OpensOneOf}, claim.Desks.{HoldsDeskOf, OpensDeskOf, OpensDesk, OpensOld, OpensEither}}
-use Rattle.desk_pages.specs.{claim.Openings.{AllVersions, IsOneOf, OpensOneAs}, declared.error.StoreError.{StoreError, TheVariants.{NotAStore, OldVersion}}}
-use Rattle.{desk_runs.specs.{Recovery.{ImagesAreOne, HoldsOne, Shows, Recovers}, claim.Recovery.HoldsEither}, desk_store.specs.{Openings.OpenRefused, claim.Openings.device_after}}
-use Rattle.desk_store.specs.{claim.{Clerks.{desk_of, disk_of, is_halted, sectors_of, Keeps}, Keeping.{IsLeft, OpensOneMore}}, declared.clerk.Clerk.Clerk}
-use Rattle.{page_store.specs.{claim.Chain.{root_in, free_in}, gate_journal.claim.Store.pages}, sector_device.specs.claim.{Disk.{Disk, Image}, Moments.LeavesOnly}}
-use Rattle.{sector_device.specs.declared.SectorDevice.Ghosts, store_rows.specs.claim.{Keys.version, Rows.{KeyMap, row_in}, Tidy.version_row}, page_btree.proofs.MapLaws.one_map}
-use Rattle.sector_device.proofs.Moments.{leaves_wider}
+use Rattle.std.proofs.{Common.{◌≡◌, ◌≢◌, ◌≤◌, ◌^◌, ℕ, Bool, true, false, Result, Ok, Err, IfOk, IfErr, inl, inr, ⊎_elim, refl, sym, subst, ◌∙◌, arith}, lemmas.Bool.both_ways}
+use Rattle.{desk_model.specs.claim.Desk.Desk, desk_pages.specs.{Laws.HoldsOneDesk, Openings.{OpensOneOf, LeavesOneOf}, claim.Openings.{AllVersions, IsOneAs, IsOneOf, OpensOneAs}}}
+use Rattle.desk_pages.specs.{claim.Desks.{HoldsDeskOf, OpensDeskOf, OpensDesk, OpensOld, OpensEither}, declared.error.StoreError.{StoreError, TheVariants.{NotAStore, OldVersion}}}
+use Rattle.{desk_runs.specs.{Recovery.{ImagesAreOne, Shows, Recovers}, claim.{Lives.IsOpening, Recovery.HoldsEither}}, desk_store.specs.Openings.{DiskRefused, OpenRefused}}
+use Rattle.{desk_store.specs.{claim.{Clerks.desk_of, Keeping.{IsLeft, OpensOneMore}, Openings.device_after}, declared.clerk.Clerk.Clerk}, store_rows.specs.claim.Keys.version}
+use Rattle.{page_store.specs.{claim.Chain.{root_in, free_in}, gate_journal.claim.Store.pages}, sector_device.specs.{claim.Disk.{Disk, Image}, declared.SectorDevice.Ghosts}}
+use Rattle.{store_rows.specs.claim.{Rows.row_in, Tidy.version_row}, page_btree.proofs.MapLaws.one_map, sector_device.proofs.Moments.leaves_wider}
 use Rattle.page_store.proofs.gate_journal.Headers.{same_journal}
 
 -- what pages say of their desk
@@ -19,30 +18,25 @@ held_pages new sectors d c is = subst (λ (P : Image). Held new is.n P d) (λ i 
 -- what the image holds is read there by any other reading of it
 held_there : (new other : Bool) (sectors : ℕ) (d e : Desk) (c : Image) (is : OpensDeskOf new sectors d c) → OpensDeskOf other sectors e c → Held other is.n (pages is.J c) e
 held_there new other sectors d e c is then =
-    let most = is.opens.store.most_journal in
-    let less = then.opens.store.most_journal in
-    let journal : then.J ≡ is.J = same_journal then.J then.n is.J is.n (omega (arith, less)) (omega (arith, most)) (sym then.opens.store.header ∙ is.opens.store.header) in
+    let header = sym then.opens.store.header ∙ is.opens.store.header in
+    let journal : then.J ≡ is.J = same_journal then.J then.n is.J is.n (omega (arith, then.opens.store.most_journal)) (omega (arith, is.opens.store.most_journal)) header in
     let count : then.n ≡ is.n = omega (arith, journal, is.whole, then.whole) in
-    subst (λ (J : ℕ). Held other is.n (pages J c) e) journal (subst (λ (n : ℕ). Held other n (pages then.J c) e) count (held_pages other sectors e c then))
+    rw (journal, count) at (held_pages other sectors e c then)
 
 pub images_are_one : HoldsOneDesk → ImagesAreOne
 images_are_one one new then sectors d e c few is other =
-    one new then is.n (pages is.J c) (root_in (pages is.J c)) (free_in (pages is.J c)) d e (omega (arith, few, is.whole)) (held_pages new sectors d c is) (held_there new then sectors d e c is other)
+    one new then is.n _ _ _ d e (omega (arith, few, is.whole)) (held_pages new sectors d c is) (held_there new then sectors d e c is other)
 
 -- pages hold a desk in one version
-version_once : (m : KeyMap) → row_in m version ≡ version_row true → row_in m version ≡ version_row false → ⊥
-version_once m one other = let clash = sym one ∙ other in cc
-
-versions_clash : (n : ℕ) (P : Image) (d e : Desk) → n ≤ 2 ^ 32 → Held true n P d → Held false n P e → ⊥
-versions_clash n P d e few new old =
-    let same : new.m ≡ old.m = one_map n P (root_in P) (free_in P) new.m old.m few new.holds old.holds in
-    let is_new : row_in new.m version ≡ version_row true = subst (λ (b : Bool). row_in new.m version ≡ version_row b) new.is.version new.is.tidy.holdings.told in
-    let is_old : row_in old.m version ≡ version_row false = subst (λ (b : Bool). row_in old.m version ≡ version_row b) old.is.version old.is.tidy.holdings.told in
-    version_once old.m (subst (λ (m : KeyMap). row_in m version ≡ version_row true) same is_new) is_old
-
 pub one_version : (sectors : ℕ) (d e : Desk) (c : Image) → sectors ≤ 2 ^ 32 → OpensDesk sectors d c → OpensOld sectors e c → ⊥
 one_version sectors d e c few is other =
-    versions_clash is.n (pages is.J c) d e (omega (arith, few, is.whole)) (held_pages true sectors d c is) (held_there true false sectors d e c is other)
+    let new = held_pages true sectors d c is in
+    let old = held_there true false sectors d e c is other in
+    let same : new.m ≡ old.m = one_map is.n _ _ _ new.m old.m (omega (arith, few, is.whole)) new.holds old.holds in
+    let is_new : row_in old.m version ≡ version_row true = rw (new.is.version, same) at new.is.tidy.holdings.told in
+    let is_old : row_in old.m version ≡ version_row false = rw old.is.version at old.is.tidy.holdings.told in
+    let clash : version_row true ≡ version_row false = sym is_new ∙ is_old in
+    cc
 
 -- ---- an image in one of the versions
 pub in_either : (new : Bool) (sectors : ℕ) (d : Desk) (c : Image) → OpensDeskOf new sectors d c → OpensEither sectors d c
@@ -52,72 +46,64 @@ in_either false sectors d c opens = inr opens
 pub either_as : (sectors : ℕ) (d : Desk) (c : Image) → OpensEither sectors d c → (new : Bool) × OpensDeskOf new sectors d c
 either_as sectors d c = ⊎_elim (λ is. (true, is)) (λ is. (false, is))
 
--- two desks to which one image opens are one
-pub one_opens : ImagesAreOne → (new : Bool) (sectors : ℕ) (d e : Desk) (c : Image) → sectors ≤ 2 ^ 32 → OpensEither sectors d c → OpensDeskOf new sectors e c → e ≡ d
-one_opens one new sectors d e c few either opens = let is = either_as sectors d c either in one new is.0 sectors e d c few opens is.1
-
 pub few_sectors : (disk : Disk) → disk.sectors ≤ 2 ^ 32
-few_sectors disk = let few = disk.few in omega (arith, few)
+few_sectors disk = omega (arith, disk.few)
 
--- all images open to a desk
-all_of : (disk : Disk) (d : Desk) → HoldsEither disk d → AllVersions disk
-all_of disk d holds c leaves = let is = either_as disk.sectors d c (holds c leaves) in ((is.0, d), is.1)
+-- an image opens to one of these desks
+pub record OpensTo (n : ℕ) (P : Desk → Type 0) (c : Image) : Type 0 where
+  pub desk : Desk
+  pub has : P desk
+  pub opens : OpensEither n desk c
 
--- a desk to which one of them opens is the desk
-one_of : ImagesAreOne → (disk : Disk) (d e : Desk) → HoldsEither disk d → IsOneOf disk e → e ≡ d
-one_of one disk d e holds is = one_opens one true disk.sectors d e is.was (few_sectors disk) (holds is.was is.left) is.opens
+-- each that a stop may leave does
+abbrev pub HoldsTo : (Desk → Type 0) → Disk → Type 0
+HoldsTo P disk = (c : Image) → disk.leaves c → OpensTo disk.sectors P c
 
-opens_it : ImagesAreOne → (disk : Disk) (d : Desk) → HoldsEither disk d → (c : Image) → OpensOneAs disk c → OpensEither disk.sectors d c
-opens_it one disk d holds c is =
-    let same : is.x.1 ≡ d = one_opens one is.x.0 disk.sectors d is.x.1 is.one.was (few_sectors disk) (holds is.one.was is.one.left) is.one.opens in
-    subst (λ e. OpensEither disk.sectors e c) same (in_either is.x.0 disk.sectors is.x.1 c is.opens)
+pub all_of : (P : Desk → Type 0) (disk : Disk) → HoldsTo P disk → AllVersions disk
+all_of P disk holds c leaves = let to = holds c leaves in let is = either_as disk.sectors to.desk c to.opens in ((is.0, to.desk), is.1)
+
+-- a desk to which one of them opens is one of these
+pub one_of : ImagesAreOne → (P : Desk → Type 0) (disk : Disk) → HoldsTo P disk → (x : Bool × Desk) → IsOneAs disk x → P x.1
+one_of one P disk holds x is =
+    let to = holds is.was is.left in
+    let there = either_as disk.sectors to.desk is.was to.opens in
+    subst P (one there.0 x.0 disk.sectors to.desk x.1 is.was (few_sectors disk) there.1 is.opens) to.has
+
+pub opens_it : ImagesAreOne → (P : Desk → Type 0) (disk : Disk) → HoldsTo P disk → (c : Image) → OpensOneAs disk c → OpensTo disk.sectors P c
+opens_it one P disk holds c is = record { desk = is.x.1; has = one_of one P disk holds is.x is.one; opens = in_either is.x.0 disk.sectors is.x.1 c is.opens }
 
 -- what a clerk who works leaves opens to its desk
 pub left_working : (halted : Bool) (sectors : ℕ) (d : Desk) (c : Image) → halted ≡ false → IsLeft halted sectors d c → OpensDesk sectors d c
-left_working halted sectors d c working left = ⊎_elim (λ opens. opens) (λ (more : OpensOneMore halted sectors d c). absurd (let clash : true ≡ false = sym more.halt ∙ working in cc)) left
-
--- where all are of the new version
-either_of : (disk : Disk) (d : Desk) → HoldsOne disk d → HoldsEither disk d
-either_of disk d holds c leaves = inl (holds c leaves)
-
-new_of : (disk : Disk) (d : Desk) → HoldsOne disk d → AllDesks disk
-new_of disk d holds c leaves = (d, holds c leaves)
-
-opens_new : ImagesAreOne → (disk : Disk) (d : Desk) → HoldsOne disk d → (c : Image) → OpensOneOf disk c → OpensDesk disk.sectors d c
-opens_new one disk d holds c is = subst (λ e. OpensDesk disk.sectors e c) (one_of one disk d is.desk (either_of disk d holds) is.one) is.opens
+left_working halted sectors d c working left = ⊎_elim (λ opens. opens) (λ (more : OpensOneMore halted sectors d c). absurd (both_ways halted working more.halt)) left
 
 module _ {D : Type 0} {g : Ghosts D} where
-  -- what an opening gives where all images open to desks
-  abbrev Opened : Disk → Result (Clerk D g) (StoreError × D) → Type 0
-  Opened old result = IfOk result (λ x. Keeps x × ((disk_of x).is_honest → IsOneOf old (desk_of x)))
+  shows : (device : D) (d : Desk) (result : Result (Clerk D g) (StoreError × D)) → ((e : Desk) → IsOneOf (g.disk device) e → e ≡ d) → AllVersions (g.disk device)
+      → (g.disk (device_after result)).is_honest → IsOpening g device result → IfOk result (λ x. Shows (g.disk device).sectors d x)
+  shows device d (Ok x) same all honest is =
+      let opened = is.opened all in
+      record { desk = same (desk_of x) (opened.1 honest); keeps = opened.0; working = is.working.0; sectors = is.working.1 }
+  shows device d (Err e) same all honest is = tt
 
-  abbrev Works : Disk → Result (Clerk D g) (StoreError × D) → Type 0
-  Works old result = IfOk result (λ x. (is_halted x ≡ false) × (sectors_of x ≡ old.sectors))
-
-  shows : ImagesAreOne → (old : Disk) (d : Desk) (result : Result (Clerk D g) (StoreError × D)) → HoldsEither old d → (g.disk (device_after result)).is_honest → Opened old result → Works old result → IfOk result (λ x. Shows old.sectors d x)
-  shows one old d (Ok x) holds honest opened works = record { desk = one_of one old d (desk_of x) holds (opened.1 honest); keeps = opened.0; working = works.0; sectors = works.1 }
-  shows one old d (Err e) holds honest opened works = tt
-
-  taken : (device : D) (d : Desk) (result : Result (Clerk D g) (StoreError × D)) → HoldsEither (g.disk device) d → (g.disk (device_after result)).is_honest → IfErr result (λ e. OpenRefused g device e.1 e.0) → IfErr result (λ e. e.0 ≢ NotAStore)
-  taken device d (Ok x) holds honest refused = tt
-  taken device d (Err e) holds honest refused = λ is. subst (λ (why : StoreError). OpenRefused g device e.1 why) is refused honest (all_of (g.disk device) d holds)
-
-  told : (device : D) (d : Desk) (result : Result (Clerk D g) (StoreError × D)) → HoldsOne (g.disk device) d → (g.disk (device_after result)).is_honest → IfErr result (λ e. OpenRefused g device e.1 e.0) → IfErr result (λ e. e.0 ≢ OldVersion)
-  told device d (Ok x) holds honest refused = tt
-  told device d (Err e) holds honest refused = λ is. (subst (λ (why : StoreError). OpenRefused g device e.1 why) is refused honest).1 (new_of (g.disk device) d holds)
+  -- what can't be the cause is not told
+  untold : (device : D) (result : Result (Clerk D g) (StoreError × D)) (why : StoreError) → (DiskRefused (g.disk device) (g.disk (device_after result)) why → ⊥)
+      → IfErr result (λ e. OpenRefused g device e.1 e.0) → IfErr result (λ e. e.0 ≢ why)
+  untold device (Ok x) why never refused = tt
+  untold device (Err e) why never refused = λ is. never (subst (λ (w : StoreError). OpenRefused g device e.1 w) is refused)
 
   pub recovers : ImagesAreOne → (device : D) (d : Desk) (result : Result (Clerk D g) (StoreError × D)) → HoldsEither (g.disk device) d → (g.disk (device_after result)).is_honest
-      → ((g.disk (device_after result)).is_honest → AllDesks (g.disk device) → LeavesOnly (OpensOneOf (g.disk device)) (g.disk device) (g.disk (device_after result)))
-      → ((g.disk (device_after result)).is_honest → AllVersions (g.disk device) → LeavesOnly (OpensOneAs (g.disk device)) (g.disk device) (g.disk (device_after result)))
-      → (AllVersions (g.disk device) → Opened (g.disk device) result) → Works (g.disk device) result → IfErr result (λ e. OpenRefused g device e.1 e.0) → Recovers g device d result
-  recovers one device d result holds honest moments versions opened works refused =
+      → LeavesOneOf (g.disk device) (g.disk (device_after result)) → IsOpening g device result → IfErr result (λ e. OpenRefused g device e.1 e.0) → Recovers g device d result
+  recovers one device d result holds honest moments is refused =
       let old = g.disk device in
       let now = g.disk (device_after result) in
-      let all = all_of old d holds in
+      let only : HoldsTo (λ e. e ≡ d) old = λ c leaves. record { desk = d; has = refl; opens = holds c leaves } in
+      let all = all_of (λ e. e ≡ d) old only in
+      let same = λ (x : Bool × Desk) (it : IsOneAs old x). one_of one (λ e. e ≡ d) old only x it in
+      let opens = λ (c : Image) (it : OpensOneAs old c). (let to = opens_it one (λ e. e ≡ d) old only c it in rw to.has at to.opens) in
       record {
-        any_moment = leaves_wider (OpensOneAs old) (OpensEither old.sectors d) old now (λ c is. opens_it one old d holds c is) (versions honest all);
-        shown = shows one old d result holds honest (opened all) works;
-        taken = taken device d result holds honest refused;
-        new = λ is_new. leaves_wider (OpensOneOf old) (OpensDesk old.sectors d) old now (λ c is. opens_new one old d is_new c is) (moments honest (new_of old d is_new));
-        told = λ is_new. told device d result is_new honest refused;
+        any_moment = leaves_wider (OpensOneAs old) (OpensEither old.sectors d) old now opens (is.any_moment honest all);
+        shown = shows device d result (λ e it. same (true, e) it) all honest is;
+        taken = untold device result NotAStore (λ never. never honest all) refused;
+        new = λ is_new. leaves_wider (OpensOneOf old) (OpensDesk old.sectors d) old now (λ c it. rw (same (true, it.desk) it.one) at it.opens)
+            (moments honest (λ c leaves. (d, is_new c leaves)));
+        told = λ is_new. untold device result OldVersion (λ why. (why honest).1 (λ c leaves. (d, is_new c leaves))) refused;
       }

@@ -1,8 +1,7 @@
 -- Runs of a clerk: a run whose store isn't swept is a swept run with no sweep in it.
-use Rattle.{std.proofs.Common.{◌≡◌, ℕ, true, if◌then◌else◌, List, ◌++◌, refl, sym, subst, ◌∙◌}, desk_model.specs.{claim.Step.step, declared.command.Command.Command}}
-use Rattle.{desk_runs.specs.claim.Runs.{Call, if_accepted, acknowledged, acknowledged_at, in_flight, OpenSince, Run, SurvivesEachRun}, desk_store.specs.declared.clerk.Clerk.Clerk}
-use Rattle.{desk_runs.specs.claim.SweptRuns.{SweptRun, acknowledged_at as swept_acknowledged_at, in_flight as swept_in_flight}, sector_device.specs.declared.SectorDevice.Ghosts}
-use Rattle.{desk_store.specs.claim.Clerks.{desk_of, disk_of, sectors_of}, desk_runs.proofs.SweptRuns.survives as swept_survives}
+use Rattle.{std.proofs.Common.{◌≡◌, true, List, refl}, desk_runs.specs.claim.Runs.{Call, acknowledged_at, in_flight, Run, SurvivesEachRun}}
+use Rattle.{desk_runs.specs.claim.SweptRuns.{SweptRun, acknowledged_at as swept_acknowledged_at, in_flight as swept_in_flight}, desk_store.specs.declared.clerk.Clerk.Clerk}
+use Rattle.{sector_device.specs.declared.SectorDevice.Ghosts, desk_runs.proofs.SweptRuns.survives as swept_survives}
 
 module _ {D : Type 0} {g : Ghosts D} where
   record IsSwept (x : Clerk D g) (calls : List Call) (z : Clerk D g) (run : Run x calls z) : Type 0 where
@@ -14,19 +13,10 @@ module _ {D : Type 0} {g : Ghosts D} where
   is_swept x _ z (Run.over _) = record { swept = SweptRun.over true x; moments = refl; flying = refl }
   is_swept x _ z (Run.went _ c r y calls _ does run) =
       let rest = is_swept y calls z run in
-      record {
-        swept = SweptRun.went true x c r y calls true z does rest.swept;
-        moments = (λ i. if_accepted (disk_of y).moment r ++ rest.moments i);
-        flying = (λ i. if y.halted then if_accepted c (step (desk_of x) c).0 else rest.flying i);
-      }
+      record { swept = SweptRun.went true x c r y calls true z does rest.swept; moments = rw rest.moments; flying = rw rest.flying }
 
   pub survives : (x : Clerk D g) → SurvivesEachRun x
   survives x calls z run keeps off honest =
       let is = is_swept x calls z run in
       let all = swept_survives x true calls true z is.swept keeps off honest in
-      let since = subst (λ (ms : List ℕ). OpenSince (disk_of z) (sectors_of x) (desk_of x) (disk_of x).moment ms (acknowledged calls ++ swept_in_flight true x calls true z is.swept)) is.moments all.since in
-      record {
-        desk = all.desk;
-        halted = λ working. sym is.flying ∙ all.halted working;
-        since = subst (λ (cs : List Command). OpenSince (disk_of z) (sectors_of x) (desk_of x) (disk_of x).moment (acknowledged_at x calls z run) (acknowledged calls ++ cs)) is.flying since;
-      }
+      record { desk = all.desk; halted = rw is.flying at all.halted; since = rw (is.moments, is.flying) at all.since }

@@ -7,10 +7,6 @@ use Rattle.gal_text.specs.{claim.Units.{Progress, has_number, is_done}, declared
 use Rattle.gal_text.proofs.RelationLemmas.{contains_from_has, not_contains}
 use Rattle.gal_text.specs.declared.fault.GalFault.TheVariants as fault
 
--- the number at a place
-id_is : (blocks : List BlockRow) (k d : ℕ) → k < length (ids_of blocks) → get_or (ids_of blocks) k d ≡ id_at blocks k
-id_is blocks k d inside = get_or_default_zero (ids_of blocks) k d inside
-
 rises : (blocks : List BlockRow) → IsStrictlyIncreasing (ids_of blocks) → (i j : ℕ) → i ≤ j → j < length (ids_of blocks) → id_at blocks i ≤ id_at blocks j
 rises blocks rising i j most within = search (rules, below_from_sorted, sorted_from_strictly_increasing, cases_lt)
 
@@ -25,16 +21,16 @@ module _ (blocks : List BlockRow) (g : Graph) (p : Progress) (holds : Holds bloc
   mark_is k inside = holds.marks k (rw length-map at inside)
 
   pub all_there : All (λ mark. mark ≡ true) g.seen.items → AreComplete (ids_of blocks) p.units
-  all_there each = search (rules, id_is, contains_from_has, mark_is, marked)
+  all_there each = search (rules, get_or_default_zero, contains_from_has, mark_is, marked)
 
   pub least_missing : (place : ℕ) (marks : List Bool) (id : ℕ) → IsStrictlyIncreasing (ids_of blocks) → marks ≡ g.seen.items → IsFirstFalse marks place → id ≡ id_at blocks place
       → IsLeastMissing (ids_of blocks) p.units id
   least_missing place marks id rising same first is = record {
-    known = (place, inside, id_is blocks place id inside ∙ sym is);
+    known = (place, inside, get_or_default_zero (ids_of blocks) place id inside ∙ sym is);
     missing = subst (λ (x : ℕ). ¬ Contains p.units x) (sym is) (not_contains p.units (id_at blocks place) (sym (mark_is place inside) ∙ sym (ap (λ (ms : List Bool). get_or ms place false) same) ∙ first.missing false));
     least = λ k d within lacks. ⊎_elim
-        (λ (less : k < place). absurd (lacks (subst (Contains p.units) (sym (id_is blocks k d within)) (contains_from_has p.units (id_at blocks k) (sym (mark_is k within) ∙ sym (ap (λ (ms : List Bool). get_or ms k false) same) ∙ first.before k false (omega arith) less)))))
-        (λ (more : place ≤ k). rw (id_is blocks k d within, is) (rises blocks rising place k more within))
+        (λ (less : k < place). absurd (lacks (subst (Contains p.units) (sym (get_or_default_zero (ids_of blocks) k d within)) (contains_from_has p.units (id_at blocks k) (sym (mark_is k within) ∙ sym (ap (λ (ms : List Bool). get_or ms k false) same) ∙ first.before k false (omega arith) less)))))
+        (λ (more : place ≤ k). rw (get_or_default_zero (ids_of blocks) k d within, is) (rises blocks rising place k more within))
         (cases_lt k place);
   }
     where
@@ -51,7 +47,4 @@ module _ (blocks : List BlockRow) (g : Graph) (p : Progress) (holds : Holds bloc
   }
   finished marks links (Err (fault.OneWay a b)) done same linked each up = search (rules, all_there)
   finished marks links (Err fault.Memory) done same linked each up = tt
-  finished marks links (Err (fault.Text f)) done same linked each up = absurd up
-  finished marks links (Err (fault.MissingUnit id)) done same linked each up = absurd up
-  finished marks links (Err fault.Read) done same linked each up = absurd up
-  finished marks links (Err fault.TurnLimit) done same linked each up = absurd up
+  finished marks links _ done same linked each up = absurd up

@@ -1,26 +1,18 @@
 -- What the units' state holds, word by word.
-use Rattle.std.{specs.{List.Sorted.IsStrictlyIncreasing, declared.alloc.Global.Global}, proofs.{Math.ListN.drop_of_length-le, lemmas.Bool.{eqb-true, cases_lt, le-ltb}}}
-use Rattle.std.proofs.Common.{◌≡◌, ℕ, ◌-◌, ◌<◌, ◌≤◌, Bool, true, false, cond, ◌&&◌, ◌||◌, eqb, List, [], ◌∷◌, ◌++◌, length, get_or, set, vec_len, Vec, Option, Some, None, Result, Ok, Err, All, Contains, refl, sym, ap, subst, ◌∙◌, arith, eq-eqb, rules}
-use Rattle.std.proofs.lemmas.{Grind.get_or-set_at, List.{length-map, get_or-set_other, get_or_read, Folds.{list_any-append, list_any_none}}}
-use Rattle.{std.proofs.lemmas.Map.Keys.{sorted_from_strictly_increasing, below_from_sorted}, desk_model.specs.{claim.Geography.{ids_of, id_at}, declared.block.BlockRow.BlockRow}}
-use Rattle.gal_text.specs.{Holding.{AreFromUnits, IsAtHand, HasUnit, Holds, Meets}, declared.{fault.TextFault.TheVariants.TooManyNeighbours, units.{Awaited.Awaited, Graph.Graph}}}
+use Rattle.std.{specs.{List.Sorted.IsStrictlyIncreasing, declared.alloc.Global.Global}, proofs.{Math.ListN.drop_of_length-le, lemmas.Grind.get_or-set_at}}
+use Rattle.std.proofs.Common.{◌≡◌, ℕ, ◌-◌, ◌<◌, ◌≤◌, Bool, true, false, cond, ◌&&◌, ◌||◌, eqb, List, [], ◌∷◌, ◌++◌, length, get_or, set, vec_len, Vec, Option, Some, None, Result, Ok, Err, Contains, refl, sym, ap, subst, inl, inr, ◌∙◌, arith, eq-eqb, rules}
+use Rattle.std.proofs.lemmas.{Bool.{and_left, cases_eq, cases_lt, false≢true, le-ltb, ne_eqb, or_right}, List.{length-map, get_or-set_other, get_or_read}}
+use Rattle.{std.proofs.lemmas.{List.Folds.{list_any-append, list_any_none}, Map.Keys.{sorted_from_strictly_increasing, below_from_sorted}}, gal_text.specs.declared.units.Link.Link}
+use Rattle.{desk_model.specs.{claim.Geography.{ids_of, id_at}, declared.block.BlockRow.BlockRow}, gal_text.specs.Holding.{AreFromUnits, IsAtHand, HasUnit, Holds, Meets}}
 use Rattle.gal_text.specs.claim.Units.{Progress, has_number, lists, known, block_of, neighbours_left, unit_read, count_read, neighbour_limit, word_awaited, word_read}
-use Rattle.gal_text.{specs.declared.units.{Link.Link, UnitRefusal.UnitRefusal}, proofs.RelationLemmas.has_not}
+use Rattle.gal_text.{specs.declared.{fault.TextFault.TheVariants.TooManyNeighbours, units.{Awaited.Awaited, Graph.Graph, UnitRefusal.UnitRefusal}}, proofs.RelationLemmas.has_not}
 use Rattle.gal_text.specs.declared.units.Awaited.TheVariants as awaited
 
 -- ---- numbers in a list
 
-or_true : (b : Bool) → (b || true) ≡ true
-or_true true = refl
-or_true false = refl
-
 or_false : (b : Bool) → (b || false) ≡ b
 or_false true = refl
 or_false false = refl
-
-not_both : (b : Bool) → (b ≡ true → b ≡ false) → b ≡ false
-not_both true clash = clash refl
-not_both false clash = refl
 
 pub unknown : (ids : List ℕ) (id : ℕ) (o : Option ℕ) → Some id ≡ o → ¬ Contains ids id → known ids o ≡ None
 unknown ids id o is missing = ap (known ids) (sym is) ∙ ap (λ (b : Bool). cond b (Some id) None) (has_not ids id missing)
@@ -32,7 +24,7 @@ stays_unit : (units : List ℕ) (id x : ℕ) → has_number units x ≡ true →
 stays_unit units id x has = has_number-push units id x ∙ ap (λ (b : Bool). b || (eqb id x || false)) has
 
 last_unit : (units : List ℕ) (id : ℕ) → has_number (units ++ id ∷ []) id ≡ true
-last_unit units id = has_number-push units id id ∙ ap (λ (b : Bool). has_number units id || (b || false)) (eq-eqb id id refl) ∙ or_true (has_number units id)
+last_unit units id = has_number-push units id id ∙ ap (λ (b : Bool). has_number units id || (b || false)) (eq-eqb id id refl) ∙ or_right (has_number units id) true refl
 
 -- ---- the marks
 
@@ -43,27 +35,19 @@ differ blocks rising i j inside within same = search (rules, sorted_from_strictl
 pub marks_more : (blocks : List BlockRow) (marks : List Bool) (units : List ℕ) (place id : ℕ) → IsStrictlyIncreasing (ids_of blocks) → length marks ≡ length blocks
     → place < length blocks → id_at blocks place ≡ id → ((q : ℕ) → q < length blocks → get_or marks q false ≡ has_number units (id_at blocks q))
     → (q : ℕ) → q < length blocks → get_or (set marks place true) q false ≡ has_number (units ++ id ∷ []) (id_at blocks q)
-marks_more blocks marks units place id rising same within here marks_are q inside = by_case (eqb place q) refl
-  where
-    by_case : (b : Bool) → eqb place q ≡ b → get_or (set marks place true) q false ≡ has_number (units ++ id ∷ []) (id_at blocks q)
-    by_case true e = search (rules, eqb-true, get_or-set_at, last_unit)
-    by_case false e =
-        let apart : q ≡ place → ⊥ = λ there. let yes : eqb place q ≡ true = eq-eqb place q (sym there) in (cc) in
-        let other : eqb id (id_at blocks q) ≡ false = not_both (eqb id (id_at blocks q)) (λ yes. absurd (apart (sym (differ blocks rising place q within inside (here ∙ eqb-true id (id_at blocks q) yes))))) in
-        get_or-set_other marks place q true false apart
-        ∙ marks_are q inside
-        ∙ sym (has_number-push units id (id_at blocks q) ∙ ap (λ (b : Bool). has_number units (id_at blocks q) || (b || false)) other ∙ or_false (has_number units (id_at blocks q)))
+marks_more blocks marks units place id rising same within here marks_are q inside = elim (cases_eq place q) [
+  | inl is ↦ search (rules, is, get_or-set_at, last_unit)
+  | inr apart ↦
+      let other : eqb id (id_at blocks q) ≡ false = ne_eqb id (id_at blocks q) (λ yes. apart (differ blocks rising place q within inside (here ∙ yes))) in
+      get_or-set_other marks place q true false (λ there. apart (sym there)) ∙ marks_are q inside
+      ∙ sym (has_number-push units id (id_at blocks q) ∙ ap (λ (b : Bool). has_number units (id_at blocks q) || (b || false)) other ∙ or_false (has_number units (id_at blocks q)))
+]
 
 -- ---- a unit
 
 listed_none : (units : List ℕ) (links : List Link) (id x : ℕ) → AreFromUnits units links → has_number units id ≡ false → lists links id x ≡ false
-listed_none units links id x from_units fresh = list_any_none (λ (l : Link). eqb l.from id && eqb l.to x) links each
-  where
-    none : (l : Link) → has_number units l.from ≡ true → (eqb l.from id && eqb l.to x) ≡ false
-    none l from = ap (λ (b : Bool). b && eqb l.to x) (not_both (eqb l.from id) (λ yes. absurd (let is : has_number units id ≡ true = sym (ap (has_number units) (eqb-true l.from id yes)) ∙ from in (cc))))
-
-    each : All (λ (l : Link). (eqb l.from id && eqb l.to x) ≡ false) links
-    each k d inside = none (get_or links k d) (from_units k d inside)
+listed_none units links id x from_units fresh = list_any_none (λ (l : Link). eqb l.from id && eqb l.to x) links
+    (λ k d inside. and_left _ _ (ne_eqb (get_or links k d).from id (λ is. false≢true (sym fresh ∙ sym (ap (has_number units) is) ∙ from_units k d inside))))
 
 -- the links of a new unit begin at the end
 pub unit_begins : (units : List ℕ) (links : List Link) (first id : ℕ) → AreFromUnits units links → has_number units id ≡ false → length links ≤ first → IsAtHand (units ++ id ∷ []) links first id
@@ -72,10 +56,6 @@ unit_begins units links first id from_units fresh end = search (rules, last_unit
 pub from_more_units : (units : List ℕ) (links : List Link) (id : ℕ) → AreFromUnits units links → AreFromUnits (units ++ id ∷ []) links
 from_more_units units links id from_units = λ k d inside. stays_unit units id (get_or links k d).from (from_units k d inside)
 
-unit_said : (p : Progress) (id number : ℕ) → has_number p.units id ≡ false
-    → unit_read p number (Some id) ≡ Ok (record { left = p.left - 1; next = awaited.Count id; units = p.units ++ id ∷ []; links = p.links })
-unit_said p id number fresh = search rules
-
 -- what a mark says of a block
 pub mark_says : (blocks : List BlockRow) (g : Graph) (p : Progress) (place id : ℕ) (b : Bool) → Holds blocks g p → place < vec_len g.seen → id_at blocks place ≡ id
     → b ≡ get_or g.seen.items place b → has_number p.units id ≡ b
@@ -83,11 +63,10 @@ mark_says blocks g p place id b holds within here is = search (rules, get_or_rea
 
 pub unit_taken : (blocks : List BlockRow) (old new : Graph) (p : Progress) (place id number : ℕ) → IsStrictlyIncreasing (ids_of blocks) → Holds blocks old p → place < vec_len old.seen
     → id_at blocks place ≡ id → has_number p.units id ≡ false → new.seen.items ≡ set old.seen.items place true → vec_len new.seen ≡ vec_len old.seen → new.links ≡ old.links
-    → new.first ≡ vec_len old.links → new.left ≡ old.left - 1 → new.next ≡ awaited.Count id
-    → (q : Progress) × (unit_read p number (Some id) ≡ Ok q) × Holds blocks new q
+    → new.first ≡ vec_len old.links → new.left ≡ old.left - 1 → new.next ≡ awaited.Count id → (q : Progress) × (unit_read p number (Some id) ≡ Ok q) × Holds blocks new q
 unit_taken blocks old new p place id number rising holds within here fresh seen len links first left next = (
   record { left = p.left - 1; next = awaited.Count id; units = p.units ++ id ∷ []; links = p.links },
-  unit_said p id number fresh,
+  search rules,
   record {
     left = left ∙ ap (λ (n : ℕ). n - 1) holds.left;
     next = next;
@@ -120,7 +99,7 @@ count_taken blocks old new p unit n number holds awaits few seen links first lef
 
 pub block_said : (ids : List ℕ) (p : Progress) (number id : ℕ) (word : List ℕ) → (p.left ≡ 0 → ⊥) → block_of ids word ≡ Some id
     → word_awaited ids p number word awaited.Block ≡ unit_read p number (Some id)
-block_said ids p number id word some is = search (rules, not_both, eqb-true)
+block_said ids p number id word some is = search (rules, ne_eqb)
 
 pub met_as : (blocks : List BlockRow) (p : Progress) (number : ℕ) (word : List ℕ) (next : Awaited) (result : Result (Unit {0}) UnitRefusal) (new : Graph) → p.next ≡ next
     → Meets blocks (word_awaited (ids_of blocks) p number word next) result new → Meets blocks (word_read (ids_of blocks) p number word) result new

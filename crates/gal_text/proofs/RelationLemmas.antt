@@ -1,35 +1,25 @@
 -- Units word by word, and as a whole.
-use Rattle.std.{specs.{List.{All, AllZip, Contains, IsDistinct, flat_map}, Prelude.nat_eq}, proofs.lemmas.{Bool.{false≢true, Decides.nat_tests}, List.append-nil}}
+use Rattle.std.{specs.{List.{All, AllZip, Contains, IsDistinct, flat_map}, Prelude.nat_eq}, proofs.lemmas.{Bool.Decides.nat_tests, List.append-nil, Option.cond_some}}
 use Rattle.std.proofs.Common.{◌≡◌, ◌≢◌, ℕ, ◌+◌, ◌-◌, ◌<◌, ◌≤◌, inl, inr, Bool, true, false, cond, ◌&&◌, eqb, ltb, List, [], ◌∷◌, ◌++◌, length, map, get_or, Option, Some, None, Result, Ok, Err, refl, sym, ap, subst, ◌∙◌, arith, append_assoc, rules}
-use Rattle.std.proofs.lemmas.List.Elements.{All-cons, All-head, All-tail, All-contains, All-weaker, All-append, All-map, All-from_recursion, recursion_from_All, Contains-append_left, Contains-push, Contains-push_cases, Contains-get_or}
-use Rattle.{std.proofs.lemmas.{List.Folds.{Any-from_list_any, list_any-from_Any}, Map.Keys.{IsDistinct-cons, IsDistinct-head, IsDistinct-tail}}, gal_text.specs.claim.Links.Lists}
-use Rattle.{byte_stream.specs.claim.Digits.{number_of, number_of_digits}, gal_text.specs.declared.{fault.TextFault.TextFault, units.{Awaited.Awaited, Link.Link}}}
-use Rattle.gal_text.specs.Relation.{Listing, IsListing, AreNames, IsWritten, AreWritten, blocks_of, links_of, IsSaid}
+use Rattle.std.proofs.lemmas.{Bool.{cond-false, eq-eqb, eqb-false, eqb-true, false_from_ne_true, ltb-false, ne_eqb, false≢true}, List.Folds.{Any-from_list_any, list_any-from_Any}}
+use Rattle.std.proofs.lemmas.List.Elements.{All-nil, All-cons, All-head, All-tail, All-contains, All-weaker, All-append, All-map, All-from_recursion, recursion_from_All, Contains-append_left, Contains-push, Contains-push_cases, Contains-get_or}
+use Rattle.{std.proofs.lemmas.Map.Keys.{IsDistinct-cons, IsDistinct-head, IsDistinct-tail}, byte_stream.specs.claim.Digits.{number_of, number_of_digits}}
+use Rattle.gal_text.specs.{Relation.{Listing, IsListing, AreNames, IsWritten, AreWritten, blocks_of, links_of, IsSaid}, claim.Links.Lists, declared.fault.TextFault.TextFault}
 use Rattle.gal_text.specs.claim.Units.{Progress, at_start, at_end, go_on, link_of, lists, known, block_of, has_number, neighbour_limit, neighbours_left, unit_read, count_read, neighbour_read, word_awaited, word_read, words_read, awaits_block}
-use Rattle.gal_text.specs.declared.fault.TextFault.TheVariants.{RepeatedUnit, OwnNeighbour, TooManyNeighbours, TrailingWord, EndsEarly, RepeatedNeighbour}
-use Rattle.gal_text.proofs.LinkLemmas.{Contains-cases, Contains-here, Contains-there, lists_from_test, test_from_lists}
+use Rattle.gal_text.specs.declared.{fault.TextFault.TheVariants.{RepeatedUnit, OwnNeighbour, TooManyNeighbours, TrailingWord, EndsEarly, RepeatedNeighbour}, units.Awaited.Awaited}
+use Rattle.gal_text.{specs.declared.units.Link.Link, proofs.LinkLemmas.{Contains-cases, Contains-here, Contains-there, lists_from_test, test_from_lists}}
 use Rattle.gal_text.specs.declared.units.Awaited.TheVariants as awaited
 
 -- ---- numbers in lists
 
-eqb-itself : (x : ℕ) → eqb x x ≡ true
-eqb-itself x = grind (arith, nat_tests)
-
-eqb-is : (x y : ℕ) → eqb x y ≡ true → x ≡ y
-eqb-is x y same = grind (arith, nat_tests)
-
 pub has_from_contains : (xs : List ℕ) (x : ℕ) → Contains xs x → has_number xs x ≡ true
-has_from_contains xs x c = list_any-from_Any (λ y. eqb y x) xs (c.0, x, c.1, c.2, eqb-itself x)
+has_from_contains xs x c = list_any-from_Any (λ y. eqb y x) xs (c.0, x, c.1, c.2, eq-eqb x x refl)
 
 pub contains_from_has : (xs : List ℕ) (x : ℕ) → has_number xs x ≡ true → Contains xs x
-contains_from_has xs x has = search (rules, Any-from_list_any, eqb-is)
-
-not_true : (b : Bool) → (b ≡ true → ⊥) → b ≡ false
-not_true true none = absurd (none refl)
-not_true false none = refl
+contains_from_has xs x has = search (rules, Any-from_list_any, eqb-true)
 
 pub has_not : (xs : List ℕ) (x : ℕ) → ¬ Contains xs x → has_number xs x ≡ false
-has_not xs x none = not_true (has_number xs x) (λ has. none (contains_from_has xs x has))
+has_not xs x none = false_from_ne_true (has_number xs x) (λ has. none (contains_from_has xs x has))
 
 pub not_contains : (xs : List ℕ) (x : ℕ) → has_number xs x ≡ false → ¬ Contains xs x
 not_contains xs x has c = false≢true (sym has ∙ has_from_contains xs x c)
@@ -38,17 +28,14 @@ pub not_lists : (links : List Link) (a b : ℕ) → lists links a b ≡ false �
 not_lists links a b has c = false≢true (sym has ∙ test_from_lists links a b c)
 
 pub distinct_cons : (x : ℕ) (xs : List ℕ) → ¬ Contains xs x → IsDistinct nat_eq xs → IsDistinct nat_eq (x ∷ xs)
-distinct_cons x xs none distinct = search (rules, not_true, eqb-is, Contains-get_or, IsDistinct-cons, recursion_from_All)
+distinct_cons x xs none distinct = search (rules, false_from_ne_true, eqb-true, Contains-get_or, IsDistinct-cons, recursion_from_All)
 
 pub distinct_head : (x : ℕ) (xs : List ℕ) → IsDistinct nat_eq (x ∷ xs) → ¬ Contains xs x
-distinct_head x xs distinct c = search (rules, All-from_recursion, IsDistinct-head, All-contains, false≢true, eqb-itself)
+distinct_head x xs distinct c = search (rules, All-from_recursion, IsDistinct-head, All-contains, false≢true, eq-eqb)
 
 pub distinct_none : IsDistinct nat_eq []
 unfolding IsDistinct
 distinct_none = tt
-
-none_all : {X : Type 0} (P : X → Type 0) → All P []
-none_all P k d inside = absurd (omega arith)
 
 none_contained : {X : Type 0} (x : X) → ¬ Contains [] x
 none_contained x c = absurd (omega (arith, c.1))
@@ -59,11 +46,7 @@ fewer xs x y none c = none (Contains-append_left xs (y ∷ []) x c)
 
 known_is : (ids : List ℕ) (o : Option ℕ) (id : ℕ) → known ids o ≡ Some id → (o ≡ Some id) × Contains ids id
 known_is ids None id is = absurd (cc)
-known_is ids (Some x) id is = known_by ids x id (has_number ids x) refl is
-  where
-    known_by : (ids : List ℕ) (x id : ℕ) (b : Bool) → has_number ids x ≡ b → cond b (Some x) None ≡ Some id → (Some x ≡ Some id) × Contains ids id
-    known_by ids x id false has is = absurd (cc)
-    known_by ids x id true has is = let same : x ≡ id = cc in (is, subst (Contains ids) same (contains_from_has ids x has))
+known_is ids (Some x) id is = let has = cond_some (has_number ids x) x id is in (ap Some has.1, subst (Contains ids) has.1 (contains_from_has ids x has.0))
 
 -- ---- from units to the reading
 
@@ -90,18 +73,12 @@ count_word ids left units links at w u n is few = search (rules, nat_tests)
 
 neighbour_word : (ids : List ℕ) (left : ℕ) (units : List ℕ) (links : List Link) (at : ℕ) (w : List ℕ) (u k n : ℕ) → number_of_digits 15 w ≡ Some n → Contains ids n → n ≢ u → ¬ Lists links u n
     → word_read ids (standing left (awaited.Neighbour u k) units links) at w ≡ Ok (standing left (neighbours_left u (k - 1)) units (links ++ link_of u n ∷ []))
-neighbour_word ids left units links at w u k n is there other fresh = search (rules, nat_tests, block_is, not_true, lists_from_test)
-
-some_left : (u k : ℕ) → 0 < k → neighbours_left u k ≡ awaited.Neighbour u k
-some_left u k some = let left : eqb k 0 ≡ false = grind (arith, nat_tests) in ap (λ (b : Bool). cond b awaited.Block (awaited.Neighbour u k)) left
-
-same_link : (u n m : ℕ) → link_of u n ≡ link_of u m → n ≡ m
-same_link u n m is = ap (λ (l : Link). l.to) is
+neighbour_word ids left units links at w u k n is there other fresh = search (rules, nat_tests, block_is, false_from_ne_true, lists_from_test)
 
 still_fresh : (links : List Link) (u n m : ℕ) → ¬ Lists links u m → n ≢ m → ¬ Lists (links ++ link_of u n ∷ []) u m
 still_fresh links u n m none differ listed = elim (Contains-push_cases links (link_of u n) (link_of u m) listed) [
   | inl before ↦ none before
-  | inr same ↦ differ (same_link u n m same)
+  | inr same ↦ differ (ap (λ (l : Link). l.to) same)
 ]
 
 -- what the neighbours of a unit are
@@ -134,7 +111,8 @@ read_names (n ∷ ns) (w ∷ ws) ids left units links u rest p are good on at =
     let fresh : ¬ Lists links u n = All-head (λ m. ¬ Lists links u m) n ns good.fresh in
     let more = read_names ns ws ids left units (links ++ link_of u n ∷ []) u rest p are.1 (neighbours_tail ids links u n ns good)
     (λ i. subst (λ (ls : List Link). Reads ids (standing left awaited.Block units ls) i rest p) (sym (append_assoc links (link_of u n ∷ []) (map (link_of u) ns))) (on i)) (at + 1) in
-    subst (λ (x : Awaited). Reads ids (standing left x units links) at ((w ∷ ws) ++ rest) p) (sym (some_left u k (omega arith)))
+    subst (λ (x : Awaited). Reads ids (standing left x units links) at ((w ∷ ws) ++ rest) p)
+    (sym (cond-false (eqb k 0) awaited.Block (awaited.Neighbour u k) (ne_eqb k 0 (λ none. omega arith))))
     (one_more ids (standing left (awaited.Neighbour u k) units links) (standing left (neighbours_left u (k - 1)) units (links ++ link_of u n ∷ [])) at w (ws ++ rest) p
     (neighbour_word ids left units links at w u k n are.0 there other fresh)
     (subst (λ (x : ℕ). Reads ids (standing left (neighbours_left u x) units (links ++ link_of u n ∷ [])) (at + 1) (ws ++ rest) p) (sym after) more))
@@ -195,7 +173,8 @@ read_all (u ∷ ls) (part ∷ parts) ids left units links are written at =
 
 pub reading_from_said : (ids : List ℕ) (n : ℕ) (ws : List (List ℕ)) (p : Progress) → IsSaid ids n ws p → Reads ids (at_start n) 1 ws p
 reading_from_said ids n ws p s =
-    let left : AreLeft ids n [] [] s.listings = record { count = s.are.count; each = s.are.each; fresh = λ k d inside. none_contained (get_or (blocks_of s.listings) k d); different = s.are.different; listed = none_all (λ (l : Link). Contains [] l.from) } in
+    let left : AreLeft ids n [] [] s.listings =
+    record { count = s.are.count; each = s.are.each; fresh = λ k d inside. none_contained (get_or (blocks_of s.listings) k d); different = s.are.different; listed = All-nil (λ (l : Link). Contains [] l.from) } in
     let read = read_all s.listings s.are.written.parts ids n [] [] left s.are.written.each 1 in
     subst (λ (x : List (List ℕ)). Reads ids (at_start n) 1 x p) (sym s.are.written.cut) (subst (Reads ids (at_start n) 1 (flat_map (λ part. part) s.are.written.parts)) (sym s.is) read)
 
@@ -239,14 +218,11 @@ Wanting ids left (awaited.Neighbour u k) units links ws p = Names ids left units
 
 at_none : (ids : List ℕ) (left : ℕ) (next : Awaited) (units : List ℕ) (links : List Link) (p : Progress) (b : Bool) → eqb left 0 ≡ b → cond (b && awaits_block next) (Ok (standing left next units links)) (Err EndsEarly) ≡ Ok p → Wanting ids left next units links [] p
 at_none ids left awaited.Block units links p true none is =
-    let zero_left : 0 ≡ left = sym (eqb-is left 0 none) in
+    let zero_left : 0 ≡ left = sym (eqb-true left 0 none) in
     let same : standing left awaited.Block units links ≡ p = cc in
-    search (rules, zero_left, same, none_all, distinct_none, append-nil)
-at_none ids left awaited.Block units links p false none is = absurd (cc)
-at_none ids left (awaited.Count u) units links p true none is = absurd (cc)
-at_none ids left (awaited.Count u) units links p false none is = absurd (cc)
-at_none ids left (awaited.Neighbour u k) units links p true none is = absurd (cc)
-at_none ids left (awaited.Neighbour u k) units links p false none is = absurd (cc)
+    search (rules, zero_left, same, All-nil, distinct_none, append-nil)
+at_none ids left _ units links p true none is = absurd (cc)
+at_none ids left _ units links p false none is = absurd (cc)
 
 -- one more unit
 unit_more : (ids : List ℕ) (left : ℕ) (units : List ℕ) (links : List Link) (w : List ℕ) (id : ℕ) (more : List (List ℕ)) (p : Progress) → left ≢ 0 → number_of_digits 15 w ≡ Some id → Contains ids id → ¬ Contains units id
@@ -297,10 +273,10 @@ names_by ids left units links u k more p true none wanting = record {
   numbers = [];
   names = [];
   rest = more;
-  long = sym (eqb-is k 0 none);
+  long = sym (eqb-true k 0 none);
   cut = refl;
   names_are = tt;
-  are = record { neighbours_known = none_all (Contains ids); others = none_contained u; fresh = none_all (λ m. ¬ Lists links u m); different = distinct_none };
+  are = record { neighbours_known = All-nil (Contains ids); others = none_contained u; fresh = All-nil (λ m. ¬ Lists links u m); different = distinct_none };
   more = subst (λ (ls : List Link). Blocks ids left units ls more p) (sym (append-nil links)) wanting;
 }
 names_by ids left units links u k more p false some wanting = search (rules, nat_tests)
@@ -308,54 +284,40 @@ names_by ids left units links u k more p false some wanting = search (rules, nat
 abbrev From : List ℕ → Progress → List (List ℕ) → Progress → Type 0
 From ids q ws p = Wanting ids q.left q.next q.units q.links ws p
 
-module _ (ids : List ℕ) (left : ℕ) (units : List ℕ) (links : List Link) (at : ℕ) (w : List ℕ) (more : List (List ℕ)) (p q : Progress) (on : From ids q more p) where
-  unit_fresh : (id : ℕ) (b : Bool) → left ≢ 0 → number_of_digits 15 w ≡ Some id → Contains ids id → has_number units id ≡ b
-      → cond b (Err (RepeatedUnit id)) (Ok (standing (left - 1) (awaited.Count id) (units ++ id ∷ []) links)) ≡ Ok q → Blocks ids left units links (w ∷ more) p
-  unit_fresh id true some named there has is = absurd (cc)
-  unit_fresh id false some named there has is = search (rules, unit_more, not_contains)
+-- a test that isn't met gives no fault
+no_fault : (b : Bool) (f : TextFault) (r : Result Progress TextFault) (q : Progress) → cond b (Err f) r ≡ Ok q → (b ≡ false) × (r ≡ Ok q)
+no_fault true f r q is = absurd (cc)
+no_fault false f r q is = (refl, is)
 
+module _ (ids : List ℕ) (left : ℕ) (units : List ℕ) (links : List Link) (at : ℕ) (w : List ℕ) (more : List (List ℕ)) (p q : Progress) (on : From ids q more p) where
   unit_named : (o : Option ℕ) → left ≢ 0 → block_of ids w ≡ o → unit_read (standing left awaited.Block units links) at o ≡ Ok q → Blocks ids left units links (w ∷ more) p
   unit_named None some named is = absurd (cc)
   unit_named (Some id) some named is =
       let known = known_is ids (number_of_digits 15 w) id named in
-      unit_fresh id (has_number units id) some known.0 known.1 refl is
-
-  unit_wanted : (b : Bool) → eqb left 0 ≡ b → cond b (Err (TrailingWord at)) (unit_read (standing left awaited.Block units links) at (block_of ids w)) ≡ Ok q → Blocks ids left units links (w ∷ more) p
-  unit_wanted true some is = absurd (cc)
-  unit_wanted false some is = unit_named (block_of ids w) (grind (arith, nat_tests)) refl is
-
-  count_few : (u n : ℕ) (b : Bool) → number_of 10 w ≡ Some n → ltb neighbour_limit n ≡ b → cond b (Err (TooManyNeighbours u)) (Ok (standing left (neighbours_left u n) units links)) ≡ Ok q → Counted ids left units links u (w ∷ more) p
-  count_few u n true named fits is = absurd (cc)
-  count_few u n false named fits is =
-      let same : q ≡ standing left (neighbours_left u n) units links = cc in
-      let few : n ≤ neighbour_limit = grind (arith, nat_tests) in
-      search (rules, same, few, names_by)
+      let fresh = no_fault (has_number units id) (RepeatedUnit id) _ q is in
+      let same : q ≡ standing (left - 1) (awaited.Count id) (units ++ id ∷ []) links = let r = fresh.1 in (cc) in
+      unit_more ids left units links w id more p some known.0 known.1 (not_contains units id fresh.0) (subst (λ (x : Progress). From ids x more p) same on)
 
   count_named : (u : ℕ) (o : Option ℕ) → number_of 10 w ≡ o → count_read (standing left (awaited.Count u) units links) u at o ≡ Ok q → Counted ids left units links u (w ∷ more) p
   count_named u None named is = absurd (cc)
-  count_named u (Some n) named is = count_few u n (ltb neighbour_limit n) named refl is
-
-  neighbour_fresh : (u k n : ℕ) (b : Bool) → number_of_digits 15 w ≡ Some n → Contains ids n → n ≢ u → lists links u n ≡ b
-      → cond b (Err (RepeatedNeighbour u n)) (Ok (standing left (neighbours_left u (k - 1)) units (links ++ link_of u n ∷ []))) ≡ Ok q → Names ids left units links u (k - 1 + 1) (w ∷ more) p
-  neighbour_fresh u k n true named there other has is = absurd (cc)
-  neighbour_fresh u k n false named there other has is =
-      let same : q ≡ standing left (neighbours_left u (k - 1)) units (links ++ link_of u n ∷ []) = cc in
-      name_more ids left units links u (k - 1) w n more p named there other (not_lists links u n has)
-      (names_by ids left units (links ++ link_of u n ∷ []) u (k - 1) more p (eqb (k - 1) 0) refl (subst (λ (x : Progress). From ids x more p) same on))
-
-  neighbour_other : (u k n : ℕ) (b : Bool) → number_of_digits 15 w ≡ Some n → Contains ids n → eqb n u ≡ b
-      → cond b (Err (OwnNeighbour u)) (cond (lists links u n) (Err (RepeatedNeighbour u n)) (Ok (standing left (neighbours_left u (k - 1)) units (links ++ link_of u n ∷ [])))) ≡ Ok q → Names ids left units links u (k - 1 + 1) (w ∷ more) p
-  neighbour_other u k n true named there other is = absurd (cc)
-  neighbour_other u k n false named there other is = neighbour_fresh u k n (lists links u n) named there (grind (arith, nat_tests)) refl is
+  count_named u (Some n) named is =
+      let fits = no_fault (ltb neighbour_limit n) (TooManyNeighbours u) _ q is in
+      let same : q ≡ standing left (neighbours_left u n) units links = let r = fits.1 in (cc) in
+      let few : n ≤ neighbour_limit = ltb-false neighbour_limit n fits.0 in
+      search (rules, same, few, names_by)
 
   neighbour_named : (u k : ℕ) (o : Option ℕ) → block_of ids w ≡ o → neighbour_read (standing left (awaited.Neighbour u k) units links) u k at o ≡ Ok q → Names ids left units links u (k - 1 + 1) (w ∷ more) p
   neighbour_named u k None named is = absurd (cc)
   neighbour_named u k (Some n) named is =
       let known = known_is ids (number_of_digits 15 w) n named in
-      neighbour_other u k n (eqb n u) known.0 known.1 refl is
+      let other = no_fault (eqb n u) (OwnNeighbour u) _ q is in
+      let fresh = no_fault (lists links u n) (RepeatedNeighbour u n) _ q other.1 in
+      let same : q ≡ standing left (neighbours_left u (k - 1)) units (links ++ link_of u n ∷ []) = let r = fresh.1 in (cc) in
+      name_more ids left units links u (k - 1) w n more p known.0 known.1 (eqb-false n u other.0) (not_lists links u n fresh.0)
+      (names_by ids left units (links ++ link_of u n ∷ []) u (k - 1) more p (eqb (k - 1) 0) refl (subst (λ (x : Progress). From ids x more p) same on))
 
   one_step : (next : Awaited) → word_awaited ids (standing left next units links) at w next ≡ Ok q → Wanting ids left next units links (w ∷ more) p
-  one_step awaited.Block is = unit_wanted (eqb left 0) refl is
+  one_step awaited.Block is = let some = no_fault (eqb left 0) (TrailingWord at) _ q is in unit_named (block_of ids w) (eqb-false left 0 some.0) refl some.1
   one_step (awaited.Count u) is = count_named u (number_of 10 w) refl is
   one_step (awaited.Neighbour u k) is = neighbour_named u k (block_of ids w) refl is
 

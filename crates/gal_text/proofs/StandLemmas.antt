@@ -1,10 +1,10 @@
 -- The words of a neighbour file, one after the other.
-use Rattle.{std.{specs.Io.KnownBytes.{Consumes, IsAtEnd}, proofs.lemmas.List.append-nil}, byte_stream.specs.{Reading.Reading, Words.{BeginsWithWord, IsOneWord, GivesWord}}}
-use Rattle.std.proofs.Common.{◌≡◌, ℕ, ◌+◌, ◌<◌, List, [], ◌∷◌, ◌++◌, length, Option, Result, Ok, Err, refl, sym, ap, subst, ◌∙◌, arith, append_assoc, length-append, inl, inr, rules}
-use Rattle.{byte_stream.specs.{claim.Words.{words, word_limit, IsBrokenWord}, declared.reader.ReadFault.ReadFault}, desk_model.specs.claim.Geography.ids_of}
-use Rattle.{desk_model.specs.declared.block.BlockRow.BlockRow, gal_text.specs.{Holding.{Holds, Takes}, Parts.{Stands, ReadsWords, AreCutWords, refused, read_told}}}
-use Rattle.gal_text.specs.{claim.Units.{Progress, at_start, word_read, words_read, go_on}, declared.{fault.{GalFault.GalFault, TextFault.TextFault}, units.Graph.Graph}}
-use Rattle.{gal_text.specs.declared.units.UnitRefusal.UnitRefusal, byte_stream.proofs.ReadingLemmas.{Consumes-nothing, Consumes-then}}
+use Rattle.{std.{specs.Io.KnownBytes.{Consumes, IsAtEnd}, proofs.{KnownBytes.{Consumes-nil, Consumes-trans}, lemmas.List.append-nil}}, byte_stream.specs.Reading.Reading}
+use Rattle.std.proofs.Common.{◌≡◌, ℕ, ◌+◌, ◌<◌, List, [], ◌∷◌, ◌++◌, length, Option, Result, Ok, Err, refl, sym, ap, ◌∙◌, arith, append_assoc, length-append, inl, inr, rules}
+use Rattle.byte_stream.specs.{Words.{BeginsWithWord, IsOneWord, GivesWord}, claim.Words.{words, word_limit, IsBrokenWord}, declared.reader.ReadFault.ReadFault}
+use Rattle.{desk_model.specs.{claim.Geography.ids_of, declared.block.BlockRow.BlockRow}, gal_text.specs.{Holding.{Holds, Takes}, declared.fault.GalFault.GalFault}}
+use Rattle.gal_text.specs.{Parts.{Stands, ReadsWords, AreCutWords, refused, read_told}, claim.Units.{Progress, at_start, word_read, words_read, go_on}, declared.units.Graph.Graph}
+use Rattle.gal_text.specs.declared.{fault.TextFault.TextFault, units.UnitRefusal.UnitRefusal}
 use Rattle.byte_stream.specs.declared.reader.ReadFault.TheVariants as read
 use Rattle.gal_text.specs.declared.units.UnitRefusal.TheVariants as refusal
 
@@ -41,7 +41,7 @@ module _ (blocks : List BlockRow) (count : ℕ) (start : List ℕ) (old : Option
   pub stands_start : (g : Graph) → Holds blocks g (at_start count) → Stands blocks count start old old start 1 g
   stands_start g holds = record {
     came = [];
-    consumed = Consumes-nothing old;
+    consumed = Consumes-nil old;
     whole = [];
     words_are = λ more. ap (λ (t : List ℕ). words (t ++ more)) (append-nil start);
     progress = at_start count;
@@ -50,108 +50,89 @@ module _ (blocks : List BlockRow) (count : ℕ) (start : List ℕ) (old : Option
     counted = refl;
   }
 
-  pub stands_more : (left next : Option (List ℕ)) (held more : List ℕ) (number : ℕ) (g : Graph) → Stands blocks count start old left held number g → Consumes left next more
-      → Stands blocks count start old next (held ++ more) number g
-  stands_more left next held more number g s came = search (rules, Consumes-then, append_assoc)
-
   -- what was judged of the word at hand, of any progress that the state holds
   abbrev pub Took : Graph → ℕ → List ℕ → Result (Unit {0}) UnitRefusal → Graph → Type 0
   Took g number word result new = (p : Progress) → Holds blocks g p → Takes blocks p number word result new
-
-  -- a word that was taken
-  pub stands_word : (left : Option (List ℕ)) (held word rest : List ℕ) (number : ℕ) (g new : Graph) (u : Unit {0}) → Stands blocks count start old left held number g → BeginsWithWord held word rest
-      → Took g number word (Ok u) new → Stands blocks count start old left rest (number + 1) new
-  stands_word left held word rest number g new u s b took =
-      let is = took s.progress s.holds in
-      record {
-        came = s.came;
-        consumed = s.consumed;
-        whole = s.whole ++ word ∷ [];
-        words_are = λ more. s.words_are more ∙ ap (λ (ws : List (List ℕ)). s.whole ++ ws) (b.gives more) ∙ sym (append_assoc s.whole (word ∷ []) (words (rest ++ more)));
-        progress = is.0;
-        said = said_more (ids_of blocks) (at_start count) s.progress s.whole s.said word is.0 (subst (λ (k : ℕ). word_read (ids_of blocks) s.progress k word ≡ Ok is.0) s.counted is.1);
-        holds = is.2;
-        counted = omega (arith, s.counted, length-append s.whole (word ∷ []));
-      }
 
   -- what is told of the bytes that came
   abbrev pub Told : Option (List ℕ) → Result Graph GalFault → Type 0
   Told left result = (more : List ℕ) × Consumes old left more × ReadsWords blocks count (start ++ more) left result
 
-  whole_words : (left : Option (List ℕ)) (held : List ℕ) (number : ℕ) (g : Graph) → (s : Stands blocks count start old left held number g) → words (start ++ s.came) ≡ s.whole ++ words held
-  whole_words left held number g s =
-      ap words (sym (append-nil (start ++ s.came))) ∙ s.words_are [] ∙ ap (λ (t : List ℕ). s.whole ++ words t) (append-nil held)
+  module _ (between left : Option (List ℕ)) (was more : List ℕ) (number : ℕ) (g : Graph) (before : Stands blocks count start old between was number g) (came : Consumes between left more) where
+    stands : Stands blocks count start old left (was ++ more) number g
+    stands = search (rules, before, Consumes-trans, append_assoc)
 
-  faulty : (left : Option (List ℕ)) (held : List ℕ) (number : ℕ) (g : Graph) → (s : Stands blocks count start old left held number g) → (word : List ℕ) (more : List (List ℕ)) (f : TextFault)
-      → word_read (ids_of blocks) s.progress number word ≡ Err f → words_read (ids_of blocks) (at_start count) 1 (s.whole ++ word ∷ more) ≡ Err f
-  faulty left held number g s word more f is = search (rules, said_fault)
+    -- the word at hand is the next one
+    took_next : (new : Graph) (at : ℕ) (given word : List ℕ) (r : Result (Unit {0}) UnitRefusal) → at ≡ number → given ≡ word → Took g at given r new
+        → Takes blocks stands.progress (length stands.whole + 1) word r new
+    took_next new at given word r same_number same took = rw (← same, sym (same_number ∙ stands.counted)) (took stands.progress stands.holds)
 
-  -- ---- the end
+    whole_words : words (start ++ stands.came) ≡ stands.whole ++ words (was ++ more)
+    whole_words = ap words (sym (append-nil (start ++ stands.came))) ∙ stands.words_are [] ∙ ap (λ (t : List ℕ). stands.whole ++ words t) (append-nil (was ++ more))
 
-  pub told_last_end : (left : Option (List ℕ)) (held word : List ℕ) (number : ℕ) (g new : Graph) (u : Unit {0}) → Stands blocks count start old left held number g → IsAtEnd left → IsOneWord held word
-      → Took g number word (Ok u) new → Told left (Ok new)
-  told_last_end left held word number g new u s end one took =
-      let is = took s.progress s.holds in (
-        s.came,
-        s.consumed,
-        (
-          end,
-          record {
-            progress = is.0;
-            said = ap (words_read (ids_of blocks) (at_start count) 1) (whole_words left held number g s ∙ ap (λ (ws : List (List ℕ)). s.whole ++ ws) one.gives)
-                ∙ said_more (ids_of blocks) (at_start count) s.progress s.whole s.said word is.0 (subst (λ (k : ℕ). word_read (ids_of blocks) s.progress k word ≡ Ok is.0) s.counted is.1);
-            holds = is.2;
-          },
-        ),
-      )
+    -- a word that was taken
+    pub stands_word : (word rest : List ℕ) (new : Graph) (u : Unit {0}) (at : ℕ) (given : List ℕ) → at ≡ number → given ≡ word → BeginsWithWord (was ++ more) word rest
+        → Took g at given (Ok u) new → Stands blocks count start old left rest (number + 1) new
+    stands_word word rest new u at given same_number same b took =
+        let is = took_next new at given word (Ok u) same_number same took in
+        record {
+          came = stands.came;
+          consumed = stands.consumed;
+          whole = stands.whole ++ word ∷ [];
+          words_are = λ next. stands.words_are next ∙ ap (λ (ws : List (List ℕ)). stands.whole ++ ws) (b.gives next) ∙ sym
+              (append_assoc stands.whole (word ∷ []) (words (rest ++ next)));
+          progress = is.0;
+          said = said_more (ids_of blocks) (at_start count) stands.progress stands.whole stands.said word is.0 is.1;
+          holds = is.2;
+          counted = omega (arith, stands.counted, length-append stands.whole (word ∷ []));
+        }
 
-  -- ---- why there is no state
+    -- ---- the end
 
-  pub told_refused : (left : Option (List ℕ)) (held word rest : List ℕ) (number : ℕ) (g new : Graph) (r : UnitRefusal) → Stands blocks count start old left held number g → BeginsWithWord held word rest
-      → Took g number word (Err r) new → Told left (Err (refused r))
-  told_refused left held word rest number g new (refusal.Fault f) s b took = (
-    s.came,
-    s.consumed,
-    inl (λ more.
-        ap (words_read (ids_of blocks) (at_start count) 1) (s.words_are more ∙ ap (λ (ws : List (List ℕ)). s.whole ++ ws) (b.gives more))
-        ∙ faulty left held number g s word (words (rest ++ more)) f (took s.progress s.holds)),
-  )
-  told_refused left held word rest number g new refusal.Memory s b took = (s.came, s.consumed, tt)
+    pub told_last_end : (word : List ℕ) (new : Graph) (u : Unit {0}) (at : ℕ) (given : List ℕ) → at ≡ number → given ≡ word → IsAtEnd left → IsOneWord (was ++ more) word
+        → Took g at given (Ok u) new → Told left (Ok new)
+    told_last_end word new u at given same_number same end one took =
+        let is = took_next new at given word (Ok u) same_number same took in
+        let said = ap (words_read (ids_of blocks) (at_start count) 1) (whole_words ∙ ap (λ (ws : List (List ℕ)). stands.whole ++ ws) one.gives)
+        ∙ said_more (ids_of blocks) (at_start count) stands.progress stands.whole stands.said word is.0 is.1 in
+        (stands.came, stands.consumed, (end, record { progress = is.0; said = said; holds = is.2 }))
 
-  pub told_refused_last : (left : Option (List ℕ)) (held word : List ℕ) (number : ℕ) (g new : Graph) (r : UnitRefusal) → Stands blocks count start old left held number g → IsAtEnd left → IsOneWord held word
-      → Took g number word (Err r) new → Told left (Err (refused r))
-  told_refused_last left held word number g new (refusal.Fault f) s end one took = (
-    s.came,
-    s.consumed,
-    inr (
-      end,
-      ap (words_read (ids_of blocks) (at_start count) 1) (whole_words left held number g s ∙ ap (λ (ws : List (List ℕ)). s.whole ++ ws) one.gives)
-          ∙ faulty left held number g s word [] f (took s.progress s.holds),
-    ),
-  )
-  told_refused_last left held word number g new refusal.Memory s end one took = (s.came, s.consumed, tt)
+    -- ---- why there is no state
 
-  told_cut : (left : Option (List ℕ)) (held : List ℕ) (number : ℕ) (g : Graph) → (s : Stands blocks count start old left held number g) → IsBrokenWord held → AreCutWords (ids_of blocks) count (start ++ s.came)
-  told_cut left held number g s broken = search rules
+    pub told_refused : (word rest : List ℕ) (new : Graph) (r : UnitRefusal) (e : GalFault) (at : ℕ) (given : List ℕ) → e ≡ refused r → at ≡ number → given ≡ word
+        → BeginsWithWord (was ++ more) word rest → Took g at given (Err r) new → Told left (Err e)
+    told_refused word rest new (refusal.Fault f) e at given is same_number same b took = rw is (
+      stands.came,
+      stands.consumed,
+      inl (λ next.
+          ap (words_read (ids_of blocks) (at_start count) 1) (stands.words_are next ∙ ap (λ (ws : List (List ℕ)). stands.whole ++ ws) (b.gives next))
+          ∙ said_fault (ids_of blocks) (at_start count) stands.progress stands.whole stands.said word (words (rest ++ next)) f
+          (took_next new at given word (Err (refusal.Fault f)) same_number same took)),
+    )
+    told_refused word rest new refusal.Memory e at given is same_number same b took = rw is (stands.came, stands.consumed, tt)
 
-  pub told_fault : (left : Option (List ℕ)) (held : List ℕ) (number : ℕ) (g : Graph) (long : TextFault) (e : ReadFault) (r : Reading) → Stands blocks count start old left held number g
-      → ((p : Progress) (word : List ℕ) → Holds blocks g p → word_limit < length word → word_read (ids_of blocks) p number word ≡ Err long) → GivesWord held left (Err e) r
-      → Told left (Err (read_told long e))
-  told_fault left held number g long read.TooLong r s is_long gives = (
-    s.came,
-    s.consumed,
-    inl (λ more.
-        let w = gives more in
-        ap (words_read (ids_of blocks) (at_start count) 1) (s.words_are more ∙ ap (λ (ws : List (List ℕ)). s.whole ++ ws) w.2)
-        ∙ faulty left held number g s w.0 w.1 long (is_long s.progress w.0 s.holds w.3)),
-  )
-  told_fault left held number g long _ r s is_long gives = (s.came, s.consumed, told_cut left held number g s gives)
+    pub told_refused_last : (word : List ℕ) (new : Graph) (r : UnitRefusal) (e : GalFault) (at : ℕ) (given : List ℕ) → e ≡ refused r → at ≡ number → given ≡ word → IsAtEnd left
+        → IsOneWord (was ++ more) word → Took g at given (Err r) new → Told left (Err e)
+    told_refused_last word new (refusal.Fault f) e at given is same_number same end one took =
+        let said = ap (words_read (ids_of blocks) (at_start count) 1) (whole_words ∙ ap (λ (ws : List (List ℕ)). stands.whole ++ ws) one.gives)
+        ∙ said_fault (ids_of blocks) (at_start count) stands.progress stands.whole stands.said word [] f
+        (took_next new at given word (Err (refusal.Fault f)) same_number same took) in
+        rw is (stands.came, stands.consumed, inr (end, said))
+    told_refused_last word new refusal.Memory e at given is same_number same end one took = rw is (stands.came, stands.consumed, tt)
 
-  pub took_at : (g new : Graph) (number at : ℕ) (given word : List ℕ) (r : Result (Unit {0}) UnitRefusal) → at ≡ number → given ≡ word → Took g at given r new → Took g number word r new
-  took_at g new number at given word r same_number same took = search rules
+    told_cut : IsBrokenWord (was ++ more) → AreCutWords (ids_of blocks) count (start ++ stands.came)
+    told_cut broken = search (rules, stands)
 
--- the fault of a word that is too long, at the same number
-pub long_at : (blocks : List BlockRow) (g : Graph) (number at : ℕ) (long : TextFault) → at ≡ number
-    → ((p : Progress) (word : List ℕ) → Holds blocks g p → word_limit < length word → word_read (ids_of blocks) p at word ≡ Err long)
-    → (p : Progress) (word : List ℕ) → Holds blocks g p → word_limit < length word → word_read (ids_of blocks) p number word ≡ Err long
-long_at blocks g number at long same is p word holds over = subst (λ (k : ℕ). word_read (ids_of blocks) p k word ≡ Err long) same (is p word holds over)
+    pub told_fault : (long : TextFault) (f : ReadFault) (r : Reading) (e : GalFault) (at : ℕ) → e ≡ read_told long f → at ≡ number
+        → ((p : Progress) (word : List ℕ) → Holds blocks g p → word_limit < length word → word_read (ids_of blocks) p at word ≡ Err long) → GivesWord (was ++ more) left (Err f) r
+        → Told left (Err e)
+    told_fault long read.TooLong r e at is same is_long gives = rw is (
+      stands.came,
+      stands.consumed,
+      inl (λ next.
+          let w = gives next in
+          ap (words_read (ids_of blocks) (at_start count) 1) (stands.words_are next ∙ ap (λ (ws : List (List ℕ)). stands.whole ++ ws) w.2)
+          ∙ said_fault (ids_of blocks) (at_start count) stands.progress stands.whole stands.said w.0 w.1 long
+          (rw (same ∙ stands.counted) at (is_long stands.progress w.0 stands.holds w.3))),
+    )
+    told_fault long _ r e at is same is_long gives = rw is (stands.came, stands.consumed, told_cut gives)

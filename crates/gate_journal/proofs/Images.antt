@@ -69,6 +69,14 @@ store_same J n S b c apart agree store list = search rules
 pub staged_valid : (J n : ℕ) (ws : List (ℕ × List ℕ)) (c : Image) → length ws ≤ J → IsWithin ws n → Stages J ws c → IsValid J n c
 staged_valid J n ws c fits within staged = search rules
 
+-- so both stay where none of their sectors is touched
+pub staged_still : (J n : ℕ) (ws : List (ℕ × List ℕ)) (S : ℕ → Type 0) (b c : Image) → length ws ≤ J → IsWithin ws n → (S 0 → ⊥) → ((i : ℕ) → S i → Staging J i → ⊥)
+    → AgreeOff S b c → IsStore J n b → Stages J ws b
+    → Stages J ws c × IsStore J n c
+staged_still J n ws S b c fits within header apart agree store staged =
+    let stages = stages_same J ws S b c fits apart agree staged in
+    (stages, store_same J n S b c header agree store (λ is. staged_valid J n ws c fits within stages))
+
 pub while_staging : (J n : ℕ) (b c : Image) → IsStore J n b → gate b ≢ 165 → AgreeOff (Staging J) b c → Opens J n (home_pages J b) c
 while_staging J n b c store shut agree = search (rules, store_same, same, pages_shut)
   where
@@ -82,39 +90,34 @@ opened : (J : ℕ) (ws : List (ℕ × List ℕ)) (c : Image) (p : ℕ) → gate 
 opened J ws c p is staged = pages_open J c p is ∙ ap (λ (l : List (ℕ × List ℕ)). overlay l (home_pages J c) p) (copies_staged J ws c staged)
 
 pub while_opening : (J n : ℕ) (ws : List (ℕ × List ℕ)) (b c : Image) → length ws ≤ J → IsWithin ws n → IsStore J n b → Stages J ws b → AgreeOff (Only 1) b c → IsBeforeOrAfter J n ws (home_pages J b) c
-while_opening J n ws b c fits within store staged agree = elim (cases_eq (gate c) 165) [
-  | inl is ↦ inr (record { store = store_c; each = λ p. opened J ws c p is staged_c ∙ overlay_same ws (home_pages J c) (home_pages J b) p (λ off. same_homes J b c agree p) })
-  | inr shut ↦ inl (record { store = store_c; each = λ p. pages_shut J c p shut ∙ same_homes J b c agree p })
-]
-  where
-    staged_c : Stages J ws c
-    staged_c = stages_same J ws (Only 1) b c fits (λ i is s. omega arith) agree staged
-
-    store_c : IsStore J n c
-    store_c = store_same J n (Only 1) b c (λ is. omega arith) agree store (λ is. staged_valid J n ws c fits within staged_c)
+while_opening J n ws b c fits within store staged agree =
+    let on = staged_still J n ws (Only 1) b c fits within (λ is. omega arith) (λ i is s. omega arith) agree store staged in
+    elim (cases_eq (gate c) 165) [
+      | inl is ↦ inr (record { store = on.1; each = λ p. opened J ws c p is on.0 ∙ overlay_same ws (home_pages J c) (home_pages J b) p (λ off. same_homes J b c agree p) })
+      | inr shut ↦ inl (record { store = on.1; each = λ p. pages_shut J c p shut ∙ same_homes J b c agree p })
+    ]
 
 pub while_copying : (J n : ℕ) (ws : List (ℕ × List ℕ)) (b c : Image) → length ws ≤ J → IsWithin ws n → IsStore J n b → gate b ≡ 165 → Stages J ws b → AgreeOff (Homes (home J) ws) b c → Opens J n (overlay ws (home_pages J b)) c
-while_copying J n ws b c fits within store is staged agree = record {
-  store = store_same J n (Homes (home J) ws) b c (λ s. let e = s.2 in omega arith) agree store (λ is. staged_valid J n ws c fits within staged_c);
-  each = λ p.
-      opened J ws c p (gate_same (Homes (home J) ws) b c (λ s. let e = s.2 in omega arith) agree ∙ is) staged_c
-      ∙ overlay_same ws (home_pages J c) (home_pages J b) p (λ off. agree.same (home J + p) (λ s. off (subst (Writes ws) (let e = s.2 in let q : s.0 ≡ p = omega arith in q) s.1)));
-}
-  where
-    staged_c : Stages J ws c
-    staged_c = stages_same J ws (Homes (home J) ws) b c fits (λ i s t. let e = s.2 in omega arith) agree staged
+while_copying J n ws b c fits within store is staged agree =
+    let on = staged_still J n ws (Homes (home J) ws) b c fits within (λ s. let e = s.2 in omega arith) (λ i s t. let e = s.2 in omega arith) agree store staged in
+    record {
+      store = on.1;
+      each = λ p.
+          opened J ws c p (gate_same (Homes (home J) ws) b c (λ s. let e = s.2 in omega arith) agree ∙ is) on.0
+          ∙ overlay_same ws (home_pages J c) (home_pages J b) p
+          (λ off. agree.same (home J + p) (λ s. off (subst (Writes ws) (let e = s.2 in let q : s.0 ≡ p = omega arith in q) s.1)));
+    }
 
 pub while_closing : (J n : ℕ) (ws : List (ℕ × List ℕ)) (P b c : Image) → length ws ≤ J → IsWithin ws n → IsStore J n b → Stages J ws b → ((p : ℕ) → home_pages J b p ≡ overlay ws P p) → AgreeOff (Only 1) b c → Opens J n (overlay ws P) c
-while_closing J n ws P b c fits within store staged homes agree = record {
-  store = store_same J n (Only 1) b c (λ is. omega arith) agree store (λ is. staged_valid J n ws c fits within staged_c);
-  each = λ p. elim (cases_eq (gate c) 165) [
-    | inl is ↦ opened J ws c p is staged_c ∙ overlay_same ws (home_pages J c) (overlay ws P) p (λ off. same_homes J b c agree p ∙ homes p) ∙ overlay_twice ws P p
-    | inr shut ↦ pages_shut J c p shut ∙ same_homes J b c agree p ∙ homes p
-  ];
-}
-  where
-    staged_c : Stages J ws c
-    staged_c = stages_same J ws (Only 1) b c fits (λ i is s. omega arith) agree staged
+while_closing J n ws P b c fits within store staged homes agree =
+    let on = staged_still J n ws (Only 1) b c fits within (λ is. omega arith) (λ i is s. omega arith) agree store staged in
+    record {
+      store = on.1;
+      each = λ p. elim (cases_eq (gate c) 165) [
+        | inl is ↦ opened J ws c p is on.0 ∙ overlay_same ws (home_pages J c) (overlay ws P) p (λ off. same_homes J b c agree p ∙ homes p) ∙ overlay_twice ws P p
+        | inr shut ↦ pages_shut J c p shut ∙ same_homes J b c agree p ∙ homes p
+      ];
+    }
 
 -- ---- one write more
 pub overlay_more : (ws : List (ℕ × List ℕ)) (k : ℕ) (P : Image) (p : ℕ) → k < length ws → overlay (take (k + 1) ws) P p ≡ put (get_or ws k (0, [])) (overlay (take k ws) P) p
@@ -135,7 +138,7 @@ writes_at [] k lt = absurd (omega arith)
 writes_at (w ∷ ws) zero lt = inl refl
 writes_at (w ∷ ws) (suc k) lt = inr (writes_at ws k (omega arith))
 
-list_word_at : (x : Image) (k i : ℕ) → 2 + k / 1024 ≡ i → list_word x k ≡ word (x i) (k % 1024)
+pub list_word_at : (x : Image) (k i : ℕ) → 2 + k / 1024 ≡ i → list_word x k ≡ word (x i) (k % 1024)
 unfolding list_word
 list_word_at x k i at = ap (λ (n : ℕ). word (x n) (k % 1024)) at
 

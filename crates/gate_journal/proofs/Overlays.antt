@@ -17,13 +17,13 @@ last_after w ws p k is = record {
   later = λ j gt lt. is.later (suc j) (omega arith) (omega arith);
 }
 
-no_more : (w : ℕ × List ℕ) (ws : List (ℕ × List ℕ)) (p : ℕ) → IsLast (w ∷ ws) p 0 → Writes ws p → ⊥
-no_more w ws p is there = let found = writes_here ws p there in let below = found.1 in is.later (suc found.0) (omega arith) (omega arith) found.2
+none_writes : (ws : List (ℕ × List ℕ)) (p : ℕ) → ((j : ℕ) → j < length ws → (get_or ws j (0, [])).0 ≢ p) → Writes ws p → ⊥
+none_writes ws p none there = let found = writes_here ws p there in none found.0 found.1 found.2
 
 -- the last write of a page counts
 pub overlay_last : (ws : List (ℕ × List ℕ)) (P : Image) (p k : ℕ) → IsLast ws p k → overlay ws P p ≡ (get_or ws k (0, [])).1
 overlay_last [] P p k is = let lt = is.below in absurd (omega arith)
-overlay_last (w ∷ ws) P p zero is = overlay_off ws (put w P) p (no_more w ws p is) ∙ put_on w P p (sym is.here)
+overlay_last (w ∷ ws) P p zero is = overlay_off ws (put w P) p (none_writes ws p (λ j lt. is.later (suc j) (omega arith) (omega arith))) ∙ put_on w P p (sym is.here)
 overlay_last (w ∷ ws) P p (suc k) is = overlay_last ws (put w P) p k (last_after w ws p k is)
 
 -- where two sets of pages agree, they agree overlaid
@@ -34,7 +34,16 @@ overlay_at ws P Q q same = overlay_same ws P Q q (λ off. same)
 pub overlay_set : (ws : List (ℕ × List ℕ)) (P : Image) (p k q : ℕ) (bytes : List ℕ) → IsLast ws p k → overlay (set ws k (p, bytes)) P q ≡ put (p, bytes) (overlay ws P) q
 overlay_set [] P p k q bytes is = let lt = is.below in absurd (omega arith)
 overlay_set (w ∷ ws) P p zero q bytes is =
-    search (rules, cases_eq q p, overlay_off ws (put (p, bytes) P) p (no_more w ws p is), put_on (p, bytes) P p refl, put_on, overlay_at, put_off)
+    search (
+      rules,
+      cases_eq q p,
+      overlay_off ws (put (p, bytes) P) p (none_writes ws p (λ j lt. is.later (suc j) (omega arith) (omega arith))),
+      put_on
+          (p, bytes) P p refl,
+      put_on,
+      overlay_at,
+      put_off,
+    )
 overlay_set (w ∷ ws) P p (suc k) q bytes is = overlay_set ws (put w P) p k q bytes (last_after w ws p k is)
 
 -- a write at the end
@@ -42,31 +51,18 @@ pub overlay_push : (ws : List (ℕ × List ℕ)) (P : Image) (w : ℕ × List �
 overlay_push [] P w q = refl
 overlay_push (v ∷ ws) P w q = overlay_push ws (put v P) w q
 
-none_writes : (ws : List (ℕ × List ℕ)) (p : ℕ) → ((j : ℕ) → j < length ws → (get_or ws j (0, [])).0 ≢ p) → Writes ws p → ⊥
-none_writes ws p none there = let found = writes_here ws p there in none found.0 found.1 found.2
-
 -- ---- the numbers beside a list of writes
 module _ (ns : List ℕ) (ws : List (ℕ × List ℕ)) (beside : AreNumbers ns ws) where
   at_place : (k p : ℕ) → k < length ns → get_or ns k 0 ≡ p → (get_or ws k (0, [])).0 ≡ p
   at_place k p lt is = let long = beside.long in sym (beside.each k (omega arith)) ∙ is
 
   -- where a number is found, the write is the only one of its page
-  found_last : (p k : ℕ) → AreApart ns → k < length ns → get_or ns k 0 ≡ p → IsLast ws p k
-  found_last p k apart lt is = search (rules, at_place)
-
-  found_none : (p : ℕ) → ((j : ℕ) → j < length ns → get_or ns j 0 ≢ p) → Writes ws p → ⊥
-  found_none p none = let long = beside.long in none_writes ws p (λ j lt same. none j (omega arith) (beside.each j lt ∙ same))
-
   pub found_by : (p : ℕ) (o : Option ℕ) → AreApart ns → MatchOption o ((j : ℕ) → j < length ns → get_or ns j 0 ≢ p) (λ k. (k < length ns) × (get_or ns k 0 ≡ p)) → MatchOption o (Writes ws p → ⊥) (λ k. IsLast ws p k)
-  found_by p None apart is = found_none p is
-  found_by p (Some k) apart is = found_last p k apart is.0 is.1
+  found_by p None apart is = let long = beside.long in none_writes ws p (λ j lt same. is j (omega arith) (beside.each j lt ∙ same))
+  found_by p (Some k) apart (lt, is) = search (rules, at_place)
 
   pub is_once : AreApart ns → IsOnce ws
   is_once apart j k lt below same = let long = beside.long in apart j k lt (omega arith) (beside.each j (omega arith) ∙ same ∙ sym (beside.each k below))
-
-  -- a page that is not yet written
-  not_there : (p : ℕ) → (Writes ws p → ⊥) → (j : ℕ) → j < length ns → get_or ns j 0 ≢ p
-  not_there p off j lt is = let long = beside.long in off (subst (λ (q : ℕ). Writes ws q) (at_place j p lt is) (writes_at ws j (omega arith)))
 
   pub beside_push : (p : ℕ) (bytes : List ℕ) → AreNumbers (ns ++ p ∷ []) (ws ++ (p, bytes) ∷ [])
   beside_push p bytes = search (rules, length-append, each_more)
@@ -85,7 +81,9 @@ module _ (ns : List ℕ) (ws : List (ℕ × List ℕ)) (beside : AreNumbers ns w
     | inl early ↦ apart j k lt early (sym (get_or-append ns (p ∷ []) 0 j (omega arith)) ∙ same ∙ get_or-append ns (p ∷ []) 0 k early)
     | inr late ↦
         let there : k ≡ length ns = omega (arith, length-append ns (p ∷ [])) in
-        not_there p off j (omega arith) (sym (get_or-append ns (p ∷ []) 0 j (omega arith)) ∙ same ∙ ap (λ (i : ℕ). get_or (ns ++ p ∷ []) i 0) there ∙ get_or-append_seam ns p [] 0)
+        let long = beside.long in
+        let is : get_or ns j 0 ≡ p = sym (get_or-append ns (p ∷ []) 0 j (omega arith)) ∙ same ∙ ap (λ (i : ℕ). get_or (ns ++ p ∷ []) i 0) there ∙ get_or-append_seam ns p [] 0 in
+        off (subst (λ (q : ℕ). Writes ws q) (at_place j p (omega arith) is) (writes_at ws j (omega arith)))
   ]
 
 -- which pages are written

@@ -25,6 +25,11 @@ no_fewer : {T E : Type 0} (a b : Disk) (r : Result T E) → HasCause a b r → a
 no_fewer a b (Ok x) cause = let e = cause.passed in omega arith
 no_fewer a b (Err x) cause = let e = cause.failed in omega arith
 
+-- one look, and another
+pub looked_more : {T U E F : Type 0} {a b c : Disk} {x : T} {r : Result U F} → Touches Nowhere a b × HasCause {E = E} a b (Ok x) → Touches Nowhere b c × HasCause b c r
+    → Touches Nowhere a c × HasCause a c r
+looked_more {a = a} {b = b} {c = c} {r = r} first next = (touches_more Nowhere Nowhere a b c (λ i none. none) first.0 next.0, cause_after a b c r first.1.passed next.1)
+
 -- nothing was written since the opening began
 module _ (a : Disk) (all : AllStores a) where
   here : (c : Image) → a.leaves c → ReadsAs a c
@@ -52,9 +57,10 @@ module _ (J n : ℕ) (a : Disk) (synced : IsSynced a) where
   pub quiet_recovers : {T : Type 0} (b : Disk) (r : Result T PageError) → Touches Nowhere a b → OnOk r (b.faults ≡ a.faults) → (IsErrOf r DeviceFault → a.faults < b.faults) → (IsErrOf r NotAStore → IsStore J n a.reads → ⊥) → (IsErrOf r NotAStore → b.faults ≡ a.faults) → OnOk r (IsSettled J n b) → Recovers J n a b r
   quiet_recovers b r ab passed faulted refused calm settled = search (rules, quiet_opens, always, same_reads)
 
-  pub fault_recovers : {T : Type 0} (b : Disk) (r : Result T PageError) → IsErrAnd r (λ e. e ≡ DeviceFault) → Touches Nowhere a b → a.faults < b.faults → Recovers J n a b r
-  fault_recovers b (Ok x) is ab rose = absurd is
-  fault_recovers b (Err e) is ab rose = quiet_recovers b (Err e) ab tt (λ _. rose) (λ was store. not_both (Err e) is was) (λ was. absurd (not_both (Err e) is was)) tt
+  pub fault_recovers : {T U E : Type 0} (b : Disk) (r : Result T PageError) (y : E) → IsErrAnd r (λ e. e ≡ DeviceFault)
+      → Touches Nowhere a b × HasCause {T = U} a b (Err y) → Recovers J n a b r
+  fault_recovers b (Ok x) y is seen = absurd is
+  fault_recovers b (Err e) y is seen = quiet_recovers b (Err e) seen.0 tt (λ _. seen.1.failed) (λ was store. not_both (Err e) is was) (λ was. absurd (not_both (Err e) is was)) tt
 
   -- after the gate was found open
   pub back_recovers : {T : Type 0} (d e : Disk) (r : Result T PageError) → Touches Nowhere a d → d.faults ≡ a.faults → Reopens J n d e r → Recovers J n a e r
@@ -63,35 +69,37 @@ module _ (J n : ℕ) (a : Disk) (synced : IsSynced a) where
       let cause = cause_after a d e r passed re.cause in
       search (rules, no_fewer, leaves_more, quiet_opens, at_err, not_both, on_ok)
 
-pub fault_starts : (a b : Disk) (r : Result Layout PageError) → IsErrAnd r (λ e. e ≡ DeviceFault) → Touches Nowhere a b → a.faults < b.faults → Starts a b r
-fault_starts a b (Ok x) is ab rose = absurd is
-fault_starts a b (Err e) is ab rose = search (rules, quiet_reads, not_both)
+pub fault_starts : {U E : Type 0} (a b : Disk) (r : Result Layout PageError) (y : E) → IsErrAnd r (λ e. e ≡ DeviceFault)
+    → Touches Nowhere a b × HasCause {T = U} a b (Err y) → Starts a b r
+fault_starts a b (Ok x) y is seen = absurd is
+fault_starts a b (Err e) y is seen = let ab = seen.0 in let rose = seen.1.failed in search (rules, quiet_reads, not_both)
 
 -- after the header was read
-module _ (a d e : Disk) (l : Layout) (ad : Touches Nowhere a d) (passed : d.faults ≡ a.faults) (room : HasRoom d.sectors l.journal_pages l.pages) (layout : HasLayout d.reads l) where
+module _ {U F : Type 0} (a d e : Disk) (y : U) (l : Layout) (seen : Touches Nowhere a d × HasCause {E = F} a d (Ok y)) (room : HasRoom d.sectors l.journal_pages l.pages) (layout : HasLayout d.reads l) where
   store_at : AllStores a → IsStore l.journal_pages l.pages d.reads
-  store_at all = is_laid_out d.sectors d.reads l.journal_pages l.pages room layout (reads_store a all d ad)
+  store_at all = is_laid_out d.sectors d.reads l.journal_pages l.pages room layout (reads_store a all d seen.0)
 
   reads_as : AllStores a → (c : Image) → Opens l.journal_pages l.pages (pages l.journal_pages d.reads) c → ReadsAs a c
-  reads_as all c opens = search (rules, now_but, agreed, store_at)
+  reads_as all c opens = let ad = seen.0 in search (rules, now_but, agreed, store_at)
 
   moments : {T : Type 0} (r : Result T PageError) → Recovers l.journal_pages l.pages d e r → AllStores a → LeavesOnly (ReadsAs a) a e
-  moments r de all = leaves_more (ReadsAs a) a d e (quiet_reads a all d ad) (leaves_wider (Opens l.journal_pages l.pages (pages l.journal_pages d.reads)) (ReadsAs a) d e (reads_as all) (de.any_moment (store_at all)))
+  moments r de all = leaves_more (ReadsAs a) a d e (quiet_reads a all d seen.0)
+      (leaves_wider (Opens l.journal_pages l.pages (pages l.journal_pages d.reads)) (ReadsAs a) d e (reads_as all) (de.any_moment (store_at all)))
 
   pub starts_ok : {T : Type 0} (x : T) → Recovers l.journal_pages l.pages d e (Ok x) → Starts a e (Ok l)
-  starts_ok x de = search (arith, moments (Ok x) de, quiet_found l.journal_pages l.pages a d e ad layout de.after)
+  starts_ok x de = let ad = seen.0 in let passed = seen.1.passed in search (arith, moments (Ok x) de, quiet_found l.journal_pages l.pages a d e ad layout de.after)
 
   pub starts_err : {T : Type 0} (x : PageError) (r : Result Layout PageError) → IsErrAnd r (λ y. y ≡ x) → Recovers {T = T} l.journal_pages l.pages d e (Err x) → Starts a e r
   starts_err {T = T} x (Ok y) is de = absurd is
   starts_err {T = T} x (Err y) is de = record {
-    was_honest = ad.was_honest;
-    faults = omega (arith, ad.faults, de.faults);
+    was_honest = seen.0.was_honest;
+    faults = omega (arith, seen.0.faults, de.faults);
     any_moment = moments {T = T} (Err x) de;
     passed = tt;
-    faulted = λ was. let same : x ≡ DeviceFault = sym (subst (λ (s : Result Layout PageError). IfErr s (λ e. e ≡ x)) was is) in let rose = de.faulted (λ i. Err (same i)) in omega (arith, passed, rose);
-    refused = λ was all. let same : x ≡ NotAStore = sym (subst (λ (s : Result Layout PageError). IfErr s (λ e. e ≡ x)) was is) in de.refused (λ i. Err (same i)) (store_at all);
-    calm = λ was. let same : x ≡ NotAStore = sym (subst (λ (s : Result Layout PageError). IfErr s (λ e. e ≡ x)) was is) in de.calm (λ i. Err (same i)) ∙ passed;
-    untouched = λ was. let same : x ≡ NotAStore = sym (subst (λ (s : Result Layout PageError). IfErr s (λ e. e ≡ x)) was is) in touches_more Nowhere Nowhere a d e (λ i none. none) ad (de.untouched (λ i. Err (same i)));
+    faulted = λ was. let rose = de.faulted (cc) in omega (arith, seen.1.passed, rose);
+    refused = λ was all. de.refused (cc) (store_at all);
+    calm = λ was. de.calm (cc) ∙ seen.1.passed;
+    untouched = λ was. touches_more Nowhere Nowhere a d e (λ i none. none) seen.0 (de.untouched (cc));
     settled = tt;
     found = tt;
   }

@@ -2,10 +2,9 @@
 use Rattle.{std.{specs.Prelude.{Result, MatchResult}, proofs.Common.{◌≡◌, Ok, Err, List, sym, subst, ◌∙◌}}, desk_model.specs.claim.Geography.GeographyModel}
 use Rattle.{desk_model.specs.{claim.GeographyModels.IsGeographyModel, declared.{block.BlockRow.BlockRow, geography.Pair.Pair}}, desk_pages.specs.Looking.{Gathers, IsOnly, Says}}
 use Rattle.{geo_tables.specs.Elements.{GeographyErr, HoldsElements, IsPairRow, IsReadBy, IsSealedAs, IsSealRead}, page_btree.specs.declared.error.TreeError.TreeError}
-use Rattle.{page_btree.specs.declared.error.TreeError.TheVariants.{DeviceFault, NotAStore, Halted, NoPages, TooDeep, Memory}, page_store.specs.declared.pages.Pages.Pages}
-use Rattle.{page_store.specs.declared.txn.Txn.Txn, sector_device.specs.declared.SectorDevice.Ghosts, store_rows.specs.claim.GeographyRows.{IsBlockRow, neighbours_bytes}}
-use Rattle.store_rows.specs.{claim.{Keys.{key_of, block, pair}, Rows.KeyMap, Values.block_bytes}, declared.value.SealRow.SealRow}
-use Rattle.desk_pages.proofs.Looking.{finds, not_looked, refuses}
+use Rattle.{page_btree.specs.declared.error.TreeError.TheVariants.{NotAStore, Memory}, page_store.specs.declared.{pages.Pages.Pages, txn.Txn.Txn}}
+use Rattle.{sector_device.specs.declared.SectorDevice.Ghosts, store_rows.specs.claim.{GeographyRows.{IsBlockRow, neighbours_bytes}, Keys.{key_of, block, pair}, Rows.KeyMap}}
+use Rattle.{store_rows.specs.{claim.Values.block_bytes, declared.value.SealRow.SealRow}, desk_pages.proofs.Looking.{finds, not_looked, refuses}}
 
 -- the rows hold these blocks and pairs alone
 pub record IsReadOf (sealed : SealRow) (blocks : List BlockRow) (pairs : List Pair) (m : KeyMap) : Type 0 where
@@ -22,9 +21,6 @@ module _ {D : Type 0} {g : Ghosts D} {t : Txn} {a b : Pages D g} (sealed : SealR
     there = subst (λ (x : GeographyModel). IsSealRead sealed m x) (sym made) (record { blocks = is.blocks_are.said; pairs = is.pairs_are.said });
     read = λ other held. made ∙ geography_is m other is held;
   })
-  geography_read (Err DeviceFault) why = absurd why
   geography_read (Err NotAStore) why = refuses read (λ m is held. why (subst IsGeographyModel (sym (geography_is m held.0 is held.1)) held.1.sound))
-  geography_read (Err Halted) why = absurd why
-  geography_read (Err NoPages) why = absurd why
-  geography_read (Err TooDeep) why = absurd why
   geography_read (Err Memory) why = not_looked read.quiet tt
+  geography_read (Err _) why = absurd why

@@ -5,7 +5,6 @@ pub mod Begun
 pub mod Maps
 pub mod Joins
 pub mod Refused
-pub mod Results
 pub mod Staged
 mod Along
 mod GeographyModels

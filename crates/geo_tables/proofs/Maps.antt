@@ -18,17 +18,18 @@ pub without : (d : Desk) → d.geography ≡ None → d ≡ desk_without d.plans
 without d none = λ i. record { geography = none i; plans = d.plans }
 
 -- ---- a load is begun
-pub begun_is : (m : KeyMap) (d : Desk) (next : Counters) → IsDeskMap m d → IsNext m next → CountersFit next → next.load + 1 < 2 ^ 64 → IsDeskMap (put_rows m (begun_rows next)) d
-begun_is m d next is is_next fits more =
-    let same : next ≡ is.tidy.next = one_next m next is.tidy.next fits is.tidy.fits is_next is.tidy.is_next in
-    let begun = begun_tidy m is.tidy (subst (λ (c : Counters). c.load + 1 < 2 ^ 64) same more) in
-    let after = subst (λ (c : Counters). (then : Tidy (put_rows m (begun_rows c))) × (then.new ≡ is.tidy.new)) (sym same) (begun.0, begun.2) in
-    record { desk = begun_desk m next d is.desk; tidy = after.0; version = after.1 ∙ is.version; limits = is.limits }
+module _ (m : KeyMap) (d : Desk) (next : Counters) (is : IsDeskMap m d) (is_next : IsNext m next) (fits : CountersFit next) where
+  same_next : next ≡ is.tidy.next
+  same_next = one_next m next is.tidy.next fits is.tidy.fits is_next is.tidy.is_next
 
-pub begun_none : (m : KeyMap) (d : Desk) (next : Counters) (g : GeographyModel) → IsDeskMap m d → IsNext m next → CountersFit next → next.load + 1 < 2 ^ 64 → IsStaged (put_rows m (begun_rows next)) next.load g 0
-begun_none m d next g is is_next fits more =
-    let same : next ≡ is.tidy.next = one_next m next is.tidy.next fits is.tidy.fits is_next is.tidy.is_next in
-    subst (λ (c : Counters). IsStaged (put_rows m (begun_rows c)) c.load g 0) (sym same) (begun_unstaged m is.tidy g)
+  pub begun_is : next.load + 1 < 2 ^ 64 → IsDeskMap (put_rows m (begun_rows next)) d
+  begun_is more =
+      let begun = begun_tidy m is.tidy (subst (λ (c : Counters). c.load + 1 < 2 ^ 64) same_next more) in
+      let after = subst (λ (c : Counters). (then : Tidy (put_rows m (begun_rows c))) × (then.new ≡ is.tidy.new)) (sym same_next) (begun.0, begun.2) in
+      record { desk = begun_desk m next d is.desk; tidy = after.0; version = after.1 ∙ is.version; limits = is.limits }
+
+  pub begun_none : (g : GeographyModel) → IsStaged (put_rows m (begun_rows next)) next.load g 0
+  begun_none g = subst (λ (c : Counters). IsStaged (put_rows m (begun_rows c)) c.load g 0) (sym same_next) (begun_unstaged m is.tidy g)
 
 -- ---- a batch
 load_key : (load : ℕ) (g : GeographyModel) (place : ℕ) → length g.blocks ≤ 2 ^ 32 → length g.pairs ≤ 2 ^ 32 → place < geography_rows g → IsLoadKey load (staged_row load g place).0

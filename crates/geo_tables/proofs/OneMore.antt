@@ -2,15 +2,10 @@
 use Rattle.std.{specs.{FinMap.get as row_at, List.slice_get, Prelude.{option_map, Result, Ok, Err, MatchResult}}, proofs.lemmas.{Bool.cases_lt, List.{take_all, take_more}}}
 use Rattle.std.proofs.Common.{◌≡◌, ◌<◌, ◌+◌, ℕ, zero, suc, List, [], ◌∷◌, ◌++◌, length, length-append, take, Some, refl, sym, ap, subst, ◌∙◌, arith}
 use Rattle.{std.proofs.lemmas.{List.Elements.All-push, Option.get_or_from_slice_get}, desk_pages.specs.Looking.{Gathers, IsOnly, Says}, page_btree.specs.claim.Map.InTxn}
-use Rattle.{geo_tables.specs.Elements.{AddsOne, HoldsElement, HoldsElements, IsIn, ValueErr}, page_btree.specs.declared.error.TreeError.TreeError}
-use Rattle.{page_btree.specs.declared.error.TreeError.TheVariants.{DeviceFault, NotAStore, Halted, NoPages, TooDeep, Memory}, page_store.specs.declared.pages.Pages.Pages}
-use Rattle.{page_store.specs.{claim.Transactions.{stored, disk_in, Passed}, declared.txn.Txn.Txn}, sector_device.specs.declared.SectorDevice.Ghosts}
-use Rattle.{store_rows.specs.claim.Rows.KeyMap, desk_pages.proofs.{Looking.{looked, not_looked}, Reading.one_value}}
-
-there : {X : Type 0} (xs : List X) (place : ℕ) → place < length xs → (x : X) × (slice_get xs place ≡ Some x)
-there [] place less = absurd (omega arith)
-there (x ∷ xs) zero less = (x, refl)
-there (x ∷ xs) (suc place) less = there xs place (omega arith)
+use Rattle.{geo_tables.{specs.Elements.{AddsOne, HoldsElement, HoldsElements, IsIn, ValueErr}, proofs.Staging.there}, page_btree.specs.declared.error.TreeError.TreeError}
+use Rattle.{page_btree.specs.declared.error.TreeError.TheVariants.{NotAStore, Memory}, page_store.specs.{claim.Transactions.{stored, disk_in, Passed}, declared.pages.Pages.Pages}}
+use Rattle.{page_store.specs.declared.txn.Txn.Txn, sector_device.specs.declared.SectorDevice.Ghosts, store_rows.specs.claim.Rows.KeyMap, desk_pages.proofs.Reading.one_value}
+use Rattle.desk_pages.proofs.Looking.{looked, not_looked}
 
 -- the one at a place
 pub record IsElement {X : Type 0} (bytes_of : X → List ℕ) (fits : X → Type 0) (key : List ℕ) (m : KeyMap) (xs : List X) (place : ℕ) : Type 0 where
@@ -83,9 +78,6 @@ module _ {X : Type 0} (bytes_of : X → List ℕ) (fits : X → Type 0) (key byt
         → MatchResult r (λ u. AddsOne (IsIn bytes_of fits bytes) before after) (ValueErr (IsIn bytes_of fits bytes))
         → Gathers (λ m u. AddsOne (HoldsElement bytes_of fits key m) before after) (Says (HoldsElement bytes_of fits key)) t a b r
     value_gathered (Ok x) passed row adds = looked passed (λ honest m holds. search (arith, adds.x, adds.one.said.0, adds.one.said.1, adds.one.only, one_value, bytes_of, adds.added))
-    value_gathered (Err DeviceFault) passed row why = absurd why
     value_gathered (Err NotAStore) passed row why = not_looked passed.quiet (λ honest m holds is. why is.0 (is.1.fit, one_value key (bytes_of is.0) bytes m is.1.row (row honest m holds)))
-    value_gathered (Err Halted) passed row why = absurd why
-    value_gathered (Err NoPages) passed row why = absurd why
-    value_gathered (Err TooDeep) passed row why = absurd why
     value_gathered (Err Memory) passed row why = not_looked passed.quiet tt
+    value_gathered (Err _) passed row why = absurd why

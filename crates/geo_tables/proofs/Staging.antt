@@ -1,9 +1,9 @@
 -- Lemmas on the definitions of Staging.
-use Rattle.std.specs.{FinMap.insert, List.slice_get, Prelude.{◌≡◌, ◌<◌, ◌≤◌, ◌+◌, ◌-◌, ◌^◌, ℕ, List, [], ◌∷◌, length, Some, option_map, cond, get_or}}
+use Rattle.{std.specs.{List.slice_get, Prelude.{◌≡◌, ◌<◌, ◌≤◌, ◌+◌, ◌-◌, ◌^◌, ℕ, List, [], ◌∷◌, length, Some, option_map, cond, get_or}}, geo_tables.specs.Staging.Stages}
 use Rattle.{std.proofs.{Common.{zero, suc, refl, sym, ap, subst, inl, inr, arith}, lemmas.Bool.{cases_lt, lt-ltb, le-ltb}}, desk_model.specs.claim.Geography.GeographyModel}
 use Rattle.{std.proofs.lemmas.Option.{slice_get_within, slice_get_read, slice_get-get_or}, desk_model.specs.declared.{block.BlockRow.BlockRow, geography.Pair.Pair}}
-use Rattle.{geo_tables.specs.{Rows.{bytes_in, block_at, pair_at, staged_row, staged_rows}, Staging.Stages}, store_rows.specs.claim.{Keys.{key_of, block, pair}, Values.block_bytes}}
-use Rattle.store_rows.specs.claim.{GeographyRows.{IsBlockRow, IsStaged, geography_rows, neighbours_bytes}, Puts.{Row, put_rows}, Rows.{KeyMap, element_row}}
+use Rattle.{geo_tables.specs.Rows.{bytes_in, block_at, pair_at, staged_row, staged_rows}, store_rows.specs.claim.{Keys.{key_of, block, pair}, Puts.{Row, put_rows}}}
+use Rattle.store_rows.specs.claim.{GeographyRows.{IsBlockRow, IsStaged, geography_rows, neighbours_bytes}, Rows.{KeyMap, element_row}, Values.block_bytes}
 use Rattle.store_rows.proofs.{Puts.put_rows-append, Staging.{block_staged, pair_staged}}
 
 -- the block at a place, where there is one, fits in its row
@@ -11,7 +11,7 @@ abbrev pub FitsAt : GeographyModel → ℕ → Type 0
 FitsAt g place = (b : BlockRow) → slice_get g.blocks place ≡ Some b → IsBlockRow b
 
 -- an element is there below the length
-there : {X : Type 0} (xs : List X) (place : ℕ) → place < length xs → (x : X) × (slice_get xs place ≡ Some x)
+pub there : {X : Type 0} (xs : List X) (place : ℕ) → place < length xs → (x : X) × (slice_get xs place ≡ Some x)
 there [] place less = absurd (omega arith)
 there (x ∷ xs) zero less = (x, refl)
 there (x ∷ xs) (suc place) less = there xs place (omega arith)
@@ -26,28 +26,19 @@ is_block load g place less = ap (λ b. cond b (block_at load g place) (pair_at l
 pub is_pair : (load : ℕ) (g : GeographyModel) (place : ℕ) → length g.blocks ≤ place → staged_row load g place ≡ pair_at load g (place - length g.blocks)
 is_pair load g place more = ap (λ b. cond b (block_at load g place) (pair_at load g (place - length g.blocks))) (le-ltb place (length g.blocks) more)
 
-block_more : (m : KeyMap) (load : ℕ) (g : GeographyModel) (done : ℕ) → load < 2 ^ 64 → length g.blocks ≤ 2 ^ 32 → FitsAt g done → IsStaged m load g done → done < length g.blocks → IsStaged (put_rows m (block_at load g done ∷ [])) load g (done + 1)
-block_more m load g done load_fits few fits staged less =
-    let here = there g.blocks done less in
-    subst (λ value. IsStaged (insert m (key_of (block load done)) value) load g (done + 1)) (sym (bytes_there block_bytes g.blocks done here.0 here.1))
-    (block_staged m load g done here.0 staged load_fits (omega arith) here.1 (fits here.0 here.1))
-
-pair_more : (m : KeyMap) (load : ℕ) (g : GeographyModel) (place : ℕ) → load < 2 ^ 64 → length g.pairs ≤ 2 ^ 32 → IsStaged m load g (length g.blocks + place) → place < length g.pairs → IsStaged (put_rows m (pair_at load g place ∷ [])) load g (length g.blocks + place + 1)
-pair_more m load g place load_fits few staged less =
-    let here = there g.pairs place less in
-    subst (λ value. IsStaged (insert m (key_of (pair load place)) value) load g (length g.blocks + place + 1)) (sym (bytes_there neighbours_bytes g.pairs place here.0 here.1))
-    (pair_staged m load g place here.0 staged load_fits (omega arith) here.1)
-
 -- one row more
 pub row_more : (m : KeyMap) (load : ℕ) (g : GeographyModel) (done : ℕ) → load < 2 ^ 64 → length g.blocks ≤ 2 ^ 32 → length g.pairs ≤ 2 ^ 32 → FitsAt g done → done < geography_rows g → IsStaged m load g done → IsStaged (put_rows m (staged_row load g done ∷ [])) load g (done + 1)
 row_more m load g done load_fits blocks_few pairs_few fits left staged = elim (cases_lt done (length g.blocks)) [
-  | inl less ↦ subst (λ (row : Row). IsStaged (put_rows m (row ∷ [])) load g (done + 1)) (sym (is_block load g done less)) (block_more m load g done load_fits blocks_few fits staged less)
+  | inl less ↦
+      let here = there g.blocks done less in
+      rw (is_block load g done less, bytes_there block_bytes g.blocks done here.0 here.1) (block_staged m load g done here.0 staged load_fits (omega arith) here.1 (fits here.0 here.1))
   | inr more ↦
-      (let place = done - length g.blocks in
+      let place = done - length g.blocks in
       let whole : length g.blocks + place ≡ done = omega arith in
-      subst (λ (row : Row). IsStaged (put_rows m (row ∷ [])) load g (done + 1)) (sym (is_pair load g done more))
-      (subst (λ (n : ℕ). IsStaged (put_rows m (pair_at load g place ∷ [])) load g (n + 1)) whole
-      (pair_more m load g place load_fits pairs_few (subst (λ (n : ℕ). IsStaged m load g n) (sym whole) staged) (omega arith))))
+      let here = there g.pairs place (omega arith) in
+      rw (is_pair load g done more, bytes_there neighbours_bytes g.pairs place here.0 here.1)
+      (subst (λ (n : ℕ). IsStaged (put_rows m ((key_of (pair load place), neighbours_bytes here.0) ∷ [])) load g (n + 1)) whole
+      (pair_staged m load g place here.0 (subst (λ (n : ℕ). IsStaged m load g n) (sym whole) staged) load_fits (omega arith) here.1))
 ]
 
 pub none_stage : (load : ℕ) (g : GeographyModel) (done : ℕ) → Stages load g done 0

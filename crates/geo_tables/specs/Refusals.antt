@@ -77,31 +77,24 @@ module _ {D : Type 0} {g : Ghosts D} where
 
   -- why no load is begun
   abbrev pub BeginErr : GeographyModel → Pages D g → Pages D g → StoreError → Type 0
-  BeginErr area old new AlreadySealed = Passed old new
-      × ((disk_in new).is_honest → (d : Desk) → InPages old d → (sealed : GeographyModel) × (d.geography ≡ Some sealed))
   BeginErr area old new Full = IsQuiet old new × IsUnsealed old new
       × (IsShort 2 old new ⊎ (IsExhausted old new ⊎ (IsDeep AreBegun old new ⊎ (2 ^ 32 ≤ length area.pairs))))
   BeginErr area old new Memory = IsQuiet old new × IsUnsealed old new × HasRoom 2 old new
-  BeginErr area old new NotAStore = IsNoDesk old new
-  BeginErr area old new DeviceFault = HasFailed old new
-  BeginErr area old new Halted = (has_halted old ≡ true) × IsSame old new
-  BeginErr area old new _ = ⊥
+  BeginErr area old new e = SealedErr old new e
+
+  -- why rows of a load are not put, where there is to be room for so many
+  abbrev pub RowsErr : Load → ℕ → List Row → Pages D g → Pages D g → StoreError → Type 0
+  RowsErr load rows all old new Full = IsQuiet old new × (IsShort rows old new ⊎ IsDeep (λ m them. them ≡ all) old new)
+  RowsErr load rows all old new Memory = IsQuiet old new × HasRoom rows old new
+  RowsErr load rows all old new NotAStore = HasNoLoad load old new
+  RowsErr load rows all old new DeviceFault = HasRoom rows old new × HasFailed old new
+  RowsErr load rows all old new Halted = (has_halted old ≡ true) × IsSame old new
+  RowsErr load rows all old new _ = ⊥
 
   -- why so many rows of a load are not staged
   abbrev pub BatchErr : Load → ℕ → Pages D g → Pages D g → StoreError → Type 0
-  BatchErr load rows old new Full = IsQuiet old new
-      × (IsShort (rows + 1) old new ⊎ IsDeep (λ m all. all ≡ staged_rows (number_of load) (geography_model_of load) (done_of load) rows) old new)
-  BatchErr load rows old new Memory = IsQuiet old new × HasRoom (rows + 1) old new
-  BatchErr load rows old new NotAStore = HasNoLoad load old new
-  BatchErr load rows old new DeviceFault = HasRoom (rows + 1) old new × HasFailed old new
-  BatchErr load rows old new Halted = (has_halted old ≡ true) × IsSame old new
-  BatchErr load rows old new _ = ⊥
+  BatchErr load rows old new e = RowsErr load (rows + 1) (staged_rows (number_of load) (geography_model_of load) (done_of load) rows) old new e
 
   -- why a load is not sealed
   abbrev pub SealErr : Load → Pages D g → Pages D g → StoreError → Type 0
-  SealErr load old new Full = IsQuiet old new × (IsShort 2 old new ⊎ IsDeep (λ m all. all ≡ seal_row (number_of load) (geography_model_of load) ∷ []) old new)
-  SealErr load old new Memory = IsQuiet old new × HasRoom 2 old new
-  SealErr load old new NotAStore = HasNoLoad load old new
-  SealErr load old new DeviceFault = HasRoom 2 old new × HasFailed old new
-  SealErr load old new Halted = (has_halted old ≡ true) × IsSame old new
-  SealErr load old new _ = ⊥
+  SealErr load old new e = RowsErr load 2 (seal_row (number_of load) (geography_model_of load) ∷ []) old new e

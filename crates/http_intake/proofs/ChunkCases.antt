@@ -12,34 +12,27 @@ use Rattle.httparse.proofs.GrammarLemmas.{section_unique, ReadsSection-append}
 
 module _ (input : List ℕ) (none_has : (rest : List ℕ) → HasTrailers input rest → ⊥) (no_fault : (f : BadRequest) → RefusesTrailers input f → ⊥) (not_open : AreOpenTrailers input → ⊥) where
   no_section : HasNoSection (window input)
-  no_section fields last rest reads = ⊎_elim few many (cases_lt 64 (length fields))
-    where
-      many : length fields ≤ 64 → ⊥
-      many le = none_has (rest ++ drop 16384 input) (record {
+  no_section fields last rest reads = ⊎_elim
+      (λ lt. no_fault HeadTooLarge (inr (record {
+        lines = omega (arith, lt, lines_of_section fields last reads.0, section_lines_grow (print_section fields last) rest, ap section_lines reads.1);
+        exceeds = λ more gs end after other.
+            let same = section_unique (window input ++ more) fields gs last end (rest ++ more) after (ReadsSection-append (window input) fields last rest more reads) other in
+            omega (arith, lt, ap length same.0);
+      })))
+      (λ le. none_has (rest ++ drop 16384 input) (record {
         fields = fields;
         last = last;
         reads = subst (λ xs. ReadsSection xs fields last (rest ++ drop 16384 input)) (window_rest input) (ReadsSection-append (window input) fields last rest (drop 16384 input) reads);
         short = omega (arith, ap length reads.1, length-append (print_section fields last) rest, window_short input);
         few = le;
-      })
-
-      few : 64 < length fields → ⊥
-      few lt = no_fault HeadTooLarge (inr (record {
-        lines = omega (arith, lt, lines_of_section fields last reads.0, section_lines_grow (print_section fields last) rest, ap section_lines reads.1);
-        exceeds = λ more gs end after other.
-            let same = section_unique (window input ++ more) fields gs last end (rest ++ more) after (ReadsSection-append (window input) fields last rest more reads) other in
-            omega (arith, lt, ap length same.0);
       }))
+      (cases_lt 64 (length fields))
 
   trailers_may : MayBecomeSection (window input) → ⊥
-  trailers_may goes_on = ⊎_elim short long (cases_lt (length input) 16384)
-    where
-      long : 16384 ≤ length input → ⊥
-      long le = no_fault HeadTooLarge (inl (record { long = le; none = no_section; goes_on = goes_on }))
-
-      short : length input < 16384 → ⊥
-      short lt = ⊎_elim (λ few. not_open (record { short = lt; none = no_section; goes_on = goes_on; few = few }))
-          (λ many. no_fault HeadTooLarge (inr (record { lines = many; exceeds = section_overflows_at (window input) no_section many }))) (cases_lt (section_lines (window input)) 65)
+  trailers_may goes_on = ⊎_elim
+      (λ lt. ⊎_elim (λ few. not_open (record { short = lt; none = no_section; goes_on = goes_on; few = few }))
+      (λ many. no_fault HeadTooLarge (inr (record { lines = many; exceeds = section_overflows_at (window input) no_section many }))) (cases_lt (section_lines (window input)) 65))
+      (λ le. no_fault HeadTooLarge (inl (record { long = le; none = no_section; goes_on = goes_on }))) (cases_lt (length input) 16384)
 
   trailers_case : ⊥
   trailers_case = no_fault BadHead (λ more fields last rest reads. ⊎_elim (λ x. no_section fields last x.0 (reads.0, x.1))
@@ -55,12 +48,11 @@ module _ (input : List ℕ) (none_has : (l : ChunkLine) (rest : List ℕ) → Ha
   })
 
   line_may : MayBecomeChunkLine (line_window input) → ⊥
-  line_may goes_on = ⊎_elim short (λ long. no_fault (inr (long, no_line))) (cases_lt (length input) 256)
-    where
-      short : length input < 256 → ⊥
-      short lt =
-          let all : line_window input ≡ input = take_all 256 input (omega arith) in
-          not_open (record { short = lt; none = subst HasNoChunkLine all no_line; goes_on = subst MayBecomeChunkLine all goes_on })
+  line_may goes_on = ⊎_elim
+      (λ lt.
+      let all : line_window input ≡ input = take_all 256 input (omega arith) in
+      not_open (record { short = lt; none = subst HasNoChunkLine all no_line; goes_on = subst MayBecomeChunkLine all goes_on }))
+      (λ long. no_fault (inr (long, no_line))) (cases_lt (length input) 256)
 
   line_case : ⊥
   line_case = no_fault (inl (λ more l rest reads. ⊎_elim (λ x. no_line l x.0 (reads.0, x.1)) (λ x. line_may (x.0, l, (reads.0, x.1 ∙ sym (append-nil (print_chunk_line l)))))
@@ -97,10 +89,9 @@ module _ (n : ℕ) (input : List ℕ) (room : n ≤ body_limit) (again : (m : �
         }))
 
     sized_case : ⊥
-    sized_case = ⊎_elim some last_case (cases_lt 0 (chunk_size l))
-      where
-        some : 0 < chunk_size l → ⊥
-        some lt = ⊎_elim (λ short. x.lack (LacksChunks.no_data n input l rest (record { line = s; some = lt; within = within }) short)) (data_case lt) (cases_lt (length rest) (chunk_size l))
+    sized_case = ⊎_elim
+        (λ lt. ⊎_elim (λ few. x.lack (LacksChunks.no_data n input l rest (record { line = s; some = lt; within = within }) few)) (data_case lt) (cases_lt (length rest) (chunk_size l)))
+        last_case (cases_lt 0 (chunk_size l))
 
   chunk_case : ⊥
   chunk_case = line_case input (λ l rest s. ⊎_elim (λ large. x.fault BodyTooLarge (HasChunkFault.too_large n input l rest s large)) (sized_case l rest s) (cases_lt body_limit (n + chunk_size l)))
@@ -123,15 +114,12 @@ last_chunk_ok : IsChunkLine last_chunk
 unfolding lib.Utf8.encode
 last_chunk_ok = search (rules, AllPass-from_list_all)
 
-may_begin : MayBecomeChunkLine []
-unfolding print_chunk_line
-may_begin = (print_chunk_line last_chunk, last_chunk, (last_chunk_ok, sym (append-nil (print_chunk_line last_chunk))))
-
 open_line : IsOpenLine []
+unfolding print_chunk_line
 open_line = record {
   short = omega arith;
   none = λ l rest reads. absurd (omega (arith, ap length reads.1, length-append (print_chunk_line l) rest, some_line l reads.0));
-  goes_on = may_begin;
+  goes_on = (print_chunk_line last_chunk, last_chunk, (last_chunk_ok, sym (append-nil (print_chunk_line last_chunk))));
 }
 
 pub nothing_lacks : (n : ℕ) → LacksChunks n []

@@ -1,19 +1,13 @@
 -- The parts of a body in chunks, one after another.
 use Rattle.std.{specs.Io.KnownBytes.Consumes, proofs.{KnownBytes.Consumes-trans, Math.Seq.take-append_seam, lemmas.List.{append_cancel_left, take-append-le}}}
-use Rattle.std.proofs.Common.{◌≡◌, ℕ, ◌+◌, ◌<◌, ◌≤◌, List, [], ◌∷◌, ◌++◌, length, take, drop, Option, Some, None, Result, Ok, Err, refl, sym, ap, subst, ◌∙◌, arith, inl, inr, append_assoc, append-nil, take-append-drop, length-append, rules}
-use Rattle.http_intake.specs.ChunkParts.{IsLineAt, SeesLine, SeesEnd, SeesTrailers, EndCame, TrailersCame, HasData, LacksData, DataCame, StepCame, after_trailers, after_data}
+use Rattle.std.proofs.Common.{◌≡◌, ℕ, ◌+◌, ◌<◌, ◌≤◌, List, [], ◌∷◌, ◌++◌, length, take, drop, Option, None, Result, Ok, Err, refl, sym, ap, subst, ◌∙◌, arith, inl, inr, append_assoc, append-nil, take-append-drop, length-append, rules}
+use Rattle.http_intake.specs.ChunkParts.{IsLineAt, SeesLine, EndCame, TrailersCame, HasData, LacksData, DataCame, StepCame, after_trailers, after_data, SeesEnd, SeesTrailers}
 use Rattle.http_intake.specs.{Chunked.ChunksCame, Draws.IsPutOff, declared.{bad_request.BadRequest.{BadRequest, TheVariants.BodyTooLarge}, chunk_line.FoundLine.FoundLine}}
 use Rattle.http_intake.specs.claim.Chunks.{HasLine, IsOpenLine, IsOpenEnd, AreOpenTrailers, HasDataLine, HasLastLine, HasChunk, HasChunks, HasChunkFault, LacksChunks}
 use Rattle.{http_intake.specs.declared.{chunks.Chunked.Chunked, fault.WireFault.WireFault, sought.Seen.TheVariants.Incomplete}, httparse.specs.Grammar.{ChunkLine, chunk_size}}
-use Rattle.{http_intake.proofs.DrawsLemmas.not_put_off, httparse.proofs.ChunkLemmas.ReadsChunkLine-append}
+use Rattle.http_intake.proofs.{ChunkStays.{line_stays, chunk_stays}, DrawsLemmas.not_put_off}
 use Rattle.http_intake.specs.declared.chunks.Chunked.TheVariants as came
 use Rattle.http_intake.specs.declared.fault.WireFault.TheVariants as fault
-
-line_before : (input : List ℕ) (l : ChunkLine) (rest more : List ℕ) → HasLine input l rest → HasLine (input ++ more) l (rest ++ more)
-line_before input l rest more s = record { reads = ReadsChunkLine-append input l rest more s.reads; short = s.short }
-
-chunk_before : (n : ℕ) (input : List ℕ) (l : ChunkLine) (bytes rest more : List ℕ) → HasChunk n input l bytes rest → HasChunk n (input ++ more) l bytes (rest ++ more)
-chunk_before n input l bytes rest more c = search (rules, append_assoc, line_before)
 
 -- ---- a part
 
@@ -40,7 +34,7 @@ abbrev after_line : List ℕ → FoundLine → List ℕ → List ℕ
 after_line input found more = drop found.len input ++ more
 
 found_line : (input more : List ℕ) (found : FoundLine) → (s : IsLineAt input found) → HasLine (input ++ more) s.line (after_line input found more)
-found_line input more found s = line_before input s.line (drop found.len input) more s.stands
+found_line input more found s = line_stays input more s.line (drop found.len input) s.stands
 
 last_line : (input more : List ℕ) (found : FoundLine) → (s : IsLineAt input found) → found.size ≡ 0 → HasLastLine (input ++ more) s.line (after_line input found more)
 last_line input more found s zero_size = record { line = found_line input more found s; none = sym s.size ∙ zero_size }
@@ -56,11 +50,9 @@ line_too_large n input more found s large = HasChunkFault.too_large n (input ++ 
 pub last_reads : (old input more : List ℕ) (found : FoundLine) (c : Result Chunked WireFault) (rest : List ℕ) → IsLineAt input found → found.size ≡ 0 → TrailersCame (after_line input found more) c rest
     → StepCame old (input ++ more) (after_trailers c) old rest
 last_reads old input more found (Ok came.Whole) rest s none t = (HasChunks.last _ _ s.line (after_line input found more) rest (last_line input more found s none) t, refl)
-last_reads old input more found (Ok came.Lacking) rest s none t = LacksChunks.no_trailers _ _ s.line (after_line input found more) (last_line input more found s none) t
 last_reads old input more found (Ok (came.Refused f)) rest s none t = HasChunkFault.bad_trailers _ _ s.line (after_line input found more) f (last_line input more found s none) t
-last_reads old input more found (Err fault.Read) rest s none t = LacksChunks.no_trailers _ _ s.line (after_line input found more) (last_line input more found s none) t
-last_reads old input more found (Err fault.TurnLimit) rest s none t = LacksChunks.no_trailers _ _ s.line (after_line input found more) (last_line input more found s none) t
 last_reads old input more found (Err fault.Memory) rest s none t = tt
+last_reads old input more found _ rest s none t = LacksChunks.no_trailers _ _ s.line (after_line input found more) (last_line input more found s none) t
 
 -- the line before bytes and what is after them
 line_of_data : (n : ℕ) (input later : List ℕ) (old : List ℕ) (l : ChunkLine) (text : List ℕ) → HasDataLine (length old) input l text → (d : HasData old n text later) → HasDataLine (length old) input l (d.bytes ++ later)
@@ -76,13 +68,11 @@ lacks_data old input text n l s e (inr x) = LacksChunks.no_end _ _ l x.1.bytes x
 data_step : (old input text : List ℕ) (n : ℕ) (l : ChunkLine) (c : Result Chunked WireFault) (new rest : List ℕ) → HasDataLine (length old) input l text → n ≡ length old + chunk_size l → DataCame old n text c new rest
     → StepCame old input (after_data c) new rest
 data_step old input text n l (Ok came.Whole) new rest s e d = search (rules, line_of_data, data_size)
-data_step old input text n l (Ok came.Lacking) new rest s e d = lacks_data old input text n l s e d
 data_step old input text n l (Ok (came.Refused f)) new rest s e d =
     subst (HasChunkFault (length old) input) (sym d.0)
     (HasChunkFault.bad_end _ _ l d.1.1.bytes d.1.0 (line_of_data n input d.1.0 old l text s d.1.1) (data_size old text d.1.0 n (chunk_size l) e d.1.1) d.1.2)
-data_step old input text n l (Err fault.Read) new rest s e d = lacks_data old input text n l s e d
-data_step old input text n l (Err fault.TurnLimit) new rest s e d = lacks_data old input text n l s e d
 data_step old input text n l (Err fault.Memory) new rest s e d = tt
+data_step old input text n l _ new rest s e d = lacks_data old input text n l s e d
 
 -- a chunk and its data
 pub data_reads : (old input more : List ℕ) (found : FoundLine) (n : ℕ) (c : Result Chunked WireFault) (new rest : List ℕ) → IsLineAt input found → 0 < found.size → n ≡ length old + found.size → n ≤ 33554432
@@ -120,11 +110,9 @@ whole_data old input mid n more new rest c within same size e = decide c e
 
     decide : (r : Result Chunked WireFault) → EndCame (mid ++ more) r rest → DataCame old n (input ++ more) r new rest
     decide (Ok came.Whole) x = record { stands = data_after (13 ∷ 10 ∷ rest) x; grown = split.1 }
-    decide (Ok came.Lacking) x = inr (mid ++ more, data_after (mid ++ more) refl, x)
     decide (Ok (came.Refused f)) x = (x.0, (mid ++ more, data_after (mid ++ more) refl, x.1))
-    decide (Err fault.Read) x = inr (mid ++ more, data_after (mid ++ more) refl, x)
-    decide (Err fault.TurnLimit) x = inr (mid ++ more, data_after (mid ++ more) refl, x)
     decide (Err fault.Memory) x = tt
+    decide _ x = inr (mid ++ more, data_after (mid ++ more) refl, x)
 
 -- ---- all chunks
 
@@ -142,26 +130,17 @@ stands_chunk : (u v w : Option (List ℕ)) (start held body more rest : List ℕ
 stands_chunk u v w start held body more rest l bytes s read c = record {
   bytes = s.bytes ++ more;
   consumed = Consumes-trans u v w s.bytes more s.consumed read;
-  whole = λ added last after x.
-      let next : HasChunks (length body) ((held ++ more) ++ after) (bytes ++ added) last = HasChunks.chunk _ _ l bytes (rest ++ after) added last (before after) (subst (λ k. HasChunks k (rest ++ after) added last) size x) in
-      let all = s.whole (bytes ++ added) last (more ++ after) (subst (λ xs. HasChunks (length body) xs (bytes ++ added) last) (append_assoc held more after) next) in
-      subst (λ xs. HasChunks 0 xs ((body ++ bytes) ++ added) last) (input_is after) (subst (λ xs. HasChunks 0 (start ++ (s.bytes ++ (more ++ after))) xs last) (sym (append_assoc body bytes added)) all);
-  lacks = λ after x.
-      let next : LacksChunks (length body) ((held ++ more) ++ after) = LacksChunks.later _ _ l bytes (rest ++ after) (before after) (subst (λ k. LacksChunks k (rest ++ after)) size x) in
-      subst (LacksChunks 0) (input_is after) (s.lacks (more ++ after) (subst (LacksChunks (length body)) (append_assoc held more after) next));
-  refuses = λ f after x.
-      let next : HasChunkFault (length body) ((held ++ more) ++ after) f = HasChunkFault.later _ _ l bytes (rest ++ after) f (before after) (subst (λ k. HasChunkFault k (rest ++ after) f) size x) in
-      subst (λ xs. HasChunkFault 0 xs f) (input_is after) (s.refuses f (more ++ after) (subst (λ xs. HasChunkFault (length body) xs f) (append_assoc held more after) next));
+  whole = λ added last after x. rw (append_assoc body bytes added, append_assoc s.bytes more after)
+      (s.whole (bytes ++ added) last (more ++ after) (HasChunks.chunk _ _ l bytes (rest ++ after) added last (before after) (rw (← size) x)));
+  lacks = λ after x. rw (append_assoc s.bytes more after) (s.lacks (more ++ after) (LacksChunks.later _ _ l bytes (rest ++ after) (before after) (rw (← size) x)));
+  refuses = λ f after x. rw (append_assoc s.bytes more after) (s.refuses f (more ++ after) (HasChunkFault.later _ _ l bytes (rest ++ after) f (before after) (rw (← size) x)));
 }
   where
     size : length (body ++ bytes) ≡ length body + chunk_size l
     size = omega (arith, length-append body bytes, c.size)
 
-    before : (after : List ℕ) → HasChunk (length body) ((held ++ more) ++ after) l bytes (rest ++ after)
-    before after = chunk_before (length body) (held ++ more) l bytes rest after c
-
-    input_is : (after : List ℕ) → start ++ (s.bytes ++ (more ++ after)) ≡ start ++ ((s.bytes ++ more) ++ after)
-    input_is after = ap (λ (xs : List ℕ). start ++ xs) (sym (append_assoc s.bytes more after))
+    before : (after : List ℕ) → HasChunk (length body) (held ++ (more ++ after)) l bytes (rest ++ after)
+    before after = rw (← append_assoc held more after) (chunk_stays (length body) (held ++ more) after l bytes rest c)
 
 pub stands_more : (u v w : Option (List ℕ)) (start held body more new rest : List ℕ) → Stands u v start held body → Consumes v w more → StepCame body (held ++ more) (Ok None) new rest → Stands u w start rest new
 stands_more u v w start held body more new rest s read c = subst (Stands u w start rest) (sym c.3) (stands_chunk u v w start held body more rest c.0 c.1 s read c.2)
@@ -170,23 +149,14 @@ stands_more u v w start held body more new rest s read c = subst (Stands u w sta
 pub step_within : (body input new rest : List ℕ) → StepCame body input (Ok None) new rest → length new ≤ 33554432
 step_within body input new rest c = omega (arith, ap length c.3, length-append body c.1, c.2.size, c.2.within)
 
-ended_reads : (u v : Option (List ℕ)) (start held body more new rest : List ℕ) (s : Stands u v start held body) (c : Chunked) → StepCame body (held ++ more) (Ok (Some c)) new rest → ChunksCame 0 (start ++ (s.bytes ++ more)) (Ok c) new rest
-ended_reads u v start held body more new rest s came.Whole x = subst (λ xs. HasChunks 0 (start ++ (s.bytes ++ more)) xs rest) (append-nil body ∙ sym x.1) (s.whole [] rest more x.0)
-ended_reads u v start held body more new rest s came.Lacking x = s.lacks more x
-ended_reads u v start held body more new rest s (came.Refused f) x = s.refuses f more x
+ended_reads : (u v : Option (List ℕ)) (start held body more new rest : List ℕ) (s : Stands u v start held body) (r : Result Chunked WireFault) → StepCame body (held ++ more) (after_trailers r) new rest → ChunksCame 0 (start ++ (s.bytes ++ more)) r new rest
+ended_reads u v start held body more new rest s (Ok came.Whole) x = subst (λ xs. HasChunks 0 (start ++ (s.bytes ++ more)) xs rest) (append-nil body ∙ sym x.1) (s.whole [] rest more x.0)
+ended_reads u v start held body more new rest s (Ok (came.Refused f)) x = s.refuses f more x
+ended_reads u v start held body more new rest s (Err fault.Memory) x = tt
+ended_reads u v start held body more new rest s _ x = s.lacks more x
 
--- what ended the chunks
-pub stands_ended : (u v w : Option (List ℕ)) (start held body new rest : List ℕ) (c : Chunked) → Stands u v start held body → (more : List ℕ) × Consumes v w more × StepCame body (held ++ more) (Ok (Some c)) new rest
-    → (more : List ℕ) × Consumes u w more × ChunksCame 0 (start ++ more) (Ok c) new rest
-stands_ended u v w start held body new rest c s read =
-    (s.bytes ++ read.0, Consumes-trans u v w s.bytes read.0 s.consumed read.1, ended_reads u v start held body read.0 new rest s c read.2)
-
-fault_reads : (u v : Option (List ℕ)) (start held body more new rest : List ℕ) (s : Stands u v start held body) (e : WireFault) → StepCame body (held ++ more) (Err e) new rest → ChunksCame 0 (start ++ (s.bytes ++ more)) (Err e) new rest
-fault_reads u v start held body more new rest s fault.Memory x = tt
-fault_reads u v start held body more new rest s _ x = s.lacks more x
-
--- reading failed
-pub stands_failed : (u v w : Option (List ℕ)) (start held body new rest : List ℕ) (e : WireFault) → Stands u v start held body → (more : List ℕ) × Consumes v w more × StepCame body (held ++ more) (Err e) new rest
-    → (more : List ℕ) × Consumes u w more × ChunksCame 0 (start ++ more) (Err e) new rest
-stands_failed u v w start held body new rest e s read =
-    (s.bytes ++ read.0, Consumes-trans u v w s.bytes read.0 s.consumed read.1, fault_reads u v start held body read.0 new rest s e read.2)
+-- what ended the chunks, or reading failed
+pub stands_ended : (u v w : Option (List ℕ)) (start held body new rest : List ℕ) (r : Result Chunked WireFault) → Stands u v start held body → (more : List ℕ) × Consumes v w more × StepCame body (held ++ more) (after_trailers r) new rest
+    → (more : List ℕ) × Consumes u w more × ChunksCame 0 (start ++ more) r new rest
+stands_ended u v w start held body new rest r s read =
+    (s.bytes ++ read.0, Consumes-trans u v w s.bytes read.0 s.consumed read.1, ended_reads u v start held body read.0 new rest s r read.2)

@@ -1,15 +1,13 @@
 -- What chunks are stays, whatever bytes follow, and hangs on their bytes alone.
-use Rattle.std.proofs.Common.{◌≡◌, ◌⊎◌, ℕ, ◌+◌, ◌≤◌, List, [], ◌∷◌, ◌++◌, refl, sym, ap, subst, ◌∙◌, arith, inl, inr, append_assoc, length-append, rules}
-use Rattle.{std.proofs.lemmas.List.take-append-le, http_intake.specs.{claim.{Limits.window, Lines.section_lines}, declared.bad_request.BadRequest.BadRequest}}
-use Rattle.http_intake.specs.claim.Chunks.{line_window, HasLine, HasTrailers, HasChunk, HasLastLine, HasDataLine, HasChunks, RefusesLine, RefusesTrailers, IsNoEnd, HasTooManyTrailers, AreTooLong, HasChunkFault}
-use Rattle.{http_intake.{specs.declared.bad_request.BadRequest.TheVariants.{BadHead, HeadTooLarge}, proofs.ChunkLemmas.trailers_are}, httparse.specs.Spans.SectionOverflows}
-use Rattle.httparse.specs.Grammar.{ReadsSection, HasNoSection, NeverHasSection, MayBecomeSection, print_section, ChunkLine, ReadsChunkLine, HasNoChunkLine, NeverHasChunkLine, print_chunk_line, chunk_size}
-use Rattle.{http_intake.proofs.{LineLemmas.section_lines_grow, Prefixes.{take_grows, window_grows, window_full}}, httparse.proofs.ChunkLemmas.ReadsChunkLine-append}
-use Rattle.httparse.proofs.GrammarLemmas.{ReadsSection-append}
+use Rattle.std.proofs.Common.{◌≡◌, ℕ, ◌+◌, List, [], ◌∷◌, ◌++◌, refl, sym, ap, subst, ◌∙◌, arith, inl, inr, append_assoc, length-append, rules, ◌<◌, length}
+use Rattle.{std.proofs.lemmas.List.take-append-le, http_intake.specs.{claim.Limits.window, declared.bad_request.BadRequest.{BadRequest, TheVariants.{BadHead, HeadTooLarge}}}}
+use Rattle.http_intake.specs.claim.Chunks.{line_window, HasLine, HasTrailers, HasChunk, HasLastLine, HasDataLine, HasChunks, RefusesLine, RefusesTrailers, IsNoEnd, HasChunkFault}
+use Rattle.httparse.{specs.Grammar.{ReadsSection, print_section, ChunkLine, HasNoChunkLine, print_chunk_line, chunk_size, Field, LineEnd}, proofs.ChunkLemmas.ReadsChunkLine-append}
+use Rattle.{http_intake.proofs.{LineLemmas.section_lines_grow, Prefixes.{take_grows, window_grows, window_full}}, httparse.proofs.GrammarLemmas.ReadsSection-append}
 
 -- ---- what stays
 
-line_stays : (input more : List ℕ) (l : ChunkLine) (rest : List ℕ) → HasLine input l rest → HasLine (input ++ more) l (rest ++ more)
+pub line_stays : (input more : List ℕ) (l : ChunkLine) (rest : List ℕ) → HasLine input l rest → HasLine (input ++ more) l (rest ++ more)
 line_stays input more l rest s = record { reads = ReadsChunkLine-append input l rest more s.reads; short = s.short }
 
 last_line_stays : (input more : List ℕ) (l : ChunkLine) (rest : List ℕ) → HasLastLine input l rest → HasLastLine (input ++ more) l (rest ++ more)
@@ -18,7 +16,7 @@ last_line_stays input more l rest s = record { line = line_stays input more l re
 data_line_stays : (n : ℕ) (input more : List ℕ) (l : ChunkLine) (bytes after : List ℕ) → HasDataLine n input l (bytes ++ after) → HasDataLine n (input ++ more) l (bytes ++ (after ++ more))
 data_line_stays n input more l bytes after s = search (rules, append_assoc, line_stays)
 
-chunk_stays : (n : ℕ) (input more : List ℕ) (l : ChunkLine) (bytes rest : List ℕ) → HasChunk n input l bytes rest → HasChunk n (input ++ more) l bytes (rest ++ more)
+pub chunk_stays : (n : ℕ) (input more : List ℕ) (l : ChunkLine) (bytes rest : List ℕ) → HasChunk n input l bytes rest → HasChunk n (input ++ more) l bytes (rest ++ more)
 chunk_stays n input more l bytes rest s = search (rules, append_assoc, line_stays)
 
 trailers_stay : (input more rest : List ℕ) → HasTrailers input rest → HasTrailers (input ++ more) (rest ++ more)
@@ -29,13 +27,11 @@ body_stays n input b r more (HasChunks.last _ _ l x _ s t) = HasChunks.last n (i
 body_stays n input b r more (HasChunks.chunk _ _ l d x body _ s chunks) =
     HasChunks.chunk n (input ++ more) l d (x ++ more) body (r ++ more) (chunk_stays n input more l d x s) (body_stays (n + chunk_size l) x body r more chunks)
 
-never_line_grows : (w y : List ℕ) → NeverHasChunkLine w → NeverHasChunkLine (w ++ y)
-never_line_grows w y never more l rest reads = never (y ++ more) l rest (subst (λ xs. ReadsChunkLine xs l rest) (append_assoc w y more) reads)
-
 refused_line_stays : (input more : List ℕ) → RefusesLine input → RefusesLine (input ++ more)
 refused_line_stays input more (inl never) =
     let g = take_grows 256 input more in
-    inl (subst NeverHasChunkLine (sym g.1) (never_line_grows (line_window input) g.0 never))
+    let w = line_window input in
+    inl (rw g.1 (λ more l rest reads. never (g.0 ++ more) l rest (rw (append_assoc w g.0 more) at reads)))
 refused_line_stays input more (inr x) = inr (omega (arith, x.0, length-append input more), subst HasNoChunkLine (sym (take-append-le 256 input more x.0)) x.1)
 
 no_end_stays : (after more : List ℕ) → IsNoEnd after → IsNoEnd (after ++ more)
@@ -44,37 +40,21 @@ no_end_stays (b ∷ []) [] x = x
 no_end_stays (b ∷ []) (c ∷ more) x = inl x
 no_end_stays (b ∷ c ∷ rest) more x = x
 
-never_grows : (w y : List ℕ) → NeverHasSection w → NeverHasSection (w ++ y)
-never_grows w y never more fields last rest reads = never (y ++ more) fields last rest (subst (λ xs. ReadsSection xs fields last rest) (append_assoc w y more) reads)
+-- what holds of all trailers that more bytes may give holds with some of them
+grows : (P : List Field → Type 0) (w y : List ℕ) → ((more : List ℕ) (fields : List Field) (last : LineEnd) (rest : List ℕ) → ReadsSection (w ++ more) fields last rest → P fields)
+    → (more : List ℕ) (fields : List Field) (last : LineEnd) (rest : List ℕ) → ReadsSection ((w ++ y) ++ more) fields last rest → P fields
+grows P w y all more fields last rest reads = all (y ++ more) fields last rest (subst (λ xs. ReadsSection xs fields last rest) (append_assoc w y more) reads)
 
-overflows_grows : (w y : List ℕ) → SectionOverflows 64 w → SectionOverflows 64 (w ++ y)
-overflows_grows w y o more fields last rest reads = o (y ++ more) fields last rest (subst (λ xs. ReadsSection xs fields last rest) (append_assoc w y more) reads)
-
-never_stays : (input more : List ℕ) → NeverHasSection (window input) → NeverHasSection (window (input ++ more))
-never_stays input more never = let g = window_grows input more in subst NeverHasSection (sym g.1) (never_grows (window input) g.0 never)
-
-too_long_stays : (input more : List ℕ) → AreTooLong input → AreTooLong (input ++ more)
-too_long_stays input more x =
+refused_trailers_stay : (input more : List ℕ) (f : BadRequest) → RefusesTrailers input f → RefusesTrailers (input ++ more) f
+refused_trailers_stay input more BadHead never = let g = window_grows input more in rw g.1 (grows (λ fields. ⊥) (window input) g.0 never)
+refused_trailers_stay input more HeadTooLarge (inl x) =
     let same = window_full input more x.long in
-    record {
-      long = omega (arith, x.long, length-append input more);
-      none = subst HasNoSection (sym same) x.none;
-      goes_on = subst MayBecomeSection (sym same) x.goes_on;
-    }
-
-too_many_stays : (input more : List ℕ) → HasTooManyTrailers input → HasTooManyTrailers (input ++ more)
-too_many_stays input more x =
+    inl (record { long = omega (arith, x.long, length-append input more); none = rw same x.none; goes_on = rw same x.goes_on })
+refused_trailers_stay input more HeadTooLarge (inr x) =
     let g = window_grows input more in
     let w = window input in
-    record {
-      lines = subst (λ xs. 65 ≤ section_lines xs) (sym g.1) (omega (arith, x.lines, section_lines_grow w g.0));
-      exceeds = subst (SectionOverflows 64) (sym g.1) (overflows_grows w g.0 x.exceeds);
-    }
-
-refused_trailers_stay : (input more : List ℕ) (f : BadRequest) → ((f ≡ BadHead) × NeverHasSection (window input)) ⊎ ((f ≡ HeadTooLarge) × (AreTooLong input ⊎ HasTooManyTrailers input)) → RefusesTrailers (input ++ more) f
-refused_trailers_stay input more f (inl x) = subst (RefusesTrailers (input ++ more)) (sym x.0) (never_stays input more x.1)
-refused_trailers_stay input more f (inr (e, inl x)) = subst (RefusesTrailers (input ++ more)) (sym e) (inl (too_long_stays input more x))
-refused_trailers_stay input more f (inr (e, inr x)) = subst (RefusesTrailers (input ++ more)) (sym e) (inr (too_many_stays input more x))
+    inr (record { lines = rw g.1 (omega (arith, x.lines, section_lines_grow w g.0)); exceeds = rw g.1 (grows (λ fields. 64 < length fields) w g.0 x.exceeds) })
+refused_trailers_stay input more _ x = x
 
 pub fault_stays : (n : ℕ) (input : List ℕ) (f : BadRequest) (more : List ℕ) → HasChunkFault n input f → HasChunkFault n (input ++ more) f
 fault_stays n input f more (HasChunkFault.bad_line _ _ bad) = HasChunkFault.bad_line n (input ++ more) (refused_line_stays input more bad)
@@ -82,7 +62,7 @@ fault_stays n input f more (HasChunkFault.too_large _ _ l x s large) = HasChunkF
 fault_stays n input f more (HasChunkFault.bad_end _ _ l d x s size bad) =
     HasChunkFault.bad_end n (input ++ more) l d (x ++ more) (data_line_stays n input more l d x s) size (no_end_stays x more bad)
 fault_stays n input f more (HasChunkFault.bad_trailers _ _ l x _ s bad) =
-    HasChunkFault.bad_trailers n (input ++ more) l (x ++ more) f (last_line_stays input more l x s) (refused_trailers_stay x more f (trailers_are x f bad))
+    HasChunkFault.bad_trailers n (input ++ more) l (x ++ more) f (last_line_stays input more l x s) (refused_trailers_stay x more f bad)
 fault_stays n input f more (HasChunkFault.later _ _ l d x _ s fault) =
     HasChunkFault.later n (input ++ more) l d (x ++ more) f (chunk_stays n input more l d x s) (fault_stays (n + chunk_size l) x f more fault)
 

@@ -1,9 +1,9 @@
 -- How many lines a head has, and a prefix of one.
-use Rattle.std.{specs.{List.{flat_map, list_any}, Prelude.All}, proofs.lemmas.{Bool.{false≢true, ne_eqb, eqb-false}, List.Elements.{All-head, All-tail, All-nil, All-cons}}}
+use Rattle.{std.{specs.{List.{flat_map, list_any}, Prelude.All}, proofs.lemmas.Bool.{false≢true, ne_eqb, eqb-false, or_parts}}, httparse.proofs.GrammarLemmas.print_request-append}
 use Rattle.std.proofs.Common.{◌≡◌, ◌≢◌, ℕ, ◌+◌, ◌<◌, ◌≤◌, ◌==◌, Bool, true, false, ◌||◌, ◌&&◌, cond, List, [], ◌∷◌, ◌++◌, length, refl, sym, ap, ◌∙◌, arith, append_assoc, append-nil, rules}
-use Rattle.{http_intake.specs.claim.Lines.{IsWithinLine, is_newline, begins_empty, lines_end, section_lines, head_lines}, httparse.proofs.GrammarLemmas.print_request-append}
+use Rattle.{std.proofs.lemmas.List.Elements.{All-head, All-tail, All-nil, All-cons}, httparse.proofs.PieceLemmas.token_is_no_newline}
+use Rattle.http_intake.specs.claim.Lines.{IsWithinLine, is_newline, begins_empty, lines_end, section_lines, head_lines}
 use Rattle.httparse.specs.Grammar.{is_token_byte, is_uri_byte, is_value_byte, AllPass, LineEnd, crlf, lf, print_end, print_blank, print_version, Field, print_field, IsField, print_section, RequestHead, IsRequestHead, print_request}
-use Rattle.httparse.proofs.PieceLemmas.{token_is_no_newline}
 
 -- a byte that is no LF
 other_end : (b : ℕ) (xs : List ℕ) → b ≢ 10 → lines_end (b ∷ xs) ≡ lines_end xs
@@ -92,36 +92,24 @@ lines_of_head h ok =
 pub lines_of_section : (fields : List Field) (last : LineEnd) → All IsField fields → section_lines (print_section fields last) ≡ length fields
 lines_of_section fields last ok = search (rules, append-nil, fields_lines, end_is_empty)
 
--- all of a line end but its LF
-pub before_feed : LineEnd → List ℕ
-before_feed crlf = 13 ∷ []
-before_feed lf = []
-
-before_feed_is : (e : LineEnd) → print_end e ≡ before_feed e ++ 10 ∷ []
-unfolding before_feed
-before_feed_is crlf = refl
-before_feed_is lf = refl
-
-before_feed_lines : (e : LineEnd) → section_lines (before_feed e) ≡ 0
-unfolding before_feed
-before_feed_lines crlf = refl
-before_feed_lines lf = refl
+-- a line end is an LF after bytes that end no line
+feed_cut : (e : LineEnd) → (before : List ℕ) × (print_end e ≡ before ++ 10 ∷ []) × (section_lines before ≡ 0)
+feed_cut crlf = (13 ∷ [], refl, refl)
+feed_cut lf = ([], refl, refl)
 
 started-append : (h : RequestHead) (xs ys : List ℕ) → started h (xs ++ ys) ≡ started h xs ++ ys
-started-append h xs ys = regroup (print_blank h.blank) h.method h.target (print_version h.minor) (print_end h.line_end) xs ys
-  where
-    regroup : (a b c d e f r : List ℕ) → a ++ (b ++ 32 ∷ (c ++ 32 ∷ (d ++ (e ++ (f ++ r))))) ≡ (a ++ (b ++ 32 ∷ (c ++ 32 ∷ (d ++ (e ++ f))))) ++ r
-    regroup a b c d e f r = simp append_assoc
+started-append h xs ys = simp append_assoc
 
 -- without its last LF a head has as many
 pub cut_head : (h : RequestHead) → IsRequestHead h → (prefix : List ℕ) × (print_request h ≡ prefix ++ 10 ∷ []) × (head_lines prefix ≡ length h.fields + 1)
 cut_head h ok =
     let fields = flat_map print_field h.fields in
-    let rest = fields ++ before_feed h.last in
-    let parts : print_section h.fields h.last ++ [] ≡ rest ++ 10 ∷ [] = append-nil (fields ++ print_end h.last) ∙ ap (λ (xs : List ℕ). fields ++ xs) (before_feed_is h.last) ∙ sym (append_assoc fields (before_feed h.last) (10 ∷ [])) in (
+    let cut = feed_cut h.last in
+    let rest = fields ++ cut.0 in
+    let parts : print_section h.fields h.last ++ [] ≡ rest ++ 10 ∷ [] = append-nil (fields ++ print_end h.last) ∙ ap (λ (xs : List ℕ). fields ++ xs) cut.1 ∙ sym (append_assoc fields cut.0 (10 ∷ [])) in (
       started h rest,
       sym (append-nil (print_request h)) ∙ print_request-append h [] ∙ ap (started h) parts ∙ started-append h rest (10 ∷ []),
-      started_lines h rest ok ∙ omega (arith, fields_lines h.fields (before_feed h.last) ok.fields, before_feed_lines h.last),
+      started_lines h rest ok ∙ omega (arith, fields_lines h.fields cut.0 ok.fields, cut.2),
     )
 
 cond_le : (n : Bool) (a b c d : ℕ) → a ≤ c → b ≤ d → cond n a b ≤ cond n c d
@@ -130,8 +118,7 @@ cond_le false a b c d h k = k
 
 -- a last byte ends no line that counts
 last_none : (feed back : Bool) → cond (feed || (back && false)) 0 (cond feed 1 0) ≤ 0
-last_none true true = omega arith
-last_none true false = omega arith
+last_none true back = omega arith
 last_none false true = omega arith
 last_none false false = omega arith
 
@@ -152,13 +139,9 @@ pub head_lines_grow : (xs ys : List ℕ) → head_lines xs ≤ head_lines (xs ++
 head_lines_grow [] ys = omega arith
 head_lines_grow (b ∷ xs) ys = cond_le (is_newline b) _ _ _ _ (head_lines_grow xs ys) (ends_grow xs ys)
 
-both_false : (a b : Bool) → (a || b) ≡ false → (a ≡ false) × (b ≡ false)
-both_false true b e = absurd (cc)
-both_false false b e = (refl, e)
-
 -- bytes in which no line ends
 pub no_line_ends : (xs : List ℕ) → list_any (λ b. b == 10) xs ≡ false → All IsWithinLine xs
 no_line_ends [] e = All-nil IsWithinLine
 no_line_ends (b ∷ xs) e =
-    let each = both_false (b == 10) (list_any (λ c. c == 10) xs) e in
+    let each = or_parts (b == 10) (list_any (λ c. c == 10) xs) e in
     All-cons IsWithinLine b xs (eqb-false b 10 each.0) (no_line_ends xs each.1)

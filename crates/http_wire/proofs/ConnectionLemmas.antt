@@ -16,11 +16,8 @@ first_part value end at within = search (rules, slice_split_first, length-drop)
 pub some_part : (value : List ℕ) → 0 < length (parts value)
 some_part value = omega (arith, length-slice_split (λ b. b == 44) value)
 
-more_parts : (n : ℕ) → 0 < n → false ≡ (n + 1 == 1)
-more_parts n h = grind (arith, nat_tests, h)
-
 pub two_parts : (value part more : List ℕ) → parts value ≡ part ∷ parts more → false ≡ (length (parts value) == 1)
-two_parts value part more e = more_parts (length (parts more)) (some_part more) ∙ ap (λ (n : ℕ). n == 1) (omega (arith, ap length e))
+two_parts value part more e = grind (arith, nat_tests, some_part more, ap length e)
 
 -- the last part is the last one of what follows the first
 pub ends_after : (word part : List ℕ) (more : List (List ℕ)) → 0 < length more → ends_in word (part ∷ more) ≡ ends_in word more

@@ -1,12 +1,7 @@
 -- Two texts that are written one after the other.
-use Rattle.std.{specs.{Io.KnownBytes.{Appends, Keeps}, Prelude.◌==◌}, proofs.{KnownBytes.{Appends-trans, Appends-kept}, Math.Seq.{take-add, drop-append-add}}}
-use Rattle.std.proofs.Common.{[], ◌∷◌, suc, true, false, refl, append-nil, ◌≡◌, ℕ, ◌+◌, ◌-◌, ◌≤◌, List, ◌++◌, length, take, drop, Option, sym, ap, subst, ◌∙◌, arith, append_assoc, length-drop, length-append, take-append-drop, rules}
-use Rattle.std.proofs.lemmas.{Bool.Decides.nat_tests, List.{drop-append-le, take_rest}}
-
--- a prefix of the first is one of both
-pub cut_first : (a b : Option (List ℕ)) (first second : List ℕ) → (prefix : List ℕ) × (rest : List ℕ) × (first ≡ prefix ++ rest) × Appends a b prefix
-    → (prefix : List ℕ) × (rest : List ℕ) × (first ++ second ≡ prefix ++ rest) × Appends a b prefix
-cut_first a b first second s = (s.0, s.1 ++ second, ap (λ (xs : List ℕ). xs ++ second) s.2 ∙ append_assoc s.0 s.1 second, s.3)
+use Rattle.std.{specs.{Io.KnownBytes.Appends, Prelude.◌==◌}, proofs.{KnownBytes.Appends-trans, Math.Seq.{take-add, drop-append-add}, lemmas.Bool.eqb-true}}
+use Rattle.std.proofs.Common.{[], ◌∷◌, true, append-nil, ◌≡◌, ℕ, ◌+◌, ◌-◌, ◌≤◌, List, ◌++◌, length, take, drop, Option, sym, ap, subst, ◌∙◌, arith, length-drop, length-append, take-append-drop, rules}
+use Rattle.std.proofs.lemmas.List.{drop-append-le, take_rest}
 
 -- one piece more of the bytes, from what is left of them
 pub piece_more : (a b c : Option (List ℕ)) (bytes : List ℕ) (done n : ℕ) → Appends a b (take done bytes) → Appends b c (take n (drop done bytes)) → Appends a c (take (done + n) bytes)
@@ -15,10 +10,6 @@ piece_more a b c bytes done n p q = subst (Appends a c) (sym (take-add done n by
 -- what was written is a prefix of the bytes
 pub piece_prefix : (a b : Option (List ℕ)) (bytes : List ℕ) (done : ℕ) → Appends a b (take done bytes) → (prefix : List ℕ) × (rest : List ℕ) × (bytes ≡ prefix ++ rest) × Appends a b prefix
 piece_prefix a b bytes done p = (take done bytes, drop done bytes, sym (take-append-drop done bytes), p)
-
--- and a write that took nothing leaves it so
-pub piece_stays : (a b c : Option (List ℕ)) (bytes : List ℕ) (done : ℕ) → Appends a b (take done bytes) → Keeps b c → (prefix : List ℕ) × (rest : List ℕ) × (bytes ≡ prefix ++ rest) × Appends a c prefix
-piece_stays a b c bytes done p k = piece_prefix a c bytes done (Appends-kept a b c (take done bytes) p k)
 
 -- and it is within them
 pub piece_within : (first second : List ℕ) (done n : ℕ) → n ≤ length (drop done (first ++ second)) → done ≤ length first + length second → done + n ≤ length first + length second
@@ -32,12 +23,7 @@ past_first first second done h = search (rules, drop-append-add, take_rest)
 pub in_first : (first second : List ℕ) (done : ℕ) → done ≤ length first → drop done (first ++ second) ≡ take (length first - done) (drop done first) ++ second
 in_first first second done h = drop-append-le done first second h ∙ ap (λ (xs : List ℕ). xs ++ second) (sym (take_rest first done))
 
-no_zero : (n : ℕ) → (suc n == 0) ≡ false
-no_zero n = grind (arith, nat_tests)
-
-nothing : (ys : List ℕ) → (length ys == 0) ≡ true → ys ≡ []
-nothing [] none = refl
-nothing (y ∷ ys) none = absurd (let clash : true ≡ false = sym none ∙ no_zero (length ys) in cc)
-
+-- and where there is no second one
 pub first_alone : (first second : List ℕ) (done : ℕ) → (length second == 0) ≡ true → drop done (first ++ second) ≡ take (length first - done) (drop done first)
-first_alone first second done none = ap (λ (ys : List ℕ). drop done (first ++ ys)) (nothing second none) ∙ ap (drop done) (append-nil first) ∙ sym (take_rest first done)
+first_alone first [] done none = ap (drop done) (append-nil first) ∙ sym (take_rest first done)
+first_alone first (b ∷ second) done none = absurd (omega (arith, eqb-true (length (b ∷ second)) 0 none))

@@ -1,24 +1,13 @@
 -- Answers that wait, one after another.
-use Rattle.std.{specs.Io.KnownBytes.Appends, proofs.Common.{◌≡◌, ℕ, List, [], ◌++◌, Option, Some, None, Result, Ok, Err, codes, sym, ap, ◌∙◌, append_assoc, append-nil}}
+use Rattle.std.{specs.Io.KnownBytes.Appends, proofs.Common.{◌≡◌, ℕ, List, [], ◌++◌, Option, Some, None, Result, Ok, Err, sym, ap, ◌∙◌, append_assoc, append-nil}}
 use Rattle.{std.proofs.KnownBytes.{Appends-trans, Appends-nil}, byte_stream.specs.claim.Sends.Sends, http_wire.specs.{Answer.after_line, Queue.{Queued, Queues}}}
 use Rattle.http_wire.specs.claim.Answer.{allow_line, line_end}
 
 -- a head in four pieces: what stands before the length in its line, the length, the allowed methods, and the end
 pub head_built : (s t c d k : List ℕ) (allow : Option (List ℕ))
     → ((((s ++ t) ++ c) ++ d) ++ after_line allow) ++ ((line_end ++ k) ++ line_end) ≡ ((((s ++ t) ++ ((c ++ d) ++ line_end)) ++ allow_line allow) ++ k) ++ line_end
-head_built s t c d k allow =
-    ends (((s ++ t) ++ c) ++ d) k allow
-    ∙ ap (λ (xs : List ℕ). ((xs ++ allow_line allow) ++ k) ++ line_end) (ap (λ (xs : List ℕ). xs ++ line_end) (append_assoc (s ++ t) c d) ∙ append_assoc (s ++ t) (c ++ d) line_end)
-  where
-    joined : (a e k : List ℕ) → a ++ ((e ++ k) ++ e) ≡ ((a ++ e) ++ k) ++ e
-    joined a e k = sym (append_assoc a (e ++ k) e) ∙ ap (λ (xs : List ℕ). xs ++ e) (sym (append_assoc a e k))
-
-    moved : (f e a m : List ℕ) → (f ++ ((e ++ a) ++ m)) ++ e ≡ (f ++ e) ++ ((a ++ m) ++ e)
-    moved f e a m = ap (λ (xs : List ℕ). xs ++ e) (ap (λ (xs : List ℕ). f ++ xs) (append_assoc e a m) ∙ sym (append_assoc f e (a ++ m))) ∙ append_assoc (f ++ e) (a ++ m) e
-
-    ends : (f k : List ℕ) (allow : Option (List ℕ)) → (f ++ after_line allow) ++ ((line_end ++ k) ++ line_end) ≡ (((f ++ line_end) ++ allow_line allow) ++ k) ++ line_end
-    ends f k None = joined (f ++ []) line_end k ∙ ap (λ (xs : List ℕ). (xs ++ k) ++ line_end) (ap (λ (xs : List ℕ). xs ++ line_end) (append-nil f) ∙ sym (append-nil (f ++ line_end)))
-    ends f k (Some m) = joined (f ++ after_line (Some m)) line_end k ∙ ap (λ (xs : List ℕ). (xs ++ k) ++ line_end) (moved f line_end (codes "Allow: ") m)
+head_built s t c d k None = simp (append_assoc, append-nil)
+head_built s t c d k (Some methods) = simp append_assoc
 
 -- all of it waits
 pub waits : (u : Option (List ℕ)) (before after text : List ℕ) → after ≡ before ++ text → Queued u u before after text

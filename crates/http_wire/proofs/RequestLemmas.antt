@@ -18,14 +18,9 @@ lacks input more found f short = search (rules, head_before)
 
 -- memory is wanting for it
 pub out_of_memory : (input more : List ℕ) (found : Head) → IsFound input found → IsOutOfMemory (input ++ more) found.head_only
-out_of_memory input more found f = record {
-  head = f.head;
-  rest = drop found.len input ++ more;
-  framing = found.framing;
-  stands = head_before input f.head (drop found.len input) more f.stands;
-  judges = f.judges;
-  shown = f.shown;
-}
+out_of_memory input more found f =
+    let stands = head_before input f.head (drop found.len input) more f.stands in
+    record { head = f.head; rest = drop found.len input ++ more; framing = found.framing; stands = stands; judges = f.judges; shown = f.shown }
 
 -- what has come of the body has a fault
 faulty : (input more : List ℕ) (found : Head) (f : BadRequest) → IsFound input found → IsFaulty found.framing (drop found.len input ++ more) f → HasFault (input ++ more) f found.head_only
@@ -52,12 +47,8 @@ request_prefix law input h t b r x =
 
 -- what a head asks for is due before the answer
 pub due : (input more sent : List ℕ) (found : Head) (f : IsFound input found) → sent ≡ continue_text (asks_to_continue f.head) → Interim (input ++ more) sent
-due input more sent found f asked = inl (record {
-  head = f.head;
-  rest = drop found.len input ++ more;
-  stands = head_before input f.head (drop found.len input) more f.stands;
-  asked = asked;
-})
+due input more sent found f asked =
+    inl (record { head = f.head; rest = drop found.len input ++ more; stands = head_before input f.head (drop found.len input) more f.stands; asked = asked })
 
 judge_target : ChunkLaw → (input : List ℕ) (r : Request) (h : RequestHead) (rest sent : List ℕ) (good head_only : Bool) → IsTargetOf h.target good r.target.items → HasMessage input h r.body.items rest → r.method ≡ h.method
     → r.closes ≡ closes_after h → head_only ≡ is_head h.method → sent ≡ continue_text (asks_to_continue h) → ReadsPrefix input (Ok (targeted r good head_only)) rest sent
@@ -72,6 +63,5 @@ pub rest_reads : ChunkLaw → (input more : List ℕ) (found : Head) (r : Reques
 rest_reads law input more found r good (Ok chunked.Whole) rest sent f method target closes b asked = search (rules, judge_target, whole)
 rest_reads law input more found r good (Ok chunked.Lacking) rest sent f method target closes b asked = (lacks input more found f b, due input more sent found f asked)
 rest_reads law input more found r good (Ok (chunked.Refused fault)) rest sent f method target closes b asked = (faulty input more found fault f b, due input more sent found f asked)
-rest_reads law input more found r good (Err fault.Read) rest sent f method target closes b asked = inl (lacks input more found f b, due input more sent found f asked)
 rest_reads law input more found r good (Err fault.Memory) rest sent f method target closes b asked = (out_of_memory input more found f, due input more sent found f asked)
-rest_reads law input more found r good (Err fault.TurnLimit) rest sent f method target closes b asked = inl (lacks input more found f b, due input more sent found f asked)
+rest_reads law input more found r good (Err _) rest sent f method target closes b asked = inl (lacks input more found f b, due input more sent found f asked)

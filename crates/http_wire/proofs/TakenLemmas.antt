@@ -1,15 +1,11 @@
 -- A request that is there whole.
-use Rattle.std.proofs.Common.{◌≡◌, ℕ, ◌≤◌, Bool, true, false, List, [], ◌++◌, length, take, drop, Ok, sym, ap, subst, ◌∙◌, append-nil, take-append-drop, length-take-le, rules}
-use Rattle.{http_intake.specs.{Chunks.ChunkLaw, declared.bad_request.BadRequest.BadRequest}, http_wire.specs.{Incoming.{Came, Taken, IsNoEnd, IsTargetOf, targeted}, Look.IsFound}}
-use Rattle.http_wire.specs.{Prefix.RefusesPrefix, claim.{Interim.{continue_text, asks_to_continue}, Prefix.HasBody}, declared.head.Framing.{Framing, TheVariants.Sized}}
-use Rattle.{http_wire.{specs.declared.{look.Head.Head, request.Request.Request}, proofs.InterimLemmas.{found_asks, refused_prefix}}, httparse.specs.Spans.span_bytes}
+use Rattle.std.proofs.Common.{◌≡◌, ℕ, ◌≤◌, Bool, false, List, [], ◌++◌, length, take, drop, Ok, sym, ap, subst, ◌∙◌, append-nil, take-append-drop, length-take-le, rules}
+use Rattle.{std.proofs.lemmas.Bool.cond_both, http_intake.specs.{Chunks.ChunkLaw, declared.bad_request.BadRequest.TheVariants.BadTarget}, http_wire.specs.Look.IsFound}
+use Rattle.http_wire.specs.{Incoming.{Came, Taken, IsNoEnd, IsTargetOf, targeted}, claim.{Interim.{continue_text, asks_to_continue}, Prefix.HasBody}, declared.head.Framing.Framing}
+use Rattle.{http_wire.{specs.declared.{head.Framing.TheVariants.Sized, look.Head.Head, request.Request.Request}, proofs.InterimLemmas.found_asks}, httparse.specs.Spans.span_bytes}
 use Rattle.http_wire.proofs.RequestLemmas.{rest_reads, out_of_memory, due}
 use Rattle.http_intake.specs.declared.chunks.Chunked.TheVariants as chunked
 use Rattle.http_wire.specs.declared.request.Incoming.TheVariants as came
-
-no_end : (r : Request) (good head_only : Bool) → IsNoEnd (targeted r good head_only)
-no_end r true head_only = tt
-no_end r false head_only = tt
 
 plainly : (input : List ℕ) (found : Head) (f : IsFound input found) → found.expects ≡ false → [] ≡ continue_text (asks_to_continue f.head)
 plainly input found f plain = sym (ap continue_text plain) ∙ found_asks input found f
@@ -24,11 +20,10 @@ pub taken_whole : ChunkLaw → (input : List ℕ) (found : Head) (r : Request) (
     → Taken input (targeted r good found.head_only) rest
 taken_whole law input found r good n rest f plain framing method target closes cut len =
     let body : HasBody found.framing (drop found.len input ++ []) r.body.items rest = subst (λ (m : Framing). HasBody m (drop found.len input ++ []) r.body.items rest) (sym framing) (append-nil (drop found.len input) ∙ cut, len) in
-    let x = rest_reads law input [] found r good (Ok chunked.Whole) rest [] f method target closes body (plainly input found f plain) in
-    (no_end r good found.head_only, subst (λ (xs : List ℕ). Came xs (targeted r good found.head_only) rest []) (append-nil input) x)
+    let x = rest_reads law input [] found r good (Ok chunked.Whole) rest [] f method target closes body (plainly input found f plain) in (
+      cond_both good (came.Request r) (came.Refused BadTarget found.head_only) IsNoEnd (λ _. tt) (λ _. tt),
+      subst (λ (xs : List ℕ). Came xs (targeted r good found.head_only) rest []) (append-nil input) x,
+    )
 
 pub taken_out_of_memory : (input rest : List ℕ) (found : Head) → IsFound input found → found.expects ≡ false → Taken input (came.OutOfMemory found.head_only) rest
 taken_out_of_memory input rest found f plain = search (rules, append-nil, out_of_memory, due, plainly)
-
-pub taken_refused : (xs ys rest : List ℕ) (f : BadRequest) (head_only : Bool) → xs ≡ ys → RefusesPrefix xs f head_only → Taken ys (came.Refused f head_only) rest
-taken_refused xs ys rest f head_only e x = (tt, refused_prefix xs ys f head_only e x)

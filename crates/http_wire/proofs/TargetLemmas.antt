@@ -1,88 +1,54 @@
 -- The test for a text that ends inside a request target is right.
-use Rattle.std.{specs.List.list_all, proofs.lemmas.{Bool.{false≢true, and_parts, or_parts, eqb-true}, List.Elements.{All-nil, All-cons, All-head, All-tail}}}
-use Rattle.std.proofs.Common.{◌≡◌, ℕ, ◌<◌, Bool, true, false, cond, ◌&&◌, ◌==◌, List, [], ◌∷◌, ◌++◌, length, refl, sym, ap, subst, ◌∙◌, arith, append_assoc, rules}
+use Rattle.std.{specs.List.list_all, proofs.Common.{◌≡◌, ℕ, ◌<◌, Bool, true, false, cond, ◌&&◌, ◌==◌, List, [], ◌∷◌, ◌++◌, length, refl, sym, ap, ◌∙◌, arith, append_assoc, rules}}
+use Rattle.std.proofs.lemmas.{Bool.{false≢true, and_parts, or_parts, eqb-true, cond_both}, List.Elements.{All-nil, All-cons, All-head, All-tail}}
 use Rattle.{std.proofs.lemmas.List.Sums.{AllPass-from_list_all, list_all-from_AllPass}, http_wire.specs.InTarget.{in_method, in_blank}}
 use Rattle.httparse.{specs.Grammar.{is_token_byte, is_uri_byte, AllPass, LineEnd, crlf, lf, print_blank, EndsInTarget}, proofs.PieceLemmas.{space_ends_token, token_is_no_newline}}
 
 -- the rest of a method, and a target
-record Words (some : Bool) (bytes : List ℕ) : Type 0 where
-  method : List ℕ
-  target : List ℕ
-  begun : some ≡ false → 0 < length method
-  tokens : AllPass is_token_byte method
-  uris : AllPass is_uri_byte target
-  are : bytes ≡ method ++ 32 ∷ target
-
-words_token : (some : Bool) (b : ℕ) (bytes : List ℕ) → is_token_byte b ≡ true → Words true bytes → Words some (b ∷ bytes)
-words_token some b bytes token w = record {
-  method = b ∷ w.method;
-  target = w.target;
-  begun = λ _. omega arith;
-  tokens = All-cons (λ v. is_token_byte v ≡ true) b w.method token w.tokens;
-  uris = w.uris;
-  are = ap (λ (xs : List ℕ). b ∷ xs) w.are;
-}
-
-words_space : (some : Bool) (b : ℕ) (bytes : List ℕ) → (some && b == 32 && list_all is_uri_byte bytes) ≡ true → Words some (b ∷ bytes)
-words_space some b bytes e =
-    let outer = and_parts (some && b == 32) (list_all is_uri_byte bytes) e in
-    let inner = and_parts some (b == 32) outer.0 in
-    record {
-      method = [];
-      target = bytes;
-      begun = λ h. absurd (false≢true (sym h ∙ inner.0));
-      tokens = All-nil (λ v. is_token_byte v ≡ true);
-      uris = AllPass-from_list_all is_uri_byte bytes outer.1;
-      are = ap (λ (v : ℕ). v ∷ bytes) (eqb-true b 32 inner.1);
-    }
-
-words_step : (token : Bool) (some : Bool) (b : ℕ) (bytes : List ℕ) → is_token_byte b ≡ token → (in_method true bytes ≡ true → Words true bytes)
-    → cond token (in_method true bytes) (some && b == 32 && list_all is_uri_byte bytes) ≡ true → Words some (b ∷ bytes)
-words_step true some b bytes is rest e = words_token some b bytes is (rest e)
-words_step false some b bytes is rest e = words_space some b bytes e
+abbrev Words : Bool → List ℕ → Type 0
+Words some bytes =
+    (method : List ℕ) × (target : List ℕ) × (some ≡ false → 0 < length method) × AllPass is_token_byte method × AllPass is_uri_byte target × (bytes ≡ method ++ 32 ∷ target)
 
 words : (some : Bool) (bytes : List ℕ) → in_method some bytes ≡ true → Words some bytes
 words some [] e = absurd (false≢true e)
-words some (b ∷ bytes) e = words_step (is_token_byte b) some b bytes refl (words true bytes) e
+words some (b ∷ bytes) e = cond_both (is_token_byte b) (in_method true bytes) (some && b == 32 && list_all is_uri_byte bytes) (λ (t : Bool). t ≡ true → Words some (b ∷ bytes))
+    (λ is ok.
+    let w = words true bytes ok in
+    (b ∷ w.0, w.1, λ _. omega arith, All-cons (λ v. is_token_byte v ≡ true) b w.0 is w.3, w.4, ap (λ (xs : List ℕ). b ∷ xs) w.5))
+    (λ _ ok.
+    let outer = and_parts (some && b == 32) (list_all is_uri_byte bytes) ok in
+    let inner = and_parts some (b == 32) outer.0 in
+    let space = ap (λ (v : ℕ). v ∷ bytes) (eqb-true b 32 inner.1) in
+    ([], bytes, λ h. absurd (false≢true (sym h ∙ inner.0)), All-nil (λ v. is_token_byte v ≡ true), AllPass-from_list_all is_uri_byte bytes outer.1, space))
+    e
 
 -- empty lines, and then words; cr says that a CR stands before
-record Blanks (cr : Bool) (bytes : List ℕ) : Type 0 where
-  ends : List LineEnd
-  rest : List ℕ
-  words_are : Words false rest
-  are : cond cr (13 ∷ bytes) bytes ≡ print_blank ends ++ rest
-
-blanks_lf : (cr : Bool) (bytes : List ℕ) → Blanks false bytes → Blanks cr (10 ∷ bytes)
-blanks_lf true bytes k = record { ends = crlf ∷ k.ends; rest = k.rest; words_are = k.words_are; are = ap (λ (xs : List ℕ). 13 ∷ 10 ∷ xs) k.are }
-blanks_lf false bytes k = record { ends = lf ∷ k.ends; rest = k.rest; words_are = k.words_are; are = ap (λ (xs : List ℕ). 10 ∷ xs) k.are }
-
-blanks_cr : (bytes : List ℕ) → Blanks true bytes → Blanks false (13 ∷ bytes)
-blanks_cr bytes k = record { ends = k.ends; rest = k.rest; words_are = k.words_are; are = k.are }
-
-blanks_done : (bytes : List ℕ) → Words false bytes → Blanks false bytes
-blanks_done bytes w = record { ends = []; rest = bytes; words_are = w; are = refl }
-
-blanks_other : (is_cr : Bool) (cr : Bool) (b : ℕ) (bytes : List ℕ) → (b == 13) ≡ is_cr → (in_blank true bytes ≡ true → Blanks true bytes)
-    → cond cr false (cond is_cr (in_blank true bytes) (in_method false (b ∷ bytes))) ≡ true → Blanks cr (b ∷ bytes)
-blanks_other is_cr true b bytes is rest e = absurd (false≢true e)
-blanks_other true false b bytes is rest e = subst (λ v. Blanks false (v ∷ bytes)) (sym (eqb-true b 13 is)) (blanks_cr bytes (rest e))
-blanks_other false false b bytes is rest e = blanks_done (b ∷ bytes) (words false (b ∷ bytes) e)
-
-blanks_step : (is_lf : Bool) (cr : Bool) (b : ℕ) (bytes : List ℕ) → (b == 10) ≡ is_lf → (in_blank false bytes ≡ true → Blanks false bytes) → (in_blank true bytes ≡ true → Blanks true bytes)
-    → cond is_lf (in_blank false bytes) (cond cr false (cond (b == 13) (in_blank true bytes) (in_method false (b ∷ bytes)))) ≡ true → Blanks cr (b ∷ bytes)
-blanks_step true cr b bytes is rest again e = subst (λ v. Blanks cr (v ∷ bytes)) (sym (eqb-true b 10 is)) (blanks_lf cr bytes (rest e))
-blanks_step false cr b bytes is rest again e = blanks_other (b == 13) cr b bytes refl again e
+abbrev Blanks : Bool → List ℕ → Type 0
+Blanks cr bytes = (ends : List LineEnd) × (rest : List ℕ) × Words false rest × (cond cr (13 ∷ bytes) bytes ≡ print_blank ends ++ rest)
 
 blanks : (cr : Bool) (bytes : List ℕ) → in_blank cr bytes ≡ true → Blanks cr bytes
 blanks cr [] e = absurd (false≢true e)
-blanks cr (b ∷ bytes) e = blanks_step (b == 10) cr b bytes refl (blanks false bytes) (blanks true bytes) e
+blanks true (b ∷ bytes) e = cond_both (b == 10) (in_blank false bytes) false (λ (t : Bool). t ≡ true → Blanks true (b ∷ bytes))
+    (λ is ok.
+    let k = blanks false bytes ok in
+    (crlf ∷ k.0, k.1, k.2, ap (λ (v : ℕ). 13 ∷ v ∷ bytes) (eqb-true b 10 is) ∙ ap (λ (xs : List ℕ). 13 ∷ 10 ∷ xs) k.3)) (λ _ ok. absurd (false≢true ok)) e
+blanks false (b ∷ bytes) e = cond_both (b == 10) (in_blank false bytes)
+    (cond (b == 13) (in_blank true bytes) (in_method false (b ∷ bytes))) (λ (t : Bool). t ≡ true → Blanks false (b ∷ bytes))
+    (λ is ok.
+    let k = blanks false bytes ok in
+    (lf ∷ k.0, k.1, k.2, ap (λ (v : ℕ). v ∷ bytes) (eqb-true b 10 is) ∙ ap (λ (xs : List ℕ). 10 ∷ xs) k.3))
+    (λ _. cond_both (b == 13) (in_blank true bytes) (in_method false (b ∷ bytes)) (λ (t : Bool). t ≡ true → Blanks false (b ∷ bytes))
+    (λ is ok.
+    let k = blanks true bytes ok in
+    (k.0, k.1, k.2, ap (λ (v : ℕ). v ∷ bytes) (eqb-true b 13 is) ∙ k.3)) (λ _ ok. ([], b ∷ bytes, words false (b ∷ bytes) ok, refl)))
+    e
 
 -- the test tells a text that ends in a target
 pub in_target_yes : (bytes : List ℕ) → in_blank false bytes ≡ true → EndsInTarget bytes
 in_target_yes bytes e =
     let k = blanks false bytes e in
-    let w = k.words_are in
-    (k.ends, w.method, w.target, (w.begun refl, w.tokens), w.uris, k.are ∙ ap (λ (xs : List ℕ). print_blank k.ends ++ xs) w.are ∙ sym (append_assoc (print_blank k.ends) w.method (32 ∷ w.target)))
+    let w = k.2 in
+    (k.0, w.0, w.1, (w.2 refl, w.3), w.4, k.3 ∙ ap (λ (xs : List ℕ). print_blank k.0 ++ xs) w.5 ∙ sym (append_assoc (print_blank k.0) w.0 (32 ∷ w.1)))
 
 -- ---- and no other
 

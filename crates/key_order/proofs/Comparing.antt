@@ -10,29 +10,16 @@ key_cmp = slice_cmp nat_cmp
 abbrev Bytes : List ℕ → Type 0
 Bytes xs = (k : ℕ) → Fits w8 (get_or xs k 0)
 
-below : (x y : ℕ) → x < y → nat_cmp x y ≡ Less
-below x y less = sym (nat_cmp_is x y Less less)
-
-level : (x y : ℕ) → x ≡ y → nat_cmp x y ≡ Equal
-level x y same = sym (nat_cmp_is x y Equal same)
-
-above : (x y : ℕ) → y < x → nat_cmp x y ≡ Greater
-above x y more = sym (nat_cmp_is x y Greater more)
-
-head_is : (x y : ℕ) (xs ys : List ℕ) → x ∷ xs ≡ y ∷ ys → x ≡ y
-head_is x y xs ys same = ap (λ l. get_or l 0 0) same
-
-tail_is : (x y : ℕ) (xs ys : List ℕ) → x ∷ xs ≡ y ∷ ys → xs ≡ ys
-tail_is x y xs ys same = ap (drop 1) same
+-- keys whose first bytes are alike compare as what follows does
+first_alike : (x y : ℕ) (xs ys us vs : List ℕ) → x ∷ us ≡ y ∷ vs → key_cmp (x ∷ xs) (y ∷ ys) ≡ key_cmp xs ys
+first_alike x y xs ys us vs same = ap (λ r. ordering_then r (key_cmp xs ys)) (sym (nat_cmp_is x y Equal (ap (λ l. get_or l 0 0) same)))
 
 -- past what is alike
 pub past : (i : ℕ) (xs ys : List ℕ) → i ≤ length xs → i ≤ length ys → take i xs ≡ take i ys → key_cmp xs ys ≡ key_cmp (drop i xs) (drop i ys)
 past zero xs ys a b same = refl
 past (suc i) [] ys a b same = absurd (omega arith)
 past (suc i) (x ∷ xs) [] a b same = absurd (omega arith)
-past (suc i) (x ∷ xs) (y ∷ ys) a b same =
-    ap (λ r. ordering_then r (key_cmp xs ys)) (level x y (head_is x y (take i xs) (take i ys) same))
-    ∙ past i xs ys (omega arith) (omega arith) (tail_is x y (take i xs) (take i ys) same)
+past (suc i) (x ∷ xs) (y ∷ ys) a b same = first_alike x y xs ys (take i xs) (take i ys) same ∙ past i xs ys (omega arith) (omega arith) (ap (drop 1) same)
 
 pub fewer : (i j : ℕ) (xs ys : List ℕ) → i ≤ j → take j xs ≡ take j ys → take i xs ≡ take i ys
 fewer i j xs ys le same = sym (take-take i j xs le) ∙ ap (take i) same ∙ take-take i j ys le
@@ -44,9 +31,8 @@ by_ends [] (y ∷ ys) n is same = omega arith
 by_ends (x ∷ xs) [] n is same = omega arith
 by_ends (x ∷ xs) (y ∷ ys) zero is same = absurd (omega arith)
 by_ends (x ∷ xs) (y ∷ ys) (suc n) is same =
-    subst (λ r. MatchOrdering (ordering_then r (key_cmp xs ys)) (suc (length xs) < suc (length ys)) (suc (length xs) ≡ suc (length ys)) (suc (length ys) < suc (length xs)))
-    (sym (level x y (head_is x y (take n xs) (take n ys) same)))
-    (more (key_cmp xs ys) (length xs) (length ys) (by_ends xs ys n (omega arith) (tail_is x y (take n xs) (take n ys) same)))
+    subst (λ r. MatchOrdering r (suc (length xs) < suc (length ys)) (suc (length xs) ≡ suc (length ys)) (suc (length ys) < suc (length xs))) (sym (first_alike x y xs ys (take n xs) (take n ys) same))
+    (more (key_cmp xs ys) (length xs) (length ys) (by_ends xs ys n (omega arith) (ap (drop 1) same)))
   where
     more : (r : Ordering) (a b : ℕ) → MatchOrdering r (a < b) (a ≡ b) (b < a) → MatchOrdering r (suc a < suc b) (suc a ≡ suc b) (suc b < suc a)
     more Less a b h = let less : a < b = h in omega arith
@@ -81,29 +67,25 @@ spells (suc n) a (u ∷ us) (v ∷ vs) p q g h = by (spells n (a * 256 + u) us v
     by rest Less e lies =
         let under : u < v = lies in
         let t = rises n (a * 256 + u) (a * 256 + v) us vs (omega arith) (omega arith) (λ k. g (suc k)) (omega arith) in
-        record { apart = λ _. ap (λ r. ordering_then r (key_cmp us vs)) e ∙ sym (below _ _ t); alike = λ s. absurd (omega arith) }
+        record { apart = λ _. ap (λ r. ordering_then r (key_cmp us vs)) e ∙ nat_cmp_is _ _ Less t; alike = λ s. absurd (omega arith) }
     by rest Greater e lies =
         let over : v < u = lies in
         let t = rises n (a * 256 + v) (a * 256 + u) vs us (omega arith) (omega arith) (λ k. h (suc k)) (omega arith) in
-        record { apart = λ _. ap (λ r. ordering_then r (key_cmp us vs)) e ∙ sym (above _ _ t); alike = λ s. absurd (omega arith) }
+        record { apart = λ _. ap (λ r. ordering_then r (key_cmp us vs)) e ∙ nat_cmp_is _ _ Greater t; alike = λ s. absurd (omega arith) }
     by rest Equal e lies =
         let tied : u ≡ v = lies in
         let t = subst (λ z. Settles us vs n (big_endian (a * 256 + u) (take n us)) (big_endian (a * 256 + z) (take n vs))) tied rest in
         record { apart = λ f. ap (λ r. ordering_then r (key_cmp us vs)) e ∙ t.apart f; alike = λ s i. tied i ∷ t.alike s i }
 
 -- the eight bytes from i on, where those before are alike
-settles_there : (xs ys : List ℕ) (i : ℕ) → Bytes xs → Bytes ys → i + 8 ≤ length xs → i + 8 ≤ length ys → take i xs ≡ take i ys → Settles xs ys (i + 8) (big_endian 0 (take 8 (drop i xs))) (big_endian 0 (take 8 (drop i ys)))
-settles_there xs ys i g h p q same =
-    let t = spells 8 0 (drop i xs) (drop i ys) (omega (arith, length-drop i xs)) (omega (arith, length-drop i ys))
-    (λ k. subst (Fits w8) (sym (get_or-drop i xs k 0)) (g (i + k))) (λ k. subst (Fits w8) (sym (get_or-drop i ys k 0)) (h (i + k))) in
-    record {
-      apart = λ f. past i xs ys (omega arith) (omega arith) same ∙ t.apart f;
-      alike = λ s. take-add i 8 xs ∙ (λ j. same j ++ t.alike s j) ∙ sym (take-add i 8 ys);
-    }
-
 pub settles : (xs ys : List ℕ) (i x y : ℕ) → Bytes xs → Bytes ys → i + 8 ≤ length xs → i + 8 ≤ length ys → take i xs ≡ take i ys → x ≡ big_endian 0 (take 8 (drop i xs)) → y ≡ big_endian 0 (take 8 (drop i ys)) → Settles xs ys (i + 8) x y
 settles xs ys i x y g h p q same a b =
-    subst (Settles xs ys (i + 8) x) (sym b) (subst (λ z. Settles xs ys (i + 8) z (big_endian 0 (take 8 (drop i ys)))) (sym a) (settles_there xs ys i g h p q same))
+    let t = spells 8 0 (drop i xs) (drop i ys) (omega (arith, length-drop i xs)) (omega (arith, length-drop i ys))
+    (λ k. subst (Fits w8) (sym (get_or-drop i xs k 0)) (g (i + k))) (λ k. subst (Fits w8) (sym (get_or-drop i ys k 0)) (h (i + k))) in
+    subst (Settles xs ys (i + 8) x) (sym b) (subst (λ z. Settles xs ys (i + 8) z (big_endian 0 (take 8 (drop i ys)))) (sym a) (record {
+      apart = λ f. past i xs ys (omega arith) (omega arith) same ∙ t.apart f;
+      alike = λ s. take-add i 8 xs ∙ (λ j. same j ++ t.alike s j) ∙ sym (take-add i 8 ys);
+    }))
 
 -- n bytes from i + k on, one by one
 abbrev reads : List ℕ → ℕ → ℕ → ℕ → List ℕ

@@ -1,11 +1,11 @@
 -- What keeps a map, and that pages hold one map alone.
 use Rattle.std.{specs.FinMap.{entries, empty, len-entries, len-empty, same_entries_map}, proofs.Common.{rules, inl, inr, ⊎_elim, refl, sym, ap, subst, ◌∙◌, arith, length-append}}
-use Rattle.std.{specs.Prelude.{◌≡◌, ◌≢◌, ◌⊎◌, ◌<◌, ◌≤◌, ◌+◌, ◌-◌, ◌*◌, ◌^◌, ℕ, List, [], ◌∷◌, length, Option, Some}, proofs.lemmas.List.nil_from_length}
-use Rattle.{page_btree.specs.{Map.OpensMap, claim.{Keys.KeyMap, Map.{Holds, InTxn}}}, page_node.specs.{Entries.child_in, claim.{Entries.{Entry, child_bytes}, Node.{Node, IsNode}}}}
+use Rattle.std.{specs.Prelude.{◌≡◌, ◌≢◌, ◌⊎◌, ◌<◌, ◌≤◌, ◌+◌, ◌-◌, ◌*◌, ◌^◌, ℕ, List, [], length, drop, Option, Some}, proofs.lemmas.List.nil_from_length}
+use Rattle.{page_btree.specs.{Map.OpensMap, claim.{Keys.KeyMap, Map.{Holds, InTxn}}}, page_node.specs.{Entries.{child_in, key_at, value_at}, claim.Entries.{Entry, child_bytes}}}
 use Rattle.page_btree.specs.claim.Tree.{Tree, Forest, leaf, inner, one, more, first_key, links, page_of, rows, forest_rows, owns, forest_owns, size, forest_size, IsTree, AreTrees}
-use Rattle.{page_node.specs.claim.Places.key_cmp, page_store.specs.claim.{Chain.{IsPages, root_in, free_in}, Transactions.{txn_pages, txn_root, over, free_over}}}
-use Rattle.{page_store.specs.{declared.txn.Txn.Txn, gate_journal.{Store.IsBeforeOrAfter, claim.Store.{home, overlay}}}, sector_device.specs.claim.Disk.Image}
-use Rattle.{page_btree.proofs.Descent.{some_links, owns_page}, page_node.proofs.{Editing.count_small, Laws.{node_unique, child_written}}}
+use Rattle.{page_node.specs.claim.{Node.{Node, IsNode}, Places.key_cmp}, page_store.specs.{claim.Chain.{IsPages, root_in, free_in}, declared.txn.Txn.Txn}}
+use Rattle.page_store.specs.{claim.Transactions.{txn_pages, txn_root, over, free_over}, gate_journal.{Store.IsBeforeOrAfter, claim.Store.{home, overlay}}}
+use Rattle.{sector_device.specs.claim.Disk.Image, page_btree.proofs.Descent.{some_links, owns_page}, page_node.proofs.{Editing.count_small, Laws.{node_unique, child_written}}}
 
 -- pages that agree on a tree's own hold it both
 mutual
@@ -54,18 +54,6 @@ new_holds n P root sound whole = search (rules, no_entries)
 pub page_is : (p q : ℕ) → p < 2 ^ 32 → q < 2 ^ 32 → child_bytes p ≡ child_bytes q → p ≡ q
 page_is p q a b same = sym (child_written p a) ∙ ap child_in same ∙ child_written q b
 
-abbrev pub key_of : List Entry → List ℕ
-key_of [] = []
-key_of (e ∷ es) = e.0
-
-abbrev value_of : List Entry → List ℕ
-value_of [] = []
-value_of (e ∷ es) = e.1
-
-abbrev rest_of : List Entry → List Entry
-rest_of [] = []
-rest_of (e ∷ es) = es
-
 abbrev pub AreSmall : Tree → Type 0
 AreSmall t = (q : ℕ) → owns t q → q < 2 ^ 32
 
@@ -86,13 +74,13 @@ mutual
 
   pub one_forest : (P : Image) (d e : ℕ) (low low' : List ℕ) (high high' : Option (List ℕ)) (f g : Forest) → AllSmall f → AllSmall g → AreTrees P d low high f → AreTrees P e low' high' g → links f ≡ links g → f ≡ g
   one_forest P d e low low' high high' (one k t) (one q u) small small' is is' same =
-      search (rules, one_tree P d e low low' high high' t u small small' is is' (page_is (page_of t) (page_of u) (small _ (owns_page t)) (small' _ (owns_page u)) (ap value_of same)))
-  one_forest P d e low low' high high' (one k t) (more q u g) small small' is is' same = absurd (let n : 0 ≡ length (links g) = ap (λ (l : List Entry). length (rest_of l)) same in let some = some_links g in omega arith)
-  one_forest P d e low low' high high' (more k t f) (one q u) small small' is is' same = absurd (let n : length (links f) ≡ 0 = ap (λ (l : List Entry). length (rest_of l)) same in let some = some_links f in omega arith)
+      search (rules, one_tree P d e low low' high high' t u small small' is is' (page_is (page_of t) (page_of u) (small _ (owns_page t)) (small' _ (owns_page u)) (ap (λ (l : List Entry). value_at l 0) same)))
+  one_forest P d e low low' high high' (one k t) (more q u g) small small' is is' same = absurd (let n : 0 ≡ length (links g) = ap (λ (l : List Entry). length (drop 1 l)) same in let some = some_links g in omega arith)
+  one_forest P d e low low' high high' (more k t f) (one q u) small small' is is' same = absurd (let n : length (links f) ≡ 0 = ap (λ (l : List Entry). length (drop 1 l)) same in let some = some_links f in omega arith)
   one_forest P d e low low' high high' (more k t f) (more q u g) small small' is is' same =
-      let key : k ≡ q = ap key_of same in
-      let here : t ≡ u = one_tree P d e low low' (Some (first_key f)) (Some (first_key g)) t u (λ x own. small x (inl own)) (λ x own. small' x (inl own)) is.0 is'.0 (page_is (page_of t) (page_of u) (small _ (inl (owns_page t))) (small' _ (inl (owns_page u))) (ap value_of same)) in
-      let rest : f ≡ g = one_forest P d e (first_key f) (first_key g) high high' f g (λ x own. small x (inr own)) (λ x own. small' x (inr own)) is.2 is'.2 (ap rest_of same) in
+      let key : k ≡ q = ap (λ (l : List Entry). key_at l 0) same in
+      let here : t ≡ u = one_tree P d e low low' (Some (first_key f)) (Some (first_key g)) t u (λ x own. small x (inl own)) (λ x own. small' x (inl own)) is.0 is'.0 (page_is (page_of t) (page_of u) (small _ (inl (owns_page t))) (small' _ (inl (owns_page u))) (ap (λ (l : List Entry). value_at l 0) same)) in
+      let rest : f ≡ g = one_forest P d e (first_key f) (first_key g) high high' f g (λ x own. small x (inr own)) (λ x own. small' x (inr own)) is.2 is'.2 (ap (drop 1) same) in
       λ i. more (key i) (here i) (rest i)
 
 -- pages with a root and free pages hold one map at most
@@ -109,10 +97,7 @@ mutual
   few_in_all : (P : Image) (d : ℕ) (low : List ℕ) (high : Option (List ℕ)) (f : Forest) → AreTrees P d low high f → length (forest_rows f) ≤ 1364 * forest_size f
   few_in_all P d low high (one k t) is = few_in P d low high t is
   few_in_all P d low high (more k t f) is =
-      let here = few_in P d low (Some (first_key f)) t is.0 in
-      let rest = few_in_all P d (first_key f) high f is.2 in
-      let both = length-append (rows t) (forest_rows f) in
-      omega arith
+      omega (arith, few_in P d low (Some (first_key f)) t is.0, few_in_all P d (first_key f) high f is.2, length-append (rows t) (forest_rows f))
 
 -- a page has 1,364 rows at most
 pub few_rows : (n : ℕ) (P : Image) (root : ℕ) (free : List ℕ) (m : KeyMap) → Holds n P root free m → length (entries m) ≤ 1364 * n

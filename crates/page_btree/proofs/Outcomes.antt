@@ -28,10 +28,6 @@ pub on_ok : {T E : Type 0} (r : Result T E) (A : Type 0) → A → OnOk r A
 on_ok (Ok x) A h = h
 on_ok (Err e) A h = tt
 
-pub on_err : {T E : Type 0} (r : Result T E) (A B : Type 0) → (A → B) → OnErr r A → OnErr r B
-on_err (Ok x) A B f h = tt
-on_err (Err e) A B f h = f h
-
 -- a fault, where the error can only be one
 pub fault_of : {T : Type 0} (r : Result T TreeError) (P : TreeError → Type 0) → IfErr r (λ e. e ≡ NotAStore) → OnErr r (P NotAStore) → IfErr r P
 fault_of (Ok x) P is h = tt

@@ -1,17 +1,17 @@
 -- The keys of a node above the leaves rise after the first.
 use Rattle.std.specs.{Cmp.Lexicographic.nat_list_cmp_total, FinMap.{is_sorted, Entries.below_all}, Ordering.{is_gt, is_lt}, Prelude.Option, declared.cmp.Ordering.TheVariants.Less}
-use Rattle.{std.proofs.{Common.{◌≡◌, ◌<◌, ◌-◌, ℕ, List, drop, true, false, refl, sym, ap, subst, arith}, lemmas.Cmp.tied_itself}, page_btree.specs.Getting.CanGet}
+use Rattle.{std.proofs.{Common.{◌≡◌, ◌<◌, ◌-◌, ℕ, List, drop, true, false, refl, sym, ap, subst, arith}, lemmas.{Bool.and_from, Cmp.tied_itself}}, page_btree.specs.Getting.CanGet}
 use Rattle.{page_btree.specs.claim.Tree.{Tree, Forest, leaf, inner, one, more, page_of, first_key, links, IsTree, AreTrees}, page_node.specs.Searching.RisesAfter}
-use Rattle.{page_node.specs.claim.{Node.{Node, IsNode}, Places.{key_cmp, Rises}}, sector_device.specs.claim.Disk.Image, page_btree.proofs.Booleans.both_so}
-use Rattle.{page_btree.proofs.Rows.{from_then, less_is_from}, page_node.proofs.Laws.node_unique}
+use Rattle.{page_node.specs.claim.{Node.{Node, IsNode}, Places.{key_cmp, Rises}}, sector_device.specs.claim.Disk.Image, page_btree.proofs.Rows.{from_then, less_is_from}}
+use Rattle.page_node.proofs.Laws.{node_unique}
 
 below_links : (x : List ℕ) (f : Forest) → key_cmp x (first_key f) ≡ Less → below_all key_cmp x (drop 1 (links f)) ≡ true → below_all key_cmp x (links f) ≡ true
-below_links x (one q u) less rest = both_so (is_lt (key_cmp x q)) true (ap is_lt less) refl
-below_links x (more q u f) less rest = both_so (is_lt (key_cmp x q)) (below_all key_cmp x (links f)) (ap is_lt less) rest
+below_links x (one q u) less rest = and_from (is_lt (key_cmp x q)) true (ap is_lt less) refl
+below_links x (more q u f) less rest = and_from (is_lt (key_cmp x q)) (below_all key_cmp x (links f)) (ap is_lt less) rest
 
 sorted_links : (f : Forest) → below_all key_cmp (first_key f) (drop 1 (links f)) ≡ true → Rises (drop 1 (links f)) → Rises (links f)
 sorted_links (one q u) below rises = refl
-sorted_links (more q u f) below rises = both_so (below_all key_cmp q (links f)) (is_sorted key_cmp (links f)) below rises
+sorted_links (more q u f) below rises = and_from (below_all key_cmp q (links f)) (is_sorted key_cmp (links f)) below rises
 
 after_low : (P : Image) (d : ℕ) (low : List ℕ) (high : Option (List ℕ)) (f : Forest) → AreTrees P d low high f → (x : List ℕ) → is_gt (key_cmp x low) ≡ false → below_all key_cmp x (drop 1 (links f)) ≡ true
 after_low P d low high (one k t) is x from = refl

@@ -1,8 +1,8 @@
 -- Rows in a row, and a key among them.
 use Rattle.std.specs.{Cmp.Lexicographic.nat_list_cmp_total, FinMap.{find, put, is_sorted, Entries.{by_order, below_all, is_sorted-put}}, List.AllByRecursion}
 use Rattle.std.specs.{Ordering.{is_gt, is_eq, is_lt, eq_by_cmp}, Prelude.{Option, Some, None, T}, declared.cmp.Ordering.{Ordering, TheVariants.{Less, Equal, Greater}}}
-use Rattle.std.proofs.{Common.{rules, ◌≡◌, ◌<◌, ℕ, List, [], ◌∷◌, ◌++◌, length, Bool, true, false, cond, refl, sym, ap, subst, ◌∙◌, arith}, lemmas.Cmp.tied_itself}
-use Rattle.{page_btree.{specs.claim.Keys.IsUnder, proofs.Booleans.{first_so, second_so, both_so, true_is}}, page_node.specs.claim.{Entries.Entry, Places.{key_cmp, Rises}}}
+use Rattle.std.proofs.{Common.{rules, ◌≡◌, ◌<◌, ℕ, List, [], ◌∷◌, ◌++◌, length, Bool, true, false, cond, refl, sym, ap, subst, ◌∙◌, arith}, lemmas.Bool.{and_parts, and_from}}
+use Rattle.{std.proofs.lemmas.Cmp.tied_itself, page_btree.{specs.claim.Keys.IsUnder, proofs.Booleans.true_is}, page_node.specs.claim.{Entries.Entry, Places.{key_cmp, Rises}}}
 use Rattle.page_node.proofs.{Laws.{flip_less, flip_greater, less_trans, same_key, is_less}, Scanning.above_true}
 
 -- each key has this order to one
@@ -94,18 +94,18 @@ rises_put key value es rises = true_is _ (is_sorted-put key_cmp nat_list_cmp_tot
 -- a key is below the first of rows and the others where it is below each
 pub less_each : (x : List ℕ) (es : List Entry) → below_all key_cmp x es ≡ true → Each Less x es
 less_each x [] h = tt
-less_each x (e ∷ es) h = (is_less (key_cmp x e.0) (first_so (is_lt (key_cmp x e.0)) (below_all key_cmp x es) h), less_each x es (second_so (is_lt (key_cmp x e.0)) (below_all key_cmp x es) h))
+less_each x (e ∷ es) h = (is_less (key_cmp x e.0) (and_parts (is_lt (key_cmp x e.0)) (below_all key_cmp x es) h).0, less_each x es (and_parts (is_lt (key_cmp x e.0)) (below_all key_cmp x es) h).1)
 
 pub each_less : (x : List ℕ) (es : List Entry) → Each Less x es → below_all key_cmp x es ≡ true
 each_less x [] h = refl
-each_less x (e ∷ es) h = both_so (is_lt (key_cmp x e.0)) (below_all key_cmp x es) (ap is_lt h.0) (each_less x es h.1)
+each_less x (e ∷ es) h = and_from (is_lt (key_cmp x e.0)) (below_all key_cmp x es) (ap is_lt h.0) (each_less x es h.1)
 
 -- rows rise where the first is below the others, and these rise
 pub rises_split : (e : Entry) (es : List Entry) → Rises (e ∷ es) → Each Less e.0 es × Rises es
-rises_split e es h = (less_each e.0 es (first_so (below_all key_cmp e.0 es) (is_sorted key_cmp es) h), second_so (below_all key_cmp e.0 es) (is_sorted key_cmp es) h)
+rises_split e es h = let parts = and_parts (below_all key_cmp e.0 es) (is_sorted key_cmp es) h in (less_each e.0 es parts.0, parts.1)
 
 pub rises_cons : (e : Entry) (es : List Entry) → Each Less e.0 es → Rises es → Rises (e ∷ es)
-rises_cons e es below rises = both_so (below_all key_cmp e.0 es) (is_sorted key_cmp es) (each_less e.0 es below) rises
+rises_cons e es below rises = and_from (below_all key_cmp e.0 es) (is_sorted key_cmp es) (each_less e.0 es below) rises
 
 pub rises_prefix : (xs ys : List Entry) → Rises (xs ++ ys) → Rises xs
 rises_prefix [] ys h = refl

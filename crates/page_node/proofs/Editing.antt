@@ -1,8 +1,8 @@
 -- What the edits of a buffer leave.
 use Rattle.std.{specs.{List.{All, copy_within}, Prelude.{insert, remove}}, proofs.lemmas.{Bool.cases_eq, List.Elements.{All-nil, All-cons, All-take, All-drop}}}
 use Rattle.std.proofs.Common.{rules, ◌≡◌, ℕ, ◌+◌, ◌-◌, ◌*◌, ◌<◌, ◌≤◌, List, [], ◌∷◌, ◌++◌, length, take, drop, get_or, set, refl, sym, ap, subst, ◌∙◌, arith, suc, inl, inr}
-use Rattle.{std.proofs.lemmas.List.{take-take, drop-drop, length-take-le, length-drop, append-nil, set_split}, page_node.specs.{Bytes.with_entry, Held.{held_node, IsHeld}}}
-use Rattle.page_node.specs.claim.{Entries.{Entry, IsEntry, entry_bytes, entry_size, body_of, size_of}, Node.Node}
+use Rattle.{std.proofs.lemmas.List.{take-take, drop-drop, length-take-le, length-drop, append-nil, set_split}, page_node.specs.{Bytes.with_entry, claim.Node.Node}}
+use Rattle.page_node.specs.{Held.{held_node, IsHeld, HasEntryAt}, claim.Entries.{Entry, IsEntry, entry_bytes, entry_size, body_of, size_of}}
 use Rattle.page_node.proofs.EntryLists.{size-parts, size-take_more, prefix_at, rest_at, length-read}
 use Rattle.page_node.proofs.Standing.{Stands, nothing, edited, edited_bytes, edited_stands, size-edited, length-edited, size-take_from, moved_is, written_is, size_is, view_of}
 
@@ -13,6 +13,9 @@ count_small (e ∷ es) = let rest = count_small es in omega arith
 module _ (level : ℕ) (es : List Entry) (marks bytes : List ℕ) (s : Stands level es marks bytes) where
   pub marks_rise : (j m : ℕ) → j ≤ m → m ≤ length es → get_or marks j 0 ≤ get_or marks m 0
   marks_rise j m le within = let a = s.places j (omega arith) in let b = s.places m within in let c = size-take_from es j m le in omega arith
+
+  pub has_entry_at : (count i : ℕ) → count ≡ length es → i < length es → HasEntryAt marks i count (get_or marks (i + 1) 0 - get_or marks i 0)
+  has_entry_at count i is within = record { within = omega arith; room = let few = s.few in omega arith; large = λ k low le. omega (arith, marks_rise (i + 1) k (omega arith) (omega arith)) }
 
   pub mark_most : (k : ℕ) → k ≤ length es → get_or marks k 0 ≤ 4 + size_of es
   mark_most k within = let a = s.places k within in let b = size-parts k es in omega arith

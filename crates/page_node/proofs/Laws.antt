@@ -1,11 +1,11 @@
 -- Laws of nodes and of places, for the layers above.
 use Rattle.std.specs.{Cmp.Lexicographic.nat_list_cmp_total, FinMap.{is_sorted, find, put, slice_cmp-IsAntisymmetric, nat_cmp-IsAntisymmetric, Entries.below_all}}
 use Rattle.std.specs.{Ordering.{is_gt, is_lt, is_eq, ordering_reverse, eq_by_cmp}, Prelude.{insert, Option, Some, None}, declared.cmp.Ordering.Ordering}
-use Rattle.std.{specs.declared.cmp.Ordering.TheVariants.{Less, Equal, Greater}, proofs.lemmas.{Bool.cases_eq, Cmp.tied_itself, List.take_at, Nat.from_be_bytes-to_be_bytes_4}}
-use Rattle.std.proofs.Common.{rules, ◌≡◌, ℕ, ◌+◌, ◌-◌, ◌^◌, ◌<◌, ◌≤◌, List, [], ◌∷◌, length, drop, get_or, set, replicate, Bool, true, false, cond, ◌&&◌, refl, sym, ap, subst, ◌∙◌, arith, zero, suc, ◌⊎◌, inl, inr}
-use Rattle.page_node.specs.{Entries.{key_at, value_at, child_in, read_from}, Node.bytes_of, Places.{IsFound, IsGap, floor, floor_from, ceiling, ceiling_from, entries_from}}
-use Rattle.page_node.specs.claim.{Entries.{Entry, body_of, size_of, child_bytes}, Node.{Node, IsNode, IsShape, Fits, count_in}, Places.{key_cmp, Rises}}
-use Rattle.page_node.proofs.EntryLists.{length-body, read_at}
+use Rattle.std.{specs.declared.cmp.Ordering.TheVariants.{Less, Equal, Greater}, proofs.lemmas.{Bool.{cases_eq, and_parts}, Cmp.tied_itself, List.take_at}}
+use Rattle.std.proofs.Common.{rules, ◌≡◌, ℕ, ◌+◌, ◌-◌, ◌^◌, ◌<◌, ◌≤◌, List, [], ◌∷◌, length, drop, get_or, set, replicate, true, false, cond, refl, sym, ap, subst, ◌∙◌, arith, zero, suc, ◌⊎◌, inl, inr}
+use Rattle.{std.proofs.lemmas.Nat.from_be_bytes-to_be_bytes_4, page_node.specs.{Entries.{key_at, value_at, child_in, read_from}, Node.bytes_of, claim.Places.{key_cmp, Rises}}}
+use Rattle.page_node.specs.{Places.{IsFound, IsGap, floor, floor_from, ceiling, ceiling_from, entries_from}, claim.Entries.{Entry, body_of, size_of, child_bytes}}
+use Rattle.page_node.{specs.claim.Node.{Node, IsNode, IsShape, Fits, count_in}, proofs.EntryLists.{length-body, read_at}}
 
 -- ---- nodes
 -- the node of a page that stands for one
@@ -45,27 +45,19 @@ less_trans x y z one other = nat_list_cmp_total.trans x y z one other
 pub same_key : (x y : List ℕ) → key_cmp x y ≡ Equal → x ≡ y
 same_key x y tied = slice_cmp-IsAntisymmetric nat_cmp-IsAntisymmetric x y tied
 
-first_so : (b c : Bool) → (b && c) ≡ true → b ≡ true
-first_so true c h = refl
-first_so false c h = h
-
-second_so : (b c : Bool) → (b && c) ≡ true → c ≡ true
-second_so true c h = h
-second_so false c h = cc
-
 pub is_less : (r : Ordering) → is_lt r ≡ true → r ≡ Less
 is_less Less h = refl
 is_less _ h = cc
 
 below_at : (x : List ℕ) (es : List Entry) (j : ℕ) → below_all key_cmp x es ≡ true → j < length es → key_cmp x (key_at es j) ≡ Less
 below_at x [] j h within = absurd (omega arith)
-below_at x (e ∷ es) zero h within = is_less (key_cmp x e.0) (first_so (is_lt (key_cmp x e.0)) (below_all key_cmp x es) h)
-below_at x (e ∷ es) (suc j) h within = below_at x es j (second_so (is_lt (key_cmp x e.0)) (below_all key_cmp x es) h) (omega arith)
+below_at x (e ∷ es) zero h within = is_less (key_cmp x e.0) (and_parts (is_lt (key_cmp x e.0)) (below_all key_cmp x es) h).0
+below_at x (e ∷ es) (suc j) h within = below_at x es j (and_parts (is_lt (key_cmp x e.0)) (below_all key_cmp x es) h).1 (omega arith)
 
 -- a key stands below each later one
 pub rises_at : (es : List Entry) (i j : ℕ) → Rises es → i < j → j < length es → key_cmp (key_at es i) (key_at es j) ≡ Less
-rises_at (e ∷ es) zero (suc j) rises less within = below_at e.0 es j (first_so (below_all key_cmp e.0 es) (is_sorted key_cmp es) rises) (omega arith)
-rises_at (e ∷ es) (suc i) (suc j) rises less within = rises_at es i j (second_so (below_all key_cmp e.0 es) (is_sorted key_cmp es) rises) (omega arith) (omega arith)
+rises_at (e ∷ es) zero (suc j) rises less within = below_at e.0 es j (and_parts (below_all key_cmp e.0 es) (is_sorted key_cmp es) rises).0 (omega arith)
+rises_at (e ∷ es) (suc i) (suc j) rises less within = rises_at es i j (and_parts (below_all key_cmp e.0 es) (is_sorted key_cmp es) rises).1 (omega arith) (omega arith)
 rises_at _ i _ rises less within = absurd (omega arith)
 
 lt_or_same : (j m : ℕ) → j ≤ m → (j < m) ⊎ (j ≡ m)

@@ -1,8 +1,8 @@
 -- A search that looks at a few keys of those that rise.
 use Rattle.std.{specs.{Ordering.is_gt, Prelude.{Result, Ok, Err, OnErr}, declared.cmp.Ordering.{Ordering, TheVariants.{Less, Equal, Greater}}}, proofs.lemmas.Bool.cases_eq}
-use Rattle.{std.proofs.Common.{rules, ◌≡◌, ℕ, ◌+◌, ◌<◌, List, ◌∷◌, length, false, suc, refl, sym, ap, ◌∙◌, subst, arith, inl, inr}, page_node.specs.{Bytes.LiesAt, Entries.key_at}}
-use Rattle.page_node.{specs.{Searching.{IsBelow, IsLast, RisesAfter}, claim.{Entries.Entry, Places.key_cmp}}, proofs.Laws.{rises_at, less_trans, same_key}}
-use Rattle.page_node.proofs.Scanning.{IsEntryOf, end_there, value_part}
+use Rattle.{std.proofs.Common.{rules, ◌≡◌, ℕ, ◌+◌, ◌-◌, ◌<◌, List, ◌∷◌, length, take, false, suc, refl, sym, ap, ◌∙◌, subst, arith, inl, inr}, page_node.specs.Entries.key_at}
+use Rattle.page_node.specs.{Bytes.{LiesAt, LiesNot}, Searching.{IsBelow, IsLast, RisesAfter}, Walking.PassesTo, claim.{Entries.{Entry, size_of}, Node.{Node, IsNode}}}
+use Rattle.page_node.{specs.claim.Places.key_cmp, proofs.{Laws.{rises_at, less_trans, same_key}, Passed.node_passed, Scanning.{lies_there, entry_of, end_of, value_part}}}
 
 lower_of : (x y z : List ℕ) (r : Ordering) → key_cmp x y ≡ Less → key_cmp y z ≡ r → is_gt r ≡ false → is_gt (key_cmp x z) ≡ false
 lower_of x y z Less less is from = ap is_gt (less_trans x y z less is)
@@ -13,19 +13,6 @@ pub after_at : (es : List Entry) (j k : ℕ) → RisesAfter es → 0 < j → j <
 after_at (e ∷ es) (suc j) (suc k) rises some less within = rises_at es j k rises (omega arith) (omega arith)
 after_at _ _ _ rises some less within = absurd (omega arith)
 
--- after an entry whose key isn't above, none of the entries before is
-pub last_after : (page key : List ℕ) (es : List Entry) (k at value end : ℕ) → IsEntryOf page es k at → LiesAt page at value end → RisesAfter es → k < length es → is_gt (key_cmp (key_at es k) key) ≡ false → IsLast page key es (k + 1) value end
-last_after page key es k at value end e lies rises within from =
-    record {
-      place = end_there page es k at value end e lies;
-      below = λ j some less. elim (cases_eq j k) [
-        | inl same ↦ subst (λ (i : ℕ). is_gt (key_cmp (key_at es i) key) ≡ false) (sym same) from
-        | inr other ↦ lower_of (key_at es j) (key_at es k) key (key_cmp (key_at es k) key) (after_at es j k rises some (omega arith) within) refl from
-      ];
-      none = λ none. absurd (omega arith);
-      some = λ _. search (rules, value_part);
-    }
-
 -- no entry is before the first
 pub first_below : (key : List ℕ) (es : List Entry) → IsBelow key es 0 4
 first_below key es = (refl, λ rises j less. absurd (omega arith))
@@ -33,3 +20,26 @@ first_below key es = (refl, λ rises j less. absurd (omega arith))
 pub where_err : {T E : Type 0} (r : Result T E) (A B : Type 0) → (A → B) → OnErr r A → OnErr r B
 where_err (Ok x) A B f h = tt
 where_err (Err e) A B f h = f h
+
+-- ---- the entry after eight that were passed
+module _ (page : List ℕ) (node : Node) (k at mid : ℕ) (is : IsNode page node) (place : at ≡ 4 + size_of (take k node.entries)) (within : k + 8 < length node.entries) (passed : PassesTo page at 8 mid) where
+  pub ninth : mid ≡ 4 + size_of (take (k + 8) node.entries)
+  ninth = node_passed page node k at 8 mid is place (omega arith) passed
+
+  pub ninth_not : LiesNot page mid → ⊥
+  ninth_not = lies_there page node (k + 8) mid is within ninth
+
+  pub ninth_end : (value end : ℕ) → LiesAt page mid value end → end ≡ 4 + size_of (take (k + 9) node.entries)
+  ninth_end value end lies = end_of page node (k + 8) mid value end is within ninth lies ∙ ap (λ q. 4 + size_of (take q node.entries)) (omega arith)
+
+  -- where its key isn't above, no key before what follows is
+  pub ninth_last : (key : List ℕ) (value end : ℕ) → LiesAt page mid value end → RisesAfter node.entries → is_gt (key_cmp (key_at node.entries (k + 8)) key) ≡ false → IsLast page key node.entries (k + 9) value end
+  ninth_last key value end lies rises from = record {
+    place = ninth_end value end lies;
+    below = λ j some less. elim (cases_eq j (k + 8)) [
+      | inl same ↦ subst (λ (i : ℕ). is_gt (key_cmp (key_at node.entries i) key) ≡ false) (sym same) from
+      | inr other ↦ lower_of (key_at node.entries j) (key_at node.entries (k + 8)) key (key_cmp (key_at node.entries (k + 8)) key) (after_at node.entries j (k + 8) rises some (omega arith) within) refl from
+    ];
+    none = λ none. absurd (omega arith);
+    some = λ _. let e = entry_of page node (k + 8) mid is within ninth in let before : k + 9 - 1 ≡ k + 8 = omega arith in rw before (search (rules, value_part));
+  }

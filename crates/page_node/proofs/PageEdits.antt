@@ -2,9 +2,10 @@
 use Rattle.std.specs.{FinMap.{find, put}, List.{All, copy_within}, Prelude.{insert, remove, Bool, true, false, cond, Option, Some, None, is_some, Result, Ok, Err, OnErr}}
 use Rattle.std.proofs.Common.{◌≡◌, ℕ, ◌+◌, ◌-◌, ◌*◌, ◌/◌, ◌%◌, ◌<◌, ◌≤◌, List, [], ◌∷◌, ◌++◌, length, take, drop, get_or, set, refl, sym, ap, subst, ◌∙◌, arith, suc, length-append, append_assoc, take-append-drop}
 use Rattle.std.proofs.{Math.Seq.take-add, lemmas.List.{length-take-le, length-drop, append-nil, drop-drop, set_split, take-take, take-set, take-append-le, get_or-set_other}}
-use Rattle.{std.proofs.lemmas.List.{Edits.get_or-insert_below, Elements.All-nil}, page_node.specs.{Bytes.with_entry, Entries.key_at, Places.{IsFound, IsGap}, Searching.IsBelow}}
-use Rattle.page_node.specs.{Spots.{IsSpot, Becomes, IsRowPut}, claim.{Entries.{Entry, IsEntry, entry_bytes, entry_size, body_of, size_of}, Node.{Node, IsNode, count_in}}}
-use Rattle.page_node.{specs.{claim.Places.key_cmp, declared.edit.RowPut.RowPut}, proofs.{Editing.single, EntryLists.size-parts, Laws.{found_put, found_find, gap_put, gap_find}}}
+use Rattle.{std.proofs.lemmas.List.{Edits.get_or-insert_below, Elements.All-nil}, page_node.specs.{Bytes.with_entry, Places.{IsFound, IsGap}, Searching.IsBelow}}
+use Rattle.page_node.specs.{Spots.{IsSpot, IsSpotFrom, Becomes, IsRowPut, PutsRow, InsertsEntry, ReplacesEntry}, claim.Node.{Node, IsNode, Fits, count_in}, declared.spot.Spot.Spot}
+use Rattle.page_node.specs.{claim.{Entries.{Entry, IsEntry, entry_bytes, entry_size, body_of, size_of}, Places.{key_cmp, Rises}}, declared.edit.RowPut.RowPut}
+use Rattle.page_node.{specs.declared.search.RowNear.RowNear, proofs.{Editing.single, EntryLists.size-parts, Laws.{found_put, found_find, gap_put, gap_find}, Nearing.first_below}}
 use Rattle.page_node.proofs.Standing.{edited, edited_bytes, size-edited, length-edited, All-edited, size-take_from, moved_is}
 
 -- ---- the head of a page that says another count
@@ -12,11 +13,8 @@ abbrev pub headed : List ℕ → ℕ → List ℕ
 headed page count = set (set page 2 (count / 256)) 3 (count % 256)
 
 after_head : (page : List ℕ) (count : ℕ) → drop 4 (headed page count) ≡ drop 4 page
-after_head [] count = refl
-after_head (a ∷ []) count = refl
-after_head (a ∷ b ∷ []) count = refl
-after_head (a ∷ b ∷ c ∷ []) count = refl
 after_head (a ∷ b ∷ c ∷ d ∷ page) count = refl
+after_head _ count = refl
 
 level_headed : (page : List ℕ) (count : ℕ) → get_or (headed page count) 0 0 ≡ get_or page 0 0
 level_headed [] count = refl
@@ -39,14 +37,9 @@ count_stays (a ∷ b ∷ c ∷ d ∷ page) rest n long = ap (λ l. count_in (l +
 count_stays _ rest n long = absurd (omega arith)
 
 prefix_long : (page rest : List ℕ) (n : ℕ) → 4 ≤ length page → 4 ≤ length (take (4 + n) page ++ rest)
-prefix_long [] rest n long = absurd (omega arith)
-prefix_long (a ∷ []) rest n long = absurd (omega arith)
-prefix_long (a ∷ b ∷ []) rest n long = absurd (omega arith)
-prefix_long (a ∷ b ∷ c ∷ []) rest n long = absurd (omega arith)
 prefix_long (a ∷ b ∷ c ∷ d ∷ page) rest n long =
-    let m = ap length (take-add 4 n (a ∷ b ∷ c ∷ d ∷ page)) in
-    let e = length-append (take (4 + n) (a ∷ b ∷ c ∷ d ∷ page)) rest in
-    omega arith
+    let m = ap length (take-add 4 n (a ∷ b ∷ c ∷ d ∷ page)) in omega (arith, length-append (take (4 + n) (a ∷ b ∷ c ∷ d ∷ page)) rest)
+prefix_long _ rest n long = absurd (omega arith)
 
 -- ---- entries from i up to j give way to others
 module _ (page : List ℕ) (node : Node) (is : IsNode page node) (long : length page ≡ 4096) (i j : ℕ) (mid : List Entry) (ordered : i ≤ j) (within : j ≤ length node.entries) (entries : All IsEntry mid) (children : 0 < node.level → All (λ e. length e.1 ≡ 4) mid) (fits : size_of (edited node.entries i j mid) ≤ 4092) where
@@ -121,12 +114,8 @@ module _ (page : List ℕ) (node : Node) (is : IsNode page node) (long : length 
 
     pub replaced_size : (e : Entry) → size_of (set node.entries i e) + (end - at) ≡ size_of node.entries + entry_size e
     replaced_size e =
-        let size = size-edited node.entries i (suc i) (e ∷ []) in
-        let parts = size-parts (suc i) node.entries in
-        let less = size-take_from node.entries i (suc i) (omega arith) in
-        let there = next in
         let same = ap size_of (set_split node.entries i e within) in
-        omega arith
+        omega (arith, size-edited node.entries i (suc i) (e ∷ []), size-parts (suc i) node.entries, size-take_from node.entries i (suc i) (omega arith), next)
 
     pub replaced_node : (e : Entry) (made : List ℕ) → IsEntry e → (0 < node.level → length e.1 ≡ 4) → at + entry_size e + (used - end) ≤ 4096
         → made ≡ take at page ++ (entry_bytes e ++ (take (used - end) (drop end page) ++ drop (at + entry_size e + (used - end)) page))
@@ -183,52 +172,60 @@ pub none_told : (fits : Bool) (put : RowPut) (did : Option RowPut) → did ≡ c
 none_told true put did is none = cc
 none_told false put did is none = refl
 
+-- the spot of a key, where it is known whether it was found
+pub spot_of : (page key : List ℕ) (es : List Entry) (b : Bool) (from : RowNear) (s : Spot) → IsSpotFrom page key from s → s.found ≡ b → IsNode page (record { level = 0; entries = es }) → Rises es → IsBelow key es from.k from.at
+    → IsSpot key es b s.index s.at s.end
+spot_of page key es b from s told is_found is rises begun = subst (λ found. IsSpot key es found s.index s.at s.end) is_found (told.spot _ is rises begun)
+
+-- why the page stands for no leaf whose keys rise, told of one in which the key has this spot
+pub none_put : (page key : List ℕ) (b : Bool) (from : RowNear) (s : Spot) → IsSpotFrom page key from s → s.found ≡ b → ((es : List Entry) → IsNode page (record { level = 0; entries = es }) → IsSpot key es b s.index s.at s.end → ⊥)
+    → (es : List Entry) → IsNode page (record { level = 0; entries = es }) → Rises es → IsBelow key es from.k from.at → ⊥
+none_put page key b from s told is_found why es is rises begun = why es is (spot_of page key es b from s told is_found is rises begun)
+
+-- the same of a row that was found from the first entry on, where the page stands for no node with entries
+pub none_taken : (page key : List ℕ) (s : Spot) → IsSpotFrom page key (record { k = 0; at = 4 }) s → s.found ≡ true → ((node : Node) → IsNode page node → 0 < length node.entries → ⊥)
+    → (es : List Entry) → IsNode page (record { level = 0; entries = es }) → Rises es → ⊥
+none_taken page key s told is_found none es is rises = none _ is (let here = (spot_of page key es true _ s told is_found is rises (first_below key es)).0.within in omega arith)
+
 -- each key before a row that was put is below its own
 prefix_insert : (es : List Entry) (i : ℕ) (e : Entry) → i ≤ length es → take i (insert es i e) ≡ take i es
-prefix_insert es i e within =
-    let n = length-take-le i es within in
-    take-append-le i (take i es) (e ∷ drop i es) (omega arith) ∙ take-take i i es (omega arith)
+prefix_insert es i e within = take-append-le i (take i es) (e ∷ drop i es) (omega (arith, length-take-le i es within)) ∙ take-take i i es (omega arith)
 
-module _ (key : List ℕ) (es : List Entry) (value : List ℕ) (i at end : ℕ) where
-  after_found : IsSpot key es true i at end → IsBelow key (put key_cmp key value es) i at
-  after_found s =
-      let here : IsFound key es i = s.0 in
-      let same : put key_cmp key value es ≡ set es i (key_at es i, value) = found_put key value es i here in
-      subst (λ l. IsBelow key l i at) (sym same) (
-        s.1 ∙ ap (λ l. 4 + size_of l) (sym (take-set es i (key_at es i, value))),
-        λ rises j less. ap (λ (e : Entry). key_cmp e.0 key) (get_or-set_other es i j (key_at es i, value) ([], []) (λ same. absurd (omega arith))) ∙ here.below j less,
-      )
+module _ (old new key value : List ℕ) (from : RowNear) (s : Spot) (fits : Bool) (did : Option RowPut) (told : IsSpotFrom old key from s) where
+  abbrev row_at : Bool → RowPut
+  row_at had = record { had = had; near = record { k = s.index; at = s.at } }
 
-  after_gap : IsSpot key es false i at end → IsBelow key (put key_cmp key value es) i at
-  after_gap s =
-      let gap : IsGap key es i = s.0 in
-      let within = gap.within in
-      subst (λ l. IsBelow key l i at) (sym (gap_put key value es i gap)) (
-        s.1 ∙ ap (λ l. 4 + size_of l) (sym (prefix_insert es i (key, value) within)),
-        λ rises j less. ap (λ (e : Entry). key_cmp e.0 key) (get_or-insert_below es i (key, value) ([], []) j less within) ∙ gap.below j less,
-      )
+  put_told : (es made : List Entry) (had b : Bool) → made ≡ put key_cmp key value es → had ≡ is_some (find key_cmp key es) → IsBelow key made s.index s.at → Becomes old new (record { level = 0; entries = made }) b
+      → IsRowPut old new key value es (cond b (Some (row_at had)) None)
+  put_told es made had true same there below becomes = (subst (λ l. IsNode new (record { level = 0; entries = l })) same becomes, there, subst (λ l. IsBelow key l s.index s.at) same below)
+  put_told es made had false same there below becomes = (becomes.0, subst (λ l. Fits (record { level = 0; entries = l }) → ⊥) same becomes.1)
 
-module _ (old new key : List ℕ) (es : List Entry) where
-  put_told : (value : List ℕ) (row : RowPut) (fits : Bool) → row.had ≡ is_some (find key_cmp key es) → IsBelow key (put key_cmp key value es) row.near.k row.near.at → Becomes old new (record { level = 0; entries = put key_cmp key value es }) fits → IsRowPut old new key value es (cond fits (Some row) None)
-  put_told value row true there after becomes = (becomes, there, after)
-  put_told value row false there after becomes = becomes
+  pub puts_found : s.found ≡ true → ReplacesEntry old new s.index s.at s.end (key, value) fits → did ≡ cond fits (Some (row_at true)) None → PutsRow old new key value from (Ok did)
+  puts_found is_found becomes is = record {
+    put = λ es is_leaf rises begun.
+        let spot = spot_of old key es true from s told is_found is_leaf rises begun in
+        let here : IsFound key es s.index = spot.0 in
+        subst (IsRowPut old new key value es) (sym is)
+        (put_told es (set es s.index (key, value)) true fits (ap (λ k. set es s.index (k, value)) (sym here.here) ∙ sym (found_put key value es s.index here)) (sym (ap is_some (found_find key es s.index here)))
+        (spot.1 ∙ ap (λ l. 4 + size_of l) (sym (take-set es s.index (key, value))), λ _ j less. ap (λ (e : Entry). key_cmp e.0 key) (get_or-set_other es s.index j (key, value) ([], []) (λ same. absurd (omega arith))) ∙ here.below j less)
+        (becomes.replaced _ is_leaf (λ inner. absurd (omega arith)) here.within spot.1 spot.2));
+    kept = λ none. becomes.kept (none_told fits (row_at true) did is none);
+    err = tt;
+  }
 
-  pub put_found : (value : List ℕ) (i at end : ℕ) (fits : Bool) (did : Option RowPut) → IsSpot key es true i at end → Becomes old new (record { level = 0; entries = set es i (key, value) }) fits → did ≡ cond fits (Some (record { had = true; near = record { k = i; at = at } })) None → IsRowPut old new key value es did
-  put_found value i at end fits did spot becomes told =
-      let here : IsFound key es i = spot.0 in
-      let same : set es i (key, value) ≡ put key_cmp key value es = ap (λ k. set es i (k, value)) (sym here.here) ∙ sym (found_put key value es i here) in
-      subst (IsRowPut old new key value es) (sym told) (put_told value (record { had = true; near = record { k = i; at = at } }) fits (sym (ap is_some (found_find key es i here))) (after_found key es value i at end spot) (subst (λ l. Becomes old new (record { level = 0; entries = l }) fits) same becomes))
-
-  pub put_gap : (value : List ℕ) (i at end : ℕ) (fits : Bool) (did : Option RowPut) → IsSpot key es false i at end → Becomes old new (record { level = 0; entries = insert es i (key, value) }) fits → did ≡ cond fits (Some (record { had = false; near = record { k = i; at = at } })) None → IsRowPut old new key value es did
-  put_gap value i at end fits did spot becomes told =
-      let gap : IsGap key es i = spot.0 in
-      let same : insert es i (key, value) ≡ put key_cmp key value es = sym (gap_put key value es i gap) in
-      subst (IsRowPut old new key value es) (sym told) (put_told value (record { had = false; near = record { k = i; at = at } }) fits (sym (ap is_some (gap_find key es i gap))) (after_gap key es value i at end spot) (subst (λ l. Becomes old new (record { level = 0; entries = l }) fits) same becomes))
+  pub puts_gap : s.found ≡ false → InsertsEntry old new s.index s.at (key, value) fits → did ≡ cond fits (Some (row_at false)) None → PutsRow old new key value from (Ok did)
+  puts_gap is_found becomes is = record {
+    put = λ es is_leaf rises begun.
+        let spot = spot_of old key es false from s told is_found is_leaf rises begun in
+        let gap : IsGap key es s.index = spot.0 in
+        subst (IsRowPut old new key value es) (sym is)
+        (put_told es (insert es s.index (key, value)) false fits (sym (gap_put key value es s.index gap)) (sym (ap is_some (gap_find key es s.index gap)))
+        (spot.1 ∙ ap (λ l. 4 + size_of l) (sym (prefix_insert es s.index (key, value) gap.within)), λ _ j less. ap (λ (e : Entry). key_cmp e.0 key) (get_or-insert_below es s.index (key, value) ([], []) j less gap.within) ∙ gap.below j less)
+        (becomes.inserted _ is_leaf (λ inner. absurd (omega arith)) gap.within spot.1));
+    kept = λ none. becomes.kept (none_told fits (row_at false) did is none);
+    err = tt;
+  }
 
 -- a list of two or more has some without one
 pub some_left : (es : List Entry) (i : ℕ) → i < length es → 1 < length es → 0 < length (remove es i)
-some_left es i within many =
-    let a = length-append (take i es) (drop (suc i) es) in
-    let b = length-take-le i es (omega arith) in
-    let c = length-drop (suc i) es in
-    omega arith
+some_left es i within many = omega (arith, length-append (take i es) (drop (suc i) es), length-take-le i es (omega arith), length-drop (suc i) es)

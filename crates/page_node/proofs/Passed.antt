@@ -20,8 +20,7 @@ pub passes_both : (page : List ℕ) (at mid end m n : ℕ) → PassesTo page at 
 passes_both page at mid end m n first then es is long =
     let left = length-drop m es in
     let rest : IsAhead page mid (drop m es) = subst (λ (place : ℕ). IsAhead page place (drop m es)) (sym (first es is (omega arith))) (ahead_at page at m es is) in
-    let sum = taken_more m n es in
-    omega arith
+    omega (arith, taken_more m n es)
 
 -- the first three bytes of an entry as a number
 abbrev pub head_of : List ℕ → ℕ → ℕ

@@ -156,8 +156,20 @@ key_part page es k at value end e lies = key_there page at value end lies ∙ ap
 pub value_part : (page : List ℕ) (es : List Entry) (k at value end : ℕ) → IsEntryOf page es k at → LiesAt page at value end → take (end - value) (drop value page) ≡ value_at es k
 value_part page es k at value end e lies = value_there page at value end lies ∙ ap (λ (f : Entry). f.1) e.first
 
-pub last_next : (page key : List ℕ) (es : List Entry) (k value at new_value end : ℕ) → IsLast page key es k value at → IsEntryOf page es k at → LiesAt page at new_value end → (0 < k → is_gt (key_cmp (key_at es k) key) ≡ false) → IsLast page key es (k + 1) new_value end
-last_next page key es k value at new_value end l e lies here = search (rules, value_part)
+-- where an entry of a node ends, and what is told of its key
+pub end_of : (page : List ℕ) (node : Node) (k at value end : ℕ) → IsNode page node → k < length node.entries → at ≡ 4 + size_of (take k node.entries) → LiesAt page at value end → end ≡ 4 + size_of (take (k + 1) node.entries)
+end_of page node k at value end is within place = end_there page node.entries k at value end (entry_of page node k at is within place)
+
+pub told_of : {A : Type 0} (f : Ordering → A) (page key : List ℕ) (node : Node) (k at value end : ℕ) (b : A) → IsNode page node → k < length node.entries → at ≡ 4 + size_of (take k node.entries)
+    → LiesAt page at value end → b ≡ f (key_cmp (take (value - (at + 3)) (drop (at + 3) page)) key) → f (key_cmp (key_at node.entries k) key) ≡ b
+told_of f page key node k at value end b is within place lies told = ap (λ l. f (key_cmp l key)) (sym (key_part page node.entries k at value end (entry_of page node k at is within place) lies)) ∙ sym told
+
+pub last_next : (page key : List ℕ) (node : Node) (k value at new_value end : ℕ) → IsNode page node → k < length node.entries → IsLast page key node.entries k value at → LiesAt page at new_value end
+    → (0 < k → false ≡ is_gt (key_cmp (take (new_value - (at + 3)) (drop (at + 3) page)) key)) → IsLast page key node.entries (k + 1) new_value end
+last_next page key node k value at new_value end is within l lies told =
+    let e = entry_of page node k at is within l.place in
+    let here : 0 < k → is_gt (key_cmp (key_at node.entries k) key) ≡ false = λ some. told_of is_gt page key node k at new_value end false is within l.place lies (told some) in
+    search (rules, value_part)
 
 -- the child that was found, and why none was
 pub child_ok : {E : Type 0} (page key : List ℕ) (es : List Entry) (k value at : ℕ) (r : Result ℕ E) → IsLast page key es k value at → k ≤ length es → (k < length es → is_gt (key_cmp (key_at es k) key) ≡ true)

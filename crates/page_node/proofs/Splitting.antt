@@ -5,10 +5,7 @@ use Rattle.page_node.proofs.{Editing.{left_stands, right_stands, mark_step}, Ent
 
 pub size_few : (es : List Entry) → All IsEntry es → size_of es ≤ 1099 * length es
 size_few [] all = omega arith
-size_few (e ∷ es) all =
-    let here = All-head IsEntry e es all in
-    let rest = size_few es (All-tail IsEntry e es all) in
-    omega arith
+size_few (e ∷ es) all = let here = All-head IsEntry e es all in omega (arith, size_few es (All-tail IsEntry e es all))
 
 pub cut_steps : (level : ℕ) (es : List Entry) (marks bytes : List ℕ) (count : ℕ) → Stands level es marks bytes → count ≡ length es → (k : ℕ) → k < count → (get_or marks k 0 ≤ get_or marks (k + 1) 0) × (get_or marks (k + 1) 0 ≤ get_or marks k 0 + 1099)
 cut_steps level es marks bytes count s is k less = let step = mark_step level es marks bytes s k (omega arith) in (omega arith, omega arith)

@@ -119,8 +119,7 @@ edited_back es i j mid m le high =
     let prefix : take (i + length mid + r) (edited es i j mid) ≡ take i es ++ (mid ++ take r (drop j es)) =
     search (rules, take-append-add (take i es) (mid ++ drop j es) (length mid + r), take-append-add mid (drop j es) r) in
     let a : size_of (take (i + length mid + r) (edited es i j mid)) ≡ size_of (take i es) + (size_of mid + size_of (take r (drop j es))) = search (rules, size-append) in
-    let b = size-take_from es j m high in
-    omega arith
+    omega (arith, size-take_from es j m high)
 
 pub body-edited : (es : List Entry) (i j : ℕ) (mid : List Entry) → body_of (edited es i j mid) ≡ body_of (take i es) ++ (body_of mid ++ body_of (drop j es))
 body-edited es i j mid = body-append (take i es) (mid ++ drop j es) ∙ ap (λ b. body_of (take i es) ++ b) (body-append mid (drop j es))

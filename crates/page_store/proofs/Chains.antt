@@ -1,64 +1,36 @@
 -- Chains of pages.
-use Rattle.std.{specs.{Int.{w32, from_be_bytes}, List.{AllByRecursion, IsDistinct, list_any}, Prelude.{Option, Some, None, MatchOption}}, proofs.lemmas.Bool.cases_eq}
-use Rattle.std.proofs.Common.{rules, ⊎_elim, cond, nat_eq, ◌&&◌, ◌*◌, ◌⊎◌, replicate, get_or, Bool, true, false, ◌||◌, ◌-◌, ◌≡◌, ◌≢◌, ◌<◌, ◌≤◌, ◌+◌, ℕ, zero, suc, List, [], ◌∷◌, length, inl, inr, refl, sym, ap, subst, ◌∙◌, arith, add-one}
-use Rattle.{std.proofs.lemmas.{Bool.Decides.nat_tests, List.get_or-replicate, Map.Steps.length-le_from_distinct_below}, gate_journal.specs.Writes.IsEdited}
-use Rattle.{gate_journal.specs.{claim.{Store.{word, put, overlay}, Writes.writes_of}, declared.writes.PageWrites.PageWrites}, sector_device.specs.claim.Disk.Image}
-use Rattle.{page_store.specs.claim.Chain.{are_zero, is_blank, chain, free_in, IsIn, AreFree, IsPages}, gate_journal.proofs.Images.{put_on, put_off}}
+use Rattle.std.specs.{Bool.Decides, Int.{w32, from_be_bytes}, List.{AllByRecursion, IsDistinct, list_any}, Prelude.{Option, Some, None, MatchOption}}
+use Rattle.std.proofs.Common.{rules, ⊎_elim, cond, nat_eq, ◌*◌, ◌⊎◌, replicate, get_or, Bool, true, false, ◌||◌, ◌-◌, ◌≡◌, ◌≢◌, ◌<◌, ◌+◌, ℕ, zero, suc, List, [], ◌∷◌, length, inl, inr, refl, sym, ap, subst, ◌∙◌, arith, add-one}
+use Rattle.{std.proofs.lemmas.{Bool.{cases_eq, cases_Bool, ne_eqb, Decides.{Decides-like, Decides-below_and, Decides-eqb}}, List.get_or-replicate}, page_store.specs.Chain.IsMeta}
+use Rattle.{std.proofs.lemmas.Map.Steps.length-le_from_distinct_below, gate_journal.specs.{Writes.IsEdited, claim.{Store.{word, put, overlay}, Writes.writes_of}}}
+use Rattle.{gate_journal.specs.declared.writes.PageWrites.PageWrites, page_store.specs.claim.Chain.{are_zero, is_blank, chain, free_in, IsIn, AreFree, IsPages}}
+use Rattle.{sector_device.specs.claim.Disk.Image, gate_journal.proofs.Images.{put_on, put_off}}
 use lib.Dec.{eqb}
 
 -- ---- pages without bytes but those of a link
-both_true : (a b : Bool) → (a && b) ≡ true → (a ≡ true) × (b ≡ true)
-both_true true b is = (refl, is)
-both_true false b is = cc
+zeros_decide : (page : List ℕ) (n : ℕ) → Decides (are_zero page n) ((k : ℕ) → 0 < k → k < n + 1 → word page k ≡ 0)
+zeros_decide page n = Decides-like {P = (k : ℕ) → k < n → word page (suc k) ≡ 0} {Q = (k : ℕ) → 0 < k → k < n + 1 → word page k ≡ 0} (are_zero page n)
+    (λ all k some lt. subst (λ (j : ℕ). word page j ≡ 0) (omega arith) (all (k - 1) (omega arith))) (λ all k lt. all (suc k) (omega arith) (omega arith))
+    (Decides-below_and (λ k. nat_eq (word page (suc k)) 0) (λ k. word page (suc k) ≡ 0) (are_zero page) (λ k. Decides-eqb (word page (suc k)) 0) refl (λ _. refl) n)
 
-zero_at : (page : List ℕ) (n k : ℕ) → are_zero page n ≡ true → 0 < k → k ≤ n → word page k ≡ 0
-zero_at page zero k are some most = absurd (omega arith)
-zero_at page (suc n) k are some most =
-    let both = both_true (nat_eq (word page (suc n)) 0) (are_zero page n) are in
-    let last : word page (suc n) ≡ 0 = let e = both.0 in grind (arith, nat_tests) in
-    elim (cases_eq k (suc n)) [
-      | inl here ↦ ap (λ (j : ℕ). word page j) here ∙ last
-      | inr off ↦ zero_at page n k both.1 some (omega arith)
-    ]
-
-zero_from : (page : List ℕ) (n : ℕ) → ((k : ℕ) → 0 < k → k ≤ n → word page k ≡ 0) → are_zero page n ≡ true
-zero_from page zero all = refl
-zero_from page (suc n) all =
-    let last : word page (suc n) ≡ 0 = all (suc n) (omega arith) (omega arith) in
-    let here : nat_eq (word page (suc n)) 0 ≡ true = grind (arith, nat_tests) in
-    rw here (zero_from page n (λ k some most. all k some (omega arith)))
+pub blank_decides : (page : List ℕ) → Decides (is_blank page) ((k : ℕ) → 0 < k → k < 1024 → word page k ≡ 0)
+unfolding is_blank
+blank_decides page = zeros_decide page 1023
 
 pub blank_words : (page : List ℕ) → is_blank page ≡ true → (k : ℕ) → 0 < k → k < 1024 → word page k ≡ 0
-unfolding is_blank
-blank_words page blank k some lt = zero_at page 1023 k blank some (omega arith)
-
-pub words_blank : (page : List ℕ) → ((k : ℕ) → 0 < k → k < 1024 → word page k ≡ 0) → is_blank page ≡ true
-unfolding is_blank
-words_blank page all = zero_from page 1023 (λ k some most. all k some (omega arith))
+blank_words page = (blank_decides page).0
 
 pub either : (b : Bool) → (b ≡ true) ⊎ (b ≡ false)
-either true = inl refl
-either false = inr refl
-
-not_blank : (page : List ℕ) → (((k : ℕ) → 0 < k → k < 1024 → word page k ≡ 0) → ⊥) → is_blank page ≡ false
-not_blank page some = search (rules, either, blank_words)
-
--- what was told of all words
-pub blank_as : (page : List ℕ) (b : Bool) → (b ≡ true → (k : ℕ) → 0 < k → k < 1024 → word page k ≡ 0) → (b ≡ false → ((k : ℕ) → 0 < k → k < 1024 → word page k ≡ 0) → ⊥) → b ≡ is_blank page
-blank_as page true all some = sym (words_blank page (all refl))
-blank_as page false all some = sym (not_blank page (some refl))
+either = cases_Bool
 
 zero_word : (k : ℕ) → k < 1024 → word (replicate 4096 0) k ≡ 0
 zero_word k lt =
-    let a : get_or (replicate 4096 0) (4 * k) 0 ≡ 0 = get_or-replicate {A = ℕ} 4096 (4 * k) 0 0 (omega arith) in
-    let b : get_or (replicate 4096 0) (4 * k + 1) 0 ≡ 0 = get_or-replicate {A = ℕ} 4096 (4 * k + 1) 0 0 (omega arith) in
-    let c : get_or (replicate 4096 0) (4 * k + 2) 0 ≡ 0 = get_or-replicate {A = ℕ} 4096 (4 * k + 2) 0 0 (omega arith) in
-    let d : get_or (replicate 4096 0) (4 * k + 3) 0 ≡ 0 = get_or-replicate {A = ℕ} 4096 (4 * k + 3) 0 0 (omega arith) in
-    λ i. from_be_bytes w32 (a i ∷ b i ∷ c i ∷ d i ∷ [])
+    let z : (j : ℕ) → j < 4096 → get_or {A = ℕ} (replicate 4096 0) j 0 ≡ 0 = λ j less. get_or-replicate {A = ℕ} 4096 j 0 0 less in
+    λ i. from_be_bytes w32 (z (4 * k) (omega arith) i ∷ z (4 * k + 1) (omega arith) i ∷ z (4 * k + 2) (omega arith) i ∷ z (4 * k + 3) (omega arith) i ∷ [])
 
 -- a link alone, written over zeros
 pub link_blank : (page : List ℕ) → ((k : ℕ) → k ≢ 0 → word page k ≡ word (replicate 4096 0) k) → is_blank page ≡ true
-link_blank page others = words_blank page (λ k some lt. others k (λ none. omega arith) ∙ zero_word k lt)
+link_blank page others = (blank_decides page).1 (λ k some lt. others k (λ none. omega arith) ∙ zero_word k lt)
 
 -- one that counts is blank, and itself
 is_counted : (b : Bool) (q : ℕ) → 0 < cond b q 0 → b ≡ true
@@ -80,20 +52,19 @@ pub length_chain : (P : Image) (first count : ℕ) → length (chain P first cou
 length_chain P first zero = refl
 length_chain P first (suc count) = let rest = length_chain P (word (P first) 0) count in omega (arith, rest)
 
--- a chain of free pages stays where none of them changes
-pub chain_same : (n : ℕ) (P Q : Image) (p : ℕ) (first count : ℕ) → ((q : ℕ) → q ≢ p → Q q ≡ P q) → AreFree n (chain P first count) → (IsIn p (chain P first count) → ⊥) → chain Q first count ≡ chain P first count
-chain_same n P Q p first zero same free off = refl
-chain_same n P Q p first (suc count) same free off =
-    let own : cond (is_blank (P first)) first 0 ≡ first = counts (is_blank (P first)) first (is_counted (is_blank (P first)) first free.0) in
-    let page : Q first ≡ P first = same first (λ is. off (inl (sym is ∙ sym own))) in
+-- a chain of free pages stays where its pages do
+pub chain_kept : (n : ℕ) (P Q : Image) (first count : ℕ) → AreFree n (chain P first count) → ((q : ℕ) → IsIn q (chain P first count) → Q q ≡ P q)
+    → chain Q first count ≡ chain P first count
+chain_kept n P Q first zero free same = refl
+chain_kept n P Q first (suc count) free same =
+    let page : Q first ≡ P first = same first (inl (sym (counts (is_blank (P first)) first (first_blank n P first (suc count) (omega arith) free)))) in
     let here : cond (is_blank (Q first)) first 0 ≡ cond (is_blank (P first)) first 0 = ap (λ (s : List ℕ). cond (is_blank s) first 0) page in
-    let next : word (Q first) 0 ≡ word (P first) 0 = ap (λ (s : List ℕ). word s 0) page in
-    let rest : chain Q (word (Q first) 0) count ≡ chain P (word (P first) 0) count =
-    ap (λ (f : ℕ). chain Q f count) next ∙ chain_same n P Q p (word (P first) 0) count same free.3 (λ there. off (inr there)) in
+    let rest = ap (λ (s : List ℕ). chain Q (word s 0) count) page ∙ chain_kept n P Q (word (P first) 0) count free.3 (λ q there. same q (inr there)) in
     λ i. here i ∷ rest i
 
 pub chain_put : (n : ℕ) (P Q : Image) (p : ℕ) (bytes : List ℕ) (first count : ℕ) → ((q : ℕ) → Q q ≡ put (p, bytes) P q) → AreFree n (chain P first count) → (IsIn p (chain P first count) → ⊥) → chain Q first count ≡ chain P first count
-chain_put n P Q p bytes first count is free off = chain_same n P Q p first count (λ q ne. is q ∙ put_off (p, bytes) P q ne) free off
+chain_put n P Q p bytes first count is free off = chain_kept n P Q first count free
+    (λ q there. is q ∙ put_off (p, bytes) P q (λ e. off (subst (λ (r : ℕ). IsIn r (chain P first count)) e there)))
 
 -- a page is taken from the start
 pub chain_pop : (P : Image) (first next count : ℕ) → 0 < count → is_blank (P first) ≡ true → (count ≢ 1 → next ≡ word (P first) 0) → chain P first count ≡ first ∷ chain P next (count - 1)
@@ -114,12 +85,9 @@ below_free n (p ∷ qs) q free (inr there) = below_free n qs q free.3 there
 pub not_meta : (n : ℕ) (qs : List ℕ) → AreFree n qs → IsIn 0 qs → ⊥
 not_meta n qs free there = let both = below_free n qs 0 free there in let some = both.0 in omega arith
 
-not_equal : (x y : ℕ) → x ≢ y → eqb x y ≡ false
-not_equal x y ne = grind (arith, nat_tests)
-
 differ : (x : ℕ) (ys : List ℕ) → (IsIn x ys → ⊥) → AllByRecursion (λ y. eqb x y ≡ false) ys
 differ x [] off = tt
-differ x (y ∷ ys) off = (not_equal x y (λ e. off (inl e)), differ x ys (λ there. off (inr there)))
+differ x (y ∷ ys) off = (ne_eqb x y (λ e. off (inl e)), differ x ys (λ there. off (inr there)))
 
 distinct : (n : ℕ) (qs : List ℕ) → AreFree n qs → IsDistinct eqb qs
 unfolding IsDistinct
@@ -130,7 +98,7 @@ is_in : (q : ℕ) (qs : List ℕ) → list_any (eqb q) qs ≡ true → IsIn q qs
 is_in q [] is = cc
 is_in q (p ∷ qs) is = elim (cases_eq q p) [
   | inl here ↦ inl here
-  | inr off ↦ inr (is_in q qs (subst (λ (b : Bool). (b || list_any (eqb q) qs) ≡ true) (not_equal q p off) is))
+  | inr off ↦ inr (is_in q qs (subst (λ (b : Bool). (b || list_any (eqb q) qs) ≡ true) (ne_eqb q p off) is))
 ]
 
 -- there is room for one more
@@ -143,18 +111,32 @@ room_left n p qs some lt free off =
     omega arith
 
 -- ---- the meta page
-module _ (P Q : Image) (meta : List ℕ) (n root first count : ℕ) (is : (q : ℕ) → Q q ≡ put (0, meta) P q) (root_is : word meta 0 ≡ root) (first_is : word meta 1 ≡ first) (count_is : word meta 2 ≡ count) where
-  at_meta : Q 0 ≡ meta
-  at_meta = is 0 ∙ put_on (0, meta) P 0 refl
+-- a page with these words, written one after another
+pub meta_words : (s t u : List ℕ) (root first count : ℕ) → word s 0 ≡ root → word t 1 ≡ first → word u 2 ≡ count → ((k : ℕ) → k ≢ 1 → word t k ≡ word s k)
+    → ((k : ℕ) → k ≢ 2 → word u k ≡ word t k)
+    → (Q : Image) → Q 0 ≡ u → IsMeta Q root first count
+meta_words s t u root first count root_is first_is count_is second third Q at = record {
+  root_is = ap (λ (x : List ℕ). word x 0) at ∙ third 0 (λ e. omega arith) ∙ second 0 (λ e. omega arith) ∙ root_is;
+  first_is = ap (λ (x : List ℕ). word x 1) at ∙ third 1 (λ e. omega arith) ∙ first_is;
+  count_is = ap (λ (x : List ℕ). word x 2) at ∙ count_is;
+}
 
-  at_word : (k : ℕ) → word (Q 0) k ≡ word meta k
-  at_word k = ap (λ (s : List ℕ). word s k) at_meta
+-- the chain that such a page begins
+pub free_is : (Q : Image) (root first count : ℕ) → IsMeta Q root first count → free_in Q ≡ chain Q first count
+free_is Q root first count meta = ap (λ (f : ℕ). chain Q f (word (Q 0) 2)) meta.first_is ∙ ap (λ (k : ℕ). chain Q first k) meta.count_is
 
-  pub meta_free : AreFree n (chain P first count) → free_in Q ≡ chain P first count
-  meta_free free = search (at_word 1, at_word 2, chain_put n P Q 0 meta first count is free (not_meta n (chain P first count) free))
+pub meta_free : (n : ℕ) (P Q : Image) (page : List ℕ) (root first count : ℕ) → ((q : ℕ) → Q q ≡ put (0, page) P q) → IsMeta Q root first count
+    → AreFree n (chain P first count) → free_in Q ≡ chain P first count
+meta_free n P Q page root first count is meta free = free_is Q root first count meta ∙ chain_put n P Q 0 page first count is free (not_meta n (chain P first count) free)
 
-  pub meta_pages : root < n → first < n → count < n → AreFree n (chain P first count) → IsPages n Q
-  meta_pages root_lt first_lt count_lt free = search (rules, at_word, meta_free)
+pub meta_pages : (n : ℕ) (Q : Image) (root first count : ℕ) (qs : List ℕ) → IsMeta Q root first count → root < n → first < n → count < n → free_in Q ≡ qs → AreFree n qs
+    → IsPages n Q
+meta_pages n Q root first count qs meta root_lt first_lt count_lt is free = record {
+  root = omega (arith, meta.root_is);
+  first = omega (arith, meta.first_is);
+  count = omega (arith, meta.count_is);
+  free = subst (λ (ps : List ℕ). AreFree n ps) (sym is) free;
+}
 
 -- a page is put at the start
 pub chain_push : (n : ℕ) (P Q : Image) (p : ℕ) (link : List ℕ) (first count : ℕ) → ((q : ℕ) → Q q ≡ put (p, link) P q) → word link 0 ≡ first → is_blank link ≡ true

@@ -1,9 +1,9 @@
 -- What an opening finds in the pages.
-use Rattle.{std.proofs.Common.{rules, ◌≡◌, ◌≢◌, ◌<◌, ℕ, true, false, refl, sym, subst, ◌∙◌, arith}, gate_journal.specs.{Recovery.{HasRoom, Found}, claim.Store.{Opens, pages}}}
+use Rattle.{std.proofs.Common.{rules, ◌≡◌, ◌≢◌, ℕ, true, false, refl, sym, subst, ◌∙◌, arith}, gate_journal.specs.{Recovery.{HasRoom, Found}, claim.Store.{Opens, pages}}}
 use Rattle.gate_journal.specs.{claim.Contents.{content, disk_of, device_of, page_count, is_halted}, declared.{error.PageError.PageError, journal.Journal.Journal}}
-use Rattle.{gate_journal.specs.declared.error.PageError.TheVariants.{NotAStore, DeviceFault, Halted, TooManyPages, TooSmall, NoPages, Memory}, page_store.specs.claim.Chain.IsPages}
-use Rattle.{page_store.specs.{Openings.{AllPageStores, MetaErr}, Transactions.{OpenErr, HasBadPages}}, sector_device.specs.claim.Disk.{Disk, Image, Nowhere, Touches}}
-use Rattle.{sector_device.specs.declared.SectorDevice.Ghosts, gate_journal.proofs.Headers.same_journal, page_store.proofs.Stops.kept_still}
+use Rattle.{gate_journal.specs.declared.error.PageError.TheVariants.{NotAStore, DeviceFault, Halted}, page_store.specs.{Openings.{AllPageStores, MetaErr}, claim.Chain.IsPages}}
+use Rattle.{page_store.specs.Transactions.{OpenErr, HasBadPages}, sector_device.specs.{claim.Disk.{Disk, Image, Nowhere, Touches}, declared.SectorDevice.Ghosts}}
+use Rattle.{gate_journal.proofs.Headers.same_journal, page_store.proofs.Stops.kept_still}
 
 -- where each image is a store with pages, so is what was found
 pub found_pages : (a b : Disk) (J n : ℕ) → Found J n a b → HasRoom a.sectors J n → AllPageStores a → IsPages n (pages J b.reads)
@@ -20,24 +20,13 @@ bad_pages a b d J K n found journal same kept still unsound =
     let here : pages J d.reads ≡ pages J b.reads = subst (λ (k : ℕ). pages k d.reads ≡ pages J b.reads) journal same in
     search (rules, kept_still J n J n b d (pages J b.reads) (pages J d.reads) refl refl here kept still)
 
--- why an opening failed after the journal was opened
+-- why an opening failed after the journal was opened; where no fault is told, the device's faults are those of before
 pub opened_err : {D : Type 0} (g : Ghosts D) (a d : D) (old new : Journal D g) (e : PageError) → d ≡ device_of new → is_halted old ≡ false
-    → ((disk_of new).is_honest → (disk_of old).faults ≡ (g.disk a).faults) → ((disk_of new).is_honest → AllPageStores (g.disk a) → IsPages (page_count old) (content old)) → MetaErr old new e → OpenErr g a d e
-opened_err {D = D} g a d old new DeviceFault is working passed sound why = subst (λ (x : D). (g.disk x).is_honest → (g.disk a).faults < (g.disk x).faults) (sym is) (λ honest. let rose = why.rose honest in let same = passed honest in omega (arith, rose, same))
-opened_err {D = D} g a d old new NotAStore is working passed sound why = subst (λ (x : D). (g.disk x).is_honest → AllPageStores (g.disk a) → ⊥) (sym is) (λ honest all. (why honest).0 (sound honest all))
+    → ((disk_of new).is_honest → (disk_of old).faults ≡ (g.disk a).faults)
+    → ((disk_of new).is_honest → AllPageStores (g.disk a) → IsPages (page_count old) (content old)) → MetaErr old new e
+    → OpenErr g a d e × ((g.disk d).is_honest → e ≢ DeviceFault → (g.disk d).faults ≡ (g.disk a).faults)
+opened_err g a d old new DeviceFault is working passed sound why = rw is
+    (λ honest. let rose = why.rose honest in let same = passed honest in omega (arith, rose, same), λ honest other. absurd (other refl))
+opened_err g a d old new NotAStore is working passed sound why = rw is (λ honest all. (why honest).0 (sound honest all), λ honest other. (why honest).1 ∙ passed honest)
 opened_err g a d old new Halted is working passed sound why = let never : true ≡ false = sym why ∙ working in cc
-opened_err g a d old new TooManyPages is working passed sound why = absurd why
-opened_err g a d old new TooSmall is working passed sound why = absurd why
-opened_err g a d old new NoPages is working passed sound why = absurd why
-opened_err g a d old new Memory is working passed sound why = absurd why
-
--- where that is told without a fault, the device's faults are those of before
-pub opened_calm : {D : Type 0} (g : Ghosts D) (a d : D) (old new : Journal D g) (e : PageError) → d ≡ device_of new → is_halted old ≡ false
-    → ((disk_of new).is_honest → (disk_of old).faults ≡ (g.disk a).faults) → MetaErr old new e → (g.disk d).is_honest → e ≢ DeviceFault → (g.disk d).faults ≡ (g.disk a).faults
-opened_calm {D = D} g a d old new NotAStore is working passed why = subst (λ (x : D). (g.disk x).is_honest → NotAStore ≢ DeviceFault → (g.disk x).faults ≡ (g.disk a).faults) (sym is) (λ honest other. (why honest).1 ∙ passed honest)
-opened_calm g a d old new DeviceFault is working passed why = λ honest other. absurd (other refl)
-opened_calm g a d old new Halted is working passed why = let never : true ≡ false = sym why ∙ working in cc
-opened_calm g a d old new TooManyPages is working passed why = absurd why
-opened_calm g a d old new TooSmall is working passed why = absurd why
-opened_calm g a d old new NoPages is working passed why = absurd why
-opened_calm g a d old new Memory is working passed why = absurd why
+opened_err g a d old new _ is working passed sound why = absurd why

@@ -1,8 +1,8 @@
 -- What the layers above need of a stop where a call read at most.
-use Rattle.{std.{specs.Prelude.{◌≡◌, ◌⊎◌, ℕ, Bool, true, false}, proofs.Common.{rules, inl, inr, refl, sym, subst, ◌∙◌}}, gate_journal.specs.claim.Store.Opens}
-use Rattle.{gate_journal.specs.claim.Contents.{content, page_count, journal_size}, page_store.specs.declared.pages.Pages.Pages, sector_device.specs.claim.Moments.LeavesOnly}
+use Rattle.{std.{specs.Prelude.{◌≡◌, ℕ, false}, proofs.{Common.{rules, inl, inr, refl, sym, subst, ◌∙◌}, lemmas.Bool.cases_Bool}}, gate_journal.specs.claim.Store.Opens}
+use Rattle.{gate_journal.specs.{claim.Contents.{content, page_count, journal_size}, declared.journal.Journal.Journal}, page_store.specs.declared.pages.Pages.Pages}
 use Rattle.{page_store.specs.claim.Transactions.{stored, disk_in, has_halted, IsQuiet, IsKept, HasFailed, Passed}, sector_device.specs.claim.Disk.{Disk, Image, Touches, Nowhere}}
-use Rattle.sector_device.{specs.declared.SectorDevice.Ghosts, proofs.Moments.{now_but, leaves_still, touches_none, touches_more}}
+use Rattle.sector_device.{specs.{claim.Moments.LeavesOnly, declared.SectorDevice.Ghosts}, proofs.Moments.{now_but, leaves_still, touches_none, touches_more}}
 
 -- a run that begins now has left what a stop now may leave
 pub leaves_here : (P : Image → Type 0) (a : Disk) → ((c : Image) → a.leaves c → P c) → LeavesOnly P a a
@@ -15,24 +15,20 @@ kept_still J n K m b c P Q same_journal same_count same kept bc x leaves =
     let there : Opens J n P x = subst (λ (y : Image). Opens J n P y) (λ i k. (sym (but.2.same k (λ none. none))) i) (kept but.0 but.1) in
     subst (λ (k : ℕ). Opens k m Q x) (sym same_journal) (subst (λ (k : ℕ). Opens J k Q x) (sym same_count) (subst (λ (R : Image). Opens J n R x) (sym same) there))
 
-either : (b : Bool) → (b ≡ true) ⊎ (b ≡ false)
-either true = inl refl
-either false = inr refl
-
 module _ {D : Type 0} {g : Ghosts D} (old new : Pages D g) (quiet : IsQuiet old new) (honest : (disk_in new).is_honest) where
+  -- what is so of the pages, and stays so where they hadn't halted
+  by_halt : (Q : Journal D g → Type 0) → Q old.journal → (has_halted old ≡ false → Q new.journal) → Q new.journal
+  by_halt Q was moved = elim (cases_Bool (has_halted old)) [ inl halted ↦ subst Q (sym (quiet.still halted)) was | inr working ↦ moved working ]
+
   -- a call that read at most: the pages are kept, also by pages that have halted
   pub kept_quiet : IsKept old → IsKept new
-  kept_quiet kept = elim (either (has_halted old)) [
-    | inl halted ↦ subst (λ j. (c : Image) → (g.disk j.device).leaves c → Opens (journal_size j) (page_count j) (content j) c) (sym (quiet.still halted)) kept
-    | inr working ↦ kept_still (journal_size old.journal) (page_count old.journal) (journal_size new.journal) (page_count new.journal) (disk_in old) (disk_in new) (stored old) (stored new) quiet.journal quiet.count (quiet.same honest) kept (quiet.moves honest working)
-  ]
+  kept_quiet kept = by_halt (λ j. (c : Image) → (g.disk j.device).leaves c → Opens (journal_size j) (page_count j) (content j) c) kept (λ working.
+      kept_still (journal_size old.journal) (page_count old.journal) (journal_size new.journal) (page_count new.journal) (disk_in old) (disk_in new) (stored old) (stored new)
+      quiet.journal quiet.count (quiet.same honest) kept (quiet.moves honest working))
 
   -- and a run goes on with it
   pub leaves_quiet : (P : Image → Type 0) (a : Disk) → LeavesOnly P a (disk_in old) → LeavesOnly P a (disk_in new)
-  leaves_quiet P a left = elim (either (has_halted old)) [
-    | inl halted ↦ subst (λ j. LeavesOnly P a (g.disk j.device)) (sym (quiet.still halted)) left
-    | inr working ↦ leaves_still P a (disk_in old) (disk_in new) left (quiet.moves honest working)
-  ]
+  leaves_quiet P a left = by_halt (λ j. LeavesOnly P a (g.disk j.device)) left (λ working. leaves_still P a (disk_in old) (disk_in new) left (quiet.moves honest working))
 
 -- ---- calls that follow one another
 module _ {D : Type 0} {g : Ghosts D} where
@@ -46,13 +42,13 @@ module _ {D : Type 0} {g : Ghosts D} where
     journal = bc.journal ∙ ab.journal;
     honest = λ honest. ab.honest (bc.honest honest);
     same = λ honest. bc.same honest ∙ ab.same (bc.honest honest);
-    moves = λ honest working. elim (either (has_halted b)) [
+    moves = λ honest working. elim (cases_Bool (has_halted b)) [
       | inl halted ↦ subst (λ j. Touches Nowhere (disk_in a) (g.disk j.device)) (sym (bc.still halted)) (ab.moves (bc.honest honest) working)
       | inr on ↦ touches_more Nowhere Nowhere (disk_in a) (disk_in b) (disk_in c) (λ i t. t) (ab.moves (bc.honest honest) working) (bc.moves honest on)
     ];
-    still = λ halted. search (rules, either);
-    rose = λ working halted honest. search (rules, either);
-    calm = λ working honest. search (rules, either);
+    still = λ halted. search (rules, cases_Bool);
+    rose = λ working halted honest. search (rules, cases_Bool);
+    calm = λ working honest. search (rules, cases_Bool);
   }
 
   pub passed_none : (a : Pages D g) → Passed a a

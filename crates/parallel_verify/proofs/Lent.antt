@@ -12,16 +12,10 @@ three_back held old a b new r s t one two three = record {
   moves = λ honest. touches_more Nowhere Nowhere old b new (λ i none. none) (until_second (in_second honest)) (three.moves honest);
   first_honest = λ honest reads sectors. one.honest (in_first (in_second honest)) reads sectors;
   second_honest = λ honest reads sectors.
-      let middle = in_second honest in
-      two.honest middle (holds_still held old a one.sectors (one.moves (in_first middle)) reads) (sectors ∙ sym one.sectors);
+      two.honest (in_second honest) (holds_still held old a one.sectors (one.moves (in_first (in_second honest))) reads) (sectors ∙ sym one.sectors);
   third_honest = λ honest reads sectors.
       three.honest honest (holds_still held old b (two.sectors ∙ one.sectors) (until_second (in_second honest)) reads) (sectors ∙ sym (two.sectors ∙ one.sectors));
-  faults = λ honest.
-      let middle = in_second honest in
-      let first = one.faults (in_first middle) in
-      let second = two.faults middle in
-      let third = three.faults honest in
-      omega (arith, first, second, third);
+  faults = λ honest. omega (arith, one.faults (in_first (in_second honest)), two.faults (in_second honest), three.faults honest);
 }
   where
     in_second : new.is_honest → b.is_honest

@@ -1,21 +1,21 @@
 -- What is seen in pages that a reader opened.
 use Rattle.{std.{specs.Prelude.{Option, IfSome}, proofs.Common.{◌≡◌, ◌+◌, ℕ, Bool, false, sym, ap, subst, ◌∙◌, arith}}, page_store.specs.Transactions.OpenErr}
 use Rattle.page_store.specs.{claim.Transactions.{stored, disk_in, count_of, journal_of, has_halted, IsQuiet}, declared.pages.Pages.Pages, gate_journal.Recovery.{Found, HasRoom}}
-use Rattle.{page_store.specs.gate_journal.{claim.Store.home, declared.error.PageError.PageError}, parallel_verify.specs.Looking.{IsLookOf, IsUnopened, LooksAs}}
+use Rattle.{page_store.specs.gate_journal.{claim.Store.home, declared.error.PageError.PageError}, parallel_verify.specs.Looking.{IsLookOf, IsUnopened, LooksAs, LooksBy}}
 use Rattle.{parallel_verify.specs.declared.look.Look.{Look, TheVariants.{Sound, Unsound, Failed}}, sector_device.specs.{claim.Disk.{Disk, Image}, declared.SectorDevice.Ghosts}}
 use Rattle.desk_pages.proofs.Found.{found_after}
 
 -- pages that were read keep the size of their device
-pub same_sectors : {D : Type 0} (g : Ghosts D) (a b : Pages D g) → IsQuiet a b → (disk_in b).sectors ≡ (disk_in a).sectors
+same_sectors : {D : Type 0} (g : Ghosts D) (a b : Pages D g) → IsQuiet a b → (disk_in b).sectors ≡ (disk_in a).sectors
 same_sectors g a b quiet = sym b.journal.room.whole ∙ ap (λ J. home J + count_of b) quiet.journal ∙ ap (λ n. home (journal_of a) + n) quiet.count ∙ a.journal.room.whole
 
 module _ {X D : Type 0} (g : Ghosts D) (finds : ℕ → Image → X → Type 0) where
-  pub not_opened : (reader left : D) (e : PageError) (look : Look X) → IsUnopened e look → OpenErr g reader left e → LooksAs finds (g.disk reader) (g.disk left) look
-  not_opened reader left e (Sound x) is why = absurd is
-  not_opened reader left e Unsound is why = tt
-  not_opened reader left e Failed is why = subst (λ (f : PageError). OpenErr g reader left f) is why
+  pub not_opened : (reader left : D) (e : PageError) (look : Look X) → (g.disk left).sectors ≡ (g.disk reader).sectors → IsUnopened e look → OpenErr g reader left e → LooksBy finds (g.disk reader) (g.disk left) look
+  not_opened reader left e (Sound x) size is why = absurd is
+  not_opened reader left e Unsound size is why = record { sectors = size; looked = tt }
+  not_opened reader left e Failed size is why = record { sectors = size; looked = subst (λ (f : PageError). OpenErr g reader left f) is why }
 
-  module _ (old : Disk) (a b : Pages D g) (room : HasRoom old.sectors (journal_of a) (count_of a)) (found : (disk_in a).is_honest → Found (journal_of a) (count_of a) old (disk_in a)) (working : has_halted a ≡ false)
+  module _ (old : Disk) (a b : Pages D g) (size : (disk_in a).sectors ≡ old.sectors) (room : HasRoom old.sectors (journal_of a) (count_of a)) (found : (disk_in a).is_honest → Found (journal_of a) (count_of a) old (disk_in a)) (working : has_halted a ≡ false)
       (passed : (disk_in a).is_honest → (disk_in a).faults ≡ old.faults) (quiet : IsQuiet a b) where
     seen_in : (given : Option X) (halted : Bool) (look : Look X) → halted ≡ has_halted b → ((disk_in b).is_honest → IfSome given (finds (count_of a) (stored a))) → IsLookOf given halted look → LooksAs finds old (disk_in b) look
     seen_in given halted (Sound x) halts seen is = record {
@@ -26,12 +26,10 @@ module _ {X D : Type 0} (g : Ghosts D) (finds : ℕ → Image → X → Type 0) 
       seen = λ honest. subst (λ (P : Image). finds (count_of b) P x) (sym (quiet.same honest)) (subst (λ (n : ℕ). finds n (stored a) x) (sym quiet.count) (subst (λ (o : Option X). IfSome o (finds (count_of a) (stored a))) is.1 (seen honest)));
     }
     seen_in given halted Unsound halts seen is = tt
-    seen_in given halted Failed halts seen is = λ honest.
-        let rose = quiet.rose working (sym halts ∙ is) honest in
-        let same = passed (quiet.honest honest) in
-        omega (arith, rose, same)
+    seen_in given halted Failed halts seen is = λ honest. omega (arith, quiet.rose working (sym halts ∙ is) honest, passed (quiet.honest honest))
 
     -- and given back
-    pub looked : (left : D) → g.disk left ≡ disk_in b → (given : Option X) (halted : Bool) (look : Look X) → halted ≡ has_halted b → ((disk_in b).is_honest → IfSome given (finds (count_of a) (stored a)))
-        → IsLookOf given halted look → LooksAs finds old (g.disk left) look
-    looked left is given halted look halts seen of = subst (λ (disk : Disk). LooksAs finds old disk look) (sym is) (seen_in given halted look halts seen of)
+    pub looked : (left : Disk) → left ≡ disk_in b → (given : Option X) (halted : Bool) (look : Look X) → halted ≡ has_halted b → ((disk_in b).is_honest → IfSome given (finds (count_of a) (stored a)))
+        → IsLookOf given halted look → LooksBy finds old left look
+    looked left is given halted look halts seen of =
+        subst (λ (disk : Disk). LooksBy finds old disk look) (sym is) (record { sectors = same_sectors g a b quiet ∙ size; looked = seen_in given halted look halts seen of })

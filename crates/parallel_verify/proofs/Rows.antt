@@ -2,7 +2,7 @@
 use Rattle.{std.{specs.Prelude.{Option, Some, None, is_some}, proofs.Common.{◌≡◌, ℕ, List, Bool, true, false, sym, subst}}, desk_check.specs.Checking.TellsDesk}
 use Rattle.{desk_model.specs.declared.ranges.CountyRange.CountyRange, desk_store.specs.store_sweep.claim.Checks.AreSoundHoldings, page_btree.specs.claim.Map.InTxn}
 use Rattle.{page_store.specs.{claim.Transactions.{stored, disk_in, count_of, IsQuiet}, declared.{pages.Pages.Pages, txn.Txn.Txn}}, row_owners.specs.Strays.IsChecked}
-use Rattle.{parallel_verify.specs.Looking.{Finds, OfRows, TellsNewDesk, TellsRows}, row_owners.specs.declared.wrong.WrongRow.WrongRow, sector_device.specs.claim.Disk.Image}
+use Rattle.{parallel_verify.specs.Looking.{OfRows, TellsNewDesk, TellsRows}, row_owners.specs.declared.wrong.WrongRow.WrongRow, sector_device.specs.claim.Disk.Image}
 use Rattle.{sector_device.specs.declared.SectorDevice.Ghosts, store_rows.specs.claim.{Keys.version, Rows.{KeyMap, row_in}, Tidy.version_row}}
 use Rattle.desk_store.proofs.Prepared.{IsBegun, begun_rows}
 
@@ -10,18 +10,12 @@ module _ {D : Type 0} {g : Ghosts D} where
   still : (t : Txn) (a b : Pages D g) (m : KeyMap) → IsQuiet a b → (disk_in b).is_honest → InTxn t (stored a) m → InTxn t (stored b) m
   still t a b m quiet honest held = subst (λ (P : Image). InTxn t P m) (sym (quiet.same honest)) held
 
-  pub nothing_found : {X : Type 0} (finds : ℕ → Image → X → Type 0) (a b : Pages D g) → IsQuiet a b → Finds finds a b None
-  nothing_found finds a b quiet = record { quiet = quiet; found = λ honest. tt }
-
   pub desk_seen : (t : Txn) (a b d : Pages D g) → IsBegun a t → IsQuiet a b → IsQuiet b d → (new : Bool) → new ≡ true → ((disk_in b).is_honest → (m : KeyMap) → InTxn t (stored a) m → row_in m version ≡ version_row new)
       → (ranges : List CountyRange) → ((disk_in d).is_honest → (m : KeyMap) → InTxn t (stored b) m → TellsDesk ranges m) → (disk_in d).is_honest → OfRows (count_of a) (stored a) (TellsNewDesk ranges)
   desk_seen t a b d begun ab bd new is version_is ranges found honest m holds =
       let middle = bd.honest honest in
       let here = begun_rows a t m begun (ab.honest middle) holds in
-      record {
-        version = subst (λ (x : Bool). row_in m version ≡ version_row x) is (version_is middle m here);
-        tells = found honest m (still t a b m ab middle here);
-      }
+      record { version = subst (λ (x : Bool). row_in m version ≡ version_row x) is (version_is middle m here); tells = found honest m (still t a b m ab middle here) }
 
   pub rows_seen : (t : Txn) (a b d e : Pages D g) → IsBegun a t → IsQuiet a b → IsQuiet b d → IsQuiet d e → ((disk_in b).is_honest → (m : KeyMap) → InTxn t (stored a) m → AreSoundHoldings m) → (stray : Option WrongRow) (rows : ℕ) (ranges all : List CountyRange)
       → is_some stray ≡ false → ranges ≡ all → ((disk_in e).is_honest → (m : KeyMap) → InTxn t (stored d) m → IsChecked stray rows ranges m) → (disk_in e).is_honest → OfRows (count_of a) (stored a) (TellsRows rows all)

@@ -1,35 +1,29 @@
 -- The four files line by line, and in one view.
-use Rattle.std.{specs.{List.{list_any, IsDistinct}, Option.option_map, Str.Lines.lines}, proofs.lemmas.{Bool.{false≢true, Decides.nat_tests}, Cmp.nat_eq_equiv}}
-use Rattle.std.proofs.Common.{◌≡◌, ℕ, ◌<◌, Bool, true, false, cond, ◌||◌, ◌&&◌, eqb, List, [], ◌∷◌, ◌++◌, length, map, get_or, sum_by, Option, Some, None, IfSome, Result, Ok, Err, is_some, is_none, is_ok, unwrap_or, refl, sym, ap, subst, ◌∙◌, arith, nat_eq, length-append, append_assoc, IsPermutation, rules}
-use Rattle.{std.proofs.lemmas.{List.{map-append, append-nil, get_or_at, Elements.{filter_map-append, All-push}}, Map.Keys.IsDistinct-push}, byte_stream.specs.claim.Judged.AreGood}
+use Rattle.std.{specs.{List.{list_any, IsDistinct}, Option.option_map, Str.Lines.lines}, proofs.lemmas.{Bool.false≢true, Cmp.nat_eq_equiv, List.map-append, Option.IfSome_then}}
+use Rattle.std.proofs.Common.{◌≡◌, ℕ, Bool, true, false, cond, ◌||◌, ◌&&◌, eqb, List, [], ◌∷◌, ◌++◌, map, get_or, sum_by, Option, Some, None, IfSome, Result, Ok, Err, is_some, is_none, is_ok, unwrap_or, refl, sym, ap, subst, ◌∙◌, arith, nat_eq, IsPermutation, rules}
+use Rattle.{std.proofs.lemmas.{List.Elements.{filter_map-append, All-push}, Map.Keys.IsDistinct-push}, byte_stream.specs.claim.Judged.AreGood, pl94.specs.claim.Judging.entries}
 use Rattle.{desk_model.specs.declared.block.BlockRow.BlockRow, pl94.specs.Files.{AreSegmentLines, taken_in, people_in, counted_blocks, counted_people, AreCensusFiles, AreRowsOf}}
-use Rattle.pl94.specs.claim.{Join.{AreJoined, NoneMissing, lacking_part, taken_numbers, rows_of, total_people, people_at_number}, Judging.entries, SegFile.{people_of, IsSegment}}
+use Rattle.pl94.specs.claim.{Join.{AreJoined, NoneMissing, lacking_part, taken_numbers, rows_of, total_people, people_at_number}, SegFile.{people_of, IsSegment}}
 use Rattle.pl94.specs.{claim.Records.{line_read, records, has_number, judged, judge}, declared.{geo.GeoRows.GeoRows, segment.SegRows.SegRows}, declared.record.SegRecord.SegRecord}
 use Rattle.pl94.specs.declared.record.{SegmentLineFault.{SegmentLineFault, TheVariants.RepeatedRecord}, SegmentNumber.{SegmentNumber, TheVariants.{One, Two, Three}}}
-use Rattle.pl94.proofs.{SegLemmas.records-push, WholeLemmas.{whole_from_good, before_differs}}
+use Rattle.pl94.proofs.{HoldingLemmas.cond_none, LineLemmas.{all_at, from_good}, SegLemmas.records-push, WholeLemmas.{whole_from_good, before_differs}}
 
 -- ---- a segment
 
 abbrev numbers : List SegRecord → List ℕ
 numbers rs = map (λ r. r.number) rs
 
-flip : (a b : ℕ) → eqb a b ≡ eqb b a
-flip a b = grind (arith, nat_tests)
-
 has_number-numbers : (rs : List SegRecord) (n : ℕ) → has_number rs n ≡ list_any (nat_eq n) (numbers rs)
 has_number-numbers [] n = refl
-has_number-numbers (r ∷ rs) n = ap (λ (b : Bool). b || has_number rs n) (flip r.number n) ∙ ap (λ (b : Bool). eqb n r.number || b) (has_number-numbers rs n)
-
-not_repeated : (b : Bool) → cond b (Some RepeatedRecord) None ≡ None → b ≡ false
-not_repeated true none = absurd (cc)
-not_repeated false none = refl
+has_number-numbers (r ∷ rs) n = ap (λ (b : Bool). b || has_number rs n) (nat_eq_equiv.symm r.number n) ∙ ap (λ (b : Bool). eqb n r.number || b) (has_number-numbers rs n)
 
 module _ (part : SegmentNumber) where
   segment_more : (ls : List (List ℕ)) (line : List ℕ) (r : Result SegRecord SegmentLineFault) → line_read part line ≡ r → AreSegmentLines part ls → judged (records part ls) r ≡ None
       → AreSegmentLines part (ls ++ line ∷ [])
   segment_more ls line (Err f) is whole none = absurd (cc)
   segment_more ls line (Ok r) is whole none =
-      let fresh : list_any (nat_eq r.number) (numbers (records part ls)) ≡ false = sym (has_number-numbers (records part ls) r.number) ∙ not_repeated (has_number (records part ls) r.number) none in
+      let fresh : list_any (nat_eq r.number) (numbers (records part ls)) ≡ false =
+      sym (has_number-numbers (records part ls) r.number) ∙ (cond_none (has_number (records part ls) r.number) RepeatedRecord None none).0 in
       let grown : numbers (records part (ls ++ line ∷ [])) ≡ numbers (records part ls) ++ r.number ∷ [] =
       ap numbers (records-push part ls line r is) ∙ map-append (λ (x : SegRecord). x.number) (records part ls) (r ∷ []) in
       record {
@@ -41,13 +35,9 @@ module _ (part : SegmentNumber) where
   unfolding IsDistinct
   segment_none = record { shaped = λ k d inside. absurd (omega arith); different = tt }
 
-  segment_on : (ls done more : List (List ℕ)) → AreGood (judge part) ls → ls ≡ done ++ more → AreSegmentLines part done → AreSegmentLines part ls
-  segment_on ls done [] good cut whole = subst (AreSegmentLines part) (sym (cut ∙ append-nil done)) whole
-  segment_on ls done (line ∷ more) good cut whole =
-      segment_on ls (done ++ line ∷ []) more good (cut ∙ sym (append_assoc done (line ∷ []) more)) (segment_more done line (line_read part line) refl whole (good.each done line more cut))
-
   pub segment_from_good : (ls : List (List ℕ)) → AreGood (judge part) ls → AreSegmentLines part ls
-  segment_from_good ls good = segment_on ls [] ls good refl segment_none
+  segment_from_good ls good =
+      from_good (judge part) (AreSegmentLines part) segment_none (λ done line whole none. segment_more done line (line_read part line) refl whole none) ls good
 
   records-cut : (before after : List (List ℕ)) (line : List ℕ) (r : SegRecord) → line_read part line ≡ Ok r → records part (before ++ line ∷ after) ≡ records part before ++ r ∷ records part after
   records-cut before after line r is = search (rules, filter_map-append)
@@ -60,10 +50,7 @@ module _ (part : SegmentNumber) where
       let fresh = before_differs (numbers (records part before)) (numbers (records part after)) r.number (subst (IsDistinct nat_eq) all whole.different) in
       ap (λ (b : Bool). cond b (Some RepeatedRecord) None) (has_number-numbers (records part before) r.number ∙ fresh)
   segment_before ls before after line (Err f) is whole cut =
-      let there : get_or ls (length before) [] ≡ line = ap (λ (t : List (List ℕ)). get_or t (length before) []) cut ∙ get_or_at before line after [] (length before) refl in
-      let inside : length before < length ls = omega (arith, ap length cut, length-append before (line ∷ after)) in
-      let shaped : is_ok (line_read part line) ≡ true = ap (λ (l : List ℕ). is_ok (line_read part l)) (sym there) ∙ whole.shaped (length before) [] inside in
-      absurd (false≢true (sym (ap is_ok is) ∙ shaped))
+      absurd (false≢true (sym (ap is_ok is) ∙ all_at (λ l. is_ok (line_read part l) ≡ true) ls before after line cut whole.shaped))
 
   pub segment_good : (ls : List (List ℕ)) → AreSegmentLines part ls → AreGood (judge part) ls
   segment_good ls whole = record { each = λ before line after cut. segment_before ls before after line (line_read part line) refl whole cut }
@@ -75,16 +62,12 @@ module _ (part : SegmentNumber) where
 -- ---- the join
 
 all_from_none : (x y z : Option ℕ) → cond (is_none x) (Some One) (cond (is_none y) (Some Two) (cond (is_none z) (Some Three) None)) ≡ None → (is_some x && is_some y && is_some z) ≡ true
-all_from_none None y z none = absurd (cc)
-all_from_none (Some p) None z none = absurd (cc)
-all_from_none (Some p) (Some q) None none = absurd (cc)
 all_from_none (Some p) (Some q) (Some r) none = refl
+all_from_none _ _ _ none = absurd (cc)
 
 none_from_all : (x y z : Option ℕ) → (is_some x && is_some y && is_some z) ≡ true → cond (is_none x) (Some One) (cond (is_none y) (Some Two) (cond (is_none z) (Some Three) None)) ≡ None
-none_from_all None y z all = absurd (cc)
-none_from_all (Some p) None z all = absurd (cc)
-none_from_all (Some p) (Some q) None all = absurd (cc)
 none_from_all (Some p) (Some q) (Some r) all = refl
+none_from_all _ _ _ all = absurd (cc)
 
 state_to : (o : Option ℕ) (f : ℕ → ℕ) (t : ℕ) → IfSome (option_map f o) (λ s. s ≡ t) → IfSome o (λ n. f n ≡ t)
 state_to None f t is = is
@@ -111,13 +94,8 @@ module _ (header first second third : List ℕ) (geo : GeoRows) (a b c : SegRows
   number_same : (n : ℕ) → people_at_number a n ≡ unwrap_or (people_in One first n) 0
   number_same n = ap (λ (o : Option ℕ). unwrap_or o 0) (r.first_rows.people n)
 
-  state_same : (o : Option ℕ) → IfSome o (λ n. people_at_number a n ≡ total_people geo a) → IfSome o (λ n. unwrap_or (people_in One first n) 0 ≡ counted_people header first)
-  state_same None is = is
-  state_same (Some n) is = sym (number_same n) ∙ is ∙ total_same
-
   state_back : (o : Option ℕ) → IfSome o (λ n. unwrap_or (people_in One first n) 0 ≡ counted_people header first) → IfSome o (λ n. people_at_number a n ≡ total_people geo a)
-  state_back None is = is
-  state_back (Some n) is = number_same n ∙ is ∙ sym total_same
+  state_back o is = IfSome_then o is (λ n it. number_same n ∙ it ∙ sym total_same)
 
   pub files_from_join : (rows : List BlockRow) → AreJoined geo a b c rows → AreCensusFiles header first second third rows
   files_from_join rows j =
@@ -129,7 +107,7 @@ module _ (header first second third : List ℕ) (geo : GeoRows) (a b c : SegRows
         third_lines = segment_from_good Three (lines third) r.third_rows.good;
         complete = λ k d inside. all_from_none _ _ _ (sym (lacking_same (get_or (taken_in (entries (lines header))) k d)) ∙ none k d inside);
         total = subst (λ (o : Option ℕ). IfSome o (λ n. unwrap_or (people_in One first n) 0 ≡ counted_people header first)) r.header_rows.state_record
-            (state_same geo.state_record (state_to geo.state_record (people_at_number a) (total_people geo a) j.state));
+            (IfSome_then geo.state_record (state_to geo.state_record (people_at_number a) (total_people geo a) j.state) (λ n it. sym (number_same n) ∙ it ∙ total_same));
         same = subst (λ (xs : List BlockRow). IsPermutation xs rows) rows_same j.same;
         blocks = j.blocks;
       }

@@ -1,26 +1,17 @@
 -- A header line by line, and as a whole.
-use Rattle.std.{specs.{Io.KnownBytes.{Consumes, IsAtEnd}, List.cons_option, Option.{option_map_or, option_map}, Str.Lines.lines}, proofs.lemmas.Bool.Decides.nat_tests}
-use Rattle.std.proofs.Common.{◌≡◌, ◌≢◌, ℕ, ◌+◌, ◌<◌, Bool, true, false, not, ◌||◌, eqb, List, [], ◌∷◌, ◌++◌, length, get_or, Option, Some, None, Result, Ok, Err, IfSome, IfOk, refl, sym, ap, ◌∙◌, arith, nat_eq, length-append, All, rules}
-use Rattle.{std.proofs.lemmas.List.Elements.{All-cons, All-tail}, byte_stream.specs.{Reading.{IsLastLine, Gives, Reading}, claim.Judged.AreGood}, pl94.specs.Entries.IsEntry}
-use Rattle.{byte_stream.specs.{claim.Reading.{BeginsWithLine, line_limit}, declared.reader.ReadFault.ReadFault}, desk_model.specs.claim.Block.state_of}
+use Rattle.std.{specs.{Io.KnownBytes.{Consumes, IsAtEnd}, List.cons_option, Option.option_map_or, Str.Lines.lines}, proofs.lemmas.Bool.{eqb-true, not-false, or_parts}}
+use Rattle.std.proofs.Common.{◌≡◌, ◌≢◌, ℕ, ◌+◌, ◌<◌, false, not, eqb, List, [], ◌∷◌, ◌++◌, length, get_or, Option, Some, None, Result, Ok, Err, IfSome, IfOk, refl, sym, ap, ◌∙◌, arith, nat_eq, length-append, All, rules}
+use Rattle.{std.proofs.lemmas.{Bool.Decides.nat_tests, List.Elements.{All-cons, All-tail}}, byte_stream.specs.{Reading.{IsLastLine, Gives, Reading}, claim.Judged.AreGood}}
+use Rattle.{byte_stream.specs.{claim.Reading.{BeginsWithLine, line_limit}, declared.reader.ReadFault.ReadFault}, desk_model.specs.claim.Block.state_of, pl94.specs.Entries.IsEntry}
 use Rattle.pl94.specs.{GeoFile.{row_ids, AreGeoRows, Finishes, told, refused}, Holding.{Holds, Judges}, claim.GeoFile.{IsRead, failures_after_file}, declared.geo.GeoFault.GeoFault}
 use Rattle.pl94.specs.{claim.Judging.{ids_of, blocks_of, other_state, entries, judge, judged}, declared.entry.{GeoRecord.GeoRecord, HeaderLineFault.TheVariants.Shape}}
-use Rattle.pl94.specs.declared.{geo.GeoRows.GeoRows, header.{GeoBlock.GeoBlock, Header.Header, HeaderRefusal.{HeaderRefusal, TheVariants.{Fault, Memory}}}}
-use Rattle.{byte_stream.proofs.JudgedLemmas.{good_more, lines-ended, lines-last_one}, pl94.proofs.HoldingLemmas.length-blocks_of}
-use Rattle.pl94.proofs.LineLemmas.{AreJudged, line_told, last_told, long_told, cut_told}
+use Rattle.pl94.specs.declared.{geo.GeoRows.GeoRows, header.{Header.Header, HeaderRefusal.{HeaderRefusal, TheVariants.{Fault, Memory}}}}
+use Rattle.{byte_stream.proofs.JudgedLemmas.{good_more, lines-ended, lines-last_one}, pl94.proofs.HoldingLemmas.{length-blocks_of, row_ids-blocks_of}}
+use Rattle.pl94.proofs.LineLemmas.{AreJudged, judged_on, line_told, last_told, long_told, cut_told}
 use Rattle.byte_stream.specs.declared.reader.ReadFault.TheVariants as read
 use Rattle.pl94.specs.declared.geo.GeoFault.TheVariants as fault
 
 -- ---- the rows of the taken records
-
-row_ids-cons : (e : GeoRecord) (o : Option ℕ) (bs : List GeoBlock) (ids : List ℕ) → row_ids bs ≡ ids
-    → row_ids (cons_option (option_map (λ (id : ℕ). let b : GeoBlock = record { number = e.number; id = id; city = e.city } in b) o) bs) ≡ cons_option o ids
-row_ids-cons e None bs ids same = same
-row_ids-cons e (Some id) bs ids same = ap (λ (t : List ℕ). id ∷ t) same
-
-pub row_ids-blocks_of : (es : List GeoRecord) → row_ids (blocks_of es) ≡ ids_of es
-row_ids-blocks_of [] = refl
-row_ids-blocks_of (e ∷ es) = row_ids-cons e e.block (blocks_of es) (ids_of es) (row_ids-blocks_of es)
 
 one_state-cons : (own state : ℕ) (o : Option ℕ) (ids : List ℕ) → state ≡ own → IfSome o (λ id. state_of id ≡ state) → All (λ id. state_of id ≡ own) ids
     → All (λ id. state_of id ≡ own) (cons_option o ids)
@@ -30,15 +21,10 @@ one_state-cons own state (Some id) ids same valid rest = All-cons (λ id'. state
 -- all blocks are of the one state
 one_state : (own : ℕ) (es : List GeoRecord) → other_state es own ≡ false → All IsEntry es → All (λ id. state_of id ≡ own) (ids_of es)
 one_state own [] same valid = λ k d inside. absurd (omega arith)
-one_state own (e ∷ es) same valid = one_state-cons own e.state e.block (ids_of es) (first (eqb e.state own) refl same) (valid 0 e (omega arith)).state (one_state own es (others (eqb e.state own) same) (All-tail IsEntry e es valid))
-  where
-    first : (b : Bool) → eqb e.state own ≡ b → (not b || other_state es own) ≡ false → e.state ≡ own
-    first true is all = grind (arith, nat_tests)
-    first false is all = absurd (cc)
-
-    others : (b : Bool) → (not b || other_state es own) ≡ false → other_state es own ≡ false
-    others true all = all
-    others false all = absurd (cc)
+one_state own (e ∷ es) same valid =
+    let parts = or_parts (not (eqb e.state own)) (other_state es own) same in
+    one_state-cons own e.state e.block (ids_of es) (eqb-true e.state own (not-false _ parts.0)) (valid 0 e (omega arith)).state
+    (one_state own es parts.1 (All-tail IsEntry e es valid))
 
 states_known : (h : Header) (es : List GeoRecord) (o : Option ℕ) → ((s : ℕ) → other_state es s ≡ option_map_or (λ own. not (eqb own s)) o false) → All IsEntry es
     → (own : ℕ) × All (λ id. state_of id ≡ own) (ids_of es)
@@ -76,36 +62,40 @@ finished : (text : List ℕ) (left : Option (List ℕ)) (ls : List (List ℕ)) (
 finished text left ls number (Ok rows) end same good counted f = search rules
 finished text left ls number (Err e) end same good counted f = search rules
 
-module _ (old left : Option (List ℕ)) (held : List ℕ) (number : ℕ) (h : Header) (s : Stands old left held number h) where
-  pub told_end : (result : Result GeoRows GeoFault) → IsAtEnd left → held ≡ [] → ((es : List GeoRecord) → Holds h es → Finishes es number result) → Told old left result
-  told_end result end none f = search (rules, finished, lines-ended)
+module _ (old between left : Option (List ℕ)) (was more : List ℕ) (number : ℕ) (h : Header) (before : Stands old between was number h) (came : Consumes between left more) where
+  pub stands_on : Stands old left (was ++ more) number h
+  stands_on = judged_on judge _ old between left was more number before came
 
-  pub told_last_end : (line : List ℕ) (new : Header) (u : Unit {0}) (result : Result GeoRows GeoFault) → IsAtEnd left → IsLastLine held line
-      → ((ls : List (List ℕ)) → Holds h (entries ls) → Judges ls line (Ok u) new)
-      → ((es : List GeoRecord) → Holds new es → Finishes es (number + 1) result) → Told old left result
+  pub told_end : (result : Result GeoRows GeoFault) → IsAtEnd left → was ++ more ≡ [] → ((es : List GeoRecord) → Holds h es → Finishes es number result) → Told old left result
+  told_end result end none f = let s = stands_on in
+      (s.text, s.consumed, finished s.text left s.ls number result end (lines-ended s.text _ s.ls s.begins none) s.good s.counted (f (entries s.ls) s.known))
+
+  pub told_last_end : (line : List ℕ) (new : Header) (u : Unit {0}) (result : Result GeoRows GeoFault) → IsAtEnd left → IsLastLine (was ++ more) line
+      → ((ls : List (List ℕ)) → Holds h (entries ls) → Judges ls line (Ok u) new) → ((es : List GeoRecord) → Holds new es → Finishes es (number + 1) result) → Told old left result
   told_last_end line new u result end l judged f =
+      let s = stands_on in
       let is = judged s.ls s.known in (
         s.text,
         s.consumed,
-        finished s.text left (s.ls ++ line ∷ []) (number + 1) result end (lines-last_one s.text held line s.ls s.begins l) (good_more judge s.ls line s.good is.0)
+        finished s.text left (s.ls ++ line ∷ []) (number + 1) result end (lines-last_one s.text _ line s.ls s.begins l) (good_more judge s.ls line s.good is.0)
             (omega (arith, s.counted, length-append s.ls (line ∷ []))) (f (entries (s.ls ++ line ∷ [])) is.1),
       )
 
   -- ---- why no rows are given
 
-  pub told_refused : (given line rest : List ℕ) (new : Header) (r : HeaderRefusal) → given ≡ line → BeginsWithLine held line rest
-      → ((ls : List (List ℕ)) → Holds h (entries ls) → Judges ls given (Err r) new) → Told old left (Err (refused r (number + 1)))
-  told_refused given line rest new (Fault f) same l judged = line_told judge _ old left held number s given line rest f same l judged
-  told_refused given line rest new Memory same l judged = (s.text, s.consumed, tt)
+  pub told_refused : (given line rest : List ℕ) (new : Header) (r : HeaderRefusal) (e : GeoFault) → e ≡ refused r (number + 1) → given ≡ line
+      → BeginsWithLine (was ++ more) line rest → ((ls : List (List ℕ)) → Holds h (entries ls) → Judges ls given (Err r) new) → Told old left (Err e)
+  told_refused given line rest new (Fault f) e is same l judged = rw is (line_told judge _ old left _ number stands_on given line rest f same l judged)
+  told_refused given line rest new Memory e is same l judged = rw is (stands_on.text, stands_on.consumed, tt)
 
-  pub told_refused_last : (given line : List ℕ) (new : Header) (r : HeaderRefusal) → given ≡ line → IsAtEnd left → IsLastLine held line
-      → ((ls : List (List ℕ)) → Holds h (entries ls) → Judges ls given (Err r) new) → Told old left (Err (refused r (number + 1)))
-  told_refused_last given line new (Fault f) same end l judged = last_told judge _ old left held number s given line f same end l judged
-  told_refused_last given line new Memory same end l judged = (s.text, s.consumed, tt)
+  pub told_refused_last : (given line : List ℕ) (new : Header) (r : HeaderRefusal) (e : GeoFault) → e ≡ refused r (number + 1) → given ≡ line → IsAtEnd left
+      → IsLastLine (was ++ more) line → ((ls : List (List ℕ)) → Holds h (entries ls) → Judges ls given (Err r) new) → Told old left (Err e)
+  told_refused_last given line new (Fault f) e is same end l judged = rw is (last_told judge _ old left _ number stands_on given line f same end l judged)
+  told_refused_last given line new Memory e is same end l judged = rw is (stands_on.text, stands_on.consumed, tt)
 
-  pub told_fault : (f : ReadFault) (r : Reading) → Gives held left (Err f) r → Told old left (Err (told f (number + 1)))
-  told_fault read.TooLong r gives = long_told judge _ old left held number s Shape gives long_judged
-  told_fault _ r gives = cut_told judge _ old left held number s gives
+  pub told_fault : (f : ReadFault) (r : Reading) (e : GeoFault) → e ≡ told f (number + 1) → Gives (was ++ more) left (Err f) r → Told old left (Err e)
+  told_fault read.TooLong r e is gives = rw is (long_told judge _ old left _ number stands_on Shape gives long_judged)
+  told_fault _ r e is gives = rw is (cut_told judge _ old left _ number stands_on gives)
 
 -- ---- what else is told at the end
 

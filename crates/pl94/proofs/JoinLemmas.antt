@@ -1,6 +1,6 @@
 -- The rows of the join.
-use Rattle.std.{specs.{List.Sorted.{IsPermutation, IsNonDecreasing, IsNonDecreasingBy}, Option.option_to_list}, proofs.lemmas.{Bool.Decides.nat_tests, Simd.map-map}}
-use Rattle.std.proofs.Common.{◌≡◌, ℕ, ◌+◌, ◌<◌, ◌≤◌, ◌^◌, List, [], ◌∷◌, ◌++◌, length, take, map, get_or, Option, Some, None, IfSome, sym, ap, subst, ◌∙◌, arith, nat_eq, rules}
+use Rattle.std.{specs.{List.Sorted.{IsPermutation, IsNonDecreasing, IsNonDecreasingBy}, Option.option_to_list}, proofs.lemmas.{Cmp.nat_eq_equiv, Simd.map-map}}
+use Rattle.std.proofs.Common.{◌≡◌, ℕ, ◌+◌, ◌<◌, ◌≤◌, ◌^◌, List, [], ◌∷◌, ◌++◌, length, take, map, get_or, Option, Some, None, sym, ap, subst, ◌∙◌, arith, nat_eq, rules}
 use Rattle.std.proofs.lemmas.List.{append-nil, get_or-map, map_more, take_all, length-map, Sorted.{IsPermutation-map, sum_by-IsPermutation, All-permutation, length_permutation}}
 use Rattle.{std.proofs.lemmas.Map.Keys.{IsDistinct-IsPermutation, IsStrictlyIncreasing-from_distinct}, desk_model.specs.claim.{Block.state_of, Geography.ids_of}}
 use Rattle.{desk_model.specs.{claim.GeographyModels.AreBlocks, declared.block.BlockRow.BlockRow}, pl94.specs.{GeoFile.{AreGeoRows, row_ids}, Join.IsLeast}}
@@ -15,9 +15,6 @@ ids_rise rows sorted i j d le inside =
     let there : j < length rows = omega arith in
     let first : i < length rows = omega arith in
     rw (get_or-map (λ (b : BlockRow). b.id) rows i none d first, get_or-map (λ (b : BlockRow). b.id) rows j none d there) (sorted i j none le there)
-
-flip : (a b : ℕ) → nat_eq a b ≡ nat_eq b a
-flip a b = grind (arith, nat_tests)
 
 all_numbers : (geo : GeoRows) (i : ℕ) (o : Option ℕ) → length geo.blocks.items ≤ i → geo.state_record ≡ o
     → map (λ (b : GeoBlock). b.number) (take i geo.blocks.items) ++ option_to_list o ≡ taken_numbers geo
@@ -38,31 +35,21 @@ least_more blocks first second third i b o inside is least =
     subst (λ (ns : List ℕ). IsLeast first second third ns o)
     (ap (λ (x : GeoBlock). map (λ (b : GeoBlock). b.number) (take i blocks) ++ x.number ∷ []) is ∙ sym (map_more (λ (b : GeoBlock). b.number) blocks i b inside)) least
 
-ids-rows_of : (geo : GeoRows) (first : SegRows) → ids_of (rows_of geo first) ≡ row_ids geo.blocks.items
-ids-rows_of geo first = map-map (λ (b : BlockRow). b.id) (row_of first) geo.blocks.items
-
 -- the sorted rows are a state's blocks
 pub are_blocks : (geo : GeoRows) (first : SegRows) (rows : List BlockRow) → AreGeoRows geo → IsPermutation (rows_of geo first) rows → IsNonDecreasing (ids_of rows)
     → total_people geo first < 2 ^ 32 → AreBlocks rows
 are_blocks geo first rows valid same sorted few =
     let count = length_permutation (rows_of geo first) rows same in
     let ids : IsPermutation (ids_of (rows_of geo first)) (ids_of rows) = IsPermutation-map (λ (b : BlockRow). b.id) (rows_of geo first) rows same in
-    let from : IsPermutation (row_ids geo.blocks.items) (ids_of rows) = subst (λ (xs : List ℕ). IsPermutation xs (ids_of rows)) (ids-rows_of geo first) ids in
+    let from : IsPermutation (row_ids geo.blocks.items) (ids_of rows) =
+    subst (λ (xs : List ℕ). IsPermutation xs (ids_of rows)) (map-map (λ b. b.id) (row_of first) geo.blocks.items) ids in
     let as_many : length (rows_of geo first) ≡ length geo.blocks.items = length-map geo.blocks.items (row_of first) in
     record {
       some = omega (arith, valid.some);
       few = omega (arith, valid.few);
-      rising = IsStrictlyIncreasing-from_distinct (ids_of rows) sorted (IsDistinct-IsPermutation nat_eq flip (row_ids geo.blocks.items) (ids_of rows) from valid.distinct);
+      rising = IsStrictlyIncreasing-from_distinct (ids_of rows) sorted
+          (IsDistinct-IsPermutation nat_eq nat_eq_equiv.symm (row_ids geo.blocks.items) (ids_of rows) from valid.distinct);
       one_state = all_as_first (state_of (get_or (row_ids geo.blocks.items) 0 0)) (ids_of rows)
           (All-permutation (λ (id : ℕ). state_of id ≡ state_of (get_or (row_ids geo.blocks.items) 0 0)) (row_ids geo.blocks.items) (ids_of rows) from valid.one_state);
       people = subst (λ (n : ℕ). n < 2 ^ 32) (sym (sum_by-IsPermutation (λ (b : BlockRow). b.population) (rows_of geo first) rows same)) few;
     }
-
-pub state_agrees : (o : Option ℕ) (x : Option ℕ) (total : ℕ) → x ≡ o → IfSome x (λ s. s ≡ total) → IfSome o (λ s. s ≡ total)
-state_agrees o x total is agrees = subst (λ (y : Option ℕ). IfSome y (λ s. s ≡ total)) is agrees
-
-pub some_agrees : (x : Option ℕ) (s total : ℕ) → x ≡ Some s → s ≡ total → IfSome x (λ s'. s' ≡ total)
-some_agrees x s total is same = subst (λ (y : Option ℕ). IfSome y (λ s'. s' ≡ total)) (sym is) same
-
-pub none_agrees : (x : Option ℕ) (total : ℕ) → x ≡ None → IfSome x (λ s'. s' ≡ total)
-none_agrees x total is = subst (λ (y : Option ℕ). IfSome y (λ s'. s' ≡ total)) (sym is) tt

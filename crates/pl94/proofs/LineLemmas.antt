@@ -1,7 +1,8 @@
 -- The lines of a text, judged one after the other while it is read.
-use Rattle.std.{specs.Io.KnownBytes.{Consumes, IsAtEnd}, proofs.Common.{◌≡◌, ℕ, ◌+◌, ◌<◌, List, [], ◌∷◌, ◌++◌, length, Option, Some, None, refl, sym, subst, length-append, rules}}
-use Rattle.byte_stream.specs.{Reading.{IsLastLine, IsTooLong}, claim.Judged.{Judge, AreGood, ShowsFault, IsCutShort, BeginsWithLines}}
-use Rattle.byte_stream.{specs.claim.Reading.{BeginsWithLine, IsBroken, line_limit}, proofs.ReadingLemmas.{Consumes-nothing, Consumes-then}}
+use Rattle.std.{specs.Io.KnownBytes.{Consumes, IsAtEnd}, proofs.{KnownBytes.{Consumes-nil, Consumes-trans}, lemmas.List.append-nil}}
+use Rattle.std.proofs.Common.{All, arith, ◌∙◌, append_assoc, ◌≡◌, ℕ, ◌+◌, ◌<◌, List, [], ◌∷◌, ◌++◌, length, Option, Some, None, refl, sym, subst, length-append, rules}
+use Rattle.{std.proofs.lemmas.List.Elements.{All-contains, Contains-append_right}, byte_stream.specs.Reading.{IsLastLine, IsTooLong}}
+use Rattle.byte_stream.specs.claim.{Judged.{Judge, AreGood, ShowsFault, IsCutShort, BeginsWithLines}, Reading.{BeginsWithLine, IsBroken, line_limit}}
 use Rattle.byte_stream.proofs.JudgedLemmas.{begins, begins_more, begins_line, good_none, good_more, shown_line, shown_last, shown_long, cut_short}
 
 -- the bytes that came are these good lines, of which this is known, and the held bytes
@@ -19,7 +20,7 @@ module _ {F : Type 0} (judge : Judge F) where
   judged_none Known left held none known = record {
     text = [];
     ls = [];
-    consumed = Consumes-nothing left;
+    consumed = Consumes-nil left;
     begins = subst (BeginsWithLines [] []) (sym none) (begins []);
     good = good_none judge;
     known = known;
@@ -51,4 +52,19 @@ module _ {F : Type 0} (judge : Judge F) where
   -- some more bytes
   pub judged_on : (Known : List (List ℕ) → Type 0) (old left next : Option (List ℕ)) (held more : List ℕ) (number : ℕ) → AreJudged judge Known old left held number → Consumes left next more
       → AreJudged judge Known old next (held ++ more) number
-  judged_on Known old left next held more number s came = search (rules, s.text, s.ls, s.consumed, s.begins, s.good, s.known, s.counted, Consumes-then, begins_more)
+  judged_on Known old left next held more number s came = search (rules, s.text, s.ls, s.consumed, s.begins, s.good, s.known, s.counted, Consumes-trans, begins_more)
+
+  -- what good lines keep, one after the other
+  good_on : (P : List (List ℕ) → Type 0) → ((ls : List (List ℕ)) (line : List ℕ) → P ls → judge ls line ≡ None → P (ls ++ line ∷ [])) → (ls done more : List (List ℕ))
+      → AreGood judge ls → ls ≡ done ++ more → P done → P ls
+  good_on P step ls done [] good cut so_far = subst P (sym (cut ∙ append-nil done)) so_far
+  good_on P step ls done (line ∷ more) good cut so_far =
+      good_on P step ls (done ++ line ∷ []) more good (cut ∙ sym (append_assoc done (line ∷ []) more)) (step done line so_far (good.each done line more cut))
+
+  pub from_good : (P : List (List ℕ) → Type 0) → P [] → ((ls : List (List ℕ)) (line : List ℕ) → P ls → judge ls line ≡ None → P (ls ++ line ∷ [])) → (ls : List (List ℕ))
+      → AreGood judge ls → P ls
+  from_good P none step ls good = good_on P step ls [] ls good refl none
+
+-- what holds of all elements, at one between others
+pub all_at : {X : Type 0} (P : X → Type 0) (xs before after : List X) (x : X) → xs ≡ before ++ x ∷ after → All P xs → P x
+all_at P xs before after x cut all = All-contains P (before ++ x ∷ after) x (subst (All P) cut all) (Contains-append_right before (x ∷ after) x (0, omega arith, refl))

@@ -1,21 +1,12 @@
 -- The people of numbers, in a run and among the others.
-use Rattle.std.specs.{BTreeMap.{BTreeMap, get, is_at, Updates}, Ordering.{nat_cmp, is_eq}, declared.{alloc.Global.Global, cmp.Ordering.TheVariants.{Less, Equal, Greater}}}
-use Rattle.std.proofs.Common.{◌≡◌, ℕ, ◌-◌, ◌≤◌, Vec, Bool, true, false, cond, eqb, ltb, [], get_or, Option, Some, None, is_some, refl, ap, ◌∙◌, arith, rules}
-use Rattle.{std.proofs.lemmas.Bool.Decides.nat_tests, pl94.specs.{SegFile.{Grows, Holds}, claim.SegFile.{in_run, or_else, people_of}, declared.record.SegRecord.SegRecord}}
-use Rattle.pl94.specs.declared.segment.SegRows.{SegRows}
-
-pub none_from_test : (o : Option ℕ) → is_some o ≡ false → o ≡ None
-none_from_test None test = refl
-none_from_test (Some p) test = absurd (cc)
+use Rattle.std.{specs.{BTreeMap.{BTreeMap, get, Updates}, Cmp.unsigned_ties, Ordering.nat_cmp, declared.alloc.Global.Global}, proofs.lemmas.Bool.Decides.nat_tests}
+use Rattle.std.proofs.Common.{◌≡◌, ℕ, ◌-◌, ◌≤◌, Vec, Bool, true, false, cond, eqb, ltb, [], get_or, Option, Some, None, refl, sym, ap, ◌∙◌, arith, rules}
+use Rattle.pl94.specs.{SegFile.{Grows, Holds}, claim.SegFile.{in_run, or_else, people_of}, declared.record.SegRecord.SegRecord, declared.segment.SegRows.SegRows}
 
 -- a look into both
-pub people_first : (rows : SegRows) (n p : ℕ) → Some p ≡ in_run rows n → Some p ≡ people_of rows n
+pub people_by : (rows : SegRows) (n : ℕ) (o : Option ℕ) → o ≡ in_run rows n → or_else o (get nat_cmp rows.others n) ≡ people_of rows n
 unfolding people_of
-people_first rows n p is = ap (λ (o : Option ℕ). or_else o (get nat_cmp rows.others n)) is
-
-pub people_else : (rows : SegRows) (n : ℕ) → None ≡ in_run rows n → get nat_cmp rows.others n ≡ people_of rows n
-unfolding people_of
-people_else rows n is = ap (λ (o : Option ℕ). or_else o (get nat_cmp rows.others n)) is
+people_by rows n o is = ap (λ (o : Option ℕ). or_else o (get nat_cmp rows.others n)) is
 
 either_none : (b : Bool) (o : Option ℕ) → o ≡ None → cond b None o ≡ None
 either_none true o none = refl
@@ -24,16 +15,10 @@ either_none false o none = none
 -- no record yet
 pub holds_none : (rows : SegRows) → rows.run.items ≡ [] → rows.others.entries ≡ [] → Holds rows []
 unfolding people_of
-holds_none rows run others = record { people = λ n. none n }
-  where
-    outside : (n : ℕ) → get nat_cmp rows.others n ≡ None
-    outside n = rw others refl
-
-    inside : (n : ℕ) → in_run rows n ≡ None
-    inside n = either_none (ltb n rows.first) (get_or rows.run.items (n - rows.first) None) (rw run refl)
-
-    none : (n : ℕ) → or_else (in_run rows n) (get nat_cmp rows.others n) ≡ None
-    none n = ap (λ (o : Option ℕ). or_else o (get nat_cmp rows.others n)) (inside n) ∙ outside n
+holds_none rows run others = record {
+  people = λ n. ap (λ (o : Option ℕ). or_else o (get nat_cmp rows.others n)) (either_none (ltb n rows.first) (get_or rows.run.items (n - rows.first) None) (rw run refl))
+      ∙ rw others refl;
+}
 
 -- a run without a number holds none, wherever it begins
 pub same_begun : (old new : SegRows) → old.run.items ≡ [] → new.run.items ≡ [] → new.others ≡ old.others → (n : ℕ) → people_of new n ≡ people_of old n
@@ -69,15 +54,6 @@ grows_in_run old mid new r same from first others run = λ none n. by_place n (l
     by_place n true is = search (rules, nat_tests)
     by_place n false is = search (rules, in_place, or_else-cond)
 
-same_key : (a n : ℕ) → is_at (nat_cmp a) n ≡ eqb a n
-same_key a n = by_case (ltb a n) (eqb a n) refl refl
-  where
-    by_case : (l e : Bool) → ltb a n ≡ l → eqb a n ≡ e → is_eq (cond l Less (cond e Equal Greater)) ≡ e
-    by_case true true less same = absurd (let is : a ≡ n = grind (arith, nat_tests) in grind (arith, nat_tests))
-    by_case true false less same = refl
-    by_case false true less same = refl
-    by_case false false less same = refl
-
 first_none : (o other : Option ℕ) → or_else o other ≡ None → o ≡ None
 first_none None other none = refl
 first_none (Some p) other none = absurd (cc)
@@ -92,7 +68,7 @@ grows_outside old mid new r same first run updates = λ none n. by_number none n
     placed n = ap (λ (m : ℕ). cond (ltb n m) None (get_or new.run.items (n - m) None)) first ∙ ap (λ (v : Vec (Option ℕ) Global). cond (ltb n mid.first) None (get_or v.items (n - mid.first) None)) run
 
     outside : (n : ℕ) → get nat_cmp new.others n ≡ cond (eqb r.number n) (Some r.people) (get nat_cmp mid.others n)
-    outside n = updates.0 n ∙ ap (λ (b : Bool). cond b (Some r.people) (get nat_cmp mid.others n)) (same_key r.number n)
+    outside n = updates.0 n ∙ ap (λ (b : Bool). cond b (Some r.people) (get nat_cmp mid.others n)) (sym (unsigned_ties r.number n))
 
     by_number : people_of old r.number ≡ None → (n : ℕ) (b : Bool) → eqb r.number n ≡ b
         → or_else (in_run new n) (get nat_cmp new.others n) ≡ cond b (Some r.people) (or_else (in_run mid n) (get nat_cmp mid.others n))

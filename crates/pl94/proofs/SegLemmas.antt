@@ -6,7 +6,7 @@ use Rattle.{byte_stream.specs.claim.Reading.{BeginsWithLine, line_limit}, pl94.s
 use Rattle.pl94.specs.{claim.Records.{line_read, record_of, records, people_at, has_number, judged, judge}, declared.record.{SegRecord.SegRecord, SegmentNumber.SegmentNumber}}
 use Rattle.pl94.specs.{declared.record.SegmentLineFault.{SegmentLineFault, TheVariants.{Shape, RepeatedRecord}}, declared.segment.{SegFault.SegFault, SegRows.SegRows}}
 use Rattle.{pl94.specs.declared.segment.SegmentRefusal.{SegmentRefusal, TheVariants.{Fault, Memory}}, byte_stream.proofs.JudgedLemmas.{good_more, lines-ended, lines-last_one}}
-use Rattle.pl94.proofs.LineLemmas.{AreJudged, line_told, last_told, long_told, cut_told}
+use Rattle.pl94.proofs.LineLemmas.{AreJudged, judged_on, line_told, last_told, long_told, cut_told}
 use Rattle.byte_stream.specs.declared.reader.ReadFault.TheVariants as read
 
 -- ---- one more record
@@ -38,8 +38,7 @@ people_at-push (x ∷ rs) r q fresh = by_case (eqb x.number q) (eqb x.number r.n
 
 -- the map with one more record
 pub holds_more : (old new : SegRows) (rs : List SegRecord) (r : SegRecord) → Holds old rs → people_of old r.number ≡ None
-    → ((q : ℕ) → people_of new q ≡ cond (eqb r.number q) (Some r.people) (people_of old q))
-    → (has_number rs r.number ≡ false) × Holds new (rs ++ r ∷ [])
+    → ((q : ℕ) → people_of new q ≡ cond (eqb r.number q) (Some r.people) (people_of old q)) → (has_number rs r.number ≡ false) × Holds new (rs ++ r ∷ [])
 holds_more old new rs r holds fresh grown = search (rules, has_number-is_some, none_test, people_at-push)
 
 pub repeated : (old : SegRows) (rs : List SegRecord) (r : SegRecord) → Holds old rs → is_some (people_of old r.number) ≡ true → judged rs (Ok r) ≡ Some RepeatedRecord
@@ -72,28 +71,33 @@ module _ (part : SegmentNumber) where
   is_segment : (ls all : List (List ℕ)) (h : SegRows) → all ≡ ls → AreGood (judge part) ls → Holds h (records part ls) → IsSegment part all h
   is_segment ls all h same good holds = record { good = subst (AreGood (judge part)) (sym same) good; people = λ n. holds.people n ∙ ap (λ (t : List (List ℕ)). people_at (records part t) n) (sym same) }
 
-  module _ (old left : Option (List ℕ)) (held : List ℕ) (number : ℕ) (h : SegRows) (s : Stands old left held number h) where
-    pub told_end : IsAtEnd left → held ≡ [] → Told old left (Ok h)
-    told_end end none = search (rules, is_segment, lines-ended)
+  module _ (old between left : Option (List ℕ)) (was more : List ℕ) (number : ℕ) (h : SegRows) (before : Stands old between was number h) (came : Consumes between left more) where
+    pub stands_on : Stands old left (was ++ more) number h
+    stands_on = judged_on (judge part) _ old between left was more number before came
 
-    pub told_last_end : (line : List ℕ) (new : SegRows) (u : Unit {0}) → IsAtEnd left → IsLastLine held line
+    pub told_end : IsAtEnd left → was ++ more ≡ [] → Told old left (Ok h)
+    told_end end none =
+        let s = stands_on in (s.text, s.consumed, (end, is_segment s.ls (lines s.text) h (lines-ended s.text _ s.ls s.begins none) s.good s.known))
+
+    pub told_last_end : (line : List ℕ) (new : SegRows) (u : Unit {0}) → IsAtEnd left → IsLastLine (was ++ more) line
         → ((ls : List (List ℕ)) → Holds h (records part ls) → Judges part ls line (Ok u) new) → Told old left (Ok new)
     told_last_end line new u end l judged =
+        let s = stands_on in
         let is = judged s.ls s.known in
-        (s.text, s.consumed, (end, is_segment (s.ls ++ line ∷ []) (lines s.text) new (lines-last_one s.text held line s.ls s.begins l) (good_more (judge part) s.ls line s.good is.0) is.1))
+        (s.text, s.consumed, (end, is_segment (s.ls ++ line ∷ []) (lines s.text) new (lines-last_one s.text _ line s.ls s.begins l) (good_more (judge part) s.ls line s.good is.0) is.1))
 
     -- ---- why no rows are given
 
-    pub told_refused : (given line rest : List ℕ) (new : SegRows) (r : SegmentRefusal) → given ≡ line → BeginsWithLine held line rest
-        → ((ls : List (List ℕ)) → Holds h (records part ls) → Judges part ls given (Err r) new) → Told old left (Err (refused r (number + 1)))
-    told_refused given line rest new (Fault f) same l judged = line_told (judge part) _ old left held number s given line rest f same l judged
-    told_refused given line rest new Memory same l judged = (s.text, s.consumed, tt)
+    pub told_refused : (given line rest : List ℕ) (new : SegRows) (r : SegmentRefusal) (e : SegFault) → e ≡ refused r (number + 1) → given ≡ line
+        → BeginsWithLine (was ++ more) line rest → ((ls : List (List ℕ)) → Holds h (records part ls) → Judges part ls given (Err r) new) → Told old left (Err e)
+    told_refused given line rest new (Fault f) e is same l judged = rw is (line_told (judge part) _ old left _ number stands_on given line rest f same l judged)
+    told_refused given line rest new Memory e is same l judged = rw is (stands_on.text, stands_on.consumed, tt)
 
-    pub told_refused_last : (given line : List ℕ) (new : SegRows) (r : SegmentRefusal) → given ≡ line → IsAtEnd left → IsLastLine held line
-        → ((ls : List (List ℕ)) → Holds h (records part ls) → Judges part ls given (Err r) new) → Told old left (Err (refused r (number + 1)))
-    told_refused_last given line new (Fault f) same end l judged = last_told (judge part) _ old left held number s given line f same end l judged
-    told_refused_last given line new Memory same end l judged = (s.text, s.consumed, tt)
+    pub told_refused_last : (given line : List ℕ) (new : SegRows) (r : SegmentRefusal) (e : SegFault) → e ≡ refused r (number + 1) → given ≡ line → IsAtEnd left
+        → IsLastLine (was ++ more) line → ((ls : List (List ℕ)) → Holds h (records part ls) → Judges part ls given (Err r) new) → Told old left (Err e)
+    told_refused_last given line new (Fault f) e is same end l judged = rw is (last_told (judge part) _ old left _ number stands_on given line f same end l judged)
+    told_refused_last given line new Memory e is same end l judged = rw is (stands_on.text, stands_on.consumed, tt)
 
-    pub told_fault : (f : ReadFault) (r : Reading) → Gives held left (Err f) r → Told old left (Err (told f (number + 1)))
-    told_fault read.TooLong r gives = long_told (judge part) _ old left held number s Shape gives long_judged
-    told_fault _ r gives = cut_told (judge part) _ old left held number s gives
+    pub told_fault : (f : ReadFault) (r : Reading) (e : SegFault) → e ≡ told f (number + 1) → Gives (was ++ more) left (Err f) r → Told old left (Err e)
+    told_fault read.TooLong r e is gives = rw is (long_told (judge part) _ old left _ number stands_on Shape gives long_judged)
+    told_fault _ r e is gives = rw is (cut_told (judge part) _ old left _ number stands_on gives)

@@ -25,8 +25,10 @@ module _ {D X : Type 0} {g : Ghosts D} {done : X → Type 0} {failed : TreeError
   writes_as r write gives needs = search (arith, gives, needs)
 
 -- ---- rows that a place tells are put with two leaves that are known, one after the other
-pub all_told : {D : Type 0} {g : Ghosts D} (row : ℕ → Row) (k n : ℕ) {f : Fingers} {t u : Txn} {a b : Pages D g} → k ≡ n → HasPutFrom f (rows_told row k) t u a b → HasPut (rows_told row n) t u a b
-all_told row k n {f} {t} {u} {a} {b} all before = subst (λ (n : ℕ). HasPut (rows_told row n) t u a b) all (all_from f (rows_told row k) t u a b before)
+pub all_told : {D X : Type 0} {g : Ghosts D} (row : ℕ → Row) (k n : ℕ) {f : Fingers} {t u : Txn} {a b : Pages D g} {x : X} → k ≡ n
+    → HasPutFrom f (rows_told row k) t u a b → txn_pages u ≡ count_of b → PutsRows (rows_told row n) t u a b (Ok x)
+all_told row k n {f} {t} {u} {a} {b} all before begun =
+    record { quiet = before.put.passed.quiet; begun = begun; put = subst (λ (n : ℕ). HasPut (rows_told row n) t u a b) all (all_from f (rows_told row k) t u a b before) }
 
 module _ {D : Type 0} {g : Ghosts D} (row : ℕ → Row) {k : ℕ} {f : Fingers} {t u v : Txn} {a b d : Pages D g} {one : Row} where
   pub told_more_row : {h : Fingers} → one ≡ row k → HasPutFrom f (rows_told row k) t u a b → HasPutWith f h (one ∷ []) u v b d → HasPutFrom h (rows_told row (k + 1)) t v a d

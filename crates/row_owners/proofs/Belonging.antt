@@ -2,29 +2,20 @@
 use Rattle.std.{specs.{FinMap.{entries, get}, List.AllByRecursion, Prelude.Option}, proofs.Common.{◌≡◌, ℕ, List, [], Bool, true, false, Some, None, Ok, refl, sym, ap, subst, ◌∙◌}}
 use Rattle.{btree_walks.specs.{Prefixes.under, Scanning.{TakesNextRow, fault_in, has_ended}, declared.{rows.Row.Row, scans.Scan.Scan}}, desk_pages.specs.Looking.Looks}
 use Rattle.{desk_model.specs.declared.ranges.CountyRange.CountyRange, page_btree.specs.page_node.claim.Entries.Entry, page_store.specs.claim.Transactions.{IsQuiet, Passed}}
-use Rattle.{page_store.specs.declared.{pages.Pages.Pages, txn.Txn.Txn}, row_owners.{specs.declared.{kinds.Kind.TheVariants.{Mark, Other}, wrong.Wrong.Wrong}, proofs.Whole.get_is}}
-use Rattle.row_owners.specs.Strays.{AllBelong, Belongs, IsAny, IsJudged, IsNamed, IsNaming, IsOf, IsOfKind, IsRight, IsStray, IsWrong, NamesAt, Tells}
+use Rattle.{page_store.specs.declared.{pages.Pages.Pages, txn.Txn.Txn}, row_owners.{specs.declared.{kinds.Kind.TheVariants.Mark, wrong.Wrong.Wrong}, proofs.KeyBytes.at_row}}
+use Rattle.row_owners.{specs.Strays.{AllBelong, Belongs, IsAny, IsJudged, IsNamed, IsNaming, IsOf, IsOfKind, IsRight, IsStray, IsWrong, NamesAt, Tells}, proofs.Whole.get_is}
 use Rattle.{sector_device.specs.declared.SectorDevice.Ghosts, store_rows.specs.claim.{Keys.{RowKey, key_of, part}, Lists.{AreChunks, chunks_bytes}, Rows.KeyMap}}
 use Rattle.{btree_walks.proofs.{RowsFound.all_found, Walked.{HasNext, HasWalked, walk_next, walk_passed}}, desk_pages.proofs.Looking.looked, store_rows.proofs.RowLaws.keys_differ}
 use Rattle.store_rows.proofs.ListLaws.{chunks_differ}
 
--- ---- a row with a key is one
-right_by : (ranges : List CountyRange) (m : KeyMap) (key value : List ℕ) (row : RowKey) → IsOf row key → Belongs ranges m row value → IsRight ranges m (key, value)
-right_by ranges m key value row of has other fits is =
-    let same : row ≡ other = keys_differ row other of.fits fits (sym of.is ∙ is) in
-    subst (λ (r : RowKey). Belongs ranges m r value) same has
-
 module _ (ranges : List CountyRange) (m : KeyMap) (key value : List ℕ) where
   pub judged : (row : RowKey) → IsOf row key → (wrong : Option Wrong) → Tells (Belongs ranges m row value) wrong → IsJudged ranges (key, value) m wrong
-  judged row of None is = right_by ranges m key value row of is
+  judged row of None is = at_row (λ r. Belongs ranges m r value) key row of is
   judged row of (Some wrong) none = (row, of.fits, of.is, none)
 
   pub mark_judged : (wrong : Option Wrong) → IsOfKind Mark key → Tells (value ≡ []) wrong → IsJudged ranges (key, value) m wrong
-  mark_judged None kind is = right_by ranges m key value kind.0 kind.1 ((kind.2 ranges m value).0 is)
+  mark_judged None kind is = at_row (λ r. Belongs ranges m r value) key kind.0 kind.1 ((kind.2 ranges m value).0 is)
   mark_judged (Some wrong) kind none = (kind.0, kind.1.fits, kind.1.is, λ has. none ((kind.2 ranges m value).1 has))
-
-  pub other_judged : IsOfKind Other key → IsRight ranges m (key, value)
-  other_judged kind row fits is = kind row fits is ranges m value
 
 -- ---- parts that name a chunk
 module _ (ranges : List CountyRange) (of : Option ℕ) (number piece : ℕ) where

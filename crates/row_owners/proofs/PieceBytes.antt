@@ -24,13 +24,9 @@ twos (suc count) [] fits long = absurd (omega arith)
 twos (suc count) (a ∷ []) fits long = absurd (omega arith)
 twos (suc count) (a ∷ b ∷ bytes) fits long =
     let rest = twos count bytes (λ i. fits (suc (suc i))) (omega arith) in
-    let less = fits 0 in
-    let few = fits 1 in
-    let same = rest.is in
-    let two = one_two a b less few in
     record {
       districts = (256 * a + b) ∷ rest.districts;
       long = ap suc rest.long;
-      each = All-cons (λ (d : ℕ). d < 2 ^ 16) (256 * a + b) rest.districts (omega arith) rest.each;
-      is = λ i. two i ++ same i;
+      each = All-cons (λ (d : ℕ). d < 2 ^ 16) (256 * a + b) rest.districts (omega (arith, fits 0, fits 1)) rest.each;
+      is = λ i. one_two a b (fits 0) (fits 1) i ++ rest.is i;
     }

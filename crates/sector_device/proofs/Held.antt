@@ -34,24 +34,17 @@ module _ (honest honest' : Type 0) (was_honest : honest) (sectors sectors' : Lis
   keeps t c le (inl now) = inr (inl (le, now))
   keeps t c le (inr there) = inr (inr there)
 
-  more : (b : Bool) → refused states ≤ cond b (refused states + 1) (refused states)
-  more true = omega arith
-  more false = omega arith
-
-  touches : Touches (Only i) old new
-  touches = record {
-    was_honest = was_honest;
-    sectors = long;
-    later = omega arith;
-    faults = more told;
-    reads = record { same = λ j off. same j off };
-    since = λ t c le left. since t c left;
-    keeps = λ t c le left. keeps t c le left;
-  }
-
   -- the same where the states are known by what was noted
   pub write_touches : (later : List State) (noted_sectors : List (List ℕ)) (noted_unsynced : List Bool) → later ≡ (noted_sectors, noted_unsynced, told) ∷ states → noted_sectors ≡ sectors → noted_unsynced ≡ unsynced
       → Touches (Only i) (disk_from honest sectors few unsynced states) (disk_from honest' sectors' few' (set unsynced i true) later)
   write_touches later s d is s_is d_is =
       let whole : later ≡ (sectors, unsynced, told) ∷ states = is ∙ (λ k. (s_is k, d_is k, told) ∷ states) in
-      subst (λ (l : List State). Touches (Only i) old (disk_from honest' sectors' few' (set unsynced i true) l)) (sym whole) touches
+      subst (λ (l : List State). Touches (Only i) old (disk_from honest' sectors' few' (set unsynced i true) l)) (sym whole) (record {
+        was_honest = was_honest;
+        sectors = long;
+        later = omega arith;
+        faults = elim told as (λ b. refused states ≤ cond b (refused states + 1) (refused states)) [ true ↦ omega arith | false ↦ omega arith ];
+        reads = record { same = λ j off. same j off };
+        since = λ t c le left. since t c left;
+        keeps = λ t c le left. keeps t c le left;
+      })

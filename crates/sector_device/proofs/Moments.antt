@@ -5,11 +5,21 @@ use Rattle.sector_device.specs.{Disk.{IsSynced, HasCause, Step}, claim.Disk.{Dis
 pub agree_trans : (S T : ℕ → Type 0) (a b c : Image) → ((i : ℕ) → T i → S i) → AgreeOff S a b → AgreeOff T b c → AgreeOff S a c
 agree_trans S T a b c within ab bc = record { same = λ i off. bc.same i (λ t. off (within i t)) ∙ ab.same i off }
 
+-- a call adds no image but those that differ at touched sectors alone
+leaves_by : (P : Image → Type 0) (S : ℕ → Type 0) (a b : Disk) → Touches S a b → ((c : Image) → LeavesBut S a c → P c) → LeavesOnly P a b
+leaves_by P S a b ab has = record {
+  later = ab.later;
+  each = λ c left. ⊎_elim (λ was. has c (c, a.only_now c was, record { same = λ i off. refl })) (λ but. has c but) (ab.since a.moment c (omega arith) left);
+  before = λ t c le left. ⊎_elim (λ was. inl was) (λ but. inr (has c but)) (ab.since t c le left);
+}
+
+-- also of what a stop may leave now
+pub leaves_now : (P : Image → Type 0) (a b : Disk) → LeavesOnly P a b → (c : Image) → b.leaves c → P c
+leaves_now P a b ab c leaves = ab.each c (b.counts_now a.moment c ab.later leaves)
+
 -- what a stop may leave now, it could leave before, but for the touched sectors
 pub now_but : (S : ℕ → Type 0) (a b : Disk) → Touches S a b → (c : Image) → b.leaves c → LeavesBut S a c
-now_but S a b ab c leaves =
-    ⊎_elim (λ left. (c, a.only_now c left, record { same = λ i off. refl })) (λ but. but)
-    (ab.since a.moment c (omega arith) (b.counts_now a.moment c ab.later leaves))
+now_but S a b ab c leaves = leaves_now (LeavesBut S a) a b (leaves_by (LeavesBut S a) S a b ab (λ x but. but)) c leaves
 
 pub touches_more : (S T : ℕ → Type 0) (a b c : Disk) → ((i : ℕ) → T i → S i) → Touches S a b → Touches T b c → Touches S a c
 touches_more S T a b c within ab bc = record {
@@ -56,17 +66,8 @@ synced_still a b synced ab c leaves =
 
 -- a call after which each image has P, where the device was synced before
 pub leaves_from : (P : Image → Type 0) (S : ℕ → Type 0) (a b : Disk) → IsSynced a → Touches S a b → ((c : Image) → AgreeOff S a.reads c → P c) → LeavesOnly P a b
-leaves_from P S a b synced ab has = record {
-  later = ab.later;
-  each = λ c left. ⊎_elim (λ was. has c (exact c (a.only_now c was))) (λ but. has c (through c but)) (ab.since a.moment c (omega arith) left);
-  before = λ t c le left. ⊎_elim (λ was. inl was) (λ but. inr (has c (through c but))) (ab.since t c le left);
-}
-  where
-    exact : (c : Image) → a.leaves c → AgreeOff S a.reads c
-    exact c leaves = record { same = λ i off. (synced c leaves).same i (λ none. none) }
-
-    through : (c : Image) → LeavesBut S a c → AgreeOff S a.reads c
-    through c but = record { same = λ i off. but.2.same i off ∙ (synced but.0 but.1).same i (λ none. none) }
+leaves_from P S a b synced ab has =
+    leaves_by P S a b ab (λ c but. has c (record { same = λ i off. but.2.same i off ∙ (synced but.0 but.1).same i (λ none. none) }))
 
 pub leaves_more : (P : Image → Type 0) (a b c : Disk) → LeavesOnly P a b → LeavesOnly P b c → LeavesOnly P a c
 leaves_more P a b c ab bc = record {
@@ -82,20 +83,10 @@ leaves_wider P Q a b wider ab = record {
   before = λ t x le left. ⊎_elim (λ was. inl was) (λ has. inr (wider x has)) (ab.before t x le left);
 }
 
--- also of what a stop may leave now
-pub leaves_now : (P : Image → Type 0) (a b : Disk) → LeavesOnly P a b → (c : Image) → b.leaves c → P c
-leaves_now P a b ab c leaves = ab.each c (b.counts_now a.moment c ab.later leaves)
-
 -- a call that wrote nothing adds no image
 pub leaves_still : (P : Image → Type 0) (a b c : Disk) → LeavesOnly P a b → Touches Nowhere b c → LeavesOnly P a c
-leaves_still P a b c ab bc = record {
-  later = omega (arith, ab.later, bc.later);
-  each = λ x left. ⊎_elim (λ was. ab.each x was) (λ but. through x but) (bc.since a.moment x ab.later left);
-  before = λ t x le left. ⊎_elim (λ was. ab.before t x le was) (λ but. inr (through x but)) (bc.since t x (omega (arith, le, ab.later)) left);
-}
-  where
-    through : (x : Image) → LeavesBut Nowhere b x → P x
-    through x but = subst P (λ i k. (sym (but.2.same k (λ none. none))) i) (leaves_now P a b ab but.0 but.1)
+leaves_still P a b c ab bc =
+    leaves_more P a b c ab (leaves_by P Nowhere b c bc (λ x but. subst P (λ i k. (sym (but.2.same k (λ none. none))) i) (leaves_now P a b ab but.0 but.1)))
 
 -- ---- results
 pub on_ok : {T E : Type 0} {P Q : Type 0} (r : Result T E) → (P → Q) → OnOk r P → OnOk r Q
@@ -108,11 +99,7 @@ cause_after a b c (Ok x) e cause = record { failed = tt; passed = cause.passed �
 cause_after a b c (Err x) e cause = record { failed = omega (arith, e, cause.failed); passed = tt }
 
 pub step_then : {T E : Type 0} (S U : ℕ → Type 0) (Q : Disk → Type 0) (a b c : Disk) (r : Result T E) → ((i : ℕ) → U i → S i) → Touches S a b → b.faults ≡ a.faults → Touches U b c → HasCause b c r → OnOk r (Q c) → Step S Q a c r
-step_then S U Q a b c r within ab passed bc cause done = record {
-  touches = touches_more S U a b c within ab bc;
-  cause = cause_after a b c r passed cause;
-  done = done;
-}
+step_then S U Q a b c r within ab passed bc cause done = record { touches = touches_more S U a b c within ab bc; cause = cause_after a b c r passed cause; done = done }
 
 -- calls that passed, and then a sync
 pub then_sync : {T E : Type 0} (S : ℕ → Type 0) (Q : Disk → Type 0) (a b c : Disk) (r : Result T E) → Touches S a b → b.faults ≡ a.faults → Touches Nowhere b c → HasCause b c r → OnOk r (IsSynced c) → (IsSynced c → Q c) → Step S Q a c r

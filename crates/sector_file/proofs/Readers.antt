@@ -1,23 +1,18 @@
 -- What calls that only read leave of the disk, and whether a reader was honest.
-use Rattle.std.proofs.Common.{rules, ◌≡◌, ◌≢◌, ◌<◌, ◌+◌, ◌^◌, ◌⊎◌, ◌∙◌, ℕ, Bool, length, cond, get_or, true, false, List, [], ◌∷◌, ◌++◌, refl, sym, ap, subst, inl, inr, nat_eq, arith, IsTrue, ◌&&◌, ◌||◌, slice_index, replicate}
-use Rattle.{std.proofs.lemmas.Bool.{cases_eq, Decides.nat_tests}, sector_device.specs.{Disk.{IsSynced, Only}, Held.{refused, image_of}, claim.Disk.{Image, Touches, Nowhere}}}
-use Rattle.{sector_file.{specs.Reader.IsReader, proofs.Disks.{all_synced, read_is, fault_is}}, sector_device.proofs.Moments.{touches_more, touches_wider}}
+use Rattle.std.proofs.Common.{rules, ◌≡◌, ◌≢◌, ◌<◌, ◌+◌, ◌^◌, ◌⊎◌, ◌∙◌, ℕ, Bool, length, cond, get_or, false, List, [], ◌∷◌, ◌++◌, refl, sym, ap, subst, inl, inr, nat_eq, arith, IsTrue, ◌&&◌, ◌||◌, slice_index, replicate}
+use Rattle.{std.proofs.lemmas.Bool.{and_from, and_parts, cases_eq, eq-eqb, ne_eqb, false≢true, Decides.nat_tests}, sector_device.specs.Disk.{IsSynced, Only}}
+use Rattle.{sector_device.{specs.{Held.{refused, image_of}, claim.Disk.{Image, Touches, Nowhere}}, proofs.Moments.{touches_more, touches_wider}}, sector_file.specs.Reader.IsReader}
 use Rattle.sector_file.specs.Told.{Told, Call, same_bytes, first_held, step, after_opening, after_read, after_fault, after_write, after_torn, after_sync, after_sharing, replay, replay_on, only_reads, read_call, failed_call, told_disk}
-use Rattle.sector_file.proofs.Steps.{not_true, first_true, is_4096, not_4096, length_held, whole_read, short_read}
+use Rattle.sector_file.proofs.{Disks.{all_synced, read_is, fault_is}, Steps.{first_true, length_held, whole_read, short_read}}
 
 second_true : (a b : Bool) → IsTrue (a && b) → IsTrue b
-second_true true b is = is
-second_true false b is = absurd (not_true is)
-
-both_true : (a b : Bool) → IsTrue a → IsTrue b → IsTrue (a && b)
-both_true true b is is' = is'
-both_true false b is is' = is
+second_true a b is = (and_parts a b is).1
 
 one_more : (a b c : ℕ) → a ≡ b + c → a + 1 ≡ b + (c + 1)
 one_more a b c is = omega (arith, is)
 
 not_either : (k : ℕ) → k ≢ 0 → k ≢ 3 → IsTrue (nat_eq k 0 || nat_eq k 3) → ⊥
-not_either k zero three is = search (rules, nat_eq, nat_tests, not_true)
+not_either k zero three is = search (rules, nat_eq, nat_tests, false≢true)
 
 module _ (sector : ℕ → List ℕ) where
   pub replay_joined : (xs ys : List Call) → replay sector (xs ++ ys) ≡ replay_on sector (replay sector ys) xs
@@ -39,7 +34,7 @@ module _ (sector : ℕ → List ℕ) where
       (after_opening sector i))))
 
   kind_is : (bytes : List ℕ) (i k n : ℕ) → IsTrue (nat_eq k 0 || nat_eq k 3) → Quiet (by_kind bytes i k n) i bytes
-  kind_is bytes i k n is = search (rules, cases_eq k 0, cases_eq n 4096, is_4096, not_4096, cases_eq k 3, not_either)
+  kind_is bytes i k n is = search (rules, cases_eq k 0, cases_eq n 4096, eq-eqb, ne_eqb, cases_eq k 3, not_either)
 
   step_is : (call : Call) → IsTrue (nat_eq (slice_index call.0 0) 0 || nat_eq (slice_index call.0 0) 3) → Quiet (λ t. step sector t call.0 call.1) (slice_index call.0 1) call.1
   step_is call is = kind_is call.1 (slice_index call.0 1) (slice_index call.0 0) (slice_index call.0 2) is
@@ -90,7 +85,7 @@ module _ (sector : ℕ → List ℕ) where
               let alike : get_or u.0 i [] ≡ get_or v.0 i [] =
               ap (λ (l : List (List ℕ)). get_or l i []) (same_on t calls rest).0 ∙ same i ∙ sym (ap (λ (l : List (List ℕ)). get_or l i []) (same_on s calls rest).0) in
               let now = subst (λ (bytes : List ℕ). IsTrue (same_bytes call.1 bytes)) alike (second_true u.3 _ there) in
-              subst (λ (w : Told). IsTrue w.3) (sym (reads v)) (both_true v.3 _ (honest_too same began calls rest (first_true u.3 _ there)) now)
+              subst (λ (w : Told). IsTrue w.3) (sym (reads v)) (and_from v.3 _ (honest_too same began calls rest (first_true u.3 _ there)) now)
           | inr fails ↦ subst (λ (w : Told). IsTrue w.3) (sym (fails v)) (honest_too same began calls rest (subst (λ (w : Told). IsTrue w.3) (fails u) honest))
         ]
 

@@ -1,9 +1,7 @@
-use Rattle.std.proofs.Common.{◌≡◌, ◌≢◌, ◌<◌, ◌+◌, ◌∙◌, ℕ, zero, suc, Bool, length, cond, get_or, get_or-set_other, true, false, List, [], ◌∷◌, refl, ap, subst, inl, inr, nat_eq, arith, IsTrue, ◌&&◌, rules}
-use Rattle.{std.proofs.lemmas.{Bool.{cases_eq, Decides.nat_tests}, List.length-set}, sector_file.specs.{Recalled.Recalls, declared.recent.Recent.Recent}}
-use Rattle.sector_file.specs.Told.{Told, same_bytes, held_from, after_opening, step, after_read, after_fault, after_write, after_torn}
-
-pub not_true : IsTrue false → ⊥
-not_true is = cc
+use Rattle.std.proofs.Common.{◌≡◌, ◌≢◌, ◌<◌, ◌+◌, ◌∙◌, ℕ, zero, suc, Bool, length, get_or, get_or-set_other, true, List, [], ◌∷◌, refl, ap, subst, inl, inr, nat_eq, arith, IsTrue, ◌&&◌, rules}
+use Rattle.std.proofs.lemmas.{Bool.{and_parts, cases_eq, cond-false, cond-true, eq-eqb, ne_eqb, false≢true, Decides.nat_tests}, List.length-set}
+use Rattle.sector_file.specs.{Recalled.Recalls, Told.{Told, same_bytes, held_from, after_opening, step, after_read, after_fault, after_write, after_torn}}
+use Rattle.sector_file.specs.declared.recent.Recent.{Recent}
 
 pub bytes_same : (h : Bool) (xs ys : List ℕ) → IsTrue (h && same_bytes xs ys) → xs ≡ ys
 bytes_same true [] [] is = refl
@@ -12,13 +10,12 @@ bytes_same true (x ∷ xs) (y ∷ ys) is = elim (cases_eq x y) [
       let yes : nat_eq x y ≡ true = grind (arith, nat_tests) in
       let rest = bytes_same true xs ys (subst (λ b. IsTrue (b && same_bytes xs ys)) yes is) in
       λ i. e i ∷ rest i
-  | inr ne ↦ search (rules, nat_eq, nat_tests, not_true)
+  | inr ne ↦ search (rules, nat_eq, nat_tests, false≢true)
 ]
-bytes_same _ _ _ is = absurd (not_true is)
+bytes_same _ _ _ is = absurd (false≢true is)
 
 pub first_true : (a b : Bool) → IsTrue (a && b) → IsTrue a
-first_true true b is = refl
-first_true false b is = absurd (not_true is)
+first_true a b is = (and_parts a b is).0
 
 -- a sector that was read is recalled
 pub recalled_read : (t u : Told) (i : ℕ) (bytes : List ℕ) (old new : Recent) → u ≡ after_read t i bytes → (IsTrue t.3 → Recalls old t.0) → ((sectors : List (List ℕ)) → Recalls old sectors → get_or sectors i [] ≡ bytes → Recalls new sectors) → IsTrue u.3 → Recalls new u.0
@@ -53,21 +50,15 @@ module _ (sector : ℕ → List ℕ) where
   pub first_at : (t : Told) (count : ℕ) → t ≡ after_opening sector count → (i : ℕ) → i < count → get_or t.0 i [] ≡ sector i
   first_at t count is i less = search (rules, held_at)
 
-pub is_4096 : (n : ℕ) → n ≡ 4096 → nat_eq n 4096 ≡ true
-is_4096 n is = grind (arith, nat_tests)
-
-pub not_4096 : (n : ℕ) → n ≢ 4096 → nat_eq n 4096 ≡ false
-not_4096 n is = grind (arith, nat_tests)
-
 module _ (sector : ℕ → List ℕ) (t : Told) (i n : ℕ) (bytes : List ℕ) where
   pub whole_read : n ≡ 4096 → step sector t (0 ∷ i ∷ n ∷ []) bytes ≡ after_read t i bytes
-  whole_read is = ap (λ (b : Bool). cond b (after_read t i bytes) (after_fault t)) (is_4096 n is)
+  whole_read is = cond-true (nat_eq n 4096) (after_read t i bytes) (after_fault t) (eq-eqb n 4096 is)
 
   pub short_read : n ≢ 4096 → step sector t (0 ∷ i ∷ n ∷ []) bytes ≡ after_fault t
-  short_read is = ap (λ (b : Bool). cond b (after_read t i bytes) (after_fault t)) (not_4096 n is)
+  short_read is = cond-false (nat_eq n 4096) (after_read t i bytes) (after_fault t) (ne_eqb n 4096 is)
 
   pub whole_write : n ≡ 4096 → step sector t (1 ∷ i ∷ n ∷ []) bytes ≡ after_write t i bytes
-  whole_write is = ap (λ (b : Bool). cond b (after_write t i bytes) (after_torn t i)) (is_4096 n is)
+  whole_write is = cond-true (nat_eq n 4096) (after_write t i bytes) (after_torn t i) (eq-eqb n 4096 is)
 
   pub torn_write : n ≢ 4096 → step sector t (1 ∷ i ∷ n ∷ []) bytes ≡ after_torn t i
-  torn_write is = ap (λ (b : Bool). cond b (after_write t i bytes) (after_torn t i)) (not_4096 n is)
+  torn_write is = cond-false (nat_eq n 4096) (after_write t i bytes) (after_torn t i) (ne_eqb n 4096 is)

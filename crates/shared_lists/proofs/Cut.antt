@@ -1,31 +1,25 @@
 -- Where a place lies among pieces.
-use Rattle.std.{specs.{Cmp.Lexicographic.pointwise, Prelude.{nat_eq, not, ◌&&◌}}, proofs.Math.Seq.{drop-append-add, take-append_seam, take-add}}
-use Rattle.std.proofs.Common.{rules, ◌≡◌, ℕ, zero, suc, ◌+◌, ◌-◌, ◌*◌, ◌/◌, ◌%◌, ◌<◌, ◌≤◌, ◌^◌, Bool, true, false, List, [], ◌∷◌, ◌++◌, length, take, drop, get_or, arith, refl, ap, sym, ◌∙◌, length-append, append_assoc, subst}
-use Rattle.std.proofs.lemmas.{List.{drop-append-le, take_all, drop-drop, length-drop, length-take, flat_map_more, take-append-drop}, Nat.{div-add-mod', mod_below}}
-use Rattle.shared_lists.specs.Pieces.{Piece, joined, AreFull, IsCut}
-
-rest_full : (p : Piece) (ps : List Piece) → AreFull (p ∷ ps) → AreFull ps
-rest_full p ps full = λ k d within. full (suc k) d (omega arith)
-
-first_full : (p : Piece) (ps : List Piece) → AreFull (p ∷ ps) → length p.value.items ≡ 512
-first_full p ps full = full 0 p (omega arith)
+use Rattle.std.{specs.{Cmp.Lexicographic.pointwise, Prelude.nat_eq}, proofs.{Math.Seq.{drop-append-add, take-append_seam, take-add}, lemmas.List.Elements.{All-push, All-tail}}}
+use Rattle.std.proofs.Common.{inl, inr, rules, ◌≡◌, ℕ, zero, suc, ◌+◌, ◌-◌, ◌*◌, ◌/◌, ◌%◌, ◌<◌, ◌≤◌, ◌^◌, true, false, List, [], ◌∷◌, ◌++◌, length, take, drop, get_or, arith, refl, ap, sym, ◌∙◌, length-append, append_assoc, subst}
+use Rattle.{std.proofs.lemmas.{Bool.{and_cases, and_left, and_parts, and_right}, Nat.{div-add-mod', mod_below}}, shared_lists.specs.Pieces.{Piece, joined, AreFull, IsCut}}
+use Rattle.std.proofs.lemmas.List.{take-take, drop-append-le, take_all, drop-drop, length-drop, length-take, flat_map_more, take-append-drop}
 
 pub joined_long : (ps : List Piece) → AreFull ps → length (joined ps) ≡ length ps * 512
 joined_long [] full = refl
-joined_long (p ∷ ps) full = omega (arith, length-append p.value.items (joined ps), first_full p ps full, joined_long ps (rest_full p ps full))
+joined_long (p ∷ ps) full = omega (arith, length-append p.value.items (joined ps), full 0 p (omega arith), joined_long ps (All-tail (λ p. length p.value.items ≡ 512) p ps full))
 
 -- after a place of a full piece come its rest and the pieces after it
 drop_at : (ps : List Piece) (rest : List ℕ) (q r : ℕ) (p : Piece) → AreFull ps → q < length ps → r < 512 → p ≡ get_or ps q p
     → drop (q * 512 + r) (joined ps ++ rest) ≡ drop r p.value.items ++ (joined (drop (suc q) ps) ++ rest)
 drop_at [] rest q r p full within less is = absurd (omega arith)
 drop_at (y ∷ ps) rest zero r p full within less is =
-    search (rules, append_assoc y.value.items (joined ps) rest, drop-append-le r y.value.items (joined ps ++ rest) (omega (arith, first_full y ps full)))
+    search (rules, append_assoc y.value.items (joined ps) rest, drop-append-le r y.value.items (joined ps ++ rest) (omega (arith, full 0 y (omega arith))))
 drop_at (y ∷ ps) rest (suc q) r p full within less is =
-    let e : suc q * 512 + r ≡ length y.value.items + (q * 512 + r) = omega (arith, first_full y ps full) in
+    let e : suc q * 512 + r ≡ length y.value.items + (q * 512 + r) = omega (arith, full 0 y (omega arith)) in
     ap (λ n. drop n ((y.value.items ++ joined ps) ++ rest)) e
     ∙ ap (drop (length y.value.items + (q * 512 + r))) (append_assoc y.value.items (joined ps) rest)
     ∙ drop-append-add y.value.items (joined ps ++ rest) (q * 512 + r)
-    ∙ drop_at ps rest q r p (rest_full y ps full) (omega arith) less is
+    ∙ drop_at ps rest q r p (All-tail (λ p. length p.value.items ≡ 512) y ps full) (omega arith) less is
 
 pub in_full : (ps : List Piece) (rest : List ℕ) (place : ℕ) (p : Piece) → AreFull ps → place / 512 < length ps → p ≡ get_or ps (place / 512) p
     → take (length (drop (place % 512) p.value.items)) (drop place (joined ps ++ rest)) ≡ drop (place % 512) p.value.items
@@ -59,33 +53,23 @@ module _ (ps : List Piece) (rest : Piece) (all : List ℕ) (place : ℕ) (found 
 pub cut_more : (xs : List ℕ) (first n c : ℕ) → c ≤ n → take n (drop first xs) ≡ take c (drop first xs) ++ take (n - c) (drop (first + c) xs)
 cut_more xs first n c few = search (rules, take-add c (n - c) (drop first xs), drop-drop c first xs)
 
-take_twice : (c n : ℕ) (xs : List ℕ) → c ≤ n → take c (take n xs) ≡ take c xs
-take_twice (suc c) zero xs few = absurd (omega arith)
-take_twice (suc c) (suc n) (x ∷ xs) few = ap (λ l. x ∷ l) (take_twice c n xs (omega arith))
-take_twice _ _ _ few = refl
-
 pub prefix_of : (here rest : List ℕ) (c : ℕ) → take (length here) rest ≡ here → c ≤ length here → take c here ≡ take c rest
-prefix_of here rest c is few = ap (take c) (sym is) ∙ take_twice c (length here) rest few
+prefix_of here rest c is few = ap (take c) (sym is) ∙ take-take c (length here) rest few
 
 -- lists that are put one after the other are compared one after the other
-same_by : (b first whole rest : Bool) → (b && first) ≡ true → (first ≡ true → whole ≡ rest) → (b && whole) ≡ rest
-same_by true first whole rest is told = told is
-same_by false first whole rest is told = absurd (cc)
-
-apart_by : (b first whole : Bool) → (b && first) ≡ false → (first ≡ false → whole ≡ false) → (b && whole) ≡ false
-apart_by true first whole is told = told is
-apart_by false first whole is told = refl
-
 pub same_after : (xs ys more others : List ℕ) → length xs ≡ length ys → pointwise nat_eq xs ys ≡ true → pointwise nat_eq (xs ++ more) (ys ++ others) ≡ pointwise nat_eq more others
 same_after [] [] more others long same = refl
 same_after (x ∷ xs) (y ∷ ys) more others long same =
-    same_by (nat_eq x y) (pointwise nat_eq xs ys) (pointwise nat_eq (xs ++ more) (ys ++ others)) (pointwise nat_eq more others) same (same_after xs ys more others (omega arith))
+    let parts = and_parts (nat_eq x y) (pointwise nat_eq xs ys) same in rw parts.0 (same_after xs ys more others (omega arith) parts.1)
 same_after _ _ more others long same = absurd (omega arith)
 
 pub apart_before : (xs ys more others : List ℕ) → length xs ≡ length ys → pointwise nat_eq xs ys ≡ false → pointwise nat_eq (xs ++ more) (ys ++ others) ≡ false
 apart_before [] [] more others long apart = absurd (cc)
 apart_before (x ∷ xs) (y ∷ ys) more others long apart =
-    apart_by (nat_eq x y) (pointwise nat_eq xs ys) (pointwise nat_eq (xs ++ more) (ys ++ others)) apart (apart_before xs ys more others (omega arith))
+    elim (and_cases (nat_eq x y) (pointwise nat_eq xs ys) apart) [
+      | inl first ↦ and_left (nat_eq x y) _ first
+      | inr later ↦ and_right (nat_eq x y) _ (apart_before xs ys more others (omega arith) later)
+    ]
 apart_before _ _ more others long apart = absurd (omega arith)
 
 -- ---- parts that grow after
@@ -95,13 +79,6 @@ length_prefix here prefix k is few = omega (arith, ap length is, length-take k h
 pub put_more : (new to all here prefix : List ℕ) (place end k : ℕ) → new ≡ to ++ prefix → prefix ≡ take k here → take (length here) (drop place all) ≡ here → k ≤ length here → k ≤ end - place
     → new ++ take (end - (place + k)) (drop (place + k) all) ≡ to ++ take (end - place) (drop place all)
 put_more new to all here prefix place end k put cut is few fits = search (rules, append_assoc, prefix_of here (drop place all) k is few, cut_more all place (end - place) k fits)
-
--- places from the first one on, at the start and at the end
-pub from_first : (first count : ℕ) → first + count - first ≡ count
-from_first first count = omega arith
-
-pub none_left : (end place : ℕ) → end ≤ place → 0 ≡ end - place
-none_left end place past = omega arith
 
 -- parts that are compared, one after the other
 module _ (one other here there prefix beside : List ℕ) (place end k : ℕ) (cut : prefix ≡ take k here) (cut_beside : beside ≡ take k there) (is : take (length here) (drop place one) ≡ here)
@@ -122,10 +99,7 @@ module _ (one other here there prefix beside : List ℕ) (place end k : ℕ) (cu
 
 -- ---- lists that are made
 pub full_more : (ps : List Piece) (p : Piece) → AreFull ps → length p.value.items ≡ 512 → AreFull (ps ++ p ∷ [])
-full_more [] p full one zero d within = one
-full_more [] p full one (suc k) d within = absurd (omega arith)
-full_more (y ∷ ps) p full one zero d within = full zero d (omega arith)
-full_more (y ∷ ps) p full one (suc k) d within = full_more ps p (rest_full y ps full) one k d (omega arith)
+full_more ps p full one = All-push (λ q. length q.value.items ≡ 512) ps p full one
 
 module _ (ps new : List Piece) (p : Piece) (list after prefix : List ℕ) (place : ℕ) (put : new ≡ ps ++ p ∷ []) (is : p.value.items ≡ prefix) (cut : prefix ≡ take 512 after)
     (from : after ≡ drop (place * 512) list) (within : (place + 1) * 512 ≤ length list) where
@@ -141,15 +115,6 @@ module _ (ps new : List Piece) (p : Piece) (list after prefix : List ℕ) (place
 
 pub counted_all : (ps : List Piece) (rest : Piece) (count : ℕ) (all : List ℕ) → IsCut ps rest count → joined ps ++ rest.value.items ≡ all → count ≡ length all
 counted_all ps rest count all cut view = cut.counted ∙ sym (length-append (joined ps) rest.value.items) ∙ ap length view
-
--- what a test that two lists differ has told
-pub told_apart : (b c : Bool) → c ≡ not b → c ≡ true → b ≡ false
-told_apart true c is told = absurd (cc)
-told_apart false c is told = refl
-
-pub told_same : (b c : Bool) → c ≡ not b → c ≡ false → b ≡ true
-told_same true c is told = refl
-told_same false c is told = absurd (cc)
 
 -- full pieces and the one after them, when all are made
 module _ (ps : List Piece) (rest : Piece) (list after : List ℕ) (place number : ℕ) (same : joined ps ≡ take (place * 512) list) (is : rest.value.items ≡ after)

@@ -1,7 +1,7 @@
 -- Listed districts that are laid over others.
-use Rattle.{std.{specs.Prelude.{unwrap_or, nat_lt, Bool, true, false, ◌-◌, if◌then◌else◌}, proofs.lemmas.Bool.lt-ltb}, shared_lists.specs.Laid.{listed_at, laid}}
+use Rattle.{std.{specs.Prelude.{unwrap_or, nat_lt, ◌-◌}, proofs.lemmas.Bool.{cond_both, lt-ltb}}, shared_lists.{specs.Laid.{listed_at, laid}, proofs.Cut.{joined_long, full_more}}}
 use Rattle.std.proofs.Common.{rules, ◌≡◌, ℕ, zero, suc, ◌+◌, ◌*◌, ◌^◌, ◌<◌, ◌≤◌, List, [], ◌∷◌, ◌++◌, length, get_or, take, subst, length-append, Option, None, arith, refl, ap, sym, ◌∙◌, ◌⊎◌}
-use Rattle.{std.proofs.lemmas.List.{ext_get_or, get_or_past, flat_map_more, take_more, take_all, length-take, get_or-take}, shared_lists.proofs.Cut.{joined_long, full_more}}
+use Rattle.std.proofs.lemmas.List.{ext_get_or, get_or_past, flat_map_more, take_more, take_all, length-take, get_or-take}
 use Rattle.shared_lists.specs.Pieces.{Piece, joined, AreFull, IsCut}
 
 module _ (first : ℕ) (listed : List (Option ℕ)) where
@@ -44,11 +44,8 @@ module _ (first : ℕ) (listed : List (Option ℕ)) where
   not_before place less = rw (lt-ltb place first less) refl
 
   pub not_after : (place : ℕ) → first + length listed ≤ place → listed_at first listed place ≡ None
-  not_after place more = rw (get_or_past listed (place - first) None (omega arith)) (by_test (nat_lt place first))
-    where
-      by_test : (b : Bool) → ◌≡◌ {A = Option ℕ} (if b then None else None) None
-      by_test true = refl
-      by_test false = refl
+  not_after place more =
+      rw (get_or_past listed (place - first) None (omega arith)) (cond_both {A = Option ℕ} (nat_lt place first) None None (λ o. o ≡ None) (λ is. refl) (λ is. refl))
 
   -- nor where all places are before or after what is listed
   pub unlaid_apart : (place : ℕ) (ds : List ℕ) (count : ℕ) → count ≡ length ds → (place + count ≤ first) ⊎ (first + length listed ≤ place) → ds ≡ laid first listed place ds

@@ -1,15 +1,12 @@
 -- A part of a list in the place of its own.
 use Rattle.{std.{specs.Prelude.unwrap_or, proofs.lemmas.Bool.{cases_lt, le-ltb}}, shared_lists.{specs.Laid.{listed_at, laid, with_at}, proofs.Cut.joined_long}}
-use Rattle.std.proofs.Common.{rules, ◌≡◌, ℕ, zero, suc, ◌+◌, ◌-◌, ◌*◌, ◌^◌, ◌<◌, ◌≤◌, List, [], ◌∷◌, ◌++◌, length, get_or, take, take_all, drop, map, subst, length-append, length-take, length-drop, Option, Some, None, arith, refl, ap, sym, ◌∙◌, ◌⊎◌, inl, inr, min, max}
-use Rattle.std.proofs.lemmas.List.{ext_get_or, drop-drop, get_or-map, length-map, get_or-take, get_or-drop, get_or_append_left, get_or-append_right, take-append-drop}
+use Rattle.std.proofs.Common.{rules, ◌≡◌, ℕ, suc, ◌+◌, ◌-◌, ◌*◌, ◌^◌, ◌<◌, ◌≤◌, List, [], ◌∷◌, ◌++◌, length, get_or, take, take_all, drop, map, subst, length-append, length-take, length-drop, Option, Some, None, arith, refl, ap, sym, ◌∙◌, ◌⊎◌, inl, inr, min, max}
+use Rattle.std.proofs.lemmas.List.{get_or_past, ext_get_or, drop-drop, get_or-map, length-map, get_or-take, get_or-drop, get_or_append_left, get_or-append_right, take-append-drop}
 use Rattle.shared_lists.{specs.Pieces.{Piece, joined, AreFull, ArePut, IsCut}, proofs.Laying.{Fit, length-laid, get_or-laid, laid-append, unlaid_apart, not_before, not_after}}
 use borrow.Rule.Slice.PartMut.{put_mid}
 
 get_same : (xs : List ℕ) (i j : ℕ) → i ≡ j → get_or xs i 0 ≡ get_or xs j 0
 get_same xs i j same = ap (λ (k : ℕ). get_or xs k 0) same
-
-all_from : (xs : List ℕ) (n k : ℕ) → length xs ≤ n → k ≡ 0 → take n (drop k xs) ≡ xs
-all_from xs n k all none = ap (λ (j : ℕ). take n (drop j xs)) none ∙ take_all n xs all
 
 in_three : (a b : ℕ) (xs : List ℕ) → a ≤ b → take a xs ++ (take (b - a) (drop a xs) ++ drop b xs) ≡ xs
 in_three a b xs order = search (rules, drop-drop (b - a) a xs, take-append-drop (b - a) (drop a xs), take-append-drop a xs)
@@ -42,16 +39,13 @@ module _ (first : ℕ) (part : List ℕ) where
     prefix = take (from - start) ds
 
     prefix_long : length prefix ≡ from - start
-    prefix_long = let long = length-take (from - start) ds in omega arith
+    prefix_long = omega (arith, length-take (from - start) ds)
 
     abbrev pub back : List ℕ
     back = drop (to - start) ds
 
-    back_long : length back ≡ length ds - (to - start)
-    back_long = length-drop (to - start) ds
-
     put_long : length (prefix ++ (cut_out ++ back)) ≡ length ds
-    put_long = let one = length-append prefix (cut_out ++ back) in let two = length-append cut_out back in let a = cut_long in let b = prefix_long in let c = back_long in omega arith
+    put_long = omega (arith, length-append prefix (cut_out ++ back), length-append cut_out back, cut_long, prefix_long, length-drop (to - start) ds)
 
     put_at : (i : ℕ) → i < length ds → get_or (prefix ++ (cut_out ++ back)) i 0 ≡ unwrap_or (listed_at first listed (start + i)) (get_or ds i 0)
     put_at i within =
@@ -102,13 +96,19 @@ module _ (first : ℕ) (part : List ℕ) where
   pub laid_at : (ds : List ℕ) → first + length part ≤ length ds → laid first listed 0 ds ≡ with_at first part ds
   laid_at ds within =
       sym (laid_between 0 ds first (first + length part) (omega arith) (omega arith) (omega arith) (omega arith) (omega arith) (inr refl) (inr refl))
-      ∙ (let from : first - 0 ≡ first = omega arith in let to : first + length part - 0 ≡ first + length part = omega arith in parts_same (from) (all_of part) to)
+      ∙ (λ i. take (from i) ds ++ (all i ++ drop (to i) ds))
     where
-      parts_same : {a b c d : ℕ} {xs ys : List ℕ} → a ≡ b → xs ≡ ys → c ≡ d → take a ds ++ (xs ++ drop c ds) ≡ take b ds ++ (ys ++ drop d ds)
-      parts_same one two three = λ i. take (one i) ds ++ (two i ++ drop (three i) ds)
+      from : first - 0 ≡ first
+      from = omega arith
 
-      all_of : (xs : List ℕ) → take (first + length xs - first - (first - first)) (drop (first - first) xs) ≡ xs
-      all_of xs = all_from xs (first + length xs - first - (first - first)) (first - first) (omega arith) (omega arith)
+      to : first + length part - 0 ≡ first + length part
+      to = omega arith
+
+      none : first - first ≡ 0
+      none = omega arith
+
+      all : take (first + length part - first - (first - first)) (drop (first - first) part) ≡ part
+      all = rw none (take_all (first + length part - first - 0) part (omega arith))
 
   -- ---- pieces, one after the other
   -- those before a place have the part, and those from there on are as they were
@@ -146,12 +146,7 @@ module _ (first : ℕ) (part : List ℕ) where
     fits_at o own small less k is = elim is [ inl none ↦ rw none less | inr some ↦ rw some (small k) ]
 
     laid_fit : (ds : List ℕ) → Fit part → Fit ds → Fit (laid first listed 0 ds)
-    laid_fit ds small own i = search (rules, cases_lt, get_or-laid, fits_at, not_before, among, not_after, listed_long, get_past, length-laid)
-      where
-        get_past : (l : List ℕ) (k : ℕ) → length l ≤ k → get_or l k 0 ≡ 0
-        get_past [] k past = refl
-        get_past (x ∷ l) zero past = absurd (omega arith)
-        get_past (x ∷ l) (suc k) past = get_past l k (omega arith)
+    laid_fit ds small own i = search (rules, cases_lt, get_or-laid, fits_at, not_before, among, not_after, listed_long, get_or_past, length-laid)
 
     pub put_cut : (count : ℕ) → Fit part → IsCut old kept count → IsCut new rest count
     put_cut count small cut = record {

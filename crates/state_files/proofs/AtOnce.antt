@@ -6,17 +6,17 @@ use Rattle.state_files.specs.{claim.{Opening.census_of, State.ReadsState}, decla
 module _ {R : Type 0} (r : Ghosts R) (workers : ℕ) (before after : CensusFiles R) where
   pub at_once : 1 < workers → (header : Result GeoRows FileFault) (first second third : Result SegRows FileFault) (outcome : Result (Vec BlockRow Global) FileFault) → ReadsEach r before after header first second third → JudgesEach header first second third outcome → ReadsStateBy r workers before after outcome
   at_once more (Err e) first second third outcome read judged = (
-    record { geo = after.geo; seg1 = before.seg1; seg2 = before.seg2; seg3 = before.seg3 },
+    record before { geo = after.geo },
     (Err e, read.header, ((refl, refl, refl), judged.1)),
     record { header = refl; first = inr (more, refl); second = inr (more, refl); third = inr (more, refl) },
   )
   at_once more (Ok rows) (Err e) second third outcome read judged = (
-    record { geo = after.geo; seg1 = after.seg1; seg2 = before.seg2; seg3 = before.seg3 },
+    record before { geo = after.geo; seg1 = after.seg1 },
     (Ok rows, read.header, (Err e, read.first, ((refl, refl), judged.1))),
     record { header = refl; first = inl refl; second = inr (more, refl); third = inr (more, refl) },
   )
   at_once more (Ok rows) (Ok one) (Err e) third outcome read judged = (
-    record { geo = after.geo; seg1 = after.seg1; seg2 = after.seg2; seg3 = before.seg3 },
+    record after { seg3 = before.seg3 },
     (Ok rows, read.header, (Ok one, read.first, (Err e, read.second, (refl, judged.1)))),
     record { header = refl; first = inl refl; second = inl refl; third = inr (more, refl) },
   )

@@ -1,3 +1,2 @@
 pub mod AtOnce
-pub mod Pieces
 pub mod Plans

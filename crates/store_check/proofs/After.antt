@@ -9,7 +9,7 @@ use Rattle.store_rows.specs.{Keys.{load_prefix, chunks_prefix}, claim.{DeskRows.
 use Rattle.store_rows.specs.claim.Keys.{RowKey, key_of, Fits, begun, seal, block, pair, chunk, in_two, in_four, in_eight, blocks_prefix, pairs_prefix, chunk_prefix}
 use Rattle.store_rows.specs.{claim.{Rows.{KeyMap, Has, element_row}, Tidy.{AreOwned, AreRows, IsLoad, Tidy}, Values.{seal_bytes, block_bytes}}, declared.value.Counters.Counters}
 use Rattle.{store_rows.{specs.declared.value.SealRow.SealRow, proofs.{Frames.either_way, Numbers.numbers_decide}}, btree_walks.proofs.Prefixes.{between_under, under_is_from}}
-use Rattle.{store_check.proofs.FirstRows.{above_more, clash, first_is_from, first_least, first_there, from_trans, less_from, lower_tag}, store_rows.proofs.TidyFree.one_next}
+use Rattle.{store_check.proofs.FirstRows.{clash, decided, first_is_from, first_least, first_there, from_trans, less_from, lower_tag}, store_rows.proofs.TidyFree.one_next}
 use Rattle.store_rows.proofs.{KeyPrefixes.{starts_itself, starts_same}, OneGeography.{no_value, seal_load, value_is, seal_blocks, seal_pairs}}
 use Rattle.page_btree.proofs.page_node.Laws.{flip_less}
 
@@ -39,7 +39,8 @@ module _ (m : KeyMap) (tidy : Tidy m) where
       let less : number < tidy.next.chunk = tidy.below.named_chunks plan number is in
       let order : key_cmp (chunk_prefix tidy.next.chunk) (chunk_prefix number) ≡ Greater =
       (numbers_decide chunks_prefix tidy.next.chunk number).2 tidy.fits.chunk_fits fits.0 ∙ sym (nat_cmp_is tidy.next.chunk number Greater less) in
-      let above = above_more (chunk_prefix tidy.next.chunk) (chunk_prefix number) (in_two piece) refl order in
+      let above : key_cmp (chunk_prefix tidy.next.chunk) (key_of (chunk number piece)) ≡ Greater = decided Greater (λ e. cc) (chunk_prefix tidy.next.chunk)
+      (chunk_prefix number) [] (in_two piece) refl order in
       clash (is_gt (key_cmp (chunk_prefix tidy.next.chunk) (key_of (chunk number piece)))) (ap is_gt above) from
   chunk_below row value fits has from = lower_tag (get_or (key_of row) 0 0) 107 (in_eight tidy.next.chunk) (drop 1 (key_of row)) (omega arith) from
 
@@ -55,10 +56,11 @@ no_element bytes n xs place value few there = search (arith, length-take, no_val
 not_below : (a b : ℕ) → is_gt (nat_cmp a b) ≡ false → a ≤ b
 not_below a b not = grind (arith, nat_tests)
 
-module _ (m : KeyMap) (s : SealRow) (load_fits : s.load < 2 ^ 64) where
-  same_load : (load : ℕ) (kind : ℕ) → load < 2 ^ 64 → load_prefix s.load ++ kind ∷ [] ≡ load_prefix load ++ kind ∷ [] → s.load ≡ load
-  same_load load kind fits same = sym (from_be_bytes-to_be_bytes_8 s.load load_fits) ∙ ap (λ (l : List ℕ). from_be_bytes w64 (drop 1 l)) same ∙ from_be_bytes-to_be_bytes_8 load fits
+loads_same : (a b kind other : ℕ) (rest more : List ℕ) → a < 2 ^ 64 → b < 2 ^ 64 → load_prefix a ++ kind ∷ rest ≡ load_prefix b ++ other ∷ more → a ≡ b
+loads_same a b kind other rest more fits other_fits same = sym (from_be_bytes-to_be_bytes_8 a fits) ∙ ap (λ (l : List ℕ). from_be_bytes w64 (drop 1 l)) same
+    ∙ from_be_bytes-to_be_bytes_8 b other_fits
 
+module _ (m : KeyMap) (s : SealRow) (s_fits : s.load < 2 ^ 64) where
   -- a row from a list's end on isn't one of its elements
   past_end : {X : Type 0} (bytes : X → List ℕ) (kind n : ℕ) (xs : List X) (count load place : ℕ) (value : List ℕ) → count ≡ length xs → count < 2 ^ 32 → load < 2 ^ 64 → place < 2 ^ 32
       → IsFrom ((load_prefix s.load ++ kind ∷ []) ++ in_four count) ((load_prefix load ++ kind ∷ []) ++ in_four place)
@@ -68,7 +70,7 @@ module _ (m : KeyMap) (s : SealRow) (load_fits : s.load < 2 ^ 64) where
       let same = starts_same (load_prefix s.load ++ kind ∷ []) (load_prefix load ++ kind ∷ []) (in_four place) refl on in
       let here = subst (λ (l : List ℕ). IsFrom ((load_prefix s.load ++ kind ∷ []) ++ in_four count) (l ++ in_four place)) (sym same) from in
       let few = not_below count place (ap is_gt (sym ((numbers_decide (load_prefix s.load ++ kind ∷ []) count place).1 count_fits place_fits)) ∙ here) in
-      no_element bytes n xs place value (omega (arith, few, long)) (there (same_load load kind load_fits same))
+      no_element bytes n xs place value (omega (arith, few, long)) (there (loads_same s.load load kind kind [] [] s_fits load_fits same))
 
   other_kind : (kind other load place : ℕ) → (kind ≡ other → ⊥) → starts_with nat_eq ((load_prefix load ++ other ∷ []) ++ in_four place) (load_prefix s.load ++ kind ∷ []) ≡ true → ⊥
   other_kind kind other load place apart on = apart (ap (λ (l : List ℕ). get_or l 9 0) (starts_same (load_prefix s.load ++ kind ∷ []) (load_prefix load ++ other ∷ []) (in_four place) refl on))
@@ -108,12 +110,11 @@ kept_counted m desk is rows = kept_sealed m desk.geography is.geography rows
 
 -- ---- loads
 module _ (m : KeyMap) (owned : AreOwned m) (load kind : ℕ) (rest : List ℕ) (load_fits : load < 2 ^ 64) where
-  number_is : (other : ℕ) (key : List ℕ) → other < 2 ^ 64 → from_be_bytes w64 (drop 1 key) ≡ other → load_prefix load ++ kind ∷ rest ≡ key → other ≡ load
-  number_is other key fits is same = sym is ∙ ap (λ (l : List ℕ). from_be_bytes w64 (drop 1 l)) (sym same) ∙ from_be_bytes-to_be_bytes_8 load load_fits
-
   load_of : (row : RowKey) (value : List ℕ) → Fits row → Has m row value → load_prefix load ++ kind ∷ rest ≡ key_of row → IsLoad m load
-  load_of (block other place) value fits has same = subst (IsLoad m) (number_is other _ fits.0 (from_be_bytes-to_be_bytes_8 other fits.0) same) (owned.blocks other place value fits has)
-  load_of (pair other place) value fits has same = subst (IsLoad m) (number_is other _ fits.0 (from_be_bytes-to_be_bytes_8 other fits.0) same) (owned.pairs other place value fits has)
+  load_of (block other place) value fits has same = subst (IsLoad m) (sym (loads_same load other kind 98 rest (in_four place) load_fits fits.0 same))
+      (owned.blocks other place value fits has)
+  load_of (pair other place) value fits has same = subst (IsLoad m) (sym (loads_same load other kind 112 rest (in_four place) load_fits fits.0 same))
+      (owned.pairs other place value fits has)
   load_of row value fits has same = absurd (let e : 103 ≡ get_or (key_of row) 0 0 = ap (λ (l : List ℕ). get_or l 0 0) same in omega (arith, e))
 
 pub kept_load : (m : KeyMap) → AreOwned m → AreRows m → (e : Entry) (load : ℕ) → get m e.0 ≡ Some e.1 → IsUnder load e.0 → IsLoad m load
@@ -207,8 +208,5 @@ pub none_moved : (m : KeyMap) (k l p q : List ℕ) → k ≡ l → p ≡ q → N
 none_moved m k l p q keys prefixes none = subst (λ (x : List ℕ). NoneFrom l x m) prefixes (subst (λ (x : List ℕ). NoneFrom x p m) keys none)
 
 -- ---- where a check of loads begins
-pub begin_past : IsPast (87 ∷ [])
-begin_past = record { tag = 87; rest = []; is = refl; past = omega arith }
-
 pub all_left : (from : List ℕ) (es : List Entry) → length (entries_from from es) + 0 ≤ length es
 all_left from es = let few = few_from from es in omega arith

@@ -1,9 +1,9 @@
 -- The first row from a key on, and the rows after it.
-use Rattle.std.specs.{FinMap.entries, List.starts_with, Ordering.{is_gt, nat_cmp, ordering_then}, declared.cmp.Ordering.TheVariants.{Less, Equal, Greater}}
-use Rattle.{std.proofs.Common.{◌≡◌, ◌⊎◌, inl, inr, ◌<◌, ℕ, List, [], ◌∷◌, ◌++◌, length, Bool, true, false, nat_eq, None, ap, subst, arith}, btree_walks.specs.declared.rows.Row.Row}
-use Rattle.{btree_walks.specs.{Scanning.{IsNextRow, fault_in}, declared.scans.Scan.Scan}, page_btree.specs.page_node.{Places.entries_from, claim.{Entries.Entry, Places.key_cmp}}}
-use Rattle.{store_check.specs.{Rows.{IsFirst, NoneFrom}, claim.Rows.IsFrom}, store_rows.specs.claim.Rows.KeyMap, btree_walks.proofs.Prefixes.{none_above, under_is_from}}
-use Rattle.store_rows.proofs.Frames.{same_key}
+use Rattle.std.specs.{FinMap.entries, List.starts_with, Ordering.{is_gt, nat_cmp, ordering_then}, declared.cmp.Ordering.{Ordering, TheVariants.{Less, Equal}}}
+use Rattle.{std.proofs.Common.{◌≡◌, ◌⊎◌, inl, inr, ◌<◌, ℕ, List, [], ◌∷◌, ◌++◌, length, Bool, true, false, nat_eq, None, sym, ap, subst, arith}, store_rows.specs.claim.Rows.KeyMap}
+use Rattle.{btree_walks.specs.{Scanning.{IsNextRow, fault_in}, declared.{rows.Row.Row, scans.Scan.Scan}}, page_btree.specs.page_node.{Places.entries_from, claim.Entries.Entry}}
+use Rattle.{page_btree.specs.page_node.claim.Places.key_cmp, store_check.specs.{Rows.{IsFirst, NoneFrom}, claim.Rows.IsFrom}, store_rows.proofs.Frames.same_key}
+use Rattle.btree_walks.proofs.Prefixes.{none_above, under_is_from}
 use Rattle.page_btree.proofs.page_node.Laws.{less_trans}
 pub use Rattle.btree_walks.proofs.RowsFound.{first_is_from, first_least, first_none, first_there}
 
@@ -24,16 +24,15 @@ from_trans a b c from next = search (arith, from_or_same, less_from, less_trans)
 pub lower_tag : (tag other : ℕ) (rest more : List ℕ) → tag < other → IsFrom (other ∷ rest) (tag ∷ more) → ⊥
 lower_tag tag other rest more less from = search (arith, clash)
 
--- what stands after a lower number of as many bytes doesn't count
-pub above_more : (x y z : List ℕ) → length x ≡ length y → key_cmp x y ≡ Greater → key_cmp x (y ++ z) ≡ Greater
-above_more [] [] z long above = cc
-above_more [] (b ∷ y) z long above = absurd (omega arith)
-above_more (a ∷ x) [] z long above = absurd (omega arith)
-above_more (a ∷ x) (b ∷ y) z long above = elim (nat_cmp a b) as (λ r. ordering_then r (key_cmp x y) ≡ Greater → ordering_then r (key_cmp x (y ++ z)) ≡ Greater) [
-  | Less ↦ λ h. h
-  | Equal ↦ λ h. above_more x y z (omega arith) h
-  | Greater ↦ λ h. h
-] above
+-- what stands after numbers of as many bytes doesn't count, where these differ
+pub decided : (r : Ordering) → (r ≡ Equal → ⊥) → (x y w z : List ℕ) → length x ≡ length y → key_cmp x y ≡ r → key_cmp (x ++ w) (y ++ z) ≡ r
+decided r apart [] [] w z long is = absurd (apart (sym is))
+decided r apart [] (b ∷ y) w z long is = absurd (omega arith)
+decided r apart (a ∷ x) [] w z long is = absurd (omega arith)
+decided r apart (a ∷ x) (b ∷ y) w z long is = elim (nat_cmp a b) as (λ s. ordering_then s (key_cmp x y) ≡ r → ordering_then s (key_cmp (x ++ w) (y ++ z)) ≡ r) [
+  | Equal ↦ λ h. decided r apart x y w z (omega arith) h
+  | _ ↦ λ h. h
+] is
 
 -- ---- rows from a key on
 module _ (m : KeyMap) (key : List ℕ) (e : Entry) (more : List Entry) (first : entries_from key (entries m) ≡ e ∷ more) where

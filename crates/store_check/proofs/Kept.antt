@@ -3,10 +3,10 @@ use Rattle.std.{specs.{FinMap.get, Int.from_be_bytes}, proofs.lemmas.{List.Eleme
 use Rattle.std.proofs.Common.{◌≡◌, ◌<◌, ◌≤◌, ◌+◌, ◌^◌, ℕ, zero, suc, Bool, true, false, List, [], All, Option, Some, None, inl, inr, refl, sym, ap, subst, ◌∙◌, w64, arith}
 use Rattle.{desk_model.specs.claim.{Desk.{Desk, Plan}, Geography.GeographyModel}, desk_pages.specs.Reading.StandsAs, store_check.specs.Rows.{AreAfterSeal, AreRowsToVersion}}
 use Rattle.{store_check.specs.Numbers.{IsBelow, IsCount, AllBelow, NumbersFit, IsDue, HasNumbersBelow}, store_rows.specs.{Changes.plan_row_of, claim.DeskRows.{IsPlanAt, IsDesk}}}
-use Rattle.store_rows.specs.claim.{GeographyRows.IsGeography, Holders.{AreHolders, holder_count_row}, Lists.{AreChunks, chunks_bytes}, Rows.{KeyMap, row_in, Has}}
+use Rattle.store_rows.{specs.claim.{GeographyRows.IsGeography, Holders.{AreHolders, holder_count_row}, Lists.chunks_bytes, Rows.{KeyMap, row_in, Has}}, proofs.Counting.few_holders}
 use Rattle.store_rows.specs.claim.Keys.{RowKey, key_of, Fits, retired, begun, holding, holder_count, named, part, seal, version, chunk, in_four, in_eight}
 use Rattle.store_rows.specs.{claim.{Tidy.{IsNext, CountersFit, IsNumbered, IsNamedBy, IsKnown, Tidy, version_row}, Values.{plan_bytes, seal_bytes}}, declared.value.SealRow.SealRow}
-use Rattle.store_rows.{specs.declared.value.Counters.Counters, proofs.{Counting.few_holders, ListLaws.chunks_differ, OneGeography.{value_is, no_value}, TidyFree.one_next}}
+use Rattle.store_rows.{specs.declared.value.Counters.Counters, proofs.{ListLaws.chunks_differ, OneGeography.{value_is, no_value}, TidyFree.one_next}}
 
 -- ---- what is kept is below
 module _ (m : KeyMap) (tidy : Tidy m) where
@@ -23,28 +23,12 @@ module _ (m : KeyMap) (tidy : Tidy m) where
   known_below plan fits (inl (name, is)) = tidy.below.plans name plan is
   known_below plan fits (inr mark) = tidy.below.retired_plans plan [] fits mark
 
-  chunks_below : (plan revision index : ℕ) (numbers : List ℕ) → Fits (part plan revision index) → AreChunks numbers → Has m (part plan revision index) (chunks_bytes numbers) → All (λ n. n < tidy.next.chunk) numbers
-  chunks_below plan revision index numbers fits chunks has k d within =
-      tidy.below.named_chunks plan _ (record { revision = revision; index = index; part_fits = fits; numbers = numbers; chunks = chunks; row = has; among = All-contains_itself numbers k d within })
-
-  part_below : (plan revision index : ℕ) (value : List ℕ) → Fits (part plan revision index) → Has m (part plan revision index) value → IsBelow tidy.next (part plan revision index) value
-  part_below plan revision index value fits has =
-      let (numbers, chunks, is) = tidy.counted.parts plan revision index value fits has in (
-        known_below plan fits.0 (tidy.owned.parts plan revision index value fits has),
-        (numbers, chunks, sym is, chunks_below plan revision index numbers fits chunks (has ∙ ap Some is)),
-      )
-
   seal_below : (geography : Option GeographyModel) (value : List ℕ) → IsGeography m geography → Has m seal value → IsBelow tidy.next seal value
   seal_below None value is has = absurd (no_value value (sym has ∙ is))
   seal_below (Some g) value (load, is) has = (_, value_is _ value (sym is.named ∙ has), tidy.below.sealed_load _ is.load_fits is.named)
 
   named_plan_below : (plan number : ℕ) → IsNamedBy m plan number → plan < tidy.next.plan
   named_plan_below plan number is = search (arith, known_below, is.part_fits.0, tidy.owned.parts, is.part_fits, is.row)
-
-  holding_below : (plan number : ℕ) (value : List ℕ) → Fits (holding plan number) → Has m (holding plan number) value → IsBelow tidy.next (holding plan number) value
-  holding_below plan number value fits has =
-      let (empty, is_named) = tidy.holdings.held plan number value fits has in
-      (named_plan_below plan number is_named, tidy.below.named_chunks plan number is_named, empty)
 
   holder_count_below : (number : ℕ) (value : List ℕ) → number < 2 ^ 64 → Has m (holder_count number) value → IsBelow tidy.next (holder_count number) value
   holder_count_below number value fits has =
@@ -70,10 +54,25 @@ module _ (m : KeyMap) (tidy : Tidy m) where
   pub kept_below : (desk : Desk) → IsDesk m desk → (of : RowKey) (value : List ℕ) → Fits of → Has m of value → IsBelow tidy.next of value
   kept_below desk is (retired plan) value fits has = tidy.below.retired_plans plan value fits has
   kept_below desk is (begun load) value fits has = tidy.below.begun_loads load value fits has
-  kept_below desk is (holding plan number) value fits has = holding_below plan number value fits has
+  kept_below desk is (holding plan number) value fits has =
+      let (empty, is_named) = tidy.holdings.held plan number value fits has in
+      (named_plan_below plan number is_named, tidy.below.named_chunks plan number is_named, empty)
   kept_below desk is (holder_count number) value fits has = holder_count_below number value fits has
   kept_below desk is (named name) value fits has = plan_below desk.geography name value (get desk.plans name) (is.plans name) has
-  kept_below desk is (part plan revision index) value fits has = part_below plan revision index value fits has
+  kept_below desk is (part plan revision index) value fits has =
+      let (numbers, chunks, same) = tidy.counted.parts plan revision index value fits has in
+      let each : All (λ n. n < tidy.next.chunk) numbers = λ k d within. tidy.below.named_chunks plan _
+      (record {
+        revision = revision;
+        index = index;
+        part_fits = fits;
+        numbers = numbers;
+        chunks = chunks;
+        row = has
+            ∙ ap Some same;
+        among = All-contains_itself numbers k d within;
+      }) in
+      (known_below plan fits.0 (tidy.owned.parts plan revision index value fits has), (numbers, chunks, sym same, each))
   kept_below desk is seal value fits has = seal_below desk.geography value is.geography has
   kept_below desk is version value fits has = version_below value has
   kept_below desk is _ value fits has = tt

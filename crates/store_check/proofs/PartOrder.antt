@@ -1,29 +1,18 @@
 -- Parts of revisions stand in the order of their plans and revisions.
-use Rattle.std.{specs.{BTreeMap.BTreeMap, Cmp.nat_cmp_is, FinMap.{entries, get}, Int.from_be_bytes, Ordering.{is_gt, nat_cmp, ordering_then}}, proofs.lemmas.Bool.cases_lt}
-use Rattle.{std.{specs.declared.cmp.Ordering.TheVariants.{Less, Equal, Greater}, proofs.lemmas.Nat.from_be_bytes-to_be_bytes_8}, page_btree.specs.page_node.Places.entries_from}
-use Rattle.{std.proofs.Common.{◌≡◌, inl, inr, ◌<◌, ◌≤◌, ◌^◌, ℕ, List, [], ◌∷◌, ◌++◌, length, drop, true, refl, sym, ap, subst, ◌∙◌, w64, arith}, store_check.specs.Rows.NoneFrom}
-use Rattle.{page_btree.specs.page_node.claim.{Entries.Entry, Places.key_cmp}, store_check.specs.claim.Rows.IsFrom, store_rows.specs.Keys.{parts_prefix, plan_parts_prefix}}
-use Rattle.{store_check.specs.Owners.{AreOwnedBelow, AreOwnedBy, IsOwned, IsOwnedTo, IsPartKey, IsUnderParts, Passes, after_revision}, store_rows.specs.claim.Rows.KeyMap}
-use Rattle.store_rows.{specs.claim.{Keys.{RowKey, key_of, Fits, part, in_one, in_four, in_eight, revision_prefix}, Tidy.AreRows}, proofs.Frames.either_way}
-use Rattle.{btree_walks.proofs.Prefixes.{between_under, under_is_from}, store_check.proofs.After.{fewer_rows, from_tag, prefix_same}, store_rows.proofs.Numbers.numbers_decide}
-use Rattle.{store_check.proofs.FirstRows.{clash, first_least, first_there, from_trans}, store_rows.proofs.KeyPrefixes.{starts_itself, starts_same}}
+use Rattle.std.specs.{BTreeMap.BTreeMap, Cmp.nat_cmp_is, FinMap.{entries, get}, Int.from_be_bytes, Ordering.is_gt, declared.cmp.Ordering.TheVariants.Less}
+use Rattle.std.proofs.{Common.{◌≡◌, inl, inr, ◌<◌, ◌≤◌, ◌^◌, ℕ, List, [], ◌∷◌, ◌++◌, drop, true, refl, sym, ap, subst, ◌∙◌, w64, arith}, lemmas.Bool.cases_lt}
+use Rattle.{std.proofs.lemmas.Nat.from_be_bytes-to_be_bytes_8, page_btree.specs.page_node.{Places.entries_from, claim.{Entries.Entry, Places.key_cmp}}}
+use Rattle.store_check.specs.{Owners.{AreOwnedBelow, AreOwnedBy, IsOwned, IsOwnedTo, IsPartKey, IsUnderParts, Passes, after_revision}, Rows.NoneFrom, claim.Rows.IsFrom}
+use Rattle.store_rows.specs.{Keys.{parts_prefix, plan_parts_prefix}, claim.{Keys.{RowKey, key_of, Fits, part, in_one, in_four, in_eight, revision_prefix}, Rows.KeyMap}}
+use Rattle.{store_rows.specs.claim.Tidy.AreRows, btree_walks.proofs.Prefixes.{between_under, under_is_from}, store_check.proofs.After.{fewer_rows, from_tag, prefix_same}}
+use Rattle.{store_check.proofs.FirstRows.{clash, decided, first_least, first_there, from_trans}, store_rows.proofs.{Frames.either_way, KeyPrefixes.{starts_itself, starts_same}}}
+use Rattle.store_rows.proofs.Numbers.{numbers_decide}
 use Rattle.page_btree.proofs.page_node.Laws.{flip_less}
-
--- what stands after numbers of as many bytes doesn't count
-below_more : (x y w z : List ℕ) → length x ≡ length y → key_cmp x y ≡ Less → key_cmp (x ++ w) (y ++ z) ≡ Less
-below_more [] [] w z long below = cc
-below_more [] (b ∷ y) w z long below = absurd (omega arith)
-below_more (a ∷ x) [] w z long below = absurd (omega arith)
-below_more (a ∷ x) (b ∷ y) w z long below = elim (nat_cmp a b) as (λ r. ordering_then r (key_cmp x y) ≡ Less → ordering_then r (key_cmp (x ++ w) (y ++ z)) ≡ Less) [
-  | Less ↦ λ h. h
-  | Equal ↦ λ h. below_more x y w z (omega arith) h
-  | Greater ↦ λ h. h
-] below
 
 -- a part of an earlier revision of a plan stands before one of a later
 earlier : (plan revision other : ℕ) (w z : List ℕ) → revision < 2 ^ 32 → other < 2 ^ 32 → revision < other → key_cmp (revision_prefix plan revision ++ w) (revision_prefix plan other ++ z) ≡ Less
 earlier plan revision other w z fits other_fits less =
-    below_more (revision_prefix plan revision) (revision_prefix plan other) w z refl
+    decided Less (λ e. cc) (revision_prefix plan revision) (revision_prefix plan other) w z refl
     ((numbers_decide (plan_parts_prefix plan) revision other).1 fits other_fits ∙ sym (nat_cmp_is revision other Less less))
 
 below_after : (plan revision last index : ℕ) → revision < 2 ^ 32 → last < 2 ^ 32 → revision ≤ last → key_cmp (key_of (part plan revision index)) (after_revision plan last) ≡ Less

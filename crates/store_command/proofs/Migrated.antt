@@ -3,7 +3,7 @@ use Rattle.std.{specs.Prelude.{Result, Ok, Err}, proofs.Common.{rules, ◌≡◌
 use Rattle.{desk_model.specs.claim.Desk.Desk, desk_pages.specs.claim.Desks.{OpensDesk, OpensOld, OpensEither}, sector_device.specs.claim.{Disk.{Disk, Image}, Moments.LeavesOnly}}
 use Rattle.desk_runs.specs.desk_migration.claim.Migrating.{device_of, disk_of, is_halted, sectors_of, Ends, HasMore, HasRows, Keeps, KeepsNew, Moves}
 use Rattle.{desk_runs.specs.desk_migration.declared.migration.Migration.Migration, sector_device.specs.declared.SectorDevice.Ghosts, store_command.specs.Reading.BeginsAtWhatIsRead}
-use Rattle.store_command.specs.Migrating.{HasMigrated, HasNew, HasOld, HasPut, HasStopped, IsBegun, IsMigrated, IsStopped, LeavesEither, MigratesAll, MigratesDevice, WhereItReadsOld}
+use Rattle.store_command.specs.Migrating.{HasMigrated, HasNew, HasOld, HasPut, HasStopped, IsBegun, IsStopped, LeavesEither, MigratesAll, MigratesDevice, WhereItReadsOld}
 use Rattle.{store_command.specs.declared.fault.StoreFault.{StoreFault, TheVariants.NotAStore}, store_rows.specs.claim.Rows.KeyMap}
 use Rattle.sector_device.proofs.Moments.{leaves_more, leaves_wider}
 use Rattle.desk_runs.proofs.desk_migration.Pairs.{then_by, none_by}
@@ -13,11 +13,7 @@ module _ {D : Type 0} {g : Ghosts D} where
   pub unmoved : (x : Migration D g) → is_halted x ≡ false → Moves x x
   unmoved x working = record {
     goes = search rules;
-    any_moment = λ d keeps off honest. record {
-      later = omega arith;
-      each = λ c left. keeps.left honest c ((disk_of x).only_now c left);
-      before = λ t c le left. inl left;
-    };
+    any_moment = λ d keeps off honest. record { later = omega arith; each = λ c left. keeps.left honest c ((disk_of x).only_now c left); before = λ t c le left. inl left };
     keeps = λ d keeps. keeps;
   }
 
@@ -82,17 +78,10 @@ module _ {D : Type 0} {g : Ghosts D} where
     new_left : (y z : Migration D g) → Moves x y → Ends y z → ((disk_of z).is_honest → (d : Desk) → Keeps y d → KeepsNew z d) → WhereItReadsOld old (disk_of z) (λ d. HasNew old (disk_of z) d)
     new_left y z moves ends told honest d reads c leaves =
         let began = begins (moves.goes.honest (ends.goes.honest honest)) d reads in
-        let sectors : sectors_of z ≡ old.sectors = ends.goes.sectors ∙ moves.goes.sectors ∙ begun.sectors in
-        subst (λ (n : ℕ). OpensDesk n d c) sectors ((told honest d (moves.keeps d began.keeps)).left c leaves)
+        subst (λ (n : ℕ). OpensDesk n d c) (ends.goes.sectors ∙ moves.goes.sectors ∙ begun.sectors) ((told honest d (moves.keeps d began.keeps)).left c leaves)
 
     old_left : (z : Migration D g) → sectors_of z ≡ sectors_of x → ((disk_of z).is_honest → (disk_of x).is_honest) → ((d : Desk) → Keeps x d → Keeps z d) → WhereItReadsOld old (disk_of z) (λ d. HasOld old (disk_of z) d)
-    old_left z same before keeps honest d reads c leaves =
-        let sectors : sectors_of z ≡ old.sectors = same ∙ begun.sectors in
-        subst (λ (n : ℕ). OpensOld n d c) sectors ((keeps d (begins (before honest) d reads).keeps).left honest c leaves)
-
-    -- what was opened, migrated and given back
-    pub has_migrated : (z : Migration D g) (rows : ℕ) → IsMigrated x rows z → (left : D) → left ≡ device_of z → HasMigrated g device rows left
-    has_migrated z rows did left back = subst (λ (d : D). HasMigrated g device rows d) (sym back) (search (ended, new_left))
+    old_left z same before keeps honest d reads c leaves = subst (λ (n : ℕ). OpensOld n d c) (same ∙ begun.sectors) ((keeps d (begins (before honest) d reads).keeps).left honest c leaves)
 
     any_left : (z : Migration D g) (fault : StoreFault) → MigratesAll x (Err fault) z → WhereItReadsOld old (disk_of z) (λ d. LeavesEither old (disk_of z) d)
     any_left z fault (inl did) = stepped z did.0
@@ -104,9 +93,7 @@ module _ {D : Type 0} {g : Ghosts D} where
         let it = did.2 in
         old_left z (it.ends.goes.sectors ∙ it.moves.goes.sectors) (λ is. it.moves.goes.honest (it.ends.goes.honest is)) (λ d keeps. it.stays works d (it.moves.keeps d keeps))
 
-    pub has_stopped : (z : Migration D g) (fault : StoreFault) → MigratesAll x (Err fault) z → (left : D) → left ≡ device_of z → HasStopped g device fault left
-    has_stopped z fault why left back = subst (λ (d : D). HasStopped g device fault d) (sym back) (search (any_left, old_after))
-
+    -- what was opened, migrated and given back
     pub device_migrated : (z : Migration D g) (did : Result ℕ StoreFault) → MigratesAll x did z → (left : D) → left ≡ device_of z → MigratesDevice g device did left
-    device_migrated z (Ok rows) is left back = has_migrated z rows is left back
-    device_migrated z (Err fault) is left back = inr (has_stopped z fault is left back)
+    device_migrated z (Ok rows) is left back = subst (λ (d : D). HasMigrated g device rows d) (sym back) (search (ended, new_left))
+    device_migrated z (Err fault) is left back = inr (subst (λ (d : D). HasStopped g device fault d) (sym back) (search (any_left, old_after)))

@@ -36,31 +36,24 @@ module _ (disk : Disk) (synced : IsSynced disk) where
     new_only : (d : Desk) → ReadsDesk disk d → (c : Image) → OpensOneOf disk c → OpensDesk disk.sectors d c
     new_only d reads c is = subst (λ (e : Desk). OpensDesk disk.sectors e c) (it_is true true d is.desk reads is.one) is.opens
 
-    old_only : (d : Desk) → ReadsOld disk d → (c : Image) → OpensOneAs disk c → OpensOld disk.sectors d c
-    old_only d reads c is = in_old is.x.0 is.x.1 is.one is.opens
-      where
-        in_old : (b : Bool) (e : Desk) → IsOneAs disk (b, e) → OpensDeskOf b disk.sectors e c → OpensOld disk.sectors d c
-        in_old true e one opens = absurd (one_version disk.sectors e d disk.reads (few_sectors disk) (was_read (true, e) one) reads)
-        in_old false e one opens = subst (λ (f : Desk). OpensOld disk.sectors f c) (it_is false false d e reads one) opens
+    in_as : (new other : Bool) (d e : Desk) (c : Image) → OpensDeskOf new disk.sectors d disk.reads → IsOneAs disk (other, e) → OpensDeskOf other disk.sectors e c → OpensDeskOf new disk.sectors d c
+    in_as true true d e c reads one opens = subst (λ (f : Desk). OpensDesk disk.sectors f c) (it_is true true d e reads one) opens
+    in_as true false d e c reads one opens = absurd (one_version disk.sectors d e disk.reads (few_sectors disk) reads (was_read (false, e) one))
+    in_as false true d e c reads one opens = absurd (one_version disk.sectors e d disk.reads (few_sectors disk) (was_read (true, e) one) reads)
+    in_as false false d e c reads one opens = subst (λ (f : Desk). OpensOld disk.sectors f c) (it_is false false d e reads one) opens
 
     pub leaves_new : (new : Disk) → new.is_honest → LeavesOneOf disk new → (d : Desk) → ReadsDesk disk d → LeavesOnly (OpensDesk disk.sectors d) disk new
     leaves_new new honest leaves d reads = leaves_wider (OpensOneOf disk) (OpensDesk disk.sectors d) disk new (λ c is. new_only d reads c is) (leaves honest (all_new d reads))
 
-    pub leaves_old : (new : Disk) → new.is_honest → LeavesOneAs disk new → (d : Desk) → ReadsOld disk d → LeavesOnly (OpensOld disk.sectors d) disk new
-    leaves_old new honest leaves d reads = leaves_wider (OpensOneAs disk) (OpensOld disk.sectors d) disk new (λ c is. old_only d reads c is) (leaves honest (all_either false d reads))
-
-    leaves_new_as : (new : Disk) → new.is_honest → LeavesOneAs disk new → (d : Desk) → ReadsDesk disk d → LeavesOnly (OpensDesk disk.sectors d) disk new
-    leaves_new_as new honest leaves d reads = leaves_wider (OpensOneAs disk) (OpensDesk disk.sectors d) disk new (λ c is. in_new c is.x.0 is.x.1 is.one is.opens) (leaves honest (all_either true d reads))
-      where
-        in_new : (c : Image) (b : Bool) (e : Desk) → IsOneAs disk (b, e) → OpensDeskOf b disk.sectors e c → OpensDesk disk.sectors d c
-        in_new c true e one opens = subst (λ (f : Desk). OpensDesk disk.sectors f c) (it_is true true d e reads one) opens
-        in_new c false e one opens = absurd (one_version disk.sectors d e disk.reads (few_sectors disk) reads (was_read (false, e) one))
+    pub leaves_as : (version : Bool) (new : Disk) → new.is_honest → LeavesOneAs disk new → (d : Desk) → OpensDeskOf version disk.sectors d disk.reads → LeavesOnly (OpensDeskOf version disk.sectors d) disk new
+    leaves_as version new honest leaves d reads =
+        leaves_wider (OpensOneAs disk) (OpensDeskOf version disk.sectors d) disk new (λ c is. in_as version is.x.0 d is.x.1 c reads is.one is.opens) (leaves honest (all_either version d reads))
 
     -- ---- openings for a migration that were refused
-    bars : (new : Disk) (error : StoreError) → new.is_honest → LeavesOneAs disk new → IsRefused disk new error → BarsWhatIsRead disk new error
+    pub bars : (new : Disk) (error : StoreError) → new.is_honest → LeavesOneAs disk new → IsRefused disk new error → BarsWhatIsRead disk new error
     bars new error honest leaves why = record {
-      old_desk = λ d reads. search (rules, all_either false d reads, all_old d reads, leaves_old new honest leaves d reads);
-      desk = λ d reads. search (rules, all_either true d reads, leaves_new_as new honest leaves d reads);
+      old_desk = λ d reads. search (rules, all_either false d reads, all_old d reads, leaves_as false new honest leaves d reads);
+      desk = λ d reads. search (rules, all_either true d reads, leaves_as true new honest leaves d reads);
     }
 
 module _ {D : Type 0} (g : Ghosts D) (law : ImagesAreOne) (device : D) (synced : IsSynced (g.disk device)) where
@@ -81,7 +74,7 @@ module _ {D : Type 0} (g : Ghosts D) (law : ImagesAreOne) (device : D) (synced :
       let kept = opened (all_either old synced false d reads) honest in
       record {
         keeps = subst (λ (e : Desk). KeepsOld x e) (it_is old synced law false false d kept.0 reads kept.1.1) kept.1.0;
-        any_moment = leaves_old old synced law (migrated_disk x) honest leaves d reads;
+        any_moment = leaves_as old synced law false (migrated_disk x) honest leaves d reads;
       }
 
   -- an opening that was refused
@@ -90,12 +83,9 @@ module _ {D : Type 0} (g : Ghosts D) (law : ImagesAreOne) (device : D) (synced :
     desk = λ d reads. search (rules, all_either old synced true d reads, all_new old synced d reads, leaves_new old synced law (g.disk left) honest leaves d reads);
     old_desk = λ d reads. record {
       a_store = λ is. subst (λ (e : StoreError). OpenRefused g device left e) is why honest (all_either old synced false d reads);
-      any_moment = leaves_old old synced law (g.disk left) honest versions d reads;
+      any_moment = leaves_as old synced law false (g.disk left) honest versions d reads;
     };
   }
-
-  pub bars_it : (left : D) (error : StoreError) → (g.disk left).is_honest → LeavesOneAs old (g.disk left) → IsRefused old (g.disk left) error → BarsWhatIsRead old (g.disk left) error
-  bars_it left error honest leaves why = bars old synced law (g.disk left) error honest leaves why
 
 -- ---- lives
 pub holds_read : {D : Type 0} (g : Ghosts D) → HoldsWhatIsRead g

@@ -2,11 +2,10 @@
 use Rattle.{std.{specs.Prelude.{Result, Ok, Err}, proofs.Common.{◌≡◌, ◌≤◌, ◌+◌, ℕ, [], Option, false, inl, inr, refl, sym, subst, ◌∙◌, arith}}, desk_model.specs.claim.Desk.Desk}
 use Rattle.{desk_loading.specs.Openings.IsOpened, desk_pages.specs.declared.error.StoreError.StoreError, desk_runs.specs.desk_store.declared.clerk.Clerk.Clerk}
 use Rattle.desk_runs.specs.desk_store.{Sweeps.{HasRows, HasSwept as HasSweptStep, SweepRefused}, claim.Clerks.{desk_of, disk_of, pages_of, Keeps, Moves}}
-use Rattle.{desk_runs.specs.store_sweep.Leftovers.IsSweptBy, desk_store.specs.store_sweep.claim.Checks.AreSoundHoldings, page_btree.specs.claim.Map.InPages as HoldsRows}
-use Rattle.{page_store.specs.claim.Transactions.{device_in, IsQuiet}, sector_device.specs.declared.SectorDevice.Ghosts, store_command.specs.Faults.fault_of_store}
-use Rattle.store_command.specs.{Reading.ShowsWhatIsRead, Sweeping.{KeepsDesk, HasTaken, HasSweptAll, IsChecked, IsStopped, SweepsAll, SweepsSteps, HasSwept, SweepsDevice}}
-use Rattle.{store_command.specs.declared.fault.StoreFault.{StoreFault, TheVariants.NotAStore}, store_rows.specs.claim.Rows.KeyMap, desk_loading.proofs.Moves.then_moved}
-use Rattle.store_command.proofs.Used.{kept_left, left_same}
+use Rattle.{desk_runs.specs.store_sweep.Leftovers.IsSweptBy, page_store.specs.claim.Transactions.device_in, sector_device.specs.declared.SectorDevice.Ghosts}
+use Rattle.{store_command.specs.{Faults.fault_of_store, Reading.ShowsWhatIsRead, declared.fault.StoreFault.{StoreFault, TheVariants.NotAStore}}, store_rows.specs.claim.Rows.KeyMap}
+use Rattle.store_command.specs.Sweeping.{KeepsDesk, HasTaken, HasSweptAll, IsChecked, IsStopped, SweepsAll, SweepsSteps, HasSwept, SweepsDevice}
+use Rattle.{desk_loading.proofs.Moves.then_moved, store_command.proofs.Used.{kept_left, left_same}}
 use Rattle.desk_runs.proofs.store_sweep.Taken.{then_by}
 use Rattle.desk_runs.proofs.desk_store.Moved.{unmoved}
 
@@ -37,10 +36,7 @@ module _ {D : Type 0} {g : Ghosts D} where
       let next = steps one.n one.has in
       let by : IsSweptBy x.loading (rows + count) m next.n = then_by x.loading rows count m one.n next.n one.by (subst (λ (r : Option ℕ). IsSweptBy r count one.n next.n) loading next.by) in
       let sum : rows + count ≡ rows = omega (arith, none) in
-      record {
-        taken = record { n = next.n; has = next.has; by = subst (λ (k : ℕ). IsSweptBy x.loading k m next.n) sum by };
-        clean = next.clean (omega (arith, none));
-      }
+      record { taken = record { n = next.n; has = next.has; by = subst (λ (k : ℕ). IsSweptBy x.loading k m next.n) sum by }; clean = next.clean (omega (arith, none)) }
 
   -- a step that was refused
   pub step_stopped : (x y z : Clerk D g) (e : StoreError) (fault : StoreFault) → fault ≡ fault_of_store e → KeepsDesk x y → y.halted ≡ false → SweepRefused y e z.halted (pages_of z) → IsStopped x fault z
@@ -57,15 +53,9 @@ module _ {D : Type 0} {g : Ghosts D} where
   pub kept_after : (x w y : Clerk D g) → KeepsDesk x w → KeepsDesk w y → KeepsDesk x y
   kept_after x w y one two = more_kept x w y one two.moves two.desk two.loading
 
-  pub checked_so : (x w : Clerk D g) → KeepsDesk x w → w.halted ≡ false → IsQuiet (pages_of x) (pages_of w) → ((disk_of w).is_honest → (m : KeyMap) → HoldsRows (pages_of x) m → AreSoundHoldings m) → IsChecked x w
-  checked_so x w keeps works quiet sound = record { keeps = keeps; works = works; quiet = quiet; sound = sound }
-
   pub swept_after : (x w y : Clerk D g) (r : Result ℕ StoreFault) → IsChecked x w → SweepsSteps w r y → SweepsAll x r y
   swept_after x w y (Ok rows) checked swept = (w, checked, swept)
   swept_after x w y (Err fault) checked stopped = inr (w, checked, stopped)
-
-  pub unchecked_so : (x y : Clerk D g) (e : StoreError) (fault : StoreFault) → fault ≡ fault_of_store e → IsQuiet (pages_of x) (pages_of y) → SweepRefused x e y.halted (pages_of y) → SweepsAll x (Err fault) y
-  unchecked_so x y e fault told quiet why = inl (record { e = e; told = told; quiet = quiet; why = why })
 
   -- ---- the device
   -- what was opened, swept and given back

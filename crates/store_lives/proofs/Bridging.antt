@@ -1,5 +1,5 @@
 -- A run of commands as a life.
-use Rattle.{std.proofs.{Common.{◌≡◌, ℕ, false, List, [], ◌∷◌, ◌++◌, inl, refl, sym, subst, ◌∙◌, append_assoc}, lemmas.List.append-nil}, desk_model.specs.claim.Desk.Desk}
+use Rattle.{std.proofs.{Common.{◌≡◌, ℕ, false, List, [], ◌∷◌, ◌++◌, inl, refl, ◌∙◌, append_assoc}, lemmas.List.append-nil}, desk_model.specs.claim.Desk.Desk}
 use Rattle.{desk_runs.specs.claim.Runs.{Call, Run}, desk_store.specs.{claim.Clerks.{desk_of, disk_of, is_halted, sectors_of, Keeps}, declared.clerk.Clerk.Clerk}}
 use Rattle.{sector_device.specs.declared.SectorDevice.Ghosts, store_lives.specs.{DeskInside.{LivedThrough, Stands}, claim.{Calls.{asked_in, told_in}, DeskLives.Lived}}}
 use Rattle.{store_lives.specs.declared.desk_lives.{Answer.{Answer, TheVariants.Said}, Request.{Request, TheVariants.Change}}, desk_runs.proofs.Following.honest_before}
@@ -12,11 +12,10 @@ module _ {D : Type 0} {g : Ghosts D} where
 
   run_stands : (t : ℕ) (d : Desk) (n : ℕ) (all : List Request) (so_far : List Answer) (x : Clerk D g) (calls : List Call) (z : Clerk D g) → Run x calls z → sectors_of x ≡ n → (disk_of z).is_honest
       → Stands t d n all (asked_in calls) so_far x → Stands t d n all [] (so_far ++ told_in calls) z
-  run_stands t d n all so_far x _ z (Run.over _) long honest stands = subst (λ (told : List Answer). Stands t d n all [] told x) (sym (append-nil so_far)) stands
+  run_stands t d n all so_far x _ z (Run.over _) long honest stands = rw append-nil stands
   run_stands t d n all so_far x _ z (Run.went _ c r y calls _ does run) long honest stands =
       let here = goes_on t d n all (asked_in calls) so_far x (Change c) (Said r) y long (honest_before y calls z run honest) (r, refl, does) stands in
-      let later = run_stands t d n all (so_far ++ Said r ∷ []) y calls z run (does.moves.sectors ∙ long) honest here in
-      subst (λ (told : List Answer). Stands t d n all [] told z) (append_assoc so_far (Said r ∷ []) (told_in calls)) later
+      rw append_assoc at (run_stands t d n all (so_far ++ Said r ∷ []) y calls z run (does.moves.sectors ∙ long) honest here)
 
   pub run_lived : (x : Clerk D g) (calls : List Call) (z : Clerk D g) → Run x calls z → LivedThrough (λ t u d e. Lived t u d (asked_in calls) (told_in calls) e) x z
   run_lived x calls z run =

@@ -1,14 +1,14 @@
 -- Lives of a store of either version.
-use Rattle.{std.{specs.{Prelude.{⊤, Vec}, declared.alloc.Global.Global}, proofs.lemmas.List.append-nil}, desk_model.specs.claim.Desk.Desk, desk_runs.specs.Recovery.ImagesAreOne}
-use Rattle.{std.proofs.Common.{◌≡◌, ◌≢◌, ◌≤◌, ◌^◌, ℕ, Bool, true, false, List, [], ◌∷◌, ◌++◌, Ok, refl, sym, subst, ◌∙◌, arith, rules}, desk_store.specs.Openings.OpenRefused}
-use Rattle.desk_pages.specs.{claim.{Desks.{OpensDeskOf, OpensDesk}, Openings.{AllVersions, IsOneAs, IsOneOf, LeavesOneAs, OpensOneAs}}, declared.error.StoreError.StoreError}
+use Rattle.{std.specs.{Prelude.{⊤, Vec}, declared.alloc.Global.Global}, desk_model.specs.claim.Desk.Desk, desk_pages.specs.claim.Desks.{OpensAs, OpensDeskOf}}
+use Rattle.{std.proofs.Common.{◌≡◌, ◌≢◌, ◌≤◌, ◌^◌, ℕ, Bool, true, false, List, [], ◌∷◌, ◌++◌, Ok, Err, ap, refl, sym, subst, ◌∙◌, rules}, desk_runs.specs.Recovery.ImagesAreOne}
+use Rattle.{desk_pages.specs.{claim.Openings.{AllVersions, IsOneAs, IsOneOf, LeavesOneAs, OpensOneAs}, declared.error.StoreError.StoreError}, desk_store.specs.Openings.OpenRefused}
 use Rattle.desk_runs.specs.desk_migration.{Openings.{IsRefused, KeepsOne, LeavesNew}, claim.Migrating.{disk_of as migrated_disk, sectors_of as migrated_sectors}}
 use Rattle.{desk_runs.specs.desk_migration.declared.migration.Migration.Migration, desk_store.specs.claim.Clerks.{desk_of, disk_of, is_halted, sectors_of, Keeps}}
 use Rattle.{desk_store.specs.declared.clerk.Clerk.Clerk, sector_device.{specs.{Disk.IsSynced, claim.Disk.{Disk, Image}, declared.SectorDevice.Ghosts}, proofs.Moments.leaves_now}}
-use Rattle.store_lives.specs.{DeskInside.{Asks, GoingOn, LivedThrough}, VersionInside.{OpensIn, HoldsIn, AllIn, IsOneIn, Knows, Becomes, LivesIn, IsAsked, IsLed, LedTo, LeadsOn}}
-use Rattle.store_lives.specs.claim.{DeskLives.{Asked, Lived, LifeAfterLife}, Versions.{Version, version_1, version_2, either, MayBeOld, MayBeNew, Store, MayBar, Leads}}
-use Rattle.{store_lives.specs.declared.{desk_lives.Answer.Answer, leading.Led.Led}, desk_runs.proofs.One.{one_version, few_sectors, in_either, either_as}}
-use Rattle.store_lives.proofs.DeskLiving.{further}
+use Rattle.store_lives.specs.{DeskInside.{Asks, GoingOn, IsLife, LivedThrough, LivesOnce}, claim.DeskLives.{Asked, Told, IsPassing, Lived, LifeAfterLife}, declared.leading.Led.Led}
+use Rattle.store_lives.specs.{VersionInside.{OpensIn, HoldsIn, AllIn, IsOneIn, Knows, Becomes, LivesIn, IsAsked, IsLed, LedTo, LeadsOn}, declared.desk_lives.Answer.Answer}
+use Rattle.store_lives.{specs.claim.Versions.{Version, version_1, version_2, either, MayBeOld, MayBeNew, Store, MayBar, Leads}, proofs.DeskLiving.{one_more, none_left}}
+use Rattle.desk_runs.proofs.One.{one_version, few_sectors, in_either, either_as}
 use Rattle.desk_pages.specs.declared.error.StoreError.TheVariants as store
 use Rattle.store_lives.specs.declared.leading.Led.TheVariants as led
 
@@ -43,7 +43,7 @@ opens_as version_1 n d c opens = (false, opens)
 opens_as version_2 n d c opens = (true, opens)
 opens_as either n d c opens = either_as n d c opens
 
-all_in : (v : Version) (disk : Disk) → AllIn v disk → AllVersions disk
+pub all_in : (v : Version) (disk : Disk) → AllIn v disk → AllVersions disk
 all_in v disk all c left =
     let is = all c left in
     let it = opens_as v disk.sectors is.0 c is.1 in
@@ -56,39 +56,40 @@ one_in v disk all x one =
     let fits = fits_of v x.0 disk.sectors there.0 x.1 one.was (few_sectors disk) there.1 one.opens in
     (fits, record { was = one.was; left = one.left; opens = opens_in v x.0 disk.sectors x.1 one.was fits one.opens })
 
--- what a refused opening leaves
-left_in : (v : Version) (old new : Disk) → new.is_honest → AllIn v old → LeavesOneAs old new → (c : Image) → new.leaves c → (d : Desk) × IsOneIn v old d × OpensIn v old.sectors d c
-left_in v old new now all moments c stopped =
-    let is = leaves_now (OpensOneAs old) old new (moments now (all_in v old all)) c stopped in
-    let one = one_in v old all is.x is.one in
-    (is.x.1, one.1, opens_in v is.x.0 old.sectors is.x.1 c one.0 is.opens)
+-- a store that is not opened is as it was
+stays_in : (life : (t u : ℕ) → Store → Store → Type 0) (v : Version) (old new : Disk) → new.is_honest → AllIn v old → LeavesOneAs old new
+    → ((d : Desk) → life old.faults new.faults (v, d) (v, d)) → Becomes life v old new
+stays_in life v old new now all moments lives = (
+  v,
+  λ c stopped.
+      (let is = leaves_now (OpensOneAs old) old new (moments now (all_in v old all)) c stopped in
+      let one = one_in v old all is.x is.one in
+      (is.x.1, one.1, (is.x.1, lives is.x.1, opens_in v is.x.0 old.sectors is.x.1 c one.0 is.opens))),
+)
 
 -- ---- starts and stops
 -- what is left at the start is what a stop left
-held_before : (v : Version) (old mid : Disk) → mid.sectors ≡ old.sectors → ((c : Image) → mid.leaves c → old.leaves c) → AllIn v old → AllIn v mid
-held_before v old mid same leaves all c left = let is = all c (leaves c left) in (is.0, subst (λ (n : ℕ). OpensIn v n is.0 c) (sym same) is.1)
-
-versions_before : (old mid : Disk) → mid.sectors ≡ old.sectors → ((c : Image) → mid.leaves c → old.leaves c) → AllVersions old → AllVersions mid
-versions_before old mid same leaves all c left = let is = all c (leaves c left) in (is.0, subst (λ (n : ℕ). OpensDeskOf is.0.0 n is.0.1 c) (sym same) is.1)
-
-one_before : (v : Version) (old mid : Disk) → mid.sectors ≡ old.sectors → ((c : Image) → mid.leaves c → old.leaves c) → (d : Desk) → IsOneIn v mid d → IsOneIn v old d
-one_before v old mid same leaves d one = record { was = one.was; left = leaves one.was one.left; opens = subst (λ (n : ℕ). OpensIn v n d one.was) same one.opens }
+before : {A : Type 0} (Opens : ℕ → A → Image → Type 0) (old mid : Disk) → mid.sectors ≡ old.sectors → ((c : Image) → mid.leaves c → old.leaves c)
+    → ((c : Image) → old.leaves c → (a : A) × Opens old.sectors a c) → (c : Image) → mid.leaves c → (a : A) × Opens mid.sectors a c
+before Opens old mid same leaves all c left = let is = all c (leaves c left) in (is.0, rw same is.1)
 
 pub starts_in : (life : (t u : ℕ) → Store → Store → Type 0) (old mid new : Disk) → mid.sectors ≡ old.sectors → (mid.is_honest → old.is_honest) → (mid.is_honest → mid.faults ≡ old.faults)
     → (mid.is_honest → (c : Image) → mid.leaves c → old.leaves c) → LivesIn life mid new → LivesIn life old new
 starts_in life old mid new same was faults leaves once = record {
   sectors = once.sectors ∙ same;
   honest = λ now. was (once.honest now);
-  faults = λ now all. subst (λ (t : ℕ). t ≤ new.faults) (faults (once.honest now)) (once.faults now (versions_before old mid same (leaves (once.honest now)) all));
+  faults = λ now all. rw (faults (once.honest now)) at (once.faults now (before OpensAs old mid same (leaves (once.honest now)) all));
   became = λ now v all.
       (let then = once.honest now in
-      let is = once.became now v (held_before v old mid same (leaves then) all) in (
+      let is = once.became now v (before (OpensIn v) old mid same (leaves then) all) in (
         is.0,
         λ c stopped.
-            (let there = is.1 c stopped in (
+            (let there = is.1 c stopped in
+            let one = there.1 in
+            let lived = subst (λ (t : ℕ). life t new.faults (v, there.0) (is.0, there.2.0)) (faults then) there.2.1 in (
               there.0,
-              one_before v old mid same (leaves then) there.0 there.1,
-              (there.2.0, subst (λ (t : ℕ). life t new.faults (v, there.0) (is.0, there.2.0)) (faults then) there.2.1, subst (λ (n : ℕ). OpensIn is.0 n there.2.0 c) same there.2.2),
+              record { was = one.was; left = leaves then one.was one.left; opens = subst (λ (n : ℕ). OpensIn v n there.0 one.was) same one.opens },
+              (there.2.0, lived, subst (λ (n : ℕ). OpensIn is.0 n there.2.0 c) same there.2.2),
             )),
       ));
 }
@@ -98,17 +99,8 @@ pub stops_in : (life : (t u : ℕ) → Store → Store → Type 0) (old mid new 
 stops_in life old mid new same was faults leaves once = record {
   sectors = same ∙ once.sectors;
   honest = λ now. once.honest (was now);
-  faults = λ now all. subst (λ (u : ℕ). old.faults ≤ u) (sym (faults now)) (once.faults (was now) all);
-  became = λ now v all.
-      (let is = once.became (was now) v all in (
-        is.0,
-        λ c stopped.
-            (let there = is.1 c (leaves now c stopped) in (
-              there.0,
-              there.1,
-              (there.2.0, subst (λ (u : ℕ). life old.faults u (v, there.0) (is.0, there.2.0)) (sym (faults now)) there.2.1, there.2.2),
-            )),
-      ));
+  faults = λ now all. rw (faults now) (once.faults (was now) all);
+  became = λ now v all. rw (faults now) (let is = once.became (was now) v all in (is.0, λ c stopped. is.1 c (leaves now c stopped)));
 }
 
 -- ---- a store is asked
@@ -123,22 +115,12 @@ module _ {D : Type 0} (g : Ghosts D) where
       record {
         sectors = sym whole ∙ through.sectors ∙ long;
         honest = λ now. honest (through.honest now);
-        faults = λ now all. subst (λ (t : ℕ). t ≤ (disk_of y).faults) (passed (through.honest now)) (through.faults (opened all).0 off now);
+        faults = λ now all. rw (passed (through.honest now)) at (through.faults (opened all).0 off now);
         became = λ now v all.
             (let found = opened (all_in v (g.disk device) all) in
-            let one = one_in v (g.disk device) all (true, desk_of x) (found.1 (through.honest now)) in (
-              version_2,
-              λ c stopped.
-                  (let there = through.lived found.0 off now c stopped in (
-                    desk_of x,
-                    one.1,
-                    (
-                      there.0,
-                      (may_be_new v one.0, refl, subst (λ (t : ℕ). life t (disk_of y).faults (desk_of x) there.0) (passed (through.honest now)) there.1),
-                      subst (λ (n : ℕ). OpensDesk n there.0 c) long there.2,
-                    ),
-                  )),
-            ));
+            let one = one_in v (g.disk device) all (true, desk_of x) (found.1 (through.honest now)) in
+            let lived = rw (passed (through.honest now), long) at (through.lived found.0 off now) in
+            (version_2, λ c stopped. (let there = lived c stopped in (desk_of x, one.1, (there.0, (may_be_new v one.0, refl, there.1), there.2)))));
       }
 
   pub asked_lives : (device : D) (x y : Clerk D g) (asked : Asked) (told : Vec Answer Global) → sectors_of x ≡ (g.disk device).sectors → is_halted x ≡ false
@@ -151,9 +133,8 @@ module _ {D : Type 0} (g : Ghosts D) where
   barred device left v store.NotAStore now all calm refused = refused now (all_in v (g.disk device) all)
   barred device left v store.DeviceFault now all calm refused = refused now
   barred device left v store.Memory now all calm refused = calm (λ is. cc)
-  barred device left version_1 store.OldVersion now all calm refused = (tt, calm (λ is. cc))
   barred device left version_2 store.OldVersion now all calm refused = absurd ((refused now).1 all)
-  barred device left either store.OldVersion now all calm refused = (tt, calm (λ is. cc))
+  barred device left _ store.OldVersion now all calm refused = (tt, calm (λ is. cc))
   barred device left v _ now all calm refused = absurd refused
 
   pub refused_lives : (device left : D) (why : StoreError) → (g.disk left).sectors ≡ (g.disk device).sectors → ((g.disk left).is_honest → (g.disk device).is_honest)
@@ -164,12 +145,8 @@ module _ {D : Type 0} (g : Ghosts D) where
     sectors = same;
     honest = honest;
     faults = λ now all. more now;
-    became = λ now v all. (
-      v,
-      λ c stopped.
-          (let is = left_in v (g.disk device) (g.disk left) now all moments c stopped in
-          (is.0, is.1, (is.0, (barred device left v why now all (calm now) refused, refl), is.2))),
-    );
+    became = λ now v all. stays_in (λ t u s e. MayBar t u s.0 why × (e ≡ s)) v (g.disk device) (g.disk left) now all moments
+        (λ d. (barred device left v why now all (calm now) refused, refl));
   }
 
   -- ---- it is led on
@@ -178,14 +155,10 @@ module _ {D : Type 0} (g : Ghosts D) where
       → ((g.disk left).is_honest → why ≡ store.AlreadyNew → LeavesNew (g.disk device) (g.disk left)) → (g.disk left).is_honest → (v : Version) → AllIn v (g.disk device)
       → Becomes (IsLed (led.Unopened why)) v (g.disk device) (g.disk left)
   bars device left store.NotAStore moments calm refused already now v all = absurd (refused now (all_in v (g.disk device) all))
-  bars device left store.DeviceFault moments calm refused already now v all = (
-    v,
-    λ c stopped. (let is = left_in v (g.disk device) (g.disk left) now all moments c stopped in (is.0, is.1, (is.0, ((refl, refused now), refl), is.2))),
-  )
-  bars device left store.Memory moments calm refused already now v all = (
-    v,
-    λ c stopped. (let is = left_in v (g.disk device) (g.disk left) now all moments c stopped in (is.0, is.1, (is.0, ((refl, calm now (λ same. cc)), refl), is.2))),
-  )
+  bars device left store.DeviceFault moments calm refused already now v all =
+      stays_in (IsLed (led.Unopened store.DeviceFault)) v (g.disk device) (g.disk left) now all moments (λ d. ((refl, refused now), refl))
+  bars device left store.Memory moments calm refused already now v all =
+      stays_in (IsLed (led.Unopened store.Memory)) v (g.disk device) (g.disk left) now all moments (λ d. ((refl, calm now (λ same. cc)), refl))
   bars device left store.AlreadyNew moments calm refused already now v all = (
     version_2,
     λ c stopped.
@@ -219,23 +192,19 @@ module _ {D : Type 0} (g : Ghosts D) where
       record {
         sectors = sym whole ∙ leads.sectors ∙ long;
         honest = λ now. honest (leads.honest now);
-        faults = λ now all. subst (λ (t : ℕ). t ≤ (migrated_disk y).faults) (passed (leads.honest now)) (leads.faults now);
+        faults = λ now all. rw (passed (leads.honest now)) at (leads.faults now);
         became = λ now v all.
             (let was = leads.honest now in
             let kept = opened (all_in v (g.disk device) all) was in
-            let d = kept.0 in
-            let one = one_in v (g.disk device) all (false, d) kept.1.1 in
-            let left : LedTo (g.disk device).faults (migrated_disk y).faults (migrated_sectors x) d far (migrated_disk y)
-            = subst (λ (t : ℕ). LedTo t (migrated_disk y).faults (migrated_sectors x) d far (migrated_disk y)) (passed was) (leads.left d kept.1.0 now) in
-            let is = led_to (g.disk device).faults (migrated_disk y).faults (migrated_sectors x) d v far (migrated_disk y) (may_be_old v one.0) left in (
-              is.0,
-              λ c stopped. (d, one.1, (d, (is.1, refl), subst (λ (n : ℕ). OpensIn is.0 n d c) long (is.2 c stopped))),
-            ));
+            let one = one_in v (g.disk device) all (false, kept.0) kept.1.1 in
+            let left = rw (passed was, long) at (leads.left kept.0 kept.1.0 now) in
+            let is = led_to (g.disk device).faults (migrated_disk y).faults (g.disk device).sectors kept.0 v far (migrated_disk y) (may_be_old v one.0) left in
+            (is.0, λ c stopped. (kept.0, one.1, (kept.0, (is.1, refl), is.2 c stopped))));
       }
 
 -- ---- lives, one after the other
 -- of a desk to which one of the images opens what is known of those that are there is known
-known : ImagesAreOne → (disk : Disk) (P : Store → Type 0) (v : Version) (e : Desk) → ((c : Image) → disk.leaves c → (d : Desk) × P (v, d) × OpensIn v disk.sectors d c) → IsOneIn v disk e → P (v, e)
+pub known : ImagesAreOne → (disk : Disk) (P : Store → Type 0) (v : Version) (e : Desk) → ((c : Image) → disk.leaves c → (d : Desk) × P (v, d) × OpensIn v disk.sectors d c) → IsOneIn v disk e → P (v, e)
 known one disk P v e holds is =
     let there = holds is.was is.left in
     let first = opens_as v disk.sectors there.0 is.was there.2 in
@@ -253,11 +222,9 @@ module _ {X Y : Type 0} (life : (t u : ℕ) → Store → X → Y → Store → 
         became.0,
         λ c stopped.
             (let there = became.1 c stopped in
-            let going = known one old (GoingOn life t s all (asked ∷ rest) so_far old.faults) v there.0 holds.1 there.1 in (
-              there.2.0,
-              (λ u answers e lives. further life t u s all so_far told answers e (going u (told ∷ answers) e (new.faults, more, (became.0, there.2.0), there.2.1, lives))),
-              subst (λ (n : ℕ). OpensIn became.0 n there.2.0 c) (sym once.sectors) there.2.2,
-            )),
+            let going = known one old (GoingOn life t s all (asked ∷ rest) so_far old.faults) v there.0 holds.1 there.1 in
+            let next : Store = (became.0, there.2.0) in
+            (there.2.0, one_more life t s all asked rest so_far told old.faults new.faults (v, there.0) next more there.2.1 going, rw once.sectors there.2.2)),
       )
 
   pub begun : (v : Version) (d : Desk) (all : List X) (disk : Disk) → HoldsIn v disk d → Knows (GoingOn life disk.faults (v, d) all all [] disk.faults) disk
@@ -266,9 +233,28 @@ module _ {X Y : Type 0} (life : (t u : ℕ) → Store → X → Y → Store → 
   pub all_lived : (t : ℕ) (s : Store) (all : List X) (answers : List Y) (disk : Disk) → Knows (GoingOn life t s all [] answers disk.faults) disk → (e : Store) × LifeAfterLife life t disk.faults s all answers e
   all_lived t s all answers disk holds =
       let is = holds.1 disk.reads disk.as_read in
-      let e : Store = (holds.0, is.0) in
-      let same : disk.faults ≤ disk.faults = omega arith in
-      (e, subst (λ (l : List Y). LifeAfterLife life t disk.faults s all l e) (append-nil answers) (is.1 disk.faults [] e (same, refl)))
+      ((holds.0, is.0), none_left life t s all answers disk.faults (holds.0, is.0) is.1)
+
+-- a store of the new version, whose lives are told by its desks
+pub passing_of : (t u : ℕ) (why : StoreError) → MayBar t u version_2 why → IsPassing t u why
+passing_of t u store.OldVersion bars = absurd bars.0
+passing_of t u _ bars = bars
+
+life_of : (asked : Asked) (told : Told) (t u : ℕ) (d : Desk) (s : Store) → IsAsked asked told t u (version_2, d) s → (s.0 ≡ version_2) × IsLife asked told t u d s.1
+life_of asked (Ok answers) t u d s is = (is.1, is.2)
+life_of asked (Err why) t u d s is = (ap (λ (x : Store). x.0) is.1, (passing_of t u why is.0, ap (λ (x : Store). x.1) is.1))
+
+pub once_of : (asked : Asked) (told : Told) (old new : Disk) → LivesIn (IsAsked asked told) old new → LivesOnce (IsLife asked told) old new
+once_of asked told old new lives = record {
+  sectors = lives.sectors;
+  honest = lives.honest;
+  faults = λ now all. lives.faults now (all_in version_2 old all);
+  became = λ now all c stopped.
+      (let became = lives.became now version_2 all in
+      let is = became.1 c stopped in
+      let life = life_of asked told old.faults new.faults is.0 (became.0, is.2.0) is.2.1 in
+      (is.0, record { was = is.1.was; left = is.1.left; opens = is.1.opens }, (is.2.0, life.1, subst (λ (w : Version). OpensIn w old.sectors is.2.0 c) life.0 is.2.2)));
+}
 
 -- a synced device leaves what it reads
 pub holds_read : (v : Version) (disk new : Disk) (d : Desk) → IsSynced disk → OpensIn v disk.sectors d disk.reads → new.sectors ≡ disk.sectors → ((c : Image) → new.leaves c → disk.leaves c) → HoldsIn v new d

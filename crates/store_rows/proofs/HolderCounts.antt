@@ -1,6 +1,6 @@
 -- The counts of the plans that hold a chunk go up and down.
 use Rattle.std.{specs.{FinMap.{get, empty, insert, remove, get-empty}, Int.from_be_bytes}, proofs.lemmas.{Bool.cases_eq, Nat.from_be_bytes-to_be_bytes_8}}
-use Rattle.{std.proofs.Common.{◌≡◌, ◌<◌, ◌≤◌, ◌+◌, ◌^◌, ℕ, zero, suc, List, [], ◌++◌, Some, sym, ap, subst, ◌∙◌, inl, inr, w64, arith}, store_rows.specs.Rows.SameTag}
+use Rattle.{std.proofs.Common.{◌≡◌, ◌<◌, ◌≤◌, ◌+◌, ◌-◌, ◌^◌, ℕ, zero, suc, List, [], ◌++◌, Some, sym, ap, subst, ◌∙◌, inl, inr, w64, arith}, store_rows.specs.Rows.SameTag}
 use Rattle.store_rows.specs.{HolderLaws.{JoinsHolders, IsHeldByAnother}, Holders.{AreHoldersBelow, with_holder_count, released}, claim.{Order.key_cmp, Puts.put_rows}}
 use Rattle.store_rows.specs.claim.{Holders.{IsHeld, AreHolders, IsTallied, AreTallied, holder_count_row, holding_rows}, Keys.{key_of, holding, holder_count, in_eight}}
 use Rattle.store_rows.{specs.claim.Rows.{KeyMap, row_in, Has, Lacks}, proofs.Counting.{OthersHold, few_holders, holders_moved, no_holders, holders_joined, holders_left}}
@@ -40,12 +40,12 @@ held_so_many m number count is fits row = subst (λ (k : ℕ). AreHolders m numb
 pub none_holds : (m : KeyMap) (plan number : ℕ) → AreTallied m → plan < 2 ^ 64 → number < 2 ^ 64 → Lacks m (holder_count number) → IsHeld m plan number → ⊥
 none_holds m plan number all plan_fits fits lacks held = (let is = all number fits in (search (arith, is.holders.all, no_value)))
 
-counted_by_holders_then : (m : KeyMap) (plan number count : ℕ) → count < 2 ^ 64 → AreHolders m number count → row_in m (holder_count number) ≡ holder_count_row count → plan < 2 ^ 64 → IsHeld m plan number → (more : ℕ) × (more + 1 < 2 ^ 64) × Has m (holder_count number) (in_eight (more + 1))
-counted_by_holders_then m plan number zero fits h row plan_fits held = (let (place, less, is) = h.all plan plan_fits held in absurd (omega arith))
-counted_by_holders_then m plan number (suc more) fits h row plan_fits held = (more, omega arith, row)
-
 pub held_counted_by_holders : (m : KeyMap) (plan number : ℕ) → AreTallied m → plan < 2 ^ 64 → number < 2 ^ 64 → IsHeld m plan number → (count : ℕ) × (count + 1 < 2 ^ 64) × Has m (holder_count number) (in_eight (count + 1))
-held_counted_by_holders m plan number all plan_fits fits held = (let is = all number fits in counted_by_holders_then m plan number is.count is.fits is.holders is.row plan_fits held)
+held_counted_by_holders m plan number all plan_fits fits held =
+    let is = all number fits in
+    let (place, less, there) = is.holders.all plan plan_fits held in
+    let some : is.count ≡ suc (is.count - 1) = omega arith in
+    (is.count - 1, omega arith, is.row ∙ ap holder_count_row some)
 
 some_then : (m : KeyMap) (number count : ℕ) (value : List ℕ) → AreHolders m number count → row_in m (holder_count number) ≡ holder_count_row count → Has m (holder_count number) value → (plan : ℕ) × (plan < 2 ^ 64) × IsHeld m plan number
 some_then m number zero value h row has = absurd (no_value value (sym has ∙ row))

@@ -1,5 +1,5 @@
 -- Lists of numbers as bytes: how long they are, and one number more.
-use Rattle.std.{specs.List.{slice_range, flat_map}, proofs.{Math.Seq.take-add, lemmas.{Grind.flat_map-append, List.{append-nil, take_more_set, Elements.All-push}}}}
+use Rattle.std.{specs.List.{slice_range, flat_map}, proofs.{Math.Seq.take-add, lemmas.{Grind.flat_map-append, List.{append-nil, length-set, take_more_set, Elements.All-push}}}}
 use Rattle.std.proofs.Common.{rules, ◌≡◌, ◌<◌, ◌≤◌, ◌+◌, ◌-◌, ◌*◌, ℕ, List, [], ◌∷◌, ◌++◌, All, Result, IsOk, OnOk, length, take, set, refl, sym, ap, subst, ◌∙◌, arith, length-append}
 use Rattle.store_rows.specs.claim.{Keys.{in_two, in_eight}, Lists.{chunks_bytes, districts_bytes}}
 
@@ -12,16 +12,20 @@ length-districts [] = refl
 length-districts (x ∷ districts) = let more = length-districts districts in omega (arith, more, length-append (in_two x) (districts_bytes districts))
 
 -- the bytes of the first k of them, and then of the next
-pub grown : (f : ℕ → List ℕ) (size : ℕ) (xs : List ℕ) (x k : ℕ) (bytes : List ℕ) → flat_map f xs ≡ take (size * k) bytes → f x ≡ slice_range bytes (size * k) (size * k + size) → flat_map f (xs ++ x ∷ []) ≡ take (size * k + size) bytes
+grown : (f : ℕ → List ℕ) (size : ℕ) (xs : List ℕ) (x k : ℕ) (bytes : List ℕ) → flat_map f xs ≡ take (size * k) bytes → f x ≡ slice_range bytes (size * k) (size * k + size) → flat_map f (xs ++ x ∷ []) ≡ take (size * k + size) bytes
 grown f size xs x k bytes before next = search (rules, flat_map-append, append-nil, take-add)
 
 -- ---- numbers that are put into an array by their places, and taken from it
 -- one number more
-pub filled_more : (f : ℕ → List ℕ) (P : ℕ → Type 0) (each : List ℕ) (x k : ℕ) (bytes : List ℕ) → k < length each → flat_map f (take k each ++ x ∷ []) ≡ bytes → All P (take k each) → P x
-    → (flat_map f (take (k + 1) (set each k x)) ≡ bytes) × All P (take (k + 1) (set each k x))
-filled_more f P each x k bytes less are before fits =
-    let more = take_more_set each k x less in
-    (ap (flat_map f) more ∙ are, subst (λ (l : List ℕ). All P l) (sym more) (All-push P (take k each) x before fits))
+pub filled_more : (f : ℕ → List ℕ) (size room : ℕ) (P : ℕ → Type 0) (each : List ℕ) (x k next : ℕ) (bytes : List ℕ) → k < length each → next ≡ size * k + size
+    → (flat_map f (take k each) ≡ take (size * k) bytes) × (length each ≡ room) × All P (take k each) → f x ≡ slice_range bytes (size * k) (size * k + size) → P x
+    → (flat_map f (take (k + 1) (set each k x)) ≡ take next bytes) × (length (set each k x) ≡ room) × All P (take (k + 1) (set each k x))
+filled_more f size room P each x k next bytes less is before here fits =
+    let more = take_more_set each k x less in (
+      ap (flat_map f) more ∙ grown f size (take k each) x k bytes before.0 here ∙ ap (λ (n : ℕ). take n bytes) (sym is),
+      length-set each k x ∙ before.1,
+      subst (λ (l : List ℕ). All P l) (sym more) (All-push P (take k each) x before.2 fits),
+    )
 
 on_ok : {T E : Type 0} (r : Result T E) (P : Type 0) → IsOk r → OnOk r P → P
 on_ok r P is then = search (arith)

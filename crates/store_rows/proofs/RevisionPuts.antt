@@ -87,14 +87,8 @@ module _ (m : KeyMap) (tidy : Tidy m) (name : List ℕ) (p : PlanRow) (lists : L
   all_are = search (All-append, IsRowOf, new_are, holdings_are, counts_are, names_are Q p.number (p.revisions + 1) numbers number_fits few_revisions few (λ k. (refl, refl)), ends_are)
 
   -- keys of other tags, and of other plans, are none of them
-  other_tags : (tag : ℕ) (rest : List ℕ) → (tag ≡ 65 → ⊥) → (tag ≡ 80 → ⊥) → (tag ≡ 82 → ⊥) → (tag ≡ 107 → ⊥) → (tag ≡ 72 → ⊥) → (tag ≡ 75 → ⊥) → (k : RowKey) → Fits k → Q k → tag ∷ rest ≡ key_of k → ⊥
-  other_tags tag rest a b c d e f k fits holds same = search (arith, other_tag)
-
-  other_names : (other : List ℕ) → (other ≡ name → ⊥) → (k : RowKey) → Fits k → Q k → key_of (named other) ≡ key_of k → ⊥
-  other_names other apart k fits holds same = search (arith, apart, other_tag)
-
   tag_stays : (tag : ℕ) → (tag ≡ 65 → ⊥) → (tag ≡ 80 → ⊥) → (tag ≡ 82 → ⊥) → (tag ≡ 107 → ⊥) → (tag ≡ 72 → ⊥) → (tag ≡ 75 → ⊥) → SameTag tag m after
-  tag_stays tag a b c d e f rest = keeps_key Q m (rows_of_revision tidy.new tidy.next name p lists numbers) (tag ∷ rest) all_are (other_tags tag rest a b c d e f)
+  tag_stays tag a b c d e f rest = keeps_key Q m (rows_of_revision tidy.new tidy.next name p lists numbers) (tag ∷ rest) all_are (λ k fits holds same. search (arith, other_tag))
 
   -- the parts are those of the list of numbers
   in_parts : (index : ℕ) → row_in after (part p.number (p.revisions + 1) index) ≡ row_in with_parts (part p.number (p.revisions + 1) index)
@@ -151,7 +145,7 @@ module _ (m : KeyMap) (tidy : Tidy m) (name : List ℕ) (p : PlanRow) (lists : L
     rows = keeps_rows Q m (rows_of_revision tidy.new tidy.next name p lists numbers) all_are tidy.rows;
     moved = ap (λ n. row_in n counters) in_steps ∙ put_is_there (insert with_parts plan_row.0 plan_row.1) counters_row.0 counters_row.1;
     row = search (arith, in_steps, put_keeps, other_tag, put_is_there);
-    others = λ other apart. keeps_key Q m (rows_of_revision tidy.new tidy.next name p lists numbers) (key_of (named other)) all_are (other_names other apart);
+    others = λ other apart. keeps_key Q m _ (key_of (named other)) all_are (λ k fits holds same. search (arith, apart, other_tag));
     marks = tag_stays 68 (λ e. absurd (omega arith)) (λ e. absurd (omega arith)) (λ e. absurd (omega arith)) (λ e. absurd (omega arith)) (λ e. absurd (omega arith)) (λ e. absurd (omega arith));
     starts = tag_stays 76 (λ e. absurd (omega arith)) (λ e. absurd (omega arith)) (λ e. absurd (omega arith)) (λ e. absurd (omega arith)) (λ e. absurd (omega arith)) (λ e. absurd (omega arith));
     seals = tag_stays 83 (λ e. absurd (omega arith)) (λ e. absurd (omega arith)) (λ e. absurd (omega arith)) (λ e. absurd (omega arith)) (λ e. absurd (omega arith)) (λ e. absurd (omega arith));

@@ -1,7 +1,7 @@
 -- Lemmas on the definitions of Staging.
 use Rattle.std.{specs.{FinMap.{FinMap, insert}, List.slice_get, Prelude.option_map}, proofs.lemmas.{Bool.{cases_eq, cases_lt}, List.{take_all, take_more, Elements.All-push}}}
-use Rattle.std.proofs.Common.{rules, ◌≡◌, ◌<◌, ◌≤◌, ◌+◌, ◌-◌, ◌^◌, ℕ, zero, suc, List, [], ◌∷◌, ◌++◌, length, take, All, Option, Some, None, refl, sym, ap, subst, ◌∙◌, inl, inr, arith}
-use Rattle.{std.proofs.lemmas.Option.{get_or_from_slice_get, slice_get_within}, desk_model.specs.claim.{Desk.{Plan, name_cmp}, Geography.GeographyModel}}
+use Rattle.std.proofs.Common.{rules, ◌≡◌, ◌<◌, ◌≤◌, ◌+◌, ◌-◌, ◌^◌, ℕ, zero, suc, List, [], ◌∷◌, ◌++◌, length, length-take, take, All, Option, Some, None, refl, sym, ap, subst, ◌∙◌, inl, inr, arith}
+use Rattle.{std.proofs.lemmas.Option.{get_or_from_slice_get, slice_get_past, slice_get_within}, desk_model.specs.claim.{Desk.{Plan, name_cmp}, Geography.GeographyModel}}
 use Rattle.{desk_model.specs.{claim.GeographyModels.IsGeographyModel, declared.{block.BlockRow.BlockRow, geography.Pair.Pair}}, store_rows.specs.Changes.desk_with}
 use Rattle.store_rows.specs.{Staging.desk_without, claim.{DeskRows.{IsPlanAt, IsDesk}, GeographyRows.{IsBlockRow, IsStaged, geography_rows, neighbours_bytes}}}
 use Rattle.store_rows.specs.claim.{Keys.{key_of, block, pair, seal, named}, Rows.{KeyMap, row_in, element_row}, Values.{block_bytes, seal_bytes}}
@@ -14,10 +14,7 @@ taken (x ∷ xs) (suc n) (suc k) less = taken xs n k (omega arith)
 taken _ (suc n) _ less = refl
 
 not_taken : {X : Type 0} (xs : List X) (n k : ℕ) → n ≤ k → slice_get (take n xs) k ≡ None
-not_taken xs zero k more = refl
-not_taken [] (suc n) k more = refl
-not_taken (x ∷ xs) (suc n) zero more = absurd (omega arith)
-not_taken (x ∷ xs) (suc n) (suc k) more = not_taken xs n k (omega arith)
+not_taken xs n k more = slice_get_past (take n xs) k (omega (arith, length-take n xs))
 
 row_there : {X : Type 0} (bytes : X → List ℕ) (xs : List X) (n : ℕ) (x : X) → slice_get xs n ≡ Some x → element_row bytes (take (n + 1) xs) n ≡ Some (bytes x)
 row_there bytes xs n x is = ap (option_map bytes) (taken xs (n + 1) n (omega arith) ∙ is)

@@ -20,8 +20,7 @@ pub apart_from_gone : (m : KeyMap) (tidy : Tidy m) (name : List ℕ) (number pla
 apart_from_gone m tidy name number plan is mark same = no_value [] (sym mark ∙ ap (λ k. row_in m (retired k)) (sym same) ∙ tidy.owned.gone name number is)
 
 plans_move : (m n : KeyMap) (geography : Option GeographyModel) (name : List ℕ) (p : Option Plan) → row_in n (named name) ≡ row_in m (named name) → ((number last : ℕ) → IsNumbered m name number → last < 2 ^ 32 → RevisionsStay m n number last) → IsPlanAt m geography name p → IsPlanAt n geography name p
-plans_move m n None name None same stay is = same ∙ is
-plans_move m n None name (Some p) same stay is = is
+plans_move m n None name p same stay is = search arith
 plans_move m n (Some g) name p same stay is = plan_at_moves m n g name p same (λ number q found has. let few = has.few in stay number (length q.revisions) (living m g name number q has) (omega arith)) is
 
 -- where the rows of plans and of the geography are the same, and each revision of a plan that is there stays, so does the desk
@@ -34,32 +33,29 @@ other_piece number other i j apart same = apart (cc)
 
 -- ---- the mark where no part is left
 module _ (m : KeyMap) (tidy : Tidy m) (d : Desk) (is : IsDesk m d) (plan : ℕ) (mark : Has m (retired plan) []) (plan_fits : plan < 2 ^ 64) (none : (revision index : ℕ) → Fits (part plan revision index) → Lacks m (part plan revision index)) where
-  abbrev unmarked : KeyMap
-  unmarked = remove m (key_of (retired plan))
+  abbrev less : KeyMap
+  less = remove m (key_of (retired plan))
 
-  unmarked_same : (tag : ℕ) → (tag ≡ 68 → ⊥) → SameTag tag m unmarked
+  unmarked_same : (tag : ℕ) → (tag ≡ 68 → ⊥) → SameTag tag m less
   unmarked_same tag apart = remove_keeps_tag m tag 68 (in_eight plan) apart
 
-  known_still : (owner : ℕ) → owner < 2 ^ 64 → (owner ≡ plan → ⊥) → IsKnown m owner → IsKnown unmarked owner
+  known_still : (owner : ℕ) → owner < 2 ^ 64 → (owner ≡ plan → ⊥) → IsKnown m owner → IsKnown less owner
   known_still owner few apart given = search (arith, numbered_moves, unmarked_same, remove_keeps_row, apart)
 
-  mark_known : (owner k i : ℕ) (value : List ℕ) → Fits (part owner k i) → Has unmarked (part owner k i) value → IsKnown m owner → IsKnown unmarked owner
+  mark_known : (owner k i : ℕ) (value : List ℕ) → Fits (part owner k i) → Has less (part owner k i) value → IsKnown m owner → IsKnown less owner
   mark_known owner k i value few there = known_still owner few.0 (λ same. no_value value (sym (removed_fewer 82 m (key_of (retired plan)) _ value there) ∙ ap (λ o. row_in m (part o k i)) same ∙ none k i (plan_fits, few.1, few.2)))
 
-  pub mark_swept : IsSwept d tidy.next tidy.new unmarked
+  pub mark_swept : IsSwept d tidy.next tidy.new less
   mark_swept =
       let next = tidy.next in
       let kept = kept_of m tidy in
       let was = λ (tag : ℕ). removed_fewer tag m (key_of (retired plan)) in
+      let rows = rows_removed m (key_of (retired plan)) kept.rows in
+      let plans = plans_fewer m less next.plan next.plan (omega arith) (was 80) (was 68) (was 82) mark_known kept.plans in
       record {
-        desk = desk_stays m unmarked d (unmarked_same 80 (λ e. absurd (omega arith))) (unmarked_same 82 (λ e. absurd (omega arith))) (unmarked_same 83 (λ e. absurd (omega arith))) (unmarked_same 103 (λ e. absurd (omega arith))) (unmarked_same 107 (λ e. absurd (omega arith))) is;
-        tidy = stays_tidy m unmarked tidy (unmarked_same 65 (λ e. absurd (omega arith)) []) (record {
-          rows = rows_removed m (key_of (retired plan)) kept.rows;
-          plans = plans_fewer m unmarked next.plan next.plan (omega arith) (was 80) (was 68) (was 82) mark_known kept.plans;
-          chunks = chunks_stay m unmarked next.chunk next.chunk (omega arith) (unmarked_same 82 (λ e. absurd (omega arith))) (unmarked_same 107 (λ e. absurd (omega arith))) kept.chunks;
-          holders = holders_stay m unmarked tidy.new (unmarked_same 80 (λ e. absurd (omega arith))) (unmarked_same 72 (λ e. absurd (omega arith))) (unmarked_same 75 (λ e. absurd (omega arith))) (unmarked_same 82 (λ e. absurd (omega arith))) (unmarked_same 86 (λ e. absurd (omega arith))) kept.holders;
-          loads = loads_stay m unmarked next.load next.load (omega arith) (unmarked_same 76 (λ e. absurd (omega arith))) (unmarked_same 83 (λ e. absurd (omega arith))) (unmarked_same 103 (λ e. absurd (omega arith))) kept.loads;
-        });
+        desk = desk_stays m less d (unmarked_same 80 (λ e. absurd (omega arith))) (unmarked_same 82 (λ e. absurd (omega arith))) (unmarked_same 83 (λ e. absurd (omega arith))) (unmarked_same 103 (λ e. absurd (omega arith))) (unmarked_same 107 (λ e. absurd (omega arith))) is;
+        tidy = stays_tidy m less tidy (unmarked_same 65 (λ e. absurd (omega arith)) [])
+            (search (arith, rows, plans, chunks_stay m less next.chunk next.chunk, holders_stay m less tidy.new, loads_stay m less next.load next.load, unmarked_same, kept));
       }
 
 -- ---- Rows of loads that were begun and never sealed can go.
@@ -173,19 +169,19 @@ module _ (m : KeyMap) (tidy : Tidy m) (is_new : tidy.new ≡ true) (d : Desk) (i
 -- ---- In the new version rows of plans that were taken away can go.
 module _ (m : KeyMap) (tidy : Tidy m) (is_new : tidy.new ≡ true) (d : Desk) (is : IsDesk m d) (plan : ℕ) (mark : Has m (retired plan) []) where
   module _ (number piece : ℕ) (fits : Fits (chunk number piece)) (naming : IsNamedBy m plan number) (uncounted_by_holders : Lacks m (holder_count number)) where
-    abbrev pieceless : KeyMap
-    pieceless = remove m (key_of (chunk number piece))
+    abbrev without : KeyMap
+    without = remove m (key_of (chunk number piece))
 
-    piece_same : (tag : ℕ) → (tag ≡ 107 → ⊥) → SameTag tag m pieceless
+    piece_same : (tag : ℕ) → (tag ≡ 107 → ⊥) → SameTag tag m without
     piece_same tag apart = remove_keeps_tag m tag 107 (in_eight number ++ in_two piece) apart
 
-    other_chunk : (other : ℕ) (districts : List ℕ) → (other ≡ number → ⊥) → HasChunk m other districts → HasChunk pieceless other districts
+    other_chunk : (other : ℕ) (districts : List ℕ) → (other ≡ number → ⊥) → HasChunk m other districts → HasChunk without other districts
     other_chunk other districts apart has = search (has.number_fits, has.some, has.few, has.each, remove_keeps_row, m, other_piece, has.pieces)
 
-    revisions_here : (name : List ℕ) (owner last : ℕ) → IsNumbered m name owner → last < 2 ^ 32 → RevisionsStay m pieceless owner last
+    revisions_here : (name : List ℕ) (owner last : ℕ) → IsNumbered m name owner → last < 2 ^ 32 → RevisionsStay m without owner last
     revisions_here name owner last there few revision counties some within has = record {
       numbers = has.numbers;
-      names = names_stay m pieceless owner revision has.numbers (piece_same 82 (λ e. absurd (omega arith))) has.names;
+      names = names_stay m without owner revision has.numbers (piece_same 82 (λ e. absurd (omega arith))) has.names;
       count = has.count;
       chunks = λ county inside.
           let among_all : county < length has.numbers = (let count = has.count in omega arith) in
@@ -197,20 +193,18 @@ module _ (m : KeyMap) (tidy : Tidy m) (is_new : tidy.new ≡ true) (d : Desk) (i
           (subst (λ (k : ℕ). IsHeld m owner k) same (tidy.holdings.hold is_new name owner other there named_by))) (has.chunks county inside);
     }
 
-    pub piece_swept : IsSwept d tidy.next tidy.new pieceless
+    pub piece_swept : IsSwept d tidy.next tidy.new without
     piece_swept =
         let next = tidy.next in
         let kept = kept_of m tidy in
+        let rows = rows_removed m (key_of (chunk number piece)) kept.rows in
+        let parts : SameTag 82 m without = piece_same 82 (λ e. absurd (omega arith)) in
+        let chunks = chunks_fewer m without next.chunk next.chunk (omega arith) (same_fewer 82 m without parts) (removed_fewer 107 m (key_of (chunk number piece)))
+        (λ other index value few there owner named_by. (owner, naming_moves m without owner other parts named_by)) kept.chunks in
         record {
-          desk = desk_moves m pieceless d (piece_same 80 (λ e. absurd (omega arith))) (piece_same 83 (λ e. absurd (omega arith))) (piece_same 103 (λ e. absurd (omega arith))) revisions_here is;
-          tidy = stays_tidy m pieceless tidy (piece_same 65 (λ e. absurd (omega arith)) []) (record {
-            rows = rows_removed m (key_of (chunk number piece)) kept.rows;
-            plans = plans_stay m pieceless next.plan next.plan (omega arith) (piece_same 80 (λ e. absurd (omega arith))) (piece_same 68 (λ e. absurd (omega arith))) (piece_same 82 (λ e. absurd (omega arith))) kept.plans;
-            chunks = chunks_fewer m pieceless next.chunk next.chunk (omega arith) (same_fewer 82 m pieceless (piece_same 82 (λ e. absurd (omega arith)))) (removed_fewer 107 m (key_of (chunk number piece)))
-                (λ other index value few there owner named_by. (owner, naming_moves m pieceless owner other (piece_same 82 (λ e. absurd (omega arith))) named_by)) kept.chunks;
-            holders = holders_stay m pieceless tidy.new (piece_same 80 (λ e. absurd (omega arith))) (piece_same 72 (λ e. absurd (omega arith))) (piece_same 75 (λ e. absurd (omega arith))) (piece_same 82 (λ e. absurd (omega arith))) (piece_same 86 (λ e. absurd (omega arith))) kept.holders;
-            loads = loads_stay m pieceless next.load next.load (omega arith) (piece_same 76 (λ e. absurd (omega arith))) (piece_same 83 (λ e. absurd (omega arith))) (piece_same 103 (λ e. absurd (omega arith))) kept.loads;
-          });
+          desk = desk_moves m without d (piece_same 80 (λ e. absurd (omega arith))) (piece_same 83 (λ e. absurd (omega arith))) (piece_same 103 (λ e. absurd (omega arith))) revisions_here is;
+          tidy = stays_tidy m without tidy (piece_same 65 (λ e. absurd (omega arith)) [])
+              (search (arith, rows, plans_stay m without next.plan next.plan, chunks, holders_stay m without tidy.new, loads_stay m without next.load next.load, piece_same, kept));
         }
 
   -- ---- a part whose chunks the plan has let go, and that have no piece left or are another's too

@@ -135,28 +135,14 @@ loads_stay m n limit more few marks seals rows kept = search (loads_fewer m n li
 pub loads_kept : (m n : KeyMap) (tidy : Tidy m) (next : Counters) → tidy.next.plan ≤ next.plan → tidy.next.chunk ≤ next.chunk → ((tag : ℕ) → (tag ≡ 76 → ⊥) → (tag ≡ 83 → ⊥) → (tag ≡ 103 → ⊥) → SameTag tag m n) → AreRows n → LoadsKept n next.load → AllKept n next tidy.new
 loads_kept m n tidy next plans chunks other rows loads =
     let kept = kept_of m tidy in
-    let same = λ (tag : ℕ) (not_load : (tag ≡ 76 → ⊥) × (tag ≡ 83 → ⊥) × (tag ≡ 103 → ⊥)). other tag not_load.0 not_load.1 not_load.2 in
-    record {
-      rows = rows;
-      plans = plans_stay m n tidy.next.plan next.plan plans (same 80 (omega arith)) (same 68 (omega arith)) (same 82 (omega arith)) kept.plans;
-      chunks = chunks_stay m n tidy.next.chunk next.chunk chunks (same 82 (omega arith)) (same 107 (omega arith)) kept.chunks;
-      loads = loads;
-      holders = holders_stay m n tidy.new (same 80 (omega arith)) (same 72 (omega arith)) (same 75 (omega arith)) (same 82 (omega arith)) (same 86 (omega arith)) kept.holders;
-    }
+    search (arith, rows, plans_stay m n tidy.next.plan next.plan plans, chunks_stay m n tidy.next.chunk next.chunk chunks, loads, holders_stay m n tidy.new, other, kept)
 
 -- and where only rows of holdings change, their counts and the version
 pub holders_kept : (m n : KeyMap) (tidy : Tidy m) (new : Bool) → ((tag : ℕ) → (tag ≡ 72 → ⊥) → (tag ≡ 75 → ⊥) → (tag ≡ 86 → ⊥) → SameTag tag m n) → AreRows n → AreHoldings n new → AllKept n tidy.next new
 holders_kept m n tidy new other rows holders =
     let next = tidy.next in
     let kept = kept_of m tidy in
-    let same = λ (tag : ℕ) (apart : (tag ≡ 72 → ⊥) × (tag ≡ 75 → ⊥) × (tag ≡ 86 → ⊥)). other tag apart.0 apart.1 apart.2 in
-    record {
-      rows = rows;
-      plans = plans_stay m n next.plan next.plan (omega arith) (same 80 (omega arith)) (same 68 (omega arith)) (same 82 (omega arith)) kept.plans;
-      chunks = chunks_stay m n next.chunk next.chunk (omega arith) (same 82 (omega arith)) (same 107 (omega arith)) kept.chunks;
-      loads = loads_stay m n next.load next.load (omega arith) (same 76 (omega arith)) (same 83 (omega arith)) (same 103 (omega arith)) kept.loads;
-      holders = holders;
-    }
+    search (arith, rows, plans_stay m n next.plan next.plan, chunks_stay m n next.chunk next.chunk, loads_stay m n next.load next.load, holders, other, kept)
 
 -- ---- one key
 pub rows_put : (m : KeyMap) (row : RowKey) (value : List ℕ) → Fits row → AreRows m → AreRows (insert m (key_of row) value)
@@ -201,10 +187,6 @@ counters_put m next new fits kept =
     let n = insert m (key_of counters) value in
     let same = λ (tag : ℕ) (apart : tag ≡ 65 → ⊥). put_keeps_tag m tag 65 [] value apart in
     let is : IsNext n next = rw (← (sym (put_is_there m (key_of counters) value))) (λ i. value) in
-    tidy_at n next new is fits (record {
-      rows = rows_put m counters value tt kept.rows;
-      plans = plans_stay m n next.plan next.plan (omega arith) (same 80 (λ e. absurd (omega arith))) (same 68 (λ e. absurd (omega arith))) (same 82 (λ e. absurd (omega arith))) kept.plans;
-      chunks = chunks_stay m n next.chunk next.chunk (omega arith) (same 82 (λ e. absurd (omega arith))) (same 107 (λ e. absurd (omega arith))) kept.chunks;
-      loads = loads_stay m n next.load next.load (omega arith) (same 76 (λ e. absurd (omega arith))) (same 83 (λ e. absurd (omega arith))) (same 103 (λ e. absurd (omega arith))) kept.loads;
-      holders = holders_stay m n new (same 80 (λ e. absurd (omega arith))) (same 72 (λ e. absurd (omega arith))) (same 75 (λ e. absurd (omega arith))) (same 82 (λ e. absurd (omega arith))) (same 86 (λ e. absurd (omega arith))) kept.holders;
-    })
+    let rows = rows_put m counters value tt kept.rows in
+    tidy_at n next new is fits
+    (search (arith, rows, plans_stay m n next.plan next.plan, chunks_stay m n next.chunk next.chunk, loads_stay m n next.load next.load, holders_stay m n new, same, kept))

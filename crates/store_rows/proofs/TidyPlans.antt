@@ -97,13 +97,11 @@ created_tidy m tidy name p fits lacks is none room =
     let value = plan_bytes p in
     let n = insert m (key_of (named name)) value in
     let same = λ (tag : ℕ) (apart : tag ≡ 80 → ⊥). put_keeps_tag m tag 80 name value apart in
-    counters_put n (one_plan_more next) tidy.new (record { plan_fits = room; chunk_fits = tidy.fits.chunk_fits; load_fits = tidy.fits.load_fits }) (record {
-      rows = rows_put m (named name) value fits kept.rows;
-      plans = plans_made m next.plan name p kept.plans lacks is none (omega arith);
-      chunks = chunks_stay m n next.chunk next.chunk (omega arith) (same 82 (λ e. absurd (omega arith))) (same 107 (λ e. absurd (omega arith))) kept.chunks;
-      loads = loads_stay m n next.load next.load (omega arith) (same 76 (λ e. absurd (omega arith))) (same 83 (λ e. absurd (omega arith))) (same 103 (λ e. absurd (omega arith))) kept.loads;
-      holders = holders_made m next.plan name p kept.plans lacks is none (omega arith) tidy.new kept.holders;
-    })
+    let rows = rows_put m (named name) value fits kept.rows in
+    let plans = plans_made m next.plan name p kept.plans lacks is none (omega arith) in
+    let holders = holders_made m next.plan name p kept.plans lacks is none (omega arith) tidy.new kept.holders in
+    counters_put n (one_plan_more next) tidy.new (record { plan_fits = room; chunk_fits = tidy.fits.chunk_fits; load_fits = tidy.fits.load_fits })
+    (search (arith, rows, plans, chunks_stay m n next.chunk next.chunk, loads_stay m n next.load next.load, holders, same, kept))
 
 -- ---- a plan is taken away
 module _ (m : KeyMap) (limit : ℕ) (name : List ℕ) (number : ℕ) (kept : PlansKept m limit) (is : IsNumbered m name number) where
@@ -168,10 +166,8 @@ retired_tidy m tidy name number is =
     let mid = remove m (key_of (named name)) in
     let n = insert mid (key_of (retired number)) [] in
     let same = λ (tag : ℕ) (not_name : tag ≡ 80 → ⊥) (not_mark : tag ≡ 68 → ⊥). tag_follows tag m mid n (remove_keeps_tag m tag 80 name not_name) (put_keeps_tag mid tag 68 _ [] not_mark) in
-    stays_tidy m n tidy (same 65 (λ e. absurd (omega arith)) (λ e. absurd (omega arith)) []) (record {
-      rows = rows_put mid (retired number) [] is.fits (rows_removed m (key_of (named name)) kept.rows);
-      plans = plans_left m next.plan name number kept.plans is;
-      chunks = chunks_stay m n next.chunk next.chunk (omega arith) (same 82 (λ e. absurd (omega arith)) (λ e. absurd (omega arith))) (same 107 (λ e. absurd (omega arith)) (λ e. absurd (omega arith))) kept.chunks;
-      loads = loads_stay m n next.load next.load (omega arith) (same 76 (λ e. absurd (omega arith)) (λ e. absurd (omega arith))) (same 83 (λ e. absurd (omega arith)) (λ e. absurd (omega arith))) (same 103 (λ e. absurd (omega arith)) (λ e. absurd (omega arith))) kept.loads;
-      holders = holders_left m next.plan name number kept.plans is tidy.new kept.holders;
-    })
+    let rows = rows_put mid (retired number) [] is.fits (rows_removed m (key_of (named name)) kept.rows) in
+    let plans = plans_left m next.plan name number kept.plans is in
+    let holders = holders_left m next.plan name number kept.plans is tidy.new kept.holders in
+    stays_tidy m n tidy (same 65 (λ e. absurd (omega arith)) (λ e. absurd (omega arith)) [])
+    (search (arith, rows, plans, chunks_stay m n next.chunk next.chunk, loads_stay m n next.load next.load, holders, same, kept))

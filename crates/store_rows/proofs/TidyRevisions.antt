@@ -14,9 +14,7 @@ contains_or_not numbers number =
     elim (cases_Bool (is_member eqb numbers number)) [ inl is ↦ inl (decides.0 is) | inr none ↦ inr (not_from_Decides _ decides none) ]
 
 both_or_not : {P Q : Type 0} → P ⊎ (P → ⊥) → Q ⊎ (Q → ⊥) → (P × Q) ⊎ (P × Q → ⊥)
-both_or_not (inl p) (inl q) = inl (p, q)
-both_or_not (inr none) _ = inr (λ both. none both.0)
-both_or_not _ (inr none) = inr (λ both. none both.1)
+both_or_not one other = search arith
 
 -- whether the plan is this one, and its number is among them
 pub held_or_not : (plan one : ℕ) (numbers : List ℕ) (number : ℕ) → ((plan ≡ one) × Contains numbers number) ⊎ ((plan ≡ one) × Contains numbers number → ⊥)

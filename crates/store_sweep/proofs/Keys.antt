@@ -1,20 +1,11 @@
 -- Which rows a key that begins with a prefix can be of.
 use Rattle.std.{specs.List.starts_with, proofs.Common.{◌≡◌, ◌<◌, ◌≤◌, ◌^◌, ◌+◌, ◌++◌, ℕ, true, nat_eq, List, ◌∷◌, length, refl, sym, ap, subst, arith}}
-use Rattle.store_rows.{specs.Keys.{plan_parts_prefix, load_prefix}, proofs.{KeyPrefixes.starts_same, RowLaws.keys_differ}}
+use Rattle.store_rows.{specs.Keys.{plan_parts_prefix, load_prefix}, proofs.{HolderCounts.eight_says, KeyPrefixes.starts_same}}
 use Rattle.store_rows.specs.claim.Keys.{RowKey, key_of, Fits, retired, begun, holding, part, block, pair, chunk, in_one, in_two, in_four, in_eight, retired_prefix, begun_prefix, holdings_prefix, chunk_prefix}
-
-plan_in : RowKey → ℕ
-plan_in (retired plan) = plan
-plan_in (begun load) = load
-plan_in _ = 0
-
-pub eights_same : (a b : ℕ) → a < 2 ^ 64 → b < 2 ^ 64 → in_eight a ≡ in_eight b → a ≡ b
-unfolding plan_in
-eights_same a b fa fb same = ap plan_in (keys_differ (retired a) (retired b) fa fb (ap (λ (l : List ℕ). 68 ∷ l) same))
 
 -- the number that a key begins with, after its tag
 pub number_is : (a b : ℕ) (rest : List ℕ) → a < 2 ^ 64 → b < 2 ^ 64 → starts_with nat_eq (in_eight a ++ rest) (in_eight b) ≡ true → a ≡ b
-number_is a b rest fa fb on = sym (eights_same b a fb fa (starts_same (in_eight b) (in_eight a) rest refl on))
+number_is a b rest fa fb on = sym (eight_says b a fb fa (starts_same (in_eight b) (in_eight a) rest refl on))
 
 -- ---- marks
 pub retired_is : (row : RowKey) → Fits row → starts_with nat_eq (key_of row) retired_prefix ≡ true → (plan : ℕ) × (plan < 2 ^ 64) × (row ≡ retired plan)

@@ -1,14 +1,14 @@
 -- The first key that isn't below another, and chunks by their numbers.
 use Rattle.std.specs.{Cmp.nat_cmp_is, FinMap.{entries, get}, List.starts_with, Ordering.{nat_cmp, is_gt}, Prelude.{Result, Ok, Err, Contains}, declared.cmp.Ordering.Ordering}
-use Rattle.{std.{specs.declared.cmp.Ordering.TheVariants.{Less, Equal, Greater}, proofs.lemmas.Bool.Decides.nat_tests}, desk_pages.specs.Looking.Looks}
-use Rattle.std.proofs.Common.{zero, suc, get_or, ◌≡◌, ◌⊎◌, ◌<◌, ◌≤◌, ◌^◌, ◌++◌, ℕ, List, [], ◌∷◌, Bool, true, false, nat_eq, length, take, drop, Some, None, refl, sym, ap, subst, ◌∙◌, inl, inr, ⊎_elim, arith}
-use Rattle.page_btree.specs.{Seeking.{AreLeaves, IsFrom}, claim.Map.InTxn, declared.{error.TreeError.TreeError, seeks.Leaf.Leaf}, page_node.{Places.entries_from, Walking.IsAhead}}
-use Rattle.{page_btree.specs.page_node.claim.{Entries.Entry, Node.IsNode, Places.key_cmp}, page_store.specs.{claim.Transactions.{stored, disk_in, Passed}, declared.txn.Txn.Txn}}
-use Rattle.{page_store.specs.declared.pages.Pages.Pages, sector_device.specs.declared.SectorDevice.Ghosts, store_rows.specs.claim.{Rows.{KeyMap, Lacks}, Tidy.AreRows}}
-use Rattle.{store_rows.{specs.claim.Keys.{key_of, Fits, holder_count, chunk, in_two, in_eight, chunk_prefix}, proofs.Frames.either_way}, btree_walks.proofs.Prefixes.under_is_from}
-use Rattle.{store_sweep.specs.Finding.{IsCopiedKey, IsLeast, IsFirstFrom, IsPieceKey, IsNextChunk, IsPieceOf, IsSought}, btree_walks.proofs.Ready.no_others as no_leaves}
-use Rattle.{btree_walks.proofs.RowsFound.{first_is_from, first_least, first_none, first_there}, desk_pages.proofs.Looking.{looked, not_looked}}
-use Rattle.{store_rows.proofs.{KeyPrefixes.starts_itself, Numbers.numbers_decide, TidyParts.some_or_none}, store_sweep.proofs.Keys.{piece_is, eights_same}}
+use Rattle.std.{specs.declared.cmp.Ordering.TheVariants.{Less, Equal, Greater}, proofs.lemmas.{Bool.{cases_lt, Decides.nat_tests}, List.nil_from_length}}
+use Rattle.std.proofs.Common.{zero, suc, get_or, ◌≡◌, ◌<◌, ◌≤◌, ◌^◌, ◌++◌, ℕ, List, [], ◌∷◌, Bool, true, false, nat_eq, length, take, drop, Some, None, refl, sym, ap, subst, ◌∙◌, inl, inr, arith}
+use Rattle.{desk_pages.specs.Looking.Looks, page_btree.specs.{Seeking.{AreLeaves, IsFrom}, claim.Map.InTxn, declared.{error.TreeError.TreeError, seeks.Leaf.Leaf}}}
+use Rattle.{page_btree.specs.page_node.{Places.entries_from, Walking.IsAhead, claim.{Entries.Entry, Node.IsNode, Places.key_cmp}}, page_store.specs.declared.pages.Pages.Pages}
+use Rattle.{page_store.specs.{claim.Transactions.{stored, disk_in, Passed}, declared.txn.Txn.Txn}, sector_device.specs.declared.SectorDevice.Ghosts}
+use Rattle.store_rows.{specs.claim.{Keys.{key_of, Fits, holder_count, chunk, in_two, in_eight, chunk_prefix}, Rows.{KeyMap, Lacks}, Tidy.AreRows}, proofs.Frames.either_way}
+use Rattle.{store_sweep.specs.Finding.{IsCopiedKey, IsLeast, IsFirstFrom, IsPieceKey, IsNextChunk, IsPieceOf, IsSought}, btree_walks.proofs.Prefixes.under_is_from}
+use Rattle.{btree_walks.proofs.{Ready.no_others as no_leaves, RowsFound.{first_is_from, first_least, first_none, first_there}}, desk_pages.proofs.Looking.{looked, not_looked}}
+use Rattle.{store_rows.proofs.{HolderCounts.eight_says, KeyPrefixes.starts_itself, Numbers.numbers_decide, TidyParts.some_or_none}, store_sweep.proofs.Keys.piece_is}
 use Rattle.page_btree.proofs.page_node.Walking.{node_ahead}
 
 -- ---- entries from a key on
@@ -31,12 +31,9 @@ pub record IsAt (key : List ℕ) (all : List Entry) (page : List ℕ) (place : �
   pub ahead : IsAhead page place (e ∷ es)
   pub whole : entries_from key all ≡ e ∷ rest
 
-nothing : (l : List Entry) → length l ≡ 0 → l ≡ []
-nothing [] h = refl
-nothing (e ∷ l) h = absurd (omega arith)
-
 pub leaf_none : (key : List ℕ) (all : List Entry) (held : Leaf) (pages : List (List ℕ)) → IsFrom key all held pages → held.left ≡ 0 → held.more ≡ 0 → entries_from key all ≡ []
-leaf_none key all held pages is none last = is.rows_are ∙ (λ i. nothing is.here (sym is.left_is ∙ none) i ++ (no_leaves held.more (drop 1 pages) is.others last is.others_are i ++ is.some none last i))
+leaf_none key all held pages is none last = is.rows_are ∙ (λ i. nil_from_length is.here (sym is.left_is ∙ none) i ++
+    (no_leaves held.more (drop 1 pages) is.others last is.others_are i ++ is.some none last i))
 
 pub leaf_some : (key : List ℕ) (all : List Entry) (held : Leaf) (pages : List (List ℕ)) → IsFrom key all held pages → 0 < held.left → IsAt key all (get_or pages 0 []) held.at
 leaf_some key all held pages is some = at is.here is.left_is is.ahead is.rows_are
@@ -47,7 +44,8 @@ leaf_some key all held pages is some = at is.here is.left_is is.ahead is.rows_ar
 
 -- or the first of those that were read with it
 pub leaf_next : (key : List ℕ) (all : List Entry) (held : Leaf) (pages : List (List ℕ)) → IsFrom key all held pages → held.left ≡ 0 → 0 < held.more → IsAt key all (get_or pages 1 []) 4
-leaf_next key all held pages is none some = by held.more pages is.others some is.others_are (is.rows_are ∙ ap (λ (l : List Entry). l ++ (is.others ++ is.after)) (nothing is.here (sym is.left_is ∙ none)))
+leaf_next key all held pages is none some = by held.more pages is.others some is.others_are
+    (is.rows_are ∙ ap (λ (l : List Entry). l ++ (is.others ++ is.after)) (nil_from_length is.here (sym is.left_is ∙ none)))
   where
     first : (page : List ℕ) (es rest : List Entry) → IsNode page (record { level = 0; entries = es }) → 0 < length es → entries_from key all ≡ (es ++ rest) ++ is.after → IsAt key all page 4
     first page [] rest node long whole = absurd (omega arith)
@@ -77,13 +75,11 @@ chunk_cmp o some a b x y fa fb is = prefix_same o some (chunk_prefix a) (chunk_p
 
 -- a piece of a chunk from a number on isn't below that number's keys
 piece_from : (number other piece : ℕ) → number < 2 ^ 64 → other < 2 ^ 64 → number ≤ other → is_gt (key_cmp (chunk_prefix number) (key_of (chunk other piece))) ≡ false
-piece_from number other piece fits other_fits least = ⊎_elim {C = is_gt (key_cmp (chunk_prefix number) (key_of (chunk other piece))) ≡ false}
-    (λ (less : number < other). ap is_gt (chunk_cmp Less (λ e. cc) number other [] (in_two piece) fits other_fits (sym (nat_cmp_is number other Less less))))
-    (λ (same : number ≡ other). under_is_from (chunk_prefix number) (key_of (chunk other piece)) (subst (λ (k : ℕ). starts_with nat_eq (key_of (chunk other piece)) (chunk_prefix k) ≡ true) (sym same) (starts_itself (chunk_prefix other) (in_two piece))))
-    (less_or_same number other least)
-  where
-    less_or_same : (a b : ℕ) → a ≤ b → (a < b) ⊎ (a ≡ b)
-    less_or_same a b least = either_way (nat_eq a b) ((a < b) ⊎ (a ≡ b)) (λ is. inr (grind (arith, nat_tests))) (λ not. inl (grind (arith, nat_tests)))
+piece_from number other piece fits other_fits least = elim (cases_lt number other) [
+  | inl less ↦ ap is_gt (chunk_cmp Less (λ e. cc) number other [] (in_two piece) fits other_fits (sym (nat_cmp_is number other Less less)))
+  | inr not ↦ under_is_from (chunk_prefix number) (key_of (chunk other piece))
+      (subst (λ (k : ℕ). starts_with nat_eq (key_of (chunk other piece)) (chunk_prefix k) ≡ true) (omega arith) (starts_itself (chunk_prefix other) (in_two piece)))
+]
 
 -- ---- the next chunk
 -- a first key from a chunk's on is that of a piece
@@ -104,7 +100,7 @@ module _ (m : KeyMap) where
   pub least_starts : (number next : ℕ) (key : List ℕ) → next < 2 ^ 64 → in_eight next ≡ take 8 (drop 1 key) → AreRows m → IsLeast (chunk_prefix number) key m → starts_with nat_eq key (chunk_prefix next) ≡ true
   least_starts number next key few told rows least =
       let at = least_piece number key rows least in
-      let same : next ≡ at.next = eights_same next at.next few at.fits.0 (told ∙ ap (λ (k : List ℕ). take 8 (drop 1 k)) at.key_is) in
+      let same : next ≡ at.next = eight_says next at.next few at.fits.0 (told ∙ ap (λ (k : List ℕ). take 8 (drop 1 k)) at.key_is) in
       subst (λ (k : List ℕ). starts_with nat_eq k (chunk_prefix next) ≡ true) (sym at.key_is) (subst (λ (n : ℕ). starts_with nat_eq (key_of (chunk at.next at.piece)) (chunk_prefix n) ≡ true) (sym same) (starts_itself (chunk_prefix at.next) (in_two at.piece)))
 
   not_below : (number next piece : ℕ) → number < 2 ^ 64 → next < 2 ^ 64 → is_gt (key_cmp (chunk_prefix number) (key_of (chunk next piece))) ≡ false → number ≤ next

@@ -1,11 +1,11 @@
 -- What is found under a prefix is left over.
 use Rattle.{std.specs.{FinMap.get, List.starts_with, Prelude.{Contains, Option}}, btree_walks.specs.declared.rows.Row.Row, store_rows.specs.Keys.{plan_parts_prefix, load_prefix}}
 use Rattle.std.proofs.Common.{◌≡◌, ◌<◌, ◌^◌, ℕ, List, [], length, drop, nat_eq, true, Some, None, refl, sym, ap, subst, ◌∙◌, ◌++◌, ◌∷◌, arith}
-use Rattle.store_rows.specs.claim.Keys.{RowKey, key_of, Fits, counters, retired, begun, holding, holder_count, named, part, seal, version, block, pair, chunk, in_eight, retired_prefix, begun_prefix, holdings_prefix, in_four, in_one}
+use Rattle.store_rows.specs.claim.Keys.{RowKey, key_of, Fits, counters, retired, begun, holding, part, block, pair, chunk, in_eight, retired_prefix, begun_prefix, holdings_prefix, in_four, in_one}
 use Rattle.{store_rows.specs.claim.{Lists.{AreChunks, chunks_bytes}, Rows.{KeyMap, Has}, Tidy.{AreRows, Tidy}}, store_sweep.specs.Leftovers.{IsNoLoads, IsOfLoad, IsSpared}}
 use Rattle.store_sweep.specs.Finding.{IsUnder, IsMark, IsPieceOf, IsDone, IsLeft, IsLeftKey, IsLeftHolding, HasPlanMark, HasLoadMark, HoldsNone, spared_key}
-use Rattle.{store_sweep.specs.declared.leftovers.Left.Left, store_rows.proofs.{KeyPrefixes.{after_tag, starts_itself}, RowLaws.keys_differ}}
-use Rattle.store_sweep.proofs.Keys.{eights_same, retired_is, begun_is, holding_is, part_is, staged_is}
+use Rattle.{store_sweep.specs.declared.leftovers.Left.Left, store_rows.proofs.{HolderCounts.eight_says, KeyPrefixes.{after_tag, starts_itself}, RowLaws.keys_differ}}
+use Rattle.store_sweep.proofs.Keys.{retired_is, begun_is, holding_is, part_is, staged_is}
 
 abbrev pub NoneUnder : List ℕ → KeyMap → Type 0
 NoneUnder prefix m = (key : List ℕ) → starts_with nat_eq key prefix ≡ true → get m key ≡ None
@@ -27,7 +27,7 @@ module _ (m : KeyMap) where
   pub holding_left : (plan : ℕ) → plan < 2 ^ 64 → HasPlanMark plan m → (row : Row) → IsUnder (holdings_prefix plan) row m → (number : ℕ) → number < 2 ^ 64 → drop 9 row.key ≡ in_eight number → IsLeftHolding m plan number
   holding_left plan few has row is number small told =
       let at = holding_row plan few has.0.rows row is in
-      let same : number ≡ at.number = eights_same number at.number small at.fits.1 (sym told ∙ ap (λ (k : List ℕ). drop 9 k) at.key_is) in
+      let same : number ≡ at.number = eight_says number at.number small at.fits.1 (sym told ∙ ap (λ (k : List ℕ). drop 9 k) at.key_is) in
       let held = has.0.holdings.held plan at.number row.value at.fits at.there in
       subst (λ (n : ℕ). IsLeftHolding m plan n) (sym same) (record { fits = at.fits; mark = has.1; held = at.there ∙ ap Some held.0 })
 
@@ -121,20 +121,12 @@ module _ (m : KeyMap) where
 
   -- none without a value is left but the one that is spared
   pub no_retired : ((key : List ℕ) → starts_with nat_eq key retired_prefix ≡ true → (key ≡ key_of counters → ⊥) → get m key ≡ Some [] → ⊥) → (plan : ℕ) → plan < 2 ^ 64 → Has m (retired plan) [] → ⊥
-  no_retired none plan few there = none (key_of (retired plan)) (starts_itself retired_prefix (in_eight plan)) (λ same. other (keys_differ (retired plan) counters few tt same)) there
-    where
-      other : retired plan ≡ counters → ⊥
-      other same = cc
-
-  begun_same : (a b : ℕ) → begun a ≡ begun b → a ≡ b
-  begun_same a b same = cc
+  no_retired none plan few there = none (key_of (retired plan)) (starts_itself retired_prefix (in_eight plan))
+      (λ same. let e = keys_differ (retired plan) counters few tt same in cc) there
 
   spared_is : (running : Option ℕ) (load : ℕ) → load < 2 ^ 64 → ((l : ℕ) → running ≡ Some l → l < 2 ^ 64) → (IsSpared running (begun load) → ⊥) → key_of (begun load) ≡ spared_key running → ⊥
-  spared_is None load few fits apart same = other (keys_differ (begun load) counters few tt same)
-    where
-      other : begun load ≡ counters → ⊥
-      other e = cc
-  spared_is (Some l) load few fits apart same = apart (begun_same load l (keys_differ (begun load) (begun l) few (fits l refl) same))
+  spared_is None load few fits apart same = let e = keys_differ (begun load) counters few tt same in cc
+  spared_is (Some l) load few fits apart same = apart (let e = keys_differ (begun load) (begun l) few (fits l refl) same in cc)
 
   pub no_begun : (running : Option ℕ) → ((l : ℕ) → running ≡ Some l → l < 2 ^ 64) → ((key : List ℕ) → starts_with nat_eq key begun_prefix ≡ true → (key ≡ spared_key running → ⊥) → get m key ≡ Some [] → ⊥) → (load : ℕ) → load < 2 ^ 64 → (IsSpared running (begun load) → ⊥) → Has m (begun load) [] → ⊥
   no_begun running fits none load few apart there = none (key_of (begun load)) (starts_itself begun_prefix (in_eight load)) (spared_is running load few fits apart) there
@@ -145,18 +137,10 @@ module _ (m : KeyMap) where
   apart_mark (Some l) load row told is left of spared = is.apart (after_tag row.key 76 (in_eight load) is.under told ∙ ap (λ (n : ℕ). key_of (begun n)) (same_load load l left of spared))
     where
       same_load : (a b : ℕ) (left : RowKey) → IsOfLoad a left → IsOfLoad b left → a ≡ b
-      same_load a b counters x y = absurd x
-      same_load a b (retired plan) x y = absurd x
       same_load a b (begun other) x y = sym x ∙ y
-      same_load a b (holding plan number) x y = absurd x
-      same_load a b (holder_count number) x y = absurd x
-      same_load a b (named name) x y = absurd x
-      same_load a b (part plan revision index) x y = absurd x
-      same_load a b seal x y = absurd x
-      same_load a b version x y = absurd x
       same_load a b (block other place) x y = sym x ∙ y
       same_load a b (pair other place) x y = sym x ∙ y
-      same_load a b (chunk number piece) x y = absurd x
+      same_load a b _ x y = absurd x
 
   pub load_next_left : (running : Option ℕ) (load : ℕ) (row : Row) → drop 1 row.key ≡ in_eight load → IsMark begun_prefix (spared_key running) row m → (key : List ℕ) → IsLeftKey m key (IsOfLoad load) → IsLeftKey m key (λ of. IsSpared running of → ⊥)
   load_next_left running load row told is key found = record { row = found.row; fits = found.fits; key_is = found.key_is; left = found.left; is_apart = apart_mark running load row told is found.row found.is_apart }

@@ -2,10 +2,10 @@
 use Rattle.{std.specs.{FinMap.{entries, get}, List.{AllByRecursion, starts_with}, Prelude.{All, Contains, get_or}}, btree_walks.specs.{Prefixes.under, declared.rows.Row.Row}}
 use Rattle.std.proofs.Common.{◌≡◌, ◌<◌, ◌^◌, ◌+◌, ◌++◌, ℕ, true, List, [], ◌∷◌, Some, None, nat_eq, refl, sym, ap, subst, ◌∙◌, inl, inr, take, drop, arith}
 use Rattle.{std.proofs.lemmas.List.Elements.{All-contains, All-nil, All-push, All-set, Contains-get_or}, page_btree.specs.page_node.claim.Entries.Entry}
-use Rattle.store_rows.specs.claim.{Keys.{key_of, Fits, holding, holder_count, part, in_eight}, Lists.{AreChunks, chunks_bytes}, Rows.{KeyMap, Has}, Tidy.IsNamedBy}
+use Rattle.store_rows.{specs.claim.{Keys.{key_of, Fits, holding, holder_count, part, in_eight}, Lists.{AreChunks, chunks_bytes}, Rows.{KeyMap, Has}}, proofs.ListLaws.chunks_differ}
 use Rattle.store_sweep.specs.{Checks.{IsEntryNamed, IsHoldingRow, IsNewTidy, IsPartRow, IsPlansList, IsWithOne}, claim.Checks.{AreNamesHeld, IsHeldOrGone}}
-use Rattle.{btree_walks.proofs.RowsFound.{IsNextUnder, all_found, found_among}, store_rows.proofs.{HolderCounts.{eight_says, held_counted_by_holders}, ListLaws.chunks_differ}}
-use Rattle.{store_rows.proofs.OneGeography.no_value, store_sweep.proofs.HoldingKeys.{holding_is, part_is}}
+use Rattle.{btree_walks.proofs.RowsFound.{IsNextUnder, all_found, found_among}, store_rows.proofs.{HolderCounts.{eight_says, held_counted_by_holders}, OneGeography.no_value}}
+use Rattle.store_sweep.proofs.HoldingKeys.{holding_is, part_is}
 
 -- ---- rows of a tidy map
 -- a holding
@@ -19,12 +19,6 @@ holding_next m taken row is next =
     let value : row.value ≡ [] = (is.tidy.holdings.held plan number row.value of_fits there).0 in
     let counted = held_counted_by_holders m plan number is.tidy.holdings.counted_by_holders of_fits.0 of_fits.1 (there ∙ ap Some value) in
     record { plan = plan; number = number; fits = of_fits; key = key; value = value; shared = (in_eight (counted.0 + 1), counted.2) }
-
-named_held : (m : KeyMap) → IsNewTidy m → (plan revision index : ℕ) (value : List ℕ) → Fits (part plan revision index) → Has m (part plan revision index) value → (number : ℕ) → IsNamedBy m plan number → IsHeldOrGone m plan number
-named_held m is plan revision index value fits there number named = elim (is.tidy.owned.parts plan revision index value fits there) [
-  | inl numbered ↦ inl (is.tidy.holdings.hold is.new numbered.0 plan number numbered.1 named)
-  | inr gone ↦ inr gone
-]
 
 -- a part
 pub part_next : (m : KeyMap) (taken : List Entry) (row : Row) → IsNewTidy m → IsNextUnder (82 ∷ []) m taken (row.key, row.value) → IsPartRow row m
@@ -44,8 +38,11 @@ part_next m taken row is next =
       numbers = numbers;
       chunks = chunks;
       value = value;
-      held = λ number among. named_held m is plan revision index row.value of_fits there number
-          (record { revision = revision; index = index; part_fits = of_fits; numbers = numbers; chunks = chunks; row = there ∙ ap Some value; among = among });
+      held = λ number among. elim (is.tidy.owned.parts plan revision index row.value of_fits there) [
+        | inl numbered ↦ inl (is.tidy.holdings.hold is.new numbered.0 plan number numbered.1
+            (record { revision = revision; index = index; part_fits = of_fits; numbers = numbers; chunks = chunks; row = there ∙ ap Some value; among = among }))
+        | inr gone ↦ inr gone
+      ];
     }
 
 -- ---- what a part's row says

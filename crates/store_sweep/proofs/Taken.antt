@@ -64,21 +64,6 @@ module _ {D : Type 0} {g : Ghosts D} where
     given = λ honest m d holds is. omega arith;
   }
 
-  one_swept : TurnsAreSwept → (running : Option ℕ) (key : List ℕ) (t u : Txn) (a b c : Pages D g) → Passed a b → ((disk_in b).is_honest → (m : KeyMap) → InTxn t (stored a) m → Tidy m → IsLeftKey m key (λ row. IsSpared running row → ⊥)) → Passed b c → txn_pages u ≡ txn_pages t
-      → ((disk_in c).is_honest → (m : KeyMap) → InTxn t (stored b) m → InTxn u (stored b) (remove m key)) → txn_writes u ≤ txn_writes t + 6 → txn_free t ≤ txn_free u → HasSwept running 1 t u a c
-  one_swept law running key t u a b c ab found bc pages removes writes given = record {
-    passed = passed_more a b c ab bc;
-    pages = pages;
-    swept = λ honest m d holds is.
-        let middle = bc.quiet.honest honest in
-        let left = found middle m holds is.tidy in
-        let still = subst (λ P. InTxn t P m) (sym (ab.quiet.same middle)) holds in
-        let after = subst (λ P. InTxn u P (remove m key)) (ab.quiet.same middle) (removes honest m still) in
-        (remove m (key_of left.row), subst (λ (k : List ℕ). InTxn u (stored a) (remove m k)) left.key_is after, turn_swept law running m d (goes left.row) is (left.fits, left.left) left.is_apart);
-    writes = omega arith;
-    given = λ honest m d holds is. given;
-  }
-
   pub more_swept : (running : Option ℕ) (count more : ℕ) (t u v : Txn) (a b c : Pages D g) → HasSwept running count t u a b → HasSwept running more u v b c → HasSwept running (count + more) t v a c
   more_swept running count more t u v a b c one next = record {
     passed = passed_more a b c one.passed next.passed;
@@ -112,7 +97,22 @@ module _ {D : Type 0} {g : Ghosts D} where
       → ((disk_in c).is_honest → (m : KeyMap) → InTxn t (stored b) m → InTxn u (stored b) (remove m key)) → txn_writes u ≤ txn_writes t + 6 → txn_free t ≤ txn_free u → IsTurn running 1 t u a c
   turn_row law running key t u a b c ab found bc pages removes writes given = record {
     few = omega arith;
-    swept = one_swept law running key t u a b c ab found bc pages removes writes given;
+    swept = record {
+      passed = passed_more a b c ab bc;
+      pages = pages;
+      swept = λ honest m d holds is.
+          let middle = bc.quiet.honest honest in
+          let left = found middle m holds is.tidy in
+          let still = subst (λ P. InTxn t P m) (sym (ab.quiet.same middle)) holds in
+          let after = subst (λ P. InTxn u P (remove m key)) (ab.quiet.same middle) (removes honest m still) in (
+            remove m (key_of left.row),
+            subst (λ (k : List ℕ). InTxn u (stored a) (remove m k)) left.key_is after,
+            turn_swept law running m d (goes left.row) is
+                (left.fits, left.left) left.is_apart,
+          );
+      writes = omega arith;
+      given = λ honest m d holds is. given;
+    };
     clean = λ honest m holds tidy zero. absurd (omega arith);
   }
 

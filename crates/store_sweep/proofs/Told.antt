@@ -86,10 +86,7 @@ counted_by_holders_by counts m counted told number fits = by has.count has.fits 
 
     none_there : (row : Option (List ℕ)) → row_in m (holder_count number) ≡ row → count_at nat_cmp counts number ≡ None → row_in m (holder_count number) ≡ None
     none_there None is none = is
-    none_there (Some value) is none = (let t = told number value fits is in absurd (some_none t.0 (sym t.2 ∙ none)))
-      where
-        some_none : (count : ℕ) → ◌≡◌ {A = Option ℕ} (Some count) None → ⊥
-        some_none count same = cc
+    none_there (Some value) is none = (let t = told number value fits is in let clash : ◌≡◌ {A = Option ℕ} (Some t.0) None = sym t.2 ∙ none in cc)
 
     by : (count : ℕ) → count < 2 ^ 64 → count_at nat_cmp counts number ≡ noted count → AreHolders m number count → (0 < count → (value : List ℕ) × Has m (holder_count number) value) → IsTallied m number
     by zero small note holders shared = record { count = 0; fits = small; row = none_there (row_in m (holder_count number)) refl note; holders = holders }

@@ -1,11 +1,11 @@
 -- A talk of clerks is one of the desks that they show.
 use Rattle.std.{specs.Prelude.{◌⊎◌, ℕ, ◌+◌, Bool, false, List, [], ◌++◌, Option, Result, Ok, Err}, proofs.Common.{refl, sym, ap, subst, inl, inr, ⊎_elim, add-zero}}
 use Rattle.{std.proofs.lemmas.List.append-nil, desk_model.specs.{claim.{Desk.Desk, Outcome.{CommandMay, RefusalMay, IsStep}, Sample.sample_desk}, declared.command.Command.Command}}
-use Rattle.{desk_model.specs.declared.{command.Query.Query, reply.{Refusal.Refusal, Reply.Reply}}, desk_store.specs.{claim.Clerks.desk_of, declared.clerk.Clerk.Clerk}}
-use Rattle.desk_model.specs.declared.reply.Refusal.TheVariants.{NoPlan, NoRevision, PlanExists, Stale, BadBody, NotWholeCounty, BadCompanion, Limit, Full, Memory, Halted, NotSealed}
-use Rattle.http_desk.specs.{claim.{Serving.{ServesTo, IsPrefixTalk, IsCutInHead, IsShortTalk}, Talk.Talk}, declared.serve.{Served.Served, StreamFault.StreamFault}}
-use Rattle.{sector_device.specs.declared.SectorDevice.Ghosts, talk_command.specs.Desks.{desk_commands, desk_asks, DeskTalk, IsTalkToHead, IsTalkSoFar, DeskServesTo, ServesDesk}}
-use Rattle.talk_command.{specs.claim.Talking.{clerk_commands, clerk_asks, ServesSample, ServesClerk, IsUnserved}, proofs.Seen.talk_seen}
+use Rattle.{desk_model.specs.declared.reply.{Refusal.{Refusal, TheVariants.{BadCompanion, Full, Memory, Halted}}, Reply.Reply}, desk_store.specs.claim.Clerks.desk_of}
+use Rattle.{desk_store.specs.declared.clerk.Clerk.Clerk, http_desk.specs.{claim.{Serving.{ServesTo, IsPrefixTalk, IsCutInHead}, Talk.Talk}, declared.serve.Served.Served}}
+use Rattle.{http_desk.specs.declared.serve.StreamFault.StreamFault, sector_device.specs.declared.SectorDevice.Ghosts, talk_command.proofs.Seen.talk_seen}
+use Rattle.talk_command.specs.Desks.{desk_commands, desk_asks, DeskTalk, IsTalkToHead, DeskServesTo, ServesDesk}
+use Rattle.talk_command.specs.claim.Talking.{clerk_commands, clerk_asks, ServesSample, ServesClerk, IsUnserved}
 use Rattle.desk_model.specs.declared.reply.Reply.TheVariants as reply
 use Rattle.http_desk.specs.declared.serve.StreamFault.TheVariants as fault
 
@@ -16,15 +16,8 @@ refusal_seen : (must may failed : Type 0) (d : Desk) (c : Command) (r : Refusal)
 refusal_seen must may failed d c Memory e told = inl (λ none. none, told.1)
 refusal_seen must may failed d c Halted e told = inr (refl, told.1)
 refusal_seen must may failed d c Full e told = inl (λ none. none, record { accepted = told.1.accepted; no_room = tt; desk = told.1.desk })
-refusal_seen must may failed d c NoPlan e told = inl (λ none. none, step_seen must d c (reply.Refused NoPlan) e told.1)
-refusal_seen must may failed d c NoRevision e told = inl (λ none. none, step_seen must d c (reply.Refused NoRevision) e told.1)
-refusal_seen must may failed d c PlanExists e told = inl (λ none. none, step_seen must d c (reply.Refused PlanExists) e told.1)
-refusal_seen must may failed d c (Stale k) e told = inl (λ none. none, step_seen must d c (reply.Refused (Stale k)) e told.1)
-refusal_seen must may failed d c (BadBody code line) e told = inl (λ none. none, step_seen must d c (reply.Refused (BadBody code line)) e told.1)
-refusal_seen must may failed d c (NotWholeCounty county) e told = inl (λ none. none, step_seen must d c (reply.Refused (NotWholeCounty county)) e told.1)
 refusal_seen must may failed d c BadCompanion e told = absurd told
-refusal_seen must may failed d c Limit e told = inl (λ none. none, step_seen must d c (reply.Refused Limit) e told.1)
-refusal_seen must may failed d c NotSealed e told = inl (λ none. none, step_seen must d c (reply.Refused NotSealed) e told.1)
+refusal_seen must may failed d c refusal e told = inl (λ none. none, step_seen must d c (reply.Refused refusal) e told.1)
 
 outcome_seen : (must may failed : Type 0) (d : Desk) (c : Command) (r : Reply) (e : Desk) → CommandMay must may failed d c r e → desk_commands d c r e
 outcome_seen must may failed d c (reply.Refused refusal) e told = refusal_seen must may failed d c refusal e told
@@ -44,14 +37,9 @@ unserved_seen served unread left before after is = record {
 }
 
 module _ {D : Type 0} {g : Ghosts D} where
-  command_seen : (x : Clerk D g) (c : Command) (r : Reply) (y : Clerk D g) → clerk_commands g x c r y → desk_commands (desk_of x) c r (desk_of y)
-  command_seen x c r y does = outcome_seen _ _ _ (desk_of x) c r (desk_of y) does.outcome
-
-  query_seen : (x : Clerk D g) (q : Query) (r : Reply) (y : Clerk D g) → clerk_asks g x q r y → desk_asks (desk_of x) q r (desk_of y)
-  query_seen x q r y told = (told.0, ap (λ (z : Clerk D g). desk_of z) told.1)
-
   desks_talk : (x : Clerk D g) (input output : List ℕ) (n : ℕ) (shut : Bool) (y : Clerk D g) → Talk (clerk_commands g) (clerk_asks g) x input output n shut y → DeskTalk (desk_of x) input output n shut (desk_of y)
-  desks_talk x input output n shut y talk = talk_seen (λ (z : Clerk D g). desk_of z) (clerk_commands g) (clerk_asks g) desk_commands desk_asks command_seen query_seen x input output n shut y talk
+  desks_talk x input output n shut y talk = talk_seen (λ (z : Clerk D g). desk_of z) (clerk_commands g) (clerk_asks g) desk_commands desk_asks (λ x c r y does. outcome_seen _ _ _ (desk_of x) c r (desk_of y) does.outcome)
+      (λ x q r y told. (told.0, ap (λ (z : Clerk D g). desk_of z) told.1)) x input output n shut y talk
 
   -- no more is read after the head's beginning
   head_seen : (x : Clerk D g) (input output : List ℕ) (y : Clerk D g) → IsCutInHead (clerk_commands g) (clerk_asks g) x input output y → IsTalkToHead (desk_of x) input output (desk_of y)
@@ -69,9 +57,6 @@ module _ {D : Type 0} {g : Ghosts D} where
             (subst (λ (n : ℕ). Talk (clerk_commands g) (clerk_asks g) x (cut.taken ++ []) (output ++ []) n false y) (add-zero cut.count) whole)));
       }
 
-  short_seen : (x : Clerk D g) (input output : List ℕ) (y : Clerk D g) → IsShortTalk (clerk_commands g) (clerk_asks g) x input output y → IsTalkSoFar (desk_of x) input output (desk_of y)
-  short_seen x input output y = ⊎_elim (λ all. inl (all.0, desks_talk x input output all.0 false y all.1)) (λ cut. inr (head_seen x input output y cut))
-
   prefix_seen : (x : Clerk D g) (input answers : List ℕ) (y : Clerk D g) → IsPrefixTalk (clerk_commands g) (clerk_asks g) x input answers y → IsPrefixTalk desk_commands desk_asks (desk_of x) input answers (desk_of y)
   prefix_seen x input answers y prefix = record {
     prefix = prefix.prefix;
@@ -84,10 +69,9 @@ module _ {D : Type 0} {g : Ghosts D} where
 
   served_seen : (served : Result Served StreamFault) (left : Option (List ℕ)) (x : Clerk D g) (input output : List ℕ) (y : Clerk D g) → ServesTo (clerk_commands g) (clerk_asks g) x served left input output y → DeskServesTo (desk_of x) served left input output (desk_of y)
   served_seen (Ok served) left x input output y told = (told.0, desks_talk x input output served.requests told.0 y told.1, told.2)
-  served_seen (Err fault.Read) left x input output y told = short_seen x input output y told
-  served_seen (Err fault.TurnLimit) left x input output y told = short_seen x input output y told
   served_seen (Err fault.Write) left x input output y told = record { answers = told.answers; unwritten = told.unwritten; written = told.written; over_prefix = prefix_seen x input told.answers y told.over_prefix }
   served_seen (Err fault.Memory) left x input output y told = (told.0, told.1)
+  served_seen (Err _) left x input output y told = ⊎_elim (λ all. inl (all.0, desks_talk x input output all.0 false y all.1)) (λ cut. inr (head_seen x input output y cut)) told
 
   clerk_seen : (served : Result Served StreamFault) (unread left before after : Option (List ℕ)) → ServesClerk g served unread left before after → ServesDesk served unread left before after
   clerk_seen served unread left before after is = record {

@@ -1,4 +1,4 @@
-use Rattle.{std.proofs.{Common.{◌+◌, ◌-◌, length, get_or, take, sum_by, arith, rules}, lemmas.List.{take_all, Sums.sum_by_more}}, desk_model.specs.declared.block.BlockRow.BlockRow}
+use Rattle.{std.proofs.{Common.{◌+◌, ◌-◌, get_or, take, sum_by, arith, rules}, lemmas.List.{take_all, Sums.sum_by_more}}, desk_model.specs.declared.block.BlockRow.BlockRow}
 use Rattle.audit_clauses.proofs.Counted.{counted_skip, counted_add, counted_all, people_fit}
 use Rattle.audit_clauses.proofs.people.count_people.Goals as goal
 use Rattle.audit_clauses.proofs.people.count_people.Goals.{then-district-ge1+then-district-people, else-district-ge1, else-district-ge1-via-then-district-ge1+else-district-people, else-district-ge1-via-else-district-ge1}
@@ -15,12 +15,11 @@ loop-i-preserved c =
       districts =
           elim c.if-district-ge1.branch [
             | then-district-ge1+then-district-people w ↦
-                rw w.people-is (counted_add c.args.blocks.now c.args.plan.now c.loop-i.i (length c.args.people.now) c.loop-i.people c.index-blocks-i.result place
-                c.requires.beside (omega arith) c.index-blocks-i.is c.loop-i.invariant.districts (omega arith) (omega arith))
+                rw w.people-is (counted_add c.args.blocks.now c.args.plan.now c.loop-i.i c.index-blocks-i.result c.requires.beside (omega arith) c.index-blocks-i.is
+                c.loop-i.invariant.districts place (omega arith) (omega arith))
             | else-district-ge1 w ↦
-                rw w.people-is (counted_skip c.args.blocks.now c.args.plan.now c.loop-i.i (length c.args.people.now) c.loop-i.people c.index-blocks-i.result
-                c.requires.beside (omega arith) c.index-blocks-i.is c.loop-i.invariant.districts
-                (λ k small same. elim w.else-district-ge1.branch [
+                rw w.people-is (counted_skip c.args.blocks.now c.args.plan.now c.loop-i.i c.index-blocks-i.result c.requires.beside (omega arith) c.index-blocks-i.is
+                c.loop-i.invariant.districts (λ k small same. elim w.else-district-ge1.branch [
                   | else-district-ge1-via-then-district-ge1+else-district-people w' ↦ absurd (omega arith)
                   | else-district-ge1-via-else-district-ge1 w' ↦ absurd (omega arith)
                 ]))

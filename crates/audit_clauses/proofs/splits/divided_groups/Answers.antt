@@ -1,5 +1,6 @@
-use Rattle.{std.proofs.{Common.{◌≡◌, ℕ, ◌<◌, List, length, arith, ap, subst, ◌∙◌}, lemmas.List.take_at}, audit_clauses.specs.{Splits.AreDividedGroups, claim.Divided.IsInCity}}
-use Rattle.{desk_model.specs.declared.block.BlockRow.BlockRow, audit_clauses.proofs.Meaning.{counties_are, cities_are, cities_within_are}}
+use Rattle.{std.proofs.{Common.{◌≡◌, ℕ, ◌<◌, List, length, arith, ap, subst, ◌∙◌}, lemmas.List.take_at}, audit_clauses.specs.{Marks.{one_part, value_at}, Splits.AreDividedGroups}}
+use Rattle.{audit_clauses.{specs.claim.Divided.{county_at, IsInCity, IsInCounty}, proofs.Places.county_below}, desk_model.specs.declared.block.BlockRow.BlockRow}
+use Rattle.audit_clauses.proofs.Meaning.{divided_are, divided_from_split, split_from_divided, within_from_split, split_from_within}
 use Rattle.audit_clauses.proofs.splits.divided_groups.Goals as goal
 
 pub returns : goal.returns
@@ -14,7 +15,10 @@ returns c =
     let cities : c.as_slice-2.result.now ≡ c.mark_groups.new.cities = c.as_slice-2.ensures.value ∙ take_at c.mark_groups.new.cities _ c.in_ok-cities.cities.len (omega (arith, marks.of_cities.long)) in
     let by_county : c.as_slice-3.result.now ≡ c.mark_groups.new.by_county = c.as_slice-3.ensures.value ∙ take_at c.mark_groups.new.by_county _ c.in_ok-by_county.by_county.len (omega (arith, marks.of_both.long)) in
     subst (λ (bs : List BlockRow). AreDividedGroups bs plan (record { counties = c.in_ok-divided_u16.field-0; cities = c.in_ok-divided_u32.field-0; cities_in_county = c.in_ok-divided_u32-2.field-0 })) c.blocks-blocks.ensures.value record {
-      counties = counties_are blocks plan c.mark_groups.new.counties c.in_ok-divided_u16.field-0.items marks.of_counties (rw (← counties) c.in_ok-divided_u16.ensures);
-      cities = cities_are blocks plan wide c.mark_groups.new.cities c.in_ok-divided_u32.field-0.items above marks.of_cities (rw (← cities) c.in_ok-divided_u32.ensures);
-      cities_in_county = cities_within_are blocks plan wide c.mark_groups.new.by_county c.in_ok-divided_u32-2.field-0.items above marks.of_both (rw (← by_county) c.in_ok-divided_u32-2.ensures);
+      counties = divided_are (IsInCounty blocks) one_part (value_at plan) marks.of_counties _ (λ k. divided_from_split (IsInCounty blocks k) plan)
+          (λ k. split_from_divided (IsInCounty blocks k) plan) (λ k i lies. (county_below blocks k i lies, lies.within)) (rw (← counties) c.in_ok-divided_u16.ensures);
+      cities = divided_are (IsInCity blocks) one_part (value_at plan) marks.of_cities _ (λ k. divided_from_split (IsInCity blocks k) plan)
+          (λ k. split_from_divided (IsInCity blocks k) plan) (λ k i lies. (above k i lies, lies.within)) (rw (← cities) c.in_ok-divided_u32.ensures);
+      cities_in_county = divided_are (IsInCity blocks) (county_at blocks) (value_at plan) marks.of_both _ (within_from_split blocks plan) (split_from_within blocks plan)
+          (λ k i lies. (above k i lies, lies.within)) (rw (← by_county) c.in_ok-divided_u32-2.ensures);
     }

@@ -1,4 +1,4 @@
-use Rattle.{std.proofs.{Common.{◌-◌, ◌<◌, ◌^◌, arith, rules}, lemmas.{Fmt.length-decimal-le, Slice.take-put_mid_below}}, desk_model.specs.claim.Padded.padded_decimal}
+use Rattle.{std.proofs.{Common.{◌<◌, ◌^◌, arith, rules}, lemmas.{Fmt.length-decimal-le, Slice.take-put_mid_below}}, desk_model.specs.claim.Padded.padded_decimal}
 use Rattle.baf_text.proofs.Printing.{zeros_below, length-padded, width_of}
 use Rattle.baf_text.proofs.writing.write_code.Goals as goal
 

@@ -1,5 +1,5 @@
-use Rattle.{std.{specs.FinMap.entries, proofs.Common.{◌≡◌, arith, rules}}, btree_walks.proofs.{Errors.ok_then, Ready.{ready_turn, scan_fails}}}
-use Rattle.page_btree.proofs.Outcomes.{refused_as, fault_refused, on_err}
+use Rattle.{std.{specs.FinMap.entries, proofs.Common.{◌≡◌, arith, rules}}, btree_walks.proofs.{Errors.ok_then, Ready.{ready_turn, scan_fails}}, page_node.proofs.Nearing.where_err}
+use Rattle.page_btree.proofs.Outcomes.{refused_as, fault_refused}
 use Rattle.btree_walks.proofs.scans.refill.Goals as goal
 
 pub returns-then-leaf-gt0-2-clause-rows : goal.returns-then-leaf-gt0-2-clause-rows
@@ -20,6 +20,6 @@ returns-clause-rows g c = λ honest m rest holds is.
     ok_then c.turn-2.result _ _ (c.turn-2.ensures.turned there.others there.others_are) (λ next. ready_turn c.read_on.new.covered c.args.prefix.now c.read_on.new.leaf c.turn-2.new.leaf c.read_on.new.held c.turn-2.new.held (entries m) rest there none next c.turn-2.ensures.bound)
 
 pub returns-clause-reading : goal.returns-clause-reading
-returns-clause-reading g c = fault_refused c.in_ok-read_on.ensures.reading.passed c.turn-2.ensures.err (on_err c.turn-2.result _ _ (λ refused honest m holds ready.
+returns-clause-reading g c = fault_refused c.in_ok-read_on.ensures.reading.passed c.turn-2.ensures.err (where_err c.turn-2.result _ _ (λ refused honest m holds ready.
     let there = (c.in_ok-read_on.ensures.rows honest m ready.0 holds ready.1).0 in
     refused there.others there.others_are) c.turn-2.ensures.refused)

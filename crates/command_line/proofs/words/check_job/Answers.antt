@@ -9,18 +9,11 @@ returns-in-Counts c = record {
       let plan = c.is_some-2.ensures ∙ sym (is_copied c.get_str-plan.result) ∙ ap is_some c.get_str-plan.ensures in
       let senate = sym (is_copied c.get_str.result) ∙ ap is_some c.get_str.ensures in
       let congress = sym (is_copied c.get_str-2.result) ∙ ap is_some c.get_str-2.ensures in
-      let senate_words = c.word_of.ensures in
-      let congress_words = c.word_of-2.ensures in
-      let kind = c.word_of-4.ensures in
-      let districts = c.word_of-5.ensures in
-      let asked : Some c.in_ok-form.form ≡ form_asked (found_of c.args.matches.now) =
-      c.in_ok-form.ensures.value
-      ∙ (λ i. form_read (gal i) (plan i) (kind i) (districts i) (senate i) (congress i) (record { senate = senate_words i; congress = congress_words i }))
-      in
-      let workers = c.word_of-3.ensures in (
+      let asked : Some c.in_ok-form.form ≡ form_asked (found_of c.args.matches.now) = c.in_ok-form.ensures.value
+      ∙ (λ i. form_read (gal i) (plan i) (c.word_of-4.ensures i) (c.word_of-5.ensures i) (senate i) (congress i) (record { senate = c.word_of.ensures i; congress = c.word_of-2.ensures i })) in (
         c.in_ok-census.ensures,
         sym asked ∙ ap Some c.in-Counts.is,
-        sym (c.in_ok-workers.ensures.value ∙ (λ i. workers_read (workers i))),
+        sym (c.in_ok-workers.ensures.value ∙ (λ i. workers_read (c.word_of-3.ensures i))),
       );
 }
 
@@ -31,21 +24,14 @@ returns-in_ok-plan-in-Audit c = record {
       let plan = c.is_some-2.ensures ∙ sym (is_copied c.get_str-plan.result) ∙ ap is_some c.get_str-plan.ensures in
       let senate = sym (is_copied c.get_str.result) ∙ ap is_some c.get_str.ensures in
       let congress = sym (is_copied c.get_str-2.result) ∙ ap is_some c.get_str-2.ensures in
-      let senate_words = c.word_of.ensures in
-      let congress_words = c.word_of-2.ensures in
-      let kind = c.word_of-4.ensures in
-      let districts = c.word_of-5.ensures in
-      let asked : Some c.in_ok-form.form ≡ form_asked (found_of c.args.matches.now) =
-      c.in_ok-form.ensures.value
-      ∙ (λ i. form_read (gal i) (plan i) (kind i) (districts i) (senate i) (congress i) (record { senate = senate_words i; congress = congress_words i }))
-      in
-      let workers = c.word_of-3.ensures in (
+      let asked : Some c.in_ok-form.form ≡ form_asked (found_of c.args.matches.now) = c.in_ok-form.ensures.value
+      ∙ (λ i. form_read (gal i) (plan i) (c.word_of-4.ensures i) (c.word_of-5.ensures i) (senate i) (congress i) (record { senate = c.word_of.ensures i; congress = c.word_of-2.ensures i })) in (
         c.in_ok-census.ensures,
         search (rules),
         search (rules),
         sym c.get_str.ensures,
         sym c.get_str-2.ensures,
         sym asked ∙ ap Some c.in-Audit.is,
-        sym (c.in_ok-workers.ensures.value ∙ (λ i. workers_read (workers i))),
+        sym (c.in_ok-workers.ensures.value ∙ (λ i. workers_read (c.word_of-3.ensures i))),
       );
 }

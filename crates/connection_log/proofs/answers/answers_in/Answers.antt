@@ -10,10 +10,4 @@ loop-place-preserved c =
     let refusals : c.one-refusals.result ≡ one_from 52 (class_of (drop i text)) = c.one-refusals.ensures.value ∙ ap (one_from 52) class in
     let more = count_more 50 text i c.loop-place-test.true in
     let less = count_more 52 text i c.loop-place-test.true in
-    let were = c.loop-place.invariant.all in
-    let was = c.loop-place.invariant.refusals in
-    let some = c.loop-place.invariant.some in
-    let few = c.loop-place.invariant.few in
-    let one = c.one-all.ensures.few in
-    let other = c.one-refusals.ensures.few in
     record { all = omega arith; refusals = omega arith; some = omega arith; few = omega arith }

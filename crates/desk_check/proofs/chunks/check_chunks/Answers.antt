@@ -1,4 +1,4 @@
-use Rattle.{std.proofs.{Common.{◌≡◌, ℕ, get_or, inl, inr, subst, sym, ◌∙◌, arith}, lemmas.Bool.cases_lt}, desk_check.specs.Checking.IsChunkSeen, desk_opening.specs.Reading.no_cut}
+use Rattle.{std.proofs.Common.{◌<◌, length, get_or, sym, ◌∙◌, arith, below_more}, desk_check.specs.Checking.IsChunkSeen, desk_opening.specs.Reading.no_cut}
 use Rattle.desk_pages.proofs.Looking.{begins, both, fails_then, finds}
 use Rattle.desk_check.proofs.chunks.check_chunks.Goals as goal
 
@@ -12,20 +12,12 @@ pub loop-county-preserved : goal.loop-county-preserved
 loop-county-preserved g c =
     let names = c.args.names.now in
     let ranges = c.args.ranges.now in
-    let last_place = c.loop-county.county in
-    let long = c.requires.each in
+    let county = c.loop-county.county in
     record {
-      checks = finds (both c.loop-county.invariant.checks c.in_ok-check_county.ensures) (λ m is last k less inside. elim (cases_lt k last_place) [
-        | inl earlier ↦ is.0 last k earlier inside
-        | inr not ↦
-            let here : last_place ≡ k = omega arith in
-            subst (λ (i : ℕ). IsChunkSeen c.args.n (get_or names i 0) (get_or ranges i no_cut).count m) here (is.1 (λ known. last last_place known c.loop-county-test.true))
-      ]);
+      checks = finds (both c.loop-county.invariant.checks c.in_ok-check_county.ensures) (λ m is last.
+          below_more (λ k. k < length ranges → IsChunkSeen c.args.n (get_or names k 0) (get_or ranges k no_cut).count m) county (is.0 last) (λ inside. is.1 (λ known. last county known inside)));
       begun = c.loop-county.invariant.begun ∙ sym c.in_ok-check_county.ensures.quiet.count;
     }
 
 pub returns : goal.returns
-returns g c =
-    let done = c.loop-county-test.false in
-    let end = c.loop-county.auto.county-end in
-    finds c.loop-county.invariant.checks (λ m is last k named inside. is last k (omega arith) inside)
+returns g c = finds c.loop-county.invariant.checks (λ m is last k named inside. is last k (omega arith) inside)

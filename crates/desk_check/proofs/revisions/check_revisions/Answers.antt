@@ -1,5 +1,5 @@
-use Rattle.{std.proofs.{Common.{◌≡◌, ◌+◌, List, ℕ, length, inl, inr, ap, sym, subst, ◌∙◌, arith}, lemmas.Bool.cases_lt}, desk_check.specs.Checking.IsRevisionSeen}
-use Rattle.{desk_pages.proofs.Looking.{begins, both, fails_then, finds, not_looked}, page_store.proofs.Stops.quiet_none}
+use Rattle.{std.proofs.Common.{◌+◌, List, ℕ, length, ap, sym, ◌∙◌, arith, below_more}, desk_check.specs.Checking.IsRevisionSeen, page_store.proofs.Stops.quiet_none}
+use Rattle.desk_pages.proofs.Looking.{begins, both, fails_then, finds, not_looked}
 use Rattle.desk_check.proofs.revisions.check_revisions.Goals as goal
 
 pub returns-then-not-is_sized-clause-seen : goal.returns-then-not-is_sized-clause-seen
@@ -25,18 +25,10 @@ loop-before-preserved g c =
     record {
       checks = finds (both c.loop-before.invariant.checks c.in_ok-check_revision.ensures) (λ m is. (
         is.1.1 is.0.0,
-        λ k less. elim (cases_lt k before) [
-          | inl earlier ↦ is.0.1 k earlier
-          | inr not ↦
-              let here : before ≡ k = omega arith in
-              subst (λ (i : ℕ). IsRevisionSeen row.districts row.number (i + 1) ranges m) here (record { numbers = c.check_revision.new.last.items; parts = is.1.0; chunks = is.1.1 is.0.0 })
-        ],
+        below_more (λ k. IsRevisionSeen row.districts row.number (k + 1) ranges m) before is.0.1 (record { numbers = c.check_revision.new.last.items; parts = is.1.0; chunks = is.1.1 is.0.0 }),
       ));
       begun = c.loop-before.invariant.begun ∙ sym c.in_ok-check_revision.ensures.quiet.count;
     }
 
 pub returns-clause-seen : goal.returns-clause-seen
-returns-clause-seen g c =
-    let done = c.loop-before-test.false in
-    let end = c.loop-before.auto.before-end in
-    finds c.loop-before.invariant.checks (λ m is k less. is.1 k (omega arith))
+returns-clause-seen g c = finds c.loop-before.invariant.checks (λ m is k less. is.1 k (omega arith))

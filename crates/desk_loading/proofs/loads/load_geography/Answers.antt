@@ -30,39 +30,33 @@ returns-in-Err-stage_rows-clause-err g c =
 pub returns-in-Ok-seal-clause-moves : goal.returns-in-Ok-seal-clause-moves
 returns-in-Ok-seal-clause-moves g c =
     let did = c.in-Ok.ensures in
-    let sealed = c.in-Ok-seal.ensures in
     load_moved c.args.clerk.now c.begin_load.new.self c.stage_rows.new.clerk c.seal.new.self c.args.geography.value c.in-Ok.load c.stage_rows.new.load
     (record { unsealed = did.unsealed; worked = did.loads.working.0; moves = did.moves; desk = did.loads.desk; staged = did.staged; last = did.last; the_geography = ap (λ a. a.value) did.load.0; none = did.load.1; works = did.loads.working.1 })
-    c.in-Ok-stage_rows.ensures.staged c.in-Ok-stage_rows.ensures.done sealed.moves sealed.loading
+    c.in-Ok-stage_rows.ensures.staged c.in-Ok-stage_rows.ensures.done c.in-Ok-seal.ensures.moves c.in-Ok-seal.ensures.loading
 
 pub returns-in-Ok-seal-clause-loaded : goal.returns-in-Ok-seal-clause-loaded
 returns-in-Ok-seal-clause-loaded g c =
     let did = c.in-Ok.ensures in
-    let sealed = c.in-Ok-seal.ensures in
     load_sealed c.args.clerk.now c.begin_load.new.self c.stage_rows.new.clerk c.seal.new.self c.args.geography.value c.in-Ok.load c.stage_rows.new.load
     (record { unsealed = did.unsealed; worked = did.loads.working.0; moves = did.moves; desk = did.loads.desk; staged = did.staged; last = did.last; the_geography = ap (λ a. a.value) did.load.0; none = did.load.1; works = did.loads.working.1 })
-    c.in-Ok-stage_rows.ensures.staged c.in-Ok-stage_rows.ensures.done sealed.moves sealed.loading sealed.sealed sealed.working.1
+    c.in-Ok-stage_rows.ensures.staged c.in-Ok-stage_rows.ensures.done c.in-Ok-seal.ensures.moves c.in-Ok-seal.ensures.loading c.in-Ok-seal.ensures.sealed c.in-Ok-seal.ensures.working.1
 
 pub returns-in-Ok-seal-clause-told : goal.returns-in-Ok-seal-clause-told
 returns-in-Ok-seal-clause-told g c =
-    let begun = c.in-Ok.ensures.load in
-    let area : geography_rows (geography_model_of c.in-Ok.load) ≡ geography_rows c.args.geography.value = ap (λ a. geography_rows a.value) begun.0 in
-    let none : done_of c.in-Ok.load ≡ 0 = begun.1 in
-    let rows : geography_rows (geography_model_of c.in-Ok.load) - done_of c.in-Ok.load ≡ geography_rows c.args.geography.value = omega (arith, area, none) in
+    let area : geography_rows (geography_model_of c.in-Ok.load) ≡ geography_rows c.args.geography.value = ap (λ a. geography_rows a.value) c.in-Ok.ensures.load.0 in
+    let rows : geography_rows (geography_model_of c.in-Ok.load) - done_of c.in-Ok.load ≡ geography_rows c.args.geography.value = omega (arith, area, c.in-Ok.ensures.load.1) in
     subst (λ (n : ℕ). g.P.Progress.is_told c.stage_rows.new.progress n) rows c.stage_rows.ensures.told
 
 pub returns-in-Err-seal-clause-moves : goal.returns-in-Err-seal-clause-moves
 returns-in-Err-seal-clause-moves g c =
     let did = c.in-Ok.ensures in
-    let sealed = c.in-Err-seal.ensures in
     load_moved c.args.clerk.now c.begin_load.new.self c.stage_rows.new.clerk c.seal.new.self c.args.geography.value c.in-Ok.load c.stage_rows.new.load
     (record { unsealed = did.unsealed; worked = did.loads.working.0; moves = did.moves; desk = did.loads.desk; staged = did.staged; last = did.last; the_geography = ap (λ a. a.value) did.load.0; none = did.load.1; works = did.loads.working.1 })
-    c.in-Ok-stage_rows.ensures.staged c.in-Ok-stage_rows.ensures.done sealed.moves sealed.loading
+    c.in-Ok-stage_rows.ensures.staged c.in-Ok-stage_rows.ensures.done c.in-Err-seal.ensures.moves c.in-Err-seal.ensures.loading
 
 pub returns-in-Err-seal-clause-err : goal.returns-in-Err-seal-clause-err
 returns-in-Err-seal-clause-err g c =
     let did = c.in-Ok.ensures in
-    let sealed = c.in-Err-seal.ensures in
     seal_refused c.args.clerk.now c.begin_load.new.self c.stage_rows.new.clerk c.seal.new.self c.args.geography.value c.in-Ok.load c.stage_rows.new.load
     (record { unsealed = did.unsealed; worked = did.loads.working.0; moves = did.moves; desk = did.loads.desk; staged = did.staged; last = did.last; the_geography = ap (λ a. a.value) did.load.0; none = did.load.1; works = did.loads.working.1 })
-    c.in-Ok-stage_rows.ensures.staged c.in-Ok-stage_rows.ensures.done sealed.moves sealed.loading sealed.unsealed sealed.quiet c.in-Err-seal.e sealed.err
+    c.in-Ok-stage_rows.ensures.staged c.in-Ok-stage_rows.ensures.done c.in-Err-seal.ensures.moves c.in-Err-seal.ensures.loading c.in-Err-seal.ensures.unsealed c.in-Err-seal.ensures.quiet c.in-Err-seal.e c.in-Err-seal.ensures.err

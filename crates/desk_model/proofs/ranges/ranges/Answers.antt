@@ -7,9 +7,7 @@ use Rattle.desk_model.proofs.ranges.ranges.Goals.{then-county+in_ok-push, else-c
 pub loop-place-init : goal.loop-place-init
 loop-place-init c =
     let g : GeographyModel = record { blocks = c.args.blocks.now; pairs = [] } in
-    let long : length (counties g) ≡ length c.args.blocks.now = counties_long g in
-    let some : 0 < length (counties g) = omega (arith, long, c.requires.some) in
-    subst (λ all. IsCutTo (counties g) all 0 1) (sym c.new-all.ensures.items) (cut_start (counties g) some)
+    subst (λ all. IsCutTo (counties g) all 0 1) (sym c.new-all.ensures.items) (cut_start (counties g) (omega (arith, counties_long g, c.requires.some)))
 
 pub loop-place-preserved : goal.loop-place-preserved
 loop-place-preserved c =
@@ -18,8 +16,7 @@ loop-place-preserved c =
     let before : c.loop-place.first < length c.args.blocks.now = omega (arith, c.loop-place.invariant.before) in
     let here : get_or (counties g) c.loop-place.place 0 ≡ c.county.result = county_there g c.loop-place.place c.index-blocks-place.result inside c.index-blocks-place.is ∙ ap (λ (row : BlockRow). county_of row.id) c.index-blocks-place.is ∙ sym c.county.ensures in
     let there : get_or (counties g) c.loop-place.first 0 ≡ c.county-in-loop-place.result = county_there g c.loop-place.first c.index-blocks-first.result before c.index-blocks-first.is ∙ ap (λ (row : BlockRow). county_of row.id) c.index-blocks-first.is ∙ sym c.county-in-loop-place.ensures in
-    let known : length (counties g) ≡ length c.args.blocks.now = counties_long g in
-    let long : c.loop-place.place < length (counties g) = omega (arith, known, inside) in
+    let long : c.loop-place.place < length (counties g) = omega (arith, counties_long g, inside) in
     elim c.if-county.branch [
       | then-county+in_ok-push w ↦ search (rules, cut_more)
       | else-county w ↦ search (rules, cut_same)

@@ -6,4 +6,4 @@ returns-clause-opening g c = record { any_moment = c.open.ensures.any_version; o
 
 pub returns-clause-again : goal.returns-clause-again
 returns-clause-again g c = λ honest d holds.
-    recovers c.one_desk_opens.ensures c.args.device d c.open.result holds honest c.open.ensures.any_moment c.open.ensures.any_version c.open.ensures.opened c.open.ensures.working c.open.ensures.err
+    recovers c.one_desk_opens.ensures c.args.device d c.open.result holds honest c.open.ensures.any_moment (returns-clause-opening g c) c.open.ensures.err

@@ -1,4 +1,4 @@
-use Rattle.{std.proofs.Common.{sym, ◌∙◌, rules}, gal_text.proofs.{FileLemmas.{told_end, no_failure, no_turn, counts_start, most_turns}, ValidLemmas.valid_pairs}}
+use Rattle.{std.proofs.Common.{sym, ◌∙◌, arith, rules}, gal_text.proofs.{FileLemmas.{told_end, no_failure, no_turn}, ValidLemmas.valid_pairs}}
 use Rattle.gal_text.proofs.gal.read.Goals as goal
 
 pub returns-in-Ok-read_graph-clause-read : goal.returns-in-Ok-read_graph-clause-read
@@ -21,7 +21,9 @@ returns-in-Ok-read_graph-clause-turns g c = λ is.
     absurd (no_turn c.args.blocks.now graph.progress c.finish.result (c.finish.ensures graph.progress graph.holds) is)
 
 pub returns-in-Ok-read_graph-clause-most : goal.returns-in-Ok-read_graph-clause-most
-returns-in-Ok-read_graph-clause-most g c = search (rules, c.read_graph.ensures.turns.counted, c.in-Ok.ensures.turns, c.read_graph.ensures.turns.within, most_turns, counts_start)
+returns-in-Ok-read_graph-clause-most g c =
+    omega (arith, c.read_graph.ensures.turns.counted (g.R.Source.turns c.args.reader.now) (omega (arith, c.in-Ok.ensures.turns)), c.read_graph.ensures.turns.within)
 
 pub returns-clause-most : goal.returns-clause-most
-returns-clause-most g c = search (rules, c.read_graph.ensures.turns.counted, c.in-Ok.ensures.turns, c.read_graph.ensures.turns.within, most_turns, counts_start)
+returns-clause-most g c =
+    omega (arith, c.read_graph.ensures.turns.counted (g.R.Source.turns c.args.reader.now) (omega (arith, c.in-Ok.ensures.turns)), c.read_graph.ensures.turns.within)

@@ -1,19 +1,17 @@
-use Rattle.{std.{specs.List.filter_map, proofs.Common.{◌≡◌, ap, ◌∙◌}}, gal_text.specs.Pairing.{upward_pair, downward_pair}}
-use Rattle.gal_text.proofs.LinkLemmas.{cut_from_sorted, pairs_from_cut, mutual_at_none}
+use Rattle.{std.proofs.lemmas.Option.MatchOption-at_none, gal_text.{specs.claim.Links.{AreMutual, IsLeastOneWay}, proofs.LinkLemmas.{cut_from_sorted, pairs_from_cut}}}
 use Rattle.gal_text.proofs.links.pairs_of.Goals as goal
 
 pub find_one_way-requires : goal.find_one_way-requires
 find_one_way-requires c =
-    let links = c.args.links.items in
-    let up_is : c.in-Ok.up.items ≡ filter_map upward_pair links = c.in-Ok.ensures ∙ ap (filter_map upward_pair) c.as_slice.ensures.value in
-    let down_is : c.in-Ok-downward.down.items ≡ filter_map downward_pair links = c.in-Ok-downward.ensures ∙ ap (filter_map downward_pair) c.as_slice-2.ensures.value in
     rw (c.as_slice-3.ensures.value, c.as_slice-4.ensures.value, c.as_slice-5.ensures.value)
-    (cut_from_sorted links _ _ _ _ up_is c.sort_pairs.ensures.rising c.sort_pairs.ensures.kept down_is c.sort_pairs-2.ensures.rising c.sort_pairs-2.ensures.kept)
+    (cut_from_sorted c.args.links.items _ _ _ _ (rw c.as_slice.ensures.value at c.in-Ok.ensures) c.sort_pairs.ensures.rising c.sort_pairs.ensures.kept
+    (rw c.as_slice-2.ensures.value at c.in-Ok-downward.ensures) c.sort_pairs-2.ensures.rising c.sort_pairs-2.ensures.kept)
 
 pub returns : goal.returns
-returns c =
-    let links = c.args.links.items in
-    let up_is : c.in-Ok.up.items ≡ filter_map upward_pair links = c.in-Ok.ensures ∙ ap (filter_map upward_pair) c.as_slice.ensures.value in
-    let down_is : c.in-Ok-downward.down.items ≡ filter_map downward_pair links = c.in-Ok-downward.ensures ∙ ap (filter_map downward_pair) c.as_slice-2.ensures.value in
-    let cut = cut_from_sorted links _ _ _ _ up_is c.sort_pairs.ensures.rising c.sort_pairs.ensures.kept down_is c.sort_pairs-2.ensures.rising c.sort_pairs-2.ensures.kept in
-    (rw c.as_slice-3.ensures.value at (mutual_at_none _ _ c.find_one_way.ensures c.in_default-find_one_way.is), pairs_from_cut links _ _ cut)
+returns c = (
+  rw c.as_slice-3.ensures.value at
+      (MatchOption-at_none (AreMutual c.as_slice-3.result.now) (λ l. IsLeastOneWay c.as_slice-3.result.now l.from l.to) c.in_default-find_one_way.is c.find_one_way.ensures),
+  pairs_from_cut c.args.links.items _ _
+      (cut_from_sorted c.args.links.items _ _ _ _ (rw c.as_slice.ensures.value at c.in-Ok.ensures) c.sort_pairs.ensures.rising c.sort_pairs.ensures.kept
+      (rw c.as_slice-2.ensures.value at c.in-Ok-downward.ensures) c.sort_pairs-2.ensures.rising c.sort_pairs-2.ensures.kept),
+)

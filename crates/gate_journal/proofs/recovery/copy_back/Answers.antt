@@ -1,5 +1,5 @@
-use Rattle.{std.proofs.{Common.{◌≡◌, ◌+◌, ◌∙◌, rules, arith}, lemmas.List.take_all}, gate_journal.{specs.{Store.Homes, claim.Store.{home, copies}}, proofs.Quiet.opens_so}}
-use Rattle.{sector_device.{specs.claim.Disk.Nowhere, proofs.Moments.touches_more}, gate_journal.proofs.Commit.{back_more, back_touches, entry_same, count_is}}
+use Rattle.{std.proofs.{Common.{◌+◌, ◌∙◌, rules, arith}, lemmas.List.take_all}, gate_journal.{specs.{Store.Homes, claim.Store.{home, copies}}, proofs.Quiet.opens_so}}
+use Rattle.{sector_device.{specs.claim.Disk.Nowhere, proofs.Moments.touches_more}, gate_journal.proofs.Commit.{back_more, entry_same, count_is}}
 use Rattle.gate_journal.proofs.recovery.copy_back.Goals as goal
 
 pub loop-k-preserved : goal.loop-k-preserved
@@ -7,15 +7,12 @@ loop-k-preserved g c = record {
   sectors = search rules;
   honest = λ honest. c.loop-k.invariant.honest (c.in_ok-page.ensures.model (c.in_ok-copy_sector.ensures.model honest).touches.was_honest).0.was_honest;
   so_far = λ honest counted valid.
-      let J = c.args.layout.journal_pages in
-      let a = g.D.SectorDevice.disk c.args.device.now in
-      let b = g.D.SectorDevice.disk c.loop-k.device in
-      let e = g.D.SectorDevice.disk c.list_entry.new.device in
-      let d = g.D.SectorDevice.disk c.copy_sector.new.device in
       let copied = c.in_ok-copy_sector.ensures.model honest in
       let entry = c.in_ok-page.ensures.model copied.touches.was_honest in
       let so_far = c.loop-k.invariant.so_far entry.0.was_honest counted valid in
-      let both = back_more J a b e d c.loop-k.k c.in_ok-page.page valid.count (omega (arith, counted)) so_far.touches so_far.done entry.0 (c.in_ok-page.ensures.told copied.touches.was_honest) copied.touches copied.done in
+      let told = c.in_ok-page.ensures.told copied.touches.was_honest in
+      let both = back_more c.args.layout.journal_pages _ _ _ _ c.loop-k.k c.in_ok-page.page valid.count (omega (arith, counted)) so_far.touches entry.0 told copied.touches in
+      let done = both.1 so_far.done copied.done in
       search rules;
 }
 
@@ -36,16 +33,12 @@ returns-then-page-layout g c = opens_so (search rules) (search rules) (search ru
 
 pub returns-in_err-copy_sector : goal.returns-in_err-copy_sector
 returns-in_err-copy_sector g c = opens_so (search rules) (search rules) (search rules) (λ honest counted valid.
-    let J = c.args.layout.journal_pages in
-    let a = g.D.SectorDevice.disk c.args.device.now in
-    let b = g.D.SectorDevice.disk c.loop-k.device in
-    let e = g.D.SectorDevice.disk c.list_entry.new.device in
-    let d = g.D.SectorDevice.disk c.copy_sector.new.device in
     let copied = c.copy_sector.ensures.model honest in
     let entry = c.in_ok-page.ensures.model copied.touches.was_honest in
     let so_far = c.loop-k.invariant.so_far entry.0.was_honest counted valid in
-    let touches = back_touches J a b e d c.loop-k.k c.in_ok-page.page valid.count (omega (arith, counted)) so_far.touches entry.0 (c.in_ok-page.ensures.told copied.touches.was_honest) copied.touches in
-    let passed : e.faults ≡ a.faults = entry.1.passed ∙ so_far.passed in
+    let told = c.in_ok-page.ensures.told copied.touches.was_honest in
+    let both = back_more c.args.layout.journal_pages _ _ _ _ c.loop-k.k c.in_ok-page.page valid.count (omega (arith, counted)) so_far.touches entry.0 told copied.touches in
+    let passed = entry.1.passed ∙ so_far.passed in
     search rules)
 
 pub returns : goal.returns

@@ -1,5 +1,5 @@
-use Rattle.{std.proofs.{Common.{◌≡◌, ◌∙◌, ℕ, sym, ap, subst, inl, inr, arith, rules}, lemmas.Bool.cases_eq}, desk_model.specs.claim.{Block.state_of, Geography.id_at}}
-use Rattle.geo_tables.proofs.Ids.{any_default, id_there, length-ids}
+use Rattle.{std.proofs.{Common.{◌≡◌, ◌∙◌, ℕ, sym, ap, subst, inl, inr, arith, rules}, lemmas.{Bool.cases_eq, Grind.get_or_default_zero}}, desk_model.specs.claim.Block.state_of}
+use Rattle.{desk_model.specs.claim.Geography.id_at, geo_tables.proofs.Ids.{id_there, length-ids}}
 use Rattle.geo_tables.proofs.checks.are_of_one_state.Goals as goal
 
 pub returns-then-state : goal.returns-then-state
@@ -22,4 +22,4 @@ loop-k-preserved c = λ j less.
     ]
 
 pub returns : goal.returns
-returns c = search (rules, arith, c.args.blocks.now, length-ids, any_default, c.loop-k.invariant)
+returns c = search (rules, arith, c.args.blocks.now, length-ids, get_or_default_zero, c.loop-k.invariant)

@@ -1,22 +1,17 @@
-use Rattle.{std.proofs.Common.{List, ℕ, Option, Some, ap, sym, subst, ◌∙◌, arith, rules}, desk_pages.specs.Reading.StandsAs, store_rows.specs.claim.Values.seal_bytes}
-use Rattle.{store_rows.specs.declared.value.SealRow.SealRow, desk_pages.proofs.Looking.{both, fails, fails_then, finds, gathered}}
+use Rattle.{std.proofs.Common.{Some, ap, sym, ◌∙◌, arith, rules}, desk_pages.proofs.Looking.{both, fails, fails_then, finds, gathered}}
 use Rattle.geo_tables.proofs.SealedRows.{none_by_seal, seal_stands, told_by_seal}
 use Rattle.geo_tables.proofs.sealed.geography.Goals as goal
 
 pub returns-in_err-found : goal.returns-in_err-found
-returns-in_err-found g c = fails c.from_residual.result (gathered _ c.in_err-found.ensures) c.from_residual.ensures.1 (λ m is.
-    subst (λ (key : List ℕ). (sealed : Option SealRow) × StandsAs seal_bytes key m sealed) (sym c.seal.ensures) (seal_stands m is.0 is.1))
+returns-in_err-found g c = fails c.from_residual.result (gathered _ c.in_err-found.ensures) c.from_residual.ensures.1 (λ m is. rw c.seal.ensures (seal_stands m is.0 is.1))
 
 pub returns-in_err-geography-in-Some : goal.returns-in_err-geography-in-Some
 returns-in_err-geography-in-Some g c = fails_then (gathered _ c.in_ok-found.ensures) c.from_residual-in_err-geography-in-Some.result c.in_err-geography-in-Some.ensures c.from_residual-in_err-geography-in-Some.ensures.1 (λ m stands is.
-    let told = told_by_seal m is.0 c.in-Some.sealed c.seal_fits.ensures (subst (λ (key : List ℕ). StandsAs seal_bytes key m (Some c.in-Some.sealed)) c.seal.ensures
-    (subst (λ (row : Option SealRow). StandsAs seal_bytes c.seal.result m row) c.in-Some.is stands)) is.1 in
-    (told.0, told.2))
+    let told = told_by_seal m is.0 c.in-Some.sealed c.seal_fits.ensures (rw (c.seal.ensures, c.in-Some.is) at stands) is.1 in (told.0, told.2))
 
 pub returns-in_ok-geography-in-Some : goal.returns-in_ok-geography-in-Some
 returns-in_ok-geography-in-Some g c = finds (both (gathered _ c.in_ok-found.ensures) c.in_ok-geography-in-Some.ensures) (λ m is.
-    let stands = subst (λ (key : List ℕ). StandsAs seal_bytes key m (Some c.in-Some.sealed)) c.seal.ensures
-    (subst (λ (row : Option SealRow). StandsAs seal_bytes c.seal.result m row) c.in-Some.is is.0) in
+    let stands = rw (c.seal.ensures, c.in-Some.is) at is.0 in
     record {
       there = (c.in-Some.sealed, stands, is.1.there);
       read = λ found says. let told = told_by_seal m found c.in-Some.sealed c.seal_fits.ensures stands says in ap Some (is.1.read told.0 told.2) ∙ sym told.1;

@@ -1,52 +1,43 @@
-use Rattle.{std.{specs.Prelude.◌⊎◌, proofs.Common.{◌≡◌, [], ◌∷◌, subst, inl, arith}}, desk_model.specs.claim.Geography.GeographyModel, desk_pages.specs.Errors.tree_refusal}
-use Rattle.{desk_pages.specs.claim.{Desks.{InPages, OpensDesk}, Puts.PutsErr}, geo_tables.specs.{Loading.{number_of, geography_model_of}, Loads.HasSealed, Rows.seal_row}}
+use Rattle.{std.{specs.Prelude.◌⊎◌, proofs.{Common.{◌≡◌, [], ◌∷◌, inl, arith}, lemmas.Result.on_ok_weaker}}, desk_model.specs.claim.Geography.GeographyModel}
+use Rattle.{desk_pages.specs.{Errors.tree_refusal, claim.Desks.OpensDesk}, geo_tables.specs.{Loading.{number_of, geography_model_of}, Loads.HasSealed, Rows.seal_row}}
 use Rattle.{geo_tables.specs.declared.load.Load.Load, page_store.specs.{claim.Transactions.disk_in, declared.{pages.Pages.Pages, txn.Txn.Txn}}, store_rows.specs.Changes.desk_with}
-use Rattle.{sector_device.specs.declared.SectorDevice.Ghosts, desk_pages.proofs.Kept.opens_now, geo_tables.proofs.{Joins.{quiet_leaves, step_leaves, room_of}, Results.ok_then}}
-use Rattle.geo_tables.proofs.{Refused.{seal_refused, seal_unfinished, seal_unstarted}, Staged.{seal_fits, seal_desk}, Steps.{commits_after, not_started, not_stepped}}
-use Rattle.{page_store.proofs.Stops.leaves_here, sector_device.proofs.Moments.leaves_wider}
+use Rattle.{sector_device.{specs.declared.SectorDevice.Ghosts, proofs.Moments.leaves_wider}, desk_pages.proofs.Kept.opens_now, geo_tables.proofs.Joins.{quiet_leaves, step_leaves}}
+use Rattle.geo_tables.proofs.{Refused.{rows_refused, rows_unstarted}, Staged.{desk_held, seal_fits, seal_desk}, Steps.{commits_after, not_started, not_stepped}}
+use Rattle.page_store.proofs.Stops.{leaves_here}
 use Rattle.geo_tables.proofs.seals.put_seal.Goals as goal
 
 -- what was put, of the geography itself
-put_of : {D : Type 0} {g : Ghosts D} (load : Load) (area : GeographyModel) (t u : Txn) (a b : Pages D g) → area ≡ geography_model_of load → HasSealed (number_of load) area t u a b → HasSealed (number_of load) (geography_model_of load) t u a b
-put_of load area t u a b same put = subst (λ (x : GeographyModel). HasSealed (number_of load) x t u a b) same put
+put_of : {D : Type 0} {g : Ghosts D} (load : Load) {area : GeographyModel} {t u : Txn} {a b : Pages D g} → area ≡ geography_model_of load → HasSealed (number_of load) area t u a b → HasSealed (number_of load) (geography_model_of load) t u a b
+put_of load same put = rw same at put
 
 pub returns-in_err-txn-clause-any_moment : goal.returns-in_err-txn-clause-any_moment
-returns-in_err-txn-clause-any_moment g c = λ honest working sectors d whole holds. leaves_here (λ x. OpensDesk sectors d x ⊎ OpensDesk sectors (desk_with (geography_model_of c.args.load.now) d.plans) x) (disk_in c.args.pages.now) (λ x left. inl (opens_now c.args.pages.now working honest sectors d whole (record { m = holds.m; holds = holds.holds; is = holds.is }) x left))
+returns-in_err-txn-clause-any_moment g c = λ honest working sectors d whole holds. leaves_here (λ x. OpensDesk sectors d x ⊎ OpensDesk sectors (desk_with (geography_model_of c.args.load.now) d.plans) x) (disk_in c.args.pages.now) (λ x left. inl (opens_now c.args.pages.now working honest sectors d whole (desk_held holds) x left))
 
 pub returns-in_err-seal_rows-clause-any_moment : goal.returns-in_err-seal_rows-clause-any_moment
 returns-in_err-seal_rows-clause-any_moment g c = λ honest working sectors d whole holds.
     leaves_wider (OpensDesk sectors d) (λ x. OpensDesk sectors d x ⊎ OpensDesk sectors (desk_with (geography_model_of c.args.load.now) d.plans) x) (disk_in c.args.pages.now) (disk_in c.seal_rows.new.pages) (λ x opens. inl opens)
-    (quiet_leaves c.args.pages.now c.seal_rows.new.pages c.seal_rows.ensures.quiet honest working sectors d whole (record { m = holds.m; holds = holds.holds; is = holds.is }))
+    (quiet_leaves c.seal_rows.ensures.quiet honest working sectors d whole (desk_held holds))
 
 pub commit_fitting-requires-clause-few : goal.commit_fitting-requires-clause-few
-commit_fitting-requires-clause-few g c = seal_fits c.args.load.now c.in_ok-txn.txn c.seal_rows.new.txn c.args.pages.now c.seal_rows.new.pages c.in_ok-txn.ensures (put_of c.args.load.now c.deref.result.now c.in_ok-txn.txn c.seal_rows.new.txn c.args.pages.now c.seal_rows.new.pages c.deref.ensures c.in_ok-seal_rows.ensures.put)
+commit_fitting-requires-clause-few g c = seal_fits c.in_ok-txn.ensures (put_of c.args.load.now c.deref.ensures c.in_ok-seal_rows.ensures.put)
 
 pub returns-clause-any_moment : goal.returns-clause-any_moment
-returns-clause-any_moment g c = λ honest working sectors d whole holds.
-    let then = c.commit_fitting.ensures.commits.honest honest in
-    step_leaves c.seal_rows.new.txn c.args.pages.now c.seal_rows.new.pages c.commit_fitting.new.pages c.in_ok-seal_rows.ensures.quiet then working (c.commit_fitting.ensures.any_moment honest) sectors d (desk_with (geography_model_of c.args.load.now) d.plans) whole (record { m = holds.m; holds = holds.holds; is = holds.is })
-    (seal_desk c.args.load.now c.in_ok-txn.txn c.seal_rows.new.txn c.args.pages.now c.seal_rows.new.pages d (record { sound = c.is_sound.ensures.sound; number = c.is_sound.ensures.number; few = c.args.load.now.few; left = (let within = c.args.load.now.within in omega arith) }) c.requires c.in_ok-txn.ensures (put_of c.args.load.now c.deref.result.now c.in_ok-txn.txn c.seal_rows.new.txn c.args.pages.now c.seal_rows.new.pages c.deref.ensures c.in_ok-seal_rows.ensures.put) then holds)
+returns-clause-any_moment g c = λ honest working sectors d whole holds. step_leaves c.in_ok-seal_rows.ensures.quiet c.commit_fitting.ensures honest working sectors d (desk_with (geography_model_of c.args.load.now) d.plans) whole (desk_held holds)
+    (λ then. seal_desk c.in_ok-txn.ensures (put_of c.args.load.now c.deref.ensures c.in_ok-seal_rows.ensures.put) d (record { sound = c.is_sound.ensures.sound; number = c.is_sound.ensures.number; few = c.args.load.now.few; left = (let within = c.args.load.now.within in omega arith) }) c.requires then holds)
 
 pub returns-clause-sealed : goal.returns-clause-sealed
 returns-clause-sealed g c = λ honest d holds.
-    let then = c.commit_fitting.ensures.commits.honest honest in
-    let desk = seal_desk c.args.load.now c.in_ok-txn.txn c.seal_rows.new.txn c.args.pages.now c.seal_rows.new.pages d (record { sound = c.is_sound.ensures.sound; number = c.is_sound.ensures.number; few = c.args.load.now.few; left = (let within = c.args.load.now.within in omega arith) }) c.requires c.in_ok-txn.ensures (put_of c.args.load.now c.deref.result.now c.in_ok-txn.txn c.seal_rows.new.txn c.args.pages.now c.seal_rows.new.pages c.deref.ensures c.in_ok-seal_rows.ensures.put) then holds in
-    ok_then c.commit_fitting.result _ (InPages c.commit_fitting.new.pages (desk_with (geography_model_of c.args.load.now) d.plans)) (λ held. record { m = desk.m; holds = (held desk.m desk.holds).0; is = desk.is }) (c.commit_fitting.ensures.held honest)
+    let desk = seal_desk c.in_ok-txn.ensures (put_of c.args.load.now c.deref.ensures c.in_ok-seal_rows.ensures.put) d (record { sound = c.is_sound.ensures.sound; number = c.is_sound.ensures.number; few = c.args.load.now.few; left = (let within = c.args.load.now.within in omega arith) }) c.requires (c.commit_fitting.ensures.commits.honest honest) holds in
+    on_ok_weaker c.commit_fitting.result (λ held. record { m = desk.m; holds = (held desk.m desk.holds).0; is = desk.is }) (c.commit_fitting.ensures.held honest)
 
 pub returns-in_err-txn-clause-step : goal.returns-in_err-txn-clause-step
-returns-in_err-txn-clause-step g c = not_started c.in_err-txn.field-0.0 c.from_residual.result c.in_err-txn.ensures c.from_residual.ensures.1 (seal_unstarted c.args.load.now c.args.pages.now)
+returns-in_err-txn-clause-step g c = not_started c.in_err-txn.field-0.0 c.from_residual.result c.in_err-txn.ensures c.from_residual.ensures.1 (rows_unstarted c.args.load.now 2 _ c.args.pages.now)
 
 pub returns-in_err-seal_rows-clause-step : goal.returns-in_err-seal_rows-clause-step
 returns-in_err-seal_rows-clause-step g c =
     not_stepped (tree_refusal c.in_err-seal_rows.field-0.0) c.from_residual-in_err-seal_rows.result c.in_ok-txn.ensures.working c.seal_rows.ensures.quiet c.from_residual-in_err-seal_rows.ensures.1
-    (seal_refused c.args.load.now c.in_ok-txn.txn c.args.pages.now c.seal_rows.new.pages c.in_ok-txn.ensures c.seal_rows.ensures.quiet c.in_err-seal_rows.field-0.0
-    (subst (λ (x : GeographyModel). PutsErr (seal_row c.args.load.now.number x ∷ []) c.in_ok-txn.txn c.args.pages.now c.seal_rows.new.pages c.in_err-seal_rows.field-0.0) c.deref.ensures c.in_err-seal_rows.ensures.put))
+    (rows_refused c.args.load.now 2 (seal_row (number_of c.args.load.now) (geography_model_of c.args.load.now) ∷ []) c.in_ok-txn.txn c.args.pages.now c.seal_rows.new.pages c.in_ok-txn.ensures (omega arith)
+    c.seal_rows.ensures.quiet c.in_err-seal_rows.field-0.0 (rw c.deref.ensures at c.in_err-seal_rows.ensures.put))
 
 pub returns-clause-step : goal.returns-clause-step
-returns-clause-step g c =
-    let passed = c.in_ok-seal_rows.ensures.put.passed in
-    let did = c.commit_fitting.ensures in
-    commits_after passed c.in_ok-txn.ensures.working c.commit_fitting.result
-    (room_of 2 c.args.pages.now c.commit_fitting.new.pages c.in_ok-txn.txn c.in_ok-txn.ensures (λ honest. passed.quiet.honest (did.commits.honest honest)))
-    did.commits.shape did.commits.honest did.commits.kept did.commits.passed did.ok did.err
-    (seal_unfinished c.args.load.now c.in_ok-txn.txn c.args.pages.now c.seal_rows.new.pages c.commit_fitting.new.pages c.in_ok-txn.ensures passed did.commits.honest)
+returns-clause-step g c = commits_after c.in_ok-seal_rows.ensures.put.passed c.in_ok-txn.ensures.working c.in_ok-txn.ensures (λ why. why) (λ why. why) c.commit_fitting.result c.commit_fitting.ensures

@@ -1,4 +1,4 @@
-use Rattle.{std.proofs.{Common.rules, lemmas.List.places}, http_intake.proofs.ChunkReadLemmas.{stands_more, stands_ended, stands_failed, step_within}}
+use Rattle.{std.proofs.{Common.{rules, Ok, Err}, lemmas.List.places}, http_intake.proofs.ChunkReadLemmas.{stands_more, stands_ended, step_within}}
 use Rattle.http_intake.proofs.DrawsLemmas.{spends_more, same_more}
 use Rattle.http_intake.proofs.chunks.read_chunks.Goals as goal
 
@@ -8,8 +8,9 @@ loop-chunked-preserved g c =
 
 pub returns-in-Ok-Some-clause-read : goal.returns-in-Ok-Some-clause-read
 returns-in-Ok-Some-clause-read g c =
-    stands_ended _ (g.R.Source.remaining c.loop-chunked.intake.reader.now) _ c.args.intake.now.read_buffer.now c.loop-chunked.intake.read_buffer.now c.loop-chunked.body.items c.read_chunk.new.body.items c.read_chunk.new.intake.read_buffer.now c.in-Ok-Some.chunked c.loop-chunked.invariant.stands
+    stands_ended _ (g.R.Source.remaining c.loop-chunked.intake.reader.now) _ c.args.intake.now.read_buffer.now c.loop-chunked.intake.read_buffer.now c.loop-chunked.body.items c.read_chunk.new.body.items c.read_chunk.new.intake.read_buffer.now (Ok c.in-Ok-Some.chunked) c.loop-chunked.invariant.stands
     (rw c.in-Ok-Some.field-0-is at c.in-Ok-Some.ensures.read)
 
 pub returns-in-Err-clause-read : goal.returns-in-Err-clause-read
-returns-in-Err-clause-read g c = search (rules, c.loop-chunked.invariant.stands, c.in-Err.ensures.read, stands_failed)
+returns-in-Err-clause-read g c =
+    stands_ended _ (g.R.Source.remaining c.loop-chunked.intake.reader.now) _ c.args.intake.now.read_buffer.now c.loop-chunked.intake.read_buffer.now c.loop-chunked.body.items c.read_chunk.new.body.items c.read_chunk.new.intake.read_buffer.now (Err c.in-Err.fault) c.loop-chunked.invariant.stands c.in-Err.ensures.read

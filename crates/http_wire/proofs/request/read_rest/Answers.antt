@@ -1,6 +1,6 @@
 use Rattle.{std.proofs.{Common.{List, [], ℕ, ◌++◌, length, ◌∙◌, ap, sym, subst, rules}, KnownBytes.Consumes-nil}, http_wire.specs.{Framed.BodyRead, claim.Interim.continue_text}}
-use Rattle.{http_wire.{specs.Incoming.{ReadsPrefix, IsTargetOf}, proofs.InterimLemmas.{found_asks, found_cut}}, httparse.specs.Spans.{span_bytes, IsWithin}}
-use Rattle.http_wire.proofs.{FinishLemmas.{finish_draws, finish_ends, finish_writes, out_of_memory_draws, write_draws}, RequestLemmas.{rest_reads, out_of_memory, due}}
+use Rattle.{http_wire.specs.Incoming.{ReadsPrefix, IsTargetOf}, httparse.specs.Spans.{span_bytes, IsWithin}, http_intake.proofs.DrawsLemmas.{same_none, spends_none}}
+use Rattle.http_wire.proofs.{FinishLemmas.{finish_draws, finish_ends, finish_writes}, InterimLemmas.{found_asks, found_cut}, RequestLemmas.{rest_reads, out_of_memory, due}}
 use Rattle.http_wire.proofs.request.read_rest.Goals as goal
 
 pub returns : goal.returns
@@ -37,7 +37,7 @@ returns-in_default g c = record {
       (continue_text c.args.head.expects, c.in-Ok.ensures.bytes, ([], Consumes-nil (g.R.Source.remaining c.args.intake.now.reader.now), (out_of_memory input [] c.args.head c.requires, due input [] _ c.args.head c.requires asks)));
   end = search rules;
   write_failures = c.in-Ok.ensures.failures;
-  draws = out_of_memory_draws g.R.Source.turns g.R.Source.failures c.args.intake.now c.args.head.head_only;
+  draws = search (rules, same_none, spends_none);
 }
 
 pub returns-in-Err : goal.returns-in-Err
@@ -46,7 +46,7 @@ returns-in-Err g c = record {
       (sent.0, sent.3, ([], Consumes-nil (g.R.Source.remaining c.args.intake.now.reader.now), found_cut c.chunk_law.ensures c.args.intake.now.read_buffer.now [] c.args.head sent.0 sent.1 c.requires c.in-Err.ensures.asked sent.2));
   end = search rules;
   write_failures = c.in-Err.ensures.failures;
-  draws = write_draws g.R.Source.turns g.R.Source.failures c.args.intake.now;
+  draws = search (rules, same_none, spends_none);
 }
 
 pub begin-requires-clause-method : goal.begin-requires-clause-method

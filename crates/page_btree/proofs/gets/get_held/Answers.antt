@@ -1,6 +1,6 @@
 use Rattle.{std.{specs.{FinMap.{find, get as row_at}, Prelude.{IfSome, Some}}, proofs.Common.{◌∙◌, arith}}, page_btree.specs.Getting.IsCopied, page_node.specs.claim.Places.key_cmp}
-use Rattle.{page_store.specs.claim.Transactions.stored, page_btree.proofs.{Outcomes.{map_ok, on_err, fault_refused}, Placed.{placed_as, some_copied}}}
-use Rattle.page_node.proofs.Nearing.{first_below}
+use Rattle.{page_store.specs.claim.Transactions.stored, page_btree.proofs.{Outcomes.{map_ok, fault_refused}, Placed.{placed_as, some_copied}}}
+use Rattle.page_node.proofs.Nearing.{first_below, where_err}
 use Rattle.page_btree.proofs.gets.get_held.Goals as goal
 
 pub returns-clause-get : goal.returns-clause-get
@@ -15,7 +15,7 @@ returns-clause-get g c = λ honest m holds.
     (c.copy_value.ensures.value (record { level = 0; entries = it.rows_in }) it.node it.rises (first_below key it.rows_in))
 
 pub returns-clause-reading : goal.returns-clause-reading
-returns-clause-reading g c = fault_refused c.in_ok-own.ensures.reading.passed c.copy_value.ensures.err (on_err c.copy_value.result _ _ (λ refused honest m holds.
+returns-clause-reading g c = fault_refused c.in_ok-own.ensures.reading.passed c.copy_value.ensures.err (where_err c.copy_value.result _ _ (λ refused honest m holds.
     let small = c.if-not-is_small_leaf.false in
     let it = placed_as c.args.txn.now (stored c.args.pages.now) m c.held_page-page.result holds c.if-page-eq0.false (let same = c.page_count.ensures in let less = c.if-page-page_count.false in omega arith)
     (c.lent-bytes.ensures ∙ c.in_ok-own.ensures.lends honest) (c.is_small_leaf.ensures.leaf small) (c.is_small_leaf.ensures.used small) in

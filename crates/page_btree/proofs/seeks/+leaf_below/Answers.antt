@@ -1,8 +1,8 @@
 use Rattle.std.{specs.Prelude.OnOk, proofs.{Common.{◌≡◌, ◌-◌, ℕ, List, [], length, get_or, slice_set, refl, sym, ap, subst, ◌∙◌, arith}, lemmas.List.get_or-set_same}}
 use Rattle.{page_btree.specs.{Getting.CanGet, Seeking.{bound_in, nearer, leaf_of, bound_of, IsRead}, claim.Tree.rows}, page_node.specs.Places.{ceiling, entries_from}}
 use Rattle.{page_node.specs.{Walking.IsAhead, claim.{Entries.Entry, Node.{Node, IsNode}}}, page_store.specs.claim.Transactions.{stored, txn_pages, over}}
-use Rattle.{sector_device.specs.claim.Disk.Image, page_btree.proofs.{Below.{down, not_lent, no_child, not_below}, Descent.leaf_page, Outcomes.{map_ok, on_err, fault_refused}}}
-use Rattle.page_btree.proofs.{Following.{leaf_alone, held_alone, read_held, read_more}, Rising.node_rises}
+use Rattle.{sector_device.specs.claim.Disk.Image, page_btree.proofs.{Below.{down, not_lent, no_child, not_below}, Descent.leaf_page, Outcomes.{map_ok, fault_refused}}}
+use Rattle.{page_btree.proofs.{Following.{leaf_alone, held_alone, read_held, read_more}, Rising.node_rises}, page_node.proofs.Nearing.where_err}
 use Rattle.page_btree.proofs.seeks.+leaf_below.Goals as goal
 
 -- ---- a leaf
@@ -30,7 +30,7 @@ returns-then-level-eq0-clause-read g t c = λ honest is.
     (subst (λ (es : List Entry). OnOk c.stand.result (now.left ≡ length (entries_from key es))) same (c.stand.ensures.left node there l.1))
 
 pub returns-then-level-eq0-clause-reading : goal.returns-then-level-eq0-clause-reading
-returns-then-level-eq0-clause-reading g t c = fault_refused c.in_ok-read_level.ensures.reaches.reading.passed c.stand.ensures.err (on_err c.stand.result _ _ (λ none honest is.
+returns-then-level-eq0-clause-reading g t c = fault_refused c.in_ok-read_level.ensures.reaches.reading.passed c.stand.ensures.err (where_err c.stand.result _ _ (λ none honest is.
     let first = get_or-set_same c.args.held.now 0 c.read_level.new.page [] (omega arith) in
     none (record { level = 0; entries = rows is.0.tree }) (rw (first, c.in_ok-read_level.ensures.reads honest) (leaf_page _ _ _ _ _ is.0 c.if-level-eq0.true).0)) c.stand.ensures.refused)
 

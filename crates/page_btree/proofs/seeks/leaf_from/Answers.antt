@@ -3,12 +3,10 @@ use Rattle.{page_btree.proofs.{Following.{from_found, from_after, some_after}, O
 use Rattle.page_btree.proofs.seeks.leaf_from.Goals as goal
 
 pub returns-then-leaf-gt0-clause-rows : goal.returns-then-leaf-gt0-clause-rows
-returns-then-leaf-gt0-clause-rows g c = λ honest m holds.
-    from_found _ _ _ _ m c.args.key.now c.leaf_for.new.leaf c.leaf_for.new.held holds c.in_ok-leaf_for.ensures.bare (c.in_ok-leaf_for.ensures.read honest m) (λ none alone. absurd (omega arith))
+returns-then-leaf-gt0-clause-rows g c = λ honest m holds. from_found _ _ _ _ m _ _ _ holds c.in_ok-leaf_for.ensures.bare (c.in_ok-leaf_for.ensures.read honest m) (λ none alone. absurd (omega arith))
 
 pub returns-then-leaf-gt0-2-clause-rows : goal.returns-then-leaf-gt0-2-clause-rows
-returns-then-leaf-gt0-2-clause-rows g c = λ honest m holds.
-    from_found _ _ _ _ m c.args.key.now c.leaf_for.new.leaf c.leaf_for.new.held holds c.in_ok-leaf_for.ensures.bare (c.in_ok-leaf_for.ensures.read honest m) (λ none alone. absurd (omega arith))
+returns-then-leaf-gt0-2-clause-rows g c = λ honest m holds. from_found _ _ _ _ m _ _ _ holds c.in_ok-leaf_for.ensures.bare (c.in_ok-leaf_for.ensures.read honest m) (λ none alone. absurd (omega arith))
 
 pub returns-then-not-leaf-clause-rows : goal.returns-then-not-leaf-clause-rows
 returns-then-not-leaf-clause-rows g c =

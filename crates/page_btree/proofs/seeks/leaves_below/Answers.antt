@@ -1,6 +1,7 @@
 use Rattle.{std.proofs.Common.{◌≡◌, ◌≤◌, ℕ, get_or, ◌∙◌, arith}, page_btree.{specs.{Getting.{CanGet, CanGetAt, IsLevel}, Seeking.{bound_in, leaf_of}}, proofs.Below.no_child}}
 use Rattle.{page_node.specs.claim.Node.Node, page_store.specs.claim.Transactions.{stored, disk_in, txn_pages, over}, sector_device.specs.claim.Disk.Image}
-use Rattle.{page_btree.proofs.{Following.{IsHeld, are_held, read_held}, Outcomes.{on_err, fault_refused}, Refusals.refused_below}, page_store.proofs.Stops.passed_more}
+use Rattle.{page_btree.proofs.{Following.{IsHeld, are_held, read_held}, Outcomes.fault_refused, Refusals.refused_below}, page_node.proofs.Nearing.where_err}
+use Rattle.page_store.proofs.Stops.{passed_more}
 use Rattle.page_btree.proofs.seeks.leaves_below.Goals as goal
 
 -- ---- no way down
@@ -31,7 +32,7 @@ held g c honest is =
     c.read_leaves.new.held (omega arith) (λ j le. rw (c.in_ok-own.ensures.reaches.reading.quiet.same before) at (c.in_ok-read_leaves.ensures.reads honest j le))
 
 pub returns-clause-reading : goal.returns-clause-reading
-returns-clause-reading g c = fault_refused (passed_more _ _ _ c.in_ok-own.ensures.reaches.reading.passed c.in_ok-read_leaves.ensures.reading.passed) c.stand.ensures.err (on_err c.stand.result _ _ (λ none honest is.
+returns-clause-reading g c = fault_refused (passed_more _ _ _ c.in_ok-own.ensures.reaches.reading.passed c.in_ok-read_leaves.ensures.reading.passed) c.stand.ensures.err (where_err c.stand.result _ _ (λ none honest is.
     none (record { level = 0; entries = leaf_of is.0.tree c.args.key.now }) (held g c honest is.0).node) c.stand.ensures.refused)
 
 pub returns-clause-read : goal.returns-clause-read

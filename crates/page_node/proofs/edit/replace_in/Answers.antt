@@ -14,10 +14,8 @@ returns-then-at-key-gt-PAGE_SIZE c = record {
     search rules,
     λ fits.
         let used_is = c.in_ok-used.ensures.end node is (omega arith) end_is in
-        let size = replaced_size c.args.page.now node is c.told-page c.args.index c.args.at c.in_ok-used.used at_is used_is c.args.end end_is within (c.args.key.now, c.args.value.now) in
-        let order = c.requires.part.order in
-        let after = c.in_ok-used.ensures.order.0 in
-        omega arith,
+        let size = replaced_size _ node is c.told-page c.args.index _ c.in_ok-used.used at_is used_is c.args.end end_is within (c.args.key.now, c.args.value.now) in
+        omega (arith, c.requires.part.order, c.in_ok-used.ensures.order.0),
   );
   kept = search rules;
 }

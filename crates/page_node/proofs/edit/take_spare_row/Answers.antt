@@ -1,5 +1,5 @@
-use Rattle.{std.proofs.Common.{List, refl, subst, arith, rules}, page_node.{specs.{Spots.IsSpot, claim.{Entries.Entry, Node.IsNode, Places.Rises}}, proofs.Laws.gap_find}}
-use Rattle.page_node.proofs.{Nearing.first_below, PageEdits.{refused, some_left}}
+use Rattle.{std.proofs.Common.{List, true, false, refl, arith, rules}, page_node.{specs.claim.{Entries.Entry, Node.IsNode, Places.Rises}, proofs.Laws.gap_find}}
+use Rattle.page_node.proofs.{Nearing.first_below, PageEdits.{refused, none_taken, spot_of, some_left}}
 use Rattle.page_node.proofs.edit.take_spare_row.Goals as goal
 
 pub returns-in_err-spot : goal.returns-in_err-spot
@@ -7,25 +7,18 @@ returns-in_err-spot c = search (rules, refused c.from_residual.result ((es : Lis
 
 pub returns-then-count_of-lt2 : goal.returns-then-count_of-lt2
 returns-then-count_of-lt2 c = record {
-  taken = λ es is rises.
-      let spot = subst (λ b. IsSpot c.args.key.now es b c.in_ok-spot.spot.index c.in_ok-spot.spot.at c.in_ok-spot.spot.end) c.if-spot.true (c.in_ok-spot.ensures.spot _ is rises (first_below c.args.key.now es)) in
-      (refl, omega arith);
+  taken = λ es is rises. let spot = spot_of _ c.args.key.now es true _ _ c.in_ok-spot.ensures c.if-spot.true is rises (first_below _ es) in (refl, omega arith);
   kept = search rules;
   err = search rules;
 }
 
 pub returns-in_err-remove_in : goal.returns-in_err-remove_in
-returns-in_err-remove_in c = search (
-  rules,
-  refused c.from_residual-in_err-remove_in.result ((es : List Entry) → IsNode c.args.page.now (record { level = 0; entries = es }) → Rises es → ⊥) (λ es is rises.
-      let spot = subst (λ b. IsSpot c.args.key.now es b c.in_ok-spot.spot.index c.in_ok-spot.spot.at c.in_ok-spot.spot.end) c.if-spot.true (c.in_ok-spot.ensures.spot _ is rises (first_below c.args.key.now es)) in
-      c.in_err-remove_in.ensures _ is (let within = spot.0.within in omega arith)),
-)
+returns-in_err-remove_in c = search (rules, refused c.from_residual-in_err-remove_in.result _ (none_taken _ c.args.key.now _ c.in_ok-spot.ensures c.if-spot.true c.in_err-remove_in.ensures))
 
 pub returns-then-spot : goal.returns-then-spot
 returns-then-spot c = record {
   taken = λ es is rises.
-      let spot = subst (λ b. IsSpot c.args.key.now es b c.in_ok-spot.spot.index c.in_ok-spot.spot.at c.in_ok-spot.spot.end) c.if-spot.true (c.in_ok-spot.ensures.spot _ is rises (first_below c.args.key.now es)) in
+      let spot = spot_of _ c.args.key.now es true _ _ c.in_ok-spot.ensures c.if-spot.true is rises (first_below _ es) in
       (c.in_ok-spot.spot.index, spot.0, (c.in_ok-remove_in.ensures _ _ is spot.0.within spot.1 spot.2).0, some_left es c.in_ok-spot.spot.index spot.0.within (omega arith));
   kept = search rules;
   err = search rules;
@@ -33,9 +26,7 @@ returns-then-spot c = record {
 
 pub returns : goal.returns
 returns c = record {
-  taken = λ es is rises.
-      let spot = subst (λ b. IsSpot c.args.key.now es b c.in_ok-spot.spot.index c.in_ok-spot.spot.at c.in_ok-spot.spot.end) c.if-spot.false (c.in_ok-spot.ensures.spot _ is rises (first_below c.args.key.now es)) in
-      (refl, gap_find c.args.key.now es c.in_ok-spot.spot.index spot.0);
+  taken = λ es is rises. (refl, gap_find _ es _ (spot_of _ c.args.key.now es false _ _ c.in_ok-spot.ensures c.if-spot.false is rises (first_below _ es)).0);
   kept = search rules;
   err = search rules;
 }

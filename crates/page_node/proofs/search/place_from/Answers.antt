@@ -1,7 +1,7 @@
 use Rattle.{std.{specs.{Ordering.{is_gt, is_lt}, declared.cmp.Ordering.TheVariants.Less}, proofs.lemmas.List.length-drop}, page_node.specs.{Entries.key_at, Places.entries_from}}
-use Rattle.{std.proofs.Common.{rules, ◌≡◌, ℕ, ◌+◌, ◌-◌, ◌<◌, ◌≤◌, List, length, take, true, false, arith, sym, ap, ◌∙◌, below_more}, page_node.specs.Walking.IsAhead}
-use Rattle.page_node.{specs.claim.{Entries.size_of, Node.{Node, IsNode}, Places.key_cmp}, proofs.{Laws.{entries_from_at, from_middle, not_below, is_less}, Nearing.first_below}}
-use Rattle.page_node.proofs.{Scanning.{lies_there, entry_of, end_there, key_part}, Walking.node_ahead_at}
+use Rattle.{std.proofs.Common.{rules, ◌≡◌, ℕ, ◌+◌, ◌-◌, ◌<◌, ◌≤◌, List, length, take, true, false, arith, ◌∙◌, below_more}, page_node.specs.{Walking.IsAhead, claim.Places.key_cmp}}
+use Rattle.page_node.{specs.claim.{Entries.size_of, Node.{Node, IsNode}}, proofs.{Laws.{entries_from_at, from_middle, not_below, is_less}, Nearing.first_below}}
+use Rattle.page_node.proofs.{Scanning.{lies_there, told_of, end_of}, Walking.node_ahead_at}
 use Rattle.page_node.proofs.search.place_from.Goals as goal
 
 found : (page key : List ℕ) (node : Node) (k at left : ℕ) → IsNode page node → at ≡ 4 + size_of (take k node.entries) → k ≤ length node.entries → left ≡ length node.entries - k → ((j : ℕ) → j < k → key_cmp (key_at node.entries j) key ≡ Less) → ((j : ℕ) → k ≤ j → j < length node.entries → is_gt (key_cmp key (key_at node.entries j)) ≡ false)
@@ -21,8 +21,7 @@ returns-in-None-bounds_in-clause-err c = λ node is. search (rules, lies_there)
 pub returns-then-not-is_below-clause-place : goal.returns-then-not-is_below-clause-place
 returns-then-not-is_below-clause-place c = λ node is rises.
     let place = c.loop-k.invariant node is in
-    let there = key_part _ _ _ _ _ _ (entry_of _ node c.loop-k.k c.loop-k.at is (omega arith) place.0) c.in-Some-bounds_in.ensures.some in
-    let from : is_lt (key_cmp (key_at node.entries c.loop-k.k) c.args.key.now) ≡ false = ap (λ l. is_lt (key_cmp l c.args.key.now)) (sym there) ∙ sym c.is_below.ensures ∙ c.if-not-is_below.true in
+    let from = told_of is_lt _ c.args.key.now node c.loop-k.k c.loop-k.at _ _ _ is (omega arith) place.0 c.in-Some-bounds_in.ensures.some c.is_below.ensures ∙ c.if-not-is_below.true in
     found _ c.args.key.now node c.loop-k.k c.loop-k.at _ is place.0 (omega arith) (omega arith) (place.1 rises)
     (from_middle node.entries c.args.key.now c.loop-k.k rises (not_below (key_at node.entries c.loop-k.k) c.args.key.now from))
 
@@ -30,9 +29,8 @@ pub loop-k-preserved : goal.loop-k-preserved
 loop-k-preserved c = λ node is.
     let lies = c.in-Some-bounds_in.ensures.some in
     let place = c.loop-k.invariant node is in
-    let e = entry_of _ node c.loop-k.k c.loop-k.at is (omega arith) place.0 in
-    let below : is_lt (key_cmp (key_at node.entries c.loop-k.k) c.args.key.now) ≡ true = ap (λ l. is_lt (key_cmp l c.args.key.now)) (sym (key_part _ _ _ _ _ _ e lies)) ∙ sym c.is_below.ensures ∙ c.if-not-is_below.false in
-    (end_there _ _ _ _ _ _ e lies, λ rises. below_more _ _ (place.1 rises) (is_less _ below))
+    let below = told_of is_lt _ c.args.key.now node c.loop-k.k c.loop-k.at _ _ _ is (omega arith) place.0 lies c.is_below.ensures ∙ c.if-not-is_below.false in
+    (end_of _ node c.loop-k.k c.loop-k.at _ _ is (omega arith) place.0 lies, λ rises. below_more _ _ (place.1 rises) (is_less _ below))
 
 pub returns-clause-place : goal.returns-clause-place
 returns-clause-place c = λ node is rises.

@@ -1,9 +1,6 @@
-use Rattle.{std.proofs.Common.{◌∙◌, ◌≤◌, ℕ, arith}, gate_journal.{specs.{Writes.room_of, claim.{Store.overlay, Writes.writes_of}}, proofs.Images.put_off}}
-use Rattle.page_store.proofs.{Chains.link_blank, Linked.linked_more}
+use Rattle.{std.proofs.Common.{◌∙◌, arith, le_trans}, gate_journal.{specs.claim.{Store.overlay, Writes.writes_of}, proofs.Images.put_off}, page_store.proofs.Chains.link_blank}
+use Rattle.page_store.proofs.Linked.{linked_more}
 use Rattle.page_store.proofs.formatting.link_pages.Goals as goal
-
-no_less : (a b d : ℕ) → a ≤ b → b ≤ d → a ≤ d
-no_less a b d ab bd = omega arith
 
 pub loop-p-preserved : goal.loop-p-preserved
 loop-p-preserved c =
@@ -15,7 +12,7 @@ loop-p-preserved c =
     let one = c.put_in_room.ensures in
     record {
       few = omega (arith, before.few, one.more);
-      room = no_less 256 (room_of c.loop-p.writes) (room_of c.put_in_room.new.writes) before.room one.room;
+      room = le_trans before.room one.room;
       within = one.within n (omega (arith, c.loop-p-test.true, c.requires.below)) before.within;
       linked = λ P. linked_more n (overlay ws P) (overlay (writes_of c.put_in_room.new.writes) P) c.args.from p link (one.written P) (c.set_word.ensures.set ∙ c.next_page.ensures)
           (link_blank link (λ k ne. c.set_word.ensures.others k ne ∙ before.blank k ne)) (before.linked P);

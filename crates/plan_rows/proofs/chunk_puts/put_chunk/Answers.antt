@@ -3,18 +3,15 @@ use Rattle.desk_pages.proofs.Writing.{puts_as, puts_nothing, told_fail, told_put
 use Rattle.plan_rows.proofs.chunk_puts.put_chunk.Goals as goal
 
 pub loop-index-init : goal.loop-index-init
-loop-index-init g c = record { put = puts_nothing c.requires.begun; begun = c.requires.begun }
+loop-index-init g c = puts_nothing c.requires.begun
 
 pub returns-in_err-put_row : goal.returns-in_err-put_row
 returns-in_err-put_row g c =
     let value = c.as_slice.ensures.value ∙ c.fill_districts.ensures ∙ ap districts_bytes c.part_of.ensures.part in
-    told_fail (piece_row c.args.number c.args.districts.now) c.loop-index.index _ c.from_residual.result c.loop-index-test.true c.loop-index.invariant.put
+    told_fail (piece_row c.args.number c.args.districts.now) c.loop-index.index _ c.from_residual.result c.loop-index-test.true c.loop-index.invariant
     (puts_as (λ i. (c.chunk.ensures i, value i) ∷ []) c.in_err-put_row.ensures.puts) c.from_residual.ensures.1
 
 pub loop-index-preserved : goal.loop-index-preserved
 loop-index-preserved g c =
     let value = c.as_slice.ensures.value ∙ c.fill_districts.ensures ∙ ap districts_bytes c.part_of.ensures.part in
-    record {
-      put = told_puts (piece_row c.args.number c.args.districts.now) c.loop-index.index c.loop-index.invariant.put (puts_as (λ i. (c.chunk.ensures i, value i) ∷ []) c.in_ok-put_row.ensures.puts);
-      begun = c.in_ok-put_row.ensures.puts.begun;
-    }
+    told_puts (piece_row c.args.number c.args.districts.now) _ c.loop-index.invariant (puts_as (λ i. (c.chunk.ensures i, value i) ∷ []) c.in_ok-put_row.ensures.puts)

@@ -17,8 +17,5 @@ loop-k-preserved g c = record {
 }
 
 pub returns : goal.returns
-returns g c = record {
-  quiet = c.loop-k.invariant.put.put.passed.quiet;
-  begun = c.loop-k.invariant.begun;
-  put = all_told (new_holding c.args.plan c.args.first) c.loop-k.k c.args.count (omega (arith, c.loop-k-test.false, c.loop-k.auto.k-end)) c.loop-k.invariant.put;
-}
+returns g c = all_told (new_holding c.args.plan c.args.first) c.loop-k.k c.args.count
+    (omega (arith, c.loop-k-test.false, c.loop-k.auto.k-end)) c.loop-k.invariant.put c.loop-k.invariant.begun

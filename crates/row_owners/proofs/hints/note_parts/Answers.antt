@@ -5,13 +5,10 @@ pub loop-taken-init : goal.loop-taken-init
 loop-taken-init g c = record { begun = c.requires.begun; quiet = quiet_none c.args.pages.now }
 
 pub loop-taken-preserved : goal.loop-taken-preserved
-loop-taken-preserved g c = record {
-  begun = c.loop-taken.invariant.begun ∙ sym c.next.ensures.quiet.count;
-  quiet = quiet_more c.args.pages.now c.loop-taken.pages c.next.new.pages c.loop-taken.invariant.quiet c.next.ensures.quiet;
-}
+loop-taken-preserved g c = record { begun = c.loop-taken.invariant.begun ∙ sym c.next.ensures.quiet.count; quiet = quiet_more _ _ _ c.loop-taken.invariant.quiet c.next.ensures.quiet }
 
 pub returns-then-not-next : goal.returns-then-not-next
-returns-then-not-next g c = record { quiet = quiet_more c.args.pages.now c.loop-taken.pages c.next.new.pages c.loop-taken.invariant.quiet c.next.ensures.quiet }
+returns-then-not-next g c = record { quiet = quiet_more _ _ _ c.loop-taken.invariant.quiet c.next.ensures.quiet }
 
 pub returns-in_err-note_row : goal.returns-in_err-note_row
-returns-in_err-note_row g c = record { quiet = quiet_more c.args.pages.now c.loop-taken.pages c.next.new.pages c.loop-taken.invariant.quiet c.next.ensures.quiet }
+returns-in_err-note_row g c = record { quiet = quiet_more _ _ _ c.loop-taken.invariant.quiet c.next.ensures.quiet }

@@ -8,8 +8,7 @@ pub returns : goal.returns
 returns c = record {
   yes = search rules;
   no = λ off is.
-      let ranges = c.args.ranges.now in
       let of = c.in-Some.ensures in
-      c.is_at.ensures.no off (subst (λ (ns : List ℕ). NamesAt ranges ns c.in-Some.index c.args.number c.args.piece) (sym c.as_slice.ensures.value)
-      (naming_at ranges c.args.of c.args.number c.args.piece c.args.key.now c.args.value.now c.in-Some.plan of.0 c.in-Some.index c.in-Some-read_chunks.numbers.items of.1 c.in-Some-read_chunks.ensures.0 c.in-Some-read_chunks.ensures.1 is));
+      c.is_at.ensures.no off (subst (λ (ns : List ℕ). NamesAt c.args.ranges.now ns c.in-Some.index c.args.number c.args.piece) (sym c.as_slice.ensures.value)
+      (naming_at c.args.ranges.now c.args.of c.args.number c.args.piece c.args.key.now c.args.value.now c.in-Some.plan of.0 c.in-Some.index c.in-Some-read_chunks.numbers.items of.1 c.in-Some-read_chunks.ensures.0 c.in-Some-read_chunks.ensures.1 is));
 }

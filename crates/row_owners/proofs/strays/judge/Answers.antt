@@ -1,5 +1,4 @@
-use Rattle.{store_rows.specs.claim.Keys.{block, chunk, holding, pair, part}, desk_pages.proofs.Looking.{begins, tells}}
-use Rattle.row_owners.proofs.Belonging.{judged, mark_judged, other_judged}
+use Rattle.{store_rows.specs.claim.Keys.{block, chunk, holding, pair, part}, desk_pages.proofs.Looking.{begins, tells}, row_owners.proofs.Belonging.{judged, mark_judged}}
 use Rattle.row_owners.proofs.strays.judge.Goals as goal
 
 pub returns-in-Mark : goal.returns-in-Mark
@@ -23,4 +22,4 @@ returns-after-first g c = tells c.judge_named-in-Piece.result c.judge_named-in-P
     (λ m w is was. ((is was).0, judged c.args.ranges.now m c.args.key.now c.args.value.now (chunk c.in-Piece.number c.in-Piece.piece) c.in-Piece.ensures w (is was).1)) (λ m any. any)
 
 pub returns-in-Other : goal.returns-in-Other
-returns-in-Other g c = begins (λ m holds was. (was, other_judged c.args.ranges.now m c.args.key.now c.args.value.now c.in-Other.ensures))
+returns-in-Other g c = begins (λ m holds was. (was, λ row fits is. c.in-Other.ensures row fits is c.args.ranges.now m c.args.value.now))

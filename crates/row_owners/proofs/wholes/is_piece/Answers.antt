@@ -7,8 +7,6 @@ returns-then-count-eq0 c = record {
   yes = search rules;
   no = λ never is.
       let long : length c.args.value.now ≡ 2 * length is.0 = ap length is.2 ∙ length-districts is.0 in
-      let some = is.1.some in
-      let most = is.1.most in
       elim c.then-count-eq0.branch [
         | then-count-eq0-via-then-count-eq0 w ↦ omega arith
         | then-count-eq0-via-else-count-eq0+then-count-gt-PIECE_DISTRICTS w ↦ omega arith
@@ -20,7 +18,6 @@ pub returns : goal.returns
 returns c = record {
   yes = λ is.
       let all = twos (length c.args.value.now / 2) c.args.value.now (λ i. let fits = c.type_inv.value i in omega arith) (omega arith) in
-      let long = all.long in
       (all.districts, record { some = omega arith; most = omega arith; each = all.each }, all.is);
   no = search rules;
 }

@@ -1,4 +1,4 @@
-use Rattle.{std.proofs.Common.{◌≡◌, ◌+◌, ◌<◌, ◌∙◌, ap, length, take, drop, vec_len, arith, length-drop}, state_files.proofs.Pieces.{piece_more, put_back, none_came}}
+use Rattle.std.proofs.{Common.{◌≡◌, ◌+◌, ◌++◌, ◌<◌, ◌∙◌, ℕ, List, ap, length, take, drop, vec_len, arith, length-drop}, Math.Seq.take-add, lemmas.List.take_at}
 use Rattle.state_files.proofs.whole.read_piece.Goals as goal
 
 pub returns-in-Read-clause-bytes : goal.returns-in-Read-clause-bytes
@@ -10,7 +10,7 @@ returns-in-Read-clause-bytes g c =
     let some : 0 < length (drop filled buffer) = omega (arith, length-drop filled buffer) in (
       take c.in-Read.n (drop filled buffer),
       came.1,
-      c.truncate.ensures.items ∙ ap (take (filled + c.in-Read.n)) (put_back (vec_len c.args.text.now) buffer c.args.text.now.items same)
-          ∙ piece_more filled c.in-Read.n c.args.text.now.items buffer (c.in-Read.ensures.prefix ∙ ap (take filled) c.as_mut_slice.ensures.value),
-      λ none. (came.2 none some, none_came _ _ none),
+      c.truncate.ensures.items ∙ ap (take (filled + c.in-Read.n)) (take_at buffer (drop (length buffer) c.args.text.now.items) (vec_len c.args.text.now) same)
+          ∙ take-add filled c.in-Read.n buffer ∙ ap (λ (l : List ℕ). l ++ take c.in-Read.n (drop filled buffer)) (c.in-Read.ensures.prefix ∙ ap (take filled) c.as_mut_slice.ensures.value),
+      λ none. (came.2 none some, ap (λ (k : ℕ). take k (drop filled buffer)) none),
     )

@@ -1,12 +1,12 @@
-use Rattle.{std.{specs.FinMap.entries, proofs.Common.{List, ℕ, Bool, sym, subst, ◌∙◌, arith}}, page_store.specs.claim.Transactions.stored}
-use Rattle.{store_check.specs.Rows.{AreOfLoadsTo, ComesBefore, IsPast}, desk_pages.proofs.Looking.{begins, both, fails_then, finds, not_looked}}
-use Rattle.store_check.proofs.After.{all_left, begin_past, begins as begins_loads}
+use Rattle.{std.{specs.FinMap.entries, proofs.Common.{List, [], ℕ, Bool, sym, subst, ◌∙◌, arith}}, page_store.specs.claim.Transactions.stored}
+use Rattle.{store_check.specs.Rows.{AreOfLoadsTo, ComesBefore}, desk_pages.proofs.Looking.{begins, both, fails_then, finds, not_looked}}
+use Rattle.store_check.proofs.After.{all_left, begins as begins_loads}
 use Rattle.store_check.proofs.loads.check_loads.Goals as goal
 
 pub loop-taken-init : goal.loop-taken-init
 loop-taken-init g c = record {
   begun = c.requires.begun;
-  past = subst IsPast (sym c.set.ensures) begin_past;
+  past = record { tag = 87; rest = []; is = c.set.ensures; past = omega arith };
   looked = begins (λ m holds stands. (subst (λ (k : List ℕ). AreOfLoadsTo k m) (sym c.set.ensures) (begins_loads m), all_left c.set.new.self (entries m)));
 }
 

@@ -1,6 +1,5 @@
-use Rattle.{std.{specs.List.starts_with, proofs.Common.{◌≡◌, ℕ, List, Bool, true, false, nat_eq, sym, ap, subst, ◌∙◌}}, page_btree.specs.page_node.claim.Entries.Entry}
-use Rattle.{store_check.{specs.{Owners.IsPartKey, Rows.IsFirst}, proofs.PartOrder.no_part}, store_rows.specs.Keys.parts_prefix, desk_pages.proofs.Looking.{fails, finds, refuses}}
-use Rattle.store_check.proofs.FirstRows.{none_at_all, none_after}
+use Rattle.{std.{specs.List.starts_with, proofs.Common.{◌≡◌, ℕ, List, Bool, true, false, nat_eq, sym, ap, subst, ◌∙◌}}, store_check.specs.{Owners.IsPartKey, Rows.IsFirst}}
+use Rattle.{store_rows.specs.Keys.parts_prefix, desk_pages.proofs.Looking.{fails, finds, refuses}, store_check.proofs.{FirstRows.{none_at_all, none_after}, PartOrder.no_part}}
 use Rattle.store_check.proofs.owners.part_from.Goals as goal
 
 pub returns-in_err-found : goal.returns-in_err-found
@@ -13,20 +12,21 @@ returns-then-not-found g c = finds c.in_ok-found.ensures (λ m found.
 pub returns-then-not-starts_with : goal.returns-then-not-starts_with
 returns-then-not-starts_with g c = finds c.in_ok-found.ensures (λ m found.
     let first = subst (λ (b : Bool). IsFirst b c.args.from.now c.first_from.new.row m) c.if-not-found.false found in
-    let e : Entry = (c.first_from.new.row.key, c.first_from.new.row.value) in
-    let off : starts_with nat_eq e.0 parts_prefix ≡ false = ap (λ (k : List ℕ). starts_with nat_eq k parts_prefix) (sym c.as_slice.ensures.bytes) ∙ ap (λ (k : List ℕ). starts_with nat_eq c.as_slice.result.now k) (sym (c.as_slice-2.ensures.bytes ∙ c.parts.ensures)) ∙ sym c.starts_with.ensures.value ∙ c.if-not-starts_with.true in
-    none_after m c.args.from.now e first.0 first.1 parts_prefix c.requires.under off)
+    let off : starts_with nat_eq c.first_from.new.row.key parts_prefix ≡ false = ap (λ (k : List ℕ). starts_with nat_eq k parts_prefix) (sym c.as_slice.ensures.bytes)
+    ∙ ap (λ (k : List ℕ). starts_with nat_eq c.as_slice.result.now k) (sym (c.as_slice-2.ensures.bytes ∙ c.parts.ensures)) ∙ sym c.starts_with.ensures.value
+    ∙ c.if-not-starts_with.true in
+    none_after m c.args.from.now _ first.0 first.1 parts_prefix c.requires.under off)
 
 pub returns-in-None : goal.returns-in-None
 returns-in-None g c = refuses c.in_ok-found.ensures (λ m found rows.
     let first = subst (λ (b : Bool). IsFirst b c.args.from.now c.first_from.new.row m) c.if-not-found.false found in
-    let e : Entry = (c.first_from.new.row.key, c.first_from.new.row.value) in
-    let on : starts_with nat_eq e.0 parts_prefix ≡ true = ap (λ (k : List ℕ). starts_with nat_eq k parts_prefix) (sym c.as_slice.ensures.bytes) ∙ ap (λ (k : List ℕ). starts_with nat_eq c.as_slice.result.now k) (sym (c.as_slice-2.ensures.bytes ∙ c.parts.ensures)) ∙ sym c.starts_with.ensures.value ∙ c.if-not-starts_with.false in
-    no_part m c.args.from.now e first.0 first.1 rows on
+    let on : starts_with nat_eq c.first_from.new.row.key parts_prefix ≡ true = ap (λ (k : List ℕ). starts_with nat_eq k parts_prefix) (sym c.as_slice.ensures.bytes)
+    ∙ ap (λ (k : List ℕ). starts_with nat_eq c.as_slice.result.now k) (sym (c.as_slice-2.ensures.bytes ∙ c.parts.ensures)) ∙ sym c.starts_with.ensures.value
+    ∙ c.if-not-starts_with.false in
+    no_part m c.args.from.now _ first.0 first.1 rows on
     (λ plan revision index is. c.in-None.ensures plan revision index (c.as_slice-3.ensures.bytes ∙ is)))
 
 pub returns-in-Some : goal.returns-in-Some
 returns-in-Some g c = finds c.in_ok-found.ensures (λ m found.
     let first = subst (λ (b : Bool). IsFirst b c.args.from.now c.first_from.new.row m) c.if-not-found.false found in
-    let e : Entry = (c.first_from.new.row.key, c.first_from.new.row.value) in
-    (e, first.0, first.1, subst (λ (k : List ℕ). IsPartKey c.in-Some.of.0 c.in-Some.of.1 k) c.as_slice-3.ensures.bytes c.in-Some.ensures))
+    (_, first.0, first.1, subst (λ (k : List ℕ). IsPartKey c.in-Some.of.0 c.in-Some.of.1 k) c.as_slice-3.ensures.bytes c.in-Some.ensures))

@@ -1,4 +1,4 @@
-use Rattle.store_command.proofs.Read.{begins, bars_it}
+use Rattle.store_command.proofs.Read.{begins, bars}
 use Rattle.store_command.proofs.migrating.begin.Goals as goal
 
 pub returns-in-Ok-clause-ok : goal.returns-in-Ok-clause-ok
@@ -25,5 +25,5 @@ returns-in-Err-clause-err g c = record {
   any_moment = c.in-Err.ensures.any_moment;
   why = c.in-Err.ensures.err;
   spared = c.in-Err.ensures.untouched;
-  bars = λ honest. bars_it g.D.SectorDevice c.one_desk_opens.ensures c.args.device c.requires c.in-Err.left c.in-Err.e honest c.in-Err.ensures.any_moment c.in-Err.ensures.err;
+  bars = λ honest. bars (g.D.SectorDevice.disk c.args.device) c.requires c.one_desk_opens.ensures (g.D.SectorDevice.disk c.in-Err.left) c.in-Err.e honest c.in-Err.ensures.any_moment c.in-Err.ensures.err;
 }

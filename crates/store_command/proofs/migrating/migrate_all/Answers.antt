@@ -8,19 +8,16 @@ pub returns-in-Ok-finish : goal.returns-in-Ok-finish
 returns-in-Ok-finish g c = search (c.in-Ok-finish.ensures, c.in-Ok.ensures.puts)
 
 pub returns-in-Err-finish : goal.returns-in-Err-finish
-returns-in-Err-finish g c =
-    let steps = c.put_all.ensures in
-    let did = c.in-Err-finish.ensures in
-    inr (
-      c.in-Err-finish.e,
-      c.store_fault.ensures,
-      record {
-        y = c.put_all.new.migration;
-        moves = steps.moves;
-        rows = c.in-Ok.rows;
-        put = c.in-Ok.ensures.puts;
-        ends = did.ends;
-        stays = did.stays refl;
-        why = did.err;
-      },
-    )
+returns-in-Err-finish g c = inr (
+  c.in-Err-finish.e,
+  c.store_fault.ensures,
+  record {
+    y = c.put_all.new.migration;
+    moves = c.put_all.ensures.moves;
+    rows = c.in-Ok.rows;
+    put = c.in-Ok.ensures.puts;
+    ends = c.in-Err-finish.ensures.ends;
+    stays = c.in-Err-finish.ensures.stays refl;
+    why = c.in-Err-finish.ensures.err;
+  },
+)

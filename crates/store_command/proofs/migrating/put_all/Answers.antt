@@ -47,7 +47,4 @@ returns-in-Err-clause-puts g c =
     inl (c.in-Err.e, c.store_fault.ensures, record { w = c.loop-steps.migration; before = before.moves; worked = before.working; why = c.in-Err.ensures.err })
 
 pub returns-clause-puts : goal.returns-clause-puts
-returns-clause-puts g c =
-    let done = c.loop-steps-test.false in
-    let least = c.loop-steps.invariant.least in
-    endless c.args.migration.now c.loop-steps.migration c.loop-steps.rows (omega arith) c.loop-steps.invariant.put
+returns-clause-puts g c = endless c.args.migration.now c.loop-steps.migration c.loop-steps.rows (omega arith) c.loop-steps.invariant.put

@@ -21,26 +21,20 @@ loop-steps-preserved g c =
           more_taken x y z m c.loop-steps.rows c.in-Ok.count before.kept.loading one (did.swept honest one.n one.has);
     }
 
-pub returns-then-count-eq0-clause-keeps : goal.returns-then-count-eq0-clause-keeps
-returns-then-count-eq0-clause-keeps g c = search more_kept
-
-pub returns-then-count-eq0-clause-sweeps : goal.returns-then-count-eq0-clause-sweeps
-returns-then-count-eq0-clause-sweeps g c =
+pub returns-then-count-eq0 : goal.returns-then-count-eq0
+returns-then-count-eq0 g c =
     let did = c.in-Ok.ensures in
     let before = c.loop-steps.invariant in
     record {
-      works = did.maintains.working.1;
-      swept = λ honest m has. all_taken c.args.clerk.now c.loop-steps.clerk c.sweep_step.new.self m c.loop-steps.rows c.in-Ok.count before.kept.loading c.if-count-eq0.true (before.taken (did.maintains.moves.honest honest) m has) (λ n rows. did.swept honest n rows);
+      keeps = search more_kept;
+      sweeps = record {
+        works = did.maintains.working.1;
+        swept = λ honest m has. all_taken c.args.clerk.now c.loop-steps.clerk c.sweep_step.new.self m c.loop-steps.rows c.in-Ok.count before.kept.loading c.if-count-eq0.true (before.taken (did.maintains.moves.honest honest) m has) (λ n rows. did.swept honest n rows);
+      };
     }
 
-pub returns-in-Err-clause-keeps : goal.returns-in-Err-clause-keeps
-returns-in-Err-clause-keeps g c = search more_kept
-
-pub returns-in-Err-clause-sweeps : goal.returns-in-Err-clause-sweeps
-returns-in-Err-clause-sweeps g c = search (step_stopped, c.in-Err.ensures.maintains.err)
+pub returns-in-Err : goal.returns-in-Err
+returns-in-Err g c = record { keeps = search more_kept; sweeps = search (step_stopped, c.in-Err.ensures.maintains.err) }
 
 pub returns-clause-sweeps : goal.returns-clause-sweeps
-returns-clause-sweeps g c =
-    let done = c.loop-steps-test.false in
-    let least = c.loop-steps.invariant.least in
-    endless c.args.clerk.now c.loop-steps.clerk c.loop-steps.rows (omega arith) c.loop-steps.invariant.taken
+returns-clause-sweeps g c = endless c.args.clerk.now c.loop-steps.clerk c.loop-steps.rows (omega arith) c.loop-steps.invariant.taken

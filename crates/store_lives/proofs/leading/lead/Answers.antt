@@ -1,8 +1,8 @@
-use Rattle.{std.proofs.Common.rules, store_lives.proofs.Steps.{goes_nowhere, goes_further, then_led, in_part, step_stopped}}
+use Rattle.{std.proofs.Common.{refl, rules}, store_lives.proofs.Steps.{goes_further, then_led, step_stopped}}
 use Rattle.store_lives.proofs.leading.lead.Goals as goal
 
 pub loop-made-init : goal.loop-made-init
-loop-made-init g c = record { on = goes_nowhere c.args.migration.now c.requires }
+loop-made-init g c = record { on = record { working = c.requires; sectors = refl; honest = λ now. now; calm = λ now. refl; keeps = λ d keeps. keeps } }
 
 pub loop-made-preserved : goal.loop-made-preserved
 loop-made-preserved g c = record { on = goes_further c.args.migration.now c.loop-made.migration c.step.new.self c.loop-made.invariant.on c.in-Ok.ensures.moves c.in-Ok.ensures.working.1 }
@@ -17,4 +17,4 @@ pub returns-in-Err : goal.returns-in-Err
 returns-in-Err g c = search (rules, c.loop-made.invariant.on, c.in-Err.ensures.moves, c.in-Err.ensures.err, then_led, step_stopped)
 
 pub returns : goal.returns
-returns g c = in_part c.args.migration.now c.loop-made.migration c.loop-made.invariant.on
+returns g c = search (rules, c.loop-made.invariant.on)

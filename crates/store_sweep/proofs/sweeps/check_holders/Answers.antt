@@ -1,5 +1,5 @@
-use Rattle.{std.proofs.Common.{Bool, refl, sym, ap, ◌∙◌}, desk_pages.specs.Errors.row_refusal, page_store.specs.claim.Transactions.has_halted}
-use Rattle.{plan_rows.proofs.Committing.{begun_now, both}, store_sweep.proofs.Stepped.{not_checked, told_err}}
+use Rattle.{std.proofs.Common.{Bool, refl, sym, ap, ◌∙◌}, desk_pages.specs.Errors.row_refusal, page_store.specs.claim.Transactions.has_halted, plan_rows.proofs.Committing.both}
+use Rattle.store_sweep.proofs.Stepped.{begun_by, not_checked, told_err}
 use Rattle.store_sweep.proofs.sweeps.check_holders.Goals as goal
 
 pub returns-then-is_halted-clause-err : goal.returns-then-is_halted-clause-err
@@ -7,10 +7,7 @@ returns-then-is_halted-clause-err g c = (sym c.is_halted.ensures ∙ c.if-is_hal
 
 pub returns-in-Ok-clause-sound : goal.returns-in-Ok-clause-sound
 returns-in-Ok-clause-sound g c = λ honest m holds.
-    let ps = c.args.pages.now in
-    let t = c.begin-txn.result in
-    let begun = begun_now ps t (sym c.is_halted.ensures ∙ c.if-is_halted.false) c.begin-txn.ensures.none c.begin-txn.ensures.pages c.begin-txn.ensures.over c.begin-txn.ensures.root c.begin-txn.ensures.free in
-    c.in-Ok.ensures.there honest m (begun.reads (c.in-Ok.ensures.quiet.honest honest) m holds)
+    c.in-Ok.ensures.there honest m ((begun_by (sym c.is_halted.ensures ∙ c.if-is_halted.false) c.begin-txn.ensures).reads (c.in-Ok.ensures.quiet.honest honest) m holds)
 
 pub returns-in-Ok-clause-ok : goal.returns-in-Ok-clause-ok
 returns-in-Ok-clause-ok g c = (sym c.is_halted.ensures ∙ c.if-is_halted.false, c.in-Ok.ensures.passed)
@@ -23,8 +20,8 @@ returns-clause-still g c = λ halted. both (has_halted c.args.pages.now) halted 
 
 pub returns-clause-err : goal.returns-clause-err
 returns-clause-err g c =
-    let ps = c.args.pages.now in
-    let t = c.begin-txn.result in
-    let begun = begun_now ps t (sym c.is_halted.ensures ∙ c.if-is_halted.false) c.begin-txn.ensures.none c.begin-txn.ensures.pages c.begin-txn.ensures.over c.begin-txn.ensures.root c.begin-txn.ensures.free in
-    told_err ps c.check_holdings.new.pages (row_refusal c.in-Err.error (has_halted c.check_holdings.new.pages)) c.row_error.result (c.row_error.ensures ∙ ap (λ (halted : Bool). row_refusal c.in-Err.error halted) c.is_halted-in-Err.ensures)
-    (not_checked t ps c.check_holdings.new.pages begun c.in-Err.ensures.quiet c.in-Err.error c.in-Err.ensures.err)
+    let b = c.check_holdings.new.pages in
+    let begun = begun_by (sym c.is_halted.ensures ∙ c.if-is_halted.false) c.begin-txn.ensures in
+    told_err c.args.pages.now b (row_refusal c.in-Err.error (has_halted b)) c.row_error.result
+    (c.row_error.ensures ∙ ap (λ (halted : Bool). row_refusal c.in-Err.error halted) c.is_halted-in-Err.ensures)
+    (not_checked _ _ b begun c.in-Err.ensures.quiet c.in-Err.error c.in-Err.ensures.err)

@@ -1,6 +1,6 @@
 use Rattle.{std.proofs.Common.{Bool, Err, true, refl, sym, ap, ◌∙◌, arith}, desk_pages.specs.Errors.row_refusal, page_store.specs.claim.Transactions.has_halted}
-use Rattle.{desk_pages.proofs.Kept.kept_working, plan_rows.proofs.Committing.{begun_now, both, quiet_leaves, quiet_shape, shape_after}}
-use Rattle.store_sweep.proofs.Stepped.{taken_writes, none_swept, not_made, some_leaves, some_swept, not_taken, told_err, not_committed}
+use Rattle.{desk_pages.proofs.Kept.kept_working, plan_rows.proofs.Committing.{both, quiet_leaves, quiet_shape, shape_after}}
+use Rattle.store_sweep.proofs.Stepped.{begun_by, taken_writes, none_swept, not_made, some_leaves, some_swept, not_taken, told_err, not_committed}
 use Rattle.store_sweep.proofs.sweeps.sweep_step.Goals as goal
 
 -- ---- halted
@@ -13,13 +13,12 @@ returns-then-is_halted-clause-any_moment g c = λ honest working sectors d whole
 -- ---- no row was taken
 pub returns-in-Err-clause-commits : goal.returns-in-Err-clause-commits
 returns-in-Err-clause-commits g c =
-    let ps = c.args.pages.now in
-    let t = c.begin-txn.result in
-    let begun = begun_now ps t (sym c.is_halted.ensures ∙ c.if-is_halted.false) c.begin-txn.ensures.none c.begin-txn.ensures.pages c.begin-txn.ensures.over c.begin-txn.ensures.root c.begin-txn.ensures.free in
+    let begun = begun_by (sym c.is_halted.ensures ∙ c.if-is_halted.false) c.begin-txn.ensures in
     let quiet = c.in-Err.ensures.quiet in
-    not_made c.row_error.result (Err c.row_error.result) (quiet_shape ps c.sweep_rows.new.pages quiet) quiet.honest refl
-    (told_err ps c.sweep_rows.new.pages (row_refusal c.in-Err.error (has_halted c.sweep_rows.new.pages)) c.row_error.result (c.row_error.ensures ∙ ap (λ (halted : Bool). row_refusal c.in-Err.error halted) c.is_halted-in-Err.ensures)
-    (not_taken t ps c.sweep_rows.new.pages begun quiet c.in-Err.error c.in-Err.ensures.put))
+    not_made c.row_error.result (Err c.row_error.result) (quiet_shape c.args.pages.now c.sweep_rows.new.pages quiet) quiet.honest refl
+    (told_err c.args.pages.now c.sweep_rows.new.pages (row_refusal c.in-Err.error (has_halted c.sweep_rows.new.pages)) c.row_error.result
+    (c.row_error.ensures ∙ ap (λ (halted : Bool). row_refusal c.in-Err.error halted) c.is_halted-in-Err.ensures)
+    (not_taken _ _ _ begun quiet c.in-Err.error c.in-Err.ensures.put))
 
 pub returns-in-Err-clause-any_moment : goal.returns-in-Err-clause-any_moment
 returns-in-Err-clause-any_moment g c = quiet_leaves true c.args.pages.now c.sweep_rows.new.pages c.in-Err.ensures.quiet
@@ -46,10 +45,8 @@ returns-then-count-eq0-clause-any_moment g c = quiet_leaves true c.args.pages.no
 
 pub returns-then-count-eq0-clause-swept : goal.returns-then-count-eq0-clause-swept
 returns-then-count-eq0-clause-swept g c =
-    let ps = c.args.pages.now in
-    let t = c.begin-txn.result in
-    let begun = begun_now ps t (sym c.is_halted.ensures ∙ c.if-is_halted.false) c.begin-txn.ensures.none c.begin-txn.ensures.pages c.begin-txn.ensures.over c.begin-txn.ensures.root c.begin-txn.ensures.free in
-    none_swept c.args.running c.in-Ok.count t c.sweep_rows.new.txn ps c.sweep_rows.new.pages begun c.in-Ok.ensures.put.swept c.in-Ok.ensures.put.clean c.if-count-eq0.true
+    let begun = begun_by (sym c.is_halted.ensures ∙ c.if-is_halted.false) c.begin-txn.ensures in
+    none_swept c.args.running c.in-Ok.count _ _ _ _ begun c.in-Ok.ensures.put.swept c.in-Ok.ensures.put.clean c.if-count-eq0.true
 
 pub returns-then-count-eq0-clause-still : goal.returns-then-count-eq0-clause-still
 returns-then-count-eq0-clause-still g c = λ halted. both (has_halted c.args.pages.now) halted (sym c.is_halted.ensures ∙ c.if-is_halted.false)
@@ -60,10 +57,8 @@ commit_fitting-requires-clause-working g c = c.in-Ok.ensures.put.swept.passed.ha
 
 pub commit_fitting-requires-clause-few : goal.commit_fitting-requires-clause-few
 commit_fitting-requires-clause-few g c =
-    let ps = c.args.pages.now in
-    let t = c.begin-txn.result in
-    let begun = begun_now ps t (sym c.is_halted.ensures ∙ c.if-is_halted.false) c.begin-txn.ensures.none c.begin-txn.ensures.pages c.begin-txn.ensures.over c.begin-txn.ensures.root c.begin-txn.ensures.free in
-    let writes = taken_writes c.args.running c.in-Ok.count t c.sweep_rows.new.txn ps c.sweep_rows.new.pages begun c.in-Ok.ensures.put.swept c.in-Ok.ensures.put.few in
+    let begun = begun_by (sym c.is_halted.ensures ∙ c.if-is_halted.false) c.begin-txn.ensures in
+    let writes = taken_writes c.args.running c.in-Ok.count _ _ _ _ begun c.in-Ok.ensures.put.swept c.in-Ok.ensures.put.few in
     let least = c.sweep_rows.new.pages.journal.room.least_journal in
     omega arith
 
@@ -78,10 +73,9 @@ returns-in_err-commit_fitting-clause-commits g c =
 
 pub returns-in_err-commit_fitting-clause-any_moment : goal.returns-in_err-commit_fitting-clause-any_moment
 returns-in_err-commit_fitting-clause-any_moment g c = λ honest working sectors d whole holds.
-    let ps = c.args.pages.now in
-    let t = c.begin-txn.result in
-    let begun = begun_now ps t (sym c.is_halted.ensures ∙ c.if-is_halted.false) c.begin-txn.ensures.none c.begin-txn.ensures.pages c.begin-txn.ensures.over c.begin-txn.ensures.root c.begin-txn.ensures.free in
-    some_leaves c.args.running c.in-Ok.count t c.sweep_rows.new.txn ps c.sweep_rows.new.pages c.commit_fitting.new.pages begun c.in-Ok.ensures.put.swept (c.in_err-commit_fitting.ensures.any_moment honest) (c.in_err-commit_fitting.ensures.commits.honest honest) sectors d whole holds
+    let begun = begun_by (sym c.is_halted.ensures ∙ c.if-is_halted.false) c.begin-txn.ensures in
+    some_leaves c.args.running c.in-Ok.count _ _ _ _ c.commit_fitting.new.pages begun c.in-Ok.ensures.put.swept (c.in_err-commit_fitting.ensures.any_moment honest)
+    (c.in_err-commit_fitting.ensures.commits.honest honest) sectors d whole holds
 
 pub returns-in_err-commit_fitting-clause-still : goal.returns-in_err-commit_fitting-clause-still
 returns-in_err-commit_fitting-clause-still g c = λ halted. both (has_halted c.args.pages.now) halted (sym c.is_halted.ensures ∙ c.if-is_halted.false)
@@ -101,17 +95,15 @@ returns-clause-commits g c =
 
 pub returns-clause-any_moment : goal.returns-clause-any_moment
 returns-clause-any_moment g c = λ honest working sectors d whole holds.
-    let ps = c.args.pages.now in
-    let t = c.begin-txn.result in
-    let begun = begun_now ps t (sym c.is_halted.ensures ∙ c.if-is_halted.false) c.begin-txn.ensures.none c.begin-txn.ensures.pages c.begin-txn.ensures.over c.begin-txn.ensures.root c.begin-txn.ensures.free in
-    some_leaves c.args.running c.in-Ok.count t c.sweep_rows.new.txn ps c.sweep_rows.new.pages c.commit_fitting.new.pages begun c.in-Ok.ensures.put.swept (c.in_ok-commit_fitting.ensures.any_moment honest) (c.in_ok-commit_fitting.ensures.commits.honest honest) sectors d whole holds
+    let begun = begun_by (sym c.is_halted.ensures ∙ c.if-is_halted.false) c.begin-txn.ensures in
+    some_leaves c.args.running c.in-Ok.count _ _ _ _ c.commit_fitting.new.pages begun c.in-Ok.ensures.put.swept (c.in_ok-commit_fitting.ensures.any_moment honest)
+    (c.in_ok-commit_fitting.ensures.commits.honest honest) sectors d whole holds
 
 pub returns-clause-swept : goal.returns-clause-swept
 returns-clause-swept g c = λ honest.
-    let ps = c.args.pages.now in
-    let t = c.begin-txn.result in
-    let begun = begun_now ps t (sym c.is_halted.ensures ∙ c.if-is_halted.false) c.begin-txn.ensures.none c.begin-txn.ensures.pages c.begin-txn.ensures.over c.begin-txn.ensures.root c.begin-txn.ensures.free in
-    some_swept c.args.running c.in-Ok.count t c.sweep_rows.new.txn ps c.sweep_rows.new.pages c.commit_fitting.new.pages begun c.in-Ok.ensures.put.swept c.in-Ok.ensures.put.clean c.if-count-eq0.false (c.in_ok-commit_fitting.ensures.held honest) (c.in_ok-commit_fitting.ensures.commits.honest honest)
+    let begun = begun_by (sym c.is_halted.ensures ∙ c.if-is_halted.false) c.begin-txn.ensures in
+    some_swept c.args.running c.in-Ok.count _ _ _ _ c.commit_fitting.new.pages begun c.in-Ok.ensures.put.swept c.in-Ok.ensures.put.clean c.if-count-eq0.false
+    (c.in_ok-commit_fitting.ensures.held honest) (c.in_ok-commit_fitting.ensures.commits.honest honest)
 
 pub returns-clause-still : goal.returns-clause-still
 returns-clause-still g c = λ halted. both (has_halted c.args.pages.now) halted (sym c.is_halted.ensures ∙ c.if-is_halted.false)

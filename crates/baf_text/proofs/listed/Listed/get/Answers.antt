@@ -1,4 +1,4 @@
-use Rattle.{std.proofs.Common.rules, baf_text.{specs.Listed.part_at, proofs.Parts.spread_at}}
+use Rattle.{std.proofs.Common.rules, baf_text.proofs.Parts.spread_at}
 use Rattle.baf_text.proofs.listed.Listed.get.Goals as goal
 
 pub returns : goal.returns

@@ -1,4 +1,4 @@
-use Rattle.{std.proofs.{Common.{◌-◌, length-drop, rules}, lemmas.List.{take_all, length-replicate}}, baf_text.proofs.Ends.length_row}
+use Rattle.{std.proofs.{Common.{length-drop, rules}, lemmas.List.{take_all, length-replicate}}, baf_text.proofs.Ends.length_row}
 use Rattle.baf_text.proofs.writing.Line.new.Goals as goal
 
 pub copy_from_slice-requires : goal.copy_from_slice-requires

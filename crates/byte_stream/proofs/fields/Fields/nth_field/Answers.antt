@@ -1,21 +1,21 @@
-use Rattle.{std.proofs.Common.{◌≡◌, ℕ, drop, sym, ◌∙◌, ap, arith, rules}, byte_stream.proofs.NthLemmas.{none_at, none_after, got_after, last_at, last_after}}
+use Rattle.{std.proofs.{Common.{◌≤◌, length, refl, sym, ◌∙◌, arith, rules}, lemmas.{List.drop_all, Option.slice_get_past}}, byte_stream.proofs.NthLemmas.{short, last}}
 use Rattle.byte_stream.proofs.fields.Fields.nth_field.Goals as goal
 
 pub returns-in_err-next_field-clause-field : goal.returns-in_err-next_field-clause-field
-returns-in_err-next_field-clause-field c = search (rules, c.from_residual.ensures, c.loop.invariant, c.in_err-next_field.ensures.0, none_at)
+returns-in_err-next_field-clause-field c =
+    let past : length c.args.self.now ≤ c.args.skipped = short _ c.loop.counter _ (sym c.loop.invariant ∙ c.in_err-next_field.ensures.0) (omega arith) in
+    search (rules, past, c.from_residual.ensures, slice_get_past)
 
 pub returns-in_err-next_field-clause-rest : goal.returns-in_err-next_field-clause-rest
-returns-in_err-next_field-clause-rest c = search (rules, c.in_err-next_field.ensures.1, c.loop.invariant, c.in_err-next_field.ensures.0, none_after)
+returns-in_err-next_field-clause-rest c =
+    let past : length c.args.self.now ≤ c.args.skipped = short _ c.loop.counter _ (sym c.loop.invariant ∙ c.in_err-next_field.ensures.0) (omega arith) in
+    search (rules, past, c.in_err-next_field.ensures.1, drop_all)
 
 pub loop-preserved : goal.loop-preserved
-loop-preserved c = sym (got_after c.args.self.now c.next_field.new.self _ c.loop.counter (sym c.loop.invariant ∙ c.in_ok-next_field.ensures))
+loop-preserved c = (last c.next_field.result c.args.self.now _ _ c.loop.counter c.loop.counter c.next_field.ensures c.loop.invariant refl).1
 
 pub returns-clause-field : goal.returns-clause-field
-returns-clause-field c =
-    let same : c.loop.counter ≡ c.args.skipped = omega arith in
-    last_at c.next_field-2.result c.args.self.now c.loop.self c.next_field-2.new.self c.args.skipped c.next_field-2.ensures (c.loop.invariant ∙ ap (λ (k : ℕ). drop k c.args.self.now) same)
+returns-clause-field c = (last c.next_field-2.result c.args.self.now _ _ c.loop.counter c.args.skipped c.next_field-2.ensures c.loop.invariant (omega arith)).0
 
 pub returns-clause-rest : goal.returns-clause-rest
-returns-clause-rest c =
-    let same : c.loop.counter ≡ c.args.skipped = omega arith in
-    last_after c.next_field-2.result c.args.self.now c.loop.self c.next_field-2.new.self c.args.skipped c.next_field-2.ensures (c.loop.invariant ∙ ap (λ (k : ℕ). drop k c.args.self.now) same)
+returns-clause-rest c = (last c.next_field-2.result c.args.self.now _ _ c.loop.counter c.args.skipped c.next_field-2.ensures c.loop.invariant (omega arith)).1

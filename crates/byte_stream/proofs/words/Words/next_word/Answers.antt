@@ -8,7 +8,9 @@ returns-then-len-eq0-clause-word c =
     let n = c.separators_before.result in
     let m = c.bytes_before-len.result in
     let prefix = slice_range text n (length text) in
-    let none = next_none text prefix n m (between_to_end text n (length text) (omega arith)) c.separators_before.ensures.within c.separators_before.ensures.before c.separators_before.ensures.ends c.bytes_before-len.ensures.ends c.if-len-eq0.true in
+    let none =
+    next_none text prefix n m
+    (between_to_end text n (length text) (omega arith)) c.separators_before.ensures.before c.bytes_before-len.ensures.ends c.separators_before.ensures.within c.separators_before.ensures.ends c.if-len-eq0.true in
     (sym c.self.view_is ∙ none.0, ap words (between_to_end prefix m (length prefix) (omega arith)) ∙ none.1)
 
 pub returns-clause-word : goal.returns-clause-word

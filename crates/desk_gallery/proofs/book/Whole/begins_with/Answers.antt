@@ -1,4 +1,4 @@
-use Rattle.{std.proofs.Common.{sym, ◌∙◌, ap, subst, List, ℕ}, desk_gallery.{specs.{Rules.{key_after, NoneBy}, declared.book.LogEntry.LogEntry}, proofs.Chaining.prefix_on}}
+use Rattle.{std.proofs.Common.{sym, ◌∙◌, ap, subst, List, ℕ}, desk_gallery.{specs.{Rules.{key_after, NoneBy}, declared.book.LogEntry.LogEntry}, proofs.Pasts.prefix_trans}}
 use Rattle.desk_gallery.proofs.{Keeping.{look_moves, no_entry}, Weighing.whole_begins}
 use mathlib.Core.List.{IsPrefix}
 use Rattle.desk_gallery.proofs.book.Whole.begins_with.Goals as goal
@@ -23,4 +23,4 @@ returns-clause-begins g c =
     let on = c.compare_exchange.ensures.6 in
     let this : IsPrefix own c.learn.new.self.log = subst (λ (l : List LogEntry). IsPrefix l c.learn.new.self.log) (ap (λ s. s.log) c.again-seen.ensures) c.learn.ensures.2 in
     let none : NoneBy (key_after g.J.GalleryId.root own) all = subst (λ (k : ℕ). NoneBy k all) c.self.invariant.4 c.compare_exchange.ensures.7.1 in
-    rw (← c.other.view_is) (whole_begins g.J.GalleryId.root own theirs all (prefix_on own c.learn.new.self.log all this on) (prefix_on theirs c.learn.new.self.log all c.learn.ensures.3 on) none)
+    rw (← c.other.view_is) (whole_begins g.J.GalleryId.root own theirs all (prefix_trans own c.learn.new.self.log all this on) (prefix_trans theirs c.learn.new.self.log all c.learn.ensures.3 on) none)

@@ -28,9 +28,7 @@ insert_end-requires-clause-part c =
 
 pub insert_end-requires-clause-fits : goal.insert_end-requires-clause-fits
 insert_end-requires-clause-fits c = λ k le.
-    let o = opened _ _ _ _ _ c.self.invariant c.self.view_is in
-    let most = mark_most _ _ _ _ o.stands k (omega arith) in
-    omega arith
+    let o = opened _ _ _ _ _ c.self.invariant c.self.view_is in omega (arith, mark_most _ _ _ _ o.stands k (omega arith))
 
 stands : (c : goal.After-self-1) → Stands c.self.inside.level (insert c.args.self.now.entries c.args.i (c.args.key.now, c.args.value.now)) c.insert_end.new.ends c.put_entry.new.bytes
 stands c =

@@ -1,5 +1,5 @@
-use Rattle.std.{specs.{List.copy_within, Prelude.remove}, proofs.{Common.{◌≡◌, ◌+◌, ◌-◌, length, get_or, arith, ap, ◌∙◌, rules}, lemmas.List.Edits.length-remove}}
-use Rattle.page_node.proofs.{Editing.{opened, closed, bounds_of, marks_rise, remove_stands}, Standing.{Stands, to_held}}
+use Rattle.std.{specs.{List.copy_within, Prelude.remove}, proofs.{Common.{◌≡◌, ◌+◌, ◌-◌, length, get_or, arith, ap, ◌∙◌}, lemmas.List.Edits.length-remove}}
+use Rattle.page_node.proofs.{Editing.{opened, closed, bounds_of, marks_rise, has_entry_at, remove_stands}, Standing.{Stands, to_held}}
 use Rattle.page_node.proofs.node_buf.NodeBuf.remove.Goals as goal
 
 pub offset_bounds-self-inside-i : goal.offset_bounds-self-inside-i
@@ -27,14 +27,7 @@ pub overflow_sub-end : goal.overflow_sub-end
 overflow_sub-end c = let within = c.requires in let o = opened _ _ _ _ _ c.self.invariant c.self.view_is in marks_rise _ _ _ _ o.stands c.args.i (c.args.i + 1) (omega arith) (omega arith)
 
 pub remove_end-requires : goal.remove_end-requires
-remove_end-requires c = record {
-  within = let within = c.requires in let o = opened _ _ _ _ _ c.self.invariant c.self.view_is in let n = o.count_of in omega arith;
-  room = search rules;
-  large = λ k low le.
-      let o = opened _ _ _ _ _ c.self.invariant c.self.view_is in
-      let rise = marks_rise _ _ _ _ o.stands (c.args.i + 1) k (omega arith) (omega arith) in
-      omega arith;
-}
+remove_end-requires c = let o = opened _ _ _ _ _ c.self.invariant c.self.view_is in has_entry_at _ _ _ _ o.stands _ c.args.i o.count_of c.requires
 
 stands : (c : goal.After-self-1) → Stands c.self.inside.level (remove c.args.self.now.entries c.args.i) c.remove_end.new.ends c.move_bytes.new.bytes
 stands c =

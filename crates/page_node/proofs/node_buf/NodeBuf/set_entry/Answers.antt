@@ -1,5 +1,5 @@
-use Rattle.std.{specs.List.copy_within, proofs.{Common.{◌≡◌, ◌+◌, ◌≤◌, length, get_or, set, arith, ap, ◌∙◌, rules}, lemmas.List.length-set}}
-use Rattle.page_node.{specs.claim.Entries.size_of, proofs.{Editing.{opened, closed, bounds_of, marks_rise, mark_most, set_stands}, Standing.{Stands, to_held}}}
+use Rattle.{std.{specs.List.copy_within, proofs.{Common.{◌≡◌, ◌+◌, ◌≤◌, length, get_or, set, arith, ap, ◌∙◌}, lemmas.List.length-set}}, page_node.specs.claim.Entries.size_of}
+use Rattle.page_node.proofs.{Editing.{opened, closed, bounds_of, marks_rise, mark_most, has_entry_at, set_stands}, Standing.{Stands, to_held}}
 use Rattle.page_node.proofs.node_buf.NodeBuf.set_entry.Goals as goal
 
 pub offset_bounds-self-inside-i : goal.offset_bounds-self-inside-i
@@ -34,20 +34,11 @@ pub overflow_sub-end : goal.overflow_sub-end
 overflow_sub-end c = let within = c.requires.within in let o = opened _ _ _ _ _ c.self.invariant c.self.view_is in marks_rise _ _ _ _ o.stands c.args.i (c.args.i + 1) (omega arith) (omega arith)
 
 pub resize_end-requires-clause-entry : goal.resize_end-requires-clause-entry
-resize_end-requires-clause-entry c = record {
-  within = let within = c.requires.within in let o = opened _ _ _ _ _ c.self.invariant c.self.view_is in let n = o.count_of in omega arith;
-  room = search rules;
-  large = λ k low le.
-      let o = opened _ _ _ _ _ c.self.invariant c.self.view_is in
-      let rise = marks_rise _ _ _ _ o.stands (c.args.i + 1) k (omega arith) (omega arith) in
-      omega arith;
-}
+resize_end-requires-clause-entry c = let o = opened _ _ _ _ _ c.self.invariant c.self.view_is in has_entry_at _ _ _ _ o.stands _ c.args.i o.count_of c.requires.within
 
 pub resize_end-requires-clause-fits : goal.resize_end-requires-clause-fits
 resize_end-requires-clause-fits c = λ k low le.
-    let o = opened _ _ _ _ _ c.self.invariant c.self.view_is in
-    let most = mark_most _ _ _ _ o.stands k (omega arith) in
-    omega arith
+    let o = opened _ _ _ _ _ c.self.invariant c.self.view_is in omega (arith, mark_most _ _ _ _ o.stands k (omega arith))
 
 stands : (c : goal.After-resize_end) → Stands c.self.inside.level (set c.args.self.now.entries c.args.i (c.args.key.now, c.args.value.now)) c.resize_end.new.ends c.put_entry.new.bytes
 stands c =

@@ -1,7 +1,6 @@
-use Rattle.{std.proofs.Common.{◌≡◌, ℕ, inr, sym, subst}, gate_journal.specs.{Recovery.{AllStores, ReadsAs}, claim.Contents.{disk_of, content, page_count}}}
-use Rattle.{gate_journal.specs.declared.error.PageError.{PageError, TheVariants.NotAStore}, page_store.specs.{Openings.MetaErr, Transactions.IsUntouched, claim.Chain.IsPages}}
-use Rattle.{sector_device.specs.claim.{Disk.Image, Moments.LeavesOnly}, page_store.proofs.{Opened.{found_pages, bad_pages, opened_err, opened_calm}, Stops.kept_still}}
-use Rattle.sector_device.proofs.Moments.{leaves_still}
+use Rattle.{std.proofs.Common.{◌≡◌, inr, sym, subst}, gate_journal.specs.{Recovery.{AllStores, ReadsAs}, claim.Contents.{disk_of, content}, declared.error.PageError.PageError}}
+use Rattle.{gate_journal.specs.declared.error.PageError.TheVariants.NotAStore, page_store.{specs.{Openings.MetaErr, Transactions.IsUntouched}, proofs.Stops.kept_still}}
+use Rattle.{sector_device.{specs.claim.Moments.LeavesOnly, proofs.Moments.leaves_still}, page_store.proofs.Opened.{found_pages, bad_pages, opened_err}}
 use Rattle.page_store.proofs.pages.Pages.open.Goals as goal
 
 pub returns-in-Ok-read_meta-clause-any_moment : goal.returns-in-Ok-read_meta-clause-any_moment
@@ -18,9 +17,7 @@ returns-in-Ok-read_meta-clause-kept g c = λ honest.
 pub returns-in-Ok-read_meta-clause-sound : goal.returns-in-Ok-read_meta-clause-sound
 returns-in-Ok-read_meta-clause-sound g c = λ honest all.
     let read = c.in-Ok-read_meta.ensures in
-    let found = found_pages (g.D.SectorDevice.disk c.args.device) (disk_of c.in-Ok.journal) _ _ (c.in-Ok.ensures.found (read.honest honest)) c.in-Ok.ensures.room all in
-    let here : IsPages (page_count c.in-Ok.journal) (content c.read_meta.new.journal) = subst (λ (P : Image). IsPages (page_count c.in-Ok.journal) P) (sym (read.same honest)) found in
-    subst (λ (n : ℕ). IsPages n (content c.read_meta.new.journal)) (sym read.shape.pages) here
+    rw (read.shape.pages, read.same honest) (found_pages _ _ _ _ (c.in-Ok.ensures.found (read.honest honest)) c.in-Ok.ensures.room all)
 
 pub returns-in-Err-read_meta-clause-any_moment : goal.returns-in-Err-read_meta-clause-any_moment
 returns-in-Err-read_meta-clause-any_moment g c =
@@ -32,8 +29,8 @@ returns-in-Err-read_meta-clause-any_moment g c =
 pub returns-in-Err-read_meta-clause-err : goal.returns-in-Err-read_meta-clause-err
 returns-in-Err-read_meta-clause-err g c =
     let read = c.in-Err-read_meta.ensures in
-    opened_err g.D.SectorDevice c.args.device c.into_device-in-Err-read_meta.result c.in-Ok.journal c.read_meta.new.journal c.in-Err-read_meta.e c.into_device-in-Err-read_meta.ensures c.in-Ok.ensures.working
-    (λ honest. c.in-Ok.ensures.passed (read.honest honest)) (λ honest all. found_pages (g.D.SectorDevice.disk c.args.device) (disk_of c.in-Ok.journal) _ _ (c.in-Ok.ensures.found (read.honest honest)) c.in-Ok.ensures.room all) read.err
+    (opened_err g.D.SectorDevice c.args.device _ c.in-Ok.journal c.read_meta.new.journal c.in-Err-read_meta.e c.into_device-in-Err-read_meta.ensures c.in-Ok.ensures.working
+    (λ honest. c.in-Ok.ensures.passed (read.honest honest)) (λ honest. found_pages _ _ _ _ (c.in-Ok.ensures.found (read.honest honest)) c.in-Ok.ensures.room) read.err).0
 
 pub returns-in-Err-read_meta-clause-untouched : goal.returns-in-Err-read_meta-clause-untouched
 returns-in-Err-read_meta-clause-untouched g c =
@@ -47,5 +44,5 @@ returns-in-Err-read_meta-clause-untouched g c =
 pub returns-in-Err-read_meta-clause-calm : goal.returns-in-Err-read_meta-clause-calm
 returns-in-Err-read_meta-clause-calm g c =
     let read = c.in-Err-read_meta.ensures in
-    opened_calm g.D.SectorDevice c.args.device c.into_device-in-Err-read_meta.result c.in-Ok.journal c.read_meta.new.journal c.in-Err-read_meta.e c.into_device-in-Err-read_meta.ensures c.in-Ok.ensures.working
-    (λ honest. c.in-Ok.ensures.passed (read.honest honest)) read.err
+    (opened_err g.D.SectorDevice c.args.device _ c.in-Ok.journal c.read_meta.new.journal c.in-Err-read_meta.e c.into_device-in-Err-read_meta.ensures c.in-Ok.ensures.working
+    (λ honest. c.in-Ok.ensures.passed (read.honest honest)) (λ honest. found_pages _ _ _ _ (c.in-Ok.ensures.found (read.honest honest)) c.in-Ok.ensures.room) read.err).1

@@ -1,10 +1,6 @@
-use Rattle.std.proofs.{Common.{◌<◌, ℕ, sym, subst, arith, get_or, replicate, rules}, lemmas.{Bool.cases_lt, List.{get_or-replicate, get_or_past, length-replicate}}}
-use Rattle.{gate_journal.specs.claim.Contents.content, page_store.specs.Chain.IsMeta, sector_device.specs.claim.Disk.Image}
+use Rattle.{std.proofs.{Common.{sym, subst, arith, rules}, lemmas.{Bool.cases_lt, List.{get_or-replicate, get_or_past, length-replicate}}}, page_store.specs.Chain.IsMeta}
+use Rattle.{gate_journal.specs.claim.Contents.content, sector_device.specs.claim.Disk.Image}
 use Rattle.page_store.proofs.txn.Prepared.commit.Goals as goal
-
--- no place has a number
-none_held : (k : ℕ) → 0 < get_or {A = ℕ} (replicate {A = ℕ} 16 0) k 0 → ⊥
-none_held k some = search (rules, cases_lt, get_or-replicate, get_or_past, length-replicate)
 
 pub invariant_of-pages-2 : goal.invariant_of-pages-2
 invariant_of-pages-2 g c =
@@ -16,5 +12,5 @@ invariant_of-pages-2 g c =
       first_below = let lt = p.first_below in omega (arith, lt, c.requires, shape.pages);
       free_below = let lt = p.free_below in omega (arith, lt, c.requires, shape.pages);
       meta = λ working honest. subst (λ (P : Image). IsMeta P p.root p.first p.free) (sym (c.in_ok-commit.ensures.after honest)) (p.meta (content c.args.pages.now.journal));
-      held_are = λ working honest k some. absurd (none_held k some);
+      held_are = λ working honest k some. absurd (search (rules, cases_lt, get_or-replicate, get_or_past, length-replicate));
     }

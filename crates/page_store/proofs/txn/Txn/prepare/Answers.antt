@@ -1,19 +1,22 @@
-use Rattle.{std.proofs.Common.{◌∙◌, arith, rules}, page_store.{specs.claim.Transactions.over, proofs.Chains.{meta_free, meta_pages}}}
+use Rattle.{std.proofs.Common.{◌∙◌, refl, rules}, gate_journal.specs.claim.{Store.overlay, Writes.writes_of}, page_store.specs.{Chain.IsMeta, claim.Transactions.over}}
+use Rattle.{sector_device.specs.claim.Disk.Image, gate_journal.proofs.Images.put_on, page_store.proofs.Chains.{meta_words, meta_free, meta_pages}}
 use Rattle.page_store.proofs.txn.Txn.prepare.Goals as goal
 
 pub returns : goal.returns
-returns c = record {
-  pages = search rules;
-  after = search rules;
-  root = search rules;
-  free = λ P free.
-      meta_free (over c.args.self P) _ c.set_word-3.new.sector c.args.self.pages c.args.self.root c.args.self.first c.args.self.free (c.in_ok-put.ensures.written P)
-      (c.set_word-3.ensures.others 0 (λ e. omega arith) ∙ c.set_word-2.ensures.others 0 (λ e. omega arith) ∙ c.set_word.ensures.set) (c.set_word-3.ensures.others 1 (λ e. omega arith) ∙ c.set_word-2.ensures.set) c.set_word-3.ensures.set free;
-  sound = λ P free.
-      meta_pages (over c.args.self P) _ c.set_word-3.new.sector c.args.self.pages c.args.self.root c.args.self.first c.args.self.free (c.in_ok-put.ensures.written P)
-      (c.set_word-3.ensures.others 0 (λ e. omega arith) ∙ c.set_word-2.ensures.others 0 (λ e. omega arith) ∙ c.set_word.ensures.set) (c.set_word-3.ensures.others 1 (λ e. omega arith) ∙ c.set_word-2.ensures.set) c.set_word-3.ensures.set
-      c.args.self.root_below c.args.self.first_below c.args.self.free_below free;
-  more = search rules;
-  again = search rules;
-  err = search rules;
-}
+returns c =
+    let t = c.args.self in
+    let Q = λ (P : Image). overlay (writes_of c.put.new.self) P in
+    let meta : (P : Image) → IsMeta (Q P) t.root t.first t.free = λ P.
+    meta_words c.set_word.new.sector c.set_word-2.new.sector c.set_word-3.new.sector t.root t.first t.free c.set_word.ensures.set c.set_word-2.ensures.set c.set_word-3.ensures.set
+    c.set_word-2.ensures.others c.set_word-3.ensures.others (Q P) (c.in_ok-put.ensures.written P 0 ∙ put_on (0, c.set_word-3.new.sector) (over t P) 0 refl) in
+    let free = λ (P : Image). meta_free t.pages (over t P) (Q P) c.set_word-3.new.sector t.root t.first t.free (c.in_ok-put.ensures.written P) (meta P) in
+    record {
+      pages = search rules;
+      after = search rules;
+      root = λ P. (meta P).root_is;
+      free = free;
+      sound = λ P are. meta_pages t.pages (Q P) t.root t.first t.free _ (meta P) t.root_below t.first_below t.free_below (free P are) are;
+      more = search rules;
+      again = search rules;
+      err = search rules;
+    }

@@ -1,4 +1,4 @@
-use Rattle.{std.proofs.Common.{sym, ◌∙◌, is_some, rules}, pl94.proofs.{RunLemmas.none_from_test, SegLemmas.{holds_more, repeated}}}
+use Rattle.{std.proofs.Common.{sym, ◌∙◌, is_some, rules}, pl94.proofs.{HoldingLemmas.none_from_test, SegLemmas.{holds_more, repeated}}}
 use Rattle.pl94.proofs.segment.SegRows.take.Goals as goal
 
 pub returns-then-is_some : goal.returns-then-is_some

@@ -1,5 +1,5 @@
-use Rattle.{std.proofs.Common.{ℕ, ◌+◌, ◌++◌, Err, sym, subst, ap, ◌∙◌, rules}, pl94.specs.{SegFile.{told, refused}, claim.Records.judge, declared.segment.SegFault.SegFault}}
-use Rattle.pl94.proofs.{LineLemmas.{judged_none, judged_on, judged_more}, SegLemmas.{Stands, Told, told_refused, told_refused_last, told_fault, told_end, told_last_end}}
+use Rattle.{std.proofs.Common.{ℕ, ◌+◌, ap, ◌∙◌, rules}, pl94.{specs.{SegFile.{told, refused}, claim.Records.judge}, proofs.LineLemmas.{judged_none, judged_more}}}
+use Rattle.pl94.proofs.SegLemmas.{stands_on, told_refused, told_refused_last, told_fault, told_end, told_last_end}
 use Rattle.pl94.proofs.segment.SegmentReader.read.Goals as goal
 
 pub loop-rows-init : goal.loop-rows-init
@@ -9,18 +9,17 @@ pub returns-in-Err-judge_line-clause-read : goal.returns-in-Err-judge_line-claus
 returns-in-Err-judge_line-clause-read g c =
     let came = rw c.in-Ok-Line.field-0-is at c.in-Ok-Line.ensures.bytes in
     let counted = rw c.in-Ok-Line.field-0-is at c.in-Ok-Line.ensures.number in
-    let s = judged_on (judge c.args.part) _ _ (g.R.Source.remaining c.loop-rows.reader) (g.R.Source.remaining c.advance.new.reader) c.loop-rows.text.held came.0 c.loop-rows.text.number c.loop-rows.invariant.stands came.1 in
-    subst (λ (e : SegFault). Told c.args.part (g.R.Source.remaining c.args.reader.now) (g.R.Source.remaining c.advance.new.reader) (Err e)) (sym (c.line_fault.ensures ∙ ap (refused c.in-Err-judge_line.refusal) (c.number.ensures ∙ counted)))
-    (told_refused c.args.part _ _ (c.loop-rows.text.held ++ came.0) c.loop-rows.text.number c.loop-rows.rows s _ c.advance.new.self.line c.advance.new.self.held c.judge_line.new.self c.in-Err-judge_line.refusal c.line.ensures came.2 c.in-Err-judge_line.ensures)
+    told_refused c.args.part _ _
+    (g.R.Source.remaining c.advance.new.reader) _ came.0 _ _ c.loop-rows.invariant.stands came.1 _ _ _ c.judge_line.new.self c.in-Err-judge_line.refusal _
+    (c.line_fault.ensures ∙ ap (refused c.in-Err-judge_line.refusal) (c.number.ensures ∙ counted)) c.line.ensures came.2 c.in-Err-judge_line.ensures
 
 pub loop-rows-preserved : goal.loop-rows-preserved
 loop-rows-preserved g c =
     let came = rw c.in-Ok-Line.field-0-is at c.in-Ok-Line.ensures.bytes in
-    let counted = rw c.in-Ok-Line.field-0-is at c.in-Ok-Line.ensures.number in
-    let s = judged_on (judge c.args.part) _ _ (g.R.Source.remaining c.loop-rows.reader) (g.R.Source.remaining c.advance.new.reader) c.loop-rows.text.held came.0 c.loop-rows.text.number c.loop-rows.invariant.stands came.1 in
     record {
-      stands = subst (λ n. Stands c.args.part (g.R.Source.remaining c.args.reader.now) (g.R.Source.remaining c.advance.new.reader) c.advance.new.self.held n c.judge_line.new.self) (sym counted)
-          (judged_more (judge c.args.part) _ _ _ (c.loop-rows.text.held ++ came.0) c.loop-rows.text.number s _ c.advance.new.self.line c.advance.new.self.held came.2 (rw c.line.ensures at c.in_default-judge_line.ensures));
+      stands = rw (rw c.in-Ok-Line.field-0-is at c.in-Ok-Line.ensures.number)
+          (judged_more (judge c.args.part) _ _ _ _ _ (stands_on c.args.part _ _ (g.R.Source.remaining c.advance.new.reader) _ came.0 _ _ c.loop-rows.invariant.stands came.1) _ _ _ came.2
+          (rw c.line.ensures at c.in_default-judge_line.ensures));
       counted = c.advance.ensures.counted _ c.loop-rows.invariant.counted;
       failures = (rw c.in-Ok-Line.field-0-is at c.in-Ok-Line.ensures.failures) ∙ c.loop-rows.invariant.failures;
     }
@@ -29,25 +28,23 @@ pub returns-in-Err-judge_line-2-clause-read : goal.returns-in-Err-judge_line-2-c
 returns-in-Err-judge_line-2-clause-read g c =
     let came = rw c.in-Ok-LastLine.field-0-is at c.in-Ok-LastLine.ensures.bytes in
     let counted = rw c.in-Ok-LastLine.field-0-is at c.in-Ok-LastLine.ensures.number in
-    let s = judged_on (judge c.args.part) _ _ (g.R.Source.remaining c.loop-rows.reader) (g.R.Source.remaining c.advance.new.reader) c.loop-rows.text.held came.0 c.loop-rows.text.number c.loop-rows.invariant.stands came.1 in
-    subst (λ (e : SegFault). Told c.args.part (g.R.Source.remaining c.args.reader.now) (g.R.Source.remaining c.advance.new.reader) (Err e)) (sym (c.line_fault-in-Err-judge_line-2.ensures ∙ ap (refused c.in-Err-judge_line-2.refusal) (c.number-in-Err-judge_line-2.ensures ∙ counted)))
-    (told_refused_last c.args.part _ _ (c.loop-rows.text.held ++ came.0) c.loop-rows.text.number c.loop-rows.rows s _ c.advance.new.self.line c.judge_line-in-Ok-LastLine.new.self c.in-Err-judge_line-2.refusal c.line-in-Ok-LastLine.ensures came.2.0 came.2.1 c.in-Err-judge_line-2.ensures)
+    told_refused_last c.args.part _ _
+    (g.R.Source.remaining c.advance.new.reader) _ came.0 _ _ c.loop-rows.invariant.stands came.1 _ _ c.judge_line-in-Ok-LastLine.new.self c.in-Err-judge_line-2.refusal _
+    (c.line_fault-in-Err-judge_line-2.ensures ∙ ap (refused c.in-Err-judge_line-2.refusal) (c.number-in-Err-judge_line-2.ensures ∙ counted)) c.line-in-Ok-LastLine.ensures came.2.0 came.2.1 c.in-Err-judge_line-2.ensures
 
 pub returns-in-Ok-LastLine-clause-read : goal.returns-in-Ok-LastLine-clause-read
 returns-in-Ok-LastLine-clause-read g c =
     let came = rw c.in-Ok-LastLine.field-0-is at c.in-Ok-LastLine.ensures.bytes in
-    let s = judged_on (judge c.args.part) _ _ (g.R.Source.remaining c.loop-rows.reader) (g.R.Source.remaining c.advance.new.reader) c.loop-rows.text.held came.0 c.loop-rows.text.number c.loop-rows.invariant.stands came.1 in
-    told_last_end c.args.part _ _ (c.loop-rows.text.held ++ came.0) c.loop-rows.text.number c.loop-rows.rows s c.advance.new.self.line c.judge_line-in-Ok-LastLine.new.self c.in_default-judge_line-2.field-0 came.2.0 came.2.1 (rw c.line-in-Ok-LastLine.ensures at c.in_default-judge_line-2.ensures)
+    told_last_end c.args.part _ _
+    (g.R.Source.remaining c.advance.new.reader) _ came.0 _ _ c.loop-rows.invariant.stands came.1 _ c.judge_line-in-Ok-LastLine.new.self c.in_default-judge_line-2.field-0 came.2.0 came.2.1 (rw c.line-in-Ok-LastLine.ensures at c.in_default-judge_line-2.ensures)
 
 pub returns-in-Ok-End-clause-read : goal.returns-in-Ok-End-clause-read
 returns-in-Ok-End-clause-read g c =
     let came = rw c.in-Ok-End.field-0-is at c.in-Ok-End.ensures.bytes in
-    let s = judged_on (judge c.args.part) _ _ (g.R.Source.remaining c.loop-rows.reader) (g.R.Source.remaining c.advance.new.reader) c.loop-rows.text.held came.0 c.loop-rows.text.number c.loop-rows.invariant.stands came.1 in
-    told_end c.args.part _ _ (c.loop-rows.text.held ++ came.0) c.loop-rows.text.number c.loop-rows.rows s came.2.0 came.2.1
+    told_end c.args.part _ _ (g.R.Source.remaining c.advance.new.reader) _ came.0 _ _ c.loop-rows.invariant.stands came.1 came.2.0 came.2.1
 
 pub returns-in-Err-clause-read : goal.returns-in-Err-clause-read
 returns-in-Err-clause-read g c =
     let came = c.in-Err.ensures.bytes in
-    let s = judged_on (judge c.args.part) _ _ (g.R.Source.remaining c.loop-rows.reader) (g.R.Source.remaining c.advance.new.reader) c.loop-rows.text.held came.0 c.loop-rows.text.number c.loop-rows.invariant.stands came.1 in
-    subst (λ (e : SegFault). Told c.args.part (g.R.Source.remaining c.args.reader.now) (g.R.Source.remaining c.advance.new.reader) (Err e)) (sym (c.read_fault.ensures ∙ ap (λ (n : ℕ). told c.in-Err.fault (n + 1)) (c.number-in-Err.ensures ∙ c.in-Err.ensures.number)))
-    (told_fault c.args.part _ _ (c.loop-rows.text.held ++ came.0) c.loop-rows.text.number c.loop-rows.rows s c.in-Err.fault c.advance.new.self came.2)
+    told_fault c.args.part _ _ (g.R.Source.remaining c.advance.new.reader) _ came.0 _ _ c.loop-rows.invariant.stands came.1 c.in-Err.fault c.advance.new.self _
+    (c.read_fault.ensures ∙ ap (λ (n : ℕ). told c.in-Err.fault (n + 1)) (c.number-in-Err.ensures ∙ c.in-Err.ensures.number)) came.2

@@ -1,4 +1,4 @@
-use Rattle.{std.proofs.Common.{◌+◌, ◌-◌, ◌∙◌, arith, rules}, shared_lists.proofs.Cut.{put_more, counted_all}}
+use Rattle.{std.proofs.Common.{◌+◌, ◌∙◌, arith, rules}, shared_lists.proofs.Cut.{put_more, counted_all}}
 use Rattle.shared_lists.proofs.districts.Districts.part.Goals as goal
 
 pub overflow_add-end : goal.overflow_add-end
