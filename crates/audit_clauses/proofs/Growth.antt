@@ -1,5 +1,5 @@
 -- A forest grows by a pair.
-use Rattle.std.proofs.Common.{◌≡◌, ◌≢◌, ℕ, ◌+◌, ◌<◌, ◌≤◌, inl, inr, cond, eqb, List, length, get_or, min, max, take, Contains, sym, ap, ◌∙◌, arith, eq-eqb, ne_eqb, rules}
+use Rattle.std.proofs.Common.{◌≡◌, ◌≢◌, ℕ, ◌+◌, ◌<◌, ◌≤◌, inl, inr, cond, eqb, List, All, length, get_or, min, max, take, Contains, sym, ap, ◌∙◌, arith, eq-eqb, ne_eqb, rules}
 use Rattle.std.proofs.lemmas.{Bool.{cases_eq, cases_lt, cond_both, eqb-true}, List.Elements.{All-more, All-nil, All-weaker, Contains-get_or}}
 use Rattle.audit_clauses.specs.{Forest.{ArePairsOf, PointsDown, AreAlone, IsRooting, merged, HasOneRoot, IsForest}, claim.Paths.{AreNeighbours, IsIn, AreJoined}}
 use Rattle.{desk_model.specs.declared.geography.Pair.Pair, audit_clauses.proofs.Walks.{joined_here, joined_on, joined_back, joined_next, end_lies}}
@@ -15,6 +15,12 @@ forest_alone pairs plan first last parents placed alone = record {
   joined = λ i d lies. joined_here i lies;
   closed = All-nil (HasOneRoot (λ i. i) plan first last);
 }
+
+-- the same trees, in which these pairs have one root each
+pub forest_still : {pairs : List Pair} {plan parents : List ℕ} {low high old first last count : ℕ} (was : IsForest pairs plan low high old parents)
+    → All (HasOneRoot was.root plan first last) (take count pairs) → IsForest pairs plan first last count parents
+forest_still was closed =
+    record { placed = was.placed; long = was.long; down = was.down; root = was.root; rooting = was.rooting; joined = was.joined; closed = closed }
 
 -- a block whose root is the higher of two or the lower has the lower one then
 merged_low : (root : ℕ → ℕ) (low high i : ℕ) → (root i ≢ high → root i ≡ low) → merged root low high i ≡ low
@@ -47,15 +53,8 @@ module _ {pairs : List Pair} {plan : List ℕ} (root : ℕ → ℕ) (joined : (i
 module _ {pairs : List Pair} {plan : List ℕ} {first last count : ℕ} {parents : List ℕ} (pair : Pair) (less : count < length pairs) (is : pair ≡ get_or pairs count pair) (was : IsForest pairs plan first last count parents) where
   -- a pair that isn't within one of the districts changes nothing
   pub forest_skip : ((d : ℕ) → first ≤ d → d ≤ last → IsIn plan d pair.first → IsIn plan d pair.second → ⊥) → IsForest pairs plan first last (count + 1) parents
-  forest_skip none = record {
-    placed = was.placed;
-    long = was.long;
-    down = was.down;
-    root = was.root;
-    rooting = was.rooting;
-    joined = was.joined;
-    closed = All-more (HasOneRoot was.root plan first last) pairs count pair less was.closed (rw (← is) (λ d from to one other. absurd (none d from to one other)));
-  }
+  forest_skip none =
+      forest_still was (All-more (HasOneRoot was.root plan first last) pairs count pair less was.closed (rw (← is) (λ d from to one other. absurd (none d from to one other))))
 
   -- a pair within a district joins the trees of its blocks
   pub forest_join : (new : List ℕ) (e : ℕ) → IsIn plan e pair.first → IsIn plan e pair.second → length new ≡ length parents → PointsDown new

@@ -1,9 +1,6 @@
-pub mod Climb
 pub mod Counted
-pub mod Extreme
 pub mod Growth
 pub mod Keeping
-pub mod Listing
 pub mod Marking
 pub mod Meaning
 pub mod OneList

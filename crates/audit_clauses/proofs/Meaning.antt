@@ -1,8 +1,21 @@
 -- What the marks of all blocks say.
-use Rattle.std.proofs.{Common.{◌≡◌, ℕ, ◌+◌, ◌<◌, inl, inr, List, length, sym, ◌∙◌, refl, arith, rules}, lemmas.{Bool.{cases_lt, cases_eq}, List.get_or_past}}
-use Rattle.audit_clauses.specs.{Marks.{mark_at, value_at, one_part, IsSplit, IsMark, AreMarks, IsDividedAt, IsUnnested, IsUnnestedAt}, claim.Exactly.AreExactly}
-use Rattle.audit_clauses.specs.{claim.{Divided.{county_at, IsInCity, AreDivided, IsDividedWithinCounty}, Nested.{IsIn, IsNested, BreaksNesting}}, declared.mark.GroupMark.GroupMark}
-use Rattle.{audit_clauses.{specs.declared.mark.GroupMark.TheVariants.{Unseen, Seen, Divided}, proofs.Listing.exactly_same}, desk_model.specs.declared.block.BlockRow.BlockRow}
+use Rattle.std.{specs.List.Sorted.IsStrictlyIncreasing, proofs.Common.{◌≡◌, ℕ, ◌+◌, ◌<◌, inl, inr, List, All, Contains, length, sym, ◌∙◌, refl, arith, rules}}
+use Rattle.{std.proofs.lemmas.{Bool.{cases_lt, cases_eq}, List.{get_or_past, Elements.All-weaker}}, audit_clauses.specs.claim.Exactly.AreExactly}
+use Rattle.audit_clauses.specs.{Marks.{mark_at, value_at, one_part, IsSplit, IsMark, AreMarks, IsDividedAt, IsUnnested, IsUnnestedAt}, claim.Nested.{IsIn, IsNested, BreaksNesting}}
+use Rattle.audit_clauses.specs.{claim.Divided.{county_at, IsInCity, AreDivided, IsDividedWithinCounty}, declared.mark.GroupMark.{GroupMark, TheVariants.{Unseen, Seen, Divided}}}
+use Rattle.desk_model.specs.declared.block.BlockRow.{BlockRow}
+
+-- the numbers below count of which this holds are listed
+pub record AreListed (Holds : ℕ → Type 0) (count : ℕ) (numbers : List ℕ) : Type 0 where
+  pub rising : IsStrictlyIncreasing numbers
+  pub below : All (λ x. x < count) numbers
+  pub listed : All Holds numbers
+  pub all : (number : ℕ) → number < count → Holds number → Contains numbers number
+
+-- two facts that hold of the same numbers
+exactly_same : (Holds Means : ℕ → Type 0) (numbers : List ℕ) → ((number : ℕ) → Holds number → Means number) → ((number : ℕ) → Means number → Holds number)
+    → AreExactly Holds numbers → AreExactly Means numbers
+exactly_same Holds Means numbers means holds was = search (rules, All-weaker)
 
 -- a mark past the end isn't there
 inside : (marks : List GroupMark) (k : ℕ) → IsDividedAt marks k → k < length marks

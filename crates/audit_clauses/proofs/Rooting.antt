@@ -1,6 +1,14 @@
 -- Trees that point down, under a shorter way and under a joined root.
 use Rattle.std.proofs.{Common.{◌≡◌, ◌≢◌, ℕ, ◌<◌, ◌≤◌, cond, eqb, List, length, get_or, set, min, max, sym, ap, ◌∙◌, arith, eq-eqb, ne_eqb, rules}, lemmas.Bool.cases_eq}
-use Rattle.{std.proofs.lemmas.List.{length-set, get_or-set_same, get_or-set_other}, audit_clauses.specs.Forest.{IsRooting, IsRootOf, merged}}
+use Rattle.{std.proofs.lemmas.List.{length-set, get_or-set_same, get_or-set_other}, audit_clauses.specs.Forest.{PointsDown, IsRooting, IsRootOf, merged}}
+
+-- so far from a block: the roots are those that were, and this place has the block's
+pub record IsClimb (old : List ℕ) (block : ℕ) (parents : List ℕ) (at : ℕ) : Type 0 where
+  pub inside : at < length parents
+  pub long : length parents ≡ length old
+  pub down : PointsDown parents
+  pub rooting : (root : ℕ → ℕ) → IsRooting root old → IsRooting root parents
+  pub root : (root : ℕ → ℕ) → IsRooting root old → root at ≡ root block
 
 -- what a place holds after a write
 written : (parents : List ℕ) (at value i : ℕ) → at < length parents → (P : ℕ → Type 0) → (i ≡ at → P value) → (i ≢ at → P (get_or parents i 0)) → P (get_or (set parents at value) i 0)

@@ -12,6 +12,7 @@ pub fn breaks_follow()
 {}
 
 /// Numbers that rise are one list: lists with the same members are the same.
+#[tactic(auto, using(crate::proofs::OneList::same_rising))]
 pub fn rising_lists_are_one()
     ensures { RisingListsAreOne }
 {}

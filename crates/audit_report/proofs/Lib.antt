@@ -1,9 +1,7 @@
-pub mod Counting
 pub mod Lists
 pub mod Naming
 pub mod OneReport
 pub mod Padded
 pub mod Reporting
-pub mod TextLemmas
 pub mod Gathering
 pub mod Sharing

@@ -13,13 +13,9 @@ pub first_more : {X : Type 0} (f : X → Data) (xs : List X) (count : ℕ) (valu
 first_more f xs count values x value less is same was =
     map_push view values value ∙ ap (λ ds. ds ++ view value ∷ []) was ∙ ap (λ d. map f (take count xs) ++ d ∷ []) (same ∙ ap f is) ∙ sym (map_more f xs count x less)
 
-pub first_all : {X : Type 0} (f : X → Data) (xs : List X) (count : ℕ) (values : List Value) → length xs ≡ count → AreFirst f xs count values
-    → array (items_of (map view values)) ≡ list_data f xs
-first_all f xs count values all was = ap (λ ds. array (items_of ds)) (was ∙ ap (map f) (take_all count xs (omega arith)))
-
 pub first_written : {X : Type 0} (f : X → Data) (xs : List X) (count : ℕ) (values : Vec Value Global) → length xs ≡ count → AreFirst f xs count values.items
     → view (Array values) ≡ list_data f xs
-first_written f xs count values all was = view-Array values ∙ first_all f xs count values.items all was
+first_written f xs count values all was = view-Array values ∙ ap (λ ds. array (items_of ds)) (was ∙ ap (map f) (take_all count xs (omega arith)))
 
 view-String : (s : String Global) → view (json.String s) ≡ string (string_bytes s)
 view-String s = search (rules, the_lemmas)

@@ -10,32 +10,27 @@ record FaultIn (g : GeographyModel) (n at : ℕ) (so_far : Values) (ls : List (L
   before : List (List ℕ)
   line : List ℕ
   after : List (List ℕ)
-  values : Values
+  was : Values
   cut : ls ≡ before ++ line ∷ after
   number : told ≡ at + length before
-  reads : rows_read g n at so_far before ≡ Ok values
+  reads : rows_read g n at so_far before ≡ Ok was
   bytes : length line ≢ 0
-  fault : line_read g n values (fields_of (fields line)) ≡ Err code
+  fault : line_read g n was (fields_of (fields line)) ≡ Err code
 
 fault_here : (g : GeographyModel) (n at : ℕ) (so_far : Values) (line : List ℕ) (ls : List (List ℕ)) (code : BodyFault) (told : ℕ) → length line ≢ 0
     → line_read g n so_far (fields_of (fields line)) ≡ Err code → at ≡ told → FaultIn g n at so_far (line ∷ ls) code told
 fault_here g n at so_far line ls code told bytes fault same =
-    record { before = []; line = line; after = ls; values = so_far; cut = refl; number = omega arith; reads = refl; bytes = bytes; fault = fault }
+    record { before = []; line = line; after = ls; was = so_far; cut = refl; number = omega arith; reads = refl; bytes = bytes; fault = fault }
 
 fault_later : (g : GeographyModel) (n at : ℕ) (so_far next : Values) (line : List ℕ) (ls : List (List ℕ)) (code : BodyFault) (told : ℕ)
     → ((more : List (List ℕ)) → rows_read g n at so_far (line ∷ more) ≡ rows_read g n (at + 1) next more) → FaultIn g n (at + 1) next ls code told
     → FaultIn g n at so_far (line ∷ ls) code told
-fault_later g n at so_far next line ls code told steps f = record {
-  before = line ∷ f.before;
-  line = f.line;
-  after = f.after;
-  values = f.values;
-  cut = ap (λ (xs : List (List ℕ)). line ∷ xs) f.cut;
-  number = omega (arith, f.number);
-  reads = steps f.before ∙ f.reads;
-  bytes = f.bytes;
-  fault = f.fault;
-}
+fault_later g n at so_far next line ls code told steps f =
+    let all = line ∷ f.before in
+    let cut = ap (λ (xs : List (List ℕ)). line ∷ xs) f.cut in
+    let number : told ≡ at + length all = omega (arith, f.number) in
+    let reads = steps f.before ∙ f.reads in
+    record { before = all; line = f.line; after = f.after; was = f.was; cut = cut; number = number; reads = reads; bytes = f.bytes; fault = f.fault }
 
 rows_fault : (g : GeographyModel) (n at : ℕ) (so_far : Values) (ls : List (List ℕ)) (code : BodyFault) (told : ℕ) → rows_read g n at so_far ls ≡ Err (code, told)
     → FaultIn g n at so_far ls code told
@@ -74,8 +69,8 @@ told_first g n [] code at is = search rules
 told_first g n (first ∷ more) code at is = ⊎_elim
     (λ (same : pointwise nat_eq first header ≡ true).
     let f = rows_fault g n 2 [] more code at (rw same at is) in
-    let ok : with_header g n (first ∷ f.before) ≡ Ok f.values = rw same f.reads in
-    search (arith, body_lists g n (first ∷ f.before) f.values ok))
+    let ok : with_header g n (first ∷ f.before) ≡ Ok f.was = rw same f.reads in
+    search (arith, body_lists g n (first ∷ f.before) f.was ok))
     (λ (other : pointwise nat_eq first header ≡ false). search (rules, both_ways))
     (cases_Bool (pointwise nat_eq first header))
 

@@ -92,11 +92,9 @@ rows_listed g n at so_far (line ∷ ls) more lists = ⊎_elim
     (λ (bytes : eqb (length line) 0 ≡ false).
     let s = begins (value_in n line) (map (value_in n) (with_bytes ls)) more (sym (rows_first n line ls bytes) ∙ lists.rows) in
     let all : ListsMore g n so_far (line ∷ ls) (s.e ∷ s.rest) = rw s.is at lists in
-    let adds : Adds g n so_far (fields_of (fields line)) s.e = record {
-      value = s.first;
-      known = All-head (λ e. list_any (λ id. eqb id e.0) (ids g) ≡ true) s.e s.rest all.known;
-      fresh = All-head (λ e. value_at so_far e.0 ≡ None) s.e s.rest all.fresh;
-    } in
+    let known = All-head (λ e. list_any (λ id. eqb id e.0) (ids g) ≡ true) s.e s.rest all.known in
+    let fresh = All-head (λ e. value_at so_far e.0 ≡ None) s.e s.rest all.fresh in
+    let adds : Adds g n so_far (fields_of (fields line)) s.e = record { value = s.first; known = known; fresh = fresh } in
     rw (bytes, line_added g n so_far (fields_of (fields line)) s.e adds)
     (rows_listed g n (at + 1) (so_far ++ s.e ∷ []) ls s.rest (later_lists g n so_far ls (line ∷ ls) s.e s.rest s.later all)
     ∙ ap (λ (values : Values). Ok values) (append_assoc so_far (s.e ∷ []) s.rest ∙ ap (λ (values : Values). so_far ++ values) (sym s.is))))
@@ -142,11 +140,9 @@ first_lists g n so_far line ls e more bytes adds lists = record {
 
 one_more : (g : GeographyModel) (n : ℕ) (so_far : Values) (line : List ℕ) (ls : List (List ℕ)) (values next : Values) → eqb (length line) 0 ≡ false
     → Added g n so_far (fields_of (fields line)) next → More g n next ls values → More g n so_far (line ∷ ls) values
-one_more g n so_far line ls values next bytes added m = record {
-  more = added.e ∷ m.more;
-  is = sym (append_assoc so_far (added.e ∷ []) m.more) ∙ ap (λ (before : Values). before ++ m.more) added.is ∙ m.is;
-  lists = first_lists g n so_far line ls added.e m.more bytes added.adds (rw added.is m.lists);
-}
+one_more g n so_far line ls values next bytes added m =
+    let is = sym (append_assoc so_far (added.e ∷ []) m.more) ∙ ap (λ (before : Values). before ++ m.more) added.is ∙ m.is in
+    record { more = added.e ∷ m.more; is = is; lists = first_lists g n so_far line ls added.e m.more bytes added.adds (rw added.is m.lists) }
 
 pub rows_list : (g : GeographyModel) (n at : ℕ) (so_far : Values) (ls : List (List ℕ)) (values : Values) → rows_read g n at so_far ls ≡ Ok values → More g n so_far ls values
 rows_list g n at so_far [] values ok = search (rules, append-nil, All-nil)
@@ -186,13 +182,9 @@ body_listed g n [] values is = let first = is.first in cc
 body_listed g n (first ∷ more) values is =
     let header_is : first ≡ header = same_Some first header is.first in
     let test : pointwise nat_eq first header ≡ true = (bytes_eq-Decides first header).1 header_is in
-    rw test
-    (rows_listed g n 2 [] more values (record {
-      rows = is.rows;
-      known = λ k e inside. known_from (ids g) (get_or values k e).0 (is.known k e inside);
-      fresh = λ k e inside. refl;
-      once = is.once;
-    }))
+    let known : All (λ e. list_any (λ id. eqb id e.0) (ids g) ≡ true) values =
+    λ k e inside. known_from (ids g) (get_or values k e).0 (is.known k e inside) in
+    rw test (rows_listed g n 2 [] more values (record { rows = is.rows; known = known; fresh = λ k e inside. refl; once = is.once }))
 
 pub read_is_listed : ReadIsListed
 read_is_listed g n text values = (body_lists g n (lines text) values, body_listed g n (lines text) values)

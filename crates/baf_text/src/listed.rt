@@ -51,6 +51,7 @@ impl Listed {
     }
 
     /// The district of the block at a place, where it is listed.
+    #[tactic(auto, using(crate::proofs::Parts::spread_at))]
     pub fn get(&self, place: usize) -> Option<u16>
         ensures { result ≡ get_or self.now place None }
     {

@@ -28,6 +28,7 @@ impl Model for NumberText {
 }
 
 impl NumberText {
+    #[tactic(auto, using(crate::proofs::Ends::length_within))]
     pub fn new(id: BlockId) -> NumberText
         ensures { result ≡ id }
     {

@@ -106,6 +106,7 @@ fn take_line(
 const ROW: usize = ID_DIGITS + 2;
 
 /// The list in which no block is listed, with room for as many rows as a text has at most.
+#[tactic(auto, using(crate::proofs::Parts::spread_none))]
 fn none_listed(alloc: Global, geography: &Geography, bytes: &[u8]) -> Result<Listed, AllocError>
     ensures { IfOk result (λ listed. listed ≡ map (λ _. None) geography.now.blocks) }
 {

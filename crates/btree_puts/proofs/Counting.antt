@@ -16,10 +16,6 @@ few_some d t u v q right cut some is few more = few_then d t u v q cut some (sub
 pub few_taken : (d : ℕ) (t u : Txn) (q : ℕ) (right : Option ℕ) → 0 < d → right ≡ Some q → AreFew (d - 1) t u right → txn_free t ≤ txn_free u + d
 few_taken d t u q right some is few = let b = (subst (AreFew (d - 1) t u) is few).1 in omega arith
 
-pub none_some : (right : Option ℕ) (q : ℕ) → right ≡ None → right ≡ Some q → ⊥
-none_some None q none some = cc
-none_some (Some r) q none some = cc
-
 pub few_some_taken : (d : ℕ) (t u : Txn) (q : ℕ) (right : Option ℕ) → right ≡ Some q → AreFew d t u right → txn_free t ≤ txn_free u + (d + 1)
 few_some_taken d t u q None is few = cc
 few_some_taken d t u q (Some r) is few = let b = few.1 in omega arith

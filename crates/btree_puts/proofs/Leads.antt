@@ -1,5 +1,5 @@
 -- A put into the leaf that a key belongs to, told above.
-use Rattle.{std.specs.{FinMap.{insert, contains_key, find, put}, Prelude.{Option, None, is_some}}, btree_puts.{specs.Putting.{IsRaised, IsWhole, CanPut}, proofs.Down.through_none}}
+use Rattle.{std.specs.{FinMap.{insert, contains_key, find, put}, Prelude.{Option, None, is_some}}, btree_puts.{specs.Putting.{IsRaised, IsWhole, CanPut}, proofs.Down.step_down}}
 use Rattle.{std.proofs.Common.{rules, ◌≡◌, ◌≢◌, ◌<◌, ◌≤◌, ◌-◌, ◌^◌, ℕ, zero, suc, List, [], Bool, refl, subst, arith, sym, ap, ◌∙◌}, page_btree.specs.Getting.CanGetAt}
 use Rattle.{page_btree.specs.{Leading.LeadsTo, claim.{Keys.KeyMap, Map.{Holds, IsRooted}, Tree.Tree}}, page_node.specs.{Searching.RisesAfter, claim.Entries.Entry}}
 use Rattle.{page_node.specs.claim.{Node.{Node, IsNode}, Places.{key_cmp, Rises}}, page_store.specs.claim.{Chain.{IsIn, AreFree}, Transactions.{over, free_over}}}
@@ -30,11 +30,11 @@ module _ (n : ℕ) (S : Image) (t0 t1 : Txn) (key value : List ℕ) (had : Bool)
   raised_there (suc d) low high page t (child, told, rest) can k =
       let P = over t0 S in
       let some : 0 < suc d = omega arith in
-      let deep : suc d ≢ 0 = omega arith in
       let e : d ≡ suc d - 1 = omega arith in
-      through_none _ _ _ _ _ _ _ _ _ value t few can deep child (λ node at. told node at (put_rises _ _ _ _ _ _ _ _ _ t can some node at)) (P child) refl (over t1 S) (free_over t1 S) had None nothing
-      (subst (λ (x : ℕ). (l : List ℕ) (h : Option (List ℕ)) (u : Tree) → CanPut n P x l h (free_over t0 S) child (P child) key u → (k : List ℕ) → IsRaised P (over t1 S) x l h (free_over t0 S) (free_over t1 S) key value had k child u None nothing) e
-      (λ l h u below k. raised_there d l h child u rest below k)) refl nothing k
+      let step = step_down _ _ _ _ _ _ _ _ _ value t child few can (omega arith) (λ node at. told node at (put_rises _ _ _ _ _ _ _ _ _ t can some node at)) in
+      let below = subst (λ (x : ℕ). (l : List ℕ) (h : Option (List ℕ)) (u : Tree) → CanPut n P x l h (free_over t0 S) child (P child) key u → (k : List ℕ) → IsRaised P (over t1 S) x l h (free_over t0 S) (free_over t1 S) key value had k child u None nothing) e
+      (λ l h u below k. raised_there d l h child u rest below k) in
+      step.kept (over t1 S) (free_over t1 S) had None nothing (below step.its_low step.its_high step.its (step.can (P child) refl)) refl nothing k
 
   -- at the root
   module _ (root : ℕ) (m : KeyMap) (holds : Holds n (over t0 S) root (free_over t0 S) m) (some : root ≢ 0) where

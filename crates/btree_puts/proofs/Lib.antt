@@ -1,10 +1,7 @@
-pub mod Edits
 pub mod Placing
 pub mod Failing
 pub mod Counting
 pub mod Joined
-pub mod Chosen
-pub mod Raised
 pub mod Leaves
 pub mod Roots
 pub mod FromRoot

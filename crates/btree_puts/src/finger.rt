@@ -40,6 +40,7 @@ impl Finger {
     }
 
     /// Whether a key belongs to the leaf, which is one of so many pages.
+    #[tactic(auto, using(page_btree::proofs::Rows::key_before))]
     fn has(&self, key: &[u8], count: u32) -> bool
         ensures some { result ≡ true → self.now.page ≢ 0 }
         ensures below { result ≡ true → self.now.page < count }

@@ -6,6 +6,7 @@ use page_node::{NodeBuf, PageBytes};
 
 /// Writes the page at which a map with one row stands: what a put of the row into a map without rows writes. So a store can be
 /// formatted with its first row.
+#[tactic(auto, using(crate::proofs::Roots::only_holds))]
 pub fn write_first_row(page: &mut PageBytes, key: &[u8], value: &[u8])
     requires { IsRowToPut key.now value.now }
     ensures { IsOnlyRow page.new key.now value.now }

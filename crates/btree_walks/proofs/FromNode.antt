@@ -1,10 +1,10 @@
 -- A remove from the tree at a child, whose page was read.
 use Rattle.std.{specs.{FinMap.find, Option.option_map, Prelude.{Some, None, Result, Ok, IfOk, OnOk}}, proofs.Common.{◌≡◌, ◌≢◌, ◌-◌, ◌<◌, ◌≤◌, ◌^◌, ℕ, List, sym, subst, arith}}
-use Rattle.btree_walks.specs.{Outcomes.RemovesKeyAt, Removing.{CanRemove, Removes, IsPutBack, unlinked}, declared.removes.Removed.{Removed, TheVariants.{Absent, Kept, Emptied}}}
-use Rattle.{page_btree.specs.{claim.Tree.rows, declared.error.TreeError.TreeError}, page_node.specs.{Entries.child_in, Places.floor, claim.{Node.{Node, IsNode}, Places.key_cmp}}}
+use Rattle.{btree_walks.specs.{Outcomes.RemovesKeyAt, Removing.{CanRemove, Removes, LinkErr, IsPutBack, unlinked}, declared.removes.Removed.Removed}, page_node.specs.Places.floor}
+use Rattle.{btree_walks.specs.declared.removes.Removed.TheVariants.{Absent, Kept, Emptied}, page_btree.specs.{claim.Tree.rows, declared.error.TreeError.TreeError}}
+use Rattle.{page_btree.specs.declared.error.TreeError.TheVariants.NotAStore, page_node.specs.{Entries.child_in, claim.{Node.{Node, IsNode}, Places.key_cmp}}}
 use Rattle.page_store.specs.{claim.{Chain.AreFree, Transactions.{stored, disk_in, txn_pages, over, free_over, IsQuiet}}, declared.{pages.Pages.Pages, txn.Txn.Txn}}
-use Rattle.{sector_device.specs.{claim.Disk.Image, declared.SectorDevice.Ghosts}, btree_walks.proofs.{Refusals.HasNode, Steps.{StepsDown, step_down, both_ok}}}
-use Rattle.page_btree.proofs.Outcomes.{map_ok}
+use Rattle.{sector_device.specs.{claim.Disk.Image, declared.SectorDevice.Ghosts}, btree_walks.proofs.Steps.{StepsDown, step_down, both_ok}, page_btree.proofs.Outcomes.map_ok}
 
 module _ {D : Type 0} {g : Ghosts D} (t u : Txn) (old mid new : Pages D g) (level p child : ℕ) (page below key : List ℕ) (deep : level ≢ 0) (few : txn_pages t ≤ 2 ^ 32) (told : (node : Node) → IsNode page node → option_map child_in (floor key node.entries) ≡ Some child) (quiet : IsQuiet old mid) (later : IsQuiet mid new) (reads : (disk_in mid).is_honest → below ≡ over t (stored old) child) (honest : (disk_in new).is_honest) (there : page ≡ over t (stored old) p) (can : CanRemove (txn_pages t) (over t (stored old)) (free_over t (stored old)) level key p) where
   positive : 0 < level
@@ -28,12 +28,10 @@ module _ {D : Type 0} {g : Ghosts D} (t u : Txn) (old mid new : Pages D g) (leve
     kept is = step.kept u (gone Kept is)
 
     -- then the link to the child is taken out
-    pub has_node : did ≡ Emptied → txn_pages u ≡ txn_pages t → HasNode u (stored old) p page
-    has_node is same_count =
+    pub no_link : did ≡ Emptied → txn_pages u ≡ txn_pages t → LinkErr u p page NotAStore → ⊥
+    no_link is same_count why =
         let off = step.off u (gone Emptied is) in
-        let node_is = subst (λ b. IsNode b step.node) (sym there) step.node_is in
-        let are = subst (λ (k : ℕ). AreFree k (free_over u (stored old))) (sym same_count) off.2 in
-        search (node_is, are, step.some, step.used.1, off.1)
+        why (stored old) step.node (subst (λ b. IsNode b step.node) (sym there) step.node_is) step.some step.used.1 (subst (λ (k : ℕ). AreFree k (free_over u (stored old))) (sym same_count) off.2) off.1
 
     pub emptied : did ≡ Emptied → (v : Txn) (result : Result Removed TreeError) → ((node : Node) → IsNode page node → IfOk result (λ back. IsPutBack u v p (record node { entries = unlinked key node.entries }) back)) → OnOk result ((P : Image) (q : ℕ) → q ≢ p → over v P q ≡ over u P q)
         → IfOk result (λ back. Removes (over v (stored old)) (free_over v (stored old)) can back)

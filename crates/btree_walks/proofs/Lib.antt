@@ -20,7 +20,6 @@ pub mod Walked
 mod Trees
 pub mod Refusals
 pub mod Edits
-pub mod Removals
 pub mod Steps
 pub mod Lefts
 pub mod Spares

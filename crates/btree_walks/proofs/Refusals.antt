@@ -1,27 +1,8 @@
 -- A refusal of a remove below, told above.
-use Rattle.{std.proofs.Common.{rules, ◌<◌, ℕ, List, sym, ◌∙◌, length}, btree_walks.specs.Removing.{BackErr, TakenErr, LinkErr, BelowErr}, page_btree.specs.Getting.ReadsErr}
-use Rattle.{page_btree.specs.{claim.{Errors.RemoveErr, Keys.KeyMap, Map.InTxn}, declared.error.TreeError.TreeError}, page_node.specs.claim.{Entries.Entry, Node.{Node, IsNode}}}
-use Rattle.{page_node.specs.claim.Places.Rises, page_store.specs.claim.{Chain.{IsIn, AreFree}, Transactions.{stored, disk_in, txn_pages, free_over, IsQuiet, Passed}}}
-use Rattle.{page_store.specs.declared.{pages.Pages.Pages, txn.Txn.Txn}, sector_device.specs.{claim.Disk.Image, declared.SectorDevice.Ghosts}, page_btree.proofs.Refusals.by_case}
-use Rattle.page_store.proofs.Stops.{failed_more}
-
--- what a call on a page's node needs
-pub record HasNode (t : Txn) (S : Image) (p : ℕ) (bytes : List ℕ) : Type 0 where
-  pub node : Node
-  pub node_is : IsNode bytes node
-  pub some : 0 < length node.entries
-  pub above : 0 < p
-  pub are : AreFree (txn_pages t) (free_over t S)
-  pub off : IsIn p (free_over t S) → ⊥
-
--- or with rows that rise
-pub record HasRows (t : Txn) (S : Image) (p : ℕ) (bytes : List ℕ) : Type 0 where
-  pub rows : List Entry
-  pub node_is : IsNode bytes (record { level = 0; entries = rows })
-  pub rises : Rises rows
-  pub above : 0 < p
-  pub are : AreFree (txn_pages t) (free_over t S)
-  pub off : IsIn p (free_over t S) → ⊥
+use Rattle.{std.proofs.Common.{rules, ℕ, List, sym, ◌∙◌}, btree_walks.specs.Removing.{BackErr, TakenErr, LinkErr, BelowErr}, page_btree.specs.{Getting.ReadsErr, claim.Keys.KeyMap}}
+use Rattle.{page_btree.specs.{claim.{Errors.RemoveErr, Map.InTxn}, declared.error.TreeError.{TreeError, TheVariants.NotAStore}}, page_store.specs.declared.pages.Pages.Pages}
+use Rattle.{page_store.specs.{claim.Transactions.{stored, disk_in, IsQuiet, Passed}, declared.txn.Txn.Txn}, sector_device.specs.{claim.Disk.Image, declared.SectorDevice.Ghosts}}
+use Rattle.{page_btree.proofs.Refusals.by_case, page_store.proofs.Stops.failed_more}
 
 pub back_taken : (t : Txn) (p : ℕ) (page : List ℕ) (e : TreeError) → BackErr t p e → TakenErr t p page e
 back_taken t p page = search by_case
@@ -33,11 +14,13 @@ module _ {D : Type 0} {g : Ghosts D} where
   pub below_more : (can below : Image → Type 0) (old mid new : Pages D g) → Passed old mid → IsQuiet mid new → ((disk_in new).is_honest → can (stored old) → below (stored mid)) → (e : TreeError) → BelowErr below mid new e → BelowErr can old new e
   below_more can below old mid new passed quiet also = search rules
 
-  pub link_fails : (can : Image → Type 0) (t : Txn) (p : ℕ) (bytes : List ℕ) (old new : Pages D g) → ((disk_in new).is_honest → can (stored old) → HasNode t (stored old) p bytes) → (e : TreeError) → LinkErr t p bytes e → BelowErr can old new e
-  link_fails can t p bytes old new has = search rules
+  pub link_fails : (can : Image → Type 0) (t : Txn) (p : ℕ) (bytes : List ℕ) (old new : Pages D g) → ((disk_in new).is_honest → can (stored old) → LinkErr t p bytes NotAStore → ⊥) → (e : TreeError) → LinkErr t p bytes e → BelowErr can old new e
+  link_fails can t p bytes old new has = by_case (λ e. LinkErr t p bytes e) (λ e. BelowErr can old new e)
+      (λ why. absurd why) (λ why honest is. has honest is why) (λ why. absurd why) (λ why. absurd why) (λ why. absurd why) (λ _. tt)
 
-  pub row_fails : (can : Image → Type 0) (t : Txn) (p : ℕ) (bytes : List ℕ) (old new : Pages D g) → ((disk_in new).is_honest → can (stored old) → HasRows t (stored old) p bytes) → (e : TreeError) → TakenErr t p bytes e → BelowErr can old new e
-  row_fails can t p bytes old new has = search rules
+  pub row_fails : (can : Image → Type 0) (t : Txn) (p : ℕ) (bytes : List ℕ) (old new : Pages D g) → ((disk_in new).is_honest → can (stored old) → TakenErr t p bytes NotAStore → ⊥) → (e : TreeError) → TakenErr t p bytes e → BelowErr can old new e
+  row_fails can t p bytes old new has = by_case (λ e. TakenErr t p bytes e) (λ e. BelowErr can old new e)
+      (λ why. absurd why) (λ why honest is. has honest is why) (λ why. absurd why) (λ why. absurd why) (λ why. absurd why) (λ _. tt)
 
   pub remove_fails : (below : Image → Type 0) (t : Txn) (old mid new : Pages D g) → Passed old mid → IsQuiet mid new → ((disk_in new).is_honest → (m : KeyMap) → InTxn t (stored old) m → below (stored mid)) → (e : TreeError) → BelowErr below mid new e → RemoveErr t old new e
   remove_fails below t old mid new passed quiet also = by_case (λ e. BelowErr below mid new e) (λ e. RemoveErr t old new e)

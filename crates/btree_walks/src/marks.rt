@@ -20,6 +20,7 @@ impl Marks {
     ghost use Rattle.btree_walks.specs.Faults.{IsUnnamed};
 
     /// None of so many pages was named.
+    #[tactic(auto, using(crate::proofs::Named::unseen_none))]
     pub(crate) fn new(alloc: Global, pages: u32) -> Result<Marks, AllocError>
         ensures long { IfOk result (λ marks. length marks.seen.items ≡ pages) }
         ensures none { IfOk result (λ marks. (q : ℕ) → IsSeen marks q → ⊥) }
@@ -30,6 +31,7 @@ impl Marks {
     }
 
     /// Names a page. Refuses one that the device doesn't have, and one that was named before.
+    #[tactic(auto, using(crate::proofs::Named::unseen_some))]
     pub(crate) fn name(&mut self, page: u32) -> Result<(), PageFault>
         ensures named { OnOk result (AreNamed (λ q. q ≡ page) 1 self.old self.new) }
         ensures few { length self.old.seen.items < 2 ^ 32 }
@@ -60,6 +62,7 @@ impl Marks {
     }
 
     /// The first page that wasn't named, or page 0 where each was.
+    #[tactic(auto, using(crate::proofs::Named::all_seen))]
     pub(crate) fn first_lost(&self) -> u32
         ensures lost { 0 < self.now.left → IsSeen self.now result → ⊥ }
         ensures within { 0 < self.now.left → result < length self.now.seen.items }

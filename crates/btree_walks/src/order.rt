@@ -44,6 +44,7 @@ fn is_under(key: &[u8], high: Option<&[u8]>) -> bool
 }
 
 /// The lower bound of the entry at a place: its key, but for the first.
+#[tactic(auto, using(crate::proofs::Keys::lower_first, crate::proofs::Keys::lower_some))]
 pub(crate) fn lower<'a>(node: &'a NodeBuf, k: usize, low: &'a [u8]) -> &'a [u8]
     requires { k < length node.now.entries }
     ensures { result.now ≡ lower_of low.now node.now.entries k }
@@ -55,6 +56,7 @@ pub(crate) fn lower<'a>(node: &'a NodeBuf, k: usize, low: &'a [u8]) -> &'a [u8]
 }
 
 /// The upper bound of the entry at a place: the next key, but for the last.
+#[tactic(auto, using(crate::proofs::Keys::upper_some, crate::proofs::Keys::upper_last))]
 pub(crate) fn upper<'a>(node: &'a NodeBuf, k: usize, high: Option<&'a [u8]>) -> Option<&'a [u8]>
     requires { k < length node.now.entries }
     ensures { option_copied result ≡ upper_of (option_copied high.entry) node.now.entries k }
@@ -92,6 +94,7 @@ fn are_ends_between(node: &NodeBuf, low: &[u8], high: Option<&[u8]>) -> bool
 }
 
 /// Whether each key of a node is below the next one.
+#[tactic(auto, using(crate::proofs::Keys::rises_from, page_node::proofs::Laws::rises_at))]
 fn do_rise(node: &NodeBuf) -> bool
     ensures { IsTest result (Rises node.now.entries) }
 {
@@ -104,6 +107,7 @@ fn do_rise(node: &NodeBuf) -> bool
 }
 
 /// Whether a leaf has rows, whose keys rise between bounds: those between the first and the last are then between the bounds too.
+#[tactic(auto, using(crate::proofs::Keys::all_at, crate::proofs::Keys::within_ends))]
 fn are_rows(node: &NodeBuf, low: &[u8], high: Option<&[u8]>) -> bool
     ensures { IsTest result (AreRows low.now (option_copied high.entry) node.now.entries) }
 {

@@ -126,6 +126,7 @@ fn remove_link(
 }
 
 /// The place of the link that a key belongs to: before the first one whose key is above it. The first key is not looked at.
+#[tactic(auto, using(crate::proofs::Edits::unlinked_at))]
 fn link_of(node: &NodeBuf, key: &[u8]) -> usize
     requires { 0 < length node.now.entries }
     ensures within { result < length node.now.entries }

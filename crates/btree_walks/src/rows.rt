@@ -55,6 +55,7 @@ pub(crate) fn take_row(
 }
 
 /// Where the row at a place lies, if one does. The place is then after it, and one less is left.
+#[tactic(auto, using(page_node::proofs::Walking::ahead_lies))]
 pub(crate) fn parts_at(
     page: &PageBytes,
     at: &mut usize,

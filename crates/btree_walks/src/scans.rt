@@ -72,6 +72,7 @@ impl Scan {
     }
 
     /// A scan before the first row.
+    #[tactic(auto, using(crate::proofs::Ready::rest_new))]
     pub fn new(prefix: &[u8]) -> Self
         requires { length prefix.now ≤ 1024 }
         ensures rows { (m : KeyMap) → Rest result (entries m) (under prefix.now (entries m)) }
@@ -81,6 +82,7 @@ impl Scan {
     }
 
     /// A scan of all rows, before the first one whose key isn't below this one.
+    #[tactic(auto, using(crate::proofs::Ready::rest_from))]
     pub fn from_key(key: &[u8]) -> Self
         requires { length key.now ≤ 1024 }
         ensures rows { (m : KeyMap) → Rest result (entries m) (entries_from key.now (entries m)) }
@@ -172,6 +174,7 @@ impl Scan {
 
     /// Takes the row at a place, and moves the place after it: where its key and value lie. Gives none where no row is left there, or
     /// where the bytes aren't one: the call of `advance` after `go_on` tells which.
+    #[tactic(auto, using(crate::proofs::Places::next_some, crate::proofs::Places::none_next))]
     pub fn take_at(&self, place: &mut ScanPlace) -> Option<Parts>
         ensures rows { TakesRowAt self.now place.old place.new result }
         ensures fits { FitsIn self.now place.old → FitsIn self.now place.new }

@@ -29,16 +29,10 @@ module _ (held buffer h prefix : List ℕ) (s e n m : ℕ) (view : slice_range b
       let within : m < length prefix = omega (arith, long) in
       let counted : length (take m prefix) ≡ m = omega (arith, length-take m prefix) in
       let count : s + n + m + 1 ≡ s + n + (m + 1) = omega arith in
+      let cut = parted h prefix n after ∙ ap (λ (r : List ℕ). take n h ++ r) (cut_at prefix m within) in
+      let is : IsWord (take m prefix) = record { some = rw counted (some_word h prefix n m after inside stops ends); one = one } in
       rw (sym view ∙ same, front_is buffer prefix (s + n) e m rest (omega arith), count, tail_is buffer prefix (s + n) e (m + 1) rest)
-      (record {
-        blanks = take n h;
-        separator = get_or prefix m 0;
-        cut = parted h prefix n after ∙ ap (λ (r : List ℕ). take n h ++ r) (cut_at prefix m within);
-        blank = blank;
-        is = record { some = rw counted (some_word h prefix n m after inside stops ends); one = one };
-        short = omega arith;
-        ends = ends within;
-      })
+      (record { blanks = take n h; separator = get_or prefix m 0; cut = cut; blank = blank; is = is; short = omega arith; ends = ends within })
 
   pub taken_part : AreSeparators (take n h) → NoSeparator (take m prefix) → m ≤ word_limit → length h ≤ n + m → CutsPart held (slice_range buffer (s + n) e)
   taken_part blank one short whole =
@@ -46,15 +40,11 @@ module _ (held buffer h prefix : List ℕ) (s e n m : ℕ) (view : slice_range b
       (record { blanks = take n h; cut = parted h prefix n after; blank = blank; one = rw (take_all m prefix (omega (arith, long))) at one; short = omega (arith, long) })
 
   pub taken_long : AreSeparators (take n h) → NoSeparator (take m prefix) → word_limit < m → m ≤ length prefix → CutsLong held
-  taken_long blank one over within = rw (sym view ∙ same) (record {
-    blanks = take n h;
-    part = take m prefix;
-    rest = drop m prefix;
-    cut = parted h prefix n after ∙ ap (λ (r : List ℕ). take n h ++ r) (sym (take-append-drop m prefix));
-    blank = blank;
-    one = one;
-    long = omega (arith, length-take m prefix);
-  })
+  taken_long blank one over within =
+      let cut = parted h prefix n after ∙ ap (λ (r : List ℕ). take n h ++ r) (sym (take-append-drop m prefix)) in
+      let part = take m prefix in
+      let over_long : word_limit < length part = omega (arith, length-take m prefix) in
+      rw (sym view ∙ same) (record { blanks = take n h; part = part; rest = drop m prefix; cut = cut; blank = blank; one = one; long = over_long })
 
 -- the first word of a slice, or none
 module _ (text prefix : List ℕ) (n m : ℕ) (after : prefix ≡ drop n text) (blank : AreSeparators (take n text)) (ends : m < length prefix → is_separator (get_or prefix m 0) ≡ true) where

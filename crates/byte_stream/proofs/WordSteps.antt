@@ -18,13 +18,10 @@ past_nothing before old =
     record { more = []; blanks = []; consumes = Consumes-nil before; text = append-nil old; blank = λ k d inside. absurd (omega arith) }
 
 pub past_part : (before after : Option (List ℕ)) (old held part : List ℕ) → ReadsPast before after old held → CutsPart held part → ReadsPast before after old part
-past_part before after old held part reads cuts = record {
-  more = reads.more;
-  blanks = reads.blanks ++ cuts.blanks;
-  consumes = reads.consumes;
-  text = reads.text ∙ ap (λ (h : List ℕ). reads.blanks ++ h) cuts.cut ∙ sym (append_assoc reads.blanks cuts.blanks part);
-  blank = All-append (λ b. is_separator b ≡ true) reads.blanks cuts.blanks reads.blank cuts.blank;
-}
+past_part before after old held part reads cuts =
+    let text = reads.text ∙ ap (λ (h : List ℕ). reads.blanks ++ h) cuts.cut ∙ sym (append_assoc reads.blanks cuts.blanks part) in
+    let blank = All-append (λ b. is_separator b ≡ true) reads.blanks cuts.blanks reads.blank cuts.blank in
+    record { more = reads.more; blanks = reads.blanks ++ cuts.blanks; consumes = reads.consumes; text = text; blank = blank }
 
 past_turn : (before between after : Option (List ℕ)) (old held new piece : List ℕ) → ReadsPast before between old held → Consumes between after piece → new ≡ held ++ piece
     → ReadsPast before after old new
@@ -76,10 +73,8 @@ pub end_given : (before after : Option (List ℕ)) (old held part : List ℕ) (s
     → IsAtEnd after → TakesLastWord part step new.line → new.held ≡ [] → (more : List ℕ) × Consumes before after more × GivesWord (old ++ more) after (Ok step) new
 end_given before after old held part Word new reads cuts over takes empty = absurd takes
 end_given before after old held part LastWord new reads cuts over takes empty =
-    let is : IsWord part = record { some = takes.1; one = cuts.one } in (
-      reads.more,
-      reads.consumes,
-      (over, rw takes.0 (record { gives = words_of before after old part reads ∙ words-last part is; is = is; short = cuts.short }), empty),
-    )
+    let is : IsWord part = record { some = takes.1; one = cuts.one } in
+    let gives = words_of before after old part reads ∙ words-last part is in
+    (reads.more, reads.consumes, (over, rw takes.0 (record { gives = gives; is = is; short = cuts.short }), empty))
 end_given before after old held part End new reads cuts over takes empty =
     (reads.more, reads.consumes, (over, words_of before after old part reads ∙ ap words takes ∙ words-none, empty))

@@ -22,6 +22,7 @@ fn has(block: &[u8], byte: u8) -> bool
 }
 
 /// How many bytes stand before the first block that has `byte`, or before the rest that is smaller than a block.
+#[tactic(auto, using(crate::proofs::ScanLemmas::none_more))]
 fn blocks_to(text: &[u8], byte: u8) -> usize
     ensures within { result ≤ length text.now }
     ensures before { All (λ b. (b == byte) ≡ false) (take result text.now) }
@@ -63,6 +64,7 @@ fn place_in(text: &[u8], byte: u8) -> usize
 }
 
 /// How many bytes stand before the first `byte`: block by block, and closer in the block that has it.
+#[tactic(auto, using(crate::proofs::ScanLemmas::none_before))]
 pub fn place_far(text: &[u8], byte: u8) -> usize
     ensures within { result ≤ length text.now }
     ensures before { All (λ b. (b == byte) ≡ false) (take result text.now) }

@@ -1,6 +1,6 @@
 -- A sum over the blocks of each county, block by block.
 use Rattle.std.{specs.List.range_with_len, proofs.lemmas.{Bool.cases_eq, List.FromFn.{get_or-map-range_with_len, length-map-range_with_len, filter_of_map_range_with_len_more}}}
-use Rattle.std.proofs.Common.{◌≡◌, ℕ, ◌+◌, ◌<◌, ◌≤◌, ◌≢◌, List, [], ◌∷◌, ◌++◌, length, get_or, set, take, replicate, map, cond, eqb, true, false, sum_by, arith, sym, ◌∙◌, ap, refl, ⊎_elim, add-zero, eq-eqb, ne_eqb}
+use Rattle.std.proofs.Common.{◌≡◌, ℕ, ◌+◌, ◌<◌, ◌≤◌, List, [], ◌∷◌, ◌++◌, length, get_or, set, take, replicate, map, cond, eqb, true, false, sum_by, arith, sym, ◌∙◌, ap, refl, ⊎_elim, add-zero, eq-eqb, ne_eqb}
 use Rattle.{std.proofs.lemmas.List.{get_or_default, get_or-replicate, length-set, get_or-set_same, get_or-set_other, take_all, same_lists}, desk_model.specs.claim.Block.county_of}
 use Rattle.{std.proofs.lemmas.List.Sums.{sum_by_more, sum_by_more_le_part, sum_by-cons}, check_command.specs.declared.counts.CountyPeople.CountyPeople}
 use Rattle.check_command.specs.Counts.{county_codes, county_blocks, county_people, has_county, with_people, if_there, counties_to}
@@ -51,25 +51,16 @@ pub counted_add : (f : BlockRow → ℕ) (rows : List BlockRow) (count : ℕ) (t
     → AreCounted f rows (count + 1) (set table place (get_or table place 0 + f row))
 counted_add f rows count table row place less is was inside here = record {
   long = length-set table place (get_or table place 0 + f row) ∙ was.long;
-  sums = λ k small. ⊎_elim (λ same. at_place k small same) (λ other. elsewhere k small other) (cases_eq k place);
+  sums = λ k small. rw (more f rows count k row less is) (⊎_elim
+      (λ same.
+      (let there : place < length table = rw was.long inside in
+      let got = get_or-set_same table place (get_or table place 0 + f row) 0 there in
+      rw (eq-eqb (county_of row.id) k (here ∙ sym same), same, got, was.sums place inside) refl))
+      (λ other.
+      (let got = get_or-set_other table place k (get_or table place 0 + f row) 0 other in
+      rw (ne_eqb (county_of row.id) k (λ at. other (sym at ∙ here)), got, was.sums k small) (sym (add-zero (sum_by (share f k) (take count rows))))))
+      (cases_eq k place));
 }
-  where
-    at_place : (k : ℕ) → k < county_codes → k ≡ place → get_or (set table place (get_or table place 0 + f row)) k 0 ≡ sum_by (share f k) (take (count + 1) rows)
-    at_place k small same =
-        let e = more f rows count k row less is in
-        let t : eqb (county_of row.id) k ≡ true = eq-eqb (county_of row.id) k (here ∙ sym same) in
-        let inside_table : place < length table = rw was.long inside in
-        ap (λ m. get_or (set table place (get_or table place 0 + f row)) m 0) same
-        ∙ get_or-set_same table place (get_or table place 0 + f row) 0 inside_table
-        ∙ ap (λ m. m + f row) (was.sums place inside) ∙ ap (λ m. sum_by (share f m) (take count rows) + f row) (sym same)
-        ∙ ap (λ b. sum_by (share f k) (take count rows) + cond b (f row) 0) (sym t) ∙ sym e
-
-    elsewhere : (k : ℕ) → k < county_codes → k ≢ place → get_or (set table place (get_or table place 0 + f row)) k 0 ≡ sum_by (share f k) (take (count + 1) rows)
-    elsewhere k small other =
-        let e = more f rows count k row less is in
-        let t : eqb (county_of row.id) k ≡ false = ne_eqb (county_of row.id) k (λ same. other (sym (sym here ∙ same))) in
-        get_or-set_other table place k (get_or table place 0 + f row) 0 other ∙ was.sums k small
-        ∙ sym (add-zero (sum_by (share f k) (take count rows))) ∙ ap (λ b. sum_by (share f k) (take count rows) + cond b (f row) 0) (sym t) ∙ sym e
 
 pub counted_all : (f : BlockRow → ℕ) (rows : List BlockRow) (count : ℕ) (table : List ℕ) → length rows ≤ count → AreCounted f rows count table
     → table ≡ map (λ k. sum_by (share f k) rows) (range_with_len 0 county_codes)
@@ -83,9 +74,7 @@ pub counties_more : (rows : List BlockRow) (blocks people : List ℕ) (n : ℕ) 
     → blocks ≡ map (county_blocks rows) (range_with_len 0 county_codes) → people ≡ map (county_people rows) (range_with_len 0 county_codes)
     → old ≡ counties_to rows n → new ≡ old ++ if_there n (get_or blocks n 0) (get_or people n 0) → new ≡ counties_to rows (n + 1)
 counties_more rows blocks people n old new less blocks_are people_are so_far added =
-    let b = ap (λ (t : List ℕ). get_or t n 0) blocks_are ∙ get_or-map-range_with_len (county_blocks rows) 0 county_codes n n 0 less (omega arith) in
-    let p = ap (λ (t : List ℕ). get_or t n 0) people_are ∙ get_or-map-range_with_len (county_people rows) 0 county_codes n n 0 less (omega arith) in
-    added ∙ ap (λ (xs : List CountyPeople). xs ++ if_there n (get_or blocks n 0) (get_or people n 0)) so_far
-    ∙ ap (λ (m : ℕ). counties_to rows n ++ if_there n m (get_or people n 0)) b
-    ∙ ap (λ (m : ℕ). counties_to rows n ++ if_there n (county_blocks rows n) m) p
-    ∙ sym (filter_of_map_range_with_len_more (λ (c : CountyPeople). has_county rows c.county) (with_people rows) 0 n n (omega arith))
+    let b = get_or-map-range_with_len (county_blocks rows) 0 county_codes n n 0 less (omega arith) in
+    let p = get_or-map-range_with_len (county_people rows) 0 county_codes n n 0 less (omega arith) in
+    rw (added, so_far, blocks_are, people_are, b, p)
+    (sym (filter_of_map_range_with_len_more (λ (c : CountyPeople). has_county rows c.county) (with_people rows) 0 n n (omega arith)))

@@ -96,6 +96,7 @@ pub(crate) static PLACES: [FaultPlace; 10] = [
 ];
 
 /// The codes of a place.
+#[tactic(auto, unfolding(crate::specs::Tables::words_at))]
 pub(crate) fn table_of(place: FaultPlace) -> &'static [FaultRow]
     ensures { map row_words result.now ≡ words_at place }
 {

@@ -1,9 +1,9 @@
 -- What an audit judges and what it answers, by what was found.
 use Rattle.std.{specs.Prelude.IfSome, proofs.Common.{rules, ◌≡◌, ℕ, List, length, Option, Some, None, Result, Ok, Err, refl, ap, sym, subst, ◌∙◌}}
-use Rattle.{audit_report.specs.Audits.IsAuditable, desk_catalogue.{specs.{Kept.{AreWhole, IsWhole}, Made.IsSubject, claim.Audits.IsReportText}, proofs.Whole.revision_whole}}
-use Rattle.desk_model.specs.{claim.{Desk.{Plan, Desk, name_cmp}, Geography.GeographyModel, Outcome.IsAnswer, Step.{Answer, answer, answer_at, audit_of}}, declared.kind.Kind.Kind}
-use Rattle.desk_model.specs.{claim.Subject.{AuditSubject, revision_at, companions_of, subject_with, subject_of}, declared.{command.Query.TheVariants.Audit, reply.Refusal.Refusal}}
-use Rattle.desk_model.specs.declared.{companions.Companions.Companions, reply.Reply.TheVariants.{Audited, Refused}}
+use Rattle.{audit_report.specs.Audits.IsAuditable, desk_catalogue.specs.{Kept.IsWhole, Made.IsSubject, claim.Audits.IsReportText}, desk_model.specs.claim.Desk.{Plan, Desk}}
+use Rattle.desk_model.specs.{claim.{Geography.GeographyModel, Outcome.IsAnswer, Step.{Answer, answer, answer_at, audit_of}}, declared.command.Query.TheVariants.Audit}
+use Rattle.desk_model.specs.{claim.Subject.{AuditSubject, revision_at, companions_of, subject_with, subject_of}, declared.{companions.Companions.Companions, kind.Kind.Kind}}
+use Rattle.desk_model.specs.declared.reply.{Refusal.Refusal, Reply.Reply}
 use Rattle.std.specs.FinMap as map_of
 
 module _ (d : Desk) (o : Option Plan) (p : Plan) (k : ℕ) (districts : List ℕ) (asked : Companions (List ℕ × ℕ)) (kind : Kind) (plan : o ≡ Some p) (revision : Some districts ≡ revision_at p k)
@@ -18,11 +18,6 @@ module _ (d : Desk) (o : Option Plan) (p : Plan) (k : ℕ) (districts : List ℕ
   pub subject_refused : (refusal : Refusal) → companions_of d kind asked ≡ Err refusal → subject_of d o k asked ≡ Err refusal
   subject_refused refusal why = with_found ∙ ap (subject_with p districts) why
 
--- the districts of a revision that is there
-pub whole_found : (geography : Option GeographyModel) (plans : map_of.FinMap name_cmp Plan) (name : List ℕ) (p : Plan) (k : ℕ) (districts : List ℕ) → AreWhole geography plans
-    → map_of.get plans name ≡ Some p → Some districts ≡ revision_at p k → IsWhole geography (Some districts)
-whole_found geography plans name p k districts were found there = search (rules, revision_whole geography plans were name k)
-
 -- each companion that is whole
 whole_long : (geography : Option GeographyModel) (g : GeographyModel) (o : Option (List ℕ)) → geography ≡ Some g → IsWhole geography o → IfSome o (λ d. length d ≡ length g.blocks)
 whole_long geography g None is whole = tt
@@ -32,13 +27,7 @@ module _ (d : Desk) (g : GeographyModel) (name : List ℕ) (k : ℕ) (asked : Co
   pub may_be_audited : (s : AuditSubject) → IsSubject d name k asked s → IsAuditable g s.kind s.n s.districts s.beside
   may_be_audited s is = search (rules, whole_long)
 
-  answer_is : (subject : Result AuditSubject Refusal) → subject_of d (map_of.get d.plans name) k asked ≡ subject → answer d (Audit name k asked.senate asked.congress) ≡ audit_of g subject
-  answer_is subject is = ap (λ (x : Option GeographyModel). answer_at x d (Audit name k asked.senate asked.congress)) there ∙ ap (audit_of g) is
-
-  pub audited : (subject : AuditSubject) (text : List ℕ) → subject_of d (map_of.get d.plans name) k asked ≡ Ok subject → IsReportText g subject text
-      → IsAnswer IsReportText (answer d (Audit name k asked.senate asked.congress)) (Audited text)
-  audited subject text is told = subst (λ (a : Answer). IsAnswer IsReportText a (Audited text)) (sym (answer_is (Ok subject) is)) (text, refl, told)
-
-  pub not_audited : (refusal : Refusal) → subject_of d (map_of.get d.plans name) k asked ≡ Err refusal
-      → IsAnswer IsReportText (answer d (Audit name k asked.senate asked.congress)) (Refused refusal)
-  not_audited refusal is = subst (λ (a : Answer). IsAnswer IsReportText a (Refused refusal)) (sym (answer_is (Err refusal) is)) refl
+  pub answered : (subject : Result AuditSubject Refusal) (reply : Reply) → subject_of d (map_of.get d.plans name) k asked ≡ subject → IsAnswer IsReportText (audit_of g subject) reply
+      → IsAnswer IsReportText (answer d (Audit name k asked.senate asked.congress)) reply
+  answered subject reply is told = subst (λ (a : Answer). IsAnswer IsReportText a reply)
+      (sym (ap (λ (x : Option GeographyModel). answer_at x d (Audit name k asked.senate asked.congress)) there ∙ ap (audit_of g) is)) told

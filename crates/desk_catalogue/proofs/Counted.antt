@@ -1,7 +1,7 @@
 -- The rows of a revision, county by county.
 use Rattle.std.{specs.{List.zip, Prelude.{filter, if◌then◌else◌, IfSome}}, proofs.{Math.Nat.min-le_right, lemmas.{Bool.cases_Bool, List.Sums.sum_by-cons}}}
 use Rattle.std.proofs.Common.{rules, ◌≡◌, ◌<◌, ◌≤◌, ◌+◌, ◌-◌, ◌*◌, ℕ, zero, suc, Bool, List, [], ◌∷◌, length, map, take, drop, get_or, Option, Some, None, sum_by, refl, sym, ap, ◌∙◌, arith}
-use Rattle.{std.proofs.lemmas.List.{drop-drop, drop_all, drop_more, length-take, length-drop, length-map}, desk_catalogue.specs.Cutting.{part, AreWithin, changes_in, range_rows}}
+use Rattle.{std.proofs.lemmas.List.{drop-drop, drop_all, drop_more, length-take, length-drop, length-map}, desk_catalogue.specs.Cutting.{AreWithin, changes_in, range_rows}}
 use Rattle.desk_model.specs.{Ranges.{laid, ranges_of, ListsAreCut}, claim.{Geography.GeographyModel, Ranges.{parts, sizes}, Room.{rows_for, differs, revision_rows}}}
 use Rattle.{desk_model.specs.declared.ranges.CountyRange.CountyRange, desk_catalogue.proofs.Cutting.changed_rows}
 
@@ -35,9 +35,8 @@ laid_long first (n ∷ ns) = ap suc (laid_long (first + n) ns)
 all_rows : (ns : List ℕ) (first : ℕ) (new : List ℕ) → Fit ns first new → changed_rows (changes_in None new (laid first ns)) (laid first ns) ≡ rows_in (parts ns (drop first new))
 all_rows [] first new fit = refl
 all_rows (n ∷ ns) first new fit =
-    ap (λ k. rows_for 512 n + 2 + k) (all_rows ns (first + n) new (rest_fits n ns first new fit) ∙ ap (λ l. rows_in (parts ns l)) (sym (drop-drop n first new)))
-    ∙ ap (λ k. rows_for 512 k + 2 + rows_in (parts ns (drop n (drop first new)))) (sym (head_fits n ns first new fit))
-    ∙ sym (more_rows (take n (drop first new)) (parts ns (drop n (drop first new))))
+    let p = take n (drop first new) in
+    rw (more_rows p (parts ns (drop n (drop first new))), head_fits n ns first new fit, drop-drop n first new, all_rows ns (first + n) new (rest_fits n ns first new fit))
 
 none_more : (k : ℕ) → 0 + k ≡ k
 none_more k = omega arith
@@ -45,15 +44,12 @@ none_more k = omega arith
 changed_cons : (a b : List ℕ) (l m : List (List ℕ)) → rows_in (changed_parts (a ∷ l) (b ∷ m)) ≡ (if differs (a, b) then rows_for 512 (length b) + 2 else 0) + rows_in (changed_parts l m)
 changed_cons a b l m = search (rules, cases_Bool, more_rows, none_more)
 
-some_rows : (ns : List ℕ) (first : ℕ) (last new : List ℕ) → Fit ns first last → Fit ns first new → changed_rows (changes_in (Some last) new (laid first ns)) (laid first ns) ≡ rows_in (changed_parts (parts ns (drop first last)) (parts ns (drop first new)))
-some_rows [] first last new old fit = refl
-some_rows (n ∷ ns) first last new old fit =
-    let c : CountyRange = record { first = first; count = n } in
-    let here = differs (part c last, part c new) in
-    ap (λ k. (if here then rows_for 512 n + 2 else 0) + k) (some_rows ns (first + n) last new (rest_fits n ns first last old) (rest_fits n ns first new fit)
-    ∙ λ i. rows_in (changed_parts (parts ns (sym (drop-drop n first last) i)) (parts ns (sym (drop-drop n first new) i))))
-    ∙ ap (λ k. (if here then rows_for 512 k + 2 else 0) + rows_in (changed_parts (parts ns (drop n (drop first last))) (parts ns (drop n (drop first new))))) (sym (head_fits n ns first new fit))
-    ∙ sym (changed_cons (part c last) (part c new) (parts ns (drop n (drop first last))) (parts ns (drop n (drop first new))))
+some_rows : (ns : List ℕ) (first : ℕ) (last new : List ℕ) → Fit ns first new
+    → changed_rows (changes_in (Some last) new (laid first ns)) (laid first ns) ≡ rows_in (changed_parts (parts ns (drop first last)) (parts ns (drop first new)))
+some_rows [] first last new fit = refl
+some_rows (n ∷ ns) first last new fit =
+    let more = changed_cons (take n (drop first last)) (take n (drop first new)) (parts ns (drop n (drop first last))) (parts ns (drop n (drop first new))) in
+    rw (more, head_fits n ns first new fit, drop-drop n first last, drop-drop n first new, some_rows ns (first + n) last new (rest_fits n ns first new fit))
 
 in_turn : (g : GeographyModel) (ps : List (List ℕ)) → 2 + rows_for 128 (length (sizes g)) + rows_in ps
     ≡ 2 + rows_for 128 (length (sizes g)) + sum_by (λ p. rows_for 512 (length p)) ps + 2 * length ps

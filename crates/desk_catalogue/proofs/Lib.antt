@@ -1,9 +1,7 @@
 pub mod Audited
-pub mod Compared
 pub mod Counted
 pub mod Cutting
 pub mod Drafted
-pub mod Lines
 pub mod Neighbours
 pub mod Outside
 pub mod Overlays

@@ -1,9 +1,9 @@
 -- Blocks side by side: where two of one county differ, and where all agree.
-use Rattle.std.{specs.{List.Any, Prelude.{is_some, not}}, proofs.{Math.Bool.beq, lemmas.{Bool.cases_lt, Grind.get_or_default_zero, List.{get_or-map, get_or_past, length-map}}}}
-use Rattle.std.proofs.Common.{rules, ◌≡◌, ◌≢◌, ℕ, zero, suc, ◌+◌, ◌-◌, ◌<◌, ◌≤◌, Bool, true, false, List, length, get_or, Option, Some, None, IsSome, arith, refl, ap, sym, ◌∙◌, ◌⊎◌, inl, inr, ⊎_elim}
-use Rattle.{std.proofs.lemmas.Map.Keys.{sorted_from_strictly_increasing, below_from_sorted}, baf_text.specs.Listed.{listed_of, IsListedPart}, desk_model.proofs.Parts.county_rises}
-use Rattle.desk_model.specs.{Counties.{IsInPart, LeastCountyIsTold}, claim.{Baf.{Values, value_at}, Block.{county_of, state_of}, Geography.{GeographyModel, ids, ids_of, id_at}}}
-use Rattle.{desk_model.specs.{claim.{GeographyModels.AreBlocks, Step.partly_listed}, declared.block.BlockRow.BlockRow}, desk_catalogue.proofs.Overlays.{before, there}}
+use Rattle.std.{specs.{List.Any, Prelude.{is_some, not}}, proofs.{Math.Bool.beq, lemmas.{Bool.cases_lt, Grind.get_or_default_zero, List.{get_or-map, length-map}}}}
+use Rattle.std.proofs.Common.{rules, ◌≡◌, ◌≢◌, ℕ, zero, suc, ◌+◌, ◌-◌, ◌<◌, ◌≤◌, Bool, true, false, List, [], length, get_or, Option, Some, None, IsSome, arith, refl, ap, sym, ◌∙◌, ◌⊎◌, inl, inr, ⊎_elim}
+use Rattle.{baf_text.specs.Listed.listed_of, desk_model.specs.{Counties.{IsInPart, LeastCountyIsTold}, claim.{Baf.{Values, value_at}, Block.county_of, GeographyModels.AreBlocks}}}
+use Rattle.{desk_model.specs.{claim.{Geography.{GeographyModel, ids, id_at}, Step.partly_listed}, declared.block.BlockRow.BlockRow}, desk_catalogue.proofs.Overlays.before}
+use Rattle.desk_model.proofs.Parts.{climbs as counties_climb}
 
 -- the county of the block at a place
 abbrev pub county_at : List BlockRow → ℕ → ℕ
@@ -21,11 +21,6 @@ Agree blocks listed end = (k : ℕ) → k + 1 < end → county_at blocks k ≡ c
 abbrev pub IsSpan : ℕ × ℕ → List (Option ℕ) → Type 0
 IsSpan span listed = (k : ℕ) → (k < span.0) ⊎ (span.1 ≤ k) → get_or listed k None ≡ None
 
--- a part and what isn't listed around it
-pub part_span : (first : ℕ) (part listed : List (Option ℕ)) → IsListedPart first part listed → IsSpan (first, first + length part) listed
-part_span first part listed is k (inl less) = is.there k ∙ before first part k less
-part_span first part listed is k (inr more) = is.there k ∙ there first part k (omega arith) ∙ get_or_past part (k - first) None (omega arith)
-
 pub span_starts : (blocks : List BlockRow) (listed : List (Option ℕ)) (span : ℕ × ℕ) (place : ℕ) → IsSpan span listed → (place ≤ span.0) ⊎ (place ≤ 1) → Agree blocks listed place
 span_starts blocks listed span place none (inl low) = λ k inside _. search rules
 span_starts blocks listed span place none (inr low) = λ k inside _. absurd (omega (arith, inside, low))
@@ -36,15 +31,9 @@ span_ends blocks listed span place none agree (inl past) = λ k inside. agree k 
 span_ends blocks listed span place none agree (inr past) = λ k inside same. search (rules, before, cases_lt)
 
 module _ (blocks : List BlockRow) (listed : List (Option ℕ)) (valid : AreBlocks blocks) where
-  same_state : (i j : ℕ) → i < length blocks → j < length blocks → state_of (id_at blocks i) ≡ state_of (id_at blocks j)
-  same_state i j first second = valid.one_state i 0 (rw length-map first) ∙ sym (valid.one_state j 0 (rw length-map second))
-
   -- counties rise with the blocks
   climbs : (i j : ℕ) → i ≤ j → j < length blocks → county_at blocks i ≤ county_at blocks j
-  climbs i j less within = ⊎_elim
-      (λ lower. county_rises _ _ (omega (arith, below_from_sorted (ids_of blocks) i j 0 (sorted_from_strictly_increasing (ids_of blocks) valid.rising) lower (rw length-map within))) (same_state i j (omega arith) within))
-      (λ (over : j ≤ i). let e : i ≡ j = omega arith in rw e (omega arith))
-      (cases_lt i j)
+  climbs = counties_climb (record { blocks = blocks; pairs = [] }) [] valid
 
   -- blocks of one county agree, however far apart
   spread : (end : ℕ) → Agree blocks listed end → end ≤ length blocks → (d i : ℕ) → i + d < end → county_at blocks i ≡ county_at blocks (i + d)
@@ -83,9 +72,6 @@ module _ (g : GeographyModel) (values : Values) (valid : AreBlocks g.blocks) (la
   number_of : (P : ℕ → Type 0) (place : ℕ) → place < length g.blocks → P (id_at g.blocks place) → Any P (ids g)
   number_of P place within is = (place, id_at g.blocks place, rw length-map within, get_or_default_zero (ids g) place (id_at g.blocks place) (rw length-map within), is)
 
-  clash : (o : Option ℕ) (b : Bool) → o ≡ None → b ≡ is_some o → b ≡ true → ⊥
-  clash o b missing is yes_it = let e : true ≡ false = sym yes_it ∙ is ∙ ap is_some missing in absurd (cc)
-
   -- where side by side all agree, no county of them is in part
   no_part : (end : ℕ) → Agree g.blocks (listed_of g values) end → end ≤ length g.blocks → (county : ℕ)
       → ((place : ℕ) → place < length g.blocks → county_at g.blocks place ≡ county → place < end) → ¬ IsInPart g values county
@@ -93,10 +79,7 @@ module _ (g : GeographyModel) (values : Values) (valid : AreBlocks g.blocks) (la
       let (i, first, (of_county, some)) = place_of (λ id. (county_of id ≡ county) × IsSome (value_at values id)) part.some in
       let (j, second, (same_county, missing)) = place_of (λ id. (county_of id ≡ county) × (value_at values id ≡ None)) part.not_all in
       let same = together g.blocks (listed_of g values) valid end agree within i j (before i first of_county) (before j second same_county) (of_county ∙ sym same_county) in
-      clash (value_at values (id_at g.blocks j)) _ missing (mark_at j second) (sym same ∙ mark_at i first ∙ some)
-
-  pub none_is : (end : ℕ) → Agree g.blocks (listed_of g values) end → length g.blocks ≤ end → partly_listed g values ≡ None
-  none_is end agree past = (law g values valid).none.1 (λ county. no_part (length g.blocks) (λ k within. agree k (omega (arith, within, past))) (omega arith) county (λ place inside _. inside))
+      let clash : true ≡ false = sym (sym same ∙ mark_at i first ∙ some) ∙ mark_at j second ∙ ap is_some missing in absurd (cc)
 
   missing_where : (o : Option ℕ) → is_some o ≡ false → o ≡ None
   missing_where None e = refl
@@ -128,7 +111,10 @@ module _ (g : GeographyModel) (values : Values) (valid : AreBlocks g.blocks) (la
   -- the ends of a walk over the blocks
   pub none_there : (blocks : List BlockRow) (listed : List (Option ℕ)) (end : ℕ) → blocks ≡ g.blocks → listed ≡ listed_of g values → Agree blocks listed end → length blocks ≤ end
       → None ≡ partly_listed g values
-  none_there blocks listed end same is agree past = sym (none_is end (rw (same, is) at agree) (rw same at past))
+  none_there blocks listed end same is agree past =
+      let here = rw (same, is) at agree in
+      let over = rw same at past in
+      sym ((law g values valid).none.1 (λ county. no_part (length g.blocks) (λ k within. here k (omega (arith, within, over))) (omega arith) county (λ place inside _. inside)))
 
   county_here : (place : ℕ) (row : BlockRow) → place < length g.blocks → county_at g.blocks place ≡ county_of (get_or g.blocks place row).id
   county_here place row within = ap county_of (get_or-map (λ b. b.id) g.blocks place row 0 within)

@@ -34,10 +34,17 @@ unlisted (o ∷ listed) (d ∷ last) zero long none = ap (λ (x : Option ℕ). u
 unlisted (o ∷ listed) (d ∷ last) (suc k) long none = unlisted listed last k (omega arith) none
 unlisted _ _ k long none = absurd (omega arith)
 
-pub overlaid_stays : (listed : List (Option ℕ)) (last : Option (List ℕ)) (first end : ℕ) (districts : List ℕ) → IfSome last (λ d. length d ≡ length listed) → ((k : ℕ) → (k < first) ⊎ (end ≤ k) → get_or listed k None ≡ None)
-    → districts ≡ overlaid listed last → IfSome last (λ l. StaysOutside first end l districts)
-overlaid_stays listed None first end districts long none is = tt
-overlaid_stays listed (Some last) first end districts long none is = λ k outside. ap (λ (l : List ℕ). get_or l k 0) is ∙ unlisted listed last k long (none k outside)
+pub overlaid_stays : (listed : List (Option ℕ)) (last : Option (List ℕ)) (districts : List ℕ) (n : ℕ) → length listed ≡ n → IfSome last (λ d. length d ≡ n) → districts ≡ overlaid listed last
+    → (first end : ℕ) → ((k : ℕ) → (k < first) ⊎ (end ≤ k) → get_or listed k None ≡ None) → IfSome last (λ l. StaysOutside first end l districts)
+overlaid_stays listed None districts n long old is first end none = tt
+overlaid_stays listed (Some last) districts n long old is first end none =
+    λ k outside. ap (λ (l : List ℕ). get_or l k 0) is ∙ unlisted listed last k (old ∙ sym long) (none k outside)
+
+-- and the whole is as long as the list
+pub overlaid_long : (listed : List (Option ℕ)) (last : Option (List ℕ)) (districts : List ℕ) (n : ℕ) → length listed ≡ n → IfSome last (λ d. length d ≡ n) → districts ≡ overlaid listed last
+    → length districts ≡ n
+overlaid_long listed None districts n long old is = ap length is ∙ length-map listed _ ∙ long
+overlaid_long listed (Some last) districts n long old is = ap length is ∙ length-map (zip listed last) _ ∙ length-zip listed last ∙ omega (arith, long, old)
 
 -- nothing is listed outside of a part
 pub none_outside : (first : ℕ) (part listed : List (Option ℕ)) → IsListedPart first part listed → (k : ℕ) → (k < first) ⊎ (first + length part ≤ k) → get_or listed k None ≡ None
@@ -59,22 +66,7 @@ pub read_patched : (reading : Result Values Fault) (g : GeographyModel) (listed 
 read_patched (Err f) g listed last districts told said tells none is = said
 read_patched (Ok values) g listed last districts told said tells none is = search (rules, overlaid_is)
 
-as_long : (g : GeographyModel) (values : Values) (last : Option (List ℕ)) → IfSome last (λ d. length d ≡ length g.blocks) → length (patched g values last) ≡ length g.blocks
-as_long g values None same = length-map g.blocks _
-as_long g values (Some last) same = length-map (zip g.blocks last) _ ∙ length-zip g.blocks last ∙ omega (arith, same)
-
--- and it is as long as the list of blocks
-pub read_long : (reading : Result Values Fault) (g : GeographyModel) (listed : List (Option ℕ)) (last : Option (List ℕ)) (districts : List ℕ) → IsOkAnd reading (λ values. listed ≡ listed_of g values)
-    → IfSome last (λ d. length d ≡ length g.blocks) → districts ≡ overlaid listed last → length districts ≡ length g.blocks
-read_long (Err f) g listed last districts said same is = absurd said
-read_long (Ok values) g listed last districts said same is = search (rules, overlaid_is, as_long)
-
--- so is the list that was read
-pub listed_long : (reading : Result Values Fault) (g : GeographyModel) (listed : List (Option ℕ)) (last : Option (List ℕ)) → IsOkAnd reading (λ values. listed ≡ listed_of g values)
-    → IfSome last (λ d. length d ≡ length g.blocks) → IfSome last (λ d. length d ≡ length listed)
-listed_long (Ok values) g listed None said same = tt
-listed_long _ g listed _ said same = search (rules, length-map)
-
+-- the list that was read is as long as that of the blocks
 pub listed_length : (reading : Result Values Fault) (g : GeographyModel) (listed : List (Option ℕ)) → IsOkAnd reading (λ values. listed ≡ listed_of g values) → length listed ≡ length g.blocks
 listed_length (Err f) g listed said = absurd said
 listed_length (Ok values) g listed said = ap length said ∙ length-map (ids g) (value_at values) ∙ length-map g.blocks (λ (b : BlockRow). b.id)

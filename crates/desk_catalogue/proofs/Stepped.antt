@@ -1,10 +1,10 @@
 -- What the desk's step makes of a post to a plan that may have one more revision.
-use Rattle.std.{specs.Prelude.{◌==◌, nat_le, IsOkAnd}, proofs.Common.{rules, ◌≡◌, ℕ, true, false, List, Option, Some, Result, Ok, Err, IfOk, ◌<◌, refl, ap, sym, ◌∙◌, arith}}
+use Rattle.std.{specs.Prelude.{◌==◌, nat_le, IsOkAnd}, proofs.Common.{rules, ◌≡◌, ℕ, true, false, List, Option, Some, Result, Ok, Err, ◌<◌, refl, ap, sym, ◌∙◌, arith}}
 use Rattle.{std.proofs.lemmas.Bool.Decides.nat_tests, desk_catalogue.specs.{Accepting.{IsRevisable, StepRefuses}, Kept.IsRefusalOf, Patches.{with_revision_of, IsPatchRefusal}}}
-use Rattle.{desk_catalogue.specs.{claim.Accepting.IsAfter, declared.catalogue.Draft.Draft}, desk_model.specs.claim.{Baf.{Values, Fault, body_read, whole}, Desk.{Plan, Desk}}}
-use Rattle.desk_model.specs.{claim.{Geography.GeographyModel, Outcome.IsStep}, declared.{command.Command.{Command, TheVariants.{Counties, Whole}}, reply.Refusal.Refusal}}
+use Rattle.{desk_catalogue.specs.claim.Accepting.IsAfter, desk_model.specs.claim.{Baf.{Values, Fault, body_read, whole}, Desk.{Plan, Desk}, Geography.GeographyModel}}
+use Rattle.{desk_model.specs.{claim.Outcome.IsStep, declared.{command.Command.{Command, TheVariants.{Counties, Whole}}, reply.Refusal.Refusal}}, desk_plans.specs.Rows.Row}
 use Rattle.desk_model.specs.claim.Step.{Outcome, refused, revised, on_revisions, whole_read, patch_read, county_patched, partly_listed, step, step_at, revision_limit}
-use Rattle.{desk_model.specs.declared.reply.Refusal.TheVariants.{BadBody, NotWholeCounty, Memory}, desk_plans.specs.Rows.Row}
+use Rattle.desk_model.specs.declared.reply.Refusal.TheVariants.{BadBody, NotWholeCounty, Memory}
 use Rattle.std.specs.FinMap as map_of
 use Rattle.desk_model.specs.declared.reply.Reply.TheVariants as reply
 
@@ -25,10 +25,8 @@ module _ (d : Desk) (g : GeographyModel) (name : List ℕ) (after : ℕ) (body :
   reads districts (Err f) is = absurd is
   reads districts (Ok values) is = ap (revised d name row.1) (sym is)
 
-  pub whole_after : (r : Result Draft Refusal) (districts : List ℕ) → IsOkAnd (body_read g row.1.n body) (λ values. districts ≡ whole g values)
-      → IfOk r (λ draft. draft.catalogue ≡ with_revision_of d row districts) → IfOk r (λ draft. IsAfter d (Whole name after body) draft.catalogue)
-  whole_after (Err e) districts said is = tt
-  whole_after (Ok draft) districts said is = search (rules, step_reads, reads)
+  pub whole_after : (districts : List ℕ) → IsOkAnd (body_read g row.1.n body) (λ values. districts ≡ whole g values) → IsAfter d (Whole name after body) (with_revision_of d row districts)
+  whole_after districts said = search (rules, step_reads, reads)
 
   refuses : (c : Command) (refusal : Refusal) → step d c ≡ refused d refusal → IsStep ⊥ d c (reply.Refused refusal) d
   refuses c refusal is = search rules

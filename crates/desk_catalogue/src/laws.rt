@@ -7,6 +7,7 @@ ghost use Rattle.desk_catalogue.specs.Cutting.{AreWithin};
 use desk_model::laws::lists_are_cut;
 
 /// The counties' places are places of the blocks.
+#[tactic(auto, using(crate::proofs::Counted::ranges_within))]
 pub fn ranges_are_within()
     ensures { (g : GeographyModel) → AreWithin (length g.blocks) (ranges_of g) }
 {

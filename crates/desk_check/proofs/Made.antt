@@ -1,10 +1,11 @@
 -- A plan is made of the revisions that were seen: rows that have its chunks say which districts each of them has.
-use Rattle.std.proofs.Common.{◌≡◌, ◌<◌, ◌≤◌, ◌+◌, ◌++◌, ℕ, zero, suc, List, [], ◌∷◌, length, get_or, All, replicate, inl, inr, refl, sym, subst, ◌∙◌, arith, length-append}
-use Rattle.{std.proofs.lemmas.{Bool.cases_lt, List.{get_or_append_left, get_or_at, length-replicate, Elements.{All-push, All-replicate}}}, desk_model.specs.claim.Desk.Plan}
-use Rattle.{desk_catalogue.specs.shared_lists.Laid.with_at, desk_check.specs.Checking.{AreChunksSeen, AreRevisionsSeen, IsSizedRow}, store_rows.specs.Changes.plan_row_of}
-use Rattle.{desk_model.specs.{Ranges.{ListsAreCut, ranges_of}, claim.Geography.GeographyModel, declared.ranges.CountyRange.CountyRange}, store_rows.specs.claim.Rows.KeyMap}
-use Rattle.{desk_opening.{specs.Reading.{AreCountiesOf, AreRevisionsShown, IsRevisionShown, no_cut}, proofs.Shown.row_is}, desk_pages.specs.claim.Desks.{AreWithin, IsSized}}
-use Rattle.{store_rows.specs.declared.value.PlanRow.PlanRow, desk_opening.proofs.{Laying.{LaidTo, county_fits, laid_one_more, none_laid, with_long}, Within.with_at_within}}
+use Rattle.std.proofs.Common.{◌≡◌, ◌<◌, ◌≤◌, ◌+◌, ◌++◌, ℕ, zero, suc, List, [], ◌∷◌, length, get_or, All, replicate, inr, refl, sym, subst, ◌∙◌, arith, below_more, length-append}
+use Rattle.{std.proofs.lemmas.List.{get_or_append_left, get_or_at, length-replicate, Elements.{All-push, All-replicate}}, desk_catalogue.specs.shared_lists.Laid.with_at}
+use Rattle.{desk_check.specs.Checking.{AreChunksSeen, AreRevisionsSeen, IsSizedRow}, desk_model.specs.{Ranges.{ListsAreCut, ranges_of}, claim.Desk.Plan}}
+use Rattle.{desk_model.specs.{claim.Geography.GeographyModel, declared.ranges.CountyRange.CountyRange}, desk_pages.specs.claim.Desks.{AreWithin, IsSized}}
+use Rattle.{desk_opening.specs.Reading.{AreCountiesOf, AreRevisionsShown, IsRevisionShown, no_cut}, store_rows.specs.{Changes.plan_row_of, claim.Rows.KeyMap}}
+use Rattle.{store_rows.specs.declared.value.PlanRow.PlanRow, desk_opening.proofs.{Laying.{LaidTo, county_fits, laid_one_more, none_laid, with_long}, Shown.row_is}}
+use Rattle.desk_opening.proofs.Within.{with_at_within}
 
 module _ (lists : ListsAreCut) (g : GeographyModel) (ranges : List CountyRange) (same : ranges ≡ ranges_of g) (m : KeyMap) where
   abbrev blocks : ℕ
@@ -65,14 +66,9 @@ module _ (lists : ListsAreCut) (g : GeographyModel) (ranges : List CountyRange) 
         revisions = before.revisions ++ all.districts ∷ [];
         long = omega arith;
         within = All-push (AreWithin row.districts) before.revisions all.districts before.within all.within;
-        shown = λ k less. elim (cases_lt k (length before.revisions)) [
-          | inl earlier ↦ subst (λ (l : List ℕ). IsRevisionShown row.number (k + 1) ranges m l) (sym (get_or_append_left before.revisions (all.districts ∷ []) [] k earlier)) (before.shown k earlier)
-          | inr not ↦
-              let here : length before.revisions ≡ k = omega arith in
-              let counted : count ≡ k = omega arith in
-              subst (λ (l : List ℕ). IsRevisionShown row.number (k + 1) ranges m l) (sym (get_or_at before.revisions all.districts [] [] k here))
-              (subst (λ (i : ℕ). IsRevisionShown row.number (i + 1) ranges m all.districts) counted shown)
-        ];
+        shown = λ k less. below_more (λ i. IsRevisionShown row.number (i + 1) ranges m (get_or (before.revisions ++ all.districts ∷ []) i [])) count
+            (λ i lt. subst (λ (l : List ℕ). IsRevisionShown row.number (i + 1) ranges m l) (sym (get_or_append_left before.revisions (all.districts ∷ []) [] i (omega (arith, before.long, lt)))) (before.shown i (omega (arith, before.long, lt))))
+            (subst (λ (l : List ℕ). IsRevisionShown row.number (count + 1) ranges m l) (sym (get_or_at before.revisions all.districts [] [] count before.long)) shown) k (omega arith);
       }
 
   -- ---- the plan

@@ -1,15 +1,15 @@
 -- The plans whose rows a scan took.
 use Rattle.std.specs.{BTreeMap.BTreeMap, Cmp.Lexicographic.nat_list_cmp_total, FinMap.{empty, entries, get, insert, len, get-empty, len-empty, len-insert}}
-use Rattle.{std.specs.{Prelude.{Option, is_some, Result, Ok, Err, IsErrAnd, OnOk, IfOk, IfErr, Vec}, declared.alloc.Global.Global}, btree_walks.specs.Prefixes.under}
-use Rattle.{std.proofs.Common.{◌≡◌, ◌≤◌, ◌+◌, ℕ, true, false, cond, List, [], ◌∷◌, ◌++◌, Some, refl, sym, ap, subst, ◌∙◌, inl, inr, arith}, btree_walks.specs.declared.rows.Row.Row}
-use Rattle.{desk_check.specs.Checking.{ArePlansTold, AreSized, IsDeskShown, IsNever, IsRowSeen}, desk_model.specs.{Ranges.{ListsAreCut, ranges_of}, claim.Desk.{Plan, name_cmp}}}
-use Rattle.{desk_model.specs.{claim.{Geography.GeographyModel, Step.plan_limit}, declared.ranges.CountyRange.CountyRange}, desk_pages.specs.{Desks.new_desk, Looking.Gathers}}
-use Rattle.{desk_opening.specs.Opening.{ArePlansApart, ArePlansShown, HasNothing, IsNoted, IsNotGone, NoteErr}, desk_pages.specs.{Reading.SeekErr, claim.Desks.IsSized}}
-use Rattle.{geo_tables.specs.Elements.IsGeographyRead, page_btree.specs.{declared.error.TreeError.{TreeError, TheVariants.{NotAStore, Memory}}, page_node.claim.Entries.Entry}}
-use Rattle.{page_store.specs.declared.{pages.Pages.Pages, txn.Txn.Txn}, sector_device.specs.declared.SectorDevice.Ghosts, store_rows.specs.claim.{Keys.plans_prefix, Rows.KeyMap}}
-use Rattle.{store_rows.specs.claim.Values.plan_bytes, desk_check.proofs.Made.plan_made, desk_opening.proofs.Parts.{Plans, put_keeps, put_there}, page_store.proofs.Stops.quiet_none}
-use Rattle.{desk_opening.proofs.{PlanNumbers.{AreNoted, noted_more}, Shown.{AreShown, all_shown, more_shown, none_shown, nothing_shown}}, store_rows.proofs.Changes.cases_key}
-use Rattle.desk_pages.proofs.Looking.{finds, not_looked}
+use Rattle.std.{specs.{Prelude.{is_some, Result, Ok, Err, IsErrAnd, IfOk, IfErr, Vec}, declared.alloc.Global.Global}, proofs.lemmas.Option.same_Some}
+use Rattle.{std.proofs.Common.{◌≡◌, ◌≤◌, ◌+◌, ℕ, true, false, cond, List, [], ◌∷◌, ◌++◌, Some, refl, sym, ap, subst, ◌∙◌, inl, inr, arith}, btree_walks.specs.Prefixes.under}
+use Rattle.{btree_walks.specs.declared.rows.Row.Row, desk_check.specs.Checking.{ArePlansTold, AreSized, IsDeskShown, IsNever, IsRowSeen}, desk_model.specs.claim.Step.plan_limit}
+use Rattle.desk_model.specs.{Ranges.{ListsAreCut, ranges_of}, claim.{Desk.{Plan, name_cmp}, Geography.GeographyModel}, declared.ranges.CountyRange.CountyRange}
+use Rattle.{desk_opening.specs.Opening.{ArePlansApart, ArePlansShown, HasNothing, IsNoted, IsNotGone, NoteErr}, desk_pages.specs.{Desks.new_desk, Looking.Gathers, Reading.SeekErr}}
+use Rattle.{desk_pages.specs.claim.Desks.IsSized, geo_tables.specs.Elements.IsGeographyRead, page_btree.specs.declared.error.TreeError.{TreeError, TheVariants.{NotAStore, Memory}}}
+use Rattle.{page_btree.specs.page_node.claim.Entries.Entry, page_store.{specs.{claim.Transactions.IsQuiet, declared.{pages.Pages.Pages, txn.Txn.Txn}}, proofs.Stops.quiet_none}}
+use Rattle.{sector_device.specs.declared.SectorDevice.Ghosts, store_rows.specs.claim.{Keys.plans_prefix, Rows.KeyMap, Values.plan_bytes}, desk_check.proofs.Made.plan_made}
+use Rattle.desk_opening.proofs.{Parts.{Plans, put_keeps, put_there}, PlanNumbers.{AreNoted, noted_more}, Shown.{AreShown, all_shown, more_shown, none_shown, nothing_shown}}
+use Rattle.{desk_pages.proofs.Looking.{fails, fails_from, finds, not_looked}, store_rows.proofs.Changes.cases_key}
 
 -- plans that the rows tell, no more than so many, and their numbers
 pub record AreTold (ranges : List CountyRange) (taken : ℕ) (counts : BTreeMap ℕ ℕ) (m : KeyMap) (rows : List Entry) : Type 0 where
@@ -19,15 +19,12 @@ pub record AreTold (ranges : List CountyRange) (taken : ℕ) (counts : BTreeMap 
   pub few : len plans ≤ taken
   pub noted : AreNoted rows counts
 
-some_is : (p q : Plan) → ◌≡◌ {A = Option Plan} (Some p) (Some q) → p ≡ q
-some_is p q same = cc
-
 none_sized : AreSized empty
 none_sized name p there = let clash = sym (get-empty name_cmp name) ∙ there in absurd (cc)
 
 more_sized : (plans : Plans) (name : List ℕ) (p : Plan) → AreSized plans → IsSized p → AreSized (insert plans name p)
 more_sized plans name p all one other q there = elim (cases_key other name) [
-  | inl here ↦ subst IsSized (some_is p q (sym (put_there plans name p) ∙ ap (get (insert plans name p)) (sym here) ∙ there)) one
+  | inl here ↦ subst IsSized (same_Some p q (sym (put_there plans name p) ∙ ap (get (insert plans name p)) (sym here) ∙ there)) one
   | inr apart ↦ all other q (sym (put_keeps plans name p other apart) ∙ there)
 ]
 
@@ -60,21 +57,24 @@ module _ (lists : ListsAreCut) (g : GeographyModel) (ranges : List CountyRange) 
 pub all_told : (ranges : List CountyRange) (taken : ℕ) (counts : BTreeMap ℕ ℕ) (m : KeyMap) (rows : List Entry) → under plans_prefix (entries m) ≡ rows → taken ≤ plan_limit → AreTold ranges taken counts m rows → ArePlansTold ranges m
 all_told ranges taken counts m rows whole limit told = record { plans = told.plans; shown = all_shown m ranges rows told.plans whole told.shown; few = omega arith; sizes = told.sizes }
 
+-- of what isn't so nothing is said
+pub not_seen : {D X : Type 0} {g : Ghosts D} {says : KeyMap → X → Type 0} {t : Txn} {a b : Pages D g} → IsQuiet a b → Gathers says IsNever t a b (Err NotAStore)
+not_seen quiet = not_looked quiet (λ honest m holds is. is)
+
+-- what failed is told
+pub failed : {D X Y : Type 0} {g : Ghosts D} {says : KeyMap → X → Type 0} {also : KeyMap → Y → Type 0} {has : KeyMap → Type 0} {t : Txn} {a b : Pages D g} {e : TreeError} (r : Result Y TreeError)
+    → Gathers says has t a b (Err e) → IsErrAnd r (λ y. y ≡ e) → Gathers also IsNever t a b r
+failed r look is = fails r look is (λ m never. absurd never)
+
 -- what isn't noted isn't read
 pub unnoted : {D X : Type 0} {g : Ghosts D} {says : KeyMap → X → Type 0} (row : Row) (counts : BTreeMap ℕ ℕ) (t : Txn) (a : Pages D g) (e : TreeError) → NoteErr row counts e → (r : Result X TreeError) → IsErrAnd r (λ x. x ≡ e)
     → Gathers says IsNever t a a r
-unnoted row counts t a e why (Ok x) is = absurd is
-unnoted row counts t a e why (Err x) is = not_looked (quiet_none a) (subst (SeekErr (Unit {0}) IsNever t a a) (sym is) (so e why))
+unnoted row counts t a e why r is = fails_from IsNever e r (quiet_none a) (so e why) is (λ m never. never)
   where
     so : (e : TreeError) → NoteErr row counts e → SeekErr (Unit {0}) IsNever t a a e
     so NotAStore why = λ honest m holds is. is
     so Memory why = tt
     so _ why = absurd why
-
--- what is so at Ok
-pub at_ok : {X E : Type 0} (P : Type 0) (r : Result X E) → OnOk r P → IfOk r (λ _. P)
-at_ok P (Ok x) is = is
-at_ok P (Err e) is = tt
 
 -- ---- the desk
 -- without a geography

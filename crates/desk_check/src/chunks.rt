@@ -11,6 +11,7 @@ use plan_rows::append_chunk;
 use sector_device::SectorDevice;
 
 /// Looks at the chunk of a county that has so many blocks, none of them in a district above n. `part` is room for their districts.
+#[tactic(auto, using(crate::proofs::Told::not_seen, crate::proofs::Told::failed))]
 fn check_chunk<D: SectorDevice>(
     txn: &Txn,
     pages: &mut Pages<D>,

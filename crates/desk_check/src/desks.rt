@@ -31,6 +31,7 @@ fn copied(alloc: Global, ranges: &[CountyRange]) -> Result<Vec<CountyRange>, Tre
 
 /// Looks at what is shown of rows: a geography and plans. The counties come, and the plans' numbers are noted, each with the count of its
 /// revisions.
+#[tactic(auto, using(crate::proofs::Told::failed))]
 fn check_shown<D: SectorDevice>(
     alloc: Global,
     txn: &Txn,

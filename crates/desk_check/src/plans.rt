@@ -21,6 +21,7 @@ use std::collections::BTreeMap;
 use store_rows::{Key, read_plan};
 
 /// Looks at the plan whose row was taken, by its name.
+#[tactic(auto, using(crate::proofs::Told::not_seen, page_store::proofs::Stops::quiet_none))]
 fn check_named<D: SectorDevice>(
     alloc: Global,
     txn: &Txn,
@@ -63,6 +64,7 @@ fn check_row<D: SectorDevice>(
 }
 
 /// Looks at all plans, whose geography has these counties. Their numbers are noted, each with the count of its revisions.
+#[tactic(auto, using(crate::proofs::Told::not_seen))]
 pub(crate) fn check_plans<D: SectorDevice>(
     alloc: Global,
     txn: &Txn,

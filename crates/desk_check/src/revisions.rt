@@ -16,6 +16,7 @@ use store_rows::PlanRow;
 
 /// Looks at a revision of a plan, of whose blocks none may be in a district above n. `last` has the numbers of the chunks of the revision
 /// before, and gets this one's.
+#[tactic(auto, using(crate::proofs::Told::not_seen, crate::proofs::Told::failed))]
 fn check_revision<D: SectorDevice>(
     alloc: Global,
     txn: &Txn,
@@ -61,6 +62,7 @@ fn is_sized(row: &PlanRow) -> bool
 }
 
 /// Looks at the revisions of the plan with this row, one after the other.
+#[tactic(auto, using(crate::proofs::Told::not_seen, page_store::proofs::Stops::quiet_none))]
 pub(crate) fn check_revisions<D: SectorDevice>(
     alloc: Global,
     txn: &Txn,

@@ -1,6 +1,6 @@
 -- Lives in which a store is asked, out of the sentence.
 use Rattle.{std.proofs.Common.{◌≡◌, ℕ, List, [], ◌∷◌, map, Result, Ok, Err, refl, subst}, desk_claim.specs.claim.{AskedLives.{AskedLife, AreAsked, AskedLaw}, Streams.Ends}}
-use Rattle.desk_claim.specs.{claim.Sentence.{LifeMay, LifeHolds}, declared.{asking.{Asking.Asking, Told.Told}, lives.{Done.Done, Task.{Task, TheVariants.Ask}}}}
+use Rattle.desk_claim.{specs.{claim.Sentence.{LifeMay, LifeHolds}, declared.{asking.{Asking.Asking, Told.Told}, lives.{Done.Done, Task.TheVariants.Ask}}}, proofs.Sentence.each_as}
 use Rattle.{desk_model.specs.claim.Desk.Desk, desk_pages.specs.declared.error.StoreError.{StoreError, TheVariants.{DeviceFault, Memory, OldVersion}}}
 use Rattle.{serve_command.specs.http_seats.claim.Streams.Traffic, store_lives.specs.claim.{DeskLives.{IsPassing, LifeAfterLife}, Versions.{Store, version_2, MayBar}}}
 use Rattle.desk_claim.specs.declared.lives.Done.TheVariants as done
@@ -35,8 +35,6 @@ module _ {R W P Q A : Type 0} (ends : R → W → Ends) (streams : A → Traffic
   are_asked : (t u : ℕ) (d : Desk) (lives : List (Asking R W A)) (answers : List (Done R W)) (e : Store)
       → LifeAfterLife (LifeMay ends streams workers) t u (version_2, d) (map (λ (x : Asking R W A). Ask x) lives) answers e → AreAsked ends streams workers t u d lives answers e
   are_asked t u d [] [] e is = record { told = []; same = refl; version = λ i. (is.1 i).0; lived = (is.0, λ i. (is.1 i).1) }
-  are_asked t u d [] (answer ∷ answers) e is = absurd is
-  are_asked t u d (asking ∷ lives) [] e is = absurd is
   are_asked t u d (asking ∷ lives) (answer ∷ answers) e is =
       let one = is_told t is.0 d asking answer is.2 is.3 in
       let next : is.2 ≡ (version_2, is.2.1) = λ i. (one.version i, is.2.1) in
@@ -48,17 +46,13 @@ module _ {R W P Q A : Type 0} (ends : R → W → Ends) (streams : A → Traffic
         version = rest.version;
         lived = (is.0, is.1, is.2.1, one.life, rest.lived);
       }
-
-  each_told : (t u : ℕ) (s : Store) (lives : List (Task R W A)) (answers : List (Done R W)) (e : Store)
-      → LifeAfterLife (LifeHolds ends streams workers) t u s lives answers e → LifeAfterLife (LifeMay ends streams workers) t u s lives answers e
-  each_told t u s [] [] e is = is
-  each_told t u s [] (told ∷ answers) e is = absurd is
-  each_told t u s (task ∷ lives) [] e is = absurd is
-  each_told t u s (task ∷ lives) (told ∷ answers) e is = (is.0, is.1, is.2, is.3.told_so, each_told is.0 u is.2 lives answers e is.4)
+  are_asked t u d _ _ e is = absurd is
 
   pub asked_law : AskedLaw ends streams workers
-  asked_law = record {
-    asked = λ t u d lives answers e is.
-        are_asked t u d lives answers e (each_told t u (version_2, d) (map (λ (x : Asking R W A). Ask x) lives) answers e is.each);
-    each = λ t u s lives answers e is. each_told t u s lives answers e is.each;
-  }
+  asked_law =
+      let each = each_as (LifeHolds ends streams workers) (LifeMay ends streams workers) (λ t u s task told e is. is.told_so) in
+      record {
+        asked = λ t u d lives answers e is.
+            are_asked t u d lives answers e (each t u (version_2, d) (map (λ (x : Asking R W A). Ask x) lives) answers e is.each);
+        each = λ t u s lives answers e is. each t u s lives answers e is.each;
+      }

@@ -1,6 +1,6 @@
 -- Lives in a file, by what it held.
-use Rattle.{std.proofs.Common.{◌≡◌, ℕ, [], ◌∷◌, refl, sym, subst, arith}, desk_claim.specs.{Inside.IsLife, claim.{InFile.{OpensAs, IsStoreAs, LivesFrom, AreLives}, Streams.Ends}}}
-use Rattle.{desk_claim.specs.{claim.Sentence.LifeMay, declared.lives.{Done.Done, Task.Task}}, desk_model.specs.claim.Desk.Desk, desk_pages.specs.claim.Openings.AllVersions}
+use Rattle.{std.proofs.Common.{◌≡◌, ℕ, [], ◌∷◌, refl, sym, subst, arith}, desk_claim.specs.{Inside.IsLife, claim.{InFile.{OpensAs, LivesFrom, AreLives}, Sentence.LifeMay}}}
+use Rattle.{desk_claim.specs.{claim.Streams.Ends, declared.lives.{Done.Done, Task.Task}}, desk_model.specs.claim.Desk.Desk, desk_pages.specs.claim.Openings.AllVersions}
 use Rattle.{sector_device.specs.{Disk.IsSynced, claim.Disk.{Disk, Image}}, serve_command.specs.http_seats.claim.Streams.Traffic, store_lives.specs.desk_runs.Recovery.ImagesAreOne}
 use Rattle.{store_lives.specs.{VersionInside.{OpensIn, HoldsIn, IsOneIn, LivesIn}, claim.Versions.{Version, version_1}}, desk_claim.proofs.Sentence.life_holds}
 use Rattle.store_lives.proofs.VersionLiving.{holds_read, opens_as}
@@ -30,7 +30,7 @@ module _ {R W P Q A : Type 0} (ends : R → W → Ends) (streams : A → Traffic
   lives_from law task told n held old new count reads synced once honest left stops s opens =
       let v = s.0 in
       let d = s.1 in
-      let read : OpensIn v old.sectors d old.reads = subst (λ (i : Image). OpensIn v old.sectors d i) (sym reads) (subst (λ (m : ℕ). OpensIn v m d held) (sym count) (opens_in v n d held opens)) in
+      let read : OpensIn v old.sectors d old.reads = rw (reads, count) (opens_in v n d held opens) in
       let holds : HoldsIn v old d = holds_read v old old d synced read refl (λ c left. left) in
       let became = once.became honest v (λ c leaves. (d, holds c leaves)) in
       let is = became.1 left stops in
@@ -46,10 +46,9 @@ module _ {R W P Q A : Type 0} (ends : R → W → Ends) (streams : A → Traffic
       }
 
   pub are_lives : AreLives ends streams workers
-  are_lives sectors held left s [] [] opens is = record { last = s; lived = refl; opens = subst (λ (i : Image). IsStoreAs sectors s i) (sym is) opens }
-  are_lives sectors held left s [] (told ∷ answers) opens is = absurd is
-  are_lives sectors held left s (task ∷ lives) [] opens is = absurd is
+  are_lives sectors held left s [] [] opens is = record { last = s; lived = refl; opens = rw is opens }
   are_lives sectors held left s (task ∷ lives) (told ∷ answers) opens is =
       let first = is.1 s opens in
       let rest = are_lives sectors is.0 left first.last lives answers first.opens is.2 in
       record { last = rest.last; lived = (first.before, first.after, first.no_fewer, first.last, first.lived, rest.lived); opens = rest.opens }
+  are_lives sectors held left s _ _ opens is = absurd is

@@ -1,9 +1,5 @@
 mod Sweeping
 mod Offices
-mod Later
-mod Left
-mod DeskFiles
-mod StreamsLater
 mod AskedLater
 mod Requests
 mod Refused

@@ -1,67 +1,44 @@
 -- A request to which memory was refused is as one that wasn't asked.
-use Rattle.{std.{specs.Prelude.⊤, proofs.Common.{◌≡◌, ◌<◌, ℕ, List, [], ◌∷◌, inl, inr, ⊎_elim, sym, subst}}, desk_claim.specs.claim.Sentence.Without}
-use Rattle.desk_model.specs.{claim.{Desk.Desk, Outcome.CommandMay}, declared.{command.Command.Command, reply.{Refusal.TheVariants.{Memory, Halted}, Reply.Reply}}}
-use Rattle.{desk_model.specs.declared.reply.Reply.TheVariants.Refused, store_lives.specs.{claim.DeskLives.{Failed, Lived}, declared.desk_lives.{Answer.Answer, Request.Request}}}
-use Rattle.store_lives.specs.declared.desk_lives.{Answer.TheVariants.{Said, Loaded, Unloaded, Swept, Unswept}, Request.TheVariants.{Change, Look, Load, Sweep}}
+use Rattle.{std.proofs.Common.{◌≡◌, ℕ, false, List, ◌∷◌, ⊎_elim, refl, subst, ◌∙◌}, desk_claim.specs.claim.Sentence.{made, tells_done, Without}, desk_model.specs.claim.Desk.Desk}
+use Rattle.{desk_model.specs.declared.reply.{Refusal.TheVariants.{Memory, Halted}, Reply.TheVariants.Refused}, store_lives.specs.claim.DeskLives.{Failed, Lived}}
+use Rattle.store_lives.specs.declared.desk_lives.{Answer.{Answer, TheVariants.{Said, Unloaded, Unswept}}, Request.{Request, TheVariants.{Change, Look, Load, Sweep}}}
+use Rattle.desk_claim.proofs.Requests.{Idle, failed_of, rest_of, turn_of, went_on, fails_in, failed_lives, next_is}
 use Rattle.desk_pages.specs.declared.error.StoreError.TheVariants as store
-
--- what was said, else this
-abbrev pub said_in : Answer → Reply
-said_in (Said r) = r
-said_in _ = Refused Halted
-
-not_halted : Said (Refused Memory) ≡ Said (Refused Halted) → ⊥
-not_halted same = let clash : Refused Memory ≡ Refused Halted = λ i. said_in (same i) in cc
-
-refused_as : (d : Desk) (c : Command) (r : Reply) (next : Desk) → Said (Refused Memory) ≡ Said r → CommandMay ⊥ ⊤ ⊥ d c r next → next ≡ d
-refused_as d c r next same may =
-    let is : CommandMay ⊥ ⊤ ⊥ d c (Refused Memory) next = subst (λ (s : Reply). CommandMay ⊥ ⊤ ⊥ d c s next) (λ i. said_in (sym same i)) may in is.1
 
 failed_without : (d : Desk) (asked : List Request) (told : List Answer) (fewer : List Request) (fewer_told : List Answer) → Without asked told fewer fewer_told → Failed d asked told → Failed d fewer fewer_told
 failed_without d _ _ _ _ Without.over is = is
-failed_without d _ _ _ _ (Without.kept (Change c) a asked told fewer fewer_told rest) is = (is.0, failed_without d asked told fewer fewer_told rest is.1)
-failed_without d _ _ _ _ (Without.kept (Look q) a asked told fewer fewer_told rest) is = (is.0, is.1, is.2, failed_without d asked told fewer fewer_told rest is.3)
-failed_without d _ _ _ _ (Without.kept (Load g) a asked told fewer fewer_told rest) is = (is.0, failed_without d asked told fewer fewer_told rest is.1)
-failed_without d _ _ _ _ (Without.kept Sweep a asked told fewer fewer_told rest) is = (is.0, failed_without d asked told fewer fewer_told rest is.1)
+failed_without d _ _ _ _ (Without.kept q a asked told fewer fewer_told rest) is =
+    let f = rest_of d q asked a told is in
+    failed_of d q fewer a fewer_told f.0 (failed_without d asked told fewer fewer_told rest f.1)
 failed_without d _ _ _ _ (Without.change c asked told fewer fewer_told rest) is = failed_without d asked told fewer fewer_told rest is.1
 failed_without d _ _ _ _ (Without.look q asked told fewer fewer_told rest) is = failed_without d asked told fewer fewer_told rest is.3
 failed_without d _ _ _ _ (Without.load g asked told fewer fewer_told rest) is = absurd is.0
 failed_without d _ _ _ _ (Without.tend asked told fewer fewer_told rest) is = failed_without d asked told fewer fewer_told rest is.1
 
--- where the device fails between two requests
-failed_lives : (t u : ℕ) (d : Desk) (asked : List Request) (told : List Answer) (e : Desk) → t < u → Failed d asked told → e ≡ d → Lived t u d asked told e
-failed_lives t u d [] [] e rose is same = same
-failed_lives t u d [] (a ∷ told) e rose is same = absurd is
-failed_lives t u d (Change c ∷ asked) [] e rose is same = absurd is
-failed_lives t u d (Change c ∷ asked) (a ∷ told) e rose is same = inr (rose, is.0, (is.1, inl same))
-failed_lives t u d (Look q ∷ asked) [] e rose is same = absurd is
-failed_lives t u d (Look q ∷ asked) (a ∷ told) e rose is same = (is.0, is.1, is.2, failed_lives t u d asked told e rose is.3 same)
-failed_lives t u d (Load g ∷ asked) [] e rose is same = absurd is
-failed_lives t u d (Load g ∷ asked) (a ∷ told) e rose is same = inr (inr (rose, is.0, (is.1, inl same)))
-failed_lives t u d (Sweep ∷ asked) [] e rose is same = absurd is
-failed_lives t u d (Sweep ∷ asked) (a ∷ told) e rose is same = inr (inr (rose, is.0, (is.1, inl same)))
-
 module _ (t u : ℕ) where
+  -- a request that wasn't done, and can't have been where the device failed in it
+  undone : (d : Desk) (q : Request) (asked : List Request) (a : Answer) (told : List Answer) (e : Desk) → tells_done a ≡ false → (Idle d q a → made d q ≡ d)
+      → Lived t u d (q ∷ asked) (a ∷ told) e → Lived t u d asked told e
+  undone d q asked a told e none idle is = ⊎_elim
+      (λ went. subst (λ (x : Desk). Lived t u x asked told e) (rw none at (next_is d q a went.0 went.1)) went.2)
+      (λ fails. failed_lives t u d asked told e fails.0 fails.2.0 (⊎_elim (λ same. same) (λ same. same ∙ idle fails.1) fails.2.1))
+      (turn_of t u d q asked a told e is)
+
   pub lived_without : (d : Desk) (asked : List Request) (told : List Answer) (fewer : List Request) (fewer_told : List Answer) (e : Desk) → Without asked told fewer fewer_told
       → Lived t u d asked told e → Lived t u d fewer fewer_told e
   lived_without d _ _ _ _ e Without.over is = is
-  lived_without d _ _ _ _ e (Without.kept (Change c) a asked told fewer fewer_told rest) (inl is) = inl (is.0, is.1, is.2, is.3, lived_without is.1 asked told fewer fewer_told e rest is.4)
-  lived_without d _ _ _ _ e (Without.kept (Change c) a asked told fewer fewer_told rest) (inr is) = inr (is.0, is.1, (failed_without d asked told fewer fewer_told rest is.2.0, is.2.1))
-  lived_without d _ _ _ _ e (Without.kept (Look q) a asked told fewer fewer_told rest) is = (is.0, is.1, is.2, lived_without d asked told fewer fewer_told e rest is.3)
-  lived_without d _ _ _ _ e (Without.kept (Load g) a asked told fewer fewer_told rest) (inl is) = inl (is.0, is.1, lived_without _ asked told fewer fewer_told e rest is.2)
-  lived_without d _ _ _ _ e (Without.kept (Load g) a asked told fewer fewer_told rest) (inr (inl is)) = inr (inl (is.0, is.1, is.2, lived_without d asked told fewer fewer_told e rest is.3))
-  lived_without d _ _ _ _ e (Without.kept (Load g) a asked told fewer fewer_told rest) (inr (inr is)) = inr (inr (is.0, is.1, (failed_without d asked told fewer fewer_told rest is.2.0, is.2.1)))
-  lived_without d _ _ _ _ e (Without.kept Sweep a asked told fewer fewer_told rest) (inl is) = inl (is.0, is.1, lived_without d asked told fewer fewer_told e rest is.2)
-  lived_without d _ _ _ _ e (Without.kept Sweep a asked told fewer fewer_told rest) (inr (inl is)) = inr (inl (is.0, lived_without d asked told fewer fewer_told e rest is.1))
-  lived_without d _ _ _ _ e (Without.kept Sweep a asked told fewer fewer_told rest) (inr (inr is)) = inr (inr (is.0, is.1, (failed_without d asked told fewer fewer_told rest is.2.0, is.2.1)))
-  lived_without d _ _ _ _ e (Without.change c asked told fewer fewer_told rest) (inl is) =
-      lived_without d asked told fewer fewer_told e rest (subst (λ (x : Desk). Lived t u x asked told e) (refused_as d c is.0 is.1 is.2 is.3) is.4)
-  lived_without d _ _ _ _ e (Without.change c asked told fewer fewer_told rest) (inr is) = absurd (not_halted is.1)
-  lived_without d _ _ _ _ e (Without.look q asked told fewer fewer_told rest) is = lived_without d asked told fewer fewer_told e rest is.3
-  lived_without d _ _ _ _ e (Without.load g asked told fewer fewer_told rest) (inl is) = absurd (let clash : Unloaded store.Memory ≡ Loaded = is.0 in cc)
-  lived_without d _ _ _ _ e (Without.load g asked told fewer fewer_told rest) (inr (inl is)) = lived_without d asked told fewer fewer_told e rest is.3
-  lived_without d _ _ _ _ e (Without.load g asked told fewer fewer_told rest) (inr (inr is)) = absurd is.1
-  lived_without d _ _ _ _ e (Without.tend asked told fewer fewer_told rest) (inl is) = absurd (let clash : Unswept store.Memory ≡ Swept is.0 = is.1 in cc)
-  lived_without d _ _ _ _ e (Without.tend asked told fewer fewer_told rest) (inr (inl is)) = lived_without d asked told fewer fewer_told e rest is.1
-  lived_without d _ _ _ _ e (Without.tend asked told fewer fewer_told rest) (inr (inr is)) =
-      failed_lives t u d fewer fewer_told e is.0 (failed_without d asked told fewer fewer_told rest is.2.0) (⊎_elim (λ same. same) (λ same. same) is.2.1)
+  lived_without d _ _ _ _ e (Without.kept q a asked told fewer fewer_told rest) is = ⊎_elim
+      (λ went. went_on t u d went.0 q fewer a fewer_told e went.1 (lived_without went.0 asked told fewer fewer_told e rest went.2))
+      (λ fails.
+      (let failed = failed_without d asked told fewer fewer_told rest fails.2.0 in
+      fails_in t u d q fewer a fewer_told e fails.0 fails.1 (failed, fails.2.1) (λ same. failed_lives t u d fewer fewer_told e fails.0 failed same)))
+      (turn_of t u d q asked a told e is)
+  lived_without d _ _ _ _ e (Without.change c asked told fewer fewer_told rest) is =
+      lived_without d asked told fewer fewer_told e rest
+      (undone d (Change c) asked (Said (Refused Memory)) told e refl (λ (clash : Said (Refused Memory) ≡ Said (Refused Halted)). cc) is)
+  lived_without d _ _ _ _ e (Without.look q asked told fewer fewer_told rest) is =
+      lived_without d asked told fewer fewer_told e rest (undone d (Look q) asked (Said (Refused Memory)) told e refl (λ _. refl) is)
+  lived_without d _ _ _ _ e (Without.load g asked told fewer fewer_told rest) is =
+      lived_without d asked told fewer fewer_told e rest (undone d (Load g) asked (Unloaded store.Memory) told e refl (λ idle. absurd idle) is)
+  lived_without d _ _ _ _ e (Without.tend asked told fewer fewer_told rest) is =
+      lived_without d asked told fewer fewer_told e rest (undone d Sweep asked (Unswept store.Memory) told e refl (λ _. refl) is)

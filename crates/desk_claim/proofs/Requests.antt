@@ -1,11 +1,13 @@
--- What is acknowledged of a life's requests outlives its stop.
-use Rattle.std.{specs.Prelude.{⊤, fold, None}, proofs.Common.{◌≡◌, ◌<◌, ℕ, Bool, true, false, if◌then◌else◌, List, [], ◌∷◌, ◌++◌, inl, inr, ⊎_elim, refl, sym, subst, ◌∙◌}}
-use Rattle.{desk_claim.specs.claim.Sentence.{made, tells_done, acknowledged_in, HoldsAcknowledged}, desk_model.specs.claim.{Desk.Desk, Geography.GeographyModel, Step.step}}
-use Rattle.desk_model.specs.{claim.Outcome.{IsAcceptance, IsStep, RefusalMay, CommandMay}, declared.{command.Command.Command, reply.{Refusal.Refusal, Reply.Reply}}}
-use Rattle.store_lives.specs.{claim.{Calls.is_done, DeskLives.{loaded_desk, after_load, IsUnloaded, Failed, FailsAt, Lived}}, declared.desk_lives.{Answer.Answer, Request.Request}}
-use Rattle.store_lives.specs.declared.desk_lives.{Answer.TheVariants.Unloaded, Request.TheVariants.{Change, Look, Load, Sweep}}
+-- The requests of a life, one by one, and what is acknowledged of them: that outlives the life's stop.
+use Rattle.std.{specs.Prelude.{⊤, fold, None}, proofs.Common.{◌≡◌, ◌⊎◌, ◌<◌, ℕ, Bool, true, false, if◌then◌else◌, List, [], ◌∷◌, ◌++◌, inl, inr, ⊎_elim, refl, sym, ap, subst, ◌∙◌}}
+use Rattle.{desk_catalogue.specs.claim.Audits.AskMay, desk_claim.specs.claim.Sentence.{made, tells_done, acknowledged_in, HoldsAcknowledged}, desk_model.specs.claim.Desk.Desk}
+use Rattle.desk_model.specs.{claim.{Outcome.{IsAcceptance, IsStep, RefusalMay, CommandMay}, Step.step}, declared.{command.Command.Command, reply.{Refusal.Refusal, Reply.Reply}}}
+use Rattle.{desk_pages.specs.declared.error.StoreError.StoreError, store_lives.specs.{claim.Calls.is_done, declared.desk_lives.{Answer.Answer, Request.Request}}}
+use Rattle.store_lives.specs.claim.DeskLives.{loaded_desk, MayRefuse, IsUnloaded, IsUnswept, Failed, FailsAt, Lived}
+use Rattle.store_lives.specs.declared.desk_lives.{Answer.TheVariants.{Said, Loaded, Unloaded, Swept, Unswept}, Request.TheVariants.{Change, Look, Load, Sweep}}
 use Rattle.desk_model.specs.declared.reply.Reply.TheVariants as reply
 use Rattle.desk_model.specs.declared.reply.Refusal.TheVariants as refusal
+use Rattle.desk_pages.specs.declared.error.StoreError.TheVariants as store
 use Rattle.store_lives.proofs.desk_runs.Steps.{refused_same}
 
 -- ---- what a command leaves, by its reply
@@ -16,109 +18,137 @@ refused_stays : (d : Desk) (c : Command) (r : Refusal) (next : Desk) → Refusal
 refused_stays d c refusal.Memory next is = is.1
 refused_stays d c refusal.Halted next is = absurd is.0
 refused_stays d c refusal.Full next is = is.1.desk
-refused_stays d c refusal.NoPlan next is = refused_step d c refusal.NoPlan next is.1
-refused_stays d c refusal.NoRevision next is = refused_step d c refusal.NoRevision next is.1
-refused_stays d c refusal.PlanExists next is = refused_step d c refusal.PlanExists next is.1
-refused_stays d c (refusal.Stale k) next is = refused_step d c (refusal.Stale k) next is.1
-refused_stays d c (refusal.BadBody code line) next is = refused_step d c (refusal.BadBody code line) next is.1
-refused_stays d c (refusal.NotWholeCounty county) next is = refused_step d c (refusal.NotWholeCounty county) next is.1
 refused_stays d c refusal.BadCompanion next is = absurd is
-refused_stays d c refusal.Limit next is = refused_step d c refusal.Limit next is.1
-refused_stays d c refusal.NotSealed next is = refused_step d c refusal.NotSealed next is.1
+refused_stays d c r next is = refused_step d c r next is.1
 
 -- the desk after a command is that after it, where it was done, and else the same
-pub left_by : (d : Desk) (c : Command) (r : Reply) (next : Desk) → CommandMay ⊥ ⊤ ⊥ d c r next → next ≡ (if is_done r then (step d c).1 else d)
+left_by : (d : Desk) (c : Command) (r : Reply) (next : Desk) → CommandMay ⊥ ⊤ ⊥ d c r next → next ≡ (if is_done r then (step d c).1 else d)
 left_by d c (reply.Refused r) next is = refused_stays d c r next is
 left_by d c (reply.Created name revisions) next is = is.1.desk
 left_by d c (reply.Retired name) next is = is.1.desk
 left_by d c _ next is = absurd is
 
 -- ---- one request before others
-abbrev With : Bool → Request → List Request → List Request
-With b q more = (if b then q ∷ [] else []) ++ more
+-- a request may be answered so where the device has failed
+abbrev pub Idle : Desk → Request → Answer → Type 0
+Idle d (Change c) a = a ≡ Said (reply.Refused refusal.Halted)
+Idle d (Look q) a = (r : Reply) × (a ≡ Said r) × AskMay d q r
+Idle d (Load g) a = IsUnloaded a d
+Idle d Sweep a = IsUnswept a
 
-abbrev All_made : Desk → List Request → Desk
-All_made d requests = fold made d requests
+-- and so where it has not, and leaves this desk
+abbrev pub Went : Desk → Request → Answer → Desk → Type 0
+Went d (Change c) a next = (r : Reply) × (a ≡ Said r) × CommandMay ⊥ ⊤ ⊥ d c r next
+Went d (Look q) a next = (next ≡ d) × Idle d (Look q) a
+Went d (Load g) a next = ((a ≡ Loaded) × (d.geography ≡ None) × (next ≡ loaded_desk g.value))
+    ⊎ ((next ≡ d) × (why : StoreError) × (a ≡ Unloaded why) × MayRefuse why d)
+Went d Sweep a next = (next ≡ d) × (((count : ℕ) × (a ≡ Swept count)) ⊎ (a ≡ Unswept store.Memory))
 
--- a command
-done_first : (b : Bool) (d : Desk) (c : Command) (more : List Request) → All_made d (With b (Change c) more) ≡ All_made (if b then (step d c).1 else d) more
-done_first true d c more = refl
-done_first false d c more = refl
+-- where the device has failed
+pub failed_of : (d : Desk) (q : Request) (asked : List Request) (a : Answer) (told : List Answer) → Idle d q a → Failed d asked told → Failed d (q ∷ asked) (a ∷ told)
+failed_of d (Look q) asked a told is rest = (is.0, is.1, is.2, rest)
+failed_of d _ asked a told is rest = (is, rest)
 
-change_first : (d : Desk) (c : Command) (r : Reply) (next : Desk) (more : List Request) → CommandMay ⊥ ⊤ ⊥ d c r next → All_made d (With (is_done r) (Change c) more) ≡ All_made next more
-change_first d c r next more may = done_first (is_done r) d c more ∙ (λ i. All_made (sym (left_by d c r next may) i) more)
+pub rest_of : (d : Desk) (q : Request) (asked : List Request) (a : Answer) (told : List Answer) → Failed d (q ∷ asked) (a ∷ told) → Idle d q a × Failed d asked told
+rest_of d (Look q) asked a told is = ((is.0, is.1, is.2), is.3)
+rest_of d _ asked a told is = is
 
--- one that changes nothing
-idle_first : (b : Bool) (d : Desk) (q : Request) (more : List Request) → made d q ≡ d → All_made d (With b q more) ≡ All_made d more
-idle_first true d q more same = λ i. All_made (same i) more
-idle_first false d q more same = refl
-
--- one that was not acknowledged
-untold_first : (b : Bool) (d : Desk) (q : Request) (more : List Request) → b ≡ false → All_made d (With b q more) ≡ All_made d more
-untold_first b d q more none = λ i. All_made d (With (none i) q more)
-
-pub load_first : (d : Desk) (g : GeographyModel) → d.geography ≡ None → after_load d.geography d g ≡ loaded_desk g
-load_first d g none = λ i. after_load (none i) d g
-
-pub untold_load : (a : Answer) (d : Desk) → IsUnloaded a d → tells_done a ≡ false
-untold_load (Unloaded why) d is = refl
-untold_load _ d is = absurd is
-
--- ---- where the device has failed nothing more is done
-failed_stays : (d : Desk) (asked : List Request) (told : List Answer) → Failed d asked told → All_made d (acknowledged_in asked told) ≡ d
-failed_stays d [] [] is = refl
-failed_stays d [] (a ∷ told) is = absurd is
-failed_stays d (Change c ∷ asked) [] is = absurd is
-failed_stays d (Change c ∷ asked) (a ∷ told) is = untold_first (tells_done a) d (Change c) (acknowledged_in asked told) (λ i. tells_done (is.0 i)) ∙ failed_stays d asked told is.1
-failed_stays d (Look q ∷ asked) [] is = absurd is
-failed_stays d (Look q ∷ asked) (a ∷ told) is = idle_first (tells_done a) d (Look q) (acknowledged_in asked told) refl ∙ failed_stays d asked told is.3
-failed_stays d (Load g ∷ asked) [] is = absurd is
-failed_stays d (Load g ∷ asked) (a ∷ told) is = untold_first (tells_done a) d (Load g) (acknowledged_in asked told) (untold_load a d is.0) ∙ failed_stays d asked told is.1
-failed_stays d (Sweep ∷ asked) [] is = absurd is
-failed_stays d (Sweep ∷ asked) (a ∷ told) is = idle_first (tells_done a) d Sweep (acknowledged_in asked told) refl ∙ failed_stays d asked told is.1
+none_failed : (d : Desk) (q : Request) (asked : List Request) → Failed d (q ∷ asked) [] → ⊥
+none_failed d (Change c) asked is = is
+none_failed d _ asked is = is
 
 module _ (t u : ℕ) where
-  -- the next request was answered so, and made this desk
-  goes_on : (d next : Desk) (q : Request) (asked : List Request) (a : Answer) (told : List Answer) (e : Desk)
-      → All_made d (With (tells_done a) q (acknowledged_in asked told)) ≡ All_made next (acknowledged_in asked told)
-      → HoldsAcknowledged t u next asked told e → HoldsAcknowledged t u d (q ∷ asked) (a ∷ told) e
-  goes_on d next q asked a told e same (inl is) = inl (is ∙ sym same)
-  goes_on d next q asked a told e same (inr is) = inr (is.0, is.1, q ∷ is.2, is.3, (λ i. q ∷ is.4 i), is.5 ∙ (λ i. made (sym same i) is.1))
+  -- the next request of a life is answered, or the device fails in it
+  abbrev Turn : Desk → Request → List Request → Answer → List Answer → Desk → Type 0
+  Turn d q asked a told e = ((next : Desk) × Went d q a next × Lived t u next asked told e) ⊎ ((t < u) × Idle d q a × FailsAt d (made d q) asked told e)
 
-  -- the device failed in this one
-  fails : (d : Desk) (q : Request) (asked : List Request) (a : Answer) (told : List Answer) (e : Desk) → t < u
-      → All_made d (With (tells_done a) q (acknowledged_in asked told)) ≡ All_made d (acknowledged_in asked told) → FailsAt d (made d q) asked told e
-      → HoldsAcknowledged t u d (q ∷ asked) (a ∷ told) e
-  fails d q asked a told e more same is =
-      let stays = same ∙ failed_stays d asked told is.0 in
-      ⊎_elim (λ left. inl (left ∙ sym stays)) (λ left. inr (more, q, [], asked, refl, left ∙ (λ i. made (sym stays i) q))) is.1
+  pub turn_of : (d : Desk) (q : Request) (asked : List Request) (a : Answer) (told : List Answer) (e : Desk) → Lived t u d (q ∷ asked) (a ∷ told) e → Turn d q asked a told e
+  turn_of d (Change c) asked a told e (inl is) = inl (is.1, (is.0, is.2, is.3), is.4)
+  turn_of d (Change c) asked a told e (inr is) = inr is
+  turn_of d (Look q) asked a told e is = inl (d, (refl, (is.0, is.1, is.2)), is.3)
+  turn_of d (Load g) asked a told e (inl is) = inl (loaded_desk g.value, inl (is.0, is.1, refl), is.2)
+  turn_of d (Load g) asked a told e (inr (inl is)) = inl (d, inr (refl, is.0, is.1, is.2), is.3)
+  turn_of d (Load g) asked a told e (inr (inr is)) = inr is
+  turn_of d Sweep asked a told e (inl is) = inl (d, (refl, inl (is.0, is.1)), is.2)
+  turn_of d Sweep asked a told e (inr (inl is)) = inl (d, (refl, inr is.0), is.1)
+  turn_of d Sweep asked a told e (inr (inr is)) = inr is
+
+  pub none_lived : (d : Desk) (q : Request) (asked : List Request) (e : Desk) → Lived t u d (q ∷ asked) [] e → ⊥
+  none_lived d (Change c) asked e is = is
+  none_lived d _ asked e is = is
+
+  pub went_on : (d next : Desk) (q : Request) (asked : List Request) (a : Answer) (told : List Answer) (e : Desk) → Went d q a next → Lived t u next asked told e → Lived t u d (q ∷ asked) (a ∷ told) e
+  went_on d next (Change c) asked a told e is rest = inl (is.0, next, is.1, is.2, rest)
+  went_on d next (Look q) asked a told e is rest = (is.1.0, is.1.1, is.1.2, rw is.0 at rest)
+  went_on d next (Load g) asked a told e (inl is) rest = inl (is.0, is.1, rw is.2 at rest)
+  went_on d next (Load g) asked a told e (inr is) rest = inr (inl (is.1, is.2, is.3, rw is.0 at rest))
+  went_on d next Sweep asked a told e is rest =
+      ⊎_elim (λ swept. inl (swept.0, swept.1, rw is.0 at rest)) (λ refused. inr (inl (refused, rw is.0 at rest))) is.1
+
+  -- only a query is answered as ever where the device fails
+  pub fails_in : (d : Desk) (q : Request) (asked : List Request) (a : Answer) (told : List Answer) (e : Desk) → t < u → Idle d q a → FailsAt d (made d q) asked told e
+      → (e ≡ d → Lived t u d asked told e) → Lived t u d (q ∷ asked) (a ∷ told) e
+  fails_in d (Change c) asked a told e rose is fails lives = inr (rose, is, fails)
+  fails_in d (Look q) asked a told e rose is fails lives = (is.0, is.1, is.2, lives (⊎_elim (λ same. same) (λ same. same) fails.1))
+  fails_in d _ asked a told e rose is fails lives = inr (inr (rose, is, fails))
+
+  -- the device fails between two requests
+  pub failed_lives : (d : Desk) (asked : List Request) (told : List Answer) (e : Desk) → t < u → Failed d asked told → e ≡ d → Lived t u d asked told e
+  failed_lives d [] [] e rose is same = same
+  failed_lives d [] (a ∷ told) e rose is same = absurd is
+  failed_lives d (q ∷ asked) [] e rose is same = absurd (none_failed d q asked is)
+  failed_lives d (q ∷ asked) (a ∷ told) e rose is same =
+      let f = rest_of d q asked a told is in
+      fails_in d q asked a told e rose f.0 (f.1, inl same) (λ _. failed_lives d asked told e rose f.1 same)
+
+-- ---- the desk of which the next request is asked
+abbrev pub Next : Desk → Request → Answer → Desk
+Next d q a = if tells_done a then made d q else d
+
+either_same : (b : Bool) (d : Desk) → (if b then d else d) ≡ d
+either_same true d = refl
+either_same false d = refl
+
+pub next_is : (d : Desk) (q : Request) (a : Answer) (next : Desk) → Went d q a next → next ≡ Next d q a
+next_is d (Change c) a next is = rw is.1 (left_by d c is.0 next is.2)
+next_is d (Load g) a next (inl is) = rw (is.0, is.1) is.2
+next_is d (Load g) a next (inr is) = rw is.2 is.0
+next_is d _ a next is = is.0 ∙ sym (either_same (tells_done a) d)
+
+pub idle_is : (d : Desk) (q : Request) (a : Answer) → Idle d q a → Next d q a ≡ d
+idle_is d (Change c) a is = rw is refl
+idle_is d (Load g) (Unloaded why) is = refl
+idle_is d (Load g) _ is = absurd is
+idle_is d _ a is = either_same (tells_done a) d
+
+made_first : (b : Bool) (d : Desk) (q : Request) (more : List Request) → fold made d ((if b then q ∷ [] else []) ++ more) ≡ fold made (if b then made d q else d) more
+made_first true d q more = refl
+made_first false d q more = refl
+
+-- where the device has failed nothing more is done
+failed_stays : (d : Desk) (asked : List Request) (told : List Answer) → Failed d asked told → fold made d (acknowledged_in asked told) ≡ d
+failed_stays d [] told is = refl
+failed_stays d (q ∷ asked) [] is = refl
+failed_stays d (q ∷ asked) (a ∷ told) is =
+    let f = rest_of d q asked a told is in
+    made_first (tells_done a) d q (acknowledged_in asked told)
+    ∙ ((λ i. fold made (idle_is d q a f.0 i) (acknowledged_in asked told)) ∙ failed_stays d asked told f.1)
+
+module _ (t u : ℕ) where
+  goes_on : (d next : Desk) (q : Request) (asked : List Request) (a : Answer) (told : List Answer) (e : Desk) → next ≡ Next d q a
+      → HoldsAcknowledged t u next asked told e → HoldsAcknowledged t u d (q ∷ asked) (a ∷ told) e
+  goes_on d next q asked a told e is holds =
+      let same = ap (λ (x : Desk). fold made x (acknowledged_in asked told)) is ∙ sym (made_first (tells_done a) d q (acknowledged_in asked told)) in
+      ⊎_elim (λ left. inl (left ∙ same))
+      (λ left. inr (left.0, left.1, q ∷ left.2, left.3, (λ i. q ∷ left.4 i), left.5 ∙ (λ i. made (same i) left.1))) holds
 
   pub lasts : (d : Desk) (asked : List Request) (told : List Answer) (e : Desk) → Lived t u d asked told e → HoldsAcknowledged t u d asked told e
   lasts d [] [] e is = inl is
   lasts d [] (a ∷ told) e is = absurd is
-  lasts d (Change c ∷ asked) [] e is = absurd is
-  lasts d (Change c ∷ asked) (a ∷ told) e (inl is) =
-      goes_on d is.1 (Change c) asked a told e
-      ((λ i. All_made d (With (tells_done (is.2 i)) (Change c) (acknowledged_in asked told))) ∙ change_first d c is.0 is.1 (acknowledged_in asked told) is.3)
-      (lasts is.1 asked told e is.4)
-  lasts d (Change c ∷ asked) (a ∷ told) e (inr is) =
-      fails d (Change c) asked a told e is.0 (untold_first (tells_done a) d (Change c) (acknowledged_in asked told) (λ i. tells_done (is.1 i))) is.2
-  lasts d (Look q ∷ asked) [] e is = absurd is
-  lasts d (Look q ∷ asked) (a ∷ told) e is =
-      goes_on d d (Look q) asked a told e (idle_first (tells_done a) d (Look q) (acknowledged_in asked told) refl) (lasts d asked told e is.3)
-  lasts d (Load g ∷ asked) [] e is = absurd is
-  lasts d (Load g ∷ asked) (a ∷ told) e (inl is) =
-      goes_on d (loaded_desk g.value) (Load g) asked a told e
-      ((λ i. All_made d (With (tells_done (is.0 i)) (Load g) (acknowledged_in asked told))) ∙ (λ i. All_made (load_first d g.value is.1 i) (acknowledged_in asked told)))
-      (lasts (loaded_desk g.value) asked told e is.2)
-  lasts d (Load g ∷ asked) (a ∷ told) e (inr (inl is)) =
-      goes_on d d (Load g) asked a told e (untold_first (tells_done a) d (Load g) (acknowledged_in asked told) (λ i. tells_done (is.1 i))) (lasts d asked told e is.3)
-  lasts d (Load g ∷ asked) (a ∷ told) e (inr (inr is)) =
-      fails d (Load g) asked a told e is.0 (untold_first (tells_done a) d (Load g) (acknowledged_in asked told) (untold_load a d is.1)) is.2
-  lasts d (Sweep ∷ asked) [] e is = absurd is
-  lasts d (Sweep ∷ asked) (a ∷ told) e (inl is) =
-      goes_on d d Sweep asked a told e (idle_first (tells_done a) d Sweep (acknowledged_in asked told) refl) (lasts d asked told e is.2)
-  lasts d (Sweep ∷ asked) (a ∷ told) e (inr (inl is)) =
-      goes_on d d Sweep asked a told e (idle_first (tells_done a) d Sweep (acknowledged_in asked told) refl) (lasts d asked told e is.1)
-  lasts d (Sweep ∷ asked) (a ∷ told) e (inr (inr is)) =
-      fails d Sweep asked a told e is.0 (idle_first (tells_done a) d Sweep (acknowledged_in asked told) refl) is.2
+  lasts d (q ∷ asked) [] e is = absurd (none_lived t u d q asked e is)
+  lasts d (q ∷ asked) (a ∷ told) e is = ⊎_elim
+      (λ went. goes_on d went.0 q asked a told e (next_is d q a went.0 went.1) (lasts went.0 asked told e went.2))
+      (λ fails.
+      (let stays = failed_stays d (q ∷ asked) (a ∷ told) (failed_of d q asked a told fails.1 fails.2.0) in
+      ⊎_elim (λ left. inl (left ∙ sym stays)) (λ left. inr (fails.0, q, [], asked, refl, left ∙ (λ i. made (sym stays i) q))) fails.2.1))
+      (turn_of t u d q asked a told e is)

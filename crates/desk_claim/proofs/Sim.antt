@@ -1,6 +1,6 @@
--- A talk at a clerk, seen without the store.
-use Rattle.{std.{specs.Prelude.⊤, proofs.lemmas.List.append-nil}, desk_catalogue.specs.claim.Audits.AskMay, desk_model.specs.claim.{Desk.Desk, Outcome.CommandMay, Step.step}}
-use Rattle.std.proofs.Common.{◌≡◌, ◌⊎◌, ◌≤◌, ◌<◌, ℕ, Bool, true, false, List, [], ◌++◌, Option, Result, Ok, Err, ◌+◌, inl, inr, ⊎_elim, refl, sym, subst, ◌∙◌, arith}
+-- A talk at a clerk, seen without the store; and what is known of a stream's life doesn't depend on how often the device failed before.
+use Rattle.{std.{specs.Prelude.⊤, proofs.lemmas.List.append-nil}, desk_catalogue.specs.claim.Audits.AskMay, desk_model.specs.claim.{Desk.Desk, Step.step}}
+use Rattle.std.proofs.Common.{◌≡◌, ◌⊎◌, ◌≤◌, ◌<◌, ℕ, Bool, true, false, List, [], Option, Result, Ok, Err, ◌+◌, inl, inr, ⊎_elim, refl, sym, ap, subst, ◌∙◌, arith}
 use Rattle.{desk_claim.specs.claim.Streams.{State, working, failed, shown_in, left_in, Takes, Looks, Ends, HasCause, ServedAs, Streamed}, desk_pages.specs.claim.Desks.OpensDesk}
 use Rattle.{desk_model.specs.declared.{command.{Command.Command, Query.Query}, reply.Reply.Reply}, desk_store.specs.claim.Commands.{Does, MustBeFull, MayBeFull}}
 use Rattle.{desk_store.specs.{claim.Clerks.{desk_of, disk_of, is_halted, pages_of, sectors_of, Keeps}, declared.clerk.Clerk.Clerk}, http_desk.specs.claim.Talk.{Talk, MayAnswer}}
@@ -11,7 +11,87 @@ use Rattle.store_lives.proofs.DeskLiving.{either, calm, halt, clash_of, left_wor
 use Rattle.http_desk.specs.http_routes.declared.order.Order.TheVariants as order
 use Rattle.http_desk.specs.declared.serve.StreamFault.TheVariants as fault
 
--- ---- what is known of the end is known before
+-- ---- talks in which a query leaves all as it is
+module _ {X : Type 0} (does : X → Command → Reply → X → Type 0) (asks : X → Query → Reply → X → Type 0) where
+  -- a short talk is one over a prefix
+  prefix_of : (x : X) (input output : List ℕ) (y : X) → IsShortTalk does asks x input output y → IsPrefixTalk does asks x input output y
+  prefix_of x input output y (inl talk) = record { prefix = input; unread = []; read = sym (append-nil input); count = talk.0; shut = false; talk = talk.1 }
+  prefix_of x input output y (inr cut) = record {
+    prefix = cut.taken;
+    unread = cut.rest;
+    read = cut.read;
+    count = cut.count + 0;
+    shut = false;
+    talk = rw (append-nil cut.taken, append-nil output) at (cut.on [] [] 0 false y (Talk.over y));
+  }
+
+  -- what is known of the end, and so before each command, is known of the beginning
+  module _ (quiet : (x : X) (q : Query) (r : Reply) (y : X) → asks x q r y → y ≡ x) (Good : X → Type 0) (back : (x : X) (c : Command) (r : Reply) (y : X) → does x c r y → Good y → Good x) where
+    may_good : (x : X) (o : Order) (closing head_only : Bool) (text : List ℕ) (shut : Bool) (y : X) → MayAnswer does asks x o closing head_only text shut y → Good y → Good x
+    may_good x (order.Command c) closing head_only text shut y may good = back x c may.0 y may.1 good
+    may_good x (order.Query q) closing head_only text shut y may good = subst Good (quiet x q may.0 y may.1) good
+    may_good x (order.Refused e) closing head_only text shut y may good = subst Good may.2 good
+
+    talk_good : (x : X) (input output : List ℕ) (n : ℕ) (shut : Bool) (z : X) → Talk does asks x input output n shut z → Good z → Good x
+    talk_good x _ _ _ _ _ (Talk.closed _ input h target body rest text y has may) good =
+        may_good x (order_of h.method target body) (closes_after h) (is_head h.method) text true y may good
+    talk_good x _ _ _ _ _ (Talk.went _ input h target body rest text y output n shut z has may talk) good =
+        may_good x (order_of h.method target body) (closes_after h) (is_head h.method) text false y may (talk_good y rest output n shut z talk good)
+    talk_good x _ _ _ _ _ _ good = good
+
+    prefix_good : (x : X) (input answers : List ℕ) (y : X) → IsPrefixTalk does asks x input answers y → Good y → Good x
+    prefix_good x input answers y f good = talk_good x f.prefix answers f.count f.shut y f.talk good
+
+    served_good : (x : X) (result : Result Served StreamFault) (left : Option (List ℕ)) (input output : List ℕ) (y : X) → ServesTo does asks x result left input output y → Good y → Good x
+    served_good x (Ok served) left input output y serves good = talk_good x input output served.requests serves.0 y serves.1 good
+    served_good x (Err fault.Read) left input output y serves good = prefix_good x input output y (prefix_of x input output y serves) good
+    served_good x (Err fault.TurnLimit) left input output y serves good = prefix_good x input output y (prefix_of x input output y serves) good
+    served_good x (Err fault.Write) left input output y serves good = prefix_good x input serves.answers y serves.over_prefix good
+    served_good x (Err fault.Memory) left input output y serves good = subst Good serves.2 good
+
+    -- seen as a state, as each command and each query is
+    module _ (t u : ℕ) (Sees : X → State → Type 0) (takes : (x : X) (s : State) (c : Command) (r : Reply) (y : X) → does x c r y → Good y → Sees x s → (end : State) × Takes t u s c r end × Sees y end) (looks : (x : X) (s : State) (q : Query) (r : Reply) (y : X) → asks x q r y → Sees x s → AskMay (shown_in s) q r) where
+      answered : (x : X) (s : State) (o : Order) (closing head_only : Bool) (text : List ℕ) (shut : Bool) (y : X) → MayAnswer does asks x o closing head_only text shut y → Good y → Sees x s
+          → (end : State) × MayAnswer (Takes t u) Looks s o closing head_only text shut end × Sees y end
+      answered x s (order.Command c) closing head_only text shut y may good sees =
+          let there = takes x s c may.0 y may.1 good sees in
+          (there.0, (may.0, there.1, may.2), there.2)
+      answered x s (order.Query q) closing head_only text shut y may good sees =
+          (s, (may.0, (looks x s q may.0 y may.1 sees, refl), may.2), rw (quiet x q may.0 y may.1) sees)
+      answered x s (order.Refused e) closing head_only text shut y may good sees = (s, (may.0, may.1, refl), rw may.2 sees)
+
+      talk_seen : (x : X) (input output : List ℕ) (m : ℕ) (shut : Bool) (z : X) → Talk does asks x input output m shut z → Good z → (s : State) → Sees x s
+          → (end : State) × Talk (Takes t u) Looks s input output m shut end × Sees z end
+      talk_seen x _ _ _ _ _ (Talk.over _) good s sees = (s, Talk.over s, sees)
+      talk_seen x _ _ _ _ _ (Talk.ended _ input interim cut line) good s sees = (s, Talk.ended s input interim cut line, sees)
+      talk_seen x _ _ _ _ _ (Talk.out_of_memory _ input interim head_only out_of_memory line) good s sees = (s, Talk.out_of_memory s input interim head_only out_of_memory line, sees)
+      talk_seen x _ _ _ _ _ (Talk.refused _ input interim f head_only has line) good s sees = (s, Talk.refused s input interim f head_only has line, sees)
+      talk_seen x _ _ _ _ _ (Talk.closed _ input h target body rest text y has may) good s sees =
+          let here = answered x s (order_of h.method target body) (closes_after h) (is_head h.method) text true y may good sees in
+          (here.0, Talk.closed s input h target body rest text here.0 has here.1, here.2)
+      talk_seen x _ _ _ _ _ (Talk.went _ input h target body rest text y output m shut z has may talk) good s sees =
+          let here = answered x s (order_of h.method target body) (closes_after h) (is_head h.method) text false y may (talk_good y rest output m shut z talk good) sees in
+          let later = talk_seen y rest output m shut z talk good here.0 here.2 in
+          (later.0, Talk.went s input h target body rest text here.0 output m shut later.0 has here.1 later.1, later.2)
+
+      prefix_seen : (x : X) (input answers : List ℕ) (y : X) → IsPrefixTalk does asks x input answers y → Good y → (s : State) → Sees x s → (end : State) × IsPrefixTalk (Takes t u) Looks s input answers end × Sees y end
+      prefix_seen x input answers y f good s sees =
+          let there = talk_seen x f.prefix answers f.count f.shut y f.talk good s sees in
+          (there.0, record { prefix = f.prefix; unread = f.unread; read = f.read; count = f.count; shut = f.shut; talk = there.1 }, there.2)
+
+      served_seen : (x : X) (result : Result Served StreamFault) (unread : Option (List ℕ)) (input output : List ℕ) (y : X) → ServesTo does asks x result unread input output y → Good y → (s : State) → Sees x s
+          → (end : State) × ServedAs t u s result unread input output end × Sees y end
+      served_seen x (Ok served) unread input output y serves good s sees =
+          let there = talk_seen x input output served.requests serves.0 y serves.1 good s sees in
+          (there.0, (serves.0, there.1, serves.2), there.2)
+      served_seen x (Err fault.Read) unread input output y serves good s sees = prefix_seen x input output y (prefix_of x input output y serves) good s sees
+      served_seen x (Err fault.TurnLimit) unread input output y serves good s sees = prefix_seen x input output y (prefix_of x input output y serves) good s sees
+      served_seen x (Err fault.Write) unread input output y serves good s sees =
+          let there = prefix_seen x input serves.answers y serves.over_prefix good s sees in
+          (there.0, record { answers = serves.answers; unwritten = serves.unwritten; written = serves.written; over_prefix = there.1 }, there.2)
+      served_seen x (Err fault.Memory) unread input output y serves good s sees = (s, (serves.0, serves.1, refl), rw serves.2 sees)
+
+-- ---- A talk at a clerk. The device of n sectors had failed t times before a life, and u times in its end, and then a stop leaves this image.
 module _ {D : Type 0} {g : Ghosts D} where
   -- what a clerk is at a counter: commands are done, and a query changes nothing
   abbrev DoesAtCounter : Clerk D g → Command → Reply → Clerk D g → Type 0
@@ -20,181 +100,58 @@ module _ {D : Type 0} {g : Ghosts D} where
   abbrev AsksAtCounter : Clerk D g → Query → Reply → Clerk D g → Type 0
   AsksAtCounter x q r y = AskMay (desk_of x) q r × (y ≡ x)
 
-  -- where a clerk has halted
-  record Stays (x y : Clerk D g) : Type 0 where
-    on : is_halted y ≡ true
-    leaves : (i : Image) → (disk_of y).leaves i → (disk_of x).leaves i
-    faults : (disk_of y).faults ≡ (disk_of x).faults
+  module _ (t u n : ℕ) (i : Image) where
+    -- where a clerk has halted nothing changes
+    abbrev Lasts : Clerk D g → Type 0
+    Lasts y = (disk_of y).is_honest × (is_halted y ≡ true → (disk_of y).leaves i × ((disk_of y).faults ≡ u))
 
-  record Before (x y : Clerk D g) : Type 0 where
-    sectors : sectors_of y ≡ sectors_of x
-    honest : (disk_of y).is_honest → (disk_of x).is_honest
-    halted : is_halted x ≡ true → Stays x y
+    lasted : (x : Clerk D g) (c : Command) (r : Reply) (y : Clerk D g) → Does x c r y → Lasts y → Lasts x
+    lasted x c r y does lasts = (does.moves.honest lasts.0, λ on. (let still = does.moves.still on in rw still.0 at (lasts.1 still.2)))
 
-  same : (x y : Clerk D g) → y ≡ x → Before x y
-  same x y is = record {
-    sectors = λ k. sectors_of (is k);
-    honest = λ honest. subst (λ (z : Clerk D g). (disk_of z).is_honest) is honest;
-    halted = λ on. record {
-      on = subst (λ (z : Clerk D g). is_halted z ≡ true) (sym is) on;
-      leaves = λ i left. subst (λ (z : Clerk D g). (disk_of z).leaves i) is left;
-      faults = λ k. (disk_of (is k)).faults;
-    };
-  }
+    -- a state as which a clerk is seen
+    abbrev Sees : Clerk D g → State → Type 0
+    Sees x (working d) = (is_halted x ≡ false) × Keeps x × (desk_of x ≡ d) × (sectors_of x ≡ n) × ((disk_of x).faults ≡ t)
+    Sees x (failed shown left) = (is_halted x ≡ true) × (desk_of x ≡ shown) × OpensDesk n left i × (t < (disk_of x).faults)
 
-  both : (x y z : Clerk D g) → Before x y → Before y z → Before x z
-  both x y z here later = record {
-    sectors = later.sectors ∙ here.sectors;
-    honest = λ honest. here.honest (later.honest honest);
-    halted = λ on.
-        (let first = here.halted on in
-        let next = later.halted first.on in
-        record { on = next.on; leaves = λ i left. first.leaves i (next.leaves i left); faults = next.faults ∙ first.faults });
-  }
+    shown_is : (x : Clerk D g) (s : State) → Sees x s → desk_of x ≡ shown_in s
+    shown_is x (working d) sees = sees.2
+    shown_is x (failed shown left) sees = sees.1
 
-  did : (x : Clerk D g) (c : Command) (r : Reply) (y : Clerk D g) → Does x c r y → Before x y
-  did x c r y does = record {
-    sectors = does.moves.sectors;
-    honest = does.moves.honest;
-    halted = λ on.
-        (let still = does.moves.still on in
-        record { on = still.2; leaves = λ i left. subst (λ j. (g.disk j.device).leaves i) still.0 left; faults = λ k. (g.disk (still.0 k).device).faults });
-  }
+    commanded : (x : Clerk D g) (s : State) (c : Command) (r : Reply) (y : Clerk D g) → Does x c r y → Lasts y → Sees x s → (end : State) × Takes t u s c r end × Sees y end
+    commanded x (failed shown left) c r y does lasts sees =
+        let still = does.moves.still sees.0 in
+        let ends = halt (MustBeFull x c) (MayBeFull x (pages_of y) c) (is_halted y ≡ true) (desk_of x) c r (desk_of y) still.2 does.outcome in
+        (failed (desk_of y) left, (ends.0, ends.1 ∙ sees.1, refl), (still.2, refl, sees.2, rw still.0 sees.3))
+    commanded x (working d) c r y does lasts sees = elim (either (is_halted y)) [
+      | inr works ↦ (
+          let may = calm (MustBeFull x c) (MayBeFull x (pages_of y) c) (is_halted y ≡ true) (desk_of x) c r (desk_of y) (λ on. clash_of (is_halted y) on works) does.outcome in
+          let seen : Sees y (working (desk_of y)) = (works, does.moves.keeps sees.1, refl, does.moves.sectors ∙ sees.3, does.moves.calm works lasts.0 ∙ sees.4) in
+          (working (desk_of y), rw sees.2 at may, seen))
+      | inl on ↦ (
+          let ends = halt (MustBeFull x c) (MayBeFull x (pages_of y) c) (is_halted y ≡ true) (desk_of x) c r (desk_of y) on does.outcome in
+          let rose : t < (disk_of y).faults = rw sees.4 at (does.moves.rose sees.1 sees.0 on lasts.0) in
+          let more : t < u = rw (lasts.1 on).1 at rose in
+          let fails : (e : Desk) → (e ≡ d) ⊎ (e ≡ (step d c).1) → OpensDesk (sectors_of x) e i → (end : State) × Takes t u (working d) c r end × Sees y end
+          = λ e is opens. (failed (desk_of y) e, (more, ends.0, ends.1 ∙ sees.2, is), (on, refl, rw sees.3 at opens, rose)) in
+          ⊎_elim
+          (λ opens. fails (desk_of x) (inl sees.2) opens)
+          (λ opens. fails (step (desk_of x) c).1 (inr (λ k. (step (sees.2 k) c).1)) opens)
+          (leaves_now _ _ _ (does.moves.any_moment sees.1 sees.0 lasts.0) i (lasts.1 on).0))
+    ]
 
-  was_before : (x : Clerk D g) (o : Order) (closing head_only : Bool) (text : List ℕ) (shut : Bool) (y : Clerk D g) → MayAnswer DoesAtCounter AsksAtCounter x o closing head_only text shut y → Before x y
-  was_before x (order.Command c) closing head_only text shut y may = did x c may.0 y may.1
-  was_before x (order.Query q) closing head_only text shut y may = same x y may.1.1
-  was_before x (order.Refused e) closing head_only text shut y may = same x y may.2
+    served_from : (x : Clerk D g) (d : Desk) (result : Result Served StreamFault) (unread : Option (List ℕ)) (input output : List ℕ) (y : Clerk D g) → ServesTo DoesAtCounter AsksAtCounter x result unread input output y
+        → Lasts y → Sees x (working d) → (end : State) × ServedAs t u (working d) result unread input output end × Sees y end
+    served_from x d result unread input output y serves lasts sees =
+        served_seen DoesAtCounter AsksAtCounter (λ x q r y asks. asks.1) Lasts lasted t u Sees commanded
+        (λ x s q r y asks sees. subst (λ (e : Desk). AskMay e q r) (shown_is x s sees) asks.0) x result unread input output y serves lasts (working d) sees
 
-  talk_before : (x : Clerk D g) (input output : List ℕ) (n : ℕ) (shut : Bool) (z : Clerk D g) → Talk DoesAtCounter AsksAtCounter x input output n shut z → Before x z
-  talk_before x _ _ _ _ _ (Talk.closed _ input h target body rest text y has may) =
-      was_before x (order_of h.method target body) (closes_after h) (is_head h.method) text true y may
-  talk_before x _ _ _ _ _ (Talk.went _ input h target body rest text y output n shut z has may talk) =
-      both x y z (was_before x (order_of h.method target body) (closes_after h) (is_head h.method) text false y may) (talk_before y rest output n shut z talk)
-  talk_before x _ _ _ _ _ _ = same x x refl
+    left_is : (y : Clerk D g) (s : State) → (disk_of y).is_honest → (disk_of y).leaves i → Sees y s → OpensDesk n (left_in s) i
+    left_is y (working d) honest left sees = rw (sees.2, sees.3) at (left_working (is_halted y) (sectors_of y) (desk_of y) i sees.0 (sees.1.left honest i left))
+    left_is y (failed shown left_desk) honest left sees = sees.2
 
-  -- a short talk is one over a prefix
-  prefix_of : (x : Clerk D g) (input output : List ℕ) (y : Clerk D g) → IsShortTalk DoesAtCounter AsksAtCounter x input output y → IsPrefixTalk DoesAtCounter AsksAtCounter x input output y
-  prefix_of x input output y short = ⊎_elim
-      (λ talk. record { prefix = input; unread = []; read = sym (append-nil input); count = talk.0; shut = false; talk = talk.1 })
-      (λ cut. record {
-        prefix = cut.taken;
-        unread = cut.rest;
-        read = cut.read;
-        count = cut.count + 0;
-        shut = false;
-        talk = subst (λ (l : List ℕ). Talk DoesAtCounter AsksAtCounter x l output (cut.count + 0) false y) (append-nil cut.taken)
-            (subst (λ (l : List ℕ). Talk DoesAtCounter AsksAtCounter x (cut.taken ++ []) l (cut.count + 0) false y) (append-nil output) (cut.on [] [] 0 false y (Talk.over y)));
-      })
-      short
-
-  prefix_before : (x : Clerk D g) (input answers : List ℕ) (y : Clerk D g) → IsPrefixTalk DoesAtCounter AsksAtCounter x input answers y → Before x y
-  prefix_before x input answers y f = talk_before x f.prefix answers f.count f.shut y f.talk
-
-  served_before : (x : Clerk D g) (result : Result Served StreamFault) (left : Option (List ℕ)) (input output : List ℕ) (y : Clerk D g) → ServesTo DoesAtCounter AsksAtCounter x result left input output y → Before x y
-  served_before x (Ok served) left input output y serves = talk_before x input output served.requests serves.0 y serves.1
-  served_before x (Err fault.Read) left input output y serves = prefix_before x input output y (prefix_of x input output y serves)
-  served_before x (Err fault.TurnLimit) left input output y serves = prefix_before x input output y (prefix_of x input output y serves)
-  served_before x (Err fault.Write) left input output y serves = prefix_before x input serves.answers y serves.over_prefix
-  served_before x (Err fault.Memory) left input output y serves = same x y serves.2
-
--- ---- The device of n sectors had failed t times before a life, and u times in its end, and then a stop leaves this image.
-module _ {D : Type 0} {g : Ghosts D} (t u n : ℕ) (i : Image) where
-  -- a state as which a clerk is seen
-  abbrev Sees : Clerk D g → State → Type 0
-  Sees x (working d) = (is_halted x ≡ false) × Keeps x × (desk_of x ≡ d) × (sectors_of x ≡ n) × ((disk_of x).faults ≡ t)
-  Sees x (failed shown left) = (is_halted x ≡ true) × (desk_of x ≡ shown) × OpensDesk n left i × (t < (disk_of x).faults)
-
-  -- what is known of a clerk that has halted, since nothing changes from then on
-  abbrev Lasts : Clerk D g → Type 0
-  Lasts y = is_halted y ≡ true → (disk_of y).leaves i × ((disk_of y).faults ≡ u)
-
-  record Seen (s : State) (o : Order) (closing head_only : Bool) (text : List ℕ) (shut : Bool) (y : Clerk D g) : Type 0 where
-    end : State
-    may : MayAnswer (Takes t u) Looks s o closing head_only text shut end
-    sees : Sees y end
-
-  commanded : (x : Clerk D g) (s : State) (c : Command) (r : Reply) (y : Clerk D g) → Does x c r y → (disk_of y).is_honest → Lasts y → Sees x s → (end : State) × Takes t u s c r end × Sees y end
-  commanded x (failed shown left) c r y does honest lasts sees =
-      let still = does.moves.still sees.0 in
-      let ends = halt (MustBeFull x c) (MayBeFull x (pages_of y) c) (is_halted y ≡ true) (desk_of x) c r (desk_of y) still.2 does.outcome in
-      (failed (desk_of y) left, (ends.0, ends.1 ∙ sees.1, refl), (still.2, refl, sees.2, subst (λ j. t < (g.disk j.device).faults) (sym still.0) sees.3))
-  commanded x (working d) c r y does honest lasts sees = elim (either (is_halted y)) [
-    | inr works ↦ (
-        let may = calm (MustBeFull x c) (MayBeFull x (pages_of y) c) (is_halted y ≡ true) (desk_of x) c r (desk_of y) (λ on. clash_of (is_halted y) on works) does.outcome in (
-          working (desk_of y),
-          subst (λ (e : Desk). CommandMay ⊥ ⊤ ⊥ e c r (desk_of y)) sees.2 may,
-          (works, does.moves.keeps sees.1, refl, does.moves.sectors ∙ sees.3, does.moves.calm works honest ∙ sees.4),
-        ))
-    | inl on ↦ (
-        let ends = halt (MustBeFull x c) (MayBeFull x (pages_of y) c) (is_halted y ≡ true) (desk_of x) c r (desk_of y) on does.outcome in
-        let moments = does.moves.any_moment sees.1 sees.0 honest in
-        let rose : t < (disk_of y).faults = subst (λ (k : ℕ). k < (disk_of y).faults) sees.4 (does.moves.rose sees.1 sees.0 on honest) in
-        let more : t < u = subst (λ (k : ℕ). t < k) (lasts on).1 rose in
-        ⊎_elim
-        (λ opens. (failed (desk_of y) (desk_of x), (more, ends.0, ends.1 ∙ sees.2, inl sees.2), (on, refl, subst (λ (s : ℕ). OpensDesk s (desk_of x) i) sees.3 opens, rose)))
-        (λ opens. (failed (desk_of y) (step (desk_of x) c).1, (more, ends.0, ends.1 ∙ sees.2, inr (λ k. (step (sees.2 k) c).1)), (on, refl, subst (λ (s : ℕ). OpensDesk s (step (desk_of x) c).1 i) sees.3 opens, rose)))
-        (leaves_now (λ (i : Image). OpensDesk (sectors_of x) (desk_of x) i ⊎ OpensDesk (sectors_of x) (step (desk_of x) c).1 i) (disk_of x) (disk_of y) moments i (lasts on).0)
-        )
-  ]
-
-  shown_is : (x : Clerk D g) (s : State) → Sees x s → desk_of x ≡ shown_in s
-  shown_is x (working d) sees = sees.2
-  shown_is x (failed shown left) sees = sees.1
-
-  answered : (x : Clerk D g) (s : State) (o : Order) (closing head_only : Bool) (text : List ℕ) (shut : Bool) (y : Clerk D g) → MayAnswer DoesAtCounter AsksAtCounter x o closing head_only text shut y
-      → (disk_of y).is_honest → Lasts y → Sees x s → Seen s o closing head_only text shut y
-  answered x s (order.Command c) closing head_only text shut y may honest lasts sees =
-      let there = commanded x s c may.0 y may.1 honest lasts sees in
-      record { end = there.0; may = (may.0, there.1, may.2); sees = there.2 }
-  answered x s (order.Query q) closing head_only text shut y may honest lasts sees =
-      record { end = s; may = (may.0, (subst (λ (e : Desk). AskMay e q may.0) (shown_is x s sees) may.1.0, refl), may.2); sees = subst (λ (z : Clerk D g). Sees z s) (sym may.1.1) sees }
-  answered x s (order.Refused e) closing head_only text shut y may honest lasts sees =
-      record { end = s; may = (may.0, may.1, refl); sees = subst (λ (z : Clerk D g). Sees z s) (sym may.2) sees }
-
-  seen_talk : (x : Clerk D g) (input output : List ℕ) (m : ℕ) (shut : Bool) (z : Clerk D g) → Talk DoesAtCounter AsksAtCounter x input output m shut z
-      → (s : State) → (disk_of z).is_honest → (disk_of z).leaves i → (disk_of z).faults ≡ u → Sees x s → (end : State) × Talk (Takes t u) Looks s input output m shut end × Sees z end
-  seen_talk x _ _ _ _ _ (Talk.over _) s honest left count sees = (s, Talk.over s, sees)
-  seen_talk x _ _ _ _ _ (Talk.ended _ input interim cut line) s honest left count sees = (s, Talk.ended s input interim cut line, sees)
-  seen_talk x _ _ _ _ _ (Talk.out_of_memory _ input interim head_only out_of_memory line) s honest left count sees = (s, Talk.out_of_memory s input interim head_only out_of_memory line, sees)
-  seen_talk x _ _ _ _ _ (Talk.refused _ input interim f head_only has line) s honest left count sees = (s, Talk.refused s input interim f head_only has line, sees)
-  seen_talk x _ _ _ _ _ (Talk.closed _ input h target body rest text y has may) s honest left count sees =
-      let here = answered x s (order_of h.method target body) (closes_after h) (is_head h.method) text true y may honest (λ on. (left, count)) sees in
-      (here.end, Talk.closed s input h target body rest text here.end has here.may, here.sees)
-  seen_talk x _ _ _ _ _ (Talk.went _ input h target body rest text y output m shut z has may talk) s honest left count sees =
-      let before = talk_before y rest output m shut z talk in
-      let lasts : Lasts y = λ on. ((before.halted on).leaves i left, sym (before.halted on).faults ∙ count) in
-      let here = answered x s (order_of h.method target body) (closes_after h) (is_head h.method) text false y may (before.honest honest) lasts sees in
-      let later = seen_talk y rest output m shut z talk here.end honest left count here.sees in
-      (later.0, Talk.went s input h target body rest text here.end output m shut later.0 has here.may later.1, later.2)
-
-  prefix_seen : (x : Clerk D g) (input answers : List ℕ) (y : Clerk D g) → IsPrefixTalk DoesAtCounter AsksAtCounter x input answers y
-      → (s : State) → (disk_of y).is_honest → (disk_of y).leaves i → (disk_of y).faults ≡ u → Sees x s → (end : State) × IsPrefixTalk (Takes t u) Looks s input answers end × Sees y end
-  prefix_seen x input answers y f s honest left count sees =
-      let there = seen_talk x f.prefix answers f.count f.shut y f.talk s honest left count sees in
-      (there.0, record { prefix = f.prefix; unread = f.unread; read = f.read; count = f.count; shut = f.shut; talk = there.1 }, there.2)
-
-  served_seen : (x : Clerk D g) (result : Result Served StreamFault) (unread : Option (List ℕ)) (input output : List ℕ) (y : Clerk D g) → ServesTo DoesAtCounter AsksAtCounter x result unread input output y
-      → (s : State) → (disk_of y).is_honest → (disk_of y).leaves i → (disk_of y).faults ≡ u → Sees x s → (end : State) × ServedAs t u s result unread input output end × Sees y end
-  served_seen x (Ok served) unread input output y serves s honest left count sees =
-      let there = seen_talk x input output served.requests serves.0 y serves.1 s honest left count sees in
-      (there.0, (serves.0, there.1, serves.2), there.2)
-  served_seen x (Err fault.Read) unread input output y serves s honest left count sees = prefix_seen x input output y (prefix_of x input output y serves) s honest left count sees
-  served_seen x (Err fault.TurnLimit) unread input output y serves s honest left count sees = prefix_seen x input output y (prefix_of x input output y serves) s honest left count sees
-  served_seen x (Err fault.Write) unread input output y serves s honest left count sees =
-      let there = prefix_seen x input serves.answers y serves.over_prefix s honest left count sees in
-      (there.0, record { answers = serves.answers; unwritten = serves.unwritten; written = serves.written; over_prefix = there.1 }, there.2)
-  served_seen x (Err fault.Memory) unread input output y serves s honest left count sees =
-      (s, (serves.0, serves.1, refl), subst (λ (z : Clerk D g). Sees z s) (sym serves.2) sees)
-
-  left_is : (y : Clerk D g) (s : State) → (disk_of y).is_honest → (disk_of y).leaves i → Sees y s → OpensDesk n (left_in s) i
-  left_is y (working d) honest left sees =
-      subst (λ (e : Desk). OpensDesk n e i) sees.2 (subst (λ (s : ℕ). OpensDesk s (desk_of y) i) sees.3 (left_working (is_halted y) (sectors_of y) (desk_of y) i sees.0 (sees.1.left honest i left)))
-  left_is y (failed shown left_desk) honest left sees = sees.2
-
-  no_less : (y : Clerk D g) (s : State) → Sees y s → t ≤ (disk_of y).faults
-  no_less y (working d) sees = let same = sees.4 in omega (arith, same)
-  no_less y (failed shown left) sees = let more = sees.3 in omega (arith, more)
+    no_less : (y : Clerk D g) (s : State) → Sees y s → t ≤ (disk_of y).faults
+    no_less y (working d) sees = let same = sees.4 in omega (arith, same)
+    no_less y (failed shown left) sees = let more = sees.3 in omega (arith, more)
 
 -- a clerk that served a stream
 pub stream_lived : {D : Type 0} {g : Ghosts D} → (x y : Clerk D g) (old new : Ends) (served : Result Served StreamFault) → Serves DoesAtCounter AsksAtCounter x served y old.unread new.unread old.written new.written → HasCause old new served
@@ -203,17 +160,17 @@ stream_lived {D} {g} x y old new served serves cause =
     let t = (disk_of x).faults in
     let u = (disk_of y).faults in
     let n = sectors_of x in
-    let before = served_before x served new.unread serves.0 serves.1 y serves.4 in
+    let now = (disk_of y).reads in
+    let known : (Good : Clerk D g → Type 0) → ((a : Clerk D g) (c : Command) (r : Reply) (b : Clerk D g) → Does a c r b → Good b → Good a) → Good y → Good x
+    = λ Good back. served_good DoesAtCounter AsksAtCounter (λ a q r b asks. asks.1) Good back x served new.unread serves.0 serves.1 y serves.4 in
     let seen : ((i : Image) → Keeps x → is_halted x ≡ false → (disk_of y).is_honest → (disk_of y).leaves i
     → (end : State) × ServedAs t u (working (desk_of x)) served new.unread serves.0 serves.1 end × Sees t u n i y end)
-    = λ i keeps off honest left. served_seen t u n i x served new.unread serves.0 serves.1 y serves.4 (working (desk_of x)) honest left refl (off, keeps, refl, refl, refl) in
+    = λ i keeps off honest left.
+    served_from t u n i x (desk_of x) served new.unread serves.0 serves.1 y serves.4 (honest, λ on. (left, refl)) (off, keeps, refl, refl, refl) in
     record {
-      sectors = before.sectors;
-      honest = before.honest;
-      faults = λ keeps off honest.
-          (let i = (disk_of y).reads in
-          let there = seen i keeps off honest (disk_of y).as_read in
-          no_less t u n i y there.0 there.2);
+      sectors = sym (known (λ z. sectors_of z ≡ sectors_of y) (λ a c r b does same. sym does.moves.sectors ∙ same) refl);
+      honest = λ honest. (known (Lasts t u n now) (lasted t u n now) (honest, λ on. ((disk_of y).as_read, refl))).0;
+      faults = λ keeps off honest. (let there = seen now keeps off honest (disk_of y).as_read in no_less t u n now y there.0 there.2);
       lived = λ keeps off honest i left.
           (let there = seen i keeps off honest left in (
             left_in there.0,
@@ -221,3 +178,42 @@ stream_lived {D} {g} x y old new served serves cause =
             left_is t u n i y there.0 honest left there.2,
           ));
     }
+
+-- ---- a stream's life, however often the device failed before
+module _ (t u s v : ℕ) (more : t < u → s < v) where
+  takes_later : (x : State) (c : Command) (r : Reply) (y : State) → Takes t u x c r y → Takes s v x c r y
+  takes_later (working d) c r (failed shown left) is = (more is.0, is.1, is.2, is.3)
+  takes_later (failed d e) c r (working next) is = is
+  takes_later _ c r _ is = is
+
+  takes_as : (a b : State) (c : Command) (r : Reply) (y : State) → Takes t u a c r y → ⊤ → a ≡ b → (end : State) × Takes s v b c r end × (y ≡ end)
+  takes_as a b c r y is good same = (y, subst (λ (x : State). Takes s v x c r y) same (takes_later a c r y is), refl)
+
+  looks_as : (a b : State) (q : Query) (r : Reply) (y : State) → Looks a q r y → a ≡ b → AskMay (shown_in b) q r
+  looks_as a b q r y is same = subst (λ (x : State). AskMay (shown_in x) q r) same is.0
+
+  talk_later : (x : State) (input output : List ℕ) (n : ℕ) (shut : Bool) (y : State) → Talk (Takes t u) Looks x input output n shut y → (end : State) × Talk (Takes s v) Looks x input output n shut end × (y ≡ end)
+  talk_later x input output n shut y talk =
+      talk_seen (Takes t u) Looks (λ a q r b is. is.1) (λ a. ⊤) (λ a c r b is good. tt) s v (λ a b. a ≡ b) takes_as looks_as x input output n shut y talk tt x refl
+
+  prefix_later : (x : State) (input answers : List ℕ) (y : State) → IsPrefixTalk (Takes t u) Looks x input answers y → (end : State) × IsPrefixTalk (Takes s v) Looks x input answers end × (y ≡ end)
+  prefix_later x input answers y f =
+      let there = talk_later x f.prefix answers f.count f.shut y f.talk in
+      (there.0, record { prefix = f.prefix; unread = f.unread; read = f.read; count = f.count; shut = f.shut; talk = there.1 }, there.2)
+
+  served_later : (x : State) (served : Result Served StreamFault) (left : Option (List ℕ)) (input output : List ℕ) (y : State) → ServedAs t u x served left input output y → (end : State) × ServedAs s v x served left input output end × (y ≡ end)
+  served_later x (Ok served) left input output y is =
+      let there = talk_later x input output served.requests is.0 y is.1 in
+      (there.0, (is.0, there.1, is.2), there.2)
+  served_later x (Err fault.Read) left input output y is = prefix_later x input output y is
+  served_later x (Err fault.TurnLimit) left input output y is = prefix_later x input output y is
+  served_later x (Err fault.Write) left input output y is =
+      let there = prefix_later x input is.answers y is.over_prefix in
+      (there.0, record { answers = is.answers; unwritten = is.unwritten; written = is.written; over_prefix = there.1 }, there.2)
+  served_later x (Err fault.Memory) left input output y is = (y, is, refl)
+
+  pub streamed_later : (d : Desk) (old new : Ends) (served : Result Served StreamFault) (e : Desk) → Streamed t u d old new served e → Streamed s v d old new served e
+  streamed_later d old new served e is =
+      let there = served_later (working d) served new.unread is.input is.output is.end is.talk in
+      let left = ap left_in (sym there.2) ∙ is.left in
+      record { input = is.input; output = is.output; reads = is.reads; writes = is.writes; cause = is.cause; end = there.0; talk = there.1; left = left }

@@ -30,17 +30,9 @@ module _ (t u : ℕ) where
   taken_first : (s : State) (c : Command) (r : Reply) (next : State) (all : List Exchange) (e : Desk) → Takes t u s c r next → Goes next all e → Goes s ((Change c, Said r) ∷ all) e
   taken_first (working d) c r (working next) all e is goes = inl (r, next, refl, is, goes)
   taken_first (working d) c r (failed shown left) all e is goes =
-      inr (
-        is.0,
-        (λ i. Said (is.1 i)),
-        (
-          subst (λ (x : Desk). Failed x (asks_in all) (tells_in all)) is.2 goes.0,
-          ⊎_elim (λ same. inl (goes.1 ∙ same)) (λ same. inr (goes.1 ∙ same)) is.3,
-        ),
-      )
+      inr (is.0, (λ i. Said (is.1 i)), (rw is.2 at goes.0, ⊎_elim (λ same. inl (goes.1 ∙ same)) (λ same. inr (goes.1 ∙ same)) is.3))
   taken_first (failed d x) c r (working next) all e is goes = absurd is
-  taken_first (failed d x) c r (failed shown left) all e is goes =
-      (((λ i. Said (is.0 i)), subst (λ (y : Desk). Failed y (asks_in all) (tells_in all)) is.1 goes.0), goes.1 ∙ is.2)
+  taken_first (failed d x) c r (failed shown left) all e is goes = (((λ i. Said (is.0 i)), rw is.1 at goes.0), goes.1 ∙ is.2)
 
   looked_first : (s : State) (q : Query) (r : Reply) (all : List Exchange) (e : Desk) → AskMay (shown_in s) q r → Goes s all e → Goes s ((Look q, Said r) ∷ all) e
   looked_first (working d) q r all e may goes = (r, refl, may, goes)
@@ -55,8 +47,7 @@ module _ (t u : ℕ) where
 
   -- the last one
   one_last : (s : State) (o : Order) (closing head_only : Bool) (text : List ℕ) (shut : Bool) (y : State) (may : MayAnswer (Takes t u) Looks s o closing head_only text shut y) → Goes s (exchange_of t u s o closing head_only text shut y may) (left_in y)
-  one_last s o closing head_only text shut y may =
-      subst (λ (all : List Exchange). Goes s all (left_in y)) (append-nil (exchange_of t u s o closing head_only text shut y may)) (one_first s o closing head_only text shut y may [] (left_in y) (stays y))
+  one_last s o closing head_only text shut y may = rw append-nil at (one_first s o closing head_only text shut y may [] (left_in y) (stays y))
 
   talk_goes : (s : State) (input output : List ℕ) (m : ℕ) (shut : Bool) (z : State) (talk : Talk (Takes t u) Looks s input output m shut z) → Goes s (exchanges_of t u s input output m shut z talk) (left_in z)
   talk_goes s _ _ _ _ _ (Talk.closed _ input h target body rest text y has may) =

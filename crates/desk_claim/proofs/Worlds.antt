@@ -1,9 +1,9 @@
 -- What each step does to a world.
-use Rattle.std.proofs.Common.{◌≡◌, ℕ, zero, suc, ◌-◌, ◌≤◌, ◌<◌, ◌==◌, ◌&&◌, if◌then◌else◌, nat_le, nat_lt, max, Bool, true, false, List, [], ◌∷◌, ◌++◌, length, take, map, get_or, replicate, slice_get, slice_set, Some, refl, sym, ap, ◌∙◌, subst, arith, length-append}
-use Rattle.{std.proofs.lemmas.{Bool.Decides.nat_tests, List.{take_all, take-map, length-map}, Simd.splat_is_map}, desk_catalogue.specs.claim.Accepting.IsAfter}
-use Rattle.desk_claim.specs.{Steps.{Follow, IsChanged}, claim.{Law.IsOrdered, World.{World, world, after, accepts, learnt, move}}, declared.world.WorldChange.WorldChange}
-use Rattle.{desk_claim.specs.declared.event.Event.TheVariants.{Commit, Acknowledge, Learn, Stop}, desk_model.specs.{claim.{Desk.Desk, Step.step}, declared.command.Command.Command}}
-use Rattle.desk_claim.proofs.Core.{moved_ordered}
+use Rattle.std.proofs.Common.{◌≡◌, ℕ, zero, suc, ◌-◌, ◌≤◌, ◌<◌, if◌then◌else◌, nat_lt, max, Bool, true, false, List, [], ◌∷◌, ◌++◌, length, take, map, get_or, replicate, slice_get, slice_set, Some, refl, sym, ap, ◌∙◌, subst, arith, length-append, le-leb, ne_eqb}
+use Rattle.std.proofs.lemmas.{Bool.{cond_both, Decides.nat_tests}, List.{take_all, take-map, length-map}, Option.slice_get_read, Simd.splat_is_map}
+use Rattle.{desk_catalogue.specs.claim.Accepting.IsAfter, desk_claim.specs.{Steps.{Follow, IsChanged}, claim.{Law.IsOrdered, World.{World, world, after, move}}}}
+use Rattle.{desk_claim.specs.declared.{event.Event.TheVariants.{Commit, Acknowledge, Learn, Stop}, world.WorldChange.WorldChange}, desk_model.specs.claim.{Desk.Desk, Step.step}}
+use Rattle.desk_model.specs.declared.command.Command.{Command}
 
 -- the catalogue of a change is the desk after the commands up to it
 pub followed : (d : Desk) (cs : List WorldChange) (n : ℕ) (x : WorldChange) → Follow d cs → n < length cs → (get_or cs n x).catalogue.value ≡ after d (take (suc n) (map (λ c. c.command) cs))
@@ -18,35 +18,25 @@ follow_more d (x ∷ xs) c f is = (f.0, follow_more x.catalogue.value xs c f.1 (
 
 -- fewer changes
 pub follow_prefix : (d : Desk) (cs : List WorldChange) (n : ℕ) → Follow d cs → Follow d (take n cs)
-follow_prefix d [] zero f = tt
-follow_prefix d [] (suc n) f = tt
-follow_prefix d (c ∷ cs) zero f = tt
 follow_prefix d (c ∷ cs) (suc n) f = (f.0, follow_prefix c.catalogue.value cs n f.1)
+follow_prefix d [] (suc n) f = tt
+follow_prefix d _ _ f = tt
 
 -- the catalogue after so many changes, which isn't none
 pub catalogued : (d : Desk) (cs : List WorldChange) (n : ℕ) (x : WorldChange) → Follow d cs → (n ≡ 0 → ⊥) → n ≤ length (map (λ c. c.command) cs) → (get_or cs (n - 1) x).catalogue.value ≡ after d (take n (map (λ c. c.command) cs))
 catalogued d cs zero x f some le = absurd (some refl)
 catalogued d cs (suc n) x f some le =
     let e : suc n - 1 ≡ n = omega arith in
-    let less : n < length cs = omega (arith, le, length-map cs (λ c. c.command)) in
-    subst (λ k. (get_or cs k x).catalogue.value ≡ after d (take (suc n) (map (λ c. c.command) cs))) (sym e) (followed d cs n x f less)
-
--- what is taken away by a stop
-pub stop_moves : (d : Desk) (w : World) (kept : ℕ) → w.acknowledged ≤ kept → kept ≤ length w.changes → move d w (Stop kept) ≡ world (take kept w.changes) kept kept (map (λ _. 0) w.views)
-stop_moves d w kept low high =
-    let is : (nat_le w.acknowledged kept && nat_le kept (length w.changes)) ≡ true = ap (λ b. b && nat_le kept (length w.changes)) (tested w.acknowledged kept low) ∙ tested kept (length w.changes) high in
-    ap (λ b. if b then world (take kept w.changes) kept kept (map (λ _. 0) w.views) else w) is where
-      tested : (a b : ℕ) → a ≤ b → nat_le a b ≡ true
-      tested a b le = grind (arith, nat_tests)
-
-pub stop_ordered : (d : Desk) (w : World) (kept : ℕ) → IsOrdered w → w.acknowledged ≤ kept → kept ≤ length w.changes → IsOrdered (world (take kept w.changes) kept kept (map (λ _. 0) w.views))
-stop_ordered d w kept o low high = subst IsOrdered (stop_moves d w kept low high) (moved_ordered d w (Stop kept) o)
+    subst (λ k. (get_or cs k x).catalogue.value ≡ after d (take (suc n) (map (λ c. c.command) cs))) (sym e)
+    (followed d cs n x f (omega (arith, le, length-map cs (λ c. c.command))))
 
 -- the world that a stop leaves, as it is kept
-pub stopped : (cs left : List WorldChange) (views new : List ℕ) (kept : ℕ) → left ≡ take kept cs → new ≡ replicate (length views) 0 → world (map (λ c. c.command) left) kept kept new ≡ world (take kept (map (λ c. c.command) cs)) kept kept (map (λ _. 0) views)
-stopped cs left views new kept l n =
-    let e : map (λ c. c.command) left ≡ take kept (map (λ c. c.command) cs) = ap (map (λ c. c.command)) l ∙ sym (take-map (λ c. c.command) kept cs) in
-    ap (λ ys. world ys kept kept new) e ∙ ap (world (take kept (map (λ c. c.command) cs)) kept kept) (n ∙ splat_is_map views (length views) 0 refl)
+pub stopped_to : (d : Desk) (cs left : List WorldChange) (a s kept : ℕ) (views new : List ℕ) → left ≡ take kept cs → new ≡ replicate (length views) 0 → a ≤ kept → kept ≤ length (map (λ c. c.command) cs)
+    → world (map (λ c. c.command) left) kept kept new ≡ move d (world (map (λ c. c.command) cs) a s views) (Stop kept)
+stopped_to d cs left a s kept views new l n low high =
+    let changes : map (λ c. c.command) left ≡ take kept (map (λ c. c.command) cs) = ap (map (λ c. c.command)) l ∙ sym (take-map (λ c. c.command) kept cs) in
+    rw (le-leb a kept low, le-leb kept (length (map (λ c. c.command) cs)) high)
+    (λ i. world (changes i) kept kept ((n ∙ splat_is_map views (length views) 0 refl) i))
 
 -- one change more
 pub more_ordered : (d : Desk) (cs : List WorldChange) (c : WorldChange) (a s : ℕ) (views : List ℕ) → IsOrdered (world (map (λ x. x.command) cs) a s views) → IsOrdered (world (map (λ x. x.command) (cs ++ c ∷ [])) a s views)
@@ -56,14 +46,12 @@ more_ordered d cs c a s views o = record { views = o.views; shown = o.shown; ack
 pub joined : (d : Desk) (cs new : List WorldChange) (c : WorldChange) (a s : ℕ) (views : List ℕ) (b : Bool) → new ≡ (if b then cs ++ c ∷ [] else cs) → Follow d cs
     → IsOrdered (world (map (λ x. x.command) cs) a s views) → c.catalogue.value ≡ (step (after d (map (λ x. x.command) cs)) c.command).1
     → Follow d new × IsOrdered (world (map (λ x. x.command) new) a s views)
-joined d cs new c a s views true is f o next = subst (λ ys. Follow d ys × IsOrdered (world (map (λ x. x.command) ys) a s views)) (sym is) (follow_more d cs c f next, more_ordered d cs c a s views o)
-joined d cs new c a s views false is f o next = subst (λ ys. Follow d ys × IsOrdered (world (map (λ x. x.command) ys) a s views)) (sym is) (f, o)
+joined d cs new c a s views true is f o next = rw is (follow_more d cs c f next, more_ordered d cs c a s views o)
+joined d cs new c a s views false is f o next = rw is (f, o)
 
 -- a commit that isn't possible changes nothing
 pub not_shown : (d : Desk) (w : World) (c : Command) → (w.shown ≡ length w.changes → ⊥) → w ≡ move d w (Commit c)
-not_shown d w c other =
-    let test : (w.shown == length w.changes) ≡ false = grind (arith, nat_tests) in
-    sym (ap (λ b. if b && accepts (step (after d w.changes) c).0 then world (w.changes ++ c ∷ []) w.acknowledged w.shown w.views else w) test)
+not_shown d w c other = rw (ne_eqb w.shown (length w.changes) other) refl
 
 -- the catalogue after a commit, of one after all changes
 pub changed_to : (d : Desk) (w : World) (c : Command) (n : ℕ) (before mid new : Desk) → n ≡ length w.changes → w.shown ≡ length w.changes → before ≡ after d (take n w.changes) → IsAfter before c mid → new ≡ mid → IsChanged d w c new
@@ -71,20 +59,17 @@ changed_to d w c n before mid new all shown was is same =
     let desk : before ≡ after d w.changes = was ∙ ap (λ l. after d l) (take_all n w.changes (omega (arith, all))) in
     record { shown = shown; accepted = ap (λ e. (step e c).0) (sym desk) ∙ is.reply; desk = same ∙ (is.desk ∙ ap (λ e. (step e c).1) desk) }
 
-chosen : (b : Bool) (x y z : World) → (b ≡ true → z ≡ x) → (b ≡ false → z ≡ y) → z ≡ (if b then x else y)
-chosen true x y z p q = p refl
-chosen false x y z p q = q refl
-
 -- each change is acknowledged
 pub acknowledged_to : (d : Desk) (w : World) (n : ℕ) → n ≡ length w.changes → w.acknowledged ≤ length w.changes → world w.changes n w.shown w.views ≡ move d w Acknowledge
-acknowledged_to d w n all few = chosen (nat_lt w.acknowledged (length w.changes)) (world w.changes (length w.changes) w.shown w.views) w (world w.changes n w.shown w.views)
-    (λ _. ap (λ k. world w.changes k w.shown w.views) all)
+acknowledged_to d w n all few = cond_both (nat_lt w.acknowledged (length w.changes)) (world w.changes (length w.changes) w.shown w.views) w
+    (λ x. world w.changes n w.shown w.views ≡ x) (λ _. ap (λ k. world w.changes k w.shown w.views) all)
     (λ is. (let same : n ≡ w.acknowledged = grind (arith, nat_tests) in ap (λ k. world w.changes k w.shown w.views) same))
 
 -- a visitor is told of no more than is shown
 pub learnt_to : (d : Desk) (w : World) (i told known new : ℕ) → told ≤ w.shown → slice_get w.views i ≡ Some known → new ≡ max known told → world w.changes w.acknowledged w.shown (slice_set w.views i new) ≡ move d w (Learn i told)
-learnt_to d w i told known new few is larger =
-    let test : nat_le told w.shown ≡ true = grind (arith, nat_tests) in
-    ap (λ k. world w.changes w.acknowledged w.shown (slice_set w.views i k)) larger
-    ∙ (ap (λ o. world w.changes w.acknowledged w.shown (learnt w.views i o told)) (sym is)
-    ∙ sym (ap (λ b. if b then world w.changes w.acknowledged w.shown (learnt w.views i (slice_get w.views i) told) else w) test))
+learnt_to d w i told known new few is larger = rw (le-leb told w.shown few, is, larger) refl
+
+-- the same of what is read among so many
+pub learnt_read : (d : Desk) (w : World) (i told len known new : ℕ) → told ≤ w.shown → i < len → len ≡ length w.views → known ≡ get_or w.views i known → new ≡ max known told
+    → world w.changes w.acknowledged w.shown (slice_set w.views i new) ≡ move d w (Learn i told)
+learnt_read d w i told len known new few there whole is larger = learnt_to d w i told known new few (slice_get_read w.views len i known whole there is) larger

@@ -9,6 +9,7 @@ use http_connections::arrivals::Arrivals;
 use http_desk::GatherSink;
 
 /// Where a store is asked in each life, by requests, by a stream or by those who come to an office, one desk lives on and answers.
+#[tactic(auto, using(crate::proofs::Alone::asked_law))]
 pub fn asked_lives<R: Source, W: GatherSink, A: Arrivals>()
     ensures { (workers : ℕ) → AskedLaw
         (λ r w. record { unread = R.remaining r; turns = R.turns r; failed_reads = R.failures r; written = W.contents w; failed_writes = W.failures w })

@@ -1,42 +1,35 @@
 -- Chains of entries.
-use Rattle.std.proofs.Common.{Option, ◌≡◌, ◌≢◌, ℕ, ◌==◌, if◌then◌else◌, Bool, true, false, List, [], ◌∷◌, ◌++◌, refl, sym, ap, ◌∙◌, subst, arith, append_assoc}
-use Rattle.{std.proofs.lemmas.{Bool.Decides.nat_tests, List.{append-nil, Elements.{All-head, All-tail}}}, desk_gallery.specs.Rules.{key_after, chained, NoneBy}}
-use Rattle.{desk_gallery.specs.declared.book.LogEntry.LogEntry, desk_model.specs.declared.command.Command.Command}
+use Rattle.std.proofs.{Common.{Option, ◌≡◌, ◌≢◌, ℕ, ◌==◌, false, List, [], ◌∷◌, ◌++◌, inl, inr, refl, sym, ap, ◌∙◌, subst, append_assoc}, lemmas.Bool.{cases_Bool, eq-eqb, ne_eqb}}
+use Rattle.{std.proofs.lemmas.List.{append-nil, Elements.{All-head, All-tail}}, desk_gallery.specs.{Rules.{key_after, chained, NoneBy}, declared.book.LogEntry.LogEntry}}
+use Rattle.desk_model.specs.declared.command.Command.{Command}
 use mathlib.Core.List.{IsPrefix}
 
 -- a chain goes on after a beginning
 pub chained_on : (k : ℕ) (xs ys : List LogEntry) → chained k (xs ++ ys) ≡ chained k xs ++ chained (key_after k xs) ys
 chained_on k [] ys = refl
-chained_on k (e ∷ xs) ys = by_key (chained_on e.next xs ys) (chained_on k xs ys) (e.by == k)
-  where
-    by_key : chained e.next (xs ++ ys) ≡ chained e.next xs ++ chained (key_after e.next xs) ys → chained k (xs ++ ys) ≡ chained k xs ++ chained (key_after k xs) ys → (b : Bool) → (if b then e.what ∷ chained e.next (xs ++ ys) else chained k (xs ++ ys)) ≡ (if b then e.what ∷ chained e.next xs else chained k xs) ++ chained (if b then key_after e.next xs else key_after k xs) ys
-    by_key on off true = ap (λ (l : List (Option Command)). e.what ∷ l) on
-    by_key on off false = off
+chained_on k (e ∷ xs) ys = elim (cases_Bool (e.by == k)) [
+  | inl on ↦ rw on (ap (λ (l : List (Option Command)). e.what ∷ l) (chained_on e.next xs ys))
+  | inr off ↦ rw off (chained_on k xs ys)
+]
 
 pub key_on : (k : ℕ) (xs ys : List LogEntry) → key_after k (xs ++ ys) ≡ key_after (key_after k xs) ys
 key_on k [] ys = refl
-key_on k (e ∷ xs) ys = by_key (key_on e.next xs ys) (key_on k xs ys) (e.by == k)
-  where
-    by_key : key_after e.next (xs ++ ys) ≡ key_after (key_after e.next xs) ys → key_after k (xs ++ ys) ≡ key_after (key_after k xs) ys → (b : Bool) → (if b then key_after e.next (xs ++ ys) else key_after k (xs ++ ys)) ≡ key_after (if b then key_after e.next xs else key_after k xs) ys
-    by_key on off true = on
-    by_key on off false = off
+key_on k (e ∷ xs) ys = elim (cases_Bool (e.by == k)) [
+  | inl on ↦ rw on (key_on e.next xs ys)
+  | inr off ↦ rw off (key_on k xs ys)
+]
 
 -- where no entry uses up the key, none follows
+not_by : (k : ℕ) (e : LogEntry) (xs : List LogEntry) → NoneBy k (e ∷ xs) → (e.by == k) ≡ false
+not_by k e xs none = ne_eqb e.by k (All-head (λ e. e.by ≢ k) e xs none)
+
 pub chained_none : (k : ℕ) (xs : List LogEntry) → NoneBy k xs → chained k xs ≡ []
 chained_none k [] none = refl
-chained_none k (e ∷ xs) none = by_key (chained_none k xs (All-tail (λ e. e.by ≢ k) e xs none)) (e.by == k) refl
-  where
-    by_key : chained k xs ≡ [] → (b : Bool) → (e.by == k) ≡ b → (if b then e.what ∷ chained e.next xs else chained k xs) ≡ []
-    by_key rest true is = let same : e.by ≡ k = grind (arith, nat_tests) in absurd (All-head (λ e. e.by ≢ k) e xs none same)
-    by_key rest false is = rest
+chained_none k (e ∷ xs) none = rw (not_by k e xs none) (chained_none k xs (All-tail (λ e. e.by ≢ k) e xs none))
 
 pub key_none : (k : ℕ) (xs : List LogEntry) → NoneBy k xs → key_after k xs ≡ k
 key_none k [] none = refl
-key_none k (e ∷ xs) none = by_key (key_none k xs (All-tail (λ e. e.by ≢ k) e xs none)) (e.by == k) refl
-  where
-    by_key : key_after k xs ≡ k → (b : Bool) → (e.by == k) ≡ b → (if b then key_after e.next xs else key_after k xs) ≡ k
-    by_key rest true is = let same : e.by ≡ k = grind (arith, nat_tests) in absurd (All-head (λ e. e.by ≢ k) e xs none same)
-    by_key rest false is = rest
+key_none k (e ∷ xs) none = rw (not_by k e xs none) (key_none k xs (All-tail (λ e. e.by ≢ k) e xs none))
 
 pub rest_none : (k : ℕ) (xs ys : List LogEntry) → NoneBy k (xs ++ ys) → NoneBy k ys
 rest_none k [] ys none = none
@@ -54,10 +47,10 @@ begins_whole k xs ys zs p q none =
 
 -- an entry that uses up the key that is next
 one_more : (k : ℕ) (e : LogEntry) → e.by ≡ k → chained k (e ∷ []) ≡ e.what ∷ []
-one_more k e same = let is : (e.by == k) ≡ true = grind (arith, nat_tests) in ap (λ (b : Bool). if b then e.what ∷ [] else []) is
+one_more k e same = rw (eq-eqb e.by k same) refl
 
 one_key : (k : ℕ) (e : LogEntry) → e.by ≡ k → key_after k (e ∷ []) ≡ e.next
-one_key k e same = let is : (e.by == k) ≡ true = grind (arith, nat_tests) in ap (λ (b : Bool). if b then e.next else k) is
+one_key k e same = rw (eq-eqb e.by k same) refl
 
 pub chained_more : (k : ℕ) (xs rest : List LogEntry) (e : LogEntry) → e.by ≡ key_after k xs → NoneBy (key_after k xs) rest → chained k (xs ++ rest ++ e ∷ []) ≡ chained k xs ++ e.what ∷ []
 chained_more k xs rest e same none = search (one_more, key_none, chained_on, chained_none, append_assoc)

@@ -1,8 +1,8 @@
 -- The steps keep the rule.
-use Rattle.std.proofs.Common.{◌≡◌, ◌≢◌, ℕ, zero, suc, ◌<◌, ◌==◌, true, false, List, [], ◌∷◌, ◌++◌, length, slice_set, All, None, refl, ap, sym, ◌∙◌, subst, arith, inl}
-use Rattle.{std.proofs.lemmas.List.{append-nil, Elements.{All-nil, All-cons, All-append, All-weaker}}, desk_gallery.specs.Rules.{IsKept, NoneBy, Makes, Looks, Adds}}
-use Rattle.{desk_gallery.specs.declared.book.LogEntry.LogEntry, logbook.specs.Pages.{Cell, cell, Nib, no_nib, may_write, keeps, gives, adds, step, Moves}}
-use Rattle.desk_gallery.proofs.Chaining.{rest_none}
+use Rattle.std.proofs.Common.{◌≡◌, ◌≢◌, ℕ, zero, suc, ◌<◌, ◌==◌, true, false, List, [], ◌∷◌, ◌++◌, length, slice_set, None, refl, ap, sym, ◌∙◌, subst, arith, inl, inr, get_or-set_other, length-set}
+use Rattle.{std.proofs.lemmas.{Bool.cases_eq, Grind.get_or-set_at, List.{append-nil, get_or_append_left, Elements.{All-push, All-weaker}}}, desk_gallery.proofs.Chaining.rest_none}
+use Rattle.desk_gallery.specs.{Rules.{IsKept, NoneBy, Makes, Looks, Adds}, declared.book.LogEntry.LogEntry}
+use Rattle.logbook.specs.Pages.{Cell, cell, Nib, no_nib, may_write, keeps, gives, adds, step, Moves}
 use prog.Atomic.{either}
 
 -- what is asked for where nothing is added
@@ -22,27 +22,13 @@ within (c ∷ cs) zero is = omega arith
 within (c ∷ cs) (suc k) is = let r : k < length cs = within cs k is in omega (arith, r)
 
 home_set : (cs : List Cell) (i k n : ℕ) → (cell cs k).1 ≡ true → (cell (slice_set cs i (n, true)) k).1 ≡ true
-home_set [] i k n is = absurd (cc is)
-home_set (c ∷ cs) zero zero n is = refl
-home_set (c ∷ cs) zero (suc k) n is = is
-home_set (c ∷ cs) (suc i) zero n is = is
-home_set (c ∷ cs) (suc i) (suc k) n is = home_set cs i k n is
+home_set cs i k n is = elim (cases_eq k i) [
+  | inl same ↦ ap (λ (c : Cell). c.1) (get_or-set_at cs i k (n, true) (0, false) same (omega (arith, within cs k is, same)))
+  | inr other ↦ ap (λ (c : Cell). c.1) (get_or-set_other cs i k (n, true) (0, false) other) ∙ is
+]
 
 home_more : (cs more : List Cell) (k : ℕ) → (cell cs k).1 ≡ true → (cell (cs ++ more) k).1 ≡ true
-home_more [] more k is = absurd (cc is)
-home_more (c ∷ cs) more zero is = is
-home_more (c ∷ cs) more (suc k) is = home_more cs more k is
-
-home_here : (cs : List Cell) (k n : ℕ) → k < length cs → (cell (slice_set cs k (n, true)) k).1 ≡ true
-home_here [] k n lt = absurd (omega (arith, lt))
-home_here (c ∷ cs) zero n lt = refl
-home_here (c ∷ cs) (suc k) n lt = home_here cs k n (omega (arith, lt))
-
-still_within : (cs : List Cell) (i k : ℕ) (c : Cell) → k < length cs → k < length (slice_set cs i c)
-still_within [] i k c lt = absurd (omega (arith, lt))
-still_within (x ∷ cs) zero k c lt = lt
-still_within (x ∷ cs) (suc i) zero c lt = omega arith
-still_within (x ∷ cs) (suc i) (suc k) c lt = let r : k < length (slice_set cs i c) = still_within cs i k c (omega (arith, lt)) in omega (arith, r)
+home_more cs more k is = ap (λ (c : Cell). c.1) (get_or_append_left cs more (0, false) k (within cs k is)) ∙ is
 
 kept_set : (cs : List Cell) (log : List LogEntry) (i n : ℕ) → IsKept cs log → IsKept (slice_set cs i (n, true)) log
 kept_set cs log i n kept = (home_set cs i 0 n kept.0, All-weaker (λ e. (cell cs e.by).1 ≡ true) (λ e. (cell (slice_set cs i (n, true)) e.by).1 ≡ true) (λ e h. home_set cs i e.by n h) log kept.1)
@@ -85,10 +71,8 @@ add_moves v p a right same cs log kept pre away =
     let one : List Cell = slice_set cs 0 (n, true) in
     let two : List Cell = slice_set one p.key (p.value, true) in
     let so_far : IsKept two log = kept_set one log p.key p.value (kept_set cs log 0 n kept) in
-    let used : (cell two p.key).1 ≡ true = home_here one p.key p.value (still_within cs 0 p.key (n, true) (away right).0) in
-    let here : (cell two a.by).1 ≡ true = subst (λ (k : ℕ). (cell two k).1 ≡ true) (sym same) used in
-    let P : LogEntry → Type 0 = λ e. (cell two e.by).1 ≡ true in
-    let all : All P (log ++ a ∷ []) = All-append P log (a ∷ []) so_far.1 (All-cons P a [] here (All-nil P)) in
+    let here : (cell two a.by).1 ≡ true = ap (λ (c : Cell). c.1) (get_or-set_at one p.key a.by (p.value, true) (0, false) same (omega (arith, (away right).0, length-set cs 0 (n, true)))) in
+    let all = All-push (λ e. (cell two e.by).1 ≡ true) log a so_far.1 here in
     let none : NoneBy p.key log = not_used cs log p.key kept (away right).1 in (
       within cs 0 kept.0,
       kept.0,

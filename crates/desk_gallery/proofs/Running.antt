@@ -63,8 +63,7 @@ module _ {D : Type 0} {g : Ghosts D} where
       began = so_far.began;
       calls = so_far.calls;
       checked = is;
-      run = subst (λ (l : List Call). SweptRun false so_far.first l is y) (append-nil so_far.calls)
-          (run_on false so_far.first so_far.calls so_far.checked x [] is y so_far.run
+      run = rw append-nil at (run_on false so_far.first so_far.calls so_far.checked x [] is y so_far.run
           (SweptRun.tended so_far.checked x is y [] is y (subst (λ (a : Bool). Tends a x is y) (sym same) tends) (SweptRun.over is y)));
       each = so_far.each;
       are_shown = so_far.are_shown;

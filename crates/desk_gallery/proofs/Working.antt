@@ -1,15 +1,30 @@
 -- A command at the clerk beside the writer.
+use Rattle.{std.{specs.Prelude.⊤, proofs.lemmas.Bool.{both_ways, cases_Bool}}, desk_gallery.specs.{Fronts.{Kept, kept_of, IsClerk, Works, SweepsOn, OpensShown}, claim.After.after}}
 use Rattle.std.proofs.Common.{rules, ◌≡◌, ◌+◌, ℕ, Bool, Option, Result, true, false, List, [], ◌∷◌, ◌++◌, length, inl, inr, refl, sym, ap, subst, ◌∙◌, arith, length-append}
-use Rattle.{std.proofs.lemmas.Bool.{both_ways, cases_Bool}, desk_gallery.specs.{Fronts.{Kept, kept_of, IsClerk, Works, SweepsOn, OpensShown}, Working.{Agree, Worked}}}
-use Rattle.{desk_gallery.specs.claim.{After.after, Outcomes.OutcomeMay, Working.AreAccepted}, desk_model.specs.claim.{Desk.Desk, Outcome.IsAcceptance, Step.step}}
-use Rattle.{desk_model.specs.declared.{command.Command.Command, reply.{Refusal.{Refusal, TheVariants.Memory}, Reply.{Reply, TheVariants.Refused}}}, desk_runs.specs.Steps.StepMay}
-use Rattle.desk_runs.specs.{claim.SweptRuns.Tends, desk_pages.declared.error.StoreError.StoreError, desk_store.claim.Clerks.{desk_of, is_halted, sectors_of, Keeps, Reads}}
-use Rattle.desk_runs.specs.desk_store.{claim.{Commands.{command_of, MustBeFull, PrepareErr, IsReady, IsMade, IsNotMade, Commits, Does}, Keeping.IsLeft}, declared.clerk.Clerk.Clerk}
-use Rattle.{desk_runs.specs.desk_store.declared.ready.Ready.Ready, sector_device.specs.declared.SectorDevice.Ghosts, desk_gallery.proofs.{Outcomes.outcome_is, Pasts.prefix_self}}
+use Rattle.{desk_gallery.specs.{Working.{Agree, Worked}, claim.{Outcomes.OutcomeMay, Working.AreAccepted}}, desk_model.specs.claim.{Desk.Desk, Step.step}}
+use Rattle.desk_model.specs.{claim.Outcome.{CommandMay, IsAcceptance, IsStep}, declared.{command.Command.Command, reply.{Refusal.Refusal, Reply.Reply}}}
+use Rattle.desk_model.specs.declared.reply.{Refusal.TheVariants.{BadCompanion, Full, Memory, Halted}, Reply.TheVariants.{Created, Refused, Retired}}
+use Rattle.desk_runs.specs.{Steps.StepMay, claim.SweptRuns.Tends, desk_pages.declared.error.StoreError.StoreError, desk_store.{claim.Keeping.IsLeft, declared.clerk.Clerk.Clerk}}
+use Rattle.{desk_runs.specs.desk_store.{claim.Clerks.{desk_of, is_halted, sectors_of, Keeps, Reads}, declared.ready.Ready.Ready}, sector_device.specs.declared.SectorDevice.Ghosts}
+use Rattle.{desk_runs.specs.desk_store.claim.Commands.{command_of, MustBeFull, PrepareErr, IsReady, IsMade, IsNotMade, Commits, Does}, desk_gallery.proofs.Pasts.prefix_self}
 use Rattle.desk_gallery.proofs.Afters.{after_more, accepted_first, accepted_more}
 use mathlib.Core.List.{IsPrefix}
 use Rattle.desk_runs.proofs.desk_store.Kept.{acceptance_is, accepted_is}
 use Rattle.desk_runs.proofs.desk_store.Done.{refused_does, committed_does}
+
+-- a clerk's outcome without its room
+step_of : (must : Type 0) (d : Desk) (c : Command) (r : Reply) (e : Desk) → IsStep must d c r e → IsStep ⊥ d c r e
+step_of must d c r e is = record { reply = is.reply; desk = is.desk; room = λ accepted none. none }
+
+may_be : (must may failed : Type 0) (d : Desk) (c : Command) (r : Reply) (e : Desk) → CommandMay must may failed d c r e → CommandMay ⊥ ⊤ failed d c r e
+may_be must may failed d c (Refused Full) e h = (h.0, record { accepted = h.1.accepted; no_room = tt; desk = h.1.desk })
+may_be must may failed d c (Refused Memory) e h = h
+may_be must may failed d c (Refused Halted) e h = h
+may_be must may failed d c (Refused BadCompanion) e h = h
+may_be must may failed d c (Refused why) e h = (h.0, step_of must d c (Refused why) e h.1)
+may_be must may failed d c (Created name revisions) e h = (h.0, step_of must d c (Created name revisions) e h.1)
+may_be must may failed d c (Retired name) e h = (h.0, step_of must d c (Retired name) e h.1)
+may_be must may failed d c _ e h = h
 
 module _ {D : Type 0} {g : Ghosts D} where
   pub was_working : (x y : Clerk D g) → Reads x y → is_halted y ≡ false → is_halted x ≡ false
@@ -95,11 +110,8 @@ module _ {D : Type 0} {g : Ghosts D} where
   came_as first x s c r q y z t u reply clerk shower came =
       subst (λ (a : Reply × List Command). Came first x s c a y t) (sym reply) (subst (λ (w : Clerk D g). Came first x s c q w t) (sym clerk) (subst (λ (l : List Command × List Command). Came first x s c q z l) (sym shower) came))
 
-  is_clerk : (first : Desk) (x : Clerk D g) (s : List Command × List Command) → Agree first x s → IsClerk first (kept_of x s) x
-  is_clerk first x s agree = record { device = refl; halted = refl; sectors = refl; room = refl; free = refl; desk = agree.desk }
-
   pub is_clerk_of : (first : Desk) (x : Clerk D g) (s : List Command × List Command) (f : Kept D) → kept_of x s ≡ f → Agree first x s → IsClerk first f x
-  is_clerk_of first x s f is agree = subst (λ (k : Kept D). IsClerk first k x) is (is_clerk first x s agree)
+  is_clerk_of first x s f is agree = subst (λ (k : Kept D). IsClerk first k x) is (record { device = refl; halted = refl; sectors = refl; room = refl; free = refl; desk = agree.desk })
 
   pub shown_accepted : (first : Desk) (x : Clerk D g) (s : List Command × List Command) (f : Kept D) → kept_of x s ≡ f → Agree first x s → AreAccepted first f.shown
   shown_accepted first x s f is agree =
@@ -120,14 +132,16 @@ module _ {D : Type 0} {g : Ghosts D} where
 
   pub sweeps_of : (first : Desk) (was : Bool) (x : Clerk D g) (is : Bool) (y : Clerk D g) (s : List Command × List Command) (old : Kept D) (did : Result (Option ℕ) StoreError) → kept_of x s ≡ old → Agree first x s → Tends was x is y → StepMay was x did y
       → SweepsOn g first old did (kept_of y s)
-  sweeps_of first was x is y s old did same agree tends may = search (is_clerk_of, is_clerk, agree_tended)
+  sweeps_of first was x is y s old did same agree tends may =
+      let there = agree_tended first was x is y s agree tends in
+      search is_clerk_of
 
   pub works_of : (first : Desk) (x y : Clerk D g) (s t : List Command × List Command) (old : Kept D) (c : Command) (reply : Reply) → kept_of x s ≡ old → Agree first x s → Worked first x s c reply y t → Works g first old c reply (kept_of y t)
   works_of first x y s t old c reply was agree worked = search is_clerk_of
 
   pub outcome_of : (first : Desk) (x y : Clerk D g) (s t : List Command × List Command) (c : Command) (reply : Reply) → Agree first x s → Worked first x s c reply y t → OutcomeMay (after first s.0) c reply (after first t.0)
   outcome_of first x y s t c reply agree worked =
-      subst (λ (d : Desk). OutcomeMay d c reply (after first t.0)) agree.desk (subst (λ (e : Desk). OutcomeMay (desk_of x) c reply e) worked.agree.desk (outcome_is _ _ (is_halted y) (desk_of x) c reply (desk_of y) worked.does.outcome))
+      subst (λ (d : Desk). OutcomeMay d c reply (after first t.0)) agree.desk (subst (λ (e : Desk). OutcomeMay (desk_of x) c reply e) worked.agree.desk (is_halted y, may_be _ _ _ (desk_of x) c reply (desk_of y) worked.does.outcome))
 
   pub opens_shown : (first : Desk) (x : Clerk D g) (s : List Command × List Command) → Agree first x s → Keeps x → OpensShown g first (kept_of x s)
   opens_shown first x s agree keeps honest c leaves = subst (λ (d : Desk). IsLeft (is_halted x) (sectors_of x) d c) agree.desk (keeps.left honest c leaves)

@@ -123,6 +123,7 @@ impl<J: GalleryId> Visitor<J> {
     /// The catalogue after a list of shown changes that begins with all that this visitor saw or was told of: of the copy that is
     /// shown, or, where that has fewer changes, what the visitor has heard of already. Err where no reader is let in or one more
     /// owner is refused; nothing was heard of then.
+    #[tactic(auto, using(crate::proofs::Pasts::prefix_same))]
     pub fn visit(&mut self) -> Result<Arc<Catalogue>, AllocError>
         ensures later { IsPrefix self.old self.new }
         ensures value { IfOk result (λ shown. shown.value ≡ after J.first self.new) }

@@ -1,5 +1,5 @@
 -- Batches of a load, one after the other, and a whole load.
-use Rattle.{std.{specs.Prelude.min, proofs.Common.{◌≡◌, ◌-◌, ℕ, false, Some, None, inl, inr, refl, sym, ap, subst, ◌∙◌}}, desk_model.specs.claim.Desk.Desk}
+use Rattle.{std.{specs.Prelude.min, proofs.Common.{◌≡◌, ◌-◌, ℕ, false, Some, None, inl, inr, rules, sym, ap, subst, ◌∙◌}}, desk_model.specs.claim.Desk.Desk}
 use Rattle.desk_loading.specs.Loads.{batch_rows, HasBegun, HasStaged, HasWhole, IsLoaded, BeginStopped, BatchStopped, StageRefused, SealStopped, LoadRefused}
 use Rattle.{desk_model.specs.claim.Geography.GeographyModel, desk_pages.specs.declared.error.StoreError.StoreError, desk_store.{specs.Keeping.sealed_desk, proofs.Moved.unmoved}}
 use Rattle.{desk_pages.specs.declared.error.StoreError.TheVariants.{AlreadySealed, Full, Memory, NotAStore, Halted, Ended}, desk_store.specs.declared.clerk.Clerk.Clerk}
@@ -10,15 +10,9 @@ use Rattle.{sector_device.specs.declared.SectorDevice.Ghosts, store_rows.specs.c
 module _ {D : Type 0} {g : Ghosts D} where
   -- ---- batches
   pub none_staged : (x : Clerk D g) (load : Load) → HasStaged x load x load
-  none_staged x load = record {
-    moves = unmoved (Stages x load) (desk_of x) x (λ stages. stages.keeps);
-    desk = refl;
-    loading = refl;
-    number = refl;
-    geography = refl;
-    staged = λ stages. stages;
-    works = λ off. off;
-  }
+  none_staged x load =
+      let moves : MovesIf (Stages x load) (desk_of x) x x = unmoved (Stages x load) (desk_of x) x (λ stages. stages.keeps) in
+      search rules
 
   -- calls after those that staged
   pub staged_moved : (x y z : Clerk D g) (load so_far : Load) (next : Desk) → HasStaged x load y so_far → MovesIf (Stages y so_far) next y z → MovesIf (Stages x load) next x z
@@ -30,15 +24,7 @@ module _ {D : Type 0} {g : Ghosts D} where
 
   pub more_staged : (x y z : Clerk D g) (load so_far more : Load) (rows : ℕ) → HasStaged x load y so_far → MovesIf (Stages y so_far) (desk_of y) y z → desk_of z ≡ desk_of y → z.loading ≡ y.loading → IsFurther so_far more rows
       → (Stages y so_far → Stages z more) → z.halted ≡ false → HasStaged x load z more
-  more_staged x y z load so_far more rows one moves desk loading further staged works = record {
-    moves = batch_moved x y z load so_far one moves;
-    desk = desk ∙ one.desk;
-    loading = loading ∙ one.loading;
-    number = further.number ∙ one.number;
-    geography = further.geography ∙ one.geography;
-    staged = λ stages. staged (one.staged stages);
-    works = λ off. works;
-  }
+  more_staged x y z load so_far more rows one moves desk loading further staged works = search (rules, batch_moved x y z load so_far one moves)
 
   -- a batch that was refused
   module _ (x w y : Clerk D g) (load so_far : Load) (rows : ℕ) (before : HasStaged x load w so_far) (last : IsLast w so_far) (unsealed : (desk_of w).geography ≡ None)
@@ -76,7 +62,7 @@ module _ {D : Type 0} {g : Ghosts D} where
   staging_refused x w y area load begun Halted why = inr (inl (record { w = w; load = load; begun = begun; why = why }))
   staging_refused x w y area load begun _ why = absurd why
 
-  module _ (x w v y : Clerk D g) (area : GeographyModel) (load all : Load) (begun : HasBegun x area w load) (staged : HasStaged w load v all) (done : done_of all ≡ geography_rows (geography_model_of all))
+  module _ {x w v y : Clerk D g} {area : GeographyModel} {load all : Load} (begun : HasBegun x area w load) (staged : HasStaged w load v all) (done : done_of all ≡ geography_rows (geography_model_of all))
       (moved : MovesIf (Stages v all) (sealed_desk (geography_model_of all)) v y) (loading : y.loading ≡ v.loading) where
     the_geography : geography_model_of all ≡ area
     the_geography = (λ i. (staged.geography i).value) ∙ begun.the_geography

@@ -4,7 +4,6 @@ pub mod Pairs
 mod Walking
 mod Turns
 mod Stepped
-mod Finished
 mod Moved
 mod Opened
 mod Back

@@ -1,13 +1,13 @@
 -- What an opening finds.
-use Rattle.{std.proofs.Common.{rules, ◌≡◌, ℕ, Bool, true, false, refl, sym, subst, ◌∙◌, arith}, desk_migration.specs.claim.Holding.AreHeldTo, desk_model.specs.claim.Desk.Desk}
-use Rattle.desk_migration.specs.{Openings.{AreOfVersion, AreRead, IsFound, IsRefused, JudgeErr, KeepsOne, LeavesNew}, claim.Migrating.{disk_of, has_ended, is_halted, sectors_of}}
-use Rattle.{desk_migration.{specs.declared.migration.Migration.Migration, proofs.PartRows.begins_held}, desk_opening.specs.Opening.{HasVersion, IsReadFrom, OpenErr as ReadDeskErr}}
+use Rattle.{std.proofs.Common.{rules, ◌≡◌, Bool, true, false, refl, sym, subst, ◌∙◌, arith}, desk_migration.specs.declared.migration.Migration.Migration}
+use Rattle.{desk_migration.specs.Openings.{AreOfVersion, AreRead, IsFound, IsRefused, JudgeErr, KeepsOne, LeavesNew}, desk_model.specs.claim.Desk.Desk}
+use Rattle.{desk_migration.specs.claim.Migrating.{disk_of, has_ended, is_halted, sectors_of, HasRows}, desk_opening.specs.Opening.{HasVersion, IsReadFrom, OpenErr as ReadDeskErr}}
 use Rattle.desk_pages.specs.{Errors.{missing, page_refusal, row_refusal}, Reading.ReadErr, claim.{Desks.{InPagesOf, OpensDeskOf}, Openings.{AllVersions, OpensOneAs}}}
 use Rattle.{desk_pages.specs.declared.error.StoreError.{StoreError, TheVariants.{NotAStore, DeviceFault, Memory, AlreadyNew}}, page_btree.specs.claim.Map.InTxn}
 use Rattle.{page_btree.specs.declared.error.TreeError.TreeError, page_store.specs.{Transactions.OpenErr, declared.{pages.Pages.Pages, txn.Txn.Txn}}}
 use Rattle.page_store.specs.{claim.Transactions.{stored, disk_in, count_of, journal_of, has_halted, IsQuiet, IsKept, Passed}, gate_journal.declared.error.PageError.PageError}
-use Rattle.{page_store.specs.gate_journal.Recovery.{AllStores, HasRoom, Found, ReadsAs}, sector_device.specs.claim.{Disk.{Disk, Image}, Moments.LeavesOnly}}
-use Rattle.{sector_device.specs.declared.SectorDevice.Ghosts, store_rows.specs.{Keys.parts_prefix, claim.{Keys.version, Rows.{KeyMap, row_in}, Tidy.version_row}}}
+use Rattle.{page_store.specs.gate_journal.Recovery.{AllStores, HasRoom, Found, ReadsAs}, sector_device.specs.{claim.{Disk.Disk, Moments.LeavesOnly}, declared.SectorDevice.Ghosts}}
+use Rattle.{store_rows.specs.{Keys.parts_prefix, claim.{Keys.version, Rows.{KeyMap, row_in}, Tidy.version_row}}, desk_migration.proofs.PartRows.begins_held}
 use Rattle.{desk_pages.proofs.{Found.{found_after, found_desk, open_versions, page_stores_of, pages_left, stores_of}, Kept.opens_now}, sector_device.proofs.Moments.leaves_now}
 use Rattle.page_store.proofs.Stops.{leaves_here, leaves_quiet, quiet_more}
 use Rattle.page_store.specs.gate_journal.declared.error.PageError.TheVariants as page
@@ -22,9 +22,9 @@ page_refused h old new page.Memory why = λ honest. let it = why honest in (it.0
 page_refused h old new _ why = absurd why
 
 -- none of them is of the new version
-pub page_not_new : (e : PageError) → page_refusal e ≡ AlreadyNew → ⊥
-page_not_new page.NotAStore is = cc
-page_not_new _ is = cc
+pub page_not_new : (old new : Disk) (e : PageError) → new.is_honest → page_refusal e ≡ AlreadyNew → LeavesNew old new
+page_not_new old new page.NotAStore honest is = absurd (cc)
+page_not_new old new _ honest is = absurd (cc)
 
 module _ {D : Type 0} {g : Ghosts D} where
   -- ---- whether pages hold a desk in the old version
@@ -42,10 +42,9 @@ module _ {D : Type 0} {g : Ghosts D} where
   not_read t a b tree.DeviceFault halted is start quiet why = missing_told a b halted is (λ works. both (has_halted b) why.halted works)
   not_read t a b tree.NotAStore halted is start quiet why = missing_told a b halted is (λ works honest new d holds.
       why honest new d (record { m = holds.m; holds = start.reads (quiet.honest honest) holds.m holds.holds; is = holds.is }))
-  not_read t a b tree.Halted halted is start quiet why = both (has_halted a) why start.working
   not_read t a b tree.Memory true is start quiet why = sym is
   not_read t a b tree.Memory false is start quiet why = tt
-  not_read t a b _ halted is start quiet why = absurd why
+  not_read t a b _ halted is start quiet why = search (rules, both)
 
   pub version_not_read : (t : Txn) (a b c : Pages D g) (e : TreeError) (halted : Bool) → halted ≡ has_halted c → IsBegun a t → Passed a b → IsQuiet b c → ReadErr HasVersion t b c e → JudgeErr a c (row_refusal e halted)
   version_not_read t a b c e halted is start ab quiet why =
@@ -69,8 +68,7 @@ module _ {D : Type 0} {g : Ghosts D} where
   version_after new a b quiet honest are = search rules
 
   read_after : (a b : Pages D g) → IsQuiet a b → (disk_in b).is_honest → AreRead (count_of a) (stored a) → AreRead (count_of b) (stored b)
-  read_after a b quiet honest are =
-      subst (λ (P : Image). AreRead (count_of b) P) (sym (quiet.same honest)) (subst (λ (n : ℕ). AreRead n (stored a)) (sym quiet.count) are)
+  read_after a b quiet honest are = rw (quiet.same honest, quiet.count) are
 
   module _ (old : Disk) (a : Pages D g) (found : (disk_in a).is_honest → Found (journal_of a) (count_of a) old (disk_in a)) where
     pub is_found : (x : Migration D g) → IsQuiet a x.pages → ((disk_of x).is_honest → AreOfVersion false (count_of a) (stored a)) → ((disk_of x).is_honest → AreRead (count_of a) (stored a)) → (disk_of x).is_honest → IsFound old x
@@ -85,30 +83,16 @@ module _ {D : Type 0} {g : Ghosts D} where
           let is_old : new ≡ false = version_of new false a d (found_desk old a it room (new, d) opens) (are honest) in
           let opens_old : OpensDeskOf false old.sectors d it.was = subst (λ (b : Bool). OpensDeskOf b old.sectors d it.was) is_old opens in
           let was : InPagesOf false a d = found_desk old a it room (false, d) opens_old in
-          let here = quiet_rows a x.pages quiet honest was.m was.holds in (
-            d,
-            (
-              record {
-                holds = λ off is_honest. (
-                  was.m,
-                  record {
-                    holds = here;
-                    is = was.is;
-                    done = subst (λ k. AreHeldTo k was.m) (sym from) (begins_held was.m);
-                    all = λ ended. both (has_ended x) ended fresh;
-                  },
-                );
-                left = λ is_honest c left. opens_now {new = false} x.pages works is_honest (sectors_of x) d refl (record { m = was.m; holds = here; is = was.is }) c left;
-              },
-              record { was = it.was; left = it.left; opens = opens_old },
-            ),
-          )
+          let here = quiet_rows a x.pages quiet honest was.m was.holds in
+          let rows : HasRows x d was.m = record { holds = here; is = was.is; done = rw from (begins_held was.m); all = λ ended. both (has_ended x) ended fresh } in
+          let opens_so = λ (honest : (disk_of x).is_honest). opens_now {new = false} x.pages works honest (sectors_of x) d refl (record { m = was.m; holds = here; is = was.is }) in
+          (d, (record { holds = λ off is_honest. (was.m, rows); left = opens_so }, record { was = it.was; left = it.left; opens = opens_old }))
 
       pub judged : (b : Pages D g) (e : StoreError) → has_halted a ≡ false → ((disk_in a).is_honest → (disk_in a).faults ≡ old.faults) → IsQuiet a b → JudgeErr a b e → IsRefused old (disk_in b) e
       judged b NotAStore working passed quiet why = λ honest all.
           let it = found (quiet.honest honest) in
-          let is = all it.was it.left in let new = is.0.0 in let d = is.0.1 in let opens = is.1 in
-          why honest new d (found_desk old a it room (new, d) opens)
+          let is = all it.was it.left in
+          why honest is.0.0 is.0.1 (found_desk old a it room is.0 is.1)
       judged b DeviceFault working passed quiet why = λ honest. let rises = quiet.rose working why honest in let same = passed (quiet.honest honest) in omega (arith, rises, same)
       judged b Memory working passed quiet why = λ honest. pages_left old a b found quiet honest
       judged b AlreadyNew working passed quiet why = λ honest. (

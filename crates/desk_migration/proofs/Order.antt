@@ -1,19 +1,16 @@
 -- The key that comes next after another one.
-use Rattle.std.specs.{Cmp.{nat_cmp_is, Lexicographic.nat_list_cmp_total}, FinMap.{entries, get}, List.starts_with, Ordering.{is_gt, nat_cmp, ordering_then}}
-use Rattle.std.{specs.declared.cmp.Ordering.{Ordering, TheVariants.{Less, Equal, Greater}}, proofs.lemmas.{Bool.{and_from, and_parts}, Cmp.tied_itself}}
-use Rattle.std.proofs.Common.{rules, Some, ◌≡◌, ◌⊎◌, inl, inr, ◌<◌, ℕ, List, [], ◌∷◌, ◌++◌, length, true, false, nat_eq, refl, sym, ap, ◌∙◌, arith}
-use Rattle.{desk_migration.specs.Walks.after, page_btree.specs.page_node.{Places.entries_from, claim.{Entries.Entry, Places.key_cmp}}, store_check.specs.claim.Rows.IsFrom}
-use Rattle.{store_rows.{specs.claim.Rows.KeyMap, proofs.{Frames.same_key, OneGeography.value_is}}, store_check.proofs.After.{few_from, fewer, from_tag}}
-use Rattle.store_check.proofs.FirstRows.{clash, first_is_from, first_least, first_none, first_there, from_trans, less_from}
+use Rattle.std.specs.{Cmp.{nat_cmp_is, Lexicographic.nat_list_cmp_total}, FinMap.{entries, get}, Ordering.{is_gt, nat_cmp, ordering_then}, declared.cmp.Ordering.Ordering}
+use Rattle.{std.{specs.declared.cmp.Ordering.TheVariants.{Less, Equal, Greater}, proofs.lemmas.Cmp.tied_itself}, desk_migration.specs.{Parts.IsUnderParts, Walks.after}}
+use Rattle.{std.proofs.Common.{rules, Some, ◌≡◌, ◌⊎◌, inl, inr, ◌<◌, ℕ, List, [], ◌∷◌, length, true, false, refl, sym, ap, ◌∙◌, arith}, store_check.specs.claim.Rows.IsFrom}
+use Rattle.{page_btree.specs.page_node.{Places.entries_from, claim.{Entries.Entry, Places.key_cmp}}, store_rows.{specs.claim.Rows.KeyMap, proofs.Frames.same_key}}
+use Rattle.store_check.proofs.{After.{few_from, fewer, from_tag}, FirstRows.{clash, first_is_from, first_least, first_none, first_there, from_trans, less_from}}
+use Rattle.store_rows.proofs.OneGeography.{value_is}
 use Rattle.page_btree.proofs.page_node.Laws.{flip_less}
 
--- ---- what a key begins with
-pub starts_more : (key more prefix : List ℕ) → starts_with nat_eq key prefix ≡ true → starts_with nat_eq (key ++ more) prefix ≡ true
-starts_more [] more (a ∷ prefix) on = cc
-starts_more (b ∷ key) more (a ∷ prefix) on =
-    let both = and_parts (nat_eq a b) (starts_with nat_eq key prefix) on in
-    and_from (nat_eq a b) (starts_with nat_eq (key ++ more) prefix) both.0 (starts_more key more prefix both.1)
-starts_more _ _ [] on = refl
+-- ---- the key after one of parts is under them too
+pub under_after : (key : List ℕ) → IsUnderParts key → IsUnderParts (after key)
+under_after [] under = cc
+under_after (a ∷ key) under = under
 
 -- ---- the order of keys
 ordered : (a b : List ℕ) (r : Ordering) → key_cmp a b ≡ r → is_gt r ≡ false → (key_cmp a b ≡ Less) ⊎ (a ≡ b)

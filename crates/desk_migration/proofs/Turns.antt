@@ -1,12 +1,12 @@
 -- Pairs that come to be held one after the other within a transaction.
-use Rattle.{std.{specs.Prelude.{Option, Some}, proofs.Common.{rules, ◌≡◌, ◌<◌, ◌+◌, ◌++◌, ℕ, false, List, [], refl, sym, ap, subst, ◌∙◌, arith}}, desk_pages.specs.Reading.ReadErr}
-use Rattle.desk_migration.specs.{Puts.{AndStand, HasHeldAs, IsTurn, HoldErrOf}, Walks.IsNextPair, claim.Holding.{AreUnheld, IsHeldBy, IsUnheld, hold_pairs}}
-use Rattle.{desk_migration.specs.declared.parts.HeldPair.HeldPair, desk_pages.specs.{btree_puts.{Fingers.Stand, declared.finger.Fingers.Fingers}, claim.Puts.HasDeepened}}
-use Rattle.page_btree.specs.{claim.{Errors.level_in, Map.InTxn}, declared.error.TreeError.{TreeError, TheVariants.{DeviceFault, NotAStore, Halted, NoPages, TooDeep, Memory}}}
-use Rattle.{page_store.specs.{claim.Transactions.{stored, disk_in, txn_root, over, IsQuiet, Passed}, declared.{pages.Pages.Pages, txn.Txn.Txn}}, store_rows.specs.claim.Shares.hold}
-use Rattle.{sector_device.specs.{claim.Disk.Image, declared.SectorDevice.Ghosts}, store_rows.specs.claim.{Holders.holding_rows, Keys.holding, Puts.{Row, put_rows}, Tidy.Tidy}}
-use Rattle.{store_rows.specs.claim.Rows.{KeyMap, Lacks}, desk_migration.proofs.Pairs.{then_by, none_by, one_by, unheld_more, hold_more}, desk_pages.proofs.Rising.fresh_stand}
-use Rattle.{page_store.proofs.Stops.{passed_none, passed_more, failed_more}, store_rows.proofs.Migrating.names_can_hold}
+use Rattle.{std.{specs.Prelude.{Option, Some}, proofs.Common.{rules, ◌≡◌, ◌<◌, ◌+◌, ◌++◌, ℕ, false, [], refl, sym, ap, subst, ◌∙◌, arith}}, desk_migration.specs.Walks.IsNextPair}
+use Rattle.desk_migration.specs.{Puts.{AndStand, HasHeldAs, IsTurn, HoldErrOf}, claim.Holding.{AreUnheld, IsUnheld, hold_pairs}, declared.parts.HeldPair.HeldPair}
+use Rattle.{desk_pages.specs.{Reading.ReadErr, btree_puts.declared.finger.Fingers.Fingers}, page_btree.specs.{claim.Map.InTxn, declared.error.TreeError.TreeError}}
+use Rattle.{page_btree.specs.declared.error.TreeError.TheVariants.{NotAStore, NoPages, TooDeep, Memory}, page_store.specs.claim.Transactions.{stored, disk_in, IsQuiet, Passed}}
+use Rattle.{page_store.specs.declared.{pages.Pages.Pages, txn.Txn.Txn}, sector_device.specs.{claim.Disk.Image, declared.SectorDevice.Ghosts}, store_rows.specs.claim.Keys.holding}
+use Rattle.{store_rows.{specs.claim.{Holders.holding_rows, Rows.{KeyMap, Lacks}, Shares.hold, Tidy.Tidy}, proofs.Migrating.names_can_hold}, desk_pages.proofs.Rising.fresh_stand}
+use Rattle.{desk_migration.proofs.Pairs.{then_by, none_by, one_by, unheld_more, hold_more}, page_store.proofs.Stops.{passed_none, passed_more, failed_more}}
+use Rattle.desk_opening.proofs.plan_rows.Changed.{deep_after}
 use Rattle.desk_opening.specs.plan_rows.Holding as chunk
 
 -- what is known of a map is known of it where one pair more is held
@@ -14,17 +14,6 @@ abbrev Stays : (KeyMap → Type 0) → Type 0
 Stays known = (m : KeyMap) (plan number : ℕ) → IsUnheld m plan number → known m → known (hold m plan number)
 
 module _ {D : Type 0} {g : Ghosts D} where
-  -- what pages with the same bytes say of a tree that was too deep
-  deepened_at : (rows : List Row) (t : Txn) (a b : Pages D g) (m n : KeyMap) → stored b ≡ stored a → m ≡ n → HasDeepened rows t b m → HasDeepened rows t a n
-  deepened_at rows t a b m n same maps deep = record {
-    prefix = deep.prefix;
-    rest = deep.rest;
-    are = deep.are;
-    txn = deep.txn;
-    holds = subst (λ (k : KeyMap). InTxn deep.txn (stored a) (put_rows k deep.prefix)) maps (subst (λ (P : Image). InTxn deep.txn P (put_rows m deep.prefix)) same deep.holds);
-    deep = subst (λ (P : Image). level_in (over deep.txn P) (txn_root deep.txn) ≡ 5) same deep.deep;
-  }
-
   -- ---- one pair
   abbrev Finds : Option HeldPair → (KeyMap → Type 0) → (KeyMap → Type 0) → Txn → Pages D g → Pages D g → Type 0
   Finds found has then t a b = (disk_in b).is_honest → (m : KeyMap) → InTxn t (stored a) m → has m → then m × IsNextPair m found
@@ -38,27 +27,19 @@ module _ {D : Type 0} {g : Ghosts D} where
         let middle = one.passed.quiet.honest honest in
         let same = ab.quiet.same middle in
         let is = finds middle m reads known.0 in
-        let did = one.held honest m (subst (λ (P : Image). InTxn t P m) (sym same) reads) is.1.lacks (subst (λ (P : Image). Stand t P f) (sym same) known.1) in
-        record {
-          n = hold m pair.plan pair.number;
-          reads = subst (λ (P : Image). InTxn u P (hold m pair.plan pair.number)) same did.0;
-          by = one_by m pair.plan pair.number is.1;
-          done = (stays m pair.plan pair.number is.1 is.0, subst (λ (P : Image). Stand u P h) same did.1);
-          all = λ never. absurd never;
-        };
+        let did = one.held honest m (rw same reads) is.1.lacks (rw same known.1) in
+        record { n = hold m pair.plan pair.number; reads = rw same at did.0; by = one_by m pair.plan pair.number is.1; done = (stays m pair.plan pair.number is.1 is.0, rw same at did.1); all = λ never. absurd never };
     writes = let writes = one.writes in omega arith;
     taken = let taken = one.taken in omega arith;
   }
 
   pub pair_not_taken : (pair : HeldPair) (has then : KeyMap → Type 0) (f : Fingers) (t : Txn) (a b c : Pages D g) (e : TreeError) → ((m : KeyMap) → then m → Tidy m) → Passed a b → Finds (Some pair) has then t a b → IsQuiet b c
       → chunk.HoldErrWith f (λ m. Lacks m (holding pair.plan pair.number)) pair.plan pair.number t b c e → HoldErrOf 1 (AndStand has f t (stored a)) t a c e
-  pair_not_taken pair has then f t a b c DeviceFault tidy ab finds quiet why = failed_more a b c ab quiet why
   pair_not_taken pair has then f t a b c NotAStore tidy ab finds quiet why = λ honest m reads known.
       let middle = quiet.honest honest in
       let same = ab.quiet.same middle in
       let is = finds middle m reads known.0 in
-      why honest m (tidy m is.0).next.plan (subst (λ (P : Image). InTxn t P m) (sym same) reads) (is.1.lacks, subst (λ (P : Image). Stand t P f) (sym same) known.1) (names_can_hold m (tidy m is.0) pair.plan pair.number is.1.named) is.1.fits.1
-  pair_not_taken pair has then f t a b c Halted tidy ab finds quiet why = sym ab.halted ∙ why
+      why honest m (tidy m is.0).next.plan (rw same reads) (is.1.lacks, rw same known.1) (names_can_hold m (tidy m is.0) pair.plan pair.number is.1.named) is.1.fits.1
   pair_not_taken pair has then f t a b c NoPages tidy ab finds quiet why = λ honest m reads known.
       let is = finds (quiet.honest honest) m reads known.0 in
       record { count = 1; few = omega arith; n = hold m pair.plan pair.number; by = one_by m pair.plan pair.number is.1; short = omega arith }
@@ -66,16 +47,14 @@ module _ {D : Type 0} {g : Ghosts D} where
       let middle = quiet.honest honest in
       let same = ab.quiet.same middle in
       let is = finds middle m reads known.0 in
-      let (count, deep) = why honest m (subst (λ (P : Image). InTxn t P m) (sym same) reads) (is.1.lacks, subst (λ (P : Image). Stand t P f) (sym same) known.1) in
-      record { pairs = []; unheld = tt; plan = pair.plan; number = pair.number; count = count; txn = t; deep = deepened_at (holding_rows pair.plan pair.number count) t a b m m same refl deep }
-  pair_not_taken pair has then f t a b c Memory tidy ab finds quiet why = tt
+      let (count, deep) = why honest m (rw same reads) (is.1.lacks, rw same known.1) in
+      record { pairs = []; unheld = tt; plan = pair.plan; number = pair.number; count = count; txn = t; deep = deep_after [] (holding_rows pair.plan pair.number count) t t a b m m same refl deep }
+  pair_not_taken pair has then f t a b c _ tidy ab finds quiet why = search (arith, failed_more)
 
   -- it isn't known whether there is one
   pub not_found : (most : ℕ) (has : KeyMap → Type 0) (t : Txn) (a b : Pages D g) (e : TreeError) → ReadErr has t a b e → HoldErrOf most has t a b e
   not_found most has t a b NoPages why = absurd why
-  not_found most has t a b TooDeep why = absurd why
-  not_found most has t a b Memory why = tt
-  not_found most has t a b _ why = why
+  not_found most has t a b _ why = search rules
 
   -- ---- one after the other
   pub none_held : (has : KeyMap → Type 0) (fs : Fingers) (t : Txn) (a : Pages D g) → fs.first.page ≡ 0 → fs.second.page ≡ 0 → HasHeldAs ⊥ 0 has (AndStand has fs t (stored a)) t t a a
@@ -102,13 +81,8 @@ module _ {D : Type 0} {g : Ghosts D} where
           let middle = more.passed.quiet.honest honest in
           let was = one.held middle m reads known in
           let is = more.held honest was.n (now was.n middle was.reads) (known_now was.n middle was.done) in
-          record {
-            n = is.n;
-            reads = subst (λ (P : Image). InTxn v P is.n) (one.passed.quiet.same middle) is.reads;
-            by = then_by count 1 m was.n is.n was.by is.by;
-            done = subst (λ (P : Image). AndStand then h v P is.n) (one.passed.quiet.same middle) is.done;
-            all = λ never. absurd never;
-          };
+          let same = one.passed.quiet.same middle in
+          record { n = is.n; reads = subst (λ (P : Image). InTxn v P is.n) same is.reads; by = then_by count 1 m was.n is.n was.by is.by; done = subst (λ (P : Image). AndStand then h v P is.n) same is.done; all = λ never. absurd never };
       writes = let first = one.writes in let last = more.writes in omega arith;
       taken = let first = one.taken in let last = more.taken in omega arith;
     }
@@ -129,23 +103,18 @@ module _ {D : Type 0} {g : Ghosts D} where
 
     -- ---- refusals
     pub not_later : (e : TreeError) → count < 8 → IsQuiet b c → HoldErrOf 1 (AndStand mid f u (stored b)) u b c e → HoldErrOf 8 has t a c e
-    not_later DeviceFault few quiet why = failed_more a b c one.passed quiet why
     not_later NotAStore few quiet why = λ honest m reads known.
         let middle = quiet.honest honest in
         let was = one.held middle m reads known in
         why honest was.n (now was.n middle was.reads) (known_now was.n middle was.done)
-    not_later Halted few quiet why = sym one.passed.halted ∙ why
     not_later NoPages few quiet why = λ honest m reads known.
         let middle = quiet.honest honest in
         let was = one.held middle m reads known in
         let want = why honest was.n (now was.n middle was.reads) (known_now was.n middle was.done) in
-        record {
-          count = count + want.count;
-          few = let most = want.few in omega arith;
-          n = want.n;
-          by = then_by count want.count m was.n want.n was.by want.by;
-          short = let short = want.short in let taken = one.taken in omega arith;
-        }
+        let most = want.few in
+        let short = want.short in
+        let taken = one.taken in
+        record { count = count + want.count; few = omega arith; n = want.n; by = then_by count want.count m was.n want.n was.by want.by; short = omega arith }
     not_later TooDeep few quiet why = λ honest m reads known.
         let middle = quiet.honest honest in
         let was = one.held middle m reads known in
@@ -158,9 +127,9 @@ module _ {D : Type 0} {g : Ghosts D} where
           number = is.number;
           count = is.count;
           txn = is.txn;
-          deep = deepened_at (holding_rows is.plan is.number is.count) is.txn a b (hold_pairs was.n is.pairs) (hold_pairs m (was.by.pairs ++ is.pairs)) (one.passed.quiet.same middle) maps is.deep;
+          deep = deep_after [] (holding_rows is.plan is.number is.count) is.txn is.txn a b (hold_pairs m (was.by.pairs ++ is.pairs)) (hold_pairs was.n is.pairs) (one.passed.quiet.same middle) maps is.deep;
         }
-    not_later Memory few quiet why = tt
+    not_later _ few quiet why = search (arith, failed_more)
 
   -- as many were taken as a step may, and the fingers are let go
   pub full_held : (count : ℕ) (has then : KeyMap → Type 0) (f : Fingers) (t u : Txn) (a b : Pages D g) → count ≡ 8 → HasHeldAs ⊥ count has (AndStand then f u (stored a)) t u a b → HasHeldAs (8 < 8) 8 has then t u a b
@@ -169,7 +138,7 @@ module _ {D : Type 0} {g : Ghosts D} where
     pages = one.pages;
     held = λ honest m reads known.
         let was = one.held honest m reads known in
-        record { n = was.n; reads = was.reads; by = subst (λ (k : ℕ). IsHeldBy k m was.n) all was.by; done = was.done.0; all = λ never. absurd (omega arith) };
+        record { n = was.n; reads = was.reads; by = rw all at was.by; done = was.done.0; all = λ never. absurd (omega arith) };
     writes = let writes = one.writes in omega arith;
     taken = let taken = one.taken in omega arith;
   }
@@ -185,7 +154,5 @@ module _ {D : Type 0} {g : Ghosts D} where
   }
 
   pub less_not_held : (most : ℕ) (has more : KeyMap → Type 0) (t : Txn) (a b : Pages D g) (e : TreeError) → ((m : KeyMap) → more m → has m) → HoldErrOf most has t a b e → HoldErrOf most more t a b e
-  less_not_held most has more t a b DeviceFault gives why = why
-  less_not_held most has more t a b Halted gives why = why
   less_not_held most has more t a b Memory gives why = tt
-  less_not_held most has more t a b _ gives why = λ honest m reads known. why honest m reads (gives m known)
+  less_not_held most has more t a b _ gives why = search (why, gives)

@@ -43,36 +43,29 @@ cut_end cs all first place was most least = search (arith, nil_from_length (drop
 abbrev cut_or_go_on : Bool → ℕ → ℕ → ℕ → List ℕ → List ℕ
 cut_or_go_on b c d n ds = cond b (runs_from c (n + 1) ds) (n ∷ runs_from d 1 ds)
 
-whole_from : (c n : ℕ) (ds xs : List ℕ) → length xs ≡ n + length ds → concat (parts (runs_from c n ds) xs) ≡ xs
-whole_from c n [] xs long = append-nil (take n xs) ∙ take_all n xs (omega arith)
-whole_from c n (d ∷ ds) xs long = elim (eqb d c) as (λ (b : Bool). concat (parts (cut_or_go_on b c d n ds) xs) ≡ xs) [
-  | true ↦ whole_from c (n + 1) ds xs (omega arith)
-  | false ↦ ap (λ (rest : List ℕ). take n xs ++ rest) (whole_from d 1 ds (drop n xs) (omega (arith, length-drop n xs))) ∙ take-append-drop n xs
-]
+cut_from : (c n : ℕ) (ds xs : List ℕ) → length xs ≡ n + length ds → (concat (parts (runs_from c n ds) xs) ≡ xs) × (map length (parts (runs_from c n ds) xs) ≡ runs_from c n ds)
+cut_from c n [] xs long = (append-nil (take n xs) ∙ take_all n xs (omega arith), ap (λ m. m ∷ []) (length-take-le n xs (omega arith)))
+cut_from c n (d ∷ ds) xs long =
+    elim (eqb d c) as (λ (b : Bool). (concat (parts (cut_or_go_on b c d n ds) xs) ≡ xs) × (map length (parts (cut_or_go_on b c d n ds) xs) ≡ cut_or_go_on b c d n ds)) [
+      | true ↦ cut_from c (n + 1) ds xs (omega arith)
+      | false ↦ (
+          let rest = cut_from d 1 ds (drop n xs) (omega (arith, length-drop n xs)) in (
+            ap (λ (more : List ℕ). take n xs ++ more) rest.0 ∙ take-append-drop n xs,
+            ap (λ m. m ∷ map length (parts (runs_from d 1 ds) (drop n xs))) (length-take-le n xs (omega arith)) ∙ ap (λ ms. n ∷ ms) rest.1,
+          ))
+    ]
 
-lengths_from : (c n : ℕ) (ds xs : List ℕ) → length xs ≡ n + length ds → map length (parts (runs_from c n ds) xs) ≡ runs_from c n ds
-lengths_from c n [] xs long = ap (λ m. m ∷ []) (length-take-le n xs (omega arith))
-lengths_from c n (d ∷ ds) xs long = elim (eqb d c) as (λ (b : Bool). map length (parts (cut_or_go_on b c d n ds) xs) ≡ cut_or_go_on b c d n ds) [
-  | true ↦ lengths_from c (n + 1) ds xs (omega arith)
-  | false ↦ ap (λ m. m ∷ map length (parts (runs_from d 1 ds) (drop n xs))) (length-take-le n xs (omega arith))
-      ∙ ap (λ ms. n ∷ ms) (lengths_from d 1 ds (drop n xs) (omega (arith, length-drop n xs)))
-]
-
-whole_runs : (cs xs : List ℕ) → length xs ≡ length cs → concat (parts (runs cs) xs) ≡ xs
-whole_runs [] xs long = sym (nil_from_length xs long)
-whole_runs (c ∷ cs) xs long = whole_from c 1 cs xs (omega arith)
-
-lengths_runs : (cs xs : List ℕ) → length xs ≡ length cs → map length (parts (runs cs) xs) ≡ runs cs
-lengths_runs [] xs long = refl
-lengths_runs (c ∷ cs) xs long = lengths_from c 1 cs xs (omega arith)
-
-pub lists_cut : ListsAreCut
-lists_cut g xs long = search (length-map, long, whole_runs, lengths_runs)
-
--- ---- counties
+cut_runs : (cs xs : List ℕ) → length xs ≡ length cs → (concat (parts (runs cs) xs) ≡ xs) × (map length (parts (runs cs) xs) ≡ runs cs)
+cut_runs [] xs long = (sym (nil_from_length xs long), refl)
+cut_runs (c ∷ cs) xs long = cut_from c 1 cs xs (omega arith)
 
 pub counties_long : (g : GeographyModel) → length (counties g) ≡ length g.blocks
 counties_long g = length-map (ids g) county_of ∙ length-map g.blocks (λ (b : BlockRow). b.id)
+
+pub lists_cut : ListsAreCut
+lists_cut g xs long = let is = cut_runs (counties g) xs (long ∙ sym (counties_long g)) in record { whole = is.0; lengths = is.1 }
+
+-- ---- counties
 
 pub county_there : (g : GeographyModel) (k : ℕ) (row : BlockRow) → k < length g.blocks → row ≡ get_or g.blocks k row → get_or (counties g) k 0 ≡ county_of row.id
 county_there g k row within is =

@@ -58,23 +58,11 @@ pub record RevisionsAreKept : Type 0 where
 abbrev pub patch_text : List ℕ
 patch_text = codes "BLOCKID|DISTRICT\n190030001001001|1\n190030001001002|1\n"
 
--- one of them
-abbrev pub part_text : List ℕ
-part_text = codes "BLOCKID|DISTRICT\n190030001001001|1\n"
-
--- the plan a with a second revision, in which county 003 has changed
-abbrev pub with_patch : Desk
-with_patch = desk_of (plan_of ((1 ∷ 1 ∷ 2 ∷ 2 ∷ []) ∷ (1 ∷ 1 ∷ 1 ∷ 1 ∷ []) ∷ []))
-
--- the plan a with one revision of one county
-abbrev pub with_part : Desk
-with_part = desk_of (plan_of ((0 ∷ 0 ∷ 1 ∷ 1 ∷ []) ∷ []))
-
 -- a patch keeps the counties that it does not list, or leaves them unassigned before the first revision; a county in part is refused
 pub record CountiesArePatched : Type 0 where
-  pub made : step with_county (Counties name_a 1 patch_text) ≡ (reply.Created name_a 2, with_patch)
-  pub first : step with_a (Counties name_a 0 patch_text) ≡ (reply.Created name_a 1, with_part)
-  pub part : step with_county (Counties name_a 1 part_text) ≡ (reply.Refused (NotWholeCounty 3), with_county)
+  pub made : step with_county (Counties name_a 1 patch_text) ≡ (reply.Created name_a 2, desk_of (plan_of ((1 ∷ 1 ∷ 2 ∷ 2 ∷ []) ∷ (1 ∷ 1 ∷ 1 ∷ 1 ∷ []) ∷ [])))
+  pub first : step with_a (Counties name_a 0 patch_text) ≡ (reply.Created name_a 1, desk_of (plan_of ((0 ∷ 0 ∷ 1 ∷ 1 ∷ []) ∷ [])))
+  pub part : step with_county (Counties name_a 1 (codes "BLOCKID|DISTRICT\n190030001001001|1\n")) ≡ (reply.Refused (NotWholeCounty 3), with_county)
   pub stale : step with_county (Counties name_a 0 patch_text) ≡ (reply.Refused (Stale 1), with_county)
 
 -- a plan is taken away once
@@ -89,14 +77,10 @@ beside_a b = record with_county { plans = map_of.insert with_county.plans name_b
 abbrev pub with_fork : Desk
 with_fork = beside_a (plan_of ((1 ∷ 1 ∷ 2 ∷ 2 ∷ []) ∷ []))
 
--- the fork b with a second revision, in which county 003 has changed
-abbrev pub with_patched_fork : Desk
-with_patched_fork = beside_a (plan_of ((1 ∷ 1 ∷ 2 ∷ 2 ∷ []) ∷ (1 ∷ 1 ∷ 1 ∷ 1 ∷ []) ∷ []))
-
 -- a plan is forked under a new name from a revision that is there; what changes after it changes one of the two alone
 pub record PlansAreForked : Type 0 where
   pub made : step with_county (Fork name_b (name_a, 1)) ≡ (reply.Created name_b 1, with_fork)
-  pub patched : step with_fork (Counties name_b 1 patch_text) ≡ (reply.Created name_b 2, with_patched_fork)
+  pub patched : step with_fork (Counties name_b 1 patch_text) ≡ (reply.Created name_b 2, beside_a (plan_of ((1 ∷ 1 ∷ 2 ∷ 2 ∷ []) ∷ (1 ∷ 1 ∷ 1 ∷ 1 ∷ []) ∷ [])))
   pub no_revision : step with_county (Fork name_b (name_a, 9)) ≡ (reply.Refused NoRevision, with_county)
   pub none_before : step with_county (Fork name_b (name_a, 0)) ≡ (reply.Refused NoRevision, with_county)
   pub no_plan : step with_county (Fork name_b (name_c, 1)) ≡ (reply.Refused NoPlan, with_county)

@@ -13,6 +13,7 @@ pub fn lists_are_cut()
 {}
 
 /// The blocks are cut into their counties, which rise.
+#[tactic(auto, using(crate::proofs::Runs::counties_cut))]
 pub fn ranges_are_counties()
     ensures { RangesAreCounties }
 {}

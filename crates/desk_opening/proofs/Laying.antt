@@ -1,10 +1,44 @@
 -- The counties of a revision, laid one after the other over the districts of the one before.
 use Rattle.{std.{specs.List.concat, proofs.{Math.Seq.take-add, lemmas.{Bool.cases_lt, List.Elements.{All-drop, All-take}}}}, desk_catalogue.specs.shared_lists.Laid.with_at}
-use Rattle.std.proofs.Common.{rules, ◌≡◌, ◌<◌, ◌≤◌, ◌+◌, ◌-◌, ◌++◌, ℕ, zero, suc, List, [], ◌∷◌, length, get_or, take, take_all, drop, map, refl, sym, ap, subst, ◌∙◌, arith, append_assoc, length-append, length-drop, inl, inr}
+use Rattle.std.proofs.Common.{rules, ◌≡◌, ◌<◌, ◌≤◌, ◌+◌, ◌-◌, ◌++◌, ℕ, zero, suc, List, [], ◌∷◌, length, get_or, take, take_all, drop, map, refl, sym, ap, subst, ◌∙◌, arith, append_assoc, length-append, length-drop, inl, inr, ◌*◌, ◌^◌}
 use Rattle.std.proofs.lemmas.List.{append-nil, drop-append-le, drop-drop, drop_all, drop_at, length-take-le, take_at, take-append-drop, take-append-le}
-use Rattle.{desk_model.specs.{Ranges.{laid, ListsAreCut}, declared.ranges.CountyRange.CountyRange}, plan_rows.specs.ChunkReading.HasPieces, store_rows.specs.claim.Rows.KeyMap}
-use Rattle.{desk_opening.specs.Reading.{AreCountiesOf, AreNamed, AreChunksRead, IsCounty, IsCountyRead, IsLaid, no_cut, part_of}, store_rows.specs.claim.RevisionRows.HasChunk}
-use Rattle.desk_opening.proofs.Chunks.{one_chunk}
+use Rattle.{desk_model.specs.{Ranges.{laid, ListsAreCut}, claim.Room.rows_for, declared.ranges.CountyRange.CountyRange}, plan_rows.specs.ChunkReading.HasPieces}
+use Rattle.{desk_opening.specs.Reading.{AreCountiesOf, AreNamed, AreChunksRead, IsCounty, IsCountyRead, IsLaid, no_cut, part_of}, store_rows.specs.claim.Lists.districts_bytes}
+use Rattle.{store_rows.specs.claim.{RevisionRows.HasChunk, Rows.KeyMap}, desk_pages.proofs.ListParts.{part_there, some_of_part, most_of_part, each_of_part, parts_more}}
+use Rattle.store_rows.proofs.{ChunkRows.few_rows, ListLaws.districts_differ, OneGeography.value_is as given}
+
+-- ---- a number names one list of so many districts
+module _ (m : KeyMap) (number : ℕ) (a b : List ℕ) (one : HasChunk m number a) (other : HasChunk m number b) (long : length a ≡ length b) where
+  same_piece : (k : ℕ) → k < 2 ^ 16 → 512 * k < length a → take 512 (drop (512 * k) a) ≡ take 512 (drop (512 * k) b)
+  same_piece k few within =
+      let there : 512 * k < length b = omega arith in
+      districts_differ (take 512 (drop (512 * k) a)) (take 512 (drop (512 * k) b))
+      (record { some = some_of_part 512 (512 * k) a (omega arith) within; most = most_of_part 512 (512 * k) a; each = each_of_part (λ d. d < 2 ^ 16) 512 (512 * k) a one.each })
+      (record { some = some_of_part 512 (512 * k) b (omega arith) there; most = most_of_part 512 (512 * k) b; each = each_of_part (λ d. d < 2 ^ 16) 512 (512 * k) b other.each })
+      (given (districts_bytes (take 512 (drop (512 * k) a))) (districts_bytes (take 512 (drop (512 * k) b)))
+      (sym (part_there 512 districts_bytes a k within) ∙ sym (one.pieces k few) ∙ other.pieces k few ∙ part_there 512 districts_bytes b k there))
+
+  same_prefix : (k : ℕ) → ((i : ℕ) → i < k → (i < 2 ^ 16) × (512 * i < length a)) → take (512 * k) a ≡ take (512 * k) b
+  same_prefix zero within = refl
+  same_prefix (suc k) within =
+      let here = within k (omega arith) in
+      let prefixes : take (512 * k) a ≡ take (512 * k) b = same_prefix k (λ i less. within i (omega arith)) in
+      let next : suc k ≡ k + 1 = omega arith in
+      rw next (sym (parts_more 512 k a) ∙ (λ i. prefixes i ++ same_piece k here.0 here.1 i) ∙ parts_more 512 k b)
+
+  pub one_chunk : a ≡ b
+  one_chunk =
+      let few = one.few in
+      let end : length a ≤ 512 * rows_for 512 (length a) = all_rows (length a) in
+      sym (take_all (512 * rows_for 512 (length a)) a end)
+      ∙ same_prefix (rows_for 512 (length a)) (λ i less. (few_rows (length a) i few less, within_rows (length a) i less))
+      ∙ take_all (512 * rows_for 512 (length a)) b (omega arith)
+    where
+      all_rows : (n : ℕ) → n ≤ 512 * rows_for 512 n
+      all_rows n = omega arith
+
+      within_rows : (n i : ℕ) → i < rows_for 512 n → 512 * i < n
+      within_rows n i less = omega arith
 
 -- ---- a part in the place of its own
 pub with_long : (first : ℕ) (part ds : List ℕ) → first + length part ≤ length ds → length (with_at first part ds) ≡ length ds
@@ -87,10 +121,6 @@ place_more k [] d within = absurd (omega arith)
 place_more zero (c ∷ ranges) d within = omega arith
 place_more (suc k) (c ∷ ranges) d within = let rest = place_more k ranges d (omega arith) in omega arith
 
-never_past : (k : ℕ) (ranges : List CountyRange) → place_at k ranges ≤ place_at (length ranges) ranges
-never_past (suc k) (c ∷ ranges) = let rest = never_past k ranges in omega arith
-never_past _ _ = omega arith
-
 place_rises : (j k : ℕ) (ranges : List CountyRange) → j ≤ k → place_at j ranges ≤ place_at k ranges
 place_rises (suc j) zero ranges less = absurd (omega arith)
 place_rises (suc j) (suc k) (c ∷ ranges) less = let rest = place_rises j k ranges (omega arith) in omega arith
@@ -142,7 +172,7 @@ module _ (lists : ListsAreCut) (ranges : List CountyRange) (count : ℕ) (are : 
     ends = let at = begins in let more = place_more k ranges d within in omega arith
 
     pub county_fits : (xs : List ℕ) → length xs ≡ count → here.first + here.count ≤ length xs
-    county_fits xs whole = search (rules, ends, never_past, all_placed)
+    county_fits xs whole = omega (arith, ends, place_rises (suc k) (length ranges) ranges (omega arith), all_placed xs whole)
 
     module _ (n : ℕ) (names last before all districts : List ℕ) (number : ℕ) (m : KeyMap) (whole : length before ≡ count)
         (said : AreNamed n ranges names last before m all) (each : length names ≡ length ranges) (numbered : number ≡ get_or names k 0)
@@ -163,14 +193,10 @@ module _ (lists : ListsAreCut) (ranges : List CountyRange) (count : ℕ) (are : 
       pub is_county : IsCounty n number here last k districts m chunk_of
       is_county =
           let there : k < length names = omega arith in
+          let has = subst (λ k. HasChunk m k chunk_of) (sym numbered) (said.named k d there within) in
+          let few = All-take (λ (x : ℕ). x ≤ n) here.count (drop here.first all) (All-drop (λ (x : ℕ). x ≤ n) here.first all said.within) in
           record {
-            is = record {
-              is = record {
-                has = subst (λ k. HasChunk m k chunk_of) (sym numbered) (said.named k d there within);
-                long = part_long here.first here.count all before fits;
-              };
-              within = All-take (λ (x : ℕ). x ≤ n) here.count (drop here.first all) (All-drop (λ (x : ℕ). x ≤ n) here.first all said.within);
-            };
+            is = record { is = record { has = has; long = part_long here.first here.count all before fits }; within = few };
             known = λ known. subst (λ (l : List ℕ). HasChunk m (get_or last k 0) l) (sym still_before) (said.known k d known within);
           }
 

@@ -33,9 +33,5 @@ module _ (g : GeographyModel) (plans : FinMap name_cmp Plan) (row : Row) (m : Ke
   pub is_kept_plan : IsKeptPlan row m
   is_kept_plan =
       let p = plan_row_of has_plan.0 plan.1 in
-      record {
-        plan = p;
-        fits = has_plan.1.number_fits;
-        value = value_is row.value (plan_bytes p) (sym value_there);
-        kept = is.tidy.owned.gone plan.0 has_plan.0 (record { plan = p; row = has_plan.1.row; is = refl; fits = has_plan.1.number_fits });
-      }
+      let kept = is.tidy.owned.gone plan.0 has_plan.0 (record { plan = p; row = has_plan.1.row; is = refl; fits = has_plan.1.number_fits }) in
+      record { plan = p; fits = has_plan.1.number_fits; value = value_is row.value (plan_bytes p) (sym value_there); kept = kept }

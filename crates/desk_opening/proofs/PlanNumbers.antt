@@ -1,14 +1,14 @@
 -- Numbers of plans, each once, with the counts of their revisions.
-use Rattle.std.specs.{BTreeMap.{BTreeMap, IsEmpty, is_at, get as count_at}, Cmp.{eq_by_cmp_equiv, nat_cmp_total}, FinMap.{entries, find, get}, Int.from_be_bytes, Map.lookup}
-use Rattle.std.{specs.{Ordering.{eq_by_cmp, nat_cmp}, Prelude.Contains}, proofs.lemmas.{Map.{Lookups.exact_unsigned, Views.tells_apart}, Nat.from_be_bytes-to_be_bytes_8}}
-use Rattle.std.proofs.Common.{rules, ◌≡◌, ◌⊎◌, ◌<◌, ◌^◌, ℕ, zero, suc, cond, List, [], ◌∷◌, ◌++◌, Bool, true, Option, Some, None, inl, inr, w64, refl, sym, ap, subst, ◌∙◌, arith, append_assoc}
+use Rattle.std.specs.{BTreeMap.{BTreeMap, IsEmpty, is_at, get as count_at}, FinMap.{entries, find, get}, Int.from_be_bytes, List.AllByRecursion, Map.lookup}
+use Rattle.std.{specs.Ordering.{eq_by_cmp, nat_cmp}, proofs.lemmas.{Map.{Lookups.exact_unsigned, Views.tells_apart}, Nat.from_be_bytes-to_be_bytes_8}}
+use Rattle.std.proofs.Common.{rules, ◌≡◌, ◌⊎◌, ◌<◌, ◌^◌, ℕ, cond, List, [], ◌∷◌, ◌++◌, Bool, true, Option, Some, None, inl, inr, w64, refl, sym, ap, subst, ◌∙◌, arith, append_assoc}
 use Rattle.{btree_walks.specs.{Prefixes.under, declared.rows.Row.Row}, desk_model.specs.claim.{Desk.Plan, Geography.GeographyModel}, desk_pages.specs.Looking.Says}
 use Rattle.{desk_opening.specs.Opening.{AreCounts, ArePlans, ArePlansApart, HasNoPlans, IsFreshPlan, IsNoted, IsUnused, NoteErr}, desk_pages.specs.Reading.SeekErr}
 use Rattle.{page_btree.specs.{declared.error.TreeError.{TreeError, TheVariants.{NotAStore, Memory}}, page_node.claim.Entries.Entry}, page_store.specs.declared.pages.Pages.Pages}
 use Rattle.{page_store.specs.declared.txn.Txn.Txn, sector_device.specs.declared.SectorDevice.Ghosts, store_rows.specs.{Changes.plan_row_of, claim.DeskRows.IsPlanAt}}
 use Rattle.store_rows.specs.{claim.{Keys.{key_of, named, plans_prefix}, Order.key_cmp, Rows.{KeyMap, Has}, Tidy.IsNumbered, Values.plan_bytes}, declared.value.PlanRow.PlanRow}
-use Rattle.{desk_opening.proofs.{NewPlans.is_kept_plan, Parts.Plans, Scanned.{found_among, next_plan}}, store_rows.proofs.Frames.{either_way, is_equal, itself, same_key}}
-use Rattle.store_rows.proofs.{OneGeography.{no_value, value_is}, Sharing.later_one as later_in}
+use Rattle.{btree_walks.proofs.RowsFound.{all_found, all_more}, desk_opening.proofs.{NewPlans.is_kept_plan, Parts.{Plans, found_among, next_plan}}, page_btree.proofs.Rows.all_map}
+use Rattle.store_rows.proofs.{Frames.{either_way, is_equal, itself, same_key}, OneGeography.{no_value, value_is}}
 
 -- ---- the number that a row's value begins with
 pub number_in : List ℕ → ℕ
@@ -18,42 +18,16 @@ number_is : (p : PlanRow) → p.number < 2 ^ 64 → number_in (plan_bytes p) ≡
 unfolding number_in
 number_is p fits = from_be_bytes-to_be_bytes_8 p.number fits
 
-abbrev pub numbers_of : List Entry → List ℕ
-numbers_of [] = []
-numbers_of (e ∷ es) = number_in e.1 ∷ numbers_of es
-
-numbers_more : (es : List Entry) (e : Entry) → numbers_of (es ++ e ∷ []) ≡ numbers_of es ++ number_in e.1 ∷ []
-numbers_more [] e = refl
-numbers_more (f ∷ es) e = ap (λ (l : List ℕ). number_in f.1 ∷ l) (numbers_more es e)
-
--- ---- lists without a number twice
-abbrev pub AreApart : List ℕ → Type 0
+-- each is another than those of the rows after it
+abbrev pub AreApart : List Entry → Type 0
 AreApart [] = Unit {0}
-AreApart (x ∷ xs) = (Contains xs x → ⊥) × AreApart xs
+AreApart (e ∷ es) = AllByRecursion (λ (f : Entry). number_in f.1 ≡ number_in e.1 → ⊥) es × AreApart es
 
-none_in : (x : ℕ) → Contains [] x → ⊥
-none_in x (i, within, is) = omega arith
-
-first_in : (x y : ℕ) (xs : List ℕ) → x ≡ y → Contains (x ∷ xs) y
-first_in x y xs is = (0, omega arith, is)
-
-of_two : (x y : ℕ) (xs : List ℕ) → Contains (x ∷ xs) y → (x ≡ y) ⊎ Contains xs y
-of_two x y xs (zero, within, is) = inl is
-of_two x y xs (suc i, within, is) = inr (i, omega arith, is)
-
-of_more : (xs : List ℕ) (y x : ℕ) → Contains (xs ++ y ∷ []) x → Contains xs x ⊎ (y ≡ x)
-of_more [] y x there = elim (of_two y x [] there) [ inl same ↦ inr same | inr none ↦ absurd (none_in x none) ]
-of_more (z ∷ xs) y x there = elim (of_two z x (xs ++ y ∷ []) there) [
-  | inl same ↦ inl (first_in z x xs same)
-  | inr later ↦ elim (of_more xs y x later) [ inl one ↦ inl (later_in z x xs one) | inr same ↦ inr same ]
-]
-
-apart_more : (xs : List ℕ) (y : ℕ) → AreApart xs → (Contains xs y → ⊥) → AreApart (xs ++ y ∷ [])
-apart_more [] y apart new = (none_in y, tt)
-apart_more (x ∷ xs) y apart new = (
-  λ there. elim (of_more xs y x there) [ inl one ↦ apart.0 one | inr same ↦ new (first_in x y xs (sym same)) ],
-  apart_more xs y apart.1 (λ there. new (later_in x y xs there)),
-)
+apart_more : (es : List Entry) (e : Entry) → AreApart es → AllByRecursion (λ (f : Entry). number_in f.1 ≡ number_in e.1 → ⊥) es
+    → AreApart (es ++ e ∷ [])
+apart_more [] e apart new = (tt, tt)
+apart_more (f ∷ es) e apart new =
+    (all_more (λ (x : Entry). number_in x.1 ≡ number_in f.1 → ⊥) es e (λ same. new.0 (sym same)) apart.0, apart_more es e apart.1 new.1)
 
 -- a number is that of a row, which counts so many revisions
 pub record IsAmong (rows : List Entry) (number count : ℕ) : Type 0 where
@@ -68,11 +42,15 @@ pub record IsAmong (rows : List Entry) (number count : ℕ) : Type 0 where
   pub counts : plan.revisions ≡ count
   pub count_fits : count < 2 ^ 32
 
+-- that of a row was noted, with a count
+abbrev pub HasNote : BTreeMap ℕ ℕ → Entry → Type 0
+HasNote counts e = (count : ℕ) × (count_at nat_cmp counts (number_in e.1) ≡ Some count)
+
 -- these are the numbers of the rows, each of which has one of its own, with the counts of revisions
 pub record AreNoted (rows : List Entry) (counts : BTreeMap ℕ ℕ) : Type 0 where
   pub among : (x count : ℕ) → count_at nat_cmp counts x ≡ Some count → IsAmong rows x count
-  pub all : (x : ℕ) → Contains (numbers_of rows) x → (count : ℕ) × (count_at nat_cmp counts x ≡ Some count)
-  pub apart : AreApart (numbers_of rows)
+  pub all : AllByRecursion (HasNote counts) rows
+  pub apart : AreApart rows
 
 pub some_or_none : (count : ℕ) → ◌≡◌ {A = Option ℕ} (Some count) None → ⊥
 some_or_none count same = cc
@@ -84,7 +62,7 @@ none_at : (counts : BTreeMap ℕ ℕ) → IsEmpty counts → (x : ℕ) → count
 none_at counts empty x = ap (λ (es : List (ℕ × ℕ)). lookup (is_at (nat_cmp x)) es) empty
 
 pub none_noted : (counts : BTreeMap ℕ ℕ) → IsEmpty counts → AreNoted [] counts
-none_noted counts empty = search rules
+none_noted counts empty = record { among = λ x count there. absurd (some_or_none count (sym there ∙ none_at counts empty x)); all = tt; apart = tt }
 
 -- ---- a map with one number more
 among_more : (rows : List Entry) (e : Entry) (x count : ℕ) → IsAmong rows x count → IsAmong (rows ++ e ∷ []) x count
@@ -95,27 +73,17 @@ noted_more rows row old new noted now = record {
   among = λ x count there. either_way (is_at (nat_cmp n) x) (IsAmong (rows ++ e ∷ []) x count)
       (λ here.
       let same : n ≡ x = tells_apart exact_unsigned n x here in
-      let counted : now.plan.revisions ≡ count = count_is now.plan.revisions count (sym (now.is.0 x ∙ ap (λ (b : Bool). cond b (Some now.plan.revisions) (count_at nat_cmp old x)) here) ∙ there) in
-      record {
-        before = rows;
-        row = e;
-        after = [];
-        whole = refl;
-        plan = now.plan;
-        value = now.value;
-        is = same;
-        fits = subst (λ (k : ℕ). k < 2 ^ 64) same now.fits;
-        counts = counted;
-        count_fits = subst (λ (k : ℕ). k < 2 ^ 32) counted now.count_fits;
-      })
+      let so : now.plan.revisions ≡ count = count_is now.plan.revisions count (sym (now_at x here) ∙ there) in
+      let fits = subst (λ (k : ℕ). k < 2 ^ 64) same now.fits in
+      let few = subst (λ (k : ℕ). k < 2 ^ 32) so now.count_fits in
+      let plan = now.plan in let value = now.value in
+      record { before = rows; row = e; after = []; whole = refl; plan = plan; value = value; is = same; fits = fits; counts = so; count_fits = few })
       (λ other. among_more rows e x count (noted.among x count (sym (now.is.2 x other) ∙ there)));
-  all = λ x there. elim (of_more (numbers_of rows) n x (subst (λ (l : List ℕ). Contains l x) listed there)) [
-    | inl before ↦ either_way (is_at (nat_cmp n) x) ((count : ℕ) × (count_at nat_cmp new x ≡ Some count))
-        (λ here. (now.plan.revisions, now.is.0 x ∙ ap (λ (b : Bool). cond b (Some now.plan.revisions) (count_at nat_cmp old x)) here))
-        (λ other. let was = noted.all x before in (was.0, now.is.2 x other ∙ was.1))
-    | inr same ↦ (now.plan.revisions, now.is.0 x ∙ ap (λ (b : Bool). cond b (Some now.plan.revisions) (count_at nat_cmp old x)) (subst (λ (k : ℕ). is_at (nat_cmp n) k ≡ true) same ((eq_by_cmp_equiv nat_cmp_total).refl n)))
-  ];
-  apart = subst AreApart (sym listed) (apart_more (numbers_of rows) n noted.apart (λ there. let was = noted.all n there in some_or_none was.0 (sym was.1 ∙ now.unused)));
+  all = all_more (HasNote new) rows e (now.plan.revisions, ap (count_at nat_cmp new) number_e ∙ now.is.1)
+      (all_map (HasNote old) (HasNote new) (λ f has. either_way (is_at (nat_cmp n) (number_in f.1)) (HasNote new f)
+      (λ here. (now.plan.revisions, now_at (number_in f.1) here)) (λ other. (has.0, now.is.2 (number_in f.1) other ∙ has.1))) rows noted.all);
+  apart = apart_more rows e noted.apart (all_map (HasNote old) (λ (f : Entry). number_in f.1 ≡ number_in e.1 → ⊥)
+      (λ f has same. some_or_none has.0 (sym has.1 ∙ ap (count_at nat_cmp old) (same ∙ number_e) ∙ now.unused)) rows noted.all);
 }
   where
     e : Entry
@@ -124,8 +92,11 @@ noted_more rows row old new noted now = record {
     n : ℕ
     n = now.plan.number
 
-    listed : numbers_of (rows ++ e ∷ []) ≡ numbers_of rows ++ n ∷ []
-    listed = numbers_more rows e ∙ ap (λ (k : ℕ). numbers_of rows ++ k ∷ []) (ap number_in now.value ∙ number_is now.plan now.fits)
+    number_e : number_in row.value ≡ n
+    number_e = ap number_in now.value ∙ number_is now.plan now.fits
+
+    now_at : (x : ℕ) → is_at (nat_cmp n) x ≡ true → count_at nat_cmp new x ≡ Some now.plan.revisions
+    now_at x here = now.is.0 x ∙ ap (λ (b : Bool). cond b (Some now.plan.revisions) (count_at nat_cmp old x)) here
 
 -- ---- rows by their numbers
 some_found : (key : List ℕ) (before : List Entry) (e : Entry) (after : List Entry) → find key_cmp key (before ++ e ∷ after) ≡ None → key ≡ e.0 → ⊥
@@ -134,25 +105,24 @@ some_found key (f ∷ before) e after none same = either_way (eq_by_cmp key_cmp 
     (λ here. no_value f.1 (sym (ap (λ (b : Bool). cond b (Some f.1) (find key_cmp key (before ++ e ∷ after))) here) ∙ none))
     (λ other. some_found key before e after (sym (ap (λ (b : Bool). cond b (Some f.1) (find key_cmp key (before ++ e ∷ after))) other) ∙ none) same)
 
-number_found : (key value : List ℕ) (es : List Entry) → find key_cmp key es ≡ Some value → Contains (numbers_of es) (number_in value)
-number_found key value [] there = absurd (no_value value (sym there))
-number_found key value (e ∷ es) there = either_way (eq_by_cmp key_cmp key e.0) (Contains (numbers_of (e ∷ es)) (number_in value))
-    (λ here. first_in (number_in e.1) (number_in value) (numbers_of es) (ap number_in (value_is e.1 value (sym (ap (λ (b : Bool). cond b (Some e.1) (find key_cmp key es)) here) ∙ there))))
-    (λ other. later_in (number_in e.1) (number_in value) (numbers_of es) (number_found key value es (sym (ap (λ (b : Bool). cond b (Some e.1) (find key_cmp key es)) other) ∙ there)))
+found_or_later : (key value : List ℕ) (e : Entry) (es : List Entry) → find key_cmp key (e ∷ es) ≡ Some value
+    → ((key ≡ e.0) × (number_in e.1 ≡ number_in value)) ⊎ (find key_cmp key es ≡ Some value)
+found_or_later key value e es there = either_way (eq_by_cmp key_cmp key e.0) _
+    (λ here. inl (same_key key e.0 (is_equal (key_cmp key e.0) here), ap number_in (value_is e.1 value (sym (ap (λ (b : Bool). cond b (Some e.1) (find key_cmp key es)) here) ∙ there))))
+    (λ other. inr (sym (ap (λ (b : Bool). cond b (Some e.1) (find key_cmp key es)) other) ∙ there))
 
-one_key : (a b va vb : List ℕ) (es : List Entry) → AreApart (numbers_of es) → find key_cmp a es ≡ Some va → find key_cmp b es ≡ Some vb → number_in va ≡ number_in vb → a ≡ b
+one_key : (a b va vb : List ℕ) (es : List Entry) → AreApart es → find key_cmp a es ≡ Some va → find key_cmp b es ≡ Some vb → number_in va ≡ number_in vb → a ≡ b
 one_key a b va vb [] apart there also same = absurd (no_value va (sym there))
-one_key a b va vb (e ∷ es) apart there also same = either_way (eq_by_cmp key_cmp a e.0) (a ≡ b)
-    (λ here.
-    let first : number_in e.1 ≡ number_in va = ap number_in (value_is e.1 va (sym (ap (λ (x : Bool). cond x (Some e.1) (find key_cmp a es)) here) ∙ there)) in
-    either_way (eq_by_cmp key_cmp b e.0) (a ≡ b)
-    (λ too. same_key a e.0 (is_equal (key_cmp a e.0) here) ∙ sym (same_key b e.0 (is_equal (key_cmp b e.0) too)))
-    (λ other. absurd (apart.0 (subst (Contains (numbers_of es)) (sym (first ∙ same)) (number_found b vb es (sym (ap (λ (x : Bool). cond x (Some e.1) (find key_cmp b es)) other) ∙ also))))))
-    (λ apart_a. either_way (eq_by_cmp key_cmp b e.0) (a ≡ b)
-    (λ here.
-    let first : number_in e.1 ≡ number_in vb = ap number_in (value_is e.1 vb (sym (ap (λ (x : Bool). cond x (Some e.1) (find key_cmp b es)) here) ∙ also)) in
-    absurd (apart.0 (subst (Contains (numbers_of es)) (same ∙ sym first) (number_found a va es (sym (ap (λ (x : Bool). cond x (Some e.1) (find key_cmp a es)) apart_a) ∙ there)))))
-    (λ other. one_key a b va vb es apart.1 (sym (ap (λ (x : Bool). cond x (Some e.1) (find key_cmp a es)) apart_a) ∙ there) (sym (ap (λ (x : Bool). cond x (Some e.1) (find key_cmp b es)) other) ∙ also) same))
+one_key a b va vb (e ∷ es) apart there also same = elim (found_or_later a va e es there) [
+  | inl here ↦ elim (found_or_later b vb e es also) [
+    | inl too ↦ here.0 ∙ sym too.0
+    | inr later ↦ absurd (all_found (λ (f : Entry). number_in f.1 ≡ number_in e.1 → ⊥) b vb es apart.0 later (sym (here.1 ∙ same)))
+  ]
+  | inr later ↦ elim (found_or_later b vb e es also) [
+    | inl here ↦ absurd (all_found (λ (f : Entry). number_in f.1 ≡ number_in e.1 → ⊥) a va es apart.0 later (same ∙ sym here.1))
+    | inr both ↦ one_key a b va vb es apart.1 later both same
+  ]
+]
 
 -- where these are all rows of plans, each number is that of one
 pub all_apart : (m : KeyMap) (rows : List Entry) (counts : BTreeMap ℕ ℕ) → under plans_prefix (entries m) ≡ rows → AreNoted rows counts → ArePlansApart m
@@ -191,18 +161,12 @@ are_counts m rows counts all noted = record {
   are = λ number count there.
       let among = noted.among number count there in
       let at = next_plan m among.before among.row among.after (all ∙ among.whole) in
-      record {
-        name = at.name;
-        plan = among.plan;
-        row = ap (get m) (sym at.key) ∙ at.there ∙ ap Some among.value;
-        is = among.is;
-        counts = among.counts;
-        fits = among.fits;
-        count_fits = among.count_fits;
-      };
+      let row = ap (get m) (sym at.key) ∙ at.there ∙ ap Some among.value in
+      record { name = at.name; plan = among.plan; row = row; is = among.is; counts = among.counts; fits = among.fits; count_fits = among.count_fits };
   all = λ name number is.
       let told : number_in (plan_bytes is.plan) ≡ number = number_is is.plan (let same = is.is in let few = is.fits in omega arith) ∙ is.is in
-      noted.all number (subst (Contains (numbers_of rows)) told (number_found (key_of (named name)) (plan_bytes is.plan) rows (found_among m rows name all ∙ is.row)));
+      let found = all_found (HasNote counts) (key_of (named name)) (plan_bytes is.plan) rows noted.all (found_among m rows name all ∙ is.row) in
+      (found.0, ap (count_at nat_cmp counts) (sym told) ∙ found.1);
 }
 
 pub none_counted : (m : KeyMap) (counts : BTreeMap ℕ ℕ) → IsEmpty counts → HasNoPlans m → AreCounts m counts

@@ -42,12 +42,9 @@ module _ (g : GeographyModel) (ranges : List CountyRange) (plan revision : ℕ) 
   -- with them the next revision is named
   module _ (n : ℕ) (whole : length before ≡ length g.blocks) (shown shown_last : List ℕ) (one : shown ≡ names) (other : shown_last ≡ last) where
     pub are_named : (all : List ℕ) → IsNext g n plan revision last before m all → AreNamed n ranges shown shown_last before m all
-    are_named all said = record {
-      long = said.is.whole ∙ sym whole;
-      within = said.within;
-      named = subst (λ (l : List CountyRange). AreKnown shown all l m) (sym same) (now_known g plan revision m shown all said.is (one ∙ are_names all said.is));
-      known = search rules;
-    }
+    are_named all said =
+        let named = subst (λ (l : List CountyRange). AreKnown shown all l m) (sym same) (now_known g plan revision m shown all said.is (one ∙ are_names all said.is)) in
+        record { long = said.is.whole ∙ sym whole; within = said.within; named = named; known = search rules }
 
     -- and what is read by them is it
     module _ (next : List ℕ) (is : IsTold (λ m all. AreChunksRead shown_last before ranges m → AreChunksRead shown all ranges m) (AreNamed n ranges shown shown_last before) (λ (all : List ℕ). all) m next) where
@@ -94,11 +91,18 @@ becomes_last g plan revision last before p m names next was known all said other
     search (last_is p next other is, known all (next_of g plan revision last before p m all was said))
 
 -- a plan's revisions, one after the other
-pub of_blocks : (g : GeographyModel) (name : List ℕ) (row : PlanRow) (m : KeyMap) (p : Plan) (i : ℕ) → IsPlanRow g name row m p → i < row.revisions → IsOfBlocks g row.number (i + 1) m (get_or p.revisions i [])
+of_blocks : (g : GeographyModel) (name : List ℕ) (row : PlanRow) (m : KeyMap) (p : Plan) (i : ℕ) → IsPlanRow g name row m p → i < row.revisions → IsOfBlocks g row.number (i + 1) m (get_or p.revisions i [])
 of_blocks g name row m p i is less = search rules
 
-pub within_at : (g : GeographyModel) (name : List ℕ) (row : PlanRow) (m : KeyMap) (p : Plan) (i : ℕ) → IsPlanRow g name row m p → i < row.revisions → AreWithin p.n (get_or p.revisions i [])
+within_at : (g : GeographyModel) (name : List ℕ) (row : PlanRow) (m : KeyMap) (p : Plan) (i : ℕ) → IsPlanRow g name row m p → i < row.revisions → AreWithin p.n (get_or p.revisions i [])
 within_at g name row m p i is less = search rules
+
+pub comes_after : (g : GeographyModel) (name : List ℕ) (row : PlanRow) (m : KeyMap) (p : Plan) (i : ℕ) (last : List ℕ) (entry : Plan)
+    → IsPlanRow g name row m p → i < row.revisions → entry.n ≡ row.districts
+    → NamesLast g last entry m → IsAfter g row.number (i + 1) last entry m (get_or p.revisions i [])
+comes_after g name row m p i last entry is less sized known =
+    let within = subst (λ (n : ℕ). AreWithin n (get_or p.revisions i [])) (sym (sized ∙ is.districts)) (within_at g name row m p i is less) in
+    record { is = of_blocks g name row m p i is less; within = within; known = known }
 
 pub one_revision_more : (name : List ℕ) (p : Plan) (i : ℕ) (entry next : List ℕ × Plan) → i < length p.revisions → entry ≡ (name, record p { revisions = take i p.revisions }) → next ≡ (entry.0, with_revision entry.1 (get_or p.revisions i [])) → next ≡ (name, record p { revisions = take (i + 1) p.revisions })
 one_revision_more name p i entry next within before is =

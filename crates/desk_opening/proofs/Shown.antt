@@ -1,11 +1,10 @@
 -- The plans that are shown are those whose rows a scan took, each with what its row says.
-use Rattle.std.specs.{Cmp.Lexicographic.nat_list_cmp_total, FinMap.{empty, entries, find, get, insert, get-empty, Entries.find-append}, Prelude.Option}
-use Rattle.{std.proofs.Common.{rules, ◌≡◌, ◌<◌, ◌^◌, ℕ, List, [], ◌∷◌, ◌++◌, length, Some, None, sym, ap, subst, ◌∙◌}, btree_walks.specs.{Prefixes.under, declared.rows.Row.Row}}
-use Rattle.{desk_model.specs.{claim.Desk.{Desk, Plan, name_cmp}, declared.ranges.CountyRange.CountyRange}, desk_opening.specs.Reading.AreRevisionsShown}
-use Rattle.{desk_opening.specs.Opening.{ArePlansShown, HasNothing, IsListed, IsNotGone, IsShown, IsShownAt}, desk_pages.specs.Desks.new_desk, store_rows.specs.Changes.plan_row_of}
-use Rattle.{page_btree.specs.page_node.claim.Entries.Entry, store_rows.specs.claim.{Keys.{key_of, named, plans_prefix, retired}, Order.key_cmp, Rows.{KeyMap, Lacks}}}
-use Rattle.{store_rows.specs.{claim.Values.plan_bytes, declared.value.PlanRow.PlanRow}, desk_opening.proofs.{Parts.{Plans, put_there, put_keeps}, Scanned.{found_among, next_plan}}}
-use Rattle.store_rows.proofs.{Changes.cases_key, Frames.{differs, itself}, OneGeography.no_value}
+use Rattle.{std.specs.{FinMap.{empty, entries, find, get, get-empty}, Prelude.Option}, btree_walks.specs.{Prefixes.under, declared.rows.Row.Row}, desk_pages.specs.Desks.new_desk}
+use Rattle.{std.proofs.Common.{◌≡◌, ◌<◌, ◌^◌, ℕ, List, [], ◌∷◌, ◌++◌, length, Some, None, refl, sym, ap, subst, subst₂, ◌∙◌}, desk_model.specs.claim.Desk.{Desk, Plan, name_cmp}}
+use Rattle.{desk_model.specs.declared.ranges.CountyRange.CountyRange, desk_opening.specs.Opening.{ArePlansShown, HasNothing, IsListed, IsNotGone, IsShown, IsShownAt}}
+use Rattle.{desk_opening.specs.Reading.AreRevisionsShown, page_btree.specs.page_node.claim.Entries.Entry, store_rows.specs.{Changes.plan_row_of, claim.Order.key_cmp}}
+use Rattle.store_rows.specs.{claim.{Keys.{key_of, named, plans_prefix, retired}, Rows.{KeyMap, Lacks}, Values.plan_bytes}, declared.value.PlanRow.PlanRow}
+use Rattle.{desk_opening.proofs.Parts.{Plans, at_more, found_among, next_plan}, store_rows.proofs.OneGeography.no_value}
 
 -- a row's numbers are those of the plan
 pub row_is : (row : PlanRow) (p : Plan) → p.kind ≡ row.kind → p.n ≡ row.districts → length p.revisions ≡ row.revisions → row ≡ plan_row_of row.number p
@@ -31,22 +30,16 @@ AreShown m ranges taken plans = (name : List ℕ) → IsShownAs m ranges (find k
 pub none_shown : (m : KeyMap) (ranges : List CountyRange) → AreShown m ranges [] empty
 none_shown m ranges name = get-empty name_cmp name
 
-module _ (m : KeyMap) (ranges : List CountyRange) (taken : List Entry) (plans : Plans) (shown : AreShown m ranges taken plans) (name : List ℕ) (p : Plan) (number : ℕ) (fits : number < 2 ^ 64) (kept : Lacks m (retired number)) (revisions : AreRevisionsShown number ranges m p) (new : find key_cmp (key_of (named name)) taken ≡ None) where
-  abbrev value : List ℕ
-  value = plan_bytes (plan_row_of number p)
-
-  one_more : AreShown m ranges (taken ++ (key_of (named name), value) ∷ []) (insert plans name p)
-  one_more other = search (rules, cases_key other name, find-append key_cmp nat_list_cmp_total taken, new, itself (key_of (named name)), put_there plans name p, differs, put_keeps)
-
 module _ (m : KeyMap) (ranges : List CountyRange) (rows : List Entry) (row : Row) (plans all : Plans) (after : List Entry) (whole : under plans_prefix (entries m) ≡ rows ++ (row.key, row.value) ∷ after) (shown : AreShown m ranges rows plans) (gone : IsNotGone row m) (listed : IsListed plans row ranges m all) where
   pub more_shown : AreShown m ranges (rows ++ (row.key, row.value) ∷ []) all
   more_shown =
-      let e : Entry = (row.key, row.value) in
-      let added = listed.added in
-      let fresh : find key_cmp (key_of (named added.name)) rows ≡ None = subst (λ (k : List ℕ). find key_cmp k rows ≡ None) added.key (next_plan m rows e after whole).new in
-      let more = one_more m ranges rows plans shown added.name added.plan added.number added.fits (gone (plan_row_of added.number added.plan) added.fits added.value) listed.revisions fresh in
-      let same : (key_of (named added.name), plan_bytes (plan_row_of added.number added.plan)) ≡ e = λ i. (sym added.key i, sym added.value i) in
-      subst (λ (n : Plans). AreShown m ranges (rows ++ e ∷ []) n) (sym added.is) (subst (λ (x : Entry). AreShown m ranges (rows ++ x ∷ []) (insert plans added.name added.plan)) same more)
+      let added = listed.added in let fits = added.fits in
+      let fresh : find key_cmp (key_of (named added.name)) rows ≡ None = subst (λ (k : List ℕ). find key_cmp k rows ≡ None) added.key (next_plan m rows (row.key, row.value) after whole).new in
+      let kept = gone (plan_row_of added.number added.plan) added.fits added.value in
+      let taken : IsTakenPlan m ranges row.value (Some added.plan) =
+      record { plan = added.plan; number = added.number; fits = fits; is = refl; bytes = added.value; kept = kept; revisions = listed.revisions } in
+      subst₂ (λ (k : List ℕ) (n : Plans). AreShown m ranges (rows ++ (k, row.value) ∷ []) n) (sym added.key) (sym added.is)
+      (at_more (λ _. IsShownAs m ranges) rows plans added.name added.plan row.value fresh taken shown)
 
 -- where these are all rows of plans
 shown_at : (m : KeyMap) (ranges : List CountyRange) (name : List ℕ) (row : Option (List ℕ)) (o : Option Plan) → get m (key_of (named name)) ≡ row → IsShownAs m ranges row o → IsShownAt m ranges name o

@@ -8,8 +8,8 @@ use Rattle.{page_store.specs.claim.Transactions.{stored, disk_in, IsQuiet, Passe
 use Rattle.{store_check.specs.Numbers.IsKept, store_rows.specs.claim.{DeskRows.IsPlanAt, GeographyRows.IsGeography, Keys.named, Rows.{KeyMap, Lacks}}}
 use Rattle.{desk_pages.proofs.{Looking.{looked, may_lack, not_looked, then_unread}, Reading.less_sought}, page_store.proofs.Stops.failed_more}
 
-none_at : (m : KeyMap) (name : List ℕ) (p : Option Plan) → IsPlanAt m None name p → p ≡ None
-none_at m name None is = refl
+none_at : (m : KeyMap) (name : List ℕ) (p : Option Plan) → IsPlanAt m None name p → (p ≡ None) × Lacks m (named name)
+none_at m name None lacks = (refl, lacks)
 none_at m name (Some p) is = absurd is
 
 module _ {new : Bool} (m : KeyMap) (d : Desk) (is : IsMapOf new m d) where
@@ -17,7 +17,7 @@ module _ {new : Bool} (m : KeyMap) (d : Desk) (is : IsMapOf new m d) where
   pub is_new : None ≡ d.geography → new_desk ≡ d
   is_new none =
       let plans : empty ≡ d.plans = same_map nat_list_cmp_total (slice_cmp-IsAntisymmetric nat_cmp-IsAntisymmetric) (empty {X = Plan} {R = name_cmp}) d.plans
-      (λ name. get-empty name_cmp name ∙ sym (none_at m name (get d.plans name) (subst (λ (g : Option GeographyModel). IsPlanAt m g name (get d.plans name)) (sym none) (is.desk.plans name)))) in
+      (λ name. get-empty name_cmp name ∙ sym (none_at m name (get d.plans name) (subst (λ (g : Option GeographyModel). IsPlanAt m g name (get d.plans name)) (sym none) (is.desk.plans name))).0) in
       λ i. record { geography = none i; plans = plans i }
 
   pub are_plans : (g : GeographyModel) → Some g ≡ d.geography → ArePlans g m d.plans
@@ -27,12 +27,8 @@ module _ {new : Bool} (m : KeyMap) (d : Desk) (is : IsMapOf new m d) where
   pub has_nothing : None ≡ d.geography → HasNothing m
   has_nothing none = record {
     the_geography = subst (λ (g : Option GeographyModel). IsGeography m g) (sym none) is.desk.geography;
-    plans = λ name. none_there name (get d.plans name) (subst (λ (g : Option GeographyModel). IsPlanAt m g name (get d.plans name)) (sym none) (is.desk.plans name));
+    plans = λ name. (none_at m name (get d.plans name) (subst (λ (g : Option GeographyModel). IsPlanAt m g name (get d.plans name)) (sym none) (is.desk.plans name))).1;
   }
-    where
-      none_there : (name : List ℕ) (p : Option Plan) → IsPlanAt m None name p → Lacks m (named name)
-      none_there name None lacks = lacks
-      none_there name (Some p) has = absurd has
 
 -- what isn't read of the rows of a desk
 pub unopened : {D : Type 0} {g : Ghosts D} (t : Txn) (a b : Pages D g) (e : TreeError) → SeekErr (Unit {0}) (Says IsMapAs) t a b e → OpenErr t a b e

@@ -59,19 +59,16 @@ module _ {name : List ℕ} {rows prefix back : List Row} (rising : IsTrue (is_so
     some_there : find name_cmp name rows ≡ Some e.1
     some_there = ap (find name_cmp name) split.all ∙ find_there name prefix back e below split.stands
 
--- what a look-up answers is the map's
-module _ {rows : List Row} {self : map_of.FinMap name_cmp Plan} {name : List ℕ} (are : AreMap rows self) where
-  pub found_row : (r : Option (Bor Row)) → IsFound name rows (option_copied r) → IfSome r (λ e. get self name ≡ Some e.now.1)
-  found_row None found = tt
-  found_row (Some e) found = get_of name are ∙ some_there are.rising e.now found.split
+-- what a look-up of a name may answer
+pub record IsLookedUp (self : map_of.FinMap name_cmp Plan) (name : List ℕ) (r : Option (Bor Row)) : Type 0 where
+  pub found : IfSome r (λ e. get self name ≡ Some e.now.1)
+  pub named : IfSome r (λ e. e.now.0 ≡ name)
+  pub missing : IfNone r (get self name ≡ None)
 
-  pub missing_row : (r : Option (Bor Row)) → IsFound name rows (option_copied r) → IfNone r (get self name ≡ None)
-  missing_row None found = get_of name are ∙ none_there are.rising found.split
-  missing_row (Some e) found = tt
-
-pub named_row : (rows : List Row) (name : List ℕ) (r : Option (Bor Row)) → IsFound name rows (option_copied r) → IfSome r (λ e. e.now.0 ≡ name)
-named_row rows name None found = tt
-named_row rows name (Some e) found = sym (exact_bytes name e.now.0 found.split.stands)
+pub looked_up : {rows : List Row} {self : map_of.FinMap name_cmp Plan} {name : List ℕ} → AreMap rows self → (r : Option (Bor Row)) → IsFound name rows (option_copied r) → IsLookedUp self name r
+looked_up {name = name} are None found = record { found = tt; named = tt; missing = get_of name are ∙ none_there are.rising found.split }
+looked_up {name = name} are (Some e) found =
+    record { found = get_of name are ∙ some_there are.rising e.now found.split; named = sym (exact_bytes name e.now.0 found.split.stands); missing = tt }
 
 -- a row that is put
 put_in : (name : List ℕ) (v : Plan) (rows prefix here back : List Row) → IsSplit name rows prefix here back → IsTrue (is_sorted name_cmp rows) → put name_cmp name v rows ≡ prefix ++ (name, v) ∷ back

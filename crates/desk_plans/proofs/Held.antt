@@ -3,7 +3,7 @@ use Rattle.std.specs.{Cmp.Lexicographic.nat_list_cmp_total, FinMap.{get, len, ge
 use Rattle.std.{specs.{Ordering.is_eq, Result.is_ok, declared.{alloc.Global.Global, sync.Arc.Arc}}, proofs.lemmas.{Bool.cases_lt, Map.Lookups.exact_bytes}}
 use Rattle.std.proofs.Common.{◌≡◌, ℕ, ◌+◌, ◌-◌, ◌<◌, true, false, cond, List, Option, Some, None, IsSome, IfSome, IfNone, Bor, Result, Ok, Err, OnOk, inl, inr, arith, refl, subst, ap, sym, ◌∙◌}
 use Rattle.{desk_model.specs.claim.Desk.{Plan, name_cmp}, desk_plans.specs.{Held.{laid, AreHeld, IsSettled}, Rows.{Row, IsRemoved, IsFound}}}
-use Rattle.desk_plans.proofs.AsMap.{AreMap, as_map, equal, map_put, is_less, found_row, missing_row}
+use Rattle.desk_plans.proofs.AsMap.{AreMap, IsLookedUp, as_map, equal, map_put, is_less, looked_up}
 use Rattle.std.specs.FinMap as map_of
 
 pub settled_map : (pending : Option (Arc Row Global)) {rows new : List Row} {self : map_of.FinMap name_cmp Plan} {count : ℕ} → AreHeld pending rows count → laid pending rows ≡ self → IsSettled pending rows new → AreMap new self
@@ -72,12 +72,8 @@ module _ {pending : Option (Arc Row Global)} {rows : List Row} {self : map_of.Fi
     pub found_pending : is_eq (name_cmp name row.value.0) ≡ true → get self name ≡ Some row.value.1
     found_pending same = get_laid ∙ ap (λ b. cond b (Some row.value.1) (get (as_map rows) name)) same
 
-    module _ (other : is_eq (name_cmp name row.value.0) ≡ false) (r : Option (Bor Row)) (found : IsFound name rows (option_copied r)) where
-      is_after : get (as_map rows) name ≡ get self name
-      is_after = sym (get_laid ∙ ap (λ b. cond b (Some row.value.1) (get (as_map rows) name)) other)
-
-      pub found_after : IfSome r (λ e. get self name ≡ Some e.now.1)
-      found_after = subst (λ o. IfSome r (λ e. o ≡ Some e.now.1)) is_after (found_row (record { rising = were.rising; map_is = refl }) r found)
-
-      pub missing_after : IfNone r (get self name ≡ None)
-      missing_after = subst (λ o. IfNone r (o ≡ None)) is_after (missing_row (record { rising = were.rising; map_is = refl }) r found)
+    pub looked_after : is_eq (name_cmp name row.value.0) ≡ false → (r : Option (Bor Row)) → IsFound name rows (option_copied r) → IsLookedUp self name r
+    looked_after other r found =
+        let after : get (as_map rows) name ≡ get self name = sym (get_laid ∙ ap (λ b. cond b (Some row.value.1) (get (as_map rows) name)) other) in
+        let is = looked_up (record { rising = were.rising; map_is = refl }) r found in
+        record { found = subst (λ o. IfSome r (λ e. o ≡ Some e.now.1)) after is.found; named = is.named; missing = subst (λ o. IfNone r (o ≡ None)) after is.missing }

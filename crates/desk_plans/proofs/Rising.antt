@@ -46,20 +46,21 @@ pub rising_back : (es fs : List Row) → IsTrue (is_sorted name_cmp (es ++ fs)) 
 rising_back [] fs rising = rising
 rising_back (e ∷ es) fs rising = rising_back es fs (and_parts _ _ rising).1
 
--- a new row goes between those below its name and those above
-pub put_between : (k : List ℕ) (v : Plan) (es fs : List Row) → AllBelow k es → StartsAbove k fs → put name_cmp k v (es ++ fs) ≡ es ++ (k, v) ∷ fs
-put_between k v [] [] below above = refl
-put_between k v [] (f ∷ fs) below above = ap (λ o. by_order o ((k, v) ∷ f ∷ fs) ((f.0, v) ∷ fs) (f ∷ put name_cmp k v fs)) (less _ above)
-put_between k v (e ∷ es) fs below above =
+-- a new row goes after those below its name
+put_after : (k : List ℕ) (v : Plan) (es fs : List Row) → AllBelow k es → put name_cmp k v (es ++ fs) ≡ es ++ put name_cmp k v fs
+put_after k v [] fs below = refl
+put_after k v (e ∷ es) fs below =
     ap (λ o. by_order o ((k, v) ∷ e ∷ es ++ fs) ((e.0, v) ∷ es ++ fs) (e ∷ put name_cmp k v (es ++ fs))) (turned e.0 k below.0)
-    ∙ ap (λ rest. e ∷ rest) (put_between k v es fs below.1 above)
+    ∙ ap (λ rest. e ∷ rest) (put_after k v es fs below.1)
+
+-- and before those above
+pub put_between : (k : List ℕ) (v : Plan) (es fs : List Row) → AllBelow k es → StartsAbove k fs → put name_cmp k v (es ++ fs) ≡ es ++ (k, v) ∷ fs
+put_between k v es [] below above = put_after k v es [] below
+put_between k v es (f ∷ fs) below above = put_after k v es (f ∷ fs) below ∙ ap (λ o. es ++ by_order o ((k, v) ∷ f ∷ fs) ((f.0, v) ∷ fs) (f ∷ put name_cmp k v fs)) (less _ above)
 
 -- a row under the same name takes the place of the one that is there
 pub put_there : (k : List ℕ) (v : Plan) (es fs : List Row) (e : Row) → AllBelow k es → name_cmp k e.0 ≡ Equal → put name_cmp k v (es ++ e ∷ fs) ≡ es ++ (e.0, v) ∷ fs
-put_there k v [] fs e below same = ap (λ o. by_order o ((k, v) ∷ e ∷ fs) ((e.0, v) ∷ fs) (e ∷ put name_cmp k v fs)) same
-put_there k v (d ∷ es) fs e below same =
-    ap (λ o. by_order o ((k, v) ∷ d ∷ es ++ e ∷ fs) ((d.0, v) ∷ es ++ e ∷ fs) (d ∷ put name_cmp k v (es ++ e ∷ fs))) (turned d.0 k below.0)
-    ∙ ap (λ rest. d ∷ rest) (put_there k v es fs e below.1 same)
+put_there k v es fs e below same = put_after k v es (e ∷ fs) below ∙ ap (λ o. es ++ by_order o ((k, v) ∷ e ∷ fs) ((e.0, v) ∷ fs) (e ∷ put name_cmp k v fs)) same
 
 -- a name is not found among those below it
 skip_below : (k : List ℕ) (es fs : List Row) → AllBelow k es → find name_cmp k (es ++ fs) ≡ find name_cmp k fs

@@ -8,6 +8,7 @@ use sector_device::SectorDevice;
 /// Of any number of lives, each an opening, commands, and a stop at any moment of them, or a migration and a stop at any moment of it:
 /// what the last stop left opens, in one of the two versions, to the desk after, of each life, the commands that were accepted up to
 /// some place, with all that were acknowledged before its stop.
+#[tactic(auto, using(crate::proofs::Following::lives_survive))]
 pub fn lives_survive<D: SectorDevice>()
     ensures { LivesSurvive D.SectorDevice }
 {

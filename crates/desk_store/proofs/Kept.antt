@@ -18,7 +18,8 @@ module _ {D : Type 0} {g : Ghosts D} where
   pub kept_opens : (ps : Pages D g) (d : Desk) → has_halted ps ≡ false → (disk_in ps).is_honest → IsKept ps → InPages ps d → (c : Image) → (disk_in ps).leaves c → OpensDesk (home (journal_of ps) + count_of ps) d c
   kept_opens ps d working honest kept holds c leaves = search (rules, pages_sound)
 
--- a stop in a call that halts leaves the desk before it or the desk after the change
-pub left_halted : (sectors : ℕ) (d e : Desk) (old new : Disk) → IsOneMore d e → LeavesOnly (λ c. OpensDesk sectors d c ⊎ OpensDesk sectors e c) old new → (c : Image) → new.leaves c → IsLeft true sectors d c
-left_halted sectors d e old new more left c leaves =
-    ⊎_elim (λ was. inl was) (λ now. inr (record { halt = refl; next = e; is = more; opens = now })) (leaves_now (λ x. OpensDesk sectors d x ⊎ OpensDesk sectors e x) old new left c leaves)
+-- a stop in a call that halts leaves the desk before it or the desk after the change, if that is another
+pub left_halted : (sectors : ℕ) (d e : Desk) (old new : Disk) → (e ≡ d) ⊎ IsOneMore d e → LeavesOnly (λ c. OpensDesk sectors d c ⊎ OpensDesk sectors e c) old new → (c : Image) → new.leaves c → IsLeft true sectors d c
+left_halted sectors d e old new change left c leaves = ⊎_elim (λ was. inl was)
+    (λ now. ⊎_elim (λ same. inl (subst (λ (f : Desk). OpensDesk sectors f c) same now)) (λ more. inr (record { halt = refl; next = e; is = more; opens = now })) change)
+    (leaves_now (λ x. OpensDesk sectors d x ⊎ OpensDesk sectors e x) old new left c leaves)

@@ -1,17 +1,16 @@
 -- What an opening finds.
-use Rattle.{std.proofs.Common.{rules, ◌≡◌, ℕ, Bool, true, false, inl, inr, refl, sym, ap, subst, ◌∙◌, arith}, desk_model.specs.claim.Desk.Desk, desk_pages.specs.Desks.InPagesAs}
+use Rattle.{std.proofs.Common.{rules, ◌≡◌, ℕ, Bool, true, false, inl, ⊎_elim, refl, sym, ap, subst, ◌∙◌, arith}, desk_model.specs.claim.Desk.Desk, desk_pages.specs.Desks.InPagesAs}
 use Rattle.{desk_opening.specs.Opening.{HasVersion, IsReadFrom, OpenErr as ReadErr}, desk_pages.specs.Errors.{missing, page_refusal, row_refusal}, desk_store.specs.Finding.FindErr}
 use Rattle.desk_pages.specs.{Openings.{AllDesks, OpensOneOf}, claim.{Desks.{IsMapOf, InPagesOf, InPages, OpensDesk, OpensDeskOf}, Openings.{AllVersions, IsOneOf, OpensOneAs}}}
-use Rattle.{desk_pages.specs.declared.error.StoreError.{StoreError, TheVariants.{NotAStore, DeviceFault, Memory, OldVersion}}, desk_store.specs.claim.Keeping.IsLeft}
-use Rattle.desk_store.specs.{Openings.{DiskRefused, IsOldStore, IsFound, OpenRefused}, claim.Clerks.{desk_of, disk_of, pages_of, sectors_of, Keeps}, declared.clerk.Clerk.Clerk}
-use Rattle.{page_btree.specs.{claim.Map.{InPages as HasRows, InTxn as TxnHas}, declared.error.TreeError.TreeError}, page_store.specs.{Transactions.OpenErr, declared.txn.Txn.Txn}}
-use Rattle.page_store.specs.{claim.Transactions.{stored, disk_in, count_of, journal_of, has_halted, IsQuiet, IsKept}, declared.pages.Pages.Pages, gate_journal.claim.Store.pages}
-use Rattle.{page_store.specs.gate_journal.{Recovery.{AllStores, HasRoom, Found, ReadsAs}, declared.error.PageError.PageError}, sector_device.specs.claim.Disk.{Disk, Image}}
-use Rattle.{plan_revisions.specs.desk_pages.Reading.ReadErr as RowErr, sector_device.specs.{claim.Moments.LeavesOnly, declared.SectorDevice.Ghosts}}
-use Rattle.{store_rows.specs.claim.{Keys.{version, in_four}, Rows.{KeyMap, row_in, Has, Lacks}, Tidy.version_row}, desk_store.proofs.Kept.kept_opens}
+use Rattle.{desk_pages.specs.declared.error.StoreError.{StoreError, TheVariants.{NotAStore, DeviceFault, Memory, OldVersion}}, desk_store.specs.declared.clerk.Clerk.Clerk}
+use Rattle.desk_store.{specs.{Openings.{DiskRefused, IsOldStore, IsFound, OpenRefused}, claim.Clerks.{desk_of, disk_of, pages_of, sectors_of, Keeps}}, proofs.Kept.kept_opens}
+use Rattle.{desk_store.specs.claim.Keeping.{IsLeft, OpensOneMore}, page_btree.specs.{claim.Map.{InPages as HasRows, InTxn as TxnHas}, declared.error.TreeError.TreeError}}
+use Rattle.page_store.specs.{Transactions.OpenErr, claim.Transactions.{stored, disk_in, count_of, journal_of, has_halted, IsQuiet, IsKept}, declared.pages.Pages.Pages}
+use Rattle.page_store.specs.{declared.txn.Txn.Txn, gate_journal.{Recovery.{AllStores, HasRoom, Found, ReadsAs}, claim.Store.pages, declared.error.PageError.PageError}}
+use Rattle.{plan_revisions.specs.desk_pages.Reading.ReadErr as RowErr, sector_device.specs.{claim.{Disk.{Disk, Image}, Moments.LeavesOnly}, declared.SectorDevice.Ghosts}}
+use Rattle.{store_rows.specs.claim.{Keys.{version, in_four}, Rows.{KeyMap, row_in, Has, Lacks}, Tidy.version_row}, page_store.proofs.Stops.{kept_quiet, leaves_quiet, passed_none}}
 use Rattle.desk_pages.proofs.Found.{all_versions, stores_of, open_leaves, open_versions, page_stores_of, found_desk, found_after, pages_left, rows_before}
-use Rattle.{desk_store.proofs.Prepared.{IsBegun, begun_reads, begun_rows, still_held}, page_store.proofs.Stops.{kept_quiet, leaves_quiet, passed_none}}
-use Rattle.store_rows.proofs.OneGeography.{no_value}
+use Rattle.{desk_store.proofs.Prepared.{IsBegun, begun_reads, begun_rows, still_held}, store_rows.proofs.OneGeography.no_value}
 use Rattle.desk_opening.proofs.{WholeDesks.unread_unopened, plan_rows.Committing.both}
 use Rattle.page_store.specs.gate_journal.declared.error.PageError.TheVariants as page
 use Rattle.page_btree.specs.declared.error.TreeError.TheVariants as tree
@@ -23,10 +22,7 @@ page_refused h old new page.Memory why = λ honest. let it = why honest in (it.0
 page_refused h old new _ why = absurd why
 
 opens_left : (halted : Bool) (sectors : ℕ) (d : Desk) (c : Image) → IsLeft halted sectors d c → (e : Desk) × OpensDesk sectors e c
-opens_left halted sectors d c left = elim left [
-  | inl opens ↦ (d, opens)
-  | inr more ↦ (more.next, more.opens)
-]
+opens_left halted sectors d c left = ⊎_elim (λ opens. (d, opens)) (λ (more : OpensOneMore halted sectors d c). (more.next, more.opens)) left
 
 -- ---- versions
 -- rows that tell the new version are of it, and those of it tell it
@@ -135,10 +131,9 @@ module _ {D : Type 0} {g : Ghosts D} where
   pub none_read : (a b : Pages D g) (t : Txn) (e : TreeError) (halted : Bool) → IsBegun a t → IsQuiet a b → halted ≡ has_halted b → has_halted a ≡ false → ReadErr t a b e → FindErr a b (row_refusal e halted)
   none_read a b t tree.DeviceFault halted begun quiet is working why = missing_found a b halted is (λ works. both (has_halted b) why.halted works)
   none_read a b t tree.NotAStore halted begun quiet is working why = missing_found a b halted is (λ works honest x holds. why honest x.0 x.1 (begun_reads a t x.1 begun (quiet.honest honest) holds))
-  none_read a b t tree.Halted halted begun quiet is working why = both (has_halted a) why working
   none_read a b t tree.Memory true begun quiet is working why = sym is
   none_read a b t tree.Memory false begun quiet is working why = tt
-  none_read a b t _ halted begun quiet is working why = absurd why
+  none_read a b t _ halted begun quiet is working why = search (rules, both)
 
   -- nor is a version told
   pub version_unread : (a b : Pages D g) (t : Txn) (e : TreeError) (halted : Bool) → IsBegun a t → IsQuiet a b → halted ≡ has_halted b → has_halted a ≡ false → RowErr HasVersion t a b e → FindErr a b (row_refusal e halted)

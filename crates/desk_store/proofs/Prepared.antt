@@ -1,16 +1,15 @@
 -- A command whose pages are made ready.
 use Rattle.{std.proofs.Common.{rules, ◌≡◌, ◌⊎◌, ◌≤◌, ◌+◌, ℕ, Bool, true, false, List, length, inl, inr, refl, sym, ap, subst, ◌∙◌, arith}, desk_model.specs.claim.Desk.Desk}
 use Rattle.{desk_catalogue.specs.claim.Accepting.IsAfter, desk_model.specs.{claim.{Outcome.{IsFull, RefusalMay}, Room.{need, command_rows}}, declared.command.Command.Command}}
-use Rattle.{desk_pages.specs.claim.{Commits.HoldsAfter, Desks.{IsDeskMap, HoldsDeskOf, InPages, InPagesOf, InTxn, InTxnOf}}, desk_store.specs.Faults.{is_fault, refusal_of}}
+use Rattle.{desk_pages.specs.claim.{Commits.HoldsAfter, Desks.{HoldsDeskOf, InPages, InPagesOf, InTxn, InTxnOf}}, desk_store.specs.Faults.{is_fault, refusal_of}}
 use Rattle.desk_store.specs.claim.{Clerks.{desk_of, disk_of, pages_of, room_of, Keeps, Reads}, Commands.{command_of, after_of, written_of, IsReady, HasRoom, MustBeFull, MayBeFull}}
 use Rattle.{desk_store.{specs.declared.{clerk.Clerk.Clerk, ready.Ready.Ready}, proofs.Kept.accepted_is}, page_btree.specs.claim.Map.{InTxn as TxnHas, InPages as HoldsRows}}
 use Rattle.{page_btree.specs.declared.error.TreeError.{TreeError, TheVariants.{DeviceFault, NotAStore, Halted, NoPages, TooDeep, Memory}}, page_store.specs.Transactions.txn_first}
 use Rattle.{page_store.specs.{claim.Chain.{free_in, root_in}, declared.{pages.Pages.Pages, txn.{Prepared.Prepared, Txn.Txn}}}, plan_revisions.specs.claim.Rows.HasNumbers}
 use Rattle.page_store.specs.claim.Transactions.{stored, disk_in, count_of, has_halted, txn_pages, txn_writes, txn_free, txn_root, over, free_over, prepared_pages, prepared_writes, after, IsQuiet}
-use Rattle.plan_revisions.specs.{claim.Steps.{HasStepped, IsStepped, LeavesNumbers, StepErr}, plan_rows.{claim.Outcomes.HasExhausted, declared.change.ChangeOutcome.ChangeOutcome}}
-use Rattle.{plan_revisions.specs.plan_rows.declared.change.ChangeOutcome.TheVariants.{Made, NumbersExhausted}, sector_device.specs.{claim.Disk.Image, declared.SectorDevice.Ghosts}}
-use Rattle.{store_rows.specs.claim.Rows.KeyMap, desk_pages.proofs.{DeskLaws.begun_desk, Found.rows_before}, page_btree.proofs.MapLaws.begun_holds}
-use Rattle.page_store.proofs.Chains.{length_chain}
+use Rattle.{plan_revisions.specs.{claim.Steps.{HasStepped, LeavesNumbers, StepErr}, plan_rows.claim.Outcomes.HasExhausted}, sector_device.specs.claim.Disk.Image}
+use Rattle.{sector_device.specs.declared.SectorDevice.Ghosts, store_rows.specs.claim.Rows.KeyMap, desk_pages.proofs.{DeskLaws.begun_desk, Found.rows_before}}
+use Rattle.{page_btree.proofs.MapLaws.begun_holds, page_store.proofs.Chains.length_chain}
 use Rattle.{desk_opening.proofs.plan_rows.Committing.both, plan_revisions.proofs.Accepted.{rows_some, geography_stays}}
 
 -- the pages of a prepared transaction, which read what the one before reads with the command's rows
@@ -31,7 +30,7 @@ module _ {D : Type 0} {g : Ghosts D} where
 
   pub begun_reads : {new : Bool} (a : Pages D g) (t : Txn) (d : Desk) → IsBegun a t → (disk_in a).is_honest → InPagesOf new a d → InTxnOf new t (stored a) d
   begun_reads {new} a t d begun honest holds =
-      let there : HoldsDeskOf new (txn_pages t) (stored a) (root_in (stored a)) (free_in (stored a)) d = subst (λ (n : ℕ). HoldsDeskOf new n (stored a) (root_in (stored a)) (free_in (stored a)) d) (sym begun.pages) holds in
+      let there : HoldsDeskOf new (txn_pages t) (stored a) (root_in (stored a)) (free_in (stored a)) d = rw begun.pages holds in
       begun_desk t (stored a) d there begun.over_is (begun.root honest) (begun.free honest)
 
   pub begun_rows : (a : Pages D g) (t : Txn) (m : KeyMap) → IsBegun a t → (disk_in a).is_honest → HoldsRows a m → TxnHas t (stored a) m
@@ -63,55 +62,41 @@ module _ {D : Type 0} {g : Ghosts D} where
         the_geography = geography_stays (desk_of y) (command_of r) (after_of r) accepted;
         rows = λ keeps working honest.
             let next = next_held x y c e t u (written_of r) same begun quiet stepped readied keeps working honest in
-            record {
-              m = next.m;
-              holds = subst (λ (P : Image). HoldsAfter (written_of r) P next.m) (sym (quiet.same honest)) (readied.held (stored (pages_of x)) next.m next.holds);
-              is = subst (λ (f : Desk). IsDeskMap next.m f) (sym e_is) next.is;
-            };
+            record { m = next.m; holds = rw (quiet.same honest) (readied.held (stored (pages_of x)) next.m next.holds); is = rw e_is next.is };
         free = λ keeps working honest.
             let next = next_held x y c e t u (written_of r) same begun quiet stepped readied keeps working honest in
             let counted = readied.free (stored (pages_of x)) next.m next.holds in
             let taken = stepped.taken in
             let start = begun_free (pages_of x) t begun (quiet.honest honest) in
             let needs : need (desk_of y) (command_of r) ≡ need (desk_of x) c = (λ i. need (same i) (c_is i)) in
-            let few : length (free_in (stored (pages_of x))) ≤ length (free_in (after (written_of r) (stored (pages_of x)))) + need (desk_of y) (command_of r) = omega arith in
-            subst (λ (P : Image). length (free_in P) ≤ length (free_in (after (written_of r) P)) + need (desk_of y) (command_of r)) (sym (quiet.same honest)) few;
+            rw (quiet.same honest) (omega arith);
         numbers = λ honest exhausted.
             let holds = begun_rows (pages_of x) t exhausted.m begun (quiet.honest honest) (rows_before (pages_of x) (pages_of y) exhausted.m quiet honest exhausted.holds) in
             let enough = did.1 honest exhausted.m exhausted.next holds exhausted.fit exhausted.is_next in
-            exhausted.none (subst (λ (d : Desk). HasNumbers d (command_of r) exhausted.next) (sym same) (subst (λ (q : Command). HasNumbers (desk_of x) q exhausted.next) (sym c_is) enough));
+            exhausted.none (rw same (subst (λ (q : Command). HasNumbers (desk_of x) q exhausted.next) (sym c_is) enough));
       }
 
   -- ---- nothing was put
+  full : (x : Clerk D g) (b : Pages D g) (c : Command) (e : Desk) → IsAfter (desk_of x) c e → MayBeFull x b c → IsFull (MayBeFull x b c) (desk_of x) c (desk_of x)
+  full x b c e is no_room = record { accepted = accepted_is (desk_of x) c e is; no_room = no_room; desk = refl }
+
   pub exhausted_full : (x : Clerk D g) (b : Pages D g) (c : Command) (e : Desk) (t u : Txn) → IsAfter (desk_of x) c e → x.halted ≡ false → IsBegun (pages_of x) t → IsQuiet (pages_of x) b → HasExhausted (HasNumbers (desk_of x) c) t u (pages_of x) b
       → IsFull (MayBeFull x b c) (desk_of x) c (desk_of x)
-  exhausted_full x b c e t u is working begun quiet exhausted = record {
-    accepted = accepted_is (desk_of x) c e is;
-    no_room = λ keeps honest.
-        let holds = keeps.holds working (quiet.honest honest) in
-        let reads = begun_reads (pages_of x) t (desk_of x) begun (quiet.honest honest) holds in
-        inr (inl (record { m = holds.m; holds = holds.holds; next = exhausted.next; fit = exhausted.are_next.fit; is_next = exhausted.are_next.told honest holds.m (begun_rows (pages_of x) t holds.m begun (quiet.honest honest) holds.holds); none = exhausted.none }));
-    desk = refl;
-  }
+  exhausted_full x b c e t u is working begun quiet exhausted = full x b c e is (λ keeps honest.
+      let holds = keeps.holds working (quiet.honest honest) in
+      let reads = begun_rows (pages_of x) t holds.m begun (quiet.honest honest) holds.holds in
+      inr (inl (record { m = holds.m; holds = holds.holds; next = exhausted.next; fit = exhausted.are_next.fit; is_next = exhausted.are_next.told honest holds.m reads; none = exhausted.none })))
 
   pub not_put : (x : Clerk D g) (b : Pages D g) (c : Command) (e : Desk) (t : Txn) (error : TreeError) → IsAfter (desk_of x) c e → HasRoom x (command_rows (desk_of x) c) → x.halted ≡ false → IsBegun (pages_of x) t → IsQuiet (pages_of x) b
       → StepErr (λ d. d ≡ desk_of x) (command_rows (desk_of x) c) t (pages_of x) b error → is_fault error ≡ false → RefusalMay (MustBeFull x c) (MayBeFull x b c) (x.halted ≡ true) (desk_of x) c (refusal_of error) (desk_of x)
   not_put x b c e t Memory is room working begun quiet why off = (λ on. both x.halted on working, refl)
-  not_put x b c e t NoPages is room working begun quiet why off = (
-    λ on. both x.halted on working,
-    record {
-      accepted = accepted_is (desk_of x) c e is;
-      no_room = λ keeps honest. absurd (let start = begun_free (pages_of x) t begun (quiet.honest honest) in let enough = room.free working (quiet.honest honest) in omega arith);
-      desk = refl;
-    },
-  )
+  not_put x b c e t NoPages is room working begun quiet why off =
+      (λ on. both x.halted on working, full x b c e is (λ keeps honest. absurd (let start = begun_free (pages_of x) t begun (quiet.honest honest) in let enough = room.free working (quiet.honest honest) in omega arith)))
   not_put x b c e t TooDeep is room working begun quiet why off = (
     λ on. both x.halted on working,
-    record {
-      accepted = accepted_is (desk_of x) c e is;
-      no_room = λ keeps honest. inr (inr (record { txn = t; deep = why honest (desk_of x) (begun_reads (pages_of x) t (desk_of x) begun (quiet.honest honest) (keeps.holds working (quiet.honest honest))) }));
-      desk = refl;
-    },
+    full x b c e is (λ keeps honest.
+        let was = quiet.honest honest in
+        inr (inr (record { txn = t; deep = why honest (desk_of x) (begun_reads (pages_of x) t (desk_of x) begun was (keeps.holds working was)) }))),
   )
   not_put x b c e t _ is room working begun quiet why off = absurd (cc)
 
@@ -125,13 +110,3 @@ module _ {D : Type 0} {g : Ghosts D} where
   pub fault_reads : (x y : Clerk D g) (c : Command) (t : Txn) (error : TreeError) → x.halted ≡ false → y.halted ≡ true → desk_of y ≡ desk_of x → IsBegun (pages_of x) t → IsQuiet (pages_of x) (pages_of y) → StepErr (λ d. d ≡ desk_of x) (command_rows (desk_of x) c) t (pages_of x) (pages_of y) error
       → (is_fault error ≡ true) ⊎ (has_halted (pages_of y) ≡ true) → Reads x y
   fault_reads x y c t error working halts same begun quiet why fault = search (rules, has_failed)
-
-  -- ---- of the desk that is shown, by another name
-  pub made_of : (s d : Desk) (c : Command) (e : Desk) (t u : Txn) (a b : Pages D g) (change : ChangeOutcome) → s ≡ d → change ≡ Made → IsStepped (λ z. z ≡ s) (λ z. e) (command_rows s c) (HasNumbers s c) t u a b change → HasStepped (λ z. z ≡ d) (λ z. e) (command_rows d c) t u a b × LeavesNumbers (HasNumbers d c) t a b
-  made_of s d c e t u a b change same is did = search rules
-
-  pub exhausted_of : (s d : Desk) (c : Command) (e : Desk) (t u : Txn) (a b : Pages D g) (change : ChangeOutcome) → s ≡ d → change ≡ NumbersExhausted → IsStepped (λ z. z ≡ s) (λ z. e) (command_rows s c) (HasNumbers s c) t u a b change → HasExhausted (HasNumbers d c) t u a b
-  exhausted_of s d c e t u a b change same is did = search rules
-
-  pub error_of : (s d : Desk) (c : Command) (t : Txn) (a b : Pages D g) (error : TreeError) → s ≡ d → StepErr (λ z. z ≡ s) (command_rows s c) t a b error → StepErr (λ z. z ≡ d) (command_rows d c) t a b error
-  error_of s d c t a b error same why = subst (λ (z : Desk). StepErr (λ x. x ≡ z) (command_rows z c) t a b error) same why

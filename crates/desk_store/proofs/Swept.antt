@@ -1,15 +1,15 @@
 -- Sweeps at a clerk.
-use Rattle.std.proofs.Common.{rules, ◌≡◌, ◌⊎◌, ◌<◌, ◌^◌, ℕ, zero, suc, Bool, true, false, List, [], ◌∷◌, Option, Some, ⊎_elim, refl, sym, ap, subst, ◌∙◌, arith}
+use Rattle.std.proofs.Common.{rules, ◌≡◌, ◌⊎◌, ◌<◌, ◌≤◌, ◌^◌, ℕ, Err, zero, suc, Bool, true, false, List, [], ◌∷◌, Option, Some, ⊎_elim, refl, sym, ap, subst, ◌∙◌, arith}
 use Rattle.{desk_model.specs.claim.{Desk.Desk, Geography.GeographyModel}, desk_pages.specs.{claim.Desks.{IsDeskMap, InPages}, declared.error.StoreError.StoreError}}
-use Rattle.{desk_pages.specs.declared.error.StoreError.TheVariants.{Memory, NotAStore, Halted}, desk_store.specs.{Failures.is_failure, Loads.{Stages, IsLast}}}
-use Rattle.desk_store.specs.{Sweeps.{HasRows, HasSwept, SweepRefused}, claim.Clerks.{desk_of, disk_of, pages_of, HaltsByDevice, Keeps, Reads, Moves}, declared.clerk.Clerk.Clerk}
-use Rattle.{geo_tables.specs.{Loading.{HoldsLoad, number_of, geography_model_of, done_of}, declared.load.Load.Load}, page_btree.specs.claim.Map.InPages as HoldsRows}
-use Rattle.{page_store.specs.{claim.Transactions.{disk_in, has_halted, IsQuiet}, declared.pages.Pages.Pages}, sector_device.specs.declared.SectorDevice.Ghosts}
-use Rattle.store_rows.specs.{Holders.released, Rows.SameTag, TurnLaws.{Turn, goes, lets_go, IsUnneeded, CanTurn, turned, take_turns, AreTurns}, claim.GeographyRows.IsStaged}
-use Rattle.{store_rows.specs.claim.{Keys.{RowKey, key_of, Fits, begun, seal, block, pair, in_eight}, Rows.{KeyMap, row_in}}, store_sweep.specs.Sweeping.{SweepErr, Sweeps}}
-use Rattle.{store_sweep.specs.Leftovers.{IsOfLoad, IsApart, AreNotSpared, IsSweptBy, IsSweptClean}, desk_store.proofs.{Done.reads_move, Loaded.step_stages}}
-use Rattle.store_rows.proofs.{Frames.{remove_keeps, put_keeps_tag, remove_keeps_tag, tag_follows}, RowLaws.keys_differ}
-use Rattle.desk_opening.proofs.plan_rows.Committing.{quiet_rows}
+use Rattle.{desk_pages.specs.declared.error.StoreError.TheVariants.{Memory, NotAStore, Halted}, desk_store.specs.{Calls.SweepsSome, Failures.is_failure, Loads.{Stages, IsLast}}}
+use Rattle.desk_store.specs.{Sweeps.{HasRows, HasSwept, Maintains, SweepRefused}, claim.Clerks.{desk_of, disk_of, free_of, pages_of, HaltsByDevice, Keeps, Reads, Moves}}
+use Rattle.{desk_store.specs.declared.clerk.Clerk.Clerk, geo_tables.specs.{Loading.{HoldsLoad, number_of, geography_model_of, done_of}, declared.load.Load.Load}}
+use Rattle.{page_btree.specs.claim.Map.InPages as HoldsRows, page_store.specs.{claim.Transactions.{disk_in, has_halted, IsQuiet}, declared.pages.Pages.Pages}}
+use Rattle.{sector_device.specs.declared.SectorDevice.Ghosts, store_rows.specs.{Holders.released, Rows.SameTag, claim.{GeographyRows.IsStaged, Rows.{KeyMap, row_in}}}}
+use Rattle.{store_rows.specs.TurnLaws.{Turn, goes, lets_go, IsUnneeded, CanTurn, turned, take_turns, AreTurns}, store_sweep.specs.Sweeping.{SweepErr, Sweeps}}
+use Rattle.{store_rows.specs.claim.Keys.{RowKey, key_of, Fits, begun, seal, block, pair, in_eight}, store_sweep.specs.Leftovers.{IsOfLoad, IsApart, AreNotSpared, IsSweptBy}}
+use Rattle.{desk_store.proofs.Done.{quiet_device, reads_move}, store_rows.proofs.{Frames.{remove_keeps, put_keeps_tag, remove_keeps_tag, tag_follows}, RowLaws.keys_differ}}
+use Rattle.desk_opening.proofs.plan_rows.Committing.{both, quiet_rows}
 
 -- ---- turns leave the rows of a load
 -- a plan that lets a chunk go leaves the rows with other tags
@@ -56,12 +56,12 @@ module _ {D : Type 0} {g : Ghosts D} where
   Swept running count a b = (m : KeyMap) (d : Desk) → HoldsRows a m → IsDeskMap m d → Sweeps running m d a b count
 
   pub as_loading : (x : Clerk D g) (b : Pages D g) (running : Option ℕ) (count : ℕ) → running ≡ x.loading → ((disk_in b).is_honest → Swept running count (pages_of x) b) → (disk_in b).is_honest → Swept x.loading count (pages_of x) b
-  as_loading x b running count same swept honest = subst (λ (r : Option ℕ). Swept r count (pages_of x) b) same (swept honest)
+  as_loading x b running count same swept honest = rw same at (swept honest)
 
   load_kept : (a b : Pages D g) (d : Desk) (load : Load) (running : Option ℕ) (count : ℕ) → running ≡ Some (number_of load) → number_of load < 2 ^ 64 → Swept running count a b → HoldsLoad a d load → HoldsLoad b d load
   load_kept a b d load running count last few swept holds =
       let then = (swept holds.m d holds.holds holds.is).holds in
-      let by : IsSweptBy (Some (number_of load)) count holds.m then.n = subst (λ (r : Option ℕ). IsSweptBy r count holds.m then.n) last then.swept.by in
+      let by = rw last at then.swept.by in
       record {
         m = then.n;
         holds = then.holds;
@@ -71,47 +71,51 @@ module _ {D : Type 0} {g : Ghosts D} where
         unsealed = ap (λ (k : KeyMap). row_in k seal) by.rest ∙ seal_kept by.turns holds.m by.left ∙ holds.unsealed;
       }
 
-  load_still : (a b : Pages D g) (d : Desk) (load : Load) → IsQuiet a b → (disk_in b).is_honest → HoldsLoad a d load → HoldsLoad b d load
-  load_still a b d load quiet honest holds = search quiet_rows
+  -- a call after which the pages hold what is staged of a load, if they did before; it shows the same desk
+  module _ (x y : Clerk D g) (load : Load) (working : x.halted ≡ false) (desk : desk_of y ≡ desk_of x) (moves : Moves (desk_of x) x y) (stages : Stages x load) where
+    pub swept_stages : (count : ℕ) → number_of load < 2 ^ 64 → IsLast x load → ((disk_of y).is_honest → Swept x.loading count (pages_of x) (pages_of y)) → Stages y load
+    swept_stages count few last swept = record {
+      keeps = moves.keeps stages.keeps;
+      holds = λ off honest. rw desk (load_kept (pages_of x) (pages_of y) (desk_of x) load x.loading count last few (swept honest) (stages.holds working (moves.honest honest)));
+    }
 
-  -- ---- a step that was made
-  pub swept_holds : (x : Clerk D g) (b : Pages D g) (running : Option ℕ) (count : ℕ) → x.halted ≡ false → ((disk_in b).is_honest → (disk_of x).is_honest) → ((disk_in b).is_honest → Swept running count (pages_of x) b) → Keeps x → (disk_in b).is_honest → InPages b (desk_of x)
-  swept_holds x b running count working honest swept keeps is_honest =
-      let was = keeps.holds working (honest is_honest) in
-      let then = (swept is_honest was.m (desk_of x) was.holds was.is).holds in
-      record { m = then.n; holds = then.holds; is = then.swept.is }
+    pub still_stages : IsQuiet (pages_of x) (pages_of y) → Stages y load
+    still_stages quiet = record {
+      keeps = moves.keeps stages.keeps;
+      holds = λ off honest. let was = stages.holds working (quiet.honest honest) in let there : HoldsLoad (pages_of y) (desk_of x) load = search quiet_rows in rw desk there;
+    }
 
-  pub swept_stages : (x y : Clerk D g) (count : ℕ) (load : Load) → number_of load < 2 ^ 64 → x.halted ≡ false → desk_of y ≡ desk_of x → ((disk_of y).is_honest → (disk_of x).is_honest) → ((disk_of y).is_honest → Swept x.loading count (pages_of x) (pages_of y))
-      → Keeps y → IsLast x load → Stages x load → Stages y load
-  swept_stages x y count load few working desk honest swept later last stages =
-      step_stages x y load working desk honest (λ is_honest d holds. load_kept (pages_of x) (pages_of y) d load x.loading count last few (swept is_honest) holds) (λ (s : Stages x load). s.holds) later stages
+    pub halted_stages : y.halted ≡ true → Stages y load
+    halted_stages on = record { keeps = moves.keeps stages.keeps; holds = λ off. both y.halted on off }
+
+  pub swept_holds : (x : Clerk D g) (b : Pages D g) (count : ℕ) → ((disk_in b).is_honest → Swept x.loading count (pages_of x) b) → (disk_in b).is_honest → (d : Desk) → InPages (pages_of x) d → InPages b d
+  swept_holds x b count swept honest d was = let then = (swept honest was.m d was.holds was.is).holds in record { m = then.n; holds = then.holds; is = then.swept.is }
 
   pub swept_told : (x y : Clerk D g) (m : KeyMap) (count : ℕ) → desk_of y ≡ desk_of x → y.loading ≡ x.loading → Swept x.loading count (pages_of x) (pages_of y) → HasRows x m → HasSwept x m count y
   swept_told x y m count desk loading swept has =
       let then = (swept m (desk_of x) has.holds has.is).holds in
       record {
         n = then.n;
-        has = record { holds = then.holds; is = subst (λ (d : Desk). IsDeskMap then.n d) (sym desk) then.swept.is };
+        has = record { holds = then.holds; is = rw desk then.swept.is };
         by = then.swept.by;
-        clean = λ less. subst (λ (r : Option ℕ). IsSweptClean r then.n) (sym loading) (then.clean less);
+        clean = λ less. rw loading (then.clean less);
       }
 
   -- ---- one that was refused
-  pub sweep_rose : (x : Clerk D g) (b : Pages D g) (e : StoreError) → x.halted ≡ false → ((disk_in b).is_honest → (disk_of x).is_honest) → SweepErr (pages_of x) b e → (is_failure e ≡ true) ⊎ (has_halted b ≡ true) → Keeps x → (disk_in b).is_honest → (disk_of x).faults < (disk_in b).faults
-  sweep_rose x b Memory working met why on keeps honest = ⊎_elim (λ clash. absurd (cc)) (λ halted. why.rose (x.working working) halted honest) on
-  sweep_rose x b NotAStore working met why on keeps honest = absurd (why.2 honest (desk_of x) (keeps.holds working (met honest)))
-  sweep_rose x b Halted working met why on keeps honest = absurd (let clash : true ≡ false = sym why.0 ∙ x.working working in cc)
-  sweep_rose x b _ working met why on keeps honest = search rules
+  pub sweep_stopped : {x y : Clerk D g} {e : StoreError} → Maintains {A = ℕ} x y (Err e) → ((load : Load) → IsLast x load → Stages x load → Stages y load) → HaltsByDevice x y → (Keeps x → (disk_of y).is_honest → y.halted ≡ false → free_of x ≤ free_of y) → SweepsSome x y (Err e)
+  sweep_stopped maintains staged device free = record { maintains = maintains; staged = staged; few = tt; swept = λ honest m has. tt; exact = λ honest m has. tt; device = device; free = free }
+
+  pub sweep_rose : (x : Clerk D g) (b : Pages D g) (e : StoreError) → x.halted ≡ false → SweepErr (pages_of x) b e → (is_failure e ≡ true) ⊎ (has_halted b ≡ true) → (disk_in b).is_honest → (disk_of x).faults < (disk_in b).faults
+  sweep_rose x b Memory working why on honest = ⊎_elim (λ clash. absurd (cc)) (λ halted. why.rose (x.working working) halted honest) on
+  sweep_rose x b NotAStore working why on honest = ⊎_elim (λ clash. absurd (cc)) (λ halted. why.0.rose (x.working working) halted honest) on
+  sweep_rose x b Halted working why on honest = both (has_halted (pages_of x)) why.0 (x.working working)
+  sweep_rose x b _ working why on honest = search rules
 
   pub sweep_quiet : (a b : Pages D g) (e : StoreError) → is_failure e ≡ false → SweepErr a b e → IsQuiet a b
   sweep_quiet a b Memory off why = why
-  sweep_quiet a b NotAStore off why = why.0
   sweep_quiet a b _ off why = search rules
 
   -- ---- the pages halt where the device fails
-  quiet_device : (x y : Clerk D g) → IsQuiet (pages_of x) (pages_of y) → HaltsByDevice x y
-  quiet_device x y quiet = record { rose = quiet.rose; calm = quiet.calm }
-
   pub passed_device : (x y : Clerk D g) → has_halted (pages_of y) ≡ false → ((disk_of y).is_honest → (disk_of y).faults ≡ (disk_of x).faults) → HaltsByDevice x y
   passed_device x y works passed = search rules
 
@@ -122,18 +126,9 @@ module _ {D : Type 0} {g : Ghosts D} where
 
   -- and as a refusal of the clerk, who goes on
   pub refused_so : (x : Clerk D g) (b : Pages D g) (e : StoreError) (halted : Bool) → x.halted ≡ false → halted ≡ false → is_failure e ≡ false → SweepErr (pages_of x) b e → SweepRefused x e halted b
-  refused_so x b Memory halted working works off why = (works, why)
   refused_so x b NotAStore halted working works off why = (working, works, why.0, λ honest holds. why.2 honest (desk_of x) holds)
   refused_so x b _ halted working works off why = search rules
 
   -- a check that met a fault read at most
   pub checked_failed : (x y : Clerk D g) (e : StoreError) → x.halted ≡ false → desk_of y ≡ desk_of x → IsQuiet (pages_of x) (pages_of y) → SweepErr (pages_of x) (pages_of y) e → (is_failure e ≡ true) ⊎ (has_halted (pages_of y) ≡ true) → Moves (desk_of x) x y
   checked_failed x y e working desk quiet why on = let reads : Reads x y = search (rules, sweep_rose) in reads_move (desk_of x) x y reads
-
-  -- a load that is under way stays so where nothing was committed, and where the clerk halts
-  pub still_stages : (x y : Clerk D g) (load : Load) → x.halted ≡ false → desk_of y ≡ desk_of x → IsQuiet (pages_of x) (pages_of y) → Keeps y → Stages x load → Stages y load
-  still_stages x y load working desk quiet later stages =
-      step_stages x y load working desk quiet.honest (λ is_honest d holds. load_still (pages_of x) (pages_of y) d load quiet is_honest holds) (λ (s : Stages x load). s.holds) later stages
-
-  pub halted_stages : (y : Clerk D g) (load : Load) → y.halted ≡ true → Keeps y → Stages y load
-  halted_stages y load on later = search rules

@@ -1,6 +1,6 @@
 -- A neighbour file as a whole: its header, its words and its end.
 use Rattle.std.{specs.{Io.KnownBytes.{Consumes, IsAtEnd}, Str.Lines.strip_carriage_return, declared.alloc.Global.Global}, proofs.{KnownBytes.Consumes-trans, lemmas.Bool.lt-ltb}}
-use Rattle.std.proofs.Common.{◌≡◌, ℕ, ◌+◌, ◌<◌, Bool, true, cond, List, [], ◌++◌, length, Vec, Option, Result, Ok, Err, refl, sym, ap, subst, ◌∙◌, arith, append_assoc, length-append, inl, inr, rules}
+use Rattle.std.proofs.Common.{◌≡◌, ◌⊎◌, ℕ, ◌+◌, ◌<◌, Bool, true, cond, List, [], ◌++◌, length, Vec, Option, Result, Ok, Err, refl, sym, ap, subst, ◌∙◌, arith, append_assoc, length-append, inl, inr, rules}
 use Rattle.byte_stream.specs.{Reading.{Reading, IsLastLine, IsTooLong, Gives}, claim.{Reading.{BeginsWithLine, line_limit}, Words.words}, declared.reader.ReadFault.ReadFault}
 use Rattle.{desk_model.specs.{claim.Geography.ids_of, declared.block.BlockRow.BlockRow}, gal_text.specs.{Holding.Holds, declared.fault.{GalFault.GalFault, TextFault.TextFault}}}
 use Rattle.gal_text.specs.{Parts.{AreCutWords, ReadsWords, IsGraph, ReadsGraph, Begins, Finishes, refused, read_told}, declared.fault.TextFault.TheVariants.{Header, EndsEarly}}
@@ -76,20 +76,16 @@ module _ (blocks : List BlockRow) where
   told_words old left next text line held count result came l is reads =
       (text ++ reads.0, Consumes-trans old left next text reads.0 came reads.1, reads_on text line held reads.0 count next result l is reads.2)
 
-  pub told_refused : (old left : Option (List ℕ)) (text line held : List ℕ) (r : UnitRefusal) (e : GalFault) → e ≡ refused r → Consumes old left text
-      → BeginsWithLine text line held → Begins blocks line (Err r) → Told old left (Err e)
-  told_refused old left text line held (refusal.Fault f) e same came l is =
-      rw same (text, came, inl (λ rest. bad_header (ids_of blocks) (text ++ rest) line (held ++ rest) f (inl (line_more text line held rest l)) is))
-  told_refused old left text line held refusal.Memory e same came l is = rw same (text, came, tt)
-
   last_header : (text line : List ℕ) → IsLastLine text line → HasHeader text line []
   last_header text line l = inr (record { is = l.is; one = l.one }, refl)
 
-  pub told_refused_last : (old left : Option (List ℕ)) (text line : List ℕ) (r : UnitRefusal) (e : GalFault) → e ≡ refused r → Consumes old left text → IsAtEnd left
-      → IsLastLine text line → Begins blocks line (Err r) → Told old left (Err e)
-  told_refused_last old left text line (refusal.Fault f) e same came end l is =
-      rw same (text, came, inr (end, bad_header (ids_of blocks) text line [] f (last_header text line l) is))
-  told_refused_last old left text line refusal.Memory e same came end l is = rw same (text, came, tt)
+  pub told_refused : (old left : Option (List ℕ)) (text line : List ℕ) (r : UnitRefusal) (e : GalFault) → e ≡ refused r → Consumes old left text
+      → ((held : List ℕ) × BeginsWithLine text line held) ⊎ (IsAtEnd left × IsLastLine text line) → Begins blocks line (Err r) → Told old left (Err e)
+  told_refused old left text line (refusal.Fault f) e same came (inl l) is =
+      rw same (text, came, inl (λ rest. bad_header (ids_of blocks) (text ++ rest) line (l.0 ++ rest) f (inl (line_more text line l.0 rest l.1)) is))
+  told_refused old left text line (refusal.Fault f) e same came (inr l) is =
+      rw same (text, came, inr (l.0, bad_header (ids_of blocks) text line [] f (last_header text line l.1) is))
+  told_refused old left text line refusal.Memory e same came l is = rw same (text, came, tt)
 
   pub told_header_alone : (old left : Option (List ℕ)) (text line : List ℕ) (g : Graph) → Consumes old left text → IsAtEnd left → IsLastLine text line → Begins blocks line (Ok g) → Told old left (Ok g)
   told_header_alone old left text line g came end l is = search (rules, last_header, after, words-none)

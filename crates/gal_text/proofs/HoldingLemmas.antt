@@ -1,5 +1,5 @@
 -- What the units' state holds, word by word.
-use Rattle.std.{specs.{List.Sorted.IsStrictlyIncreasing, declared.alloc.Global.Global}, proofs.{Math.ListN.drop_of_length-le, lemmas.Grind.get_or-set_at}}
+use Rattle.std.{specs.{List.Sorted.IsStrictlyIncreasing, declared.alloc.Global.Global}, proofs.{Math.{Bool.or-false, ListN.drop_of_length-le}, lemmas.Grind.get_or-set_at}}
 use Rattle.std.proofs.Common.{◌≡◌, ℕ, ◌-◌, ◌<◌, ◌≤◌, Bool, true, false, cond, ◌&&◌, ◌||◌, eqb, List, [], ◌∷◌, ◌++◌, length, get_or, set, vec_len, Vec, Option, Some, None, Result, Ok, Err, Contains, refl, sym, ap, subst, inl, inr, ◌∙◌, arith, eq-eqb, rules}
 use Rattle.std.proofs.lemmas.{Bool.{and_left, cases_eq, cases_lt, false≢true, le-ltb, ne_eqb, or_right}, List.{length-map, get_or-set_other, get_or_read}}
 use Rattle.{std.proofs.lemmas.{List.Folds.{list_any-append, list_any_none}, Map.Keys.{sorted_from_strictly_increasing, below_from_sorted}}, gal_text.specs.declared.units.Link.Link}
@@ -9,10 +9,6 @@ use Rattle.gal_text.{specs.declared.{fault.TextFault.TheVariants.TooManyNeighbou
 use Rattle.gal_text.specs.declared.units.Awaited.TheVariants as awaited
 
 -- ---- numbers in a list
-
-or_false : (b : Bool) → (b || false) ≡ b
-or_false true = refl
-or_false false = refl
 
 pub unknown : (ids : List ℕ) (id : ℕ) (o : Option ℕ) → Some id ≡ o → ¬ Contains ids id → known ids o ≡ None
 unknown ids id o is missing = ap (known ids) (sym is) ∙ ap (λ (b : Bool). cond b (Some id) None) (has_not ids id missing)
@@ -40,7 +36,7 @@ marks_more blocks marks units place id rising same within here marks_are q insid
   | inr apart ↦
       let other : eqb id (id_at blocks q) ≡ false = ne_eqb id (id_at blocks q) (λ yes. apart (differ blocks rising place q within inside (here ∙ yes))) in
       get_or-set_other marks place q true false (λ there. apart (sym there)) ∙ marks_are q inside
-      ∙ sym (has_number-push units id (id_at blocks q) ∙ ap (λ (b : Bool). has_number units (id_at blocks q) || (b || false)) other ∙ or_false (has_number units (id_at blocks q)))
+      ∙ sym (has_number-push units id (id_at blocks q) ∙ ap (λ (b : Bool). has_number units (id_at blocks q) || (b || false)) other ∙ or-false (has_number units (id_at blocks q)))
 ]
 
 -- ---- a unit
@@ -89,11 +85,9 @@ pub count_taken : (blocks : List BlockRow) (old new : Graph) (p : Progress) (uni
     → new.seen ≡ old.seen → new.links ≡ old.links → new.first ≡ old.first → new.left ≡ old.left → new.next ≡ neighbours_left unit n
     → (q : Progress) × (count_read p unit number (Some n) ≡ Ok q) × Holds blocks new q
 count_taken blocks old new p unit n number holds awaits few seen links first left next =
-    let at : IsAtHand p.units p.links old.first unit = subst (HasUnit p.units p.links old.first) awaits holds.at_hand in (
-      record { left = p.left; next = neighbours_left unit n; units = p.units; links = p.links },
-      ap (λ (b : Bool). cond b (Err (TooManyNeighbours unit)) (Ok (record { left = p.left; next = neighbours_left unit n; units = p.units; links = p.links }))) (le-ltb neighbour_limit n few),
-      search (rules, at, left_at_hand),
-    )
+    let at : IsAtHand p.units p.links old.first unit = subst (HasUnit p.units p.links old.first) awaits holds.at_hand in
+    let q : Progress = record { left = p.left; next = neighbours_left unit n; units = p.units; links = p.links } in
+    (q, ap (λ (b : Bool). cond b (Err (TooManyNeighbours unit)) (Ok q)) (le-ltb neighbour_limit n few), search (rules, at, left_at_hand))
 
 -- ---- a word
 

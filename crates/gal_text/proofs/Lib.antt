@@ -1,8 +1,6 @@
 pub mod FileLemmas
-pub mod FinishLemmas
 pub mod HoldingLemmas
 pub mod LinkLemmas
 pub mod RelationLemmas
 pub mod StandLemmas
 pub mod Texts
-pub mod ValidLemmas

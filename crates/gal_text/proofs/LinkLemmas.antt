@@ -168,21 +168,21 @@ pub answered : (links : List Link) (l : Link) (b : Bool) → (IsTrue b ↔ Lists
 answered links l true back there = (λ yes. absurd (cc), λ one. absurd (one.back (back.0 refl)))
 answered links l false back there = (λ yes. record { there = there; back = λ listed. let no = back.1 listed in absurd (cc) }, λ one. refl)
 
+-- the least one stays so where the next isn't before it
+still_least : (links seen : List Link) (l f : Link) → IsLeastSeen links seen f → (IsOneWay links l.from l.to → is_before l f ≡ false)
+    → IsLeastSeen links (seen ++ l ∷ []) f
+still_least links seen l f least after =
+    record { one_way = least.one_way; least = All-push (λ m. IsOneWay links m.from m.to → is_before m f ≡ false) seen l least.least after }
+
 -- what no link is that goes both ways
 pub answered_more : (links seen : List Link) (l : Link) (o : Option Link) (b : Bool) → b ≡ false → (IsTrue b ↔ IsOneWay links l.from l.to) → IsLeastOrNone links seen o
     → IsLeastOrNone links (seen ++ l ∷ []) o
 answered_more links seen l None b nay is least = All-push (λ m. ¬ IsOneWay links m.from m.to) seen l least (iff_false is nay)
-answered_more links seen l (Some f) b nay is least = record {
-  one_way = least.one_way;
-  least = All-push (λ m. IsOneWay links m.from m.to → is_before m f ≡ false) seen l least.least (λ one. absurd (iff_false is nay one));
-}
+answered_more links seen l (Some f) b nay is least = still_least links seen l f least (λ one. absurd (iff_false is nay one))
 
 least_more : (links seen : List Link) (l : Link) → IsOneWay links l.from l.to → All (λ m. IsOneWay links m.from m.to → is_before m l ≡ false) seen
     → IsLeastSeen links (seen ++ l ∷ []) l
-least_more links seen l one after = record {
-  one_way = one;
-  least = All-push (λ m. IsOneWay links m.from m.to → is_before m l ≡ false) seen l after (λ other. grind (arith, nat_tests));
-}
+least_more links seen l one after = still_least links seen l l (record { one_way = one; least = after }) (λ other. grind (arith, nat_tests))
 
 pub first_more : (links seen : List Link) (l : Link) → IsOneWay links l.from l.to → All (λ m. ¬ IsOneWay links m.from m.to) seen → IsLeastSeen links (seen ++ l ∷ []) l
 first_more links seen l one none = least_more links seen l one (λ k d inside other. absurd (none k d inside other))
@@ -194,10 +194,7 @@ far_before m l f before far = grind (arith, nat_tests)
 pub lesser_more : (links seen : List Link) (l f : Link) → IsOneWay links l.from l.to → IsLeastSeen links seen f → IsLeastSeen links (seen ++ l ∷ []) (cond (is_before l f) l f)
 lesser_more links seen l f one least = cond_both (is_before l f) l f (IsLeastSeen links (seen ++ l ∷ []))
     (λ before. least_more links seen l one (λ k d inside other. far_before (get_or seen k d) l f before (least.least k d inside other)))
-    (λ after. record {
-      one_way = least.one_way;
-      least = All-push (λ m. IsOneWay links m.from m.to → is_before m f ≡ false) seen l least.least (λ other. after);
-    })
+    (λ after. still_least links seen l f least (λ other. after))
 
 -- ---- both ways
 
@@ -223,11 +220,9 @@ pub least_from_seen : (links : List Link) (l : Link) → IsLeastSeen links links
 least_from_seen links l least = search (rules, order_of, All-contains)
 
 pub pairs_from_cut : (links : List Link) (up down : List (ℕ × ℕ)) → AreCut links up down → ArePairsOf links up
-pairs_from_cut links up down cut = record {
-  rising = cut.up_rising;
-  listed = All-weaker (Contains up) (IsPairOf links) (λ p c. (cut.up_are p).0 c) up (All-contains_itself up);
-  all = λ p is. (cut.up_are p).1 is;
-}
+pairs_from_cut links up down cut =
+    let listed = All-weaker (Contains up) (IsPairOf links) (λ p c. (cut.up_are p).0 c) up (All-contains_itself up) in
+    record { rising = cut.up_rising; listed = listed; all = λ p is. (cut.up_are p).1 is }
 
 pub cut_from_sorted : (links : List Link) (before up after down : List (ℕ × ℕ)) → before ≡ filter_map upward_pair links → AreRising up
     → ((p : ℕ × ℕ) → Contains before p ↔ Contains up p) → after ≡ filter_map downward_pair links → AreRising down → ((p : ℕ × ℕ) → Contains after p ↔ Contains down p)

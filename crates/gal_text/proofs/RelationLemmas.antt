@@ -101,8 +101,6 @@ read_names : (ns : List ℕ) (names : List (List ℕ)) (ids : List ℕ) (left : 
     → ((at : ℕ) → Reads ids (standing left awaited.Block units (links ++ map (link_of u) ns)) at rest p) → (at : ℕ) → Reads ids (standing left (neighbours_left u (length ns)) units links) at (names ++ rest) p
 read_names [] [] ids left units links u rest p are good on at =
     subst (λ (ls : List Link). Reads ids (standing left awaited.Block units ls) at rest p) (append-nil links) (on at)
-read_names [] (w ∷ ws) ids left units links u rest p are good on at = absurd are
-read_names (n ∷ ns) [] ids left units links u rest p are good on at = absurd are
 read_names (n ∷ ns) (w ∷ ws) ids left units links u rest p are good on at =
     let k = length (n ∷ ns) in
     let after : length (n ∷ ns) - 1 ≡ length ns = omega arith in
@@ -116,6 +114,7 @@ read_names (n ∷ ns) (w ∷ ws) ids left units links u rest p are good on at =
     (one_more ids (standing left (awaited.Neighbour u k) units links) (standing left (neighbours_left u (k - 1)) units (links ++ link_of u n ∷ [])) at w (ws ++ rest) p
     (neighbour_word ids left units links at w u k n are.0 there other fresh)
     (subst (λ (x : ℕ). Reads ids (standing left (neighbours_left u x) units (links ++ link_of u n ∷ [])) (at + 1) (ws ++ rest) p) (sym after) more))
+read_names _ _ ids left units links u rest p are good on at = absurd are
 
 -- what the units that are left are
 record AreLeft (ids : List ℕ) (left : ℕ) (units : List ℕ) (links : List Link) (ls : List Listing) : Type 0 where
@@ -126,12 +125,10 @@ record AreLeft (ids : List ℕ) (left : ℕ) (units : List ℕ) (links : List Li
   listed : All (λ l. Contains units l.from) links
 
 unit_neighbours : (ids units : List ℕ) (links : List Link) (u : Listing) → IsListing ids u → ¬ Contains units u.block → All (λ l. Contains units l.from) links → AreNeighbours ids links u.block u.neighbours
-unit_neighbours ids units links u is fresh listed = record {
-  neighbours_known = is.neighbours_known;
-  others = is.others;
-  fresh = λ k d inside. λ there. fresh (All-contains (λ l. Contains units l.from) links (link_of u.block (get_or u.neighbours k d)) listed there);
-  different = is.different;
-}
+unit_neighbours ids units links u is fresh listed =
+    let own : All (λ m. ¬ Lists links u.block m) u.neighbours =
+    λ k d inside there. fresh (All-contains (λ l. Contains units l.from) links (link_of u.block (get_or u.neighbours k d)) listed there) in
+    record { neighbours_known = is.neighbours_known; others = is.others; fresh = own; different = is.different }
 
 left_tail : (ids : List ℕ) (left : ℕ) (units : List ℕ) (links : List Link) (u : Listing) (ls : List Listing) → AreLeft ids left units links (u ∷ ls) → AreLeft ids (left - 1) (units ++ u.block ∷ []) (links ++ map (link_of u.block) u.neighbours) ls
 left_tail ids left units links u ls are = record {
@@ -148,8 +145,6 @@ left_tail ids left units links u ls are = record {
 read_all : (ls : List Listing) (parts : List (List (List ℕ))) (ids : List ℕ) (left : ℕ) (units : List ℕ) (links : List Link) → AreLeft ids left units links ls → AllZip IsWritten ls parts
     → (at : ℕ) → Reads ids (standing left awaited.Block units links) at (flat_map (λ part. part) parts) (standing 0 awaited.Block (units ++ blocks_of ls) (links ++ links_of ls))
 read_all [] [] ids left units links are written at = search (rules, append-nil)
-read_all [] (part ∷ parts) ids left units links are written at = absurd written
-read_all (u ∷ ls) [] ids left units links are written at = absurd written
 read_all (u ∷ ls) (part ∷ parts) ids left units links are written at =
     let one = written.0 in
     let good : IsListing ids u = All-head (IsListing ids) u ls are.each in
@@ -170,6 +165,7 @@ read_all (u ∷ ls) (part ∷ parts) ids left units links are written at =
     (one_more ids (standing (left - 1) (awaited.Count u.block) us links) (standing (left - 1) (neighbours_left u.block (length u.neighbours)) us links) (at + 1) one.count (one.names ++ rest) p
     (count_word ids (left - 1) us links (at + 1) one.count u.block (length u.neighbours) one.count_is good.few)
     (named (at + 1 + 1))))
+read_all _ _ ids left units links are written at = absurd written
 
 pub reading_from_said : (ids : List ℕ) (n : ℕ) (ws : List (List ℕ)) (p : Progress) → IsSaid ids n ws p → Reads ids (at_start n) 1 ws p
 reading_from_said ids n ws p s =
@@ -269,16 +265,11 @@ name_more ids left units links u k w n more p is there other fresh c = record {
 
 -- no neighbour, or so many
 names_by : (ids : List ℕ) (left : ℕ) (units : List ℕ) (links : List Link) (u k : ℕ) (more : List (List ℕ)) (p : Progress) (b : Bool) → eqb k 0 ≡ b → Wanting ids left (cond b awaited.Block (awaited.Neighbour u k)) units links more p → Names ids left units links u k more p
-names_by ids left units links u k more p true none wanting = record {
-  numbers = [];
-  names = [];
-  rest = more;
-  long = sym (eqb-true k 0 none);
-  cut = refl;
-  names_are = tt;
-  are = record { neighbours_known = All-nil (Contains ids); others = none_contained u; fresh = All-nil (λ m. ¬ Lists links u m); different = distinct_none };
-  more = subst (λ (ls : List Link). Blocks ids left units ls more p) (sym (append-nil links)) wanting;
-}
+names_by ids left units links u k more p true none wanting =
+    let are : AreNeighbours ids links u [] =
+    record { neighbours_known = All-nil (Contains ids); others = none_contained u; fresh = All-nil (λ m. ¬ Lists links u m); different = distinct_none } in
+    let blocks = subst (λ (ls : List Link). Blocks ids left units ls more p) (sym (append-nil links)) wanting in
+    record { numbers = []; names = []; rest = more; long = sym (eqb-true k 0 none); cut = refl; names_are = tt; are = are; more = blocks }
 names_by ids left units links u k more p false some wanting = search (rules, nat_tests)
 
 abbrev From : List ℕ → Progress → List (List ℕ) → Progress → Type 0

@@ -1,6 +1,6 @@
 -- The words of a neighbour file, one after the other.
 use Rattle.{std.{specs.Io.KnownBytes.{Consumes, IsAtEnd}, proofs.{KnownBytes.{Consumes-nil, Consumes-trans}, lemmas.List.append-nil}}, byte_stream.specs.Reading.Reading}
-use Rattle.std.proofs.Common.{◌≡◌, ℕ, ◌+◌, ◌<◌, List, [], ◌∷◌, ◌++◌, length, Option, Result, Ok, Err, refl, sym, ap, ◌∙◌, arith, append_assoc, length-append, inl, inr, rules}
+use Rattle.std.proofs.Common.{◌≡◌, ◌⊎◌, ℕ, ◌+◌, ◌<◌, List, [], ◌∷◌, ◌++◌, length, Option, Result, Ok, Err, refl, sym, ap, ◌∙◌, arith, append_assoc, length-append, inl, inr, rules}
 use Rattle.byte_stream.specs.{Words.{BeginsWithWord, IsOneWord, GivesWord}, claim.Words.{words, word_limit, IsBrokenWord}, declared.reader.ReadFault.ReadFault}
 use Rattle.{desk_model.specs.{claim.Geography.ids_of, declared.block.BlockRow.BlockRow}, gal_text.specs.{Holding.{Holds, Takes}, declared.fault.GalFault.GalFault}}
 use Rattle.gal_text.specs.{Parts.{Stands, ReadsWords, AreCutWords, refused, read_told}, claim.Units.{Progress, at_start, word_read, words_read, go_on}, declared.units.Graph.Graph}
@@ -39,16 +39,10 @@ module _ (ids : List ℕ) (s p : Progress) (ws : List (List ℕ)) (said : words_
 
 module _ (blocks : List BlockRow) (count : ℕ) (start : List ℕ) (old : Option (List ℕ)) where
   pub stands_start : (g : Graph) → Holds blocks g (at_start count) → Stands blocks count start old old start 1 g
-  stands_start g holds = record {
-    came = [];
-    consumed = Consumes-nil old;
-    whole = [];
-    words_are = λ more. ap (λ (t : List ℕ). words (t ++ more)) (append-nil start);
-    progress = at_start count;
-    said = refl;
-    holds = holds;
-    counted = refl;
-  }
+  stands_start g holds =
+      let words_are = λ (more : List ℕ). ap (λ (t : List ℕ). words (t ++ more)) (append-nil start) in
+      let consumed = Consumes-nil old in let progress = at_start count in
+      record { came = []; consumed = consumed; whole = []; words_are = words_are; progress = progress; said = refl; holds = holds; counted = refl }
 
   -- what was judged of the word at hand, of any progress that the state holds
   abbrev pub Took : Graph → ℕ → List ℕ → Result (Unit {0}) UnitRefusal → Graph → Type 0
@@ -75,17 +69,13 @@ module _ (blocks : List BlockRow) (count : ℕ) (start : List ℕ) (old : Option
         → Took g at given (Ok u) new → Stands blocks count start old left rest (number + 1) new
     stands_word word rest new u at given same_number same b took =
         let is = took_next new at given word (Ok u) same_number same took in
-        record {
-          came = stands.came;
-          consumed = stands.consumed;
-          whole = stands.whole ++ word ∷ [];
-          words_are = λ next. stands.words_are next ∙ ap (λ (ws : List (List ℕ)). stands.whole ++ ws) (b.gives next) ∙ sym
-              (append_assoc stands.whole (word ∷ []) (words (rest ++ next)));
-          progress = is.0;
-          said = said_more (ids_of blocks) (at_start count) stands.progress stands.whole stands.said word is.0 is.1;
-          holds = is.2;
-          counted = omega (arith, stands.counted, length-append stands.whole (word ∷ []));
-        }
+        let all = stands.whole ++ word ∷ [] in
+        let words_are = λ (next : List ℕ). stands.words_are next ∙ ap (λ (ws : List (List ℕ)). stands.whole ++ ws) (b.gives next)
+        ∙ sym (append_assoc stands.whole (word ∷ []) (words (rest ++ next))) in
+        let said = said_more (ids_of blocks) (at_start count) stands.progress stands.whole stands.said word is.0 is.1 in
+        let counted : number + 1 ≡ length all + 1 = omega (arith, stands.counted, length-append stands.whole (word ∷ [])) in
+        let came = stands.came in let consumed = stands.consumed in
+        record { came = came; consumed = consumed; whole = all; words_are = words_are; progress = is.0; said = said; holds = is.2; counted = counted }
 
     -- ---- the end
 
@@ -99,26 +89,21 @@ module _ (blocks : List BlockRow) (count : ℕ) (start : List ℕ) (old : Option
 
     -- ---- why there is no state
 
-    pub told_refused : (word rest : List ℕ) (new : Graph) (r : UnitRefusal) (e : GalFault) (at : ℕ) (given : List ℕ) → e ≡ refused r → at ≡ number → given ≡ word
-        → BeginsWithWord (was ++ more) word rest → Took g at given (Err r) new → Told left (Err e)
-    told_refused word rest new (refusal.Fault f) e at given is same_number same b took = rw is (
-      stands.came,
-      stands.consumed,
-      inl (λ next.
-          ap (words_read (ids_of blocks) (at_start count) 1) (stands.words_are next ∙ ap (λ (ws : List (List ℕ)). stands.whole ++ ws) (b.gives next))
-          ∙ said_fault (ids_of blocks) (at_start count) stands.progress stands.whole stands.said word (words (rest ++ next)) f
-          (took_next new at given word (Err (refusal.Fault f)) same_number same took)),
-    )
-    told_refused word rest new refusal.Memory e at given is same_number same b took = rw is (stands.came, stands.consumed, tt)
-
-    pub told_refused_last : (word : List ℕ) (new : Graph) (r : UnitRefusal) (e : GalFault) (at : ℕ) (given : List ℕ) → e ≡ refused r → at ≡ number → given ≡ word → IsAtEnd left
-        → IsOneWord (was ++ more) word → Took g at given (Err r) new → Told left (Err e)
-    told_refused_last word new (refusal.Fault f) e at given is same_number same end one took =
-        let said = ap (words_read (ids_of blocks) (at_start count) 1) (whole_words ∙ ap (λ (ws : List (List ℕ)). stands.whole ++ ws) one.gives)
+    pub told_refused : (word : List ℕ) (new : Graph) (r : UnitRefusal) (e : GalFault) (at : ℕ) (given : List ℕ) → e ≡ refused r → at ≡ number → given ≡ word
+        → ((rest : List ℕ) × BeginsWithWord (was ++ more) word rest) ⊎ (IsAtEnd left × IsOneWord (was ++ more) word)
+        → Took g at given (Err r) new → Told left (Err e)
+    told_refused word new (refusal.Fault f) e at given is same_number same (inl b) took =
+        let said = λ (next : List ℕ). ap (words_read (ids_of blocks) (at_start count) 1)
+        (stands.words_are next ∙ ap (λ (ws : List (List ℕ)). stands.whole ++ ws) (b.1.gives next))
+        ∙ said_fault (ids_of blocks) (at_start count) stands.progress stands.whole stands.said word (words (b.0 ++ next)) f
+        (took_next new at given word (Err (refusal.Fault f)) same_number same took) in
+        rw is (stands.came, stands.consumed, inl said)
+    told_refused word new (refusal.Fault f) e at given is same_number same (inr l) took =
+        let said = ap (words_read (ids_of blocks) (at_start count) 1) (whole_words ∙ ap (λ (ws : List (List ℕ)). stands.whole ++ ws) l.1.gives)
         ∙ said_fault (ids_of blocks) (at_start count) stands.progress stands.whole stands.said word [] f
         (took_next new at given word (Err (refusal.Fault f)) same_number same took) in
-        rw is (stands.came, stands.consumed, inr (end, said))
-    told_refused_last word new refusal.Memory e at given is same_number same end one took = rw is (stands.came, stands.consumed, tt)
+        rw is (stands.came, stands.consumed, inr (l.0, said))
+    told_refused word new refusal.Memory e at given is same_number same told took = rw is (stands.came, stands.consumed, tt)
 
     told_cut : IsBrokenWord (was ++ more) → AreCutWords (ids_of blocks) count (start ++ stands.came)
     told_cut broken = search (rules, stands)
@@ -126,13 +111,11 @@ module _ (blocks : List BlockRow) (count : ℕ) (start : List ℕ) (old : Option
     pub told_fault : (long : TextFault) (f : ReadFault) (r : Reading) (e : GalFault) (at : ℕ) → e ≡ read_told long f → at ≡ number
         → ((p : Progress) (word : List ℕ) → Holds blocks g p → word_limit < length word → word_read (ids_of blocks) p at word ≡ Err long) → GivesWord (was ++ more) left (Err f) r
         → Told left (Err e)
-    told_fault long read.TooLong r e at is same is_long gives = rw is (
-      stands.came,
-      stands.consumed,
-      inl (λ next.
-          let w = gives next in
-          ap (words_read (ids_of blocks) (at_start count) 1) (stands.words_are next ∙ ap (λ (ws : List (List ℕ)). stands.whole ++ ws) w.2)
-          ∙ said_fault (ids_of blocks) (at_start count) stands.progress stands.whole stands.said w.0 w.1 long
-          (rw (same ∙ stands.counted) at (is_long stands.progress w.0 stands.holds w.3))),
-    )
+    told_fault long read.TooLong r e at is same is_long gives =
+        let said = λ (next : List ℕ).
+        (let w = gives next in
+        ap (words_read (ids_of blocks) (at_start count) 1) (stands.words_are next ∙ ap (λ (ws : List (List ℕ)). stands.whole ++ ws) w.2)
+        ∙ said_fault (ids_of blocks) (at_start count) stands.progress stands.whole stands.said w.0 w.1 long
+        (rw (same ∙ stands.counted) at (is_long stands.progress w.0 stands.holds w.3))) in
+        rw is (stands.came, stands.consumed, inl said)
     told_fault long _ r e at is same is_long gives = rw is (stands.came, stands.consumed, told_cut gives)

@@ -34,8 +34,7 @@ module _ {J n : ℕ} {ws : List (ℕ × List ℕ)} {P : Image} {a : Disk} (found
 
   module _ (b c : Disk) (ab : Touches (Homes (home J) ws) a b) (at_home : IsHome (home J) ws a b) (bc : Touches (Only 1) b c) where
     still : Stages J ws b.reads × IsStore J n b.reads
-    still = staged_still J n ws (Homes (home J) ws) a.reads b.reads found.fits found.within (λ s. let e = s.2 in omega arith)
-        (λ i s t. let e = s.2 in omega arith) ab.reads found.store found.staged
+    still = search (arith, staged_still J n ws (Homes (home J) ws) a.reads b.reads found.fits found.within)
 
     pub close_leaves : LeavesOnly (Opens J n P) a c
     close_leaves = leaves_more (Opens J n P) a b c (home_leaves b ab) (leaves_from (Opens J n P) (Only 1) b c at_home.synced bc (λ x agree.
@@ -71,14 +70,8 @@ module _ (J n : ℕ) (ws : List (ℕ × List ℕ)) (fits : length ws ≤ J) (wit
     pub gate_opened : HasGate 165 c → IsOpen J n ws (overlay ws (pages J a.reads)) c
     gate_opened is_open =
         let on = staged_still J n ws (Only 1) b.reads c.reads fits within (λ is. omega arith) (λ i is s. omega arith) bc.reads store staged.stages in
-        record {
-          fits = fits;
-          within = within;
-          store = on.1;
-          is_open = is_open;
-          staged = on.0;
-          are = ap (λ (X : Image). overlay ws X) ((λ i p. same_homes J b.reads c.reads bc.reads p i) ∙ homes);
-        }
+        let are : overlay ws (home_pages J c.reads) ≡ overlay ws (pages J a.reads) = ap (overlay ws) ((λ i p. same_homes J b.reads c.reads bc.reads p i) ∙ homes) in
+        search (rules, fits, within, on, are)
 
     pub after_more : (d : Disk) → LeavesOnly (Opens J n (overlay ws (pages J a.reads))) c d → LeavesOnly Q a d
     after_more d cd = leaves_more Q a c d after_gate (leaves_wider (Opens J n (overlay ws (pages J a.reads))) Q c d (λ x opens. inr opens) cd)
@@ -98,8 +91,7 @@ copies_stage J c = copies_from_stage (list_word c 0) refl
 
     nth : (at k n j : ℕ) → j < n → get_or (copies_from c at k n) j (0, []) ≡ (list_word c (k + j + 1), c (at + (k + j)))
     nth at k zero j lt = absurd (omega arith)
-    nth at k (suc n) zero lt = let e : k ≡ k + 0 = omega arith in ap (λ (m : ℕ). (list_word c (m + 1), c (at + m))) e
-    nth at k (suc n) (suc j) lt = let e : k + 1 + j ≡ k + suc j = omega arith in nth at (k + 1) n j (omega arith) ∙ ap (λ (m : ℕ). (list_word c (m + 1), c (at + m))) e
+    nth at k (suc n) j lt = search (arith, nth at (k + 1) n)
 
     copies_from_stage : (n : ℕ) → n ≡ list_word c 0 → Stages J (copies_from c (first_copy J) 0 n) c
     copies_from_stage n is = search (rules, long, nth)
@@ -144,11 +136,5 @@ pub found_open : (J n : ℕ) (a : Disk) → IsStore J n a.reads → IsSynced a �
 found_open J n a store synced is_open =
     let stand = copies_stage J a.reads in
     let valid = store.list is_open in
-    record {
-      fits = omega (arith, count_is J a, valid.count);
-      within = λ k lt. omega (arith, stand.page k lt, valid.each k (omega (arith, count_is J a)));
-      store = store;
-      is_open = record { stands = is_open; synced = synced };
-      staged = stand;
-      are = λ i p. (sym (pages_open J a.reads p is_open)) i;
-    }
+    let are : overlay (copies J a.reads) (home_pages J a.reads) ≡ pages J a.reads = λ i p. (sym (pages_open J a.reads p is_open)) i in
+    search (arith, count_is J a, valid.count, valid.each, stand, are)

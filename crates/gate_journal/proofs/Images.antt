@@ -1,7 +1,7 @@
 -- What images stand for while a commit goes on.
-use Rattle.std.proofs.Common.{rules, ◌≡◌, ◌≢◌, ◌≤◌, ◌<◌, ◌+◌, ◌*◌, ◌/◌, ◌%◌, ℕ, zero, suc, Bool, true, false, List, [], ◌∷◌, length, take, inl, inr, ⊎_elim, refl, subst, ap, ◌∙◌, arith, get_or, cond, nat_eq, add-one}
-use Rattle.{std.proofs.lemmas.Bool.{cases_eq, Decides.nat_tests}, gate_journal.specs.Steps.{Span, HasList, HasCopies, want}, sector_device.specs.Disk.Only}
-use Rattle.{gate_journal.specs.Store.{IsWithin, Writes, Homes, Stages, Staging, IsBeforeOrAfter}, sector_device.specs.claim.Disk.{Disk, Image, AgreeOff}}
+use Rattle.std.proofs.Common.{rules, ◌≡◌, ◌≢◌, ◌≤◌, ◌<◌, ◌+◌, ◌*◌, ◌/◌, ◌%◌, ℕ, zero, suc, Bool, true, false, List, [], ◌∷◌, length, take, ⊎_elim, refl, subst, ap, ◌∙◌, arith, get_or, cond, nat_eq, add-one, ◌-◌}
+use Rattle.{std.proofs.lemmas.Bool.{cases_eq, Decides.nat_tests}, gate_journal.specs.{Recovery.{NamesPages, SectorNames}, Steps.{Span, HasList, HasCopies, want}}}
+use Rattle.{gate_journal.specs.Store.{IsWithin, Writes, Homes, Stages, Staging, IsBeforeOrAfter}, sector_device.specs.{Disk.Only, claim.Disk.{Disk, Image, AgreeOff}}}
 use Rattle.gate_journal.specs.claim.Store.{word, list_word, first_copy, home, gate, copies_from, copies, put, overlay, home_pages, pages, IsValid, IsStore, Opens}
 
 -- ---- overlays
@@ -20,7 +20,7 @@ overlay_same (w ∷ ws) P Q p same = overlay_same ws (put w P) (put w Q) p (λ o
 
 pub overlay_off : (ws : List (ℕ × List ℕ)) (P : Image) (p : ℕ) → (Writes ws p → ⊥) → overlay ws P p ≡ P p
 overlay_off [] P p off = refl
-overlay_off (w ∷ ws) P p off = overlay_off ws (put w P) p (λ any. off (inr any)) ∙ put_off w P p (λ is. off (inl is))
+overlay_off (w ∷ ws) P p off = search (rules, overlay_off ws (put w P), put_off w P)
 
 pub overlay_twice : (ws : List (ℕ × List ℕ)) (P : Image) (p : ℕ) → overlay ws (overlay ws P) p ≡ overlay ws P p
 overlay_twice ws P p = overlay_same ws (overlay ws P) P p (λ off. overlay_off ws P p off)
@@ -92,10 +92,7 @@ opened J ws c p is staged = pages_open J c p is ∙ ap (λ (l : List (ℕ × Lis
 pub while_opening : (J n : ℕ) (ws : List (ℕ × List ℕ)) (b c : Image) → length ws ≤ J → IsWithin ws n → IsStore J n b → Stages J ws b → AgreeOff (Only 1) b c → IsBeforeOrAfter J n ws (home_pages J b) c
 while_opening J n ws b c fits within store staged agree =
     let on = staged_still J n ws (Only 1) b c fits within (λ is. omega arith) (λ i is s. omega arith) agree store staged in
-    elim (cases_eq (gate c) 165) [
-      | inl is ↦ inr (record { store = on.1; each = λ p. opened J ws c p is on.0 ∙ overlay_same ws (home_pages J c) (home_pages J b) p (λ off. same_homes J b c agree p) })
-      | inr shut ↦ inl (record { store = on.1; each = λ p. pages_shut J c p shut ∙ same_homes J b c agree p })
-    ]
+    search (rules, on, cases_eq (gate c) 165, opened J ws c, overlay_same ws (home_pages J c) (home_pages J b), same_homes J b c agree, pages_shut J c)
 
 pub while_copying : (J n : ℕ) (ws : List (ℕ × List ℕ)) (b c : Image) → length ws ≤ J → IsWithin ws n → IsStore J n b → gate b ≡ 165 → Stages J ws b → AgreeOff (Homes (home J) ws) b c → Opens J n (overlay ws (home_pages J b)) c
 while_copying J n ws b c fits within store is staged agree =
@@ -111,13 +108,7 @@ while_copying J n ws b c fits within store is staged agree =
 pub while_closing : (J n : ℕ) (ws : List (ℕ × List ℕ)) (P b c : Image) → length ws ≤ J → IsWithin ws n → IsStore J n b → Stages J ws b → ((p : ℕ) → home_pages J b p ≡ overlay ws P p) → AgreeOff (Only 1) b c → Opens J n (overlay ws P) c
 while_closing J n ws P b c fits within store staged homes agree =
     let on = staged_still J n ws (Only 1) b c fits within (λ is. omega arith) (λ i is s. omega arith) agree store staged in
-    record {
-      store = on.1;
-      each = λ p. elim (cases_eq (gate c) 165) [
-        | inl is ↦ opened J ws c p is on.0 ∙ overlay_same ws (home_pages J c) (overlay ws P) p (λ off. same_homes J b c agree p ∙ homes p) ∙ overlay_twice ws P p
-        | inr shut ↦ pages_shut J c p shut ∙ same_homes J b c agree p ∙ homes p
-      ];
-    }
+    search (rules, on, cases_eq (gate c) 165, opened J ws c, overlay_same ws (home_pages J c) (overlay ws P), overlay_twice, same_homes J b c agree, homes, pages_shut J c)
 
 -- ---- one write more
 pub overlay_more : (ws : List (ℕ × List ℕ)) (k : ℕ) (P : Image) (p : ℕ) → k < length ws → overlay (take (k + 1) ws) P p ≡ put (get_or ws k (0, [])) (overlay (take k ws) P) p
@@ -135,8 +126,7 @@ homes_more at ws k a b c lt homes agree written p = search (rules, overlay_more,
 
 pub writes_at : (ws : List (ℕ × List ℕ)) (k : ℕ) → k < length ws → Writes ws (get_or ws k (0, [])).0
 writes_at [] k lt = absurd (omega arith)
-writes_at (w ∷ ws) zero lt = inl refl
-writes_at (w ∷ ws) (suc k) lt = inr (writes_at ws k (omega arith))
+writes_at (w ∷ ws) k lt = search (arith, writes_at ws)
 
 pub list_word_at : (x : Image) (k i : ℕ) → 2 + k / 1024 ≡ i → list_word x k ≡ word (x i) (k % 1024)
 unfolding list_word
@@ -155,3 +145,12 @@ staged_by J ws b c fits listed agree copied = search (rules, word_of, want_next)
 
     want_next : (k : ℕ) → want ws (k + 1) ≡ (get_or ws k (0, [])).0
     want_next k = rw add-one refl
+
+-- ---- the list, sector by sector
+-- one sector more
+pub names_more : (c : Image) (s count n : ℕ) (sector : List ℕ) → sector ≡ c (2 + s) → SectorNames (1024 * s) count n sector 1024 → ((k : ℕ) → k < 1024 * s → 1 ≤ k → k ≤ count → list_word c k < n)
+    → (k : ℕ) → k < 1024 * (s + 1) → 1 ≤ k → k ≤ count → list_word c k < n
+names_more c s count n sector is names before k lt some le = search (arith, cases_eq (k / 1024) s, list_word_at c k (2 + s), before)
+
+pub names_of : (c : Image) (s count n : ℕ) (sector : List ℕ) → sector ≡ c (2 + s) → NamesPages count n c → SectorNames (1024 * s) count n sector 1024
+names_of c s count n sector is names j lt some le = search (arith, names (1024 * s + j - 1), list_word_at c (1024 * s + j) (2 + s))

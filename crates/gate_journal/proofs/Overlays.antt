@@ -11,11 +11,7 @@ writes_here (w ∷ ws) p (inl is) = (0, omega arith, sym is)
 writes_here (w ∷ ws) p (inr there) = let found = writes_here ws p there in let below = found.1 in (suc found.0, omega arith, found.2)
 
 last_after : (w : ℕ × List ℕ) (ws : List (ℕ × List ℕ)) (p k : ℕ) → IsLast (w ∷ ws) p (suc k) → IsLast ws p k
-last_after w ws p k is = record {
-  below = let lt = is.below in omega arith;
-  here = is.here;
-  later = λ j gt lt. is.later (suc j) (omega arith) (omega arith);
-}
+last_after w ws p k is = record { below = (let lt = is.below in omega arith); here = is.here; later = λ j gt lt. is.later (suc j) (omega arith) (omega arith) }
 
 none_writes : (ws : List (ℕ × List ℕ)) (p : ℕ) → ((j : ℕ) → j < length ws → (get_or ws j (0, [])).0 ≢ p) → Writes ws p → ⊥
 none_writes ws p none there = let found = writes_here ws p there in none found.0 found.1 found.2
@@ -34,16 +30,7 @@ overlay_at ws P Q q same = overlay_same ws P Q q (λ off. same)
 pub overlay_set : (ws : List (ℕ × List ℕ)) (P : Image) (p k q : ℕ) (bytes : List ℕ) → IsLast ws p k → overlay (set ws k (p, bytes)) P q ≡ put (p, bytes) (overlay ws P) q
 overlay_set [] P p k q bytes is = let lt = is.below in absurd (omega arith)
 overlay_set (w ∷ ws) P p zero q bytes is =
-    search (
-      rules,
-      cases_eq q p,
-      overlay_off ws (put (p, bytes) P) p (none_writes ws p (λ j lt. is.later (suc j) (omega arith) (omega arith))),
-      put_on
-          (p, bytes) P p refl,
-      put_on,
-      overlay_at,
-      put_off,
-    )
+    search (rules, cases_eq q p, overlay_off ws (put (p, bytes) P) p (none_writes ws p (λ j lt. is.later (suc j) (omega arith) (omega arith))), put_on, overlay_at, put_off)
 overlay_set (w ∷ ws) P p (suc k) q bytes is = overlay_set ws (put w P) p k q bytes (last_after w ws p k is)
 
 -- a write at the end
@@ -89,17 +76,12 @@ module _ (ns : List ℕ) (ws : List (ℕ × List ℕ)) (beside : AreNumbers ns w
 -- which pages are written
 pub writes_set : (ws : List (ℕ × List ℕ)) (k p : ℕ) (bytes : List ℕ) → p ≡ (get_or ws k (0, [])).0 → (q : ℕ) → Writes ws q → Writes (set ws k (p, bytes)) q
 writes_set [] k p bytes is q there = absurd there
-writes_set (w ∷ ws) zero p bytes is q (inl here) = inl (here ∙ sym is)
-writes_set (w ∷ ws) zero p bytes is q (inr there) = inr there
-writes_set (w ∷ ws) (suc k) p bytes is q (inl here) = inl here
-writes_set (w ∷ ws) (suc k) p bytes is q (inr there) = inr (writes_set ws k p bytes is q there)
+writes_set (w ∷ ws) zero p bytes is q there = search arith
+writes_set (w ∷ ws) (suc k) p bytes is q there = search (arith, writes_set ws k p bytes is q)
 
 pub writes_push : (ws : List (ℕ × List ℕ)) (w : ℕ × List ℕ) (q : ℕ) → (q ≡ w.0) ⊎ Writes ws q → Writes (ws ++ w ∷ []) q
-writes_push [] w q (inl here) = inl here
-writes_push [] w q (inr none) = absurd none
-writes_push (v ∷ ws) w q (inl here) = inr (writes_push ws w q (inl here))
-writes_push (v ∷ ws) w q (inr (inl first)) = inl first
-writes_push (v ∷ ws) w q (inr (inr there)) = inr (writes_push ws w q (inr there))
+writes_push [] w q there = there
+writes_push (v ∷ ws) w q there = search (arith, writes_push ws w q)
 
 -- each is of one of n pages
 pub within_push : (ws : List (ℕ × List ℕ)) (w : ℕ × List ℕ) (n : ℕ) → w.0 < n → IsWithin ws n → IsWithin (ws ++ w ∷ []) n

@@ -1,9 +1,10 @@
 -- What an opening may leave.
-use Rattle.std.proofs.Common.{rules, ◌≡◌, ◌⊎◌, ◌≤◌, ◌<◌, ℕ, Result, Ok, Err, OnOk, OnErr, IsErrOf, IfOk, IfErr, IsErrAnd, refl, sym, subst, ◌∙◌, arith}
-use Rattle.gate_journal.specs.{Recovery.{AllStores, HasRoom, HasLayout, ReadsAs, Found, Reopens, Recovers, Starts, LooksAt, OpensSo}, Store.{IsStoreOf, IsSettled}}
-use Rattle.gate_journal.specs.{claim.Store.{header_of, pages, IsStore, Opens}, declared.{error.PageError.{PageError, TheVariants.{NotAStore, DeviceFault}}, layout.Layout.Layout}}
-use Rattle.sector_device.specs.{Disk.{IsSynced, HasCause}, claim.{Disk.{Disk, Image, AgreeOff, Nowhere, Touches, LeavesBut}, Moments.LeavesOnly}}
-use Rattle.{gate_journal.proofs.Headers.is_laid_out, sector_device.proofs.Moments.{leaves_from, leaves_more, leaves_wider, now_but, cause_after, on_ok, touches_more}}
+use Rattle.{std.specs.Prelude.{◌≡◌, ℕ, List, Result}, gate_journal.specs.Recovery.{AllStores, HasRoom, HasLayout, ReadsAs, Found, Reopens, Recovers, Starts, LooksAt, OpensSo}}
+use Rattle.std.proofs.Common.{rules, ◌≡◌, ◌⊎◌, ◌≤◌, ◌<◌, ℕ, Result, Ok, Err, OnOk, OnErr, IsErrOf, IfOk, IfErr, IsErrAnd, sym, subst, ◌∙◌, arith}
+use Rattle.gate_journal.specs.{Steps.{TakesStep, Commits, CommitsOn}, Store.{IsStoreOf, IsSettled}, claim.Store.{header_of, pages, IsStore, Opens}, declared.layout.Layout.Layout}
+use Rattle.{gate_journal.specs.declared.error.PageError.{PageError, TheVariants.{NotAStore, DeviceFault}}, sector_device.specs.Disk.{IsSynced, HasCause, Step}}
+use Rattle.{sector_device.specs.claim.{Disk.{Disk, Image, AgreeOff, Nowhere, Touches, LeavesBut}, Moments.LeavesOnly}, gate_journal.proofs.Headers.is_laid_out}
+use Rattle.sector_device.proofs.Moments.{leaves_from, leaves_more, leaves_wider, now_but, cause_after, on_ok, touches_more}
 
 agreed : (b c : Image) → AgreeOff Nowhere b c → b ≡ c
 agreed b c agree = λ i k. (sym (agree.same k (λ none. none))) i
@@ -12,8 +13,7 @@ pub same_reads : (a b : Disk) → Touches Nowhere a b → a.reads ≡ b.reads
 same_reads a b ab = agreed a.reads b.reads ab.reads
 
 always : {T E : Type 0} {P : Type 0} (r : Result T E) → P → OnOk r P
-always (Ok x) p = p
-always (Err e) p = tt
+always r p = search arith
 
 at_err : {T E : Type 0} {P : Type 0} (r : Result T E) (e : E) → IsErrOf r e → OnErr r P → P
 at_err {T = T} {E = E} {P = P} r e is on = let Q : Result T E → Type 0 = λ s. OnErr s P in subst Q is on
@@ -22,8 +22,7 @@ not_both : {T : Type 0} (r : Result T PageError) → IfErr r (λ e. e ≡ Device
 not_both r only is = let same : NotAStore ≡ DeviceFault = subst (λ s. IfErr s (λ e. e ≡ DeviceFault)) is only in cc
 
 no_fewer : {T E : Type 0} (a b : Disk) (r : Result T E) → HasCause a b r → a.faults ≤ b.faults
-no_fewer a b (Ok x) cause = let e = cause.passed in omega arith
-no_fewer a b (Err x) cause = let e = cause.failed in omega arith
+no_fewer a b r cause = search arith
 
 -- one look, and another
 pub looked_more : {T U E F : Type 0} {a b c : Disk} {x : T} {r : Result U F} → Touches Nowhere a b × HasCause {E = E} a b (Ok x) → Touches Nowhere b c × HasCause b c r
@@ -52,7 +51,7 @@ quiet_found J n a b d ab header same = search (rules, now_but, agreed)
 module _ (J n : ℕ) (a : Disk) (synced : IsSynced a) where
   -- nothing was written since the gate was read
   pub quiet_opens : (b : Disk) → IsStore J n a.reads → Touches Nowhere a b → LeavesOnly (Opens J n (pages J a.reads)) a b
-  quiet_opens b store ab = leaves_from (Opens J n (pages J a.reads)) Nowhere a b synced ab (λ c agree. subst (λ (x : Image). Opens J n (pages J a.reads) x) (agreed a.reads c agree) (record { store = store; each = λ p. refl }))
+  quiet_opens b store ab = search (rules, leaves_from (Opens J n (pages J a.reads)) Nowhere, agreed a.reads)
 
   pub quiet_recovers : {T : Type 0} (b : Disk) (r : Result T PageError) → Touches Nowhere a b → OnOk r (b.faults ≡ a.faults) → (IsErrOf r DeviceFault → a.faults < b.faults) → (IsErrOf r NotAStore → IsStore J n a.reads → ⊥) → (IsErrOf r NotAStore → b.faults ≡ a.faults) → OnOk r (IsSettled J n b) → Recovers J n a b r
   quiet_recovers b r ab passed faulted refused calm settled = search (rules, quiet_opens, always, same_reads)
@@ -71,8 +70,7 @@ module _ (J n : ℕ) (a : Disk) (synced : IsSynced a) where
 
 pub fault_starts : {U E : Type 0} (a b : Disk) (r : Result Layout PageError) (y : E) → IsErrAnd r (λ e. e ≡ DeviceFault)
     → Touches Nowhere a b × HasCause {T = U} a b (Err y) → Starts a b r
-fault_starts a b (Ok x) y is seen = absurd is
-fault_starts a b (Err e) y is seen = let ab = seen.0 in let rose = seen.1.failed in search (rules, quiet_reads, not_both)
+fault_starts a b r y is seen = search (arith, quiet_reads, not_both)
 
 -- after the header was read
 module _ {U F : Type 0} (a d e : Disk) (y : U) (l : Layout) (seen : Touches Nowhere a d × HasCause {E = F} a d (Ok y)) (room : HasRoom d.sectors l.journal_pages l.pages) (layout : HasLayout d.reads l) where
@@ -110,3 +108,16 @@ opens_so sectors honest errs model = record { sectors = sectors; honest = honest
 
 pub looks_so : {T E : Type 0} {Q : T → Type 0} {a b : Disk} {r : Result T E} → b.sectors ≡ a.sectors → (b.is_honest → Touches Nowhere a b × HasCause a b r) → (b.is_honest → IfOk r Q) → LooksAt Q a b r
 looks_so sectors model told = record { sectors = sectors; model = model; told = told }
+
+-- ---- what a step did so far, and at its end
+-- nothing failed so far
+pub record SoFar (S : ℕ → Type 0) (Q : Disk → Type 0) (old new : Disk) : Type 0 where
+  pub touches : Touches S old new
+  pub passed : new.faults ≡ old.faults
+  pub done : Q new
+
+pub step_so : {T E : Type 0} {S : ℕ → Type 0} {Q : Disk → Type 0} {a b : Disk} {r : Result T E} → b.sectors ≡ a.sectors → (b.is_honest → Step S Q a b r) → TakesStep S Q a b r
+step_so sectors model = record { sectors = sectors; model = model }
+
+pub commits_so : {T E : Type 0} {l : Layout} {ws : List (ℕ × List ℕ)} {a b : Disk} {r : Result T E} → b.sectors ≡ a.sectors → (b.is_honest → Commits l.journal_pages l.pages ws a b r) → CommitsOn l ws a b r
+commits_so sectors model = record { sectors = sectors; model = model }

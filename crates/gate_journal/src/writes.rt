@@ -72,6 +72,7 @@ impl PageWrites {
     }
 
     /// How many pages are written. Each stands once.
+    #[tactic(auto, using(crate::proofs::Overlays::is_once))]
     pub fn len(&self) -> usize
         ensures length { result ≡ length (writes_of self.now) }
         ensures once { IsOnce (writes_of self.now) }
@@ -89,6 +90,7 @@ impl PageWrites {
     }
 
     /// Adds a page and its bytes. That the page is one of the store's is the caller's condition.
+    #[tactic(auto, using(crate::proofs::Overlays::beside_push, crate::proofs::Overlays::apart_push))]
     pub fn push(&mut self, page: u32, bytes: &Sector) -> Result<(), AllocError>
         requires { Writes (writes_of self.old) page → ⊥ }
         ensures { PushesWrite page bytes.now self.old self.new result }
@@ -100,6 +102,7 @@ impl PageWrites {
     }
 
     /// The place of a page among the writes.
+    #[tactic(auto, using(crate::proofs::Overlays::found_by))]
     fn place(&self, page: u32) -> Option<usize>
         ensures { MatchOption result (Writes (writes_of self.now) page → ⊥) (λ k. IsLast (writes_of self.now) page k) }
     {
@@ -107,6 +110,7 @@ impl PageWrites {
     }
 
     /// The bytes that a page is to have, where it is written.
+    #[tactic(auto, using(crate::proofs::Overlays::overlay_last, std::proofs::lemmas::List::get_or_default))]
     pub fn get(&self, page: u32) -> Option<&Sector>
         ensures { MatchOption result (Writes (writes_of self.now) page → ⊥) (λ bytes. (P : Image) → overlay (writes_of self.now) P page ≡ bytes.now) }
     {

@@ -1,44 +1,18 @@
 -- The rows under a prefix are rows of the map.
-use Rattle.std.specs.{Cmp.Lexicographic.nat_list_cmp_total, FinMap.{entries, entries_sorted, find, get-entries, is_sorted, Entries.below_all}, Ordering.is_lt}
-use Rattle.{std.{specs.{Prelude.{Option, IfSome}, declared.cmp.Ordering.TheVariants.{Less, Equal}}, proofs.lemmas.Cmp.tied_itself}, btree_walks.specs.Prefixes.under}
-use Rattle.{std.proofs.Common.{◌≡◌, ℕ, List, [], ◌∷◌, Bool, true, false, cond, Some, None, sym, ap, subst, ◌∙◌, arith}, btree_walks.specs.declared.{rows.Row.Row, scans.Scan.Scan}}
-use Rattle.{btree_walks.specs.Scanning.{Rest, IsNextRow, ScanErr, fault_in, has_ended, CanScan}, desk_pages.specs.Reading.ReadErr, page_btree.specs.page_node.claim.Entries.Entry}
-use Rattle.{geo_tables.specs.Following.{AreIn, IsFound, IsTaken, Scans}, page_btree.specs.{declared.error.TreeError.TreeError, page_node.claim.Places.{key_cmp, Rises}}}
-use Rattle.{page_store.specs.declared.{pages.Pages.Pages, txn.Txn.Txn}, sector_device.specs.declared.SectorDevice.Ghosts, store_rows.specs.claim.Rows.KeyMap}
-use Rattle.{btree_walks.proofs.{Prefixes.head_rises, Scanning.none_to_come}, page_btree.proofs.Booleans.true_is, store_rows.proofs.Frames.{differs, itself}}
+use Rattle.{std.specs.{FinMap.entries, Prelude.{Option, IfSome}}, btree_walks.specs.{Prefixes.under, Scanning.{Rest, IsNextRow, ScanErr, fault_in, has_ended, CanScan}}}
+use Rattle.{std.proofs.Common.{◌≡◌, ◌++◌, ℕ, List, [], ◌∷◌, Bool, true, false, Some, None, refl, sym, subst, ◌∙◌, append_assoc, arith}, btree_walks.specs.declared.rows.Row.Row}
+use Rattle.{btree_walks.specs.declared.scans.Scan.Scan, desk_pages.specs.Reading.ReadErr, geo_tables.specs.Following.{AreIn, IsFound, IsTaken, Scans}}
+use Rattle.{page_btree.specs.{declared.error.TreeError.TreeError, page_node.claim.Entries.Entry}, page_store.specs.declared.{pages.Pages.Pages, txn.Txn.Txn}}
+use Rattle.{sector_device.specs.declared.SectorDevice.Ghosts, store_rows.specs.claim.Rows.KeyMap, btree_walks.proofs.{RowsFound.next_under, Scanning.none_to_come}}
 
--- rows that a list finds
-AreFound : List Entry → List Entry → Type 0
-AreFound all [] = Unit {0}
-AreFound all (e ∷ es) = (find key_cmp e.0 all ≡ Some e.1) × AreFound all es
-
-unlike : (x y : List ℕ) → is_lt (key_cmp x y) ≡ true → y ≡ x → ⊥
-unlike x y less same =
-    let below : key_cmp x x ≡ Less = ap (key_cmp x) (sym same) ∙ (search (arith)) in
-    let clash : Equal ≡ Less = sym (tied_itself nat_list_cmp_total x) ∙ below in
-    cc
-
-after : (e : Entry) (es all : List Entry) → below_all key_cmp e.0 es ≡ true → AreFound all es → AreFound (e ∷ all) es
-unfolding AreFound
-after e [] all below found = tt
-after e (f ∷ es) all below found =
-    let apart = differs f.0 e.0 (unlike e.0 f.0 (search (arith))) in
-    (ap (λ (b : Bool). cond b (Some e.1) (find key_cmp f.0 all)) apart ∙ found.0, after e es all (search (arith)) found.1)
-
-own : (es : List Entry) → Rises es → AreFound es es
-unfolding AreFound
-own [] rises = tt
-own (e ∷ es) rises =
-    let h = head_rises e es rises in
-    (ap (λ (b : Bool). cond b (Some e.1) (find key_cmp e.0 es)) (itself e.0), after e es es h.0 (own es h.1))
-
-in_map : (m : KeyMap) (prefix : List ℕ) (es : List Entry) → AreFound (entries m) es → AreIn m (under prefix es)
-unfolding AreFound
-in_map m prefix [] found = tt
-in_map m prefix (e ∷ es) found = search (arith, (in_map m prefix es found.1), found.1, get-entries, e.0, found.0)
+-- those that follow some of the rows under a prefix
+rest_in : (m : KeyMap) (prefix : List ℕ) (taken es : List Entry) → under prefix (entries m) ≡ taken ++ es → AreIn m es
+rest_in m prefix taken [] whole = tt
+rest_in m prefix taken (e ∷ es) whole =
+    ((next_under m prefix taken e es whole).there, rest_in m prefix (taken ++ e ∷ []) es (whole ∙ sym (append_assoc taken (e ∷ []) es)))
 
 pub all_in : (m : KeyMap) (prefix : List ℕ) → AreIn m (under prefix (entries m))
-all_in m prefix = in_map m prefix (entries m) (own (entries m) (true_is (is_sorted key_cmp (entries m)) (entries_sorted m)))
+all_in m prefix = rest_in m prefix [] (under prefix (entries m)) refl
 
 -- a call of a scan took a row of the map, or none is left
 module _ (m : KeyMap) (old new : Scan) (row : Row) where

@@ -1,13 +1,11 @@
 pub mod LoadRows
 pub mod Staging
-mod RowAfterRow
 pub mod Begun
 pub mod Maps
 pub mod Joins
 pub mod Refused
 pub mod Staged
 mod Along
-mod GeographyModels
 mod Ids
 mod OneMore
 mod SealedRows

@@ -60,13 +60,9 @@ module _ (m : KeyMap) (load : ℕ) (g : GeographyModel) where
   pub sealed_is : IsStaged m load g (geography_rows g) → IsGeographyModel g → load < 2 ^ 64 → length g.pairs < 2 ^ 32 → IsSealed (sealed_rows load g m) load g
   sealed_is staged sound load_fits pairs_fit =
       let first = insert m (key_of seal) (seal_row load g).1 in
-      record {
-        sound = sound;
-        load_fits = load_fits;
-        pairs_fit = pairs_fit;
-        named = remove_keeps_tag first 83 76 (in_eight load) (λ same. absurd (omega arith)) [] ∙ put_is_there m (key_of seal) (seal_row load g).1;
-        rows = staged_stays m (sealed_rows load g m) load g (geography_rows g) (seal_tag 103 (λ same. absurd (omega arith)) (λ same. absurd (omega arith))) staged;
-      }
+      let named = remove_keeps_tag first 83 76 (in_eight load) (λ same. absurd (omega arith)) [] ∙ put_is_there m (key_of seal) (seal_row load g).1 in
+      let rows = staged_stays m (sealed_rows load g m) load g (geography_rows g) (seal_tag 103 (λ same. absurd (omega arith)) (λ same. absurd (omega arith))) staged in
+      record { sound = sound; load_fits = load_fits; pairs_fit = pairs_fit; named = named; rows = rows }
 
   pub sealed_desk : (plans : FinMap name_cmp Plan) → IsStaged m load g (geography_rows g) → IsGeographyModel g → load < 2 ^ 64 → length g.pairs < 2 ^ 32 → IsDesk m (desk_without plans) → IsDesk (sealed_rows load g m) (desk_with g plans)
   sealed_desk plans staged sound load_fits pairs_fit is =

@@ -43,12 +43,9 @@ module _ (m : KeyMap) (d : Desk) (load : ℕ) (g : GeographyModel) (done rows : 
   batch_is load_fits blocks_few pairs_few within =
       let after = staged_tidy m is.tidy load (staged_rows load g done rows) load_fits (inr mark)
       (told_all (λ row. IsLoadKey load row.0) (λ k. staged_row load g (done + k)) rows (λ k less. load_key load g (done + k) blocks_few pairs_few (omega arith))) in
-      record {
-        desk = search (arith, without, no_geography, (batch_unseen m load g done rows d.plans));
-        tidy = after.0;
-        version = after.2 ∙ is.version;
-        limits = is.limits;
-      }
+      let desk : IsDesk (put_rows m (staged_rows load g done rows)) d =
+      search (arith, without, no_geography, (batch_unseen m load g done rows d.plans)) in
+      record { desk = desk; tidy = after.0; version = after.2 ∙ is.version; limits = is.limits }
 
   pub batch_mark : Has (put_rows m (staged_rows load g done rows)) (begun load) []
   batch_mark = batch_tag m load g done rows 76 (λ same. absurd (omega arith)) _ ∙ mark
@@ -61,9 +58,5 @@ pub seal_is : (m : KeyMap) (d : Desk) (load : ℕ) (g : GeographyModel) → IsDe
 seal_is m d load g is staged mark unsealed sound load_fits pairs_fit =
     let s : SealRow = record { load = load; blocks = length g.blocks; pairs = length g.pairs } in
     let after = sealed_tidy m is.tidy s load_fits unsealed mark in
-    record {
-      desk = sealed_desk m load g d.plans staged sound load_fits pairs_fit (subst (λ (e : Desk). IsDesk m e) (without d (no_geography m d is.desk unsealed)) is.desk);
-      tidy = after.0;
-      version = after.2 ∙ is.version;
-      limits = record { few = is.limits.few; sizes = is.limits.sizes };
-    }
+    let desk = sealed_desk m load g d.plans staged sound load_fits pairs_fit (subst (λ (e : Desk). IsDesk m e) (without d (no_geography m d is.desk unsealed)) is.desk) in
+    record { desk = desk; tidy = after.0; version = after.2 ∙ is.version; limits = record { few = is.limits.few; sizes = is.limits.sizes } }

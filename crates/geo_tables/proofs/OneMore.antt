@@ -44,11 +44,10 @@ module _ {X : Type 0} (bytes_of : X → List ℕ) (fits : X → Type 0) (key_at 
   row_so place less = search (arith, cases_lt, held.long, held.rows, in_prefix, adds.x, key_at, adds.one.said.row, at_end)
 
   one_more_held : HoldsElements bytes_of fits key_at (count + 1) m after
-  one_more_held = subst (λ l. HoldsElements bytes_of fits key_at (count + 1) m l) (sym adds.added) (record {
-    long = let long = held.long in let sum = length-append before (adds.x ∷ []) in omega arith;
-    fit = All-push fits before adds.x held.fit adds.one.said.fit;
-    rows = row_so;
-  })
+  one_more_held =
+      let fit = All-push fits before adds.x held.fit adds.one.said.fit in
+      subst (λ l. HoldsElements bytes_of fits key_at (count + 1) m l) (sym adds.added)
+      (record { long = let long = held.long in let sum = length-append before (adds.x ∷ []) in omega arith; fit = fit; rows = row_so })
 
 -- so far the first of them were read, and nothing else
 pub record HoldsFirst {X : Type 0} (bytes_of : X → List ℕ) (fits : X → Type 0) (key_at : ℕ → List ℕ) (count place : ℕ) (m : KeyMap) (xs : List X) : Type 0 where

@@ -63,7 +63,7 @@ fn time_of<R: Clock>(rt: &R, last: u64) -> u64 {
 }
 
 /// Reads until bytes come, the stream ends, or the connection's time is up, which is looked at after each slice of silence.
-#[tactic(auto, using(crate::proofs::Taken::still, crate::proofs::Taken::still_then, crate::proofs::Taken::none_taken, crate::proofs::Taken::taken_after))]
+#[tactic(auto, using(crate::proofs::Taken::turns))]
 fn take_turn<S: Read, R: Clock>(
     rt: &R,
     door: &Door,

@@ -1,8 +1,8 @@
 -- What comes next, and what waits then.
-use Rattle.{std.{specs.Io.KnownBytes.{Appends, Consumes}, proofs.{KnownBytes.{Appends-nil, Consumes-trans}, lemmas.Bool.Decides.nat_tests}}, http_wire.specs.Queue.Queued}
+use Rattle.{std.{specs.Io.KnownBytes.{Appends, Consumes}, proofs.{KnownBytes.Consumes-trans, lemmas.Bool.Decides.nat_tests}}, http_desk.specs.Serving.{IsUnanswered, NextCame}}
 use Rattle.std.proofs.Common.{◌≡◌, ℕ, List, [], ◌++◌, Option, Some, None, Result, Ok, Err, refl, sym, ap, subst, ◌∙◌, arith, append_assoc, append-nil, inl, inr, true, ◌==◌, ◌∷◌, length, rules}
-use Rattle.{http_desk.specs.{Serving.{IsUnanswered, NextCame}, declared.serve.Asked.Asked}, http_wire.specs.Incoming.{Came, IsNoEnd, ReadsPrefix, Taken}}
-use Rattle.{http_wire.specs.declared.{fault.RequestFault.RequestFault, request.Incoming.Incoming}, http_desk.proofs.TalkLemmas.{flushed, flushed_cut, queued_as, queued_then}}
+use Rattle.{http_desk.specs.declared.serve.Asked.Asked, http_wire.specs.{Incoming.{Came, IsNoEnd, ReadsPrefix}, Queue.Queued, declared.fault.RequestFault.RequestFault}}
+use Rattle.{http_wire.specs.declared.request.Incoming.Incoming, http_desk.proofs.TalkLemmas.{flushed, flushed_cut, queued_as, queued_then}}
 use Rattle.http_wire.specs.declared.fault.RequestFault.TheVariants as fault
 use Rattle.http_wire.specs.declared.request.Incoming.TheVariants as came
 use Rattle.http_desk.specs.declared.serve.Asked.TheVariants as asked
@@ -18,9 +18,6 @@ pub record Turned (u w a b : Option (List ℕ)) (start before read_buffer pendin
   pub read : Consumes u w more
   pub came : start ++ more ≡ read_buffer
   pub sent : Queued a b before pending []
-
-pub no_turn : (u a : Option (List ℕ)) (start before : List ℕ) → Consumes u u [] → Turned u u a a start before start before
-no_turn u a start before none = record { more = []; read = none; came = append-nil start; sent = ([], Appends-nil a, append-nil before) }
 
 -- what waited was sent, and then more was read
 pub turn : (u v w a b c : Option (List ℕ)) (start before read_buffer pending came new left : List ℕ) → Turned u v a b start before read_buffer pending → Appends b c pending → Consumes v w came → new ≡ read_buffer ++ came → left ≡ []
@@ -49,10 +46,6 @@ pub next_cut : (u w a b c : Option (List ℕ)) (start before read_buffer pending
 next_cut u w a b c start before read_buffer pending rest after t s =
     let q = flushed_cut a b c before pending [] t.sent s in
     next_from u w a b c start before read_buffer pending rest [] q.0 after (Err fault.Write) t q.1 (record { prefix = []; unread = read_buffer; read = refl; due = inl (refl, refl) })
-
--- a request was there
-pub next_taken : (u w a b : Option (List ℕ)) (start before read_buffer pending rest : List ℕ) (i : Incoming) → Turned u w a b start before read_buffer pending → Taken read_buffer i rest → Next u w a b start before (Ok (Some (asked.Of i))) rest pending
-next_taken u w a b start before read_buffer pending rest i t taken = next_from u w a b b start before read_buffer pending rest [] pending pending (Ok (Some (asked.Of i))) t t.sent (taken.0, taken.1, refl)
 
 no_end : (i : Incoming) → (i ≡ came.End → ⊥) → IsNoEnd i
 no_end came.End other = absurd (other refl)

@@ -39,15 +39,14 @@ whole_is : (g : GeographyModel) (d : Desk) (name : List ℕ) (p : Plan) (reading
 whole_is g d name p (Err f) ok = absurd ok
 whole_is g d name p (Ok listed) ok = record { values = listed; read = refl; told = refl }
 
-county_is : (g : GeographyModel) (d : Desk) (name : List ℕ) (p : Plan) (listed : Values) (part : Option ℕ) → IsAcceptance (county_patched g d name p listed part).0
-    → (county_patched g d name p listed part).0 ≡ reply.Created name (length p.revisions + 1)
-county_is g d name p listed (Some county) ok = absurd ok
-county_is g d name p listed None ok = refl
-
 patch_is : (g : GeographyModel) (d : Desk) (name : List ℕ) (p : Plan) (reading : Result Values Fault) → IsAcceptance (patch_read g d name p reading).0
     → IsRead reading (patch_read g d name p reading) name p
 patch_is g d name p (Err f) ok = absurd ok
-patch_is g d name p (Ok listed) ok = record { values = listed; read = refl; told = county_is g d name p listed (partly_listed g listed) ok }
+patch_is g d name p (Ok listed) ok =
+    (elim (partly_listed g listed) as (λ part. IsAcceptance (county_patched g d name p listed part).0 → IsRead (Ok listed) (county_patched g d name p listed part) name p) [
+      | Some county ↦ λ bad. absurd bad
+      | None ↦ λ fine. record { values = listed; read = refl; told = refl }
+    ]) ok
 
 -- a body that is read lists a block in each line with bytes after the first
 count_is : ReadIsListed → (g : GeographyModel) (n : ℕ) (body : List ℕ) (values : Values) → body_read g n body ≡ Ok values → rows_in body ≡ length values
@@ -69,13 +68,12 @@ retired_is : (d : Desk) (name : List ℕ) (q : Option Plan) → IsAcceptance (re
 retired_is d name None ok = absurd ok
 retired_is d name (Some p) ok = refl
 
-fork_of_is : (d : Desk) (name : List ℕ) (q : Plan) (k : Option (List ℕ)) → IsAcceptance (fork_of d name q k).0 → (fork_of d name q k).0 ≡ reply.Created name 1
-fork_of_is d name q None ok = absurd ok
-fork_of_is d name q (Some districts) ok = refl
-
 fork_from_is : (d : Desk) (name : List ℕ) (q : Option Plan) (j : ℕ) → IsAcceptance (fork_from d name q j).0 → (fork_from d name q j).0 ≡ reply.Created name 1
 fork_from_is d name None j ok = absurd ok
-fork_from_is d name (Some q) j ok = fork_of_is d name q (revision_at q j) ok
+fork_from_is d name (Some q) j ok = (elim (revision_at q j) as (λ k. IsAcceptance (fork_of d name q k).0 → (fork_of d name q k).0 ≡ reply.Created name 1) [
+  | None ↦ λ bad. absurd bad
+  | Some districts ↦ λ fine. refl
+]) ok
 
 forked_is : (d : Desk) (name : List ℕ) (from : List ℕ × ℕ) (q : Option Plan) → IsAcceptance (fork d name from q).0 → (fork d name from q).0 ≡ reply.Created name 1
 forked_is d name from (Some p) ok = absurd ok

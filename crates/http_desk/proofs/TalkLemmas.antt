@@ -1,12 +1,11 @@
 -- How one exchange goes into a talk.
 use Rattle.{std.{specs.Io.KnownBytes.{Appends, Consumes}, proofs.{KnownBytes.{Appends-nil, Appends-trans, Consumes-trans}, lemmas.List.append-nil}}, http_wire.specs.Queue.Queued}
-use Rattle.std.proofs.Common.{◌≡◌, ◌⊎◌, ℕ, suc, Bool, true, false, List, [], ◌++◌, Option, Some, Result, Ok, Err, refl, sym, ap, subst, ◌∙◌, append_assoc, inl, inr, ◌+◌, ◌<◌, ◌≤◌, arith, codes, rules}
+use Rattle.std.proofs.Common.{◌≡◌, ◌⊎◌, ℕ, suc, Bool, true, false, List, [], ◌++◌, Option, Some, Result, Ok, Err, refl, sym, ap, subst, ◌∙◌, append_assoc, inl, inr, ◌+◌, arith, codes, rules}
 use Rattle.{desk_model.specs.declared.{command.{Command.Command, Query.Query}, reply.Reply.Reply}, http_desk.specs.{Asking.TakesAll, claim.Asking.{Asks, IsAskedAfter, IsAskedIn}}}
-use Rattle.http_desk.specs.{Serving.{CutsNext, Handled, IsUnanswered, Leaves, MayHandle, NextCame, Puts, TakesNext}, declared.serve.{Asked.Asked, Next.Next}}
-use Rattle.http_desk.specs.{claim.Serving.{Exchanges, IsCutTalk, IsPrefixTalk, IsShortTalk, GoesOn, ServesTo}, declared.serve.StreamFault.StreamFault}
-use Rattle.{http_desk.specs.claim.Talk.{Talk, Handles, over, ended, out_of_memory, refused, closed, went}, http_routes.specs.claim.Orders.order_of}
-use Rattle.http_wire.specs.{Interim.IsCutShort, claim.{Interim.{continue_text, asks_to_continue}, Prefix.{HasRequest, IsOutOfMemory, closes_after as closes_after_head, is_head}}}
-use Rattle.{http_wire.specs.declared.request.Incoming.Incoming, httparse.specs.Grammar.RequestHead}
+use Rattle.http_desk.specs.{Serving.{CutsNext, Handled, IsUnanswered, Leaves, MayHandle, NextCame, Puts}, declared.serve.{Asked.Asked, Next.Next, StreamFault.StreamFault}}
+use Rattle.{http_desk.specs.claim.Serving.{Exchanges, IsCutTalk, IsPrefixTalk, IsShortTalk, GoesOn, ServesTo}, http_routes.specs.claim.Orders.order_of}
+use Rattle.{http_desk.specs.claim.Talk.{Talk, Handles, over, ended, out_of_memory, refused, closed, went}, http_wire.specs.{Interim.IsCutShort, declared.request.Incoming.Incoming}}
+use Rattle.{http_wire.specs.claim.{Interim.{continue_text, asks_to_continue}, Prefix.{HasRequest, closes_after as closes_after_head, is_head}}, httparse.specs.Grammar.RequestHead}
 use Rattle.http_wire.specs.declared.request.Incoming.TheVariants as came
 use Rattle.http_desk.specs.declared.serve.Asked.TheVariants as asked
 use Rattle.http_desk.specs.declared.serve.Next.TheVariants as next
@@ -41,10 +40,6 @@ may_handle takes x u v read_buffer more rest interim unsent pending (came.Reques
 may_handle takes x u v read_buffer more rest interim unsent pending came.End all read n = absurd n.0
 may_handle takes x u v read_buffer more rest interim unsent pending _ all read n = tt
 
--- memory is wanting for a request that has come
-pub IsOutOfMemory-whole : (input : List ℕ) (h : RequestHead) (target body rest : List ℕ) → HasRequest input h target body rest → IsOutOfMemory input (is_head h.method)
-IsOutOfMemory-whole input h target body rest r = record { head = h; rest = r.message.text; framing = r.message.framing; stands = r.message.head; judges = r.message.judges; shown = refl }
-
 module _ {X : Type 0} (commands : X → Command → Reply → X → Type 0) (asks : X → Query → Reply → X → Type 0) where
   -- a request of this head is answered, or memory was wanting before
   abbrev pub HandlesHead : X → (h : RequestHead) → (target body text : List ℕ) → (shut : Bool) → X → Type 0
@@ -62,7 +57,9 @@ module _ {X : Type 0} (commands : X → Command → Reply → X → Type 0) (ask
       → ((more : List ℕ) → HasRequest (start ++ more) h target body more) → HandlesHead x h target body text shut y → Answered x input rest (continue_text (asks_to_continue h) ++ text) shut y
   answered x y input rest text h target body start true r read alone (inl may) = closed x input h target body rest text y r may
   answered x y input rest text h target body start true r read alone (inr (same, shut, kept)) =
-      rw (same, kept) (out_of_memory x input (continue_text (asks_to_continue h)) (is_head h.method) (IsOutOfMemory-whole input h target body rest r) (inl (record { head = h; rest = r.message.text; stands = r.message.head; asked = refl })))
+      let m = r.message in
+      rw (same, kept) (out_of_memory x input (continue_text (asks_to_continue h)) (is_head h.method)
+      (record { head = h; rest = m.text; framing = m.framing; stands = m.head; judges = m.judges; shown = refl }) (inl (record { head = h; rest = m.text; stands = m.head; asked = refl })))
   answered x y input rest text h target body start false r read alone (inl may) = record {
     prefix = start;
     read = read;
@@ -85,14 +82,6 @@ module _ {X : Type 0} (commands : X → Command → Reply → X → Type 0) (ask
   answered_by x y (asked.Of (came.Refused f head_only)) input rest interim unsent pending text shut n (same, shuts, kept) = (rw (same, shuts, kept) (refused x input interim f head_only n.1.0 n.1.1), n.2)
   answered_by x y (asked.Of (came.OutOfMemory head_only)) input rest interim unsent pending text shut n (same, shuts, kept) = (rw (same, shuts, kept) (out_of_memory x input interim head_only n.1.0 n.1.1), n.2)
   answered_by x y (asked.Of came.End) input rest interim unsent pending text shut n handles = absurd n.0
-
-  -- only what shuts takes nothing
-  pub takes_by : (x y : X) (i : Asked) (text : List ℕ) (shut : Bool) (old new : ℕ) → Handled commands asks x i text shut y → TakesNext (Ok (Some i)) old new → (new ≤ old) × (shut ≡ false → new < old)
-  takes_by x y (asked.List closes) text shut old new handles t = (omega (arith, t), λ goes. t)
-  takes_by x y (asked.Of (came.Request r)) text shut old new handles t = (omega (arith, t), λ goes. t)
-  takes_by x y (asked.Of (came.Refused f head_only)) text shut old new (same, shuts, kept) t = (t, λ goes. absurd (cc))
-  takes_by x y (asked.Of (came.OutOfMemory head_only)) text shut old new (same, shuts, kept) t = (t, λ goes. absurd (cc))
-  takes_by x y (asked.Of came.End) text shut old new handles t = absurd handles
 
   -- the same where the answer was not written whole
   gone : (x y : X) (input rest output : List ℕ) → GoesOn commands asks x input rest output y → IsPrefixTalk commands asks x input output y
@@ -121,10 +110,7 @@ module _ {X : Type 0} (commands : X → Command → Reply → X → Type 0) (ask
   put x y old mid new left input rest before pending after interim text false (Err fault.Write) a q p = (interim ++ text, p.0, queued_then old mid new before pending p.0 interim text q p.1, gone x y input rest (interim ++ text) a, tt)
   put x y old mid new left input rest before pending after interim text false (Ok next.Last) a q p = absurd (cc (p.0))
   put x y old mid new left input rest before pending after interim text true (Ok next.Again) a q p = absurd (cc (p.0))
-  put x y old mid new left input rest before pending after interim text shut (Ok next.End) a q p = absurd p
-  put x y old mid new left input rest before pending after interim text shut (Err fault.Read) a q p = absurd p
-  put x y old mid new left input rest before pending after interim text shut (Err fault.Memory) a q p = absurd p
-  put x y old mid new left input rest before pending after interim text shut (Err fault.TurnLimit) a q p = absurd p
+  put x y old mid new left input rest before pending after interim text shut _ a q p = absurd p
 
   -- no answer was due
   pub unanswered : (x : X) (input interim : List ℕ) → IsUnanswered input interim → Talk commands asks x input interim 0 false x
@@ -140,9 +126,6 @@ module _ {X : Type 0} (commands : X → Command → Reply → X → Type 0) (ask
   cut_short x input interim (inl c) = inl (0, unanswered x input interim c)
   cut_short x input interim (inr (inl c)) = inl (0, ended x input interim c.0 c.1)
   cut_short x input interim (inr (inr (c, none))) = search (rules, moved)
-
-  pub counted_as : (x z : X) (shut : Bool) (input output : List ℕ) (n m : ℕ) → n ≡ m → Talk commands asks x input output n shut z → Talk commands asks x input output m shut z
-  counted_as x z shut input output n m e talk = rw (← e) talk
 
   -- where a stream stands: the requests that were taken and answered, what is in the inbox, and the answers that wait
   pub record Stands (x0 : X) (unread0 unread before0 before : Option (List ℕ)) (x : X) (read_buffer pending : List ℕ) (requests : ℕ) : Type 0 where
@@ -183,39 +166,30 @@ module _ {X : Type 0} (commands : X → Command → Reply → X → Type 0) (ask
         (s.on (g.prefix ++ later) (sent ++ more) (suc n) shut z (g.on later more n shut z talk));
   }
 
-  -- the stream ends with a talk
-  pub ends : (x0 x y : X) (u v w b0 b1 b2 : Option (List ℕ)) (read_buffer pending came sent unsent : List ℕ) (requests n : ℕ) (shut : Bool) → Stands x0 u v b0 b1 x read_buffer pending requests → Consumes v w came
-      → Queued b1 b2 pending unsent sent → unsent ≡ [] → Talk commands asks x (read_buffer ++ came) sent n shut y
-      → (input : List ℕ) × (output : List ℕ) × Consumes u w input × Appends b0 b2 output × Talk commands asks x0 input output (requests + n) shut y
-  ends x0 x y u v w b0 b1 b2 read_buffer pending came sent unsent requests n shut s read write none talk = (
+  -- the stream ends so with all that was read, and all that waits is sent
+  pub ends : (Says : List ℕ → List ℕ → Type 0) (x0 x : X) (u v w b0 b1 b2 : Option (List ℕ)) (read_buffer pending came sent unsent : List ℕ) (requests : ℕ) (s : Stands x0 u v b0 b1 x read_buffer pending requests) → Consumes v w came
+      → Queued b1 b2 pending unsent sent → unsent ≡ [] → Says (s.taken ++ (read_buffer ++ came)) (s.output ++ sent) → (input : List ℕ) × (output : List ℕ) × Consumes u w input × Appends b0 b2 output × Says input output
+  ends Says x0 x u v w b0 b1 b2 read_buffer pending came sent unsent requests s read write none told = (
     s.taken ++ (read_buffer ++ came),
     s.output ++ sent,
     all_read u v w s.taken read_buffer came s.read read,
     queued_all b0 b2 (s.output ++ sent) (queued_as b0 b2 [] unsent [] (s.output ++ sent) none (queued_then b0 b1 b2 [] pending unsent s.output sent s.written write)),
-    s.on (read_buffer ++ came) sent n shut y talk,
+    told,
   )
 
-  -- or where reading was cut short
-  ends_short : (x0 x y : X) (u v w b0 b1 b2 : Option (List ℕ)) (read_buffer pending came sent unsent : List ℕ) (requests : ℕ) → Stands x0 u v b0 b1 x read_buffer pending requests → Consumes v w came
-      → Queued b1 b2 pending unsent sent → unsent ≡ [] → IsShortTalk commands asks x (read_buffer ++ came) sent y
-      → (input : List ℕ) × (output : List ℕ) × Consumes u w input × Appends b0 b2 output × IsShortTalk commands asks x0 input output y
-  ends_short x0 x y u v w b0 b1 b2 read_buffer pending came sent unsent requests s read write none (inl (n, talk)) =
-      let all = ends x0 x y u v w b0 b1 b2 read_buffer pending came sent unsent requests n false s read write none talk in (all.0, all.1, all.2, all.3, inl (requests + n, all.4))
-  ends_short x0 x y u v w b0 b1 b2 read_buffer pending came sent unsent requests s read write none (inr c) = (
-    s.taken ++ (read_buffer ++ came),
-    s.output ++ sent,
-    all_read u v w s.taken read_buffer came s.read read,
-    queued_all b0 b2 (s.output ++ sent) (queued_as b0 b2 [] unsent [] (s.output ++ sent) none (queued_then b0 b1 b2 [] pending unsent s.output sent s.written write)),
-    inr (record {
-      taken = s.taken ++ c.taken;
-      rest = c.rest;
-      read = ap (λ (t : List ℕ). s.taken ++ t) c.read ∙ sym (append_assoc s.taken c.taken c.rest);
-      cut = c.cut;
-      count = requests + c.count;
-      on = λ later more n shut z talk. moved x0 z shut _ _ _ _ (requests + (c.count + n)) ((requests + c.count) + n) (sym (append_assoc s.taken c.taken later)) (sym (append_assoc s.output sent more)) (omega arith)
-          (s.on (c.taken ++ later) (sent ++ more) (c.count + n) shut z (c.on later more n shut z talk));
-    }),
-  )
+  -- reading was cut short after all that was answered before
+  shortly : (x0 x y : X) (u v b0 b1 : Option (List ℕ)) (read_buffer pending input sent : List ℕ) (requests : ℕ) (s : Stands x0 u v b0 b1 x read_buffer pending requests) → IsShortTalk commands asks x input sent y
+      → IsShortTalk commands asks x0 (s.taken ++ input) (s.output ++ sent) y
+  shortly x0 x y u v b0 b1 read_buffer pending input sent requests s (inl (n, talk)) = inl (requests + n, s.on input sent n false y talk)
+  shortly x0 x y u v b0 b1 read_buffer pending input sent requests s (inr c) = inr (record {
+    taken = s.taken ++ c.taken;
+    rest = c.rest;
+    read = ap (λ (t : List ℕ). s.taken ++ t) c.read ∙ sym (append_assoc s.taken c.taken c.rest);
+    cut = c.cut;
+    count = requests + c.count;
+    on = λ later more n shut z talk. moved x0 z shut _ _ _ _ (requests + (c.count + n)) ((requests + c.count) + n) (sym (append_assoc s.taken c.taken later)) (sym (append_assoc s.output sent more)) (omega arith)
+        (s.on (c.taken ++ later) (sent ++ more) (c.count + n) shut z (c.on later more n shut z talk));
+  })
 
   -- or within an answer
   pub ends_cut : (x0 x y : X) (u v w b0 b1 b2 : Option (List ℕ)) (read_buffer pending came sent unsent : List ℕ) (requests : ℕ) → Stands x0 u v b0 b1 x read_buffer pending requests → Consumes v w came
@@ -248,4 +222,5 @@ module _ {X : Type 0} (commands : X → Command → Reply → X → Type 0) (ask
       → (input : List ℕ) × (output : List ℕ) × Consumes u w input × Appends b0 b2 output × ServesTo commands asks x0 (Err e) w input output y
   fails x0 x y u v w b0 b1 b2 read_buffer rest pending after came sent unsent requests fault.Write s read write t none = ends_cut x0 x y u v w b0 b1 b2 read_buffer pending came sent unsent requests s read write t
   fails x0 x y u v w b0 b1 b2 read_buffer rest pending after came sent unsent requests fault.Memory s read write t none = absurd t
-  fails x0 x y u v w b0 b1 b2 read_buffer rest pending after came sent unsent requests _ s read write t none = ends_short x0 x y u v w b0 b1 b2 read_buffer pending came sent unsent requests s read write none t
+  fails x0 x y u v w b0 b1 b2 read_buffer rest pending after came sent unsent requests _ s read write t none =
+      ends (λ input output. IsShortTalk commands asks x0 input output y) x0 x u v w b0 b1 b2 read_buffer pending came sent unsent requests s read write none (shortly x0 x y u v b0 b1 read_buffer pending (read_buffer ++ came) sent requests s t)

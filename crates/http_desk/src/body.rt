@@ -55,6 +55,7 @@ fn put_item(text: &mut Vec<u8>, row: &PlanLine, is_later: bool) -> Result<(), Al
 }
 
 /// Writes the list of plans in place of what was there.
+#[tactic(auto, using(crate::proofs::BodyLemmas::begins))]
 pub fn put_plans(text: &mut Vec<u8>, rows: &[PlanLine]) -> Result<(), AllocError>
     ensures { OnOk result (text.new.items ≡ plans_body rows.now) }
 {

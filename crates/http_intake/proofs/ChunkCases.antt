@@ -97,12 +97,9 @@ module _ (n : ℕ) (input : List ℕ) (room : n ≤ body_limit) (again : (m : �
   chunk_case = line_case input (λ l rest s. ⊎_elim (λ large. x.fault BodyTooLarge (HasChunkFault.too_large n input l rest s large)) (sized_case l rest s) (cases_lt body_limit (n + chunk_size l)))
       (λ bad. x.fault BadChunk (HasChunkFault.bad_line n input bad)) (λ o. x.lack (LacksChunks.no_line n input o))
 
-chunk_cases : (k n : ℕ) (input : List ℕ) → length input ≤ k → n ≤ body_limit → AreNoChunks n input → ⊥
+pub chunk_cases : (k n : ℕ) (input : List ℕ) → length input ≤ k → n ≤ body_limit → AreNoChunks n input → ⊥
 chunk_cases zero n input short room x = chunk_case n input room (λ m rest less within y. omega (arith, short, less)) x
 chunk_cases (suc k) n input short room x = chunk_case n input room (λ m rest less within y. chunk_cases k m rest (omega (arith, short, less)) within y) x
-
-pub some_chunks : (n : ℕ) (input : List ℕ) → n ≤ body_limit → AreNoChunks n input → ⊥
-some_chunks n input room x = chunk_cases (length input) n input (omega arith) room x
 
 -- ---- no bytes
 
@@ -114,13 +111,10 @@ last_chunk_ok : IsChunkLine last_chunk
 unfolding lib.Utf8.encode
 last_chunk_ok = search (rules, AllPass-from_list_all)
 
-open_line : IsOpenLine []
+pub nothing_lacks : (n : ℕ) → LacksChunks n []
 unfolding print_chunk_line
-open_line = record {
+nothing_lacks n = LacksChunks.no_line n [] (record {
   short = omega arith;
   none = λ l rest reads. absurd (omega (arith, ap length reads.1, length-append (print_chunk_line l) rest, some_line l reads.0));
   goes_on = (print_chunk_line last_chunk, last_chunk, (last_chunk_ok, sym (append-nil (print_chunk_line last_chunk))));
-}
-
-pub nothing_lacks : (n : ℕ) → LacksChunks n []
-nothing_lacks n = LacksChunks.no_line n [] open_line
+})

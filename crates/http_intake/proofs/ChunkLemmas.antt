@@ -1,19 +1,16 @@
 -- What stands at the start of chunks is one thing alone.
 use Rattle.{std.specs.Prelude.⊤, http_intake.specs.{Chunks.HasTwoFaults, claim.Limits.{window, body_limit}, declared.bad_request.BadRequest.BadRequest}}
 use Rattle.std.proofs.Common.{◌≡◌, ◌⊎◌, ℕ, ◌+◌, ◌-◌, ◌≤◌, List, [], ◌∷◌, ◌++◌, length, drop, refl, sym, ap, subst, ◌∙◌, arith, inl, inr, take_all, take-append-drop, length-append, ⊎_elim}
-use Rattle.http_intake.specs.claim.Chunks.{line_window, HasLine, HasTrailers, HasChunk, HasLastLine, HasDataLine, HasChunks, RefusesLine, RefusesTrailers, IsNoEnd, HasTooManyTrailers, IsOpenLine, IsOpenEnd, AreOpenTrailers, HasChunkFault, LacksChunks, ReachesTrailers}
-use Rattle.http_intake.{specs.declared.bad_request.BadRequest.TheVariants.{BadHead, HeadTooLarge}, proofs.Prefixes.{same_cut, window_rest, in_window}}
+use Rattle.http_intake.specs.claim.Chunks.{HasLine, HasTrailers, HasChunk, HasLastLine, HasDataLine, HasChunks, RefusesLine, RefusesTrailers, IsNoEnd, HasTooManyTrailers, IsOpenLine, IsOpenEnd, AreOpenTrailers, HasChunkFault, LacksChunks, ReachesTrailers}
+use Rattle.http_intake.{specs.declared.bad_request.BadRequest.TheVariants.{BadHead, HeadTooLarge}, proofs.Prefixes.{same_cut, in_window}}
 use Rattle.httparse.specs.Grammar.{ReadsSection, MayBecomeSection, NeverHasSection, print_section, ChunkLine, ReadsChunkLine, print_chunk_line, chunk_size, HasNoSection}
 use Rattle.httparse.proofs.{ChunkLemmas.chunk_line_unique, GrammarLemmas.section_unique}
-
-line_beyond : (input : List ℕ) (l : ChunkLine) (rest : List ℕ) → HasLine input l rest → ReadsChunkLine (line_window input ++ drop 256 input) l rest
-line_beyond input l rest s = subst (λ xs. ReadsChunkLine xs l rest) (sym (take-append-drop 256 input)) s.reads
 
 same_line : (input : List ℕ) (l k : ChunkLine) (r q : List ℕ) → HasLine input l r → HasLine input k q → (l ≡ k) × (r ≡ q)
 same_line input l k r q x y = chunk_line_unique input l k r q x.reads y.reads
 
 line_or_refused : (input : List ℕ) → RefusesLine input → (l : ChunkLine) (r : List ℕ) → HasLine input l r → ⊥
-line_or_refused input (inl never) l r s = never (drop 256 input) l r (line_beyond input l r s)
+line_or_refused input (inl never) l r s = never (drop 256 input) l r (rw take-append-drop s.reads)
 line_or_refused input (inr x) l r s =
     let g = in_window 256 input (print_chunk_line l) r s.reads.1 s.short in
     x.1 l g.0 (s.reads.0, g.1)
@@ -84,26 +81,16 @@ of_lack n input (LacksChunks.later _ _ l d x s lack) = of_chunk n input l d x s
 -- ---- the end of a chunk
 
 no_end_or_end : (after rest : List ℕ) → 13 ∷ 10 ∷ rest ≡ after → IsNoEnd after → ⊥
-no_end_or_end [] rest e x = x
-no_end_or_end (b ∷ []) rest e x = omega (arith, ap length e)
-no_end_or_end (b ∷ c ∷ more) rest e (inl x) = x (cc)
-no_end_or_end (b ∷ c ∷ more) rest e (inr x) = x (cc)
+no_end_or_end after rest e x = ⊎_elim (λ other. other refl) (λ other. other refl) (subst IsNoEnd (sym e) x)
 
 open_end_or_end : (after rest : List ℕ) → 13 ∷ 10 ∷ rest ≡ after → IsOpenEnd after → ⊥
-open_end_or_end after rest e (inl x) = omega (arith, ap length e, ap length x)
-open_end_or_end after rest e (inr x) = omega (arith, ap length e, ap length x)
+open_end_or_end after rest e o = ⊎_elim (λ x. omega (arith, ap length e, ap length x)) (λ x. omega (arith, ap length e, ap length x)) o
 
 no_end_or_open_end : (after : List ℕ) → IsNoEnd after → IsOpenEnd after → ⊥
-no_end_or_open_end [] x o = x
-no_end_or_open_end (b ∷ []) x (inl o) = omega (arith, ap length o)
-no_end_or_open_end (b ∷ []) x (inr o) = x (cc)
-no_end_or_open_end (b ∷ c ∷ more) x (inl o) = omega (arith, ap length o)
-no_end_or_open_end (b ∷ c ∷ more) x (inr o) = omega (arith, ap length o)
+no_end_or_open_end after x (inl o) = subst IsNoEnd o x
+no_end_or_open_end after x (inr o) = subst IsNoEnd o x refl
 
 -- ---- trailers
-
-trailers_beyond : (input rest : List ℕ) → (t : HasTrailers input rest) → ReadsSection (window input ++ drop 16384 input) t.fields t.last rest
-trailers_beyond input rest t = subst (λ xs. ReadsSection xs t.fields t.last rest) (sym (window_rest input)) t.reads
 
 -- where none stand there are none
 no_trailers : (input rest : List ℕ) → HasNoSection (window input) → HasTrailers input rest → ⊥
@@ -112,9 +99,9 @@ no_trailers input rest none t =
     none t.fields t.last g.0 (t.reads.0, g.1)
 
 trailers_or_refused : (input rest : List ℕ) (f : BadRequest) → HasTrailers input rest → RefusesTrailers input f → ⊥
-trailers_or_refused input rest BadHead t x = x (drop 16384 input) t.fields t.last rest (trailers_beyond input rest t)
+trailers_or_refused input rest BadHead t x = x (drop 16384 input) t.fields t.last rest (rw take-append-drop t.reads)
 trailers_or_refused input rest HeadTooLarge t (inl x) = no_trailers input rest x.none t
-trailers_or_refused input rest HeadTooLarge t (inr x) = omega (arith, t.few, x.exceeds (drop 16384 input) t.fields t.last rest (trailers_beyond input rest t))
+trailers_or_refused input rest HeadTooLarge t (inr x) = omega (arith, t.few, x.exceeds (drop 16384 input) t.fields t.last rest (rw take-append-drop t.reads))
 trailers_or_refused input rest _ t x = x
 
 -- where no trailers can come none may

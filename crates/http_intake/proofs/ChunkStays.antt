@@ -1,7 +1,7 @@
 -- What chunks are stays, whatever bytes follow, and hangs on their bytes alone.
 use Rattle.std.proofs.Common.{◌≡◌, ℕ, ◌+◌, List, [], ◌∷◌, ◌++◌, refl, sym, ap, subst, ◌∙◌, arith, inl, inr, append_assoc, length-append, rules, ◌<◌, length}
 use Rattle.{std.proofs.lemmas.List.take-append-le, http_intake.specs.{claim.Limits.window, declared.bad_request.BadRequest.{BadRequest, TheVariants.{BadHead, HeadTooLarge}}}}
-use Rattle.http_intake.specs.claim.Chunks.{line_window, HasLine, HasTrailers, HasChunk, HasLastLine, HasDataLine, HasChunks, RefusesLine, RefusesTrailers, IsNoEnd, HasChunkFault}
+use Rattle.http_intake.specs.claim.Chunks.{line_window, HasLine, HasChunk, HasLastLine, HasDataLine, HasChunks, RefusesLine, RefusesTrailers, IsNoEnd, HasChunkFault}
 use Rattle.httparse.{specs.Grammar.{ReadsSection, print_section, ChunkLine, HasNoChunkLine, print_chunk_line, chunk_size, Field, LineEnd}, proofs.ChunkLemmas.ReadsChunkLine-append}
 use Rattle.{http_intake.proofs.{LineLemmas.section_lines_grow, Prefixes.{take_grows, window_grows, window_full}}, httparse.proofs.GrammarLemmas.ReadsSection-append}
 
@@ -19,11 +19,8 @@ data_line_stays n input more l bytes after s = search (rules, append_assoc, line
 pub chunk_stays : (n : ℕ) (input more : List ℕ) (l : ChunkLine) (bytes rest : List ℕ) → HasChunk n input l bytes rest → HasChunk n (input ++ more) l bytes (rest ++ more)
 chunk_stays n input more l bytes rest s = search (rules, append_assoc, line_stays)
 
-trailers_stay : (input more rest : List ℕ) → HasTrailers input rest → HasTrailers (input ++ more) (rest ++ more)
-trailers_stay input more rest t = search (rules, ReadsSection-append)
-
 pub body_stays : (n : ℕ) (input b r more : List ℕ) → HasChunks n input b r → HasChunks n (input ++ more) b (r ++ more)
-body_stays n input b r more (HasChunks.last _ _ l x _ s t) = HasChunks.last n (input ++ more) l (x ++ more) (r ++ more) (last_line_stays input more l x s) (trailers_stay x more r t)
+body_stays n input b r more (HasChunks.last _ _ l x _ s t) = HasChunks.last n (input ++ more) l (x ++ more) (r ++ more) (last_line_stays input more l x s) (search (rules, ReadsSection-append))
 body_stays n input b r more (HasChunks.chunk _ _ l d x body _ s chunks) =
     HasChunks.chunk n (input ++ more) l d (x ++ more) body (r ++ more) (chunk_stays n input more l d x s) (body_stays (n + chunk_size l) x body r more chunks)
 
@@ -72,34 +69,24 @@ fault_stays n input f more (HasChunkFault.later _ _ l d x _ s fault) =
 line_prefix : (input : List ℕ) (l : ChunkLine) (rest : List ℕ) → HasLine input l rest → (prefix more after : List ℕ) → prefix ++ more ≡ after → HasLine ((print_chunk_line l ++ prefix) ++ more) l after
 line_prefix input l rest s prefix more after e = search (rules, append_assoc)
 
-module _ (input : List ℕ) (l : ChunkLine) (after rest : List ℕ) (s : HasLastLine input l after) (t : HasTrailers after rest) where
-  abbrev trailers_text : List ℕ
-  trailers_text = print_section t.fields t.last
-
-  trailers_prefix : (more : List ℕ) → HasTrailers (trailers_text ++ more) more
-  trailers_prefix more = record { fields = t.fields; last = t.last; reads = (t.reads.0, refl); short = t.short; few = t.few }
-
-  last_prefix : (n : ℕ) (more : List ℕ) → HasChunks n ((print_chunk_line l ++ trailers_text) ++ more) [] more
-  last_prefix n more =
-      HasChunks.last n ((print_chunk_line l ++ trailers_text) ++ more) l (trailers_text ++ more) more
-      (record { line = line_prefix input l after s.line trailers_text more (trailers_text ++ more) refl; none = s.none }) (trailers_prefix more)
-
-  last_whole : input ≡ (print_chunk_line l ++ trailers_text) ++ rest
-  last_whole = s.line.reads.1 ∙ ap (λ (xs : List ℕ). print_chunk_line l ++ xs) t.reads.1 ∙ sym (append_assoc (print_chunk_line l) trailers_text rest)
-
-module _ (n : ℕ) (input : List ℕ) (l : ChunkLine) (bytes after : List ℕ) (s : HasChunk n input l bytes after) (prefix : List ℕ) where
-  abbrev chunk_text : List ℕ
-  chunk_text = bytes ++ 13 ∷ 10 ∷ prefix
-
-  chunk_prefix : (more : List ℕ) → HasChunk n ((print_chunk_line l ++ chunk_text) ++ more) l bytes (prefix ++ more)
-  chunk_prefix more = search (rules, line_prefix, append_assoc)
-
-  chunk_whole : (rest : List ℕ) → after ≡ prefix ++ rest → input ≡ (print_chunk_line l ++ chunk_text) ++ rest
-  chunk_whole rest e = search (rules, append_assoc)
+chunk_prefix : (n : ℕ) (input : List ℕ) (l : ChunkLine) (bytes after prefix : List ℕ) → HasChunk n input l bytes after → (more : List ℕ)
+    → HasChunk n ((print_chunk_line l ++ (bytes ++ 13 ∷ 10 ∷ prefix)) ++ more) l bytes (prefix ++ more)
+chunk_prefix n input l bytes after prefix s more = search (rules, line_prefix, append_assoc)
 
 pub body_prefix : (n : ℕ) (input b r : List ℕ) → HasChunks n input b r → (prefix : List ℕ) × (input ≡ prefix ++ r) × ((more : List ℕ) → HasChunks n (prefix ++ more) b more)
-body_prefix n input b r (HasChunks.last _ _ l x _ s t) = (print_chunk_line l ++ trailers_text input l x r s t, last_whole input l x r s t, last_prefix input l x r s t n)
+body_prefix n input b r (HasChunks.last _ _ l x _ s t) =
+    let line = print_chunk_line l in
+    let text = print_section t.fields t.last in (
+      line ++ text,
+      s.line.reads.1 ∙ ap (λ (xs : List ℕ). line ++ xs) t.reads.1 ∙ sym (append_assoc line text r),
+      λ more. HasChunks.last n ((line ++ text) ++ more) l (text ++ more) more (record { line = line_prefix input l x s.line text more (text ++ more) refl; none = s.none })
+          (record { fields = t.fields; last = t.last; reads = (t.reads.0, refl); short = t.short; few = t.few }),
+    )
 body_prefix n input b r (HasChunks.chunk _ _ l d x body _ s chunks) =
     let g = body_prefix (n + chunk_size l) x body r chunks in
-    let prefix = print_chunk_line l ++ chunk_text n input l d x s g.0 in
-    (prefix, chunk_whole n input l d x s g.0 r g.1, λ more. HasChunks.chunk n (prefix ++ more) l d (g.0 ++ more) body more (chunk_prefix n input l d x s g.0 more) (g.2 more))
+    let line = print_chunk_line l in
+    let text = d ++ 13 ∷ 10 ∷ g.0 in (
+      line ++ text,
+      s.line.reads.1 ∙ ap (λ (xs : List ℕ). line ++ (d ++ 13 ∷ 10 ∷ xs)) g.1 ∙ sym (append_assoc line text r ∙ ap (λ (xs : List ℕ). line ++ xs) (append_assoc d (13 ∷ 10 ∷ g.0) r)),
+      λ more. HasChunks.chunk n ((line ++ text) ++ more) l d (g.0 ++ more) body more (chunk_prefix n input l d x g.0 s more) (g.2 more),
+    )

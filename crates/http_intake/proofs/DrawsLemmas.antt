@@ -1,6 +1,6 @@
 -- Calls on an intake, one after another.
-use Rattle.{std.{specs.{Io.KnownBytes.Consumes, Prelude.All}, proofs.KnownBytes.Consumes-trans}, http_intake.specs.{Budget.Spends, Draws.{SameParts, IsPutOff}}}
-use Rattle.std.proofs.Common.{◌≡◌, ℕ, ◌+◌, List, [], ◌∷◌, ◌++◌, Option, refl, ◌∙◌, arith, subst, sym, ap, append_assoc, append-nil, rules}
+use Rattle.{std.{specs.{Io.KnownBytes.Consumes, Prelude.All}, proofs.KnownBytes.Consumes-trans}, http_intake.specs.{Budget.Spends, Draws.{Draws, SameParts, IsPutOff}}}
+use Rattle.std.proofs.Common.{◌≡◌, ℕ, ◌+◌, List, [], ◌∷◌, ◌++◌, Option, Ok, refl, ◌∙◌, arith, subst, sym, ap, append_assoc, append-nil, rules}
 use Rattle.http_intake.specs.declared.intake.Intake.{Intake}
 
 pub spends_more : (t u v a b c : ℕ) → Spends t u a b → Spends u v b c → Spends t v a c
@@ -14,6 +14,10 @@ same_more a b c p q = record { reader = q.reader ∙ p.reader; read_buffer = q.r
 
 pub same_none : {R : Type 0} (a : Intake R) → SameParts a a
 same_none a = record { reader = refl; read_buffer = refl; turns = refl }
+
+-- calls that ended well draw together what each of them drew
+pub draws_more : {R A B C : Type 0} (turned failed : R → ℕ) (a b c : Intake R) {x : A} {y : B} {z : C} → Draws turned failed a b (Ok x) → Draws turned failed b c (Ok y) → Draws turned failed a c (Ok z)
+draws_more turned failed a b c p q = search (rules, same_more, spends_more)
 
 -- what holds of the inbox and some more bytes holds of the start and all bytes since
 pub goes_on : (P : List ℕ → Type 0) (u v w : Option (List ℕ)) (start read_buffer : List ℕ) → (more : List ℕ) × Consumes u v more × (read_buffer ≡ start ++ more)

@@ -9,4 +9,3 @@ mod ChunkReadLemmas
 mod ChunkLemmas
 mod ChunkStays
 mod ChunkCases
-mod ChunkTruths

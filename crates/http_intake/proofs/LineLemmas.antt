@@ -28,13 +28,10 @@ token_no_return = refl
 not_empty : (b : ℕ) (xs : List ℕ) → is_token_byte b ≡ true → begins_empty (b ∷ xs) ≡ false
 not_empty b xs token = search (rules, ne_eqb, false≢true, token_no_feed, token_no_return)
 
--- a line that has begun ends
-end_ends : (e : LineEnd) (ys : List ℕ) → lines_end (print_end e ++ ys) ≡ 1 + section_lines ys
-end_ends crlf ys = refl
-end_ends lf ys = refl
-
-version_skips : (minor : ℕ) (ys : List ℕ) → minor ≤ 1 → lines_end (print_version minor ++ ys) ≡ lines_end ys
-version_skips minor ys small = other_end (48 + minor) ys (omega arith)
+-- a line that has begun ends, and nothing counts from an empty line on
+end_ends : (e : LineEnd) (ys : List ℕ) → (lines_end (print_end e ++ ys) ≡ 1 + section_lines ys) × (section_lines (print_end e ++ ys) ≡ 0)
+end_ends crlf ys = (refl, refl)
+end_ends lf ys = (refl, refl)
 
 -- a field is a line
 line_of : (name raw : List ℕ) (e : LineEnd) (ys : List ℕ) → 0 < length name → AllPass is_token_byte name → AllPass is_value_byte raw
@@ -44,21 +41,14 @@ line_of (b ∷ name) raw e ys some token value =
     let rest = ((name ++ 58 ∷ raw) ++ print_end e) ++ ys in
     let grouped : (((b ∷ name) ++ 58 ∷ raw) ++ print_end e) ++ ys ≡ (b ∷ name) ++ 58 ∷ (raw ++ (print_end e ++ ys)) = simp append_assoc in
     ap (λ (t : Bool). cond t 0 (lines_end (b ∷ rest))) (not_empty b rest (All-head (λ v. is_token_byte v ≡ true) b name token)) ∙ ap lines_end grouped
-    ∙ skips is_token_byte (b ∷ name) (58 ∷ (raw ++ (print_end e ++ ys))) token_no_feed token ∙ skips is_value_byte raw (print_end e ++ ys) refl value ∙ end_ends e ys
-
-field_line : (f : Field) (ys : List ℕ) → IsField f → section_lines (print_field f ++ ys) ≡ 1 + section_lines ys
-field_line f ys ok = line_of f.name f.raw f.end ys ok.name.0 ok.name.1 ok.raw
+    ∙ skips is_token_byte (b ∷ name) (58 ∷ (raw ++ (print_end e ++ ys))) token_no_feed token ∙ skips is_value_byte raw (print_end e ++ ys) refl value ∙ (end_ends e ys).0
 
 pub fields_lines : (fs : List Field) (ys : List ℕ) → All IsField fs → section_lines (flat_map print_field fs ++ ys) ≡ length fs + section_lines ys
 fields_lines [] ys all = omega arith
 fields_lines (f ∷ fs) ys all =
-    ap section_lines (append_assoc (print_field f) (flat_map print_field fs) ys) ∙ field_line f (flat_map print_field fs ++ ys) (All-head IsField f fs all)
+    let ok = All-head IsField f fs all in
+    ap section_lines (append_assoc (print_field f) (flat_map print_field fs) ys) ∙ line_of f.name f.raw f.end (flat_map print_field fs ++ ys) ok.name.0 ok.name.1 ok.raw
     ∙ omega (arith, fields_lines fs ys (All-tail IsField f fs all))
-
--- nothing counts from the empty line on
-pub end_is_empty : (e : LineEnd) (ys : List ℕ) → section_lines (print_end e ++ ys) ≡ 0
-end_is_empty crlf ys = refl
-end_is_empty lf ys = refl
 
 -- the empty lines at the start do not count
 after_blank : (ends : List LineEnd) (b : ℕ) (rest : List ℕ) → is_newline b ≡ false → head_lines (print_blank ends ++ b ∷ rest) ≡ lines_end rest
@@ -80,25 +70,22 @@ started_lines h text ok =
     let after_target = print_version h.minor ++ after_version in
     started_blank h.blank h.method (32 ∷ (h.target ++ 32 ∷ after_target)) (1 + section_lines text) ok.method.0 ok.method.1
     (skips is_token_byte h.method (32 ∷ (h.target ++ 32 ∷ after_target)) token_no_feed ok.method.1 ∙ skips is_uri_byte h.target (32 ∷ after_target) refl ok.target.1
-    ∙ version_skips h.minor after_version ok.minor ∙ end_ends h.line_end text)
+    ∙ other_end (48 + h.minor) after_version (omega (arith, ok.minor)) ∙ (end_ends h.line_end text).0)
 
 -- a head has its request line and its fields before the empty line
 pub lines_of_head : (h : RequestHead) → IsRequestHead h → head_lines (print_request h) ≡ length h.fields + 1
 lines_of_head h ok =
     let later : section_lines (print_section h.fields h.last ++ []) ≡ length h.fields = ap section_lines (append_assoc (flat_map print_field h.fields) (print_end h.last) [])
-    ∙ fields_lines h.fields (print_end h.last ++ []) ok.fields ∙ omega (arith, end_is_empty h.last []) in
+    ∙ fields_lines h.fields (print_end h.last ++ []) ok.fields ∙ omega (arith, (end_ends h.last []).1) in
     ap head_lines (sym (append-nil (print_request h)) ∙ print_request-append h []) ∙ started_lines h (print_section h.fields h.last ++ []) ok ∙ omega (arith, later)
 
 pub lines_of_section : (fields : List Field) (last : LineEnd) → All IsField fields → section_lines (print_section fields last) ≡ length fields
-lines_of_section fields last ok = search (rules, append-nil, fields_lines, end_is_empty)
+lines_of_section fields last ok = search (rules, append-nil, fields_lines, (end_ends last []).1)
 
 -- a line end is an LF after bytes that end no line
 feed_cut : (e : LineEnd) → (before : List ℕ) × (print_end e ≡ before ++ 10 ∷ []) × (section_lines before ≡ 0)
 feed_cut crlf = (13 ∷ [], refl, refl)
 feed_cut lf = ([], refl, refl)
-
-started-append : (h : RequestHead) (xs ys : List ℕ) → started h (xs ++ ys) ≡ started h xs ++ ys
-started-append h xs ys = simp append_assoc
 
 -- without its last LF a head has as many
 pub cut_head : (h : RequestHead) → IsRequestHead h → (prefix : List ℕ) × (print_request h ≡ prefix ++ 10 ∷ []) × (head_lines prefix ≡ length h.fields + 1)
@@ -108,7 +95,7 @@ cut_head h ok =
     let rest = fields ++ cut.0 in
     let parts : print_section h.fields h.last ++ [] ≡ rest ++ 10 ∷ [] = append-nil (fields ++ print_end h.last) ∙ ap (λ (xs : List ℕ). fields ++ xs) cut.1 ∙ sym (append_assoc fields cut.0 (10 ∷ [])) in (
       started h rest,
-      sym (append-nil (print_request h)) ∙ print_request-append h [] ∙ ap (started h) parts ∙ started-append h rest (10 ∷ []),
+      sym (append-nil (print_request h)) ∙ print_request-append h [] ∙ ap (started h) parts ∙ simp append_assoc,
       started_lines h rest ok ∙ omega (arith, fields_lines h.fields cut.0 ok.fields, cut.2),
     )
 

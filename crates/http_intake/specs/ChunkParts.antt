@@ -65,23 +65,15 @@ pub record HasWholeData (old : List ℕ) (n : ℕ) (input new rest : List ℕ) :
 abbrev pub LacksData : List ℕ → ℕ → List ℕ → Type 0
 LacksData old n input = (length old + length input < n) ⊎ ((after : List ℕ) × HasData old n input after × IsOpenEnd after)
 
--- something else is after the bytes
-abbrev pub RefusesData : List ℕ → ℕ → List ℕ → BadRequest → Type 0
-RefusesData old n input f = (f ≡ BadChunk) × ((after : List ℕ) × HasData old n input after × IsNoEnd after)
-
--- the data of a chunk after the old bytes, and CR LF
+-- the data of a chunk after the old bytes, and CR LF; or something else is after the bytes
 abbrev pub DataCame : List ℕ → ℕ → List ℕ → Result Chunked WireFault → List ℕ → List ℕ → Type 0
-DataCame old n input r new rest = PartCame (HasWholeData old n input new rest) (LacksData old n input) (RefusesData old n input) r
+DataCame old n input r new rest = PartCame (HasWholeData old n input new rest) (LacksData old n input) (λ f. (f ≡ BadChunk) × ((after : List ℕ) × HasData old n input after × IsNoEnd after)) r
 
 -- the next chunk, or None in place of what ends the chunks: a chunk of data after the old bytes
 abbrev pub StepCame : List ℕ → List ℕ → Result (Option Chunked) WireFault → List ℕ → List ℕ → Type 0
 StepCame old input (Ok None) new rest = (l : ChunkLine) × (bytes : List ℕ) × HasChunk (length old) input l bytes rest × (new ≡ old ++ bytes)
-StepCame old input (Ok (Some came.Whole)) new rest = HasChunks (length old) input [] rest × (new ≡ old)
-StepCame old input (Ok (Some came.Lacking)) new rest = LacksChunks (length old) input
-StepCame old input (Ok (Some (came.Refused f))) new rest = HasChunkFault (length old) input f
-StepCame old input (Err fault.Read) new rest = LacksChunks (length old) input
-StepCame old input (Err fault.TurnLimit) new rest = LacksChunks (length old) input
-StepCame old input (Err fault.Memory) new rest = ⊤
+StepCame old input (Ok (Some c)) new rest = PartCame (HasChunks (length old) input [] rest × (new ≡ old)) (LacksChunks (length old) input) (HasChunkFault (length old) input) (Ok c)
+StepCame old input (Err e) new rest = PartCame ⊤ (LacksChunks (length old) input) (λ f. ⊤) (Err e)
 
 -- what the last chunk comes to once its trailers were read so
 abbrev pub after_trailers : Result Chunked WireFault → Result (Option Chunked) WireFault

@@ -19,6 +19,7 @@ pub struct FoundLine {
 }
 
 /// Looks for a chunk's line at the start of the bytes.
+#[tactic(auto, using(crate::proofs::ChunkLookLemmas::line_window_is))]
 fn look_at_line(bytes: &[u8]) -> Seen<FoundLine, BadRequest>
     ensures sees { SeesLine bytes.now result }
     ensures short { result ≡ Seen.Incomplete → length bytes.now < 16384 }

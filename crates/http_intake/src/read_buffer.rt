@@ -70,6 +70,7 @@ impl ReadBuffer {
     }
 
     /// Takes the first n bytes away.
+    #[tactic(auto, using(crate::proofs::ReadBufferLemmas::part_rest))]
     pub fn consume(&mut self, n: usize)
         requires { n ≤ length self.old }
         ensures { self.new ≡ drop n self.old }

@@ -12,6 +12,7 @@ use httparse::spans::{EMPTY_HEADER_SPAN, parse_headers};
 use httparse::{Error, Status};
 
 /// No trailers have come: whether they still may.
+#[tactic(auto, using(crate::proofs::ChunkLookLemmas::section_overflows_at))]
 fn unfinished(bytes: &[u8], part: &[u8]) -> Seen<usize, BadRequest>
     requires part_is { part.now ≡ window bytes.now }
     requires none { HasNoSection part.now }
@@ -29,6 +30,7 @@ fn unfinished(bytes: &[u8], part: &[u8]) -> Seen<usize, BadRequest>
 }
 
 /// Looks for trailers at the start of the bytes, and tells their length.
+#[tactic(auto, using(crate::proofs::Prefixes::window_is, crate::proofs::ChunkLookLemmas::trailers_at))]
 fn look_at_trailers(bytes: &[u8]) -> Seen<usize, BadRequest>
     ensures sees { SeesTrailers bytes.now result }
     ensures short { result ≡ Seen.Incomplete → length bytes.now < 16384 }

@@ -1,9 +1,8 @@
 -- A route that was added is one more of the rows, and one that conflicts with none is declined for memory alone.
 use Rattle.{std.proofs.Common.{◌≡◌, ℕ, List, [], ◌∷◌, Result, Ok, Err, None, inl, inr, OnOk, IfErr, IsErrAnd, codes, ap, subst, ◌∙◌, refl}, matchit.specs.Route.{Scan, parse_route}}
 use Rattle.http_routes.specs.{Routes.{DeclinesRead, Declines, MakesTable}, claim.Routes.{with_read, with_route, the_routes}, declared.route.Route.Route}
-use Rattle.{http_routes.specs.declared.route.Route.TheVariants.{Blocks, Plans, Plan, Revisions, Counties, Revision, Audit}, matchit.specs.Rows.RowsOf}
-use Rattle.matchit.specs.{Router.{RouteOf, InsertsRead, Refused, nearest}, declared.{InsertError.InsertError, error.InsertError.TheVariants.{Conflict, OutOfMemory}}}
-use Rattle.matchit.proofs.OnLiterals.{matchit_on_literals}
+use Rattle.{http_routes.specs.declared.route.Route.TheVariants.{Blocks, Plans, Plan, Revisions, Counties, Revision, Audit}, matchit.specs.Router.{RouteOf, InsertsRead, nearest}}
+use Rattle.matchit.{specs.{Rows.RowsOf, declared.{InsertError.InsertError, error.InsertError.TheVariants.{Conflict, OutOfMemory}}}, proofs.OnLiterals.matchit_on_literals}
 
 pub added_ok : (read : Result Scan InsertError) (route : Route) (old new : RowsOf (RouteOf Route)) (r : Result (Unit {0}) InsertError) → InsertsRead read route old new r → OnOk r (new ≡ with_read read route old)
 added_ok (Ok s) route old new (Ok u) i = i.1
@@ -23,13 +22,10 @@ abbrev pub FitsRead : Result Scan InsertError → RowsOf (RouteOf Route) → Typ
 FitsRead (Ok s) rows = nearest s.pattern rows ≡ None
 FitsRead (Err bad) rows = ⊥
 
-only_memory : (p : List ℕ) (rows : RowsOf (RouteOf Route)) (e : InsertError) → nearest p rows ≡ None → Refused p rows e → e ≡ OutOfMemory
-only_memory p rows (Conflict with) none bad = absurd (cc)
-only_memory p rows OutOfMemory none bad = refl
-only_memory p rows _ none bad = absurd bad
-
 read_memory : (read : Result Scan InsertError) (rows : RowsOf (RouteOf Route)) (e : InsertError) → FitsRead read rows → DeclinesRead read rows e → e ≡ OutOfMemory
-read_memory (Ok s) rows e fits bad = only_memory s.pattern rows e fits bad
+read_memory (Ok s) rows (Conflict with) fits bad = absurd (cc)
+read_memory (Ok s) rows OutOfMemory fits bad = refl
+read_memory (Ok s) rows _ fits bad = absurd bad
 read_memory (Err f) rows e fits bad = absurd fits
 
 for_memory : (text : List ℕ) (rows old : RowsOf (RouteOf Route)) (e : InsertError) → FitsRead (parse_route text) rows → old ≡ rows → Declines text old e → e ≡ OutOfMemory

@@ -5,6 +5,7 @@ ghost use Rattle.http_routes.specs.claim.Orders.{order_of};
 ghost use Rattle.http_routes.specs.declared.order.Order.TheVariants as order;
 
 /// GET of `/plans` without a body asks for the list of plans.
+#[tactic(auto, unfolding(matchit::proofs::OnLiterals::matchit_on_literals, form_urlencoded::proofs::OnLiterals::form_urlencoded_on_literals))]
 pub fn list_law()
     ensures { order_of (codes "GET") (codes "/plans") [] ≡ order.Query Plans }
 {}

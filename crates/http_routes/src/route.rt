@@ -28,6 +28,7 @@ pub enum Route {
 }
 
 /// Adds a route.
+#[tactic(auto, using(crate::proofs::Adds::added_ok, crate::proofs::Adds::declined_err))]
 fn add(router: &mut Router<Route>, pattern: &str, route: Route) -> Result<(), InsertError>
     ensures row { OnOk result (router.new ≡ with_route pattern.now route router.old) }
     ensures declined { IfErr result (λ e. Declines pattern.now router.old e) }
@@ -70,6 +71,7 @@ pub fn route_of(router: &Router<Route>, path: &str) -> Option<Route>
 }
 
 /// The place of the first such byte, or the length.
+#[tactic(auto, using(std::proofs::lemmas::List::Sums::position_or_len_is))]
 fn place_of(bytes: &[u8], byte: u8) -> usize
     ensures place { result ≡ position_or_len (λ b. b == byte) bytes.now }
     ensures within { result ≤ length bytes.now }

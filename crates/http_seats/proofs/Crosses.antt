@@ -5,33 +5,19 @@ use Rattle.desk_catalogue.proofs.shared_lists.tree.Branch.TheLaws.TheKnot as bra
 use Rattle.desk_catalogue.proofs.shared_lists.trees.Trees.TheLaws.TheKnot as trees_knot
 use Rattle.desk_catalogue.proofs.desk_plans.tree.Tree.TheLaws.TheKnot as knot
 use Rattle.logbook.proofs.tokens.Seen.TheSendSync.{the_send as seen_send, the_sync as seen_sync}
-use Rattle.desk_model.specs.contracts.geography.Geography as Geography
 use Rattle.desk_catalogue.specs.shared_lists.contracts.districts.Districts as Districts
 use Rattle.desk_catalogue.specs.shared_lists.contracts.tree.Branch as Branch
 use Rattle.desk_catalogue.specs.shared_lists.contracts.trees.Trees as Trees
 use Rattle.desk_catalogue.specs.desk_plans.contracts.entry.Entry as Entry
 use Rattle.desk_catalogue.specs.desk_plans.contracts.tree.Tree as Tree
-use Rattle.desk_catalogue.specs.desk_plans.contracts.plans.Plans as Plans
 use Rattle.desk_catalogue.specs.contracts.catalogue.Catalogue as Catalogue
 use Rattle.desk_gallery.specs.contracts.shelf.Shelf as Shelf
 
-pub geography_send : IsSend Geography.the_row
-geography_send = search (sendable, crosses) depth 40
-
-pub geography_sync : IsSync Geography.the_row
-geography_sync = search (sendable, crosses) depth 40
-
-pub districts_send : IsSend Districts.the_row
-districts_send = search (sendable, crosses) depth 40
-
-pub districts_sync : IsSync Districts.the_row
-districts_sync = search (sendable, crosses) depth 40
-
 pub branch_send : IsSend (Branch.the_row Districts.the_row)
-branch_send = search (sendable, crosses, branch_knot.crosses, districts_send, districts_sync) depth 60 fits 20000
+branch_send = search (sendable, crosses, branch_knot.crosses) depth 60 fits 20000
 
 pub branch_sync : IsSync (Branch.the_row Districts.the_row)
-branch_sync = search (sendable, crosses, branch_knot.crosses, districts_send, districts_sync) depth 60 fits 20000
+branch_sync = search (sendable, crosses, branch_knot.crosses) depth 60 fits 20000
 
 pub trees_send : IsSend (Trees.the_row Districts.the_row)
 trees_send = search (sendable, crosses, trees_knot.crosses, branch_send, branch_sync) depth 60 fits 20000
@@ -51,17 +37,11 @@ tree_send = search (sendable, crosses, knot.crosses, entry_send, entry_sync) dep
 pub tree_sync : IsSync Tree.the_row
 tree_sync = search (sendable, crosses, knot.crosses, entry_send, entry_sync) depth 60 fits 20000
 
-pub plans_send : IsSend Plans.the_row
-plans_send = search (sendable, crosses, tree_send, tree_sync, entry_send, entry_sync) depth 60 fits 20000
-
-pub plans_sync : IsSync Plans.the_row
-plans_sync = search (sendable, crosses, tree_send, tree_sync, entry_send, entry_sync) depth 60 fits 20000
-
 pub catalogue_send : IsSend Catalogue.the_row
-catalogue_send = search (sendable, crosses, plans_send, plans_sync, geography_send, geography_sync) depth 60 fits 20000
+catalogue_send = search (sendable, crosses, tree_send, tree_sync, entry_send, entry_sync) depth 60 fits 20000
 
 pub catalogue_sync : IsSync Catalogue.the_row
-catalogue_sync = search (sendable, crosses, plans_send, plans_sync, geography_send, geography_sync) depth 60 fits 20000
+catalogue_sync = search (sendable, crosses, tree_send, tree_sync, entry_send, entry_sync) depth 60 fits 20000
 
 pub shelf_send : IsSend Shelf.the_row
 shelf_send = search (sendable, crosses, seen_send, seen_sync, catalogue_send, catalogue_sync) depth 60 fits 20000

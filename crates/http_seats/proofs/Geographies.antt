@@ -1,9 +1,9 @@
 -- No command changes the geography.
-use Rattle.{std.specs.Prelude.{Result, Ok, Err, if◌then◌else◌, not, ◌==◌, nat_le, length, IfOk}, desk_gallery.specs.claim.After.after, desk_model.specs.claim.Desk.{Plan, Desk}}
-use Rattle.{std.proofs.Common.{◌≡◌, ℕ, Bool, true, false, List, [], ◌∷◌, Option, Some, None, refl, sym, ap, subst, ◌∙◌}, desk_model.specs.claim.Baf.{Values, Fault, body_read}}
+use Rattle.{std.specs.Prelude.{Result, Ok, Err, if◌then◌else◌, not, ◌==◌, nat_le, length, IfOk}, desk_gallery.specs.claim.After.after, desk_model.specs.claim.Baf.body_read}
+use Rattle.{std.proofs.Common.{◌≡◌, ℕ, Bool, true, false, List, [], ◌∷◌, Option, Some, None, refl, sym, ap, subst, ◌∙◌}, desk_model.specs.claim.Desk.{Plan, Desk}}
 use Rattle.desk_model.specs.{claim.{Geography.GeographyModel, Subject.revision_at}, declared.command.Command.{Command, TheVariants.{Create, Whole, Counties, Retire, Fork}}}
-use Rattle.desk_model.specs.claim.Step.{Outcome, step, step_at, step_on, create, on_revisions, whole_read, patch_read, county_patched, partly_listed, retired, fork, fork_from, fork_of, plan_limit, revision_limit}
-use Rattle.{desk_model.specs.declared.kind.Kind.Kind, http_seats.specs.Seated.IsOf}
+use Rattle.desk_model.specs.claim.Step.{Outcome, step, step_at, create, on_revisions, whole_read, patch_read, county_patched, partly_listed, retired, fork, fork_from, fork_of, plan_limit, revision_limit}
+use Rattle.http_seats.specs.Seated.{IsOf}
 use Rattle.std.specs.FinMap as map_of
 
 module _ (d : Desk) where
@@ -15,53 +15,33 @@ module _ (d : Desk) where
   either true x y one other = one
   either false x y one other = other
 
-  created : (name : List ℕ) (kind : Kind) (n : ℕ) (p : Option Plan) → Stays (create d name kind n p)
-  created name kind n (Some p) = refl
-  created name kind n None = either (nat_le plan_limit (map_of.len d.plans)) _ _ refl refl
-
   on_plan : (p : Option Plan) (after_it : ℕ) (go : Plan → Outcome) → ((q : Plan) → Stays (go q)) → Stays (on_revisions d p after_it go)
   on_plan None after_it go all = refl
   on_plan (Some p) after_it go all =
       either (not (after_it == length p.revisions)) _ _ refl (either (nat_le revision_limit (length p.revisions)) _ _ refl (all p))
 
-  read_whole : (g : GeographyModel) (name : List ℕ) (p : Plan) (r : Result Values Fault) → Stays (whole_read g d name p r)
-  read_whole g name p (Err f) = refl
-  read_whole g name p (Ok listed) = refl
-
-  of_counties : (g : GeographyModel) (name : List ℕ) (p : Plan) (listed : Values) (part : Option ℕ) → Stays (county_patched g d name p listed part)
-  of_counties g name p listed (Some county) = refl
-  of_counties g name p listed None = refl
-
-  read_patch : (g : GeographyModel) (name : List ℕ) (p : Plan) (r : Result Values Fault) → Stays (patch_read g d name p r)
-  read_patch g name p (Err f) = refl
-  read_patch g name p (Ok listed) = of_counties g name p listed (partly_listed g listed)
-
-  taken_out : (name : List ℕ) (p : Option Plan) → Stays (retired d name p)
-  taken_out name None = refl
-  taken_out name (Some p) = refl
-
-  forked_of : (name : List ℕ) (q : Plan) (r : Option (List ℕ)) → Stays (fork_of d name q r)
-  forked_of name q None = refl
-  forked_of name q (Some districts) = refl
-
   forked_from : (name : List ℕ) (q : Option Plan) (j : ℕ) → Stays (fork_from d name q j)
   forked_from name None j = refl
-  forked_from name (Some q) j = forked_of name q (revision_at q j)
-
-  forked : (name : List ℕ) (from : List ℕ × ℕ) (p : Option Plan) → Stays (fork d name from p)
-  forked name from (Some p) = refl
-  forked name from None = either (nat_le plan_limit (map_of.len d.plans)) _ _ refl (forked_from name (map_of.get d.plans from.0) from.1)
-
-  sealed : (g : GeographyModel) (c : Command) → Stays (step_on g d c)
-  sealed g (Create name size) = created name size.0 size.1 (map_of.get d.plans name)
-  sealed g (Whole name after_it body) = on_plan (map_of.get d.plans name) after_it _ (λ p. read_whole g name p (body_read g p.n body))
-  sealed g (Counties name after_it body) = on_plan (map_of.get d.plans name) after_it _ (λ p. read_patch g name p (body_read g p.n body))
-  sealed g (Retire name) = taken_out name (map_of.get d.plans name)
-  sealed g (Fork name from) = forked name from (map_of.get d.plans name)
+  forked_from name (Some q) j = elim (revision_at q j) as (λ r. Stays (fork_of d name q r)) [ None ↦ refl | Some districts ↦ refl ]
 
   at_geography : (g : Option GeographyModel) (c : Command) → Stays (step_at g d c)
   at_geography None c = refl
-  at_geography (Some g) c = sealed g c
+  at_geography (Some g) (Create name size) = elim (map_of.get d.plans name) as (λ p. Stays (create d name size.0 size.1 p)) [
+    | Some p ↦ refl
+    | None ↦ either (nat_le plan_limit (map_of.len d.plans)) _ _ refl refl
+  ]
+  at_geography (Some g) (Whole name after_it body) = on_plan (map_of.get d.plans name) after_it _
+      (λ p. elim (body_read g p.n body) as (λ r. Stays (whole_read g d name p r)) [ Err f ↦ refl | Ok listed ↦ refl ])
+  at_geography (Some g) (Counties name after_it body) = on_plan (map_of.get d.plans name) after_it _
+      (λ p. elim (body_read g p.n body) as (λ r. Stays (patch_read g d name p r)) [
+        | Err f ↦ refl
+        | Ok listed ↦ elim (partly_listed g listed) as (λ part. Stays (county_patched g d name p listed part)) [ Some county ↦ refl | None ↦ refl ]
+      ])
+  at_geography (Some g) (Retire name) = elim (map_of.get d.plans name) as (λ p. Stays (retired d name p)) [ None ↦ refl | Some p ↦ refl ]
+  at_geography (Some g) (Fork name from) = elim (map_of.get d.plans name) as (λ p. Stays (fork d name from p)) [
+    | Some p ↦ refl
+    | None ↦ either (nat_le plan_limit (map_of.len d.plans)) _ _ refl (forked_from name (map_of.get d.plans from.0) from.1)
+  ]
 
 -- nor do any commands
 pub geography_stays : (d : Desk) (commands : List Command) → (after d commands).geography ≡ d.geography

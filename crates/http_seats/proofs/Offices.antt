@@ -1,5 +1,5 @@
 -- An office and its visitors may cross threads, as what is shown and the device may.
-use denote.{Builtin.{unit, bool}, Param.{Send.{IsSend, IsSync, sendable, view_send}, SendFields.declared_send}, RattleType.RattleType, Struct.Tuple.{Tuple, TupleAt}}
+use denote.{Param.{Send.{IsSend, IsSync, sendable, view_send}, SendFields.declared_send}, RattleType.RattleType, Struct.Tuple.TupleAt}
 use mir.Syntax.{Sym}
 use mathlib.Core.List.{[], ◌∷◌}
 use Rattle.{std.proofs.Crossing.crosses, http_seats.proofs.Crosses.{catalogue_send, catalogue_sync, shelf_send, shelf_sync}}
@@ -13,33 +13,22 @@ use Rattle.atomic_table.proofs.shared.Shared.TheSendSync.{the_send as table_send
 use Rattle.left_right.proofs.part.Part.TheSendSync.{the_send as part_send}
 use Rattle.left_right.proofs.part.Deed.TheSendSync.{the_send as deed_send}
 use Rattle.left_right.specs.contracts.part.Part as Part
-use Rattle.left_right.specs.contracts.reader.Reader as Reader
 use Rattle.core.proofs.ledger.Book.TheSendSync.{the_send as book_send}
 use Rattle.core.proofs.ledger.Share.TheSendSync.{the_send as share_send}
 use Rattle.logbook.proofs.tokens.Pen.TheSendSync.{the_send as pen_send}
 use Rattle.logbook.proofs.tokens.Seen.TheSendSync.{the_send as seen_send}
 use Rattle.logbook.proofs.word.Word.TheSendSync.{the_send as word_send}
 use Rattle.sector_device.specs.declared.SectorDevice as device
-use Rattle.desk_gallery.specs.desk_store.contracts.clerk.Clerk as Clerk
 use Rattle.desk_gallery.specs.declared.book.GalleryId as room
-use Rattle.desk_gallery.specs.contracts.book.Past as Past
-use Rattle.desk_gallery.specs.contracts.book.Mark as Mark
-use Rattle.desk_gallery.specs.contracts.book.Whole as Whole
-use Rattle.desk_gallery.specs.contracts.shelf.ShelfAbsorb.TheImpl as absorb
 use Rattle.desk_gallery.specs.contracts.front.Front as Front
 use Rattle.desk_gallery.specs.contracts.front.Front.TheInside as FrontInside
 use Rattle.desk_gallery.specs.contracts.shower.Shower.TheInside as ShowerInside
 use Rattle.desk_gallery.specs.contracts.visitor.Told.TheInside as ToldInside
 use Rattle.desk_gallery.specs.contracts.visitor.Visitor.TheInside as VisitorInside
 use Rattle.desk_catalogue.specs.contracts.catalogue.Catalogue as Catalogue
-use Rattle.left_right.specs.contracts.writer.Writer as Writer
 use Rattle.desk_gallery.specs.contracts.office.Office as Office
 use Rattle.desk_gallery.specs.contracts.shelf.Shelf as Shelf
 use Rattle.desk_gallery.specs.contracts.shower.Shower as Shower
-use Rattle.desk_gallery.specs.contracts.tally.Books as Books
-use Rattle.desk_gallery.specs.contracts.tally.Tally as Tally
-use Rattle.desk_gallery.specs.contracts.tied.Tied as Tied
-use Rattle.desk_gallery.specs.contracts.tied.TiedProtocolShelfUnit.TheImpl as tie
 use Rattle.desk_gallery.specs.contracts.visitor.Told as Told
 use Rattle.desk_gallery.specs.contracts.visitor.Visitor as Visitor
 use Rattle.http_seats.specs.contracts.guest.Guest as Guest
@@ -53,50 +42,30 @@ shown_send : IsSend (Option.the_row (Arc.the_row Catalogue.the_row Global.the_ro
 shown_send = search (sendable, crosses, catalogue_send, catalogue_sync) depth 30
 
 module _ (J : RattleType) (g : room.Ghosts J.Denot) where
-  reader_send : IsSend (Reader.the_row Shelf.the_row unit (Tied.the_row J) Global.the_row (tie.ghosts J g tie.no_dict) heap.ghosts)
-  reader_send = search (sendable, crosses, table_send, table_sync, lease_send, lease_sync, slot_send, seat_send) depth 60 fits 20000
-
-  past_send : IsSend J → IsSend (Past.the_row J g)
-  past_send s = search (sendable, seen_send) depth 40 fits 20000
-
   told_send : IsSend J → IsSend (Told.the_row J g)
-  told_send s = view_send (ToldInside.the_row J g) _ _ _ _ (declared_send (ToldInside.the_type J g) (past_send s, (shown_send, tt)))
+  told_send s = view_send (ToldInside.the_row J g) _ _ _ _ (declared_send (ToldInside.the_type J g) (search (sendable, seen_send) depth 40 fits 20000, (shown_send, tt)))
 
-  pub visitor_send : IsSend J → IsSend (Visitor.the_row J g)
-  visitor_send s = view_send (VisitorInside.the_row J g) _ _ _ _ (declared_send (VisitorInside.the_type J g) (reader_send, (told_send s, tt)))
-
-  tally_send : IsSend (Tally.the_row J g)
-  tally_send = search (sendable, share_send) depth 40
-
-  books_send : IsSend (Books.the_row J g)
-  books_send = search (sendable, book_send) depth 40
+  visitor_send : IsSend J → IsSend (Visitor.the_row J g)
+  visitor_send s = view_send (VisitorInside.the_row J g) _ _ _ _
+      (declared_send (VisitorInside.the_type J g) (search (sendable, crosses, table_send, table_sync, lease_send, lease_sync, slot_send, seat_send) depth 60 fits 20000, (told_send s, tt)))
 
   guest_send : IsSend J → IsSend (Guest.the_row J g)
-  guest_send s = view_send (GuestInside.the_row J g) _ _ _ _ (declared_send (GuestInside.the_type J g) (visitor_send s, (tally_send, tt)))
+  guest_send s = view_send (GuestInside.the_row J g) _ _ _ _ (declared_send (GuestInside.the_type J g) (visitor_send s, (search (sendable, share_send) depth 40, tt)))
 
   -- a worker's place
   pub worker_send : IsSend J → IsSend (WorkerPlace.the_row J g)
   worker_send s = search (sendable, crosses, guest_send) depth 40 fits 20000
 
-  writer_send : IsSend (Writer.the_row Shelf.the_row Shelf.the_row unit (Tied.the_row J) Global.the_row (Tuple (Catalogue.the_row ∷ Mark.the_row ∷ [])) absorb.ghosts (tie.ghosts J g tie.no_dict) heap.ghosts)
-  writer_send = search (sendable, crosses, table_send, table_sync, lease_send, lease_sync, slot_send, seat_send, part_send, deed_send, shelf_send, shelf_sync) depth 60 fits 20000
-
-  whole_send : IsSend J → IsSend (Whole.the_row J g)
-  whole_send s = search (sendable, word_send, pen_send, seen_send) depth 40 fits 20000
-
-  pub shower_send : IsSend J → IsSend (Shower.the_row J g)
-  shower_send s = view_send (ShowerInside.the_row J g) _ _ _ _ (declared_send (ShowerInside.the_type J g) (writer_send, (whole_send s, (shown_send, tt))))
-
-module _ (D : RattleType) (h : device.Ghosts D.Denot) where
-  pub clerk_send : IsSend D → IsSend (Clerk.the_row D h)
-  clerk_send s = search (sendable, crosses, catalogue_send, catalogue_sync) depth 60 fits 20000
-
-pub flag_send : IsSend bool
-flag_send = search sendable depth 10
+  shower_send : IsSend J → IsSend (Shower.the_row J g)
+  shower_send s = view_send (ShowerInside.the_row J g) _ _ _ _ (declared_send (ShowerInside.the_type J g) (
+    search (sendable, crosses, table_send, table_sync, lease_send, lease_sync, slot_send, seat_send, part_send, deed_send, shelf_send, shelf_sync) depth 60 fits 20000,
+    (search (sendable, word_send, pen_send, seen_send) depth 40 fits 20000, (shown_send, tt)),
+  ))
 
 module _ (J D : RattleType) (g : room.Ghosts J.Denot) (h : device.Ghosts D.Denot) where
-  pub front_send : IsSend J → IsSend D → IsSend (Front.the_row J D h g)
-  front_send s t = view_send (FrontInside.the_row J D h g) _ _ _ _ (declared_send (FrontInside.the_type J D h g) (clerk_send D h t, (shower_send J g s, (books_send J g, (flag_send, tt)))))
+  front_send : IsSend J → IsSend D → IsSend (Front.the_row J D h g)
+  front_send s t = view_send (FrontInside.the_row J D h g) _ _ _ _ (declared_send (FrontInside.the_type J D h g)
+      (search (sendable, crosses, catalogue_send, catalogue_sync) depth 60 fits 20000, (shower_send J g s, (search (sendable, book_send) depth 40, (search sendable depth 10, tt)))))
 
   pub office_sync : IsSend J → IsSend D → IsSync (Office.the_row J D g h)
   office_sync s t = search (sendable, crosses, front_send) depth 60 fits 20000

@@ -1,20 +1,15 @@
 -- What a command leaves on a seat.
-use Rattle.{std.proofs.Common.{◌≡◌, ◌⊎◌, ℕ, inl, inr, List, [], ◌∷◌, ◌++◌, ⊎_elim, sym, subst}, desk_model.specs.claim.{Desk.Desk, Outcome.IsAcceptance}}
-use Rattle.{desk_model.specs.declared.{command.Command.Command, reply.Reply.Reply}, http_seats.specs.{Seated.seated, claim.Explained.ExplainsCommand}}
+use Rattle.{std.proofs.Common.{◌≡◌, ◌⊎◌, ℕ, List, [], ◌∷◌, ◌++◌, ⊎_elim, sym, subst}, desk_model.specs.{claim.{Desk.Desk, Outcome.IsAcceptance}, declared.command.Command.Command}}
+use Rattle.{desk_model.specs.declared.reply.Reply.Reply, http_seats.specs.{Seated.seated, claim.Explained.ExplainsCommand}}
 use Rattle.desk_gallery.proofs.Pasts.{prefix_self, prefix_trans, prefix_length, prefix_whole}
 use mathlib.Core.List.{IsPrefix}
 use Rattle.desk_model.specs.declared.reply.Reply.TheVariants as reply
 
-accepted_or_not : (r : Reply) → IsAcceptance r ⊎ (IsAcceptance r → ⊥)
-accepted_or_not (reply.Created name revisions) = inl tt
-accepted_or_not (reply.Retired name) = inl tt
-accepted_or_not _ = inr (λ x. x)
-
 -- what was there before is shown afterwards
 shown_grows : (r : Reply) (list new : List Command) (c : Command) → (IsAcceptance r → new ≡ list ++ c ∷ []) → ((IsAcceptance r → ⊥) → new ≡ list) → IsPrefix list new
-shown_grows r list new c grown same = ⊎_elim
-    (λ (a : IsAcceptance r). (c ∷ [], sym (grown a)))
-    (λ (a : IsAcceptance r → ⊥). subst (λ (l : List Command). IsPrefix list l) (sym (same a)) (prefix_self list)) (accepted_or_not r)
+shown_grows (reply.Created name revisions) list new c grown same = (c ∷ [], sym (grown tt))
+shown_grows (reply.Retired name) list new c grown same = (c ∷ [], sym (grown tt))
+shown_grows _ list new c grown same = subst (IsPrefix list) (sym (same (λ x. x))) (prefix_self list)
 
 -- the note is all that is heard of then
 heard_is_told : (before list new heard : List Command) → IsPrefix before list → IsPrefix list new → IsPrefix new heard → (heard ≡ before) ⊎ (heard ≡ new) → heard ≡ new

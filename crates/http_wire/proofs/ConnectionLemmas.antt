@@ -1,11 +1,7 @@
 -- The parts of a list in a field.
-use Rattle.std.{specs.{List.{position_or_len, flat_map}, Prelude.codes}, proofs.lemmas.{Bool.Decides.nat_tests, Grind.flat_map-append, List.{append-nil, Sums.fails_before_first}}}
+use Rattle.std.{specs.{List.{position_or_len, flat_map}, Prelude.codes}, proofs.lemmas.{Bool.Decides.nat_tests, Grind.flat_map-append, List.append-nil}}
 use Rattle.std.proofs.Common.{◌≡◌, ℕ, ◌+◌, ◌<◌, ◌==◌, false, List, [], ◌∷◌, ◌++◌, length, take, drop, refl, ap, ◌∙◌, arith, length-drop, length-append, rules}
-use Rattle.{std.proofs.lemmas.List.Splits.{slice_split_none, slice_split_first, length-slice_split}, http_wire.specs.claim.Connection.{parts, ends_in}}
-
--- without a comma there is one part
-pub whole_part : (value : List ℕ) (end : ℕ) → end ≡ position_or_len (λ b. b == 44) value → end ≡ length value → parts value ≡ value ∷ []
-whole_part value end at all = slice_split_none (λ b. b == 44) value (λ k d inside. fails_before_first (λ b. b == 44) value k d (omega (arith, at, all, inside)))
+use Rattle.{std.proofs.lemmas.List.Splits.{slice_split_first, length-slice_split}, http_wire.specs.claim.Connection.{parts, ends_in}}
 
 -- the first part ends at the first comma
 pub first_part : (value : List ℕ) (end : ℕ) → end ≡ position_or_len (λ b. b == 44) value → end < length value

@@ -1,7 +1,6 @@
 -- Two texts that are written one after the other.
-use Rattle.std.{specs.{Io.KnownBytes.Appends, Prelude.◌==◌}, proofs.{KnownBytes.Appends-trans, Math.Seq.{take-add, drop-append-add}, lemmas.Bool.eqb-true}}
-use Rattle.std.proofs.Common.{[], ◌∷◌, true, append-nil, ◌≡◌, ℕ, ◌+◌, ◌-◌, ◌≤◌, List, ◌++◌, length, take, drop, Option, sym, ap, subst, ◌∙◌, arith, length-drop, length-append, take-append-drop, rules}
-use Rattle.std.proofs.lemmas.List.{drop-append-le, take_rest}
+use Rattle.std.{specs.Io.KnownBytes.Appends, proofs.{KnownBytes.Appends-trans, Math.Seq.{take-add, drop-append-add}, lemmas.List.take_rest}}
+use Rattle.std.proofs.Common.{◌≡◌, ℕ, ◌+◌, ◌-◌, ◌≤◌, List, ◌++◌, length, take, drop, Option, sym, subst, arith, length-drop, length-append, take-append-drop, rules}
 
 -- one piece more of the bytes, from what is left of them
 pub piece_more : (a b c : Option (List ℕ)) (bytes : List ℕ) (done n : ℕ) → Appends a b (take done bytes) → Appends b c (take n (drop done bytes)) → Appends a c (take (done + n) bytes)
@@ -18,12 +17,3 @@ piece_within first second done n h within = omega (arith, h, within, length-drop
 -- what is left where the first is whole
 pub past_first : (first second : List ℕ) (done : ℕ) → length first ≤ done → drop done (first ++ second) ≡ take (length second - (done - length first)) (drop (done - length first) second)
 past_first first second done h = search (rules, drop-append-add, take_rest)
-
--- and where a part of it is left
-pub in_first : (first second : List ℕ) (done : ℕ) → done ≤ length first → drop done (first ++ second) ≡ take (length first - done) (drop done first) ++ second
-in_first first second done h = drop-append-le done first second h ∙ ap (λ (xs : List ℕ). xs ++ second) (sym (take_rest first done))
-
--- and where there is no second one
-pub first_alone : (first second : List ℕ) (done : ℕ) → (length second == 0) ≡ true → drop done (first ++ second) ≡ take (length first - done) (drop done first)
-first_alone first [] done none = ap (drop done) (append-nil first) ∙ sym (take_rest first done)
-first_alone first (b ∷ second) done none = absurd (omega (arith, eqb-true (length (b ∷ second)) 0 none))

@@ -1,9 +1,9 @@
 -- What is written before the answer to a start.
-use Rattle.{std.{specs.Io.KnownBytes.{Appends, Consumes}, proofs.lemmas.{Bool.and_parts, List.append_cancel_right}}, http_intake.specs.{Chunks.ChunkLaw, Draws.IsPutOff}}
-use Rattle.std.proofs.Common.{◌≡◌, ℕ, zero, ◌+◌, Bool, true, Option, List, [], ◌++◌, take, drop, refl, sym, ap, subst, ◌∙◌, inl, inr, append_assoc, append-nil, take-append-drop, rules}
-use Rattle.{http_intake.specs.{claim.Lines.IsWithinLine, declared.bad_request.BadRequest.BadRequest}, http_wire.specs.{Interim.{IsCutInterim, IsCutShort}, Look.IsFound}}
-use Rattle.http_wire.specs.{Prefix.RefusesPrefix, claim.Interim.{Interim, continue_text, asks_by, asks_to_continue, has_body}, declared.head.Framing.{Framing, TheVariants.Sized}}
-use Rattle.{http_wire.specs.{claim.Prefix.{HasHead, HasFault, Lacks, IsOpen, IsIncomplete}, declared.look.Head.Head}, httparse.specs.Grammar.print_request}
+use Rattle.std.proofs.Common.{◌≡◌, ℕ, zero, ◌+◌, Bool, true, List, [], ◌++◌, take, drop, refl, sym, ap, subst, ◌∙◌, inl, inr, append_assoc, append-nil, take-append-drop, rules}
+use Rattle.{std.proofs.lemmas.{Bool.and_parts, List.append_cancel_right}, http_intake.specs.{Chunks.ChunkLaw, Draws.IsPutOff, claim.Lines.IsWithinLine}}
+use Rattle.{http_intake.specs.declared.bad_request.BadRequest.BadRequest, http_wire.specs.{Interim.{IsCutInterim, IsCutShort}, Look.IsFound, Prefix.RefusesPrefix}}
+use Rattle.http_wire.specs.claim.{Interim.{Interim, continue_text, asks_by, asks_to_continue, has_body}, Prefix.{HasHead, HasFault, Lacks, IsOpen, IsIncomplete}}
+use Rattle.{http_wire.specs.declared.{head.Framing.{Framing, TheVariants.Sized}, look.Head.Head}, httparse.specs.Grammar.print_request}
 use Rattle.http_wire.proofs.PrefixLemmas.{bytes_no_head, open_no_head}
 
 -- once the bytes are known as others
@@ -47,9 +47,3 @@ found_cut law input more found sent unwritten f expects cut =
       unwritten = unwritten;
       written = cut;
     }
-
--- what an intake says of its parts once they are known by other names
-pub as_parameters : (Says : (input rest sent : List ℕ) → Type 0) (u v w a b : Option (List ℕ)) (start held read_buffer : List ℕ) → w ≡ v → read_buffer ≡ held
-    → (sent : List ℕ) × Appends a b sent × ((more : List ℕ) × Consumes u v more × Says (start ++ more) held sent)
-    → (more : List ℕ) × (sent : List ℕ) × Consumes u w more × Appends a b sent × Says (start ++ more) read_buffer sent
-as_parameters Says u v w a b start held read_buffer e f x = search rules

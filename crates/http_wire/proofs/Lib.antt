@@ -8,11 +8,8 @@ mod LookLemmas
 mod RequestLemmas
 mod InterimLemmas
 mod TakenLemmas
-mod PlainLemmas
-mod WorkedLemmas
 mod StayLemmas
 mod CaseLemmas
-mod LawLemmas
 mod QueueLemmas
 mod GatherLemmas
 mod FinishLemmas

@@ -1,32 +1,28 @@
 -- The prefix of an input is one thing alone.
-use Rattle.std.proofs.Common.{◌≡◌, ◌⊎◌, ℕ, ◌+◌, ◌-◌, Bool, List, [], ◌++◌, length, drop, Ok, Err, sym, ap, subst, ◌∙◌, arith, inl, inr, length-append, take_all, ⊎_elim, refl}
+use Rattle.std.proofs.Common.{◌≡◌, ◌⊎◌, ℕ, ◌-◌, Bool, List, [], length, drop, Ok, Err, sym, ap, subst, ◌∙◌, arith, inl, inr, length-append, take-append-drop, ⊎_elim, refl}
 use Rattle.http_intake.specs.{Chunks.ChunkLaw, claim.Limits.window, declared.bad_request.BadRequest.{BadRequest, TheVariants.{BadHead, HeadTooLarge}}}
 use Rattle.http_wire.specs.{Law.{HasTwoHeadFaults, HasTwoBodyFaults, HasTwoFaults}, declared.head.Framing.{Framing, TheVariants.{Sized, Chunked}}}
 use Rattle.http_wire.specs.claim.Prefix.{HasHead, HasMessage, HasRequest, IsNoHead, RefusesBytes, RefusesHead, RefusesBody, RefusesTarget, HasFault, HasBody, Lacks, IsFaulty, IsOpen, IsIncomplete, judged_head, is_head}
-use Rattle.{httparse.specs.Grammar.{RequestHead, ReadsRequest, MayBecomeRequest, print_request}, http_intake.proofs.Prefixes.{window_rest, same_cut, take_grows}}
+use Rattle.{httparse.specs.Grammar.{RequestHead, HasNoRequest, MayBecomeRequest, print_request}, http_intake.proofs.Prefixes.{same_cut, in_window}}
 use Rattle.httparse.proofs.GrammarLemmas.{request_unique}
 use Rattle.http_intake.specs.Chunks as chunks
 
 -- a head within its limit stands in the window
-head_in_window : (input : List ℕ) (h : RequestHead) (rest : List ℕ) → HasHead input h rest → (r : List ℕ) × ReadsRequest (window input) h r
-head_in_window input h rest s =
-    let g = take_grows 16384 (print_request h) rest in
-    (g.0, (s.reads.0, ap window s.reads.1 ∙ g.1 ∙ ap (λ (xs : List ℕ). xs ++ g.0) (take_all 16384 (print_request h) s.short)))
-
--- the head, and what follows the window
-head_beyond : (input : List ℕ) (h : RequestHead) (rest : List ℕ) → HasHead input h rest → ReadsRequest (window input ++ drop 16384 input) h rest
-head_beyond input h rest s = subst (λ xs. ReadsRequest xs h rest) (sym (window_rest input)) s.reads
+not_in_window : (input : List ℕ) (h : RequestHead) (rest : List ℕ) → HasNoRequest (window input) → HasHead input h rest → ⊥
+not_in_window input h rest none s =
+    let g = in_window 16384 input (print_request h) rest s.reads.1 s.short in
+    none h g.0 (s.reads.0, g.1)
 
 pub open_no_head : (input : List ℕ) (h : RequestHead) (rest : List ℕ) → IsOpen input → HasHead input h rest → ⊥
-open_no_head input h rest o s = o.none h (head_in_window input h rest s).0 (head_in_window input h rest s).1
+open_no_head input h rest o s = not_in_window input h rest o.none s
 
 -- ---- the first bytes
 
 -- bytes that are refused have no head
 pub bytes_no_head : (input : List ℕ) (f : BadRequest) (h : RequestHead) (rest : List ℕ) → RefusesBytes input f → HasHead input h rest → ⊥
-bytes_no_head input BadHead h rest x s = x.never (drop 16384 input) h rest (head_beyond input h rest s)
-bytes_no_head input HeadTooLarge h rest (inl x) s = x.none h (head_in_window input h rest s).0 (head_in_window input h rest s).1
-bytes_no_head input HeadTooLarge h rest (inr x) s = omega (arith, s.few, x.exceeds (drop 16384 input) h rest (head_beyond input h rest s))
+bytes_no_head input BadHead h rest x s = x.never (drop 16384 input) h rest (rw take-append-drop s.reads)
+bytes_no_head input HeadTooLarge h rest (inl x) s = not_in_window input h rest x.none s
+bytes_no_head input HeadTooLarge h rest (inr x) s = omega (arith, s.few, x.exceeds (drop 16384 input) h rest (rw take-append-drop s.reads))
 bytes_no_head input _ h rest x s = x
 
 -- where no head can come none may

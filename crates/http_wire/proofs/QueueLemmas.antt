@@ -1,6 +1,6 @@
 -- Answers that wait, one after another.
 use Rattle.std.{specs.Io.KnownBytes.Appends, proofs.Common.{◌≡◌, ℕ, List, [], ◌++◌, Option, Some, None, Result, Ok, Err, sym, ap, ◌∙◌, append_assoc, append-nil}}
-use Rattle.{std.proofs.KnownBytes.{Appends-trans, Appends-nil}, byte_stream.specs.claim.Sends.Sends, http_wire.specs.{Answer.after_line, Queue.{Queued, Queues}}}
+use Rattle.{std.proofs.KnownBytes.Appends-trans, byte_stream.specs.claim.Sends.Sends, http_wire.specs.{Answer.after_line, Queue.{Queued, Queues}}}
 use Rattle.http_wire.specs.claim.Answer.{allow_line, line_end}
 
 -- a head in four pieces: what stands before the length in its line, the length, the allowed methods, and the end
@@ -8,14 +8,6 @@ pub head_built : (s t c d k : List ℕ) (allow : Option (List ℕ))
     → ((((s ++ t) ++ c) ++ d) ++ after_line allow) ++ ((line_end ++ k) ++ line_end) ≡ ((((s ++ t) ++ ((c ++ d) ++ line_end)) ++ allow_line allow) ++ k) ++ line_end
 head_built s t c d k None = simp (append_assoc, append-nil)
 head_built s t c d k (Some methods) = simp append_assoc
-
--- all of it waits
-pub waits : (u : Option (List ℕ)) (before after text : List ℕ) → after ≡ before ++ text → Queued u u before after text
-waits u before after text e = ([], Appends-nil u, sym e)
-
--- what waited was sent, and the text waits
-pub sent_waits : (u v : Option (List ℕ)) (before between after text : List ℕ) → Appends u v before → between ≡ [] → after ≡ between ++ text → Queued u v before after text
-sent_waits u v before between after text s none e = (before, s, ap (λ (xs : List ℕ). before ++ xs) (sym (e ∙ ap (λ (xs : List ℕ). xs ++ text) none)))
 
 -- what waited was sent in part
 pub sent_cut : (u v : Option (List ℕ)) (before text : List ℕ) → (prefix : List ℕ) × (rest : List ℕ) × (before ≡ prefix ++ rest) × Appends u v prefix → (unsent : List ℕ) × Queued u v before unsent text

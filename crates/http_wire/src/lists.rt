@@ -32,6 +32,7 @@ fn trim_end(mut s: &[u8]) -> &[u8]
 }
 
 /// Without the spaces and tabs at both ends.
+#[tactic(auto, unfolding(httparse::specs::Grammar::trim_ows))]
 fn trim(s: &[u8]) -> &[u8]
     ensures { result.now ≡ trim_ows s.now }
 {

@@ -256,6 +256,7 @@ fn sent<'a>(response: &Response<'a>) -> &'a [u8]
 
 /// Puts an answer after those that wait, and takes no memory for it. Where it has no room these are sent first; one that
 /// has no room in the empty buffer either is sent at once, its head with its body. The names of the allowed methods have 64 bytes at most.
+#[tactic(auto, using(crate::proofs::QueueLemmas::sent_cut))]
 pub fn write_response<W: GatherSink>(
     writer: &mut W,
     write_buffer: &mut WriteBuffer,

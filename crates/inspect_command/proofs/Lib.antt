@@ -1,7 +1,6 @@
 pub mod Counties
 pub mod Told
 pub mod Looked
-pub mod Joined
 pub mod Unread
 mod Unsound
 mod Devices

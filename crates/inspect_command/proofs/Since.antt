@@ -5,7 +5,7 @@ use Rattle.inspect_command.specs.{Verifying.{IsFoundWrong, IsLookedAt, IsRefused
 use Rattle.{page_store.specs.{claim.Transactions.{journal_of, count_of}, gate_journal.Recovery.Found}, sector_device.specs.{Disk.IsSynced, claim.Moments.LeavesOnly}}
 use Rattle.{sector_device.specs.{claim.Disk.{Disk, Image, Nowhere, Touches}, declared.SectorDevice.Ghosts}, store_command.specs.Reading.{LeavesDesk, ReadsDesk}}
 use Rattle.{store_command.specs.declared.fault.StoreFault.{StoreFault, TheVariants.{NotAStore, OldVersion, DeviceFault, Memory}}, parallel_verify.proofs.Seen.agreed}
-use Rattle.{inspect_command.proofs.Devices.{map_stray, spared_as, unopened}, sector_device.proofs.Moments.{leaves_from, leaves_more, touches_more}}
+use Rattle.{inspect_command.proofs.Devices.{map_stray, other_told}, sector_device.proofs.Moments.{leaves_from, leaves_more, touches_more}}
 
 -- the first device, and the one that was left by its readers
 module _ (a b : Disk) (synced : IsSynced a) (sectors : b.sectors ≡ a.sectors) (moves : Touches Nowhere a b) where
@@ -49,7 +49,8 @@ module _ {D : Type 0} (g : Ghosts D) (device mid : D) (synced : IsSynced (g.disk
   }
 
   pub failed_first : (refusal : Refusal) → refusal.fault ≡ DeviceFault → refusal.is_stray ≡ false → refusal.page ≡ None → (b.is_honest → a.faults < b.faults) → VerifiesDevice g device (Err refusal) mid
-  failed_first refusal told opens whole why = search (looked_by, spared_as, unopened)
+  failed_first refusal told opens whole why =
+      (looked_by, subst (λ (f : StoreFault). IsSparedFor g device mid f) (sym told) tt, other_told refusal DeviceFault (IsFoundWrong g device mid refusal.page refusal.row) (IsRefused g device mid) told opens whole why)
 
   -- ---- what is left behind it
   module _ (left : D) (look : IsLookedAt g mid left) where
@@ -63,23 +64,16 @@ module _ {D : Type 0} (g : Ghosts D) (device mid : D) (synced : IsSynced (g.disk
       any_moment = λ good d reads. desk_before a b synced sectors (by good) (g.disk left) d reads (look.any_moment good d (reads_on a b synced sectors (by good) d reads));
     }
 
-    none_read : ((g.disk left).is_honest → (d : Desk) → ReadsDesk b d → ⊥) → (g.disk left).is_honest → (d : Desk) → ReadsDesk a d → ⊥
-    none_read none good d reads = none good d (reads_on a b synced sectors (by good) d reads)
-
     refused_before : (fault : StoreFault) → IsRefused g mid left fault → IsRefused g device left fault
-    refused_before NotAStore why = none_read why
-    refused_before OldVersion why = none_read why
+    refused_before NotAStore why = λ good d reads. why good d (reads_on a b synced sectors (by good) d reads)
+    refused_before OldVersion why = λ good d reads. why good d (reads_on a b synced sectors (by good) d reads)
     refused_before DeviceFault why = λ good. let rose = why good in let fewer = (by good).faults in omega (arith, rose, fewer)
-    refused_before Memory why = tt
     refused_before _ why = why
-
-    spared : ((g.disk left).is_honest → IsSpared b (g.disk left)) → (g.disk left).is_honest → IsSpared a (g.disk left)
-    spared is good = spared_before a b synced sectors (by good) (g.disk left) (is good)
 
     spared_for : (fault : StoreFault) → IsSparedFor g mid left fault → IsSparedFor g device left fault
     spared_for DeviceFault is = tt
     spared_for Memory is = λ good. pages_before a b synced sectors (by good) (g.disk left) (is good)
-    spared_for _ is = spared is
+    spared_for _ is = λ good. spared_before a b synced sectors (by good) (g.disk left) (is good)
 
     found_at : (J n : ℕ) → ((g.disk left).is_honest → Found J n b (g.disk left)) → (g.disk left).is_honest → Found J n a (g.disk left)
     found_at J n found good = found_before a b synced sectors (by good) J n (g.disk left) (found good)

@@ -1,13 +1,18 @@
 -- Rows that aren't read, where a device failed.
 use Rattle.std.{specs.Prelude.{◌<◌, Result, Ok, Err, OnErr, IfErr}, proofs.Common.{rules, ◌≡◌, Bool, true, false, inl, inr, refl, sym, subst, ◌∙◌, arith}}
-use Rattle.{desk_pages.specs.{Errors.page_refusal, Reading.ReadErr}, inspect_command.specs.{Rows.{fault_of_rows, AreUnread, IsUncounted}, declared.rows.Rows.Rows}}
-use Rattle.{page_btree.specs.{claim.Map.InTxn, declared.error.TreeError.TreeError}, page_store.specs.{Transactions.OpenErr, declared.{pages.Pages.Pages, txn.Txn.Txn}}}
-use Rattle.page_store.specs.{claim.Transactions.{stored, disk_in, device_in, count_of, journal_of, has_halted, IsQuiet}, gate_journal.Recovery.{HasRoom, Found}}
-use Rattle.{page_store.specs.gate_journal.declared.error.PageError.PageError, row_owners.specs.Strays.IsAny, sector_device.specs.declared.SectorDevice.Ghosts}
-use Rattle.{store_command.specs.{Faults.fault_of_store, declared.fault.StoreFault.{StoreFault, TheVariants.{NotAStore, DeviceFault}}}, store_rows.specs.claim.Rows.KeyMap}
-use Rattle.desk_pages.proofs.Found.{all_versions, page_stores_of, found_desk}
+use Rattle.{desk_pages.specs.{Errors.page_refusal, Openings.LeavesOneOf, Reading.ReadErr}, inspect_command.specs.Rows.{fault_of_rows, AreUnread, IsUncounted}}
+use Rattle.{inspect_command.specs.declared.rows.Rows.Rows, page_btree.specs.{claim.Map.InTxn, declared.error.TreeError.TreeError}, page_store.specs.Transactions.OpenErr}
+use Rattle.page_store.specs.{claim.Transactions.{stored, disk_in, device_in, count_of, journal_of, has_halted, IsQuiet}, declared.{pages.Pages.Pages, txn.Txn.Txn}}
+use Rattle.{page_store.specs.gate_journal.{Recovery.{HasRoom, Found, AllStores, ReadsAs}, declared.error.PageError.PageError}, row_owners.specs.Strays.IsAny}
+use Rattle.{sector_device.specs.{claim.{Disk.Disk, Moments.LeavesOnly}, declared.SectorDevice.Ghosts}, store_command.specs.Faults.fault_of_store}
+use Rattle.{store_command.specs.declared.fault.StoreFault.{StoreFault, TheVariants.{NotAStore, DeviceFault}}, store_rows.specs.claim.Rows.KeyMap}
+use Rattle.desk_pages.proofs.Found.{all_versions, stores_of, page_stores_of, open_leaves, found_desk}
 use Rattle.page_store.specs.gate_journal.declared.error.PageError.TheVariants as page
 use Rattle.page_btree.specs.declared.error.TreeError.TheVariants as tree
+
+-- an opening left one of the desks that were there
+pub opened_leaves : (old new : Disk) → (new.is_honest → AllStores old → LeavesOnly (ReadsAs old) old new) → LeavesOneOf old new
+opened_leaves old new leaves honest all = open_leaves old new all (leaves honest (stores_of old (all_versions old all)))
 
 module _ {D : Type 0} {g : Ghosts D} where
   pub unread : (t : Txn) (a b : Pages D g) (e : TreeError) → ReadErr IsAny t a b e → has_halted a ≡ false → (disk_in b).is_honest → (m : KeyMap) → InTxn t (stored a) m → (disk_in a).faults < (disk_in b).faults
@@ -29,13 +34,10 @@ module _ {D : Type 0} (g : Ghosts D) where
   failed_so device a b fault false working off found room passed quiet is why = inr (inr (
     is,
     λ honest all.
-        let before = quiet.honest honest in
-        let here = found before in
+        let here = found (quiet.honest honest) in
         let desk = all here.was here.left in
         let holds = found_desk (g.disk device) a here room (true, desk.0) desk.1 in
-        let rose = why honest holds.m holds.holds in
-        let calm = quiet.calm off honest in
-        absurd (omega (arith, rose, calm)),
+        omega (arith, why honest holds.m holds.holds, quiet.calm off honest),
   ))
 
   pub rows_uncounted : (device : D) (a b : Pages D g) (left : D) (result : Result Rows StoreFault) → has_halted a ≡ false → left ≡ device_in b → ((disk_in a).is_honest → Found (journal_of a) (count_of a) (g.disk device) (disk_in a)) → HasRoom (g.disk device).sectors (journal_of a) (count_of a) → ((disk_in a).is_honest → (disk_in a).faults ≡ (g.disk device).faults) → IsQuiet a b

@@ -1,10 +1,10 @@
 -- Why rows aren't found to be a desk's.
-use Rattle.{std.{specs.Prelude.{Option, Some, None, is_some}, proofs.Common.{◌≡◌, ℕ, List, Bool, true, false, refl, sym, ap, subst, ◌∙◌}}, desk_model.specs.Ranges.ranges_in}
-use Rattle.{desk_model.specs.{claim.Desk.Desk, declared.ranges.CountyRange.CountyRange}, desk_pages.specs.{Errors.{missing, row_refusal}, Reading.{ReadErr, SeekErr}}}
-use Rattle.{desk_pages.specs.claim.Desks.InTxn, desk_store.specs.{desk_opening.Opening.{HasVersion, IsReadFrom, OpenErr}, store_sweep.Checks.IsNewTidy}}
-use Rattle.{desk_store.specs.store_sweep.claim.Checks.AreSoundHoldings, inspect_command.specs.{Sound.{CheckErr, IsFoundAs, IsSoundAs, OldIn, UnsoundIn}, Verifying.Unsound}}
-use Rattle.{page_btree.specs.{claim.Map.InTxn as HasRows, declared.error.TreeError.TreeError}, page_store.specs.declared.{pages.Pages.Pages, txn.Txn.Txn}}
-use Rattle.{page_store.specs.{claim.Transactions.{stored, disk_in, has_halted, HasFailed, IsQuiet, Passed}, gate_journal.claim.Contents.is_halted}, row_owners.specs.Wholes.AllSay}
+use Rattle.std.{specs.Prelude.{Option, Some, None, is_some}, proofs.{Common.{◌≡◌, ℕ, List, Bool, true, false, refl, sym, ap, subst, ◌∙◌}, lemmas.Bool.both_ways}}
+use Rattle.{desk_model.specs.{Ranges.ranges_in, claim.Desk.Desk, declared.ranges.CountyRange.CountyRange}, desk_pages.specs.{Errors.{row_refusal, unread}, claim.Desks.InTxn}}
+use Rattle.{desk_pages.specs.{Reading.{ReadErr, SeekErr}, declared.error.StoreError.StoreError}, desk_store.specs.desk_opening.Opening.{HasVersion, IsReadFrom, OpenErr}}
+use Rattle.{desk_store.specs.store_sweep.{Checks.IsNewTidy, claim.Checks.AreSoundHoldings}, inspect_command.specs.Sound.{CheckErr, IsFoundAs, IsSoundAs, OldIn, UnsoundIn}}
+use Rattle.{inspect_command.specs.Verifying.Unsound, page_btree.specs.declared.error.TreeError.TreeError, page_store.specs.declared.{pages.Pages.Pages, txn.Txn.Txn}}
+use Rattle.{page_store.specs.{claim.Transactions.{stored, disk_in, has_halted, IsQuiet, Passed}, gate_journal.claim.Contents.is_halted}, row_owners.specs.Wholes.AllSay}
 use Rattle.{row_owners.specs.{Strays.{AllBelong, IsChecked, IsStray}, declared.wrong.WrongRow.WrongRow}, sector_device.specs.{claim.Disk.Image, declared.SectorDevice.Ghosts}}
 use Rattle.store_command.specs.{Faults.fault_of_store, declared.fault.StoreFault.{StoreFault, TheVariants.{NotAStore, OldVersion, DeviceFault, Memory}}}
 use Rattle.{store_rows.specs.claim.{Keys.{in_four, version}, Rows.{KeyMap, Has}}, page_store.proofs.Stops.failed_more, row_owners.proofs.Whole.all_say}
@@ -14,17 +14,13 @@ use Rattle.store_command.proofs.desk_store.Opened.{new_tells}
 use Rattle.store_command.proofs.desk_store.Prepared.{IsBegun, begun_reads}
 
 module _ {D : Type 0} {g : Ghosts D} where
-  -- what was read in between reads the same desk
-  pub still : (t : Txn) (a b c : Pages D g) (d : Desk) → Passed a b → IsQuiet b c → (disk_in c).is_honest → InTxn t (stored a) d → InTxn t (stored b) d
-  still t a b c d passed quiet honest held = subst (λ (P : Image). InTxn t P d) (sym (passed.quiet.same (quiet.honest honest))) held
-
-  pub still_rows : (t : Txn) (a b c : Pages D g) (m : KeyMap) → Passed a b → IsQuiet b c → (disk_in c).is_honest → HasRows t (stored a) m → HasRows t (stored b) m
-  still_rows t a b c m passed quiet honest held = subst (λ (P : Image). HasRows t P m) (sym (passed.quiet.same (quiet.honest honest))) held
+  -- what was read in between is read still
+  pub still : (P : Image → Type 0) {a b c : Pages D g} → Passed a b → IsQuiet b c → (disk_in c).is_honest → P (stored a) → P (stored b)
+  still P passed quiet honest held = subst P (sym (passed.quiet.same (quiet.honest honest))) held
 
   -- ---- errors of the checks
   pub opening_check : (t : Txn) (a b : Pages D g) (e : TreeError) → OpenErr t a b e → CheckErr t a b e
   opening_check t a b tree.NotAStore why = λ honest d held. why honest true d held
-  opening_check t a b tree.Memory why = tt
   opening_check t a b _ why = why
 
   pub whole_check : (t : Txn) (a b : Pages D g) (e : TreeError) → ReadErr AllSay t a b e → CheckErr t a b e
@@ -34,53 +30,34 @@ module _ {D : Type 0} {g : Ghosts D} where
 
   pub holdings_check : (t : Txn) (a b : Pages D g) (e : TreeError) → SeekErr (Unit {0}) IsNewTidy t a b e → CheckErr t a b e
   holdings_check t a b tree.NotAStore why = λ honest d held. why honest held.m held.holds (record { tidy = held.is.tidy; new = held.is.version })
-  holdings_check t a b tree.Memory why = tt
   holdings_check t a b _ why = why
 
   -- after calls that passed
   pub then_check : (t : Txn) (a b c : Pages D g) (e : TreeError) → Passed a b → IsQuiet b c → CheckErr t b c e → CheckErr t a c e
   then_check t a b c tree.DeviceFault passed quiet why = failed_more a b c passed quiet why
-  then_check t a b c tree.NotAStore passed quiet why = λ honest d held. why honest d (still t a b c d passed quiet honest held)
+  then_check t a b c tree.NotAStore passed quiet why = λ honest d held. why honest d (still (λ P. InTxn t P d) passed quiet honest held)
   then_check t a b c tree.Halted passed quiet why = sym passed.halted ∙ why
-  then_check t a b c tree.Memory passed quiet why = tt
   then_check t a b c _ passed quiet why = why
 
-  -- ---- what is told of them
-  was_halted : {P : Type 0} (a : Pages D g) → has_halted a ≡ false → has_halted a ≡ true → P
-  was_halted a working on = let clash : true ≡ false = sym on ∙ working in absurd (cc)
+  -- ---- what is told of them: the fault, where one came
+  pub told_as : (says : StoreFault → Type 0) (b : Pages D g) (e : TreeError) (halted : Bool) {error : StoreError} {fault : StoreFault} → fault ≡ fault_of_store error → error ≡ row_refusal e halted → halted ≡ has_halted b
+      → (has_halted b ≡ true → says DeviceFault) → (has_halted b ≡ false → says (fault_of_store (unread e))) → says fault
+  told_as says b e true told of is on off = subst says (sym (told ∙ ap (λ (x : StoreError). fault_of_store x) of)) (on (sym is))
+  told_as says b e false told of is on off = subst says (sym (told ∙ ap (λ (x : StoreError). fault_of_store x) of)) (off (sym is))
 
-  halts_not : {P : Type 0} (a b : Pages D g) → has_halted b ≡ false → HasFailed a b → P
-  halts_not a b works failed = let clash : true ≡ false = sym failed.halted ∙ works in absurd (cc)
+  -- where none came
+  pub unsound_told : (t : Txn) (a b : Pages D g) (e : TreeError) → has_halted a ≡ false → has_halted b ≡ false → CheckErr t a b e → UnsoundIn t a b (fault_of_store (unread e))
+  unsound_told t a b tree.DeviceFault working works why = absurd (both_ways (has_halted b) works why.halted)
+  unsound_told t a b tree.Halted working works why = absurd (both_ways (has_halted a) working why)
+  unsound_told t a b tree.NoPages working works why = absurd why
+  unsound_told t a b tree.TooDeep working works why = absurd why
+  unsound_told t a b _ working works why = why
 
-  missing_rows : (t : Txn) (a b : Pages D g) (halted : Bool) → halted ≡ has_halted b → (has_halted b ≡ false → UnsoundIn t a b NotAStore) → UnsoundIn t a b (fault_of_store (missing halted))
-  missing_rows t a b true is none = sym is
-  missing_rows t a b false is none = none (sym is)
-
-  told_so : (t : Txn) (a b : Pages D g) (e : TreeError) (halted : Bool) → halted ≡ has_halted b → has_halted a ≡ false → CheckErr t a b e → UnsoundIn t a b (fault_of_store (row_refusal e halted))
-  told_so t a b tree.DeviceFault halted is working why = missing_rows t a b halted is (λ works. halts_not a b works why)
-  told_so t a b tree.NotAStore halted is working why = missing_rows t a b halted is (λ works. why)
-  told_so t a b tree.Halted halted is working why = was_halted a working why
-  told_so t a b tree.NoPages halted is working why = absurd why
-  told_so t a b tree.TooDeep halted is working why = absurd why
-  told_so t a b tree.Memory true is working why = sym is
-  told_so t a b tree.Memory false is working why = tt
-
-  pub told_of : (t : Txn) (a b : Pages D g) (e : TreeError) (halted : Bool) (fault : StoreFault) → fault ≡ fault_of_store (row_refusal e halted) → halted ≡ has_halted b → has_halted a ≡ false → CheckErr t a b e → UnsoundIn t a b fault
-  told_of t a b e halted fault told is working why = subst (λ (f : StoreFault). UnsoundIn t a b f) (sym told) (told_so t a b e halted is working why)
-
-  -- ---- versions
-  missing_version : (t : Txn) (a b : Pages D g) (halted : Bool) → halted ≡ has_halted b → (has_halted b ≡ false → OldIn t a b NotAStore) → OldIn t a b (fault_of_store (missing halted))
-  missing_version t a b true is none = sym is
-  missing_version t a b false is none = none (sym is)
-
-  version_told : (t : Txn) (a b : Pages D g) (e : TreeError) (halted : Bool) → halted ≡ has_halted b → has_halted a ≡ false → ReadErr HasVersion t a b e → OldIn t a b (fault_of_store (row_refusal e halted))
-  version_told t a b tree.DeviceFault halted is working why = missing_version t a b halted is (λ works. halts_not a b works why)
-  version_told t a b tree.NotAStore halted is working why = missing_version t a b halted is (λ works. why)
-  version_told t a b tree.Halted halted is working why = was_halted a working why
-  version_told t a b _ halted is working why = absurd why
-
-  pub version_of : (t : Txn) (a b : Pages D g) (e : TreeError) (halted : Bool) (fault : StoreFault) → fault ≡ fault_of_store (row_refusal e halted) → halted ≡ has_halted b → has_halted a ≡ false → ReadErr HasVersion t a b e → OldIn t a b fault
-  version_of t a b e halted fault told is working why = subst (λ (f : StoreFault). OldIn t a b f) (sym told) (version_told t a b e halted is working why)
+  pub version_told : (t : Txn) (a b : Pages D g) (e : TreeError) → has_halted a ≡ false → has_halted b ≡ false → ReadErr HasVersion t a b e → OldIn t a b (fault_of_store (unread e))
+  version_told t a b tree.DeviceFault working works why = absurd (both_ways (has_halted b) works why.halted)
+  version_told t a b tree.NotAStore working works why = why
+  version_told t a b tree.Halted working works why = absurd (both_ways (has_halted a) working why)
+  version_told t a b _ working works why = absurd why
 
   pub old_unsound : (t : Txn) (a b : Pages D g) (fault : StoreFault) → OldIn t a b fault → UnsoundIn t a b fault
   old_unsound t a b NotAStore why = λ honest d held. why honest held.m held.holds (held.is.tidy.new, held.is.tidy.holdings.told)
@@ -93,7 +70,6 @@ module _ {D : Type 0} {g : Ghosts D} where
   pages_unsound t a b c NotAStore begun first then why = λ honest d holds. why (then.honest honest) d (begun_reads a t d begun (first.honest (then.honest honest)) holds)
   pages_unsound t a b c OldVersion begun first then why = λ honest d holds. why (then.honest honest) d (begun_reads a t d begun (first.honest (then.honest honest)) holds)
   pages_unsound t a b c DeviceFault begun first then why = ap (λ j. is_halted j) (then.still why) ∙ why
-  pages_unsound t a b c Memory begun first then why = tt
   pages_unsound t a b c _ begun first then why = why
 
 -- ---- what is found of rows beside the counties of the desk that is read

@@ -48,6 +48,7 @@ fn counties(alloc: Global, catalogue: &Catalogue) -> Result<Vec<CountyRange>, Tr
 /// Checks that the rows that a transaction reads are those of a desk: how many there are, or the first that doesn't belong to its store.
 /// First that they open to a desk, then that each says what it is and belongs, and then that chunks are counted, and held by the plans
 /// that name them.
+#[tactic(auto, using(page_store::proofs::Stops::quiet_more))]
 fn check_desk<D: SectorDevice, P: Progress>(
     alloc: Global,
     txn: &Txn,
@@ -93,6 +94,7 @@ fn refuse_old<D: SectorDevice>(txn: &Txn, pages: &mut Pages<D>) -> Result<(), St
 }
 
 /// Finds the desk that a transaction reads: how many rows it has, or the first that doesn't belong to its store.
+#[tactic(auto, using(page_store::proofs::Stops::quiet_more))]
 fn find_desk<D: SectorDevice, P: Progress>(
     alloc: Global,
     txn: &Txn,

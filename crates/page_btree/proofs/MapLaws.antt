@@ -65,12 +65,11 @@ mutual
   one_tree P d e low low' high high' (leaf p es) (leaf q fs) small small' is is' same =
       let rows : es ≡ fs = ap (λ (n : Node). n.entries) (node_unique (P q) (record { level = 0; entries = es }) (record { level = 0; entries = fs }) (subst (λ (x : ℕ). IsNode (P x) (record { level = 0; entries = es })) same is.1.node) is'.1.node) in
       λ i. leaf (same i) (rows i)
-  one_tree P d e low low' high high' (leaf p es) (inner q f) small small' is is' same = search (rules, node_unique)
-  one_tree P d e low low' high high' (inner p f) (leaf q fs) small small' is is' same = search (rules, node_unique)
   one_tree P d e low low' high high' (inner p f) (inner q g) small small' is is' same =
       let node = node_unique (P q) (record { level = d; entries = links f }) (record { level = e; entries = links g }) (subst (λ (x : ℕ). IsNode (P x) (record { level = d; entries = links f })) same is.1) is'.1 in
       let below : f ≡ g = one_forest P (d - 1) (e - 1) low low' high high' f g (λ x own. small x (inr own)) (λ x own. small' x (inr own)) is.2 is'.2 (ap (λ (n : Node). n.entries) node) in
       λ i. inner (same i) (below i)
+  one_tree P d e low low' high high' _ _ small small' is is' same = search (rules, node_unique)
 
   pub one_forest : (P : Image) (d e : ℕ) (low low' : List ℕ) (high high' : Option (List ℕ)) (f g : Forest) → AllSmall f → AllSmall g → AreTrees P d low high f → AreTrees P e low' high' g → links f ≡ links g → f ≡ g
   one_forest P d e low low' high high' (one k t) (one q u) small small' is is' same =

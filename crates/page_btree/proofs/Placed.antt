@@ -1,12 +1,11 @@
 -- A page that isn't free and is no node's above the leaves is a leaf of the tree, and what is found in it is what the map has.
 use Rattle.std.specs.{FinMap.{find, entries, get as row_at, get-entries}, List.AllByRecursion, Ordering.{is_eq, eq_by_cmp}, Prelude.{Option, Some, None, IfSome, take}}
-use Rattle.{std.{specs.declared.cmp.Ordering.{Ordering, TheVariants.Equal}, proofs.lemmas.{Bool.cases_eq, List.length-append}}, page_btree.specs.Getting.IsCopied}
-use Rattle.std.proofs.Common.{◌≡◌, ◌≢◌, ◌⊎◌, ⊎_elim, inl, inr, ℕ, zero, suc, ◌-◌, ◌<◌, List, [], ◌∷◌, ◌++◌, length, Bool, true, cond, refl, sym, ap, subst, ◌∙◌, arith}
-use Rattle.{page_btree.specs.claim.{Keys.{KeyMap, IsBetween}, Map.InTxn}, page_node.specs.claim.{Entries.Entry, Node.{Node, IsNode}, Places.{key_cmp, Rises}}}
+use Rattle.{std.{specs.declared.cmp.Ordering.{Ordering, TheVariants.Equal}, proofs.lemmas.Bool.cases_eq}, page_btree.specs.{Getting.IsCopied, claim.Keys.{KeyMap, IsBetween}}}
+use Rattle.std.proofs.Common.{◌≡◌, ◌≢◌, ◌⊎◌, ⊎_elim, inl, inr, ℕ, zero, suc, ◌+◌, ◌-◌, ◌<◌, List, [], ◌∷◌, ◌++◌, length, Bool, true, cond, refl, sym, ap, subst, ◌∙◌, arith}
+use Rattle.{page_btree.specs.claim.Map.InTxn, page_node.specs.claim.{Entries.Entry, Node.{Node, IsNode}, Places.{key_cmp, Rises}}, page_store.specs.declared.txn.Txn.Txn}
 use Rattle.page_btree.specs.claim.Tree.{Tree, Forest, leaf, inner, one, more, first_key, links, rows, forest_rows, owns, forest_owns, size, forest_size, IsTree, AreTrees, IsApart, AreApart}
-use Rattle.page_store.specs.{claim.{Chain.{is_blank, chain, IsIn, AreFree}, Transactions.{txn_pages, over, free_over}}, declared.txn.Txn.Txn, gate_journal.claim.Store.word}
+use Rattle.page_store.{specs.{claim.{Chain.{is_blank, chain, IsIn, AreFree}, Transactions.{txn_pages, over, free_over}}, gate_journal.claim.Store.word}, proofs.Chains.room_left}
 use Rattle.{sector_device.specs.claim.Disk.Image, page_btree.proofs.{Booleans.either, Rows.find_right, Within.{rows_after, within_trees}}, page_node.proofs.Laws.same_key}
-use Rattle.page_store.proofs.Chains.{room_left}
 
 -- ---- numbers of pages
 is_there : (q : ℕ) (ps : List ℕ) → IsIn q ps ⊎ (IsIn q ps → ⊥)
@@ -32,43 +31,36 @@ free_blank n P q first (suc count) free (inl here) = search arith
 free_blank n P q first (suc count) free (inr there) = free_blank n P q (word (P first) 0) count free.3 there
 
 -- ---- those of a tree
-abbrev mutual
-  pages_of : Tree → List ℕ
-  pages_of (leaf p es) = p ∷ []
-  pages_of (inner p f) = p ∷ forest_pages f
-
-  forest_pages : Forest → List ℕ
-  forest_pages (one k t) = pages_of t
-  forest_pages (more k t f) = pages_of t ++ forest_pages f
+-- its pages and those that are free, each once
+record AreAll (n : ℕ) (pages : ℕ → Type 0) (count : ℕ) (free : List ℕ) : Type 0 where
+  all : List ℕ
+  apart : AreFree n all
+  only : (q : ℕ) → IsIn q all → pages q ⊎ IsIn q free
+  long : length all ≡ count + length free
 
 mutual
-  owns_it : (q : ℕ) (t : Tree) → IsIn q (pages_of t) → owns t q
-  owns_it q (leaf p es) there = ⊎_elim (λ here. here) (λ no. absurd no) there
-  owns_it q (inner p f) there = ⊎_elim (λ here. inl here) (λ deep. inr (one_owns_it q f deep)) there
+  tree_all : (n : ℕ) (t : Tree) (free : List ℕ) → IsApart t → ((q : ℕ) → owns t q → (0 < q) × (q < n)) → AreFree n free → ((q : ℕ) → owns t q → IsIn q free → ⊥) → AreAll n (owns t) (size t) free
+  tree_all n (leaf p es) free apart below are off = record { all = p ∷ free; apart = ((below p refl).0, (below p refl).1, off p refl, are); only = λ q there. there; long = omega arith }
+  tree_all n (inner p f) free apart below are off =
+      let rest = forest_all n f free apart.1 (λ q own. below q (inr own)) are (λ q own. off q (inr own)) in
+      record {
+        all = p ∷ rest.all;
+        apart = ((below p (inl refl)).0, (below p (inl refl)).1, (λ there. ⊎_elim apart.0 (off p (inl refl)) (rest.only p there)), rest.apart);
+        only = λ q there. ⊎_elim (λ here. inl (inl here)) (λ deep. ⊎_elim (λ own. inl (inr own)) (λ x. inr x) (rest.only q deep)) there;
+        long = omega (arith, rest.long);
+      }
 
-  one_owns_it : (q : ℕ) (f : Forest) → IsIn q (forest_pages f) → forest_owns f q
-  one_owns_it q (one k t) there = owns_it q t there
-  one_owns_it q (more k t f) there = ⊎_elim (λ a. inl (owns_it q t a)) (λ b. inr (one_owns_it q f b)) (in_one q (pages_of t) (forest_pages f) there)
-
-mutual
-  tree_apart : (n : ℕ) (t : Tree) → IsApart t → ((q : ℕ) → owns t q → (0 < q) × (q < n)) → AreFree n (pages_of t)
-  tree_apart n (leaf p es) apart below = let here = below p refl in (here.0, here.1, (λ no. no), tt)
-  tree_apart n (inner p f) apart below = let here = below p (inl refl) in (here.0, here.1, (λ there. apart.0 (one_owns_it p f there)), forest_apart n f apart.1 (λ q own. below q (inr own)))
-
-  forest_apart : (n : ℕ) (f : Forest) → AreApart f → ((q : ℕ) → forest_owns f q → (0 < q) × (q < n)) → AreFree n (forest_pages f)
-  forest_apart n (one k t) apart below = tree_apart n t apart below
-  forest_apart n (more k t f) apart below =
-      both_free n (pages_of t) (forest_pages f) (tree_apart n t apart.0 (λ q own. below q (inl own))) (forest_apart n f apart.2 (λ q own. below q (inr own)))
-      (λ q a b. apart.1 q (owns_it q t a) (one_owns_it q f b))
-
-mutual
-  tree_count : (t : Tree) → length (pages_of t) ≡ size t
-  tree_count (leaf p es) = refl
-  tree_count (inner p f) = let rest = forest_count f in omega (arith, rest)
-
-  forest_count : (f : Forest) → length (forest_pages f) ≡ forest_size f
-  forest_count (one k t) = tree_count t
-  forest_count (more k t f) = let a = tree_count t in let b = forest_count f in let both = length-append (pages_of t) (forest_pages f) in omega (arith, a, b, both)
+  forest_all : (n : ℕ) (f : Forest) (free : List ℕ) → AreApart f → ((q : ℕ) → forest_owns f q → (0 < q) × (q < n)) → AreFree n free → ((q : ℕ) → forest_owns f q → IsIn q free → ⊥) → AreAll n (forest_owns f) (forest_size f) free
+  forest_all n (one k t) free apart below are off = tree_all n t free apart below are off
+  forest_all n (more k t f) free apart below are off =
+      let rest = forest_all n f free apart.2 (λ q own. below q (inr own)) are (λ q own. off q (inr own)) in
+      let both = tree_all n t rest.all apart.0 (λ q own. below q (inl own)) rest.apart (λ q own there. ⊎_elim (apart.1 q own) (off q (inl own)) (rest.only q there)) in
+      record {
+        all = both.all;
+        apart = both.apart;
+        only = λ q there. ⊎_elim (λ own. inl (inl own)) (λ deep. ⊎_elim (λ own. inl (inr own)) (λ x. inr x) (rest.only q deep)) (both.only q there);
+        long = omega (arith, both.long, rest.long);
+      }
 
 -- ---- a key that is found
 pub is_equal : (o : Ordering) → is_eq o ≡ true → o ≡ Equal
@@ -135,14 +127,12 @@ placed t S m p holds some below none used =
     let positive : 0 < p = omega arith in
     elim holds.held [
       | inl bare ↦ search (arith, room_left n p free positive below holds.free_are not_free)
-      | inr r ↦ elim (is_there p (pages_of r.tree)) [
-        | inl own ↦ subst (λ (all : List Entry). IsPlaced (P p) all) r.rows_are (in_tree P r.level [] None r.tree r.stands p (owns_it p r.tree own) none)
-        | inr off ↦
-            let each = both_free n (pages_of r.tree) free (tree_apart n r.tree r.sound.apart r.sound.below) holds.free_are (λ q a b. r.sound.used q (owns_it q r.tree a) b) in
-            let few = room_left n p (pages_of r.tree ++ free) positive below each (λ there. ⊎_elim off not_free (in_one p (pages_of r.tree) free there)) in
-            let whole = r.whole in
-            absurd (omega (arith, few, (tree_count r.tree), (length-append (pages_of r.tree) free), whole))
-      ]
+      | inr r ↦
+          let pages = tree_all n r.tree free r.sound.apart r.sound.below holds.free_are r.sound.used in
+          elim (is_there p pages.all) [
+            | inl there ↦ ⊎_elim (λ own. subst (λ (all : List Entry). IsPlaced (P p) all) r.rows_are (in_tree P r.level [] None r.tree r.stands p own none)) (λ free. absurd (not_free free)) (pages.only p there)
+            | inr off ↦ absurd (omega (arith, room_left n p pages.all positive below pages.apart off, pages.long, r.whole))
+          ]
     ]
 
 -- by the bytes of the page as they were lent

@@ -1,12 +1,12 @@
 -- The leaf in whose range a key falls, among all rows.
 use Rattle.std.specs.{Cmp.Lexicographic.nat_list_cmp_total, FinMap.entries, List.AllByRecursion, Ordering.is_gt, Prelude.{Option, Some, None}, declared.cmp.Ordering.Ordering}
-use Rattle.std.{specs.declared.cmp.Ordering.TheVariants.{Less, Equal, Greater}, proofs.lemmas.{Cmp.tied_itself, List.{append-nil, Elements.filter-append}}}
+use Rattle.std.{specs.declared.cmp.Ordering.TheVariants.Greater, proofs.lemmas.{Cmp.{tied_itself, upto}, List.{append-nil, Elements.filter-append}}}
 use Rattle.std.proofs.Common.{◌≡◌, ◌⊎◌, ◌<◌, ◌-◌, inl, inr, ℕ, List, [], ◌∷◌, ◌++◌, length, Bool, true, false, cond, refl, sym, ap, subst, ◌∙◌, append_assoc}
 use Rattle.page_btree.{specs.{Seeking.{leaf_of, forest_leaf, bound_of, forest_bound, IsNext}, claim.{Keys.{KeyMap, IsBetween, IsUnder}, Map.IsRooted}}, proofs.Booleans.either}
 use Rattle.{page_btree.specs.claim.Tree.{Tree, Forest, leaf, inner, one, more, first_key, rows, forest_rows, IsTree, AreTrees}, page_node.specs.Places.{is_from, entries_from}}
 use Rattle.{page_node.specs.claim.{Entries.Entry, Places.key_cmp}, sector_device.specs.claim.Disk.Image, page_btree.proofs.{Tops.every_key, Within.{within_trees, rows_after}}}
 use Rattle.page_btree.proofs.Rows.{Each, all_map, all_append, all_prefix, all_rest, less_from, from_then, less_is_from, key_before, wider_under}
-use Rattle.page_node.proofs.Laws.{flip_less, flip_greater, less_trans, same_key}
+use Rattle.page_node.proofs.Laws.{flip_less, flip_greater, less_trans}
 
 -- ---- between bounds
 -- from a bound on; nothing is after the last leaf
@@ -20,9 +20,7 @@ IsWithin None (Some high) = ⊥
 IsWithin (Some bound) (Some high) = is_gt (key_cmp bound high) ≡ false
 
 pub lower_of : (x y z : List ℕ) (r : Ordering) → key_cmp x y ≡ r → is_gt r ≡ false → is_gt (key_cmp y z) ≡ false → is_gt (key_cmp x z) ≡ false
-lower_of x y z Less is from lower = less_is_from x z (less_from x y z is lower)
-lower_of x y z Equal is from lower = ap (λ k. is_gt (key_cmp k z)) (same_key x y is) ∙ lower
-lower_of x y z Greater is from lower = cc
+lower_of x y z r is from lower = upto nat_list_cmp_total x y z (ap is_gt is ∙ from) lower
 
 after_high : (bound : Option (List ℕ)) (q : List ℕ) → IsWithin bound (Some q) → (x : List ℕ) → is_gt (key_cmp q x) ≡ false → IsAfter bound x
 after_high None q within x from = within

@@ -81,6 +81,7 @@ impl Reach {
     }
 
     /// Ends at a key, or before it.
+    #[tactic(auto, using(crate::proofs::Rows::less_from, page_node::proofs::Laws::less_trans, page_node::proofs::Laws::is_less, page_node::proofs::Laws::not_below))]
     fn end_at(&mut self, bound: &[u8])
         requires short { length bound.now ≤ 72 }
         ensures here { (key : List ℕ) → IsUnder key (end_of self.new) → IsUnder key (Some bound.now) }

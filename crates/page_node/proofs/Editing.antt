@@ -1,10 +1,9 @@
 -- What the edits of a buffer leave.
-use Rattle.std.{specs.{List.{All, copy_within}, Prelude.{insert, remove}}, proofs.lemmas.{Bool.cases_eq, List.Elements.{All-nil, All-cons, All-take, All-drop}}}
-use Rattle.std.proofs.Common.{rules, ◌≡◌, ℕ, ◌+◌, ◌-◌, ◌*◌, ◌<◌, ◌≤◌, List, [], ◌∷◌, ◌++◌, length, take, drop, get_or, set, refl, sym, ap, subst, ◌∙◌, arith, suc, inl, inr}
-use Rattle.{std.proofs.lemmas.List.{take-take, drop-drop, length-take-le, length-drop, append-nil, set_split}, page_node.specs.{Bytes.with_entry, claim.Node.Node}}
-use Rattle.page_node.specs.{Held.{held_node, IsHeld, HasEntryAt}, claim.Entries.{Entry, IsEntry, entry_bytes, entry_size, body_of, size_of}}
-use Rattle.page_node.proofs.EntryLists.{size-parts, size-take_more, prefix_at, rest_at, length-read}
-use Rattle.page_node.proofs.Standing.{Stands, nothing, edited, edited_bytes, edited_stands, size-edited, length-edited, size-take_from, moved_is, written_is, size_is, view_of}
+use Rattle.std.{specs.{List.{All, copy_within}, Prelude.remove}, proofs.lemmas.{Bool.cases_eq, List.{take-take, drop-drop, length-take-le, length-drop, append-nil, set_split}}}
+use Rattle.std.proofs.Common.{rules, ◌≡◌, ℕ, ◌+◌, ◌-◌, ◌*◌, ◌<◌, ◌≤◌, List, [], ◌∷◌, ◌++◌, length, take, drop, get_or, set, refl, sym, ap, subst, ◌∙◌, arith, add-one, inl, inr}
+use Rattle.{std.proofs.lemmas.List.Elements.{All-nil, All-cons, All-take, All-drop}, page_node.specs.{Bytes.with_entry, Held.{held_node, HasEntryAt}}}
+use Rattle.page_node.{specs.claim.Entries.{Entry, IsEntry, entry_bytes, entry_size, body_of, size_of}, proofs.EntryLists.{size-parts, size-take_more, prefix_at, rest_at}}
+use Rattle.page_node.proofs.Standing.{Stands, nothing, edited, edited_bytes, edited_places, All-edited, size-edited, length-edited, size-take_from, moved_is, written_is, size_is, view_of}
 
 pub count_small : (es : List Entry) → 3 * length es ≤ size_of es
 count_small [] = omega arith
@@ -25,38 +24,44 @@ module _ (level : ℕ) (es : List Entry) (marks bytes : List ℕ) (s : Stands le
 
 -- bytes from one place on move to another, and an entry is written before them
 pub placed : (bytes moved new : List ℕ) (at from used to : ℕ) (e : Entry) → moved ≡ copy_within bytes from used to → new ≡ with_entry moved at e → at + entry_size e ≡ to → to ≤ length bytes
-    → new ≡ take at bytes ++ (entry_bytes e ++ (take (used - from) (drop from bytes) ++ drop (to + (used - from)) bytes))
-placed bytes moved new at from used to e is_moved is_new sum long = search (rules, moved_is, written_is)
+    → new ≡ take at bytes ++ (entry_bytes e ++ (take (used - from) (drop from bytes) ++ drop (at + entry_size e + (used - from)) bytes))
+placed bytes moved new at from used to e is_moved is_new sum long = rw sum (search (rules, moved_is, written_is))
 
--- the bytes of an edit, by the places
-pub edited_at : (level : ℕ) (es : List Entry) (marks bytes new : List ℕ) (i j : ℕ) (mid : List Entry) (added tail : List ℕ) → Stands level es marks bytes → i ≤ length es → j ≤ length es → 4 ≤ length bytes → added ≡ body_of mid
+-- an edit: the bytes after the entries from i up to j move, and so do the places after them
+edited_stands : (level : ℕ) (es : List Entry) (marks bytes new_marks new : List ℕ) (i j : ℕ) (mid : List Entry) (added tail : List ℕ) → Stands level es marks bytes → i ≤ j → j ≤ length es → length mid ≤ 1
+    → All IsEntry mid → (0 < level → All (λ e. length e.1 ≡ 4) mid) → length es + length mid ≤ 1365 → size_of es + size_of mid ≤ 5191 → 4 ≤ length bytes → added ≡ body_of mid
     → new ≡ take (get_or marks i 0) bytes ++ (added ++ (take (get_or marks (length es) 0 - get_or marks j 0) (drop (get_or marks j 0) bytes) ++ tail))
-    → take (size_of (edited es i j mid)) (drop 4 new) ≡ body_of (edited es i j mid)
-edited_at level es marks bytes new i j mid added tail s i_in j_in long is_added is =
+    → ((k : ℕ) → k ≤ i → get_or new_marks k 0 ≡ get_or marks k 0)
+    → ((k m : ℕ) → k + j ≡ i + length mid + m → j ≤ m → m ≤ length es → get_or new_marks k 0 + get_or marks j 0 ≡ get_or marks i 0 + size_of mid + get_or marks m 0)
+    → Stands level (edited es i j mid) new_marks new
+edited_stands level es marks bytes new_marks new i j mid added tail s ordered within one entries children few room long is_added is kept moved =
     let used = size_is level es marks bytes s in
     let parts = size-parts j es in
+    let before = size-take_from es i j ordered in
+    let n = length-edited es i j mid (omega arith) in
+    let size = size-edited es i j mid in
     let rest : get_or marks (length es) 0 - get_or marks j 0 ≡ size_of (drop j es) = omega arith in
-    edited_bytes es bytes new i j mid added tail s.body long is_added
-    (is ∙ (λ x. take ((s.places i i_in) x) bytes ++ (added ++ (take (rest x) (drop ((s.places j j_in) x) bytes) ++ tail))))
+    let body = edited_bytes es bytes new i j mid added tail s.body long is_added
+    (is ∙ (λ x. take ((s.places i (omega arith)) x) bytes ++ (added ++ (take (rest x) (drop ((s.places j within) x) bytes) ++ tail)))) in
+    search (arith, body, All-edited IsEntry es i j mid s.shape.entries entries, All-edited, s.shape.children, edited_places es marks new_marks i j mid ordered within one s.places kept moved)
 
 pub single : (P : Entry → Type 0) (e : Entry) → P e → All P (e ∷ [])
 single P e holds = All-cons P e [] holds (All-nil P)
 
-pub insert_stands : (level : ℕ) (es : List Entry) (marks bytes moved new new_marks : List ℕ) (i : ℕ) (e : Entry) → Stands level es marks bytes → i ≤ length es → length bytes ≡ 5200 → size_of es ≤ 4092 → IsEntry e → (0 < level → length e.1 ≡ 4)
-    → moved ≡ copy_within bytes (get_or marks i 0) (get_or marks (length es) 0) (get_or marks i 0 + entry_size e) → new ≡ with_entry moved (get_or marks i 0) e
+-- an entry in the place of those from i up to j
+pub put_stands : (level : ℕ) (es : List Entry) (marks bytes moved new new_marks : List ℕ) (i j to : ℕ) (e : Entry) → Stands level es marks bytes → i ≤ j → j ≤ length es → length bytes ≡ 5200 → size_of es ≤ 4092 → IsEntry e → (0 < level → length e.1 ≡ 4)
+    → get_or marks i 0 + entry_size e ≡ to
+    → moved ≡ copy_within bytes (get_or marks j 0) (get_or marks (length es) 0) to → new ≡ with_entry moved (get_or marks i 0) e
     → ((k : ℕ) → k ≤ i → get_or new_marks k 0 ≡ get_or marks k 0)
-    → ((k : ℕ) → i ≤ k → k ≤ length es → get_or new_marks (k + 1) 0 ≡ get_or marks k 0 + entry_size e)
-    → Stands level (insert es i e) new_marks new
-insert_stands level es marks bytes moved new new_marks i e s within long fits entry child is_moved is_new kept shifted =
+    → ((k m : ℕ) → k + j ≡ i + 1 + m → j ≤ m → m ≤ length es → get_or new_marks k 0 + get_or marks j 0 ≡ to + get_or marks m 0)
+    → Stands level (edited es i j (e ∷ [])) new_marks new
+put_stands level es marks bytes moved new new_marks i j to e s ordered within long fits entry child ends_to is_moved is_new kept shifted =
     let few = count_small es in
-    let n = length-edited es i i (e ∷ []) within in
-    let size = size-edited es i i (e ∷ []) in
     let parts = size-parts i es in
-    edited_stands level es marks bytes new_marks new i i (e ∷ []) s (omega arith) within (omega arith) (single IsEntry e entry) (λ inner. single (λ (f : Entry). length f.1 ≡ 4) e (child inner)) (omega arith) (omega arith)
-    (edited_at level es marks bytes new i i (e ∷ []) (entry_bytes e) _ s within within (omega arith) (sym (append-nil (entry_bytes e)))
-    (placed bytes moved new (get_or marks i 0) (get_or marks i 0) (get_or marks (length es) 0) (get_or marks i 0 + entry_size e) e is_moved is_new refl (omega arith)))
-    kept
-    (λ m le inside. search rules)
+    edited_stands level es marks bytes new_marks new i j (e ∷ []) (entry_bytes e) _ s ordered within (omega arith) (single IsEntry e entry) (λ inner. single (λ (f : Entry). length f.1 ≡ 4) e (child inner)) (omega arith) (omega arith) (omega arith)
+    (sym (append-nil (entry_bytes e)))
+    (placed bytes moved new (get_or marks i 0) (get_or marks j 0) (get_or marks (length es) 0) to e is_moved is_new ends_to (omega arith))
+    kept (λ k m sum low le. let there = shifted k m sum low le in omega arith)
 
 pub remove_stands : (level : ℕ) (es : List Entry) (marks bytes new new_marks : List ℕ) (i : ℕ) → Stands level es marks bytes → i < length es → length bytes ≡ 5200
     → new ≡ copy_within bytes (get_or marks (i + 1) 0) (get_or marks (length es) 0) (get_or marks i 0)
@@ -64,34 +69,19 @@ pub remove_stands : (level : ℕ) (es : List Entry) (marks bytes new new_marks :
     → ((k : ℕ) → i < k → k < length es → get_or new_marks k 0 ≡ get_or marks (k + 1) 0 - (get_or marks (i + 1) 0 - get_or marks i 0))
     → Stands level (remove es i) new_marks new
 remove_stands level es marks bytes new new_marks i s within long is_new kept shifted =
-    let one : i + 1 ≡ suc i = omega arith in
-    let n = length-edited es i (suc i) [] (omega arith) in
-    let size = size-edited es i (suc i) [] in
-    let less = size-take_from es i (suc i) (omega arith) in
-    let parts = size-parts (suc i) es in
-    edited_stands level es marks bytes new_marks new i (suc i) [] s (omega arith) (omega arith) (omega arith) (All-nil IsEntry) (λ inner. All-nil (λ (f : Entry). length f.1 ≡ 4)) (omega arith) (omega arith)
-    (edited_at level es marks bytes new i (suc i) [] [] (drop (get_or marks i 0 + (get_or marks (length es) 0 - get_or marks (i + 1) 0)) bytes) s (omega arith) (omega arith) (omega arith) refl
-    (is_new ∙ moved_is bytes (get_or marks (i + 1) 0) (get_or marks (length es) 0) (get_or marks i 0)
-    ∙ ap (λ q. take (get_or marks i 0) bytes ++ (take (get_or marks (length es) 0 - get_or marks q 0) (drop (get_or marks q 0) bytes) ++ drop (get_or marks i 0 + (get_or marks (length es) 0 - get_or marks (i + 1) 0)) bytes)) one))
-    kept
-    (λ m le inside. elim (cases_eq m (suc i)) [
-      | inl same ↦
-          let sum : i ≡ i + 0 + (m - suc i) = omega arith in
-          let P : ℕ → Type 0 = λ q. get_or new_marks q 0 + get_or marks (suc i) 0 ≡ get_or marks i 0 + 0 + get_or marks m 0 in
-          let here = kept i (omega arith) in
-          let at_m : get_or marks (suc i) 0 ≡ get_or marks m 0 = ap (λ q. get_or marks q 0) (sym same) in
-          subst P sum (omega arith)
-      | inr other ↦
-          let k : ℕ = m - 1 in
-          let sum : k ≡ i + 0 + (m - suc i) = omega arith in
-          let P : ℕ → Type 0 = λ q. get_or new_marks q 0 + get_or marks (suc i) 0 ≡ get_or marks i 0 + 0 + get_or marks m 0 in
-          let there = shifted k (omega arith) (omega arith) in
-          let at_m : get_or marks (k + 1) 0 ≡ get_or marks m 0 = ap (λ q. get_or marks q 0) (omega arith) in
-          let at_i : get_or marks (i + 1) 0 ≡ get_or marks (suc i) 0 = ap (λ q. get_or marks q 0) one in
-          let rise = marks_rise level es marks bytes s (suc i) m le inside in
-          let low = marks_rise level es marks bytes s i (suc i) (omega arith) (omega arith) in
-          subst P sum (omega arith)
-    ])
+    let few = s.few in
+    let room = s.room in
+    subst (λ j. Stands level (edited es i j []) new_marks new) (add-one i)
+    (edited_stands level es marks bytes new_marks new i (i + 1) [] [] _ s (omega arith) (omega arith) (omega arith) (All-nil IsEntry) (λ inner. All-nil (λ (f : Entry). length f.1 ≡ 4)) (omega arith) (omega arith) (omega arith) refl
+    (is_new ∙ moved_is bytes (get_or marks (i + 1) 0) (get_or marks (length es) 0) (get_or marks i 0)) kept
+    (λ k m sum low le.
+    let at_m : get_or marks (k + 1) 0 ≡ get_or marks m 0 = ap (λ q. get_or marks q 0) (omega arith) in
+    let rise = marks_rise level es marks bytes s (i + 1) m low le in
+    let before = marks_rise level es marks bytes s i (i + 1) (omega arith) (omega arith) in
+    elim (cases_eq k i) [
+      | inl same ↦ (let here = kept k (omega arith) in let at_i : get_or marks k 0 ≡ get_or marks i 0 = ap (λ q. get_or marks q 0) same in let next : get_or marks (k + 1) 0 ≡ get_or marks (i + 1) 0 = ap (λ q. get_or marks (q + 1) 0) same in omega arith)
+      | inr other ↦ (let there = shifted k (omega arith) (omega arith) in omega arith)
+    ]))
 
 pub set_stands : (level : ℕ) (es : List Entry) (marks bytes moved new new_marks : List ℕ) (i to : ℕ) (e : Entry) → Stands level es marks bytes → i < length es → length bytes ≡ 5200 → size_of es ≤ 4092 → IsEntry e → (0 < level → length e.1 ≡ 4)
     → get_or marks i 0 + entry_size e ≡ to
@@ -100,27 +90,13 @@ pub set_stands : (level : ℕ) (es : List Entry) (marks bytes moved new new_mark
     → ((k : ℕ) → i < k → k ≤ length es → get_or new_marks k 0 ≡ get_or marks k 0 - (get_or marks (i + 1) 0 - get_or marks i 0) + (to - get_or marks i 0))
     → Stands level (set es i e) new_marks new
 set_stands level es marks bytes moved new new_marks i to e s within long fits entry child ends_to is_moved is_new kept shifted =
-    let one : i + 1 ≡ suc i = omega arith in
-    let most = mark_most level es marks bytes s i (omega arith) in
-    let n = length-edited es i (suc i) (e ∷ []) (omega arith) in
-    let size = size-edited es i (suc i) (e ∷ []) in
-    let less = size-take_from es i (suc i) (omega arith) in
-    let parts = size-parts (suc i) es in
-    let P : List Entry → Type 0 = λ l. Stands level l new_marks new in
-    subst P (sym (set_split es i e within))
-    (edited_stands level es marks bytes new_marks new i (suc i) (e ∷ []) s (omega arith) (omega arith) (omega arith) (single IsEntry e entry) (λ inner. single (λ (f : Entry). length f.1 ≡ 4) e (child inner)) (omega arith) (omega arith)
-    (edited_at level es marks bytes new i (suc i) (e ∷ []) (entry_bytes e) (drop (to + (get_or marks (length es) 0 - get_or marks (i + 1) 0)) bytes) s (omega arith) (omega arith) (omega arith) (sym (append-nil (entry_bytes e)))
-    (placed bytes moved new (get_or marks i 0) (get_or marks (i + 1) 0) (get_or marks (length es) 0) to e is_moved is_new ends_to (omega arith)
-    ∙ ap (λ q. take (get_or marks i 0) bytes ++ (entry_bytes e ++ (take (get_or marks (length es) 0 - get_or marks q 0) (drop (get_or marks q 0) bytes) ++ drop (to + (get_or marks (length es) 0 - get_or marks (i + 1) 0)) bytes))) one))
-    kept
-    (λ m le inside.
-    let sum : m ≡ i + 1 + (m - suc i) = omega arith in
-    let there = shifted m (omega arith) inside in
-    let at_i : get_or marks (i + 1) 0 ≡ get_or marks (suc i) 0 = ap (λ q. get_or marks q 0) one in
-    let rise = marks_rise level es marks bytes s (suc i) m le inside in
-    let low = marks_rise level es marks bytes s i (suc i) (omega arith) (omega arith) in
-    let Q : ℕ → Type 0 = λ q. get_or new_marks q 0 + get_or marks (suc i) 0 ≡ get_or marks i 0 + size_of (e ∷ []) + get_or marks m 0 in
-    subst Q sum (omega arith)))
+    subst (λ l. Stands level l new_marks new) ((λ x. edited es i (add-one i x) (e ∷ [])) ∙ sym (set_split es i e within))
+    (put_stands level es marks bytes moved new new_marks i (i + 1) to e s (omega arith) (omega arith) long fits entry child ends_to is_moved is_new kept (λ k m sum low le.
+    let there = shifted k (omega arith) (omega arith) in
+    let at_m : get_or marks k 0 ≡ get_or marks m 0 = ap (λ q. get_or marks q 0) (omega arith) in
+    let rise = marks_rise level es marks bytes s (i + 1) m low le in
+    let before = marks_rise level es marks bytes s i (i + 1) (omega arith) (omega arith) in
+    omega arith))
 
 -- ---- a cut
 pub left_stands : (level : ℕ) (es : List Entry) (marks bytes : List ℕ) (i : ℕ) → Stands level es marks bytes → i ≤ length es → Stands level (take i es) marks bytes
@@ -162,15 +138,7 @@ right_stands level es marks bytes new_marks new i s within same shifted =
           subst P sum (omega arith);
     }
 
--- ---- a buffer's fields, opened and closed
-pub record Opened (level count : ℕ) (marks bytes : List ℕ) (node : Node) : Type 0 where
-  pub stands : Stands level node.entries marks bytes
-  pub count_of : count ≡ length node.entries
-  pub level_of : level ≡ node.level
-
-pub opened : (level count : ℕ) (marks bytes : List ℕ) (node : Node) → IsHeld level count marks bytes → held_node level count bytes ≡ node → Opened level count marks bytes node
-opened level count marks bytes node held is = search (rules, length-read)
-
+-- ---- a buffer's fields
 pub closed : (level : ℕ) (es : List Entry) (marks bytes : List ℕ) (count other : ℕ) → Stands level es marks bytes → count ≡ length es → level ≡ other → held_node level count bytes ≡ record { level = other; entries = es }
 closed level es marks bytes count other s is level_is = view_of level es marks bytes count s is ∙ (λ x. record { level = level_is x; entries = es })
 

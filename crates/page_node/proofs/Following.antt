@@ -1,6 +1,6 @@
 -- Children that follow one another.
 use Rattle.std.specs.{List.starts_with, Option.option_map, Ordering.is_gt, Prelude.{Option, Some, IfSome}, declared.cmp.Ordering.{Ordering, TheVariants.Greater}}
-use Rattle.std.proofs.Common.{rules, ◌≡◌, ◌≢◌, ◌⊎◌, ℕ, zero, suc, ◌+◌, ◌<◌, ◌≤◌, List, [], ◌∷◌, length, take, drop, set, true, false, nat_eq, refl, sym, ap, ◌∙◌, subst, arith, inl, inr}
+use Rattle.std.proofs.Common.{rules, ◌≡◌, ◌≢◌, ◌⊎◌, ℕ, zero, suc, add-one, ◌+◌, ◌<◌, ◌≤◌, List, [], ◌∷◌, length, take, drop, set, true, false, nat_eq, refl, sym, ap, ◌∙◌, subst, arith, inl, inr}
 use Rattle.page_node.specs.{Bytes.LiesAt, Entries.{key_at, value_at, child_in}, Places.{floor, ceiling}, Searching.{IsTurn, RisesAfter}, Walking.part_of, Ways.AreWays}
 use Rattle.page_node.{specs.claim.{Entries.{Entry, size_of}, Node.{Node, IsNode}, Places.key_cmp}, proofs.Laws.{flip_less, flip_greater, floor_stop, ceiling_at}}
 use Rattle.page_node.proofs.{Nearing.after_at, Scanning.{entry_of, end_there, key_part, value_part}, Standing.nothing}
@@ -13,10 +13,6 @@ ways_suc prefix es key child zero (c ∷ rest) b next long ways under next_is = 
 ways_suc prefix es key child (suc more) (c ∷ rest) b next long ways under next_is =
     let f = ways.1 in
     search (ways_suc prefix es f.key c more rest b next (omega arith) f.rest under next_is)
-
-pub ways_more : (prefix : List ℕ) (es : List Entry) (key : List ℕ) (child more : ℕ) (after b : List ℕ) (next : ℕ) → more < length after → AreWays prefix es key child more after (Some b)
-    → starts_with nat_eq b prefix ≡ true → option_map child_in (floor b es) ≡ Some next → AreWays prefix es key child (more + 1) (set after more next) (ceiling b es)
-ways_more prefix es key child more after b next long ways under next_is = search (rules, ways_suc)
 
 -- what is told of an optional value, where there is one
 pub some_of : {A : Type 0} (P : A → Type 0) (o : Option A) (x : A) → o ≡ Some x → IfSome o P → P x
@@ -53,7 +49,7 @@ ceiling_here es k rises some within = ceiling_at (key_at es k) es (k + 1) (omega
 pub ways_next : (prefix : List ℕ) (es : List Entry) (key : List ℕ) (child more : ℕ) (after : List ℕ) (k next : ℕ) → RisesAfter es → 0 < k → k + 1 < length es → more < length after → AreWays prefix es key child more after (Some (key_at es k))
     → starts_with nat_eq (key_at es k) prefix ≡ true → next ≡ child_in (value_at es k) → AreWays prefix es key child (more + 1) (set after more next) (Some (key_at es (k + 1)))
 ways_next prefix es key child more after k next rises some within long ways under next_is =
-    search (rules, floor_here es k rises some within, ceiling_here es k rises some within, ways_more)
+    rw (add-one more) (search (rules, floor_here es k rises some within, ceiling_here es k rises some within, ways_suc))
 
 -- ---- an entry that was found, at its place in the page
 pub here_key : (page : List ℕ) (node : Node) (k at value end : ℕ) → IsNode page node → IsHere node.entries k at → LiesAt page at value end → part_of page (at + 3) value ≡ key_at node.entries k

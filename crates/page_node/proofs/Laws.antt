@@ -1,7 +1,7 @@
 -- Laws of nodes and of places, for the layers above.
 use Rattle.std.specs.{Cmp.Lexicographic.nat_list_cmp_total, FinMap.{is_sorted, find, put, slice_cmp-IsAntisymmetric, nat_cmp-IsAntisymmetric, Entries.below_all}}
 use Rattle.std.specs.{Ordering.{is_gt, is_lt, is_eq, ordering_reverse, eq_by_cmp}, Prelude.{insert, Option, Some, None}, declared.cmp.Ordering.Ordering}
-use Rattle.std.{specs.declared.cmp.Ordering.TheVariants.{Less, Equal, Greater}, proofs.lemmas.{Bool.{cases_eq, and_parts}, Cmp.tied_itself, List.take_at}}
+use Rattle.std.{specs.declared.cmp.Ordering.TheVariants.{Less, Equal, Greater}, proofs.lemmas.{Bool.{cases_eq, and_parts}, Cmp.{tied_itself, upto}, List.take_at}}
 use Rattle.std.proofs.Common.{rules, ◌≡◌, ℕ, ◌+◌, ◌-◌, ◌^◌, ◌<◌, ◌≤◌, List, [], ◌∷◌, length, drop, get_or, set, replicate, true, false, cond, refl, sym, ap, subst, ◌∙◌, arith, zero, suc, ◌⊎◌, inl, inr}
 use Rattle.{std.proofs.lemmas.Nat.from_be_bytes-to_be_bytes_4, page_node.specs.{Entries.{key_at, value_at, child_in, read_from}, Node.bytes_of, claim.Places.{key_cmp, Rises}}}
 use Rattle.page_node.specs.{Places.{IsFound, IsGap, floor, floor_from, ceiling, ceiling_from, entries_from}, claim.Entries.{Entry, body_of, size_of, child_bytes}}
@@ -177,9 +177,7 @@ ceiling_none key (e ∷ es) below = ceiling_from_none key es (λ j less. below (
 
 -- ---- entries from a key on
 pub is_lower : (x y z : List ℕ) (r : Ordering) → key_cmp x y ≡ r → is_gt r ≡ false → key_cmp y z ≡ Less → is_gt (key_cmp x z) ≡ false
-is_lower x y z Less is from less = ap is_gt (less_trans x y z is less)
-is_lower x y z Equal is from less = ap (λ k. is_gt (key_cmp k z)) (same_key x y is) ∙ ap is_gt less
-is_lower x y z Greater is from less = cc
+is_lower x y z r is from less = upto nat_list_cmp_total x y z (ap is_gt is ∙ from) (ap is_gt less)
 
 pub from_all_at : (key : List ℕ) (es : List Entry) → ((j : ℕ) → j < length es → is_gt (key_cmp key (key_at es j)) ≡ false) → entries_from key es ≡ es
 from_all_at key [] from = refl

@@ -6,7 +6,6 @@ pub mod Scanning
 pub mod Editing
 pub mod Writing
 pub mod PageEdits
-pub mod Splitting
 pub mod Nearing
 pub mod Passed
 pub mod Following

@@ -1,13 +1,8 @@
 -- A search that looks at a few keys of those that rise.
-use Rattle.std.{specs.{Ordering.is_gt, Prelude.{Result, Ok, Err, OnErr}, declared.cmp.Ordering.{Ordering, TheVariants.{Less, Equal, Greater}}}, proofs.lemmas.Bool.cases_eq}
-use Rattle.{std.proofs.Common.{rules, ◌≡◌, ℕ, ◌+◌, ◌-◌, ◌<◌, List, ◌∷◌, length, take, false, suc, refl, sym, ap, ◌∙◌, subst, arith, inl, inr}, page_node.specs.Entries.key_at}
-use Rattle.page_node.specs.{Bytes.{LiesAt, LiesNot}, Searching.{IsBelow, IsLast, RisesAfter}, Walking.PassesTo, claim.{Entries.{Entry, size_of}, Node.{Node, IsNode}}}
-use Rattle.page_node.{specs.claim.Places.key_cmp, proofs.{Laws.{rises_at, less_trans, same_key}, Passed.node_passed, Scanning.{lies_there, entry_of, end_of, value_part}}}
-
-lower_of : (x y z : List ℕ) (r : Ordering) → key_cmp x y ≡ Less → key_cmp y z ≡ r → is_gt r ≡ false → is_gt (key_cmp x z) ≡ false
-lower_of x y z Less less is from = ap is_gt (less_trans x y z less is)
-lower_of x y z Equal less is from = ap (λ k. is_gt (key_cmp x k)) (sym (same_key y z is)) ∙ ap is_gt less
-lower_of x y z Greater less is from = cc
+use Rattle.std.{specs.{Cmp.Lexicographic.nat_list_cmp_total, Ordering.is_gt, Prelude.{Result, Ok, Err, OnErr}, declared.cmp.Ordering.TheVariants.Less}, proofs.lemmas.Bool.cases_eq}
+use Rattle.std.proofs.{Common.{rules, ◌≡◌, ℕ, ◌+◌, ◌-◌, ◌<◌, List, ◌∷◌, length, take, false, suc, refl, sym, ap, ◌∙◌, subst, arith, inl, inr}, lemmas.Cmp.upto}
+use Rattle.page_node.specs.{Bytes.{LiesAt, LiesNot}, Entries.key_at, Searching.{IsBelow, IsLast, RisesAfter}, Walking.PassesTo, claim.{Entries.{Entry, size_of}, Places.key_cmp}}
+use Rattle.page_node.{specs.claim.Node.{Node, IsNode}, proofs.{Laws.rises_at, Passed.node_passed, Scanning.{lies_there, entry_of, end_of, value_part}}}
 
 pub after_at : (es : List Entry) (j k : ℕ) → RisesAfter es → 0 < j → j < k → k < length es → key_cmp (key_at es j) (key_at es k) ≡ Less
 after_at (e ∷ es) (suc j) (suc k) rises some less within = rises_at es j k rises (omega arith) (omega arith)
@@ -38,7 +33,7 @@ module _ (page : List ℕ) (node : Node) (k at mid : ℕ) (is : IsNode page node
     place = ninth_end value end lies;
     below = λ j some less. elim (cases_eq j (k + 8)) [
       | inl same ↦ subst (λ (i : ℕ). is_gt (key_cmp (key_at node.entries i) key) ≡ false) (sym same) from
-      | inr other ↦ lower_of (key_at node.entries j) (key_at node.entries (k + 8)) key (key_cmp (key_at node.entries (k + 8)) key) (after_at node.entries j (k + 8) rises some (omega arith) within) refl from
+      | inr other ↦ upto nat_list_cmp_total (key_at node.entries j) (key_at node.entries (k + 8)) key (ap is_gt (after_at node.entries j (k + 8) rises some (omega arith) within)) from
     ];
     none = λ none. absurd (omega arith);
     some = λ _. let e = entry_of page node (k + 8) mid is within ninth in let before : k + 9 - 1 ≡ k + 8 = omega arith in rw before (search (rules, value_part));

@@ -1,6 +1,6 @@
 -- What the edits of a page leave.
 use Rattle.std.specs.{FinMap.{find, put}, List.{All, copy_within}, Prelude.{insert, remove, Bool, true, false, cond, Option, Some, None, is_some, Result, Ok, Err, OnErr}}
-use Rattle.std.proofs.Common.{◌≡◌, ℕ, ◌+◌, ◌-◌, ◌*◌, ◌/◌, ◌%◌, ◌<◌, ◌≤◌, List, [], ◌∷◌, ◌++◌, length, take, drop, get_or, set, refl, sym, ap, subst, ◌∙◌, arith, suc, length-append, append_assoc, take-append-drop}
+use Rattle.std.proofs.Common.{◌≡◌, ℕ, ◌+◌, ◌-◌, ◌/◌, ◌%◌, ◌<◌, ◌≤◌, List, [], ◌∷◌, ◌++◌, length, take, drop, get_or, set, refl, sym, ap, subst, ◌∙◌, arith, suc, add-one, length-append, append_assoc, take-append-drop}
 use Rattle.std.proofs.{Math.Seq.take-add, lemmas.List.{length-take-le, length-drop, append-nil, drop-drop, set_split, take-take, take-set, take-append-le, get_or-set_other}}
 use Rattle.{std.proofs.lemmas.List.{Edits.get_or-insert_below, Elements.All-nil}, page_node.specs.{Bytes.with_entry, Places.{IsFound, IsGap}, Searching.IsBelow}}
 use Rattle.page_node.specs.{Spots.{IsSpot, IsSpotFrom, Becomes, IsRowPut, PutsRow, InsertsEntry, ReplacesEntry}, claim.Node.{Node, IsNode, Fits, count_in}, declared.spot.Spot.Spot}
@@ -12,79 +12,62 @@ use Rattle.page_node.proofs.Standing.{edited, edited_bytes, size-edited, length-
 abbrev pub headed : List ℕ → ℕ → List ℕ
 headed page count = set (set page 2 (count / 256)) 3 (count % 256)
 
-after_head : (page : List ℕ) (count : ℕ) → drop 4 (headed page count) ≡ drop 4 page
-after_head (a ∷ b ∷ c ∷ d ∷ page) count = refl
-after_head _ count = refl
+record SaysCount (page : List ℕ) (count : ℕ) : Type 0 where
+  after : drop 4 (headed page count) ≡ drop 4 page
+  level : get_or (headed page count) 0 0 ≡ get_or page 0 0
+  count_is : count_in (headed page count) ≡ count
 
-level_headed : (page : List ℕ) (count : ℕ) → get_or (headed page count) 0 0 ≡ get_or page 0 0
-level_headed [] count = refl
-level_headed _ count = refl
-
-halves : (n : ℕ) → 256 * (n / 256) + n % 256 ≡ n
-halves n = omega arith
-
-count_headed : (page : List ℕ) (count : ℕ) → 4 ≤ length page → count_in (headed page count) ≡ count
-count_headed (a ∷ b ∷ c ∷ d ∷ page) count long = halves count
-count_headed _ count long = absurd (omega arith)
+says_count : (page : List ℕ) (count : ℕ) → 4 ≤ length page → SaysCount page count
+says_count (a ∷ b ∷ c ∷ d ∷ page) count long = record { after = refl; level = refl; count_is = omega arith }
+says_count _ count long = absurd (omega arith)
 
 -- ---- the head of a page whose prefix stays
-first_stays : (page rest : List ℕ) (n : ℕ) → 4 ≤ length page → get_or (take (4 + n) page ++ rest) 0 0 ≡ get_or page 0 0
-first_stays [] rest n long = absurd (omega arith)
-first_stays (a ∷ page) rest n long = ap (λ l. get_or (l ++ rest) 0 0) (take-add 4 n (a ∷ page))
+record KeepsHead (page made : List ℕ) : Type 0 where
+  level : get_or made 0 0 ≡ get_or page 0 0
+  count : count_in made ≡ count_in page
+  long : 4 ≤ length made
 
-count_stays : (page rest : List ℕ) (n : ℕ) → 4 ≤ length page → count_in (take (4 + n) page ++ rest) ≡ count_in page
-count_stays (a ∷ b ∷ c ∷ d ∷ page) rest n long = ap (λ l. count_in (l ++ rest)) (take-add 4 n (a ∷ b ∷ c ∷ d ∷ page))
-count_stays _ rest n long = absurd (omega arith)
-
-prefix_long : (page rest : List ℕ) (n : ℕ) → 4 ≤ length page → 4 ≤ length (take (4 + n) page ++ rest)
-prefix_long (a ∷ b ∷ c ∷ d ∷ page) rest n long =
-    let m = ap length (take-add 4 n (a ∷ b ∷ c ∷ d ∷ page)) in omega (arith, length-append (take (4 + n) (a ∷ b ∷ c ∷ d ∷ page)) rest)
-prefix_long _ rest n long = absurd (omega arith)
+keeps_head : (page rest : List ℕ) (n : ℕ) → 4 ≤ length page → KeepsHead page (take (4 + n) page ++ rest)
+keeps_head (a ∷ b ∷ c ∷ d ∷ page) rest n long =
+    subst (λ l. KeepsHead (a ∷ b ∷ c ∷ d ∷ page) (l ++ rest)) (sym (take-add 4 n (a ∷ b ∷ c ∷ d ∷ page))) (record { level = refl; count = refl; long = omega arith })
+keeps_head _ rest n long = absurd (omega arith)
 
 -- ---- entries from i up to j give way to others
-module _ (page : List ℕ) (node : Node) (is : IsNode page node) (long : length page ≡ 4096) (i j : ℕ) (mid : List Entry) (ordered : i ≤ j) (within : j ≤ length node.entries) (entries : All IsEntry mid) (children : 0 < node.level → All (λ e. length e.1 ≡ 4) mid) (fits : size_of (edited node.entries i j mid) ≤ 4092) where
-  es : List Entry
-  es = node.entries
+module _ (page : List ℕ) (node : Node) (is : IsNode page node) (long : length page ≡ 4096) (i j at end used : ℕ) (ordered : i ≤ j) (within : j ≤ length node.entries) (at_is : at ≡ 4 + size_of (take i node.entries)) (end_is : end ≡ 4 + size_of (take j node.entries)) (used_is : used ≡ 4 + size_of node.entries) where
+  pub edited_size : (mid : List Entry) → size_of (edited node.entries i j mid) + end ≡ size_of node.entries + size_of mid + at
+  edited_size mid = omega (arith, size-edited node.entries i j mid, size-parts j node.entries)
 
-  -- the bytes, where the head says what it should
-  edited_node : (new : List ℕ) (added tail : List ℕ) → added ≡ body_of mid → (made : List ℕ)
-      → made ≡ take (4 + size_of (take i node.entries)) page ++ (added ++ (take (size_of (drop j node.entries)) (drop (4 + size_of (take j node.entries)) page) ++ tail))
-      → drop 4 new ≡ drop 4 made → get_or new 0 0 ≡ get_or page 0 0 → count_in new ≡ length (edited node.entries i j mid)
-      → IsNode new (record node { entries = edited node.entries i j mid })
-  edited_node new added tail is_added made is_made after level count = record {
-    level = level ∙ is.level;
-    count = count;
-    body = ap (take (size_of (edited node.entries i j mid))) after ∙ edited_bytes node.entries page made i j mid added tail is.body (omega arith) is_added is_made;
-    shape = record {
-      level = is.shape.level;
-      entries = All-edited IsEntry node.entries i j mid is.shape.entries entries;
-      children = λ inner. All-edited (λ e. length e.1 ≡ 4) node.entries i j mid (is.shape.children inner) (children inner);
-    };
-    fits = fits;
-  }
+  module _ (mid : List Entry) (entries : All IsEntry mid) (children : 0 < node.level → All (λ e. length e.1 ≡ 4) mid) (room : at + size_of mid + (used - end) ≤ 4096) (added tail made : List ℕ) (is_added : added ≡ body_of mid) (is_made : made ≡ take at page ++ (added ++ (take (used - end) (drop end page) ++ tail))) where
+    made_there : made ≡ take (4 + size_of (take i node.entries)) page ++ (added ++ (take (size_of (drop j node.entries)) (drop (4 + size_of (take j node.entries)) page) ++ tail))
+    made_there =
+        let parts = size-parts j node.entries in
+        let rest : used - end ≡ size_of (drop j node.entries) = omega arith in
+        is_made ∙ (λ x. take (at_is x) page ++ (added ++ (take (rest x) (drop (end_is x) page) ++ tail)))
 
-  -- with a new count
-  pub edited_counted : (added tail : List ℕ) → added ≡ body_of mid → (made : List ℕ) (count : ℕ)
-      → made ≡ take (4 + size_of (take i node.entries)) page ++ (added ++ (take (size_of (drop j node.entries)) (drop (4 + size_of (take j node.entries)) page) ++ tail))
-      → count ≡ length (edited node.entries i j mid)
-      → IsNode (headed made count) (record node { entries = edited node.entries i j mid })
-  edited_counted added tail is_added made count is_made is_count =
-      let rest : List ℕ = added ++ (take (size_of (drop j node.entries)) (drop (4 + size_of (take j node.entries)) page) ++ tail) in
-      let made_long : 4 ≤ length made = let P : List ℕ → Type 0 = λ l. 4 ≤ length l in subst P (sym is_made) (prefix_long page rest (size_of (take i node.entries)) (omega arith)) in
-      edited_node (headed made count) added tail is_added made is_made (after_head made count)
-      (level_headed made count ∙ ap (λ l. get_or l 0 0) is_made ∙ first_stays page rest (size_of (take i node.entries)) (omega arith))
-      (count_headed made count made_long ∙ is_count)
+    head_stays : KeepsHead page made
+    head_stays = subst (KeepsHead page) (sym made_there) (keeps_head page _ (size_of (take i node.entries)) (omega arith))
 
-  -- with as many entries as before
-  pub edited_alike : (added tail : List ℕ) → added ≡ body_of mid → (made : List ℕ)
-      → made ≡ take (4 + size_of (take i node.entries)) page ++ (added ++ (take (size_of (drop j node.entries)) (drop (4 + size_of (take j node.entries)) page) ++ tail))
-      → length (edited node.entries i j mid) ≡ length node.entries
-      → IsNode made (record node { entries = edited node.entries i j mid })
-  edited_alike added tail is_added made is_made same =
-      let rest : List ℕ = added ++ (take (size_of (drop j node.entries)) (drop (4 + size_of (take j node.entries)) page) ++ tail) in
-      edited_node made added tail is_added made is_made refl
-      (ap (λ l. get_or l 0 0) is_made ∙ first_stays page rest (size_of (take i node.entries)) (omega arith))
-      (ap count_in is_made ∙ count_stays page rest (size_of (take i node.entries)) (omega arith) ∙ is.count ∙ sym same)
+    -- the bytes, where the head says what it should
+    edited_node : (new : List ℕ) → drop 4 new ≡ drop 4 made → get_or new 0 0 ≡ get_or made 0 0 → count_in new ≡ length (edited node.entries i j mid) → IsNode new (record node { entries = edited node.entries i j mid })
+    edited_node new after level count = record {
+      level = level ∙ head_stays.level ∙ is.level;
+      count = count;
+      body = ap (take (size_of (edited node.entries i j mid))) after ∙ edited_bytes node.entries page made i j mid added tail is.body (omega arith) is_added made_there;
+      shape = record {
+        level = is.shape.level;
+        entries = All-edited IsEntry node.entries i j mid is.shape.entries entries;
+        children = λ inner. All-edited (λ e. length e.1 ≡ 4) node.entries i j mid (is.shape.children inner) (children inner);
+      };
+      fits = let size = edited_size mid in let parts = size-parts j node.entries in omega arith;
+    }
+
+    -- with a new count
+    pub edited_counted : (count : ℕ) → count ≡ length (edited node.entries i j mid) → IsNode (headed made count) (record node { entries = edited node.entries i j mid })
+    edited_counted count is_count = let head = says_count made count head_stays.long in edited_node (headed made count) head.after head.level (head.count_is ∙ is_count)
+
+    -- with as many entries as before
+    pub edited_alike : length (edited node.entries i j mid) ≡ length node.entries → IsNode made (record node { entries = edited node.entries i j mid })
+    edited_alike same = edited_node made refl refl (head_stays.count ∙ is.count ∙ sym same)
 
 -- ---- the three edits, as the page's calls make them
 module _ (page : List ℕ) (node : Node) (is : IsNode page node) (long : length page ≡ 4096) (i at used : ℕ) (at_is : at ≡ 4 + size_of (take i node.entries)) (used_is : used ≡ 4 + size_of node.entries) where
@@ -96,46 +79,34 @@ module _ (page : List ℕ) (node : Node) (is : IsNode page node) (long : length 
       → count ≡ length node.entries + 1
       → IsNode (headed made count) (record node { entries = insert node.entries i e })
   inserted_node e made count within entry child room is_made is_count =
-      let size = inserted_size e in
       let n = length-edited node.entries i i (e ∷ []) within in
       let parts = size-parts i node.entries in
-      let rest : used - at ≡ size_of (drop i node.entries) = omega arith in
-      edited_counted page node is long i i (e ∷ []) (omega arith) within (single IsEntry e entry) (λ inner. single (λ (f : Entry). length f.1 ≡ 4) e (child inner)) (omega arith)
-      (entry_bytes e) (drop (at + entry_size e + (used - at)) page) (sym (append-nil (entry_bytes e))) made count
-      (is_made ∙ (λ x. take (at_is x) page ++ (entry_bytes e ++ (take (rest x) (drop (at_is x) page) ++ drop (at + entry_size e + (used - at)) page))))
-      (omega arith)
+      edited_counted page node is long i i at at used (omega arith) within at_is at_is used_is (e ∷ []) (single IsEntry e entry) (λ inner. single (λ (f : Entry). length f.1 ≡ 4) e (child inner)) (omega arith)
+      (entry_bytes e) _ made (sym (append-nil (entry_bytes e))) is_made count (omega arith)
 
   module _ (end : ℕ) (end_is : end ≡ 4 + size_of (take (i + 1) node.entries)) (within : i < length node.entries) where
-    next : end ≡ 4 + size_of (take (suc i) node.entries)
-    next = let one : i + 1 ≡ suc i = omega arith in end_is ∙ ap (λ k. 4 + size_of (take k node.entries)) one
-
-    rest_is : used - end ≡ size_of (drop (suc i) node.entries)
-    rest_is = let e = next in let parts = size-parts (suc i) node.entries in omega arith
+    -- the entry alone gives way
+    set_is : (e : Entry) → edited node.entries i (i + 1) (e ∷ []) ≡ set node.entries i e
+    set_is e = (λ x. edited node.entries i (add-one i x) (e ∷ [])) ∙ sym (set_split node.entries i e within)
 
     pub replaced_size : (e : Entry) → size_of (set node.entries i e) + (end - at) ≡ size_of node.entries + entry_size e
     replaced_size e =
-        let same = ap size_of (set_split node.entries i e within) in
-        omega (arith, size-edited node.entries i (suc i) (e ∷ []), size-parts (suc i) node.entries, size-take_from node.entries i (suc i) (omega arith), next)
+        let same = ap size_of (set_is e) in
+        omega (arith, edited_size page node is long i (i + 1) at end used (omega arith) (omega arith) at_is end_is used_is (e ∷ []), size-take_from node.entries i (i + 1) (omega arith))
 
     pub replaced_node : (e : Entry) (made : List ℕ) → IsEntry e → (0 < node.level → length e.1 ≡ 4) → at + entry_size e + (used - end) ≤ 4096
         → made ≡ take at page ++ (entry_bytes e ++ (take (used - end) (drop end page) ++ drop (at + entry_size e + (used - end)) page))
         → IsNode made (record node { entries = set node.entries i e })
     replaced_node e made entry child room is_made =
-        let size = size-edited node.entries i (suc i) (e ∷ []) in
-        let n = length-edited node.entries i (suc i) (e ∷ []) (omega arith) in
-        let there = next in
-        let rest = rest_is in
-        subst (λ l. IsNode made (record node { entries = l })) (sym (set_split node.entries i e within))
-        (edited_alike page node is long i (suc i) (e ∷ []) (omega arith) (omega arith) (single IsEntry e entry) (λ inner. single (λ (f : Entry). length f.1 ≡ 4) e (child inner)) (omega arith)
-        (entry_bytes e) (drop (at + entry_size e + (used - end)) page) (sym (append-nil (entry_bytes e))) made
-        (is_made ∙ (λ x. take (at_is x) page ++ (entry_bytes e ++ (take (rest x) (drop (there x) page) ++ drop (at + entry_size e + (used - end)) page))))
-        (omega arith))
+        let n = length-edited node.entries i (i + 1) (e ∷ []) (omega arith) in
+        subst (λ l. IsNode made (record node { entries = l })) (set_is e)
+        (edited_alike page node is long i (i + 1) at end used (omega arith) (omega arith) at_is end_is used_is (e ∷ []) (single IsEntry e entry) (λ inner. single (λ (f : Entry). length f.1 ≡ 4) e (child inner)) (omega arith)
+        (entry_bytes e) _ made (sym (append-nil (entry_bytes e))) is_made (omega arith))
 
     -- one of the same size lies where the old one did
     pub replaced_here : (e : Entry) (made : List ℕ) → IsEntry e → (0 < node.level → length e.1 ≡ 4) → at + entry_size e ≡ end → made ≡ with_entry page at e → IsNode made (record node { entries = set node.entries i e })
     replaced_here e made entry child same is_made =
-        let there = next in
-        let parts = size-parts (suc i) node.entries in
+        let parts = size-parts (i + 1) node.entries in
         let more = used - end in
         let rest : drop (at + entry_size e) page ≡ take more (drop end page) ++ drop (at + entry_size e + more) page =
         ap (λ k. drop k page) same ∙ sym (take-append-drop more (drop end page)) ∙ ap (λ l. take more (drop end page) ++ l) (drop-drop more end page ∙ ap (λ k. drop (k + more) page) (sym same)) in
@@ -145,21 +116,19 @@ module _ (page : List ℕ) (node : Node) (is : IsNode page node) (long : length 
     pub removed_node : (till : ℕ) (made : List ℕ) (count : ℕ) → used ≤ till → made ≡ copy_within page end till at → count + 1 ≡ length node.entries
         → IsNode (headed made count) (record node { entries = remove node.entries i }) × (count ≡ length (remove node.entries i))
     removed_node till made count far is_made is_count =
-        let size = size-edited node.entries i (suc i) [] in
-        let n = length-edited node.entries i (suc i) [] (omega arith) in
-        let less = size-take_from node.entries i (suc i) (omega arith) in
-        let parts = size-parts (suc i) node.entries in
-        let entries_moved : List ℕ = take (used - end) (drop end page) in
+        let n = length-edited node.entries i (i + 1) [] (omega arith) in
+        let less = size-take_from node.entries i (i + 1) (omega arith) in
+        let parts = size-parts (i + 1) node.entries in
+        let fits = is.fits in
         let others_moved : List ℕ = drop (used - end) (take (till - end) (drop end page)) in
         let after : List ℕ = drop (at + (till - end)) page in
-        let moved : take (till - end) (drop end page) ≡ entries_moved ++ others_moved =
-        sym (take-append-drop (used - end) (take (till - end) (drop end page))) ∙ ap (λ l. l ++ others_moved) (take-take (used - end) (till - end) (drop end page) (omega arith)) in (
-          edited_counted page node is long i (suc i) [] (omega arith) (omega arith) (All-nil IsEntry) (λ inner. All-nil (λ (f : Entry). length f.1 ≡ 4)) (omega arith)
-              [] (others_moved ++ after) refl made count
-              (is_made ∙ moved_is page end till at ∙ (λ x. take (at_is x) page ++ (moved x ++ after))
-              ∙ ap (λ l. take (4 + size_of (take i node.entries)) page ++ l) (append_assoc entries_moved others_moved after)
-              ∙ (λ x. take (4 + size_of (take i node.entries)) page ++ (take (rest_is x) (drop (next x) page) ++ (others_moved ++ after))))
-              (omega arith),
+        let moved : take (till - end) (drop end page) ≡ take (used - end) (drop end page) ++ others_moved =
+        sym (take-append-drop (used - end) (take (till - end) (drop end page))) ∙ ap (λ l. l ++ others_moved) (take-take (used - end) (till - end) (drop end page) (omega arith)) in
+        subst (λ j. IsNode (headed made count) (record node { entries = edited node.entries i j [] }) × (count ≡ length (edited node.entries i j []))) (add-one i) (
+          edited_counted page node is long i (i + 1) at end used (omega arith) (omega arith) at_is end_is used_is [] (All-nil IsEntry) (λ inner. All-nil (λ (f : Entry). length f.1 ≡ 4)) (omega arith)
+              [] (others_moved ++ after) made refl
+              (is_made ∙ moved_is page end till at ∙ (λ x. take at page ++ (moved x ++ after)) ∙ ap (λ l. take at page ++ l) (append_assoc (take (used - end) (drop end page)) others_moved after))
+              count (omega arith),
           omega arith,
         )
 

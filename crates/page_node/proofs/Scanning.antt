@@ -5,8 +5,8 @@ use Rattle.{std.proofs.{Math.Seq.take-add, lemmas.List.Elements.All-more}, page_
 use Rattle.std.proofs.lemmas.List.{take_all, drop-drop, take-append-le, drop-append-le, drop_more, length-take-le, length-drop, get_or-drop, take_more, length-set}
 use Rattle.page_node.specs.{Entries.{key_at, value_at, first_of, after, read_from, key_length, value_length, child_in}, claim.{Node.{Node, IsNode, count_in}, Places.key_cmp}}
 use Rattle.page_node.{specs.claim.Entries.{Entry, IsEntry, entry_bytes, entry_size, body_of, size_of}, proofs.Laws.floor_stop}
-use Rattle.page_node.proofs.EntryLists.{body-append, length-body, length-read, value_length-entry, first-entry, read_at, size-take_more, drop_three}
-use Rattle.page_node.proofs.Standing.{Stands, nothing, entry_there, end_below, to_held, view_of}
+use Rattle.page_node.proofs.EntryLists.{body-append, length-body, length-read, read_at, size-take_more, drop_three}
+use Rattle.page_node.proofs.Standing.{Stands, IsEntryOf, nothing, entry_in, to_held, view_of}
 
 -- ---- the first entry of bytes
 pub record Lying (bytes : List ℕ) : Type 0 where
@@ -22,28 +22,12 @@ lying (a ∷ b ∷ c ∷ xs) small long = search (arith, halves b c (small 2), l
 lying _ small long = absurd (omega arith)
 
 -- ---- an entry of a page's node
-pub record IsEntryOf (page : List ℕ) (es : List Entry) (k at : ℕ) : Type 0 where
-  pub key : key_length (drop at page) ≡ length (key_at es k)
-  pub value : value_length (drop at page) ≡ length (value_at es k)
-  pub first : first_of (drop at page) ≡ get_or es k nothing
-  pub within : at + entry_size (get_or es k nothing) ≤ 4096
-  pub entry : IsEntry (get_or es k nothing)
-  pub next : at + entry_size (get_or es k nothing) ≡ 4 + size_of (take (k + 1) es)
-
 pub entry_of : (page : List ℕ) (node : Node) (k at : ℕ) → IsNode page node → k < length node.entries → at ≡ 4 + size_of (take k node.entries) → IsEntryOf page node.entries k at
-entry_of page node k at is within place =
-    let es : List Entry = node.entries in
-    let there = entry_there es page k is.body within in
-    let here : drop at page ≡ entry_bytes (get_or es k nothing) ++ there.0 = ap (λ n. drop n page) place ∙ there.1 in
-    let below = end_below es k within in
-    let more = size-take_more es k nothing within in
-    let value = ap value_length here ∙ value_length-entry (get_or es k nothing) there.0 in
-    let first = ap first_of here ∙ first-entry (get_or es k nothing) there.0 in
-    search (arith, ap key_length here, value, first, is.shape.entries k nothing within)
+entry_of page node k at is within place = entry_in page node.entries k at is.body is.shape.entries within place
 
 -- an entry that is one of the node's is found to lie in the page
 pub lies_there : (page : List ℕ) (node : Node) (k at : ℕ) → IsNode page node → k < length node.entries → at ≡ 4 + size_of (take k node.entries) → LiesNot page at → ⊥
-lies_there page node k at is within place not_there = search (arith, entry_of page node k at is within place)
+lies_there page node k at is within place not_there = let fits = is.fits in search (arith, entry_of page node k at is within place)
 
 -- where it ends, and what its parts are
 pub end_there : (page : List ℕ) (es : List Entry) (k at value end : ℕ) → IsEntryOf page es k at → LiesAt page at value end → end ≡ 4 + size_of (take (k + 1) es)
@@ -115,11 +99,9 @@ scanned_no_child level count page marks k at value end s within counted is_level
     let four = is.shape.children (omega arith) k nothing (omega arith) in
     differs (omega arith)
 
-pub scanned_all : (level count : ℕ) (page marks : List ℕ) (at : ℕ) → IsScanned level count page marks count at → level ≤ 5 → count ≤ 1364 → IsHeld level count marks page
-scanned_all level count page marks at s low few = search (rules, length-read, take_all)
-
 pub scanned_end : (level count : ℕ) (page marks : List ℕ) (k at : ℕ) → IsScanned level count page marks k at → k ≡ count → level ≤ 5 → count ≤ 1364 → IsHeld level count marks page
-scanned_end level count page marks k at s is low few = let P : ℕ → Type 0 = λ q. IsScanned level count page marks q at in scanned_all level count page marks at (subst P is s) low few
+scanned_end level count page marks k at s is low few =
+    let all : IsScanned level count page marks count at = subst (λ (q : ℕ). IsScanned level count page marks q at) is s in search (rules, length-read, take_all)
 
 -- ---- a page in a buffer
 pub held_size : (level count : ℕ) (marks page : List ℕ) → length page ≡ 4096 → IsHeld level count marks page → size_of (read_from count (drop 4 page)) ≤ 4092

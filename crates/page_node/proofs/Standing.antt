@@ -1,6 +1,6 @@
 -- Entries that stand in bytes, with the places where they end.
 use Rattle.std.{specs.List.{All, copy_within}, proofs.{Math.Seq.{take-append-add, take-add}, lemmas.List.Elements.{All-append, All-take, All-drop}}}
-use Rattle.std.proofs.Common.{rules, ◌≡◌, ℕ, ◌+◌, ◌-◌, ◌<◌, ◌≤◌, List, [], ◌++◌, length, take, drop, get_or, sym, ap, subst, ◌∙◌, arith, append_assoc, length-append, take-append-drop, ◌⊎◌, inl, inr}
+use Rattle.std.proofs.Common.{rules, ◌≡◌, ℕ, ◌+◌, ◌-◌, ◌<◌, ◌≤◌, List, [], ◌++◌, length, take, drop, get_or, sym, ap, ◌∙◌, arith, append_assoc, length-append, take-append-drop, ◌⊎◌, inl, inr}
 use Rattle.{std.proofs.lemmas.List.{take_at, take_all, drop_at, drop-drop, take-take, take-append-le, drop_more, length-take-le, length-drop}, page_node.specs.Bytes.with_entry}
 use Rattle.page_node.specs.{Entries.{key_at, value_at, first_of, read_from, key_length, value_length}, Held.{held_node, IsHeld}, claim.Node.{Node, IsShape}}
 use Rattle.page_node.specs.claim.Entries.{Entry, IsEntry, entry_bytes, entry_size, body_of, size_of}
@@ -14,11 +14,13 @@ pub record Stands (level : ℕ) (es : List Entry) (marks bytes : List ℕ) : Typ
   pub places : (k : ℕ) → k ≤ length es → get_or marks k 0 ≡ 4 + size_of (take k es)
 
 -- what a buffer holds
-pub from_held : (level count : ℕ) (marks bytes : List ℕ) (node : Node) → IsHeld level count marks bytes → held_node level count bytes ≡ node → Stands node.level node.entries marks bytes
-from_held level count marks bytes node held is = search (rules, length-read)
+pub record Opened (level count : ℕ) (marks bytes : List ℕ) (node : Node) : Type 0 where
+  pub stands : Stands level node.entries marks bytes
+  pub count_of : count ≡ length node.entries
+  pub level_of : level ≡ node.level
 
-pub count_is : (level count : ℕ) (bytes : List ℕ) (node : Node) → held_node level count bytes ≡ node → count ≡ length node.entries
-count_is level count bytes node is = sym (length-read count (drop 4 bytes)) ∙ ap (λ (n : Node). length n.entries) is
+pub opened : (level count : ℕ) (marks bytes : List ℕ) (node : Node) → IsHeld level count marks bytes → held_node level count bytes ≡ node → Opened level count marks bytes node
+opened level count marks bytes node held is = search (rules, length-read)
 
 pub entries_are : (level : ℕ) (es : List Entry) (marks bytes : List ℕ) (count : ℕ) → Stands level es marks bytes → count ≡ length es → read_from count (drop 4 bytes) ≡ es
 entries_are level es marks bytes count s is = ap (λ n. read_from n (drop 4 bytes)) is ∙ read_at es (drop 4 bytes) s.body
@@ -34,62 +36,42 @@ to_held level es marks bytes count s is = search (arith, entries_are level es ma
 abbrev pub nothing : Entry
 nothing = ([], [])
 
-pub entry_there : (es : List Entry) (bytes : List ℕ) (i : ℕ) → take (size_of es) (drop 4 bytes) ≡ body_of es → i < length es → (more : List ℕ) × (drop (4 + size_of (take i es)) bytes ≡ entry_bytes (get_or es i nothing) ++ more)
-entry_there es bytes i body within =
-    let from : List ℕ = drop (4 + size_of (take i es)) bytes in
-    let rest : List Entry = drop (i + 1) es in
-    let n : ℕ = size_of (drop i es) in
-    let here : take n from ≡ body_of (drop i es) = ap (take n) (sym (drop-drop (size_of (take i es)) 4 bytes)) ∙ rest_at i es (drop 4 bytes) body in
-    let more : List ℕ = body_of rest ++ drop n from in
-    let all : from ≡ entry_bytes (get_or es i nothing) ++ more =
-    search (rules, take-append-drop n from, drop_more es i nothing within, append_assoc (entry_bytes (get_or es i nothing)) (body_of rest) (drop n from)) in
-    (more, all)
+-- what its bytes say of it
+pub record IsEntryOf (bytes : List ℕ) (es : List Entry) (k at : ℕ) : Type 0 where
+  pub key : key_length (drop at bytes) ≡ length (key_at es k)
+  pub value : value_length (drop at bytes) ≡ length (value_at es k)
+  pub first : first_of (drop at bytes) ≡ get_or es k nothing
+  pub within : at + entry_size (get_or es k nothing) ≤ 4 + size_of es
+  pub entry : IsEntry (get_or es k nothing)
+  pub next : at + entry_size (get_or es k nothing) ≡ 4 + size_of (take (k + 1) es)
 
-pub end_below : (es : List Entry) (i : ℕ) → i < length es → size_of (take i es) + entry_size (get_or es i nothing) ≤ size_of es
-end_below es i within = let one = size-take_more es i nothing within in let all = size-parts (i + 1) es in omega arith
+pub entry_in : (bytes : List ℕ) (es : List Entry) (k at : ℕ) → take (size_of es) (drop 4 bytes) ≡ body_of es → All IsEntry es → k < length es → at ≡ 4 + size_of (take k es) → IsEntryOf bytes es k at
+entry_in bytes es k at body entries within place =
+    let from : List ℕ = drop (4 + size_of (take k es)) bytes in
+    let n : ℕ = size_of (drop k es) in
+    let whole : take n from ≡ body_of (drop k es) = ap (take n) (sym (drop-drop (size_of (take k es)) 4 bytes)) ∙ rest_at k es (drop 4 bytes) body in
+    let after : List ℕ = body_of (drop (k + 1) es) ++ drop n from in
+    let all : from ≡ entry_bytes (get_or es k nothing) ++ after =
+    search (rules, take-append-drop n from, drop_more es k nothing within, append_assoc (entry_bytes (get_or es k nothing)) (body_of (drop (k + 1) es)) (drop n from)) in
+    let here : drop at bytes ≡ entry_bytes (get_or es k nothing) ++ after = ap (λ n. drop n bytes) place ∙ all in
+    let more = size-take_more es k nothing within in
+    let parts = size-parts (k + 1) es in
+    let value = ap value_length here ∙ value_length-entry (get_or es k nothing) after in
+    let first = ap first_of here ∙ first-entry (get_or es k nothing) after in
+    search (arith, ap key_length here, value, first, entries k nothing within)
 
-module _ (level : ℕ) (es : List Entry) (marks bytes : List ℕ) (s : Stands level es marks bytes) (i : ℕ) (within : i < length es) where
-  mark : get_or marks i 0 ≡ 4 + size_of (take i es)
-  mark = s.places i (omega arith)
+pub key_read : (bytes : List ℕ) (es : List Entry) (k at : ℕ) → IsEntryOf bytes es k at → take (key_length (drop at bytes)) (drop (at + 3) bytes) ≡ key_at es k
+key_read bytes es k at e = ap (take (key_length (drop at bytes))) (sym (drop-drop 3 at bytes)) ∙ ap (λ (f : Entry). f.0) e.first
 
-  abbrev here : Entry
-  here = get_or es i nothing
+pub value_read : (bytes : List ℕ) (es : List Entry) (k at : ℕ) → IsEntryOf bytes es k at → take (value_length (drop at bytes)) (drop (at + 3 + key_length (drop at bytes)) bytes) ≡ value_at es k
+value_read bytes es k at e = search (rules, drop-drop, e.first)
 
-  lies : (more : List ℕ) × (drop (get_or marks i 0) bytes ≡ entry_bytes here ++ more)
-  lies = let there = entry_there es bytes i s.body within in (there.0, ap (λ n. drop n bytes) mark ∙ there.1)
-
-  pub key_length_is : key_length (drop (get_or marks i 0) bytes) ≡ length (key_at es i)
-  key_length_is = let there = lies in ap key_length there.1
-
-  pub value_length_is : value_length (drop (get_or marks i 0) bytes) ≡ length (value_at es i)
-  value_length_is = let there = lies in ap value_length there.1 ∙ value_length-entry here there.0
-
-  pub first_is : first_of (drop (get_or marks i 0) bytes) ≡ here
-  first_is = let there = lies in ap first_of there.1 ∙ first-entry here there.0
-
-  pub index_few : i < 1365
-  index_few = let few = s.few in omega arith
-
-  pub mark_few : get_or marks i 0 + entry_size here ≤ 5195
-  mark_few = let at = mark in let below = end_below es i within in let room = s.room in omega arith
-
-  pub key_room : get_or marks i 0 + 3 + key_length (drop (get_or marks i 0) bytes) ≤ 5200
-  key_room = let few = mark_few in let long = key_length_is in omega arith
-
-  pub value_room : get_or marks i 0 + 3 + key_length (drop (get_or marks i 0) bytes) + value_length (drop (get_or marks i 0) bytes) ≤ 5200
-  value_room = let few = mark_few in let long = key_length_is in let wide = value_length_is in omega arith
-
-  pub key_read : take (key_length (drop (get_or marks i 0) bytes)) (drop (get_or marks i 0 + 3) bytes) ≡ key_at es i
-  key_read = ap (take (key_length (drop (get_or marks i 0) bytes))) (sym (drop-drop 3 (get_or marks i 0) bytes)) ∙ ap (λ (e : Entry). e.0) first_is
-
-  pub value_read : take (value_length (drop (get_or marks i 0) bytes)) (drop (get_or marks i 0 + 3 + key_length (drop (get_or marks i 0) bytes)) bytes) ≡ value_at es i
-  value_read = search (rules, drop-drop, first_is)
-
-  pub key_short : length (key_at es i) ≤ 72
-  key_short = (s.shape.entries i nothing within).0
-
-  pub value_short : length (value_at es i) ≤ 1024
-  value_short = (s.shape.entries i nothing within).1
+-- in a buffer
+pub held_entry : (level count : ℕ) (marks bytes : List ℕ) (node : Node) (i : ℕ) → IsHeld level count marks bytes → held_node level count bytes ≡ node → i < length node.entries
+    → IsEntryOf bytes node.entries i (get_or marks i 0) × (i < 1365) × (size_of node.entries ≤ 5191)
+held_entry level count marks bytes node i held is within =
+    let s = (opened level count marks bytes node held is).stands in
+    (entry_in bytes node.entries i (get_or marks i 0) s.body s.shape.entries within (s.places i (omega arith)), (let few = s.few in omega arith), s.room)
 
 pub size_is : (level : ℕ) (es : List Entry) (marks bytes : List ℕ) → Stands level es marks bytes → get_or marks (length es) 0 ≡ 4 + size_of es
 size_is level es marks bytes s = s.places (length es) (omega arith) ∙ ap (λ l. 4 + size_of l) (take_all (length es) es (omega arith))
@@ -113,12 +95,13 @@ edited_prefix es i j mid k le low = search (length-take-le, take-append-le, take
 pub size-take_from : (es : List Entry) (j m : ℕ) → j ≤ m → size_of (take m es) ≡ size_of (take j es) + size_of (take (m - j) (drop j es))
 size-take_from es j m le = search (arith, take-add j (m - j) es, size-append (take j es) (take (m - j) (drop j es)))
 
-pub edited_back : (es : List Entry) (i j : ℕ) (mid : List Entry) (m : ℕ) → i ≤ length es → j ≤ m → size_of (take (i + length mid + (m - j)) (edited es i j mid)) + size_of (take j es) ≡ size_of (take i es) + size_of mid + size_of (take m es)
-edited_back es i j mid m le high =
+pub edited_back : (es : List Entry) (i j : ℕ) (mid : List Entry) (k m : ℕ) → i ≤ length es → j ≤ m → k + j ≡ i + length mid + m → size_of (take k (edited es i j mid)) + size_of (take j es) ≡ size_of (take i es) + size_of mid + size_of (take m es)
+edited_back es i j mid k m le high sum =
     let r : ℕ = m - j in
+    let at_k : k ≡ i + length mid + r = omega arith in
     let prefix : take (i + length mid + r) (edited es i j mid) ≡ take i es ++ (mid ++ take r (drop j es)) =
     search (rules, take-append-add (take i es) (mid ++ drop j es) (length mid + r), take-append-add mid (drop j es) r) in
-    let a : size_of (take (i + length mid + r) (edited es i j mid)) ≡ size_of (take i es) + (size_of mid + size_of (take r (drop j es))) = search (rules, size-append) in
+    let a : size_of (take k (edited es i j mid)) ≡ size_of (take i es) + (size_of mid + size_of (take r (drop j es))) = rw at_k (search (rules, size-append)) in
     omega (arith, size-take_from es j m high)
 
 pub body-edited : (es : List Entry) (i j : ℕ) (mid : List Entry) → body_of (edited es i j mid) ≡ body_of (take i es) ++ (body_of mid ++ body_of (drop j es))
@@ -142,33 +125,22 @@ edited_bytes es bytes new i j mid added tail body long is_added is_new =
 pub edited_places : (es : List Entry) (marks new : List ℕ) (i j : ℕ) (mid : List Entry) → i ≤ j → j ≤ length es → length mid ≤ 1
     → ((k : ℕ) → k ≤ length es → get_or marks k 0 ≡ 4 + size_of (take k es))
     → ((k : ℕ) → k ≤ i → get_or new k 0 ≡ get_or marks k 0)
-    → ((m : ℕ) → j ≤ m → m ≤ length es → get_or new (i + length mid + (m - j)) 0 + get_or marks j 0 ≡ get_or marks i 0 + size_of mid + get_or marks m 0)
+    → ((k m : ℕ) → k + j ≡ i + length mid + m → j ≤ m → m ≤ length es → get_or new k 0 + get_or marks j 0 ≡ get_or marks i 0 + size_of mid + get_or marks m 0)
     → (k : ℕ) → k ≤ length (edited es i j mid) → get_or new k 0 ≡ 4 + size_of (take k (edited es i j mid))
 edited_places es marks new i j mid ordered within one places kept moved k le = elim (low_or_high k i (length mid) one) [
   | inl low ↦ kept k low ∙ places k (omega arith) ∙ ap (λ l. 4 + size_of l) (sym (edited_prefix es i j mid k (omega arith) low))
   | inr high ↦
       let n = length-edited es i j mid (omega arith) in
       let m : ℕ = k - (i + length mid) + j in
-      let sum : k ≡ i + length mid + (m - j) = omega arith in
       let at_j = places j within in
       let at_m = places m (omega arith) in
-      let back = edited_back es i j mid m (omega arith) (omega arith) in
-      let P : ℕ → Type 0 = λ q. get_or new q 0 ≡ 4 + size_of (take q (edited es i j mid)) in
-      subst P (sym sum) (omega arith)
+      let there = moved k m (omega arith) (omega arith) (omega arith) in
+      let back = edited_back es i j mid k m (omega arith) (omega arith) (omega arith) in
+      omega arith
 ]
   where
     low_or_high : (k i n : ℕ) → n ≤ 1 → (k ≤ i) ⊎ (i + n ≤ k)
     low_or_high k i n one = grind arith
-
-pub edited_stands : (level : ℕ) (es : List Entry) (marks bytes new_marks new : List ℕ) (i j : ℕ) (mid : List Entry) → Stands level es marks bytes → i ≤ j → j ≤ length es → length mid ≤ 1
-    → All IsEntry mid → (0 < level → All (λ e. length e.1 ≡ 4) mid)
-    → length (edited es i j mid) ≤ 1365 → size_of (edited es i j mid) ≤ 5191
-    → take (size_of (edited es i j mid)) (drop 4 new) ≡ body_of (edited es i j mid)
-    → ((k : ℕ) → k ≤ i → get_or new_marks k 0 ≡ get_or marks k 0)
-    → ((m : ℕ) → j ≤ m → m ≤ length es → get_or new_marks (i + length mid + (m - j)) 0 + get_or marks j 0 ≡ get_or marks i 0 + size_of mid + get_or marks m 0)
-    → Stands level (edited es i j mid) new_marks new
-edited_stands level es marks bytes new_marks new i j mid s ordered within one entries children few room body kept moved =
-    search (All-edited IsEntry es i j mid s.shape.entries entries, All-edited, s.shape.children, edited_places es marks new_marks i j mid ordered within one s.places kept moved)
 
 -- ---- the bytes that the edits write
 -- bytes moved from one place to another

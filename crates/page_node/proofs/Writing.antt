@@ -9,10 +9,11 @@ pub put_after : (prefix rest part : List ℕ) (a k : ℕ) → length prefix ≡ 
 put_after prefix rest part a k long = λ x. (take_at prefix rest a long) x ++ (part ++ drop k ((drop_at prefix rest a long) x))
 
 -- bytes that are moved to where they are
-pub moved_nowhere : (bytes : List ℕ) (from until : ℕ) → bytes ≡ copy_within bytes from until from
-moved_nowhere bytes from until =
+pub moved_nowhere : (bytes : List ℕ) (from until to : ℕ) → from ≡ to → bytes ≡ copy_within bytes from until to
+moved_nowhere bytes from until to same =
     let n = until - from in
     sym (append_assoc (take from bytes) (take n (drop from bytes)) (drop (from + n) bytes) ∙ (λ i. take from bytes ++ (take n (drop from bytes) ++ sym (drop-drop n from bytes) i)) ∙ (λ i. take from bytes ++ take-append-drop n (drop from bytes) i) ∙ take-append-drop from bytes)
+    ∙ ap (copy_within bytes from until) same
 
 pub entry_written : (bytes key value : List ℕ) (at k m : ℕ) → at + 3 + length key + length value ≤ length bytes → k ≡ length key → m ≡ length value
     → put_mid (at + 3 + length key) m (put_mid (at + 3) k (set (set (set bytes at (length key)) (at + 1) (length value / 256)) (at + 2) (length value % 256)) key) value ≡ with_entry bytes at (key, value)

@@ -13,6 +13,7 @@ use crate::sizes::{PAGE_SIZE, PageBytes};
 use crate::spot::{end_from, spot_after};
 
 /// Puts an entry in the place of the bytes between two places, up to where the last entry ends.
+#[tactic(auto, using(crate::proofs::Editing::placed))]
 fn splice(page: &mut PageBytes, at: usize, end: usize, used: usize, key: &[u8], value: &[u8])
     requires rest { IsByteRange end used 4096 }
     requires room { HasRoomFor (key.now, value.now) (at + (used - end)) 4096 }
@@ -33,6 +34,7 @@ fn set_count(page: &mut PageBytes, count: usize)
 }
 
 /// Puts an entry before the one at a place, and tells whether it had room.
+#[tactic(auto, using(crate::proofs::Editing::count_small, crate::proofs::PageEdits::inserted_size))]
 fn insert_in(
     page: &mut PageBytes,
     index: usize,

@@ -99,6 +99,7 @@ pub fn value_in(bytes: &[u8; 5200], at: usize) -> &[u8]
 }
 
 /// Moves the bytes between two places to another one.
+#[tactic(auto, using(crate::proofs::Writing::moved_nowhere))]
 pub fn move_bytes(bytes: &mut [u8], from: usize, end: usize, to: usize)
     requires { MayMove from end to (length bytes.old) }
     ensures { bytes.new ≡ copy_within bytes.old from end to }
@@ -110,6 +111,7 @@ pub fn move_bytes(bytes: &mut [u8], from: usize, end: usize, to: usize)
 }
 
 /// Writes an entry at a place.
+#[tactic(auto, using(crate::proofs::Writing::entry_written))]
 pub fn put_entry(bytes: &mut [u8], at: usize, key: &[u8], value: &[u8])
     requires { HasRoomFor (key.now, value.now) at (length bytes.old) }
     ensures { bytes.new ≡ with_entry bytes.old at (key.now, value.now) }

@@ -113,6 +113,7 @@ impl NodeBuf {
     }
 
     /// Finds a key where keys rise: its place, or that which it would have.
+    #[tactic(auto, using(crate::proofs::Laws::above_middle, crate::proofs::Laws::below_middle))]
     pub fn find(&self, key: &[u8]) -> Result<usize, usize>
         ensures { FindsKey key.now self.now.entries result }
     {

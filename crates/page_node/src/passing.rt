@@ -15,6 +15,7 @@ fn head_at(page: &PageBytes, at: usize) -> u32
 }
 
 /// Whether the four entries from a place on have the lengths of the last one, and end before the page does.
+#[tactic(auto, using(crate::proofs::Passed::passes_four))]
 fn four_in(page: &PageBytes, at: usize, last: &Lengths) -> bool
     requires { at ≤ 4096 }
     ensures { result ≡ true → ArePassed page.now at 4 (at + 4 * last.now.size) }
@@ -39,6 +40,7 @@ fn eight_in(page: &PageBytes, at: usize, last: &Lengths) -> bool
 }
 
 /// Where eight entries end that are looked at one by one.
+#[tactic(auto, using(crate::proofs::Passed::passes_none))]
 fn each_in(page: &PageBytes, at: usize, last: &mut Lengths) -> Option<usize>
     requires { at ≤ 4096 }
     ensures { Passes page.now at 8 result }

@@ -12,6 +12,7 @@ use crate::sizes::PageBytes;
 pub struct NotANode;
 
 /// How many entries the page has, and where they end, if it stands for a node.
+#[tactic(auto, using(crate::proofs::Editing::count_small, crate::proofs::Scanning::scanned_no_child))]
 pub fn scan(page: &PageBytes, ends: &mut [u16; 1366]) -> Option<usize>
     requires { get_or ends.old 0 0 ≡ 4 }
     ensures first { get_or ends.new 0 0 ≡ 4 }

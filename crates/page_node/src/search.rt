@@ -128,6 +128,7 @@ pub(crate) fn row_after(page: &PageBytes, from: RowNear, key: &[u8]) -> Option<R
 
 /// The value of a key in a page whose keys rise, if the key is there.
 #[inline(always)]
+#[tactic(auto, using(crate::proofs::Nearing::first_below, crate::proofs::Nearing::where_err))]
 pub fn value_for<'a>(page: &'a PageBytes, key: &[u8]) -> Result<Option<&'a [u8]>, NotANode>
     ensures value { (node : Node) → IsNode page.now node → Rises node.entries
         → IfOk result (λ found. option_copied found ≡ find key_cmp key.now node.entries) }
@@ -137,6 +138,7 @@ pub fn value_for<'a>(page: &'a PageBytes, key: &[u8]) -> Result<Option<&'a [u8]>
 }
 
 /// The same where each key before a place is known to be below this one.
+#[tactic(auto, using(crate::proofs::Scanning::lies_there))]
 pub fn value_after<'a>(
     page: &'a PageBytes,
     from: RowNear,
@@ -187,6 +189,7 @@ pub(crate) fn child_at(page: &PageBytes, value: usize, end: usize) -> Result<u32
 
 /// The child that a key belongs to: that of the entry before the first one whose key is above it. The first key is not looked
 /// at.
+#[tactic(auto, using(crate::proofs::Scanning::lies_there))]
 pub fn child_for(page: &PageBytes, key: &[u8]) -> Result<u32, NotANode>
     ensures child { (node : Node) → IsNode page.now node → IfOk result (λ child. option_map child_in (floor key.now node.entries) ≡ Some child) }
     ensures err { OnErr result ((node : Node) → IsNode page.now node → 0 < node.level → floor key.now node.entries ≡ None) }
@@ -269,6 +272,7 @@ pub(crate) struct WayDown {
 
 /// The child that a key belongs to, as `child_for` finds it, with the first entry whose key is above it, in a page whose keys rise
 /// after the first, which is not looked at.
+#[tactic(auto, using(crate::proofs::Scanning::lies_there))]
 pub(crate) fn turn_for(page: &PageBytes, key: &[u8]) -> Result<WayDown, NotANode>
     ensures { MatchResult result (IsWayDown page.now key.now) (λ _. NoWayDown page.now key.now) }
 {
@@ -314,6 +318,7 @@ pub struct Way<'a> {
 
 /// The child that a key belongs to, as `child_for` finds it, with the first key above it, in a page whose keys rise after the
 /// first, which is not looked at.
+#[tactic(auto, using(crate::proofs::Following::turn_bound, crate::proofs::Scanning::key_there))]
 pub fn way_for<'a>(page: &'a PageBytes, key: &[u8]) -> Result<Way<'a>, NotANode>
     ensures { FindsWay page.now key.now result }
 {
@@ -336,6 +341,7 @@ pub struct Place {
 }
 
 /// Where the entries from a key on begin in a page whose keys rise.
+#[tactic(auto, using(crate::proofs::Nearing::first_below, crate::proofs::Scanning::lies_there))]
 pub fn place_from(page: &PageBytes, key: &[u8]) -> Result<Place, NotANode>
     ensures place { FindsPlace page.now key.now result }
     ensures err { OnErr result ((node : Node) → IsNode page.now node → ⊥) }

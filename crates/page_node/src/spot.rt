@@ -21,6 +21,7 @@ pub(crate) struct Spot {
 }
 
 /// The spot of a key in a page whose keys rise, where each key before a place is known to be below this one.
+#[tactic(auto, using(crate::proofs::Scanning::lies_there))]
 pub(crate) fn spot_after(page: &PageBytes, from: RowNear, key: &[u8]) -> Result<Spot, NotANode>
     ensures { MatchResult result (IsSpotFrom page.now key.now from) (λ _. NoneFrom page.now key.now from) }
 {
@@ -84,6 +85,7 @@ fn passed_from(page: &PageBytes, from: RowNear) -> Option<RowNear>
 }
 
 /// Where the last entry of a page ends, from where one of them begins on.
+#[tactic(auto, using(crate::proofs::Scanning::lies_there))]
 pub(crate) fn end_from(page: &PageBytes, index: usize, at: usize) -> Result<usize, NotANode>
     requires { at ≤ 4096 }
     ensures { MatchResult result (IsEndFrom page.now index at) (λ _. NoneEnds page.now index at) }

@@ -24,6 +24,7 @@ struct Followed {
 }
 
 /// The children after an entry whose key begins with a prefix, up to the first whose upper key is missing or doesn't.
+#[tactic(auto, using(crate::proofs::Following::ways_there))]
 fn follow(
     page: &PageBytes,
     first: Above,

@@ -1,6 +1,6 @@
 -- Chains of pages.
 use Rattle.std.specs.{Bool.Decides, Int.{w32, from_be_bytes}, List.{AllByRecursion, IsDistinct, list_any}, Prelude.{Option, Some, None, MatchOption}}
-use Rattle.std.proofs.Common.{rules, ⊎_elim, cond, nat_eq, ◌*◌, ◌⊎◌, replicate, get_or, Bool, true, false, ◌||◌, ◌-◌, ◌≡◌, ◌≢◌, ◌<◌, ◌+◌, ℕ, zero, suc, List, [], ◌∷◌, length, inl, inr, refl, sym, ap, subst, ◌∙◌, arith, add-one}
+use Rattle.std.proofs.Common.{rules, ⊎_elim, cond, nat_eq, ◌*◌, ◌⊎◌, replicate, get_or, Bool, true, false, ◌-◌, ◌≡◌, ◌≢◌, ◌<◌, ◌+◌, ℕ, zero, suc, List, [], ◌∷◌, length, inl, inr, refl, sym, ap, subst, ◌∙◌, arith, add-one}
 use Rattle.{std.proofs.lemmas.{Bool.{cases_eq, cases_Bool, ne_eqb, Decides.{Decides-like, Decides-below_and, Decides-eqb}}, List.get_or-replicate}, page_store.specs.Chain.IsMeta}
 use Rattle.{std.proofs.lemmas.Map.Steps.length-le_from_distinct_below, gate_journal.specs.{Writes.IsEdited, claim.{Store.{word, put, overlay}, Writes.writes_of}}}
 use Rattle.{gate_journal.specs.declared.writes.PageWrites.PageWrites, page_store.specs.claim.Chain.{are_zero, is_blank, chain, free_in, IsIn, AreFree, IsPages}}
@@ -34,11 +34,10 @@ link_blank page others = (blank_decides page).1 (λ k some lt. others k (λ none
 
 -- one that counts is blank, and itself
 is_counted : (b : Bool) (q : ℕ) → 0 < cond b q 0 → b ≡ true
-is_counted true q some = refl
-is_counted false q some = absurd (omega arith)
+is_counted b q some = search arith
 
 pub counts : (b : Bool) (q : ℕ) → b ≡ true → cond b q 0 ≡ q
-counts b q is = ap (λ (c : Bool). cond c q 0) is
+counts b q is = search is
 
 pub first_blank : (n : ℕ) (P : Image) (first count : ℕ) → 0 < count → AreFree n (chain P first count) → is_blank (P first) ≡ true
 first_blank n P first zero some free = absurd (omega arith)
@@ -63,27 +62,24 @@ chain_kept n P Q first (suc count) free same =
     λ i. here i ∷ rest i
 
 pub chain_put : (n : ℕ) (P Q : Image) (p : ℕ) (bytes : List ℕ) (first count : ℕ) → ((q : ℕ) → Q q ≡ put (p, bytes) P q) → AreFree n (chain P first count) → (IsIn p (chain P first count) → ⊥) → chain Q first count ≡ chain P first count
-chain_put n P Q p bytes first count is free off = chain_kept n P Q first count free
-    (λ q there. is q ∙ put_off (p, bytes) P q (λ e. off (subst (λ (r : ℕ). IsIn r (chain P first count)) e there)))
+chain_put n P Q p bytes first count is free off = search (rules, chain_kept n P Q, put_off (p, bytes) P)
 
 -- a page is taken from the start
 pub chain_pop : (P : Image) (first next count : ℕ) → 0 < count → is_blank (P first) ≡ true → (count ≢ 1 → next ≡ word (P first) 0) → chain P first count ≡ first ∷ chain P next (count - 1)
-chain_pop P first next zero some blank is = absurd (omega arith)
-chain_pop P first next (suc zero) some blank is = ap (λ (q : ℕ). q ∷ []) (counts (is_blank (P first)) first blank)
 chain_pop P first next (suc (suc count)) some blank is =
     let less : suc (suc count) - 1 ≡ suc count = omega arith in
     let link : word (P first) 0 ≡ next = sym (is (λ e. omega arith)) in
-    ap (λ (q : ℕ). q ∷ chain P (word (P first) 0) (suc count)) (counts (is_blank (P first)) first blank)
-    ∙ ap (λ (f : ℕ). first ∷ chain P f (suc count)) link ∙ ap (λ (k : ℕ). first ∷ chain P next k) (sym less)
+    search (less, link, counts)
+chain_pop P first next (suc zero) some blank is = ap (λ (q : ℕ). q ∷ []) (counts (is_blank (P first)) first blank)
+chain_pop P first next zero some blank is = absurd (omega arith)
 
 -- ---- free pages
 pub below_free : (n : ℕ) (qs : List ℕ) (q : ℕ) → AreFree n qs → IsIn q qs → (0 < q) × (q < n)
+below_free n (p ∷ qs) q free there = search (arith, below_free n qs q)
 below_free n [] q free there = absurd there
-below_free n (p ∷ qs) q free (inl is) = let a = free.0 in let b = free.1 in (omega arith, omega arith)
-below_free n (p ∷ qs) q free (inr there) = below_free n qs q free.3 there
 
 pub not_meta : (n : ℕ) (qs : List ℕ) → AreFree n qs → IsIn 0 qs → ⊥
-not_meta n qs free there = let both = below_free n qs 0 free there in let some = both.0 in omega arith
+not_meta n qs free there = search (arith, below_free n qs 0 free there)
 
 differ : (x : ℕ) (ys : List ℕ) → (IsIn x ys → ⊥) → AllByRecursion (λ y. eqb x y ≡ false) ys
 differ x [] off = tt
@@ -95,11 +91,8 @@ distinct n [] free = tt
 distinct n (q ∷ qs) free = (differ q qs free.2, distinct n qs free.3)
 
 is_in : (q : ℕ) (qs : List ℕ) → list_any (eqb q) qs ≡ true → IsIn q qs
+is_in q (p ∷ qs) is = search (rules, cases_eq q p, is_in q qs, ne_eqb)
 is_in q [] is = cc
-is_in q (p ∷ qs) is = elim (cases_eq q p) [
-  | inl here ↦ inl here
-  | inr off ↦ inr (is_in q qs (subst (λ (b : Bool). (b || list_any (eqb q) qs) ≡ true) (ne_eqb q p off) is))
-]
 
 -- there is room for one more
 pub room_left : (n p : ℕ) (qs : List ℕ) → 0 < p → p < n → AreFree n qs → (IsIn p qs → ⊥) → length qs + 1 < n
@@ -115,11 +108,7 @@ room_left n p qs some lt free off =
 pub meta_words : (s t u : List ℕ) (root first count : ℕ) → word s 0 ≡ root → word t 1 ≡ first → word u 2 ≡ count → ((k : ℕ) → k ≢ 1 → word t k ≡ word s k)
     → ((k : ℕ) → k ≢ 2 → word u k ≡ word t k)
     → (Q : Image) → Q 0 ≡ u → IsMeta Q root first count
-meta_words s t u root first count root_is first_is count_is second third Q at = record {
-  root_is = ap (λ (x : List ℕ). word x 0) at ∙ third 0 (λ e. omega arith) ∙ second 0 (λ e. omega arith) ∙ root_is;
-  first_is = ap (λ (x : List ℕ). word x 1) at ∙ third 1 (λ e. omega arith) ∙ first_is;
-  count_is = ap (λ (x : List ℕ). word x 2) at ∙ count_is;
-}
+meta_words s t u root first count root_is first_is count_is second third Q at = search (arith, third 0, second 0, third 1)
 
 -- the chain that such a page begins
 pub free_is : (Q : Image) (root first count : ℕ) → IsMeta Q root first count → free_in Q ≡ chain Q first count
@@ -131,12 +120,7 @@ meta_free n P Q page root first count is meta free = free_is Q root first count 
 
 pub meta_pages : (n : ℕ) (Q : Image) (root first count : ℕ) (qs : List ℕ) → IsMeta Q root first count → root < n → first < n → count < n → free_in Q ≡ qs → AreFree n qs
     → IsPages n Q
-meta_pages n Q root first count qs meta root_lt first_lt count_lt is free = record {
-  root = omega (arith, meta.root_is);
-  first = omega (arith, meta.first_is);
-  count = omega (arith, meta.count_is);
-  free = subst (λ (ps : List ℕ). AreFree n ps) (sym is) free;
-}
+meta_pages n Q root first count qs meta root_lt first_lt count_lt is free = search arith
 
 -- a page is put at the start
 pub chain_push : (n : ℕ) (P Q : Image) (p : ℕ) (link : List ℕ) (first count : ℕ) → ((q : ℕ) → Q q ≡ put (p, link) P q) → word link 0 ≡ first → is_blank link ≡ true

@@ -1,5 +1,5 @@
 -- What the layers above need of a stop where a call read at most.
-use Rattle.{std.{specs.Prelude.{◌≡◌, ℕ, false}, proofs.{Common.{rules, inl, inr, refl, sym, subst, ◌∙◌}, lemmas.Bool.cases_Bool}}, gate_journal.specs.claim.Store.Opens}
+use Rattle.{std.{specs.Prelude.{◌≡◌, ℕ, false}, proofs.{Common.{rules, inl, inr, sym, subst, ◌∙◌}, lemmas.Bool.cases_Bool}}, gate_journal.specs.claim.Store.Opens}
 use Rattle.{gate_journal.specs.{claim.Contents.{content, page_count, journal_size}, declared.journal.Journal.Journal}, page_store.specs.declared.pages.Pages.Pages}
 use Rattle.{page_store.specs.claim.Transactions.{stored, disk_in, has_halted, IsQuiet, IsKept, HasFailed, Passed}, sector_device.specs.claim.Disk.{Disk, Image, Touches, Nowhere}}
 use Rattle.sector_device.{specs.{claim.Moments.LeavesOnly, declared.SectorDevice.Ghosts}, proofs.Moments.{now_but, leaves_still, touches_none, touches_more}}
@@ -13,12 +13,12 @@ pub kept_still : (J n K m : ℕ) (b c : Disk) (P Q : Image) → K ≡ J → m �
 kept_still J n K m b c P Q same_journal same_count same kept bc x leaves =
     let but = now_but Nowhere b c bc x leaves in
     let there : Opens J n P x = subst (λ (y : Image). Opens J n P y) (λ i k. (sym (but.2.same k (λ none. none))) i) (kept but.0 but.1) in
-    subst (λ (k : ℕ). Opens k m Q x) (sym same_journal) (subst (λ (k : ℕ). Opens J k Q x) (sym same_count) (subst (λ (R : Image). Opens J n R x) (sym same) there))
+    rw (same_journal, same_count, same) there
 
 module _ {D : Type 0} {g : Ghosts D} (old new : Pages D g) (quiet : IsQuiet old new) (honest : (disk_in new).is_honest) where
   -- what is so of the pages, and stays so where they hadn't halted
   by_halt : (Q : Journal D g → Type 0) → Q old.journal → (has_halted old ≡ false → Q new.journal) → Q new.journal
-  by_halt Q was moved = elim (cases_Bool (has_halted old)) [ inl halted ↦ subst Q (sym (quiet.still halted)) was | inr working ↦ moved working ]
+  by_halt Q was moved = search (rules, cases_Bool (has_halted old), quiet.still)
 
   -- a call that read at most: the pages are kept, also by pages that have halted
   pub kept_quiet : IsKept old → IsKept new
@@ -52,7 +52,7 @@ module _ {D : Type 0} {g : Ghosts D} where
   }
 
   pub passed_none : (a : Pages D g) → Passed a a
-  passed_none a = record { quiet = quiet_none a; halted = refl; faults = λ honest. refl }
+  passed_none a = search (rules, quiet_none)
 
   pub passed_more : (a b c : Pages D g) → Passed a b → Passed b c → Passed a c
   passed_more a b c ab bc = search (rules, quiet_more a b c ab.quiet bc.quiet)

@@ -119,6 +119,7 @@ impl<D: SectorDevice> Pages<D> {
     }
 
     /// How many pages are free.
+    #[tactic(auto, using(crate::proofs::Chains::length_chain))]
     pub fn free_pages(&self) -> u32
         ensures { has_halted self.now ≡ false → (disk_in self.now).is_honest → result ≡ length (free_in (stored self.now)) }
     {

@@ -69,6 +69,7 @@ impl Txn {
     ghost use Rattle.page_store.specs.Lent.{lent_bytes};
 
     /// Reads a page, its own write before the stored one. The pages are those that began it.
+    #[tactic(auto, using(gate_journal::proofs::Images::overlay_off))]
     pub fn read<D: SectorDevice>(
         &self,
         pages: &mut Pages<D>,
@@ -90,6 +91,7 @@ impl Txn {
     /// Lends a page as `read` would read it, at one of 16 places. `Pages::lent` shows the bytes where they lie, until another page
     /// is lent at that place.
     #[inline(always)]
+    #[tactic(auto, using(gate_journal::proofs::Images::overlay_off))]
     pub fn lend<'t, D: SectorDevice>(
         &'t self,
         pages: &mut Pages<D>,
@@ -246,6 +248,7 @@ impl Txn {
     }
 
     /// How many pages are free in this transaction.
+    #[tactic(auto, using(crate::proofs::Chains::length_chain))]
     pub fn free_pages(&self) -> u32
         ensures { (P : Image) → result ≡ length (free_over self.now P) }
     {

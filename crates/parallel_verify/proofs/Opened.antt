@@ -1,7 +1,7 @@
 -- What is seen in pages that a reader opened.
 use Rattle.{std.{specs.Prelude.{Option, IfSome}, proofs.Common.{◌≡◌, ◌+◌, ℕ, Bool, false, sym, ap, subst, ◌∙◌, arith}}, page_store.specs.Transactions.OpenErr}
-use Rattle.page_store.specs.{claim.Transactions.{stored, disk_in, count_of, journal_of, has_halted, IsQuiet}, declared.pages.Pages.Pages, gate_journal.Recovery.{Found, HasRoom}}
-use Rattle.{page_store.specs.gate_journal.{claim.Store.home, declared.error.PageError.PageError}, parallel_verify.specs.Looking.{IsLookOf, IsUnopened, LooksAs, LooksBy}}
+use Rattle.page_store.specs.{claim.Transactions.{stored, disk_in, device_in, count_of, journal_of, has_halted, IsQuiet}, declared.pages.Pages.Pages, gate_journal.claim.Store.home}
+use Rattle.{page_store.specs.gate_journal.{Recovery.{Found, HasRoom}, declared.error.PageError.PageError}, parallel_verify.specs.Looking.{IsLookOf, IsUnopened, LooksAs, LooksBy}}
 use Rattle.{parallel_verify.specs.declared.look.Look.{Look, TheVariants.{Sound, Unsound, Failed}}, sector_device.specs.{claim.Disk.{Disk, Image}, declared.SectorDevice.Ghosts}}
 use Rattle.desk_pages.proofs.Found.{found_after}
 
@@ -29,7 +29,7 @@ module _ {X D : Type 0} (g : Ghosts D) (finds : ℕ → Image → X → Type 0) 
     seen_in given halted Failed halts seen is = λ honest. omega (arith, quiet.rose working (sym halts ∙ is) honest, passed (quiet.honest honest))
 
     -- and given back
-    pub looked : (left : Disk) → left ≡ disk_in b → (given : Option X) (halted : Bool) (look : Look X) → halted ≡ has_halted b → ((disk_in b).is_honest → IfSome given (finds (count_of a) (stored a)))
-        → IsLookOf given halted look → LooksBy finds old left look
+    pub looked : (left : D) → left ≡ device_in b → (given : Option X) (halted : Bool) (look : Look X) → halted ≡ has_halted b → ((disk_in b).is_honest → IfSome given (finds (count_of a) (stored a)))
+        → IsLookOf given halted look → LooksBy finds old (g.disk left) look
     looked left is given halted look halts seen of =
-        subst (λ (disk : Disk). LooksBy finds old disk look) (sym is) (record { sectors = same_sectors g a b quiet ∙ size; looked = seen_in given halted look halts seen of })
+        subst (λ (d : D). LooksBy finds old (g.disk d) look) (sym is) (record { sectors = same_sectors g a b quiet ∙ size; looked = seen_in given halted look halts seen of })

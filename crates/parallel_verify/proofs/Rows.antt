@@ -2,11 +2,15 @@
 use Rattle.{std.{specs.Prelude.{Option, Some, None, is_some}, proofs.Common.{◌≡◌, ℕ, List, Bool, true, false, sym, subst}}, desk_check.specs.Checking.TellsDesk}
 use Rattle.{desk_model.specs.declared.ranges.CountyRange.CountyRange, desk_store.specs.store_sweep.claim.Checks.AreSoundHoldings, page_btree.specs.claim.Map.InTxn}
 use Rattle.{page_store.specs.{claim.Transactions.{stored, disk_in, count_of, IsQuiet}, declared.{pages.Pages.Pages, txn.Txn.Txn}}, row_owners.specs.Strays.IsChecked}
-use Rattle.{parallel_verify.specs.Looking.{OfRows, TellsNewDesk, TellsRows}, row_owners.specs.declared.wrong.WrongRow.WrongRow, sector_device.specs.claim.Disk.Image}
+use Rattle.{parallel_verify.specs.Looking.{Finds, OfRows, TellsNewDesk, TellsRows}, row_owners.specs.declared.wrong.WrongRow.WrongRow, sector_device.specs.claim.Disk.Image}
 use Rattle.{sector_device.specs.declared.SectorDevice.Ghosts, store_rows.specs.claim.{Keys.version, Rows.{KeyMap, row_in}, Tidy.version_row}}
 use Rattle.desk_store.proofs.Prepared.{IsBegun, begun_rows}
 
 module _ {D : Type 0} {g : Ghosts D} where
+  -- nothing was found in pages that were only read
+  pub not_found : {X : Type 0} (finds : ℕ → Image → X → Type 0) (a b : Pages D g) → IsQuiet a b → Finds finds a b None
+  not_found finds a b quiet = record { quiet = quiet; found = λ honest. tt }
+
   still : (t : Txn) (a b : Pages D g) (m : KeyMap) → IsQuiet a b → (disk_in b).is_honest → InTxn t (stored a) m → InTxn t (stored b) m
   still t a b m quiet honest held = subst (λ (P : Image). InTxn t P m) (sym (quiet.same honest)) held
 

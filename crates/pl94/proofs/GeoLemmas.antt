@@ -2,12 +2,12 @@
 use Rattle.std.{specs.{Io.KnownBytes.{Consumes, IsAtEnd}, List.cons_option, Option.option_map_or, Str.Lines.lines}, proofs.lemmas.Bool.{eqb-true, not-false, or_parts}}
 use Rattle.std.proofs.Common.{◌≡◌, ◌≢◌, ℕ, ◌+◌, ◌<◌, false, not, eqb, List, [], ◌∷◌, ◌++◌, length, get_or, Option, Some, None, Result, Ok, Err, IfSome, IfOk, refl, sym, ap, ◌∙◌, arith, nat_eq, length-append, All, rules}
 use Rattle.{std.proofs.lemmas.{Bool.Decides.nat_tests, List.Elements.{All-cons, All-tail}}, byte_stream.specs.{Reading.{IsLastLine, Gives, Reading}, claim.Judged.AreGood}}
-use Rattle.{byte_stream.specs.{claim.Reading.{BeginsWithLine, line_limit}, declared.reader.ReadFault.ReadFault}, desk_model.specs.claim.Block.state_of, pl94.specs.Entries.IsEntry}
+use Rattle.{byte_stream.specs.{claim.Reading.line_limit, declared.reader.ReadFault.ReadFault}, desk_model.specs.claim.Block.state_of, pl94.specs.Entries.IsEntry}
 use Rattle.pl94.specs.{GeoFile.{row_ids, AreGeoRows, Finishes, told, refused}, Holding.{Holds, Judges}, claim.GeoFile.{IsRead, failures_after_file}, declared.geo.GeoFault.GeoFault}
 use Rattle.pl94.specs.{claim.Judging.{ids_of, blocks_of, other_state, entries, judge, judged}, declared.entry.{GeoRecord.GeoRecord, HeaderLineFault.TheVariants.Shape}}
 use Rattle.pl94.specs.declared.{geo.GeoRows.GeoRows, header.{Header.Header, HeaderRefusal.{HeaderRefusal, TheVariants.{Fault, Memory}}}}
 use Rattle.{byte_stream.proofs.JudgedLemmas.{good_more, lines-ended, lines-last_one}, pl94.proofs.HoldingLemmas.{length-blocks_of, row_ids-blocks_of}}
-use Rattle.pl94.proofs.LineLemmas.{AreJudged, judged_on, line_told, last_told, long_told, cut_told}
+use Rattle.pl94.proofs.LineLemmas.{AreJudged, NextLine, judged_on, line_told, long_told, cut_told}
 use Rattle.byte_stream.specs.declared.reader.ReadFault.TheVariants as read
 use Rattle.pl94.specs.declared.geo.GeoFault.TheVariants as fault
 
@@ -74,24 +74,18 @@ module _ (old between left : Option (List ℕ)) (was more : List ℕ) (number : 
       → ((ls : List (List ℕ)) → Holds h (entries ls) → Judges ls line (Ok u) new) → ((es : List GeoRecord) → Holds new es → Finishes es (number + 1) result) → Told old left result
   told_last_end line new u result end l judged f =
       let s = stands_on in
-      let is = judged s.ls s.known in (
-        s.text,
-        s.consumed,
-        finished s.text left (s.ls ++ line ∷ []) (number + 1) result end (lines-last_one s.text _ line s.ls s.begins l) (good_more judge s.ls line s.good is.0)
-            (omega (arith, s.counted, length-append s.ls (line ∷ []))) (f (entries (s.ls ++ line ∷ [])) is.1),
-      )
+      let is = judged s.ls s.known in
+      let ls = s.ls ++ line ∷ [] in
+      let counted : number + 1 ≡ length ls = omega (arith, s.counted, length-append s.ls (line ∷ [])) in
+      let cut = lines-last_one s.text _ line s.ls s.begins l in
+      (s.text, s.consumed, finished s.text left ls (number + 1) result end cut (good_more judge s.ls line s.good is.0) counted (f (entries ls) is.1))
 
   -- ---- why no rows are given
 
-  pub told_refused : (given line rest : List ℕ) (new : Header) (r : HeaderRefusal) (e : GeoFault) → e ≡ refused r (number + 1) → given ≡ line
-      → BeginsWithLine (was ++ more) line rest → ((ls : List (List ℕ)) → Holds h (entries ls) → Judges ls given (Err r) new) → Told old left (Err e)
-  told_refused given line rest new (Fault f) e is same l judged = rw is (line_told judge _ old left _ number stands_on given line rest f same l judged)
-  told_refused given line rest new Memory e is same l judged = rw is (stands_on.text, stands_on.consumed, tt)
-
-  pub told_refused_last : (given line : List ℕ) (new : Header) (r : HeaderRefusal) (e : GeoFault) → e ≡ refused r (number + 1) → given ≡ line → IsAtEnd left
-      → IsLastLine (was ++ more) line → ((ls : List (List ℕ)) → Holds h (entries ls) → Judges ls given (Err r) new) → Told old left (Err e)
-  told_refused_last given line new (Fault f) e is same end l judged = rw is (last_told judge _ old left _ number stands_on given line f same end l judged)
-  told_refused_last given line new Memory e is same end l judged = rw is (stands_on.text, stands_on.consumed, tt)
+  pub told_refused : (given line : List ℕ) (new : Header) (r : HeaderRefusal) (e : GeoFault) → e ≡ refused r (number + 1) → given ≡ line
+      → NextLine left (was ++ more) line → ((ls : List (List ℕ)) → Holds h (entries ls) → Judges ls given (Err r) new) → Told old left (Err e)
+  told_refused given line new (Fault f) e is same l judged = rw is (line_told judge _ old left _ number stands_on given line f same l judged)
+  told_refused given line new Memory e is same l judged = rw is (stands_on.text, stands_on.consumed, tt)
 
   pub told_fault : (f : ReadFault) (r : Reading) (e : GeoFault) → e ≡ told f (number + 1) → Gives (was ++ more) left (Err f) r → Told old left (Err e)
   told_fault read.TooLong r e is gives = rw is (long_told judge _ old left _ number stands_on Shape gives long_judged)

@@ -143,5 +143,4 @@ judges ls line e (Err (Fault f)) new is took = ap (judged (entries ls)) is ∙ t
 judges ls line e (Err Memory) new is took = tt
 
 pub none_from_test : (o : Option ℕ) → is_some o ≡ false → o ≡ None
-none_from_test None e = refl
-none_from_test (Some x) e = absurd (cc)
+none_from_test o e = grind arith

@@ -44,12 +44,9 @@ are_blocks geo first rows valid same sorted few =
     let from : IsPermutation (row_ids geo.blocks.items) (ids_of rows) =
     subst (λ (xs : List ℕ). IsPermutation xs (ids_of rows)) (map-map (λ b. b.id) (row_of first) geo.blocks.items) ids in
     let as_many : length (rows_of geo first) ≡ length geo.blocks.items = length-map geo.blocks.items (row_of first) in
-    record {
-      some = omega (arith, valid.some);
-      few = omega (arith, valid.few);
-      rising = IsStrictlyIncreasing-from_distinct (ids_of rows) sorted
-          (IsDistinct-IsPermutation nat_eq nat_eq_equiv.symm (row_ids geo.blocks.items) (ids_of rows) from valid.distinct);
-      one_state = all_as_first (state_of (get_or (row_ids geo.blocks.items) 0 0)) (ids_of rows)
-          (All-permutation (λ (id : ℕ). state_of id ≡ state_of (get_or (row_ids geo.blocks.items) 0 0)) (row_ids geo.blocks.items) (ids_of rows) from valid.one_state);
-      people = subst (λ (n : ℕ). n < 2 ^ 32) (sym (sum_by-IsPermutation (λ (b : BlockRow). b.population) (rows_of geo first) rows same)) few;
-    }
+    let distinct = IsDistinct-IsPermutation nat_eq nat_eq_equiv.symm (row_ids geo.blocks.items) (ids_of rows) from valid.distinct in
+    let rising = IsStrictlyIncreasing-from_distinct (ids_of rows) sorted distinct in
+    let one_state = all_as_first (state_of (get_or (row_ids geo.blocks.items) 0 0)) (ids_of rows)
+    (All-permutation (λ (id : ℕ). state_of id ≡ state_of (get_or (row_ids geo.blocks.items) 0 0)) (row_ids geo.blocks.items) (ids_of rows) from valid.one_state) in
+    let people = subst (λ (n : ℕ). n < 2 ^ 32) (sym (sum_by-IsPermutation (λ (b : BlockRow). b.population) (rows_of geo first) rows same)) few in
+    record { some = omega (arith, valid.some); few = omega (arith, valid.few); rising = rising; one_state = one_state; people = people }

@@ -1,9 +1,7 @@
-pub mod FieldLemmas
 pub mod FilesLemmas
 pub mod GeoLemmas
 pub mod HoldingLemmas
 pub mod JoinLemmas
-pub mod LeastLemmas
 pub mod LineLemmas
 pub mod RunLemmas
 pub mod SegLemmas

@@ -1,6 +1,6 @@
 -- The lines of a text, judged one after the other while it is read.
 use Rattle.std.{specs.Io.KnownBytes.{Consumes, IsAtEnd}, proofs.{KnownBytes.{Consumes-nil, Consumes-trans}, lemmas.List.append-nil}}
-use Rattle.std.proofs.Common.{All, arith, ◌∙◌, append_assoc, ◌≡◌, ℕ, ◌+◌, ◌<◌, List, [], ◌∷◌, ◌++◌, length, Option, Some, None, refl, sym, subst, length-append, rules}
+use Rattle.std.proofs.Common.{All, arith, ◌⊎◌, inl, inr, ◌∙◌, append_assoc, ◌≡◌, ℕ, ◌+◌, ◌<◌, List, [], ◌∷◌, ◌++◌, length, Option, Some, None, refl, sym, subst, length-append, rules}
 use Rattle.{std.proofs.lemmas.List.Elements.{All-contains, Contains-append_right}, byte_stream.specs.Reading.{IsLastLine, IsTooLong}}
 use Rattle.byte_stream.specs.claim.{Judged.{Judge, AreGood, ShowsFault, IsCutShort, BeginsWithLines}, Reading.{BeginsWithLine, IsBroken, line_limit}}
 use Rattle.byte_stream.proofs.JudgedLemmas.{begins, begins_more, begins_line, good_none, good_more, shown_line, shown_last, shown_long, cut_short}
@@ -15,17 +15,15 @@ pub record AreJudged {F : Type 0} (judge : Judge F) (Known : List (List ℕ) →
   pub known : Known ls
   pub counted : number ≡ length ls
 
+-- the text that is held begins with this line, or it is the last line
+abbrev pub NextLine : Option (List ℕ) → List ℕ → List ℕ → Type 0
+NextLine left held line = ((rest : List ℕ) × BeginsWithLine held line rest) ⊎ (IsAtEnd left × IsLastLine held line)
+
 module _ {F : Type 0} (judge : Judge F) where
   pub judged_none : (Known : List (List ℕ) → Type 0) (left : Option (List ℕ)) (held : List ℕ) → held ≡ [] → Known [] → AreJudged judge Known left left held 0
-  judged_none Known left held none known = record {
-    text = [];
-    ls = [];
-    consumed = Consumes-nil left;
-    begins = subst (BeginsWithLines [] []) (sym none) (begins []);
-    good = good_none judge;
-    known = known;
-    counted = refl;
-  }
+  judged_none Known left held none known =
+      let begun = subst (BeginsWithLines [] []) (sym none) (begins []) in
+      record { text = []; ls = []; consumed = Consumes-nil left; begins = begun; good = good_none judge; known = known; counted = refl }
 
   module _ (Known : List (List ℕ) → Type 0) (old left : Option (List ℕ)) (held : List ℕ) (number : ℕ) (s : AreJudged judge Known old left held number) where
     -- a good line
@@ -33,14 +31,11 @@ module _ {F : Type 0} (judge : Judge F) where
         → AreJudged judge New old left rest (number + 1)
     judged_more New line rest l judged = let is = judged s.ls s.known in search (rules, is, begins_line, good_more, length-append)
 
-    -- a faulty one
-    pub line_told : (given line rest : List ℕ) (f : F) → given ≡ line → BeginsWithLine held line rest → ((ls : List (List ℕ)) → Known ls → judge ls given ≡ Some f)
+    -- a faulty one, which ends or is the last
+    pub line_told : (given line : List ℕ) (f : F) → given ≡ line → NextLine left held line → ((ls : List (List ℕ)) → Known ls → judge ls given ≡ Some f)
         → (text : List ℕ) × Consumes old left text × ShowsFault judge text left (number + 1) f
-    line_told given line rest f same l judged = (s.text, s.consumed, rw s.counted (shown_line judge s.text held line rest left s.ls f s.begins l s.good (rw (← same) (judged s.ls s.known))))
-
-    pub last_told : (given line : List ℕ) (f : F) → given ≡ line → IsAtEnd left → IsLastLine held line → ((ls : List (List ℕ)) → Known ls → judge ls given ≡ Some f)
-        → (text : List ℕ) × Consumes old left text × ShowsFault judge text left (number + 1) f
-    last_told given line f same end l judged = (s.text, s.consumed, rw s.counted (shown_last judge s.text held line left s.ls f s.begins end l s.good (rw (← same) (judged s.ls s.known))))
+    line_told given line f same (inl l) judged = (s.text, s.consumed, rw s.counted (shown_line judge s.text held line l.0 left s.ls f s.begins l.1 s.good (rw (← same) (judged s.ls s.known))))
+    line_told given line f same (inr l) judged = (s.text, s.consumed, rw s.counted (shown_last judge s.text held line left s.ls f s.begins l.0 l.1 s.good (rw (← same) (judged s.ls s.known))))
 
     pub long_told : (f : F) → IsTooLong held → ((ls : List (List ℕ)) (line : List ℕ) → line_limit < length line → judge ls line ≡ Some f)
         → (text : List ℕ) × Consumes old left text × ShowsFault judge text left (number + 1) f

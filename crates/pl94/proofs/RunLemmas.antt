@@ -9,8 +9,7 @@ unfolding people_of
 people_by rows n o is = ap (λ (o : Option ℕ). or_else o (get nat_cmp rows.others n)) is
 
 either_none : (b : Bool) (o : Option ℕ) → o ≡ None → cond b None o ≡ None
-either_none true o none = refl
-either_none false o none = none
+either_none b o none = grind arith
 
 -- no record yet
 pub holds_none : (rows : SegRows) → rows.run.items ≡ [] → rows.others.entries ≡ [] → Holds rows []
@@ -35,8 +34,7 @@ in_place first number n from inside = by_case (eqb number n) refl
     by_case false is = grind (arith, nat_tests)
 
 or_else-cond : (b : Bool) (p : ℕ) (o other : Option ℕ) → or_else (cond b (Some p) o) other ≡ cond b (Some p) (or_else o other)
-or_else-cond true p o other = refl
-or_else-cond false p o other = refl
+or_else-cond b p o other = grind arith
 
 -- in the run
 pub grows_in_run : (old mid new : SegRows) (r : SegRecord) → ((n : ℕ) → people_of mid n ≡ people_of old n) → mid.first ≤ r.number → new.first ≡ mid.first → new.others ≡ mid.others
@@ -55,8 +53,7 @@ grows_in_run old mid new r same from first others run = λ none n. by_place n (l
     by_place n false is = search (rules, in_place, or_else-cond)
 
 first_none : (o other : Option ℕ) → or_else o other ≡ None → o ≡ None
-first_none None other none = refl
-first_none (Some p) other none = absurd (cc)
+first_none o other none = grind arith
 
 -- among the others
 pub grows_outside : (old mid new : SegRows) (r : SegRecord) → ((n : ℕ) → people_of mid n ≡ people_of old n) → new.first ≡ mid.first → new.run ≡ mid.run

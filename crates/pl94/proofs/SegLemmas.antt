@@ -1,24 +1,20 @@
 -- A segment line by line, and as a whole.
 use Rattle.std.{specs.{Io.KnownBytes.{Consumes, IsAtEnd}, List.cons_option, Result.result_ok, Str.Lines.lines}, proofs.lemmas.Bool.Decides.nat_tests}
-use Rattle.std.proofs.Common.{◌≡◌, ℕ, ◌+◌, ◌<◌, Bool, true, false, cond, ◌||◌, eqb, List, [], ◌∷◌, ◌++◌, length, Option, Some, None, Result, Ok, Err, is_some, refl, sym, ap, subst, ◌∙◌, arith, rules}
-use Rattle.{std.proofs.lemmas.List.Elements.filter_map-append, byte_stream.specs.{Reading.{IsLastLine, Gives, Reading}, claim.Judged.AreGood, declared.reader.ReadFault.ReadFault}}
-use Rattle.{byte_stream.specs.claim.Reading.{BeginsWithLine, line_limit}, pl94.specs.{SegFile.{Holds, Takes, Judges, told, refused}, claim.SegFile.{people_of, IsSegment, IsRead}}}
+use Rattle.std.proofs.Common.{◌≡◌, ℕ, ◌+◌, ◌<◌, Bool, true, false, cond, eqb, List, [], ◌∷◌, ◌++◌, length, Option, Some, None, Result, Ok, Err, is_some, refl, sym, ap, subst, ◌∙◌, arith, rules}
+use Rattle.{std.proofs.lemmas.List.Elements.filter_map-append, byte_stream.specs.{Reading.{IsLastLine, Gives, Reading}, claim.{Judged.AreGood, Reading.line_limit}}}
+use Rattle.{byte_stream.specs.declared.reader.ReadFault.ReadFault, pl94.specs.{SegFile.{Holds, Takes, Judges, told, refused}, claim.SegFile.{people_of, IsSegment, IsRead}}}
 use Rattle.pl94.specs.{claim.Records.{line_read, record_of, records, people_at, has_number, judged, judge}, declared.record.{SegRecord.SegRecord, SegmentNumber.SegmentNumber}}
 use Rattle.pl94.specs.{declared.record.SegmentLineFault.{SegmentLineFault, TheVariants.{Shape, RepeatedRecord}}, declared.segment.{SegFault.SegFault, SegRows.SegRows}}
 use Rattle.{pl94.specs.declared.segment.SegmentRefusal.{SegmentRefusal, TheVariants.{Fault, Memory}}, byte_stream.proofs.JudgedLemmas.{good_more, lines-ended, lines-last_one}}
-use Rattle.pl94.proofs.LineLemmas.{AreJudged, judged_on, line_told, last_told, long_told, cut_told}
+use Rattle.pl94.proofs.LineLemmas.{AreJudged, NextLine, judged_on, line_told, long_told, cut_told}
 use Rattle.byte_stream.specs.declared.reader.ReadFault.TheVariants as read
 
 -- ---- one more record
 
-some_either : (b : Bool) (p : ℕ) (o : Option ℕ) → is_some (cond b (Some p) o) ≡ (b || is_some o)
-some_either true p o = refl
-some_either false p o = refl
-
 -- a record of a number stands there where it has people
 pub has_number-is_some : (rs : List SegRecord) (n : ℕ) → has_number rs n ≡ is_some (people_at rs n)
 has_number-is_some [] n = refl
-has_number-is_some (r ∷ rs) n = ap (λ (b : Bool). eqb r.number n || b) (has_number-is_some rs n) ∙ sym (some_either (eqb r.number n) r.people (people_at rs n))
+has_number-is_some (r ∷ rs) n = grind (arith, has_number-is_some rs n)
 
 pub none_test : (o : Option ℕ) → o ≡ None → is_some o ≡ false
 none_test o none = ap is_some none
@@ -33,8 +29,7 @@ people_at-push (x ∷ rs) r q fresh = by_case (eqb x.number q) (eqb x.number r.n
     by_case a true d ia ib id none later = absurd (cc)
     by_case true false true ia ib id none later = absurd (let eq : x.number ≡ q = grind (arith, nat_tests) in let same : r.number ≡ q = grind (arith, nat_tests) in grind (arith, nat_tests))
     by_case true false false ia ib id none later = refl
-    by_case false false true ia ib id none later = later none ∙ ap (λ (b : Bool). cond b (Some r.people) (people_at rs q)) id
-    by_case false false false ia ib id none later = later none ∙ ap (λ (b : Bool). cond b (Some r.people) (people_at rs q)) id
+    by_case false false d ia ib id none later = later none ∙ ap (λ (b : Bool). cond b (Some r.people) (people_at rs q)) id
 
 -- the map with one more record
 pub holds_more : (old new : SegRows) (rs : List SegRecord) (r : SegRecord) → Holds old rs → people_of old r.number ≡ None
@@ -88,15 +83,10 @@ module _ (part : SegmentNumber) where
 
     -- ---- why no rows are given
 
-    pub told_refused : (given line rest : List ℕ) (new : SegRows) (r : SegmentRefusal) (e : SegFault) → e ≡ refused r (number + 1) → given ≡ line
-        → BeginsWithLine (was ++ more) line rest → ((ls : List (List ℕ)) → Holds h (records part ls) → Judges part ls given (Err r) new) → Told old left (Err e)
-    told_refused given line rest new (Fault f) e is same l judged = rw is (line_told (judge part) _ old left _ number stands_on given line rest f same l judged)
-    told_refused given line rest new Memory e is same l judged = rw is (stands_on.text, stands_on.consumed, tt)
-
-    pub told_refused_last : (given line : List ℕ) (new : SegRows) (r : SegmentRefusal) (e : SegFault) → e ≡ refused r (number + 1) → given ≡ line → IsAtEnd left
-        → IsLastLine (was ++ more) line → ((ls : List (List ℕ)) → Holds h (records part ls) → Judges part ls given (Err r) new) → Told old left (Err e)
-    told_refused_last given line new (Fault f) e is same end l judged = rw is (last_told (judge part) _ old left _ number stands_on given line f same end l judged)
-    told_refused_last given line new Memory e is same end l judged = rw is (stands_on.text, stands_on.consumed, tt)
+    pub told_refused : (given line : List ℕ) (new : SegRows) (r : SegmentRefusal) (e : SegFault) → e ≡ refused r (number + 1) → given ≡ line
+        → NextLine left (was ++ more) line → ((ls : List (List ℕ)) → Holds h (records part ls) → Judges part ls given (Err r) new) → Told old left (Err e)
+    told_refused given line new (Fault f) e is same l judged = rw is (line_told (judge part) _ old left _ number stands_on given line f same l judged)
+    told_refused given line new Memory e is same l judged = rw is (stands_on.text, stands_on.consumed, tt)
 
     pub told_fault : (f : ReadFault) (r : Reading) (e : SegFault) → e ≡ told f (number + 1) → Gives (was ++ more) left (Err f) r → Told old left (Err e)
     told_fault read.TooLong r e is gives = rw is (long_told (judge part) _ old left _ number stands_on Shape gives long_judged)

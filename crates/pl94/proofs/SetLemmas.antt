@@ -4,8 +4,7 @@ use Rattle.std.proofs.Common.{◌≡◌, ◌≢◌, ℕ, ◌/◌, ◌%◌, ◌^�
 use Rattle.{std.proofs.lemmas.Nat.Bits.{bit_at-zero, shr_and_one, bit_at_set_same, bit_at_set_other}, pl94.specs.declared.number_set.NumberSet.NumberSet}
 
 either_zero : (b : Bool) (x y : ℕ) → x ≡ 0 → y ≡ 0 → cond b x y ≡ 0
-either_zero true x y at other = at
-either_zero false x y at other = other
+either_zero b x y at other = grind arith
 
 -- a set without a bit
 pub none_yet : (s : NumberSet) → s.word ≡ 0 → s.others.entries ≡ [] → (n : ℕ) → has s n ≡ false

@@ -16,6 +16,7 @@ pub struct NumberSet {
 }
 
 impl NumberSet {
+    #[tactic(auto, using(crate::proofs::SetLemmas::none_yet))]
     pub fn new(alloc: Global) -> NumberSet
         ensures { (n : ℕ) → has result n ≡ false }
     {

@@ -105,6 +105,7 @@ fn put_at(run: &mut Vec<Option<u32>>, place: usize, people: u32) -> Result<(), A
 }
 
 impl SegRows {
+    #[tactic(auto, using(crate::proofs::RunLemmas::holds_none))]
     fn new(alloc: Global) -> SegRows
         ensures { Holds result [] }
     {

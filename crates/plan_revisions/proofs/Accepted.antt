@@ -1,6 +1,6 @@
 -- Lemmas on the definitions of Accepted.
 use Rattle.{std.{specs.{List.slice_get, Prelude.{◌==◌, not, nat_le}}, proofs.lemmas.Bool.{leb-false, eqb-true}}, desk_catalogue.specs.{Kept.revision_in, claim.Accepting.IsAfter}}
-use Rattle.std.proofs.Common.{rules, ◌≡◌, ◌<◌, ◌≤◌, ◌+◌, ◌-◌, ℕ, suc, Bool, cond, List, [], ◌∷◌, ◌++◌, length, Option, Some, None, Result, Ok, refl, sym, ap, ◌∙◌, arith}
+use Rattle.std.proofs.Common.{rules, ◌≡◌, ◌<◌, ◌≤◌, ◌+◌, ◌-◌, ℕ, suc, Bool, cond, List, [], ◌∷◌, ◌++◌, length, Option, Some, None, Result, Ok, refl, sym, ap, ◌∙◌, arith, length-append}
 use Rattle.desk_model.specs.{claim.{Baf.{Values, Fault}, Desk.{Plan, Desk}, Geography.GeographyModel, Subject.revision_at}, declared.{command.Command.Command, kind.Kind.Kind}}
 use Rattle.{desk_model.specs.claim.Room.{changed, revision_rows, added_rows, command_rows, fork_rows, forked_rows, last_revision}, plan_revisions.specs.Accepted.IsRevised}
 use Rattle.desk_model.specs.claim.Step.{step, step_at, create, on_revisions, whole_read, patch_read, county_patched, patched, refused, retired, fork, fork_from, fork_of, plan_limit, revision_limit, Outcome}
@@ -133,11 +133,6 @@ module _ (d : Desk) (name : List ℕ) (after : ℕ) where
   counties_revised body = counties_geography body d.geography refl
 
 -- ---- the revision that it got
-
-longer : (xs : List (List ℕ)) (x : List ℕ) → length (xs ++ x ∷ []) ≡ suc (length xs)
-longer [] x = refl
-longer (y ∷ ys) x = ap suc (longer ys x)
-
 at_more : (q : Plan) (n : ℕ) → revision_at q (suc n) ≡ slice_get q.revisions n
 at_more q n = ap (λ b. cond b None (slice_get q.revisions (suc n - 1))) (no_zero n) ∙ ap (λ k. slice_get q.revisions k) (omega arith)
 
@@ -145,7 +140,7 @@ at_next : (p : Plan) (districts : List ℕ) (k : ℕ) → k ≡ suc (length p.re
 at_next p districts k is = ap (λ n. revision_at (with_revision p districts) n) is ∙ at_more (with_revision p districts) (length p.revisions) ∙ end_of p.revisions districts
 
 pub last_of_next : (p : Plan) (districts : List ℕ) → last_revision (with_revision p districts) ≡ Some districts
-last_of_next p districts = at_next p districts (length (p.revisions ++ districts ∷ [])) (longer p.revisions districts)
+last_of_next p districts = at_next p districts (length (p.revisions ++ districts ∷ [])) (let long = length-append p.revisions (districts ∷ []) in omega arith)
 
 module _ (d : Desk) (name : List ℕ) (after : ℕ) (e : Desk) (r : IsRevised d name after e) where
   pub plan_then : map_of.get e.plans name ≡ Some (with_revision r.plan r.districts)

@@ -9,8 +9,7 @@ use Rattle.{sector_device.specs.declared.SectorDevice.Ghosts, store_rows.specs.d
 module _ {D : Type 0} {g : Ghosts D} where
   -- the step was made, or it is told why not
   abbrev pub Steps : {T : Type 0} → (Desk → Type 0) → (Desk → Desk) → ℕ → Txn → Txn → Pages D g → Pages D g → Result T TreeError → Type 0
-  Steps says next rows t u old new result =
-      Writes (λ _. HasStepped says next rows t u old new) (StepErr says rows t old new) u old new result
+  Steps says next rows t u old new result = Writes (λ _. HasStepped says next rows t u old new) (StepErr says rows t old new) u old new result
 
   -- the same of one that asks for numbers, where they were left
   abbrev pub StepsWhereLeft : (Desk → Type 0) → (Desk → Desk) → ℕ → (Counters → Type 0)

@@ -1,10 +1,9 @@
 -- Changes of a map that come one after the other.
 use Rattle.{std.proofs.Common.{rules, ◌≡◌, ◌≤◌, ◌+◌, ℕ, List, ◌++◌, length, refl, sym, ap, subst, ◌∙◌, arith, append_assoc, length-append}, desk_pages.specs.Reading.ReadErr}
 use Rattle.{desk_pages.specs.claim.Puts.{HasPut, HasDeepened, PutsErr}, page_btree.specs.{claim.{Errors.level_in, Map.InTxn}, declared.error.TreeError.TreeError}}
-use Rattle.{page_btree.specs.declared.error.TreeError.TheVariants.{DeviceFault, NotAStore, Halted, NoPages, TooDeep, Memory}, page_store.specs.declared.pages.Pages.Pages}
-use Rattle.{page_store.specs.{claim.Transactions.{stored, txn_root, over, IsQuiet, Passed}, declared.txn.Txn.Txn}, plan_rows.specs.ChunkChanging.{IsByRows, HasChanged, MapErr}}
-use Rattle.{sector_device.specs.declared.SectorDevice.Ghosts, store_rows.specs.claim.{Puts.{Row, put_rows}, Rows.KeyMap}, page_store.proofs.Stops.{passed_more, failed_more}}
-use Rattle.store_rows.proofs.Puts.{put_rows-append}
+use Rattle.{page_btree.specs.declared.error.TreeError.TheVariants.{NotAStore, TooDeep}, page_store.specs.claim.Transactions.{stored, txn_root, over, IsQuiet, Passed}}
+use Rattle.{page_store.specs.declared.{pages.Pages.Pages, txn.Txn.Txn}, plan_rows.specs.ChunkChanging.{IsByRows, HasChanged, MapErr}, store_rows.specs.claim.Puts.{Row, put_rows}}
+use Rattle.{sector_device.specs.declared.SectorDevice.Ghosts, store_rows.{specs.claim.Rows.KeyMap, proofs.Puts.put_rows-append}, page_store.proofs.Stops.{passed_more, failed_more}}
 
 module _ {D : Type 0} {g : Ghosts D} where
   pub more_changed : (f h : KeyMap → KeyMap) (x y : ℕ) (t u v : Txn) (a b c : Pages D g) → HasChanged f x t u a b → HasChanged h y u v b c → HasChanged (λ m. h (f m)) (x + y) t v a c
@@ -14,7 +13,7 @@ module _ {D : Type 0} {g : Ghosts D} where
     changed = λ honest m holds.
         let before = then.passed.quiet.honest honest in
         let same = first.passed.quiet.same before in
-        subst (λ P. InTxn v P (h (f m))) same (then.changed honest (f m) (subst (λ P. InTxn u P (f m)) (sym same) (first.changed before m holds)));
+        rw same at (then.changed honest (f m) (rw same (first.changed before m holds)));
     writes = let one = first.writes in let other = then.writes in omega arith;
     taken = let one = first.taken in let other = then.taken in omega arith;
   }
@@ -28,10 +27,8 @@ module _ {D : Type 0} {g : Ghosts D} where
   rows_changed rows t u a b did = record { passed = did.passed; pages = did.pages; changed = did.put; writes = did.writes; taken = did.taken }
 
   pub rows_unchanged : (can : KeyMap → Type 0) (rows : List Row) (t : Txn) (a b : Pages D g) (e : TreeError) → PutsErr rows t a b e → MapErr can (length rows) t a b e
-  rows_unchanged can rows t a b NotAStore why = λ honest m holds is. why honest m holds
   rows_unchanged can rows t a b TooDeep why = λ honest m holds. record { put = rows; few = omega arith; deep = why honest m holds }
-  rows_unchanged can rows t a b Memory why = tt
-  rows_unchanged can rows t a b _ why = why
+  rows_unchanged can rows t a b _ why = search rules
 
   -- rows that were put before go before
   pub deep_after : (prefix rows : List Row) (t u : Txn) (a b : Pages D g) (m n : KeyMap) → stored b ≡ stored a → n ≡ put_rows m prefix → HasDeepened rows u b n → HasDeepened (prefix ++ rows) t a m
@@ -47,10 +44,7 @@ module _ {D : Type 0} {g : Ghosts D} where
   -- some rows were put, and then others were not
   pub then_unchanged : (f : KeyMap → KeyMap) (x y : ℕ) (can more : KeyMap → Type 0) (t u : Txn) (a b c : Pages D g) (e : TreeError) → IsByRows f x → ((m : KeyMap) → can m → more (f m))
       → HasChanged f x t u a b → IsQuiet b c → MapErr more y u b c e → MapErr can (x + y) t a c e
-  then_unchanged f x y can more t u a b c DeviceFault by gives did quiet why = failed_more a b c did.passed quiet why
   then_unchanged f x y can more t u a b c NotAStore by gives did quiet why = search (arith, quiet.honest, why, f, did.passed.quiet.same, did.changed, gives)
-  then_unchanged f x y can more t u a b c Halted by gives did quiet why = sym did.passed.halted ∙ why
-  then_unchanged f x y can more t u a b c NoPages by gives did quiet why = let most = did.taken in omega arith
   then_unchanged f x y can more t u a b c TooDeep by gives did quiet why = λ honest m holds.
       let before = quiet.honest honest in
       let same = did.passed.quiet.same before in
@@ -59,18 +53,15 @@ module _ {D : Type 0} {g : Ghosts D} where
       let few = prefix.1 in
       let long = length-append prefix.0 deep.put in
       search (arith, deep_after prefix.0 deep.put t u a b m (f m) same prefix.2 deep.deep)
-  then_unchanged f x y can more t u a b c Memory by gives did quiet why = tt
+  then_unchanged f x y can more t u a b c _ by gives did quiet why = search (arith, failed_more)
 
   -- no rows are put where the first of them are not
   pub prefix_unchanged : (x y : ℕ) (can more : KeyMap → Type 0) (t : Txn) (a b : Pages D g) (e : TreeError) → x ≤ y → ((m : KeyMap) → can m → more m) → MapErr more x t a b e → MapErr can y t a b e
-  prefix_unchanged x y can more t a b NotAStore less gives why = λ honest m holds is. why honest m holds (gives m is)
-  prefix_unchanged x y can more t a b NoPages less gives why = omega arith
   prefix_unchanged x y can more t a b TooDeep less gives why = λ honest m holds.
       let deep = why honest m holds in
       let few = deep.few in
       record { put = deep.put; few = omega arith; deep = deep.deep }
-  prefix_unchanged x y can more t a b Memory less gives why = tt
-  prefix_unchanged x y can more t a b _ less gives why = why
+  prefix_unchanged x y can more t a b _ less gives why = search (arith, gives)
 
   -- a look before them changes nothing
   pub read_changed : (t : Txn) (a b : Pages D g) → Passed a b → HasChanged (λ m. m) 0 t t a b

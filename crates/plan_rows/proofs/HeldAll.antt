@@ -1,11 +1,10 @@
 -- A plan comes to hold chunks, one after the other.
 use Rattle.{std.{specs.Prelude.Contains, proofs.lemmas.List.{append-nil, Elements.{Contains-append_left, Contains-append_right}}}, desk_pages.specs.btree_puts.Fingers.Stand}
 use Rattle.std.proofs.Common.{rules, ◌≡◌, ◌≤◌, ◌+◌, ◌*◌, ℕ, suc, List, [], ◌∷◌, ◌++◌, length, Option, Some, None, refl, sym, ap, subst, ◌∙◌, arith, append_assoc, length-append}
-use Rattle.{desk_pages.specs.btree_puts.declared.finger.Fingers.Fingers, page_btree.specs.{claim.Map.InTxn, declared.error.TreeError.TreeError}, store_rows.specs.Shares.hold_all}
-use Rattle.{page_btree.specs.declared.error.TreeError.TheVariants.{DeviceFault, NotAStore, Halted, NoPages, TooDeep, Memory}, page_store.specs.declared.pages.Pages.Pages}
-use Rattle.{page_store.specs.{claim.Transactions.{stored, disk_in, IsQuiet, Passed}, declared.txn.Txn.Txn}, plan_rows.specs.ChunkChanging.{IsByRows, HasChanged, MapErr}}
-use Rattle.{plan_rows.specs.Holding.{HasHeldWith, HoldErrWith, IsFreeFrom, CanHoldAll}, sector_device.specs.{claim.Disk.Image, declared.SectorDevice.Ghosts}}
-use Rattle.store_rows.specs.{ForkLaws.ChunksAreHeld, claim.{Holders.holding_rows, Keys.{holding, holder_count}, Puts.{Row, put_rows}, Rows.{KeyMap, row_in}}}
+use Rattle.{desk_pages.specs.btree_puts.declared.finger.Fingers.Fingers, page_btree.specs.{claim.Map.InTxn, declared.error.TreeError.{TreeError, TheVariants.{NotAStore, TooDeep}}}}
+use Rattle.{page_store.specs.{claim.Transactions.{stored, disk_in, IsQuiet, Passed}, declared.{pages.Pages.Pages, txn.Txn.Txn}}, sector_device.specs.declared.SectorDevice.Ghosts}
+use Rattle.{plan_rows.specs.{ChunkChanging.{IsByRows, HasChanged, MapErr}, Holding.{HasHeldWith, HoldErrWith, IsFreeFrom, CanHoldAll}}, store_rows.specs.ForkLaws.ChunksAreHeld}
+use Rattle.store_rows.specs.{Shares.hold_all, claim.{Holders.holding_rows, Keys.{holding, holder_count}, Puts.{Row, put_rows}, Rows.{KeyMap, row_in}}}
 use Rattle.{store_rows.specs.claim.Shares.{count_of, hold_by, hold}, desk_pages.proofs.Rising.fresh_stand, page_store.proofs.Stops.{passed_more, failed_more}}
 use Rattle.plan_rows.proofs.Changed.{read_changed, changed_as, deep_after, prefix_unchanged, more_by_rows}
 
@@ -30,27 +29,23 @@ module _ {D : Type 0} {g : Ghosts D} where
   -- a change was made, of which it is known what it says, and then a chunk was not held
   then_not_held : (f : KeyMap → KeyMap) (x : ℕ) (can says : KeyMap → Type 0) (fs : Fingers) (plan number : ℕ) (t u : Txn) (a b c : Pages D g) (e : TreeError) → IsByRows f x → ((m : KeyMap) → can m → CanHoldAll plan (number ∷ []) (f m))
       → ((disk_in b).is_honest → (m : KeyMap) → InTxn t (stored a) m → says (f m) × Stand u (stored a) fs) → HasChanged f x t u a b → IsQuiet b c → HoldErrWith fs says plan number u b c e → MapErr can (x + 2) t a c e
-  then_not_held f x can says fs plan number t u a b c DeviceFault by gives known did quiet why = failed_more a b c did.passed quiet why
   then_not_held f x can says fs plan number t u a b c NotAStore by gives known did quiet why = λ honest m holds is.
       let before = quiet.honest honest in
       let same = did.passed.quiet.same before in
       let is_then = gives m is in
       let says_then = known before m holds in
-      why honest (f m) is_then.0 (subst (λ (P : Image). InTxn u P (f m)) (sym same) (did.changed before m holds))
-      (says_then.0, subst (λ (P : Image). Stand u P fs) (sym same) says_then.1) is_then.1 (is_then.2 number ((0, omega arith, refl)))
-  then_not_held f x can says fs plan number t u a b c Halted by gives known did quiet why = sym did.passed.halted ∙ why
-  then_not_held f x can says fs plan number t u a b c NoPages by gives known did quiet why = let most = did.taken in omega arith
+      why honest (f m) is_then.0 (rw same (did.changed before m holds)) (says_then.0, rw same says_then.1) is_then.1 (is_then.2 number ((0, omega arith, refl)))
   then_not_held f x can says fs plan number t u a b c TooDeep by gives known did quiet why = λ honest m holds.
       let before = quiet.honest honest in
       let same = did.passed.quiet.same before in
       let says_then = known before m holds in
       let prefix = by m in
-      let deep = why honest (f m) (subst (λ (P : Image). InTxn u P (f m)) (sym same) (did.changed before m holds)) (says_then.0, subst (λ (P : Image). Stand u P fs) (sym same) says_then.1) in
+      let deep = why honest (f m) (rw same (did.changed before m holds)) (says_then.0, rw same says_then.1) in
       let rows = holding_rows plan number deep.0 in
       let few = prefix.1 in
       let long = length-append prefix.0 rows in
       record { put = prefix.0 ++ rows; few = omega arith; deep = deep_after prefix.0 rows t u a b m (f m) same prefix.2 deep.1 }
-  then_not_held f x can says fs plan number t u a b c Memory by gives known did quiet why = tt
+  then_not_held f x can says fs plan number t u a b c _ by gives known did quiet why = search (arith, failed_more)
 
   -- of all chunks only the rest is not held yet, the plan holds none from a number on, and both fingers stand
   pub record HasHeldTo (plan : ℕ) (all rest : List ℕ) (free : Option ℕ) (fs : Fingers) (t u : Txn) (old new : Pages D g) : Type 0 where
@@ -72,14 +67,12 @@ module _ {D : Type 0} {g : Ghosts D} where
       let same = before.held.passed.quiet.same earlier in
       let m_then = hold_all m plan prefix in
       let known = before.none earlier m holds in
-      did.held honest m_then (subst (λ (P : Image). InTxn u P m_then) (sym same) (before.held.changed earlier m holds)) known.0 (subst (λ (P : Image). Stand u P fs) (sym same) known.1) in
+      did.held honest m_then (rw same (before.held.changed earlier m holds)) known.0 (rw same known.1) in
       let long = length-append prefix (number ∷ []) in
       let one : HasChanged (λ m. hold (hold_all m plan prefix) plan number) (2 * length prefix + 2) t v a c = record {
         passed = passed_more a b c before.held.passed did.passed;
         pages = did.pages ∙ before.held.pages;
-        changed = λ honest m holds.
-            let same = before.held.passed.quiet.same (did.passed.quiet.honest honest) in
-            subst (λ (P : Image). InTxn v P (hold (hold_all m plan prefix) plan number)) same (both honest m holds).0;
+        changed = λ honest m holds. rw (before.held.passed.quiet.same (did.passed.quiet.honest honest)) at (both honest m holds).0;
         writes = let first = before.held.writes in let more = did.writes in omega arith;
         taken = let first = before.held.taken in let more = did.taken in omega arith;
       } in
@@ -89,10 +82,8 @@ module _ {D : Type 0} {g : Ghosts D} where
         held = changed_as (λ m. hold (hold_all m plan prefix) plan number) (λ m. hold_all m plan (prefix ++ number ∷ [])) (2 * length prefix + 2) (2 * length (prefix ++ number ∷ [])) t v a c
             (λ m. sym (held-append m plan prefix (number ∷ []))) (omega arith) one;
         none = λ honest m holds.
-            let earlier = did.passed.quiet.honest honest in (
-              subst (λ (n : KeyMap). IsFreeFrom then plan n) (sym (held-append m plan prefix (number ∷ []))) (moves (hold_all m plan prefix) (before.none earlier m holds).0),
-              subst (λ (P : Image). Stand v P fs_then) (before.held.passed.quiet.same earlier) (both honest m holds).1,
-            );
+            let earlier = did.passed.quiet.honest honest in
+            (rw held-append (moves (hold_all m plan prefix) (before.none earlier m holds).0), rw (before.held.passed.quiet.same earlier) at (both honest m holds).1);
       }
 
   pub all_held : (plan : ℕ) (all rest : List ℕ) (free : Option ℕ) (fs : Fingers) (t u : Txn) (a b : Pages D g) → rest ≡ [] → HasHeldTo plan all rest free fs t u a b → HasChanged (λ m. hold_all m plan all) (2 * length all) t u a b

@@ -1,14 +1,14 @@
 -- A plan comes to hold a chunk by two rows, or holds it already.
 use Rattle.{std.specs.Prelude.{option_map, Result, Ok, Err, IfOk}, desk_pages.specs.{Looking.Looks, Reading.{ReadErr, ReadErrWith, StandsAs}, Rising.{HasPutWith, PutsErrWith}}}
-use Rattle.{std.proofs.Common.{◌≡◌, ◌<◌, ◌+◌, ◌-◌, ◌^◌, ℕ, zero, suc, true, false, List, [], Option, Some, None, refl, sym, ap, subst, ◌∙◌, arith}, store_rows.specs.Shares.CanHold}
+use Rattle.std.proofs.Common.{rules, ◌≡◌, ◌<◌, ◌+◌, ◌-◌, ◌^◌, ℕ, zero, suc, true, false, List, [], Option, Some, None, refl, sym, ap, subst, ◌∙◌, arith}
 use Rattle.{desk_pages.specs.btree_puts.{Fingers.Stand, declared.finger.Fingers.Fingers}, page_btree.specs.{claim.Map.InTxn, declared.error.TreeError.TreeError}}
-use Rattle.{page_btree.specs.declared.error.TreeError.TheVariants.{DeviceFault, NotAStore, Halted, NoPages, TooDeep, Memory}, page_store.specs.declared.pages.Pages.Pages}
-use Rattle.{page_store.specs.{claim.Transactions.{stored, disk_in, IsQuiet, Passed}, declared.txn.Txn.Txn}, sector_device.specs.{claim.Disk.Image, declared.SectorDevice.Ghosts}}
-use Rattle.{plan_rows.specs.Holding.{Stands, HasHolderCount, HasHeld, HasHeldWith, WasHeld, HoldErrOf, HoldErrWith, IsCountOf, IsUnheld}, store_rows.specs.claim.Puts.put_rows}
+use Rattle.{page_btree.specs.declared.error.TreeError.TheVariants.{NotAStore, TooDeep}, page_store.specs.claim.Transactions.{stored, disk_in, IsQuiet, Passed}}
+use Rattle.{page_store.specs.declared.{pages.Pages.Pages, txn.Txn.Txn}, sector_device.specs.declared.SectorDevice.Ghosts, store_rows.specs.{Shares.CanHold, claim.Puts.put_rows}}
+use Rattle.plan_rows.{specs.Holding.{Stands, HasHolderCount, HasHeld, HasHeldWith, WasHeld, HoldErrOf, HoldErrWith, IsCountOf, IsUnheld}, proofs.Changed.deep_after}
 use Rattle.store_rows.specs.{Values.holder_count_bytes, claim.{Holders.{holder_count_row, holding_rows}, Keys.{key_of, holding, holder_count}, Rows.{KeyMap, row_in, Lacks}}}
 use Rattle.{store_rows.specs.{claim.Shares.{count_of, hold_by, hold}, declared.value.HolderCount.HolderCount}, desk_pages.proofs.Looking.{looked, not_looked as unlooked}}
-use Rattle.{desk_pages.proofs.Rising.{fresh_stand, put_with_after, not_put_with_after}, page_store.proofs.Stops.{passed_more, failed_more}, plan_rows.proofs.Changed.deep_after}
-use Rattle.store_rows.proofs.{HolderCounts.joins_holders, Sharing.count_back}
+use Rattle.{desk_pages.proofs.Rising.{fresh_stand, put_with_after, not_put_with_after}, page_store.proofs.Stops.{passed_more, failed_more}, store_rows.proofs.Sharing.count_back}
+use Rattle.store_rows.proofs.HolderCounts.{joins_holders}
 
 -- ---- a count is a value of its row
 holder_count_in : (row : Option (List ℕ)) (count : ℕ) → row ≡ holder_count_row count → (value : Option HolderCount) × (option_map holder_count_bytes value ≡ row)
@@ -54,15 +54,13 @@ module _ {D : Type 0} {g : Ghosts D} (plan number : ℕ) where
 
   -- after a look that tells that the plan doesn't hold it
   pub unheld_there : (t : Txn) {a b : Pages D g} → Passed a b → WasHeld false plan number t a b → IsUnheld plan number t b
-  unheld_there t {a} {b} passed lacks honest m holds = lacks honest m (subst (λ (P : Image). InTxn t P m) (passed.quiet.same honest) holds)
+  unheld_there t {a} {b} passed lacks honest m holds = lacks honest m (rw (passed.quiet.same honest) at holds)
 
   pub held_after : {t u : Txn} {a b c : Pages D g} → Passed a b → HasHeld plan number t u b c → HasHeld plan number t u a c
   held_after {t} {u} {a} {b} {c} first did = record {
     passed = passed_more a b c first did.passed;
     pages = did.pages;
-    held = λ honest m holds.
-        let same = first.quiet.same (did.passed.quiet.honest honest) in
-        subst (λ (P : Image). InTxn u P (hold m plan number)) same (did.held honest m (subst (λ (P : Image). InTxn t P m) (sym same) holds));
+    held = λ honest m holds. let same = first.quiet.same (did.passed.quiet.honest honest) in rw same at (did.held honest m (rw same holds));
     writes = did.writes;
     taken = did.taken;
   }
@@ -93,12 +91,9 @@ module _ {D : Type 0} {g : Ghosts D} (plan number : ℕ) where
     holding_not_put c e quiet why = told_of e (not_put_with_after f (holding_rows plan number count) t a b c e read quiet why)
       where
         told_of : (e : TreeError) → PutsErrWith f (holding_rows plan number count) t a c e → HoldErrWith f (Lacking plan number) plan number t a c e
-        told_of DeviceFault why = why
         told_of NotAStore why = λ honest m limit holds may can fits. why honest m holds may.1
-        told_of Halted why = why
-        told_of NoPages why = omega arith
         told_of TooDeep why = λ honest m holds may. (count, why honest m holds may.1)
-        told_of Memory why = tt
+        told_of _ why = search arith
 
   -- of fewer maps, or of all
   pub held_of_fewer : {f h : Fingers} {says more : KeyMap → Type 0} {t u : Txn} {a b : Pages D g} → ((m : KeyMap) → more m → says m) → HasHeldWith f h says plan number t u a b → HasHeldWith f h more plan number t u a b
@@ -120,23 +115,18 @@ module _ {D : Type 0} {g : Ghosts D} (plan number : ℕ) where
   -- ---- why not
   module _ (may : KeyMap → Type 0) (t : Txn) (a b : Pages D g) where
     pub not_held_of : (more : KeyMap → Type 0) → ((disk_in b).is_honest → (m : KeyMap) → InTxn t (stored a) m → more m → may m) → (e : TreeError) → HoldErrOf may plan number t a b e → HoldErrOf more plan number t a b e
-    not_held_of more gives NotAStore why = λ honest m limit holds is can fits. why honest m limit holds (gives honest m holds is) can fits
     not_held_of more gives TooDeep why = λ honest m holds is. why honest m holds (gives honest m holds is)
-    not_held_of more gives _ why = why
+    not_held_of more gives _ why = search rules
 
     pub not_held_after : (c : Pages D g) (e : TreeError) → Passed a b → IsQuiet b c → HoldErrOf may plan number t b c e → HoldErrOf may plan number t a c e
-    not_held_after c DeviceFault first quiet why = failed_more a b c first quiet why
-    not_held_after c NotAStore first quiet why = λ honest m limit holds is can fits. why honest m limit (subst (λ (P : Image). InTxn t P m) (sym (first.quiet.same (quiet.honest honest))) holds) is can fits
-    not_held_after c Halted first quiet why = sym first.halted ∙ why
+    not_held_after c NotAStore first quiet why = λ honest m limit holds is can fits. why honest m limit (rw (first.quiet.same (quiet.honest honest)) holds) is can fits
     not_held_after c TooDeep first quiet why = λ honest m holds is.
         let same = first.quiet.same (quiet.honest honest) in
-        let deep = why honest m (subst (λ (P : Image). InTxn t P m) (sym same) holds) is in
+        let deep = why honest m (rw same holds) is in
         (deep.0, deep_after [] (holding_rows plan number deep.0) t t a b m m same refl deep.1)
-    not_held_after c _ first quiet why = why
+    not_held_after c _ first quiet why = search (arith, failed_more)
 
     -- what is looked for first isn't read
     pub not_told : (has : KeyMap → Type 0) → ((m : KeyMap) (limit : ℕ) → may m → CanHold m limit plan → number < 2 ^ 64 → has m) → (e : TreeError) → ReadErr has t a b e → HoldErrOf may plan number t a b e
-    not_told has gives DeviceFault why = why
     not_told has gives NotAStore why = λ honest m limit holds is can fits. why honest m holds (gives m limit is can fits)
-    not_told has gives Halted why = why
-    not_told has gives _ why = absurd why
+    not_told has gives _ why = search rules

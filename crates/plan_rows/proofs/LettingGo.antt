@@ -1,8 +1,8 @@
 -- A plan lets a chunk go: its row is taken out, and the count goes down by one.
 use Rattle.std.{specs.FinMap.{get, insert, remove}, proofs.Common.{◌≡◌, ◌<◌, ◌≤◌, ◌+◌, ◌-◌, ◌^◌, ℕ, suc, List, length, Option, Some, None, sym, ap, subst, ◌∙◌, arith}}
 use Rattle.{desk_pages.specs.Reading.ReadErr, page_btree.specs.{Errors.IsNoWant, claim.{Errors.{PutErr, RemoveErr}, Map.InTxn}, declared.error.TreeError.TreeError}}
-use Rattle.{page_btree.specs.declared.error.TreeError.TheVariants.{DeviceFault, NotAStore, Halted, NoPages, TooDeep, Memory}, page_store.specs.declared.pages.Pages.Pages}
-use Rattle.{page_store.specs.{claim.Transactions.{stored, disk_in, txn_pages, txn_free, txn_writes, IsQuiet, Passed}, declared.txn.Txn.Txn}, plan_rows.specs.Holding.HasHolderCount}
+use Rattle.{page_btree.specs.declared.error.TreeError.TheVariants.{NotAStore, NoPages, TooDeep}, page_store.specs.declared.{pages.Pages.Pages, txn.Txn.Txn}}
+use Rattle.{page_store.specs.claim.Transactions.{stored, disk_in, txn_pages, txn_free, txn_writes, IsQuiet, Passed}, plan_rows.specs.Holding.HasHolderCount}
 use Rattle.{plan_rows.specs.Releasing.{TellsMore, HasCount, HasLowered, LowerErr, HasReleased, ReleaseErr}, sector_device.specs.{claim.Disk.Image, declared.SectorDevice.Ghosts}}
 use Rattle.store_rows.specs.{Holders.{with_holder_count, released}, claim.{Holders.holder_count_row, Keys.{key_of, holding, holder_count, in_eight}, Rows.{KeyMap, row_in}}}
 use Rattle.{page_store.proofs.Stops.{passed_more, failed_more}, store_rows.proofs.Frames.remove_keeps_tag}
@@ -46,14 +46,11 @@ module _ {D : Type 0} {g : Ghosts D} (number count : ℕ) (t : Txn) (a b : Pages
     counted honest m holds = (let fewer : count ≡ suc (count - 1) = omega arith in record { count = count - 1; fits = omega arith; told = told honest m holds ∙ ap holder_count_row fewer })
 
     still : (disk_in b).is_honest → (m : KeyMap) → InTxn t (stored a) m → InTxn t (stored b) m
-    still honest m holds = subst (λ (P : Image). InTxn t P m) (sym (read.quiet.same honest)) holds
+    still honest m holds = rw (read.quiet.same honest) holds
 
     pub not_removed : (c : Pages D g) (e : TreeError) → IsQuiet b c → RemoveErr t b c e → ReleaseErr number t a c e
-    not_removed c DeviceFault quiet why = failed_more a b c read quiet why
     not_removed c NotAStore quiet why = λ honest m holds has. why honest m (still (quiet.honest honest) m holds)
-    not_removed c Halted quiet why = sym read.halted ∙ why
-    not_removed c Memory quiet why = tt
-    not_removed c _ quiet why = absurd why
+    not_removed c _ quiet why = search (arith, failed_more)
 
     module _ (plan : ℕ) (u : Txn) (c : Pages D g) (key : List ℕ) (is : key ≡ key_of (holding plan number)) (gone : Passed b c) (pages : txn_pages u ≡ txn_pages t) (removed : (disk_in c).is_honest → (m : KeyMap) → InTxn t (stored b) m → InTxn u (stored b) (remove m key)) (writes : txn_writes u ≤ txn_writes t + 6) (given : txn_free t ≤ txn_free u) where
       abbrev without : KeyMap → KeyMap
@@ -61,8 +58,8 @@ module _ {D : Type 0} {g : Ghosts D} (number count : ℕ) (t : Txn) (a b : Pages
 
       reads : (disk_in c).is_honest → (m : KeyMap) → InTxn t (stored a) m → InTxn u (stored c) (without m)
       reads honest m holds =
-          let then = removed honest m (still (gone.quiet.honest honest) m holds) in
-          subst (λ (P : Image). InTxn u P (without m)) (sym (gone.quiet.same honest)) (subst (λ (k : List ℕ). InTxn u (stored b) (remove m k)) is then)
+          let then : InTxn u (stored b) (without m) = rw is at (removed honest m (still (gone.quiet.honest honest) m holds)) in
+          rw (gone.quiet.same honest) then
 
       tells : (disk_in c).is_honest → (m : KeyMap) → InTxn t (stored a) m → TellsMore number (count - 1) (without m)
       tells honest m holds = remove_keeps_tag m 75 72 _ (λ e. absurd (omega arith)) _ ∙ (counted (gone.quiet.honest honest) m holds).told
@@ -88,18 +85,15 @@ module _ {D : Type 0} {g : Ghosts D} (number count : ℕ) (t : Txn) (a b : Pages
       }
 
       pub not_lowered : (d : Pages D g) (e : TreeError) → IsQuiet c d → LowerErr number (count - 1) u c d e → ReleaseErr number t a d e
-      not_lowered d DeviceFault quiet why = failed_more a c d all_passed quiet why
       not_lowered d NotAStore quiet why = λ honest m holds has. why honest (without m) (reads (quiet.honest honest) m holds)
-      not_lowered d Halted quiet why = sym all_passed.halted ∙ why
-      not_lowered d Memory quiet why = tt
-      not_lowered d _ quiet why = λ honest m holds. let before = quiet.honest honest in why honest (without m) (reads before m holds) (tells before m holds)
+      not_lowered d NoPages quiet why = λ honest m holds. let before = quiet.honest honest in why honest (without m) (reads before m holds) (tells before m holds)
+      not_lowered d TooDeep quiet why = λ honest m holds. let before = quiet.honest honest in why honest (without m) (reads before m holds) (tells before m holds)
+      not_lowered d _ quiet why = search (arith, failed_more, all_passed)
 
 -- a count that isn't read
 pub not_counted_here : {D : Type 0} {g : Ghosts D} (number : ℕ) (t : Txn) (a b : Pages D g) (e : TreeError) → ReadErr (HasHolderCount number) t a b e → ReleaseErr number t a b e
-not_counted_here number t a b DeviceFault why = why
 not_counted_here number t a b NotAStore why = λ honest m holds has. let fits = has.fits in why honest m holds (suc has.count, omega arith, has.told)
-not_counted_here number t a b Halted why = why
-not_counted_here number t a b _ why = absurd why
+not_counted_here number t a b _ why = search arith
 
 -- or is that of no holder
 pub none_counted : {D : Type 0} {g : Ghosts D} (number count : ℕ) (t : Txn) (a b : Pages D g) → ((disk_in b).is_honest → (m : KeyMap) → InTxn t (stored a) m → row_in m (holder_count number) ≡ holder_count_row count) → count ≡ 0 → ReleaseErr number t a b NotAStore

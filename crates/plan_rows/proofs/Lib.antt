@@ -8,9 +8,5 @@ pub mod HeldAll
 pub mod HeldChunks
 pub mod LettingGo
 pub mod Made
-pub mod Numbering
-pub mod Pieces
-pub mod Retiring
-pub mod RevisionParts
 pub mod Told
 pub mod Writing

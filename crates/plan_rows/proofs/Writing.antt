@@ -1,9 +1,10 @@
 -- What is written after rows were only read.
-use Rattle.{std.{specs.Prelude.{◌≡◌, Result, Ok, Err, IsErrAnd, MatchResult}, proofs.Common.{ℕ, [], ◌∷◌, ◌+◌, ◌<◌, subst, sym, ◌∙◌, arith}}, desk_pages.specs.claim.Puts.HasPut}
-use Rattle.{desk_pages.specs.{Outcomes.{PutsRows, Writes}, Rising.{HasPutWith, PutsErrWith}, btree_puts.declared.finger.Fingers.Fingers}, page_store.specs.declared.txn.Txn.Txn}
-use Rattle.{page_btree.specs.declared.error.TreeError.TreeError, page_store.specs.{claim.Transactions.{count_of, txn_pages, IsQuiet}, declared.pages.Pages.Pages}}
-use Rattle.{sector_device.specs.declared.SectorDevice.Ghosts, store_rows.specs.{Puts.rows_told, claim.Puts.Row}, desk_pages.proofs.Outcomes.match_of}
-use Rattle.{desk_pages.proofs.Rising.{HasPutFrom, told_more_from, told_not_put_from, all_from}, page_store.proofs.Stops.quiet_more}
+use Rattle.{std.{specs.Prelude.{◌≡◌, Result, Ok, Err, IfErr, IsErrAnd, MatchResult}, proofs.Common.{ℕ, [], ◌∷◌, ◌+◌, ◌<◌, subst, sym, ◌∙◌, arith}}, store_rows.specs.Puts.rows_told}
+use Rattle.desk_pages.specs.{Outcomes.{PutsRows, Writes}, Rising.{HasPutWith, PutsErrWith}, btree_puts.declared.finger.Fingers.Fingers, claim.Puts.HasPut}
+use Rattle.{page_btree.specs.declared.error.TreeError.{TreeError, TheVariants.NoPages}, page_store.specs.claim.Transactions.{count_of, txn_free, txn_pages, IsQuiet}}
+use Rattle.{page_store.specs.declared.{pages.Pages.Pages, txn.Txn.Txn}, plan_rows.specs.PlanChanging.UntilFull, sector_device.specs.declared.SectorDevice.Ghosts}
+use Rattle.{store_rows.specs.claim.Puts.Row, desk_pages.proofs.{Outcomes.match_of, Rising.{HasPutFrom, told_more_from, told_not_put_from, all_from}}}
+use Rattle.page_store.proofs.Stops.{quiet_more}
 
 module _ {D Y : Type 0} {g : Ghosts D} {also : Y → Type 0} {why : TreeError → Type 0} {t : Txn} {a b : Pages D g} where
   -- nothing was written
@@ -23,6 +24,10 @@ module _ {D X : Type 0} {g : Ghosts D} {done : X → Type 0} {failed : TreeError
   -- what came of a write says something else
   pub writes_as : {also : X → Type 0} {why : TreeError → Type 0} (r : Result X TreeError) → Writes done failed u b d r → ((x : X) → done x → also x) → ((e : TreeError) → failed e → why e) → Writes also why u b d r
   writes_as r write gives needs = search (arith, gives, needs)
+
+-- pages that ran out, beside what a change came to
+pub until_full : {T outcome : Type 0} {u : Txn} {r : Result T TreeError} → outcome → IfErr r (λ e. e ≡ NoPages → txn_free u ≡ 0) → UntilFull outcome u r
+until_full did exhausted = record { did = did; exhausted = exhausted }
 
 -- ---- rows that a place tells are put with two leaves that are known, one after the other
 pub all_told : {D X : Type 0} {g : Ghosts D} (row : ℕ → Row) (k n : ℕ) {f : Fingers} {t u : Txn} {a b : Pages D g} {x : X} → k ≡ n

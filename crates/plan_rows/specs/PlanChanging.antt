@@ -13,8 +13,7 @@ pub record UntilFull {T : Type 0} (outcome : Type 0) (u : Txn) (result : Result 
 module _ {D : Type 0} {g : Ghosts D} where
   -- what became of a change, or why it was refused
   abbrev pub Changes : (Counters → Type 0) → (Counters → List Row) → Txn → Txn → Pages D g → Pages D g → Result ChangeOutcome TreeError → Type 0
-  Changes enough rows t u old new result =
-      Writes (λ change. IsChanged enough rows t u old new change) (ChangeErr rows t old new) u old new result
+  Changes enough rows t u old new result = Writes (λ change. IsChanged enough rows t u old new change) (ChangeErr rows t old new) u old new result
 
   -- the plan under a name was taken away, or it is told why not
   abbrev pub Retires : {T : Type 0} → List ℕ → ℕ → Txn → Txn → Pages D g → Pages D g → Result T TreeError → Type 0

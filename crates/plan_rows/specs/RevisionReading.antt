@@ -37,5 +37,4 @@ AppendsParts plan revision count m before after = AppendsAll 128 (2 ^ 64) chunks
 
 -- those of one part
 abbrev pub AppendsNames : ℕ → ℕ → ℕ → ℕ → KeyMap → List ℕ → List ℕ → Type 0
-AppendsNames plan revision count index m before after =
-    AppendsPart 128 (2 ^ 64) chunks_bytes (part plan revision) count index m before after
+AppendsNames plan revision count index m before after = AppendsPart 128 (2 ^ 64) chunks_bytes (part plan revision) count index m before after

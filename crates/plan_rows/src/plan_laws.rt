@@ -2,11 +2,13 @@
 ghost use Rattle.plan_rows.specs.PlanLaws.{NumbersMoveOn, PlansAreMade, PlansAreTold, RevisionsAreCounted};
 
 /// The row that is found tells the plan under the name, and where none is found the desk has no such plan.
+#[tactic(auto, using(crate::proofs::Told::plans_told))]
 pub fn plans_are_told()
     ensures { PlansAreTold }
 {}
 
 /// The rows of a plan that is created make the desk with that plan, and those of one that is taken away the desk without it.
+#[tactic(auto, using(crate::proofs::Made::plans_made))]
 pub fn plans_are_made()
     ensures { PlansAreMade }
 {}
@@ -17,6 +19,7 @@ pub fn revisions_are_counted()
 {}
 
 /// The row of numbers says what comes next.
+#[tactic(auto, using(crate::proofs::Made::numbers_moved))]
 pub fn numbers_move_on()
     ensures { NumbersMoveOn }
 {}

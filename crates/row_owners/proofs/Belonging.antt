@@ -1,12 +1,13 @@
 -- Rows that belong to a store.
-use Rattle.std.{specs.{FinMap.{entries, get}, List.AllByRecursion, Prelude.Option}, proofs.Common.{◌≡◌, ℕ, List, [], Bool, true, false, Some, None, Ok, refl, sym, ap, subst, ◌∙◌}}
-use Rattle.{btree_walks.specs.{Prefixes.under, Scanning.{TakesNextRow, fault_in, has_ended}, declared.{rows.Row.Row, scans.Scan.Scan}}, desk_pages.specs.Looking.Looks}
-use Rattle.{desk_model.specs.declared.ranges.CountyRange.CountyRange, page_btree.specs.page_node.claim.Entries.Entry, page_store.specs.claim.Transactions.{IsQuiet, Passed}}
-use Rattle.{page_store.specs.declared.{pages.Pages.Pages, txn.Txn.Txn}, row_owners.{specs.declared.{kinds.Kind.TheVariants.Mark, wrong.Wrong.Wrong}, proofs.KeyBytes.at_row}}
-use Rattle.row_owners.{specs.Strays.{AllBelong, Belongs, IsAny, IsJudged, IsNamed, IsNaming, IsOf, IsOfKind, IsRight, IsStray, IsWrong, NamesAt, Tells}, proofs.Whole.get_is}
-use Rattle.{sector_device.specs.declared.SectorDevice.Ghosts, store_rows.specs.claim.{Keys.{RowKey, key_of, part}, Lists.{AreChunks, chunks_bytes}, Rows.KeyMap}}
-use Rattle.{btree_walks.proofs.{RowsFound.all_found, Walked.{HasNext, HasWalked, walk_next, walk_passed}}, desk_pages.proofs.Looking.looked, store_rows.proofs.RowLaws.keys_differ}
-use Rattle.store_rows.proofs.ListLaws.{chunks_differ}
+use Rattle.{std.specs.{FinMap.{entries, get}, List.AllByRecursion, Prelude.{Option, Result, Err, IsErrAnd}}, btree_walks.specs.{Prefixes.under, declared.rows.Row.Row}}
+use Rattle.{std.proofs.Common.{◌≡◌, ℕ, List, [], Bool, true, false, Some, None, Ok, refl, sym, ap, subst, ◌∙◌}, btree_walks.specs.Scanning.{TakesNextRow, fault_in, has_ended}}
+use Rattle.{btree_walks.{specs.declared.scans.Scan.Scan, proofs.RowsFound.all_found}, desk_model.specs.declared.ranges.CountyRange.CountyRange, desk_pages.specs.Looking.Looks}
+use Rattle.{page_btree.specs.{declared.error.TreeError.TreeError, page_node.claim.Entries.Entry}, page_store.specs.{claim.Transactions.{IsQuiet, Passed}, declared.txn.Txn.Txn}}
+use Rattle.{page_store.specs.declared.pages.Pages.Pages, row_owners.specs.declared.{kinds.Kind.TheVariants.Mark, wrong.Wrong.Wrong}, store_rows.specs.claim.Rows.KeyMap}
+use Rattle.row_owners.{specs.Strays.{AllBelong, Belongs, IsAny, IsJudged, IsNamed, IsNaming, IsOf, IsOfKind, IsRight, IsStray, IsWrong, NamesAt, Tells}, proofs.KeyBytes.at_row}
+use Rattle.{sector_device.specs.declared.SectorDevice.Ghosts, store_rows.specs.claim.{Keys.{RowKey, key_of, part}, Lists.{AreChunks, chunks_bytes}}, row_owners.proofs.Whole.get_is}
+use Rattle.{btree_walks.proofs.Walked.{HasNext, HasWalked, walk_next, walk_passed}, desk_pages.proofs.Looking.{fails, looked}, store_rows.proofs.ListLaws.chunks_differ}
+use Rattle.store_rows.proofs.RowLaws.{keys_differ}
 
 module _ (ranges : List CountyRange) (m : KeyMap) (key value : List ℕ) where
   pub judged : (row : RowKey) → IsOf row key → (wrong : Option Wrong) → Tells (Belongs ranges m row value) wrong → IsJudged ranges (key, value) m wrong
@@ -27,24 +28,23 @@ module _ (ranges : List CountyRange) (of : Option ℕ) (number piece : ℕ) wher
       let all : numbers ≡ naming.numbers = chunks_differ numbers naming.numbers chunks naming.chunks (bytes ∙ naming.value) in
       subst (λ (x : ℕ). NamesAt ranges numbers x number piece) (sym equal) (subst (λ (ns : List ℕ). NamesAt ranges ns naming.index number piece) (sym all) naming.at)
 
-  -- rows of which none does
-  abbrev pub NoneName : List Entry → Type 0
-  NoneName es = AllByRecursion (λ e. IsNaming ranges of number piece e → ⊥) es
-
-  pub none_named : (m : KeyMap) (rows : List Entry) → under [] (entries m) ≡ rows → NoneName rows → IsNamed ranges of number piece m → ⊥
+  -- of all rows none does
+  pub none_named : (m : KeyMap) (rows : List Entry) → under [] (entries m) ≡ rows → AllByRecursion (λ e. IsNaming ranges of number piece e → ⊥) rows → IsNamed ranges of number piece m → ⊥
   none_named m rows whole all is = all_found (λ e. IsNaming ranges of number piece e → ⊥) is.0.0 is.0.1 rows all (sym (get_is m is.0.0 rows whole) ∙ is.1) is.2
 
 -- ---- rows, one after the other
-abbrev pub AllRight : List CountyRange → KeyMap → List Entry → Type 0
-AllRight ranges m es = AllByRecursion (IsRight ranges m) es
-
-pub all_right : (ranges : List CountyRange) (m : KeyMap) (rows : List Entry) → under [] (entries m) ≡ rows → AllRight ranges m rows → AllBelong ranges m
+pub all_right : (ranges : List CountyRange) (m : KeyMap) (rows : List Entry) → under [] (entries m) ≡ rows → AllByRecursion (IsRight ranges m) rows → AllBelong ranges m
 all_right ranges m rows whole all row value fits has =
     all_found (IsRight ranges m) (key_of row) value rows all (sym (get_is m (key_of row) rows whole) ∙ has) row fits refl
 
 -- one that is wrong is a stray
 pub stray_by : (ranges : List CountyRange) (m : KeyMap) (e : Entry) → get m e.0 ≡ Some e.1 → IsWrong ranges m e → IsStray ranges m e.0
 stray_by ranges m e there wrong = (wrong.0, wrong.1, wrong.2, (e.1, ap (get m) (sym wrong.2) ∙ there, wrong.3))
+
+-- what failed is told
+pub failed : {D X Y : Type 0} {g : Ghosts D} {says : KeyMap → X → Type 0} {also : KeyMap → Y → Type 0} {t : Txn} {a b : Pages D g} {e : TreeError} (r : Result Y TreeError)
+    → Looks says IsAny t a b (Err e) → IsErrAnd r (λ y. y ≡ e) → Looks also IsAny t a b r
+failed r look is = fails r look is (λ m any. any)
 
 -- ---- a row that a scan gives is looked at
 module _ {D : Type 0} {g : Ghosts D} {prefix : List ℕ} {Known : KeyMap → List Entry → Type 0} {t : Txn} {old now new : Pages D g} {was : Scan} {count : ℕ} where

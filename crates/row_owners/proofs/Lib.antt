@@ -1,5 +1,4 @@
 pub mod Whole
 mod KeyBytes
 mod PieceBytes
-mod KindBytes
 mod Belonging

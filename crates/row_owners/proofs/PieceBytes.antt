@@ -19,9 +19,6 @@ one_two a b less few =
 -- any bytes are those of as many districts as they are pairs
 pub twos : (count : ℕ) (bytes : List ℕ) → ((i : ℕ) → get_or bytes i 0 < 256) → length bytes ≡ 2 * count → AreTwos count bytes
 twos zero [] fits long = record { districts = []; long = refl; each = All-nil (λ (d : ℕ). d < 2 ^ 16); is = refl }
-twos zero (a ∷ bytes) fits long = absurd (omega arith)
-twos (suc count) [] fits long = absurd (omega arith)
-twos (suc count) (a ∷ []) fits long = absurd (omega arith)
 twos (suc count) (a ∷ b ∷ bytes) fits long =
     let rest = twos count bytes (λ i. fits (suc (suc i))) (omega arith) in
     record {
@@ -30,3 +27,4 @@ twos (suc count) (a ∷ b ∷ bytes) fits long =
       each = All-cons (λ (d : ℕ). d < 2 ^ 16) (256 * a + b) rest.districts (omega (arith, fits 0, fits 1)) rest.each;
       is = λ i. one_two a b (fits 0) (fits 1) i ++ rest.is i;
     }
+twos _ _ fits long = absurd (omega arith)

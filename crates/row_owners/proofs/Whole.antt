@@ -21,10 +21,7 @@ pub get_is : (m : KeyMap) (key : List ℕ) (rows : List Entry) → under [] (ent
 get_is m key rows whole = found_among m [] rows key (all_under key) whole
 
 -- ---- rows, one after the other
-abbrev pub AllWhole : List Entry → Type 0
-AllWhole es = AllByRecursion IsWhole es
-
-pub all_whole : (m : KeyMap) (count : ℕ) (rows : List Entry) → under [] (entries m) ≡ rows → length rows ≡ count → AllWhole rows → AreWhole count m
+pub all_whole : (m : KeyMap) (count : ℕ) (rows : List Entry) → under [] (entries m) ≡ rows → length rows ≡ count → AllByRecursion IsWhole rows → AreWhole count m
 all_whole m count rows whole many all =
     let found = λ (key value : List ℕ) (there : get m key ≡ Some value). all_found IsWhole key value rows all (sym (get_is m key rows whole) ∙ there) in
     record {

@@ -1,7 +1,7 @@
 -- Lemmas on the definitions of Held.
-use Rattle.std.{specs.Prelude.{◌≡◌, ◌⊎◌, ◌≤◌, ◌<◌, ◌^◌, ℕ, Bool, true, false, List, [], ◌∷◌, length, cond, ◌+◌}, proofs.lemmas.Bool.{cases_eq, Decides.nat_tests}}
-use Rattle.{std.proofs.Common.{get_or, set, nat_eq, ◌≢◌, inl, inr, sym, subst, ◌∙◌, arith, get_or-set_other}, sector_device.specs.Disk.Only}
-use Rattle.sector_device.specs.{Held.{Leaves, State, disk_from, refused}, claim.Disk.{Disk, Image, AgreeOff, Touches}}
+use Rattle.std.{specs.Prelude.{◌≡◌, ◌≤◌, ◌<◌, ◌^◌, ℕ, Bool, true, false, List, [], ◌∷◌, length, cond, ◌+◌}, proofs.lemmas.Bool.{cases_eq, Decides.nat_tests}}
+use Rattle.{std.proofs.Common.{get_or, set, nat_eq, ◌≢◌, inl, inr, sym, subst, ◌∙◌, arith, get_or-set_other}, sector_device.specs.{Disk.Only, claim.Disk.{Disk, Image, Touches}}}
+use Rattle.sector_device.specs.Held.{Leaves, State, disk_from, refused}
 
 -- c, with the sector as it was
 abbrev put_back : List (List ℕ) → ℕ → Image → Image
@@ -25,15 +25,6 @@ module _ (honest honest' : Type 0) (was_honest : honest) (sectors sectors' : Lis
     | inr off ↦ put_back_other sectors i c j off ∙ leaves j (get_or-set_other unsynced i j true false off ∙ clean) ∙ same j off
   ]
 
-  since : (t : ℕ) (c : Image) → new.left t c → old.left t c ⊎ ((d : Image) × Leaves sectors unsynced d × AgreeOff (Only i) d c)
-  since t c (inl now) = inr (put_back sectors i c, put_back_leaves c now, record { same = λ j off. sym (put_back_other sectors i c j off) })
-  since t c (inr (inl here)) = inl (inl here.1)
-  since t c (inr (inr there)) = inl (inr there)
-
-  keeps : (t : ℕ) (c : Image) → t ≤ length states → old.left t c → new.left t c
-  keeps t c le (inl now) = inr (inl (le, now))
-  keeps t c le (inr there) = inr (inr there)
-
   -- the same where the states are known by what was noted
   pub write_touches : (later : List State) (noted_sectors : List (List ℕ)) (noted_unsynced : List Bool) → later ≡ (noted_sectors, noted_unsynced, told) ∷ states → noted_sectors ≡ sectors → noted_unsynced ≡ unsynced
       → Touches (Only i) (disk_from honest sectors few unsynced states) (disk_from honest' sectors' few' (set unsynced i true) later)
@@ -45,6 +36,9 @@ module _ (honest honest' : Type 0) (was_honest : honest) (sectors sectors' : Lis
         later = omega arith;
         faults = elim told as (λ b. refused states ≤ cond b (refused states + 1) (refused states)) [ true ↦ omega arith | false ↦ omega arith ];
         reads = record { same = λ j off. same j off };
-        since = λ t c le left. since t c left;
-        keeps = λ t c le left. keeps t c le left;
+        since = λ t c le left. elim left [
+          | inl now ↦ inr (put_back sectors i c, put_back_leaves c now, record { same = λ j off. sym (put_back_other sectors i c j off) })
+          | inr had ↦ search arith
+        ];
+        keeps = λ t c le left. search arith;
       })

@@ -1,17 +1,13 @@
 -- Lemmas on the definitions of Moments.
-use Rattle.{std.{specs.Prelude.{◌≡◌, ◌⊎◌, ℕ, Result, Ok, Err, OnOk}, proofs.Common.{inl, inr, ⊎_elim, refl, sym, subst, ◌∙◌, arith}}, sector_device.specs.claim.Moments.LeavesOnly}
-use Rattle.sector_device.specs.{Disk.{IsSynced, HasCause, Step}, claim.Disk.{Disk, Image, AgreeOff, LeavesBut, Touches, Nowhere}}
+use Rattle.{std.{specs.Prelude.{◌≡◌, ℕ, Result, Ok, Err, OnOk}, proofs.Common.{sym, subst, ◌∙◌, arith}}, sector_device.specs.Disk.{IsSynced, HasCause, Step}}
+use Rattle.sector_device.specs.claim.{Disk.{Disk, Image, AgreeOff, LeavesBut, Touches, Nowhere}, Moments.LeavesOnly}
 
 pub agree_trans : (S T : ℕ → Type 0) (a b c : Image) → ((i : ℕ) → T i → S i) → AgreeOff S a b → AgreeOff T b c → AgreeOff S a c
 agree_trans S T a b c within ab bc = record { same = λ i off. bc.same i (λ t. off (within i t)) ∙ ab.same i off }
 
 -- a call adds no image but those that differ at touched sectors alone
 leaves_by : (P : Image → Type 0) (S : ℕ → Type 0) (a b : Disk) → Touches S a b → ((c : Image) → LeavesBut S a c → P c) → LeavesOnly P a b
-leaves_by P S a b ab has = record {
-  later = ab.later;
-  each = λ c left. ⊎_elim (λ was. has c (c, a.only_now c was, record { same = λ i off. refl })) (λ but. has c but) (ab.since a.moment c (omega arith) left);
-  before = λ t c le left. ⊎_elim (λ was. inl was) (λ but. inr (has c but)) (ab.since t c le left);
-}
+leaves_by P S a b ab has = search (arith, has, a.only_now, ab.since)
 
 -- also of what a stop may leave now
 pub leaves_now : (P : Image → Type 0) (a b : Disk) → LeavesOnly P a b → (c : Image) → b.leaves c → P c
@@ -22,47 +18,21 @@ pub now_but : (S : ℕ → Type 0) (a b : Disk) → Touches S a b → (c : Image
 now_but S a b ab c leaves = leaves_now (LeavesBut S a) a b (leaves_by (LeavesBut S a) S a b ab (λ x but. but)) c leaves
 
 pub touches_more : (S T : ℕ → Type 0) (a b c : Disk) → ((i : ℕ) → T i → S i) → Touches S a b → Touches T b c → Touches S a c
-touches_more S T a b c within ab bc = record {
-  was_honest = ab.was_honest;
-  sectors = bc.sectors ∙ ab.sectors;
-  later = omega (arith, ab.later, bc.later);
-  faults = omega (arith, ab.faults, bc.faults);
-  reads = agree_trans S T a.reads b.reads c.reads within ab.reads bc.reads;
-  since = λ t x le left. ⊎_elim (λ was. ab.since t x le was) (λ but. inr (earlier x but)) (bc.since t x (omega (arith, le, ab.later)) left);
-  keeps = λ t x le left. bc.keeps t x (omega (arith, le, ab.later)) (ab.keeps t x le left);
-}
+touches_more S T a b c within ab bc = search (arith, agree_trans S T a.reads b.reads c.reads within, earlier, ab.since, bc.since, ab.keeps, bc.keeps)
   where
     earlier : (x : Image) → LeavesBut T b x → LeavesBut S a x
     earlier x but = let from = now_but S a b ab but.0 but.1 in (from.0, from.1, agree_trans S T from.0 but.0 x within from.2 but.2)
 
-pub touches_wider : (S T : ℕ → Type 0) (a b : Disk) → ((i : ℕ) → S i → T i) → Touches S a b → Touches T a b
-touches_wider S T a b within ab = record {
-  was_honest = ab.was_honest;
-  sectors = ab.sectors;
-  later = ab.later;
-  faults = ab.faults;
-  reads = record { same = λ i off. ab.reads.same i (λ s. off (within i s)) };
-  since = λ t x le left. ⊎_elim (λ was. inl was) (λ but. inr (but.0, but.1, record { same = λ i off. but.2.same i (λ s. off (within i s)) })) (ab.since t x le left);
-  keeps = ab.keeps;
-}
-
 -- nothing happened
 pub touches_none : (S : ℕ → Type 0) (a : Disk) → a.is_honest → Touches S a a
-touches_none S a honest = record {
-  was_honest = honest;
-  sectors = refl;
-  later = omega arith;
-  faults = omega arith;
-  reads = record { same = λ i off. refl };
-  since = λ t x le left. inl left;
-  keeps = λ t x le left. left;
-}
+touches_none S a honest = search arith
+
+pub touches_wider : (S T : ℕ → Type 0) (a b : Disk) → ((i : ℕ) → S i → T i) → Touches S a b → Touches T a b
+touches_wider S T a b within ab = touches_more T S a a b within (touches_none T a ab.was_honest) ab
 
 -- a synced device stays so while nothing is written
 pub synced_still : (a b : Disk) → IsSynced a → Touches Nowhere a b → IsSynced b
-synced_still a b synced ab c leaves =
-    let but = now_but Nowhere a b ab c leaves in
-    record { same = λ i off. but.2.same i off ∙ (synced but.0 but.1).same i off ∙ sym (ab.reads.same i off) }
+synced_still a b synced ab c leaves = search (arith, now_but Nowhere a b ab c leaves, synced, ab.reads.same)
 
 -- a call after which each image has P, where the device was synced before
 pub leaves_from : (P : Image → Type 0) (S : ℕ → Type 0) (a b : Disk) → IsSynced a → Touches S a b → ((c : Image) → AgreeOff S a.reads c → P c) → LeavesOnly P a b
@@ -70,18 +40,10 @@ leaves_from P S a b synced ab has =
     leaves_by P S a b ab (λ c but. has c (record { same = λ i off. but.2.same i off ∙ (synced but.0 but.1).same i (λ none. none) }))
 
 pub leaves_more : (P : Image → Type 0) (a b c : Disk) → LeavesOnly P a b → LeavesOnly P b c → LeavesOnly P a c
-leaves_more P a b c ab bc = record {
-  later = omega (arith, ab.later, bc.later);
-  each = λ x left. ⊎_elim (λ was. ab.each x was) (λ has. has) (bc.before a.moment x ab.later left);
-  before = λ t x le left. ⊎_elim (λ was. ab.before t x le was) (λ has. inr has) (bc.before t x (omega (arith, le, ab.later)) left);
-}
+leaves_more P a b c ab bc = search (arith, ab.each, ab.before, bc.before)
 
 pub leaves_wider : (P Q : Image → Type 0) (a b : Disk) → ((c : Image) → P c → Q c) → LeavesOnly P a b → LeavesOnly Q a b
-leaves_wider P Q a b wider ab = record {
-  later = ab.later;
-  each = λ x left. wider x (ab.each x left);
-  before = λ t x le left. ⊎_elim (λ was. inl was) (λ has. inr (wider x has)) (ab.before t x le left);
-}
+leaves_wider P Q a b wider ab = search (arith, wider, ab.each, ab.before)
 
 -- a call that wrote nothing adds no image
 pub leaves_still : (P : Image → Type 0) (a b c : Disk) → LeavesOnly P a b → Touches Nowhere b c → LeavesOnly P a c
@@ -95,8 +57,7 @@ on_ok (Err e) f p = tt
 
 -- calls that passed, and one more, whose result is told
 pub cause_after : {T E : Type 0} (a b c : Disk) (r : Result T E) → b.faults ≡ a.faults → HasCause b c r → HasCause a c r
-cause_after a b c (Ok x) e cause = record { failed = tt; passed = cause.passed ∙ e }
-cause_after a b c (Err x) e cause = record { failed = omega (arith, e, cause.failed); passed = tt }
+cause_after a b c r e cause = search arith
 
 pub step_then : {T E : Type 0} (S U : ℕ → Type 0) (Q : Disk → Type 0) (a b c : Disk) (r : Result T E) → ((i : ℕ) → U i → S i) → Touches S a b → b.faults ≡ a.faults → Touches U b c → HasCause b c r → OnOk r (Q c) → Step S Q a c r
 step_then S U Q a b c r within ab passed bc cause done = record { touches = touches_more S U a b c within ab bc; cause = cause_after a b c r passed cause; done = done }

@@ -1,5 +1,5 @@
 -- What a write and a sync leave of the disk.
-use Rattle.std.proofs.Common.{rules, ◌≡◌, ◌<◌, ◌^◌, ◌∙◌, List, ℕ, suc, Bool, [], ◌∷◌, length, get_or, set, replicate, false, true, inl, inr, refl, sym, subst, ap, arith, IsTrue, get_or-set_other}
+use Rattle.std.proofs.Common.{rules, ◌≡◌, ◌<◌, ◌^◌, List, ℕ, suc, Bool, [], ◌∷◌, length, get_or, set, replicate, false, true, refl, sym, subst, arith, IsTrue, get_or-set_other}
 use Rattle.{std.proofs.lemmas.List.length-set, sector_device.specs.{Disk.Only, Held.{Leaves, image_of}, claim.Disk.{Touches, Nowhere, Image, AgreeOff}}}
 use Rattle.sector_file.specs.{Recalled.Recalls, Told.{Told, same_bytes, after_read, after_write, after_torn, after_sync, after_fault, told_disk, IsAsOpened}}
 use Rattle.{sector_file.{specs.declared.recent.Recent.Recent, proofs.Steps.first_true}, sector_device.proofs.Held.write_touches}
@@ -25,46 +25,14 @@ module _ (t : Told) (few : length t.0 < 2 ^ 32) (u : Told) (few' : length u.0 < 
   Still v = (l : length v.0 < 2 ^ 32) → IsTrue v.3 → Touches Nowhere (told_disk t few) (told_disk v l)
 
   pub sync_is : u ≡ after_sync t → IsTrue u.3 → Touches Nowhere (told_disk t few) (told_disk u few')
-  sync_is is honest = subst (λ (v : Told). Still v) (sym is)
-      (λ l h. record {
-        was_honest = h;
-        sectors = refl;
-        later = omega arith;
-        faults = omega arith;
-        reads = record { same = λ j off. refl };
-        since = λ k c le left. elim left [
-          | inl now ↦ inl (inl (λ i clean. now i (all_synced (length t.0) i)))
-          | inr had ↦ elim had [ inl here ↦ inl (inl here.1) | inr there ↦ inl (inr there) ]
-        ];
-        keeps = λ k c le left. elim left [ inl now ↦ inr (inl (le, now)) | inr there ↦ inr (inr there) ];
-      }) few' honest
+  sync_is is honest = subst (λ (v : Told). Still v) (sym is) (λ l h. search (arith, h, all_synced)) few' honest
 
   pub fault_is : u ≡ after_fault t → IsTrue u.3 → Touches Nowhere (told_disk t few) (told_disk u few')
-  fault_is is honest = subst (λ (v : Told). Still v) (sym is)
-      (λ l h. record {
-        was_honest = h;
-        sectors = refl;
-        later = omega arith;
-        faults = omega arith;
-        reads = record { same = λ j off. refl };
-        since = λ k c le left. elim left [
-          | inl now ↦ inl (inl now)
-          | inr had ↦ elim had [ inl here ↦ inl (inl here.1) | inr there ↦ inl (inr there) ]
-        ];
-        keeps = λ k c le left. elim left [ inl now ↦ inr (inl (le, now)) | inr there ↦ inr (inr there) ];
-      }) few' honest
+  fault_is is honest = subst (λ (v : Told). Still v) (sym is) (λ l h. search (arith, h)) few' honest
 
   pub read_is : (i : ℕ) (bytes : List ℕ) → u ≡ after_read t i bytes → IsTrue u.3 → Touches Nowhere (told_disk t few) (told_disk u few')
   read_is i bytes is honest = subst (λ (v : Told). Still v) (sym is)
-      (λ l h. record {
-        was_honest = first_true t.3 (same_bytes bytes (get_or t.0 i [])) h;
-        sectors = refl;
-        later = omega arith;
-        faults = omega arith;
-        reads = record { same = λ j off. refl };
-        since = λ k c le left. inl left;
-        keeps = λ k c le left. left;
-      }) few' honest
+      (λ l h. search (arith, first_true t.3 (same_bytes bytes (get_or t.0 i [])) h)) few' honest
 
 pub synced_is : (t u : Told) → u ≡ after_sync t → (c : Image) → Leaves u.0 u.1 c → AgreeOff Nowhere (image_of u.0) c
 synced_is t u is = search (rules, all_synced)
@@ -72,16 +40,13 @@ synced_is t u is = search (rules, all_synced)
 -- what a sync leaves, whether it failed or not
 module _ (t u : Told) where
   pub sectors_kept : (b : Bool) → (b ≡ true → u ≡ after_sync t) → (b ≡ false → u ≡ after_fault t) → u.0 ≡ t.0
-  sectors_kept true synced fault = ap (λ (v : Told). v.0) (synced refl)
-  sectors_kept false synced fault = ap (λ (v : Told). v.0) (fault refl)
+  sectors_kept b synced fault = search (arith, synced, fault)
 
   was_honest : (b : Bool) → (b ≡ true → u ≡ after_sync t) → (b ≡ false → u ≡ after_fault t) → IsTrue u.3 → IsTrue t.3
-  was_honest true synced fault honest = subst (λ (v : Told). IsTrue v.3) (synced refl) honest
-  was_honest false synced fault honest = subst (λ (v : Told). IsTrue v.3) (fault refl) honest
+  was_honest b synced fault honest = search (arith, synced, fault)
 
   pub recalled_still : (b : Bool) → (b ≡ true → u ≡ after_sync t) → (b ≡ false → u ≡ after_fault t) → (recent : Recent) → (IsTrue t.3 → Recalls recent t.0) → IsTrue u.3 → Recalls recent u.0
   recalled_still b synced fault recent had honest = search (rules, sectors_kept, was_honest)
 
   pub as_opened_still : (b : Bool) → (b ≡ true → u ≡ after_sync t) → (b ≡ false → u ≡ after_fault t) → (sector : ℕ → List ℕ) (count : ℕ) → length t.0 ≡ count → IsAsOpened sector count t → IsAsOpened sector count u
-  as_opened_still true synced fault sector count long had = (sectors_kept true synced fault ∙ had.0, ap (λ (v : Told). v.1) (synced refl) ∙ ap (λ n. replicate n false) long)
-  as_opened_still false synced fault sector count long had = (sectors_kept false synced fault ∙ had.0, ap (λ (v : Told). v.1) (fault refl) ∙ had.1)
+  as_opened_still b synced fault sector count long had = search (arith, synced, fault, sectors_kept)

@@ -2,7 +2,7 @@
 use Rattle.std.proofs.Common.{rules, ◌≡◌, ◌≢◌, ◌<◌, ◌+◌, ◌^◌, ◌⊎◌, ◌∙◌, ℕ, Bool, length, cond, get_or, false, List, [], ◌∷◌, ◌++◌, refl, sym, ap, subst, inl, inr, nat_eq, arith, IsTrue, ◌&&◌, ◌||◌, slice_index, replicate}
 use Rattle.{std.proofs.lemmas.Bool.{and_from, and_parts, cases_eq, eq-eqb, ne_eqb, false≢true, Decides.nat_tests}, sector_device.specs.Disk.{IsSynced, Only}}
 use Rattle.{sector_device.{specs.{Held.{refused, image_of}, claim.Disk.{Image, Touches, Nowhere}}, proofs.Moments.{touches_more, touches_wider}}, sector_file.specs.Reader.IsReader}
-use Rattle.sector_file.specs.Told.{Told, Call, same_bytes, first_held, step, after_opening, after_read, after_fault, after_write, after_torn, after_sync, after_sharing, replay, replay_on, only_reads, read_call, failed_call, told_disk}
+use Rattle.sector_file.specs.Told.{Told, Call, first_held, step, after_opening, after_read, after_fault, after_write, after_torn, after_sync, after_sharing, replay, replay_on, only_reads, read_call, failed_call, told_disk}
 use Rattle.sector_file.proofs.{Disks.{all_synced, read_is, fault_is}, Steps.{first_true, length_held, whole_read, short_read}}
 
 second_true : (a b : Bool) → IsTrue (a && b) → IsTrue b
@@ -75,19 +75,8 @@ module _ (sector : ℕ → List ℕ) where
     pub honest_too : ((i : ℕ) → get_or t.0 i [] ≡ get_or s.0 i []) → IsTrue s.3 → (calls : List Call) → IsTrue (only_reads calls) → IsTrue (replay_on sector t calls).3 → IsTrue (replay_on sector s calls).3
     honest_too same began [] only honest = began
     honest_too same began (call ∷ calls) only honest =
-        let u = replay_on sector t calls in
-        let v = replay_on sector s calls in
         let rest = second_true _ _ only in
-        elim (step_is call (first_true _ _ only)) [
-          | inl reads ↦
-              let i = slice_index call.0 1 in
-              let there : IsTrue (u.3 && same_bytes call.1 (get_or u.0 i [])) = subst (λ (w : Told). IsTrue w.3) (reads u) honest in
-              let alike : get_or u.0 i [] ≡ get_or v.0 i [] =
-              ap (λ (l : List (List ℕ)). get_or l i []) (same_on t calls rest).0 ∙ same i ∙ sym (ap (λ (l : List (List ℕ)). get_or l i []) (same_on s calls rest).0) in
-              let now = subst (λ (bytes : List ℕ). IsTrue (same_bytes call.1 bytes)) alike (second_true u.3 _ there) in
-              subst (λ (w : Told). IsTrue w.3) (sym (reads v)) (and_from v.3 _ (honest_too same began calls rest (first_true u.3 _ there)) now)
-          | inr fails ↦ subst (λ (w : Told). IsTrue w.3) (sym (fails v)) (honest_too same began calls rest (subst (λ (w : Told). IsTrue w.3) (fails u) honest))
-        ]
+        search (arith, step_is call (first_true _ _ only), honest_too same began calls rest, same_on t calls rest, same_on s calls rest, same, first_true, second_true, and_from)
 
 pub reader_long : (sector : ℕ → List ℕ) (count : ℕ) (calls : List Call) → IsTrue (only_reads calls) → length (replay_on sector (after_sharing sector count) calls).0 ≡ count
 reader_long sector count calls only = ap (λ (l : List (List ℕ)). length l) (same_on sector (after_sharing sector count) calls only).0 ∙ length_held sector 0 count

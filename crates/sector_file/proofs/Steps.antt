@@ -1,4 +1,4 @@
-use Rattle.std.proofs.Common.{◌≡◌, ◌≢◌, ◌<◌, ◌+◌, ◌∙◌, ℕ, zero, suc, Bool, length, get_or, get_or-set_other, true, List, [], ◌∷◌, refl, ap, subst, inl, inr, nat_eq, arith, IsTrue, ◌&&◌, rules}
+use Rattle.std.proofs.Common.{◌≡◌, ◌≢◌, ◌<◌, ◌+◌, ℕ, zero, suc, Bool, length, get_or, get_or-set_other, true, List, [], ◌∷◌, refl, ap, subst, inl, inr, nat_eq, arith, IsTrue, ◌&&◌, rules}
 use Rattle.std.proofs.lemmas.{Bool.{and_parts, cases_eq, cond-false, cond-true, eq-eqb, ne_eqb, false≢true, Decides.nat_tests}, List.length-set}
 use Rattle.sector_file.specs.{Recalled.Recalls, Told.{Told, same_bytes, held_from, after_opening, step, after_read, after_fault, after_write, after_torn}}
 use Rattle.sector_file.specs.declared.recent.Recent.{Recent}
@@ -44,8 +44,7 @@ module _ (sector : ℕ → List ℕ) where
 
   held_at : (from count i : ℕ) → i < count → get_or (held_from sector from count) i [] ≡ sector (from + i)
   held_at from zero i less = absurd (omega (arith, less))
-  held_at from (suc n) zero less = search rules
-  held_at from (suc n) (suc i) less = let e : from + 1 + i ≡ from + suc i = omega arith in held_at (from + 1) n i (omega (arith, less)) ∙ ap sector e
+  held_at from (suc n) i less = search (arith, held_at (from + 1) n)
 
   pub first_at : (t : Told) (count : ℕ) → t ≡ after_opening sector count → (i : ℕ) → i < count → get_or t.0 i [] ≡ sector i
   first_at t count is i less = search (rules, held_at)

@@ -78,6 +78,7 @@ impl<S: Contents> FileDevice<S> {
     ghost use Rattle.sector_file.specs.Reader.{IsReader};
 
     /// The device of an open file of this size.
+    #[tactic(auto, using(crate::proofs::Steps::first_at))]
     fn of_size(alloc: Global, file: File, size: u64, count: u32) -> Result<FileDevice<S>, FileError>
         ensures ok { IfOk result (λ device. (size ≡ 4096 * count) × ((file_disk device).sectors ≡ count)) }
         ensures held { IfOk result (λ device. (i : ℕ) → i < count → (file_disk device).reads i ≡ S.Contents.sector i) }
@@ -175,6 +176,7 @@ impl<S: Contents> FileDevice<S> {
     /// A reader of the file, which may go to another thread. Its descriptor is another handle of the same open file, so the lock stays
     /// until both are closed. None where the system gave no descriptor, and where the device was made anew or written since it was opened:
     /// so a stop leaves what the reader reads.
+    #[tactic(auto, using(crate::proofs::Readers::held_is, crate::proofs::Readers::synced_as_opened))]
     pub fn share(&self, alloc: Global) -> Option<FileReader<S>>
         ensures reader { IfSome result (λ reader. IsReader (file_disk self.now) (reader_disk reader)) }
         ensures held { IfSome result (λ reader. (file_disk self.now).reads ≡ first_image S.Contents.sector (file_disk self.now).sectors) }

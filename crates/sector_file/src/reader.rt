@@ -38,6 +38,7 @@ impl<S: Contents> FileReader<S> {
     ghost use Rattle.sector_file.specs.Device.{reader_disk};
 
     /// A reader of an open file that has so many sectors.
+    #[tactic(auto, using(crate::proofs::Readers::reader_long, crate::proofs::Runs::none_held))]
     pub(crate) fn new(alloc: Global, file: File, count: u32) -> FileReader<S>
         ensures count { result.count ≡ count }
         ensures calls { result.log.calls ≡ [] }
@@ -53,6 +54,7 @@ impl<S: Contents> FileReader<S> {
     }
 
     /// Reads a sector and those that follow it by one call, where there are enough: whether they are held then, and this one first.
+    #[tactic(auto, using(crate::proofs::Runs::run_read))]
     fn read_ahead(&mut self, i: u32) -> bool
         ensures sectors { (reader_disk self.new).sectors ≡ (reader_disk self.old).sectors }
         ensures moves { (reader_disk self.new).is_honest → Touches Nowhere (reader_disk self.old) (reader_disk self.new) }
@@ -82,6 +84,7 @@ impl<S: Contents> FileReader<S> {
     }
 
     /// Reads a sector by a call of its own.
+    #[tactic(auto, using(crate::proofs::Readers::reader_long))]
     fn read_one(&mut self, i: u32, sector: &mut Sector) -> Result<(), DeviceFault>
         ensures sectors { (reader_disk self.new).sectors ≡ (reader_disk self.old).sectors }
         ensures model { (reader_disk self.new).is_honest → Touches Nowhere (reader_disk self.old) (reader_disk self.new)

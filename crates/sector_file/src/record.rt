@@ -64,6 +64,7 @@ impl Record {
 
     /// The record of a file that was opened with so many sectors. What they hold is what `S` says, and none is known to be
     /// on the disk.
+    #[tactic(auto, using(crate::proofs::Steps::length_held))]
     pub(crate) fn opened<S: Contents>(count: u32) -> Record
         ensures opened { replay S.Contents.sector result.calls ≡ after_opening S.Contents.sector count }
         ensures count { length (replay S.Contents.sector result.calls).0 ≡ count }
@@ -74,6 +75,7 @@ impl Record {
     }
 
     /// A read gave so many bytes of a sector.
+    #[tactic(auto, using(crate::proofs::Steps::whole_read, crate::proofs::Steps::short_read))]
     pub(crate) fn read<S: Contents>(&mut self, i: u32, got: usize, sector: &Sector)
         ensures whole { got ≡ 4096 → replay S.Contents.sector self.new.calls ≡ after_read (replay S.Contents.sector self.old.calls) i sector.now }
         ensures short { got ≢ 4096 → replay S.Contents.sector self.new.calls ≡ after_fault (replay S.Contents.sector self.old.calls) }
@@ -83,6 +85,7 @@ impl Record {
     }
 
     /// A write took so many bytes of a sector.
+    #[tactic(auto, using(crate::proofs::Steps::whole_write, crate::proofs::Steps::torn_write))]
     pub(crate) fn written<S: Contents>(&mut self, i: u32, put: usize, sector: &Sector)
         ensures whole { put ≡ 4096 → replay S.Contents.sector self.new.calls ≡ after_write (replay S.Contents.sector self.old.calls) i sector.now }
         ensures torn { put ≢ 4096 → replay S.Contents.sector self.new.calls ≡ after_torn (replay S.Contents.sector self.old.calls) i }

@@ -2,11 +2,28 @@
 use Rattle.std.{specs.{Cmp.Lexicographic.pointwise, Prelude.nat_eq}, proofs.{Math.Seq.{drop-append-add, take-append_seam, take-add}, lemmas.List.Elements.{All-push, All-tail}}}
 use Rattle.std.proofs.Common.{inl, inr, rules, ◌≡◌, ℕ, zero, suc, ◌+◌, ◌-◌, ◌*◌, ◌/◌, ◌%◌, ◌<◌, ◌≤◌, ◌^◌, true, false, List, [], ◌∷◌, ◌++◌, length, take, drop, get_or, arith, refl, ap, sym, ◌∙◌, length-append, append_assoc, subst}
 use Rattle.{std.proofs.lemmas.{Bool.{and_cases, and_left, and_parts, and_right}, Nat.{div-add-mod', mod_below}}, shared_lists.specs.Pieces.{Piece, joined, AreFull, IsCut}}
-use Rattle.std.proofs.lemmas.List.{take-take, drop-append-le, take_all, drop-drop, length-drop, length-take, flat_map_more, take-append-drop}
+use Rattle.std.proofs.lemmas.List.{take-take, drop-append-le, take_all, drop-drop, length-drop, length-take, flat_map_more, take_more, take-append-drop}
 
 pub joined_long : (ps : List Piece) → AreFull ps → length (joined ps) ≡ length ps * 512
 joined_long [] full = refl
 joined_long (p ∷ ps) full = omega (arith, length-append p.value.items (joined ps), full 0 p (omega arith), joined_long ps (All-tail (λ p. length p.value.items ≡ 512) p ps full))
+
+-- one piece more
+module _ (ps new : List Piece) (p : Piece) (put : new ≡ ps ++ p ∷ []) where
+  pub joined_push : (before : List ℕ) → joined ps ≡ before → joined new ≡ before ++ p.value.items
+  joined_push before same = ap joined put ∙ sym (flat_map_more (λ (q : Piece). q.value.items) [] ps p) ∙ ap (λ l. l ++ p.value.items) same
+
+  pub full_push : AreFull ps → length p.value.items ≡ 512 → AreFull new
+  full_push full one = subst AreFull (sym put) (All-push (λ q. length q.value.items ≡ 512) ps p full one)
+
+-- the pieces before a place, and the one there
+pub joined_take : (all : List Piece) (k : ℕ) (d : Piece) → k < length all → joined (take k all) ++ (get_or all k d).value.items ≡ joined (take (k + 1) all)
+joined_take all k d within = flat_map_more (λ (q : Piece). q.value.items) [] (take k all) (get_or all k d) ∙ sym (ap joined (take_more all k d within))
+
+-- pieces that make a list, full ones and one after them
+pub cut_of : (ps : List Piece) (rest : Piece) (all : List ℕ) (count : ℕ) → AreFull ps → joined ps ++ rest.value.items ≡ all → count ≡ length all → ((i : ℕ) → get_or all i 0 < 2 ^ 16) → IsCut ps rest count
+cut_of ps rest all count full same long fit =
+    record { are_full = full; counted = long ∙ sym (ap length same) ∙ length-append (joined ps) rest.value.items; fit = λ i. rw same (fit i) }
 
 -- after a place of a full piece come its rest and the pieces after it
 drop_at : (ps : List Piece) (rest : List ℕ) (q r : ℕ) (p : Piece) → AreFull ps → q < length ps → r < 512 → p ≡ get_or ps q p
@@ -31,17 +48,13 @@ in_full ps rest place p full within is =
     ∙ ap (take (length (drop r p.value.items))) (drop_at ps rest q r p full within (mod_below place 512 (omega arith)) is)
     ∙ take-append_seam (drop r p.value.items) (joined (drop (suc q) ps) ++ rest)
 
-pub in_rest : (ps : List Piece) (rest : List ℕ) (place : ℕ) → AreFull ps → length ps * 512 ≤ place
-    → take (length (drop (place - length ps * 512) rest)) (drop place (joined ps ++ rest)) ≡ drop (place - length ps * 512) rest
-in_rest ps rest place full past = search (rules, joined_long ps full, drop-append-add, take_all)
-
 -- what lies in one piece is the prefix of what lies after the place
 module _ (ps : List Piece) (rest : Piece) (all : List ℕ) (place : ℕ) (found : List ℕ) (full : AreFull ps) (view : joined ps ++ rest.value.items ≡ all) where
   pub prefix_in_full : (p : Piece) → place / 512 < length ps → p ≡ get_or ps (place / 512) p → found ≡ drop (place % 512) p.value.items → take (length found) (drop place all) ≡ found
   prefix_in_full p within is told = search (rules, in_full)
 
   pub prefix_in_rest : length ps ≤ place / 512 → found ≡ drop (place - length ps * 512) rest.value.items → take (length found) (drop place all) ≡ found
-  prefix_in_rest past told = search (rules, in_rest)
+  prefix_in_rest past told = search (rules, joined_long ps full, drop-append-add, take_all)
 
   pub rest_long : place < length all → place < length ps * 512 + length rest.value.items
   rest_long within = omega (arith, joined_long ps full, ap length view, length-append (joined ps) rest.value.items)
@@ -98,19 +111,15 @@ module _ (one other here there prefix beside : List ℕ) (place end k : ℕ) (cu
   apart_here apart = (λ i. pointwise nat_eq (parted one here prefix cut is few i) (parted other there beside cut_beside is_beside few_beside i)) ∙ apart_before prefix beside _ _ long apart
 
 -- ---- lists that are made
-pub full_more : (ps : List Piece) (p : Piece) → AreFull ps → length p.value.items ≡ 512 → AreFull (ps ++ p ∷ [])
-full_more ps p full one = All-push (λ q. length q.value.items ≡ 512) ps p full one
-
 module _ (ps new : List Piece) (p : Piece) (list after prefix : List ℕ) (place : ℕ) (put : new ≡ ps ++ p ∷ []) (is : p.value.items ≡ prefix) (cut : prefix ≡ take 512 after)
     (from : after ≡ drop (place * 512) list) (within : (place + 1) * 512 ≤ length list) where
   pub next_full : AreFull ps → AreFull new
-  next_full full = subst AreFull (sym put) (full_more ps p full (omega (arith, ap length is, ap length cut, length-take 512 after, ap length from, length-drop (place * 512) list)))
+  next_full full = full_push ps new p put full (omega (arith, ap length is, ap length cut, length-take 512 after, ap length from, length-drop (place * 512) list))
 
   pub next_same : joined ps ≡ take (place * 512) list → joined new ≡ take ((place + 1) * 512) list
   next_same same =
       let e : (place + 1) * 512 ≡ place * 512 + 512 = omega arith in
-      ap joined put ∙ sym (flat_map_more (λ (q : Piece). q.value.items) [] ps p) ∙ ap (λ l. l ++ p.value.items) same
-      ∙ ap (λ l. take (place * 512) list ++ l) (is ∙ cut ∙ ap (take 512) from)
+      joined_push ps new p put (take (place * 512) list) same ∙ ap (λ l. take (place * 512) list ++ l) (is ∙ cut ∙ ap (take 512) from)
       ∙ sym (ap (λ n. take n list) e ∙ take-add (place * 512) 512 list)
 
 pub counted_all : (ps : List Piece) (rest : Piece) (count : ℕ) (all : List ℕ) → IsCut ps rest count → joined ps ++ rest.value.items ≡ all → count ≡ length all
@@ -121,6 +130,3 @@ module _ (ps : List Piece) (rest : Piece) (list after : List ℕ) (place number 
     (from : after ≡ drop (number * 512) list) (all : place ≡ number) where
   pub whole : joined ps ++ rest.value.items ≡ list
   whole = ap (λ l. l ++ rest.value.items) same ∙ ap (λ n. take (n * 512) list ++ rest.value.items) all ∙ ap (λ l. take (number * 512) list ++ l) (is ∙ from) ∙ take-append-drop (number * 512) list
-
-  pub is_cut : AreFull ps → ((i : ℕ) → get_or list i 0 < 2 ^ 16) → IsCut ps rest (length list)
-  is_cut full fit = search (rules, whole, length-append)

@@ -1,8 +1,7 @@
 -- Listed districts that are laid over others.
-use Rattle.{std.{specs.Prelude.{unwrap_or, nat_lt, ◌-◌}, proofs.lemmas.Bool.{cond_both, lt-ltb}}, shared_lists.{specs.Laid.{listed_at, laid}, proofs.Cut.{joined_long, full_more}}}
+use Rattle.std.{specs.Prelude.{unwrap_or, nat_lt, ◌-◌}, proofs.lemmas.{Bool.{cond_both, lt-ltb}, List.{ext_get_or, get_or_past, take_all, length-take, Elements.All-take}}}
 use Rattle.std.proofs.Common.{rules, ◌≡◌, ℕ, zero, suc, ◌+◌, ◌*◌, ◌^◌, ◌<◌, ◌≤◌, List, [], ◌∷◌, ◌++◌, length, get_or, take, subst, length-append, Option, None, arith, refl, ap, sym, ◌∙◌, ◌⊎◌}
-use Rattle.std.proofs.lemmas.List.{ext_get_or, get_or_past, flat_map_more, take_more, take_all, length-take, get_or-take}
-use Rattle.shared_lists.specs.Pieces.{Piece, joined, AreFull, IsCut}
+use Rattle.shared_lists.{specs.{Laid.{listed_at, laid}, Pieces.{Piece, joined, AreFull, IsCut}}, proofs.Cut.{joined_long, joined_push, full_push, joined_take, cut_of}}
 
 module _ (first : ℕ) (listed : List (Option ℕ)) where
   pub length-laid : (place : ℕ) (ds : List ℕ) → length (laid first listed place ds) ≡ length ds
@@ -61,25 +60,20 @@ append_fit (d ∷ ds) es small more zero = small zero
 append_fit (d ∷ ds) es small more (suc i) = append_fit ds es (λ k. small (suc k)) more i
 
 -- ---- lists in pieces
-prefix_full : (all : List Piece) (k : ℕ) → AreFull all → AreFull (take k all)
-prefix_full all k full = λ i d within. let long = length-take k all in ap (λ (q : Piece). length q.value.items) (get_or-take k all i d (omega arith)) ∙ full i d (omega arith)
-
 module _ (first : ℕ) (listed : List (Option ℕ)) (ps new : List Piece) (all : List Piece) (k : ℕ) (p d : Piece) where
   pub next_laid : joined ps ≡ laid first listed 0 (joined (take k all)) → AreFull all → k < length all → new ≡ ps ++ p ∷ [] → p.value.items ≡ laid first listed (k * 512) (get_or all k d).value.items
       → joined new ≡ laid first listed 0 (joined (take (k + 1) all))
   next_laid same full within put is =
-      ap joined put ∙ sym (flat_map_more (λ (q : Piece). q.value.items) [] ps p) ∙ ap (λ l. l ++ p.value.items) same
-      ∙ ap (λ l. laid first listed 0 (joined (take k all)) ++ l)
-      (is ∙ ap (λ n. laid first listed n (get_or all k d).value.items) (omega (arith, joined_long (take k all) (prefix_full all k full), length-take k all)))
-      ∙ sym (laid-append first listed 0 (joined (take k all)) (get_or all k d).value.items)
-      ∙ ap (laid first listed 0) (flat_map_more (λ (q : Piece). q.value.items) [] (take k all) (get_or all k d) ∙ sym (ap joined (take_more all k d within)))
+      let so_long = joined_long (take k all) (All-take (λ q. length q.value.items ≡ 512) k all full) in
+      joined_push ps new p put (laid first listed 0 (joined (take k all))) same
+      ∙ ap (λ l. laid first listed 0 (joined (take k all)) ++ l) (is ∙ ap (λ n. laid first listed n (get_or all k d).value.items) (omega (arith, so_long, length-take k all)))
+      ∙ sym (laid-append first listed 0 (joined (take k all)) (get_or all k d).value.items) ∙ ap (laid first listed 0) (joined_take all k d within)
 
   pub next_fit : Fit (joined ps) → Fit p.value.items → new ≡ ps ++ p ∷ [] → Fit (joined new)
-  next_fit so_far fits put =
-      subst Fit (flat_map_more (λ (q : Piece). q.value.items) [] ps p ∙ sym (ap joined put)) (append_fit (joined ps) p.value.items so_far fits)
+  next_fit so_far fits put = subst Fit (sym (joined_push ps new p put (joined ps) refl)) (append_fit (joined ps) p.value.items so_far fits)
 
   pub next_full_laid : AreFull ps → AreFull all → k < length all → new ≡ ps ++ p ∷ [] → p.value.items ≡ laid first listed (k * 512) (get_or all k d).value.items → AreFull new
-  next_full_laid so_far full within put is = search (rules, full_more, length-laid)
+  next_full_laid so_far full within put is = full_push ps new p put so_far (ap length is ∙ length-laid first listed (k * 512) (get_or all k d).value.items ∙ full k d within)
 
 -- the pieces and the one after them, when all are laid over
 module _ (first : ℕ) (listed : List (Option ℕ)) (ps full : List Piece) (rest kept : Piece) (k : ℕ) (same : joined ps ≡ laid first listed 0 (joined (take k full))) (all : length full ≤ k)
@@ -88,8 +82,6 @@ module _ (first : ℕ) (listed : List (Option ℕ)) (ps full : List Piece) (rest
   laid_whole = search (rules, take_all, joined_long, laid-append)
 
   pub laid_cut : (count : ℕ) → AreFull ps → IsCut full kept count → Fit (joined ps) → Fit rest.value.items → IsCut ps rest count
-  laid_cut count so_far cut fits fits_after = record {
-    are_full = so_far;
-    counted = cut.counted ∙ sym (length-append (joined full) kept.value.items) ∙ sym (length-laid first listed 0 (joined full ++ kept.value.items)) ∙ sym (ap length laid_whole) ∙ length-append (joined ps) rest.value.items;
-    fit = append_fit (joined ps) rest.value.items fits fits_after;
-  }
+  laid_cut count so_far cut fits fits_after = cut_of ps rest (joined ps ++ rest.value.items) count so_far refl
+      (cut.counted ∙ sym (length-append (joined full) kept.value.items) ∙ sym (length-laid first listed 0 (joined full ++ kept.value.items)) ∙ sym (ap length laid_whole))
+      (append_fit (joined ps) rest.value.items fits fits_after)

@@ -1,6 +1,3 @@
-mod Blank
 pub mod Cut
-mod Grown
 pub mod Laying
 pub mod Puts
-mod Shared

@@ -1,6 +1,6 @@
 -- A part of a list in the place of its own.
-use Rattle.{std.{specs.Prelude.unwrap_or, proofs.lemmas.Bool.{cases_lt, le-ltb}}, shared_lists.{specs.Laid.{listed_at, laid, with_at}, proofs.Cut.joined_long}}
-use Rattle.std.proofs.Common.{rules, ◌≡◌, ℕ, suc, ◌+◌, ◌-◌, ◌*◌, ◌^◌, ◌<◌, ◌≤◌, List, [], ◌∷◌, ◌++◌, length, get_or, take, take_all, drop, map, subst, length-append, length-take, length-drop, Option, Some, None, arith, refl, ap, sym, ◌∙◌, ◌⊎◌, inl, inr, min, max}
+use Rattle.{std.{specs.Prelude.unwrap_or, proofs.lemmas.Bool.{cases_lt, le-ltb}}, shared_lists.{specs.Laid.{listed_at, laid, with_at}, proofs.Cut.{cut_of, joined_long}}}
+use Rattle.std.proofs.Common.{rules, ◌≡◌, ℕ, suc, ◌+◌, ◌-◌, ◌*◌, ◌^◌, ◌<◌, ◌≤◌, List, [], ◌∷◌, ◌++◌, length, get_or, take, take_all, drop, map, length-append, length-take, length-drop, Option, Some, None, arith, refl, ap, sym, ◌∙◌, ◌⊎◌, inl, inr, min, max}
 use Rattle.std.proofs.lemmas.List.{get_or_past, ext_get_or, drop-drop, get_or-map, length-map, get_or-take, get_or-drop, get_or_append_left, get_or-append_right, take-append-drop}
 use Rattle.shared_lists.{specs.Pieces.{Piece, joined, AreFull, ArePut, IsCut}, proofs.Laying.{Fit, length-laid, get_or-laid, laid-append, unlaid_apart, not_before, not_after}}
 use borrow.Rule.Slice.PartMut.{put_mid}
@@ -26,14 +26,32 @@ module _ (first : ℕ) (part : List ℕ) where
   among : (place : ℕ) → first ≤ place → place < first + length part → listed_at first listed place ≡ Some (get_or part (place - first) 0)
   among place from to = rw (le-ltb place first from) (get_or-map Some part (place - first) 0 None (omega arith))
 
+  -- two places between which a list has a part of the part
+  pub record IsCutOut (start many from to : ℕ) : Type 0 where
+    pub order : from ≤ to
+    pub here : start ≤ from
+    pub there : first ≤ from
+    pub end : to ≤ start + many
+    pub end_there : to ≤ first + length part
+    pub begins : (from ≡ start) ⊎ (from ≡ first)
+    pub ends : (to ≡ start + many) ⊎ (to ≡ first + length part)
+    pub order_here : from - start ≤ to - start
+    pub order_there : from - first ≤ to - first
+    pub within_here : to - start ≤ many
+    pub within_there : to - first ≤ length part
+    pub to_here : start ≤ to
+    pub to_there : first ≤ to
+
   -- the part of the part that lies in a list between two places
-  module _ (start : ℕ) (ds : List ℕ) (from to : ℕ) (order : from ≤ to) (here : start ≤ from) (there : first ≤ from) (end : to ≤ start + length ds) (end_there : to ≤ first + length part)
-      (begins : (from ≡ start) ⊎ (from ≡ first)) (ends : (to ≡ start + length ds) ⊎ (to ≡ first + length part)) where
+  module _ (start : ℕ) (ds : List ℕ) (from to : ℕ) (cut : IsCutOut start (length ds) from to) where
     abbrev pub cut_out : List ℕ
     cut_out = take (to - first - (from - first)) (drop (from - first) part)
 
     cut_long : length cut_out ≡ to - from
     cut_long = let rest = length-drop (from - first) part in let long = length-take (to - first - (from - first)) (drop (from - first) part) in omega arith
+
+    pub fit_cut_out : length cut_out ≡ to - start - (from - start)
+    fit_cut_out = omega (arith, cut_long)
 
     abbrev pub prefix : List ℕ
     prefix = take (from - start) ds
@@ -59,34 +77,8 @@ module _ (first : ℕ) (part : List ℕ) where
     pub same_between : take (to - start - (from - start)) (drop (from - start) ds) ≡ cut_out → ds ≡ laid first listed start ds
     same_between same = sym (in_three (from - start) (to - start) ds (omega arith)) ∙ ap (λ (l : List ℕ). prefix ++ (l ++ back)) same ∙ laid_between
 
-  -- two places between which a list has a part of the part
-  pub record IsCutOut (start many from to : ℕ) : Type 0 where
-    pub order : from ≤ to
-    pub here : start ≤ from
-    pub there : first ≤ from
-    pub end : to ≤ start + many
-    pub end_there : to ≤ first + length part
-    pub begins : (from ≡ start) ⊎ (from ≡ first)
-    pub ends : (to ≡ start + many) ⊎ (to ≡ first + length part)
-    pub order_here : from - start ≤ to - start
-    pub order_there : from - first ≤ to - first
-    pub within_here : to - start ≤ many
-    pub within_there : to - first ≤ length part
-    pub to_here : start ≤ to
-    pub to_there : first ≤ to
-
   pub is_cut_out : (start many from to : ℕ) → from ≡ max first start → to ≡ min (first + length part) (start + many) → (first < start + many) × (start < first + length part) → IsCutOut start many from to
   is_cut_out start many from to is_from is_to beside = search rules
-
-  module _ (start : ℕ) (known ds : List ℕ) (from to : ℕ) (same : known ≡ ds) (cut : IsCutOut start (length known) from to) where
-    pub fit_cut_out : length (take (to - first - (from - first)) (drop (from - first) part)) ≡ to - start - (from - start)
-    fit_cut_out = search (rules, cut.here, cut_long, cut.order, cut.there)
-
-    pub laid_cut_out : take (from - start) known ++ (take (to - first - (from - first)) (drop (from - first) part) ++ drop (to - start) known) ≡ laid first listed start ds
-    laid_cut_out = laid_between start known from to cut.order cut.here cut.there cut.end cut.end_there cut.begins cut.ends ∙ ap (laid first listed start) same
-
-    pub same_cut_out : take (to - start - (from - start)) (drop (from - start) known) ≡ take (to - first - (from - first)) (drop (from - first) part) → ds ≡ laid first listed start ds
-    same_cut_out is = sym same ∙ same_between start known from to cut.order cut.here cut.there cut.end cut.end_there cut.begins cut.ends is ∙ ap (laid first listed start) same
 
   -- where none of the places is the part's, the list stays
   pub laid_apart : (start : ℕ) (ds : List ℕ) (count : ℕ) → count ≡ length ds → (start + count ≤ first) ⊎ (first + length part ≤ start) → ds ≡ laid first listed start ds
@@ -95,7 +87,7 @@ module _ (first : ℕ) (part : List ℕ) where
   -- laid over a whole list, the part stands at its place
   pub laid_at : (ds : List ℕ) → first + length part ≤ length ds → laid first listed 0 ds ≡ with_at first part ds
   laid_at ds within =
-      sym (laid_between 0 ds first (first + length part) (omega arith) (omega arith) (omega arith) (omega arith) (omega arith) (inr refl) (inr refl))
+      sym (laid_between 0 ds first (first + length part) (search rules))
       ∙ (λ i. take (from i) ds ++ (all i ++ drop (to i) ds))
     where
       from : first - 0 ≡ first
@@ -145,12 +137,7 @@ module _ (first : ℕ) (part : List ℕ) where
     fits_at : (o : Option ℕ) (own : ℕ) → ((k : ℕ) → get_or part k 0 < 2 ^ 16) → own < 2 ^ 16 → (k : ℕ) → (o ≡ None) ⊎ (o ≡ Some (get_or part k 0)) → unwrap_or o own < 2 ^ 16
     fits_at o own small less k is = elim is [ inl none ↦ rw none less | inr some ↦ rw some (small k) ]
 
-    laid_fit : (ds : List ℕ) → Fit part → Fit ds → Fit (laid first listed 0 ds)
-    laid_fit ds small own i = search (rules, cases_lt, get_or-laid, fits_at, not_before, among, not_after, listed_long, get_or_past, length-laid)
-
     pub put_cut : (count : ℕ) → Fit part → IsCut old kept count → IsCut new rest count
-    put_cut count small cut = record {
-      are_full = search (rules, length-laid);
-      counted = cut.counted ∙ sym (length-append (joined old) kept.value.items) ∙ sym (length-laid first listed 0 (joined old ++ kept.value.items)) ∙ sym (ap length put_whole) ∙ length-append (joined new) rest.value.items;
-      fit = subst Fit (sym put_whole) (laid_fit (joined old ++ kept.value.items) small cut.fit);
-    }
+    put_cut count small cut = cut_of new rest (laid first listed 0 (joined old ++ kept.value.items)) count (search (rules, length-laid)) put_whole
+        (cut.counted ∙ sym (length-append (joined old) kept.value.items) ∙ sym (length-laid first listed 0 (joined old ++ kept.value.items)))
+        (λ i. search (rules, cases_lt, get_or-laid, fits_at, not_before, among, not_after, listed_long, get_or_past, length-laid))

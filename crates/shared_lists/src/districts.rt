@@ -67,6 +67,7 @@ impl Districts {
 
     /// The list with the listed districts in the place of its own, where what is listed stands from the place `first` on. A piece
     /// in which nothing changes is shared.
+    #[tactic(auto, using(crate::proofs::Cut::joined_long))]
     pub fn with_listed(
         &self,
         alloc: Global,
@@ -110,6 +111,7 @@ impl Districts {
 
     /// The list with a part in the place of its own, which stands from the place `first` on. A piece in which nothing changes is
     /// shared.
+    #[tactic(auto, using(crate::proofs::Cut::joined_long, crate::proofs::Cut::counted_all))]
     pub fn with_part(
         self,
         alloc: Global,
@@ -174,6 +176,7 @@ impl Districts {
     }
 
     /// Whether another list has the same districts at these places.
+    #[tactic(auto, using(crate::proofs::Cut::counted_all))]
     pub fn is_same_in(&self, other: &Districts, first: usize, count: usize) -> bool
         requires here { first + count ≤ length self.now }
         requires there { first + count ≤ length other.now }
@@ -195,6 +198,7 @@ impl Districts {
     }
 
     /// The districts at these places, flat.
+    #[tactic(auto, using(crate::proofs::Cut::counted_all))]
     pub fn part(&self, alloc: Global, first: usize, count: usize) -> Result<Vec<u16>, AllocError>
         requires { first + count ≤ length self.now }
         ensures { IfOk result (λ part. part.items ≡ take count (drop first self.now)) }

@@ -93,14 +93,12 @@ module _ (m : KeyMap) (s : SealRow) (s_fits : s.load < 2 ^ 64) where
     )
     row_counted _ value fits has = (λ from on. cc, λ from on. cc)
 
+    counted_at : AreRows m → (key value : List ℕ) → get m key ≡ Some value → IsCounted key
+    counted_at rows key value there = let (row, fits, is) = rows key value there in subst IsCounted (sym is) (row_counted row value fits (ap (get m) (sym is) ∙ there))
+
     seal_counted : AreRows m → IsSealCounted m s
-    seal_counted rows = record {
-      blocks = λ key value there. (counted_at key value there).0;
-      pairs = λ key value there. (counted_at key value there).1;
-    }
-      where
-        counted_at : (key value : List ℕ) → get m key ≡ Some value → IsCounted key
-        counted_at key value there = let (row, fits, is) = rows key value there in subst IsCounted (sym is) (row_counted row value fits (ap (get m) (sym is) ∙ there))
+    seal_counted rows =
+        record { blocks = λ key value there. (counted_at rows key value there).0; pairs = λ key value there. (counted_at rows key value there).1 }
 
 kept_sealed : (m : KeyMap) (geography : Option GeographyModel) → IsGeography m geography → AreRows m → AreSealCounted m
 kept_sealed m geography lacks rows s load_fits blocks_fit pairs_fit has = search (arith, no_value, value_is, seal_load, seal_counted, seal_blocks, seal_pairs)

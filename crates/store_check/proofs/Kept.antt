@@ -61,17 +61,10 @@ module _ (m : KeyMap) (tidy : Tidy m) where
   kept_below desk is (named name) value fits has = plan_below desk.geography name value (get desk.plans name) (is.plans name) has
   kept_below desk is (part plan revision index) value fits has =
       let (numbers, chunks, same) = tidy.counted.parts plan revision index value fits has in
-      let each : All (λ n. n < tidy.next.chunk) numbers = λ k d within. tidy.below.named_chunks plan _
-      (record {
-        revision = revision;
-        index = index;
-        part_fits = fits;
-        numbers = numbers;
-        chunks = chunks;
-        row = has
-            ∙ ap Some same;
-        among = All-contains_itself numbers k d within;
-      }) in
+      let row = has ∙ ap Some same in
+      let each : All (λ n. n < tidy.next.chunk) numbers = λ k d within.
+      let among = All-contains_itself numbers k d within in tidy.below.named_chunks plan _
+      (record { revision = revision; index = index; part_fits = fits; numbers = numbers; chunks = chunks; row = row; among = among }) in
       (known_below plan fits.0 (tidy.owned.parts plan revision index value fits has), (numbers, chunks, sym same, each))
   kept_below desk is seal value fits has = seal_below desk.geography value is.geography has
   kept_below desk is version value fits has = version_below value has
@@ -115,15 +108,15 @@ module _ (next : Counters) (m : KeyMap) (fits : CountersFit next) (all : AllBelo
     fits = fits;
     below = record {
       plans = numbered_below;
-      retired_plans = λ plan value small has. all (retired plan) value small has;
+      retired_plans = λ plan. all (retired plan);
       named_chunks = named_below;
-      begun_loads = λ load value small has. all (begun load) value small has;
+      begun_loads = λ load. all (begun load);
       sealed_load = sealed_below;
     };
     told = record {
-      holdings = λ plan number value small has. all (holding plan number) value small has;
-      holder_counts = λ number value small has. all (holder_count number) value small has;
-      version = λ value has. all version value tt has;
+      holdings = λ plan number. all (holding plan number);
+      holder_counts = λ number. all (holder_count number);
+      version = λ value. all version value tt;
     };
     rows = rows;
     after = after;

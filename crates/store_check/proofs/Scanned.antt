@@ -1,9 +1,9 @@
 -- The rows that a scan takes from the first on are rows of the map.
 use Rattle.std.specs.{Cmp.{nat_cmp_is, Lexicographic.slice_cmp}, FinMap.{entries, find, get}, List.AllByRecursion, Ordering.{eq_by_cmp, nat_cmp, ordering_then}, Prelude.Option}
-use Rattle.std.{specs.declared.cmp.Ordering.TheVariants.Less, proofs.Common.{◌≡◌, inl, inr, ◌≤◌, ◌<◌, ℕ, List, [], ◌∷◌, ◌++◌, cond, Some, drop, refl, sym, ap, subst, arith}}
-use Rattle.{std.proofs.lemmas.Bool.cases_lt, btree_walks.specs.Prefixes.under, page_btree.specs.page_node.claim.{Entries.Entry, Places.{key_cmp, Rises}}}
-use Rattle.{store_check.specs.{Numbers.{IsBelow, AllBelow, AreSoundRows, NumbersFit}, Rows.{IsPast, IsRow}}, store_rows.specs.claim.Rows.{KeyMap, Has}}
-use Rattle.store_rows.specs.{claim.Keys.{RowKey, key_of, retired, begun, holding, holder_count, named, part, seal, version}, declared.value.Counters.Counters}
+use Rattle.{std.{specs.declared.cmp.Ordering.TheVariants.Less, proofs.lemmas.Bool.cases_lt}, btree_walks.specs.Prefixes.under, page_btree.specs.page_node.claim.Entries.Entry}
+use Rattle.{std.proofs.Common.{◌≡◌, inl, inr, ◌≤◌, ◌<◌, ℕ, List, [], ◌∷◌, ◌++◌, cond, Some, drop, get_or, refl, sym, ap, subst, arith}, store_check.specs.Rows.{IsPast, IsRow}}
+use Rattle.{page_btree.specs.page_node.claim.Places.{key_cmp, Rises}, store_check.specs.Numbers.{IsBelow, AllBelow, AreSoundRows, NumbersFit}}
+use Rattle.store_rows.specs.{claim.{Keys.{RowKey, key_of, block, pair, chunk}, Rows.{KeyMap, Has}}, declared.value.Counters.Counters}
 use Rattle.btree_walks.proofs.{Prefixes.{head_rises, under_rises}, RowsFound.{all_found, all_rises, found_among}}
 use Rattle.page_btree.proofs.page_node.Laws.{flip_less, above_middle, find_none}
 
@@ -40,15 +40,10 @@ module _ (next : Counters) (m : KeyMap) (taken : List Entry) (e : Entry) (more :
   found_so of value fits less has = search (arith, below_found, found_before, all_rise, get_is)
 
   pub past_below : AllBelow next m
-  past_below (retired plan) value fits has = found_so (retired plan) value fits (before_past e.0 68 (drop 1 (key_of (retired plan))) (omega arith) past) has
-  past_below (begun load) value fits has = found_so (begun load) value fits (before_past e.0 76 (drop 1 (key_of (begun load))) (omega arith) past) has
-  past_below (holding plan number) value fits has = found_so (holding plan number) value fits (before_past e.0 72 (drop 1 (key_of (holding plan number))) (omega arith) past) has
-  past_below (holder_count number) value fits has = found_so (holder_count number) value fits (before_past e.0 75 (drop 1 (key_of (holder_count number))) (omega arith) past) has
-  past_below (named name) value fits has = found_so (named name) value fits (before_past e.0 80 (drop 1 (key_of (named name))) (omega arith) past) has
-  past_below (part plan revision index) value fits has = found_so (part plan revision index) value fits (before_past e.0 82 (drop 1 (key_of (part plan revision index))) (omega arith) past) has
-  past_below seal value fits has = found_so seal value fits (before_past e.0 83 (drop 1 (key_of seal)) (omega arith) past) has
-  past_below version value fits has = found_so version value fits (before_past e.0 86 (drop 1 (key_of version)) (omega arith) past) has
-  past_below _ value fits has = tt
+  past_below (block load place) value fits has = tt
+  past_below (pair load place) value fits has = tt
+  past_below (chunk number piece) value fits has = tt
+  past_below of value fits has = found_so of value fits (before_past e.0 (get_or (key_of of) 0 0) (drop 1 (key_of of)) (omega arith) past) has
 
 -- ---- rows whose keys are those of rows
 abbrev pub AreRowEntries : List Entry → Type 0

@@ -1,9 +1,9 @@
 -- Steps of a migration, one after the other, and the end after them.
-use Rattle.std.{specs.Prelude.{Result, Ok, Err}, proofs.Common.{rules, ◌≡◌, ◌⊎◌, ◌≤◌, ◌+◌, ℕ, false, inl, inr, ⊎_elim, refl, sym, subst, ◌∙◌, arith}}
-use Rattle.{desk_model.specs.claim.Desk.Desk, desk_pages.specs.claim.Desks.{OpensDesk, OpensOld, OpensEither}, sector_device.specs.claim.{Disk.{Disk, Image}, Moments.LeavesOnly}}
+use Rattle.{std.{specs.Prelude.{Result, Ok, Err}, proofs.Common.{rules, ◌≡◌, ◌≤◌, ◌+◌, ℕ, false, inl, inr, refl, sym, subst, ◌∙◌, arith}}, desk_model.specs.claim.Desk.Desk}
+use Rattle.{desk_pages.specs.claim.Desks.{OpensDesk, OpensOld, OpensEither}, desk_runs.specs.desk_migration.declared.migration.Migration.Migration}
 use Rattle.desk_runs.specs.desk_migration.claim.Migrating.{device_of, disk_of, is_halted, sectors_of, Ends, HasMore, HasRows, Keeps, KeepsNew, Moves}
-use Rattle.{desk_runs.specs.desk_migration.declared.migration.Migration.Migration, sector_device.specs.declared.SectorDevice.Ghosts, store_command.specs.Reading.BeginsAtWhatIsRead}
-use Rattle.store_command.specs.Migrating.{HasMigrated, HasNew, HasOld, HasPut, HasStopped, IsBegun, IsStopped, LeavesEither, MigratesAll, MigratesDevice, WhereItReadsOld}
+use Rattle.{sector_device.specs.{claim.{Disk.Disk, Moments.LeavesOnly}, declared.SectorDevice.Ghosts}, store_command.specs.{Filling.HasDesk, Reading.BeginsAtWhatIsRead}}
+use Rattle.store_command.specs.Migrating.{HasMigrated, HasOld, HasPut, HasStopped, IsBegun, IsStopped, LeavesEither, MigratesAll, MigratesDevice, WhereItReadsOld}
 use Rattle.{store_command.specs.declared.fault.StoreFault.{StoreFault, TheVariants.NotAStore}, store_rows.specs.claim.Rows.KeyMap}
 use Rattle.sector_device.proofs.Moments.{leaves_more, leaves_wider}
 use Rattle.desk_runs.proofs.desk_migration.Pairs.{then_by, none_by}
@@ -29,20 +29,14 @@ module _ {D : Type 0} {g : Ghosts D} where
   pub none_put : (x : Migration D g) (d : Desk) (m : KeyMap) → HasRows x d m → HasPut x d m 0 x
   none_put x d m has = record { n = m; has = has; pairs = 0; two_each = refl; by = none_by m }
 
-  pub more_put : (x y z : Migration D g) (d : Desk) (m : KeyMap) (rows count : ℕ) → (one : HasPut x d m rows y) → HasMore y d one.n count z → HasPut x d m (rows + count) z
-  more_put x y z d m rows count one next = record {
+  pub more_put : (x y z : Migration D g) (d : Desk) (m : KeyMap) (rows count sum : ℕ) → rows + count ≡ sum → (one : HasPut x d m rows y) → HasMore y d one.n count z → HasPut x d m sum z
+  more_put x y z d m rows count sum are one next = record {
     n = next.n;
     has = next.has;
     pairs = one.pairs + next.pairs;
-    two_each = (let first = one.two_each in let second = next.two_each in omega (arith, first, second));
+    two_each = omega (arith, one.two_each, next.two_each, are);
     by = then_by one.pairs next.pairs m one.n next.n one.by next.by;
   }
-
-  -- a step that puts nothing
-  pub all_put : (x y z : Migration D g) (d : Desk) (m : KeyMap) (rows count : ℕ) → count ≡ 0 → (one : HasPut x d m rows y) → HasMore y d one.n count z → HasPut x d m rows z
-  all_put x y z d m rows count none one next =
-      let sum : rows + count ≡ rows = omega (arith, none) in
-      subst (λ (k : ℕ). HasPut x d m k z) sum (more_put x y z d m rows count one next)
 
   -- so many steps were made that more rows were put than a store has
   pub endless : (x y : Migration D g) (rows : ℕ) → 281474976710656 ≤ rows → ((disk_of y).is_honest → (d : Desk) (m : KeyMap) → HasRows x d m → HasPut x d m rows y) → IsStopped x NotAStore y
@@ -53,29 +47,21 @@ module _ {D : Type 0} {g : Ghosts D} where
     abbrev old : Disk
     old = g.disk device
 
-    was_old : (d : Desk) (c : Image) → OpensOld (sectors_of x) d c → OpensEither old.sectors d c
-    was_old d c opens = inr (subst (λ (n : ℕ). OpensOld n d c) begun.sectors opens)
-
-    is_new : (d : Desk) (c : Image) → OpensDesk (sectors_of x) d c → OpensEither old.sectors d c
-    is_new d c opens = inl (subst (λ (n : ℕ). OpensDesk n d c) begun.sectors opens)
-
     -- at any moment since the opening began
     stepped : (y : Migration D g) → Moves x y → WhereItReadsOld old (disk_of y) (λ d. LeavesEither old (disk_of y) d)
     stepped y moves honest d reads =
         let began = begins (moves.goes.honest honest) d reads in
-        leaves_more (OpensEither old.sectors d) old (disk_of x) (disk_of y)
-        (leaves_wider (OpensOld old.sectors d) (OpensEither old.sectors d) old (disk_of x) (λ c is. inr is) began.any_moment)
-        (leaves_wider (OpensOld (sectors_of x) d) (OpensEither old.sectors d) (disk_of x) (disk_of y) (was_old d) (moves.any_moment d began.keeps begun.working honest))
+        let later = subst (λ (n : ℕ). LeavesOnly (OpensOld n d) (disk_of x) (disk_of y)) begun.sectors (moves.any_moment d began.keeps begun.working honest) in
+        leaves_wider (OpensOld old.sectors d) (OpensEither old.sectors d) old (disk_of y) (λ c is. inr is) (leaves_more (OpensOld old.sectors d) old (disk_of x) (disk_of y) began.any_moment later)
 
     ended : (y z : Migration D g) → Moves x y → is_halted y ≡ false → Ends y z → WhereItReadsOld old (disk_of z) (λ d. LeavesEither old (disk_of z) d)
     ended y z moves works ends honest d reads =
         let was = ends.goes.honest honest in
         let began = begins (moves.goes.honest was) d reads in
-        let last : LeavesOnly (OpensEither (sectors_of x) d) (disk_of y) (disk_of z) = subst (λ (n : ℕ). LeavesOnly (OpensEither n d) (disk_of y) (disk_of z)) moves.goes.sectors (ends.any_moment d (moves.keeps d began.keeps) works honest) in
-        leaves_more (OpensEither old.sectors d) old (disk_of y) (disk_of z) (stepped y moves was d reads)
-        (leaves_wider (OpensEither (sectors_of x) d) (OpensEither old.sectors d) (disk_of y) (disk_of z) (λ c. ⊎_elim (λ new. is_new d c new) (λ before. was_old d c before)) last)
+        let last = subst (λ (n : ℕ). LeavesOnly (OpensEither n d) (disk_of y) (disk_of z)) (moves.goes.sectors ∙ begun.sectors) (ends.any_moment d (moves.keeps d began.keeps) works honest) in
+        leaves_more (OpensEither old.sectors d) old (disk_of y) (disk_of z) (stepped y moves was d reads) last
 
-    new_left : (y z : Migration D g) → Moves x y → Ends y z → ((disk_of z).is_honest → (d : Desk) → Keeps y d → KeepsNew z d) → WhereItReadsOld old (disk_of z) (λ d. HasNew old (disk_of z) d)
+    new_left : (y z : Migration D g) → Moves x y → Ends y z → ((disk_of z).is_honest → (d : Desk) → Keeps y d → KeepsNew z d) → WhereItReadsOld old (disk_of z) (λ d. HasDesk old (disk_of z) d)
     new_left y z moves ends told honest d reads c leaves =
         let began = begins (moves.goes.honest (ends.goes.honest honest)) d reads in
         subst (λ (n : ℕ). OpensDesk n d c) (ends.goes.sectors ∙ moves.goes.sectors ∙ begun.sectors) ((told honest d (moves.keeps d began.keeps)).left c leaves)

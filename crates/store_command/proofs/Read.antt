@@ -33,9 +33,6 @@ module _ (disk : Disk) (synced : IsSynced disk) where
     it_is new other d e reads one = law other new disk.sectors e d disk.reads (few_sectors disk) (was_read (other, e) one) reads
 
     -- images that open to one of those that were there
-    new_only : (d : Desk) → ReadsDesk disk d → (c : Image) → OpensOneOf disk c → OpensDesk disk.sectors d c
-    new_only d reads c is = subst (λ (e : Desk). OpensDesk disk.sectors e c) (it_is true true d is.desk reads is.one) is.opens
-
     in_as : (new other : Bool) (d e : Desk) (c : Image) → OpensDeskOf new disk.sectors d disk.reads → IsOneAs disk (other, e) → OpensDeskOf other disk.sectors e c → OpensDeskOf new disk.sectors d c
     in_as true true d e c reads one opens = subst (λ (f : Desk). OpensDesk disk.sectors f c) (it_is true true d e reads one) opens
     in_as true false d e c reads one opens = absurd (one_version disk.sectors d e disk.reads (few_sectors disk) reads (was_read (false, e) one))
@@ -43,7 +40,7 @@ module _ (disk : Disk) (synced : IsSynced disk) where
     in_as false false d e c reads one opens = subst (λ (f : Desk). OpensOld disk.sectors f c) (it_is false false d e reads one) opens
 
     pub leaves_new : (new : Disk) → new.is_honest → LeavesOneOf disk new → (d : Desk) → ReadsDesk disk d → LeavesOnly (OpensDesk disk.sectors d) disk new
-    leaves_new new honest leaves d reads = leaves_wider (OpensOneOf disk) (OpensDesk disk.sectors d) disk new (λ c is. new_only d reads c is) (leaves honest (all_new d reads))
+    leaves_new new honest leaves d reads = leaves_wider (OpensOneOf disk) (OpensDesk disk.sectors d) disk new (λ c is. in_as true true d is.desk c reads is.one is.opens) (leaves honest (all_new d reads))
 
     pub leaves_as : (version : Bool) (new : Disk) → new.is_honest → LeavesOneAs disk new → (d : Desk) → OpensDeskOf version disk.sectors d disk.reads → LeavesOnly (OpensDeskOf version disk.sectors d) disk new
     leaves_as version new honest leaves d reads =

@@ -13,30 +13,29 @@ module _ {D : Type 0} {g : Ghosts D} where
   pub none_kept : (x : Clerk D g) → KeepsDesk x x
   none_kept x = record { moves = unmoved (Keeps x) (desk_of x) x (λ keeps. keeps); desk = refl; loading = refl }
 
-  pub more_kept : (x y z : Clerk D g) → KeepsDesk x y → Moves (desk_of y) y z → desk_of z ≡ desk_of y → z.loading ≡ y.loading → KeepsDesk x z
-  more_kept x y z one moves desk loading = record {
-    moves = then_moved (Keeps x) (Keeps y) (desk_of x) x y z one.moves one.desk one.moves.keeps (subst (λ (d : Desk). Moves d y z) one.desk moves);
-    desk = desk ∙ one.desk;
-    loading = loading ∙ one.loading;
+  pub kept_after : (x w y : Clerk D g) → KeepsDesk x w → KeepsDesk w y → KeepsDesk x y
+  kept_after x w y one two = record {
+    moves = then_moved (Keeps x) (Keeps w) (desk_of x) x w y one.moves one.desk one.moves.keeps (subst (λ (d : Desk). Moves d w y) one.desk two.moves);
+    desk = two.desk ∙ one.desk;
+    loading = two.loading ∙ one.loading;
   }
 
   pub none_taken : (x : Clerk D g) (m : KeyMap) → HasRows x m → HasTaken x m 0 x
   none_taken x m has = record { n = m; has = has; by = record { turns = []; count_is = refl; left = tt; apart = tt; rest = refl } }
 
-  pub more_taken : (x y z : Clerk D g) (m : KeyMap) (rows count : ℕ) → y.loading ≡ x.loading → (one : HasTaken x m rows y) → HasSweptStep y one.n count z → HasTaken x m (rows + count) z
-  more_taken x y z m rows count loading one next = record {
+  pub more_taken : (x y z : Clerk D g) (m : KeyMap) (rows count sum : ℕ) → rows + count ≡ sum → y.loading ≡ x.loading → (one : HasTaken x m rows y) → HasSweptStep y one.n count z → HasTaken x m sum z
+  more_taken x y z m rows count sum are loading one next = record {
     n = next.n;
     has = next.has;
-    by = then_by x.loading rows count m one.n next.n one.by (subst (λ (r : Option ℕ). IsSweptBy r count one.n next.n) loading next.by);
+    by = subst (λ (k : ℕ). IsSweptBy x.loading k m next.n) are (then_by x.loading rows count m one.n next.n one.by (subst (λ (r : Option ℕ). IsSweptBy r count one.n next.n) loading next.by));
   }
 
   -- a step that takes nothing out
   pub all_taken : (x y z : Clerk D g) (m : KeyMap) (rows count : ℕ) → y.loading ≡ x.loading → count ≡ 0 → HasTaken x m rows y → ((n : KeyMap) → HasRows y n → HasSweptStep y n count z) → HasSweptAll x m rows z
+  unfolding more_taken
   all_taken x y z m rows count loading none one steps =
       let next = steps one.n one.has in
-      let by : IsSweptBy x.loading (rows + count) m next.n = then_by x.loading rows count m one.n next.n one.by (subst (λ (r : Option ℕ). IsSweptBy r count one.n next.n) loading next.by) in
-      let sum : rows + count ≡ rows = omega (arith, none) in
-      record { taken = record { n = next.n; has = next.has; by = subst (λ (k : ℕ). IsSweptBy x.loading k m next.n) sum by }; clean = next.clean (omega (arith, none)) }
+      record { taken = more_taken x y z m rows count rows (omega (arith, none)) loading one next; clean = next.clean (omega (arith, none)) }
 
   -- a step that was refused
   pub step_stopped : (x y z : Clerk D g) (e : StoreError) (fault : StoreFault) → fault ≡ fault_of_store e → KeepsDesk x y → y.halted ≡ false → SweepRefused y e z.halted (pages_of z) → IsStopped x fault z
@@ -47,12 +46,6 @@ module _ {D : Type 0} {g : Ghosts D} where
   endless x y rows many taken = inr (refl, λ honest m has. record { rows = rows; many = many; taken = taken honest m has })
 
   -- ---- the check before it
-  pub kept_now : (x y : Clerk D g) → Moves (desk_of x) x y → desk_of y ≡ desk_of x → y.loading ≡ x.loading → KeepsDesk x y
-  kept_now x y moves desk loading = record { moves = moves; desk = desk; loading = loading }
-
-  pub kept_after : (x w y : Clerk D g) → KeepsDesk x w → KeepsDesk w y → KeepsDesk x y
-  kept_after x w y one two = more_kept x w y one two.moves two.desk two.loading
-
   pub swept_after : (x w y : Clerk D g) (r : Result ℕ StoreFault) → IsChecked x w → SweepsSteps w r y → SweepsAll x r y
   swept_after x w y (Ok rows) checked swept = (w, checked, swept)
   swept_after x w y (Err fault) checked stopped = inr (w, checked, stopped)

@@ -1,22 +1,19 @@
 -- A store of the old version that is led to the new one.
 use Rattle.std.specs.{Prelude.{◌≡◌, ◌⊎◌, ◌≤◌, ◌+◌, ◌*◌, ◌^◌, ℕ, List, codes, true, false, Result, Ok, Err, Vec}, declared.alloc.Global.Global}
 use Rattle.{command_output.specs.{claim.Writing.{Written, write_fault_line}, declared.status.Status.Status}, desk_model.specs.claim.Desk.Desk, desk_pages.specs.Openings.IsSpared}
-use Rattle.desk_pages.specs.{claim.{Desks.{OpensDesk, OpensEither, OpensOld}, Openings.{AllVersions, IsOneOld, OpensOneAs}}, declared.error.StoreError.StoreError}
+use Rattle.desk_pages.specs.{claim.{Desks.{OpensEither, OpensOld}, Openings.{AllVersions, IsOneOld, OpensOneAs}}, declared.error.StoreError.StoreError}
 use Rattle.desk_runs.specs.desk_migration.{Openings.{IsFound, IsRefused}, Puts.{FinishErr, StepErr}, claim.Holding.IsHeldBy, declared.migration.Migration.Migration}
 use Rattle.desk_runs.specs.desk_migration.claim.Migrating.{device_of, disk_of, has_ended, is_halted, sectors_of, Ends, HasRows, Keeps, KeepsNew, Moves}
-use Rattle.{sector_device.specs.{claim.{Disk.{Disk, Image}, Moments.LeavesOnly}, declared.SectorDevice.Ghosts}, store_command.specs.{Faults.fault_of_store, Telling.EndsStore}}
-use Rattle.store_command.specs.{Reading.{BarsWhatIsRead, BeginsAtWhatIsRead, ReadsOld}, Texts.rows_text, Using.Uses, declared.fault.StoreFault.{StoreFault, TheVariants.NotAStore}}
-use Rattle.store_rows.specs.claim.Rows.{KeyMap}
+use Rattle.{sector_device.specs.{claim.{Disk.{Disk, Image}, Moments.LeavesOnly}, declared.SectorDevice.Ghosts}, store_command.specs.{Faults.fault_of_store, Filling.HasDesk}}
+use Rattle.store_command.specs.{Reading.{BarsWhatIsRead, BeginsAtWhatIsRead, ReadsOld}, Telling.EndsStore, Texts.rows_text, Using.Uses, declared.fault.StoreFault.StoreFault}
+use Rattle.{store_command.specs.declared.fault.StoreFault.TheVariants.NotAStore, store_rows.specs.claim.Rows.KeyMap}
 use Rattle.desk_pages.specs.declared.error.StoreError.TheVariants as store
 
 -- what is printed of so many rows that were put
 abbrev pub migrated_text : ℕ → List ℕ
 migrated_text = rows_text (codes "migrated to version 2, ")
 
--- each image that a stop may leave now opens to the desk in the new version, or in the old one
-abbrev pub HasNew : (old new : Disk) → Desk → Type 0
-HasNew old new d = (c : Image) → new.leaves c → OpensDesk old.sectors d c
-
+-- each image that a stop may leave now opens to the desk in the old version
 abbrev pub HasOld : (old new : Disk) → Desk → Type 0
 HasOld old new d = (c : Image) → new.leaves c → OpensOld old.sectors d c
 
@@ -131,7 +128,7 @@ module _ {D : Type 0} (g : Ghosts D) where
     pub migrated : IsMigrated x rows z
     pub back : left ≡ device_of z
     pub any_moment : WhereItReadsOld (g.disk device) (g.disk left) (λ d. LeavesEither (g.disk device) (g.disk left) d)
-    pub after : WhereItReadsOld (g.disk device) (g.disk left) (λ d. HasNew (g.disk device) (g.disk left) d)
+    pub after : WhereItReadsOld (g.disk device) (g.disk left) (λ d. HasDesk (g.disk device) (g.disk left) d)
 
   -- The device was opened, and its migration was stopped. Where no fault came, what a stop leaves from then on opens in the old
   -- version.

@@ -1,14 +1,13 @@
 -- Lives of a store of either version.
-use Rattle.{std.specs.{Prelude.{⊤, Vec}, declared.alloc.Global.Global}, desk_model.specs.claim.Desk.Desk, desk_pages.specs.claim.Desks.{OpensAs, OpensDeskOf}}
-use Rattle.{std.proofs.Common.{◌≡◌, ◌≢◌, ◌≤◌, ◌^◌, ℕ, Bool, true, false, List, [], ◌∷◌, ◌++◌, Ok, Err, ap, refl, sym, subst, ◌∙◌, rules}, desk_runs.specs.Recovery.ImagesAreOne}
-use Rattle.{desk_pages.specs.{claim.Openings.{AllVersions, IsOneAs, IsOneOf, LeavesOneAs, OpensOneAs}, declared.error.StoreError.StoreError}, desk_store.specs.Openings.OpenRefused}
-use Rattle.desk_runs.specs.desk_migration.{Openings.{IsRefused, KeepsOne, LeavesNew}, claim.Migrating.{disk_of as migrated_disk, sectors_of as migrated_sectors}}
-use Rattle.{desk_runs.specs.desk_migration.declared.migration.Migration.Migration, desk_store.specs.claim.Clerks.{desk_of, disk_of, is_halted, sectors_of, Keeps}}
-use Rattle.{desk_store.specs.declared.clerk.Clerk.Clerk, sector_device.{specs.{Disk.IsSynced, claim.Disk.{Disk, Image}, declared.SectorDevice.Ghosts}, proofs.Moments.leaves_now}}
-use Rattle.store_lives.specs.{DeskInside.{Asks, GoingOn, IsLife, LivedThrough, LivesOnce}, claim.DeskLives.{Asked, Told, IsPassing, Lived, LifeAfterLife}, declared.leading.Led.Led}
-use Rattle.store_lives.specs.{VersionInside.{OpensIn, HoldsIn, AllIn, IsOneIn, Knows, Becomes, LivesIn, IsAsked, IsLed, LedTo, LeadsOn}, declared.desk_lives.Answer.Answer}
-use Rattle.store_lives.{specs.claim.Versions.{Version, version_1, version_2, either, MayBeOld, MayBeNew, Store, MayBar, Leads}, proofs.DeskLiving.{one_more, none_left}}
-use Rattle.desk_runs.proofs.One.{one_version, few_sectors, in_either, either_as}
+use Rattle.std.{specs.Prelude.⊤, proofs.Common.{◌≡◌, ◌≢◌, ◌≤◌, ◌^◌, ℕ, Bool, true, false, List, [], ◌∷◌, ◌++◌, Ok, Err, ap, refl, sym, subst, ◌∙◌, rules}}
+use Rattle.{desk_model.specs.claim.Desk.Desk, desk_pages.specs.claim.{Desks.{OpensAs, OpensDeskOf}, Openings.{AllVersions, IsOneAs, IsOneOf, LeavesOneAs, OpensOneAs}}}
+use Rattle.{desk_pages.specs.declared.error.StoreError.StoreError, desk_runs.specs.{Recovery.ImagesAreOne, desk_migration.Openings.{IsRefused, KeepsOne, LeavesNew}}}
+use Rattle.desk_runs.specs.desk_migration.{claim.Migrating.{disk_of as migrated_disk, sectors_of as migrated_sectors}, declared.migration.Migration.Migration}
+use Rattle.{desk_store.specs.{Openings.OpenRefused, claim.Clerks.{desk_of, disk_of, is_halted, sectors_of, Keeps}, declared.clerk.Clerk.Clerk}, sector_device.specs.Disk.IsSynced}
+use Rattle.{sector_device.specs.{claim.Disk.{Disk, Image}, declared.SectorDevice.Ghosts}, store_lives.specs.DeskInside.{GoingOn, IsLife, LivedThrough, LivesOnce}}
+use Rattle.store_lives.specs.{VersionInside.{OpensIn, HoldsIn, AllIn, IsOneIn, Knows, Becomes, LivesIn, IsAsked, IsLed, LedTo, LeadsOn}, declared.leading.Led.Led}
+use Rattle.store_lives.specs.claim.{DeskLives.{Asked, Told, IsPassing, LifeAfterLife}, Versions.{Version, version_1, version_2, either, MayBeOld, MayBeNew, Store, MayBar, Leads}}
+use Rattle.{desk_runs.proofs.One.{one_version, few_sectors, in_either, either_as}, sector_device.proofs.Moments.leaves_now, store_lives.proofs.DeskLiving.{one_more, none_left}}
 use Rattle.desk_pages.specs.declared.error.StoreError.TheVariants as store
 use Rattle.store_lives.specs.declared.leading.Led.TheVariants as led
 
@@ -123,11 +122,6 @@ module _ {D : Type 0} (g : Ghosts D) where
             (version_2, λ c stopped. (let there = lived c stopped in (desk_of x, one.1, (there.0, (may_be_new v one.0, refl, there.1), there.2)))));
       }
 
-  pub asked_lives : (device : D) (x y : Clerk D g) (asked : Asked) (told : Vec Answer Global) → sectors_of x ≡ (g.disk device).sectors → is_halted x ≡ false
-      → (AllVersions (g.disk device) → Keeps x × ((disk_of x).is_honest → IsOneOf (g.disk device) (desk_of x))) → ((disk_of x).is_honest → (g.disk device).is_honest)
-      → ((disk_of x).is_honest → (disk_of x).faults ≡ (g.disk device).faults) → Asks x asked.items told.items y → LivesIn (IsAsked asked (Ok told)) (g.disk device) (disk_of y)
-  asked_lives device x y asked told = clerk_lives device x y (λ t u d e. Lived t u d asked.items told.items e)
-
   barred : (device left : D) (v : Version) (why : StoreError) → (g.disk left).is_honest → AllIn v (g.disk device) → (why ≢ store.DeviceFault → (g.disk left).faults ≡ (g.disk device).faults) → OpenRefused g device left why
       → MayBar (g.disk device).faults (g.disk left).faults v why
   barred device left v store.NotAStore now all calm refused = refused now (all_in v (g.disk device) all)
@@ -136,18 +130,6 @@ module _ {D : Type 0} (g : Ghosts D) where
   barred device left version_2 store.OldVersion now all calm refused = absurd ((refused now).1 all)
   barred device left _ store.OldVersion now all calm refused = (tt, calm (λ is. cc))
   barred device left v _ now all calm refused = absurd refused
-
-  pub refused_lives : (device left : D) (why : StoreError) → (g.disk left).sectors ≡ (g.disk device).sectors → ((g.disk left).is_honest → (g.disk device).is_honest)
-      → LeavesOneAs (g.disk device) (g.disk left) → ((g.disk left).is_honest → (g.disk device).faults ≤ (g.disk left).faults)
-      → ((g.disk left).is_honest → why ≢ store.DeviceFault → (g.disk left).faults ≡ (g.disk device).faults) → OpenRefused g device left why
-      → LivesIn (λ t u s e. MayBar t u s.0 why × (e ≡ s)) (g.disk device) (g.disk left)
-  refused_lives device left why same honest moments more calm refused = record {
-    sectors = same;
-    honest = honest;
-    faults = λ now all. more now;
-    became = λ now v all. stays_in (λ t u s e. MayBar t u s.0 why × (e ≡ s)) v (g.disk device) (g.disk left) now all moments
-        (λ d. (barred device left v why now all (calm now) refused, refl));
-  }
 
   -- ---- it is led on
   bars : (device left : D) (why : StoreError) → LeavesOneAs (g.disk device) (g.disk left) → ((g.disk left).is_honest → why ≢ store.DeviceFault → (g.disk left).faults ≡ (g.disk device).faults)
@@ -168,11 +150,22 @@ module _ {D : Type 0} (g : Ghosts D) where
   )
   bars device left _ moments calm refused already now v all = absurd refused
 
-  pub barred_lives : (device left : D) (why : StoreError) → (g.disk left).sectors ≡ (g.disk device).sectors → ((g.disk left).is_honest → (g.disk device).is_honest)
-      → LeavesOneAs (g.disk device) (g.disk left) → ((g.disk left).is_honest → (g.disk device).faults ≤ (g.disk left).faults)
-      → ((g.disk left).is_honest → why ≢ store.DeviceFault → (g.disk left).faults ≡ (g.disk device).faults) → IsRefused (g.disk device) (g.disk left) why
-      → ((g.disk left).is_honest → why ≡ store.AlreadyNew → LeavesNew (g.disk device) (g.disk left)) → LivesIn (IsLed (led.Unopened why)) (g.disk device) (g.disk left)
-  barred_lives device left why same honest moments more calm refused already = search (rules, bars)
+  -- a store that was not opened
+  module _ (device left : D) (why : StoreError) (same : (g.disk left).sectors ≡ (g.disk device).sectors) (honest : (g.disk left).is_honest → (g.disk device).is_honest)
+      (moments : LeavesOneAs (g.disk device) (g.disk left)) (more : (g.disk left).is_honest → (g.disk device).faults ≤ (g.disk left).faults)
+      (calm : (g.disk left).is_honest → why ≢ store.DeviceFault → (g.disk left).faults ≡ (g.disk device).faults) where
+    pub refused_lives : OpenRefused g device left why → LivesIn (λ t u s e. MayBar t u s.0 why × (e ≡ s)) (g.disk device) (g.disk left)
+    refused_lives refused = record {
+      sectors = same;
+      honest = honest;
+      faults = λ now all. more now;
+      became = λ now v all. stays_in (λ t u s e. MayBar t u s.0 why × (e ≡ s)) v (g.disk device) (g.disk left) now all moments
+          (λ d. (barred device left v why now all (calm now) refused, refl));
+    }
+
+    pub barred_lives : IsRefused (g.disk device) (g.disk left) why → ((g.disk left).is_honest → why ≡ store.AlreadyNew → LeavesNew (g.disk device) (g.disk left))
+        → LivesIn (IsLed (led.Unopened why)) (g.disk device) (g.disk left)
+    barred_lives refused already = search (rules, bars)
 
   -- the version to which it was led
   led_to : (t u n : ℕ) (d : Desk) (v : Version) (far : Led) (disk : Disk) → MayBeOld v → LedTo t u n d far disk → (w : Version) × Leads t u v far w × ((c : Image) → disk.leaves c → OpensIn w n d c)

@@ -42,10 +42,9 @@ free_kept m number districts other fits other_fits few apart free index small = 
 lower_stays : (m : KeyMap) (first : ℕ) (lists : List (List ℕ)) (number : ℕ) (others : List ℕ) → All IsChunkList lists → first + length lists < 2 ^ 64 → number < first → HasChunk m number others → HasChunk (put_rows m (new_chunk_rows first lists)) number others
 lower_stays m first [] number others sound room less has = has
 lower_stays m first (districts ∷ lists) number others sound room less has =
-    let first_fits : first < 2 ^ 64 = omega arith in
-    subst (λ (n : KeyMap). HasChunk n number others) (sym (put_rows-append m (chunk_rows first districts) (new_chunk_rows (first + 1) lists)))
-    (lower_stays (put_rows m (chunk_rows first districts)) (first + 1) lists number others (All-tail IsChunkList districts lists sound) (omega arith) (omega arith)
-    (chunk_kept m first districts number others first_fits (sound 0 districts (omega arith)).few (λ same. absurd (omega arith)) has))
+    let list = sound 0 districts (omega arith) in
+    rw put_rows-append (lower_stays (put_rows m (chunk_rows first districts)) (first + 1) lists number others (All-tail IsChunkList districts lists sound) (omega arith) (omega arith)
+    (chunk_kept m first districts number others (omega arith) list.few (λ same. absurd (omega arith)) has))
 
 pub new_there : (m : KeyMap) (first : ℕ) (lists : List (List ℕ)) (place : ℕ) → All IsChunkList lists → first + length lists < 2 ^ 64 → ((number : ℕ) → first ≤ number → number < 2 ^ 64 → IsFreeChunk m number) → place < length lists
     → HasChunk (put_rows m (new_chunk_rows first lists)) (first + place) (get_or lists place [])

@@ -36,12 +36,7 @@ OthersHold m n plan number = (other : ℕ) → other < 2 ^ 64 → (other ≡ pla
 
 -- ---- all stay
 pub holders_moved : (m n : KeyMap) (number count : ℕ) → ((plan : ℕ) → plan < 2 ^ 64 → row_in n (holding plan number) ≡ row_in m (holding plan number)) → AreHolders m number count → AreHolders n number count
-holders_moved m n number count same h = record {
-  plan_at = h.plan_at;
-  each = λ place less. let is = h.each place less in (is.0, same (h.plan_at place) is.0 ∙ is.1);
-  all = λ plan fits held. h.all plan fits (sym (same plan fits) ∙ held);
-  apart = h.apart;
-}
+holders_moved m n number count same h = search (rules, h.each, h.all, h.apart, same)
 
 -- ---- none
 pub no_holders : (m : KeyMap) (number : ℕ) → ((plan : ℕ) → plan < 2 ^ 64 → IsHeld m plan number → ⊥) → AreHolders m number 0

@@ -1,10 +1,8 @@
 -- Chunks are drawn county by county.
-use Rattle.std.{specs.{Cmp.Lexicographic.{pointwise, same_text}, List.zip, Prelude.{Bool, nat_eq, filter, sum_by}}, proofs.lemmas.Bool.{cases_Bool, not-false}}
-use Rattle.std.proofs.Common.{rules, true, ◌≡◌, ◌⊎◌, ◌<◌, ◌≤◌, ◌+◌, ◌*◌, ◌^◌, ℕ, zero, suc, cond, List, [], ◌∷◌, map, length, get_or, All, Option, refl, sym, ap, subst, ◌∙◌, inl, inr, arith, length-append}
-use Rattle.{std.proofs.lemmas.List.{Elements.{All-cons, All-tail}, Sums.sum_by-cons}, desk_model.specs.claim.{Geography.GeographyModel, Ranges.sizes}}
-use Rattle.{desk_model.specs.claim.Room.{rows_for, differs, changed, revision_rows}, store_rows.specs.{Draws.{draw, redrawn, draw_all}, claim.Rows.KeyMap}}
-use Rattle.store_rows.specs.{RevisionSteps.{IsChunkList, AreKept, IsDrawn, new_chunk_rows, rows_of_revision}, declared.value.{Counters.Counters, PlanRow.PlanRow}}
-use Rattle.store_rows.proofs.Puts.{length-rows_told}
+use Rattle.std.{specs.{Cmp.Lexicographic.same_text, Prelude.sum_by}, proofs.lemmas.{Bool.{cases_Bool, not-false}, List.{Elements.{All-cons, All-tail}, Sums.sum_by-cons}}}
+use Rattle.std.proofs.Common.{rules, ◌≡◌, ◌⊎◌, ◌<◌, ◌+◌, ℕ, zero, suc, List, [], ◌∷◌, length, get_or, All, refl, ap, ◌∙◌, inl, inr, arith, length-append}
+use Rattle.{desk_model.specs.claim.Room.{rows_for, differs}, store_rows.specs.Draws.{RowsAreCounted, FirstsAreDrawn, ChangesAreDrawn, draw, redrawn, draw_all}}
+use Rattle.store_rows.{specs.RevisionSteps.{IsChunkList, new_chunk_rows}, proofs.Puts.length-rows_told}
 
 -- a county keeps its chunk where it is as before, or gets one of the new ones
 abbrev IsDrawnAt : ℕ → List ℕ → List (List ℕ) → List (List ℕ) → List ℕ → List (List ℕ) → ℕ → Type 0
@@ -49,17 +47,13 @@ module _ (next number : ℕ) (numbers : List ℕ) (old new : List ℕ) (olds lis
 all_drawn : (next : ℕ) (numbers : List ℕ) (olds news : List (List ℕ)) → length numbers ≡ length news → length olds ≡ length news → Draws next numbers olds (redrawn olds news) (draw next numbers olds news) news
 all_drawn next [] [] [] a b = search arith
 all_drawn next (number ∷ numbers) (old ∷ olds) (new ∷ news) a b =
-    let shape = λ (t : Bool). Draws next (number ∷ numbers) (old ∷ olds) (map (λ (e : List ℕ × List ℕ). e.1) (cond t ((old, new) ∷ filter differs (zip olds news)) (filter differs (zip olds news))))
-    (cond t (next ∷ draw (next + 1) numbers olds news) (number ∷ draw next numbers olds news)) (new ∷ news) in
-    elim (cases_Bool (differs (old, new))) [
-      | inl is ↦ subst shape (sym is) (new_one next number numbers old new olds (redrawn olds news) news (draw (next + 1) numbers olds news) (all_drawn (next + 1) numbers olds news (omega arith) (omega arith)))
-      | inr is ↦ subst shape (sym is) (kept_one next number numbers old new olds (redrawn olds news) news (draw next numbers olds news) (all_drawn next numbers olds news (omega arith) (omega arith))
-          (same_text old new (sym (not-false (pointwise nat_eq old new) is))))
-    ]
+    let lists = redrawn olds news in
+    let made = new_one next number numbers old new olds lists news (draw (next + 1) numbers olds news) (all_drawn (next + 1) numbers olds news (omega arith) (omega arith)) in
+    let kept = kept_one next number numbers old new olds lists news (draw next numbers olds news) (all_drawn next numbers olds news (omega arith) (omega arith)) in
+    search (rules, cases_Bool (differs (old, new)), made, kept, same_text old new, not-false)
 all_drawn next _ _ _ a b = absurd (omega arith)
 
-pub changes_drawn : (m : KeyMap) (next : Counters) (plan : ℕ) (numbers : List ℕ) (olds news : List (List ℕ)) → AreKept m plan numbers olds → length olds ≡ length news → length news ≤ 128 * 2 ^ 8 → All IsChunkList news
-    → IsDrawn m next plan (redrawn olds news) (draw next.chunk numbers olds news) news
+pub changes_drawn : ChangesAreDrawn
 changes_drawn m next plan numbers olds news kept same few sound =
     let lists = redrawn olds news in
     let long : length numbers ≡ length news = kept.count ∙ same in
@@ -75,14 +69,13 @@ changes_drawn m next plan numbers olds news kept same few sound =
 -- ---- the first revision
 all_at : (next : ℕ) (news : List (List ℕ)) (k : ℕ) → k < length news → get_or (draw_all next news) k 0 ≡ next + k
 all_at next [] k within = absurd (omega arith)
-all_at next (new ∷ news) zero within = omega arith
-all_at next (new ∷ news) (suc k) within = all_at (next + 1) news k (omega arith) ∙ omega arith
+all_at next (new ∷ news) k within = search (arith, all_at (next + 1) news)
 
 length-draw_all : (next : ℕ) (news : List (List ℕ)) → length (draw_all next news) ≡ length news
 length-draw_all next [] = refl
 length-draw_all next (new ∷ news) = ap suc (length-draw_all (next + 1) news)
 
-pub firsts_drawn : (m : KeyMap) (next : Counters) (plan : ℕ) (counties : List (List ℕ)) → length counties ≤ 128 * 2 ^ 8 → All IsChunkList counties → IsDrawn m next plan counties (draw_all next.chunk counties) counties
+pub firsts_drawn : FirstsAreDrawn
 firsts_drawn m next plan counties few sound =
     let count = length-draw_all next.chunk counties in
     record {
@@ -98,6 +91,5 @@ rows_of_chunks : (first : ℕ) (lists : List (List ℕ)) → length (new_chunk_r
 rows_of_chunks first [] = refl
 rows_of_chunks first (districts ∷ lists) = search (length-append, length-rows_told, (rows_of_chunks (first + 1) lists), sum_by-cons)
 
-pub rows_counted : (g : GeographyModel) (last : Option (List ℕ)) (new : List ℕ) (next : Counters) (name : List ℕ) (p : PlanRow) (numbers : List ℕ) → length numbers ≡ length (sizes g)
-    → length (rows_of_revision true next name p (changed g last new) numbers) ≡ revision_rows g last new
+pub rows_counted : RowsAreCounted
 rows_counted g last new next name p numbers long = search (rules, length-append, length-rows_told, rows_of_chunks)

@@ -1,11 +1,10 @@
 -- A revision with the chunks of another plan's makes the desk with it, and the rows stay tidy.
-use Rattle.{std.{specs.{FinMap.{FinMap, get, insert}, Prelude.Contains}, proofs.lemmas.Bool.cases_eq}, desk_model.specs.claim.{Desk.{Plan, name_cmp}, Geography.GeographyModel}}
-use Rattle.std.proofs.Common.{Bool, true, ◌≡◌, ◌<◌, ◌≤◌, ◌+◌, ◌*◌, ◌^◌, ℕ, List, [], ◌∷◌, length, All, Some, refl, sym, subst, ◌∙◌, inl, inr, arith}
-use Rattle.{desk_model.specs.claim.Ranges.cut, store_rows.specs.{Changes.{desk_with, plan_row_of}, NameRows.name_rows, RevisionSteps.{AddsRevision, AreKept, IsDrawn}}}
-use Rattle.store_rows.specs.{Rows.SameTag, Shares.{CanHold, Holds, hold_all, with_shared}, Steps.{chunks_more, one_revision_more}, TidyLaws.MakesRevision, claim.Rows.{KeyMap, Has}}
-use Rattle.store_rows.specs.claim.{DeskRows.{HasPlan, IsDesk, most_revisions}, Keys.{RowKey, key_of, Fits, counters, holding, named, part}, Puts.{Row, put_rows}, Tidy.Tidy}
-use Rattle.store_rows.{specs.{claim.Values.{plan_bytes, counters_bytes}, declared.value.PlanRow.PlanRow}, proofs.{Changes.other_row, HolderCounts.holder_counts_stay}}
-use Rattle.store_rows.proofs.{Frames.{put_is_there, put_keeps, put_keeps_tag, other_tag, tag_follows}, NameRows.{names_keep_tag, parts_put}, Puts.put_rows-append, Sharing.all_held}
+use Rattle.std.{specs.{FinMap.insert, Prelude.Contains}, proofs.Common.{Bool, ◌≡◌, ◌<◌, ◌≤◌, ◌+◌, ◌*◌, ◌^◌, ℕ, List, [], ◌∷◌, length, All, refl, sym, subst, ◌∙◌, inl, inr, arith}}
+use Rattle.{std.proofs.lemmas.Bool.cases_eq, desk_model.specs.claim.Ranges.cut, store_rows.specs.{Changes.plan_row_of, ForkLaws.SharesMakeDesks, NameRows.name_rows, Rows.SameTag}}
+use Rattle.store_rows.specs.{RevisionSteps.{AddsRevision, IsDrawn}, Shares.{CanHold, Holds, hold_all, with_shared}, Steps.{chunks_more, one_revision_more}, TidyLaws.MakesRevision}
+use Rattle.store_rows.{specs.claim.{Keys.{RowKey, key_of, Fits, counters, holding, named, part}, Puts.{Row, put_rows}, Rows.{KeyMap, Has}, Tidy.Tidy}, proofs.Changes.other_row}
+use Rattle.store_rows.{specs.{claim.Values.{plan_bytes, counters_bytes}, declared.value.PlanRow.PlanRow}, proofs.{HolderCounts.holder_counts_stay, Puts.put_rows-append}}
+use Rattle.store_rows.proofs.{Frames.{put_is_there, put_keeps, put_keeps_tag, other_tag, tag_follows}, NameRows.{names_keep_tag, parts_put}, Sharing.all_held}
 use Rattle.store_rows.proofs.{PutAll.{IsRowOf, names_are, keeps_rows, keeps_row}, RevisionDesk.{its_chunks, revision_made}, TidyFree.{named_below, numbers_free}}
 use Rattle.store_rows.proofs.TidyParts.{rows_put, name_fits}
 
@@ -89,10 +88,7 @@ known_can_hold m tidy plan known = record {
 pub can_hold : (m : KeyMap) (tidy : Tidy m) (name : List ℕ) (p : PlanRow) → p.number < 2 ^ 64 → Has m (named name) (plan_bytes p) → CanHold m tidy.next.plan p.number
 can_hold m tidy name p fits has = known_can_hold m tidy p.number (tidy.below.plans name p.number (record { plan = p; row = has; is = refl; fits = fits }))
 
-pub shares_made : (m : KeyMap) (tidy : Tidy m) → tidy.new ≡ true → (source : ℕ) (g : GeographyModel) (plans : FinMap name_cmp Plan) (name : List ℕ) (number : ℕ) (p : Plan) (districts : List ℕ) (numbers : List ℕ)
-    → IsDesk m (desk_with g plans) → get plans name ≡ Some p → HasPlan m g name number p → length districts ≡ length g.blocks → length p.revisions < most_revisions
-    → length numbers ≤ 128 * 2 ^ 8 → AreKept m source numbers (cut g districts)
-    → MakesRevision g plans name p districts (chunks_more tidy.next 0) true (with_shared m tidy.next name (plan_row_of number p) numbers)
+pub shares_made : SharesMakeDesks
 shares_made m tidy is_new source g plans name number p districts numbers is there has long room few kept =
     let row = plan_row_of number p in
     let drawn : IsDrawn m tidy.next source [] numbers (cut g districts) = search arith in

@@ -1,7 +1,7 @@
 -- The counts of the plans that hold a chunk go up and down.
 use Rattle.std.{specs.{FinMap.{get, empty, insert, remove, get-empty}, Int.from_be_bytes}, proofs.lemmas.{Bool.cases_eq, Nat.from_be_bytes-to_be_bytes_8}}
 use Rattle.{std.proofs.Common.{◌≡◌, ◌<◌, ◌≤◌, ◌+◌, ◌-◌, ◌^◌, ℕ, zero, suc, List, [], ◌++◌, Some, sym, ap, subst, ◌∙◌, inl, inr, w64, arith}, store_rows.specs.Rows.SameTag}
-use Rattle.store_rows.specs.{HolderLaws.{JoinsHolders, IsHeldByAnother}, Holders.{AreHoldersBelow, with_holder_count, released}, claim.{Order.key_cmp, Puts.put_rows}}
+use Rattle.store_rows.specs.{HolderLaws.{HoldersLeave, JoinsHolders, IsHeldByAnother}, Holders.{AreHoldersBelow, with_holder_count, released}, claim.{Order.key_cmp, Puts.put_rows}}
 use Rattle.store_rows.specs.claim.{Holders.{IsHeld, AreHolders, IsTallied, AreTallied, holder_count_row, holding_rows}, Keys.{key_of, holding, holder_count, in_eight}}
 use Rattle.store_rows.{specs.claim.Rows.{KeyMap, row_in, Has, Lacks}, proofs.Counting.{OthersHold, few_holders, holders_moved, no_holders, holders_joined, holders_left}}
 use Rattle.store_rows.proofs.{Frames.{put_is_there, put_keeps_row, put_keeps_tag, removed_is_gone, remove_keeps_row, remove_keeps_tag}, OneGeography.{value_is, no_value}}
@@ -43,13 +43,11 @@ none_holds m plan number all plan_fits fits lacks held = (let is = all number fi
 pub held_counted_by_holders : (m : KeyMap) (plan number : ℕ) → AreTallied m → plan < 2 ^ 64 → number < 2 ^ 64 → IsHeld m plan number → (count : ℕ) × (count + 1 < 2 ^ 64) × Has m (holder_count number) (in_eight (count + 1))
 held_counted_by_holders m plan number all plan_fits fits held =
     let is = all number fits in
-    let (place, less, there) = is.holders.all plan plan_fits held in
-    let some : is.count ≡ suc (is.count - 1) = omega arith in
+    let some : is.count ≡ suc (is.count - 1) = (let at = is.holders.all plan plan_fits held in omega arith) in
     (is.count - 1, omega arith, is.row ∙ ap holder_count_row some)
 
 some_then : (m : KeyMap) (number count : ℕ) (value : List ℕ) → AreHolders m number count → row_in m (holder_count number) ≡ holder_count_row count → Has m (holder_count number) value → (plan : ℕ) × (plan < 2 ^ 64) × IsHeld m plan number
-some_then m number zero value h row has = absurd (no_value value (sym has ∙ row))
-some_then m number (suc more) value h row has = (let is = h.each 0 (omega arith) in (h.plan_at 0, is.0, is.1))
+some_then m number count value h row has = search (arith, h.each 0, no_value)
 
 pub some_holder : (m : KeyMap) (number : ℕ) (value : List ℕ) → AreTallied m → number < 2 ^ 64 → Has m (holder_count number) value → (plan : ℕ) × (plan < 2 ^ 64) × IsHeld m plan number
 some_holder m number value all fits has = (let is = all number fits in some_then m number is.count value is.holders is.row has)
@@ -100,8 +98,7 @@ holder_count_keeps : (m : KeyMap) (number count other : ℕ) → number < 2 ^ 64
 holder_count_keeps m number zero other fits other_fits apart = remove_keeps_row m (holder_count number) (holder_count other) fits other_fits (λ e. apart (cc))
 holder_count_keeps m number (suc more) other fits other_fits apart = put_keeps_row m (holder_count number) (in_eight (more + 1)) (holder_count other) fits other_fits (λ e. apart (cc))
 
-pub holders_leave : (m : KeyMap) (plan number count : ℕ) → AreTallied m → plan < 2 ^ 64 → number < 2 ^ 64 → count + 1 < 2 ^ 64 → IsHeld m plan number → row_in m (holder_count number) ≡ holder_count_row (suc count)
-    → AreTallied (released m plan number count)
+pub holders_leave : HoldersLeave
 holders_leave m plan number count all plan_fits fits count_fits held row other other_fits =
     let without = remove m (key_of (holding plan number)) in
     let n = released m plan number count in

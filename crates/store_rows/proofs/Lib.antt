@@ -9,7 +9,6 @@ pub mod RowLaws
 pub mod Staging
 pub mod Numbers
 pub mod ListValues
-pub mod OneList
 pub mod OneGeography
 pub mod OneDesk
 pub mod TidyParts
@@ -18,7 +17,6 @@ pub mod TidyLoads
 pub mod TidyFree
 pub mod TidyRevisions
 pub mod PutAll
-pub mod RevisionPuts
 pub mod Sweeps
 pub mod RevisionDesk
 pub mod Sharing

@@ -1,6 +1,6 @@
 -- Lemmas on the definitions of Puts.
 use Rattle.{std.{specs.FinMap.{get, insert}, proofs.lemmas.{Bool.cases_eq, List.append-nil}}, store_rows.specs.{Puts.rows_told, claim.{Puts.{Row, put_rows}, Rows.KeyMap}}}
-use Rattle.std.proofs.Common.{◌≡◌, ◌<◌, ◌≤◌, ℕ, zero, suc, List, [], ◌∷◌, ◌++◌, length, Some, refl, sym, ap, subst, ◌∙◌, inl, inr, arith, length-append, append_assoc}
+use Rattle.std.proofs.Common.{◌≡◌, ◌<◌, ◌≤◌, ℕ, zero, suc, List, [], ◌∷◌, ◌++◌, length, Some, refl, sym, ap, ◌∙◌, inl, inr, arith, length-append, append_assoc}
 use Rattle.store_rows.proofs.Frames.{put_is_there, put_keeps}
 
 pub put_rows-append : (m : KeyMap) (rows more : List Row) → put_rows m (rows ++ more) ≡ put_rows (put_rows m rows) more
@@ -33,9 +33,4 @@ pub told_are : (m : KeyMap) (row : ℕ → Row) (count : ℕ) (k : ℕ) → ((i 
 told_are m row zero k apart within = absurd (omega arith)
 told_are m row (suc count) k apart within =
     let before = put_rows m (rows_told row count) in
-    let whole : get (put_rows m (rows_told row (suc count))) (row k).0 ≡ get (insert before (row count).0 (row count).1) (row k).0 = ap (λ n. get n (row k).0) (put_rows-append m (rows_told row count) (row count ∷ [])) in
-    whole ∙ elim (cases_eq k count) [
-      | inl same ↦ subst (λ j. get (insert before (row count).0 (row count).1) (row j).0 ≡ Some (row j).1) (sym same) (put_is_there before (row count).0 (row count).1)
-      | inr other ↦ put_keeps before (row count).0 (row count).1 (row k).0 (λ same. other (apart k count within (omega arith) same))
-          ∙ told_are m row count k (λ i j less more. apart i j (omega arith) (omega arith)) (omega arith)
-    ]
+    search (arith, put_rows-append, cases_eq k count, put_is_there before, put_keeps before, apart k count, told_are m row count k)

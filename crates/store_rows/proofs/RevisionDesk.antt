@@ -1,12 +1,187 @@
--- The rows of one revision more make the desk with that revision.
-use Rattle.{std.{specs.FinMap.{FinMap, get}, proofs.lemmas.{Bool.lt-ltb, List.get_or_default}}, desk_model.specs.claim.{Desk.{Plan, name_cmp}, Geography.GeographyModel}}
-use Rattle.std.proofs.Common.{All, ◌≡◌, ◌<◌, ◌≤◌, ◌+◌, ◌-◌, ◌*◌, ◌^◌, ℕ, List, [], length, get_or, Some, refl, sym, ap, subst, ◌∙◌, inl, inr, arith, length-append}
-use Rattle.{desk_model.specs.claim.Ranges.cut, store_rows.specs.{Changes.{IsRevised, RevisionsStay, desk_with, plan_row_of}, Steps.chunks_more, TidyLaws.MakesRevision}}
-use Rattle.store_rows.specs.{RevisionSteps.{IsGiven, AreItsChunks, AddsRevision, IsChunkList, AreKept, IsDrawn, new_chunk_rows, rows_of_revision}, claim.Keys.{Fits, named}}
-use Rattle.store_rows.specs.claim.{DeskRows.{HasPlan, IsDesk, most_revisions}, Puts.put_rows, RevisionRows.{HasChunk, NamesChunks, HasRevision}, Rows.{KeyMap, Has}}
-use Rattle.store_rows.{specs.{claim.{Tidy.{IsNumbered, Tidy}, Values.plan_bytes}, declared.value.{Counters.Counters, PlanRow.PlanRow}}, proofs.Changes.plan_revised}
-use Rattle.store_rows.proofs.{ChunkRows.new_there, Frames.chunk_stays, NameRows.numbers_named, OneGeography.no_value, OneList.one_naming, RevisionPuts.{revision_put, chunks_put}}
-use Rattle.store_rows.proofs.{TidyFree.numbers_free, TidyParts.name_fits, TidyRevisions.revised_tidy}
+-- The rows of one revision more, put one after the other, are what such rows are to be, and make the desk with that revision.
+use Rattle.std.{specs.FinMap.{get, insert, FinMap}, proofs.lemmas.{Bool.{cases_eq, lt-ltb}, List.{get_or_default, Elements.{All-cons, All-nil, All-append}}}}
+use Rattle.std.proofs.Common.{rules, true, ◌≡◌, ◌<◌, ◌≤◌, ◌+◌, ◌-◌, ◌*◌, ◌^◌, ℕ, suc, List, [], ◌∷◌, length, All, None, refl, sym, ap, subst, ◌∙◌, inl, inr, arith, get_or, Some, length-append}
+use Rattle.{desk_model.specs.claim.{Desk.{Plan, name_cmp}, Geography.GeographyModel, Ranges.cut, Room.rows_for}, store_rows.specs.{ChunkRows.{piece_row, chunk_rows}, Rows.SameTag}}
+use Rattle.store_rows.specs.{Changes.{IsRevised, RevisionsStay, desk_with, plan_row_of}, NameRows.name_rows, Puts.rows_told, Steps.{chunks_more, one_revision_more}}
+use Rattle.store_rows.specs.RevisionSteps.{IsGiven, AreItsChunks, AddsRevision, IsChunkList, new_chunk_rows, new_holding, new_holder_count, told_held, rows_of_revision, AreKept, IsDrawn}
+use Rattle.store_rows.specs.{TidyLaws.MakesRevision, claim.{DeskRows.{HasPlan, IsDesk, most_revisions}, Holders.IsHeld, Puts.{Row, put_rows}, Rows.{KeyMap, row_in, Has}}}
+use Rattle.store_rows.specs.claim.{Keys.{RowKey, key_of, Fits, counters, holding, holder_count, named, part, chunk, in_eight}, RevisionRows.{HasChunk, NamesChunks, HasRevision}}
+use Rattle.store_rows.specs.{claim.{Tidy.{IsPiece, IsNamedBy, Tidy, IsNumbered}, Values.{plan_bytes, counters_bytes}}, declared.value.{Counters.Counters, PlanRow.PlanRow}}
+use Rattle.store_rows.proofs.{Changes.plan_revised, ChunkRows.{few_rows, pieces_are, new_there}, Counting.{OthersHold, no_holders, holders_joined}, RowLaws.keys_differ}
+use Rattle.store_rows.proofs.{Frames.{put_is_there, put_keeps, other_tag, chunk_stays}, HolderCounts.counted_by_holders_moved, NameRows.{parts_put, numbers_named}}
+use Rattle.store_rows.proofs.{OneGeography.{value_is, no_value, one_naming}, PutAll.{IsRowOf, is_row, names_are, told_all, keeps_key, keeps_row, keeps_rows, tells_value}}
+use Rattle.store_rows.proofs.{Puts.{put_rows-append, told_are, told_keep}, TidyFree.numbers_free, TidyParts.name_fits, TidyRevisions.{given_or_not, revised_tidy}}
+
+-- ---- how many of the new chunks are told as held
+-- the rows that are put
+abbrev IsPut : Counters → ℕ → ℕ → List ℕ → PlanRow → RowKey → Type 0
+IsPut next given many name p counters = Unit {0}
+IsPut next given many name p (holding plan number) = (plan ≡ p.number) × IsGiven next many number
+IsPut next given many name p (holder_count number) = IsGiven next many number
+IsPut next given many name p (named other) = other ≡ name
+IsPut next given many name p (part plan revision index) = (plan ≡ p.number) × (revision ≡ p.revisions + 1)
+IsPut next given many name p (chunk number piece) = IsGiven next given number
+IsPut next given many name p _ = ⊥
+
+-- ---- which rows these are
+chunks_are : (Q : RowKey → Type 0) (next : Counters) (given : ℕ) → ((number piece : ℕ) → IsGiven next given number → Q (chunk number piece)) → next.chunk + given < 2 ^ 64
+    → (first : ℕ) (lists : List (List ℕ)) → next.chunk ≤ first → first + length lists ≤ next.chunk + given → All IsChunkList lists → All (IsRowOf Q) (new_chunk_rows first lists)
+chunks_are Q next given told room first [] from within sound = All-nil (IsRowOf Q)
+chunks_are Q next given told room first (districts ∷ lists) from within sound =
+    All-append (IsRowOf Q) (chunk_rows first districts) (new_chunk_rows (first + 1) lists)
+    (told_all (IsRowOf Q) (piece_row first districts) (rows_for 512 (length districts)) (λ k less. search (arith, is_row Q (chunk first k), few_rows (length districts) k, sound 0 districts, told first k)))
+    (chunks_are Q next given told room (first + 1) lists (omega arith) (omega arith) (λ k d less. sound (suc k) d (omega arith)))
+
+-- keys of rows that one number tells apart
+one_key : (row : ℕ → RowKey) (first count : ℕ) → ((x y : ℕ) → row x ≡ row y → x ≡ y) → ((k : ℕ) → k < count → Fits (row (first + k))) → (i j : ℕ) → i < count → j < count → key_of (row (first + i)) ≡ key_of (row (first + j)) → i ≡ j
+one_key row first count apart fits i j one other same = let equal = apart (first + i) (first + j) (keys_differ (row (first + i)) (row (first + j)) (fits i one) (fits j other) same) in omega arith
+
+module _ (m : KeyMap) (tidy : Tidy m) (name : List ℕ) (p : PlanRow) (lists : List (List ℕ)) (numbers : List ℕ) (number_fits : p.number < 2 ^ 64) (few_revisions : p.revisions + 1 < 2 ^ 32) (fits_named : Fits (named name)) (room : tidy.next.chunk + length lists < 2 ^ 64) (has : Has m (named name) (plan_bytes p)) (few : length numbers ≤ 128 * 2 ^ 8) (sound : All IsChunkList lists) (its : AreItsChunks m tidy.next (length lists) p.number numbers) where
+  abbrev many : ℕ
+  many = told_held tidy.new (length lists)
+
+  few_many : many ≤ length lists
+  few_many = search (arith)
+
+  abbrev Q : RowKey → Type 0
+  Q = IsPut tidy.next (length lists) many name p
+
+  abbrev plan_row : Row
+  plan_row = (key_of (named name), plan_bytes (one_revision_more p))
+
+  abbrev counters_row : Row
+  counters_row = (key_of counters, counters_bytes (chunks_more tidy.next (length lists)))
+
+  abbrev after : KeyMap
+  after = put_rows m (rows_of_revision tidy.new tidy.next name p lists numbers)
+
+  abbrev with_chunks : KeyMap
+  with_chunks = put_rows m (new_chunk_rows tidy.next.chunk lists)
+
+  abbrev with_holdings : KeyMap
+  with_holdings = put_rows with_chunks (rows_told (new_holding p.number tidy.next.chunk) many)
+
+  abbrev with_counts : KeyMap
+  with_counts = put_rows with_holdings (rows_told (new_holder_count tidy.next.chunk) many)
+
+  abbrev with_parts : KeyMap
+  with_parts = put_rows with_counts (name_rows p.number (p.revisions + 1) numbers)
+
+  in_steps : after ≡ insert (insert with_parts plan_row.0 plan_row.1) counters_row.0 counters_row.1
+  in_steps = search put_rows-append
+
+  new_are : All (IsRowOf Q) (new_chunk_rows tidy.next.chunk lists)
+  new_are = chunks_are Q tidy.next (length lists) (λ number piece is. is) room tidy.next.chunk lists (omega arith) (omega arith) sound
+
+  holding_fits : (k : ℕ) → k < many → Fits (holding p.number (tidy.next.chunk + k))
+  holding_fits k less = (let few = few_many in (number_fits, omega arith))
+
+  holdings_are : All (IsRowOf Q) (rows_told (new_holding p.number tidy.next.chunk) many)
+  holdings_are = told_all (IsRowOf Q) (new_holding p.number tidy.next.chunk) many (λ k less. is_row Q (holding p.number (tidy.next.chunk + k)) _ (holding_fits k less) (refl, (omega arith, omega arith)))
+
+  counts_are : All (IsRowOf Q) (rows_told (new_holder_count tidy.next.chunk) many)
+  counts_are = told_all (IsRowOf Q) (new_holder_count tidy.next.chunk) many (λ k less. is_row Q (holder_count (tidy.next.chunk + k)) _ (holding_fits k less).1 (omega arith, omega arith))
+
+  ends_are : All (IsRowOf Q) (plan_row ∷ counters_row ∷ [])
+  ends_are = All-cons (IsRowOf Q) plan_row (counters_row ∷ []) (is_row Q (named name) _ fits_named refl) (All-cons (IsRowOf Q) counters_row [] (is_row Q counters _ tt tt) (All-nil (IsRowOf Q)))
+
+  all_are : All (IsRowOf Q) (rows_of_revision tidy.new tidy.next name p lists numbers)
+  all_are = search (All-append, IsRowOf, new_are, holdings_are, counts_are, names_are Q p.number (p.revisions + 1) numbers number_fits few_revisions few (λ k. (refl, refl)), ends_are)
+
+  -- keys of other tags, and of other plans, are none of them
+  tag_stays : (tag : ℕ) → (tag ≡ 65 → ⊥) → (tag ≡ 80 → ⊥) → (tag ≡ 82 → ⊥) → (tag ≡ 107 → ⊥) → (tag ≡ 72 → ⊥) → (tag ≡ 75 → ⊥) → SameTag tag m after
+  tag_stays tag a b c d e f rest = keeps_key Q m (rows_of_revision tidy.new tidy.next name p lists numbers) (tag ∷ rest) all_are (λ k fits holds same. search (arith, other_tag))
+
+  -- the parts are those of the list of numbers
+  in_parts : (index : ℕ) → row_in after (part p.number (p.revisions + 1) index) ≡ row_in with_parts (part p.number (p.revisions + 1) index)
+  in_parts index = search (rules, in_steps, put_keeps, other_tag)
+
+  no_part : (index : ℕ) → index < 2 ^ 8 → row_in with_counts (part p.number (p.revisions + 1) index) ≡ None
+  no_part index less =
+      let fits : Fits (part p.number (p.revisions + 1) index) = (number_fits, few_revisions, less) in
+      let before : row_in with_counts (part p.number (p.revisions + 1) index) ≡ row_in with_chunks (part p.number (p.revisions + 1) index) = search (rules, told_keep, other_tag) in
+      before
+      ∙ keeps_row (λ row. row ≡ part p.number (p.revisions + 1) index → ⊥) m (new_chunk_rows tidy.next.chunk lists) (part p.number (p.revisions + 1) index)
+      (chunks_are (λ row. row ≡ part p.number (p.revisions + 1) index → ⊥) tidy.next (length lists) (λ number piece is same. cc) room tidy.next.chunk lists (omega arith) (omega arith) sound) fits (λ apart. apart refl)
+      ∙ (numbers_free m tidy).revisions name p number_fits (omega arith) has (p.revisions + 1) index (omega arith) fits
+
+  -- the rows of chunks are those of the new ones
+  pub chunks_put : SameTag 107 (put_rows m (new_chunk_rows tidy.next.chunk lists)) (put_rows m (rows_of_revision tidy.new tidy.next name p lists numbers))
+  chunks_put rest = search (rules, in_steps, put_keeps, other_tag, told_keep)
+
+  -- the plan holds its new chunks, and each is counted
+  held_last : (tag : ℕ) (rest : List ℕ) → (tag ≡ 65 → ⊥) → (tag ≡ 80 → ⊥) → (tag ≡ 82 → ⊥) → get after (tag ∷ rest) ≡ get with_counts (tag ∷ rest)
+  held_last tag rest a b c = search (in_steps, put_keeps, other_tag, told_keep)
+
+  holding_there : (k : ℕ) → k < many → IsHeld after p.number (tidy.next.chunk + k)
+  holding_there k less = held_last 72 _ (λ e. absurd (omega arith)) (λ e. absurd (omega arith)) (λ e. absurd (omega arith))
+      ∙ told_keep with_holdings (new_holder_count tidy.next.chunk) many (key_of (holding p.number (tidy.next.chunk + k))) (λ i within. other_tag 72 75 _ _ (λ e. absurd (omega arith)))
+      ∙ told_are with_chunks (new_holding p.number tidy.next.chunk) many k (one_key (holding p.number) tidy.next.chunk many (λ x y e. cc) holding_fits) less
+
+  holder_count_there : (k : ℕ) → k < many → Has after (holder_count (tidy.next.chunk + k)) (in_eight 1)
+  holder_count_there k less = held_last 75 _ (λ e. absurd (omega arith)) (λ e. absurd (omega arith)) (λ e. absurd (omega arith)) ∙ told_are with_holdings (new_holder_count tidy.next.chunk) many k (one_key holder_count tidy.next.chunk many (λ x y e. cc) (λ i within. (holding_fits i within).1)) less
+
+  at_given : (P : ℕ → Type 0) → ((k : ℕ) → k < many → P (tidy.next.chunk + k)) → (number : ℕ) → IsGiven tidy.next many number → P number
+  at_given P each number given = (let same : tidy.next.chunk + (number - tidy.next.chunk) ≡ number = omega arith in subst P same (each (number - tidy.next.chunk) (omega arith)))
+
+  held_new : (number : ℕ) → IsGiven tidy.next many number → IsHeld after p.number number
+  held_new = at_given (IsHeld after p.number) holding_there
+
+  -- what the plan named already it holds already
+  held_still : tidy.new ≡ true → (number : ℕ) → IsNamedBy m p.number number → IsHeld after p.number number
+  held_still is_new number own =
+      let less = tidy.below.named_chunks p.number number own in
+      keeps_row Q m (rows_of_revision tidy.new tidy.next name p lists numbers) (holding p.number number) all_are (number_fits, omega arith) (λ both. let from = both.1.0 in absurd (omega arith))
+      ∙ tidy.holdings.hold is_new name p.number number (record { plan = p; row = has; is = refl; fits = number_fits }) own
+
+  other_holding : (plan number : ℕ) → Fits (holding plan number) → ((plan ≡ p.number) × IsGiven tidy.next many number → ⊥) → row_in after (holding plan number) ≡ row_in m (holding plan number)
+  other_holding plan number fits apart = keeps_row Q m (rows_of_revision tidy.new tidy.next name p lists numbers) (holding plan number) all_are fits apart
+
+  none_before : (plan number : ℕ) → Fits (holding plan number) → IsGiven tidy.next many number → IsHeld m plan number → ⊥
+  none_before plan number fits is held = no_value [] (sym held ∙ (numbers_free m tidy).holdings plan number is.0 fits)
+
+  -- a holding tells nothing else
+  -- rows as a revision puts them are rows that add it
+  pub revision_put : AddsRevision m (put_rows m (rows_of_revision tidy.new tidy.next name p lists numbers)) tidy.new tidy.next (length lists) name p numbers
+  revision_put = record {
+    rows = keeps_rows Q m (rows_of_revision tidy.new tidy.next name p lists numbers) all_are tidy.rows;
+    moved = ap (λ n. row_in n counters) in_steps ∙ put_is_there (insert with_parts plan_row.0 plan_row.1) counters_row.0 counters_row.1;
+    row = search (arith, in_steps, put_keeps, other_tag, put_is_there);
+    others = λ other apart. keeps_key Q m _ (key_of (named other)) all_are (λ k fits holds same. search (arith, apart, other_tag));
+    marks = tag_stays 68 (λ e. absurd (omega arith)) (λ e. absurd (omega arith)) (λ e. absurd (omega arith)) (λ e. absurd (omega arith)) (λ e. absurd (omega arith)) (λ e. absurd (omega arith));
+    starts = tag_stays 76 (λ e. absurd (omega arith)) (λ e. absurd (omega arith)) (λ e. absurd (omega arith)) (λ e. absurd (omega arith)) (λ e. absurd (omega arith)) (λ e. absurd (omega arith));
+    seals = tag_stays 83 (λ e. absurd (omega arith)) (λ e. absurd (omega arith)) (λ e. absurd (omega arith)) (λ e. absurd (omega arith)) (λ e. absurd (omega arith)) (λ e. absurd (omega arith));
+    loads = tag_stays 103 (λ e. absurd (omega arith)) (λ e. absurd (omega arith)) (λ e. absurd (omega arith)) (λ e. absurd (omega arith)) (λ e. absurd (omega arith)) (λ e. absurd (omega arith));
+    parts = λ index less. in_parts index ∙ parts_put with_counts p.number (p.revisions + 1) numbers number_fits few_revisions few no_part index less;
+    other_parts = λ plan revision index fits apart. keeps_row Q m (rows_of_revision tidy.new tidy.next name p lists numbers) (part plan revision index) all_are fits apart;
+    -- (what the rows of chunks hold is pieces of chunks)
+    pieces = λ number piece value fits given there. elim (tells_value (λ row. IsPiece row.1) m (new_chunk_rows tidy.next.chunk lists) (key_of (chunk number piece)) value (pieces_are tidy.next.chunk lists sound) (sym (chunks_put _) ∙ there)) [
+      | inl put ↦ subst (λ (v : List ℕ). IsPiece v) put.2 put.1
+      | inr before ↦ absurd (no_value value (sym before ∙ (numbers_free m tidy).chunks number given.0 fits.0 piece fits.1))
+    ];
+    other_chunks = λ number piece fits apart. keeps_row Q m (rows_of_revision tidy.new tidy.next name p lists numbers) (chunk number piece) all_are fits apart;
+    told = tag_stays 86 (λ e. absurd (omega arith)) (λ e. absurd (omega arith)) (λ e. absurd (omega arith)) (λ e. absurd (omega arith)) (λ e. absurd (omega arith)) (λ e. absurd (omega arith)) [];
+    empty = λ plan number value fits there. elim (cases_eq plan p.number) [
+      | inl same ↦ elim (given_or_not tidy.next many number) [
+        | inl is ↦ value_is value [] (sym there ∙ ap (λ (k : ℕ). row_in after (holding k number)) same ∙ held_new number is)
+        | inr other ↦ (tidy.holdings.held plan number value fits (sym (other_holding plan number fits (λ both. other both.1)) ∙ there)).0
+      ]
+      | inr apart ↦ (tidy.holdings.held plan number value fits (sym (other_holding plan number fits (λ both. apart both.0)) ∙ there)).0
+    ];
+    holdings = λ is_new number among. search (arith, its.own, held_still, held_new, tidy.next, tidy.new);
+    other_holdings = λ plan number fits apart. keeps_row Q m (rows_of_revision tidy.new tidy.next name p lists numbers) (holding plan number) all_are fits (λ both. let most = few_many in apart (both.0, its.whole number (both.1.0, (let below = both.1.1 in omega arith))));
+    counted_by_holders = λ number fits. elim (given_or_not tidy.next many number) [
+      | inl is ↦ (let others : OthersHold m after p.number number = λ other other_fits apart. other_holding other number (other_fits, fits) (λ both. apart both.0) in record {
+        count = 1;
+        fits = omega arith;
+        row = at_given (λ x. Has after (holder_count x) (in_eight 1)) holder_count_there number is;
+        holders = holders_joined m after p.number number 0 number_fits others (none_before p.number number (number_fits, fits) is) (held_new number is)
+            (no_holders m number (λ plan small held. none_before plan number (small, fits) is held));
+      })
+      | inr other ↦ counted_by_holders_moved m after number (λ plan small. other_holding plan number (small, fits) (λ both. other both.1))
+          (keeps_row Q m (rows_of_revision tidy.new tidy.next name p lists numbers) (holder_count number) all_are fits other) (tidy.holdings.counted_by_holders number fits)
+    ];
+  }
 
 -- ---- the numbers that are drawn are the plan's own, or given
 pub its_chunks : (m : KeyMap) (next : Counters) (plan : ℕ) (lists : List (List ℕ)) (numbers : List ℕ) (counties : List (List ℕ)) → IsDrawn m next plan lists numbers counties → AreItsChunks m next (length lists) plan numbers
@@ -85,19 +260,17 @@ module _ (m n : KeyMap) (tidy : Tidy m) (g : GeographyModel) (plans : FinMap nam
 
 -- ---- its rows, as they are listed
 module _ (m : KeyMap) (tidy : Tidy m) (name : List ℕ) (p : PlanRow) (lists : List (List ℕ)) (numbers : List ℕ) (number_fits : p.number < 2 ^ 64) (few_more : p.revisions + 1 < 2 ^ 32) (room : tidy.next.chunk + length lists < 2 ^ 64) (has : Has m (named name) (plan_bytes p)) (few : length numbers ≤ 128 * 2 ^ 8) (sound : All IsChunkList lists) (its : AreItsChunks m tidy.next (length lists) p.number numbers) where
-  abbrev after : KeyMap
-  after = put_rows m (rows_of_revision tidy.new tidy.next name p lists numbers)
+  abbrev listed : KeyMap
+  listed = put_rows m (rows_of_revision tidy.new tidy.next name p lists numbers)
 
   fits_key : Fits (named name)
   fits_key = name_fits m name (plan_bytes p) tidy.rows has
 
-  pub rows_add : AddsRevision m after tidy.new tidy.next (length lists) name p numbers
+  pub rows_add : AddsRevision m listed tidy.new tidy.next (length lists) name p numbers
   rows_add = revision_put m tidy name p lists numbers number_fits few_more fits_key room has few sound its
 
-  pub rows_make : (place : ℕ) → place < length lists → HasChunk after (tidy.next.chunk + place) (get_or lists place [])
-  rows_make place within = chunk_stays (put_rows m (new_chunk_rows tidy.next.chunk lists)) after (tidy.next.chunk + place) (get_or lists place [])
-      (chunks_put m tidy name p lists numbers number_fits few_more fits_key room has few sound its)
-      (new_there m tidy.next.chunk lists place sound room (numbers_free m tidy).chunks within)
+  pub rows_make : (place : ℕ) → place < length lists → HasChunk listed (tidy.next.chunk + place) (get_or lists place [])
+  rows_make place within = search (arith, chunk_stays, chunks_put m tidy name p lists numbers number_fits few_more fits_key room has few sound its, new_there m tidy.next.chunk lists place sound room (numbers_free m tidy).chunks within)
 
 -- ---- chunks of the revision before
 pub before_kept : (m : KeyMap) (plan revision : ℕ) (numbers : List ℕ) (counties : List (List ℕ)) → plan < 2 ^ 64 → revision < 2 ^ 32 → NamesChunks m plan revision numbers → HasRevision m plan revision counties → AreKept m plan numbers counties

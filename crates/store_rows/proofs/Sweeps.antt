@@ -1,4 +1,4 @@
--- Rows that nothing needs can go. First, rows of plans that were taken away.
+-- Rows that nothing needs can go: those of plans that were taken away, of loads that were never sealed, and of chunks that are let go.
 use Rattle.{std.{specs.{FinMap.{remove, get}, Prelude.Contains}, proofs.lemmas.List.get_or_default}, desk_model.specs.claim.{Desk.{Desk, Plan}, Geography.GeographyModel}}
 use Rattle.std.proofs.Common.{◌≡◌, ◌<◌, ◌^◌, ℕ, List, [], length, Option, Some, None, refl, sym, ap, ◌∙◌, arith, ◌∷◌, ◌++◌, subst, true, ◌+◌, zero, suc, ◌⊎◌, get_or, inl, inr}
 use Rattle.store_rows.specs.{Changes.{plan_row_of, RevisionsStay}, ChunkRows.IsFreeChunk, Holders.{with_holder_count, released}, Rows.SameTag, SweepLaws.IsSwept}

@@ -53,7 +53,7 @@ removed_fewer tag m gone rest value there = search (arith, cases_key, no_value, 
 
 -- ---- rows that tell a fact tell it of every map that has them
 pub numbered_moves : (m n : KeyMap) (name : List ℕ) (number : ℕ) → row_in n (named name) ≡ row_in m (named name) → IsNumbered m name number → IsNumbered n name number
-numbered_moves m n name number same is = record { plan = is.plan; row = same ∙ is.row; is = is.is; fits = is.fits }
+numbered_moves m n name number same is = search (same, is)
 
 pub naming_moves : (m n : KeyMap) (plan number : ℕ) → SameTag 82 m n → IsNamedBy m plan number → IsNamedBy n plan number
 naming_moves m n plan number rows is = search (rows)

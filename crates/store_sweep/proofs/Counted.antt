@@ -26,13 +26,10 @@ pub none_counted : (counts : BTreeMap ℕ ℕ) (m : KeyMap) → IsEmpty counts �
 none_counted counts m none = record {
   so = empty;
   found = λ key. get-empty key_cmp key;
-  counted = λ number fits. record {
-    count = 0;
-    few = omega arith;
-    told = ap (λ (es : List (ℕ × ℕ)). lookup (is_at (nat_cmp number)) es) none;
-    holders = no_holders empty number (λ plan small held. no_value [] (sym held ∙ get-empty key_cmp (key_of (holding plan number))));
-    shared = λ some. absurd (omega arith);
-  };
+  counted = λ number fits.
+      let told = ap (λ (es : List (ℕ × ℕ)). lookup (is_at (nat_cmp number)) es) none in
+      let holders = no_holders empty number (λ plan small held. no_value [] (sym held ∙ get-empty key_cmp (key_of (holding plan number)))) in
+      record { count = 0; few = omega arith; told = told; holders = holders; shared = λ some. absurd (omega arith) };
 }
 
 -- ---- one more
@@ -50,22 +47,16 @@ module _ (m so : KeyMap) (old new : BTreeMap ℕ ℕ) (taken plan number : ℕ) 
     told = more.1 ∙ ap (λ (k : ℕ). Some (k + 1)) (ap so_many was.told ∙ (search (arith))) ∙ (refl);
     holders = holders_joined so with_holder plan number was.count plan_fits
         (λ other other_fits apart. put_keeps_row so (holding plan number) [] (holding other number) (plan_fits, fits) (other_fits, fits) (other_plan plan number other apart))
-        (λ held. no_value [] (sym held ∙ lacks))
-        (put_is_there so (key_of (holding plan number)) [])
-        was.holders;
+        (λ held. no_value [] (sym held ∙ lacks)) (put_is_there so (key_of (holding plan number)) []) was.holders;
     shared = λ some. shared;
   }
 
   counted_there : (other : ℕ) → other < 2 ^ 64 → (other ≡ number → ⊥) → IsCountedSo old so m taken other → IsCountedSo new with_holder m (taken + 1) other
-  counted_there other other_fits apart was = record {
-    count = was.count;
-    few = let few = was.few in omega arith;
-    told = more.2 other (unlike_at number other (is_at (nat_cmp number) other) refl apart) ∙ was.told;
-    holders = holders_moved so with_holder other was.count
-        (λ p p_fits. put_keeps_row so (holding plan number) [] (holding p other) (plan_fits, fits) (p_fits, other_fits) (other_chunk plan number p other apart))
-        was.holders;
-    shared = was.shared;
-  }
+  counted_there other other_fits apart was =
+      let told = more.2 other (unlike_at number other (is_at (nat_cmp number) other) refl apart) ∙ was.told in
+      let holders = holders_moved so with_holder other was.count
+      (λ p p_fits. put_keeps_row so (holding plan number) [] (holding p other) (plan_fits, fits) (p_fits, other_fits) (other_chunk plan number p other apart)) was.holders in
+      record { count = was.count; few = (let few = was.few in omega arith); told = told; holders = holders; shared = was.shared }
 
   counted_any : (other : ℕ) → other < 2 ^ 64 → IsCountedSo old so m taken other → IsCountedSo new with_holder m (taken + 1) other
   counted_any other other_fits was = elim (cases_eq other number) [
@@ -92,12 +83,7 @@ one_counted m rows row old new taken was next one =
 pub all_counted : (m : KeyMap) (rows : List Entry) (counts : BTreeMap ℕ ℕ) (taken : ℕ) → taken < 2 ^ 64 → AreCountedSo rows counts m taken → under (72 ∷ []) (entries m) ≡ rows → AreCounts counts m
 all_counted m rows counts taken taken_fits are whole number fits =
     let is = are.counted number fits in
-    record {
-      count = is.count;
-      fits = let few = is.few in omega arith;
-      told = is.told;
-      holders = holders_moved are.so m number is.count
-          (λ plan small. found_among m (72 ∷ []) rows (key_of (holding plan number)) refl whole ∙ sym (are.found (key_of (holding plan number))))
-          is.holders;
-      shared = is.shared;
-    }
+    let holders = holders_moved are.so m number is.count
+    (λ plan small. found_among m (72 ∷ []) rows (key_of (holding plan number)) refl whole
+    ∙ sym (are.found (key_of (holding plan number)))) is.holders in
+    record { count = is.count; fits = (let few = is.few in omega arith); told = is.told; holders = holders; shared = is.shared }

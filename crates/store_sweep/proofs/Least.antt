@@ -1,27 +1,20 @@
 -- The first key that isn't below another, and chunks by their numbers.
-use Rattle.std.specs.{Cmp.nat_cmp_is, FinMap.{entries, get}, List.starts_with, Ordering.{nat_cmp, is_gt}, Prelude.{Result, Ok, Err, Contains}, declared.cmp.Ordering.Ordering}
+use Rattle.std.specs.{Cmp.nat_cmp_is, FinMap.{entries, get}, List.starts_with, Ordering.{nat_cmp, is_gt}, Prelude.{Result, Ok, Err}, declared.cmp.Ordering.Ordering}
 use Rattle.std.{specs.declared.cmp.Ordering.TheVariants.{Less, Equal, Greater}, proofs.lemmas.{Bool.{cases_lt, Decides.nat_tests}, List.nil_from_length}}
 use Rattle.std.proofs.Common.{zero, suc, get_or, ◌≡◌, ◌<◌, ◌≤◌, ◌^◌, ◌++◌, ℕ, List, [], ◌∷◌, Bool, true, false, nat_eq, length, take, drop, Some, None, refl, sym, ap, subst, ◌∙◌, inl, inr, arith}
 use Rattle.{desk_pages.specs.Looking.Looks, page_btree.specs.{Seeking.{AreLeaves, IsFrom}, claim.Map.InTxn, declared.{error.TreeError.TreeError, seeks.Leaf.Leaf}}}
 use Rattle.{page_btree.specs.page_node.{Places.entries_from, Walking.IsAhead, claim.{Entries.Entry, Node.IsNode, Places.key_cmp}}, page_store.specs.declared.pages.Pages.Pages}
 use Rattle.{page_store.specs.{claim.Transactions.{stored, disk_in, Passed}, declared.txn.Txn.Txn}, sector_device.specs.declared.SectorDevice.Ghosts}
-use Rattle.store_rows.{specs.claim.{Keys.{key_of, Fits, holder_count, chunk, in_two, in_eight, chunk_prefix}, Rows.{KeyMap, Lacks}, Tidy.AreRows}, proofs.Frames.either_way}
-use Rattle.{store_sweep.specs.Finding.{IsCopiedKey, IsLeast, IsFirstFrom, IsPieceKey, IsNextChunk, IsPieceOf, IsSought}, btree_walks.proofs.Prefixes.under_is_from}
-use Rattle.{btree_walks.proofs.{Ready.no_others as no_leaves, RowsFound.{first_is_from, first_least, first_none, first_there}}, desk_pages.proofs.Looking.{looked, not_looked}}
-use Rattle.{store_rows.proofs.{HolderCounts.eight_says, KeyPrefixes.starts_itself, Numbers.numbers_decide, TidyParts.some_or_none}, store_sweep.proofs.Keys.piece_is}
+use Rattle.{store_rows.specs.claim.{Keys.{key_of, Fits, chunk, in_two, in_eight, chunk_prefix}, Rows.KeyMap, Tidy.AreRows}, btree_walks.proofs.Prefixes.under_is_from}
+use Rattle.{store_sweep.specs.Finding.{IsCopiedKey, IsLeast, IsFirstFrom, IsNextChunk, IsSought}, btree_walks.proofs.Ready.no_others as no_leaves}
+use Rattle.{btree_walks.proofs.RowsFound.{first_is_from, first_least, first_there}, desk_pages.proofs.Looking.{looked, not_looked}, store_rows.proofs.Frames.either_way}
+use Rattle.{store_rows.proofs.{HolderCounts.eight_says, KeyPrefixes.starts_itself, Numbers.numbers_decide, TidyParts.some_or_none}, store_sweep.proofs.Keys.{row_under, piece_is}}
 use Rattle.page_btree.proofs.page_node.Walking.{node_ahead}
 
 -- ---- entries from a key on
 pub least_found : (m : KeyMap) (key : List ℕ) (e : Entry) (rest : List Entry) → entries_from key (entries m) ≡ e ∷ rest → (found : List ℕ) → found ≡ e.0 → IsLeast key found m
-least_found m key e rest whole found same = subst (λ (k : List ℕ). IsLeast key k m) (sym same) (record {
-  value = e.1;
-  there = first_there m key e rest whole;
-  from = first_is_from m key e rest whole;
-  first = first_least m key e rest whole;
-})
-
-pub none_found : (m : KeyMap) (key : List ℕ) → entries_from key (entries m) ≡ [] → (found : List ℕ) → IsFirstFrom key found m false
-none_found m key whole found = first_none m key whole
+least_found m key e rest whole found same = subst (λ (k : List ℕ). IsLeast key k m) (sym same)
+    (record { value = e.1; there = first_there m key e rest whole; from = first_is_from m key e rest whole; first = first_least m key e rest whole })
 
 -- ---- the leaf that stands there
 pub record IsAt (key : List ℕ) (all : List Entry) (page : List ℕ) (place : ℕ) : Type 0 where
@@ -90,13 +83,10 @@ pub record IsPieceRow (number : ℕ) (key : List ℕ) : Type 0 where
   pub key_is : key ≡ key_of (chunk next piece)
 
 module _ (m : KeyMap) where
-  least_piece : (number : ℕ) (key : List ℕ) → AreRows m → IsLeast (chunk_prefix number) key m → IsPieceRow number key
+  pub least_piece : (number : ℕ) (key : List ℕ) → AreRows m → IsLeast (chunk_prefix number) key m → IsPieceRow number key
   least_piece number key rows least = let (row, fits, same) = rows key least.value least.there in (search (arith))
 
-  -- its key is long enough, and its number stands after the tag
-  pub least_long : (number : ℕ) (key : List ℕ) → AreRows m → IsLeast (chunk_prefix number) key m → length key ≡ 11
-  least_long number key rows least = ap (λ (k : List ℕ). length k) (least_piece number key rows least).key_is
-
+  -- its number stands after the tag
   pub least_starts : (number next : ℕ) (key : List ℕ) → next < 2 ^ 64 → in_eight next ≡ take 8 (drop 1 key) → AreRows m → IsLeast (chunk_prefix number) key m → starts_with nat_eq key (chunk_prefix next) ≡ true
   least_starts number next key few told rows least =
       let at = least_piece number key rows least in
@@ -108,14 +98,12 @@ module _ (m : KeyMap) where
 
   pub next_some : (number next : ℕ) (key : List ℕ) → number < 2 ^ 64 → next < 2 ^ 64 → AreRows m → IsLeast (chunk_prefix number) key m → starts_with nat_eq key (chunk_prefix next) ≡ true → IsNextChunk number key m (Some next)
   next_some number next key fits few rows least on =
-      let (row, row_fits, same) = rows key least.value least.there in
-      let (piece, kind) = piece_is next few row row_fits (subst (λ (k : List ℕ). starts_with nat_eq k (chunk_prefix next) ≡ true) same on) in
-      let is : key ≡ key_of (chunk next piece) = same ∙ ap key_of kind in (
-        not_below number next piece fits few (subst (λ (k : List ℕ). is_gt (key_cmp (chunk_prefix number) k) ≡ false) is least.from),
-        record { piece = piece; fits = subst Fits kind row_fits; key_is = is },
+      let at = row_under (chunk next) (chunk_prefix next) (piece_is next few) m key least.value rows least.there on in (
+        not_below number next at.a fits few (subst (λ (k : List ℕ). is_gt (key_cmp (chunk_prefix number) k) ≡ false) at.key_is least.from),
+        record { piece = at.a; fits = at.fits; key_is = at.key_is },
         λ other from below other_fits index small. some_or_none (get m (key_of (chunk other index))) (λ value there.
             let above = least.first (key_of (chunk other index)) value there (piece_from number other index fits other_fits from) in
-            let more : is_gt (key_cmp key (key_of (chunk other index))) ≡ true = ap (λ (k : List ℕ). is_gt (key_cmp k (key_of (chunk other index)))) is ∙ ap is_gt (chunk_cmp Greater (λ e. cc) next other (in_two piece) (in_two index) few other_fits (sym (nat_cmp_is next other Greater below))) in
+            let more : is_gt (key_cmp key (key_of (chunk other index))) ≡ true = ap (λ (k : List ℕ). is_gt (key_cmp k (key_of (chunk other index)))) at.key_is ∙ ap is_gt (chunk_cmp Greater (λ e. cc) next other (in_two at.a) (in_two index) few other_fits (sym (nat_cmp_is next other Greater below))) in
             cc),
       )
 
@@ -125,6 +113,3 @@ module _ (m : KeyMap) where
   -- what is looked for is there, or the next one is a later one
   pub sought_next : (number next : ℕ) (key : List ℕ) → number < 2 ^ 64 → IsNextChunk number key m (Some next) → (b : Bool) → nat_eq next number ≡ b → IsSought number (record { from = number; to = next; ends = true }) key m b
   sought_next number next key fits is b told = search (arith, nat_tests, is.2)
-
-  pub piece_of : (numbers : List ℕ) (number : ℕ) (key : List ℕ) → Contains numbers number → IsPieceKey number key → Lacks m (holder_count number) → IsPieceOf numbers key m
-  piece_of numbers number key among is unshared = record { number = number; piece = is.piece; among = among; fits = is.fits; key_is = is.key_is; unshared = unshared }

@@ -1,25 +1,20 @@
 -- What is found under a prefix is left over.
 use Rattle.{std.specs.{FinMap.get, List.starts_with, Prelude.{Contains, Option}}, btree_walks.specs.declared.rows.Row.Row, store_rows.specs.Keys.{plan_parts_prefix, load_prefix}}
-use Rattle.std.proofs.Common.{◌≡◌, ◌<◌, ◌^◌, ℕ, List, [], length, drop, nat_eq, true, Some, None, refl, sym, ap, subst, ◌∙◌, ◌++◌, ◌∷◌, arith}
-use Rattle.store_rows.specs.claim.Keys.{RowKey, key_of, Fits, counters, retired, begun, holding, part, block, pair, chunk, in_eight, retired_prefix, begun_prefix, holdings_prefix, in_four, in_one}
-use Rattle.{store_rows.specs.claim.{Lists.{AreChunks, chunks_bytes}, Rows.{KeyMap, Has}, Tidy.{AreRows, Tidy}}, store_sweep.specs.Leftovers.{IsNoLoads, IsOfLoad, IsSpared}}
+use Rattle.{std.proofs.Common.{◌≡◌, ◌<◌, ◌^◌, ℕ, List, [], length, drop, nat_eq, true, Some, None, refl, sym, ap, subst, ◌∙◌, ◌++◌, ◌∷◌, arith}, store_rows.specs.TurnLaws.IsLetGo}
+use Rattle.store_rows.specs.claim.Keys.{RowKey, key_of, counters, retired, begun, holding, part, block, pair, chunk, in_eight, retired_prefix, begun_prefix, holdings_prefix, in_four, in_one}
+use Rattle.{store_rows.specs.claim.{Lists.{AreChunks, chunks_bytes}, Rows.{KeyMap, Has}, Tidy.{AreRows, IsNamedBy}}, store_sweep.specs.Leftovers.{IsNoLoads, IsOfLoad, IsSpared}}
 use Rattle.store_sweep.specs.Finding.{IsUnder, IsMark, IsPieceOf, IsDone, IsLeft, IsLeftKey, IsLeftHolding, HasPlanMark, HasLoadMark, HoldsNone, spared_key}
 use Rattle.{store_sweep.specs.declared.leftovers.Left.Left, store_rows.proofs.{HolderCounts.eight_says, KeyPrefixes.{after_tag, starts_itself}, RowLaws.keys_differ}}
-use Rattle.store_sweep.proofs.Keys.{retired_is, begun_is, holding_is, part_is, staged_is}
+use Rattle.store_sweep.proofs.Keys.{IsRowOf, row_under, retired_is, begun_is, holding_is, part_is, staged_is}
 
 abbrev pub NoneUnder : List ℕ → KeyMap → Type 0
 NoneUnder prefix m = (key : List ℕ) → starts_with nat_eq key prefix ≡ true → get m key ≡ None
 
 module _ (m : KeyMap) where
   -- ---- holdings
-  record IsHoldingRow (plan : ℕ) (row : Row) : Type 0 where
-    pub number : ℕ
-    pub fits : Fits (holding plan number)
-    pub key_is : row.key ≡ key_of (holding plan number)
-    pub there : Has m (holding plan number) row.value
-
-  holding_row : (plan : ℕ) → plan < 2 ^ 64 → AreRows m → (row : Row) → IsUnder (holdings_prefix plan) row m → IsHoldingRow plan row
-  holding_row plan few rows row is = search (arith, rows, row.key, row.value, is.there, holding_is, is.under)
+  holding_row : (plan : ℕ) → plan < 2 ^ 64 → AreRows m → (row : Row) → IsUnder (holdings_prefix plan) row m
+      → IsRowOf (holding plan) m row.key row.value
+  holding_row plan few rows row is = row_under (holding plan) (holdings_prefix plan) (holding_is plan few) m row.key row.value rows is.there is.under
 
   pub holding_long : (plan : ℕ) → plan < 2 ^ 64 → HasPlanMark plan m → (row : Row) → IsUnder (holdings_prefix plan) row m → length row.key ≡ 17
   holding_long plan few has row is = ap (λ (k : List ℕ). length k) (holding_row plan few has.0.rows row is).key_is
@@ -27,97 +22,64 @@ module _ (m : KeyMap) where
   pub holding_left : (plan : ℕ) → plan < 2 ^ 64 → HasPlanMark plan m → (row : Row) → IsUnder (holdings_prefix plan) row m → (number : ℕ) → number < 2 ^ 64 → drop 9 row.key ≡ in_eight number → IsLeftHolding m plan number
   holding_left plan few has row is number small told =
       let at = holding_row plan few has.0.rows row is in
-      let same : number ≡ at.number = eight_says number at.number small at.fits.1 (sym told ∙ ap (λ (k : List ℕ). drop 9 k) at.key_is) in
-      let held = has.0.holdings.held plan at.number row.value at.fits at.there in
+      let same : number ≡ at.a = eight_says number at.a small at.fits.1 (sym told ∙ ap (λ (k : List ℕ). drop 9 k) at.key_is) in
+      let held = has.0.holdings.held plan at.a row.value at.fits at.there in
       subst (λ (n : ℕ). IsLeftHolding m plan n) (sym same) (record { fits = at.fits; mark = has.1; held = at.there ∙ ap Some held.0 })
 
   pub holds_none : (plan : ℕ) → NoneUnder (holdings_prefix plan) m → HoldsNone plan m
   holds_none plan none number = none (key_of (holding plan number)) (starts_itself (holdings_prefix plan) (in_eight number))
 
   -- ---- parts
-  pub record IsPartRow (plan : ℕ) (row : Row) : Type 0 where
-    pub revision : ℕ
-    pub index : ℕ
-    pub fits : Fits (part plan revision index)
-    pub key_is : row.key ≡ key_of (part plan revision index)
-    pub there : Has m (part plan revision index) row.value
-
-  pub part_row : (plan : ℕ) → plan < 2 ^ 64 → AreRows m → (row : Row) → IsUnder (plan_parts_prefix plan) row m → IsPartRow plan row
-  part_row plan few rows row is =
-      let (of, fits, same) = rows row.key row.value is.there in
-      let (revision, index, kind) = part_is plan few of fits (subst (λ (k : List ℕ). starts_with nat_eq k (plan_parts_prefix plan) ≡ true) same is.under) in
-      let key = same ∙ ap key_of kind in
-      record {
-        revision = revision;
-        index = index;
-        fits = subst Fits kind fits;
-        key_is = key;
-        there = ap (λ (k : List ℕ). get m k) (sym key) ∙ is.there;
-      }
+  part_row : (plan : ℕ) → plan < 2 ^ 64 → (key value : List ℕ) → AreRows m → get m key ≡ Some value
+      → starts_with nat_eq key (plan_parts_prefix plan) ≡ true → IsRowOf (λ (a : ℕ × ℕ). part plan a.0 a.1) m key value
+  part_row plan few = row_under (λ (a : ℕ × ℕ). part plan a.0 a.1) (plan_parts_prefix plan) (part_is plan few) m
 
   -- its value names chunks
   pub part_told : (plan : ℕ) → plan < 2 ^ 64 → HasPlanMark plan m → (row : Row) → IsUnder (plan_parts_prefix plan) row m → ((numbers : List ℕ) → AreChunks numbers → chunks_bytes numbers ≡ row.value → ⊥) → ⊥
   part_told plan few has row is none =
-      let at = part_row plan few has.0.rows row is in
-      let (numbers, chunks, value) = has.0.counted.parts plan at.revision at.index row.value at.fits at.there in
+      let at = part_row plan few row.key row.value has.0.rows is.there is.under in
+      let (numbers, chunks, value) = has.0.counted.parts plan at.a.0 at.a.1 row.value at.fits at.there in
       none numbers chunks (sym value)
 
   pub part_left : (plan : ℕ) → plan < 2 ^ 64 → HasPlanMark plan m → (row : Row) → IsUnder (plan_parts_prefix plan) row m → (numbers : List ℕ) → AreChunks numbers → chunks_bytes numbers ≡ row.value → HoldsNone plan m → ((number : ℕ) → Contains numbers number → IsDone m number) → IsLeftKey m row.key IsNoLoads
   part_left plan few has row is numbers chunks value none gone =
-      let at = part_row plan few has.0.rows row is in
-      record {
-        row = part plan at.revision at.index;
-        fits = at.fits;
-        key_is = at.key_is;
-        left = (has.1, record { numbers = numbers; chunks = chunks; row = at.there ∙ ap Some (sym value); let_go = λ number among. none number; gone = gone });
-        is_apart = λ load of. of;
-      }
+      let at = part_row plan few row.key (chunks_bytes numbers) has.0.rows (is.there ∙ ap Some (sym value)) is.under in
+      let goes : IsLetGo m plan at.a.0 at.a.1 = record { numbers = numbers; chunks = chunks; row = at.there; let_go = λ number among. none number; gone = gone } in
+      record { row = part plan at.a.0 at.a.1; fits = at.fits; key_is = at.key_is; left = (has.1, goes); is_apart = λ load of. of }
 
   pub piece_left : (plan : ℕ) → plan < 2 ^ 64 → HasPlanMark plan m → (row : Row) → IsUnder (plan_parts_prefix plan) row m → (numbers : List ℕ) → AreChunks numbers → chunks_bytes numbers ≡ row.value → (key : List ℕ) → IsPieceOf numbers key m → IsLeftKey m key IsNoLoads
   piece_left plan few has row is numbers chunks value key piece =
-      let at = part_row plan few has.0.rows row is in
-      record {
-        row = chunk piece.number piece.piece;
-        fits = piece.fits;
-        key_is = piece.key_is;
-        left = (plan, has.1, record { revision = at.revision; index = at.index; part_fits = at.fits; numbers = numbers; chunks = chunks; row = at.there ∙ ap Some (sym value); among = piece.among }, piece.unshared);
-        is_apart = λ load of. of;
-      }
+      let at = part_row plan few row.key (chunks_bytes numbers) has.0.rows (is.there ∙ ap Some (sym value)) is.under in
+      let named : IsNamedBy m plan piece.number =
+      record { revision = at.a.0; index = at.a.1; part_fits = at.fits; numbers = numbers; chunks = chunks; row = at.there; among = piece.among } in
+      let row = chunk piece.number piece.piece in
+      record { row = row; fits = piece.fits; key_is = piece.key_is; left = (plan, has.1, named, piece.unshared); is_apart = λ load of. of }
 
   pub plan_mark_left : (plan : ℕ) → plan < 2 ^ 64 → HasPlanMark plan m → NoneUnder (plan_parts_prefix plan) m → IsLeftKey m (key_of (retired plan)) IsNoLoads
-  plan_mark_left plan few has none = record {
-    row = retired plan;
-    fits = few;
-    key_is = refl;
-    left = (has.1, λ revision index fits. none (key_of (part plan revision index)) (starts_itself (plan_parts_prefix plan) (in_four revision ++ in_one index)));
-    is_apart = λ load of. of;
-  }
+  plan_mark_left plan few has none =
+      let no_part = λ (revision index : ℕ). none (key_of (part plan revision index)) (starts_itself (plan_parts_prefix plan) (in_four revision ++ in_one index)) in
+      record { row = retired plan; fits = few; key_is = refl; left = (has.1, λ revision index _. no_part revision index); is_apart = λ load of. of }
 
   -- ---- loads
   pub load_left : (load : ℕ) → load < 2 ^ 64 → HasLoadMark load m → (row : Row) → IsUnder (load_prefix load) row m → IsLeftKey m row.key (IsOfLoad load)
   load_left load few has row is = search (arith, has.0.rows, row.key, row.value, is.there, has.1, staged_is, is.under)
 
   pub load_mark_left : (load : ℕ) → load < 2 ^ 64 → HasLoadMark load m → NoneUnder (load_prefix load) m → IsLeftKey m (key_of (begun load)) (IsOfLoad load)
-  load_mark_left load few has none = record {
-    row = begun load;
-    fits = few;
-    key_is = refl;
-    left = (has.1, λ place small. (none (key_of (block load place)) (starts_itself (load_prefix load) (98 ∷ in_four place)), none (key_of (pair load place)) (starts_itself (load_prefix load) (112 ∷ in_four place))));
-    is_apart = refl;
-  }
+  load_mark_left load few has none =
+      let no_row = λ (place kind : ℕ). none (load_prefix load ++ kind ∷ in_four place) (starts_itself (load_prefix load) (kind ∷ in_four place)) in
+      record { row = begun load; fits = few; key_is = refl; left = (has.1, λ place small. (no_row place 98, no_row place 112)); is_apart = refl }
 
   -- ---- marks
   pub retired_long : AreRows m → (spared : List ℕ) (row : Row) → IsMark retired_prefix spared row m → length row.key ≡ 9
   retired_long rows spared row is = search (arith, rows, row.key, is.there, retired_is, is.under)
 
-  pub retired_mark : Tidy m → (spared : List ℕ) (row : Row) (plan : ℕ) → drop 1 row.key ≡ in_eight plan → IsMark retired_prefix spared row m → HasPlanMark plan m
-  retired_mark tidy spared row plan told is = (tidy, ap (λ (k : List ℕ). get m k) (sym (after_tag row.key 68 (in_eight plan) is.under told)) ∙ is.there)
-
   pub begun_long : AreRows m → (spared : List ℕ) (row : Row) → IsMark begun_prefix spared row m → length row.key ≡ 9
   begun_long rows spared row is = search (arith, rows, row.key, is.there, begun_is, is.under)
 
-  pub begun_mark : Tidy m → (spared : List ℕ) (row : Row) (load : ℕ) → drop 1 row.key ≡ in_eight load → IsMark begun_prefix spared row m → HasLoadMark load m
-  begun_mark tidy spared row load told is = (tidy, ap (λ (k : List ℕ). get m k) (sym (after_tag row.key 76 (in_eight load) is.under told)) ∙ is.there)
+  -- it stands under a tag and a number
+  pub mark_of : (tag number : ℕ) (spared : List ℕ) (row : Row) → drop 1 row.key ≡ in_eight number → IsMark (tag ∷ []) spared row m
+      → get m (tag ∷ in_eight number) ≡ Some []
+  mark_of tag number spared row told is = ap (get m) (sym (after_tag row.key tag (in_eight number) is.under told)) ∙ is.there
 
   -- none without a value is left but the one that is spared
   pub no_retired : ((key : List ℕ) → starts_with nat_eq key retired_prefix ≡ true → (key ≡ key_of counters → ⊥) → get m key ≡ Some [] → ⊥) → (plan : ℕ) → plan < 2 ^ 64 → Has m (retired plan) [] → ⊥

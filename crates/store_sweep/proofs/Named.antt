@@ -1,49 +1,34 @@
 -- What parts of revisions name.
-use Rattle.{std.specs.{FinMap.{entries, get}, List.{AllByRecursion, starts_with}, Prelude.{All, Contains, get_or}}, btree_walks.specs.{Prefixes.under, declared.rows.Row.Row}}
-use Rattle.std.proofs.Common.{◌≡◌, ◌<◌, ◌^◌, ◌+◌, ◌++◌, ℕ, true, List, [], ◌∷◌, Some, None, nat_eq, refl, sym, ap, subst, ◌∙◌, inl, inr, take, drop, arith}
+use Rattle.{std.specs.{FinMap.{entries, get}, List.AllByRecursion, Prelude.{All, Contains, get_or}}, btree_walks.specs.{Prefixes.under, declared.rows.Row.Row}}
+use Rattle.{std.proofs.Common.{◌≡◌, ◌<◌, ◌^◌, ◌+◌, ◌++◌, ℕ, List, [], ◌∷◌, Some, None, refl, sym, ap, subst, ◌∙◌, inl, inr, take, drop, arith}, store_rows.specs.claim.Rows.KeyMap}
 use Rattle.{std.proofs.lemmas.List.Elements.{All-contains, All-nil, All-push, All-set, Contains-get_or}, page_btree.specs.page_node.claim.Entries.Entry}
-use Rattle.store_rows.{specs.claim.{Keys.{key_of, Fits, holding, holder_count, part, in_eight}, Lists.{AreChunks, chunks_bytes}, Rows.{KeyMap, Has}}, proofs.ListLaws.chunks_differ}
+use Rattle.store_rows.{specs.claim.{Keys.{key_of, Fits, holding, holder_count, part, in_eight}, Lists.{AreChunks, chunks_bytes}}, proofs.ListLaws.chunks_differ}
 use Rattle.store_sweep.specs.{Checks.{IsEntryNamed, IsHoldingRow, IsNewTidy, IsPartRow, IsPlansList, IsWithOne}, claim.Checks.{AreNamesHeld, IsHeldOrGone}}
 use Rattle.{btree_walks.proofs.RowsFound.{IsNextUnder, all_found, found_among}, store_rows.proofs.{HolderCounts.{eight_says, held_counted_by_holders}, OneGeography.no_value}}
-use Rattle.store_sweep.proofs.HoldingKeys.{holding_is, part_is}
+use Rattle.store_sweep.proofs.Keys.{row_under, any_holding_is, any_part_is}
 
 -- ---- rows of a tidy map
 -- a holding
 pub holding_next : (m : KeyMap) (taken : List Entry) (row : Row) → IsNewTidy m → IsNextUnder (72 ∷ []) m taken (row.key, row.value) → IsHoldingRow row m
 holding_next m taken row is next =
-    let (of, fits, same) = is.tidy.rows row.key row.value next.there in
-    let (plan, number, kind) = holding_is of (subst (λ (k : List ℕ). starts_with nat_eq k (72 ∷ []) ≡ true) same next.under) in
-    let key : row.key ≡ key_of (holding plan number) = same ∙ ap key_of kind in
-    let of_fits : Fits (holding plan number) = subst Fits kind fits in
-    let there : Has m (holding plan number) row.value = ap (get m) (sym key) ∙ next.there in
-    let value : row.value ≡ [] = (is.tidy.holdings.held plan number row.value of_fits there).0 in
-    let counted = held_counted_by_holders m plan number is.tidy.holdings.counted_by_holders of_fits.0 of_fits.1 (there ∙ ap Some value) in
-    record { plan = plan; number = number; fits = of_fits; key = key; value = value; shared = (in_eight (counted.0 + 1), counted.2) }
+    let at = row_under (λ (a : ℕ × ℕ). holding a.0 a.1) (72 ∷ []) any_holding_is m row.key row.value is.tidy.rows next.there next.under in
+    let value : row.value ≡ [] = (is.tidy.holdings.held at.a.0 at.a.1 row.value at.fits at.there).0 in
+    let counted = held_counted_by_holders m at.a.0 at.a.1 is.tidy.holdings.counted_by_holders at.fits.0 at.fits.1 (at.there ∙ ap Some value) in
+    record { plan = at.a.0; number = at.a.1; fits = at.fits; key = at.key_is; value = value; shared = (in_eight (counted.0 + 1), counted.2) }
 
 -- a part
 pub part_next : (m : KeyMap) (taken : List Entry) (row : Row) → IsNewTidy m → IsNextUnder (82 ∷ []) m taken (row.key, row.value) → IsPartRow row m
 part_next m taken row is next =
-    let (of, fits, same) = is.tidy.rows row.key row.value next.there in
-    let (plan, revision, index, kind) = part_is of (subst (λ (k : List ℕ). starts_with nat_eq k (82 ∷ []) ≡ true) same next.under) in
-    let key : row.key ≡ key_of (part plan revision index) = same ∙ ap key_of kind in
-    let of_fits : Fits (part plan revision index) = subst Fits kind fits in
-    let there : Has m (part plan revision index) row.value = ap (get m) (sym key) ∙ next.there in
-    let (numbers, chunks, value) = is.tidy.counted.parts plan revision index row.value of_fits there in
-    record {
-      plan = plan;
-      revision = revision;
-      index = index;
-      fits = of_fits;
-      key = key;
-      numbers = numbers;
-      chunks = chunks;
-      value = value;
-      held = λ number among. elim (is.tidy.owned.parts plan revision index row.value of_fits there) [
-        | inl numbered ↦ inl (is.tidy.holdings.hold is.new numbered.0 plan number numbered.1
-            (record { revision = revision; index = index; part_fits = of_fits; numbers = numbers; chunks = chunks; row = there ∙ ap Some value; among = among }))
-        | inr gone ↦ inr gone
-      ];
-    }
+    let at = row_under (λ (a : ℕ × ℕ × ℕ). part a.0 a.1 a.2) (82 ∷ []) any_part_is m row.key row.value is.tidy.rows next.there next.under in
+    let told = is.tidy.counted.parts at.a.0 at.a.1 at.a.2 row.value at.fits at.there in
+    let held : (number : ℕ) → Contains told.0 number → IsHeldOrGone m at.a.0 number = λ number among.
+    elim (is.tidy.owned.parts at.a.0 at.a.1 at.a.2 row.value at.fits at.there) [
+      | inl numbered ↦ inl (is.tidy.holdings.hold is.new numbered.0 at.a.0 number numbered.1
+          (record { revision = at.a.1; index = at.a.2; part_fits = at.fits; numbers = told.0; chunks = told.1; row = at.there ∙ ap Some told.2; among = among }))
+      | inr gone ↦ inr gone
+    ] in
+    let a = at.a in let fits = at.fits in
+    record { plan = a.0; revision = a.1; index = a.2; fits = fits; key = at.key_is; numbers = told.0; chunks = told.1; value = told.2; held = held }
 
 -- ---- what a part's row says
 -- its plan
@@ -85,10 +70,7 @@ plans_list P plan old new is all = elim is.1 [
 ]
 
 -- ---- parts, one after the other
-abbrev pub AllNamed : KeyMap → List Entry → Type 0
-AllNamed m es = AllByRecursion (IsEntryNamed m) es
-
-pub all_named : (m : KeyMap) (rows : List Entry) → under (82 ∷ []) (entries m) ≡ rows → AllNamed m rows → AreNamesHeld m
+pub all_named : (m : KeyMap) (rows : List Entry) → under (82 ∷ []) (entries m) ≡ rows → AllByRecursion (IsEntryNamed m) rows → AreNamesHeld m
 all_named m rows whole all plan number named =
     let key = key_of (part plan named.revision named.index) in
     all_found (IsEntryNamed m) key (chunks_bytes named.numbers) rows all (sym (found_among m (82 ∷ []) rows key refl whole) ∙ named.row)

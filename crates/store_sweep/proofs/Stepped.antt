@@ -1,10 +1,10 @@
 -- A sweep: a transaction that is begun, out of which rows are taken, and that is committed then.
 use Rattle.{std.specs.Prelude.{Result, Ok, Err, IsErrAnd, if◌then◌else◌}, desk_model.specs.claim.Desk.Desk, desk_pages.specs.Commits.{Commits, Leaves, FittingErr}}
-use Rattle.std.proofs.Common.{◌≡◌, ◌<◌, ◌≤◌, ◌+◌, ℕ, Bool, List, [], ◌∷◌, length, Option, Some, None, true, false, refl, sym, ap, subst, ◌∙◌, inl, arith}
+use Rattle.std.proofs.Common.{◌≡◌, ◌<◌, ◌+◌, ℕ, Bool, List, [], ◌∷◌, length, Option, Some, None, true, false, refl, sym, ap, subst, ◌∙◌, inl, arith}
 use Rattle.desk_pages.specs.{Errors.row_refusal, Reading.SeekErr, claim.Desks.{IsDeskMap, InPages as DeskInPages, OpensDesk}, declared.error.StoreError.StoreError}
 use Rattle.{desk_pages.specs.declared.error.StoreError.TheVariants.{NotAStore, Memory, DeviceFault}, page_btree.specs.claim.Map.{InTxn, InPages}, page_store.specs.Calls.BeginsOver}
 use Rattle.{page_btree.specs.declared.error.TreeError.TreeError, page_store.specs.{claim.Chain.free_in, declared.{pages.Pages.Pages, txn.Txn.Txn}, gate_journal.claim.Store.home}}
-use Rattle.page_store.specs.claim.Transactions.{stored, disk_in, count_of, journal_of, has_halted, txn_free, txn_writes, HasFailed, HasShape, IsQuiet, Passed}
+use Rattle.page_store.specs.claim.Transactions.{stored, disk_in, count_of, journal_of, has_halted, txn_free, HasFailed, HasShape, IsQuiet, Passed}
 use Rattle.{sector_device.specs.{claim.{Disk.Image, Moments.LeavesOnly}, declared.SectorDevice.Ghosts}, store_rows.specs.claim.{Rows.KeyMap, Tidy.Tidy}}
 use Rattle.{store_rows.specs.TurnLaws.{IsUnneeded, CanTurn, Turn, goes, lets_go, take_turns, AreTurns}, store_sweep.specs.Checks.IsNewTidy}
 use Rattle.store_rows.specs.claim.Keys.{RowKey, Fits, retired, begun, part, version, block, pair, chunk}
@@ -68,12 +68,6 @@ module _ {D : Type 0} {g : Ghosts D} where
   abbrev pub Cleans : Option ℕ → ℕ → Txn → Pages D g → Pages D g → Type 0
   Cleans running count u a b = (disk_in b).is_honest → (n : KeyMap) → InTxn u (stored a) n → Tidy n → count < 15 → IsSweptClean running n
 
-  pub taken_writes : (running : Option ℕ) (count : ℕ) (t u : Txn) (a b : Pages D g) → IsBegun a t → HasSwept running count t u a b → count ≤ 16 → txn_writes u ≤ 207
-  taken_writes running count t u a b start swept few = let writes = swept.writes in let none = start.none in omega arith
-
-  pub still_working : (running : Option ℕ) (count : ℕ) (t u : Txn) (a b : Pages D g) → IsBegun a t → HasSwept running count t u a b → has_halted b ≡ false
-  still_working running count t u a b start swept = swept.passed.halted ∙ start.working
-
   -- ---- none were
   pub none_swept : (running : Option ℕ) (count : ℕ) (t u : Txn) (a b : Pages D g) → IsBegun a t → HasSwept running count t u a b → Cleans running count u a b → count ≡ 0 → (disk_in b).is_honest → (m : KeyMap) (d : Desk) → InPages a m → IsDeskMap m d → Sweeps running m d a b 0
   none_swept running count t u a b start swept cleans zero honest m d holds is =
@@ -81,13 +75,10 @@ module _ {D : Type 0} {g : Ghosts D} where
       let same = taken.swept.by.rest ∙ turns_none taken.swept.by.turns (taken.swept.by.count_is ∙ zero) m in
       let clean = cleans honest taken.n taken.first taken.swept.is.tidy (omega arith) in
       let frees : length (free_in (stored b)) ≡ length (free_in (stored a)) = ap (λ (P : Image). length (free_in P)) (swept.passed.quiet.same honest) in
+      let now = quiet_rows a b swept.passed.quiet honest taken.n (subst (λ (x : KeyMap). InPages a x) (sym same) holds) in
+      let by_none = subst (λ (k : ℕ). IsSweptMap running k m d taken.n) zero taken.swept in
       record {
-        holds = record {
-          n = taken.n;
-          holds = quiet_rows a b swept.passed.quiet honest taken.n (subst (λ (x : KeyMap). InPages a x) (sym same) holds);
-          swept = subst (λ (k : ℕ). IsSweptMap running k m d taken.n) zero taken.swept;
-          clean = λ less. clean;
-        };
+        holds = record { n = taken.n; holds = now; swept = by_none; clean = λ less. clean };
         exact = (λ none. subst (λ (x : KeyMap). IsSweptClean running x) same clean, λ was. refl);
         free = omega arith;
       }
@@ -146,6 +137,3 @@ module _ {D : Type 0} {g : Ghosts D} where
   not_checked t a b start quiet tree.Halted why = not_taken t a b start quiet tree.Halted why
   not_checked t a b start quiet tree.Memory why = not_taken t a b start quiet tree.Memory why
   not_checked t a b start quiet _ why = absurd why
-
-  pub told_err : (a b : Pages D g) (e told : StoreError) → told ≡ e → SweepErr a b e → SweepErr a b told
-  told_err a b e told is why = subst (λ (x : StoreError). SweepErr a b x) (sym is) why

@@ -1,10 +1,10 @@
 -- What counts tell beside what was counted.
-use Rattle.std.{specs.{BTreeMap.{BTreeMap, get as count_at}, FinMap.{entries, find, get}, List.{AllByRecursion, starts_with}, Ordering.nat_cmp}, proofs.lemmas.Bool.cases_lt}
-use Rattle.std.proofs.Common.{◌≡◌, ◌⊎◌, ◌<◌, ◌≤◌, ◌+◌, ◌^◌, ℕ, zero, suc, true, List, [], ◌∷◌, Option, Some, None, nat_eq, refl, sym, ap, subst, ◌∙◌, inl, inr, arith, drop, length}
+use Rattle.{std.{specs.{BTreeMap.{BTreeMap, get as count_at}, FinMap.entries, List.AllByRecursion, Ordering.nat_cmp}, proofs.lemmas.Bool.cases_lt}, store_rows.proofs.Counting.few}
+use Rattle.std.proofs.Common.{◌≡◌, ◌⊎◌, ◌<◌, ◌≤◌, ◌+◌, ◌^◌, ℕ, zero, suc, List, [], ◌∷◌, Option, Some, None, refl, sym, ap, ◌∙◌, inl, inr, arith, drop, length}
 use Rattle.{btree_walks.specs.Prefixes.under, page_btree.specs.page_node.claim.Entries.Entry, store_rows.specs.claim.Holders.{AreHolders, IsTallied, AreTallied, holder_count_row}}
-use Rattle.store_rows.{specs.claim.{Keys.{key_of, Fits, holder_count, in_eight}, Order.key_cmp, Rows.{KeyMap, row_in, Has}}, proofs.{Counting.few, HolderCounts.eight_says}}
-use Rattle.{store_sweep.specs.Checks.{noted, HasCount, AreCounts, HasCounts, IsEntryTold, AreTold}, btree_walks.proofs.RowsFound.{IsNextUnder, all_found, found_among}}
-use Rattle.{store_rows.proofs.OneGeography.{no_value, value_is}, store_sweep.proofs.HoldingKeys.holder_count_is}
+use Rattle.{store_rows.specs.claim.{Keys.{key_of, holder_count, in_eight}, Rows.{KeyMap, row_in, Has}}, btree_walks.proofs.RowsFound.{IsNextUnder, all_found, found_among}}
+use Rattle.{store_sweep.specs.Checks.{noted, HasCount, AreCounts, HasCounts, IsEntryTold, AreTold}, store_rows.proofs.{HolderCounts.eight_says, OneGeography.{no_value, value_is}}}
+use Rattle.store_sweep.proofs.Keys.{row_under, holder_count_is}
 
 -- ---- one set is of one size
 -- the place at which the other counting off has a plan
@@ -35,47 +35,25 @@ told_by counts m number value fits counted is has = by is.count is.fits is.row i
   where
     by : (count : ℕ) → count < 2 ^ 64 → row_in m (holder_count number) ≡ holder_count_row count → AreHolders m number count → (count : ℕ) × (count < 2 ^ 64) × (value ≡ in_eight count) × (count_at nat_cmp counts number ≡ Some count)
     by zero small row holders = absurd (no_value value (sym has ∙ row))
-    by (suc more) small row holders = (
-      more + 1,
-      omega arith,
-      value_is value (in_eight (more + 1)) (sym has ∙ row),
-      counted.told ∙ ap noted (one_size m number counted.count (suc more) counted.holders holders),
-    )
+    by (suc more) small row holders =
+        let told = counted.told ∙ ap noted (one_size m number counted.count (suc more) counted.holders holders) in
+        (more + 1, omega arith, value_is value (in_eight (more + 1)) (sym has ∙ row), told)
 
 pub not_told : (counts : BTreeMap ℕ ℕ) (m : KeyMap) (taken : List Entry) (e : Entry) → HasCounts counts m → IsNextUnder (75 ∷ []) m taken e → (IsEntryTold counts e → ⊥) → ⊥
 not_told counts m taken e has next other =
-    let (row, fits, same) = has.is.tidy.rows e.0 e.1 next.there in
-    let (number, kind) = holder_count_is row (subst (λ (k : List ℕ). starts_with nat_eq k (75 ∷ []) ≡ true) same next.under) in
-    let key : e.0 ≡ key_of (holder_count number) = same ∙ ap key_of kind in
-    let number_fits : number < 2 ^ 64 = subst Fits kind fits in
-    let there : Has m (holder_count number) e.1 = ap (get m) (sym key) ∙ next.there in
-    let (count, count_fits, value, told) = told_by counts m number e.1 number_fits (has.counts_are number number_fits) (has.is.tidy.holdings.counted_by_holders number number_fits) there in
-    other (record {
-      number = number;
-      count = count;
-      fits = number_fits;
-      key = ap (λ (k : List ℕ). drop 1 k) key;
-      long = ap (λ (k : List ℕ). length k) key;
-      value = value;
-      count_fits = count_fits;
-      told = told;
-    })
+    let at = row_under holder_count (75 ∷ []) holder_count_is m e.0 e.1 has.is.tidy.rows next.there next.under in
+    let key = ap (λ (k : List ℕ). drop 1 k) at.key_is in
+    let long = ap (λ (k : List ℕ). length k) at.key_is in
+    let by = told_by counts m at.a e.1 at.fits (has.counts_are at.a at.fits) (has.is.tidy.holdings.counted_by_holders at.a at.fits) at.there in
+    other (record { number = at.a; count = by.0; fits = at.fits; key = key; long = long; value = by.2; count_fits = by.1; told = by.3 })
 
 -- ---- rows of counts, one after the other
-abbrev pub AllTold : BTreeMap ℕ ℕ → List Entry → Type 0
-AllTold counts es = AllByRecursion (IsEntryTold counts) es
-
-abbrev Told : BTreeMap ℕ ℕ → ℕ → List ℕ → Type 0
-Told counts number value = (count : ℕ) × (value ≡ in_eight count) × (count_at nat_cmp counts number ≡ Some count)
-
-told_found : (counts : BTreeMap ℕ ℕ) (number : ℕ) (value : List ℕ) (es : List Entry) → number < 2 ^ 64 → AllTold counts es → find key_cmp (key_of (holder_count number)) es ≡ Some value → Told counts number value
-told_found counts number value es fits all there =
-    let is = all_found (IsEntryTold counts) (key_of (holder_count number)) value es all there in
-    (is.count, is.value, ap (count_at nat_cmp counts) (sym (eight_says is.number number is.fits fits (sym is.key))) ∙ is.told)
-
-pub all_told : (counts : BTreeMap ℕ ℕ) (m : KeyMap) (rows : List Entry) → under (75 ∷ []) (entries m) ≡ rows → AllTold counts rows → AreTold counts m
+pub all_told : (counts : BTreeMap ℕ ℕ) (m : KeyMap) (rows : List Entry) → under (75 ∷ []) (entries m) ≡ rows
+    → AllByRecursion (IsEntryTold counts) rows → AreTold counts m
 all_told counts m rows whole all number value fits has =
-    told_found counts number value rows fits all (sym (found_among m (75 ∷ []) rows (key_of (holder_count number)) refl whole) ∙ has)
+    let key = key_of (holder_count number) in
+    let is = all_found (IsEntryTold counts) key value rows all (sym (found_among m (75 ∷ []) rows key refl whole) ∙ has) in
+    (is.count, is.value, ap (count_at nat_cmp counts) (sym (eight_says is.number number is.fits fits (sym is.key))) ∙ is.told)
 
 -- ---- so chunks are counted
 pub counted_by_holders_by : (counts : BTreeMap ℕ ℕ) (m : KeyMap) → AreCounts counts m → AreTold counts m → AreTallied m

@@ -1,7 +1,7 @@
 -- A talk of clerks is one of the desks that they show.
 use Rattle.std.{specs.Prelude.{◌⊎◌, ℕ, ◌+◌, Bool, false, List, [], ◌++◌, Option, Result, Ok, Err}, proofs.Common.{refl, sym, ap, subst, inl, inr, ⊎_elim, add-zero}}
-use Rattle.{std.proofs.lemmas.List.append-nil, desk_model.specs.{claim.{Desk.Desk, Outcome.{CommandMay, RefusalMay, IsStep}, Sample.sample_desk}, declared.command.Command.Command}}
-use Rattle.{desk_model.specs.declared.reply.{Refusal.{Refusal, TheVariants.{BadCompanion, Full, Memory, Halted}}, Reply.Reply}, desk_store.specs.claim.Clerks.desk_of}
+use Rattle.{std.proofs.lemmas.List.append-nil, desk_model.specs.{claim.{Desk.Desk, Outcome.{CommandMay, IsStep}, Sample.sample_desk}, declared.command.Command.Command}}
+use Rattle.{desk_model.specs.declared.reply.{Refusal.TheVariants.{BadCompanion, Full, Memory, Halted}, Reply.Reply}, desk_store.specs.claim.Clerks.desk_of}
 use Rattle.{desk_store.specs.declared.clerk.Clerk.Clerk, http_desk.specs.{claim.{Serving.{ServesTo, IsPrefixTalk, IsCutInHead}, Talk.Talk}, declared.serve.Served.Served}}
 use Rattle.{http_desk.specs.declared.serve.StreamFault.StreamFault, sector_device.specs.declared.SectorDevice.Ghosts, talk_command.proofs.Seen.talk_seen}
 use Rattle.talk_command.specs.Desks.{desk_commands, desk_asks, DeskTalk, IsTalkToHead, DeskServesTo, ServesDesk}
@@ -12,15 +12,12 @@ use Rattle.http_desk.specs.declared.serve.StreamFault.TheVariants as fault
 step_seen : (must : Type 0) (d : Desk) (c : Command) (r : Reply) (e : Desk) → IsStep must d c r e → IsStep ⊥ d c r e
 step_seen must d c r e is = record { reply = is.reply; desk = is.desk; room = λ accepted none. none }
 
-refusal_seen : (must may failed : Type 0) (d : Desk) (c : Command) (r : Refusal) (e : Desk) → RefusalMay must may failed d c r e → desk_commands d c (reply.Refused r) e
-refusal_seen must may failed d c Memory e told = inl (λ none. none, told.1)
-refusal_seen must may failed d c Halted e told = inr (refl, told.1)
-refusal_seen must may failed d c Full e told = inl (λ none. none, record { accepted = told.1.accepted; no_room = tt; desk = told.1.desk })
-refusal_seen must may failed d c BadCompanion e told = absurd told
-refusal_seen must may failed d c refusal e told = inl (λ none. none, step_seen must d c (reply.Refused refusal) e told.1)
-
 outcome_seen : (must may failed : Type 0) (d : Desk) (c : Command) (r : Reply) (e : Desk) → CommandMay must may failed d c r e → desk_commands d c r e
-outcome_seen must may failed d c (reply.Refused refusal) e told = refusal_seen must may failed d c refusal e told
+outcome_seen must may failed d c (reply.Refused Memory) e told = inl (λ none. none, told.1)
+outcome_seen must may failed d c (reply.Refused Halted) e told = inr (refl, told.1)
+outcome_seen must may failed d c (reply.Refused Full) e told = inl (λ none. none, record { accepted = told.1.accepted; no_room = tt; desk = told.1.desk })
+outcome_seen must may failed d c (reply.Refused BadCompanion) e told = absurd told
+outcome_seen must may failed d c (reply.Refused refusal) e told = inl (λ none. none, step_seen must d c (reply.Refused refusal) e told.1)
 outcome_seen must may failed d c (reply.Created name revisions) e told = inl (λ none. none, step_seen must d c (reply.Created name revisions) e told.1)
 outcome_seen must may failed d c (reply.Retired name) e told = inl (λ none. none, step_seen must d c (reply.Retired name) e told.1)
 outcome_seen must may failed d c _ e told = absurd told
@@ -51,10 +48,7 @@ module _ {D : Type 0} {g : Ghosts D} where
         read = cut.read;
         cut = cut.cut;
         count = cut.count;
-        talk = desks_talk x cut.taken output cut.count false y
-            (subst (λ (prefix : List ℕ). Talk (clerk_commands g) (clerk_asks g) x prefix output cut.count false y) (append-nil cut.taken)
-            (subst (λ (text : List ℕ). Talk (clerk_commands g) (clerk_asks g) x (cut.taken ++ []) text cut.count false y) (append-nil output)
-            (subst (λ (n : ℕ). Talk (clerk_commands g) (clerk_asks g) x (cut.taken ++ []) (output ++ []) n false y) (add-zero cut.count) whole)));
+        talk = desks_talk x cut.taken output cut.count false y (rw (append-nil cut.taken, append-nil output, add-zero cut.count) at whole);
       }
 
   prefix_seen : (x : Clerk D g) (input answers : List ℕ) (y : Clerk D g) → IsPrefixTalk (clerk_commands g) (clerk_asks g) x input answers y → IsPrefixTalk desk_commands desk_asks (desk_of x) input answers (desk_of y)

@@ -1,5 +1,5 @@
 -- The commands of a talk are a run.
-use Rattle.{std.proofs.Common.{◌≡◌, ℕ, ◌+◌, Bool, true, false, List, [], ◌++◌, Option, Result, Ok, Err, inl, inr, subst}, desk_runs.specs.claim.Runs.{Call, Run, SurvivesEachRun}}
+use Rattle.{std.proofs.Common.{ℕ, ◌+◌, Bool, true, false, List, [], ◌++◌, Option, Result, Ok, Err, inl, inr, subst}, desk_runs.specs.claim.Runs.{Call, Run, SurvivesEachRun}}
 use Rattle.{desk_store.specs.declared.clerk.Clerk.Clerk, http_desk.specs.{claim.{Serving.ServesTo, Talk.{Talk, MayAnswer}}, declared.serve.Served.Served}}
 use Rattle.http_desk.specs.{declared.serve.StreamFault.StreamFault, http_routes.{claim.Orders.order_of, declared.order.Order.Order}, http_wire.claim.Prefix.{closes_after, is_head}}
 use Rattle.sector_device.specs.declared.SectorDevice.{Ghosts}
@@ -8,15 +8,12 @@ use Rattle.http_desk.specs.http_routes.declared.order.Order.TheVariants as order
 use Rattle.http_desk.specs.declared.serve.StreamFault.TheVariants as fault
 
 module _ {D : Type 0} {g : Ghosts D} where
-  same_run : (x y z : Clerk D g) (calls : List Call) → y ≡ x → Run y calls z → Run x calls z
-  same_run x y z calls same run = subst (λ w. Run w calls z) same run
-
   -- an answer, and a run after it
   answered : (x : Clerk D g) (o : Order) (closing head_only : Bool) (text : List ℕ) (shut : Bool) (y z : Clerk D g) (may : MayAnswer DoesAtCounter AsksAtCounter x o closing head_only text shut y) (calls : List Call)
       → Run y calls z → Run x (calls_with x o closing head_only text shut y may calls) z
   answered x (order.Command c) closing head_only text shut y z may calls run = Run.went x c may.0 y calls z may.1 run
-  answered x (order.Query q) closing head_only text shut y z may calls run = same_run x y z calls may.1.1 run
-  answered x (order.Refused e) closing head_only text shut y z may calls run = same_run x y z calls may.2 run
+  answered x (order.Query q) closing head_only text shut y z may calls run = subst (λ (w : Clerk D g). Run w calls z) may.1.1 run
+  answered x (order.Refused e) closing head_only text shut y z may calls run = subst (λ (w : Clerk D g). Run w calls z) may.2 run
 
   talked : (x : Clerk D g) (input output : List ℕ) (n : ℕ) (shut : Bool) (y : Clerk D g) (talk : Talk DoesAtCounter AsksAtCounter x input output n shut y) → Run x (calls_in x input output n shut y talk) y
   talked x _ _ _ _ _ (Talk.closed _ input h target body rest text y has may) = answered x (order_of h.method target body) (closes_after h) (is_head h.method) text true y y may [] (Run.over y)
@@ -28,7 +25,7 @@ module _ {D : Type 0} {g : Ghosts D} where
       → Run x (calls_served x result left input output y serves) y
   served x (Ok s) left input output y serves = talked x input output s.requests serves.0 y serves.1
   served x (Err fault.Write) left input output y serves = talked x serves.over_prefix.prefix serves.answers serves.over_prefix.count serves.over_prefix.shut y serves.over_prefix.talk
-  served x (Err fault.Memory) left input output y serves = same_run x y y [] serves.2 (Run.over y)
+  served x (Err fault.Memory) left input output y serves = subst (λ (w : Clerk D g). Run w [] y) serves.2 (Run.over y)
   served x (Err _) left input output y (inl talk) = talked x input output talk.0 false y talk.1
   served x (Err _) left input output y (inr cut) = talked x (cut.taken ++ []) (output ++ []) (cut.count + 0) false y (cut.on [] [] 0 false y (Talk.over y))
 

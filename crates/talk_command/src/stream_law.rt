@@ -7,6 +7,7 @@ use sector_device::SectorDevice;
 
 /// Whatever is served at a clerk from now on, and however it ends, the acknowledged commands of it outlive each stop, as
 /// `runs_survive` says.
+#[tactic(auto, using(crate::proofs::Streams::stream_survives))]
 pub fn streams_survive<D: SectorDevice>(clerk: &Clerk<D>)
     ensures { SurvivesEachStream clerk.now }
 {

@@ -1,4 +1,4 @@
-use Rattle.audit_clauses.proofs.Climb.{IsClimb}
+use Rattle.audit_clauses.proofs.Rooting.{IsClimb}
 use Rattle.audit_clauses.proofs.forest.root_of.Given as goal
 
 abbrev pub invariant-loop-at : goal.invariant-loop-at

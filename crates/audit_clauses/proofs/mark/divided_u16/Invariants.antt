@@ -1,4 +1,4 @@
-use Rattle.audit_clauses.{specs.Marks.IsDividedAt, proofs.Listing.AreListed}
+use Rattle.audit_clauses.{specs.Marks.IsDividedAt, proofs.Meaning.AreListed}
 use Rattle.audit_clauses.proofs.mark.divided_u16.Given as goal
 
 abbrev pub invariant-loop-k : goal.invariant-loop-k

@@ -1,4 +1,4 @@
-use Rattle.audit_clauses.{specs.Marks.IsUnnestedAt, proofs.Listing.AreListed}
+use Rattle.audit_clauses.{specs.Marks.IsUnnestedAt, proofs.Meaning.AreListed}
 use Rattle.audit_clauses.proofs.nesting.unnested.Given as goal
 
 abbrev pub invariant-loop-d : goal.invariant-loop-d

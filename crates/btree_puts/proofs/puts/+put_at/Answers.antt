@@ -1,6 +1,6 @@
 use Rattle.{std.{specs.{FinMap.{find, put}, Prelude.{Ok, Err, is_some}}, proofs.Common.{◌≡◌, ◌-◌, ℕ, List, None, arith, rules}}, btree_puts.specs.Outcomes.IsRaisedBy}
 use Rattle.{btree_puts.specs.Putting.{IsWritten, CanPutSome}, page_btree.specs.Errors.IsNoWant, page_node.specs.claim.Places.key_cmp, page_store.proofs.Stops.passed_more}
-use Rattle.{page_store.specs.claim.Transactions.{stored, txn_pages, txn_free, over, free_over}, btree_puts.proofs.Counting.{few_none, few_some, few_taken, none_some}}
+use Rattle.{page_store.specs.claim.Transactions.{stored, txn_pages, txn_free, over, free_over}, btree_puts.proofs.Counting.{few_none, few_some, few_taken}}
 use Rattle.btree_puts.proofs.{Failing.{step_failed, below_failed, link_failed}, FromNode.{can_some, same_length, put_none, has_node, put_some}}
 use Rattle.btree_puts.proofs.Leaves.{leaf_rows, leaf_node, leaf_rises, leaf_off, leaf_raised}
 use Rattle.page_btree.proofs.Outcomes.{map_ok, match_of, reads_ok, reads_as, refused_as, refused_after}
@@ -92,9 +92,7 @@ returns-in_err-cut-in-Some-clause-reading g t c =
 pub returns-in_err-cut-in-Some-clause-fixed : goal.returns-in_err-cut-in-Some-clause-fixed
 returns-in_err-cut-in-Some-clause-fixed g t c = λ honest low high tree held can there same.
     let middle = c.link.ensures.reading.quiet.honest honest in
-    absurd (none_some c.in_ok-below.below.right c.in-Some.right
-    (same_length c.args.txn.now c.args.pages.now c.step_down.new.pages c.args.level c.args.page c.in_ok-child.child c.args.room.now.page c.step_down.new.bytes c.args.key.now c.args.value.now c.if-level-eq0.false c.in_ok-child.ensures.few c.in_ok-child.ensures.told c.step_down.ensures.reading.quiet c.in_ok-child.ensures.reads (c.put_at.ensures.reading.quiet.honest middle) low high tree can c.put_at.new.txn c.put_at.new.pages held (Ok c.in_ok-below.below) c.in_ok-below.ensures.fixed middle there same).0
-    c.in-Some.is)
+    absurd (cc ((same_length c.args.txn.now c.args.pages.now c.step_down.new.pages c.args.level c.args.page c.in_ok-child.child c.args.room.now.page c.step_down.new.bytes c.args.key.now c.args.value.now c.if-level-eq0.false c.in_ok-child.ensures.few c.in_ok-child.ensures.told c.step_down.ensures.reading.quiet c.in_ok-child.ensures.reads (c.put_at.ensures.reading.quiet.honest middle) low high tree can c.put_at.new.txn c.put_at.new.pages held (Ok c.in_ok-below.below) c.in_ok-below.ensures.fixed middle there same).0, c.in-Some.is))
 
 -- ---- a link more
 pub returns-in_ok-cut-in-Some-clause-reading : goal.returns-in_ok-cut-in-Some-clause-reading
@@ -109,9 +107,7 @@ returns-in_ok-cut-in-Some-clause-put g t c = λ honest low high tree can.
 pub returns-in_ok-cut-in-Some-clause-fixed : goal.returns-in_ok-cut-in-Some-clause-fixed
 returns-in_ok-cut-in-Some-clause-fixed g t c = λ honest low high tree held can there same.
     let middle = c.link.ensures.reading.quiet.honest honest in
-    absurd (none_some c.in_ok-below.below.right c.in-Some.right
-    (same_length c.args.txn.now c.args.pages.now c.step_down.new.pages c.args.level c.args.page c.in_ok-child.child c.args.room.now.page c.step_down.new.bytes c.args.key.now c.args.value.now c.if-level-eq0.false c.in_ok-child.ensures.few c.in_ok-child.ensures.told c.step_down.ensures.reading.quiet c.in_ok-child.ensures.reads (c.put_at.ensures.reading.quiet.honest middle) low high tree can c.put_at.new.txn c.put_at.new.pages held (Ok c.in_ok-below.below) c.in_ok-below.ensures.fixed middle there same).0
-    c.in-Some.is)
+    absurd (cc ((same_length c.args.txn.now c.args.pages.now c.step_down.new.pages c.args.level c.args.page c.in_ok-child.child c.args.room.now.page c.step_down.new.bytes c.args.key.now c.args.value.now c.if-level-eq0.false c.in_ok-child.ensures.few c.in_ok-child.ensures.told c.step_down.ensures.reading.quiet c.in_ok-child.ensures.reads (c.put_at.ensures.reading.quiet.honest middle) low high tree can c.put_at.new.txn c.put_at.new.pages held (Ok c.in_ok-below.below) c.in_ok-below.ensures.fixed middle there same).0, c.in-Some.is))
 
 pub returns-in_ok-cut-in-Some-clause-few : goal.returns-in_ok-cut-in-Some-clause-few
 returns-in_ok-cut-in-Some-clause-few g t c = let deep = c.if-level-eq0.false in few_some c.args.level c.args.txn.now c.put_at.new.txn c.link.new.txn c.in-Some.right c.in_ok-below.below.right c.in_ok-cut-in-Some.cut (omega arith) c.in-Some.is c.in_ok-below.ensures.few c.in_ok-cut-in-Some.ensures.few

@@ -1,5 +1,5 @@
 use Rattle.{std.{specs.Prelude.{Ok, Err, is_some}, proofs.Common.{◌≡◌, sym, ap, ◌∙◌, arith, rules}}, btree_puts.specs.{Outcomes.TakesNoPage, Putting.CanPutSome}}
-use Rattle.{page_btree.specs.Errors.IsNoWant, page_store.specs.claim.Transactions.{txn_pages, txn_root, over, free_over}, btree_puts.proofs.Counting.{none_some, few_some_taken}}
+use Rattle.{page_btree.specs.Errors.IsNoWant, page_store.specs.claim.Transactions.{txn_pages, txn_root, over, free_over}, btree_puts.proofs.Counting.few_some_taken}
 use Rattle.btree_puts.proofs.{Failing.{first_failed, root_read_failed, place_failed, grow_failed}, FromRoot.{can_some, same_length, put_whole, free_then, put_grown}}
 use Rattle.{page_btree.proofs.{Outcomes.{match_of, reads_ok, refused_as, refused_after}, Tops.no_root}, page_store.proofs.Stops.passed_more}
 use Rattle.btree_puts.proofs.puts.put_cutting.Goals as goal
@@ -83,8 +83,7 @@ pub returns-in_err-grow-in-Some-clause-takes : goal.returns-in_err-grow-in-Some-
 returns-in_err-grow-in-Some-clause-takes g c =
     let fixed : TakesNoPage c.args.txn.now c.grow.new.txn c.args.pages.now c.grow.new.pages (c.args.key.now, c.args.value.now) (c.from_residual-in_err-grow-in-Some.result) = λ honest m held holds there same.
     let middle = c.grow.ensures.reading.quiet.honest honest in
-    absurd (none_some c.in_ok-placed.placed.right c.in-Some.right
-    (same_length c.args.txn.now c.args.pages.now c.read.new.pages c.root-root.result c.level_of-level.result c.read.new.page c.args.key.now c.root-root.ensures.root c.if-root-eq0.false c.read.ensures.reading.quiet c.in_ok-read.ensures.reads c.level_of-level.ensures.level (c.put_at.ensures.reading.quiet.honest middle) m holds c.put_at.new.txn c.put_at.new.pages c.args.value.now held (Ok c.in_ok-placed.placed) c.in_ok-placed.ensures.fixed middle there same).0 c.in-Some.is) in
+    absurd (cc ((same_length c.args.txn.now c.args.pages.now c.read.new.pages c.root-root.result c.level_of-level.result c.read.new.page c.args.key.now c.root-root.ensures.root c.if-root-eq0.false c.read.ensures.reading.quiet c.in_ok-read.ensures.reads c.level_of-level.ensures.level (c.put_at.ensures.reading.quiet.honest middle) m holds c.put_at.new.txn c.put_at.new.pages c.args.value.now held (Ok c.in_ok-placed.placed) c.in_ok-placed.ensures.fixed middle there same).0, c.in-Some.is)) in
     search (rules, fixed)
 
 pub returns-in_ok-grow-in-Some-clause-reading : goal.returns-in_ok-grow-in-Some-clause-reading
@@ -94,8 +93,7 @@ pub returns-in_ok-grow-in-Some-clause-takes : goal.returns-in_ok-grow-in-Some-cl
 returns-in_ok-grow-in-Some-clause-takes g c =
     let fixed : TakesNoPage c.args.txn.now c.grow.new.txn c.args.pages.now c.grow.new.pages (c.args.key.now, c.args.value.now) (Ok c.in_ok-placed.placed.had) = λ honest m held holds there same.
     let middle = c.grow.ensures.reading.quiet.honest honest in
-    absurd (none_some c.in_ok-placed.placed.right c.in-Some.right
-    (same_length c.args.txn.now c.args.pages.now c.read.new.pages c.root-root.result c.level_of-level.result c.read.new.page c.args.key.now c.root-root.ensures.root c.if-root-eq0.false c.read.ensures.reading.quiet c.in_ok-read.ensures.reads c.level_of-level.ensures.level (c.put_at.ensures.reading.quiet.honest middle) m holds c.put_at.new.txn c.put_at.new.pages c.args.value.now held (Ok c.in_ok-placed.placed) c.in_ok-placed.ensures.fixed middle there same).0 c.in-Some.is) in
+    absurd (cc ((same_length c.args.txn.now c.args.pages.now c.read.new.pages c.root-root.result c.level_of-level.result c.read.new.page c.args.key.now c.root-root.ensures.root c.if-root-eq0.false c.read.ensures.reading.quiet c.in_ok-read.ensures.reads c.level_of-level.ensures.level (c.put_at.ensures.reading.quiet.honest middle) m holds c.put_at.new.txn c.put_at.new.pages c.args.value.now held (Ok c.in_ok-placed.placed) c.in_ok-placed.ensures.fixed middle there same).0, c.in-Some.is)) in
     search (rules, fixed)
 
 pub returns-in_ok-grow-in-Some-clause-put : goal.returns-in_ok-grow-in-Some-clause-put

@@ -1,7 +1,7 @@
 use Rattle.{std.proofs.Common.{◌≡◌, ◌-◌, sym, subst, arith, ℕ}, btree_walks.specs.Removing.{CanRemove, Removes, RowRemoves, IsDone, StaysAt}, page_btree.specs.Getting.IsLevel}
 use Rattle.{page_btree.specs.claim.Tree.rows, page_node.specs.claim.Node.IsNode, page_store.specs.claim.Transactions.{stored, txn_pages, over, free_over}}
-use Rattle.{sector_device.specs.claim.Disk.Image, btree_walks.proofs.FromNode.{can_below, absent, kept, has_node, emptied}, page_btree.proofs.Descent.{goes_on, some_child}}
-use Rattle.btree_walks.proofs.{Refusals.{level_fails, below_more, link_fails, row_fails}, Steps.{row_removes, leaf_there, as_get, has_rows, both_ok, done_stays}}
+use Rattle.{sector_device.specs.claim.Disk.Image, btree_walks.proofs.FromNode.{can_below, absent, kept, no_link, emptied}, page_btree.proofs.Descent.{goes_on, some_child}}
+use Rattle.btree_walks.proofs.{Refusals.{level_fails, below_more, link_fails, row_fails}, Steps.{row_removes, leaf_there, as_get, no_rows, both_ok, done_stays}}
 use Rattle.{page_btree.proofs.Outcomes.{map_ok, map_err, on_ok, reads_ok, refused_by, refused_as, refused_after}, page_store.proofs.Stops.{passed_more, quiet_none, passed_none}}
 use Rattle.btree_walks.proofs.removes.+remove_below.Goals as goal
 
@@ -19,7 +19,7 @@ pub returns-then-level-eq0-clause-reading : goal.returns-then-level-eq0-clause-r
 returns-then-level-eq0-clause-reading g t c =
     let can = λ (S : Image). (c.args.page.now ≡ over c.args.txn.now S c.args.p) × CanRemove (txn_pages c.args.txn.now) (over c.args.txn.now S) (free_over c.args.txn.now S) c.args.level c.args.key.now c.args.p in
     let here = passed_none c.args.pages.now in
-    let err = map_err c.remove_row.result _ _ (row_fails can c.args.txn.now c.args.p c.args.page.now c.args.pages.now c.args.pages.now (λ honest is. has_rows (stored c.args.pages.now) c.args.txn.now c.args.level c.args.key.now c.args.p c.args.page.now is.1 is.0 c.if-level-eq0.true)) c.remove_row.ensures.err in
+    let err = map_err c.remove_row.result _ _ (row_fails can c.args.txn.now c.args.p c.args.page.now c.args.pages.now c.args.pages.now (λ honest is. no_rows (stored c.args.pages.now) c.args.txn.now c.args.level c.args.key.now c.args.p c.args.page.now is.1 is.0 c.if-level-eq0.true)) c.remove_row.ensures.err in
     record { quiet = here.quiet; passed = on_ok c.remove_row.result _ here; err = err }
 
 pub returns-in_err-child-clause-reading : goal.returns-in_err-child-clause-reading
@@ -69,7 +69,7 @@ returns-in-Emptied-clause-reading g t c =
       quiet = passed.quiet;
       passed = on_ok c.remove_link.result _ passed;
       err = map_err c.remove_link.result _ _ (link_fails can c.remove_below.new.txn c.args.p c.args.page.now c.args.pages.now c.remove_below.new.pages (λ honest both.
-          has_node c.args.txn.now c.remove_below.new.txn c.args.pages.now c.read_level.new.pages c.remove_below.new.pages c.args.level c.args.p c.in_ok-child.child c.args.page.now c.read_level.new.page c.args.key.now c.if-level-eq0.false c.read_level.ensures.reaches.few c.in_ok-child.ensures.child c.in_ok-read_level.ensures.reaches.reading.quiet c.remove_below.ensures.reading.quiet c.in_ok-read_level.ensures.reads honest both.0 both.1
+          no_link c.args.txn.now c.remove_below.new.txn c.args.pages.now c.read_level.new.pages c.remove_below.new.pages c.args.level c.args.p c.in_ok-child.child c.args.page.now c.read_level.new.page c.args.key.now c.if-level-eq0.false c.read_level.ensures.reaches.few c.in_ok-child.ensures.child c.in_ok-read_level.ensures.reaches.reading.quiet c.remove_below.ensures.reading.quiet c.in_ok-read_level.ensures.reads honest both.0 both.1
           c.in_ok-remove_below.field-0 c.in_ok-remove_below.ensures.removed c.in-Emptied.is c.in_ok-remove_below.ensures.rooted.pages)) c.remove_link.ensures.err;
     }
 

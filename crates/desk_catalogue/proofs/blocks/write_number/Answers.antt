@@ -1,5 +1,14 @@
-use Rattle.{std.proofs.{Common.{arith, rules}, lemmas.Fmt.length-decimal-le}, desk_model.specs.claim.Padded.padded_decimal, desk_catalogue.proofs.Lines.{length-padded, width_of}}
+use Rattle.std.{specs.Fmt.decimal, proofs.{Common.{rules, ◌≡◌, ℕ, ◌+◌, ◌-◌, ◌≤◌, List, ◌++◌, length, drop, ap, arith, length-append, length-drop}, lemmas.Fmt.length-decimal-le}}
+use Rattle.{std.proofs.lemmas.List.length-replicate, desk_model.specs.claim.Padded.padded_decimal}
 use Rattle.desk_catalogue.proofs.blocks.write_number.Goals as goal
+
+length-padded : (width n : ℕ) → length (padded_decimal width n) ≡ (width - length (decimal n)) + length (decimal n)
+length-padded width n = search (length-append, length-replicate)
+
+-- where so many bytes stand before the rest of a row
+width_of : (row old text : List ℕ) (start end : ℕ) → start ≤ end → end ≤ length old → length row ≡ length old → drop start row ≡ text ++ drop end old → end ≡ start + length text
+width_of row old text start end le within same written =
+    omega (arith, ap length written, length-drop start row, length-drop end old, length-append text (drop end old))
 
 pub returns : goal.returns
 returns c =

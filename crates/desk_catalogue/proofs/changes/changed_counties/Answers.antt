@@ -1,14 +1,8 @@
-use Rattle.{std.{specs.Option.option_copied, proofs.{Common.rules, lemmas.Result.IfOk-from_err}}, desk_catalogue.proofs.Cutting.{changes_on, within_last}}
+use Rattle.{std.{specs.Option.option_copied, proofs.Common.rules}, desk_catalogue.proofs.Cutting.{changes_on, within_last}}
 use Rattle.desk_catalogue.proofs.changes.changed_counties.Goals as goal
-
-pub returns-in_err-changes : goal.returns-in_err-changes
-returns-in_err-changes c = IfOk-from_err c.from_residual.result _ c.from_residual.ensures.0
 
 pub is_changed-requires : goal.is_changed-requires
 is_changed-requires c = search (rules, within_last)
-
-pub returns-in_err-push : goal.returns-in_err-push
-returns-in_err-push c = IfOk-from_err c.from_residual-in_err-push.result _ c.from_residual-in_err-push.ensures.0
 
 pub loop-range-preserved : goal.loop-range-preserved
 loop-range-preserved c = record {

@@ -1,4 +1,4 @@
-use Rattle.std.proofs.{Common.◌≡◌, lemmas.Result.IfOk-from_err}
+use Rattle.std.proofs.Common.{◌≡◌}
 use Rattle.desk_catalogue.proofs.made.report_again.Goals as goal
 
 pub returns-in-Some-text_for-clause-text : goal.returns-in-Some-text_for-clause-text
@@ -9,9 +9,6 @@ returns-in-Some-text_for-clause-last c = rw c.in-Some.is at c.requires.last
 
 pub report-requires : goal.report-requires
 report-requires c = rw c.deref.ensures c.requires.auditable
-
-pub returns-in_err-text-clause-text : goal.returns-in_err-text-clause-text
-returns-in_err-text-clause-text c = IfOk-from_err c.from_residual.result _ c.from_residual.ensures.0
 
 pub new-requires : goal.new-requires
 new-requires c = rw c.deref.ensures at c.in_ok-text.ensures

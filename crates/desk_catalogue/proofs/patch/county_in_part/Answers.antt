@@ -1,16 +1,16 @@
-use Rattle.std.proofs.Common.{◌≤◌, ◌<◌, ◌+◌, ◌⊎◌, length, arith, rules}
-use Rattle.desk_catalogue.proofs.Neighbours.{none_there, county_there, agree_alike, agree_apart, part_span, span_starts, span_ends}
+use Rattle.{std.proofs.Common.{◌≤◌, ◌<◌, ◌+◌, ◌⊎◌, length, arith, rules}, desk_catalogue.proofs.Overlays.none_outside}
+use Rattle.desk_catalogue.proofs.Neighbours.{none_there, county_there, agree_alike, agree_apart, span_starts, span_ends}
 use Rattle.desk_catalogue.proofs.patch.county_in_part.Goals as goal
 use Rattle.desk_catalogue.proofs.patch.county_in_part.Goals.{then-first-eq0, else-first-eq0, then-end-blocks, else-end-blocks, then-is_listed+else-county, else-is_listed}
 
 pub loop-place-init : goal.loop-place-init
-loop-place-init c = search (rules, then-first-eq0, else-first-eq0, span_starts, part_span)
+loop-place-init c = search (rules, then-first-eq0, else-first-eq0, span_starts, none_outside)
 
 pub returns : goal.returns
 returns c = λ values is.
     let after : (length c.blocks-blocks.result.now ≤ c.loop-place.place) ⊎ ((c.part-first.result.0 + length c.part-first.result.1.now) < c.loop-place.place)
     = search (rules, then-end-blocks, else-end-blocks) in
-    let agree = span_ends c.blocks-blocks.result.now c.args.read.now (c.part-first.result.0, c.part-first.result.0 + length c.part-first.result.1.now) c.loop-place.place (part_span _ _ _ c.part-first.ensures) c.loop-place.invariant.0 after in
+    let agree = span_ends c.blocks-blocks.result.now c.args.read.now (c.part-first.result.0, c.part-first.result.0 + length c.part-first.result.1.now) c.loop-place.place (none_outside _ _ _ c.part-first.ensures) c.loop-place.invariant.0 after in
     search (rules, none_there)
 
 pub returns-then-county : goal.returns-then-county

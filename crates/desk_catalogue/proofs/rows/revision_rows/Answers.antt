@@ -1,20 +1,13 @@
-use Rattle.{std.proofs.Common.{◌≡◌, ◌<◌, ◌+◌, Bool, List, false, length, drop, ap, sym, subst, ◌∙◌, arith, rules}, desk_catalogue.specs.Cutting.changes_in}
-use Rattle.{desk_model.specs.{claim.Room.rows_for, declared.ranges.CountyRange.CountyRange}, desk_catalogue.proofs.Counted.{nothing_left, rows_at, rows_told}}
-use Rattle.{desk_catalogue.proofs.Cutting.changed_rows, desk_model.proofs.Runs.lists_cut}
+use Rattle.{std.proofs.Common.{◌≡◌, ◌+◌, Bool, List, false, length, drop, ap, ◌∙◌, arith, rules}, desk_catalogue.specs.Cutting.changes_in, desk_model.specs.claim.Room.rows_for}
+use Rattle.{desk_model.specs.declared.ranges.CountyRange.CountyRange, desk_catalogue.proofs.{Counted.{nothing_left, rows_at, rows_told}, Cutting.changed_rows}}
+use Rattle.desk_model.proofs.Runs.{lists_cut}
 use Rattle.desk_catalogue.proofs.rows.revision_rows.Goals as goal
 
 pub loop-place-preserved : goal.loop-place-preserved
 loop-place-preserved c =
-    let changes = c.args.changes.now in
-    let ranges = c.args.ranges.now in
-    let i = c.loop-place.place in
-    let none : CountyRange = record { first = 0; count = 0 } in
-    let told : i < length changes = subst (λ k. i < k) (sym c.requires.each) c.loop-place-test.true in
-    let here = rows_at changes ranges i false none told c.loop-place-test.true in
-    let rows = c.rows_of_range-rows.ensures.rows in
-    let most = c.rows_of_range-rows.ensures.few in
-    let was = c.loop-place.invariant.rows in
-    let few = c.loop-place.invariant.few in
+    let here = rows_at c.args.changes.now c.args.ranges.now c.loop-place.place false (record { first = 0; count = 0 }) (omega arith) c.loop-place-test.true in
+    let rows = c.rows_of_range-rows.ensures in
+    let was = c.loop-place.invariant in
     search rules
 
 pub returns : goal.returns

@@ -1,9 +1,6 @@
 use Rattle.{std.proofs.Common.subst, geo_tables.specs.Elements.IsGeographyRead, desk_check.proofs.Told.{copies, desk_shown, new_desk_shown}}
-use Rattle.{desk_opening.proofs.PlanNumbers.none_counted, desk_pages.proofs.Looking.{both, fails, fails_then, finds, gathered}}
+use Rattle.{desk_opening.proofs.PlanNumbers.none_counted, desk_pages.proofs.Looking.{both, fails_then, finds, gathered}}
 use Rattle.desk_check.proofs.desks.check_shown.Goals as goal
-
-pub returns-in_err-the_geography : goal.returns-in_err-the_geography
-returns-in_err-the_geography g c = fails c.from_residual.result c.in_err-the_geography.ensures c.from_residual.ensures.1 (λ m is. absurd is)
 
 pub returns-in_err-read_none : goal.returns-in_err-read_none
 returns-in_err-read_none g c = fails_then c.in_ok-the_geography.ensures c.from_residual-in_err-read_none.result (gathered _ c.in_err-read_none.ensures.looks) c.from_residual-in_err-read_none.ensures.1 (λ m the_geography is. absurd is)

@@ -1,17 +1,10 @@
-use Rattle.{std.proofs.Common.{sym, ◌∙◌}, desk_check.{specs.Checking.IsSizedRow, proofs.Told.at_ok}, desk_opening.proofs.WholeDesks.with_also, page_store.proofs.Stops.quiet_none}
-use Rattle.desk_pages.proofs.Looking.{not_looked, tells}
+use Rattle.{std.proofs.Common.{sym, ◌∙◌}, desk_check.specs.Checking.IsSizedRow, desk_opening.proofs.WholeDesks.with_also, desk_pages.proofs.Looking.tells}
 use Rattle.desk_check.proofs.plans.check_named.Goals as goal
-
-pub returns-in_default : goal.returns-in_default
-returns-in_default g c = not_looked (quiet_none c.args.pages.now) (λ honest m holds is. is)
-
-pub returns-in_default-read_plan : goal.returns-in_default-read_plan
-returns-in_default-read_plan g c = not_looked (quiet_none c.args.pages.now) (λ honest m holds is. is)
 
 pub returns : goal.returns
 returns g c =
     let plan = c.in-Some-read_plan.plan in
-    tells c.check_revisions.result (with_also (λ _. IsSizedRow plan) c.check_revisions.result c.check_revisions.ensures.seen (at_ok (IsSizedRow plan) c.check_revisions.result c.check_revisions.ensures.sized)) (λ m _ is. record {
+    tells c.check_revisions.result (with_also (λ _. IsSizedRow plan) c.check_revisions.result c.check_revisions.ensures.seen c.check_revisions.ensures.sized) (λ m _ is. record {
       name = c.in-Some._name;
       key = sym c.as_slice.ensures.bytes ∙ c.in-Some.ensures;
       plan = plan;

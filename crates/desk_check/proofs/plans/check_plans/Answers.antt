@@ -56,6 +56,3 @@ loop-taken-preserved g c =
           let seen = now.seen.there honest m holds in
           one_more_told c.lists_are_cut.ensures cut.0 c.args.ranges.now cut.1 c.loop-taken.taken c.loop-taken.counts c.check_row.new.counts m h.rows row h.after h.whole h.known now.noted seen.0 seen.1);
     }
-
-pub returns : goal.returns
-returns g c = not_looked c.loop-taken.invariant.walked.passed.quiet (λ honest m holds is. is)

@@ -1,15 +1,9 @@
 use Rattle.{std.proofs.Common.{◌≡◌, ◌++◌, List, ℕ, length, ap, sym, subst, ◌∙◌, arith}, desk_check.specs.Checking.AreChunksSeen, page_store.proofs.Stops.quiet_none}
-use Rattle.{desk_opening.specs.plan_rows.RevisionReading.HasParts, desk_pages.proofs.Looking.{both, fails, fails_then, finds, not_looked}}
+use Rattle.{desk_opening.specs.plan_rows.RevisionReading.HasParts, desk_pages.proofs.Looking.{both, fails_then, finds, not_looked}}
 use Rattle.desk_check.proofs.revisions.check_revision.Goals as goal
 
 pub returns-in_default : goal.returns-in_default
 returns-in_default g c = not_looked (quiet_none c.args.pages.now) tt
-
-pub returns-in_err-append_names : goal.returns-in_err-append_names
-returns-in_err-append_names g c = fails c.from_residual.result c.in_err-append_names.ensures c.from_residual.ensures.1 (λ m is. absurd is)
-
-pub returns-then-len-ranges : goal.returns-then-len-ranges
-returns-then-len-ranges g c = not_looked c.in_ok-append_names.ensures.quiet (λ honest m holds is. is)
 
 pub check_chunks-requires-clause-each : goal.check_chunks-requires-clause-each
 check_chunks-requires-clause-each g c = let long = c.as_slice.ensures.len in let same = c.len.ensures in let many = c.if-len-ranges.false in omega arith

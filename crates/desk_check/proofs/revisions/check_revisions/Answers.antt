@@ -1,9 +1,6 @@
-use Rattle.{std.proofs.Common.{◌+◌, List, ℕ, length, ap, sym, ◌∙◌, arith, below_more}, desk_check.specs.Checking.IsRevisionSeen, page_store.proofs.Stops.quiet_none}
-use Rattle.desk_pages.proofs.Looking.{begins, both, fails_then, finds, not_looked}
+use Rattle.{std.proofs.Common.{◌+◌, List, ℕ, length, ap, sym, ◌∙◌, arith, below_more}, desk_check.specs.Checking.IsRevisionSeen}
+use Rattle.desk_pages.proofs.Looking.{begins, both, fails_then, finds}
 use Rattle.desk_check.proofs.revisions.check_revisions.Goals as goal
-
-pub returns-then-not-is_sized-clause-seen : goal.returns-then-not-is_sized-clause-seen
-returns-then-not-is_sized-clause-seen g c = not_looked (quiet_none c.args.pages.now) (λ honest m holds is. is)
 
 pub loop-before-init : goal.loop-before-init
 loop-before-init g c = record {

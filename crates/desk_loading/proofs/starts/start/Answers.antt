@@ -1,11 +1,5 @@
-use Rattle.{std.proofs.Common.{◌∙◌, inr, rules}, desk_loading.proofs.Opened.opened_journal}
+use Rattle.{std.proofs.Common.{◌∙◌, inr}, desk_loading.proofs.Opened.opened_journal}
 use Rattle.desk_loading.proofs.starts.start.Goals as goal
-
-pub returns-in-Err-opened-clause-err : goal.returns-in-Err-opened-clause-err
-returns-in-Err-opened-clause-err g c = search rules
-
-pub returns-in-Ok-load_geography-clause-size : goal.returns-in-Ok-load_geography-clause-size
-returns-in-Ok-load_geography-clause-size g c = c.load_geography.ensures.moves.sectors ∙ c.in-Ok-opened.ensures.ok.sectors ∙ c.in-Ok.ensures.ok.sectors
 
 pub returns-in-Ok-load_geography-clause-journal : goal.returns-in-Ok-load_geography-clause-journal
 returns-in-Ok-load_geography-clause-journal g c = λ honest.

@@ -1,52 +1,49 @@
-use Rattle.{std.proofs.Common.{true, false, ◌∙◌}, desk_pages.specs.{Moments.StopsLeave, claim.Desks.{InPages, OpensEither}}, desk_migration.proofs.Back.{back_quiet, back_reads}}
+use Rattle.{std.proofs.Common.{true, false, ◌∙◌, rules}, desk_model.specs.claim.Desk.Desk, desk_pages.specs.{Moments.StopsLeave, claim.Desks.{InPages, InTxnOf, OpensEither}}}
+use Rattle.{page_store.specs.claim.Transactions.{stored, disk_in}, desk_migration.proofs.Back.{back_quiet, back_reads}}
 use Rattle.desk_opening.proofs.plan_rows.Committing.{begun_now, commit_leaves, quiet_shape, shape_after}
 use Rattle.desk_migration.proofs.old.turn_back.Given.{Over}
 use Rattle.desk_migration.proofs.old.turn_back.Goals.{After-commit_txn}
 use Rattle.desk_migration.proofs.old.turn_back.Goals as goal
 
+-- what is committed is the desk in the old version
+turned : (g : Over) (c : After-commit_txn g) → (disk_in c.commit_txn.new.pages).is_honest → (d : Desk) → InPages c.args.pages.now d → InTxnOf false c.take_new.new.txn (stored c.take_new.new.pages) d
+turned g c honest =
+    let begin = c.begin-txn.ensures in
+    let begun = begun_now c.args.pages.now c.begin-txn.result c.requires.working begin.none begin.pages begin.over begin.root begin.free in
+    let took = c.in_ok-take_new.ensures in
+    back_reads c.begin-txn.result c.take_new.new.txn c.args.pages.now c.take_new.new.pages begun took.quiet took.put.1 (c.commit_txn.ensures.commits.honest honest)
+
 -- a stop in the commit leaves the desk in either version
 leaves : (g : Over) (c : After-commit_txn g) → StopsLeave (InPages c.args.pages.now) OpensEither c.args.pages.now c.commit_txn.new.pages
 leaves g c = λ honest working sectors d whole holds.
-    let ps = c.args.pages.now in
-    let t = c.begin-txn.result in
-    let begun = begun_now ps t c.requires.working c.begin-txn.ensures.none c.begin-txn.ensures.pages c.begin-txn.ensures.over c.begin-txn.ensures.root c.begin-txn.ensures.free in
-    let before = c.commit_txn.ensures.commits.honest honest in
-    commit_leaves true false c.take_new.new.txn ps c.take_new.new.pages c.commit_txn.new.pages c.in_ok-take_new.ensures.quiet before working
-    (λ s x y. c.commit_txn.ensures.any_version honest (c.in_ok-take_new.ensures.put.0.halted ∙ working) s (true, x) (false, y)) sectors d d whole holds
-    (back_reads t c.take_new.new.txn ps c.take_new.new.pages begun c.in_ok-take_new.ensures.quiet c.in_ok-take_new.ensures.put.1 before d holds)
+    let took = c.in_ok-take_new.ensures in
+    commit_leaves true false c.take_new.new.txn c.args.pages.now c.take_new.new.pages c.commit_txn.new.pages took.quiet (c.commit_txn.ensures.commits.honest honest) working
+    (λ s x y. c.commit_txn.ensures.any_version honest (took.put.0.halted ∙ working) s (true, x) (false, y)) sectors d d whole holds (turned g c honest d holds)
 
-pub returns-in_err-take_new-clause-shape : goal.returns-in_err-take_new-clause-shape
-returns-in_err-take_new-clause-shape g c = quiet_shape c.args.pages.now c.take_new.new.pages c.in_err-take_new.ensures.quiet
+pub returns-in_err-take_new : goal.returns-in_err-take_new
+returns-in_err-take_new g c =
+    let quiet = c.in_err-take_new.ensures.quiet in
+    search (rules, quiet_shape c.args.pages.now c.take_new.new.pages quiet, quiet.honest, back_quiet c.args.pages.now c.take_new.new.pages quiet)
 
-pub returns-in_err-take_new-clause-honest : goal.returns-in_err-take_new-clause-honest
-returns-in_err-take_new-clause-honest g c = c.in_err-take_new.ensures.quiet.honest
+pub returns : goal.returns
+returns g c =
+    let at = (goal.at.returns g c).After-commit_txn in
+    let quiet = c.in_ok-take_new.ensures.quiet in
+    let commits = c.commit_txn.ensures.commits in
+    record {
+      shape = shape_after c.args.pages.now c.take_new.new.pages c.commit_txn.new.pages quiet commits.shape;
+      honest = λ honest. quiet.honest (commits.honest honest);
+      any_moment = leaves g at;
+      old = λ honest d holds. let reads = turned g at honest d holds in record { m = reads.m; holds = c.in_ok-commit_txn.ensures.held honest reads.m reads.holds; is = reads.is };
+    }
 
-pub returns-in_err-take_new-clause-any_moment : goal.returns-in_err-take_new-clause-any_moment
-returns-in_err-take_new-clause-any_moment g c = back_quiet c.args.pages.now c.take_new.new.pages c.in_err-take_new.ensures.quiet
-
-pub returns-clause-shape : goal.returns-clause-shape
-returns-clause-shape g c = shape_after c.args.pages.now c.take_new.new.pages c.commit_txn.new.pages c.in_ok-take_new.ensures.quiet c.commit_txn.ensures.commits.shape
-
-pub returns-clause-honest : goal.returns-clause-honest
-returns-clause-honest g c = λ honest. c.in_ok-take_new.ensures.quiet.honest (c.commit_txn.ensures.commits.honest honest)
-
-pub returns-clause-any_moment : goal.returns-clause-any_moment
-returns-clause-any_moment g c = leaves g (goal.at.returns-clause-any_moment g c).After-commit_txn
-
-pub returns-clause-old : goal.returns-clause-old
-returns-clause-old g c = λ honest d holds.
-    let ps = c.args.pages.now in
-    let t = c.begin-txn.result in
-    let begun = begun_now ps t c.requires.working c.begin-txn.ensures.none c.begin-txn.ensures.pages c.begin-txn.ensures.over c.begin-txn.ensures.root c.begin-txn.ensures.free in
-    let before = c.commit_txn.ensures.commits.honest honest in
-    let reads = back_reads t c.take_new.new.txn ps c.take_new.new.pages begun c.in_ok-take_new.ensures.quiet c.in_ok-take_new.ensures.put.1 before d holds in
-    record { m = reads.m; holds = c.in_ok-commit_txn.ensures.held honest reads.m reads.holds; is = reads.is }
-
-pub returns-in_err-commit_txn-clause-shape : goal.returns-in_err-commit_txn-clause-shape
-returns-in_err-commit_txn-clause-shape g c = shape_after c.args.pages.now c.take_new.new.pages c.commit_txn.new.pages c.in_ok-take_new.ensures.quiet c.commit_txn.ensures.commits.shape
-
-pub returns-in_err-commit_txn-clause-honest : goal.returns-in_err-commit_txn-clause-honest
-returns-in_err-commit_txn-clause-honest g c = λ honest. c.in_ok-take_new.ensures.quiet.honest (c.commit_txn.ensures.commits.honest honest)
-
-pub returns-in_err-commit_txn-clause-any_moment : goal.returns-in_err-commit_txn-clause-any_moment
-returns-in_err-commit_txn-clause-any_moment g c = leaves g (goal.at.returns-in_err-commit_txn-clause-any_moment g c).After-commit_txn
+pub returns-in_err-commit_txn : goal.returns-in_err-commit_txn
+returns-in_err-commit_txn g c =
+    let quiet = c.in_ok-take_new.ensures.quiet in
+    let commits = c.commit_txn.ensures.commits in
+    record {
+      shape = shape_after c.args.pages.now c.take_new.new.pages c.commit_txn.new.pages quiet commits.shape;
+      honest = λ honest. quiet.honest (commits.honest honest);
+      any_moment = leaves g (goal.at.returns-in_err-commit_txn g c).After-commit_txn;
+      old = search rules;
+    }

@@ -13,16 +13,13 @@ pub returns-in-Err-clause-reading : goal.returns-in-Err-clause-reading
 returns-in-Err-clause-reading g c = search (begun, c.row_error.ensures, not_read, c.in-Err.e, c.is_halted.ensures, c.read_desk.ensures.reading.quiet, c.in-Err.ensures.reading.err)
 
 pub returns-in-Ok-true-clause-reading : goal.returns-in-Ok-true-clause-reading
-returns-in-Ok-true-clause-reading g c = record {
-  quiet = quiet_more c.args.pages.now c.read_desk.new.pages c.is_new.new.pages c.read_desk.ensures.reading.quiet c.is_new.ensures.quiet;
-  passed = search rules;
-  err = let started = begun g (goal.at.returns-in-Ok-true-clause-reading g c).After-begin-txn in
-      λ honest. (
-        of_version true c.begin-txn.result c.args.pages.now c.read_desk.new.pages c.is_new.new.pages started c.in-Ok.ensures.reading.passed c.is_new.ensures.quiet
-            (λ honest m holds. c.in-Ok-true.ensures.there honest m holds ∙ ap version_row c.in-Ok-true.field-0-test) honest,
-        read_from c.begin-txn.result c.args.pages.now c.read_desk.new.pages c.in-Ok.field-0 started c.read_desk.ensures.reading.quiet c.in-Ok.ensures.found (c.is_new.ensures.quiet.honest honest),
-      );
-}
+returns-in-Ok-true-clause-reading g c =
+    let a = c.args.pages.now in
+    let b = c.read_desk.new.pages in
+    let quiet = c.is_new.ensures.quiet in
+    let started = begun g (goal.at.returns-in-Ok-true-clause-reading g c).After-begin-txn in
+    let version = of_version true c.begin-txn.result a b c.is_new.new.pages started c.in-Ok.ensures.reading.passed quiet (λ honest m holds. c.in-Ok-true.ensures.there honest m holds ∙ ap version_row c.in-Ok-true.field-0-test) in
+    search (rules, quiet_more a b c.is_new.new.pages c.read_desk.ensures.reading.quiet quiet, version, quiet.honest, read_from c.begin-txn.result a b c.in-Ok.field-0 started c.read_desk.ensures.reading.quiet c.in-Ok.ensures.found)
 
 pub returns-in-Ok-false-clause-reading : goal.returns-in-Ok-false-clause-reading
 returns-in-Ok-false-clause-reading g c =

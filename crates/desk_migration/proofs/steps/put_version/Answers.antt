@@ -1,40 +1,91 @@
-use Rattle.{std.proofs.Common.{List, refl, sym, subst, ◌∙◌, inl, arith, rules}, desk_migration.specs.Puts.{version_rows, FinishErr}, desk_pages.specs.Errors.tree_refusal}
-use Rattle.{desk_pages.{specs.{claim.Puts.{HasPut, PutsErr}, declared.error.StoreError.TheVariants.Full}, proofs.Outcomes.err_of}, page_store.specs.claim.Transactions.has_halted}
-use Rattle.{store_rows.specs.claim.Puts.Row, desk_migration.proofs.Stepped.{halted_steps, refused_steps}, page_store.proofs.Stops.quiet_none}
-use Rattle.desk_migration.proofs.Finished.{either_faults, ok_then, one_row, all_quiet, room_now, version_writes, version_working, version_leaves, version_holds, version_not_committed, version_not_put}
-use Rattle.{page_btree.proofs.Outcomes.{map_err, on_ok}, desk_opening.proofs.plan_rows.Committing.{IsBegun, begun_now, both, shape_after}}
+use Rattle.{std.proofs.Common.{◌≡◌, ◌⊎◌, ◌≤◌, ◌+◌, ℕ, List, [], ◌∷◌, true, false, ◌∙◌, inl, inr, ⊎_elim, arith, ◌<◌, refl, sym, subst, rules}, desk_model.specs.claim.Desk.Desk}
+use Rattle.{desk_migration.specs.{Puts.{version_rows, FinishErr, HoldsAll, free_of}, claim.Holding.AllAreHeld}, desk_pages.specs.{Commits.FittingErr, Desks.{InPagesAs, InTxnAs}}}
+use Rattle.desk_pages.specs.{Errors.tree_refusal, Moments.StopsLeaveEither, claim.Desks.{IsMapOf, IsOldMap, OpensAs, OpensOld, OpensDesk, OpensEither, InPages as HoldsDesk}}
+use Rattle.{desk_pages.specs.{claim.Puts.{HasPut, PutsErr}, declared.error.StoreError.{StoreError, TheVariants.{Memory, DeviceFault, Full}}}, page_store.specs.declared.txn.Txn.Txn}
+use Rattle.{page_btree.specs.{claim.Map.{InTxn, InPages}, declared.error.TreeError.TreeError}, page_store.specs.{declared.pages.Pages.Pages, gate_journal.claim.Store.home}}
+use Rattle.{page_store.specs.claim.Transactions.{stored, disk_in, count_of, journal_of, has_halted, txn_writes, IsQuiet}, sector_device.specs.claim.Disk.Image}
+use Rattle.{sector_device.specs.{claim.Moments.LeavesOnly, declared.SectorDevice.Ghosts}, store_rows.specs.{MigrationLaws.{VersionIsTold, as_new}, claim.{Puts.Row, Rows.KeyMap}}}
+use Rattle.{store_rows.specs.claim.Keys.{key_of, version, in_four}, desk_migration.proofs.Stepped.{commit_steps, halted_steps, refused_steps}, desk_pages.proofs.Outcomes.err_of}
+use Rattle.{page_btree.proofs.Outcomes.{map_err, on_ok as if_ok}, page_store.proofs.Stops.quiet_none, sector_device.proofs.Moments.{leaves_wider, on_ok}}
+use Rattle.desk_opening.proofs.plan_rows.Committing.{IsBegun, both, commit_leaves, failed_after, quiet_leaves, begun_now}
+use Rattle.page_btree.specs.declared.error.TreeError.TheVariants as tree
 use Rattle.desk_migration.proofs.steps.put_version.Given.{Over}
 use Rattle.desk_migration.proofs.steps.put_version.Goals.{After-begin-txn, In_ok-put_row}
 use Rattle.desk_migration.proofs.steps.put_version.Goals as goal
+
+-- The end: the version's row is put, and it is committed.
+told_map : VersionIsTold → (m : KeyMap) (d : Desk) → IsOldMap m d → AllAreHeld m → IsMapOf true (as_new m) d
+told_map law m d is all =
+    let made = law m is.tidy (λ name plan number there named. all plan number named) in
+    record { desk = made.desk d is.desk; tidy = made.tidy.0; version = made.tidy.2; limits = is.limits }
+
+one_row : (k v : List ℕ) → k ≡ key_of version → v ≡ in_four 2 → ◌≡◌ {A = List Row} ((k, v) ∷ []) version_rows
+one_row k v key value = λ i. (key i, value i) ∷ []
+
+module _ {D : Type 0} {g : Ghosts D} where
+  -- a stop in calls that read at most
+  all_quiet : (a b : Pages D g) → IsQuiet a b → (disk_in b).is_honest → has_halted a ≡ false → (sectors : ℕ) (d : Desk) → home (journal_of a) + count_of a ≡ sectors → HoldsAll a d → LeavesOnly (OpensEither sectors d) (disk_in a) (disk_in b)
+  all_quiet a b quiet honest working sectors d whole holds =
+      leaves_wider (OpensOld sectors d) (OpensEither sectors d) (disk_in a) (disk_in b) (λ x opens. inr opens)
+      (quiet_leaves false a b quiet honest working sectors d whole (record { m = holds.m; holds = holds.holds; is = holds.is }))
+
+  room_now : (a : Pages D g) (free : ℕ) → ((disk_in a).is_honest → free ≡ free_of a) → 13 ≤ free → (disk_in a).is_honest → 13 ≤ free_of a
+  room_now a free is enough honest = let same = is honest in omega arith
+
+  -- ---- the row was put
+  module _ (law : VersionIsTold) (t u : Txn) (a b : Pages D g) (start : IsBegun a t) (put : HasPut version_rows t u a b) where
+    version_writes : txn_writes u ≤ 207
+    version_writes = let writes = put.writes in let none = start.none in omega arith
+
+    version_working : has_halted b ≡ false
+    version_working = put.passed.halted ∙ start.working
+
+    reads_new : (disk_in b).is_honest → (m : KeyMap) → InPages a m → InTxn u (stored b) (as_new m)
+    reads_new honest m holds = rw (put.passed.quiet.same honest) (put.put honest m (start.reads (put.passed.quiet.honest honest) m holds))
+
+    version_leaves : (c : Pages D g) → StopsLeaveEither (InPagesAs b) (InTxnAs u (stored b)) OpensAs b c → (disk_in b).is_honest → (disk_in c).is_honest → (sectors : ℕ) (d : Desk) → home (journal_of a) + count_of a ≡ sectors → HoldsAll a d → LeavesOnly (OpensEither sectors d) (disk_in a) (disk_in c)
+    version_leaves c commit honest after sectors d whole holds =
+        let P = λ (x : Image). OpensOld sectors d x ⊎ OpensDesk sectors d x in
+        leaves_wider P (OpensEither sectors d) (disk_in a) (disk_in c) (λ x. ⊎_elim (λ old. inr old) (λ new. inl new))
+        (commit_leaves false true u a b c put.passed.quiet honest start.working (λ s x y. commit after version_working s (false, x) (true, y)) sectors d d whole (record { m = holds.m; holds = holds.holds; is = holds.is })
+        (record { m = as_new holds.m; holds = reads_new honest holds.m holds.holds; is = told_map law holds.m d holds.is holds.all }))
+
+    version_holds : (c : Pages D g) → ((m : KeyMap) → InTxn u (stored b) m → InPages c m) → (disk_in b).is_honest → (d : Desk) → HoldsAll a d → HoldsDesk c d
+    version_holds c committed honest d holds = record { m = as_new holds.m; holds = committed (as_new holds.m) (reads_new honest holds.m holds.holds); is = told_map law holds.m d holds.is holds.all }
+
+    version_not_committed : (c : Pages D g) → ((disk_in a).is_honest → 13 ≤ free_of a) → ((disk_in c).is_honest → (disk_in b).is_honest) → (e : StoreError) → FittingErr b c e → FinishErr a c e
+    version_not_committed c room honest Memory why = (rw why put.passed.quiet, λ is. room (put.passed.quiet.honest (honest is)))
+    version_not_committed c room honest DeviceFault why = (λ is. room (put.passed.quiet.honest (honest is)), failed_after a b c put.passed honest why)
+    version_not_committed c room honest _ why = absurd why
+
+  -- ---- it wasn't
+  version_not_put : (t : Txn) (a b : Pages D g) → IsBegun a t → IsQuiet a b → ((disk_in a).is_honest → 13 ≤ free_of a) → (e : TreeError) → PutsErr version_rows t a b e → FinishErr a b (tree_refusal e)
+  version_not_put t a b start quiet room tree.DeviceFault why = (λ honest. room (quiet.honest honest), why)
+  version_not_put t a b start quiet room tree.NotAStore why = (quiet, λ honest d holds. why honest holds.m (start.reads (quiet.honest honest) holds.m holds.holds))
+  version_not_put t a b start quiet room tree.Halted why = both (has_halted a) why start.working
+  version_not_put t a b start quiet room tree.NoPages why = (quiet, inl (λ honest. let free = start.free (quiet.honest honest) in omega arith))
+  version_not_put t a b start quiet room tree.TooDeep why = (quiet, inr (λ honest m holds. (t, why honest m (start.reads (quiet.honest honest) m holds))))
+  version_not_put t a b start quiet room tree.Memory why = (quiet, λ honest. room (quiet.honest honest))
 
 begun : (g : Over) (c : After-begin-txn g) → IsBegun c.args.pages.now c.begin-txn.result
 begun g c = begun_now c.args.pages.now c.begin-txn.result (sym c.is_halted.ensures ∙ c.if-is_halted.false) c.begin-txn.ensures.none c.begin-txn.ensures.pages c.begin-txn.ensures.over c.begin-txn.ensures.root c.begin-txn.ensures.free
 
 put : (g : Over) (c : In_ok-put_row g) → HasPut version_rows c.begin-txn.result c.put_row.new.txn c.args.pages.now c.put_row.new.pages
-put g c = subst (λ (rows : List Row). HasPut rows c.begin-txn.result c.put_row.new.txn c.args.pages.now c.put_row.new.pages) (one_row c.version.result c.to_be_bytes.result c.version.ensures c.to_be_bytes.ensures) c.in_ok-put_row.ensures.puts.put
+put g c = rw (one_row c.version.result c.to_be_bytes.result c.version.ensures c.to_be_bytes.ensures) at c.in_ok-put_row.ensures.puts.put
 
--- ---- halted
-pub returns-then-is_halted-clause-any_moment : goal.returns-then-is_halted-clause-any_moment
-returns-then-is_halted-clause-any_moment g c = λ honest working sectors d whole holds. both (has_halted c.args.pages.now) (sym c.is_halted.ensures ∙ c.if-is_halted.true) working
-
-pub returns-then-is_halted-clause-steps : goal.returns-then-is_halted-clause-steps
-returns-then-is_halted-clause-steps g c = halted_steps c.args.pages.now
-
-pub returns-then-is_halted-clause-err : goal.returns-then-is_halted-clause-err
-returns-then-is_halted-clause-err g c = (sym c.is_halted.ensures ∙ c.if-is_halted.true, refl)
+pub returns-then-is_halted : goal.returns-then-is_halted
+returns-then-is_halted g c =
+    let ps = c.args.pages.now in
+    let halted = sym c.is_halted.ensures ∙ c.if-is_halted.true in
+    search (rules, all_quiet ps ps (quiet_none ps), halted_steps {A = Unit {0}} ps, halted)
 
 -- ---- too few pages are free
-pub returns-then-free_pages-lt-ROW_PAGES-clause-any_moment : goal.returns-then-free_pages-lt-ROW_PAGES-clause-any_moment
-returns-then-free_pages-lt-ROW_PAGES-clause-any_moment g c = all_quiet c.args.pages.now c.args.pages.now (quiet_none c.args.pages.now)
-
-pub returns-then-free_pages-lt-ROW_PAGES-clause-steps : goal.returns-then-free_pages-lt-ROW_PAGES-clause-steps
-returns-then-free_pages-lt-ROW_PAGES-clause-steps g c = refused_steps c.args.pages.now c.args.pages.now _ Full (quiet_none c.args.pages.now) (sym c.is_halted.ensures ∙ c.if-is_halted.false) refl
-
-pub returns-then-free_pages-lt-ROW_PAGES-clause-err : goal.returns-then-free_pages-lt-ROW_PAGES-clause-err
-returns-then-free_pages-lt-ROW_PAGES-clause-err g c = (
-  quiet_none c.args.pages.now,
-  inl (λ honest. let same = c.free_pages.ensures (sym c.is_halted.ensures ∙ c.if-is_halted.false) honest in omega arith),
-)
+pub returns-then-free_pages-lt-ROW_PAGES : goal.returns-then-free_pages-lt-ROW_PAGES
+returns-then-free_pages-lt-ROW_PAGES g c =
+    let ps = c.args.pages.now in
+    let working = sym c.is_halted.ensures ∙ c.if-is_halted.false in
+    let short : (disk_in ps).is_honest → free_of ps < 13 = λ honest. let same = c.free_pages.ensures working honest in omega arith in
+    record { steps = refused_steps ps ps _ Full (quiet_none ps) working refl; any_moment = all_quiet ps ps (quiet_none ps); told = search rules; room = search rules; err = (quiet_none ps, inl short) }
 
 -- ---- the row isn't put
 pub returns-in_err-put_row-clause-steps : goal.returns-in_err-put_row-clause-steps
@@ -57,32 +108,24 @@ commit_fitting-requires-clause-working g c = search (rules, version_working, c.v
 pub commit_fitting-requires-clause-few : goal.commit_fitting-requires-clause-few
 commit_fitting-requires-clause-few g c = search (rules, version_writes, c.version_is_told.ensures, begun, put)
 
-pub returns-clause-steps : goal.returns-clause-steps
-returns-clause-steps g c = record {
-  shape = shape_after c.args.pages.now c.put_row.new.pages c.commit_fitting.new.pages c.in_ok-put_row.ensures.puts.quiet c.commit_fitting.ensures.commits.shape;
-  honest = λ honest. c.in_ok-put_row.ensures.puts.quiet.honest (c.commit_fitting.ensures.commits.honest honest);
-  kept = c.commit_fitting.ensures.commits.kept;
-  faults = either_faults c.args.pages.now c.put_row.new.pages c.commit_fitting.new.pages c.commit_fitting.result c.in_ok-put_row.ensures.puts.put.passed c.commit_fitting.ensures.commits.honest c.commit_fitting.ensures.ok c.commit_fitting.ensures.commits.passed c.commit_fitting.ensures.err;
-  ok = ok_then c.commit_fitting.result _ _ (λ works. (sym c.is_halted.ensures ∙ c.if-is_halted.false, works)) c.commit_fitting.ensures.ok;
-  still = λ halted. both (has_halted c.args.pages.now) halted (sym c.is_halted.ensures ∙ c.if-is_halted.false);
-}
-
-pub returns-clause-any_moment : goal.returns-clause-any_moment
-returns-clause-any_moment g c = λ honest working sectors d whole holds.
-    let at = goal.at.returns-clause-any_moment g c in
-    version_leaves c.version_is_told.ensures c.begin-txn.result c.put_row.new.txn c.args.pages.now c.put_row.new.pages (begun g at.After-begin-txn) (put g at.In_ok-put_row) c.commit_fitting.new.pages c.commit_fitting.ensures.any_version (c.commit_fitting.ensures.commits.honest honest) honest sectors d whole holds
-
-pub returns-clause-told : goal.returns-clause-told
-returns-clause-told g c = λ honest d holds.
-    let at = goal.at.returns-clause-told g c in
-    ok_then c.commit_fitting.result _ _ (λ committed. version_holds c.version_is_told.ensures c.begin-txn.result c.put_row.new.txn c.args.pages.now c.put_row.new.pages (begun g at.After-begin-txn) (put g at.In_ok-put_row) c.commit_fitting.new.pages (λ m reads. (committed m reads).0) (c.commit_fitting.ensures.commits.honest honest) d holds) (c.commit_fitting.ensures.held honest)
-
-pub returns-clause-room : goal.returns-clause-room
-returns-clause-room g c = λ honest.
-    on_ok c.commit_fitting.result _ (room_now c.args.pages.now c.free_pages.result (c.free_pages.ensures (sym c.is_halted.ensures ∙ c.if-is_halted.false)) c.if-free_pages-lt-ROW_PAGES.false
-    (c.in_ok-put_row.ensures.puts.quiet.honest (c.commit_fitting.ensures.commits.honest honest)))
-
-pub returns-clause-err : goal.returns-clause-err
-returns-clause-err g c =
-    let at = goal.at.returns-clause-err g c in
-    map_err c.commit_fitting.result _ _ (λ e why. version_not_committed c.version_is_told.ensures c.begin-txn.result c.put_row.new.txn c.args.pages.now c.put_row.new.pages (begun g at.After-begin-txn) (put g at.In_ok-put_row) c.commit_fitting.new.pages (room_now c.args.pages.now c.free_pages.result (c.free_pages.ensures (sym c.is_halted.ensures ∙ c.if-is_halted.false)) c.if-free_pages-lt-ROW_PAGES.false) c.commit_fitting.ensures.commits.honest e why) c.commit_fitting.ensures.err
+pub returns : goal.returns
+returns g c =
+    let at = goal.at.returns g c in
+    let a = c.args.pages.now in
+    let b = c.put_row.new.pages in
+    let e = c.commit_fitting.new.pages in
+    let law = c.version_is_told.ensures in
+    let t = c.begin-txn.result in
+    let u = c.put_row.new.txn in
+    let start = begun g at.After-begin-txn in
+    let did = put g at.In_ok-put_row in
+    let working = sym c.is_halted.ensures ∙ c.if-is_halted.false in
+    let commit = c.commit_fitting.ensures in
+    let room = room_now a c.free_pages.result (c.free_pages.ensures working) c.if-free_pages-lt-ROW_PAGES.false in
+    record {
+      steps = commit_steps c.commit_fitting.result did.passed working commit (λ P is. is);
+      any_moment = λ honest off. version_leaves law t u a b start did e commit.any_version (commit.commits.honest honest) honest;
+      told = λ honest d holds. on_ok c.commit_fitting.result (λ committed. version_holds law t u a b start did e (λ m reads. (committed m reads).0) (commit.commits.honest honest) d holds) (commit.held honest);
+      room = λ honest. if_ok c.commit_fitting.result _ (room (did.passed.quiet.honest (commit.commits.honest honest)));
+      err = map_err c.commit_fitting.result _ _ (λ x why. version_not_committed law t u a b start did e room commit.commits.honest x why) commit.err;
+    }

@@ -44,8 +44,6 @@ returns-clause-found g c = λ honest m holds.
     let before = c.read_rows.ensures.quiet.honest then in
     let there = subst (λ (P : Image). InTree c.args.txn.now P m) (sym (c.in_ok-check_rows.ensures.passed.quiet.same before)) holds in
     let still = subst (λ (P : Image). InTree c.args.txn.now P m) (sym (c.in_ok-catalogue.ensures.passed.quiet.same then)) there in
-    record {
-      numbers = c.in_ok-check_rows.ensures.there before m holds;
-      shown = (c.in_ok-catalogue.ensures.there then m there).there.0;
-      owned = parts_owned m c.read_rows.new.counts (c.in_ok-catalogue.ensures.there then m there).there.1 (c.in_ok-check_owners.ensures.there honest m still);
-    }
+    let read = (c.in_ok-catalogue.ensures.there then m there).there in
+    let owned = parts_owned m c.read_rows.new.counts read.1 (c.in_ok-check_owners.ensures.there honest m still) in
+    record { numbers = c.in_ok-check_rows.ensures.there before m holds; shown = read.0; owned = owned }

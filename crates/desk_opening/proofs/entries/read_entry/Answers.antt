@@ -1,19 +1,14 @@
-use Rattle.{std.proofs.Common.{◌<◌, ◌≤◌, ◌+◌, List, ℕ, [], length, get_or, sym, ap, subst, ◌∙◌, take_all, arith, rules}, desk_model.specs.{Ranges.ranges_of, claim.Desk.Plan}}
-use Rattle.{desk_opening.{specs.Reading.{IsAfter, IsPlanRow}, proofs.Readings.one_more_read}, desk_pages.{specs.claim.Desks.AreWithin, proofs.Looking.{both, fails_then, finds}}}
-use Rattle.desk_opening.proofs.Revisions.{of_blocks, one_revision_more, within_at}
+use Rattle.{std.proofs.Common.{◌<◌, ◌≤◌, ◌+◌, List, ℕ, [], length, get_or, sym, ap, ◌∙◌, take_all, arith, rules}, desk_model.specs.{Ranges.ranges_of, claim.Desk.Plan}}
+use Rattle.desk_opening.{specs.Reading.IsPlanRow, proofs.{Readings.one_more_read, Revisions.{comes_after, one_revision_more}}}
+use Rattle.desk_pages.proofs.Looking.{both, fails_then, finds}
 use Rattle.desk_opening.proofs.entries.read_entry.Goals as goal
 
 pub returns-in_err-entry-clause-reads : goal.returns-in_err-entry-clause-reads
 returns-in_err-entry-clause-reads g c =
-    let i = c.loop-before.before in
-    fails_then c.loop-before.invariant.reads c.from_residual.result c.in_err-entry.ensures.reads c.from_residual.ensures.1 (λ m so is.
-    let p = is.0 in (
-      get_or p.revisions i [],
-      record {
-        is = of_blocks c.args.geography.now c.args.name c.args.row.now m p i is.1 c.loop-before-test.true;
-        within = subst (λ (n : ℕ). AreWithin n (get_or p.revisions i [])) (sym (c.loop-before.invariant.districts ∙ is.1.districts)) (within_at c.args.geography.now c.args.name c.args.row.now m p i is.1 c.loop-before-test.true);
-        known = so.known p is.1;
-      },
+    fails_then c.loop-before.invariant.reads c.from_residual.result c.in_err-entry.ensures.reads c.from_residual.ensures.1 (λ m so is. (
+      get_or is.0.revisions c.loop-before.before [],
+      comes_after c.args.geography.now c.args.name c.args.row.now m is.0 c.loop-before.before c.loop-before.last.items
+          c.loop-before.entry.1 is.1 c.loop-before-test.true c.loop-before.invariant.districts (so.known is.0 is.1),
     ))
 
 pub loop-before-preserved : goal.loop-before-preserved
@@ -25,11 +20,9 @@ loop-before-preserved g c =
     let many = before.many in
     record {
       reads = finds (both before.reads now.reads) (λ m is.
-          let after : (p : Plan) → IsPlanRow c.args.geography.now c.args.name c.args.row.now m p → IsAfter c.args.geography.now c.args.row.now.number (i + 1) c.loop-before.last.items c.loop-before.entry.1 m (get_or p.revisions i []) = λ p said. record {
-            is = of_blocks c.args.geography.now c.args.name c.args.row.now m p i said less;
-            within = subst (λ (n : ℕ). AreWithin n (get_or p.revisions i [])) (sym (before.districts ∙ said.districts)) (within_at c.args.geography.now c.args.name c.args.row.now m p i said less);
-            known = is.0.known p said;
-          } in
+          let after = λ (p : Plan) (said : IsPlanRow c.args.geography.now c.args.name c.args.row.now m p).
+          comes_after c.args.geography.now c.args.name c.args.row.now m p i c.loop-before.last.items c.loop-before.entry.1
+          said c.loop-before-test.true before.districts (is.0.known p said) in
           record {
             read = one_more_read c.args.row.now.number (ranges_of c.args.geography.now) m c.loop-before.last.items c.loop-before.entry.1 (i + 1) c.with_next.new.last.items c.in_ok-entry.entry.1 (omega arith) is.0.read is.1.there.0;
             is = λ p said.

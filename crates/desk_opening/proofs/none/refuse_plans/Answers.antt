@@ -1,6 +1,6 @@
 use Rattle.{std.{specs.{FinMap.{entries, get}, Prelude.Some}, proofs.Common.{◌≡◌, ◌∷◌, ℕ, List, [], sym, ap, subst, ◌∙◌}}, btree_walks.specs.Prefixes.under}
 use Rattle.{btree_walks.{specs.Scanning.{fault_in, CanScan}, proofs.Refused.scan_refused}, desk_opening.specs.Opening.HasNoPlans, store_rows.specs.claim.Keys.plans_prefix}
-use Rattle.{desk_opening.proofs.Scanned.{found_among, next_plan}, desk_pages.proofs.{Looking.{looked, not_looked}, Reading.get_unread}, page_store.proofs.Stops.passed_none}
+use Rattle.{desk_opening.proofs.Parts.{found_among, next_plan}, desk_pages.proofs.{Looking.{looked, not_looked}, Reading.get_unread}, page_store.proofs.Stops.passed_none}
 use Rattle.store_rows.proofs.OneGeography.{no_value}
 use Rattle.desk_opening.proofs.none.refuse_plans.Goals as goal
 

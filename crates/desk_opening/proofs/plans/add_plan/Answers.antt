@@ -1,4 +1,4 @@
-use Rattle.{std.proofs.Common.rules, desk_opening.proofs.Wholes.more_whole, desk_pages.proofs.Looking.{fails, not_looked}}
+use Rattle.{std.proofs.Common.rules, desk_opening.proofs.Parts.more_whole, desk_pages.proofs.Looking.{fails, not_looked}}
 use Rattle.desk_opening.proofs.plans.add_plan.Goals as goal
 
 pub returns-in-Ok-clause-whole : goal.returns-in-Ok-clause-whole

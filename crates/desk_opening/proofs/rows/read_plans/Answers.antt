@@ -1,10 +1,35 @@
-use Rattle.{std.{specs.{FinMap.entries, Prelude.Some}, proofs.Common.{◌++◌, ℕ, List, [], ◌∷◌, Ok, sym, subst, ◌∙◌, arith, rules}}, btree_walks.specs.Prefixes.under}
-use Rattle.{btree_walks.specs.Scanning.Rest, desk_catalogue.specs.Kept.AreWhole, desk_model.specs.Ranges.ranges_of, desk_opening.{specs.Opening.ArePlans, proofs.Turns.new_plan}}
-use Rattle.{desk_pages.specs.Looking.{Gathers, Says}, store_rows.specs.claim.{Keys.plans_prefix, Rows.KeyMap}, desk_opening.proofs.Parts.{Plans, AreRead, none_read, all_read}}
-use Rattle.{btree_walks.proofs.Walked.{HasNext, walk_all, walk_begins, walk_ends, walk_next, walk_on, walk_passed, walk_quiet, walk_refused}, desk_opening.proofs.Wholes.none_whole}
-use Rattle.desk_opening.proofs.{PlanNumbers.{AreNoted, all_apart, are_counts, noted_more, unused}, Shown.{AreShown, none_shown, more_shown, all_shown}}
-use Rattle.{desk_pages.proofs.{Looking.{fails_then, looked, may_lack, not_looked}, Reading.{get_unread, less_sought}}, page_store.proofs.Stops.passed_more}
+use Rattle.{std.specs.{FinMap.{entries, find, get, insert}, Prelude.{Some, Option}}, btree_walks.specs.{Prefixes.under, Scanning.Rest, declared.rows.Row.Row}}
+use Rattle.{std.proofs.Common.{◌++◌, ℕ, List, [], ◌∷◌, Ok, sym, subst, ◌∙◌, arith, rules, ◌≡◌, Some, None, refl}, desk_catalogue.specs.Kept.AreWhole}
+use Rattle.{desk_model.specs.{Ranges.ranges_of, claim.{Desk.Plan, Geography.GeographyModel}}, desk_opening.specs.Opening.{ArePlans, IsNewPlan}, store_rows.specs.claim.Rows.KeyMap}
+use Rattle.{desk_pages.specs.Looking.{Gathers, Says}, page_btree.specs.page_node.claim.{Entries.Entry, Places.key_cmp}, store_rows.specs.claim.DeskRows.IsPlanAt}
+use Rattle.{store_rows.specs.claim.Keys.{plans_prefix, key_of, named}, desk_opening.proofs.PlanNumbers.{AreNoted, all_apart, are_counts, noted_more, unused}}
+use Rattle.{btree_walks.proofs.Walked.{HasNext, walk_all, walk_begins, walk_ends, walk_next, walk_on, walk_passed, walk_quiet, walk_refused}, page_store.proofs.Stops.passed_more}
+use Rattle.desk_opening.proofs.Parts.{Plans, AreRead, none_read, all_read, has_room, not_read, one_more_read, next_plan, none_whole}
+use Rattle.{desk_opening.proofs.Shown.{AreShown, none_shown, more_shown, all_shown}, desk_pages.proofs.Looking.{fails_then, looked, may_lack, not_looked}}
+use Rattle.desk_pages.proofs.Reading.{get_unread, less_sought}
 use Rattle.desk_opening.proofs.rows.read_plans.Goals as goal
+
+-- a row that is there is that of a plan
+plan_at : (m : KeyMap) (g : GeographyModel) (name value : List ℕ) (o : Option Plan) → IsPlanAt m (Some g) name o → get m (key_of (named name)) ≡ Some value → (p : Plan) × (o ≡ Some p)
+plan_at m g name value None lacks there = search rules
+plan_at m g name value (Some p) has there = (p, refl)
+
+module _ (g : GeographyModel) (m : KeyMap) (rows : List Entry) (row : Row) (plans all : Plans) (after : List Entry) (whole : under plans_prefix (entries m) ≡ rows ++ (row.key, row.value) ∷ after) (are : ArePlans g m all) (read : AreRead rows plans all) where
+  new_plan : (plan : List ℕ × Plan) × IsNewPlan g plans row m plan × AreRead (rows ++ (row.key, row.value) ∷ []) (insert plans plan.0 plan.1) all
+  new_plan =
+      let e : Entry = (row.key, row.value) in
+      let at = next_plan m rows e after whole in
+      let new_there = subst (λ (k : List ℕ). get m k ≡ Some row.value) at.key at.there in
+      let plan = plan_at m g at.name row.value (get all at.name) (are.desk.plans at.name) new_there in
+      let untaken = subst (λ (k : List ℕ). find key_cmp k rows ≡ None) at.key at.new in
+      let new = not_read rows plans all read at.name untaken in
+      let sized = are.limits.sizes at.name plan.0 plan.1 in
+      let room = has_room rows plans all read at.name plan.0 untaken plan.1 are.limits.few in (
+        (at.name, plan.0),
+        record { all = all; desk = are.desk; tidy = are.tidy; there = plan.1; sized = sized; key = at.key; value = at.there; new = new; room = room },
+        subst (λ (k : List ℕ). AreRead (rows ++ (k, row.value) ∷ []) (insert plans at.name plan.0) all) (sym at.key)
+            (one_more_read rows plans all read at.name plan.0 untaken plan.1 row.value),
+      )
 
 abbrev IsAny : KeyMap → Type 0
 IsAny m = Unit {0}

@@ -1,5 +1,5 @@
-use Rattle.{std.proofs.Common.{◌≡◌, ◌∙◌, ℕ, List, get_or, sym, ap, subst, refl, rules}, gate_journal.specs.{Recovery.NamesPages, claim.Store.{IsStore, gate, list_word}}}
-use Rattle.{sector_device.{specs.claim.Disk.{Nowhere, Image}, proofs.Moments.{touches_more, synced_still}}, gate_journal.proofs.Lists.not_true}
+use Rattle.{std.proofs.{Common.{◌≡◌, ◌∙◌, ℕ, List, get_or, sym, ap, subst, refl, rules}, lemmas.Bool.false≢true}, gate_journal.specs.Recovery.NamesPages}
+use Rattle.{gate_journal.specs.claim.Store.{IsStore, gate, list_word}, sector_device.{specs.claim.Disk.{Nowhere, Image}, proofs.Moments.{touches_more, synced_still}}}
 use Rattle.gate_journal.proofs.Quiet.{opens_so, looked_more, same_reads, quiet_recovers, fault_recovers, back_recovers}
 use Rattle.gate_journal.proofs.opening.close_gate.Goals as goal
 
@@ -10,23 +10,14 @@ returns-in_err-read g c = opens_so (search rules) (search rules) (search rules) 
 
 pub returns-then-sector : goal.returns-then-sector
 returns-then-sector g c = opens_so (search rules) (search rules) (search rules) (λ honest synced layout.
-    let n = c.args.layout.pages in
     let a = g.D.SectorDevice.disk c.args.device.now in
     let b = g.D.SectorDevice.disk c.read.new.self in
     let r = c.in_ok-read.ensures.model honest in
     let read = c.in_ok-read.ensures.reads honest in
     let shut : gate b.reads ≡ 165 → ⊥ = λ is. c.if-sector.true (ap (λ (s : List ℕ). get_or s 0 0) (read ∙ sym (r.0.reads.same 1 (λ none. none))) ∙ is) in
-    quiet_recovers c.args.layout.journal_pages n a synced b _ r.0 r.1.passed (λ is. absurd (search rules)) (λ is store. absurd (search rules)) (λ _. r.1.passed) (record {
-      store = record {
-        least_journal = c.requires.room.least_journal;
-        most_journal = c.requires.room.most_journal;
-        least_pages = c.requires.room.least_pages;
-        header = r.0.reads.same 0 (λ none. none) ∙ layout;
-        list = λ is. absurd (shut is);
-      };
-      closed = shut;
-      synced = synced_still a b synced r.0;
-    }))
+    let header = r.0.reads.same 0 (λ none. none) ∙ layout in
+    quiet_recovers c.args.layout.journal_pages c.args.layout.pages a synced b _ r.0 r.1.passed (λ is. absurd (search rules)) (λ is store. absurd (search rules)) (λ _. r.1.passed)
+    (search (rules, header, shut, synced_still a b synced r.0)))
 
 pub returns-in_err-count : goal.returns-in_err-count
 returns-in_err-count g c = opens_so (search rules) (search rules) (search rules) (λ honest synced layout.
@@ -64,7 +55,7 @@ returns-then-not-branch g c = opens_so (search rules) (search rules) (search rul
     let count : c.in_ok-count.count ≡ list_word a.reads 0 = c.in_ok-count.ensures.told f.0.was_honest ∙ sym (ap (λ (x : Image). list_word x 0) (same_reads a b r.0)) in
     let fits = c.in_ok-list_fits.ensures.told honest in
     quiet_recovers c.args.layout.journal_pages n a synced _ _ (touches_more Nowhere Nowhere _ _ _ (λ i none. none) ab f.0) tt (λ is. absurd (search rules))
-    (λ is store. search (rules, same_reads, not_true)) (λ _. f.1.passed ∙ s.1.passed ∙ r.1.passed) tt)
+    (λ is store. search (rules, same_reads, false≢true)) (λ _. f.1.passed ∙ s.1.passed ∙ r.1.passed) tt)
 
 pub returns : goal.returns
 returns g c = opens_so (search rules) (search rules) (search rules) (λ honest synced layout.

@@ -16,13 +16,14 @@ returns-in_default-clause-opens g c = opens_so (search rules) (search rules) (se
     let f = c.in_ok-layout.ensures.looks.model honest in
     let s = c.in_ok-sync.ensures.model f.0.was_honest in
     let seen = looked_more s f in
+    let none = rw c.in_default.is at (c.in_ok-layout.ensures.looks.told honest) in
     record {
       was_honest = s.0.was_honest;
       faults = seen.0.faults;
       any_moment = λ all. quiet_reads _ all _ seen.0;
       passed = tt;
       faulted = λ is. absurd (search rules);
-      refused = λ is all. (rw c.in_default.is at (c.in_ok-layout.ensures.looks.told honest)) (reads_store _ all _ s.0);
+      refused = λ is all. none (reads_store _ all _ s.0);
       calm = λ _. seen.1.passed;
       untouched = λ _. seen.0;
       settled = tt;

@@ -18,10 +18,9 @@ loop-k-preserved g c = record {
 
 pub returns-in_err-page : goal.returns-in_err-page
 returns-in_err-page g c = opens_so (search rules) (search rules) (search rules) (λ honest counted valid.
-    let J = c.args.layout.journal_pages in
     let entry = c.list_entry.ensures.model honest in
     let so_far = c.loop-k.invariant.so_far entry.0.was_honest counted valid in
-    let touches = touches_more (Homes (home J) (copies J (g.D.SectorDevice.disk c.args.device.now).reads)) Nowhere _ _ _ (λ i none. absurd none) so_far.touches entry.0 in
+    let touches = touches_more (Homes (home c.args.layout.journal_pages) (copies c.args.layout.journal_pages (g.D.SectorDevice.disk c.args.device.now).reads)) Nowhere _ _ _ (λ i none. absurd none) so_far.touches entry.0 in
     search rules)
 
 pub returns-then-page-layout : goal.returns-then-page-layout

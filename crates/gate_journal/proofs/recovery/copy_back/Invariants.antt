@@ -1,4 +1,4 @@
-use Rattle.{std.proofs.Common.{◌≡◌, take}, gate_journal.{specs.{Steps.HasHomes, Store.Homes, claim.Store.{home, copies, list_word, IsValid}}, proofs.SoFar.SoFar}}
+use Rattle.{std.proofs.Common.{◌≡◌, take}, gate_journal.{specs.{Steps.HasHomes, Store.Homes, claim.Store.{home, copies, list_word, IsValid}}, proofs.Quiet.SoFar}}
 use Rattle.gate_journal.proofs.recovery.copy_back.Given as goal
 
 abbrev pub invariant-loop-k : goal.invariant-loop-k

@@ -1,4 +1,5 @@
-use Rattle.{std.proofs.Common.{◌∙◌, ◌+◌, rules}, sector_device.{specs.claim.Disk.Nowhere, proofs.Moments.touches_more}, gate_journal.proofs.Lists.{names_more, names_of, not_true}}
+use Rattle.{std.proofs.{Common.{◌∙◌, ◌+◌, rules}, lemmas.Bool.false≢true}, sector_device.specs.claim.Disk.Nowhere, gate_journal.proofs.Images.{names_more, names_of}}
+use Rattle.sector_device.proofs.Moments.{touches_more}
 use Rattle.gate_journal.proofs.recovery.list_fits.Goals as goal
 
 pub returns-then-not-names_pages : goal.returns-then-not-names_pages
@@ -14,7 +15,7 @@ returns-then-not-names_pages g c = record {
       let a = g.D.SectorDevice.disk c.args.device.now in
       let s = c.loop-s.s in
       let is = c.in_ok-read.ensures.reads honest ∙ so_far.touches.reads.same (2 + s) (λ none. none) in
-      (λ never. absurd (not_true never), λ names. c.if-not-names_pages.ensures.1 (names_of a.reads s c.args.count c.args.layout.pages c.read.new.sector is names));
+      (λ never. absurd (false≢true never), λ names. c.if-not-names_pages.ensures.1 (names_of a.reads s c.args.count c.args.layout.pages c.read.new.sector is names));
 }
 
 pub loop-s-preserved : goal.loop-s-preserved

@@ -1,4 +1,4 @@
-use Rattle.{std.proofs.Common.{◌≡◌, ◌<◌, ◌≤◌, ◌*◌, ℕ}, gate_journal.{specs.claim.Store.list_word, proofs.SoFar.SoFar}, sector_device.specs.claim.Disk.Nowhere}
+use Rattle.{std.proofs.Common.{◌≡◌, ◌<◌, ◌≤◌, ◌*◌, ℕ}, gate_journal.{specs.claim.Store.list_word, proofs.Quiet.SoFar}, sector_device.specs.claim.Disk.Nowhere}
 use Rattle.gate_journal.proofs.recovery.list_fits.Given as goal
 
 abbrev pub invariant-loop-s : goal.invariant-loop-s

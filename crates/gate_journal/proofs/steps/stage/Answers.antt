@@ -1,5 +1,5 @@
 use Rattle.{std.proofs.Common.{◌≡◌, ◌+◌, ◌/◌, ◌∙◌, length, rules, arith}, gate_journal.specs.{Steps.{Span, IsStaged}, Store.Staging, claim.Store.first_copy}}
-use Rattle.{sector_device.{specs.claim.Disk.Nowhere, proofs.Moments.{touches_more, touches_wider, then_sync}}, gate_journal.proofs.{Images.{stages_same, staged_by}, SoFar.step_so}}
+use Rattle.{sector_device.{specs.claim.Disk.Nowhere, proofs.Moments.{touches_more, touches_wider, then_sync}}, gate_journal.proofs.{Images.{stages_same, staged_by}, Quiet.step_so}}
 use Rattle.gate_journal.proofs.steps.stage.Goals as goal
 
 pub returns-in_err-write_copies : goal.returns-in_err-write_copies

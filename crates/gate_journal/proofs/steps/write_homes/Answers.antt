@@ -1,4 +1,4 @@
-use Rattle.{std.proofs.Common.{rules, arith}, gate_journal.{specs.Store.Homes, proofs.{Images.{writes_at, homes_more}, SoFar.step_so}}, sector_device.proofs.Moments.touches_more}
+use Rattle.{std.proofs.Common.{rules, arith}, gate_journal.{specs.Store.Homes, proofs.{Images.{writes_at, homes_more}, Quiet.step_so}}, sector_device.proofs.Moments.touches_more}
 use Rattle.gate_journal.proofs.steps.write_homes.Goals as goal
 
 pub overflow_add-home : goal.overflow_add-home

@@ -1,4 +1,4 @@
-use Rattle.{std.proofs.Common.{◌≡◌, take}, gate_journal.{specs.{Steps.HasHomes, Store.Homes}, proofs.SoFar.SoFar}}
+use Rattle.{std.proofs.Common.{◌≡◌, take}, gate_journal.{specs.{Steps.HasHomes, Store.Homes}, proofs.Quiet.SoFar}}
 use Rattle.gate_journal.proofs.steps.write_homes.Given as goal
 
 abbrev pub invariant-loop-k : goal.invariant-loop-k

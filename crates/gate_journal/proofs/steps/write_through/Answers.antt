@@ -1,4 +1,4 @@
-use Rattle.{std.proofs.Common.{◌∙◌, rules, arith}, gate_journal.proofs.SoFar.commits_so, sector_device.proofs.Moments.{cause_after, on_ok}}
+use Rattle.{std.proofs.Common.{◌∙◌, rules, arith}, gate_journal.proofs.Quiet.commits_so, sector_device.proofs.Moments.{cause_after, on_ok}}
 use Rattle.gate_journal.proofs.Commit.{after_stage, after_gate, gate_opened, after_more, home_leaves, close_leaves, closed_pages, closed_settled}
 use Rattle.gate_journal.proofs.steps.write_through.Goals as goal
 
@@ -37,12 +37,6 @@ returns g c = commits_so (search rules) (λ honest.
     let s1 = c.in_ok-stage.ensures.model s2.touches.was_honest in
     let settled = c.requires.settled s1.touches.was_honest in
     let opened = gate_opened _ n c.args.writes.now c.requires.few c.requires.within _ _ _ settled s1.touches s1.done s2.touches s2.done in
-    record {
-      was_honest = s1.touches.was_honest;
-      any_moment = after_more _ n c.args.writes.now c.requires.few c.requires.within _ _ _ settled s1.touches s1.done s2.touches _
-          (close_leaves opened _ _ s3.touches s3.done s4.touches);
-      cause = cause_after _ _ _ _ (s3.cause.passed ∙ s2.cause.passed ∙ s1.cause.passed) s4.cause;
-      faults = omega (arith, s1.touches.faults, s2.touches.faults, s3.touches.faults, s4.touches.faults);
-      settled = on_ok _ (closed_settled opened _ _ s3.touches s3.done s4.touches) s4.done;
-      after = on_ok _ (closed_pages opened _ _ s3.touches s3.done s4.touches) s4.done;
-    })
+    let moment = after_more _ n c.args.writes.now c.requires.few c.requires.within _ _ _ settled s1.touches s1.done s2.touches _ (close_leaves opened _ _ s3.touches s3.done s4.touches) in
+    let passed = s3.cause.passed ∙ s2.cause.passed ∙ s1.cause.passed in
+    search (arith, moment, cause_after, passed, on_ok, closed_settled opened _ _ s3.touches s3.done s4.touches, closed_pages opened _ _ s3.touches s3.done s4.touches, s4.done))

@@ -1,13 +1,18 @@
 use Rattle.{std.{specs.FinMap.{insert, remove}, proofs.Common.{List, ℕ, [], ◌∷◌, ◌≡◌, ◌∙◌, length, sym, subst, arith}}, desk_model.specs.claim.Geography.GeographyModel}
-use Rattle.{desk_model.specs.declared.{block.BlockRow.BlockRow, geography.Pair.Pair}, desk_pages.specs.claim.Puts.PutsErr, geo_tables.specs.Rows.seal_row}
-use Rattle.{page_btree.specs.claim.Map.InTxn, page_store.specs.claim.Transactions.stored, sector_device.specs.claim.Disk.Image, store_rows.specs.claim.Keys.{key_of, seal}}
-use Rattle.{store_rows.specs.claim.{Puts.Row, Values.seal_bytes}, desk_pages.proofs.{Outcomes.match_of, Writing.{puts_as, told_on}}, geo_tables.proofs.RowAfterRow.then_not_removed}
+use Rattle.{desk_model.specs.declared.{block.BlockRow.BlockRow, geography.Pair.Pair}, desk_pages.specs.claim.Puts.{HasPut, PutsErr}, geo_tables.specs.Rows.seal_row}
+use Rattle.{page_btree.specs.{claim.{Errors.RemoveErr, Map.InTxn}, declared.error.TreeError.TreeError}, page_store.specs.claim.Transactions.{stored, IsQuiet}}
+use Rattle.{page_store.specs.declared.{pages.Pages.Pages, txn.Txn.Txn}, sector_device.specs.{claim.Disk.Image, declared.SectorDevice.Ghosts}, store_rows.specs.claim.Puts.Row}
+use Rattle.{store_rows.specs.claim.{Keys.{key_of, seal}, Values.seal_bytes}, desk_pages.proofs.{Outcomes.match_of, RowsPut.then_not_put, Writing.{puts_as, told_on}}}
 use Rattle.page_store.proofs.Stops.{quiet_more, passed_more}
 use Rattle.geo_tables.proofs.load_rows.seal_rows.Goals as goal
 
 row_is : (load : ℕ) (g : GeographyModel) {blocks : List BlockRow} {pairs : List Pair} {key value : List ℕ} → blocks ≡ g.blocks → pairs ≡ g.pairs → key ≡ key_of seal
     → value ≡ seal_bytes (record { load = load; blocks = length blocks; pairs = length pairs }) → ◌≡◌ {A = List Row} ((key, value) ∷ []) (seal_row load g ∷ [])
 row_is load g blocks_are pairs_are named is = λ i. (named i, (is ∙ (λ j. seal_bytes (record { load = load; blocks = length (blocks_are j); pairs = length (pairs_are j) }))) i) ∷ []
+
+-- a row was put, and then another not removed
+then_not_removed : {D : Type 0} {g : Ghosts D} (row : Row) (t u : Txn) (a b c : Pages D g) (e : TreeError) → HasPut (row ∷ []) t u a b → IsQuiet b c → RemoveErr u b c e → PutsErr (row ∷ []) t a c e
+then_not_removed row t u a b c e put quiet why = then_not_put (row ∷ []) [] t u a b c e put quiet (search (arith))
 
 pub returns-in_err-put_row : goal.returns-in_err-put_row
 returns-in_err-put_row g c = told_on c.from_residual.result (puts_as (row_is c.args.load c.args.geography.now c.blocks-2.ensures.value c.pairs.ensures.value c.seal.ensures c.seal_value.ensures) c.in_err-put_row.ensures.puts)

@@ -1,9 +1,9 @@
-use Rattle.{std.{specs.{Prelude.filter, Str.Lines.lines}, proofs.Common.{◌≡◌, ◌+◌, ◌≤◌, length}}, http_desk.{specs.Accepting.rows_in, proofs.RowLines.has_bytes}}
+use Rattle.{std.{specs.{Prelude.filter, Str.Lines.lines}, proofs.Common.{◌≡◌, ◌+◌, ◌≤◌, not, eqb, length}}, http_desk.specs.Accepting.rows_in}
 use Rattle.http_desk.proofs.rows.count_rows.Given as goal
 
 abbrev pub invariant-loop-line : goal.invariant-loop-line
 invariant-loop-line l = record {
-  all : l.count + length (filter has_bytes (lines l.rest)) ≡ rows_in l.text;
+  all : l.count + length (filter (λ line. not (eqb (length line) 0)) (lines l.rest)) ≡ rows_in l.text;
   few : l.count + length l.rest ≤ length l.text;
 }
 

@@ -1,5 +1,4 @@
-use Rattle.{std.proofs.Common.{None, inl, inr, ◌++◌, refl, ap, ◌∙◌, rules}, desk_model.specs.declared.command.Query.TheVariants.Plans, http_desk.specs.claim.Serving.write_failures}
-use Rattle.http_desk.proofs.{TalkLemmas.{may_handle, answered_by, takes_by, unanswered, cut_next, cut_short, put, queued_as}, TurnLemmas.put_reads}
+use Rattle.{std.proofs.Common.{◌++◌, refl}, http_desk.proofs.TalkLemmas.{may_handle, answered_by, unanswered, cut_next, cut_short, put, queued_as}}
 use Rattle.http_desk.specs.declared.serve.Asked.TheVariants as asked
 use Rattle.http_desk.proofs.serve.exchange.Goals as goal
 
@@ -24,9 +23,6 @@ returns-in-Ok-None-clause-talks g c =
     let end = rw c.in-Ok-None.field-0-is at c.in-Ok-None.ensures.end in
     (read.0, read.1, read.2, read.3, read.4, (unanswered g.C.Counter.commands g.C.Counter.asks c.args.counter.now (c.args.stream.now.read_buffer ++ read.0) read.1 read.5.0, end refl), read.5.1)
 
-pub returns-in-Ok-Some-List-clause-heard : goal.returns-in-Ok-Some-List-clause-heard
-returns-in-Ok-Some-List-clause-heard g c = (None, inl (refl, inr (Plans, c.list-closes.ensures.asked.0, c.list-closes.ensures.asked.1)), tt)
-
 pub returns-in-Ok-Some-List-clause-talks : goal.returns-in-Ok-Some-List-clause-talks
 returns-in-Ok-Some-List-clause-talks g c =
     let read = rw (c.in-Ok-Some-List.field-0-is, c.in-Ok-Some-List.field-0-0-is) at c.in-Ok-Some-List.ensures.read in
@@ -38,26 +34,10 @@ returns-in-Ok-Some-List-clause-talks g c =
     list.new.answer list.result c.put_answer.result is.0 (queued_as _ _ stream.write_buffer read.2 next.write_buffer read.1 is.1 read.4) c.put_answer.ensures.bytes in
     (read.0, all.0, all.1, read.3, all.2, all.3, all.4)
 
-pub returns-in-Ok-Some-List-clause-read_failures : goal.returns-in-Ok-Some-List-clause-read_failures
-returns-in-Ok-Some-List-clause-read_failures g c = c.in-Ok-Some-List.ensures.failures ∙ (put_reads _ _ _ _ _ _ c.put_answer.result c.put_answer.ensures.bytes).reads _
-
-pub returns-in-Ok-Some-List-clause-write_failures : goal.returns-in-Ok-Some-List-clause-write_failures
-returns-in-Ok-Some-List-clause-write_failures g c = c.put_answer.ensures.failures ∙ ap (λ n. write_failures n c.put_answer.result) c.in-Ok-Some-List.ensures.write_failures
-
-pub returns-in-Ok-Some-List-clause-limit : goal.returns-in-Ok-Some-List-clause-limit
-returns-in-Ok-Some-List-clause-limit g c = λ bad. absurd ((put_reads _ _ _ _ _ _ c.put_answer.result c.put_answer.ensures.bytes).limit bad)
-
-pub returns-in-Ok-Some-List-clause-left : goal.returns-in-Ok-Some-List-clause-left
-returns-in-Ok-Some-List-clause-left g c =
-    search (rules, c.in-Ok-Some-List.field-0-is, c.in-Ok-Some-List.field-0-0-is, c.in-Ok-Some-List.ensures.left, c.put_answer.ensures.bytes, takes_by, put_reads)
-
 pub handle-closes-requires-clause-takes : goal.handle-closes-requires-clause-takes
 handle-closes-requires-clause-takes g c =
     let read = rw (c.in-Ok-Some-Of.field-0-is, c.in-Ok-Some-Of.field-0-0-is) at c.in-Ok-Some-Of.ensures.read in
     may_handle g.C.Counter.takes c.args.counter.now _ _ c.args.stream.now.read_buffer read.0 c.next_request.new.stream.read_buffer read.1 read.2 c.next_request.new.stream.write_buffer c.in-Ok-Some-Of.incoming c.requires read.3 read.5
-
-pub returns-clause-heard : goal.returns-clause-heard
-returns-clause-heard g c = (c.handle-closes.new.accepted, c.handle-closes.ensures.noted, c.tell.ensures)
 
 pub returns-clause-talks : goal.returns-clause-talks
 returns-clause-talks g c =
@@ -69,15 +49,3 @@ returns-clause-talks g c =
     let all = put g.C.Counter.commands g.C.Counter.asks c.args.counter.now handle.new.counter _ _ _ (g.R.Source.remaining c.next_request.new.reader) (stream.read_buffer ++ read.0) next.read_buffer stream.write_buffer next.write_buffer c.put_answer-next.new.write_buffer read.1
     handle.new.answer handle.result c.put_answer-next.result is.0 (queued_as _ _ stream.write_buffer read.2 next.write_buffer read.1 is.1 read.4) c.put_answer-next.ensures.bytes in
     (read.0, all.0, all.1, read.3, all.2, all.3, all.4)
-
-pub returns-clause-read_failures : goal.returns-clause-read_failures
-returns-clause-read_failures g c = c.in-Ok-Some-Of.ensures.failures ∙ (put_reads _ _ _ _ _ _ c.put_answer-next.result c.put_answer-next.ensures.bytes).reads _
-
-pub returns-clause-write_failures : goal.returns-clause-write_failures
-returns-clause-write_failures g c = c.put_answer-next.ensures.failures ∙ ap (λ n. write_failures n c.put_answer-next.result) c.in-Ok-Some-Of.ensures.write_failures
-
-pub returns-clause-limit : goal.returns-clause-limit
-returns-clause-limit g c = λ bad. absurd ((put_reads _ _ _ _ _ _ c.put_answer-next.result c.put_answer-next.ensures.bytes).limit bad)
-
-pub returns-clause-left : goal.returns-clause-left
-returns-clause-left g c = search (rules, c.in-Ok-Some-Of.field-0-is, c.in-Ok-Some-Of.field-0-0-is, c.in-Ok-Some-Of.ensures.left, c.put_answer-next.ensures.bytes, takes_by, put_reads)

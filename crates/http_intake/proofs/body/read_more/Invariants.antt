@@ -1,4 +1,4 @@
-use Rattle.{std.{specs.Io.KnownBytes.Consumes, proofs.Common.{◌≡◌, ◌≤◌, ◌+◌, ◌*◌, List, ℕ, ◌++◌, take, vec_len}}, http_intake.specs.{Budget.Spends, Draws.{SameParts, left_of}}}
+use Rattle.{std.{specs.Io.KnownBytes.Consumes, proofs.Common.{◌≡◌, ◌≤◌, ◌+◌, ◌*◌, List, ℕ, ◌++◌, Ok, take, vec_len}}, http_intake.specs.Draws.Draws}
 use Rattle.http_intake.proofs.body.read_more.Given as goal
 
 abbrev pub invariant-loop-filled : goal.invariant-loop-filled
@@ -8,10 +8,7 @@ invariant-loop-filled g l = record {
   grows : vec_len l.body ≤ 2 * l.filled + 65536;
   came : (more : List ℕ) × Consumes (g.R.Source.remaining l.fn.intake.reader.now) (g.R.Source.remaining l.intake.reader.now) more × (take l.filled l.body.items ≡ l.fn.body.items ++ more);
   read_buffer : l.intake.read_buffer.now ≡ l.fn.intake.read_buffer.now;
-  same : SameParts l.fn.intake l.intake;
-  failures : g.R.Source.failures l.intake.reader.now ≡ g.R.Source.failures l.fn.intake.reader.now;
-  spends : Spends l.fn.intake.turns.now l.intake.turns.now (g.R.Source.turns l.fn.intake.reader.now) (g.R.Source.turns l.intake.reader.now);
-  less : left_of l.intake ≤ left_of l.fn.intake;
+  draws : Draws {A = ℕ} g.R.Source.turns g.R.Source.failures l.fn.intake l.intake (Ok 0);
 }
 
 abbrev pub decreases-loop-filled : goal.decreases-loop-filled

@@ -1,5 +1,5 @@
-use Rattle.{std.proofs.Common.{List, ℕ, length, subst, sym, rules}, http_intake.specs.{ChunkParts.StepCame, claim.Chunks.{HasChunkFault, LacksChunks}}}
-use Rattle.http_intake.proofs.{ChunkReadLemmas.line_failed, DrawsLemmas.goes_on}
+use Rattle.{std.proofs.Common.{length, subst, sym}, http_intake.{specs.{ChunkParts.StepCame, claim.Chunks.{HasChunkFault, IsOpenLine, LacksChunks}}, proofs.DrawsLemmas.goes_on}}
+use Rattle.http_intake.proofs.ChunkReadLemmas.{part_failed}
 use Rattle.http_intake.proofs.chunks.read_chunk.Goals as goal
 
 pub returns-in-Ok-Found-clause-read : goal.returns-in-Ok-Found-clause-read
@@ -11,17 +11,15 @@ pub returns-in-Ok-Refused-clause-read : goal.returns-in-Ok-Refused-clause-read
 returns-in-Ok-Refused-clause-read g c =
     let read = c.read_prefix.ensures.read in
     let sees = rw c.in-Ok-Refused.field-0-is at c.in-Ok-Refused.ensures.sees in
-    let n = length c.args.body.now.items in (
-      read.0,
-      read.1,
-      subst (λ (xs : List ℕ). HasChunkFault n xs c.in-Ok-Refused.fault) read.2 (subst (HasChunkFault n c.read_prefix.new.intake.read_buffer.now) (sym sees.0) (HasChunkFault.bad_line _ _ sees.1)),
-    )
+    (read.0, read.1, subst (HasChunkFault (length c.args.body.now.items) _) (sym sees.0) (HasChunkFault.bad_line _ _ (rw read.2 at sees.1)))
 
 pub returns-in-Ok-Incomplete-clause-read : goal.returns-in-Ok-Incomplete-clause-read
 returns-in-Ok-Incomplete-clause-read g c =
     let read = c.read_prefix.ensures.read in
     let sees = rw c.in-Ok-Incomplete.field-0-is at c.in-Ok-Incomplete.ensures.sees in
-    (read.0, read.1, subst (LacksChunks (length c.args.body.now.items)) read.2 (LacksChunks.no_line _ _ sees))
+    (read.0, read.1, LacksChunks.no_line _ _ (rw read.2 at sees))
 
 pub returns-in-Err-clause-read : goal.returns-in-Err-clause-read
-returns-in-Err-clause-read g c = search (rules, c.read_prefix.ensures.read, c.in-Err.ensures.sees, line_failed)
+returns-in-Err-clause-read g c =
+    let read = c.read_prefix.ensures.read in
+    (read.0, read.1, part_failed IsOpenLine _ _ c.in-Err.fault (λ is. LacksChunks.no_line _ _ (subst IsOpenLine read.2 is)) c.in-Err.ensures.sees)

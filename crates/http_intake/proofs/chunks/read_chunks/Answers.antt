@@ -1,10 +1,9 @@
-use Rattle.{std.proofs.{Common.{rules, Ok, Err}, lemmas.List.places}, http_intake.proofs.ChunkReadLemmas.{stands_more, stands_ended, step_within}}
-use Rattle.http_intake.proofs.DrawsLemmas.{spends_more, same_more}
+use Rattle.{std.proofs.{Common.{rules, Ok, Err}, lemmas.List.places}, http_intake.proofs.{ChunkReadLemmas.{stands_more, stands_ended, step_within}, DrawsLemmas.draws_more}}
 use Rattle.http_intake.proofs.chunks.read_chunks.Goals as goal
 
 pub loop-chunked-preserved : goal.loop-chunked-preserved
 loop-chunked-preserved g c =
-    search (rules, c.loop-chunked.invariant, c.in-Ok-None.field-0-is, c.in-Ok-None.ensures.read, c.in-Ok-None.ensures.takes, c.in-Ok-None.ensures.draws, places, stands_more, step_within, same_more, spends_more)
+    search (rules, c.loop-chunked.invariant, c.in-Ok-None.field-0-is, c.in-Ok-None.ensures.read, c.in-Ok-None.ensures.takes, c.in-Ok-None.ensures.draws, places, stands_more, step_within, draws_more)
 
 pub returns-in-Ok-Some-clause-read : goal.returns-in-Ok-Some-clause-read
 returns-in-Ok-Some-clause-read g c =

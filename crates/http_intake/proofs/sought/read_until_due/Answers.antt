@@ -1,17 +1,13 @@
-use Rattle.{std.proofs.Common.{◌∙◌, length, ap, arith}, http_intake.proofs.{DrawsLemmas.{spends_more, same_more}, LookLemmas.waits_more}}
+use Rattle.{std.proofs.Common.{length, ap, arith}, http_intake.proofs.{DrawsLemmas.draws_more, LookLemmas.waits_more}}
 use Rattle.http_intake.proofs.sought.read_until_due.Goals as goal
 
 pub loop-fault-preserved : goal.loop-fault-preserved
 loop-fault-preserved g c =
     let before = c.loop-fault.invariant in
-    let draws = c.in-Ok-false.ensures.draws.draws in
     let fills = rw c.in-Ok-false.field-0-test at c.in-Ok-false.ensures.bytes in
     record {
       short = omega (arith, ap length c.held-held.ensures, c.if-held-ge-LOOK_LIMIT.false);
       came = waits_more g.S.Sought.waits _ (g.R.Source.remaining c.loop-fault.intake.reader.now) _ c.args.intake.now.read_buffer.now c.loop-fault.intake.read_buffer.now c.fill.new.self.read_buffer.now fills.0 c.held-held.result.now c.held-looked.result.now
           before.came fills.1 fills.2 c.held-held.ensures c.held-looked.ensures (c.is_due.ensures c.if-is_due.false);
-      same = same_more _ c.loop-fault.intake c.fill.new.self before.same draws.same;
-      failures = draws.failures ∙ before.failures;
-      spends = spends_more _ _ _ _ _ _ before.spends draws.spends;
-      less = omega (arith, draws.left, before.less);
+      draws = draws_more _ _ _ c.loop-fault.intake c.fill.new.self before.draws c.in-Ok-false.ensures.draws.draws;
     }

@@ -1,5 +1,5 @@
 use denote.{Exit.no, Param.{param, Send.{sendable, param_sync, arg_sync, shr_sync}}}
-use Rattle.{std.proofs.{Common.{rules, ◌≡◌, length}, Crossing.sync as heap_sync}, http_seats.{specs.Streams.traffic, proofs.Counts.{each_left, stood}}}
+use Rattle.{std.proofs.{Common.{rules, ◌≡◌, length}, Crossing.sync as heap_sync}, http_seats.{specs.Streams.traffic, proofs.Counts.each_left}}
 use Rattle.http_seats.proofs.Offices.{worker_send, office_sync, captures_sync}
 use Rattle.http_seats.proofs.many.serve_places.Goals as goal
 
@@ -18,5 +18,5 @@ returns g c =
     let long : length c.for_each_mut.new.s ≡ length c.args.places.now = search rules in
     record {
       left = each_left s g.J.GalleryId.first (λ p. p.worker) (λ p. p.guest) (λ p. p.totals.ran) c.args.places.now c.for_each_mut.new.s long
-          (λ i d less. let t = (c.for_each_mut.ensures i d less).1 in stood s g.J.GalleryId.first (λ p. p.worker) (λ p. p.guest) (λ p. p.totals.ran) _ _ _ _ t.argument_is t.left t.call.left);
+          (λ i d less. let t = (c.for_each_mut.ensures i d less).1 in rw (t.argument_is, t.left) at t.call.left);
     }

@@ -26,18 +26,14 @@ returns-in-Ok-Refused g c = record {
 }
 
 pub returns-in-Ok-Incomplete : goal.returns-in-Ok-Incomplete
-returns-in-Ok-Incomplete g c = record {
-  read = search (rules, c.in-Ok-Incomplete.ensures.read, c.in-Ok-Incomplete.field-0-is, c.in-Ok-Incomplete.ensures.sees, Appends-nil, open_prefix);
-  end = search rules;
-  write_failures = search rules;
-  draws = search rules;
-}
+returns-in-Ok-Incomplete g c =
+    let read = c.in-Ok-Incomplete.ensures.read in
+    let seen = open_prefix _ _ read.2 (rw c.in-Ok-Incomplete.field-0-is at c.in-Ok-Incomplete.ensures.sees) in
+    record { read = ([], Appends-nil _, (read.0, read.1, seen)); end = search rules; write_failures = search rules; draws = search rules }
 
 pub returns-in-Err-Read : goal.returns-in-Err-Read
 returns-in-Err-Read g c = record {
-  read = let read = c.in-Err-Read.ensures.read in
-      let sees = c.in-Err-Read.ensures.sees in
-      ([], Appends-nil (g.W.Sink.contents c.args.writer.now), (read.0, read.1, open_short _ _ read.2 sees));
+  read = let read = c.in-Err-Read.ensures.read in ([], Appends-nil _, (read.0, read.1, open_short _ _ read.2 c.in-Err-Read.ensures.sees));
   end = search rules;
   write_failures = search rules;
   draws = search rules;
@@ -45,9 +41,7 @@ returns-in-Err-Read g c = record {
 
 pub returns-in-Err-TurnLimit : goal.returns-in-Err-TurnLimit
 returns-in-Err-TurnLimit g c = record {
-  read = let read = c.in-Err-TurnLimit.ensures.read in
-      let sees = c.in-Err-TurnLimit.ensures.sees in
-      ([], Appends-nil (g.W.Sink.contents c.args.writer.now), (read.0, read.1, open_short _ _ read.2 sees));
+  read = let read = c.in-Err-TurnLimit.ensures.read in ([], Appends-nil _, (read.0, read.1, open_short _ _ read.2 c.in-Err-TurnLimit.ensures.sees));
   end = search rules;
   write_failures = search rules;
   draws = search rules;

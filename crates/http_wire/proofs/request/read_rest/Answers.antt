@@ -1,5 +1,5 @@
-use Rattle.{std.proofs.{Common.{List, [], ℕ, ◌++◌, length, ◌∙◌, ap, sym, subst, rules}, KnownBytes.Consumes-nil}, http_wire.specs.{Framed.BodyRead, claim.Interim.continue_text}}
-use Rattle.{http_wire.specs.Incoming.{ReadsPrefix, IsTargetOf}, httparse.specs.Spans.{span_bytes, IsWithin}, http_intake.proofs.DrawsLemmas.{same_none, spends_none}}
+use Rattle.{std.proofs.{Common.{List, [], ℕ, ◌++◌, ◌∙◌, ap, sym, subst, rules}, KnownBytes.Consumes-nil}, http_wire.specs.{Framed.BodyRead, Incoming.{ReadsPrefix, IsTargetOf}}}
+use Rattle.{http_wire.specs.claim.Interim.continue_text, httparse.specs.Spans.span_bytes, http_intake.proofs.DrawsLemmas.{same_none, spends_none}}
 use Rattle.http_wire.proofs.{FinishLemmas.{finish_draws, finish_ends, finish_writes}, InterimLemmas.{found_asks, found_cut}, RequestLemmas.{rest_reads, out_of_memory, due}}
 use Rattle.http_wire.proofs.request.read_rest.Goals as goal
 
@@ -48,15 +48,3 @@ returns-in-Err g c = record {
   write_failures = c.in-Err.ensures.failures;
   draws = search (rules, same_none, spends_none);
 }
-
-pub begin-requires-clause-method : goal.begin-requires-clause-method
-begin-requires-clause-method g c = subst (λ (xs : List ℕ). IsWithin (length xs) c.args.head.method) (sym c.held.ensures) c.requires.method_fits
-
-pub begin-requires-clause-target : goal.begin-requires-clause-target
-begin-requires-clause-target g c = subst (λ (xs : List ℕ). IsWithin (length xs) c.args.head.target) (sym c.held.ensures) c.requires.target_fits
-
-pub consume-requires : goal.consume-requires
-consume-requires g c = c.requires.within
-
-pub read_framed-came-requires : goal.read_framed-came-requires
-read_framed-came-requires g c = c.in-Ok-begin.ensures.body

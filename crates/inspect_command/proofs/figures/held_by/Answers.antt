@@ -9,6 +9,4 @@ returns-clause-held g c =
     let one : option_copied c.geography.result ≡ (desk_of x).geography = c.geography.ensures ∙ ap (λ (d : Desk). d.geography) (c.deref.ensures ∙ shown) in
     let two : option_copied c.geography-2.result ≡ (desk_of x).geography = c.geography-2.ensures ∙ ap (λ (d : Desk). d.geography) (c.deref-2.ensures ∙ shown) in
     let three : option_copied c.geography-3.result ≡ (desk_of x).geography = c.geography-3.ensures ∙ ap (λ (d : Desk). d.geography) (c.deref-3.ensures ∙ shown) in
-    are_held x c.in_ok-needed.needed _ (option_copied c.geography.result) one c.in_ok-needed.ensures
-    (search rules)
-    (search rules)
+    are_held x c.in_ok-needed.needed _ (option_copied c.geography.result) one c.in_ok-needed.ensures (search rules)

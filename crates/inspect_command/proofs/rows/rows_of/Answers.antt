@@ -1,19 +1,18 @@
-use Rattle.{std.proofs.Common.{sym, ap, subst, ◌∙◌}, desk_pages.specs.{Openings.{AllDesks, OpensOneOf}, declared.error.StoreError.StoreError}, inspect_command.proofs.Looked.counts}
-use Rattle.{inspect_command.specs.Rows.IsUncounted, page_store.{specs.claim.Transactions.disk_in, proofs.Stops.leaves_quiet}, sector_device.specs.claim.Moments.LeavesOnly}
-use Rattle.{store_command.specs.{Faults.fault_of_store, declared.fault.StoreFault.StoreFault}, desk_pages.proofs.Found.{all_versions, stores_of, open_leaves}}
-use Rattle.inspect_command.proofs.Unread.{page_uncounted, rows_uncounted}
+use Rattle.{std.proofs.Common.{sym, ap, subst, ◌∙◌}, desk_pages.specs.{Openings.{LeavesOneOf, OpensOneOf}, declared.error.StoreError.StoreError}}
+use Rattle.{inspect_command.specs.Rows.IsUncounted, page_store.specs.claim.Transactions.disk_in, store_command.specs.{Faults.fault_of_store, declared.fault.StoreFault.StoreFault}}
+use Rattle.{inspect_command.proofs.{Looked.counts, Unread.{opened_leaves, page_uncounted, rows_uncounted}}, page_store.proofs.Stops.leaves_quiet}
 use Rattle.inspect_command.proofs.rows.rows_of.Goals as goal
 
 pub returns-in-Err-clause-any_moment : goal.returns-in-Err-clause-any_moment
-returns-in-Err-clause-any_moment g c = λ honest all. search (open_leaves, c.in-Err.ensures.any_moment, stores_of, all_versions)
+returns-in-Err-clause-any_moment g c = opened_leaves _ _ c.in-Err.ensures.any_moment
 
 pub returns-clause-any_moment : goal.returns-clause-any_moment
 returns-clause-any_moment g c =
     let old = g.D.SectorDevice.disk c.args.device in
-    let told = λ (honest : (disk_in c.count_pages-counted.new.pages).is_honest) (all : AllDesks old).
-    let before = c.count_pages-counted.ensures.quiet.honest honest in
-    leaves_quiet c.in-Ok.pages c.count_pages-counted.new.pages c.count_pages-counted.ensures.quiet honest (OpensOneOf old) old (open_leaves old (disk_in c.in-Ok.pages) all (c.in-Ok.ensures.any_moment before (stores_of old (all_versions old all)))) in
-    subst (λ d. (g.D.SectorDevice.disk d).is_honest → AllDesks old → LeavesOnly (OpensOneOf old) old (g.D.SectorDevice.disk d)) (sym c.into_device.ensures) told
+    let a = c.in-Ok.pages in
+    let quiet = c.count_pages-counted.ensures.quiet in
+    subst (λ d. LeavesOneOf old (g.D.SectorDevice.disk d)) (sym c.into_device.ensures)
+    (λ honest all. leaves_quiet a c.count_pages-counted.new.pages quiet honest (OpensOneOf old) old (opened_leaves old (disk_in a) c.in-Ok.ensures.any_moment (quiet.honest honest) all))
 
 pub returns-clause-counted : goal.returns-clause-counted
 returns-clause-counted g c =

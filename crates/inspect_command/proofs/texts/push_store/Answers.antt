@@ -1,5 +1,5 @@
-use Rattle.inspect_command.proofs.Joined.{four}
+use Rattle.std.proofs.Common.{append_assoc}
 use Rattle.inspect_command.proofs.texts.push_store.Goals as goal
 
 pub returns : goal.returns
-returns c = four c.args.text.now.items c.push_number.new.text.items c.push_number-2.new.text.items c.push_number-3.new.text.items c.push_number-4.new.text.items _ _ _ _ c.in_ok-push_number.ensures c.in_ok-push_number-2.ensures c.in_ok-push_number-3.ensures c.in_ok-push_number-4.ensures
+returns c = simp (c.in_ok-push_number-4.ensures, c.in_ok-push_number-3.ensures, c.in_ok-push_number-2.ensures, c.in_ok-push_number.ensures, append_assoc)

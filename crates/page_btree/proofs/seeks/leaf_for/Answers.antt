@@ -5,9 +5,6 @@ use Rattle.page_btree.proofs.seeks.leaf_for.Goals as goal
 pub returns-then-root-eq0-clause-read : goal.returns-then-root-eq0-clause-read
 returns-then-root-eq0-clause-read g c = λ honest m r. search (arith, r.sound.below (page_of r.tree) (owns_page r.tree))
 
-pub returns-clause-bare : goal.returns-clause-bare
-returns-clause-bare g c = λ none. absurd (c.if-root-eq0.false (c.root-root.ensures.root ∙ none))
-
 pub returns-clause-reading : goal.returns-clause-reading
 returns-clause-reading g c = not_from_root c.args.txn.now c.level_of-level.result c.args.key.now c.root-root.result c.root-root.ensures.root c.if-root-eq0.false c.in_ok-own.ensures.reading.passed
     c.lent.ensures c.in_ok-own.ensures.lends c.level_of-level.ensures.level c.leaf_below.ensures.reading

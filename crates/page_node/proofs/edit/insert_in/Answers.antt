@@ -1,12 +1,5 @@
-use Rattle.{std.{specs.Prelude.insert, proofs.Common.{sym, subst, arith, rules}}, page_node.{specs.claim.Node.IsNode, proofs.Editing.count_small}}
-use Rattle.page_node.proofs.PageEdits.{inserted_node, inserted_size}
+use Rattle.{std.{specs.Prelude.insert, proofs.Common.{sym, subst, arith, rules}}, page_node.{specs.claim.Node.IsNode, proofs.PageEdits.inserted_node}}
 use Rattle.page_node.proofs.edit.insert_in.Goals as goal
-
-pub returns-then-count-eq65535 : goal.returns-then-count-eq65535
-returns-then-count-eq65535 c = λ node is le at_is. search (rules, count_small)
-
-pub returns-then-used-key-gt-PAGE_SIZE : goal.returns-then-used-key-gt-PAGE_SIZE
-returns-then-used-key-gt-PAGE_SIZE c = search (rules, inserted_size)
 
 pub returns : goal.returns
 returns c = record {

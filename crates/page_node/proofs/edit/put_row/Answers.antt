@@ -1,12 +1,9 @@
-use Rattle.{std.proofs.Common.{List, true, false, arith, rules}, page_node.specs.{Searching.IsBelow, claim.{Entries.Entry, Node.IsNode, Places.Rises}}}
+use Rattle.{std.proofs.Common.{List, true, false, rules}, page_node.specs.{Searching.IsBelow, claim.{Entries.Entry, Node.IsNode, Places.Rises}}}
 use Rattle.page_node.proofs.PageEdits.{refused, none_put, puts_found, puts_gap}
 use Rattle.page_node.proofs.edit.put_row.Goals as goal
 
 pub returns-in_err-spot : goal.returns-in_err-spot
 returns-in_err-spot c = search (rules, refused c.from_residual.result ((es : List Entry) → IsNode c.args.page.now (record { level = 0; entries = es }) → Rises es → IsBelow c.args.key.now es c.args.from.k c.args.from.at → ⊥) (λ es is rises begun. c.in_err-spot.ensures _ is begun))
-
-pub replace_in-requires-clause-index : goal.replace_in-requires-clause-index
-replace_in-requires-clause-index c = let few = c.in_ok-spot.ensures.few in omega arith
 
 pub returns-in_err-fits : goal.returns-in_err-fits
 returns-in_err-fits c =

@@ -1,8 +1,5 @@
-use Rattle.{std.proofs.Common.{arith, rules}, page_node.proofs.Passed.{passes_none, passes_both, passes_found, passes_not}}
+use Rattle.{std.proofs.Common.{arith, rules}, page_node.proofs.Passed.{passes_both, passes_found, passes_not}}
 use Rattle.page_node.proofs.passing.each_in.Goals as goal
-
-pub loop-k-init : goal.loop-k-init
-loop-k-init c = (omega arith, c.requires, passes_none c.args.page.now c.args.at)
 
 pub loop-k-preserved : goal.loop-k-preserved
 loop-k-preserved c = search (rules, c.in-Some.ensures.some, passes_both, passes_found)

@@ -1,15 +1,9 @@
-use Rattle.{std.proofs.Common.{arith, refl, rules}, page_node.proofs.{Editing.count_small, Scanning.{scanned_not, scanned_no_child, scanned_next, scanned_end}}}
+use Rattle.{std.proofs.Common.arith, page_node.proofs.Scanning.{scanned_not, scanned_next, scanned_end}}
 use Rattle.page_node.proofs.scan.scan.Goals as goal
 use Rattle.page_node.proofs.scan.scan.Goals.{else-level-gt0-via-then-level-gt0+else-bounds-ne4, else-level-gt0-via-else-level-gt0}
 
-pub returns-then-level-gt5-clause-scanned : goal.returns-then-level-gt5-clause-scanned
-returns-then-level-gt5-clause-scanned c = λ node is. search (rules, count_small)
-
 pub returns-in_err-bounds-clause-scanned : goal.returns-in_err-bounds-clause-scanned
 returns-in_err-bounds-clause-scanned c = search (c.loop-k.ends, c.from_residual.ensures, scanned_not, c.in_err-bounds.ensures.none)
-
-pub returns-then-bounds-ne4-clause-scanned : goal.returns-then-bounds-ne4-clause-scanned
-returns-then-bounds-ne4-clause-scanned c = scanned_no_child _ _ _ _ _ _ _ _ c.loop-k.invariant c.loop-k-test.true refl refl c.in_ok-bounds.ensures.some c.if-level-gt0.true c.if-bounds-ne4.true
 
 pub loop-k-preserved : goal.loop-k-preserved
 loop-k-preserved c =

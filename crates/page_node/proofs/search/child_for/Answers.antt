@@ -1,9 +1,6 @@
-use Rattle.{std.{specs.Ordering.is_gt, proofs.Common.{arith, sym, ◌∙◌, rules}}, page_node.proofs.Scanning.{lies_there, told_of, last_next, child_ok}}
+use Rattle.{std.{specs.Ordering.is_gt, proofs.Common.{arith, sym, ◌∙◌, rules}}, page_node.proofs.Scanning.{told_of, last_next, child_ok}}
 use Rattle.page_node.proofs.search.child_for.Goals as goal
 use Rattle.page_node.proofs.search.child_for.Goals.{else-k-gt0-via-then-k-gt0+else-is_above, else-k-gt0-via-else-k-gt0}
-
-pub returns-in-None-clause-err : goal.returns-in-None-clause-err
-returns-in-None-clause-err c = λ node is inner. search (rules, lies_there)
 
 pub returns-then-is_above-clause-child : goal.returns-then-is_above-clause-child
 returns-then-is_above-clause-child c = λ node is.

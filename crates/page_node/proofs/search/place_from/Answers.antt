@@ -1,22 +1,13 @@
 use Rattle.{std.{specs.{Ordering.{is_gt, is_lt}, declared.cmp.Ordering.TheVariants.Less}, proofs.lemmas.List.length-drop}, page_node.specs.{Entries.key_at, Places.entries_from}}
-use Rattle.{std.proofs.Common.{rules, ◌≡◌, ℕ, ◌+◌, ◌-◌, ◌<◌, ◌≤◌, List, length, take, true, false, arith, ◌∙◌, below_more}, page_node.specs.{Walking.IsAhead, claim.Places.key_cmp}}
-use Rattle.page_node.{specs.claim.{Entries.size_of, Node.{Node, IsNode}}, proofs.{Laws.{entries_from_at, from_middle, not_below, is_less}, Nearing.first_below}}
-use Rattle.page_node.proofs.{Scanning.{lies_there, told_of, end_of}, Walking.node_ahead_at}
+use Rattle.{std.proofs.Common.{◌≡◌, ℕ, ◌+◌, ◌-◌, ◌<◌, ◌≤◌, List, length, take, true, false, arith, ◌∙◌, below_more}, page_node.specs.{Walking.IsAhead, claim.Entries.size_of}}
+use Rattle.page_node.{specs.claim.{Node.{Node, IsNode}, Places.key_cmp}, proofs.{Laws.{entries_from_at, from_middle, not_below, is_less}, Scanning.{told_of, end_of}}}
+use Rattle.page_node.proofs.Walking.{node_ahead_at}
 use Rattle.page_node.proofs.search.place_from.Goals as goal
 
 found : (page key : List ℕ) (node : Node) (k at left : ℕ) → IsNode page node → at ≡ 4 + size_of (take k node.entries) → k ≤ length node.entries → left ≡ length node.entries - k → ((j : ℕ) → j < k → key_cmp (key_at node.entries j) key ≡ Less) → ((j : ℕ) → k ≤ j → j < length node.entries → is_gt (key_cmp key (key_at node.entries j)) ≡ false)
     → IsAhead page at (entries_from key node.entries) × (left ≡ length (entries_from key node.entries))
 found page key node k at left is place within left_is below from =
     search (entries_from_at key node.entries k within below from, node_ahead_at page node k at is place, length-drop k node.entries)
-
-pub returns-in-None-clause-err : goal.returns-in-None-clause-err
-returns-in-None-clause-err c = λ node is. c.in-None.ensures node is (first_below c.args.key.now node.entries)
-
-pub loop-k-init : goal.loop-k-init
-loop-k-init c = λ node is. c.in-Some.ensures.below node is (first_below c.args.key.now node.entries)
-
-pub returns-in-None-bounds_in-clause-err : goal.returns-in-None-bounds_in-clause-err
-returns-in-None-bounds_in-clause-err c = λ node is. search (rules, lies_there)
 
 pub returns-then-not-is_below-clause-place : goal.returns-then-not-is_below-clause-place
 returns-then-not-is_below-clause-place c = λ node is rises.

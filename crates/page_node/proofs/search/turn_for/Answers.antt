@@ -1,10 +1,7 @@
 use Rattle.{std.{specs.{Ordering.is_gt, Prelude.Ok}, proofs.Common.{◌≤◌, ℕ, arith, sym, ◌∙◌, rules}}, page_node.proofs.Laws.{ceiling_at, ceiling_none}}
-use Rattle.page_node.proofs.Scanning.{lies_there, told_of, last_next, child_ok}
+use Rattle.page_node.proofs.Scanning.{told_of, last_next, child_ok}
 use Rattle.page_node.proofs.search.turn_for.Goals as goal
 use Rattle.page_node.proofs.search.turn_for.Goals.{else-k-gt0-via-then-k-gt0+else-is_above, else-k-gt0-via-else-k-gt0}
-
-pub returns-in-None-bounds_in : goal.returns-in-None-bounds_in
-returns-in-None-bounds_in c = λ node is rises inner. search (rules, lies_there)
 
 pub loop-k-preserved : goal.loop-k-preserved
 loop-k-preserved c =

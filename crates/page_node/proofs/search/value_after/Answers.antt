@@ -1,9 +1,6 @@
 use Rattle.{std.{specs.Prelude.Some, proofs.Common.{◌≤◌, arith, sym, ap, ◌∙◌, below_more, rules}}, page_node.proofs.Laws.{find_none, find_at, above_middle, same_key}}
-use Rattle.page_node.proofs.Scanning.{lies_there, entry_of, told_of, end_of, value_part}
+use Rattle.page_node.proofs.Scanning.{entry_of, told_of, end_of, value_part}
 use Rattle.page_node.proofs.search.value_after.Goals as goal
-
-pub returns-in-None-bounds_in-clause-err : goal.returns-in-None-bounds_in-clause-err
-returns-in-None-bounds_in-clause-err c = λ node is begun. search (rules, lies_there)
 
 pub returns-in-Greater-clause-value : goal.returns-in-Greater-clause-value
 returns-in-Greater-clause-value c = λ node is rises begun.

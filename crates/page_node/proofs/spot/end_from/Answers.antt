@@ -1,11 +1,5 @@
-use Rattle.{std.proofs.Common.{arith, rules}, page_node.proofs.Scanning.{lies_there, entry_of, end_there}}
+use Rattle.{std.proofs.Common.arith, page_node.proofs.Scanning.{entry_of, end_there}}
 use Rattle.page_node.proofs.spot.end_from.Goals as goal
-
-pub returns-in-None : goal.returns-in-None
-returns-in-None c = c.in-None.ensures
-
-pub returns-in-None-bounds_in : goal.returns-in-None-bounds_in
-returns-in-None-bounds_in c = λ node is le begins. search (rules, lies_there)
 
 pub loop-k-preserved : goal.loop-k-preserved
 loop-k-preserved c =

@@ -1,8 +1,5 @@
-use Rattle.{std.proofs.Common.{arith, ◌∙◌, below_more, rules}, page_node.proofs.{Laws.{found_here, above_middle, same_key}, Scanning.{lies_there, told_of, end_of}}}
+use Rattle.{std.proofs.Common.{arith, ◌∙◌, below_more, rules}, page_node.proofs.{Laws.{found_here, above_middle, same_key}, Scanning.{told_of, end_of}}}
 use Rattle.page_node.proofs.spot.spot_after.Goals as goal
-
-pub returns-in-None-bounds_in : goal.returns-in-None-bounds_in
-returns-in-None-bounds_in c = λ node is begun. search (rules, lies_there)
 
 pub returns-in-Greater : goal.returns-in-Greater
 returns-in-Greater c = record {
@@ -38,6 +35,3 @@ loop-k-preserved c =
           let less = told_of (λ r. r) _ c.args.key.now node c.loop-k.k c.loop-k.at _ _ _ is (omega arith) place.0 lies c.compare_part.ensures ∙ c.in-Less.is in
           (end_of _ node c.loop-k.k c.loop-k.at _ _ is (omega arith) place.0 lies, λ rises. below_more _ _ (place.1 rises) less),
     )
-
-pub returns : goal.returns
-returns c = search rules

@@ -2,15 +2,6 @@ use Rattle.{std.{specs.{List.starts_with, Prelude.Some}, proofs.Common.{◌≡�
 use Rattle.page_node.{specs.{Walking.part_of, Ways.AreWays}, proofs.{Following.{here_key, here_next, here_child, here_no_child, ways_there, ways_next}, Scanning.lies_there}}
 use Rattle.page_node.proofs.ways.follow.Goals as goal
 
-pub returns-then-bound-count : goal.returns-then-bound-count
-returns-then-bound-count c = record {
-  few = search rules;
-  there = search rules;
-  ways = λ node is rises key child turn child_is.
-      let kept = c.loop-more.invariant in
-      ways_there _ c.args.prefix.now node key child c.loop-more.more c.loop-more.after c.loop-more.bound.k _ _ _ is (kept.3 node is key turn) kept.1 (kept.4 node is rises key child turn child_is);
-}
-
 pub returns-in-None : goal.returns-in-None
 returns-in-None c = λ node is key turn inner.
     let kept = c.loop-more.invariant in

@@ -1,4 +1,4 @@
-use Rattle.{std.proofs.Common.ap, parallel_verify.{specs.Looking.HasDesk, proofs.Opened.{looked, not_opened}}}
+use Rattle.parallel_verify.{specs.Looking.HasDesk, proofs.Opened.{looked, not_opened}}
 use Rattle.parallel_verify.proofs.jobs.look_at_desk.Goals as goal
 
 pub returns-in-Err : goal.returns-in-Err
@@ -6,7 +6,6 @@ returns-in-Err g c = not_opened g.R.SectorDevice HasDesk c.args.reader c.in-Err.
 
 pub returns : goal.returns
 returns g c =
-    let d = g.R.SectorDevice in
     let opened = c.in-Ok.ensures in
-    looked d HasDesk (d.disk c.args.reader) c.in-Ok.pages c.desk_in-found.new.pages opened.sectors opened.room opened.found opened.working opened.passed c.desk_in-found.ensures.quiet
-    (d.disk c.into_device.result) (ap (λ x. d.disk x) c.into_device.ensures) c.desk_in-found.result c.is_halted.result c.look_of.result c.is_halted.ensures c.desk_in-found.ensures.found c.look_of.ensures
+    looked g.R.SectorDevice HasDesk (g.R.SectorDevice.disk c.args.reader) c.in-Ok.pages c.desk_in-found.new.pages opened.sectors opened.room opened.found opened.working opened.passed c.desk_in-found.ensures.quiet
+    c.into_device.result c.into_device.ensures c.desk_in-found.result c.is_halted.result c.look_of.result c.is_halted.ensures c.desk_in-found.ensures.found c.look_of.ensures

@@ -1,4 +1,4 @@
-use Rattle.{std.proofs.Common.ap, parallel_verify.{specs.Looking.HasSeen, proofs.Opened.{looked, not_opened}}}
+use Rattle.parallel_verify.{specs.Looking.HasSeen, proofs.Opened.{looked, not_opened}}
 use Rattle.parallel_verify.proofs.jobs.look_at_rows.Goals as goal
 
 pub returns-in-Err : goal.returns-in-Err
@@ -6,7 +6,6 @@ returns-in-Err g c = not_opened g.R.SectorDevice HasSeen c.args.reader c.in-Err.
 
 pub returns : goal.returns
 returns g c =
-    let d = g.R.SectorDevice in
     let opened = c.in-Ok.ensures in
-    looked d HasSeen (d.disk c.args.reader) c.in-Ok.pages c.rows_in-found.new.pages opened.sectors opened.room opened.found opened.working opened.passed c.rows_in-found.ensures.quiet
-    (d.disk c.into_device.result) (ap (λ x. d.disk x) c.into_device.ensures) c.rows_in-found.result c.is_halted.result c.look_of.result c.is_halted.ensures c.rows_in-found.ensures.found c.look_of.ensures
+    looked g.R.SectorDevice HasSeen (g.R.SectorDevice.disk c.args.reader) c.in-Ok.pages c.rows_in-found.new.pages opened.sectors opened.room opened.found opened.working opened.passed c.rows_in-found.ensures.quiet
+    c.into_device.result c.into_device.ensures c.rows_in-found.result c.is_halted.result c.look_of.result c.is_halted.ensures c.rows_in-found.ensures.found c.look_of.ensures

@@ -1,26 +1,11 @@
 use Rattle.{std.proofs.Common.{sym, ◌∙◌}, page_store.proofs.Stops.quiet_more, parallel_verify.proofs.Rows.rows_seen}
 use Rattle.parallel_verify.proofs.jobs.rows_in.Goals as goal
 
-pub check_holdings-requires : goal.check_holdings-requires
-check_holdings-requires g c = record { begun = c.begin-txn.ensures.pages }
-
-pub returns-in_default : goal.returns-in_default
-returns-in_default g c = record { quiet = c.check_holdings.ensures.quiet; found = λ honest. tt }
-
-pub note_parts-requires : goal.note_parts-requires
-note_parts-requires g c = record { begun = c.begin-txn.ensures.pages ∙ sym c.check_holdings.ensures.quiet.count }
-
 pub returns-in_default-note_parts : goal.returns-in_default-note_parts
 returns-in_default-note_parts g c = record { quiet = quiet_more _ _ _ c.check_holdings.ensures.quiet c.note_parts.ensures.quiet; found = λ honest. tt }
 
-pub counties_in-requires : goal.counties_in-requires
-counties_in-requires g c = record { begun = c.begin-txn.ensures.pages ∙ sym c.check_holdings.ensures.quiet.count ∙ sym c.note_parts.ensures.quiet.count }
-
 pub returns-in_default-counties_in : goal.returns-in_default-counties_in
 returns-in_default-counties_in g c = record { quiet = quiet_more _ _ _ c.check_holdings.ensures.quiet (quiet_more _ _ _ c.note_parts.ensures.quiet c.counties_in.ensures.quiet); found = λ honest. tt }
-
-pub check_rows-requires : goal.check_rows-requires
-check_rows-requires g c = record { begun = c.begin-txn.ensures.pages ∙ sym c.check_holdings.ensures.quiet.count ∙ sym c.note_parts.ensures.quiet.count ∙ sym c.counties_in.ensures.quiet.count }
 
 pub returns-in_default-check_rows : goal.returns-in_default-check_rows
 returns-in_default-check_rows g c = record { quiet = quiet_more _ _ _ c.check_holdings.ensures.quiet (quiet_more _ _ _ (quiet_more _ _ _ c.note_parts.ensures.quiet c.counties_in.ensures.quiet) c.check_rows.ensures.quiet); found = λ honest. tt }

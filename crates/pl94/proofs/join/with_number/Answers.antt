@@ -1,6 +1,39 @@
-use Rattle.{std.proofs.{Common.{ℕ, ◌∷◌, ◌++◌, [], Option, sym, subst, ◌∙◌, arith}, lemmas.Bool.Decides.nat_tests}, pl94.specs.Join.IsLeast}
-use Rattle.pl94.{specs.declared.record.SegmentNumber.SegmentNumber, proofs.LeastLemmas.{least_kept, least_of_less, least_of_none}}
+use Rattle.std.proofs.{Common.{ℕ, ◌∷◌, ◌++◌, [], Option, sym, subst, ◌∙◌, arith, ◌≡◌, ◌<◌, ◌≤◌, List, Some, None, IsSome, is_some, ap}, lemmas.Bool.{false≢true, Decides.nat_tests}}
+use Rattle.{std.proofs.lemmas.List.Elements.{All-push, Contains-append_left, Contains-push}, pl94.specs.{Join.IsLeast, claim.Join.{lacking_part, NoneMissing, IsLeastMissing}}}
+use Rattle.pl94.specs.{declared.record.SegmentNumber.SegmentNumber, declared.segment.SegRows.SegRows}
 use Rattle.pl94.proofs.join.with_number.Goals as goal
+
+-- The least missing record, with one more number looked at.
+module _ (first second third : SegRows) where
+  lacks_none : (n : ℕ) → lacking_part first second third n ≡ None → IsSome (lacking_part first second third n) → ⊥
+  lacks_none n none some = false≢true (sym (ap is_some none) ∙ some)
+
+  -- the least one is no greater
+  least_kept : (numbers : List ℕ) (n other : ℕ) (part : SegmentNumber) → other ≤ n → IsLeastMissing first second third numbers other part
+      → IsLeastMissing first second third (numbers ++ n ∷ []) other part
+  least_kept numbers n other part less least = record {
+    taken = Contains-append_left numbers (n ∷ []) other least.taken;
+    lacks = least.lacks;
+    least = All-push (λ m. IsSome (lacking_part first second third m) → other ≤ m) numbers n least.least (λ some. less);
+  }
+
+  -- it is less than the least one
+  least_of_less : (numbers : List ℕ) (n other : ℕ) (part least_part : SegmentNumber) → n < other → lacking_part first second third n ≡ Some part
+      → IsLeastMissing first second third numbers other least_part → IsLeastMissing first second third (numbers ++ n ∷ []) n part
+  least_of_less numbers n other part least_part less lacks least = record {
+    taken = Contains-push numbers n;
+    lacks = lacks;
+    least = All-push (λ m. IsSome (lacking_part first second third m) → n ≤ m) numbers n (λ k d inside some. omega (arith, least.least k d inside some)) (λ some. omega arith);
+  }
+
+  -- it is the first one
+  least_of_none : (numbers : List ℕ) (n : ℕ) (part : SegmentNumber) → lacking_part first second third n ≡ Some part → NoneMissing first second third numbers
+      → IsLeastMissing first second third (numbers ++ n ∷ []) n part
+  least_of_none numbers n part lacks none = record {
+    taken = Contains-push numbers n;
+    lacks = lacks;
+    least = All-push (λ m. IsSome (lacking_part first second third m) → n ≤ m) numbers n (λ k d inside some. absurd (lacks_none _ (none k d inside) some)) (λ some. omega arith);
+  }
 
 pub returns-then-other-number : goal.returns-then-other-number
 returns-then-other-number c = λ numbers.

@@ -1,9 +1,100 @@
-use Rattle.{std.proofs.Common.{is_some, ◌≡◌, ℕ, List, length, Some, refl, ap, ◌∙◌, rules}, desk_catalogue.specs.Kept.revision_in, desk_model.specs.Ranges.ranges_of}
-use Rattle.{desk_model.specs.claim.Desk.Desk, desk_pages.proofs.Writing.{does, told_on}, plan_revisions.proofs.{Accepted.next_is, Stepped.revision_put}}
-use Rattle.plan_revisions.proofs.{Commands.{create_put, fork_put, retire_put, revision_as}, Counted.{changes_by, changes_now, each_told, revised_by}}
-use Rattle.plan_rows.proofs.Writing.{writes_as}
+use Rattle.{std.proofs.Common.{◌≡◌, ℕ, List, length, Option, Some, Result, sym, ap, subst, ◌∙◌, arith, rules, ◌⊎◌, is_some, refl}, desk_catalogue.specs.Kept.revision_in}
+use Rattle.{desk_catalogue.specs.claim.Accepting.IsAfter, desk_model.specs.{Ranges.ranges_of, claim.{Desk.{Plan, Desk}, Geography.GeographyModel}, declared.kind.Kind.Kind}}
+use Rattle.{desk_model.specs.{claim.Room.{added_rows, changed, revision_rows, command_rows, fork_rows}, declared.command.Command.Command}, desk_pages.specs.Outcomes.Writes}
+use Rattle.{desk_model.specs.declared.command.Command.TheVariants.{Create, Whole, Counties, Retire, Fork}, desk_pages.specs.claim.Desks.{AreWithin, InTxn}}
+use Rattle.{page_btree.specs.declared.error.TreeError.TreeError, page_store.specs.{claim.Transactions.stored, declared.{pages.Pages.Pages, txn.Txn.Txn}}}
+use Rattle.plan_revisions.specs.{Accepted.IsRevised, Outcomes.{StepsWhereLeft, Steps}, claim.{Rows.{added_by, HasNumbers}, Steps.{HasStepped, IsStepped, StepErr}}}
+use Rattle.plan_revisions.specs.Plans.{TakesNext, with_next, with_next_of, TakesPlan, with_plan, HasPlanAt, without_plan, TakesFork, with_fork}
+use Rattle.plan_rows.{specs.{claim.PlanRows.{HasChunkNumbers, HasPlanNumber}, declared.change.ChangeOutcome.{ChangeOutcome, TheVariants.Made}}, proofs.Writing.writes_as}
+use Rattle.{sector_device.specs.declared.SectorDevice.Ghosts, store_rows.specs.{Changes.with_revision, declared.value.Counters.Counters}, desk_pages.proofs.Writing.{does, told_on}}
+use Rattle.plan_revisions.proofs.Accepted.{last_is, rows_added, chunks_added, created, forked, rows_forked, taken_away, next_is}
+use Rattle.plan_revisions.proofs.Counted.{same_geography, changes_by, changes_now, each_told, revised_by}
 use Rattle.std.specs.FinMap as map_of
 use Rattle.plan_revisions.proofs.puts.put_command.Goals as goal
+
+-- A step of a desk that is known.
+-- the rows of a revision that a plan got
+abbrev rows_added_by : Desk → List ℕ → Desk → ℕ
+rows_added_by d name e = added_rows d.geography (map_of.get d.plans name) (map_of.get e.plans name)
+
+module _ {D : Type 0} {g : Ghosts D} where
+  -- what is said of more desks, is said of one
+  module _ (d e : Desk) (says : Desk → Type 0) (next : Desk → Desk) (takes : says d) (is : next d ≡ e) (rows : ℕ) (t u : Txn) (a b : Pages D g) where
+    gives : (x : Desk) → x ≡ d → says x
+    gives x same = subst says (sym same) takes
+
+    stepped_as : HasStepped says next rows t u a b → HasStepped (λ x. x ≡ d) (λ x. e) rows t u a b
+    stepped_as did = record {
+      passed = did.passed;
+      pages = did.pages;
+      desk = λ honest x holds same. subst (λ (y : Desk). InTxn u (stored a) y) (ap next same ∙ is) (did.desk honest x holds (gives x same));
+      writes = did.writes;
+      taken = did.taken;
+    }
+
+    err_as : (x : TreeError) → StepErr says rows t a b x → StepErr (λ y. y ≡ d) rows t a b x
+    err_as x why = search (arith, why, gives)
+
+    change_as : (enough : Counters → Type 0) (change : ChangeOutcome) → IsStepped says next rows enough t u a b change → IsStepped (λ x. x ≡ d) (λ x. e) rows enough t u a b change
+    change_as enough change did = search (arith, stepped_as)
+
+    put_as : (enough : Counters → Type 0) (result : Result ChangeOutcome TreeError) → StepsWhereLeft says next rows enough t u a b result → StepsWhereLeft (λ x. x ≡ d) (λ x. e) rows enough t u a b result
+    put_as enough result put = writes_as result put (change_as enough) err_as
+
+  -- a revision of the plan that the desk has
+  revision_put : (d : Desk) (name : List ℕ) (after : ℕ) (e : Desk) (r : IsRevised d name after e) (the_geography : GeographyModel) (last : Option (List ℕ)) (next : List ℕ) (t u : Txn) (a b : Pages D g) (result : Result ChangeOutcome TreeError)
+      → d.geography ≡ Some the_geography → last ≡ revision_in (map_of.get d.plans name) after → next ≡ r.districts
+      → StepsWhereLeft (TakesNext the_geography name last next) (with_next name next) (revision_rows the_geography last next) (HasChunkNumbers (length (changed the_geography last next))) t u a b result
+      → StepsWhereLeft (λ x. x ≡ d) (λ x. e) (rows_added_by d name e) (HasChunkNumbers (added_by d name e)) t u a b result
+  revision_put d name after e r the_geography last next t u a b result geography last_told next_told put =
+      let same = same_geography d the_geography r.g geography r.geography in
+      let rows : revision_rows the_geography last next ≡ rows_added_by d name e = (λ i. revision_rows (same i) (last_told i) (next_told i)) ∙ sym (rows_added d name after e r) in
+      let chunks : length (changed the_geography last next) ≡ added_by d name e = (λ i. length (changed (same i) (last_told i) (next_told i))) ∙ sym (chunks_added d name after e r) in
+      let takes : TakesNext the_geography name last next d = record { takes = record { geography = geography; plan = r.plan; there = r.there; last_is = sym (last_told ∙ last_is d name after e r); room = r.few }; within = λ limits. subst (λ (l : List ℕ). AreWithin r.plan.n l) (sym next_told) (r.within limits) } in
+      let then_d : with_next name next d ≡ e = ap (λ (q : Option Plan). with_next_of d name next q) r.there ∙ ap (λ (n : List ℕ). record d { plans = map_of.insert d.plans name (with_revision r.plan n) }) next_told ∙ sym r.desk in
+      subst (λ (n : ℕ). StepsWhereLeft (λ x. x ≡ d) (λ x. e) n (HasChunkNumbers (added_by d name e)) t u a b result) rows
+      (subst (λ (n : ℕ). StepsWhereLeft (λ x. x ≡ d) (λ x. e) (revision_rows the_geography last next) (HasChunkNumbers n) t u a b result) chunks
+      (put_as d e (TakesNext the_geography name last next) (with_next name next) takes then_d (revision_rows the_geography last next) t u a b (HasChunkNumbers (length (changed the_geography last next))) result put))
+
+-- What is put for each command.
+module _ {D : Type 0} {g : Ghosts D} where
+  -- the rows of a command were put, or not
+  abbrev IsPut : Desk → Command → Desk → Txn → Txn → Pages D g → Pages D g → Result ChangeOutcome TreeError → Type 0
+  IsPut d q e t u a b result = StepsWhereLeft (λ x. x ≡ d) (λ x. e) (command_rows d q) (HasNumbers d q) t u a b result
+
+  as_command : (d : Desk) (q r : Command) (e : Desk) (t u : Txn) (a b : Pages D g) (result : Result ChangeOutcome TreeError) → q ≡ r → IsAfter d q e → (IsAfter d r e → IsPut d r e t u a b result) → IsPut d q e t u a b result
+  as_command d q r e t u a b result is after put = subst (λ (x : Command). IsPut d x e t u a b result) (sym is) (put (rw is at after))
+
+  create_put : (d : Desk) (q : Command) (e : Desk) (name : List ℕ) (size : Kind × ℕ) (t u : Txn) (a b : Pages D g) (result : Result ChangeOutcome TreeError) → q ≡ Create name size → IsAfter d q e
+      → StepsWhereLeft (TakesPlan name) (with_plan name size) 2 HasPlanNumber t u a b result
+      → IsPut d q e t u a b result
+  create_put d q e name size t u a b result is after put = as_command d q (Create name size) e t u a b result is after (λ now.
+      let told = created d name size now.reply in
+      put_as d e (TakesPlan name) (with_plan name size) told.0 (sym told.1 ∙ sym now.desk) 2 t u a b HasPlanNumber result put)
+
+  retire_put : {X : Type 0} {t u : Txn} {a b : Pages D g} {result : Result X TreeError} (d : Desk) (q : Command) (e : Desk) (name : List ℕ) → q ≡ Retire name → IsAfter d q e
+      → Steps (HasPlanAt name) (without_plan name) 2 t u a b result
+      → Writes (λ _. IsStepped (λ x. x ≡ d) (λ x. e) (command_rows d q) (HasNumbers d q) t u a b Made) (StepErr (λ x. x ≡ d) (command_rows d q) t a b) u a b result
+  retire_put {X} {t} {u} {a} {b} {result} d q e name is after put =
+      let now : IsAfter d (Retire name) e = rw is at after in
+      let told = taken_away d name now.reply in
+      let then_is : without_plan name d ≡ e = sym told.1 ∙ sym now.desk in
+      rw is (writes_as result put (λ _ did. (stepped_as d e (HasPlanAt name) (without_plan name) told.0 then_is 2 t u a b did, λ honest m next holds fit told_next. tt)) (err_as d e (HasPlanAt name) (without_plan name) told.0 then_is 2 t u a b))
+
+  fork_put : (d : Desk) (q : Command) (e : Desk) (the_geography : GeographyModel) (name : List ℕ) (from : List ℕ × ℕ) (t u : Txn) (a b : Pages D g) (result : Result ChangeOutcome TreeError) → q ≡ Fork name from → IsAfter d q e → d.geography ≡ Some the_geography
+      → StepsWhereLeft (TakesFork the_geography name from) (with_fork name from) (fork_rows the_geography) HasPlanNumber t u a b result
+      → IsPut d q e t u a b result
+  fork_put d q e the_geography name from t u a b result is after geography put = as_command d q (Fork name from) e t u a b result is after (λ now.
+      let told = forked d name from now.reply in
+      let takes = subst (λ (x : GeographyModel). TakesFork x name from d) (same_geography d told.g the_geography told.geography geography) told.takes in
+      subst (λ (n : ℕ). StepsWhereLeft (λ x. x ≡ d) (λ x. e) n HasPlanNumber t u a b result) (sym (rows_forked d name from the_geography geography))
+      (put_as d e (TakesFork the_geography name from) (with_fork name from) takes (sym told.desk ∙ sym now.desk) (fork_rows the_geography) t u a b HasPlanNumber result put))
+
+  -- a revision, by its whole or by counties
+  revision_as : (d : Desk) (q : Command) (e : Desk) (name : List ℕ) (after : ℕ) (t u : Txn) (a b : Pages D g) (result : Result ChangeOutcome TreeError) → ((body : List ℕ) × (q ≡ Whole name after body)) ⊎ ((body : List ℕ) × (q ≡ Counties name after body)) → IsAfter d q e
+      → StepsWhereLeft (λ x. x ≡ d) (λ x. e) (rows_added_by d name e) (HasChunkNumbers (added_by d name e)) t u a b result
+      → IsPut d q e t u a b result
+  revision_as d q e name after t u a b result given is put = search (rules, as_command, rows_added_by)
 
 pub returns-in-Create : goal.returns-in-Create
 returns-in-Create g c = search (create_put, c.in-Create.is, c.requires.after, c.create.ensures)

@@ -1,17 +1,45 @@
-use Rattle.{std.{specs.FinMap.remove, proofs.Common.{[], ◌∷◌, ◌≡◌, ℕ, List, rules, subst, sym, ◌∙◌}}, page_btree.specs.claim.Map.InTxn, store_rows.specs.claim.Keys.{key_of, named}}
-use Rattle.{page_store.specs.claim.Transactions.{stored, disk_in}, store_rows.specs.claim.Rows.KeyMap, desk_pages.proofs.{Outcomes.match_of, Writing.puts_as}}
-use Rattle.plan_rows.proofs.{Retiring.{plan_gone, plan_not_gone, row_not_gone}, Writing.{after_reads, writes_as}}
+use Rattle.{std.{specs.FinMap.remove, proofs.Common.{◌≡◌, ◌≤◌, ◌+◌, ℕ, List, [], refl, ◌∙◌, arith, ◌∷◌, rules, sym}}, desk_pages.specs.claim.Puts.{HasPut, PutsErr}}
+use Rattle.{page_btree.specs.{claim.{Errors.RemoveErr, Map.InTxn}, declared.error.TreeError.{TreeError, TheVariants.{NotAStore, TooDeep}}}, page_store.specs.declared.txn.Txn.Txn}
+use Rattle.page_store.specs.{claim.Transactions.{stored, disk_in, txn_pages, txn_free, txn_writes, IsQuiet, Passed}, declared.pages.Pages.Pages}
+use Rattle.{plan_rows.specs.claim.{Outcomes.{HasRetired, RetireErr}, PlanRows.retired_rows}, sector_device.specs.declared.SectorDevice.Ghosts, store_rows.specs.claim.Rows.KeyMap}
+use Rattle.{store_rows.specs.claim.Keys.{key_of, named, retired}, desk_pages.proofs.{Outcomes.match_of, Writing.puts_as}, page_store.proofs.Stops.{passed_more, failed_more}}
+use Rattle.plan_rows.proofs.{Changed.deep_after, Writing.{after_reads, until_full, writes_as}}
 use Rattle.plan_rows.proofs.changes.retire_plan.Goals as goal
 
+-- A plan's row is removed, and then its number is marked.
+module _ {D : Type 0} {g : Ghosts D} (name : List ℕ) (number : ℕ) (t u : Txn) (a b c : Pages D g) (passed : Passed a b)
+    (removed : (disk_in b).is_honest → (m : KeyMap) → InTxn t (stored a) m → InTxn u (stored a) (remove m (key_of (named name)))) where
+  -- what the transaction reads between the two
+  half_way : (disk_in b).is_honest → (m : KeyMap) → InTxn t (stored a) m → InTxn u (stored b) (remove m (key_of (named name)))
+  half_way honest m holds = rw (passed.quiet.same honest) (removed honest m holds)
+
+  plan_gone : (v : Txn) → txn_pages u ≡ txn_pages t → txn_writes u ≤ txn_writes t + 6 → txn_free t ≤ txn_free u → HasPut (retired_rows number) u v b c → HasRetired name number t v a c
+  plan_gone v pages writes given put = record {
+    passed = passed_more a b c passed put.passed;
+    pages = put.pages ∙ pages;
+    retired = λ honest m holds.
+        let before = put.passed.quiet.honest honest in
+        rw (passed.quiet.same before) at (put.put honest (remove m (key_of (named name))) (half_way before m holds));
+    writes = let more = put.writes in omega arith;
+    taken = let more = put.taken in omega arith;
+  }
+
+  plan_not_gone : (e : TreeError) → txn_free t ≤ txn_free u → IsQuiet b c → PutsErr (retired_rows number) u b c e → RetireErr name number t a c e
+  plan_not_gone NotAStore given quiet why = λ honest m holds. why honest (remove m (key_of (named name))) (half_way (quiet.honest honest) m holds)
+  plan_not_gone TooDeep given quiet why = λ honest m holds.
+      let n = remove m (key_of (named name)) in
+      let before = quiet.honest honest in
+      deep_after [] (retired_rows number) t u a b n n (passed.quiet.same before) refl (why honest n (half_way before m holds))
+  plan_not_gone _ given quiet why = search (arith, failed_more)
+
+-- the plan's row isn't removed
+row_not_gone : {D : Type 0} {g : Ghosts D} (name : List ℕ) (number : ℕ) (t : Txn) (a b : Pages D g) (e : TreeError) → RemoveErr t a b e → RetireErr name number t a b e
+row_not_gone name number t a b e why = search (arith)
+
 pub returns-in_err-remove : goal.returns-in_err-remove
-returns-in_err-remove g c = record {
-  did = record {
-    quiet = c.in_err-remove.ensures.reading.quiet;
-    begun = c.in_err-remove.ensures.pages ∙ c.requires.begun ∙ sym c.in_err-remove.ensures.reading.quiet.count;
-    put = search (rules, match_of, row_not_gone);
-  };
-  exhausted = search rules;
-}
+returns-in_err-remove g c =
+    let quiet = c.in_err-remove.ensures.reading.quiet in
+    until_full (record { quiet = quiet; begun = c.in_err-remove.ensures.pages ∙ c.requires.begun ∙ sym quiet.count; put = search (rules, match_of, row_not_gone) }) (search rules)
 
 pub returns : goal.returns
 returns g c =
@@ -24,10 +52,7 @@ returns g c =
     let d = c.put_row.new.pages in
     let did = c.in_ok-remove.ensures in
     let key_is : c.as_slice.result.now ≡ key_of (named name) = c.as_slice.ensures.bytes ∙ c.named-key.ensures in
-    let removed = λ (honest : (disk_in b).is_honest) (m : KeyMap) (holds : InTxn t (stored a) m). subst (λ (k : List ℕ). InTxn u (stored a) (remove m k)) key_is (did.remove honest m holds).0 in
-    record {
-      did = writes_as c.put_row.result (after_reads c.put_row.result did.reading.quiet (puts_as (λ i. (c.retired.ensures i, []) ∷ []) c.put_row.ensures.puts))
-          (λ _ put. plan_gone name number t u a b d did.reading.passed removed c.put_row.new.txn did.pages did.costs.writes did.costs.given put)
-          (λ e why. plan_not_gone name number t u a b d did.reading.passed removed e did.costs.given why.0 why.1);
-      exhausted = search rules;
-    }
+    let removed = λ (honest : (disk_in b).is_honest) (m : KeyMap) (holds : InTxn t (stored a) m). rw key_is at (did.remove honest m holds).0 in
+    until_full (writes_as c.put_row.result (after_reads c.put_row.result did.reading.quiet (puts_as (λ i. (c.retired.ensures i, []) ∷ []) c.put_row.ensures.puts))
+    (λ _ put. plan_gone name number t u a b d did.reading.passed removed c.put_row.new.txn did.pages did.costs.writes did.costs.given put)
+    (λ e why. plan_not_gone name number t u a b d did.reading.passed removed e did.costs.given why.0 why.1)) (search rules)

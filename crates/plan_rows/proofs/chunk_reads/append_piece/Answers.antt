@@ -1,7 +1,19 @@
-use Rattle.{std.proofs.Common.{◌-◌, ◌*◌, ◌++◌, length, length-drop, length-take, drop, ap, sym, ◌∙◌, arith, rules}, store_rows.specs.claim.Lists.districts_bytes}
-use Rattle.{desk_pages.proofs.{Looking.{fails, finds, gathered, not_looked, refuses}, Reading.one_value}, plan_rows.proofs.{ChunkParts.one_part, Pieces.piece_in}}
-use Rattle.store_rows.proofs.ListLaws.{districts_differ}
+use Rattle.std.{specs.FinMap.get, proofs.Common.{rules, ◌≡◌, ◌^◌, ℕ, List, Some, sym, subst, ◌∙◌, arith, ◌-◌, ◌*◌, ◌++◌, length, length-drop, length-take, drop, ap}}
+use Rattle.{plan_rows.specs.{ChunkReading.{IsChunk, piece}, Parts.BeginsPart}, store_rows.specs.claim.{Keys.{key_of, chunk}, Lists.{AreDistricts, districts_bytes}, Rows.KeyMap}}
+use Rattle.desk_pages.proofs.{ListParts.{part_there, some_of_part, most_of_part, each_of_part}, Looking.{fails, finds, gathered, not_looked, refuses}, Reading.one_value}
+use Rattle.{plan_rows.proofs.ChunkParts.one_part, store_rows.proofs.ListLaws.districts_differ}
 use Rattle.plan_rows.proofs.chunk_reads.append_piece.Goals as goal
+
+-- A piece of a chunk, as its row has it.
+piece_in : (m : KeyMap) (number count index : ℕ) (districts key : List ℕ) → IsChunk number count m districts → key ≡ key_of (chunk number index)
+    → BeginsPart 512 (2 ^ 16) count index → AreDistricts (piece index districts) × (get m key ≡ Some (districts_bytes (piece index districts)))
+piece_in m number count index districts key is same place =
+    let within = place.within in
+    let long = is.long in (
+      search (rules, some_of_part, most_of_part, each_of_part),
+      subst (λ (k : List ℕ). get m k ≡ Some (districts_bytes (piece index districts))) (sym same)
+          (is.has.pieces index place.few ∙ part_there 512 districts_bytes districts index (omega arith)),
+    )
 
 pub returns-in_err-length : goal.returns-in_err-length
 returns-in_err-length g c = fails c.from_residual.result (gathered _ c.in_err-length.ensures.looks) c.from_residual.ensures.1

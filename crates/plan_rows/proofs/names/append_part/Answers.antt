@@ -1,7 +1,16 @@
-use Rattle.{std.proofs.Common.{◌-◌, ◌*◌, ◌++◌, length, length-drop, length-take, drop, ap, sym, ◌∙◌, arith, rules}, store_rows.specs.claim.Lists.chunks_bytes}
-use Rattle.{desk_pages.proofs.{Looking.{fails, finds, gathered, not_looked, refuses}, Reading.one_value}, plan_rows.proofs.{ChunkParts.one_part, RevisionParts.part_in}}
-use Rattle.store_rows.proofs.ListLaws.{chunks_differ}
+use Rattle.std.{specs.FinMap.get, proofs.Common.{◌≡◌, ◌^◌, ℕ, List, Some, arith, ◌-◌, ◌*◌, ◌++◌, length, length-drop, length-take, drop, ap, sym, ◌∙◌, rules}}
+use Rattle.{plan_rows.specs.{Parts.BeginsPart, RevisionReading.{AreNames, names_in}}, store_rows.specs.claim.{Keys.{key_of, part}, Lists.{AreChunks, chunks_bytes}, Rows.KeyMap}}
+use Rattle.desk_pages.proofs.{ListParts.{part_there, some_of_part, most_of_part, each_of_part}, Looking.{fails, finds, gathered, not_looked, refuses}, Reading.one_value}
+use Rattle.{plan_rows.proofs.ChunkParts.one_part, store_rows.proofs.ListLaws.chunks_differ}
 use Rattle.plan_rows.proofs.names.append_part.Goals as goal
+
+-- A part of a revision, as its row has it.
+part_in : (m : KeyMap) (plan revision count index : ℕ) (numbers key : List ℕ) → AreNames plan revision count m numbers → key ≡ key_of (part plan revision index)
+    → BeginsPart 128 (2 ^ 8) count index → AreChunks (names_in index numbers) × (get m key ≡ Some (chunks_bytes (names_in index numbers)))
+part_in m plan revision count index numbers key is same place =
+    let within = place.within in
+    let small = place.few in
+    (search (arith, is.long, some_of_part, most_of_part, each_of_part, is.names.each), search (arith, is.long, is.names.parts, part_there))
 
 pub returns-in_err-length : goal.returns-in_err-length
 returns-in_err-length g c = fails c.from_residual.result (gathered _ c.in_err-length.ensures.looks) c.from_residual.ensures.1

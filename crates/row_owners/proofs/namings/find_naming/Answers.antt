@@ -1,13 +1,10 @@
-use Rattle.{std.proofs.Common.{sym, subst, ◌∙◌, arith}, page_btree.specs.page_node.claim.Entries.Entry, row_owners.specs.Strays.{IsAny, IsNaming}}
+use Rattle.{std.proofs.Common.{rules, sym, subst, ◌∙◌, arith}, page_btree.specs.page_node.claim.Entries.Entry, row_owners.specs.Strays.{IsAny, IsNaming}}
 use Rattle.{btree_walks.proofs.{RowsFound.all_more, Walked.{walk_all, walk_begins, walk_ends, walk_on, walk_quiet, walk_refused}}, desk_pages.proofs.Reading.get_unread}
 use Rattle.{desk_pages.proofs.Looking.{finds, looked, not_looked}, page_store.proofs.Stops.{passed_more, passed_none}, row_owners.proofs.Belonging.{none_named, walk_looks}}
 use Rattle.row_owners.proofs.namings.find_naming.Goals as goal
 
 pub loop-taken-init : goal.loop-taken-init
-loop-taken-init g c = record {
-  begun = c.requires.begun;
-  walked = walk_begins c.args.pages.now c.new-scan.result c.new-scan.ensures.fault c.new-scan.ensures.rows (λ m. tt);
-}
+loop-taken-init g c = search (rules, walk_begins)
 
 pub returns-in-None : goal.returns-in-None
 returns-in-None g c = looked (passed_more c.args.pages.now c.loop-taken.pages c.next.new.pages c.loop-taken.invariant.walked.passed (c.next.ensures.passed (sym c.fault.ensures ∙ c.in-None.is))) (λ honest m holds.

@@ -1,15 +1,9 @@
-use Rattle.{std.{specs.{FinMap.get, Prelude.{Some, option_map}}, proofs.Common.{◌≡◌, ℕ, true, false, take, inl, inr, sym, ap, ◌∙◌}}, row_owners.specs.Strays.IsAny}
+use Rattle.{std.{specs.{FinMap.get, Prelude.{Some, option_map}}, proofs.Common.{◌≡◌, ℕ, true, false, take, inr, ⊎_elim, sym, ap, ◌∙◌}}, row_owners.specs.Strays.IsAny}
 use Rattle.desk_pages.proofs.{Looking.{begins, fails_from, looked}, Reading.get_unread}
 use Rattle.row_owners.proofs.namings.hold_row.Goals as goal
 
 pub returns-then-is_held : goal.returns-then-is_held
-returns-then-is_held g c = begins (λ m holds was. (
-  was,
-  λ is. elim was [
-    | inl none ↦ absurd (c.is_held.ensures c.if-is_held.true none)
-    | inr there ↦ there
-  ],
-))
+returns-then-is_held g c = begins (λ m holds was. (was, λ is. ⊎_elim (λ none. absurd (c.is_held.ensures c.if-is_held.true none)) (λ there. there) was))
 
 pub returns-in-None : goal.returns-in-None
 returns-in-None g c = looked c.in_ok-get.ensures.reading.passed (λ honest m holds was. (was, λ is. absurd (let clash : false ≡ true = is in cc)))

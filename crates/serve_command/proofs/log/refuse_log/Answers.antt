@@ -1,9 +1,4 @@
-use Rattle.{std.proofs.Common.{ℕ, List, subst}, command_output.specs.{Writing.written_of, claim.Writing.Told}}
 use Rattle.serve_command.proofs.log.refuse_log.Goals as goal
 
 pub returns : goal.returns
-returns g c =
-    let before = written_of g.E.Sink.contents g.E.Sink.failures c.args.errors.now in
-    let after = written_of g.E.Sink.contents g.E.Sink.failures c.send_line.new.errors in
-    let told : List ℕ → Type 0 = λ line. Told before after line in
-    (c.log_status.ensures, subst told c.log_line.ensures c.send_line.ensures)
+returns g c = (c.log_status.ensures, rw c.log_line.ensures at c.send_line.ensures)

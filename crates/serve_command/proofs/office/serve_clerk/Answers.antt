@@ -16,6 +16,4 @@ returns-clause-lasts g c =
     rw c.keep_blocks.ensures at (lasts_asked s c.keep_blocks.new.self (clerk_in c.serve_named.result) c.in-Ok.catalogue.value c.in-Ok.ensures c.each_swept_run_survives.ensures c.serve_named.ensures.left)
 
 pub returns-in_default-clause-lasts : goal.returns-in_default-clause-lasts
-returns-in_default-clause-lasts g c =
-    let s = traffic g.A.Arrivals.gives g.A.Arrivals.takes_back g.A.Reader.Source g.A.Writer.Sink c.args.arrivals.now in
-    rw c.keep_blocks.ensures (none_asked s c.args.clerk c.each_swept_run_survives.ensures)
+returns-in_default-clause-lasts g c = rw c.keep_blocks.ensures (none_asked _ c.args.clerk c.each_swept_run_survives.ensures)

@@ -1,14 +1,11 @@
-use Rattle.std.{specs.Cmp.Lexicographic.same_text, proofs.Common.{ℕ, List, ◌++◌, take, drop, length, ap, sym, subst, ◌∙◌, ◌≡◌, ◌+◌, ◌-◌, ◌<◌, ◌^◌, Fits, w64, Vec, Global, arith}}
-use Rattle.shared_lists.proofs.Puts.{IsCutOut, is_cut_out, laid_apart, fit_cut_out, laid_cut_out, same_cut_out}
+use Rattle.std.{specs.Cmp.Lexicographic.same_text, proofs.Common.{ℕ, List, Some, map, ◌++◌, take, drop, length, ap, sym, subst, ◌∙◌, ◌≡◌, ◌+◌, ◌-◌, ◌<◌, ◌^◌, Vec, Global, arith}}
+use Rattle.shared_lists.{specs.Laid.laid, proofs.Puts.{IsCutOut, is_cut_out, laid_apart, fit_cut_out, laid_between, same_between}}
 use Rattle.shared_lists.proofs.pieces.piece_put.Goals as goal
 use Rattle.shared_lists.proofs.pieces.piece_put.Goals.{After-as_slice-districts, After-min-to}
 
 -- the list of the piece
 known : (c : After-as_slice-districts) → c.as_slice-districts.result.now ≡ c.args.kept.now.value.items
 known c = c.as_slice-districts.ensures.value ∙ ap (λ (v : Vec ℕ Global). v.items) c.deref-known.ensures
-
-fits : (n : ℕ) → n < 2 ^ 64 → Fits w64 n
-fits n less = omega arith
 
 within : (c : After-as_slice-districts) → c.args.start + length c.as_slice-districts.result.now < 2 ^ 64
 within c = subst (λ (l : List ℕ). c.args.start + length l < 2 ^ 64) (sym (known c)) c.requires.here
@@ -22,16 +19,10 @@ is_apart-requires c = within c
 pub returns-then-is_apart : goal.returns-then-is_apart
 returns-then-is_apart c =
     ap (λ (v : Vec ℕ Global). v.items) (c.in_ok-clone.ensures.cases)
-    ∙ laid_apart c.args.first c.args.part.now c.args.start c.args.kept.now.value.items (length c.as_slice-districts.result.now) (ap length (c.as_slice-districts.ensures.value ∙ ap (λ (v : Vec ℕ Global). v.items) c.deref-known.ensures)) (c.is_apart.ensures.apart c.if-is_apart.true)
-
-pub overflow_add-first : goal.overflow_add-first
-overflow_add-first c = fits (c.args.first + length c.args.part.now) c.requires.there
+    ∙ laid_apart c.args.first c.args.part.now c.args.start c.args.kept.now.value.items (length c.as_slice-districts.result.now) (ap length (known (goal.at.returns-then-is_apart c).After-as_slice-districts)) (c.is_apart.ensures.apart c.if-is_apart.true)
 
 pub overflow_add-start : goal.overflow_add-start
-overflow_add-start c = fits (c.args.start + length c.as_slice-districts.result.now) (within (goal.at.overflow_add-start c).After-as_slice-districts)
-
-pub overflow_sub-from : goal.overflow_sub-from
-overflow_sub-from c = (cut c).there
+overflow_add-start c = let less = within (goal.at.overflow_add-start c).After-as_slice-districts in omega arith
 
 pub overflow_sub-to : goal.overflow_sub-to
 overflow_sub-to c = (cut c).to_there
@@ -39,30 +30,20 @@ overflow_sub-to c = (cut c).to_there
 pub between-new-requires-clause-order : goal.between-new-requires-clause-order
 between-new-requires-clause-order c = (cut c).order_there
 
-pub between-new-requires-clause-within : goal.between-new-requires-clause-within
-between-new-requires-clause-within c = (cut c).within_there
-
-pub overflow_sub-from-2 : goal.overflow_sub-from-2
-overflow_sub-from-2 c = (cut (goal.at.overflow_sub-from-2 c).After-min-to).here
-
 pub overflow_sub-to-2 : goal.overflow_sub-to-2
 overflow_sub-to-2 c = (cut (goal.at.overflow_sub-to-2 c).After-min-to).to_here
 
 pub between-requires-clause-order : goal.between-requires-clause-order
 between-requires-clause-order c = (cut (goal.at.between-requires-clause-order c).After-min-to).order_here
 
-pub between-requires-clause-within : goal.between-requires-clause-within
-between-requires-clause-within c = (cut (goal.at.between-requires-clause-within c).After-min-to).within_here
-
 pub returns-then-eq : goal.returns-then-eq
 returns-then-eq c =
     let at = goal.at.returns-then-eq c in
     ap (λ (v : Vec ℕ Global). v.items) (c.in_ok-clone-2.ensures.cases)
-    ∙ same_cut_out c.args.first c.args.part.now c.args.start c.as_slice-districts.result.now c.args.kept.now.value.items c.max-from.result c.min-to.result (known at.After-as_slice-districts) (cut at.After-min-to)
+    ∙ sym (known at.After-as_slice-districts)
+    ∙ same_between c.args.first c.args.part.now c.args.start c.as_slice-districts.result.now c.max-from.result c.min-to.result (cut at.After-min-to)
     (sym c.between.ensures ∙ same_text c.between.result.now c.between-new.result.now (sym c.if-eq.true ∙ c.eq.ensures) ∙ c.between-new.ensures)
-
-pub overflow_sub-from-3 : goal.overflow_sub-from-3
-overflow_sub-from-3 c = (cut (goal.at.overflow_sub-from-3 c).After-min-to).here
+    ∙ ap (laid c.args.first (map Some c.args.part.now) c.args.start) (known at.After-as_slice-districts)
 
 pub overflow_sub-to-3 : goal.overflow_sub-to-3
 overflow_sub-to-3 c = (cut (goal.at.overflow_sub-to-3 c).After-min-to).to_here
@@ -70,14 +51,10 @@ overflow_sub-to-3 c = (cut (goal.at.overflow_sub-to-3 c).After-min-to).to_here
 pub replaced-requires-clause-order : goal.replaced-requires-clause-order
 replaced-requires-clause-order c = (cut (goal.at.replaced-requires-clause-order c).After-min-to).order_here
 
-pub replaced-requires-clause-within : goal.replaced-requires-clause-within
-replaced-requires-clause-within c = (cut (goal.at.replaced-requires-clause-within c).After-min-to).within_here
-
 pub replaced-requires-clause-fit : goal.replaced-requires-clause-fit
 replaced-requires-clause-fit c =
-    let at = goal.at.replaced-requires-clause-fit c in
     ap length c.between-new.ensures
-    ∙ fit_cut_out c.args.first c.args.part.now c.args.start c.as_slice-districts.result.now c.args.kept.now.value.items c.max-from.result c.min-to.result (known at.After-as_slice-districts) (cut at.After-min-to)
+    ∙ fit_cut_out c.args.first c.args.part.now c.args.start c.as_slice-districts.result.now c.max-from.result c.min-to.result (cut (goal.at.replaced-requires-clause-fit c).After-min-to)
 
 pub returns : goal.returns
 returns c =
@@ -85,4 +62,5 @@ returns c =
     ap (λ (v : Vec ℕ Global). v.items) c.in_ok-new.ensures.ok
     ∙ c.in_ok-changed.ensures
     ∙ ap (λ l. take (c.max-from.result - c.args.start) c.as_slice-districts.result.now ++ (l ++ drop (c.min-to.result - c.args.start) c.as_slice-districts.result.now)) c.between-new.ensures
-    ∙ laid_cut_out c.args.first c.args.part.now c.args.start c.as_slice-districts.result.now c.args.kept.now.value.items c.max-from.result c.min-to.result (known at.After-as_slice-districts) (cut at.After-min-to)
+    ∙ laid_between c.args.first c.args.part.now c.args.start c.as_slice-districts.result.now c.max-from.result c.min-to.result (cut at.After-min-to)
+    ∙ ap (laid c.args.first (map Some c.args.part.now) c.args.start) (known at.After-as_slice-districts)

@@ -1,5 +1,9 @@
-use Rattle.{std.proofs.Common.{◌≡◌, ◌≤◌, ◌++◌, List, ℕ, length, take, drop, arith, ap, sym, subst, ◌∙◌}, shared_lists.proofs.Grown.written_over}
+use Rattle.std.proofs.{Common.{◌≡◌, ◌≤◌, ◌++◌, List, ℕ, length, take, drop, arith, ap, sym, subst, ◌∙◌, rules}, Math.Seq.take-append_seam}
 use Rattle.shared_lists.proofs.pieces.replaced.Goals as goal
+
+-- a list that was written over one of the same length
+written_over : (new old : List ℕ) (count : ℕ) → count ≡ length old → length new ≡ length old → take count (new ++ drop (length new) old) ≡ new
+written_over new old count counted long = search (rules, take-append_seam)
 
 pub replace-requires-clause-within : goal.replace-requires-clause-within
 replace-requires-clause-within c = subst (λ (l : List ℕ). c.args.to ≤ length l) (sym (c.deref_mut.ensures.value ∙ c.in_ok-list.ensures.items)) c.requires.within

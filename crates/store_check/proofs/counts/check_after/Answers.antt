@@ -24,9 +24,6 @@ returns g c =
     looks (both (both c.in_ok-sealed.ensures c.in_ok-check_loads.ensures) c.in_ok-check_sealed.ensures) c.refuse_from.result c.refuse_from.ensures
     (λ m _ found none.
     let stands = subst (λ k. StandsAs seal_bytes k m c.in_ok-sealed.sealed) c.seal.ensures found.0.0 in
-    record {
-      loads = found.0.1 stands;
-      counted = found.1 stands;
-      chunks = none_moved m c.chunk_pieces.result (chunk_prefix c.args.next.chunk) [] [] c.chunk_pieces.ensures refl none;
-    })
+    let chunks = none_moved m c.chunk_pieces.result (chunk_prefix c.args.next.chunk) [] [] c.chunk_pieces.ensures refl none in
+    record { loads = found.0.1 stands; counted = found.1 stands; chunks = chunks })
     (λ m _ is. none_moved m (chunk_prefix c.args.next.chunk) c.chunk_pieces.result [] [] (sym c.chunk_pieces.ensures) refl (due_chunks c.args.next m is))

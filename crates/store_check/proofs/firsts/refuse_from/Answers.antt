@@ -1,4 +1,4 @@
-use Rattle.{std.{specs.List.starts_with, proofs.Common.{◌≡◌, List, ℕ, Bool, true, false, nat_eq, sym, ap, subst, ◌∙◌}}, store_check.specs.Rows.IsFirst}
+use Rattle.{std.{specs.List.starts_with, proofs.Common.{List, ℕ, Bool, true, false, sym, subst, ◌∙◌}}, store_check.specs.Rows.IsFirst}
 use Rattle.{desk_pages.proofs.Looking.{fails, finds, refuses}, store_check.proofs.FirstRows.{none_at_all, none_after, one_there}}
 use Rattle.store_check.proofs.firsts.refuse_from.Goals as goal
 
@@ -13,13 +13,11 @@ returns-then-not-found g c = finds c.in_ok-found.ensures (λ m found.
 pub returns-then-starts_with : goal.returns-then-starts_with
 returns-then-starts_with g c = refuses c.in_ok-found.ensures (λ m found none.
     let first = subst (λ (k : List ℕ). IsFirst true k c.first_from.new.row m) c.as_slice.ensures.bytes (subst (λ (b : Bool). IsFirst b c.as_slice.result.now c.first_from.new.row m) c.if-not-found.false found) in
-    let on : starts_with nat_eq c.first_from.new.row.key c.args.prefix.now ≡ true = ap (λ (k : List ℕ). starts_with nat_eq k c.args.prefix.now)
-    (sym c.as_slice-2.ensures.bytes) ∙ sym c.starts_with.ensures.value ∙ c.if-starts_with.true in
+    let on = rw c.as_slice-2.ensures.bytes at (sym c.starts_with.ensures.value ∙ c.if-starts_with.true) in
     one_there m c.args.key.now _ first.0 first.1 c.args.prefix.now c.requires.under on none)
 
 pub returns : goal.returns
 returns g c = finds c.in_ok-found.ensures (λ m found.
     let first = subst (λ (k : List ℕ). IsFirst true k c.first_from.new.row m) c.as_slice.ensures.bytes (subst (λ (b : Bool). IsFirst b c.as_slice.result.now c.first_from.new.row m) c.if-not-found.false found) in
-    let off : starts_with nat_eq c.first_from.new.row.key c.args.prefix.now ≡ false = ap (λ (k : List ℕ). starts_with nat_eq k c.args.prefix.now)
-    (sym c.as_slice-2.ensures.bytes) ∙ sym c.starts_with.ensures.value ∙ c.if-starts_with.false in
+    let off = rw c.as_slice-2.ensures.bytes at (sym c.starts_with.ensures.value ∙ c.if-starts_with.false) in
     none_after m c.args.key.now _ first.0 first.1 c.args.prefix.now c.requires.under off)

@@ -1,4 +1,4 @@
-use Rattle.{std.{specs.List.starts_with, proofs.Common.{◌≡◌, ℕ, List, Bool, true, false, nat_eq, sym, ap, subst, ◌∙◌}}, store_check.specs.{Owners.IsPartKey, Rows.IsFirst}}
+use Rattle.{std.{specs.List.starts_with, proofs.Common.{ℕ, List, Bool, true, false, sym, subst, ◌∙◌}}, store_check.specs.{Owners.IsPartKey, Rows.IsFirst}}
 use Rattle.{store_rows.specs.Keys.parts_prefix, desk_pages.proofs.Looking.{fails, finds, refuses}, store_check.proofs.{FirstRows.{none_at_all, none_after}, PartOrder.no_part}}
 use Rattle.store_check.proofs.owners.part_from.Goals as goal
 
@@ -12,17 +12,15 @@ returns-then-not-found g c = finds c.in_ok-found.ensures (λ m found.
 pub returns-then-not-starts_with : goal.returns-then-not-starts_with
 returns-then-not-starts_with g c = finds c.in_ok-found.ensures (λ m found.
     let first = subst (λ (b : Bool). IsFirst b c.args.from.now c.first_from.new.row m) c.if-not-found.false found in
-    let off : starts_with nat_eq c.first_from.new.row.key parts_prefix ≡ false = ap (λ (k : List ℕ). starts_with nat_eq k parts_prefix) (sym c.as_slice.ensures.bytes)
-    ∙ ap (λ (k : List ℕ). starts_with nat_eq c.as_slice.result.now k) (sym (c.as_slice-2.ensures.bytes ∙ c.parts.ensures)) ∙ sym c.starts_with.ensures.value
-    ∙ c.if-not-starts_with.true in
+    let off = rw (c.as_slice.ensures.bytes, c.as_slice-2.ensures.bytes, c.parts.ensures) at
+    (sym c.starts_with.ensures.value ∙ c.if-not-starts_with.true) in
     none_after m c.args.from.now _ first.0 first.1 parts_prefix c.requires.under off)
 
 pub returns-in-None : goal.returns-in-None
 returns-in-None g c = refuses c.in_ok-found.ensures (λ m found rows.
     let first = subst (λ (b : Bool). IsFirst b c.args.from.now c.first_from.new.row m) c.if-not-found.false found in
-    let on : starts_with nat_eq c.first_from.new.row.key parts_prefix ≡ true = ap (λ (k : List ℕ). starts_with nat_eq k parts_prefix) (sym c.as_slice.ensures.bytes)
-    ∙ ap (λ (k : List ℕ). starts_with nat_eq c.as_slice.result.now k) (sym (c.as_slice-2.ensures.bytes ∙ c.parts.ensures)) ∙ sym c.starts_with.ensures.value
-    ∙ c.if-not-starts_with.false in
+    let on = rw (c.as_slice.ensures.bytes, c.as_slice-2.ensures.bytes, c.parts.ensures) at
+    (sym c.starts_with.ensures.value ∙ c.if-not-starts_with.false) in
     no_part m c.args.from.now _ first.0 first.1 rows on
     (λ plan revision index is. c.in-None.ensures plan revision index (c.as_slice-3.ensures.bytes ∙ is)))
 

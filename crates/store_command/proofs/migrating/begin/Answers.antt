@@ -1,16 +1,8 @@
-use Rattle.store_command.proofs.Read.{begins, bars}
+use Rattle.{std.proofs.Common.rules, store_command.proofs.Read.{begins, bars}}
 use Rattle.store_command.proofs.migrating.begin.Goals as goal
 
 pub returns-in-Ok-clause-ok : goal.returns-in-Ok-clause-ok
-returns-in-Ok-clause-ok g c = record {
-  sectors = c.in-Ok.ensures.working.1;
-  honest = c.in-Ok.ensures.honest;
-  any_moment = c.in-Ok.ensures.any_moment;
-  keeps = c.in-Ok.ensures.opened;
-  found = c.in-Ok.ensures.found;
-  working = c.in-Ok.ensures.working.0;
-  calm = c.in-Ok.ensures.passed;
-}
+returns-in-Ok-clause-ok g c = search (rules, c.in-Ok.ensures)
 
 pub returns-in-Ok-clause-begins : goal.returns-in-Ok-clause-begins
 returns-in-Ok-clause-begins g c =

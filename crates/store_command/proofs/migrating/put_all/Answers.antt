@@ -1,4 +1,4 @@
-use Rattle.{std.proofs.Common.{inl, arith, rules}, store_command.proofs.Migrated.{unmoved, then_moved, none_put, more_put, all_put, endless}}
+use Rattle.{std.proofs.Common.{inl, refl, arith, rules}, store_command.proofs.Migrated.{unmoved, then_moved, none_put, more_put, endless}}
 use Rattle.store_command.proofs.migrating.put_all.Goals as goal
 
 pub loop-steps-init : goal.loop-steps-init
@@ -18,7 +18,7 @@ loop-steps-preserved g c =
       moves = then_moved x y z c.requires before.working before.moves did.moves;
       put = λ honest d m has.
           let one = before.put (did.moves.goes.honest honest) d m has in
-          more_put x y z d m c.loop-steps.rows c.in-Ok.count one (did.put honest d one.n one.has);
+          more_put x y z d m c.loop-steps.rows c.in-Ok.count _ refl one (did.put honest d one.n one.has);
     }
 
 pub returns-then-count-eq0-clause-moves : goal.returns-then-count-eq0-clause-moves
@@ -34,7 +34,7 @@ returns-then-count-eq0-clause-puts g c =
       ended = did.ended c.if-count-eq0.true;
       put = λ honest d m has.
           let one = before.put (did.moves.goes.honest honest) d m has in
-          all_put c.args.migration.now c.loop-steps.migration c.step.new.self d m c.loop-steps.rows c.in-Ok.count c.if-count-eq0.true one (did.put honest d one.n one.has);
+          more_put c.args.migration.now c.loop-steps.migration c.step.new.self d m c.loop-steps.rows c.in-Ok.count c.loop-steps.rows (omega (arith, c.if-count-eq0.true)) one (did.put honest d one.n one.has);
     }
 
 pub returns-in-Err-clause-moves : goal.returns-in-Err-clause-moves

@@ -1,4 +1,5 @@
-use Rattle.{std.proofs.Common.{Ok, Err, rules}, store_lives.proofs.VersionLiving.{asked_lives, refused_lives, once_of}}
+use Rattle.{std.proofs.Common.{Ok, Err, ℕ, rules}, desk_model.specs.claim.Desk.Desk, store_lives.specs.claim.DeskLives.Lived}
+use Rattle.store_lives.proofs.VersionLiving.{clerk_lives, refused_lives, once_of}
 use Rattle.store_lives.proofs.desk_lives.live_in.Goals as goal
 
 pub returns-in-Err-clause-in_version : goal.returns-in-Err-clause-in_version
@@ -11,7 +12,9 @@ returns-in-Err-clause-once g c =
     once_of c.args.asked (Err c.in-Err.e) (g.D.SectorDevice.disk c.args.device) (g.D.SectorDevice.disk c.in-Err.device) (returns-in-Err-clause-in_version g c)
 
 pub returns-in-Ok-answer_all-clause-in_version : goal.returns-in-Ok-answer_all-clause-in_version
-returns-in-Ok-answer_all-clause-in_version g c = search (rules, c.in-Ok.ensures, c.into_device.ensures, c.in-Ok-answer_all.ensures, asked_lives)
+returns-in-Ok-answer_all-clause-in_version g c =
+    let life = λ (t u : ℕ) (d e : Desk). Lived t u d c.args.asked.items c.in-Ok-answer_all.told.items e in
+    search (rules, c.in-Ok.ensures, c.into_device.ensures, c.in-Ok-answer_all.ensures, clerk_lives g.D.SectorDevice c.args.device c.in-Ok.clerk c.answer_all.new.clerk life)
 
 pub returns-in-Ok-answer_all-clause-once : goal.returns-in-Ok-answer_all-clause-once
 returns-in-Ok-answer_all-clause-once g c =

@@ -1,4 +1,4 @@
-use Rattle.store_rows.proofs.{RevisionPuts.revision_put, TidyParts.name_fits, TidyRevisions.revised_tidy}
+use Rattle.store_rows.proofs.{RevisionDesk.revision_put, TidyParts.name_fits, TidyRevisions.revised_tidy}
 use Rattle.store_rows.proofs.upkeep.revisions_are_added_tidily.Goals as goal
 
 pub returns : goal.returns

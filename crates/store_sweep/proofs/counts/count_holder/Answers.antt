@@ -1,4 +1,4 @@
-use Rattle.{std.{specs.FinMap.get, proofs.Common.{List, ℕ, drop, refl, sym, ap, subst, ◌∙◌}}, store_sweep.{specs.Checks.IsThere, proofs.{Named.count_there, Noted.notes}}}
+use Rattle.{std.{specs.FinMap.get, proofs.Common.{List, ℕ, drop, refl, sym, ap, subst, ◌∙◌}}, store_sweep.{specs.Checks.IsThere, proofs.{Named.count_there, Scanned.notes}}}
 use Rattle.desk_pages.proofs.Looking.{fails, gathered, refuses}
 use Rattle.store_sweep.proofs.counts.count_holder.Goals as goal
 
@@ -13,12 +13,9 @@ returns-then-not-branch g c = refuses (gathered _ c.in_ok-is_there.ensures) (λ 
 pub returns : goal.returns
 returns g c = notes (gathered _ c.in_ok-is_there.ensures) c.count_one.result c.count_one.ensures (λ m u found more.
     let there = subst (IsThere c.holder_count.result m) c.if-not-branch.false found in
-    record {
-      plan = c.in-Some.held.0;
-      number = c.in-Some.held.1;
-      fits = (c.in-Some.ensures.0, c.in-Some.ensures.1);
-      key = ap (λ (k : List ℕ). drop 1 k) (sym c.as_slice.ensures.bytes) ∙ c.in-Some.ensures.2;
-      value = c.if-not-is_bare.ensures.yes refl;
-      shared = (there.0, ap (get m) (sym c.holder_count.ensures) ∙ there.1);
-      more = more;
-    })
+    let held = c.in-Some.held in
+    let (small, fits, said) = c.in-Some.ensures in
+    let key = ap (λ (k : List ℕ). drop 1 k) (sym c.as_slice.ensures.bytes) ∙ said in
+    let value = c.if-not-is_bare.ensures.yes refl in
+    let row = ap (get m) (sym c.holder_count.ensures) ∙ there.1 in
+    record { plan = held.0; number = held.1; fits = (small, fits); key = key; value = value; shared = (there.0, row); more = more })

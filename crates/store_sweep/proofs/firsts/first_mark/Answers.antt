@@ -1,6 +1,6 @@
-use Rattle.{std.{specs.Prelude.Some, proofs.Common.{refl, sym, ap, ◌∙◌, arith, rules}}, btree_walks.proofs.RowsFound.{all_more, found_among}}
+use Rattle.{std.{specs.Prelude.Some, proofs.Common.{[], refl, sym, ap, ◌∙◌, arith, rules}}, btree_walks.proofs.RowsFound.{all_found, all_more, found_among}}
 use Rattle.{btree_walks.proofs.Walked.{walk_all, walk_begins, walk_ends, walk_on}, desk_pages.proofs.Looking.{finds, looked, not_looked}}
-use Rattle.{page_store.proofs.Stops.{passed_more, passed_none}, store_sweep.proofs.Scanned.{IsPassed, comes, none_passed, not_come}}
+use Rattle.{page_store.proofs.Stops.{passed_more, passed_none}, store_sweep.proofs.Scanned.{IsPassed, comes, not_come}}
 use Rattle.store_sweep.proofs.firsts.first_mark.Goals as goal
 
 pub loop-taken-init : goal.loop-taken-init
@@ -9,7 +9,8 @@ loop-taken-init g c = search (rules, arith, c.requires.begun, walk_begins, c.arg
 pub returns-in-None : goal.returns-in-None
 returns-in-None g c = looked (passed_more c.args.pages.now c.loop-taken.pages c.next.new.pages c.loop-taken.invariant.walked.passed (c.next.ensures.passed (sym c.fault.ensures ∙ c.in-None.is))) (λ honest m holds key on apart is.
     let all = walk_all c.loop-taken.invariant.walked c.next.ensures.quiet c.next.new.self c.next.new.row c.next.result c.next.ensures.rows c.if-not-next.true (sym c.fault.ensures ∙ c.in-None.is) honest m holds in
-    none_passed c.args.spared.now key all.rows all.known apart (sym (found_among m c.args.prefix.now all.rows key on all.whole) ∙ is))
+    apart (all_found (IsPassed c.args.spared.now) key [] all.rows all.known
+    (sym (found_among m c.args.prefix.now all.rows key on all.whole) ∙ is) refl))
 
 pub returns-in-Some : goal.returns-in-Some
 returns-in-Some g c = not_come c.loop-taken.invariant.walked c.next.ensures.quiet c.next.new.self c.in-Some.fault (sym c.fault.ensures ∙ c.in-Some.is) c.next.ensures.fault

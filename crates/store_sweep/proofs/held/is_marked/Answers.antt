@@ -1,5 +1,5 @@
 use Rattle.{std.{specs.{FinMap.get, Prelude.{option_map, IfSome}}, proofs.Common.{◌≤◌, ℕ, take, nat_eq, refl, sym, ap, subst, ◌∙◌, arith, rules}}, desk_pages.proofs.Looking.looked}
-use Rattle.{store_rows.proofs.OneGeography.no_value, store_sweep.proofs.Marks.{marked_by, not_got}}
+use Rattle.{store_rows.proofs.OneGeography.no_value, store_sweep.proofs.Scanned.{marked_by, not_got}}
 use Rattle.store_sweep.proofs.held.is_marked.Goals as goal
 
 pub returns-in_err-get : goal.returns-in_err-get

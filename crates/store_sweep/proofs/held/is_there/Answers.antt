@@ -1,4 +1,4 @@
-use Rattle.{std.{specs.{FinMap.get, Prelude.option_map}, proofs.Common.{ℕ, take, sym, ap, ◌∙◌, arith, rules}}, desk_pages.proofs.Looking.looked, store_sweep.proofs.Marks.not_got}
+use Rattle.{std.{specs.{FinMap.get, Prelude.option_map}, proofs.Common.{ℕ, take, sym, ap, ◌∙◌, arith, rules}}, desk_pages.proofs.Looking.looked, store_sweep.proofs.Scanned.not_got}
 use Rattle.store_sweep.proofs.held.is_there.Goals as goal
 
 pub returns-in_err-get : goal.returns-in_err-get

@@ -1,6 +1,5 @@
-use Rattle.{std.proofs.Common.{◌≡◌, ℕ, List, sym, subst, subst₂, ◌∙◌, arith}, store_rows.specs.claim.{Keys.{key_of, retired}, Lists.{AreChunks, chunks_bytes}}}
-use Rattle.{store_sweep.specs.{Finding.{IsFirst, IsFirstPiece, IsLeftKey}, Leftovers.IsNoLoads}, desk_pages.proofs.Looking.{both, fails, fails_then, finds, refuses}}
-use Rattle.store_sweep.proofs.Left.{part_left, part_told, piece_left, plan_mark_left}
+use Rattle.{std.proofs.Common.{◌≡◌, sym, subst, ◌∙◌, arith}, store_rows.specs.claim.Lists.{AreChunks, chunks_bytes}}
+use Rattle.{desk_pages.proofs.Looking.{both, fails, fails_then, finds, refuses}, store_sweep.proofs.Left.{part_left, part_told, piece_left, plan_mark_left}}
 use Rattle.store_sweep.proofs.leftovers.left_of_parts.Goals as goal
 
 pub returns-in_err-first_under : goal.returns-in_err-first_under
@@ -8,15 +7,13 @@ returns-in_err-first_under g c = fails c.from_residual.result c.in_err-first_und
 
 pub returns-then-not-branch : goal.returns-then-not-branch
 returns-then-not-branch g c = finds c.in_ok-first_under.ensures (λ m found has no_holding.
-    let plan = c.args.plan in
-    let none = subst₂ (λ p. IsFirst p c.first_under.new.row m) (c.as_slice.ensures.bytes ∙ c.plan_parts-prefix.ensures) c.if-not-branch.true found in
-    let key : c.set.new.self ≡ key_of (retired plan) = c.set.ensures ∙ c.as_slice-then-not-branch.ensures.bytes ∙ c.retired.ensures in
-    subst (λ (k : List ℕ). IsLeftKey m k IsNoLoads) (sym key) (plan_mark_left m plan (let fits = c.ranges.plan in omega arith) has none))
+    let none = rw (c.as_slice.ensures.bytes, c.plan_parts-prefix.ensures, c.if-not-branch.true) at found in
+    rw (c.set.ensures ∙ c.as_slice-then-not-branch.ensures.bytes ∙ c.retired.ensures)
+    (plan_mark_left m c.args.plan (let fits = c.ranges.plan in omega arith) has none))
 
 pub returns-in_default : goal.returns-in_default
 returns-in_default g c = refuses c.in_ok-first_under.ensures (λ m found has.
-    let row = c.first_under.new.row in
-    part_told m c.args.plan (let fits = c.ranges.plan in omega arith) has row (subst₂ (λ p. IsFirst p row m) (c.as_slice.ensures.bytes ∙ c.plan_parts-prefix.ensures) c.if-not-branch.false found)
+    part_told m c.args.plan (let fits = c.ranges.plan in omega arith) has _ (rw (c.as_slice.ensures.bytes, c.plan_parts-prefix.ensures, c.if-not-branch.false) at found)
     (λ numbers chunks same. c.in_default.ensures numbers chunks (same ∙ sym c.as_slice-2.ensures.bytes)))
 
 pub returns-in_err-first_piece : goal.returns-in_err-first_piece
@@ -24,22 +21,20 @@ returns-in_err-first_piece g c = fails_then c.in_ok-first_under.ensures c.from_r
 
 pub returns-then-not-branch-2 : goal.returns-then-not-branch-2
 returns-then-not-branch-2 g c = finds (both c.in_ok-first_under.ensures c.in_ok-first_piece.ensures) (λ m found has no_holding.
-    let row = c.first_under.new.row in
     let numbers = c.as_slice-3.result.now in
-    let is = subst₂ (λ p. IsFirst p row m) (c.as_slice.ensures.bytes ∙ c.plan_parts-prefix.ensures) c.if-not-branch.false found.0 in
-    let gone = subst (IsFirstPiece numbers c.first_piece.new.row.key m) c.if-not-branch-2.true (found.1 has.0.rows) in
+    let is = rw (c.as_slice.ensures.bytes, c.plan_parts-prefix.ensures, c.if-not-branch.false) at found.0 in
+    let gone = rw c.if-not-branch-2.true at (found.1 has.0.rows) in
     let chunks : AreChunks numbers = subst AreChunks (sym c.as_slice-3.ensures.value) c.in-Some.ensures.0 in
-    let value : chunks_bytes numbers ≡ row.value = (λ i. chunks_bytes (c.as_slice-3.ensures.value i)) ∙ c.in-Some.ensures.1 ∙ c.as_slice-2.ensures.bytes in
-    part_left m c.args.plan (let fits = c.ranges.plan in omega arith) has row is numbers chunks value no_holding gone)
+    let value : chunks_bytes numbers ≡ c.first_under.new.row.value = (λ i. chunks_bytes (c.as_slice-3.ensures.value i)) ∙ c.in-Some.ensures.1 ∙ c.as_slice-2.ensures.bytes in
+    part_left m c.args.plan (let fits = c.ranges.plan in omega arith) has c.first_under.new.row is numbers chunks value no_holding gone)
 
 pub returns : goal.returns
 returns g c = finds (both c.in_ok-first_under.ensures c.in_ok-first_piece.ensures) (λ m found has no_holding.
-    let row = c.first_under.new.row in
-    let piece = c.first_piece.new.row in
     let numbers = c.as_slice-3.result.now in
-    let is = subst₂ (λ p. IsFirst p row m) (c.as_slice.ensures.bytes ∙ c.plan_parts-prefix.ensures) c.if-not-branch.false found.0 in
-    let there = subst (IsFirstPiece numbers piece.key m) c.if-not-branch-2.false (found.1 has.0.rows) in
+    let is = rw (c.as_slice.ensures.bytes, c.plan_parts-prefix.ensures, c.if-not-branch.false) at found.0 in
+    let there = rw c.if-not-branch-2.false at (found.1 has.0.rows) in
     let chunks : AreChunks numbers = subst AreChunks (sym c.as_slice-3.ensures.value) c.in-Some.ensures.0 in
-    let value : chunks_bytes numbers ≡ row.value = (λ i. chunks_bytes (c.as_slice-3.ensures.value i)) ∙ c.in-Some.ensures.1 ∙ c.as_slice-2.ensures.bytes in
-    let key : c.set-2.new.self ≡ piece.key = c.set-2.ensures ∙ c.as_slice-4.ensures.bytes in
-    subst (λ (k : List ℕ). IsLeftKey m k IsNoLoads) (sym key) (piece_left m c.args.plan (let fits = c.ranges.plan in omega arith) has row is numbers chunks value piece.key there))
+    let value : chunks_bytes numbers ≡ c.first_under.new.row.value = (λ i. chunks_bytes (c.as_slice-3.ensures.value i)) ∙ c.in-Some.ensures.1 ∙ c.as_slice-2.ensures.bytes in
+    rw (c.set-2.ensures ∙ c.as_slice-4.ensures.bytes)
+    (piece_left m c.args.plan (let fits = c.ranges.plan in omega arith) has c.first_under.new.row is numbers chunks value
+    c.first_piece.new.row.key there))

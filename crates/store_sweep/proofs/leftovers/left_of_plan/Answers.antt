@@ -1,26 +1,24 @@
-use Rattle.{std.proofs.Common.{◌≡◌, ℕ, List, length, drop, ap, sym, subst₂, ◌∙◌, arith}, store_rows.specs.claim.Keys.in_eight, store_sweep.specs.Finding.IsFirst}
-use Rattle.{desk_pages.proofs.Looking.{both, fails, fails_then, finds, refuses}, store_sweep.proofs.Left.{holding_left, holding_long, holds_none}}
+use Rattle.{std.proofs.Common.{ℕ, List, length, drop, ap, sym, ◌∙◌, arith}, desk_pages.proofs.Looking.{both, fails, fails_then, finds, refuses}}
+use Rattle.store_sweep.proofs.Left.{holding_left, holding_long, holds_none}
 use Rattle.store_sweep.proofs.leftovers.left_of_plan.Goals as goal
 
 pub returns-in_err-first_under : goal.returns-in_err-first_under
 returns-in_err-first_under g c = fails c.from_residual.result c.in_err-first_under.ensures c.from_residual.ensures.1 (λ m has. tt)
 
 pub returns-in_default : goal.returns-in_default
-returns-in_default g c = refuses c.in_ok-first_under.ensures (λ m found has.
-    let row = c.first_under.new.row in
-    c.in_default.ensures (ap (λ (k : List ℕ). length k) c.as_slice-then-branch.ensures.bytes
-    ∙ holding_long m c.args.plan (let fits = c.ranges.plan in omega arith) has row (subst₂ (λ p. IsFirst p row m) (c.as_slice.ensures.bytes ∙ c.holdings-prefix.ensures) c.if-branch.true found)))
+returns-in_default g c =
+    refuses c.in_ok-first_under.ensures (λ m found has. c.in_default.ensures (ap (λ (k : List ℕ). length k) c.as_slice-then-branch.ensures.bytes
+    ∙ holding_long m c.args.plan (let fits = c.ranges.plan in omega arith) has _ (rw (c.as_slice.ensures.bytes, c.holdings-prefix.ensures, c.if-branch.true) at found)))
 
 pub returns-then-branch : goal.returns-then-branch
 returns-then-branch g c = finds c.in_ok-first_under.ensures (λ m found has.
-    let row = c.first_under.new.row in
-    let is = subst₂ (λ p. IsFirst p row m) (c.as_slice.ensures.bytes ∙ c.holdings-prefix.ensures) c.if-branch.true found in
-    let told : drop 9 row.key ≡ in_eight c.in-Some.number = ap (λ (k : List ℕ). drop 9 k) (sym c.as_slice-then-branch.ensures.bytes) ∙ c.in-Some.ensures.0 in
-    holding_left m c.args.plan (let fits = c.ranges.plan in omega arith) has row is c.in-Some.number c.in-Some.ensures.1 told)
+    let is = rw (c.as_slice.ensures.bytes, c.holdings-prefix.ensures, c.if-branch.true) at found in
+    let told = ap (λ (k : List ℕ). drop 9 k) (sym c.as_slice-then-branch.ensures.bytes) ∙ c.in-Some.ensures.0 in
+    holding_left m c.args.plan (let fits = c.ranges.plan in omega arith) has c.first_under.new.row is c.in-Some.number c.in-Some.ensures.1 told)
 
 pub returns-in_err-left_of_parts : goal.returns-in_err-left_of_parts
 returns-in_err-left_of_parts g c = fails_then c.in_ok-first_under.ensures c.from_residual-in_err-left_of_parts.result c.in_err-left_of_parts.ensures c.from_residual-in_err-left_of_parts.ensures.1 (λ m found has. has)
 
 pub returns : goal.returns
 returns g c = finds (both c.in_ok-first_under.ensures c.in_ok-left_of_parts.ensures) (λ m found has.
-    found.1 has (holds_none m c.args.plan (subst₂ (λ p. IsFirst p c.first_under.new.row m) (c.as_slice.ensures.bytes ∙ c.holdings-prefix.ensures) c.if-branch.false found.0)))
+    found.1 has (holds_none m c.args.plan (rw (c.as_slice.ensures.bytes, c.holdings-prefix.ensures, c.if-branch.false) at found.0)))

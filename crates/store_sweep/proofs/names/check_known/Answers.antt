@@ -1,5 +1,5 @@
 use Rattle.{std.{specs.Prelude.{List, ℕ, Contains}, proofs.{Common.subst, lemmas.List.Elements.All-contains}}, store_sweep.{specs.claim.Checks.IsHeldOrGone, proofs.Named.with_one}}
-use Rattle.{desk_pages.proofs.Looking.{begins, fails, gathered}, store_sweep.proofs.Noted.notes}
+use Rattle.{desk_pages.proofs.Looking.{begins, fails, gathered}, store_sweep.proofs.Scanned.notes}
 use Rattle.store_sweep.proofs.names.check_known.Goals as goal
 
 pub returns-then-is_noted : goal.returns-then-is_noted

@@ -1,6 +1,5 @@
 use Rattle.{std.{specs.Prelude.{All, get_or}, proofs.{Common.{take, sym, subst, ◌∙◌, take_all, arith}, lemmas.List.take_more}}, store_sweep.specs.Finding.{IsDone, IsSoughtLeft}}
 use Rattle.{std.proofs.lemmas.List.Elements.{All-contains, All-nil, All-push, Contains-get_or}, desk_pages.proofs.Looking.{begins, both, fails_then, finds}}
-use Rattle.store_sweep.proofs.Least.{piece_of}
 use Rattle.store_sweep.proofs.pieces.first_piece.Goals as goal
 
 pub loop-number-init : goal.loop-number-init
@@ -14,9 +13,9 @@ returns-then-branch g c = finds (both c.loop-number.invariant.looked c.in_ok-see
     let numbers = c.args.numbers.now in
     let i = c.loop-number.number-index in
     let number = get_or numbers i 0 in
-    let key = c.seek_left.new.row.key in
-    let left = subst (IsSoughtLeft number c.seek_left.new.gap key m) c.if-branch.true (is.1 rows (is.0 rows).1) in
-    piece_of m numbers number key (Contains-get_or numbers i 0 c.loop-number-test.true) left.0 left.1)
+    let left = subst (IsSoughtLeft number c.seek_left.new.gap c.seek_left.new.row.key m) c.if-branch.true (is.1 rows (is.0 rows).1) in
+    let among = Contains-get_or numbers i 0 c.loop-number-test.true in
+    record { number = number; piece = left.0.piece; among = among; fits = left.0.fits; key_is = left.0.key_is; unshared = left.1 })
 
 pub loop-number-preserved : goal.loop-number-preserved
 loop-number-preserved g c = record {

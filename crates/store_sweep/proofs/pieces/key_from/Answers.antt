@@ -1,5 +1,5 @@
-use Rattle.{std.{specs.FinMap.entries, proofs.Common.{◌≡◌, [], arith}}, desk_pages.proofs.Looking.looked, store_sweep.proofs.Marks.not_got}
-use Rattle.store_sweep.proofs.Least.{copied_at, leaf_next, leaf_none, leaf_some, none_found}
+use Rattle.{std.{specs.FinMap.entries, proofs.Common.{◌≡◌, arith}}, btree_walks.proofs.RowsFound.first_none, desk_pages.proofs.Looking.looked, store_sweep.proofs.Scanned.not_got}
+use Rattle.store_sweep.proofs.Least.{copied_at, leaf_next, leaf_none, leaf_some}
 use Rattle.store_sweep.proofs.pieces.key_from.Goals as goal
 
 pub returns-in_err-leaf_from : goal.returns-in_err-leaf_from
@@ -20,4 +20,4 @@ returns g c =
     let none : c.leaf_from.new.leaf.left ≡ 0 = omega arith in
     let no_more : c.leaf_from.new.leaf.more ≡ 0 = omega arith in
     looked c.in_ok-leaf_from.ensures.reading.passed (λ honest m holds.
-    none_found m c.args.key.now (leaf_none c.args.key.now (entries m) c.leaf_from.new.leaf c.leaf_from.new.held (c.in_ok-leaf_from.ensures.rows honest m holds) none no_more) [])
+    first_none m c.args.key.now (leaf_none c.args.key.now (entries m) c.leaf_from.new.leaf c.leaf_from.new.held (c.in_ok-leaf_from.ensures.rows honest m holds) none no_more))

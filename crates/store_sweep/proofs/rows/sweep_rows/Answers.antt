@@ -1,6 +1,6 @@
 use Rattle.{std.proofs.Common.{ℕ, sym, subst, arith}, page_btree.specs.claim.Map.InTxn, sector_device.specs.claim.Disk.Image, store_sweep.specs.Sweeping.HasSwept}
 use Rattle.{desk_pages.proofs.Writing.{does, told_on}, page_store.proofs.Stops.passed_none, plan_rows.proofs.Writing.after_reads}
-use Rattle.store_sweep.proofs.Taken.{fewer_left, none_swept, more_swept, not_later}
+use Rattle.store_sweep.proofs.Taken.{none_swept, more_swept, not_later}
 use Rattle.store_sweep.proofs.rows.sweep_rows.Goals as goal
 
 pub loop-swept-init : goal.loop-swept-init
@@ -27,18 +27,16 @@ pub overflow_add-swept-in-loop-swept : goal.overflow_add-swept-in-loop-swept
 overflow_add-swept-in-loop-swept g c = let few = c.in_ok-count.ensures.put.few in let room = c.loop-swept-test.true in omega arith
 
 pub loop-swept-smaller : goal.loop-swept-smaller
-loop-swept-smaller g c = fewer_left c.loop-swept.swept c.in_ok-count.count c.loop-swept-test.true c.if-count-eq0.false
+loop-swept-smaller g c = let room = c.loop-swept-test.true in let some = c.if-count-eq0.false in omega arith
 
 pub loop-swept-preserved : goal.loop-swept-preserved
 loop-swept-preserved g c =
     let turn = c.in_ok-count.ensures.put in
     let few = turn.few in
     let room = c.loop-swept-test.true in
-    record {
-      begun = c.in_ok-count.ensures.begun;
-      few = omega arith;
-      swept = more_swept c.args.running c.loop-swept.swept c.in_ok-count.count c.args.txn.now c.loop-swept.txn c.sweep_turn.new.txn c.args.pages.now c.loop-swept.pages c.sweep_turn.new.pages c.loop-swept.invariant.swept turn.swept;
-    }
+    let swept = more_swept c.args.running c.loop-swept.swept c.in_ok-count.count c.args.txn.now c.loop-swept.txn c.sweep_turn.new.txn
+    c.args.pages.now c.loop-swept.pages c.sweep_turn.new.pages c.loop-swept.invariant.swept turn.swept in
+    record { begun = c.in_ok-count.ensures.begun; few = omega arith; swept = swept }
 
 pub returns : goal.returns
 returns g c =

@@ -1,7 +1,6 @@
-use Rattle.{std.proofs.Common.{◌<◌, ◌≤◌, ℕ, List, Some, length, sym, ap, subst, ◌∙◌}, page_store.specs.claim.Transactions.stored, store_sweep.specs.Finding.IsNextLeft}
-use Rattle.{store_sweep.specs.Leftovers.IsSpared, desk_pages.proofs.Writing.{does, told_on}, page_store.proofs.Stops.quiet_more}
-use Rattle.plan_rows.proofs.Writing.{after_reads, only_read, unread}
-use Rattle.store_sweep.proofs.Taken.{key_fits, turn_none, turn_row, turn_hold, FindsHolding, not_found, not_removed, not_released, removed_key}
+use Rattle.{std.{specs.FinMap.remove, proofs.Common.{◌<◌, ◌≤◌, ℕ, List, Some, length, sym, ap, subst, ◌∙◌}}, page_btree.specs.claim.Map.InTxn, store_sweep.specs.Finding.IsNextLeft}
+use Rattle.{page_store.{specs.claim.Transactions.stored, proofs.Stops.quiet_more}, desk_pages.proofs.Writing.{does, told_on}, store_sweep.proofs.Keys.key_short}
+use Rattle.{plan_rows.proofs.Writing.{after_reads, only_read, unread}, store_sweep.proofs.Taken.{turn_none, turn_row, turn_hold, not_found, not_removed, not_released}}
 use Rattle.store_sweep.specs.declared.leftovers.Left.TheVariants as left
 use Rattle.store_sweep.proofs.rows.sweep_turn.Goals as goal
 
@@ -15,59 +14,51 @@ returns-in_err-left g c =
 pub returns-in_default : goal.returns-in_default
 returns-in_default g c =
     let looks = c.in_ok-left.ensures in
-    only_read c.requires.begun looks.quiet (turn_none c.args.running c.args.txn.now c.args.pages.now c.next_leftover.new.pages looks.passed
-    (λ honest m holds tidy. subst (IsNextLeft c.args.running c.next_leftover.new.row.key m) c.in_default.is (looks.there honest m holds tidy)))
+    only_read c.requires.begun looks.quiet (turn_none c.args.running c.next_leftover.new.row.key _ _ _ _ looks c.in_default.is)
 
 -- ---- a row that nothing needs
 pub returns-then-not-is_key : goal.returns-then-not-is_key
 returns-then-not-is_key g c = only_read c.requires.begun c.in_ok-left.ensures.quiet (λ honest m holds has.
     let key = c.next_leftover.new.row.key in
     let found : IsNextLeft c.args.running key m (Some left.Row) = subst (IsNextLeft c.args.running key m) (c.in-Some.is ∙ ap Some c.in-Row.is) (c.in_ok-left.ensures.there honest m holds has.1.tidy) in
-    let fits = key_fits m key (λ row. IsSpared c.args.running row → ⊥) found in
-    c.if-not-is_key.ensures (subst (λ (k : List ℕ). (0 < length k) × (length k ≤ 72)) (sym c.as_slice-key.ensures.bytes) fits))
+    c.if-not-is_key.ensures (subst (λ (k : List ℕ). (0 < length k) × (length k ≤ 72)) (sym (c.as_slice-key.ensures.bytes ∙ found.key_is))
+    (key_short found.row found.fits)))
 
 pub remove-requires-clause-key : goal.remove-requires-clause-key
 remove-requires-clause-key g c = c.if-not-is_key.ensures
 
 pub returns-in_err-remove-in-Row : goal.returns-in_err-remove-in-Row
 returns-in_err-remove-in-Row g c =
-    let a = c.args.pages.now in
-    let b = c.next_leftover.new.pages in
     let d = c.remove.new.pages in
     let e = c.in_err-remove-in-Row.field-0.0 in
     let looks = c.in_ok-left.ensures in
     let why = c.in_err-remove-in-Row.ensures in
-    unread c.from_residual-in_err-remove-in-Row.result e (why.pages ∙ c.requires.begun) (quiet_more a b d looks.quiet why.reading.quiet) c.from_residual-in_err-remove-in-Row.ensures.1
-    (not_removed c.args.txn.now a b d e looks.passed why.reading.quiet why.reading.err)
+    unread c.from_residual-in_err-remove-in-Row.result e (why.pages ∙ c.requires.begun) (quiet_more _ _ d looks.quiet why.reading.quiet) c.from_residual-in_err-remove-in-Row.ensures.1
+    (not_removed c.args.running c.next_leftover.new.row.key _ _ _ _ looks d e why.reading.quiet why.reading.err)
 
 pub returns-in_ok-remove-in-Row : goal.returns-in_ok-remove-in-Row
 returns-in_ok-remove-in-Row g c =
-    let key = c.next_leftover.new.row.key in
-    let running = c.args.running in
-    let a = c.args.pages.now in
-    let b = c.next_leftover.new.pages in
-    let d = c.remove.new.pages in
     let looks = c.in_ok-left.ensures in
     let done = c.in_ok-remove-in-Row.ensures in
-    only_read (done.pages ∙ c.requires.begun) (quiet_more a b d looks.quiet done.reading.quiet)
-    (turn_row c.turns_are_swept.ensures running key c.args.txn.now c.remove.new.txn a b d looks.passed
-    (λ honest m holds tidy. subst (IsNextLeft running key m) (c.in-Some.is ∙ ap Some c.in-Row.is) (looks.there honest m holds tidy)) done.reading.passed done.pages
-    (λ honest m holds. removed_key m c.remove.new.txn (stored b) c.as_slice-key.result.now key c.as_slice-key.ensures.bytes (done.remove honest m holds).0) done.costs.writes done.costs.given)
+    only_read (done.pages ∙ c.requires.begun) (quiet_more _ _ c.remove.new.pages looks.quiet done.reading.quiet)
+    (turn_row c.args.running c.next_leftover.new.row.key _ _ _ _ looks c.turns_are_swept.ensures (c.in-Some.is ∙ ap Some c.in-Row.is)
+    _ _ done.reading.passed done.pages
+    (λ honest m holds. subst (λ (k : List ℕ). InTxn c.remove.new.txn (stored c.next_leftover.new.pages) (remove m k))
+    c.as_slice-key.ensures.bytes (done.remove honest m holds).0)
+    done.costs.writes done.costs.given)
 
 -- ---- a plan that was taken away holds a chunk
 pub returns-in_err-release-in-Holding : goal.returns-in_err-release-in-Holding
 returns-in_err-release-in-Holding g c =
     let looks = c.in_ok-left.ensures in
-    let found : FindsHolding c.in-Holding.plan c.in-Holding.number c.args.txn.now c.args.pages.now c.next_leftover.new.pages = λ honest m holds tidy.
-    subst (IsNextLeft c.args.running c.next_leftover.new.row.key m) (c.in-Some.is ∙ ap Some c.in-Holding.is) (looks.there honest m holds tidy) in
     told_on c.from_residual-in_err-release-in-Holding.result (after_reads _ looks.quiet c.in_err-release-in-Holding.ensures) c.from_residual-in_err-release-in-Holding.ensures.1
-    (λ why. not_released c.held_is_counted_by_holders.ensures c.in-Holding.plan c.in-Holding.number c.args.txn.now c.args.pages.now c.next_leftover.new.pages c.release.new.pages
-    c.in_err-release-in-Holding.field-0.0 looks.passed why.0 found why.1)
+    (λ why. not_released c.args.running c.next_leftover.new.row.key _ _ _ _ looks c.in-Holding.plan c.in-Holding.number
+    (c.in-Some.is ∙ ap Some c.in-Holding.is) _
+    c.held_is_counted_by_holders.ensures c.in_err-release-in-Holding.field-0.0 why.0 why.1)
 
 pub returns-in_ok-release-in-Holding : goal.returns-in_ok-release-in-Holding
 returns-in_ok-release-in-Holding g c =
     let looks = c.in_ok-left.ensures in
-    let found : FindsHolding c.in-Holding.plan c.in-Holding.number c.args.txn.now c.args.pages.now c.next_leftover.new.pages = λ honest m holds tidy.
-    subst (IsNextLeft c.args.running c.next_leftover.new.row.key m) (c.in-Some.is ∙ ap Some c.in-Holding.is) (looks.there honest m holds tidy) in
     does (after_reads _ looks.quiet c.in_ok-release-in-Holding.ensures)
-    (turn_hold c.turns_are_swept.ensures c.args.running c.in-Holding.plan c.in-Holding.number c.args.txn.now c.release.new.txn c.args.pages.now c.next_leftover.new.pages c.release.new.pages looks.passed found)
+    (turn_hold c.args.running c.next_leftover.new.row.key _ _ _ _ looks c.in-Holding.plan c.in-Holding.number
+    (c.in-Some.is ∙ ap Some c.in-Holding.is) _ c.turns_are_swept.ensures _)

@@ -1,5 +1,5 @@
-use Rattle.{std.proofs.Common.{Bool, refl, sym, ap, ◌∙◌}, desk_pages.specs.Errors.row_refusal, page_store.specs.claim.Transactions.has_halted, plan_rows.proofs.Committing.both}
-use Rattle.store_sweep.proofs.Stepped.{begun_by, not_checked, told_err}
+use Rattle.{std.proofs.Common.{refl, sym, ◌∙◌}, page_store.specs.claim.Transactions.has_halted, plan_rows.proofs.Committing.both}
+use Rattle.store_sweep.proofs.Stepped.{begun_by, not_checked}
 use Rattle.store_sweep.proofs.sweeps.check_holders.Goals as goal
 
 pub returns-then-is_halted-clause-err : goal.returns-then-is_halted-clause-err
@@ -20,8 +20,6 @@ returns-clause-still g c = λ halted. both (has_halted c.args.pages.now) halted 
 
 pub returns-clause-err : goal.returns-clause-err
 returns-clause-err g c =
-    let b = c.check_holdings.new.pages in
-    let begun = begun_by (sym c.is_halted.ensures ∙ c.if-is_halted.false) c.begin-txn.ensures in
-    told_err c.args.pages.now b (row_refusal c.in-Err.error (has_halted b)) c.row_error.result
-    (c.row_error.ensures ∙ ap (λ (halted : Bool). row_refusal c.in-Err.error halted) c.is_halted-in-Err.ensures)
-    (not_checked _ _ b begun c.in-Err.ensures.quiet c.in-Err.error c.in-Err.ensures.err)
+    rw (c.row_error.ensures, c.is_halted-in-Err.ensures)
+    (not_checked _ _ _ (begun_by (sym c.is_halted.ensures ∙ c.if-is_halted.false) c.begin-txn.ensures)
+    c.in-Err.ensures.quiet c.in-Err.error c.in-Err.ensures.err)

@@ -1,6 +1,6 @@
-use Rattle.{std.proofs.Common.{Bool, Err, true, refl, sym, ap, ◌∙◌, arith}, desk_pages.specs.Errors.row_refusal, page_store.specs.claim.Transactions.has_halted}
-use Rattle.{desk_pages.proofs.Kept.kept_working, plan_rows.proofs.Committing.{both, quiet_leaves, quiet_shape, shape_after}}
-use Rattle.store_sweep.proofs.Stepped.{begun_by, taken_writes, none_swept, not_made, some_leaves, some_swept, not_taken, told_err, not_committed}
+use Rattle.{std.proofs.Common.{Err, true, refl, sym, ◌∙◌, arith}, page_store.specs.claim.Transactions.has_halted, desk_pages.proofs.Kept.kept_working}
+use Rattle.plan_rows.proofs.Committing.{both, quiet_leaves, quiet_shape, shape_after}
+use Rattle.store_sweep.proofs.Stepped.{begun_by, none_swept, not_made, some_leaves, some_swept, not_taken, not_committed}
 use Rattle.store_sweep.proofs.sweeps.sweep_step.Goals as goal
 
 -- ---- halted
@@ -16,9 +16,7 @@ returns-in-Err-clause-commits g c =
     let begun = begun_by (sym c.is_halted.ensures ∙ c.if-is_halted.false) c.begin-txn.ensures in
     let quiet = c.in-Err.ensures.quiet in
     not_made c.row_error.result (Err c.row_error.result) (quiet_shape c.args.pages.now c.sweep_rows.new.pages quiet) quiet.honest refl
-    (told_err c.args.pages.now c.sweep_rows.new.pages (row_refusal c.in-Err.error (has_halted c.sweep_rows.new.pages)) c.row_error.result
-    (c.row_error.ensures ∙ ap (λ (halted : Bool). row_refusal c.in-Err.error halted) c.is_halted-in-Err.ensures)
-    (not_taken _ _ _ begun quiet c.in-Err.error c.in-Err.ensures.put))
+    (rw (c.row_error.ensures, c.is_halted-in-Err.ensures) (not_taken _ _ _ begun quiet c.in-Err.error c.in-Err.ensures.put))
 
 pub returns-in-Err-clause-any_moment : goal.returns-in-Err-clause-any_moment
 returns-in-Err-clause-any_moment g c = quiet_leaves true c.args.pages.now c.sweep_rows.new.pages c.in-Err.ensures.quiet
@@ -31,14 +29,10 @@ pub returns-then-count-eq0-clause-commits : goal.returns-then-count-eq0-clause-c
 returns-then-count-eq0-clause-commits g c =
     let working = sym c.is_halted.ensures ∙ c.if-is_halted.false in
     let passed = c.in-Ok.ensures.put.swept.passed in
-    record {
-      shape = quiet_shape c.args.pages.now c.sweep_rows.new.pages c.in-Ok.ensures.quiet;
-      honest = c.in-Ok.ensures.quiet.honest;
-      kept = kept_working c.sweep_rows.new.pages (passed.halted ∙ working);
-      passed = passed.faults;
-      ok = (working, passed.halted ∙ working);
-      err = tt;
-    }
+    let works = passed.halted ∙ working in
+    let shape = quiet_shape c.args.pages.now c.sweep_rows.new.pages c.in-Ok.ensures.quiet in
+    let kept = kept_working c.sweep_rows.new.pages works in
+    record { shape = shape; honest = c.in-Ok.ensures.quiet.honest; kept = kept; passed = passed.faults; ok = (working, works); err = tt }
 
 pub returns-then-count-eq0-clause-any_moment : goal.returns-then-count-eq0-clause-any_moment
 returns-then-count-eq0-clause-any_moment g c = quiet_leaves true c.args.pages.now c.sweep_rows.new.pages c.in-Ok.ensures.quiet
@@ -57,8 +51,7 @@ commit_fitting-requires-clause-working g c = c.in-Ok.ensures.put.swept.passed.ha
 
 pub commit_fitting-requires-clause-few : goal.commit_fitting-requires-clause-few
 commit_fitting-requires-clause-few g c =
-    let begun = begun_by (sym c.is_halted.ensures ∙ c.if-is_halted.false) c.begin-txn.ensures in
-    let writes = taken_writes c.args.running c.in-Ok.count _ _ _ _ begun c.in-Ok.ensures.put.swept c.in-Ok.ensures.put.few in
+    let none = c.begin-txn.ensures.none in let few = c.in-Ok.ensures.put.few in let writes = c.in-Ok.ensures.put.swept.writes in
     let least = c.sweep_rows.new.pages.journal.room.least_journal in
     omega arith
 

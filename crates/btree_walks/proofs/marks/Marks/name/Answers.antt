@@ -1,9 +1,6 @@
 use Rattle.{std.proofs.Common.rules, btree_walks.proofs.Named.{unseen_set, unseen_some}}
 use Rattle.btree_walks.proofs.marks.Marks.name.Goals as goal
 
-pub overflow_sub-self : goal.overflow_sub-self
-overflow_sub-self c = search (rules, unseen_some)
-
 pub invariant_of-self : goal.invariant_of-self
 invariant_of-self c = search (rules, unseen_set)
 

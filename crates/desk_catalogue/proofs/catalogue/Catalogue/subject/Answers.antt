@@ -1,5 +1,6 @@
-use Rattle.{std.proofs.Common.{rules, ◌≡◌, Err, ap, sym, subst, ◌∙◌}, desk_catalogue.specs.Kept.AreWhole, desk_model.specs.claim.{Desk.Desk, Subject.subject_of}}
-use Rattle.{desk_model.specs.declared.reply.Refusal.Refusal, desk_catalogue.proofs.{Audited.{subject_is, subject_refused, whole_found}, Results.match_of}}
+use Rattle.{std.proofs.Common.{rules, ◌≡◌, Option, Err, ap, sym, subst, ◌∙◌}, desk_catalogue.specs.Kept.{AreWhole, IsWhole, revision_in}, desk_model.specs.claim.Desk.{Plan, Desk}}
+use Rattle.{desk_model.specs.{claim.Subject.subject_of, declared.reply.Refusal.Refusal}, desk_catalogue.proofs.{Audited.{subject_is, subject_refused}, Results.match_of}}
+use Rattle.desk_catalogue.proofs.Whole.{revision_whole}
 use Rattle.std.specs.FinMap as map_of
 use Rattle.desk_catalogue.proofs.catalogue.Catalogue.subject.Goals as goal
 
@@ -15,7 +16,7 @@ returns c =
     record {
       is = search (rules, subject_is);
       few = search rules;
-      whole = whole_found c.args.self.now.geography c.args.self.now.plans c.args.name.now c.in-Some.entry.now.1 c.args.k c.in-Some-revision.districts.now
-          (subst (λ (d : Desk). AreWhole d.geography d.plans) c.self.view_is c.self.invariant) found c.in-Some-revision.ensures;
+      whole = subst (IsWhole c.args.self.now.geography) (ap (λ (o : Option Plan). revision_in o c.args.k) found ∙ sym c.in-Some-revision.ensures)
+          (revision_whole c.args.self.now.geography c.args.self.now.plans (subst (λ (d : Desk). AreWhole d.geography d.plans) c.self.view_is c.self.invariant) c.args.name.now c.args.k);
       beside = c.in_ok-beside.ensures;
     }

@@ -4,7 +4,7 @@ use Rattle.desk_catalogue.proofs.Whole.{revised_whole, whole_of}
 use Rattle.desk_catalogue.proofs.catalogue.Catalogue.with_revision.Goals as goal
 
 pub with_plans-requires : goal.with_plans-requires
-with_plans-requires c = rw (c.in-Ok-replace.ensures, c.in-Ok-with_revision.ensures, ← c.self.view_is) (revised_whole _ c.self.inside.plans c.args.entry.now.0 c.args.entry.now.1 _ c.self.invariant
+with_plans-requires c = rw (c.in-Ok-replace.ensures, c.in-Ok-with_revision.ensures, ← c.self.view_is) (revised_whole _ c.self.inside.plans c.self.invariant c.args.entry.now.0 c.args.entry.now.1 _
     (rw (← c.self.view_is) at c.requires.found) (rw (← c.self.view_is) at (whole_of c.args.self.now.geography c.args.geography.now c.args.made.districts c.requires.there c.requires.compared.new_long)))
 
 pub changed_counties-requires : goal.changed_counties-requires
@@ -17,9 +17,6 @@ changed_counties-requires c =
       new_long = subst (λ n. AreWithin n c.counties-ranges.result.now) (sym c.requires.compared.new_long) within;
       stays = c.requires.compared.stays;
     }
-
-pub replace-requires : goal.replace-requires
-replace-requires c = search rules
 
 pub returns : goal.returns
 returns c = record { ok = search rules; changes = search rules; err = tt }

@@ -1,6 +1,5 @@
-use Rattle.{std.proofs.Common.{rules, ◌≡◌, length, Some}, desk_catalogue.specs.Accepting.StepRefuses, desk_model.specs.{Ranges.ranges_in, claim.Room.last_revision}}
-use Rattle.{desk_model.specs.declared.{command.Command.TheVariants.Whole, reply.Refusal.Refusal}, desk_catalogue.proofs.{Drafted.{all_stay, drafted, drafts}, Results.match_of}}
-use Rattle.desk_catalogue.proofs.Stepped.{whole_after, whole_refused}
+use Rattle.{std.proofs.Common.{rules, ◌≡◌, length, refl, Some}, desk_catalogue.{specs.Accepting.StepRefuses, proofs.Results.match_of}, desk_model.specs.claim.Room.last_revision}
+use Rattle.{desk_model.specs.declared.command.Command.TheVariants.Whole, desk_catalogue.proofs.{Drafted.{all_stay, drafts}, Stepped.{whole_after, whole_refused}}}
 use Rattle.desk_catalogue.proofs.catalogue.Catalogue.with_whole.Goals as goal
 
 pub with_revision-requires : goal.with_revision-requires
@@ -18,13 +17,10 @@ returns-in_err-entry c = search (rules, match_of)
 
 pub returns-in_err-list : goal.returns-in_err-list
 returns-in_err-list c =
-    match_of c.from_residual-in_err-list.result _ c.in_err-list.field-0.0 (λ (refusal : Refusal). StepRefuses c.args.self.now (Whole c.args.name.now c.args.after c.args.body.now) refusal)
-    c.from_residual-in_err-list.ensures.1
-    (search (rules, whole_refused))
+    match_of c.from_residual-in_err-list.result _ c.in_err-list.field-0.0 (StepRefuses c.args.self.now (Whole c.args.name.now c.args.after c.args.body.now))
+    c.from_residual-in_err-list.ensures.1 (search (rules, whole_refused))
 
 pub returns : goal.returns
 returns c =
-    drafts c.with_revision.result c.args.self.now (Whole c.args.name.now c.args.after c.args.body.now)
-    (search (rules, whole_after))
-    (drafted c.with_revision.result c.args.self.now c.args.name.now c.args.after c.in_ok-entry.entry.now c.in-Ok.districts (ranges_in c.args.self.now.geography) c.in_ok-entry.ensures c.with_revision.ensures.ok c.with_revision.ensures.changes)
-    c.with_revision.ensures.err
+    drafts c.args.self.now c.args.name.now c.args.after c.in_ok-entry.entry.now c.in-Ok.districts c.in_ok-entry.ensures
+    (Whole c.args.name.now c.args.after c.args.body.now) c.with_revision.result (λ _. refl) (search (rules, whole_after)) c.with_revision.ensures

@@ -15,8 +15,5 @@ invariant_of-self g c =
       c.self.invariant.4,
     )
 
-pub returns-clause-sweeps : goal.returns-clause-sweeps
-returns-clause-sweeps g c = search sweeps_of
-
-pub returns-clause-shown : goal.returns-clause-shown
-returns-clause-shown g c = (ap (λ k. k.shown) c.self.view_is, ap (λ k. k.all) c.self.view_is)
+pub returns : goal.returns
+returns g c = record { sweeps = search sweeps_of; shown = (ap (λ k. k.shown) c.self.view_is, ap (λ k. k.all) c.self.view_is) }

@@ -1,7 +1,7 @@
 use Rattle.desk_gallery.proofs.office.Office.close.Goals as goal
 
-pub returns-clause-ran : goal.returns-clause-ran
-returns-clause-ran g c = (c.into_inner.result.shown, c.close.ensures.accepted, c.close.ensures.clerk.desk)
-
-pub returns-clause-left : goal.returns-clause-left
-returns-clause-left g c = record { commands = c.into_inner.result.shown; accepted = c.close.ensures.accepted; halts = c.close.ensures.ran.0; ran = c.close.ensures.ran.1 }
+pub returns : goal.returns
+returns g c =
+    let shown = c.into_inner.result.shown in
+    let told = c.close.ensures in
+    record { kept = told.kept; ran = (shown, told.accepted, told.clerk.desk); left = record { commands = shown; accepted = told.accepted; halts = told.ran.0; ran = told.ran.1 } }

@@ -4,7 +4,7 @@ use Rattle.desk_migration.proofs.migration.Migration.finish.Goals as goal
 pub returns : goal.returns
 returns g c =
     let told = c.put_version.ensures in
-    let goes = goes_on c.args.self.now _ told.steps.shape told.steps.honest (λ halted. (told.steps.still halted).1) told.steps.faults in
+    let goes = goes_on c.args.self.now _ told.steps in
     record {
       ends = ended_so c.args.self.now _ c.requires.ended goes told.any_moment;
       told = told_of c.put_version.result c.args.self.now _ c.requires.ended goes told.steps.ok told.told;

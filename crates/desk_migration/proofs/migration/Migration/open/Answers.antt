@@ -3,53 +3,54 @@ use Rattle.desk_pages.proofs.{Found.{open_versions, pages_stand, stores_of}, Ref
 use Rattle.desk_migration.proofs.migration.Migration.open.Goals as goal
 
 pub returns-in-Err : goal.returns-in-Err
-returns-in-Err g c = rw c.from.ensures (record {
-  sectors = search rules;
-  honest = search rules;
-  any_moment = λ honest all. search (open_versions, g.D.SectorDevice.disk, c.in-Err.ensures.any_moment, stores_of);
-  opened = search rules;
-  found = search rules;
-  begins = search rules;
-  working = search rules;
-  passed = search rules;
-  faults = search rules;
-  calm = search (rules, page_calm, c.in-Err.e);
-  err = page_refused g.D.SectorDevice c.args.device c.in-Err.device c.in-Err.e c.in-Err.ensures.err;
-  already = λ honest is. absurd (page_not_new c.in-Err.e is);
-  untouched = page_spared (g.D.SectorDevice.disk c.args.device) (g.D.SectorDevice.disk c.in-Err.device) c.in-Err.e c.in-Err.ensures.untouched;
-})
+returns-in-Err g c =
+    let did = c.in-Err.ensures in
+    let old = g.D.SectorDevice.disk c.args.device in
+    let new = g.D.SectorDevice.disk c.in-Err.device in
+    let refused = page_refused g.D.SectorDevice c.args.device c.in-Err.device c.in-Err.e did.err in
+    rw c.from.ensures (search (rules, open_versions old new, did.any_moment, stores_of, page_calm, c.in-Err.e, refused, page_not_new old new c.in-Err.e, page_spared old new c.in-Err.e did.untouched))
 
 pub returns-in-Ok-judge : goal.returns-in-Ok-judge
-returns-in-Ok-judge g c = record {
-  sectors = search rules;
-  honest = search rules;
-  any_moment = moment_quiet (g.D.SectorDevice.disk c.args.device) c.in-Ok.pages c.judge.new.pages c.judge.ensures.reading.quiet c.in-Ok.ensures.any_moment;
-  opened = λ all honest.
-      opened_keeps (g.D.SectorDevice.disk c.args.device) c.in-Ok.pages c.in-Ok.ensures.found c.in-Ok.ensures.room _ c.in-Ok.ensures.kept c.judge.ensures.reading.quiet (c.in-Ok-judge.ensures.reading.passed.halted ∙ c.in-Ok.ensures.working) c.set.ensures refl c.in-Ok-judge.ensures.version all honest;
-  found = is_found (g.D.SectorDevice.disk c.args.device) c.in-Ok.pages c.in-Ok.ensures.found _ c.judge.ensures.reading.quiet c.in-Ok-judge.ensures.version c.in-Ok-judge.ensures.read;
-  begins = search rules;
-  working = search rules;
-  passed = search rules;
-  faults = search rules;
-  calm = search rules;
-  err = search rules;
-  already = search rules;
-  untouched = search rules;
-}
+returns-in-Ok-judge g c =
+    let old = g.D.SectorDevice.disk c.args.device in
+    let a = c.in-Ok.pages in
+    let did = c.in-Ok.ensures in
+    let judge = c.in-Ok-judge.ensures in
+    let quiet = c.judge.ensures.reading.quiet in
+    record {
+      sectors = search rules;
+      honest = search rules;
+      any_moment = moment_quiet old a c.judge.new.pages quiet did.any_moment;
+      opened = λ all honest. opened_keeps old a did.found did.room _ did.kept quiet (judge.reading.passed.halted ∙ did.working) c.set.ensures refl judge.version all honest;
+      found = is_found old a did.found _ quiet judge.version judge.read;
+      begins = search rules;
+      working = search rules;
+      passed = search rules;
+      faults = search rules;
+      calm = search rules;
+      err = search rules;
+      already = search rules;
+      untouched = search rules;
+    }
 
 pub returns-in-Err-judge : goal.returns-in-Err-judge
-returns-in-Err-judge g c = let old = g.D.SectorDevice.disk c.args.device in rw c.into_device.ensures (record {
-  sectors = search rules;
-  honest = search rules;
-  any_moment = moment_quiet old c.in-Ok.pages c.judge.new.pages c.judge.ensures.reading.quiet c.in-Ok.ensures.any_moment;
-  opened = search rules;
-  found = search rules;
-  begins = search rules;
-  working = search rules;
-  passed = search rules;
-  faults = λ honest. search (rules, c.in-Ok.ensures.passed, c.judge.ensures.reading.quiet.honest, c.judge.ensures.reading.quiet.moves);
-  calm = calm_refused c.args.device c.in-Ok.pages c.judge.new.pages c.in-Err-judge.e c.in-Ok.ensures.passed c.judge.ensures.reading.quiet c.in-Err-judge.ensures.calm _ refl;
-  err = judged old c.in-Ok.pages c.in-Ok.ensures.found c.in-Ok.ensures.room c.judge.new.pages c.in-Err-judge.e c.in-Ok.ensures.working c.in-Ok.ensures.passed c.judge.ensures.reading.quiet c.in-Err-judge.ensures.reading.err;
-  already = left_new old c.in-Ok.pages c.in-Ok.ensures.found c.in-Ok.ensures.room c.judge.new.pages c.in-Err-judge.e c.in-Ok.ensures.working c.judge.ensures.reading.quiet c.in-Err-judge.ensures.reading.err;
-  untouched = λ honest is. inr (pages_stand old c.in-Ok.pages c.judge.new.pages c.in-Ok.ensures.found c.in-Ok.ensures.kept c.judge.ensures.reading.quiet honest);
-})
+returns-in-Err-judge g c =
+    let old = g.D.SectorDevice.disk c.args.device in
+    let a = c.in-Ok.pages in
+    let b = c.judge.new.pages in
+    let e = c.in-Err-judge.e in
+    let did = c.in-Ok.ensures in
+    let why = c.in-Err-judge.ensures in
+    let quiet = c.judge.ensures.reading.quiet in
+    rw c.into_device.ensures (search (
+      rules,
+      moment_quiet old a b quiet did.any_moment,
+      did.passed,
+      quiet.honest,
+      quiet.moves,
+      calm_refused c.args.device a b e did.passed quiet why.calm,
+      judged old a did.found did.room b e did.working did.passed quiet why.reading.err,
+      left_new old a did.found did.room b e did.working quiet why.reading.err,
+      pages_stand old a b did.found did.kept quiet,
+      inr,
+    ))

@@ -8,15 +8,4 @@ pub returns-in-Ok : goal.returns-in-Ok
 returns-in-Ok g c = record { maintains = search quieted; quiet = search rules; sound = search rules }
 
 pub returns-else-has_failed : goal.returns-else-has_failed
-returns-else-has_failed g c = record {
-  maintains = record {
-    moves = search quieted;
-    desk = search rules;
-    loading = search rules;
-    working = search rules;
-    err = let x = c.args.self.now in
-        refused_so x c.check_holders.new.pages c.in-Err.e x.halted c.if-self.false c.if-self.false (c.if-has_failed.ensures.passed refl).0 c.in-Err.ensures.err;
-  };
-  quiet = search rules;
-  sound = search rules;
-}
+returns-else-has_failed g c = let off = c.if-has_failed.ensures.passed refl in search (rules, quieted, refused_so, off.0, c.if-self.false, c.in-Err.ensures.err)

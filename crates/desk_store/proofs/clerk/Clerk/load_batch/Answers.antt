@@ -1,6 +1,7 @@
-use Rattle.{std.proofs.Common.{refl, inl, rules}, desk_store.specs.{Loads.Stages, claim.Clerks.{desk_of, pages_of}}, geo_tables.specs.Refusals.BatchErr}
-use Rattle.desk_store.proofs.Loaded.{batch_told, batch_refused, refused_rose, refused_quiet, refused_failed, step_ended, step_left, step_holds, step_stages}
-use Rattle.{desk_store.proofs.Moved.{worked, faulted, quieted, unmoved}, page_store.proofs.Stops.quiet_none}
+use Rattle.{std.proofs.Common.{◌+◌, refl, rules}, desk_model.specs.claim.Desk.Desk, desk_store.specs.{Loads.Stages, claim.Clerks.{desk_of, pages_of}}}
+use Rattle.{geo_tables.specs.{Loading.{HoldsLoad, number_of, geography_model_of, done_of}, Refusals.BatchErr, Rows.staged_rows}, desk_store.proofs.Moved.{quieted, unmoved}}
+use Rattle.desk_store.proofs.Loaded.{batch_stopped, rows_told, rows_refused, refused_failed, refused_quiet, load_desk, step_ended, step_faulted, step_worked, step_stages}
+use Rattle.page_store.proofs.Stops.{quiet_none}
 use Rattle.desk_store.proofs.clerk.Clerk.load_batch.Goals as goal
 
 pub returns-in-Err : goal.returns-in-Err
@@ -15,34 +16,28 @@ returns-in-Err g c =
 pub returns-then-has_failed : goal.returns-then-has_failed
 returns-then-has_failed g c =
     let x = c.args.self.now in
-    let working = c.in_default.ensures.ok.0 in
+    let load = c.args.load.now in
+    let b = c.load_batch.new.pages in
     let did = c.in-Err-load_batch.ensures in
-    let told = batch_told c.args.load.now c.args.rows (pages_of x) c.load_batch.new.pages c.in-Err-load_batch.e did.step.commits.err in
-    let on = c.if-has_failed.ensures.failed refl in
-    record {
-      moves = faulted (Stages x c.args.load.now) (desk_of x) x _ working refl refl did.step.commits.shape did.step.commits.honest
-          (step_left x c.load_batch.new.pages working did.step.commits.honest did.any_moment (λ stages. stages.holds)) (λ stages honest. inl refl) (λ stages. refused_rose x c.load_batch.new.pages c.in-Err-load_batch.e working told on);
-      loads = search rules;
-      staged = search rules;
-      last = search rules;
-      further = search rules;
-      left = search rules;
-      same = did.load;
-      loading = search rules;
-      err = (refl, λ off. refused_failed x c.load_batch.new.pages c.in-Err-load_batch.e working told on);
-    }
+    let working = c.in_default.ensures.ok.0 in
+    let told = rows_told load (c.args.rows + 1) (staged_rows (number_of load) (geography_model_of load) (done_of load) c.args.rows) (pages_of x) b c.in-Err-load_batch.e did.step.commits.err in
+    let failed = refused_failed x b c.in-Err-load_batch.e working told (c.if-has_failed.ensures.failed refl) in
+    let moves = step_faulted x working (λ d. HoldsLoad (pages_of x) d load) (λ (stages : Stages x load). stages.holds) did.step.commits did.any_moment failed.rose in
+    batch_stopped (moves _ _) refl refl (search rules) did.load (refl, λ off. failed.halted)
 
 pub returns-in-Ok : goal.returns-in-Ok
 returns-in-Ok g c =
     let x = c.args.self.now in
-    let working = c.in_default.ensures.ok.0 in
     let did = c.in-Ok.ensures in
-    let moves = worked (Stages x c.args.load.now) (desk_of x) x _ working working did.step.commits.shape did.step.commits.honest (step_left x c.load_batch.new.pages working did.step.commits.honest did.any_moment (λ stages. stages.holds))
-    (step_holds x c.load_batch.new.pages c.load_batch.new.load working did.step.commits.honest did.staged (λ stages. stages.holds)) did.step.commits.kept did.step.commits.passed in
+    let commits = did.step.commits in
+    let working = c.in_default.ensures.ok.0 in
+    let before = λ (d : Desk). HoldsLoad (pages_of x) d c.args.load.now in
+    let held = λ (stages : Stages x c.args.load.now). stages.holds in
+    let moves = step_worked x working before held commits did.any_moment (λ honest d holds. load_desk (did.staged honest d holds)) in
     record {
-      moves = moves;
+      moves = moves _ _;
       loads = search rules;
-      staged = λ stages. step_stages x _ c.load_batch.new.load working refl did.step.commits.honest did.staged (λ stages. stages.holds) (moves.keeps stages) stages;
+      staged = step_stages x working before held c.load_batch.new.load commits.honest did.staged _ _ (moves _ _);
       last = search rules;
       further = did.load.further;
       left = did.load.rest;
@@ -52,16 +47,14 @@ returns-in-Ok g c =
     }
 
 pub returns-else-has_failed : goal.returns-else-has_failed
-returns-else-has_failed g c = record {
-  moves = let x = c.args.self.now in
-      let working = c.in_default.ensures.ok.0 in
-      quieted (Stages x c.args.load.now) (desk_of x) x _ (λ stages. stages.keeps) working working refl (refused_quiet (pages_of x) c.load_batch.new.pages c.in-Err-load_batch.e (c.if-has_failed.ensures.passed refl).0 (batch_told c.args.load.now c.args.rows (pages_of c.args.self.now) c.load_batch.new.pages c.in-Err-load_batch.e c.in-Err-load_batch.ensures.step.commits.err));
-  loads = search (rules, refused_quiet, batch_told);
-  staged = search rules;
-  last = search rules;
-  further = search rules;
-  left = search rules;
-  same = c.in-Err-load_batch.ensures.load;
-  loading = search rules;
-  err = batch_refused c.args.load.now c.args.rows c.args.self.now c.load_batch.new.pages c.in-Err-load_batch.e c.in_default.ensures.ok.0 (c.if-has_failed.ensures.passed refl).0 c.in-Err-load_batch.ensures.step.commits.err;
-}
+returns-else-has_failed g c =
+    let x = c.args.self.now in
+    let load = c.args.load.now in
+    let b = c.load_batch.new.pages in
+    let e = c.in-Err-load_batch.e in
+    let working = c.in_default.ensures.ok.0 in
+    let off = (c.if-has_failed.ensures.passed refl).0 in
+    let all = staged_rows (number_of load) (geography_model_of load) (done_of load) c.args.rows in
+    let why = c.in-Err-load_batch.ensures.step.commits.err in
+    let quiet = refused_quiet (pages_of x) b e off (rows_told load (c.args.rows + 1) all (pages_of x) b e why) in
+    batch_stopped (quieted (Stages x load) (desk_of x) x _ (λ stages. stages.keeps) working working refl quiet) refl refl (λ works. quiet) c.in-Err-load_batch.ensures.load (rows_refused load (c.args.rows + 1) all x b e working off why)

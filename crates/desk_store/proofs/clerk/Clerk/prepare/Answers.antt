@@ -1,7 +1,5 @@
-use Rattle.{std.proofs.Common.{◌≡◌, false, true, inl, inr, refl, sym, ap, subst, ◌∙◌, rules}, desk_model.specs.{claim.Outcome.RefusalMay, declared.reply.Refusal.Refusal}}
-use Rattle.{desk_model.specs.declared.reply.Refusal.TheVariants.Full, desk_store.specs.claim.{Clerks.{desk_of, pages_of}, Commands.{MustBeFull, MayBeFull}}}
-use Rattle.desk_store.{specs.declared.clerk.Clerk.Clerk, proofs.Prepared.{IsBegun, made_ready, exhausted_full, fault_reads, not_put, made_of, exhausted_of, error_of}}
-use Rattle.desk_store.proofs.Settled.{settled_may, settled_reads}
+use Rattle.{std.proofs.Common.{◌≡◌, false, inl, inr, refl, sym, ap, ◌∙◌, rules}, desk_model.specs.declared.reply.Refusal.TheVariants.Full, desk_store.specs.claim.Clerks.pages_of}
+use Rattle.desk_store.{specs.declared.clerk.Clerk.Clerk, proofs.{Prepared.{IsBegun, made_ready, exhausted_full, fault_reads, not_put}, Settled.{settled_may, settled_reads}}}
 use Rattle.desk_store.proofs.clerk.Clerk.prepare.Given.{Over}
 use Rattle.desk_store.proofs.clerk.Clerk.prepare.Goals.{After-begin-txn, then-is_fault-via-then-is_fault, then-is_fault-via-else-is_fault+then-is_halted}
 use Rattle.desk_store.proofs.clerk.Clerk.prepare.Goals as goal
@@ -19,16 +17,17 @@ pub returns-in-Ok-NumbersExhausted-clause-err : goal.returns-in-Ok-NumbersExhaus
 returns-in-Ok-NumbersExhausted-clause-err g c =
     let x = c.settle.new.self in
     let at = (goal.at.returns-in-Ok-NumbersExhausted-clause-err g c).After-begin-txn in
+    let put = rw (c.deref.ensures, c.in-Ok-NumbersExhausted.field-0-is) at c.in-Ok-NumbersExhausted.ensures.put in
     settled_may c.args.self.now x c.put_command.new.pages c.args.command Full c.settle.ensures (
       λ on. search (rules, works),
-      exhausted_full x c.put_command.new.pages c.args.command c.in-Ok.draft.catalogue c.begin-txn.result c.put_command.new.txn c.in-Ok.ensures.after (works g at) (begun g at) c.put_command.ensures.quiet (exhausted_of c.deref.result.now x.catalogue.value c.args.command c.in-Ok.draft.catalogue c.begin-txn.result c.put_command.new.txn (pages_of x) c.put_command.new.pages c.in-Ok-NumbersExhausted.field-0 c.deref.ensures c.in-Ok-NumbersExhausted.field-0-is c.in-Ok-NumbersExhausted.ensures.put),
+      exhausted_full x c.put_command.new.pages c.args.command c.in-Ok.draft.catalogue c.begin-txn.result c.put_command.new.txn c.in-Ok.ensures.after (works g at) (begun g at) c.put_command.ensures.quiet put,
     )
 
 pub returns-then-is_fault-clause-reads : goal.returns-then-is_fault-clause-reads
 returns-then-is_fault-clause-reads g c =
     let x = c.settle.new.self in
     let at = (goal.at.returns-then-is_fault-clause-reads g c).After-begin-txn in
-    let why = error_of c.deref.result.now x.catalogue.value c.args.command c.begin-txn.result (pages_of x) c.put_command.new.pages c.in-Err-put_command.e c.deref.ensures c.in-Err-put_command.ensures.put in
+    let why = rw c.deref.ensures at c.in-Err-put_command.ensures.put in
     settled_reads c.args.self.now x _ c.settle.ensures (fault_reads x _ c.args.command c.begin-txn.result c.in-Err-put_command.e (works g at) refl refl (begun g at) c.put_command.ensures.quiet why (elim c.then-is_fault.branch [
       | then-is_fault-via-then-is_fault w ↦ inl (sym w.if-is_fault.ensures)
       | then-is_fault-via-else-is_fault+then-is_halted w ↦ inr (sym w.if-is_halted.ensures)
@@ -38,14 +37,14 @@ pub returns-in-Err-put_command-clause-err : goal.returns-in-Err-put_command-clau
 returns-in-Err-put_command-clause-err g c =
     let x = c.settle.new.self in
     let at = (goal.at.returns-in-Err-put_command-clause-err g c).After-begin-txn in
+    let why = rw c.deref.ensures at c.in-Err-put_command.ensures.put in
     settled_may c.args.self.now x c.put_command.new.pages c.args.command c.refusal_of.result c.settle.ensures
-    (subst (λ (r : Refusal). RefusalMay (MustBeFull x c.args.command) (MayBeFull x c.put_command.new.pages c.args.command) (x.halted ≡ true) (desk_of x) c.args.command r (desk_of x)) (sym c.refusal_of.ensures)
-    (not_put x c.put_command.new.pages c.args.command c.in-Ok.draft.catalogue c.begin-txn.result c.in-Err-put_command.e c.in-Ok.ensures.after c.in-Ok.ensures.room (works g at) (begun g at) c.put_command.ensures.quiet (error_of c.deref.result.now x.catalogue.value c.args.command c.begin-txn.result (pages_of x) c.put_command.new.pages c.in-Err-put_command.e c.deref.ensures c.in-Err-put_command.ensures.put) (sym c.if-is_fault.ensures)))
+    (rw c.refusal_of.ensures (not_put x c.put_command.new.pages c.args.command c.in-Ok.draft.catalogue c.begin-txn.result c.in-Err-put_command.e c.in-Ok.ensures.after c.in-Ok.ensures.room (works g at) (begun g at) c.put_command.ensures.quiet why (sym c.if-is_fault.ensures)))
 
 pub returns-in-Ok-new-2-clause-ready : goal.returns-in-Ok-new-2-clause-ready
 returns-in-Ok-new-2-clause-ready g c =
     let x = c.settle.new.self in
     let at = (goal.at.returns-in-Ok-new-2-clause-ready g c).After-begin-txn in
-    let put = made_of c.deref.result.now x.catalogue.value c.args.command c.in-Ok.draft.catalogue c.begin-txn.result c.put_command.new.txn (pages_of x) c.put_command.new.pages c.in-Ok-Made.field-0 c.deref.ensures c.in-Ok-Made.field-0-is c.in-Ok-Made.ensures.put in
+    let put = rw (c.deref.ensures, c.in-Ok-Made.field-0-is) at c.in-Ok-Made.ensures.put in
     made_ready x _ c.args.command c.in-Ok.draft.catalogue c.begin-txn.result c.put_command.new.txn _ refl c.in-Ok.ensures.after c.in-Ok.ensures.room (begun g at) c.put_command.ensures.quiet c.put_command.ensures.begun put
     (record { pages = c.in-Ok-prepare.ensures.pages; held = c.in-Ok-prepare.ensures.held; more = c.in-Ok-prepare.ensures.more; free = c.in-Ok-prepare.ensures.free }) c.in-Ok-new-2.ensures.ok c.in-Ok-new.ensures.ok

@@ -1,4 +1,4 @@
-use Rattle.{std.proofs.Common.{◌≡◌, ◌⊎◌, ◌||◌, inl, inr, refl, ◌∙◌, Bool, List, ℕ, rules}, desk_model.specs.declared.reply.Reply.Reply, http_desk.proofs.AnswerLemmas.json_text}
+use Rattle.{std.proofs.Common.{◌≡◌, ◌⊎◌, ◌||◌, inl, inr, refl, ◌∙◌, Bool, List, ℕ}, desk_model.specs.declared.reply.Reply.Reply}
 use Rattle.{http_desk.specs.claim.Answers.{bytes_of, saying, message_of, closes_after}, http_wire.specs.declared.response.ContentType.TheVariants.PlainText}
 use Rattle.desk_model.specs.declared.reply.Reply.TheVariants as reply
 use Rattle.http_desk.proofs.answer.Answer.put_reply.Goals as goal
@@ -8,17 +8,8 @@ file_text : (r : Reply) (text : List ℕ) (closing head_only : Bool) → (r ≡ 
 file_text r text closing head_only (inl e) = rw e refl
 file_text r text closing head_only (inr e) = rw e refl
 
-pub returns-in_ok-put_plans-in-Plans-clause-text : goal.returns-in_ok-put_plans-in-Plans-clause-text
-returns-in_ok-put_plans-in-Plans-clause-text c = search (rules, c.as_slice.ensures, c.json-self-inside-in-Plans.ensures, c.in_ok-put_plans-in-Plans.ensures, json_text)
-
 pub returns-in-Audited-clause-text : goal.returns-in-Audited-clause-text
 returns-in-Audited-clause-text c = rw (c.in-Audited.is, ← c.into_vec.ensures) c.put_long.ensures
 
 pub returns-in-Blocks-clause-text : goal.returns-in-Blocks-clause-text
 returns-in-Blocks-clause-text c = rw c.into_vec-in-Blocks.ensures at c.put_long-in-Blocks.ensures ∙ file_text c.args.reply c.in-Blocks.text c.args.closing c.args.head_only c.in-Blocks.is
-
-pub returns-in-Created-clause-text : goal.returns-in-Created-clause-text
-returns-in-Created-clause-text c = search (rules, c.json-self-inside.ensures, c.put_created.ensures, json_text)
-
-pub returns-in-Retired-clause-text : goal.returns-in-Retired-clause-text
-returns-in-Retired-clause-text c = search (rules, c.json-self-inside-in-Retired.ensures, c.put_retired.ensures, json_text)

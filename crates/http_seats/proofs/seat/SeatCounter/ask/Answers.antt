@@ -1,5 +1,4 @@
-use Rattle.{std.proofs.Common.{subst, ap}, http_seats.{specs.claim.Seated.Seated, proofs.Geographies.{may_be_asked, same_geography}}}
-use mathlib.Core.List.{IsPrefix}
+use Rattle.http_seats.proofs.Geographies.{may_be_asked, same_geography}
 use Rattle.http_seats.proofs.seat.SeatCounter.ask.Goals as goal
 
 pub answered-requires : goal.answered-requires
@@ -7,11 +6,3 @@ answered-requires g c = may_be_asked (λ s. s.value) g.J.GalleryId.first c.visit
 
 pub invariant_of-self : goal.invariant_of-self
 invariant_of-self g c = c.answered.ensures.last g.J.GalleryId.first.geography (same_geography (λ s. s.value) g.J.GalleryId.first c.visit-shown.new.self c.visit-shown.result c.visit-shown.ensures.value) c.self.invariant
-
-pub returns : goal.returns
-returns g c = record {
-  later = subst (λ (s : Seated). IsPrefix s.heard c.visit-shown.new.self) c.self.view_is c.visit-shown.ensures.later;
-  answer = c.answered.ensures.answer _ c.visit-shown.ensures.value;
-  accepted = ap (λ (s : Seated). s.accepted) c.self.view_is;
-  halted = ap (λ (s : Seated). s.halted) c.self.view_is;
-}

@@ -1,14 +1,8 @@
-use Rattle.{std.proofs.Common.{ℕ, ◌+◌, ◌-◌, ◌/◌, arith, sym, ◌∙◌, rules}, page_node.proofs.{Laws.{below_middle, above_middle, found_here, same_key}, Standing.count_is}}
+use Rattle.{std.proofs.Common.{ℕ, ◌+◌, ◌-◌, ◌/◌, arith, sym, ◌∙◌, rules}, page_node.proofs.{Laws.{found_here, same_key}, Standing.opened}}
 use Rattle.page_node.proofs.node_buf.NodeBuf.find.Goals as goal
 
 pub loop-low-init : goal.loop-low-init
-loop-low-init c = let n = count_is _ _ c.self.inside.bytes _ c.self.view_is in (omega arith, omega arith, λ _ j less. absurd (omega arith), λ _ j le within. absurd (omega arith))
-
-pub loop-low-preserved-in-Less : goal.loop-low-preserved-in-Less
-loop-low-preserved-in-Less c = search (rules, below_middle)
-
-pub loop-low-preserved : goal.loop-low-preserved
-loop-low-preserved c = search (rules, above_middle)
+loop-low-init c = let n = (opened _ _ _ _ _ c.self.invariant c.self.view_is).count_of in (omega arith, omega arith, λ _ j less. absurd (omega arith), λ _ j le within. absurd (omega arith))
 
 pub returns-in-Equal : goal.returns-in-Equal
 returns-in-Equal c = record {

@@ -1,5 +1,5 @@
-use Rattle.std.{specs.{List.copy_within, Prelude.insert}, proofs.{Common.{◌≡◌, ◌+◌, ◌≤◌, length, get_or, arith, ap, ◌∙◌}, lemmas.List.Edits.length-insert}}
-use Rattle.page_node.{specs.claim.Entries.size_of, proofs.{Editing.{opened, closed, bounds_of, mark_most, insert_stands}, Standing.{Stands, to_held}}}
+use Rattle.std.{specs.{List.copy_within, Prelude.insert}, proofs.{Common.{◌≡◌, ◌+◌, ◌≤◌, length, get_or, arith, ap, refl, ◌∙◌}, lemmas.List.Edits.length-insert}}
+use Rattle.page_node.{specs.claim.Entries.size_of, proofs.{Editing.{closed, bounds_of, mark_most, put_stands}, Standing.{Stands, to_held, opened}}}
 use Rattle.page_node.proofs.node_buf.NodeBuf.insert.Goals as goal
 
 pub offset_bounds-self-inside-i : goal.offset_bounds-self-inside-i
@@ -34,10 +34,13 @@ stands : (c : goal.After-self-1) → Stands c.self.inside.level (insert c.args.s
 stands c =
     let o = opened _ _ _ _ _ c.self.invariant c.self.view_is in
     let n = o.count_of in
-    insert_stands _ _ c.self.inside.ends c.self.inside.bytes c.move_bytes.new.bytes c.put_entry.new.bytes c.insert_end.new.ends c.args.i (c.args.key.now, c.args.value.now) o.stands c.requires.within c.self.told.0 c.requires.takes.fits (c.requires.key, c.requires.takes.short)
-    (λ inner. c.requires.takes.child (omega arith))
+    put_stands _ _ c.self.inside.ends c.self.inside.bytes c.move_bytes.new.bytes c.put_entry.new.bytes c.insert_end.new.ends c.args.i c.args.i _ (c.args.key.now, c.args.value.now) o.stands (omega arith) c.requires.within c.self.told.0 c.requires.takes.fits (c.requires.key, c.requires.takes.short)
+    (λ inner. c.requires.takes.child (omega arith)) refl
     (c.move_bytes.ensures ∙ ap (λ k. copy_within c.self.inside.bytes (get_or c.self.inside.ends c.args.i 0) (get_or c.self.inside.ends k 0) (get_or c.self.inside.ends c.args.i 0 + (3 + length c.args.key.now + length c.args.value.now))) n)
-    c.put_entry.ensures c.insert_end.ensures.kept (λ k low le. c.insert_end.ensures.moved k low (omega arith))
+    c.put_entry.ensures c.insert_end.ensures.kept (λ k m sum low le.
+    let there = c.insert_end.ensures.moved m low (omega arith) in
+    let at_k : get_or c.insert_end.new.ends k 0 ≡ get_or c.insert_end.new.ends (m + 1) 0 = ap (λ q. get_or c.insert_end.new.ends q 0) (omega arith) in
+    omega arith)
 
 longer : (c : goal.After-self-1) → c.self.inside.count + 1 ≡ length (insert c.args.self.now.entries c.args.i (c.args.key.now, c.args.value.now))
 longer c = search (opened _ _ _ _ _ c.self.invariant c.self.view_is, length-insert c.args.self.now.entries c.args.i (c.args.key.now, c.args.value.now) c.requires.within)

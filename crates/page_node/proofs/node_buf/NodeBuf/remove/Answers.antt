@@ -1,5 +1,5 @@
 use Rattle.std.{specs.{List.copy_within, Prelude.remove}, proofs.{Common.{◌≡◌, ◌+◌, ◌-◌, length, get_or, arith, ap, ◌∙◌}, lemmas.List.Edits.length-remove}}
-use Rattle.page_node.proofs.{Editing.{opened, closed, bounds_of, marks_rise, has_entry_at, remove_stands}, Standing.{Stands, to_held}}
+use Rattle.page_node.proofs.{Editing.{closed, bounds_of, marks_rise, has_entry_at, remove_stands}, Standing.{Stands, to_held, opened}}
 use Rattle.page_node.proofs.node_buf.NodeBuf.remove.Goals as goal
 
 pub offset_bounds-self-inside-i : goal.offset_bounds-self-inside-i

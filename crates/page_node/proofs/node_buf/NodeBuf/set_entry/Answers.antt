@@ -1,5 +1,5 @@
 use Rattle.{std.{specs.List.copy_within, proofs.{Common.{◌≡◌, ◌+◌, ◌≤◌, length, get_or, set, arith, ap, ◌∙◌}, lemmas.List.length-set}}, page_node.specs.claim.Entries.size_of}
-use Rattle.page_node.proofs.{Editing.{opened, closed, bounds_of, marks_rise, mark_most, has_entry_at, set_stands}, Standing.{Stands, to_held}}
+use Rattle.page_node.proofs.{Editing.{closed, bounds_of, marks_rise, mark_most, has_entry_at, set_stands}, Standing.{Stands, to_held, opened}}
 use Rattle.page_node.proofs.node_buf.NodeBuf.set_entry.Goals as goal
 
 pub offset_bounds-self-inside-i : goal.offset_bounds-self-inside-i

@@ -1,4 +1,4 @@
-use Rattle.{std.proofs.Common.arith, page_node.proofs.Editing.{opened, bounds_of}}
+use Rattle.{std.proofs.Common.arith, page_node.proofs.{Editing.bounds_of, Standing.opened}}
 use Rattle.page_node.proofs.node_buf.NodeBuf.size.Goals as goal
 
 pub returns-clause-size : goal.returns-clause-size

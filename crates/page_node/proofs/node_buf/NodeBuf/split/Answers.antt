@@ -1,8 +1,41 @@
-use Rattle.{std.proofs.Common.{◌+◌, ◌-◌, ◌*◌, ◌<◌, ◌≤◌, List, ◌++◌, length, take, drop, arith, sym, ap, subst, ◌∙◌, take-append-drop, rules}, page_node.proofs.Standing.to_held}
-use Rattle.page_node.{specs.claim.Entries.{Entry, size_of}, proofs.{Editing.{opened, bounds_of, marks_rise}, EntryLists.length-read}}
-use Rattle.page_node.proofs.Splitting.{size_few, cut_steps, split_of, left_is, right_is}
+use Rattle.{std.{specs.List.All, proofs.lemmas.List.{length-take-le, length-drop, Elements.{All-head, All-tail}}}, page_node.specs.claim.Entries.{Entry, IsEntry, size_of}}
+use Rattle.std.proofs.Common.{◌≡◌, ℕ, ◌+◌, ◌-◌, ◌*◌, ◌<◌, ◌≤◌, List, [], ◌∷◌, length, take, drop, get_or, sym, ap, ◌∙◌, arith, ◌++◌, subst, take-append-drop, rules}
+use Rattle.page_node.proofs.{Editing.{left_stands, right_stands, mark_step, bounds_of, marks_rise}, EntryLists.{size-parts, length-read}}
+use Rattle.page_node.proofs.Standing.{Stands, entries_are, size_is, to_held, opened}
 use Rattle.page_node.proofs.node_buf.NodeBuf.split.Goals as goal
 
+-- ---- a node in two buffers
+size_few : (es : List Entry) → All IsEntry es → size_of es ≤ 1099 * length es
+size_few [] all = omega arith
+size_few (e ∷ es) all = let here = All-head IsEntry e es all in omega (arith, size_few es (All-tail IsEntry e es all))
+
+cut_steps : (level : ℕ) (es : List Entry) (marks bytes : List ℕ) (count : ℕ) → Stands level es marks bytes → count ≡ length es → (k : ℕ) → k < count → (get_or marks k 0 ≤ get_or marks (k + 1) 0) × (get_or marks (k + 1) 0 ≤ get_or marks k 0 + 1099)
+cut_steps level es marks bytes count s is k less = let step = mark_step level es marks bytes s k (omega arith) in (omega arith, omega arith)
+
+record IsSplit (level : ℕ) (es : List Entry) (count cut : ℕ) (marks bytes right_marks right_bytes : List ℕ) : Type 0 where
+  left : Stands level (take cut es) marks bytes
+  right : Stands level (drop cut es) right_marks right_bytes
+  left_count : cut ≡ length (take cut es)
+  right_count : count - cut ≡ length (drop cut es)
+  used : get_or marks count 0 ≡ 4 + size_of es
+  start : get_or marks cut 0 ≡ 4 + size_of (take cut es)
+  parts : size_of (take cut es) + size_of (drop cut es) ≡ size_of es
+
+split_of : (level : ℕ) (es : List Entry) (marks bytes right_marks right_bytes : List ℕ) (count cut : ℕ) → Stands level es marks bytes → count ≡ length es → cut < count
+    → take (get_or marks count 0 - get_or marks cut 0) (drop 4 right_bytes) ≡ take (get_or marks count 0 - get_or marks cut 0) (drop (get_or marks cut 0) bytes)
+    → ((k : ℕ) → cut ≤ k → k ≤ count → get_or right_marks (k - cut) 0 ≡ get_or marks k 0 - get_or marks cut 0 + 4)
+    → IsSplit level es count cut marks bytes right_marks right_bytes
+split_of level es marks bytes right_marks right_bytes count cut s is within same shifted =
+    let parts = size-parts cut es in
+    let start = s.places cut (omega arith) in
+    let used : get_or marks count 0 ≡ 4 + size_of es = ap (λ k. get_or marks k 0) is ∙ size_is level es marks bytes s in
+    let size : get_or marks count 0 - get_or marks cut 0 ≡ size_of (drop cut es) = omega arith in
+    let n = length-drop cut es in
+    let right = right_stands level es marks bytes right_marks right_bytes cut s (omega arith)
+    (ap (λ k. take k (drop 4 right_bytes)) (sym size) ∙ same ∙ ap (λ k. take k (drop (get_or marks cut 0) bytes)) size) (λ k low le. shifted k low (omega arith)) in
+    search (arith, left_stands level es marks bytes cut s (omega arith), length-take-le cut es (omega arith))
+
+-- ---- answers
 pub cut_at-cut-requires : goal.cut_at-cut-requires
 cut_at-cut-requires c =
     let o = opened _ _ _ _ _ c.self.invariant c.self.view_is in
@@ -35,8 +68,8 @@ invariant_of-right c = let o = opened _ _ _ _ _ c.self.invariant c.self.view_is 
 pub returns : goal.returns
 returns c =
     let o = opened _ _ _ _ _ c.self.invariant c.self.view_is in let s = split_of _ _ c.self.inside.ends c.self.inside.bytes c.copy_ends.new.to c.copy_body.new.to _ c.cut_at-cut.result o.stands o.count_of c.cut_at-cut.ensures.within.1 c.copy_body.ensures c.copy_ends.ensures in
-    let left = left_is _ _ _ _ _ _ _ _ s in
-    let right = right_is _ _ _ _ _ _ _ _ s in
+    let left = entries_are _ _ _ _ _ s.left s.left_count in
+    let right = entries_are _ _ _ _ _ s.right s.right_count in
     let within = c.cut_at-cut.ensures.within in
     let some = within.0 in
     record {

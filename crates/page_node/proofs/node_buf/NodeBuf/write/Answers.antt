@@ -1,5 +1,5 @@
-use Rattle.{std.proofs.Common.{◌≡◌, ◌≤◌, length, arith, subst, ◌∙◌}, page_node.{specs.{Node.bytes_of, claim.{Entries.size_of, Node.IsShape}}, proofs.Editing.{opened, bounds_of}}}
-use Rattle.page_node.proofs.{Laws.node_written, Writing.page_written}
+use Rattle.{std.proofs.Common.{◌≡◌, ◌≤◌, length, arith, subst, ◌∙◌}, page_node.{specs.{Node.bytes_of, claim.{Entries.size_of, Node.IsShape}}, proofs.Editing.bounds_of}}
+use Rattle.page_node.proofs.{Laws.node_written, Standing.opened, Writing.page_written}
 use Rattle.page_node.proofs.node_buf.NodeBuf.write.Goals as goal
 
 pub put_body-requires : goal.put_body-requires

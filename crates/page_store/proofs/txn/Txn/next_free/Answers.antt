@@ -1,15 +1,9 @@
-use Rattle.{std.proofs.Common.{◌≡◌, ◌∙◌, List, ℕ, sym, ap, arith, rules}, gate_journal.specs.claim.Store.word, page_store.specs.claim.Chain.{is_blank, AreFree}}
+use Rattle.{std.proofs.Common.{◌≡◌, ◌∙◌, List, ℕ, ap, arith, rules}, gate_journal.specs.claim.Store.word, page_store.specs.claim.Chain.AreFree}
 use Rattle.page_store.{specs.claim.Transactions.{over, stored, disk_in, free_over}, proofs.Chains.{chain_pop, first_blank, second_below, both_ways}}
 use Rattle.page_store.proofs.txn.Txn.next_free.Goals as goal
 
 pub returns-then-not-is_blank_page-clause-reading : goal.returns-then-not-is_blank_page-clause-reading
-returns-then-not-is_blank_page-clause-reading g c =
-    let t = c.args.self.now in
-    let P = over t (stored c.args.pages.now) in
-    let err : (disk_in c.read.new.pages).is_honest → AreFree t.pages (free_over t (stored c.args.pages.now)) → ⊥ = λ honest free.
-    both_ways (is_blank (P t.first)) (first_blank t.pages P t.first t.free c.requires.some free)
-    (ap is_blank (sym (c.in_ok-read.ensures.reads honest)) ∙ sym c.is_blank_page.ensures ∙ c.if-not-is_blank_page.true) in
-    search rules
+returns-then-not-is_blank_page-clause-reading g c = search (arith, both_ways, first_blank)
 
 pub returns-then-next-self-clause-reading : goal.returns-then-next-self-clause-reading
 returns-then-next-self-clause-reading g c =

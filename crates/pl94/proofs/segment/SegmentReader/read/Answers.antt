@@ -1,5 +1,5 @@
-use Rattle.{std.proofs.Common.{ℕ, ◌+◌, ap, ◌∙◌, rules}, pl94.{specs.{SegFile.{told, refused}, claim.Records.judge}, proofs.LineLemmas.{judged_none, judged_more}}}
-use Rattle.pl94.proofs.SegLemmas.{stands_on, told_refused, told_refused_last, told_fault, told_end, told_last_end}
+use Rattle.{std.proofs.Common.{ℕ, ◌+◌, ap, ◌∙◌, inl, inr, rules}, pl94.{specs.{SegFile.{told, refused}, claim.Records.judge}, proofs.LineLemmas.{judged_none, judged_more}}}
+use Rattle.pl94.proofs.SegLemmas.{stands_on, told_refused, told_fault, told_end, told_last_end}
 use Rattle.pl94.proofs.segment.SegmentReader.read.Goals as goal
 
 pub loop-rows-init : goal.loop-rows-init
@@ -10,8 +10,8 @@ returns-in-Err-judge_line-clause-read g c =
     let came = rw c.in-Ok-Line.field-0-is at c.in-Ok-Line.ensures.bytes in
     let counted = rw c.in-Ok-Line.field-0-is at c.in-Ok-Line.ensures.number in
     told_refused c.args.part _ _
-    (g.R.Source.remaining c.advance.new.reader) _ came.0 _ _ c.loop-rows.invariant.stands came.1 _ _ _ c.judge_line.new.self c.in-Err-judge_line.refusal _
-    (c.line_fault.ensures ∙ ap (refused c.in-Err-judge_line.refusal) (c.number.ensures ∙ counted)) c.line.ensures came.2 c.in-Err-judge_line.ensures
+    (g.R.Source.remaining c.advance.new.reader) _ came.0 _ _ c.loop-rows.invariant.stands came.1 _ _ c.judge_line.new.self c.in-Err-judge_line.refusal _
+    (c.line_fault.ensures ∙ ap (refused c.in-Err-judge_line.refusal) (c.number.ensures ∙ counted)) c.line.ensures (inl (_, came.2)) c.in-Err-judge_line.ensures
 
 pub loop-rows-preserved : goal.loop-rows-preserved
 loop-rows-preserved g c =
@@ -28,9 +28,9 @@ pub returns-in-Err-judge_line-2-clause-read : goal.returns-in-Err-judge_line-2-c
 returns-in-Err-judge_line-2-clause-read g c =
     let came = rw c.in-Ok-LastLine.field-0-is at c.in-Ok-LastLine.ensures.bytes in
     let counted = rw c.in-Ok-LastLine.field-0-is at c.in-Ok-LastLine.ensures.number in
-    told_refused_last c.args.part _ _
+    told_refused c.args.part _ _
     (g.R.Source.remaining c.advance.new.reader) _ came.0 _ _ c.loop-rows.invariant.stands came.1 _ _ c.judge_line-in-Ok-LastLine.new.self c.in-Err-judge_line-2.refusal _
-    (c.line_fault-in-Err-judge_line-2.ensures ∙ ap (refused c.in-Err-judge_line-2.refusal) (c.number-in-Err-judge_line-2.ensures ∙ counted)) c.line-in-Ok-LastLine.ensures came.2.0 came.2.1 c.in-Err-judge_line-2.ensures
+    (c.line_fault-in-Err-judge_line-2.ensures ∙ ap (refused c.in-Err-judge_line-2.refusal) (c.number-in-Err-judge_line-2.ensures ∙ counted)) c.line-in-Ok-LastLine.ensures (inr came.2) c.in-Err-judge_line-2.ensures
 
 pub returns-in-Ok-LastLine-clause-read : goal.returns-in-Ok-LastLine-clause-read
 returns-in-Ok-LastLine-clause-read g c =

@@ -1,22 +1,10 @@
-use Rattle.{std.proofs.Common.{◌≡◌, ◌<◌, ◌^◌, ◌∙◌, ℕ, List, [], false, IsTrue, get_or, length, replicate, sym, ap, subst, rules}, sector_device.specs.Held.image_of}
-use Rattle.sector_file.{specs.Told.{Told, replay}, proofs.Disks.{sectors_kept, recalled_still, as_opened_still, synced_is}}
+use Rattle.{std.proofs.Common.{◌∙◌, [], IsTrue, get_or, length, sym, ap, subst, rules}, sector_device.specs.Held.image_of, sector_file.specs.Told.{Told, replay}}
+use Rattle.sector_file.proofs.Disks.{sectors_kept, recalled_still, as_opened_still, synced_is}
 use Rattle.sector_file.proofs.device.FileDevice.open.Goals as goal
 
 pub invariant_of-lent : goal.invariant_of-lent
 invariant_of-lent g c =
-    let was = c.in_ok-device.device in
-    let t = replay g.S.Contents.sector was.log.calls in
-    let u = replay g.S.Contents.sector c.sync_sectors.new.log.calls in
-    let done = c.sync_sectors.ensures in
-    let is = done.synced c.if-sync_sectors.true in
-    let same : u.0 ≡ t.0 = ap (λ (v : Told). v.0) is in
-    record {
-      few = subst (λ (s : List (List ℕ)). length s < 2 ^ 32) (sym same) was.few;
-      counted = ap (λ (s : List (List ℕ)). length s) same ∙ was.counted;
-      whole = was.whole;
-      recalled = recalled_still t u c.sync_sectors.result done.synced done.fault was.recent was.recalled;
-      as_opened = λ _. (same ∙ ap (λ (v : Told). v.0) c.in_ok-device.ensures.opened, ap (λ (v : Told). v.1) is ∙ ap (λ n. replicate n false) was.counted);
-    }
+    search (rules, c.sync_sectors.ensures.synced c.if-sync_sectors.true, recalled_still, c.in_ok-device.ensures.opened)
 
 pub invariant_of-lent-else-sync_sectors : goal.invariant_of-lent-else-sync_sectors
 invariant_of-lent-else-sync_sectors g c =

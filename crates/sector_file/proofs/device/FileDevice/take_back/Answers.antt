@@ -1,4 +1,4 @@
-use Rattle.{std.proofs.Common.{◌≡◌, ◌∙◌, ◌++◌, ℕ, List, length, ap, refl}, sector_file.specs.{Told.{Call, replay, replay_on, after_sharing}, declared.record.Record.Record}}
+use Rattle.{std.proofs.Common.{rules, ◌≡◌, ◌∙◌, ◌++◌, ℕ, List, length, ap}, sector_file.specs.{Told.{Call, replay, replay_on}, declared.record.Record.Record}}
 use Rattle.sector_file.proofs.Readers.{replay_joined, sectors_taken, unsynced_taken, honest_before, synced_taken, touches_taken, faults_taken, reader_taken}
 use Rattle.sector_file.proofs.device.FileDevice.take_back.Goals as goal
 
@@ -20,26 +20,16 @@ invariant_of-self g c =
     }
 
 pub returns-clause-sectors : goal.returns-clause-sectors
-returns-clause-sectors g c =
-    let is = follows g.S.Contents.sector c.args.self.now.log.calls _ _ c.args.reader.log c.note_all.ensures c.log.ensures in
-    ap (λ (s : List (List ℕ)). length s) (sectors_taken g.S.Contents.sector _ _ c.args.reader.log.calls c.args.reader.reading is)
+returns-clause-sectors g c = search (rules, sectors_taken, follows g.S.Contents.sector c.args.self.now.log.calls _ _ c.args.reader.log c.note_all.ensures c.log.ensures)
 
 pub returns-clause-synced : goal.returns-clause-synced
-returns-clause-synced g c =
-    let is = follows g.S.Contents.sector c.args.self.now.log.calls _ _ c.args.reader.log c.note_all.ensures c.log.ensures in
-    synced_taken g.S.Contents.sector _ _ c.args.reader.log.calls c.args.reader.reading is c.args.self.now.few (rw (sectors_taken g.S.Contents.sector _ _ c.args.reader.log.calls c.args.reader.reading is) c.args.self.now.few)
+returns-clause-synced g c = search (rules, synced_taken, follows g.S.Contents.sector c.args.self.now.log.calls _ _ c.args.reader.log c.note_all.ensures c.log.ensures)
 
 pub returns-clause-moves : goal.returns-clause-moves
-returns-clause-moves g c = λ honest.
-    let is = follows g.S.Contents.sector c.args.self.now.log.calls _ _ c.args.reader.log c.note_all.ensures c.log.ensures in
-    touches_taken g.S.Contents.sector _ _ c.args.reader.log.calls c.args.reader.reading is c.args.self.now.few _ honest
+returns-clause-moves g c = λ honest. search (rules, touches_taken, follows g.S.Contents.sector c.args.self.now.log.calls _ _ c.args.reader.log c.note_all.ensures c.log.ensures)
 
 pub returns-clause-reader : goal.returns-clause-reader
-returns-clause-reader g c = λ honest reads long.
-    let is = follows g.S.Contents.sector c.args.self.now.log.calls _ _ c.args.reader.log c.note_all.ensures c.log.ensures in
-    reader_taken g.S.Contents.sector _ _ c.args.reader.log.calls c.args.reader.reading is c.args.reader.count honest reads long
+returns-clause-reader g c = λ honest reads long. search (rules, reader_taken, follows g.S.Contents.sector c.args.self.now.log.calls _ _ c.args.reader.log c.note_all.ensures c.log.ensures)
 
 pub returns-clause-faults : goal.returns-clause-faults
-returns-clause-faults g c = λ honest.
-    let is = follows g.S.Contents.sector c.args.self.now.log.calls _ _ c.args.reader.log c.note_all.ensures c.log.ensures in
-    faults_taken g.S.Contents.sector _ _ c.args.reader.log.calls c.args.reader.reading is (after_sharing g.S.Contents.sector c.args.reader.count) refl
+returns-clause-faults g c = λ honest. search (rules, faults_taken, follows g.S.Contents.sector c.args.self.now.log.calls _ _ c.args.reader.log c.note_all.ensures c.log.ensures)

@@ -1,4 +1,4 @@
-use Rattle.{std.proofs.Common.{◌≡◌, ◌<◌, ◌^◌, ◌∙◌, ℕ, List, length, sym, ap, subst, IsTrue}, sector_file.{specs.Told.{Told, replay}, proofs.Steps.{bytes_same, recalled_read}}}
+use Rattle.{std.proofs.Common.{rules, subst, IsTrue}, sector_file.{specs.Told.{Told, replay}, proofs.Steps.{bytes_same, recalled_read}}}
 use Rattle.sector_file.proofs.device.FileDeviceSectorDevice.read.Goals as goal
 
 pub returns-then-got-eq-SECTOR_SIZE-clause-reads : goal.returns-then-got-eq-SECTOR_SIZE-clause-reads
@@ -10,11 +10,5 @@ invariant_of-self g c =
     let t = replay g.S.Contents.sector was.log.calls in
     let u = replay g.S.Contents.sector c.read_sector-got.new.log.calls in
     let is = c.read_sector-got.ensures.whole c.if-got-eq-SECTOR_SIZE.true in
-    let same : u.0 ≡ t.0 = ap (λ (v : Told). v.0) is in
-    record {
-      few = subst (λ (s : List (List ℕ)). length s < 2 ^ 32) (sym same) was.few;
-      counted = ap (λ (s : List (List ℕ)). length s) same ∙ was.counted;
-      whole = was.whole;
-      recalled = recalled_read t u c.args.i _ was.recent c.note.new.self is was.recalled c.note.ensures;
-      as_opened = λ off. (same ∙ (was.as_opened off).0, ap (λ (v : Told). v.1) is ∙ (was.as_opened off).1);
-    }
+    let recalled = recalled_read t u c.args.i _ was.recent c.note.new.self is was.recalled c.note.ensures in
+    search (rules, is, recalled, was.as_opened)

@@ -1,4 +1,4 @@
-use Rattle.{std.proofs.Common.{ap, rules}, sector_device.specs.Held.refused, sector_file.specs.Told.Told}
+use Rattle.{std.proofs.Common.{rules, ap}, sector_device.specs.Held.refused, sector_file.specs.Told.Told}
 use Rattle.sector_file.proofs.Disks.{sync_is, fault_is, synced_is, sectors_kept, recalled_still, as_opened_still}
 use Rattle.sector_file.proofs.device.FileDeviceSectorDevice.sync.Goals as goal
 

@@ -1,5 +1,5 @@
-use Rattle.{std.proofs.{Common.{◌∙◌, ap, sym, arith}, lemmas.Bool.false≢true}, sector_device.specs.Held.refused, sector_file.specs.Told.{Told, replay}}
-use Rattle.sector_file.proofs.{Disks.{write_is, torn_is}, Steps.{length_wrote, recalled_wrote}}
+use Rattle.{std.proofs.Common.{ap, arith}, sector_device.specs.Held.refused, sector_file.{specs.Told.{Told, replay}, proofs.Disks.{write_is, torn_is}}}
+use Rattle.sector_file.proofs.Steps.{length_wrote, recalled_wrote}
 use Rattle.sector_file.proofs.device.FileDeviceSectorDevice.write.Goals as goal
 
 pub returns-then-put-eq-SECTOR_SIZE-clause-model : goal.returns-then-put-eq-SECTOR_SIZE-clause-model
@@ -19,11 +19,5 @@ invariant_of-self g c =
     let u = replay g.S.Contents.sector c.write_sector-put.new.log.calls in
     let put = c.write_sector-put.ensures in
     let long = length_wrote t u c.args.i c.write_sector-put.result c.args.sector.now put.whole put.torn in
-    let few = was.few in
-    record {
-      few = omega (arith, long);
-      counted = long ∙ was.counted;
-      whole = was.whole;
-      recalled = recalled_wrote t u c.args.i c.write_sector-put.result c.args.sector.now put.whole put.torn was.recent c.forget.new.self was.recalled c.forget.ensures;
-      as_opened = λ off. absurd (false≢true (sym off));
-    }
+    let recalled = recalled_wrote t u c.args.i c.write_sector-put.result c.args.sector.now put.whole put.torn was.recent c.forget.new.self was.recalled c.forget.ensures in
+    search (arith, long, recalled)

@@ -1,11 +1,5 @@
-use Rattle.{std.proofs.{Common.{◌+◌, sym, ◌∙◌, arith, rules}, lemmas.Bool.{not-true, not-false}}, shared_lists.proofs.Cut.{same_more, apart_here, counted_all}}
+use Rattle.{std.proofs.{Common.{◌+◌, sym, ◌∙◌, arith}, lemmas.Bool.{not-true, not-false}}, shared_lists.proofs.Cut.{same_more, apart_here}}
 use Rattle.shared_lists.proofs.districts.Districts.is_same_in.Goals as goal
-
-pub overflow_add-end : goal.overflow_add-end
-overflow_add-end c = omega (arith, counted_all c.self.inside.full.items c.self.inside.rest c.self.inside.count c.args.self.now c.self.invariant c.self.view_is)
-
-pub loop-place-init : goal.loop-place-init
-loop-place-init c = search rules
 
 pub returns-then-ne : goal.returns-then-ne
 returns-then-ne c =
@@ -23,6 +17,3 @@ loop-place-preserved c = record {
       ∙ c.loop-place.invariant.left;
   within = omega arith;
 }
-
-pub returns : goal.returns
-returns c = search rules

@@ -1,4 +1,4 @@
-use Rattle.{std.proofs.Common.{◌/◌, length, arith}, shared_lists.proofs.Cut.{next_full, next_same, whole, is_cut}}
+use Rattle.{std.proofs.Common.{◌/◌, length, refl, arith}, shared_lists.proofs.Cut.{next_full, next_same, whole, cut_of}}
 use Rattle.shared_lists.proofs.districts.Districts.new.Goals as goal
 
 pub loop-place-preserved : goal.loop-place-preserved
@@ -11,8 +11,8 @@ loop-place-preserved c = record {
 
 pub invariant_of-result : goal.invariant_of-result
 invariant_of-result c =
-    is_cut c.loop-place.full.items c.in_ok-rest.rest c.args.list.now c.after-2.result.now c.loop-place.place (length c.args.list.now / 512) c.loop-place.invariant.same c.in_ok-rest.ensures c.after-2.ensures (omega arith)
-    c.loop-place.invariant.are_full (λ i. let fits = c.type_inv.list i in omega arith)
+    let made = whole c.loop-place.full.items c.in_ok-rest.rest c.args.list.now c.after-2.result.now c.loop-place.place (length c.args.list.now / 512) c.loop-place.invariant.same c.in_ok-rest.ensures c.after-2.ensures (omega arith) in
+    cut_of c.loop-place.full.items c.in_ok-rest.rest c.args.list.now (length c.args.list.now) c.loop-place.invariant.are_full made refl (λ i. let fits = c.type_inv.list i in omega arith)
 
 pub returns : goal.returns
 returns c = whole c.loop-place.full.items c.in_ok-rest.rest c.args.list.now c.after-2.result.now c.loop-place.place (length c.args.list.now / 512) c.loop-place.invariant.same c.in_ok-rest.ensures c.after-2.ensures (omega arith)

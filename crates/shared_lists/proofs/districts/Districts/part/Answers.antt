@@ -1,11 +1,5 @@
-use Rattle.{std.proofs.Common.{◌+◌, ◌∙◌, arith, rules}, shared_lists.proofs.Cut.{put_more, counted_all}}
+use Rattle.{std.proofs.Common.{◌+◌, ◌∙◌, arith}, shared_lists.proofs.Cut.put_more}
 use Rattle.shared_lists.proofs.districts.Districts.part.Goals as goal
-
-pub overflow_add-end : goal.overflow_add-end
-overflow_add-end c = omega (arith, counted_all c.self.inside.full.items c.self.inside.rest c.self.inside.count c.args.self.now c.self.invariant c.self.view_is)
-
-pub loop-place-init : goal.loop-place-init
-loop-place-init c = search rules
 
 pub loop-place-preserved : goal.loop-place-preserved
 loop-place-preserved c = record {
@@ -14,6 +8,3 @@ loop-place-preserved c = record {
       ∙ c.loop-place.invariant.put;
   within = omega arith;
 }
-
-pub returns : goal.returns
-returns c = search rules

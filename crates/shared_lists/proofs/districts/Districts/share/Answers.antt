@@ -1,6 +1,13 @@
-use Rattle.{std.{specs.declared.{alloc.Global.Global, vec.Vec.Vec}, proofs.Common.{ℕ, length, sym, subst, ap, ◌∙◌, arith}}, shared_lists.specs.Pieces.{Piece, AreFull}}
-use Rattle.shared_lists.proofs.Shared.{shared_more, shared_full, shared_whole, shared_cut}
+use Rattle.std.{specs.declared.{alloc.Global.Global, vec.Vec.Vec}, proofs.Common.{◌≡◌, ◌≤◌, ◌++◌, ℕ, List, length, length-append, take, sym, subst, ap, ◌∙◌, arith}}
+use Rattle.{std.proofs.lemmas.List.take_all, shared_lists.{specs.Pieces.{Piece, joined, AreFull, IsCut}, proofs.Cut.{cut_of, full_push, joined_push, joined_take}}}
 use Rattle.shared_lists.proofs.districts.Districts.share.Goals as goal
+
+module _ (ps full : List Piece) (rest kept : Piece) (k : ℕ) (same : joined ps ≡ joined (take k full)) (all : length full ≤ k) (is : rest.value.items ≡ kept.value.items) where
+  shared_whole : joined ps ++ rest.value.items ≡ joined full ++ kept.value.items
+  shared_whole = ap (λ l. l ++ rest.value.items) (same ∙ ap joined (take_all k full all)) ∙ ap (λ l. joined full ++ l) is
+
+  shared_cut : (count : ℕ) → AreFull ps → IsCut full kept count → IsCut ps rest count
+  shared_cut count so_far cut = cut_of ps rest (joined full ++ kept.value.items) count so_far shared_whole (cut.counted ∙ sym (length-append (joined full) kept.value.items)) cut.fit
 
 pub loop-place-preserved : goal.loop-place-preserved
 loop-place-preserved c =
@@ -9,8 +16,10 @@ loop-place-preserved c =
     let d = c.index-pieces-place.result in
     let is = ap (λ (v : Vec ℕ Global). v.items) c.in_ok-clone.ensures.cases ∙ ap (λ (q : Piece). q.value.items) c.index-pieces-place.is in
     record {
-      are_full = shared_full c.loop-place.full.items all c.push.new.self.items c.loop-place.place c.in_ok-clone.field-0 d is c.in_ok-push.ensures.items c.loop-place-test.true c.loop-place.invariant.are_full full;
-      same = shared_more c.loop-place.full.items all c.push.new.self.items c.loop-place.place c.in_ok-clone.field-0 d is c.in_ok-push.ensures.items c.loop-place-test.true c.loop-place.invariant.same;
+      are_full = full_push c.loop-place.full.items c.push.new.self.items c.in_ok-clone.field-0 c.in_ok-push.ensures.items c.loop-place.invariant.are_full
+          (ap length is ∙ full c.loop-place.place d c.loop-place-test.true);
+      same = joined_push c.loop-place.full.items c.push.new.self.items c.in_ok-clone.field-0 c.in_ok-push.ensures.items (joined (take c.loop-place.place all)) c.loop-place.invariant.same
+          ∙ ap (λ l. joined (take c.loop-place.place all) ++ l) is ∙ joined_take all c.loop-place.place d c.loop-place-test.true;
     }
 
 pub invariant_of-result : goal.invariant_of-result

@@ -1,11 +1,10 @@
-use Rattle.{std.proofs.{Common.{◌++◌, Vec, Global, ℕ, ap, ◌∙◌}, lemmas.List.take_all}, shared_lists.{specs.Pieces.{Piece, joined}, proofs.Shared.joined_more}}
+use Rattle.{std.proofs.{Common.{◌++◌, Vec, Global, ℕ, ap, ◌∙◌}, lemmas.List.take_all}, shared_lists.{specs.Pieces.{Piece, joined}, proofs.Cut.joined_take}}
 use Rattle.shared_lists.proofs.districts.Districts.to_vec.Goals as goal
 
 pub loop-piece-preserved : goal.loop-piece-preserved
 loop-piece-preserved c =
-    joined_more c.deref-piece-items.result.now c.loop-piece.piece-index c.piece-item.result c.extend_from_slice.new.self.items c.loop-piece.list.items c.as_slice.result.now
-    c.loop-piece-test.true c.in_ok-extend_from_slice.ensures.items c.loop-piece.invariant
-    (c.as_slice.ensures.value ∙ ap (λ (v : Vec ℕ Global). v.items) c.deref.ensures ∙ ap (λ (p : Piece). p.value.items) c.piece-item.is)
+    let is = c.as_slice.ensures.value ∙ ap (λ (v : Vec ℕ Global). v.items) c.deref.ensures ∙ ap (λ (p : Piece). p.value.items) c.piece-item.is in
+    c.in_ok-extend_from_slice.ensures.items ∙ (λ i. c.loop-piece.invariant i ++ is i) ∙ joined_take c.deref-piece-items.result.now c.loop-piece.piece-index c.piece-item.result c.loop-piece-test.true
 
 pub returns : goal.returns
 returns c =

@@ -1,6 +1,28 @@
-use Rattle.std.{specs.declared.{alloc.Global.Global, vec.Vec.Vec}, proofs.Common.{ℕ, ap, ◌∙◌, arith, replicate, ◌≡◌}}
-use Rattle.shared_lists.proofs.Blank.{blank_full, blank_more, blank_cut, blank_all}
+use Rattle.std.{specs.declared.{alloc.Global.Global, vec.Vec.Vec}, proofs.lemmas.List.{replicate-append-replicate, length-replicate}}
+use Rattle.std.proofs.Common.{ℕ, ap, ◌∙◌, arith, replicate, ◌≡◌, rules, ◌+◌, ◌*◌, ◌/◌, ◌%◌, ◌<◌, ◌^◌, suc, List, [], ◌∷◌, ◌++◌, length, get_or, lit<}
+use Rattle.shared_lists.{specs.Pieces.{Piece, joined, AreFull, IsCut}, proofs.Cut.{full_push, joined_push}}
 use Rattle.shared_lists.proofs.districts.Districts.unassigned.Goals as goal
+
+-- Pieces of blocks without a district.
+module _ (ps new : List Piece) (p : Piece) (place : ℕ) (put : new ≡ ps ++ p ∷ []) (is : p.value.items ≡ replicate 512 0) where
+  blank_full : AreFull ps → AreFull new
+  blank_full full = full_push ps new p put full (ap length is ∙ length-replicate {A = ℕ} 512 0)
+
+  blank_more : joined ps ≡ replicate (place * 512) 0 → joined new ≡ replicate ((place + 1) * 512) 0
+  blank_more same =
+      let e : place * 512 + 512 ≡ (place + 1) * 512 = omega arith in
+      joined_push ps new p put (replicate (place * 512) 0) same ∙ ap (λ l. replicate (place * 512) 0 ++ l) is ∙ replicate-append-replicate (place * 512) 512 0 ∙ ap (λ n. replicate n 0) e
+
+zero_at : (n i : ℕ) → get_or (replicate n 0) i 0 < 2 ^ 16
+zero_at (suc n) (suc i) = zero_at n i
+zero_at _ _ = lit< tt
+
+module _ (ps : List Piece) (rest : Piece) (count place : ℕ) (same : joined ps ≡ replicate (place * 512) 0) (is : rest.value.items ≡ replicate (count % 512) 0) (at_end : place ≡ count / 512) where
+  blank_all : joined ps ++ rest.value.items ≡ replicate count 0
+  blank_all = search (rules, replicate-append-replicate)
+
+  blank_cut : AreFull ps → IsCut ps rest count
+  blank_cut full = search (rules, length-replicate, blank_all, zero_at)
 
 pub loop-place-preserved : goal.loop-place-preserved
 loop-place-preserved c =

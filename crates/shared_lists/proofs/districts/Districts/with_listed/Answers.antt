@@ -2,9 +2,6 @@ use Rattle.{std.proofs.Common.{◌≡◌, ◌*◌, length, sym, subst, ap, ◌�
 use Rattle.shared_lists.proofs.Laying.{next_laid, next_fit, next_full_laid, laid_whole, laid_cut}
 use Rattle.shared_lists.proofs.districts.Districts.with_listed.Goals as goal
 
-pub overflow_mul-place : goal.overflow_mul-place
-overflow_mul-place c = omega (arith, joined_long c.self.inside.full.items c.self.invariant.are_full, c.self.invariant.counted, ap length c.as_slice-pieces.ensures.value)
-
 pub piece_with-requires : goal.piece_with-requires
 piece_with-requires c =
     let full : AreFull c.as_slice-pieces.result.now = subst AreFull (sym c.as_slice-pieces.ensures.value) c.self.invariant.are_full in
@@ -24,12 +21,6 @@ loop-place-preserved c =
       fit = next_fit c.args.first c.args.listed.now c.loop-place.full.items c.push.new.self.items c.as_slice-pieces.result.now c.loop-place.place c.in_ok-piece_with.field-0
           c.index-pieces-place.result c.loop-place.invariant.fit c.in_ok-piece_with.ensures.fit c.in_ok-push.ensures.items;
     }
-
-pub overflow_mul-pieces : goal.overflow_mul-pieces
-overflow_mul-pieces c = omega (arith, joined_long c.self.inside.full.items c.self.invariant.are_full, c.self.invariant.counted, ap length c.as_slice-pieces.ensures.value)
-
-pub piece_with-requires-2 : goal.piece_with-requires-2
-piece_with-requires-2 c = omega (arith, joined_long c.self.inside.full.items c.self.invariant.are_full, c.self.invariant.counted, ap length c.as_slice-pieces.ensures.value)
 
 pub invariant_of-result : goal.invariant_of-result
 invariant_of-result c =

@@ -1,5 +1,0 @@
-use Rattle.http_desk.proofs.http_wire.AddingLemmas.{adds}
-use Rattle.connection_log.proofs.line.LineText.put_end.Goals as goal
-
-pub returns : goal.returns
-returns c = (adds (adds (adds (adds c.put_moment.ensures c.put_count.ensures) c.put_count-2.ensures) c.put_count-3.ensures) c.put.ensures).is

@@ -1,5 +1,0 @@
-use Rattle.http_desk.proofs.http_wire.AddingLemmas.{adds}
-use Rattle.connection_log.proofs.line.LineText.put_source.Goals as goal
-
-pub returns : goal.returns
-returns c = adds c.put_name.ensures c.put_count.ensures
