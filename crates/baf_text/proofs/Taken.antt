@@ -1,19 +1,13 @@
 -- What the lines so far make of the list, and what the list and the lines that are left make of the text.
-use Rattle.{std.specs.{Cmp.Lexicographic.pointwise, Prelude.nat_eq, Str.Lines.lines}, baf_text.specs.{Listed.{listed_of, IsLineTaken}, claim.Faults.IsFaultOf}}
-use Rattle.std.proofs.Common.{◌≡◌, ℕ, ◌+◌, Bool, true, false, cond, eqb, List, [], ◌∷◌, length, Option, Result, Ok, Err, refl, sym, ◌∙◌, ap}
-use Rattle.{baf_text.specs.declared.reading.BafFault.{BafFault, TheVariants.{Body, Memory}}, byte_stream.specs.claim.Fields.fields, desk_model.specs.claim.Geography.GeographyModel}
-use Rattle.desk_model.specs.{claim.Baf.{Values, header, body_read, rows_read, line_read, at_line, fields_of}, declared.reply.BodyFault.BodyFault}
+use Rattle.{std.proofs.Common.{◌≡◌, ℕ, ◌+◌, Bool, true, false, cond, eqb, List, ◌∷◌, length, Option, Result, Ok, Err, sym, ◌∙◌, ap}, baf_text.specs.Listed.{listed_of, IsLineTaken}}
+use Rattle.{baf_text.specs.{claim.Faults.IsFaultOf, declared.reading.BafFault.{BafFault, TheVariants.{Body, Memory}}}, byte_stream.specs.claim.Fields.fields}
+use Rattle.desk_model.specs.{claim.{Baf.{Values, body_read, rows_read, line_read, at_line, fields_of}, Geography.GeographyModel}, declared.reply.BodyFault.BodyFault}
 
 -- some values are listed, and the text reads on from them
 pub record IsUnderWay (g : GeographyModel) (n : ℕ) (text : List ℕ) (at : ℕ) (left : List (List ℕ)) (listed : List (Option ℕ)) : Type 0 where
   pub so_far : Values
   pub lists : listed ≡ listed_of g so_far
   pub rest : body_read g n text ≡ rows_read g n (at + 1) so_far left
-
--- the first line is the header
-pub header_read : (g : GeographyModel) (n : ℕ) (text first : List ℕ) (left : List (List ℕ)) → lines text ≡ first ∷ left → pointwise nat_eq first header ≡ true
-    → body_read g n text ≡ rows_read g n 2 [] left
-header_read g n text first left cut is = rw (cut, is) refl
 
 -- the fault of a line is the fault of the text
 pub fault_told : (g : GeographyModel) (n : ℕ) (text : List ℕ) (at : ℕ) (so_far : Values) (line : List ℕ) (left : List (List ℕ)) (fault : BafFault) (listed : List (Option ℕ))
