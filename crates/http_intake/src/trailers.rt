@@ -30,7 +30,6 @@ fn unfinished(bytes: &[u8], part: &[u8]) -> Seen<usize, BadRequest>
 }
 
 /// Looks for trailers at the start of the bytes, and tells their length.
-#[tactic(auto, using(crate::proofs::Prefixes::window_is, crate::proofs::ChunkLookLemmas::trailers_at))]
 fn look_at_trailers(bytes: &[u8]) -> Seen<usize, BadRequest>
     ensures sees { SeesTrailers bytes.now result }
     ensures short { result ≡ Seen.Incomplete → length bytes.now < 16384 }

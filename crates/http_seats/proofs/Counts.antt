@@ -1,8 +1,8 @@
 -- What streams came to, one after the other and at many workers.
-use Rattle.std.proofs.Common.{◌≡◌, ◌<◌, ℕ, suc, List, [], ◌∷◌, length, map, slice_index_or, All, IfSome, Option, Some, sum, sum_by, refl, sym, ap, subst, ◌∙◌, arith}
-use Rattle.{std.proofs.lemmas.List.{length-map, get_or-map, Elements.All-map, Sums.{sum-map, sum_by-cons}}, desk_model.specs.{claim.Desk.Desk, declared.command.Command.Command}}
-use Rattle.{http_connections.specs.declared.ran.Ran.Ran, http_seats.specs.{Streams.{LeavesPlace, LeavesPlaces, places_of}, claim.Seated.Seated}}
-use Rattle.http_seats.specs.claim.Streams.{Traffic, Worker, EachHasWorked}
+use Rattle.std.proofs.Common.{◌≡◌, ◌+◌, ◌<◌, ℕ, suc, List, [], ◌∷◌, length, map, slice_index_or, take, get_or, All, IfSome, Option, Some, sum, sum_by, refl, sym, ap, subst, ◌∙◌, arith}
+use Rattle.{std.proofs.lemmas.List.{length-map, get_or-map, Elements.{All-map, All-more}, Sums.{sum-map, sum_by-cons}}, desk_model.specs.claim.Desk.Desk}
+use Rattle.{desk_model.specs.declared.command.Command.Command, http_connections.specs.declared.ran.Ran.Ran, http_seats.specs.Streams.{LeavesPlace, LeavesPlaces, places_of}}
+use Rattle.http_seats.specs.claim.{Seated.Seated, Streams.{Traffic, Worker, EachHasWorked}}
 use mathlib.Core.List.{IsPrefix, map-map}
 
 -- a place as its guest and what its streams came to
@@ -67,3 +67,10 @@ module _ {R W : Type 0} (s : Traffic R W) (first : Desk) where
   as_many [] (w ∷ ws) each = absurd each
   as_many (v ∷ vs) [] each = absurd each
   as_many (v ∷ vs) (w ∷ ws) each = omega (arith, as_many vs ws each.1)
+
+-- one place more whose guest has heard of no more than is shown
+pub one_more_begins : {P : Type 0} (seen : P → Option Seated) (shown : List Command) (places : List P) (i : ℕ) (p : P) → i < length places → All (λ x. IfSome (seen x) (λ v. IsPrefix v.heard shown)) (take i places) → p ≡ get_or places i p
+    → IfSome (seen p) (λ v. IsPrefix v.heard shown) → All (λ x. IfSome (seen x) (λ v. IsPrefix v.heard shown)) (take (i + 1) places)
+one_more_begins {P} seen shown places i p less so_far is one =
+    let Begins : P → Type 0 = λ x. IfSome (seen x) (λ v. IsPrefix v.heard shown) in
+    All-more Begins places i p less so_far (subst Begins is one)

@@ -97,7 +97,6 @@ fn write_rest<W: GatherWrite>(
 }
 
 /// Writes two texts, and answers whether all was written. A write of no byte ends it, and an interrupted one is tried again.
-#[tactic(auto, using(crate::proofs::GatherLemmas::piece_more, crate::proofs::GatherLemmas::piece_within, crate::proofs::GatherLemmas::piece_prefix))]
 fn write_all<W: GatherWrite>(writer: &mut W, first: &[u8], second: &[u8]) -> bool
     ensures { Sent (W.contents writer.old) (W.contents writer.new) result (first.now ++ second.now) }
 {
