@@ -1,4 +1,4 @@
-//! What only the clerk's own calls show, on stores in memory, and the desk that is found after a stop or a failure.
+//! Tests of the clerk's own calls, and of the desk that is found after a stop or a failure.
 //!
 //! # Notes
 //!

@@ -1,9 +1,10 @@
 //! The desk in memory, which doesn't change: a catalogue that answers queries and makes the catalogue after a command.
 //!
 //! Seen as `Desk`. `restored`, `ask`, `after`, `draft`: the desk's answer and step, and the same desk after each refusal; of `draft` also
-//! for each county whether it changes (`changes_of`). An audit is answered with the text of a report on just the subject that the desk's
-//! answer names, or with its refusal. `ask_again`: the same answers where the report that was made last is kept (`MadeReport`), whose text
-//! answers an audit of its own subject alone. `keep_blocks`: the same desk, of which the blocks are listed from then on by one text.
+//! for each county whether it changes (`changes_of`). Posted bodies are read here. An audit is answered with the text of a report on just
+//! the subject that the desk's answer names, or with its refusal. `ask_again`: the same answers where the report that was made last is kept
+//! (`MadeReport`), whose text answers an audit of its own subject alone. `keep_blocks`: the same desk, of which the blocks are listed from
+//! then on by one text.
 //!
 //! What a revision changes: seen as lists of districts, cut at the counties. `changed_counties`: for each county whether its districts
 //! differ between two lists that are the same outside the span that the caller names; true where there is no list before. `revision_rows`:

@@ -1,4 +1,4 @@
-//! The commands over files and standard streams: each opens by their names what it reads and writes.
+//! The commands over files and standard streams, and the words that the program is given: each opens by name what it reads and writes.
 //!
 //! Seen as an exit status. Safety and return alone, but of `premises_are_met` and `lives_find_what_is_read`
 //! ([PROOFS](docs/PROOFS.md#the-premise-of-every-clause-on-openings)).

@@ -1,4 +1,4 @@
-//! What libraries below the clerk answer: pages and rows over devices in memory; plans, lists, districts and audits.
+//! Tests of libraries below the clerk: rows and pages, plans, lists, districts, audits.
 //!
 //! # Notes
 //!

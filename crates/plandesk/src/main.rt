@@ -1,4 +1,4 @@
-//! The program: it finds out what its words ask for, opens files and standard streams, and hands them to the command.
+//! The program: it has its words taken and read, and has what they ask for done over files and standard streams.
 //!
 //! Safety and return alone.
 //!

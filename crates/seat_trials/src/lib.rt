@@ -1,4 +1,4 @@
-//! What is served beside others: the gate of a served stream, visitors of a gallery, two streams at one office, and worlds of events.
+//! Tests of what is served beside others: gates between requests, visitors, two streams at one office, worlds of events.
 //!
 //! # Notes
 //!
