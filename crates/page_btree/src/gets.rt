@@ -170,6 +170,7 @@ pub fn get_in_leaf<D: SectorDevice>(
 }
 
 /// Copies the value of a key in a leaf, where each key before a place is below it.
+#[inline(always)]
 #[tactic(auto, using(crate::proofs::Descent::short_value))]
 fn copy_value(
     page: &PageBytes,
