@@ -23,11 +23,14 @@ use page_node::{NotANode, PAGE_SIZE, RowNear, RowPut, put_row};
 use page_store::{Pages, Txn};
 use sector_device::SectorDevice;
 
-/// Puts a row, and tells whether its key was there. Its leaf may be known: then the finger stands at the row, or at none where nodes
-/// were cut. A key has 1 to 72 bytes, a value at most 1,024. At most 11 pages are written and 6 taken, and none is given back; none is
-/// taken where a value of the same length is replaced. After an error the transaction can only be abandoned: `NoPages` comes where
-/// fewer than six pages were free and none is left, `TooDeep` where the tree has six levels and a node of each was cut, `Memory` from a
-/// growth of the transaction, `NotAStore` where what is read is no store's, `DeviceFault` and `Halted` from the device.
+/// Puts a row and returns whether its key existed. If the finger knows the leaf, the search begins
+/// there; afterwards the finger is at the row, or knows no leaf if nodes were cut. A key has 1 to
+/// 72 bytes, a value at most 1,024. At most 11 pages are written and 6 taken, and none is given
+/// back; none is taken if a value of the same length is replaced. After an error the transaction
+/// can only be abandoned: `NoPages` comes if fewer than six pages were free and none is left,
+/// `TooDeep` if the tree has six levels and a node of each was cut, `Memory` from a growth of the
+/// transaction, `NotAStore` if a page read is not a store's, `DeviceFault` and `Halted` from the
+/// device.
 pub fn put<D: SectorDevice>(
     txn: &mut Txn,
     pages: &mut Pages<D>,
@@ -50,7 +53,8 @@ pub fn put<D: SectorDevice>(
     }
 }
 
-/// Puts a row where its leaf has room, and tells whether its key was there. Else the transaction stays as it is.
+/// Puts a row if its leaf has room, and returns whether its key existed. Otherwise the transaction
+/// stays as it is.
 fn put_fitting<D: SectorDevice>(
     txn: &mut Txn,
     pages: &mut Pages<D>,

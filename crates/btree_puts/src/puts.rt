@@ -24,7 +24,7 @@ struct Placed {
     right: Option<u32>,
 }
 
-/// Puts a row where nodes may have to be cut, and tells whether its key was there.
+/// Puts a row, cutting nodes if necessary, and returns whether its key existed.
 pub(crate) fn put_cutting<D: SectorDevice>(
     txn: &mut Txn,
     pages: &mut Pages<D>,
@@ -191,8 +191,8 @@ fn put_row<D: SectorDevice>(
     }
 }
 
-/// Puts the link to the upper half of a child after that child's, and tells the page of the node's own upper half where the
-/// node was cut.
+/// Inserts the link to the upper half of a child after the child's own link. Returns the page of
+/// the node's upper half if the node was cut, too.
 fn link<D: SectorDevice>(
     txn: &mut Txn,
     pages: &mut Pages<D>,

@@ -31,7 +31,7 @@ impl Model for Key {
 }
 
 impl Key {
-    /// A key of a tag alone.
+    /// A key that consists of its tag.
     fn tagged(tag: u8) -> Key
         ensures { result ≡ tag ∷ [] }
     {
@@ -64,7 +64,7 @@ impl Key {
         Key::tagged(b'A')
     }
 
-    /// The row of a plan that was taken away.
+    /// The row of a deleted plan.
     pub fn retired(plan: u64) -> Key
         ensures { result ≡ key_of (retired plan) }
     {
@@ -87,7 +87,7 @@ impl Key {
         Key::numbered(b'L', load)
     }
 
-    /// The row that tells that a plan holds a chunk.
+    /// The row that says that a plan holds a chunk.
     pub fn holding(plan: u64, number: u64) -> Key
         ensures { result ≡ key_of (holding plan number) }
     {
@@ -176,7 +176,7 @@ impl Key {
         Key::tagged(b'P')
     }
 
-    /// What the keys of all plans that were taken away begin with.
+    /// The prefix of the keys of all deleted plans.
     pub fn all_retired() -> Key
         ensures { result ≡ retired_prefix }
     {
