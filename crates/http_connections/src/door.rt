@@ -222,7 +222,7 @@ impl Door {
         None
     }
 
-    /// Takes so many connections from the socket, until it fails.
+    /// Takes `connections` connections from the socket, or fewer if it fails.
     fn admit<R: Wait>(&self, rt: &R, connections: u64) {
         for _ in 0..connections {
             let Some(stream) = self.accept() else {
@@ -234,8 +234,9 @@ impl Door {
     }
 }
 
-/// The next so many connections to a socket, which a thread of its own takes for so many workers. It is never joined: it waits for the
-/// next connection when the run ends.
+/// Opens a source of the next `connections` connections to a socket, which a thread of its own
+/// takes for the workers. That thread is never joined: it waits for the next connection when the
+/// run ends.
 pub fn open<R: Threads + Wait + Copy + Send + 'static>(
     rt: &R,
     alloc: Global,

@@ -95,7 +95,8 @@ impl<'a, R: Wait + Clock + Sync> Arrivals for Listening<'a, R> {
         }
     }
 
-    /// Closes it, once its client has taken a refusal. Where it was told that the store's device has failed, no further one is served.
+    /// Closes a connection, once its client has taken a refusal. If it was told that the store's
+    /// device has failed, no further connection is served.
     fn ended(
         &self,
         reader: KeptSource<'a, TcpStream, R>,
