@@ -22,7 +22,7 @@ fn is_listed(read: &Listed, place: usize) -> bool
     read.get(place).is_some()
 }
 
-/// Returns the least county that is listed in part: the county of the first two neighboring blocks
+/// Returns the least county that is listed in part: the county of the first two neighbouring blocks
 /// of one county of which exactly one is listed. A county's blocks follow each other, and counties
 /// rise.
 fn county_in_part(geography: &Geography, read: &Listed) -> Option<u16>

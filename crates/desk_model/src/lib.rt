@@ -8,7 +8,7 @@
 //! # Model
 //!
 //! A `Geography` is a `GeographyModel`: blocks in rising order of their numbers, and pairs of
-//! neighbors by the places of both blocks. A desk is a `Desk`: a geography or none, and a finite
+//! neighbours by the places of both blocks. A desk is a `Desk`: a geography or none, and a finite
 //! map from plan names to plans. `step` (a command), `answer` (a query), block assignment files and
 //! the subject of an audit are defined in `specs/claim`.
 //!

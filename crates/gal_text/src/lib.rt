@@ -1,10 +1,10 @@
-//! Neighbor files (GAL): which blocks share an edge.
+//! Neighbour files (GAL): which blocks share an edge.
 //!
 //! # Example
 //!
 //! ```text
 //! 0 4 iowa BLOCKID          four blocks
-//! 190010001001001 2         a block with two neighbors
+//! 190010001001001 2         a block with two neighbours
 //! 190010001001002 190030001001001
 //! ```
 //!
@@ -14,7 +14,7 @@
 //!
 //! # Proved
 //!
-//! - `gal::read` succeeds exactly if each block has one entry and each neighbor lists the block in
+//! - `gal::read` succeeds exactly if each block has one entry and each neighbour lists the block in
 //!   return, and it returns each pair once.
 //! - Otherwise it returns the first fault: in the order of the words, then a word too many, then
 //!   the least block without an entry, then the least pair that is listed one way only (A1 to A13).
@@ -23,7 +23,7 @@
 //!
 //! # Not proved
 //!
-//! That the pairs are the blocks with a common edge: a file of corner neighbors looks the same.
+//! That the pairs are the blocks with a common edge: a file of corner neighbours looks the same.
 #![tactic(auto)]
 
 pub mod fault;

@@ -31,7 +31,7 @@ pub enum Awaited {
     Block,
     /// This unit's number of neighbours.
     Count(BlockId),
-    /// A neighbor of this unit, the first of the given number that are left.
+    /// A neighbour of this unit, the first of the given number that are left.
     Neighbour(BlockId, u64),
 }
 
@@ -68,7 +68,7 @@ fn block_of(blocks: &[BlockRow], likely: usize, word: &[u8]) -> Option<(usize, B
     Some((place, id))
 }
 
-/// The unit has `left` neighbors to come.
+/// The unit has `left` neighbours to come.
 fn neighbours_left(unit: BlockId, left: u64) -> Awaited
     ensures { result ≡ neighbours_left unit left }
 {

@@ -43,7 +43,7 @@ pub struct Pace {
     pub silent: u64,
 }
 
-/// Between requests it is closed in favor of a waiting connection, and in any case after `keep`
+/// Between requests it is closed in favour of a waiting connection, and in any case after `keep`
 /// idle seconds.
 fn between(silent: u64, keep: u32, another_waits: bool) -> Fate
     ensures value { result ≡ fate_between silent keep another_waits }

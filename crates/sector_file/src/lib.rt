@@ -18,7 +18,7 @@
 //!
 //! # Not proved
 //!
-//! The behavior of the file system, and that reading ahead helps.
+//! The behaviour of the file system, and that reading ahead helps.
 #![tactic(auto)]
 
 mod calls;

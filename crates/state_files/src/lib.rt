@@ -1,4 +1,4 @@
-//! Opens the files of a state by name and reads them in a fixed order: census, neighbors, plans.
+//! Opens the files of a state by name and reads them in a fixed order: census, neighbours, plans.
 //!
 //! # Model
 //!

@@ -79,7 +79,7 @@ fn open_companion<R, O: Opener<R>>(
     Some(Companion { opened, districts })
 }
 
-/// Opens the census files, the neighbor file, the plan, and then the senate plan and the
+/// Opens the census files, the neighbour file, the plan, and then the senate plan and the
 /// congressional plan, in that order. The numbers of districts of these two are given.
 pub fn open_audit<R, O: Opener<R>>(
     opener: &mut O,
