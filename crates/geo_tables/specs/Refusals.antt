@@ -3,8 +3,9 @@ use Rattle.std.specs.Prelude.{◌≡◌, ◌⊎◌, ◌<◌, ◌≤◌, ◌+◌,
 use Rattle.{desk_model.specs.claim.{Desk.Desk, Geography.GeographyModel}, desk_pages.specs.{Commits.Commits, claim.{Desks.InPages, Puts.HasDeepened}}}
 use Rattle.{desk_pages.specs.declared.error.StoreError.{StoreError, TheVariants.{AlreadySealed, Full, Memory, NotAStore, DeviceFault, Halted}}, store_rows.specs.claim.Keys.seal}
 use Rattle.geo_tables.specs.{Loading.{HoldsLoad, number_of, geography_model_of, done_of}, Rows.{begun_rows, staged_rows, seal_row}, declared.load.Load.Load}
-use Rattle.{page_btree.specs.claim.Map.InPages as HoldsRows, page_store.specs.{claim.Chain.free_in, declared.{pages.Pages.Pages, txn.Txn.Txn}}, store_rows.specs.claim.Puts.Row}
+use Rattle.{page_btree.specs.claim.Map.InPages as HoldsRows, page_store.specs.{claim.Chain.{free_in, root_in}, declared.{pages.Pages.Pages, txn.Txn.Txn}}, store_rows.specs.claim.Puts.Row}
 use Rattle.{page_store.specs.claim.Transactions.{stored, disk_in, journal_of, has_halted, HasFailed, IsQuiet, IsSame, Passed}, sector_device.specs.declared.SectorDevice.Ghosts}
+use Rattle.desk_pages.specs.btree_puts.Reach.{reach_in, top_reach}
 use Rattle.store_rows.specs.{claim.{Rows.{KeyMap, Lacks}, Tidy.IsNext}, declared.value.Counters.Counters}
 
 -- the rows with which the next load begins
@@ -31,10 +32,10 @@ module _ {D : Type 0} {g : Ghosts D} where
   abbrev pub IsExhausted : Pages D g → Pages D g → Type 0
   IsExhausted old new = (disk_in new).is_honest → (m : KeyMap) → HoldsRows old m → (next : Counters) × IsNext m next × (next.load + 1 ≡ 2 ^ 64)
 
-  -- the tree had six levels after some of the rows
+  -- the tree had six levels after some of the rows, and the stored tree was near enough to that for so many
   abbrev pub IsDeep : (KeyMap → List Row → Type 0) → Pages D g → Pages D g → Type 0
   IsDeep are old new = (disk_in new).is_honest → (m : KeyMap) → HoldsRows old m
-      → (rows : List Row) × are m rows × ((t : Txn) × HasDeepened rows t old m)
+      → (rows : List Row) × are m rows × ((t : Txn) × HasDeepened rows t old m) × (top_reach ≤ reach_in (stored old) (root_in (stored old)) + length rows)
 
   -- no geography is sealed
   abbrev pub IsUnsealed : Pages D g → Pages D g → Type 0

@@ -1,4 +1,5 @@
 pub mod Appended
+pub mod Thinner
 pub mod Changed
 pub mod ChunkParts
 pub mod Committing

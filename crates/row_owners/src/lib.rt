@@ -6,8 +6,6 @@
 
 mod facts;
 mod hints;
-mod keys;
-mod kinds;
 mod naming;
 mod namings;
 mod seen;

@@ -26,6 +26,7 @@
 pub mod forks;
 pub mod holders;
 mod key;
+mod row_key;
 pub mod key_laws;
 pub mod laws;
 mod list;
@@ -34,6 +35,7 @@ pub mod upkeep;
 mod value;
 
 pub use key::Key;
+pub use row_key::RowKey;
 pub use list::{
     ListValue, PART_CHUNKS, PIECE_DISTRICTS, add_chunk, add_district, fill_chunks, fill_districts,
     read_chunks, read_districts,
