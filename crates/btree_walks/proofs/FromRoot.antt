@@ -5,7 +5,6 @@ use Rattle.{page_btree.specs.claim.{Keys.KeyMap, Map.{InTxn, IsRooted}}, page_no
 use Rattle.{page_store.specs.claim.Transactions.{stored, disk_in, txn_pages, txn_root, over, free_over, IsQuiet}, sector_device.specs.claim.Disk.Image}
 use Rattle.{sector_device.specs.declared.SectorDevice.Ghosts, btree_walks.proofs.Lefts.{can_remove, absent_same, had_none, had_after, kept_holds, emptied_holds, holds_at}}
 use Rattle.page_btree.proofs.Tops.{rooted, level_lent}
-
 use Rattle.{std.{proofs.Common.{inl, [], None}}, btree_walks.{specs.Outcomes.IsThinner, proofs.Lefts.{thinner_kept, thinner_same}}}
 
 module _ {D : Type 0} {g : Ghosts D} (t u : Txn) (old mid new : Pages D g) (root level : ℕ) (page key : List ℕ) (root_is : root ≡ txn_root t) (some : root ≢ 0) (quiet : IsQuiet old mid) (later : IsQuiet mid new) (reads : (disk_in mid).is_honest → page ≡ over t (stored old) root) (level_is : (node : Node) → IsNode page node → level ≡ node.level) (honest : (disk_in new).is_honest) (m : KeyMap) (holds : InTxn t (stored old) m) where

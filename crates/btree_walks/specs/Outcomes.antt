@@ -6,7 +6,6 @@ use Rattle.{page_store.specs.{claim.Transactions.{stored, disk_in, txn_pages, tx
 use Rattle.sector_device.specs.declared.SectorDevice.{Ghosts}
 use Rattle.page_node.specs.claim.Node.{count_in}
 
-
 -- there is no root any more; or it is the same one, on the same level and, above the leaves, with no more entries
 abbrev pub IsThinner : Image → ℕ → Image → ℕ → Type 0
 IsThinner P p Q q = (q ≡ 0) ⊎ ((q ≡ p) × (level_in Q q ≡ level_in P p) × (0 < level_in P p → count_in (Q q) ≤ count_in (P p)))

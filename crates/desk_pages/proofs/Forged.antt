@@ -42,11 +42,21 @@ within k less = let a = page_at k less in omega arith
 
 abbrev pub forged_txn : Global → Txn
 forged_txn a = record {
-    writes = record {
-      numbers = record { ptr = null_ptr; len = 6; cap = 6; alloc = a; items = numbers; ok = (refl, omega arith); small = omega arith };
-      list = record { ptr = null_ptr; len = 6; cap = 6; alloc = a; items = forged; ok = (refl, omega arith); small = omega arith };
-      beside = record { long = refl; each = λ k less. number_at k less ∙ sym (page_at k less) }; once = apart };
-    pages = 7; root = 1; first = 0; free = 0 ; within = within; root_below = omega arith; first_below = omega arith; free_below = omega arith}
+  writes = record {
+    numbers = record { ptr = null_ptr; len = 6; cap = 6; alloc = a; items = numbers; ok = (refl, omega arith); small = omega arith };
+    list = record { ptr = null_ptr; len = 6; cap = 6; alloc = a; items = forged; ok = (refl, omega arith); small = omega arith };
+    beside = record { long = refl; each = λ k less. number_at k less ∙ sym (page_at k less) };
+    once = apart;
+  };
+  pages = 7;
+  root = 1;
+  first = 0;
+  free = 0;
+  within = within;
+  root_below = omega arith;
+  first_below = omega arith;
+  free_below = omega arith;
+}
 
 level_is : (P : Image) (a : Global) → level_in (over (forged_txn a) P) (txn_root (forged_txn a)) ≡ 5
 level_is P a = refl

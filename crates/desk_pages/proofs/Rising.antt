@@ -65,7 +65,7 @@ module _ {D : Type 0} {g : Ghosts D} where
 
   -- one row was put
   pub one_put_with : (f h : Fingers) (key value : List ℕ) (t u : Txn) (a b : Pages D g) → Passed a b → txn_pages u ≡ txn_pages t → ((disk_in b).is_honest → (m : KeyMap) → InTxn t (stored a) m → Stand t (stored a) f → InTxn u (stored a) (insert m key value) × Stand u (stored a) h)
-      → txn_writes u ≤ txn_writes t + 11 → txn_free t ≤ txn_free u + 6 
+      → txn_writes u ≤ txn_writes t + 11 → txn_free t ≤ txn_free u + 6
       → ((disk_in b).is_honest → (m : KeyMap) → InTxn t (stored a) m → Stand t (stored a) f → reach_in (over u (stored a)) (txn_root u) ≤ reach_in (over t (stored a)) (txn_root t) + 1) → HasPutWith f h ((key, value) ∷ []) t u a b
   one_put_with f h key value t u a b passed pages put writes taken nearer = search rules
 
@@ -96,16 +96,18 @@ module _ {D : Type 0} {g : Ghosts D} where
       let deep = both.0 in
       let first = put.nearer before m holds stand in
       let then = subst (λ (P : Image). top_reach ≤ reach_in (over u P) (txn_root u) + length more) same both.1 in
-      let count = length-append rows more in
-      (record {
-        prefix = rows ++ deep.prefix;
-        rest = deep.rest;
-        are = append_assoc rows deep.prefix deep.rest ∙ ap (λ l. rows ++ l) deep.are;
-        txn = deep.txn;
-        holds = subst (λ P. InTxn deep.txn P (put_rows m (rows ++ deep.prefix))) same
-            (subst (λ n. InTxn deep.txn (stored b) n) (sym (put_rows-append m rows deep.prefix)) deep.holds);
-        deep = subst (λ P. level_in (over deep.txn P) (txn_root deep.txn) ≡ 5) same deep.deep;
-      }, omega (arith, first, then, count))
+      let count = length-append rows more in (
+        record {
+          prefix = rows ++ deep.prefix;
+          rest = deep.rest;
+          are = append_assoc rows deep.prefix deep.rest ∙ ap (λ l. rows ++ l) deep.are;
+          txn = deep.txn;
+          holds = subst (λ P. InTxn deep.txn P (put_rows m (rows ++ deep.prefix))) same
+              (subst (λ n. InTxn deep.txn (stored b) n) (sym (put_rows-append m rows deep.prefix)) deep.holds);
+          deep = subst (λ P. level_in (over deep.txn P) (txn_root deep.txn) ≡ 5) same deep.deep;
+        },
+        omega (arith, first, then, count),
+      )
   then_not_put_with f h rows more t u a b c Memory put quiet why = tt
 
   -- nothing is put after calls that read at most
@@ -119,15 +121,17 @@ module _ {D : Type 0} {g : Ghosts D} where
       let both = why honest m holds stand in
       let deep = both.0 in
       let near = both.1 in
-      let count = length-append rows more in
-      (record {
-        prefix = deep.prefix;
-        rest = deep.rest ++ more;
-        are = sym (append_assoc deep.prefix deep.rest more) ∙ ap (λ l. l ++ more) deep.are;
-        txn = deep.txn;
-        holds = deep.holds;
-        deep = deep.deep;
-      }, omega (arith, near, count))
+      let count = length-append rows more in (
+        record {
+          prefix = deep.prefix;
+          rest = deep.rest ++ more;
+          are = sym (append_assoc deep.prefix deep.rest more) ∙ ap (λ l. l ++ more) deep.are;
+          txn = deep.txn;
+          holds = deep.holds;
+          deep = deep.deep;
+        },
+        omega (arith, near, count),
+      )
   prefix_not_put_with f rows more t a b Memory why = tt
   prefix_not_put_with f rows more t a b _ why = why
 

@@ -32,9 +32,12 @@ module _ {D : Type 0} {g : Ghosts D} where
     rows_refused t a b started few quiet tree.NotAStore why = (quiet, λ honest d holds. why honest holds.m (started.reads (quiet.honest honest) holds.m holds.holds))
     rows_refused t a b started few quiet tree.Halted why = both (has_halted a) why started.working
     rows_refused t a b started few quiet tree.NoPages why = let free = started.free in absurd (omega arith)
-    rows_refused t a b started few quiet tree.TooDeep why = (quiet, inr (λ honest m holds.
-        let found = why honest m (started.reads (quiet.honest honest) m holds) in
-        (all, refl, (t, found.0), stored_near a t (length all) (started.same (quiet.honest honest)) (started.root (quiet.honest honest)) found.1)))
+    rows_refused t a b started few quiet tree.TooDeep why = (
+      quiet,
+      inr (λ honest m holds.
+          let found = why honest m (started.reads (quiet.honest honest) m holds) in
+          (all, refl, (t, found.0), stored_near a t (length all) (started.same (quiet.honest honest)) (started.root (quiet.honest honest)) found.1)),
+    )
     rows_refused t a b started few quiet tree.Memory why = (quiet, room_of started quiet.honest)
 
   -- ---- a load that isn't begun
@@ -53,8 +56,12 @@ module _ {D : Type 0} {g : Ghosts D} where
     next_unput tree.TooDeep not = (
       quiet,
       inr (inr (λ honest m holds.
-          let reads = started.reads (quiet.honest honest) m holds in (begun_rows not.next, (not.next, not.was honest m reads, refl), (t, (not.why honest m reads).0),
-          stored_near a t (length (begun_rows not.next)) (started.same (quiet.honest honest)) (started.root (quiet.honest honest)) (not.why honest m reads).1))),
+          let reads = started.reads (quiet.honest honest) m holds in (
+            begun_rows not.next,
+            (not.next, not.was honest m reads, refl),
+            (t, (not.why honest m reads).0),
+            stored_near a t (length (begun_rows not.next)) (started.same (quiet.honest honest)) (started.root (quiet.honest honest)) (not.why honest m reads).1,
+          ))),
     )
     next_unput tree.Memory not = (quiet, room_of started quiet.honest)
 

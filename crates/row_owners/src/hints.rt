@@ -92,11 +92,13 @@ impl Hints {
     /// Notes the chunks of a part by its row.
     fn note_row(&mut self, row: &Row) -> Result<(), TreeError> {
         let key = row.key.as_slice();
-        let Some(RowKey::Part {
-            plan,
-            revision,
-            index,
-        }) = RowKey::read(key)
+        let Some(
+            RowKey::Part {
+                plan,
+                revision,
+                index,
+            },
+        ) = RowKey::read(key)
         else {
             return Ok(());
         };

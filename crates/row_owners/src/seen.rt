@@ -9,8 +9,8 @@ use std::alloc::Global;
 use std::collections::BTreeMap;
 use store_check::is_version;
 use store_rows::{
-    Counters, Key, PlanRow, RowKey, SealRow, read_block, read_chunks, read_counters, read_districts,
-    read_holder_count, read_pair, read_plan, read_seal,
+    Counters, Key, PlanRow, RowKey, SealRow, read_block, read_chunks, read_counters,
+    read_districts, read_holder_count, read_pair, read_plan, read_seal,
 };
 
 /// How many blocks a chunk is of, and the last district that it may have.

@@ -51,7 +51,9 @@ impl<'a> RowKey<'a> {
                 plan: eight(&rest[..8]),
                 number: eight(&rest[8..]),
             }),
-            (b'K', 8) => Some(RowKey::HolderCount { number: eight(rest) }),
+            (b'K', 8) => Some(RowKey::HolderCount {
+                number: eight(rest),
+            }),
             (b'L', 8) => Some(RowKey::Begun { load: eight(rest) }),
             (b'P', 0..=71) => Some(RowKey::Named { name: rest }),
             (b'R', 13) => Some(RowKey::Part {

@@ -31,8 +31,7 @@ module _ {D : Type 0} {g : Ghosts D} (name : List ℕ) (number : ℕ) (t u : Txn
       let n = remove m (key_of (named name)) in
       let before = quiet.honest honest in
       let both = why honest n (half_way before m holds) in
-      let less = thinner_reach (over t (stored a)) (txn_root t) (over u (stored a)) (txn_root u) (thin before m holds) in
-      (
+      let less = thinner_reach (over t (stored a)) (txn_root t) (over u (stored a)) (txn_root u) (thin before m holds) in (
         deep_after [] (retired_rows number) t u a b n n (passed.quiet.same before) refl both.0,
         near_before 0 1 t u a b (passed.quiet.same before) (omega (arith, less)) both.1,
       )

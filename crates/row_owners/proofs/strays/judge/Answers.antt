@@ -14,4 +14,3 @@ returns-after-first g c =
     let of : IsKey (chunk c.in-Some-Chunk.number c.in-Some-Chunk.piece) c.args.key.now = subst (λ (k : Read). IsKey (row_of k) c.args.key.now) c.in-Some-Chunk.field-0-is c.in-Some-Chunk.ensures in
     tells c.judge_named-in-Some-Chunk.result c.judge_named-in-Some-Chunk.ensures
     (λ m w is was. ((is was).0, judged c.args.ranges.now m c.args.key.now c.args.value.now (chunk c.in-Some-Chunk.number c.in-Some-Chunk.piece) of w (is was).1)) (λ m any. any)
-
