@@ -1,11 +1,11 @@
 -- A put into the tree at a child, whose page was read.
-use Rattle.{std.specs.{FinMap.find, Option.option_map, Prelude.{Option, Some, None, Result, Ok, MatchResult}}, btree_puts.specs.Putting.{CanPutSome, linked}}
-use Rattle.{std.proofs.Common.{◌≡◌, ◌≢◌, ◌-◌, ◌<◌, ◌≤◌, ◌^◌, ℕ, List, [], ◌∷◌, length, sym, subst, ◌∙◌}, btree_puts.specs.declared.puts.Placed.Placed, page_node.specs.Places.floor}
+use Rattle.{std.specs.{FinMap.find, Option.option_map, Prelude.{Option, Some, None, Result, Ok, MatchResult, IfSome}}, btree_puts.specs.Putting.{CanPutSome, linked}}
+use Rattle.{std.proofs.Common.{◌≡◌, ◌≢◌, ◌-◌, ◌<◌, ◌≤◌, ◌^◌, ℕ, List, [], ◌∷◌, length, sym, subst, ◌∙◌}, btree_puts.specs.{Reach.Widens, declared.puts.Placed.Placed}}
 use Rattle.{btree_puts.specs.Outcomes.{CanPutIn, IsRaisedBy, IsWrittenBy, TakesNoPageAt, PutsRowAt}, page_btree.specs.{Errors.IsNoWant, claim.Tree.{Tree, rows}}}
-use Rattle.{page_btree.specs.declared.error.TreeError.TreeError, page_node.specs.{Entries.{key_at, child_in}, claim.{Entries.child_bytes, Node.{Node, IsNode}, Places.key_cmp}}}
-use Rattle.page_store.specs.{claim.{Chain.{IsIn, AreFree}, Transactions.{stored, disk_in, txn_pages, txn_free, over, free_over, IsQuiet}}, declared.pages.Pages.Pages}
-use Rattle.{std.specs.Prelude.IfSome, btree_puts.{specs.Reach.Widens, proofs.Wide.{widens_same, widens_written}}}
-use Rattle.{page_store.specs.declared.txn.Txn.Txn, sector_device.specs.{claim.Disk.Image, declared.SectorDevice.Ghosts}, btree_puts.proofs.Down.{StepsDown, step_down}}
+use Rattle.{page_btree.specs.declared.error.TreeError.TreeError, page_node.specs.{Entries.{key_at, child_in}, Places.floor, claim.{Entries.child_bytes, Node.{Node, IsNode}}}}
+use Rattle.{page_node.specs.claim.Places.key_cmp, page_store.specs.claim.{Chain.{IsIn, AreFree}, Transactions.{stored, disk_in, txn_pages, txn_free, over, free_over, IsQuiet}}}
+use Rattle.{page_store.specs.declared.{pages.Pages.Pages, txn.Txn.Txn}, sector_device.specs.{claim.Disk.Image, declared.SectorDevice.Ghosts}}
+use Rattle.btree_puts.proofs.{Down.{StepsDown, step_down}, Wide.{widens_same, widens_written}}
 
 module _ {D : Type 0} {g : Ghosts D} (t : Txn) (old mid : Pages D g) (level page child : ℕ) (bytes below key value : List ℕ) (deep : level ≢ 0) (few : txn_pages t ≤ 2 ^ 32) (told : (node : Node) → IsNode bytes node → option_map child_in (floor key node.entries) ≡ Some child) (quiet : IsQuiet old mid) (reads : (disk_in mid).is_honest → below ≡ over t (stored old) child) (honest : (disk_in mid).is_honest) (low : List ℕ) (high : Option (List ℕ)) (tree : Tree) (can : CanPutIn t (stored old) level low high page bytes key tree) where
   step : StepsDown (txn_pages t) (over t (stored old)) level low high (free_over t (stored old)) page key value tree child

@@ -1,11 +1,11 @@
 -- A put into the tree at a root that was read.
-use Rattle.std.{specs.{FinMap.{get, insert, contains_key}, Prelude.{Some, None, Result, Ok, MatchResult}}, proofs.Common.{◌≡◌, ◌≢◌, ◌≤◌, ℕ, List, [], length, sym, subst, ◌∙◌}}
-use Rattle.btree_puts.specs.{Outcomes.{CanPutIn, IsGrownBy, TakesNoPageAt, PutsRowAt}, Putting.{CanPutSome, IsRaised}, declared.puts.Placed.Placed}
-use Rattle.{page_btree.specs.{Errors.IsNoWant, claim.{Keys.KeyMap, Map.{Holds, InTxn}, Tree.Tree}, declared.error.TreeError.TreeError}, page_node.specs.Entries.key_at}
-use Rattle.{page_node.specs.claim.Node.{Node, IsNode}, page_store.specs.{claim.Chain.AreFree, declared.{pages.Pages.Pages, txn.Txn.Txn}}, sector_device.specs.claim.Disk.Image}
-use Rattle.{page_store.specs.claim.Transactions.{stored, disk_in, txn_pages, txn_root, txn_free, over, free_over, IsQuiet}, sector_device.specs.declared.SectorDevice.Ghosts}
-use Rattle.btree_puts.proofs.Roots.{rooted, level_same, root_can, find_there, after_whole, after_grown, left_are}
-use Rattle.{std.proofs.Common.{◌<◌, ◌+◌, ap}, btree_puts.{specs.Reach.{reach_in, top_reach, Widens, WidensAt}, proofs.{Reach.{root_stays, root_grows, root_tall}, Wide.{tree_level, raised_level}}}, page_btree.specs.claim.Errors.level_in, page_node.specs.claim.Node.count_in}
+use Rattle.{std.specs.{FinMap.{get, insert, contains_key}, Prelude.{Some, None, Result, Ok, MatchResult}}, btree_puts.specs.Putting.{CanPutSome, IsRaised}}
+use Rattle.{std.proofs.Common.{◌≡◌, ◌≢◌, ◌≤◌, ℕ, List, [], length, sym, subst, ◌∙◌, ◌<◌, ◌+◌}, btree_puts.specs.Outcomes.{CanPutIn, IsGrownBy, TakesNoPageAt, PutsRowAt}}
+use Rattle.{btree_puts.specs.{Reach.{Widens, WidensAt}, declared.puts.Placed.Placed}, page_btree.specs.{Errors.IsNoWant, claim.{Errors.{level_in, reach_in, top_reach}, Tree.Tree}}}
+use Rattle.{page_btree.specs.{claim.{Keys.KeyMap, Map.{Holds, InTxn}}, declared.error.TreeError.TreeError}, page_node.specs.{Entries.key_at, claim.Node.{Node, IsNode, count_in}}}
+use Rattle.page_store.specs.{claim.{Chain.AreFree, Transactions.{stored, disk_in, txn_pages, txn_root, txn_free, over, free_over, IsQuiet}}, declared.pages.Pages.Pages}
+use Rattle.{page_store.specs.declared.txn.Txn.Txn, sector_device.specs.{claim.Disk.Image, declared.SectorDevice.Ghosts}, btree_puts.proofs.Wide.{tree_level, raised_level}}
+use Rattle.btree_puts.proofs.{Reach.{root_stays, root_grows, root_tall}, Roots.{rooted, level_same, root_can, find_there, after_whole, after_grown, left_are}}
 
 module _ {D : Type 0} {g : Ghosts D} (t : Txn) (old mid : Pages D g) (root level : ℕ) (bytes key : List ℕ) (root_is : root ≡ txn_root t) (some : root ≢ 0) (quiet : IsQuiet old mid) (reads : (disk_in mid).is_honest → bytes ≡ over t (stored old) root) (level_is : (node : Node) → IsNode bytes node → level ≡ node.level) (honest : (disk_in mid).is_honest) (m : KeyMap) (holds : InTxn t (stored old) m) where
   at_root : Holds (txn_pages t) (over t (stored old)) root (free_over t (stored old)) m

@@ -1,9 +1,8 @@
 -- Lemmas on the definitions of Reach.
-use Rattle.std.proofs.Common.{rules, ◌≡◌, ◌≢◌, ◌<◌, ◌≤◌, ◌+◌, ◌*◌, ◌∙◌, ◌⊎◌, inl, inr, ⊎_elim, ℕ, zero, suc, List, [], ◌∷◌, length, All, refl, sym, ap, subst, arith}
-use Rattle.std.{specs.Prelude.{min, Option, Some, None}, proofs.{Math.Nat.{min-eq_left, min-eq_right, min-le_left, min-le_right}, lemmas.{Bool.Decides.{leb_tells, eqb_tells}, List.Elements.{All-head, All-tail}}}}
-use Rattle.{btree_puts.specs.Reach.{reach_at, reach_in, top_reach, Widens}, page_btree.specs.claim.{Errors.level_in}, sector_device.specs.claim.Disk.Image}
-use Rattle.page_node.specs.claim.{Entries.{Entry, IsEntry, size_of}, Node.{Node, IsNode, count_in}}
-use Rattle.std.proofs.Common.{get_or}
+use Rattle.std.{specs.Prelude.min, proofs.Common.{◌≡◌, ◌≢◌, ◌<◌, ◌≤◌, ◌+◌, ◌*◌, ◌∙◌, inl, inr, ℕ, zero, suc, List, [], ◌∷◌, length, All, refl, sym, ap, arith, get_or}}
+use Rattle.std.proofs.{Math.Nat.{min-eq_left, min-eq_right, min-le_left, min-le_right}, lemmas.{Bool.Decides.{leb_tells, eqb_tells}, List.Elements.{All-head, All-tail}}}
+use Rattle.{page_btree.specs.claim.Errors.{level_in, reach_at, reach_in, top_reach}, page_node.specs.claim.{Entries.{Entry, IsEntry, size_of}, Node.{Node, IsNode, count_in}}}
+use Rattle.sector_device.specs.claim.Disk.{Image}
 
 pub min_few : (e : ℕ) → e ≤ 51 → min 51 e ≡ e
 min_few e few = min-eq_right few

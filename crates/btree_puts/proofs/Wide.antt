@@ -1,9 +1,9 @@
 -- What of a put is known of the node at a page.
-use Rattle.std.proofs.Common.{rules, ◌≡◌, ◌<◌, ◌≤◌, ◌+◌, ◌∙◌, ℕ, List, [], ◌∷◌, ◌++◌, length, Bool, true, false, cond, refl, sym, ap, subst, arith}
-use Rattle.std.{specs.{Ordering.is_gt, Prelude.{Option, Some, None, insert, take, drop, IfSome}}}
-use Rattle.page_btree.{specs.claim.{Errors.level_in, Tree.{Tree, IsTree, AreTrees, page_of}}, proofs.Descent.node_of}
-use Rattle.{btree_puts.{specs.{Putting.{after_child, linked, IsWritten, IsRaised}, Reach.Widens}, proofs.Reach.many_entries}, sector_device.specs.claim.Disk.Image}
-use Rattle.page_node.{specs.claim.{Entries.{Entry, size_of}, Node.{Node, IsNode, count_in}, Places.key_cmp}, proofs.EntryLists.{size-append, size-parts}}
+use Rattle.{std.specs.{Ordering.is_gt, Prelude.{Option, Some, None, insert, take, drop, IfSome}}, btree_puts.specs.Putting.{after_child, linked, IsWritten, IsRaised}}
+use Rattle.{std.proofs.Common.{◌≡◌, ◌<◌, ◌≤◌, ◌+◌, ◌∙◌, ℕ, List, [], ◌∷◌, ◌++◌, length, Bool, true, false, cond, refl, sym, ap, subst, arith}, btree_puts.specs.Reach.Widens}
+use Rattle.{page_btree.specs.claim.{Errors.level_in, Tree.{Tree, IsTree, AreTrees, page_of}}, page_node.specs.claim.{Entries.{Entry, size_of}, Node.{Node, IsNode, count_in}}}
+use Rattle.{page_node.specs.claim.Places.key_cmp, sector_device.specs.claim.Disk.Image, btree_puts.proofs.Reach.many_entries, page_btree.proofs.Descent.node_of}
+use Rattle.page_node.proofs.EntryLists.{size-append, size-parts}
 
 insert_size : (es : List Entry) (i : ℕ) (e : Entry) → length e.0 ≤ 72 → length e.1 ≡ 4 → size_of (insert es i e) ≤ size_of es + 79
 insert_size es i e short four = let parts = size-parts i es in let whole = size-append (take i es) (e ∷ drop i es) in omega arith

@@ -1,24 +1,9 @@
 -- How near a tree is to a seventh level, counted in rows.
-use Rattle.std.specs.Prelude.{◌≡◌, ◌<◌, ◌≤◌, ◌+◌, ◌*◌, ℕ, zero, suc, Bool, List, length, min, Option, Some, None, IfOk, IfErr, IfSome, Result}
-use Rattle.{btree_puts.specs.{Fingers.StandsIn, Outcomes.CanPutIn, declared.{finger.Finger.Finger, puts.Placed.Placed}}, page_node.specs.claim.Node.{Node, IsNode, count_in}}
-use Rattle.page_btree.specs.{claim.{Errors.level_in, Keys.KeyMap, Map.InTxn, Tree.Tree}, declared.error.TreeError.{TreeError, TheVariants.TooDeep}}
-use Rattle.page_store.specs.{claim.Transactions.{stored, disk_in, txn_root, over}, declared.{pages.Pages.Pages, txn.Txn.Txn}}
-use Rattle.sector_device.specs.{claim.Disk.Image, declared.SectorDevice.Ghosts}
-
--- Of a root with a level and so many entries: 50 for a level, and its entries, of which 51 count. A node above the leaves overflows with 52
--- entries at least, as one has 79 bytes at most, and a new root has two. A leaf has the most that its level may have.
-abbrev pub reach_at : ℕ → ℕ → ℕ
-reach_at zero count = 51
-reach_at (suc d) count = 50 * suc d + min 51 count
-
--- of a tree at a root, or of none
-abbrev pub reach_in : Image → ℕ → ℕ
-reach_in P zero = 50
-reach_in P (suc p) = reach_at (level_in P (suc p)) (count_in (P (suc p)))
-
--- a root of level 5 that overflows has it, and none has more
-abbrev pub top_reach : ℕ
-top_reach = 301
+use Rattle.std.specs.Prelude.{◌≡◌, ◌<◌, ◌≤◌, ◌+◌, ℕ, Bool, List, length, Option, Some, None, IfOk, IfErr, IfSome, Result}
+use Rattle.{btree_puts.specs.{Fingers.StandsIn, Outcomes.CanPutIn, declared.{finger.Finger.Finger, puts.Placed.Placed}}, page_btree.specs.claim.Errors.{reach_in, top_reach}}
+use Rattle.{page_btree.specs.{claim.{Keys.KeyMap, Map.InTxn, Tree.Tree}, declared.error.TreeError.{TreeError, TheVariants.TooDeep}}, page_store.specs.declared.pages.Pages.Pages}
+use Rattle.{page_node.specs.claim.Node.{Node, IsNode, count_in}, page_store.specs.{claim.Transactions.{stored, disk_in, txn_root, over}, declared.txn.Txn.Txn}}
+use Rattle.sector_device.specs.declared.SectorDevice.{Ghosts}
 
 -- a page's node has one entry more at most, or it was cut, and had 51 before
 abbrev pub Widens : List ℕ → List ℕ → Option ℕ → Type 0

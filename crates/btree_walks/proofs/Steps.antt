@@ -1,12 +1,11 @@
 -- A remove at a leaf, and one step above it.
 use Rattle.std.specs.{FinMap.find, Option.option_map, Ordering.is_gt, Prelude.{Option, Some, None, remove, Result, Ok, Err, IfOk, true}, declared.cmp.Ordering.TheVariants.Less}
 use Rattle.std.proofs.Common.{rules, ◌≡◌, ◌≢◌, inl, inr, ℕ, ◌-◌, ◌<◌, ◌≤◌, ◌^◌, List, length, refl, sym, ap, subst, ◌∙◌, arith, ◌⊎◌, ◌+◌, ◌++◌, ⊎_elim, [], ◌∷◌, Bool, true, false, cond}
-use Rattle.{btree_walks.specs.Removing.unlinked_from, page_node.specs.claim.Node.count_in}
 use Rattle.{std.proofs.lemmas.List.append-nil, btree_walks.specs.{Sparing.TakesRow, declared.removes.Removed.{Removed, TheVariants.{Absent, Kept, Emptied}}}}
-use Rattle.btree_walks.specs.Removing.{IsRemoved, AreRemoved, CanRemove, RemovesAt, Removes, RowRemoves, IsPutBack, IsDone, StaysAt, TakenErr, unlinked, IsLess, rows_left, owns_left, size_left, forest_rows_left, forest_owns_left, forest_size_left}
+use Rattle.btree_walks.specs.Removing.{unlinked_from, IsRemoved, AreRemoved, CanRemove, RemovesAt, Removes, RowRemoves, IsPutBack, IsDone, StaysAt, TakenErr, unlinked, IsLess, rows_left, owns_left, size_left, forest_rows_left, forest_owns_left, forest_size_left}
 use Rattle.page_btree.specs.{Getting.{CanGet, IsLevel}, claim.{Keys.{IsBetween, IsUnder, Parts}, Map.IsSound}, declared.error.TreeError.TheVariants.NotAStore}
 use Rattle.page_btree.specs.claim.Tree.{Tree, Forest, leaf, inner, IsTree, page_of, links, rows, owns, one, more, first_key, forest_rows, forest_owns, size, forest_size, AreTrees, IsApart, AreApart}
-use Rattle.page_node.specs.{Entries.{child_in, value_at}, Places.{IsFound, floor}, claim.{Entries.{Entry, child_bytes}, Node.{Node, IsNode}, Places.{key_cmp, Rises}}}
+use Rattle.page_node.specs.{Entries.{child_in, value_at}, Places.{IsFound, floor}, claim.{Entries.{Entry, child_bytes}, Node.{count_in, Node, IsNode}, Places.{key_cmp, Rises}}}
 use Rattle.{page_store.specs.{claim.{Chain.{IsIn, AreFree}, Transactions.{txn_pages, over, free_over}}, declared.txn.Txn.Txn}, sector_device.specs.claim.Disk.Image}
 use Rattle.{btree_walks.proofs.Edits.{put_remove, none_removed, all_unput, rises_unput}, page_btree.proofs.{Booleans.either, MapLaws.{tree_same, trees_same}}}
 use Rattle.{page_btree.proofs.Descent.{named, node_of, owns_page, some_links, AreUsed, ChildFor, only_child, first_child, later_child}, page_node.proofs.Laws.less_trans}

@@ -3,8 +3,8 @@ use Rattle.std.specs.{FinMap.{find, put}, Ordering.is_gt, Prelude.{◌≡◌, �
 use Rattle.{btree_walks.specs.declared.removes.Removed.{Removed, TheVariants.{Absent, Kept, Emptied}}, page_btree.specs.{Getting.ReadsErr, claim.Keys.{IsBetween, Parts}}}
 use Rattle.{page_btree.specs.{claim.Map.IsSound, declared.error.TreeError.{TreeError, TheVariants.{NotAStore, Memory}}}, page_node.specs.{Places.IsFound, claim.Entries.Entry}}
 use Rattle.page_btree.specs.claim.Tree.{Tree, Forest, IsTree, AreTrees, IsApart, AreApart, page_of, first_key, rows, owns, size, forest_rows, forest_owns, forest_size}
-use Rattle.{page_node.specs.claim.{Node.{Node, IsNode, count_in}, Places.{key_cmp, Rises}}, page_store.specs.claim.{Chain.{IsIn, AreFree}, Transactions.{txn_pages, over, free_over}}}
-use Rattle.{page_store.specs.declared.{pages.Pages.Pages, txn.Txn.Txn}, sector_device.specs.{claim.Disk.Image, declared.SectorDevice.Ghosts}}
+use Rattle.{page_node.specs.claim.{Node.{Node, IsNode, count_in}, Places.{key_cmp, Rises}}, page_store.specs.{claim.Chain.{IsIn, AreFree}, declared.pages.Pages.Pages}}
+use Rattle.{page_store.specs.{claim.Transactions.{txn_pages, over, free_over}, declared.txn.Txn.Txn}, sector_device.specs.{claim.Disk.Image, declared.SectorDevice.Ghosts}}
 
 -- ---- what is left of a tree, or of children: a smaller one, or nothing
 abbrev pub rows_left : Option Tree → List Entry

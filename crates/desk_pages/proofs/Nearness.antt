@@ -1,8 +1,7 @@
 -- A tree of few levels isn't deepened to a seventh by few rows.
-use Rattle.std.proofs.Common.{◌≡◌, ◌<◌, ◌≤◌, ◌+◌, ℕ, zero, suc, arith}
-use Rattle.{std.proofs.Math.Nat.{min-le_left, min-le_right}, btree_puts.specs.{Reach.{reach_at, reach_in, top_reach}, page_btree.{claim.Errors.level_in, page_node.claim.Node.count_in}}}
-use Rattle.{desk_pages.specs.claim.Puts.IsNear, page_store.specs.{claim.Transactions.{stored, txn_root, over}, declared.{pages.Pages.Pages, txn.Txn.Txn}}}
-use Rattle.sector_device.specs.{claim.Disk.Image, declared.SectorDevice.Ghosts}
+use Rattle.{std.proofs.{Common.{◌<◌, ◌≤◌, ◌+◌, ℕ, zero, suc, arith}, Math.Nat.{min-le_left, min-le_right}}, btree_puts.specs.page_btree.claim.Errors.{level_in, reach_at, reach_in}}
+use Rattle.{btree_puts.specs.page_btree.page_node.claim.Node.count_in, desk_pages.specs.claim.Puts.IsNear, page_store.specs.claim.Transactions.{stored, txn_root, over}}
+use Rattle.{page_store.specs.declared.{pages.Pages.Pages, txn.Txn.Txn}, sector_device.specs.{claim.Disk.Image, declared.SectorDevice.Ghosts}}
 
 low_reach : (d e : ℕ) → d ≤ 4 → reach_at d e ≤ 251
 low_reach zero e low = omega arith

@@ -1,12 +1,12 @@
 -- Lemmas on the definitions of Rising.
-use Rattle.{btree_puts.specs.Reach.{reach_in, top_reach}, std.specs.Prelude.length}
-use Rattle.{std.specs.{FinMap.insert, Prelude.{◌≡◌, ◌<◌, ◌≤◌, ◌+◌, ℕ, List, [], ◌∷◌, ◌++◌}}, btree_puts.specs.{Fingers.{Stand, StandsIn, PutByErr}, declared.finger.Finger.Finger}}
-use Rattle.{std.proofs.Common.{rules, suc, refl, sym, ap, subst, ◌∙◌, arith, append_assoc, length-append}, btree_puts.specs.declared.finger.Fingers.Fingers}
-use Rattle.{btree_puts.specs.page_btree.{claim.{Errors.{PutErr, level_in}, Map.InTxn}, declared.error.TreeError.TreeError}, desk_pages.specs.Rising.{HasPutWith, PutsErrWith}}
+use Rattle.{std.specs.{FinMap.insert, Prelude.{length, ◌≡◌, ◌<◌, ◌≤◌, ◌+◌, ℕ, List, [], ◌∷◌, ◌++◌}}, btree_puts.specs.Fingers.{Stand, StandsIn, PutByErr}}
+use Rattle.{std.proofs.Common.{rules, suc, refl, sym, ap, subst, ◌∙◌, arith, append_assoc, length-append}, btree_puts.specs.declared.finger.{Finger.Finger, Fingers.Fingers}}
+use Rattle.{btree_puts.specs.page_btree.{claim.{Errors.{reach_in, top_reach, PutErr, level_in}, Map.InTxn}, declared.error.TreeError.TreeError}, store_rows.specs.Puts.rows_told}
 use Rattle.{btree_puts.specs.page_btree.declared.error.TreeError.TheVariants.{DeviceFault, NotAStore, Halted, NoPages, TooDeep, Memory}, page_store.specs.declared.txn.Txn.Txn}
-use Rattle.{desk_pages.specs.claim.Puts.{HasPut, PutsErr}, page_store.specs.claim.Transactions.{stored, disk_in, txn_pages, txn_root, txn_free, txn_writes, over, IsQuiet, Passed}}
-use Rattle.{page_store.specs.declared.pages.Pages.Pages, sector_device.specs.{claim.Disk.Image, declared.SectorDevice.Ghosts}, store_rows.specs.{Puts.rows_told, claim.Rows.KeyMap}}
-use Rattle.{store_rows.{specs.claim.Puts.{Row, put_rows}, proofs.Puts.{put_rows-append, told_prefix}}, page_store.proofs.Stops.{passed_none, passed_more, failed_more}}
+use Rattle.{desk_pages.specs.{Rising.{HasPutWith, PutsErrWith}, claim.Puts.{HasPut, PutsErr}}, page_store.specs.declared.pages.Pages.Pages, sector_device.specs.claim.Disk.Image}
+use Rattle.{page_store.specs.claim.Transactions.{stored, disk_in, txn_pages, txn_root, txn_free, txn_writes, over, IsQuiet, Passed}, store_rows.specs.claim.Puts.{Row, put_rows}}
+use Rattle.{sector_device.specs.declared.SectorDevice.Ghosts, store_rows.specs.claim.Rows.KeyMap, page_store.proofs.Stops.{passed_none, passed_more, failed_more}}
+use Rattle.store_rows.proofs.Puts.{put_rows-append, told_prefix}
 use Rattle.btree_puts.proofs.page_btree.Refusals.{by_case}
 
 -- where no leaf is known, a finger stands, and so do both

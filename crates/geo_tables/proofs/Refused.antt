@@ -1,14 +1,14 @@
 -- Why a step of a load is refused, from why its parts are.
-use Rattle.std.proofs.{Common.{◌≡◌, ◌*◌, ◌≤◌, ◌<◌, ◌^◌, ℕ, Bool, List, Option, None, length, false, true, refl, sym, subst, ◌∙◌, inl, inr, arith}, lemmas.Bool.cases_lt}
-use Rattle.{desk_model.specs.claim.{Desk.Desk, Geography.GeographyModel}, desk_pages.specs.{Errors.tree_refusal, Reading.{HasNext, ReadErr, StandsAs}, claim.Puts.PutsErr}}
-use Rattle.desk_pages.specs.{claim.Desks.{IsDeskMap, InPages}, declared.error.StoreError.{StoreError, TheVariants.{Full, Memory, NotAStore, DeviceFault, Halted}}}
-use Rattle.geo_tables.specs.{Loads.{AreExhausted, IsNotBegun, BeginErr}, Refusals.{HasRoom, IsShort, IsDeep, AreBegun, NextErr, RowsErr, SealedErr, BeginErr as Begins}}
-use Rattle.{geo_tables.{specs.{Rows.begun_rows, Starting.{IsStarted, StartErr}, declared.load.Load.Load}, proofs.Maps.no_geography}, page_btree.specs.claim.Errors.level_in}
-use Rattle.{page_btree.specs.{claim.Map.{InTxn as TxnHolds, InPages as HoldsRows}, declared.error.TreeError.TreeError}, page_store.specs.declared.{pages.Pages.Pages, txn.Txn.Txn}}
+use Rattle.std.proofs.{Common.{◌≡◌, ◌*◌, ◌≤◌, ◌<◌, ◌^◌, ℕ, Bool, List, Option, None, length, false, true, refl, sym, subst, ◌∙◌, inl, inr, arith, ◌+◌}, lemmas.Bool.cases_lt}
+use Rattle.{desk_model.specs.claim.{Desk.Desk, Geography.GeographyModel}, desk_pages.specs.{Errors.tree_refusal, Reading.{HasNext, ReadErr, StandsAs}}}
+use Rattle.{desk_pages.specs.{claim.{Desks.{IsDeskMap, InPages}, Puts.{PutsErr, IsNear}}, declared.error.StoreError.StoreError}, geo_tables.specs.Rows.begun_rows}
+use Rattle.{desk_pages.specs.declared.error.StoreError.TheVariants.{Full, Memory, NotAStore, DeviceFault, Halted}, geo_tables.specs.Loads.{AreExhausted, IsNotBegun, BeginErr}}
+use Rattle.geo_tables.specs.{Refusals.{HasRoom, IsShort, IsDeep, AreBegun, NextErr, RowsErr, SealedErr, BeginErr as Begins}, Starting.{IsStarted, StartErr}}
+use Rattle.{geo_tables.specs.declared.load.Load.Load, page_btree.specs.claim.{Errors.{level_in, reach_in, top_reach}, Map.{InTxn as TxnHolds, InPages as HoldsRows}}}
+use Rattle.{page_btree.specs.declared.error.TreeError.TreeError, page_store.specs.{claim.Chain.root_in, declared.{pages.Pages.Pages, txn.Txn.Txn}}}
 use Rattle.{page_store.specs.claim.Transactions.{stored, disk_in, journal_of, has_halted, txn_free, txn_root, over, IsQuiet, Passed}, sector_device.specs.claim.Disk.Image}
 use Rattle.{sector_device.specs.declared.SectorDevice.Ghosts, store_rows.specs.claim.{Keys.{key_of, seal}, Puts.{Row, put_rows}, Rows.{KeyMap, Lacks}, Values.seal_bytes}}
-use Rattle.{store_rows.specs.declared.value.SealRow.SealRow, geo_tables.proofs.{Joins.{failed_after, room_of, quiet_rows, quiet_desk}, SealedRows.seal_stands}}
-use Rattle.{std.proofs.Common.◌+◌, desk_pages.specs.{btree_puts.Reach.{reach_in, top_reach}, claim.Puts.IsNear}, page_store.specs.claim.Chain.root_in}
+use Rattle.{store_rows.specs.declared.value.SealRow.SealRow, geo_tables.proofs.{Joins.{failed_after, room_of, quiet_rows, quiet_desk}, Maps.no_geography, SealedRows.seal_stands}}
 use Rattle.page_store.proofs.Stops.{quiet_more, quiet_none}
 use Rattle.page_btree.specs.declared.error.TreeError.TheVariants as tree
 

@@ -3,10 +3,9 @@ use Rattle.std.specs.Prelude.{◌≡◌, ◌⊎◌, ◌<◌, ◌≤◌, ◌+◌,
 use Rattle.{desk_model.specs.claim.{Desk.Desk, Geography.GeographyModel}, desk_pages.specs.{Commits.Commits, claim.{Desks.InPages, Puts.HasDeepened}}}
 use Rattle.{desk_pages.specs.declared.error.StoreError.{StoreError, TheVariants.{AlreadySealed, Full, Memory, NotAStore, DeviceFault, Halted}}, store_rows.specs.claim.Keys.seal}
 use Rattle.geo_tables.specs.{Loading.{HoldsLoad, number_of, geography_model_of, done_of}, Rows.{begun_rows, staged_rows, seal_row}, declared.load.Load.Load}
-use Rattle.{page_btree.specs.claim.Map.InPages as HoldsRows, page_store.specs.{claim.Chain.{free_in, root_in}, declared.{pages.Pages.Pages, txn.Txn.Txn}}, store_rows.specs.claim.Puts.Row}
-use Rattle.{page_store.specs.claim.Transactions.{stored, disk_in, journal_of, has_halted, HasFailed, IsQuiet, IsSame, Passed}, sector_device.specs.declared.SectorDevice.Ghosts}
-use Rattle.desk_pages.specs.btree_puts.Reach.{reach_in, top_reach}
-use Rattle.store_rows.specs.{claim.{Rows.{KeyMap, Lacks}, Tidy.IsNext}, declared.value.Counters.Counters}
+use Rattle.{page_btree.specs.claim.{Errors.{reach_in, top_reach}, Map.InPages as HoldsRows}, page_store.specs.{claim.Chain.{free_in, root_in}, declared.pages.Pages.Pages}}
+use Rattle.page_store.specs.{claim.Transactions.{stored, disk_in, journal_of, has_halted, HasFailed, IsQuiet, IsSame, Passed}, declared.txn.Txn.Txn}
+use Rattle.{sector_device.specs.declared.SectorDevice.Ghosts, store_rows.specs.{claim.{Puts.Row, Rows.{KeyMap, Lacks}, Tidy.IsNext}, declared.value.Counters.Counters}}
 
 -- the rows with which the next load begins
 abbrev pub AreBegun : KeyMap → List Row → Type 0

@@ -1,8 +1,7 @@
 -- A step is refused for the depth of the stored tree alone, where the transaction was begun over it.
-use Rattle.std.proofs.Common.{◌≡◌, ◌<◌, ◌≤◌, ◌+◌, ℕ, false, sym, subst}
-use Rattle.{desk_pages.{specs.{btree_puts.Reach.{reach_in, top_reach}, claim.Puts.IsNear}, proofs.Nearness.never_near}, page_btree.specs.claim.Errors.level_in}
+use Rattle.{std.proofs.Common.{◌≡◌, ◌<◌, ◌≤◌, ◌+◌, ℕ, false, sym, subst}, desk_pages.specs.claim.Puts.IsNear, page_btree.specs.claim.Errors.{level_in, reach_in, top_reach}}
 use Rattle.page_store.specs.{Calls.BeginsOver, claim.{Chain.root_in, Transactions.{stored, disk_in, has_halted, txn_root, over}}, declared.{pages.Pages.Pages, txn.Txn.Txn}}
-use Rattle.{plan_revisions.specs.claim.Steps.IsDeep, sector_device.specs.{claim.Disk.Image, declared.SectorDevice.Ghosts}}
+use Rattle.{plan_revisions.specs.claim.Steps.IsDeep, sector_device.specs.{claim.Disk.Image, declared.SectorDevice.Ghosts}, desk_pages.proofs.Nearness.never_near}
 
 module _ {D : Type 0} {g : Ghosts D} (t : Txn) (ps : Pages D g) (begun : BeginsOver ps t) (works : has_halted ps ≡ false) (honest : (disk_in ps).is_honest) where
   root_is : txn_root t ≡ root_in (stored ps)

@@ -1,10 +1,10 @@
 -- Changes of a map that come one after the other.
 use Rattle.{std.proofs.Common.{rules, ◌≡◌, ◌≤◌, ◌+◌, ℕ, List, ◌++◌, length, refl, sym, ap, subst, ◌∙◌, arith, append_assoc, length-append}, desk_pages.specs.Reading.ReadErr}
-use Rattle.{desk_pages.specs.claim.Puts.{HasPut, HasDeepened, PutsErr, IsNear, Nears}, page_btree.specs.{claim.{Errors.level_in, Map.InTxn}, declared.error.TreeError.TreeError}}
-use Rattle.{page_btree.specs.declared.error.TreeError.TheVariants.{NotAStore, TooDeep}, page_store.specs.claim.Transactions.{stored, txn_root, over, IsQuiet, Passed}}
-use Rattle.{desk_pages.specs.btree_puts.Reach.{reach_in, top_reach}, sector_device.specs.claim.Disk.Image}
-use Rattle.{page_store.specs.declared.{pages.Pages.Pages, txn.Txn.Txn}, plan_rows.specs.ChunkChanging.{IsByRows, HasChanged, MapErr}, store_rows.specs.claim.Puts.{Row, put_rows}}
-use Rattle.{sector_device.specs.declared.SectorDevice.Ghosts, store_rows.{specs.claim.Rows.KeyMap, proofs.Puts.put_rows-append}, page_store.proofs.Stops.{passed_more, failed_more}}
+use Rattle.{desk_pages.specs.claim.Puts.{HasPut, HasDeepened, PutsErr, IsNear, Nears}, page_btree.specs.claim.{Errors.{level_in, reach_in, top_reach}, Map.InTxn}}
+use Rattle.{page_btree.specs.declared.error.TreeError.{TreeError, TheVariants.{NotAStore, TooDeep}}, page_store.specs.claim.Transactions.{stored, txn_root, over, IsQuiet, Passed}}
+use Rattle.{page_store.specs.declared.{pages.Pages.Pages, txn.Txn.Txn}, plan_rows.specs.ChunkChanging.{IsByRows, HasChanged, MapErr}, sector_device.specs.claim.Disk.Image}
+use Rattle.{sector_device.specs.declared.SectorDevice.Ghosts, store_rows.specs.claim.{Puts.{Row, put_rows}, Rows.KeyMap}, page_store.proofs.Stops.{passed_more, failed_more}}
+use Rattle.store_rows.proofs.Puts.{put_rows-append}
 
 module _ {D : Type 0} {g : Ghosts D} where
   -- of pages that hold the same

@@ -4,11 +4,11 @@ use Rattle.std.proofs.Common.{rules, ◌≡◌, ◌<◌, ◌+◌, ◌-◌, ◌^�
 use Rattle.{desk_pages.specs.btree_puts.{Fingers.Stand, declared.finger.Fingers.Fingers}, page_btree.specs.{claim.Map.InTxn, declared.error.TreeError.TreeError}}
 use Rattle.{page_btree.specs.declared.error.TreeError.TheVariants.{NotAStore, TooDeep}, page_store.specs.claim.Transactions.{stored, disk_in, IsQuiet, Passed}}
 use Rattle.{page_store.specs.declared.{pages.Pages.Pages, txn.Txn.Txn}, sector_device.specs.declared.SectorDevice.Ghosts, store_rows.specs.{Shares.CanHold, claim.Puts.put_rows}}
-use Rattle.plan_rows.{specs.Holding.{Stands, HasHolderCount, HasHeld, HasHeldWith, WasHeld, HoldErrOf, HoldErrWith, IsCountOf, IsUnheld}, proofs.Changed.{deep_after, nears_as, near_before}}
+use Rattle.{plan_rows.specs.Holding.{Stands, HasHolderCount, HasHeld, HasHeldWith, WasHeld, HoldErrOf, HoldErrWith, IsCountOf, IsUnheld}, store_rows.proofs.Sharing.count_back}
 use Rattle.store_rows.specs.{Values.holder_count_bytes, claim.{Holders.{holder_count_row, holding_rows}, Keys.{key_of, holding, holder_count}, Rows.{KeyMap, row_in, Lacks}}}
 use Rattle.{store_rows.specs.{claim.Shares.{count_of, hold_by, hold}, declared.value.HolderCount.HolderCount}, desk_pages.proofs.Looking.{looked, not_looked as unlooked}}
-use Rattle.{desk_pages.proofs.Rising.{fresh_stand, put_with_after, not_put_with_after}, page_store.proofs.Stops.{passed_more, failed_more}, store_rows.proofs.Sharing.count_back}
-use Rattle.store_rows.proofs.HolderCounts.{joins_holders}
+use Rattle.{desk_pages.proofs.Rising.{fresh_stand, put_with_after, not_put_with_after}, page_store.proofs.Stops.{passed_more, failed_more}}
+use Rattle.{plan_rows.proofs.Changed.{deep_after, nears_as, near_before}, store_rows.proofs.HolderCounts.joins_holders}
 
 -- ---- a count is a value of its row
 holder_count_in : (row : Option (List ℕ)) (count : ℕ) → row ≡ holder_count_row count → (value : Option HolderCount) × (option_map holder_count_bytes value ≡ row)

@@ -1,5 +1,4 @@
 pub mod Appended
-pub mod Thinner
 pub mod Changed
 pub mod ChunkParts
 pub mod Committing

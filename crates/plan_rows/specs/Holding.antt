@@ -1,10 +1,11 @@
 -- What it is for a plan to come to hold a chunk, and why it doesn't.
 use Rattle.std.specs.Prelude.{◌≡◌, ◌<◌, ◌≤◌, ◌+◌, ◌*◌, ◌^◌, ℕ, Bool, true, false, List, length, Option, Some, None, Contains, Result, MatchResult}
-use Rattle.desk_pages.specs.{Outcomes.Writes, Rising.{HasPutWith, PutsErrWith}, btree_puts.{Fingers.Stand, declared.finger.Fingers.Fingers}, claim.Puts.{HasDeepened, IsNear, Nears}}
-use Rattle.page_btree.specs.{claim.Map.InTxn, declared.error.TreeError.{TreeError, TheVariants.{DeviceFault, NotAStore, Halted, NoPages, TooDeep, Memory}}}
-use Rattle.page_store.specs.{claim.Transactions.{stored, disk_in, has_halted, txn_pages, txn_free, txn_writes, HasFailed, Passed}, declared.{pages.Pages.Pages, txn.Txn.Txn}}
-use Rattle.{plan_rows.specs.ChunkChanging.ChangesMap, sector_device.specs.declared.SectorDevice.Ghosts, store_rows.specs.{Shares.{CanHold, hold_all}, claim.Puts.Row}}
-use Rattle.store_rows.specs.claim.{Holders.{holder_count_row, holding_rows}, Keys.{holding, holder_count}, Rows.{KeyMap, row_in, Has, Lacks}, Shares.hold}
+use Rattle.{desk_pages.specs.{Outcomes.Writes, Rising.{HasPutWith, PutsErrWith}, btree_puts.{Fingers.Stand, declared.finger.Fingers.Fingers}}, page_btree.specs.claim.Map.InTxn}
+use Rattle.{desk_pages.specs.claim.Puts.{HasDeepened, IsNear, Nears}, page_btree.specs.declared.error.TreeError.TreeError, page_store.specs.declared.pages.Pages.Pages}
+use Rattle.{page_btree.specs.declared.error.TreeError.TheVariants.{DeviceFault, NotAStore, Halted, NoPages, TooDeep, Memory}, page_store.specs.declared.txn.Txn.Txn}
+use Rattle.{page_store.specs.claim.Transactions.{stored, disk_in, has_halted, txn_pages, txn_free, txn_writes, HasFailed, Passed}, plan_rows.specs.ChunkChanging.ChangesMap}
+use Rattle.{sector_device.specs.declared.SectorDevice.Ghosts, store_rows.specs.{Shares.{CanHold, hold_all}, claim.{Holders.{holder_count_row, holding_rows}, Puts.Row}}}
+use Rattle.store_rows.specs.claim.{Keys.{holding, holder_count}, Rows.{KeyMap, row_in, Has, Lacks}, Shares.hold}
 
 -- a holding row is there, or not
 abbrev pub Stands : Bool → ℕ → ℕ → KeyMap → Type 0

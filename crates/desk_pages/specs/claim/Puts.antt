@@ -1,9 +1,8 @@
 -- Rows that are put one after the other in a transaction.
 use Rattle.std.specs.Prelude.{◌≡◌, ◌<◌, ◌≤◌, ◌+◌, ◌*◌, ℕ, List, ◌++◌, length, true}
-use Rattle.btree_puts.specs.Reach.{reach_in, top_reach}
-use Rattle.{btree_puts.specs.page_btree.{claim.{Errors.{IsUnsound, level_in}, Map.InTxn}, declared.error.TreeError.TreeError}, page_store.specs.declared.pages.Pages.Pages}
+use Rattle.btree_puts.specs.page_btree.{claim.{Errors.{IsUnsound, level_in, reach_in, top_reach}, Map.InTxn}, declared.error.TreeError.TreeError}
 use Rattle.{btree_puts.specs.page_btree.declared.error.TreeError.TheVariants.{DeviceFault, NotAStore, Halted, NoPages, TooDeep, Memory}, page_store.specs.declared.txn.Txn.Txn}
-use Rattle.page_store.specs.claim.Transactions.{stored, disk_in, has_halted, txn_pages, txn_root, txn_free, txn_writes, over, HasFailed, Passed}
+use Rattle.page_store.specs.{claim.Transactions.{stored, disk_in, has_halted, txn_pages, txn_root, txn_free, txn_writes, over, HasFailed, Passed}, declared.pages.Pages.Pages}
 use Rattle.{sector_device.specs.declared.SectorDevice.Ghosts, store_rows.specs.claim.{Puts.{Row, put_rows}, Rows.KeyMap}}
 
 module _ {D : Type 0} {g : Ghosts D} where

@@ -1,7 +1,7 @@
-use Rattle.{std.{specs.{FinMap.{insert, contains_key}, Prelude.IfSome}, proofs.Common.{refl, ◌≡◌, ◌+◌, sym, subst, ◌∙◌, rules}}, btree_puts.specs.Fingers.IsPutBy}
-use Rattle.{page_btree.specs.{Errors.IsNoWant, claim.Map.InTxn, declared.error.TreeError.TheVariants.TooDeep}, page_store.specs.claim.Transactions.{stored, txn_free}}
-use Rattle.{btree_puts.proofs.Fits.{put_failed_more, put_failed_alike, by_err}, page_btree.proofs.{Editing.still_in, Outcomes.{map_ok, map_err, map_both, reads_after}}}
-use Rattle.{std.{specs.Prelude.{Option, MatchOption}, proofs.Common.{◌≤◌, arith, ap}}, page_store.specs.claim.Transactions.{txn_root, over}, btree_puts.specs.Reach.{reach_in, top_reach}}
+use Rattle.{std.{specs.{FinMap.{insert, contains_key}, Prelude.IfSome}, proofs.Common.{refl, ◌≡◌, ◌+◌, sym, subst, ◌∙◌, rules, ◌≤◌, arith}}, btree_puts.specs.Fingers.IsPutBy}
+use Rattle.page_btree.{specs.{Errors.IsNoWant, claim.{Errors.{reach_in, top_reach}, Map.InTxn}, declared.error.TreeError.TheVariants.TooDeep}, proofs.Editing.still_in}
+use Rattle.{page_store.specs.claim.Transactions.{stored, txn_free, txn_root, over}, btree_puts.proofs.Fits.{put_failed_more, put_failed_alike, by_err}}
+use Rattle.page_btree.proofs.Outcomes.{map_ok, map_err, map_both, reads_after}
 use Rattle.btree_puts.proofs.fitting.put.Goals as goal
 
 pub returns-in-Some-clause-put : goal.returns-in-Some-clause-put

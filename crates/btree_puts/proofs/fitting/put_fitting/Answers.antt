@@ -1,8 +1,8 @@
-use Rattle.{std.{specs.{FinMap.{insert, put as put_entry}, Prelude.IfSome}, proofs.Common.{◌≡◌, ℕ, refl, sym, subst, ◌∙◌}}, btree_puts.specs.{Fingers.IsReached, Fitting.IsLeafPut}}
-use Rattle.{page_btree.specs.{Leading.CanLead, claim.Map.Holds}, page_node.specs.claim.Places.key_cmp, sector_device.specs.claim.Disk.Image, btree_puts.proofs.Leads.put_whole}
-use Rattle.{page_store.{specs.claim.Transactions.{stored, txn_pages, txn_root, over, free_over}, proofs.Stops.passed_more}, btree_puts.proofs.Fits.{reach_failed, leaf_failed}}
-use Rattle.{btree_puts.proofs.Placed.{leaf_there, other_stays, row_stands, put_at}, page_btree.proofs.{Leads.can_lead, Outcomes.{reads_ok, refused_as, refused_after}}}
-use Rattle.{std.proofs.Common.ap, btree_puts.{specs.Reach.reach_in, proofs.Reach.leaf_edited}}
+use Rattle.{std.{specs.{FinMap.{insert, put as put_entry}, Prelude.IfSome}, proofs.Common.{◌≡◌, ℕ, refl, sym, subst, ◌∙◌, ap}}, btree_puts.specs.Fingers.IsReached}
+use Rattle.{btree_puts.specs.Fitting.IsLeafPut, page_btree.specs.{Leading.CanLead, claim.{Errors.reach_in, Map.Holds}}, page_node.specs.claim.Places.key_cmp}
+use Rattle.{page_store.specs.claim.Transactions.{stored, txn_pages, txn_root, over, free_over}, sector_device.specs.claim.Disk.Image, btree_puts.proofs.Leads.put_whole}
+use Rattle.{btree_puts.proofs.{Fits.{reach_failed, leaf_failed}, Placed.{leaf_there, other_stays, row_stands, put_at}, Reach.leaf_edited}, page_btree.proofs.Leads.can_lead}
+use Rattle.{page_btree.proofs.Outcomes.{reads_ok, refused_as, refused_after}, page_store.proofs.Stops.passed_more}
 use Rattle.btree_puts.proofs.fitting.put_fitting.Goals as goal
 
 pub returns-in_err-reach_leaf-clause-reading : goal.returns-in_err-reach_leaf-clause-reading

@@ -1,7 +1,7 @@
-use Rattle.{std.proofs.Common.{◌≡◌, sym, subst, rules}, page_node.{specs.{Entries.key_at, claim.{Entries.{Entry, child_bytes}, Node.IsNode}}, proofs.Laws.node_unique}}
-use Rattle.{page_store.specs.claim.Transactions.stored, btree_puts.proofs.Failing.{link_read_failed, link_written_failed}}
-use Rattle.page_btree.proofs.Outcomes.{reads_after, refused_as, refused_by}
-use Rattle.{std.{specs.Prelude.{IfSome, ◌<◌, ◌≤◌, ℕ, length}, proofs.{Common.{ap}, lemmas.Option.IfSome_then}}, page_node.specs.claim.Entries.size_of, page_btree.proofs.Outcomes.map_ok, btree_puts.proofs.Wide.cut_wide}
+use Rattle.{std.{specs.Prelude.{IfSome, ◌<◌, ◌≤◌, length}, proofs.{Common.{◌≡◌, sym, subst, rules, ap}, lemmas.Option.IfSome_then}}, page_node.specs.Entries.key_at}
+use Rattle.{page_node.specs.claim.{Entries.{Entry, child_bytes, size_of}, Node.IsNode}, page_store.specs.claim.Transactions.stored, btree_puts.proofs.Wide.cut_wide}
+use Rattle.{btree_puts.proofs.Failing.{link_read_failed, link_written_failed}, page_btree.proofs.Outcomes.{reads_after, refused_as, refused_by, map_ok}}
+use Rattle.page_node.proofs.Laws.{node_unique}
 use Rattle.btree_puts.proofs.puts.link.Goals as goal
 
 pub returns-clause-reading : goal.returns-clause-reading

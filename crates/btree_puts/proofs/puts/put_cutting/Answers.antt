@@ -1,8 +1,9 @@
-use Rattle.{std.{specs.Prelude.{Ok, Err, is_some}, proofs.Common.{◌≡◌, sym, ap, ◌∙◌, arith, rules}}, btree_puts.specs.{Outcomes.TakesNoPage, Putting.CanPutSome}}
-use Rattle.{page_btree.specs.Errors.IsNoWant, page_store.specs.claim.Transactions.{txn_pages, txn_root, over, free_over}, btree_puts.proofs.Counting.few_some_taken}
-use Rattle.btree_puts.proofs.{Failing.{first_failed, root_read_failed, place_failed, grow_failed}, FromRoot.{can_some, same_length, put_whole, free_then, put_grown, reach_whole, reach_grown, reach_tall}, Reach.first_rises}
-use Rattle.{page_btree.proofs.{Outcomes.{match_of, reads_ok, refused_as, refused_after}, Tops.no_root}, page_store.proofs.Stops.passed_more}
-use Rattle.{std.{specs.Prelude.{◌≤◌}, proofs.Common.subst}, btree_puts.specs.{Errors.GrowErr, Reach.{reach_in, top_reach}}, page_store.specs.claim.Transactions.stored, page_btree.{specs.declared.error.TreeError.TheVariants.TooDeep, proofs.Outcomes.err_of}}
+use Rattle.{std.{specs.Prelude.{Ok, Err, is_some, ◌≤◌}, proofs.Common.{◌≡◌, sym, ap, ◌∙◌, arith, rules, subst}}, btree_puts.specs.{Errors.GrowErr, Outcomes.TakesNoPage}}
+use Rattle.{btree_puts.specs.Putting.CanPutSome, page_btree.specs.{Errors.IsNoWant, claim.Errors.{reach_in, top_reach}, declared.error.TreeError.TheVariants.TooDeep}}
+use Rattle.{page_store.specs.claim.Transactions.{txn_pages, txn_root, over, free_over, stored}, btree_puts.proofs.{Counting.few_some_taken, Reach.first_rises}}
+use Rattle.{btree_puts.proofs.Failing.{first_failed, root_read_failed, place_failed, grow_failed}, page_btree.proofs.Tops.no_root, page_store.proofs.Stops.passed_more}
+use Rattle.btree_puts.proofs.FromRoot.{can_some, same_length, put_whole, free_then, put_grown, reach_whole, reach_grown, reach_tall}
+use Rattle.page_btree.proofs.Outcomes.{match_of, reads_ok, refused_as, refused_after, err_of}
 use Rattle.btree_puts.proofs.puts.put_cutting.Goals as goal
 
 -- ---- no root

@@ -1,4 +1,4 @@
-use Rattle.{std.proofs.Common.{ℕ, List, [], ◌∷◌, sym, subst, ◌∙◌, rules}, desk_pages.specs.claim.Puts.{HasPut, PutsErr}, page_store.specs.claim.Transactions.stored}
+use Rattle.{std.proofs.Common.{ℕ, List, [], ◌∷◌, sym, subst, ◌∙◌}, desk_pages.specs.claim.Puts.{HasPut, PutsErr}, page_store.specs.claim.Transactions.stored}
 use Rattle.desk_pages.proofs.{Rising.{none_stands, plain_err}, RowsPut.{one_put, one_not_put}}
 use Rattle.desk_pages.proofs.puts.put_row.Goals as goal
 

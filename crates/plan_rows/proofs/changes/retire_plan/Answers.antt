@@ -3,13 +3,13 @@ use Rattle.{page_btree.specs.{claim.{Errors.RemoveErr, Map.InTxn}, declared.erro
 use Rattle.page_store.specs.{claim.Transactions.{stored, disk_in, txn_pages, txn_root, txn_free, txn_writes, over, IsQuiet, Passed}, declared.pages.Pages.Pages}
 use Rattle.{plan_rows.specs.claim.{Outcomes.{HasRetired, RetireErr}, PlanRows.retired_rows}, sector_device.specs.declared.SectorDevice.Ghosts, store_rows.specs.claim.Rows.KeyMap}
 use Rattle.{store_rows.specs.claim.Keys.{key_of, named, retired}, desk_pages.proofs.{Outcomes.match_of, Writing.puts_as}, page_store.proofs.Stops.{passed_more, failed_more}}
-use Rattle.plan_rows.proofs.{Changed.{deep_after, near_before}, Thinner.thinner_reach, Writing.{after_reads, until_full, writes_as}}
-use Rattle.btree_walks.specs.Outcomes.{IsThinner}
+use Rattle.plan_rows.proofs.{Changed.{deep_after, near_before}, Writing.{after_reads, until_full, writes_as}}
+use Rattle.btree_walks.specs.Outcomes.IsNoNearer
 use Rattle.plan_rows.proofs.changes.retire_plan.Goals as goal
 
 -- A plan's row is removed, and then its number is marked.
 module _ {D : Type 0} {g : Ghosts D} (name : List ℕ) (number : ℕ) (t u : Txn) (a b c : Pages D g) (passed : Passed a b)
-    (removed : (disk_in b).is_honest → (m : KeyMap) → InTxn t (stored a) m → InTxn u (stored a) (remove m (key_of (named name)))) (thin : (disk_in b).is_honest → (m : KeyMap) → InTxn t (stored a) m → IsThinner (over t (stored a)) (txn_root t) (over u (stored a)) (txn_root u)) where
+    (removed : (disk_in b).is_honest → (m : KeyMap) → InTxn t (stored a) m → InTxn u (stored a) (remove m (key_of (named name)))) (thin : (disk_in b).is_honest → (m : KeyMap) → InTxn t (stored a) m → IsNoNearer (over t (stored a)) (txn_root t) (over u (stored a)) (txn_root u)) where
   -- what the transaction reads between the two
   half_way : (disk_in b).is_honest → (m : KeyMap) → InTxn t (stored a) m → InTxn u (stored b) (remove m (key_of (named name)))
   half_way honest m holds = rw (passed.quiet.same honest) (removed honest m holds)
@@ -31,7 +31,7 @@ module _ {D : Type 0} {g : Ghosts D} (name : List ℕ) (number : ℕ) (t u : Txn
       let n = remove m (key_of (named name)) in
       let before = quiet.honest honest in
       let both = why honest n (half_way before m holds) in
-      let less = thinner_reach (over t (stored a)) (txn_root t) (over u (stored a)) (txn_root u) (thin before m holds) in (
+      let less = thin before m holds in (
         deep_after [] (retired_rows number) t u a b n n (passed.quiet.same before) refl both.0,
         near_before 0 1 t u a b (passed.quiet.same before) (omega (arith, less)) both.1,
       )

@@ -1,8 +1,7 @@
--- A remove brings a tree no nearer to a seventh level.
-use Rattle.std.proofs.Common.{◌≡◌, ◌<◌, ◌≤◌, ◌∙◌, inl, inr, ℕ, zero, suc, sym, ap, subst, arith}
-use Rattle.std.{specs.Prelude.min, proofs.{Math.Nat.{min-eq_left, min-eq_right, min-le_left, min-le_right}, lemmas.Bool.Decides.leb_tells}}
-use Rattle.{btree_walks.specs.Outcomes.IsThinner, desk_pages.specs.btree_puts.Reach.{reach_at, reach_in}, page_btree.specs.{claim.Errors.level_in, page_node.claim.Node.count_in}}
-use Rattle.sector_device.specs.claim.Disk.{Image}
+-- A tree whose root has no more entries is no nearer to a seventh level.
+use Rattle.std.{specs.Prelude.min, proofs.{Common.{◌≡◌, ◌<◌, ◌≤◌, ◌⊎◌, ◌∙◌, inl, inr, ℕ, zero, suc, sym, ap, subst, arith}, lemmas.Bool.Decides.leb_tells}}
+use Rattle.{std.proofs.Math.Nat.{min-eq_left, min-eq_right, min-le_left, min-le_right}, btree_walks.specs.Outcomes.IsNoNearer, page_node.specs.claim.Node.count_in}
+use Rattle.{page_btree.specs.claim.Errors.{level_in, reach_at, reach_in}, sector_device.specs.claim.Disk.Image}
 
 min_less : (e f : ℕ) → f ≤ e → min 51 f ≤ min 51 e
 min_less e f le = elim (leb_tells 51 e) [
@@ -29,7 +28,11 @@ same_root P Q (suc p) level few =
     let less = at_less (level_in P (suc p)) (count_in (P (suc p))) (count_in (Q (suc p))) few in
     omega (arith, is, less)
 
-pub thinner_reach : (P : Image) (p : ℕ) (Q : Image) (q : ℕ) → IsThinner P p Q q → reach_in Q q ≤ reach_in P p
+-- there is no root any more; or it is the same one, on the same level and, above the leaves, with no more entries
+abbrev IsThinner : Image → ℕ → Image → ℕ → Type 0
+IsThinner P p Q q = (q ≡ 0) ⊎ ((q ≡ p) × (level_in Q q ≡ level_in P p) × (0 < level_in P p → count_in (Q q) ≤ count_in (P p)))
+
+pub thinner_reach : (P : Image) (p : ℕ) (Q : Image) (q : ℕ) → IsThinner P p Q q → IsNoNearer P p Q q
 thinner_reach P p Q q (inl none) =
     let is : reach_in Q q ≡ 50 = ap (λ x. reach_in Q x) none in
     let low = some_in P p in
