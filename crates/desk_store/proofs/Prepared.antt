@@ -3,13 +3,13 @@ use Rattle.{std.proofs.Common.{rules, ◌≡◌, ◌⊎◌, ◌≤◌, ◌+◌, 
 use Rattle.{desk_catalogue.specs.claim.Accepting.IsAfter, desk_model.specs.{claim.{Outcome.{IsFull, RefusalMay}, Room.{need, command_rows}}, declared.command.Command.Command}}
 use Rattle.{desk_pages.specs.claim.{Commits.HoldsAfter, Desks.{HoldsDeskOf, InPages, InPagesOf, InTxn, InTxnOf}}, desk_store.specs.Faults.{is_fault, refusal_of}}
 use Rattle.desk_store.specs.claim.{Clerks.{desk_of, disk_of, pages_of, room_of, Keeps, Reads}, Commands.{command_of, after_of, written_of, IsReady, HasRoom, MustBeFull, MayBeFull}}
-use Rattle.{desk_store.specs.declared.{clerk.Clerk.Clerk, ready.Ready.Ready}, page_btree.specs.claim.{Errors.{reach_in, top_reach}, Map.{InTxn as TxnHas, InPages as HoldsRows}}}
+use Rattle.{desk_store.{specs.declared.{clerk.Clerk.Clerk, ready.Ready.Ready}, proofs.Kept.accepted_is}, page_btree.specs.claim.Map.{InTxn as TxnHas, InPages as HoldsRows}}
 use Rattle.{page_btree.specs.declared.error.TreeError.{TreeError, TheVariants.{DeviceFault, NotAStore, Halted, NoPages, TooDeep, Memory}}, page_store.specs.Transactions.txn_first}
 use Rattle.{page_store.specs.{claim.Chain.{free_in, root_in}, declared.{pages.Pages.Pages, txn.{Prepared.Prepared, Txn.Txn}}}, plan_revisions.specs.claim.Rows.HasNumbers}
 use Rattle.page_store.specs.claim.Transactions.{stored, disk_in, count_of, has_halted, txn_pages, txn_writes, txn_free, txn_root, over, free_over, prepared_pages, prepared_writes, after, IsQuiet}
 use Rattle.{plan_revisions.specs.{claim.Steps.{HasStepped, LeavesNumbers, StepErr}, plan_rows.claim.Outcomes.HasExhausted}, sector_device.specs.claim.Disk.Image}
-use Rattle.{sector_device.specs.declared.SectorDevice.Ghosts, store_rows.specs.claim.Rows.KeyMap, desk_pages.proofs.{DeskLaws.begun_desk, Found.rows_before}}
-use Rattle.{desk_store.proofs.Kept.accepted_is, page_btree.proofs.MapLaws.begun_holds, page_store.proofs.Chains.length_chain}
+use Rattle.{sector_device.specs.declared.SectorDevice.Ghosts, store_rows.specs.claim.Rows.KeyMap, desk_pages.proofs.{DeskLaws.begun_desk, Found.rows_before, Nearness.near_stored}}
+use Rattle.{page_btree.proofs.MapLaws.begun_holds, page_store.proofs.Chains.length_chain}
 use Rattle.{desk_opening.proofs.plan_rows.Committing.both, plan_revisions.proofs.Accepted.{rows_some, geography_stays}}
 
 -- the pages of a prepared transaction, which read what the one before reads with the command's rows
@@ -97,9 +97,7 @@ module _ {D : Type 0} {g : Ghosts D} where
     full x b c e is (λ keeps honest.
         let was = quiet.honest honest in
         let deep = why honest (desk_of x) (begun_reads (pages_of x) t (desk_of x) begun was (keeps.holds working was)) in
-        let rows = command_rows (desk_of x) c in
-        let S = stored (pages_of x) in
-        let near = subst (λ (r : ℕ). top_reach ≤ reach_in S r + rows) (begun.root was) (subst (λ (P : Image). top_reach ≤ reach_in P (txn_root t) + rows) (λ i q. begun.over_is q i) deep.near) in
+        let near = near_stored (command_rows (desk_of x) c) t (pages_of x) (λ i q. begun.over_is q i) (begun.root was) deep.near in
         inr (inr (record { txn = t; deep = deep; near = near }))),
   )
   not_put x b c e t _ is room working begun quiet why off = absurd (cc)

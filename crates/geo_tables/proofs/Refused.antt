@@ -1,26 +1,20 @@
 -- Why a step of a load is refused, from why its parts are.
 use Rattle.std.proofs.{Common.{◌≡◌, ◌*◌, ◌≤◌, ◌<◌, ◌^◌, ℕ, Bool, List, Option, None, length, false, true, refl, sym, subst, ◌∙◌, inl, inr, arith, ◌+◌}, lemmas.Bool.cases_lt}
-use Rattle.{desk_model.specs.claim.{Desk.Desk, Geography.GeographyModel}, desk_pages.specs.{Errors.tree_refusal, Reading.{HasNext, ReadErr, StandsAs}}}
-use Rattle.{desk_pages.specs.{claim.{Desks.{IsDeskMap, InPages}, Puts.{PutsErr, IsNear}}, declared.error.StoreError.StoreError}, geo_tables.specs.Rows.begun_rows}
-use Rattle.{desk_pages.specs.declared.error.StoreError.TheVariants.{Full, Memory, NotAStore, DeviceFault, Halted}, geo_tables.specs.Loads.{AreExhausted, IsNotBegun, BeginErr}}
-use Rattle.geo_tables.specs.{Refusals.{HasRoom, IsShort, IsDeep, AreBegun, NextErr, RowsErr, SealedErr, BeginErr as Begins}, Starting.{IsStarted, StartErr}}
-use Rattle.{geo_tables.specs.declared.load.Load.Load, page_btree.specs.claim.{Errors.{level_in, reach_in, top_reach}, Map.{InTxn as TxnHolds, InPages as HoldsRows}}}
-use Rattle.{page_btree.specs.declared.error.TreeError.TreeError, page_store.specs.{claim.Chain.root_in, declared.{pages.Pages.Pages, txn.Txn.Txn}}}
-use Rattle.{page_store.specs.claim.Transactions.{stored, disk_in, journal_of, has_halted, txn_free, txn_root, over, IsQuiet, Passed}, sector_device.specs.claim.Disk.Image}
-use Rattle.{sector_device.specs.declared.SectorDevice.Ghosts, store_rows.specs.claim.{Keys.{key_of, seal}, Puts.{Row, put_rows}, Rows.{KeyMap, Lacks}, Values.seal_bytes}}
-use Rattle.{store_rows.specs.declared.value.SealRow.SealRow, geo_tables.proofs.{Joins.{failed_after, room_of, quiet_rows, quiet_desk}, Maps.no_geography, SealedRows.seal_stands}}
-use Rattle.page_store.proofs.Stops.{quiet_more, quiet_none}
+use Rattle.{desk_model.specs.claim.{Desk.Desk, Geography.GeographyModel}, desk_pages.specs.{Errors.tree_refusal, Reading.{HasNext, ReadErr, StandsAs}, claim.Puts.PutsErr}}
+use Rattle.desk_pages.specs.{claim.Desks.{IsDeskMap, InPages}, declared.error.StoreError.{StoreError, TheVariants.{Full, Memory, NotAStore, DeviceFault, Halted}}}
+use Rattle.geo_tables.specs.{Loads.{AreExhausted, IsNotBegun, BeginErr}, Refusals.{HasRoom, IsShort, IsDeep, AreBegun, NextErr, RowsErr, SealedErr, BeginErr as Begins}}
+use Rattle.{geo_tables.specs.{Rows.begun_rows, Starting.{IsStarted, StartErr}, declared.load.Load.Load}, page_btree.specs.claim.Errors.{level_in, reach_in, top_reach}}
+use Rattle.{page_btree.specs.{claim.Map.{InTxn as TxnHolds, InPages as HoldsRows}, declared.error.TreeError.TreeError}, page_store.specs.claim.Chain.root_in}
+use Rattle.page_store.specs.{claim.Transactions.{stored, disk_in, journal_of, has_halted, txn_free, txn_root, over, IsQuiet, Passed}, declared.{pages.Pages.Pages, txn.Txn.Txn}}
+use Rattle.{sector_device.specs.{claim.Disk.Image, declared.SectorDevice.Ghosts}, store_rows.specs.claim.{Keys.{key_of, seal}, Puts.{Row, put_rows}, Rows.{KeyMap, Lacks}}}
+use Rattle.{store_rows.specs.{claim.Values.seal_bytes, declared.value.SealRow.SealRow}, desk_pages.proofs.Nearness.near_stored, geo_tables.proofs.Maps.no_geography}
+use Rattle.{geo_tables.proofs.{Joins.{failed_after, room_of, quiet_rows, quiet_desk}, SealedRows.seal_stands}, page_store.proofs.Stops.{quiet_more, quiet_none}}
 use Rattle.page_btree.specs.declared.error.TreeError.TheVariants as tree
 
 pub both : {X : Type 0} (b : Bool) → b ≡ true → b ≡ false → X
 both b one other = absurd (cc)
 
 module _ {D : Type 0} {g : Ghosts D} where
-  -- the stored tree is as near as that of a transaction that was begun
-  pub stored_near : (ps : Pages D g) (t : Txn) (rows : ℕ) → over t (stored ps) ≡ stored ps → txn_root t ≡ root_in (stored ps) → IsNear rows t ps → top_reach ≤ reach_in (stored ps) (root_in (stored ps)) + rows
-  stored_near ps t rows same root near =
-      subst (λ (r : ℕ). top_reach ≤ reach_in (stored ps) r + rows) root (subst (λ (P : Image). top_reach ≤ reach_in P (txn_root t) + rows) same near)
-
   -- ---- rows of a load: a batch, or the seal
   module _ (load : Load) (rows : ℕ) (all : List Row) where
     -- no transaction was begun
@@ -36,7 +30,7 @@ module _ {D : Type 0} {g : Ghosts D} where
       quiet,
       inr (λ honest m holds.
           let found = why honest m (started.reads (quiet.honest honest) m holds) in
-          (all, refl, (t, found.0), stored_near a t (length all) (started.same (quiet.honest honest)) (started.root (quiet.honest honest)) found.1)),
+          (all, refl, (t, found.0), near_stored (length all) t a (started.same (quiet.honest honest)) (started.root (quiet.honest honest)) found.1)),
     )
     rows_refused t a b started few quiet tree.Memory why = (quiet, room_of started quiet.honest)
 
@@ -60,7 +54,7 @@ module _ {D : Type 0} {g : Ghosts D} where
             begun_rows not.next,
             (not.next, not.was honest m reads, refl),
             (t, (not.why honest m reads).0),
-            stored_near a t (length (begun_rows not.next)) (started.same (quiet.honest honest)) (started.root (quiet.honest honest)) (not.why honest m reads).1,
+            near_stored (length (begun_rows not.next)) t a (started.same (quiet.honest honest)) (started.root (quiet.honest honest)) (not.why honest m reads).1,
           ))),
     )
     next_unput tree.Memory not = (quiet, room_of started quiet.honest)

@@ -1,11 +1,11 @@
 -- Why a load goes no further.
 use Rattle.std.specs.Prelude.{◌≡◌, ◌⊎◌, ◌<◌, ◌≤◌, ◌+◌, ◌*◌, ◌^◌, ℕ, List, [], ◌∷◌, length, Some, None, true, Result, Err, OnOk}
-use Rattle.{desk_model.specs.claim.{Desk.Desk, Geography.GeographyModel}, desk_pages.specs.{Commits.Commits, claim.{Desks.InPages, Puts.HasDeepened}}}
+use Rattle.{desk_model.specs.claim.{Desk.Desk, Geography.GeographyModel}, desk_pages.specs.{Commits.Commits, claim.{Desks.InPages, Puts.{HasDeepened, IsStoredNear}}}}
 use Rattle.{desk_pages.specs.declared.error.StoreError.{StoreError, TheVariants.{AlreadySealed, Full, Memory, NotAStore, DeviceFault, Halted}}, store_rows.specs.claim.Keys.seal}
 use Rattle.geo_tables.specs.{Loading.{HoldsLoad, number_of, geography_model_of, done_of}, Rows.{begun_rows, staged_rows, seal_row}, declared.load.Load.Load}
-use Rattle.{page_btree.specs.claim.{Errors.{reach_in, top_reach}, Map.InPages as HoldsRows}, page_store.specs.{claim.Chain.{free_in, root_in}, declared.pages.Pages.Pages}}
-use Rattle.page_store.specs.{claim.Transactions.{stored, disk_in, journal_of, has_halted, HasFailed, IsQuiet, IsSame, Passed}, declared.txn.Txn.Txn}
-use Rattle.{sector_device.specs.declared.SectorDevice.Ghosts, store_rows.specs.{claim.{Puts.Row, Rows.{KeyMap, Lacks}, Tidy.IsNext}, declared.value.Counters.Counters}}
+use Rattle.{page_btree.specs.claim.Map.InPages as HoldsRows, page_store.specs.{claim.Chain.free_in, declared.{pages.Pages.Pages, txn.Txn.Txn}}, store_rows.specs.claim.Puts.Row}
+use Rattle.{page_store.specs.claim.Transactions.{stored, disk_in, journal_of, has_halted, HasFailed, IsQuiet, IsSame, Passed}, sector_device.specs.declared.SectorDevice.Ghosts}
+use Rattle.store_rows.specs.{claim.{Rows.{KeyMap, Lacks}, Tidy.IsNext}, declared.value.Counters.Counters}
 
 -- the rows with which the next load begins
 abbrev pub AreBegun : KeyMap → List Row → Type 0
@@ -34,7 +34,7 @@ module _ {D : Type 0} {g : Ghosts D} where
   -- the tree had six levels after some of the rows, and the stored tree was near enough to that for so many
   abbrev pub IsDeep : (KeyMap → List Row → Type 0) → Pages D g → Pages D g → Type 0
   IsDeep are old new = (disk_in new).is_honest → (m : KeyMap) → HoldsRows old m
-      → (rows : List Row) × are m rows × ((t : Txn) × HasDeepened rows t old m) × (top_reach ≤ reach_in (stored old) (root_in (stored old)) + length rows)
+      → (rows : List Row) × are m rows × ((t : Txn) × HasDeepened rows t old m) × IsStoredNear (length rows) old
 
   -- no geography is sealed
   abbrev pub IsUnsealed : Pages D g → Pages D g → Type 0

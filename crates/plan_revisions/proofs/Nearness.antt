@@ -1,23 +1,13 @@
 -- A step is refused for the depth of the stored tree alone, where the transaction was begun over it.
-use Rattle.{std.proofs.Common.{◌≡◌, ◌<◌, ◌≤◌, ◌+◌, ℕ, false, sym, subst}, desk_pages.specs.claim.Puts.IsNear, page_btree.specs.claim.Errors.{level_in, reach_in, top_reach}}
-use Rattle.page_store.specs.{Calls.BeginsOver, claim.{Chain.root_in, Transactions.{stored, disk_in, has_halted, txn_root, over}}, declared.{pages.Pages.Pages, txn.Txn.Txn}}
-use Rattle.{plan_revisions.specs.claim.Steps.IsDeep, sector_device.specs.{claim.Disk.Image, declared.SectorDevice.Ghosts}, desk_pages.proofs.Nearness.never_near}
+use Rattle.{std.proofs.Common.{◌≡◌, ◌<◌, ◌≤◌, ℕ, false}, desk_pages.specs.claim.Puts.IsStoredNear, page_btree.specs.claim.Errors.level_in, page_store.specs.Calls.BeginsOver}
+use Rattle.page_store.specs.{claim.{Chain.root_in, Transactions.{stored, disk_in, has_halted}}, declared.{pages.Pages.Pages, txn.Txn.Txn}}
+use Rattle.{plan_revisions.specs.claim.Steps.IsDeep, sector_device.specs.declared.SectorDevice.Ghosts, desk_pages.proofs.Nearness.{begun_near, never_stored_near}}
 
 module _ {D : Type 0} {g : Ghosts D} (t : Txn) (ps : Pages D g) (begun : BeginsOver ps t) (works : has_halted ps ≡ false) (honest : (disk_in ps).is_honest) where
-  root_is : txn_root t ≡ root_in (stored ps)
-  root_is = begun.root works honest
-
-  over_is : over t (stored ps) ≡ stored ps
-  over_is = λ i q. begun.over q i
-
-  both : ◌≡◌ {A = Image × ℕ} (over t (stored ps), txn_root t) (stored ps, root_in (stored ps))
-  both = λ i. (over_is i, root_is i)
-
   -- so many rows could bring the stored tree to the end of its sixth level
-  pub stored_near : (rows : ℕ) → IsNear rows t ps → top_reach ≤ reach_in (stored ps) (root_in (stored ps)) + rows
-  stored_near rows near = subst (λ (x : Image × ℕ). top_reach ≤ reach_in x.0 x.1 + rows) both near
+  pub deep_near : (rows : ℕ) → IsDeep rows t ps → IsStoredNear rows ps
+  deep_near rows deep = begun_near rows t ps begun works honest deep.near
 
   -- a stored tree of five levels at most isn't too deep for fewer than 50 rows
   pub never_deep : (rows : ℕ) → level_in (stored ps) (root_in (stored ps)) ≤ 4 → rows < 50 → IsDeep rows t ps → ⊥
-  never_deep rows low few deep =
-      never_near rows t ps (subst (λ (x : Image × ℕ). level_in x.0 x.1 ≤ 4) (sym both) low) few deep.near
+  never_deep rows low few deep = never_stored_near rows ps low few (deep_near rows deep)

@@ -1,16 +1,20 @@
 -- Rows that are put one after the other in a transaction.
 use Rattle.std.specs.Prelude.{◌≡◌, ◌<◌, ◌≤◌, ◌+◌, ◌*◌, ℕ, List, ◌++◌, length, true}
 use Rattle.btree_puts.specs.page_btree.{claim.{Errors.{IsUnsound, level_in, reach_in, top_reach}, Map.InTxn}, declared.error.TreeError.TreeError}
-use Rattle.{btree_puts.specs.page_btree.declared.error.TreeError.TheVariants.{DeviceFault, NotAStore, Halted, NoPages, TooDeep, Memory}, page_store.specs.declared.txn.Txn.Txn}
+use Rattle.{btree_puts.specs.page_btree.declared.error.TreeError.TheVariants.{DeviceFault, NotAStore, Halted, NoPages, TooDeep, Memory}, page_store.specs.claim.Chain.root_in}
 use Rattle.page_store.specs.{claim.Transactions.{stored, disk_in, has_halted, txn_pages, txn_root, txn_free, txn_writes, over, HasFailed, Passed}, declared.pages.Pages.Pages}
-use Rattle.{sector_device.specs.declared.SectorDevice.Ghosts, store_rows.specs.claim.{Puts.{Row, put_rows}, Rows.KeyMap}}
+use Rattle.{page_store.specs.declared.txn.Txn.Txn, sector_device.specs.declared.SectorDevice.Ghosts, store_rows.specs.claim.{Puts.{Row, put_rows}, Rows.KeyMap}}
 
 module _ {D : Type 0} {g : Ghosts D} where
   -- so many rows could bring a transaction's tree to the end of its sixth level: a row is one step of 301, and 50 of these are a level
   abbrev pub IsNear : ℕ → Txn → Pages D g → Type 0
   IsNear rows t old = top_reach ≤ reach_in (over t (stored old)) (txn_root t) + rows
 
-  -- it is nearer to it by so many at most
+  -- and so of the stored tree
+  abbrev pub IsStoredNear : ℕ → Pages D g → Type 0
+  IsStoredNear rows ps = top_reach ≤ reach_in (stored ps) (root_in (stored ps)) + rows
+
+  -- a transaction's tree is nearer to it than another's by so many at most
   abbrev pub Nears : ℕ → Txn → Txn → Pages D g → Type 0
   Nears rows t u old = reach_in (over u (stored old)) (txn_root u) ≤ reach_in (over t (stored old)) (txn_root t) + rows
 

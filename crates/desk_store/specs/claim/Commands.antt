@@ -2,11 +2,11 @@
 use Rattle.std.specs.Prelude.{◌≡◌, ◌⊎◌, ◌≤◌, ◌<◌, ◌+◌, ◌*◌, ℕ, true, false, length}
 use Rattle.{desk_catalogue.specs.claim.Accepting.{IsAfter, acceptance}, desk_model.specs.claim.{Desk.Desk, Outcome.{IsAcceptance, CommandMay, RefusalMay}, Step.step}}
 use Rattle.desk_model.specs.{claim.Room.{need, command_rows}, declared.{command.Command.Command, reply.{Refusal.{Refusal, TheVariants.Halted}, Reply.{Reply, TheVariants.Refused}}}}
-use Rattle.{desk_pages.specs.claim.{Commits.HoldsAfter, Desks.IsDeskMap}, desk_store.specs.claim.Clerks.{desk_of, disk_of, free_of, pages_of, room_of, HaltsByDevice, Keeps, Moves}}
-use Rattle.{desk_store.specs.declared.{clerk.Clerk.Clerk, ready.Ready.Ready}, page_btree.specs.claim.{Errors.{reach_in, top_reach}, Map.InPages as HoldsRows}}
-use Rattle.page_store.specs.{claim.{Chain.{free_in, root_in}, Transactions.{stored, disk_in, count_of, prepared_pages, prepared_writes, after, IsQuiet}}, declared.txn.Txn.Txn}
-use Rattle.{page_store.specs.declared.{pages.Pages.Pages, txn.Prepared.Prepared as Written}, plan_revisions.specs.claim.{Rows.HasNumbers, Steps.IsDeep}}
-use Rattle.{sector_device.specs.declared.SectorDevice.Ghosts, store_rows.specs.{claim.{Rows.KeyMap, Tidy.{IsNext, CountersFit}}, declared.value.Counters.Counters}}
+use Rattle.{desk_pages.specs.claim.{Commits.HoldsAfter, Desks.IsDeskMap, Puts.IsStoredNear}, desk_store.specs.declared.{clerk.Clerk.Clerk, ready.Ready.Ready}}
+use Rattle.{desk_store.specs.claim.Clerks.{desk_of, disk_of, free_of, pages_of, room_of, HaltsByDevice, Keeps, Moves}, page_btree.specs.claim.Map.InPages as HoldsRows}
+use Rattle.page_store.specs.{claim.{Chain.free_in, Transactions.{stored, disk_in, count_of, prepared_pages, prepared_writes, after, IsQuiet}}, declared.pages.Pages.Pages}
+use Rattle.{page_store.specs.declared.txn.{Prepared.Prepared as Written, Txn.Txn}, plan_revisions.specs.claim.{Rows.HasNumbers, Steps.IsDeep}, store_rows.specs.claim.Rows.KeyMap}
+use Rattle.{sector_device.specs.declared.SectorDevice.Ghosts, store_rows.specs.{claim.Tidy.{IsNext, CountersFit}, declared.value.Counters.Counters}}
 
 abbrev pub command_of : Ready → Command
 command_of r = r.command.value
@@ -37,7 +37,7 @@ module _ {D : Type 0} {g : Ghosts D} where
   pub record HasDeepened (x : Clerk D g) (c : Command) : Type 0 where
     pub txn : Txn
     pub deep : IsDeep (command_rows (desk_of x) c) txn (pages_of x)
-    pub near : top_reach ≤ reach_in (stored (pages_of x)) (root_in (stored (pages_of x))) + command_rows (desk_of x) c
+    pub near : IsStoredNear (command_rows (desk_of x) c) (pages_of x)
 
   -- too few pages are free, or a commit may write too few
   abbrev pub IsShort : Clerk D g → Command → Type 0
