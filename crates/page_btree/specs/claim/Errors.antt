@@ -1,9 +1,8 @@
 -- Why a call on a tree is refused.
 use Rattle.std.{specs.Prelude.{◌≡◌, ◌<◌, ◌+◌, ◌*◌, ℕ, zero, suc, min, true}, proofs.Common.get_or}
 use Rattle.page_btree.specs.{claim.{Keys.KeyMap, Map.InTxn}, declared.error.TreeError.{TreeError, TheVariants.{DeviceFault, NotAStore, Halted, NoPages, TooDeep, Memory}}}
-use Rattle.page_store.specs.{claim.Transactions.{stored, disk_in, has_halted, HasFailed, txn_free, txn_root, over}, declared.{pages.Pages.Pages, txn.Txn.Txn}}
-use Rattle.sector_device.specs.{claim.Disk.Image, declared.SectorDevice.Ghosts}
-use Rattle.page_node.specs.claim.Node.{count_in}
+use Rattle.{page_node.specs.claim.Node.count_in, page_store.specs.{claim.Transactions.{stored, disk_in, has_halted, HasFailed, txn_free, txn_root, over}, declared.txn.Txn.Txn}}
+use Rattle.{page_store.specs.declared.pages.Pages.Pages, sector_device.specs.{claim.Disk.Image, declared.SectorDevice.Ghosts}}
 
 -- the level of the node at the root
 abbrev pub level_in : Image → ℕ → ℕ

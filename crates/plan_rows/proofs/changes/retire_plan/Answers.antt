@@ -1,10 +1,10 @@
-use Rattle.{std.{specs.FinMap.remove, proofs.Common.{◌≡◌, ◌≤◌, ◌+◌, ℕ, List, [], refl, ◌∙◌, arith, ◌∷◌, rules, sym}}, desk_pages.specs.claim.Puts.{HasPut, PutsErr}}
-use Rattle.{page_btree.specs.{claim.{Errors.RemoveErr, Map.InTxn}, declared.error.TreeError.{TreeError, TheVariants.{NotAStore, TooDeep}}}, page_store.specs.declared.txn.Txn.Txn}
-use Rattle.page_store.specs.{claim.Transactions.{stored, disk_in, txn_pages, txn_root, txn_free, txn_writes, over, IsQuiet, Passed}, declared.pages.Pages.Pages}
-use Rattle.{plan_rows.specs.claim.{Outcomes.{HasRetired, RetireErr}, PlanRows.retired_rows}, sector_device.specs.declared.SectorDevice.Ghosts, store_rows.specs.claim.Rows.KeyMap}
-use Rattle.{store_rows.specs.claim.Keys.{key_of, named, retired}, desk_pages.proofs.{Outcomes.match_of, Writing.puts_as}, page_store.proofs.Stops.{passed_more, failed_more}}
+use Rattle.{std.{specs.FinMap.remove, proofs.Common.{◌≡◌, ◌≤◌, ◌+◌, ℕ, List, [], refl, ◌∙◌, arith, ◌∷◌, rules, sym}}, btree_walks.specs.Outcomes.IsNoNearer}
+use Rattle.{desk_pages.{specs.claim.Puts.{HasPut, PutsErr}, proofs.Outcomes.match_of}, page_btree.specs.{claim.{Errors.RemoveErr, Map.InTxn}, declared.error.TreeError.TreeError}}
+use Rattle.{page_btree.specs.declared.error.TreeError.TheVariants.{NotAStore, TooDeep}, page_store.specs.declared.{pages.Pages.Pages, txn.Txn.Txn}}
+use Rattle.{page_store.specs.claim.Transactions.{stored, disk_in, txn_pages, txn_root, txn_free, txn_writes, over, IsQuiet, Passed}, plan_rows.specs.claim.PlanRows.retired_rows}
+use Rattle.{plan_rows.specs.claim.Outcomes.{HasRetired, RetireErr}, sector_device.specs.declared.SectorDevice.Ghosts, store_rows.specs.claim.Keys.{key_of, named, retired}}
+use Rattle.{store_rows.specs.claim.Rows.KeyMap, desk_pages.proofs.Writing.puts_as, page_store.proofs.Stops.{passed_more, failed_more}}
 use Rattle.plan_rows.proofs.{Changed.{deep_after, near_before}, Writing.{after_reads, until_full, writes_as}}
-use Rattle.btree_walks.specs.Outcomes.IsNoNearer
 use Rattle.plan_rows.proofs.changes.retire_plan.Goals as goal
 
 -- A plan's row is removed, and then its number is marked.
