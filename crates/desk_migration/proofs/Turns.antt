@@ -176,4 +176,5 @@ module _ {D : Type 0} {g : Ghosts D} where
 
   pub less_not_held : (most : ℕ) (has more : KeyMap → Type 0) (t : Txn) (a b : Pages D g) (e : TreeError) → ((m : KeyMap) → more m → has m) → HoldErrOf most has t a b e → HoldErrOf most more t a b e
   less_not_held most has more t a b Memory gives why = tt
+  less_not_held most has more t a b TooDeep gives why = λ honest m reads known. why honest m reads (gives m known)
   less_not_held most has more t a b _ gives why = search (why, gives)
