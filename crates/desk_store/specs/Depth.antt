@@ -1,6 +1,6 @@
 -- Where a command isn't refused for the depth of the tree.
 use Rattle.std.specs.Prelude.{◌≤◌, ◌<◌, ◌+◌, ◌*◌, ℕ, List}
-use Rattle.desk_model.specs.{claim.Room.{command_rows, need}, declared.{command.Command.{Command, TheVariants.{Create, Retire}}, reply.Refusal.TheVariants.Full}}
+use Rattle.desk_model.specs.{claim.Room.{command_rows, need}, declared.{command.Command.{Command, TheVariants.{Create, Retire}}, kind.Kind.Kind, reply.Refusal.TheVariants.Full}}
 use Rattle.{desk_model.specs.declared.reply.Reply.TheVariants.Refused, desk_store.specs.claim.Clerks.{desk_of, disk_of, pages_of, free_of, room_of, Keeps}}
 use Rattle.{desk_store.specs.{claim.Commands.{Does, IsExhausted}, declared.clerk.Clerk.Clerk}, page_btree.specs.claim.Errors.level_in, page_store.specs.claim.Chain.root_in}
 use Rattle.{page_store.specs.claim.Transactions.stored, sector_device.specs.declared.SectorDevice.Ghosts}
@@ -23,5 +23,5 @@ pub record IsNeverDeep (D : Type 0) (g : Ghosts D) : Type 0 where
   pub few_rows : (x y : Clerk D g) (c : Command) → command_rows (desk_of x) c + 50 * level_of x < 250 → need (desk_of x) c ≤ free_of x
       → need (desk_of x) c ≤ room_of x → IsAnsweredFull x c y → IsExhausted x c
   pub retire : (x y : Clerk D g) (name : List ℕ) → level_of x ≤ 4 → 26 ≤ free_of x → IsAnsweredFull x (Retire name) y → ⊥
-  pub create : (x y : Clerk D g) (name : List ℕ) (size : ℕ) → level_of x ≤ 4 → 26 ≤ free_of x
+  pub create : (x y : Clerk D g) (name : List ℕ) (size : Kind × ℕ) → level_of x ≤ 4 → 26 ≤ free_of x
       → IsAnsweredFull x (Create name size) y → IsExhausted x (Create name size)
