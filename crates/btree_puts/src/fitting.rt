@@ -14,6 +14,7 @@ ghost use Rattle.page_btree.specs.Editing.{IsAlike, WritesOne};
 ghost use Rattle.btree_puts.specs.Fitting.{IsLeafPut, PutsAtLeaf};
 ghost use Rattle.btree_puts.specs.Fingers.{PutsRowBy, PutsFittingRow, PutByErr};
 ghost use Rattle.btree_puts.specs.Outcomes.{TakesPages};
+ghost use Rattle.btree_puts.specs.Reach.{RisesBy, IsTall, StaysInReach};
 ghost use Rattle.page_btree.specs.Asked.{IsPageOf, IsRowToPut};
 
 use crate::finger::{Finger, reach_leaf};
@@ -43,6 +44,8 @@ pub fn put<D: SectorDevice>(
     ensures reading { ReadsOnly (PutByErr finger.old txn.old pages.old pages.new) pages.old pages.new result }
     ensures takes { TakesPages txn.old txn.new pages.old pages.new (key.now, value.now) result }
     ensures put { PutsRowBy finger.old finger.new txn.old txn.new pages.old pages.new (key.now, value.now) result }
+    ensures rises { RisesBy finger.old txn.old txn.new pages.old pages.new result }
+    ensures tall { IsTall txn.old pages.old pages.new result }
 {
     match put_fitting(txn, pages, finger, key, value)? {
         Some(had) => Ok(had),
@@ -68,6 +71,7 @@ fn put_fitting<D: SectorDevice>(
     ensures reading { ReadsOnly (λ e. PutByErr finger.old txn.old pages.old pages.new e × IsNoWant e) pages.old pages.new result }
     ensures pages { txn_pages txn.new ≡ txn_pages txn.old }
     ensures put { PutsFittingRow finger.old finger.new txn.old txn.new pages.old pages.new (key.now, value.now) result }
+    ensures reach { StaysInReach finger.old txn.old txn.new pages.old pages.new result }
     ensures kept { IfOk result (λ did. did ≡ None → IsAlike txn.old txn.new) }
     ensures costs { WritesOne txn.old txn.new result }
 {

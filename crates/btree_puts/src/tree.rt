@@ -84,6 +84,7 @@ pub(crate) fn settle<D: SectorDevice>(
     ensures below { IfOk result (λ right. IfSome right (λ q. (q < txn_pages txn.old) × (0 < length room.new.upper.entries))) }
     ensures written { WritesNode txn.old txn.new pages.old pages.new page room.old.node room.new.upper result }
     ensures few { IfOk result (λ right. AreFew 0 txn.old txn.new right) }
+    ensures over { IfOk result (λ right. IfSome right (λ q. 4092 < size_of room.old.node.entries)) }
     ensures fits { Fits room.old.node → MatchResult result (λ right. right ≡ None) (λ e. e ≡ Memory) }
 {
     if room.node.overflows() {

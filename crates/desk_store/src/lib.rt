@@ -40,6 +40,7 @@ pub mod change;
 pub mod clerk;
 mod counter;
 mod failures;
+pub mod law;
 mod loads;
 mod opening;
 mod prepare;

@@ -16,8 +16,6 @@
 
 mod facts;
 mod hints;
-mod keys;
-mod kinds;
 mod naming;
 mod namings;
 mod seen;

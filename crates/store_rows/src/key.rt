@@ -32,7 +32,7 @@ impl Model for Key {
 
 impl Key {
     /// A key that consists of its tag.
-    fn tagged(tag: u8) -> Key
+    pub(crate) fn tagged(tag: u8) -> Key
         ensures { result ≡ tag ∷ [] }
     {
         let mut bytes = ArrayVec::new();
@@ -46,6 +46,16 @@ impl Key {
         ensures { self.new ≡ self.old ++ more.now }
     {
         let _ = self.bytes.try_extend_from_slice(more);
+    }
+
+    /// The key with bytes after it that fit.
+    pub(crate) fn then(self, more: &[u8]) -> Key
+        requires { length self + length more.now ≤ 72 }
+        ensures { result ≡ self ++ more.now }
+    {
+        let mut key = self;
+        key.add(more);
+        key
     }
 
     /// The bytes.
@@ -72,7 +82,7 @@ impl Key {
     }
 
     /// A tag and a number.
-    fn numbered(tag: u8, number: u64) -> Key
+    pub(crate) fn numbered(tag: u8, number: u64) -> Key
         ensures { result ≡ (tag ∷ []) ++ in_eight number }
     {
         let mut key = Key::tagged(tag);

@@ -40,6 +40,7 @@ pub mod key_laws;
 pub mod laws;
 mod list;
 pub mod migrations;
+mod row_key;
 pub mod upkeep;
 mod value;
 
@@ -48,6 +49,7 @@ pub use list::{
     ListValue, PART_CHUNKS, PIECE_DISTRICTS, add_chunk, add_district, fill_chunks, fill_districts,
     read_chunks, read_districts,
 };
+pub use row_key::RowKey;
 pub use value::{
     Counters, HolderCount, PlanRow, SealRow, block_value, counters_value, eight, four,
     holder_count_value, pair_value, plan_value, read_block, read_counters, read_holder_count,
