@@ -1,4 +1,4 @@
-//! Tests of libraries below the clerk: rows and pages, plans, lists, districts, audits.
+//! Tests of libraries below the clerk: keys, rows and pages, plans, lists, districts, audits.
 //!
 //! # Notes
 //!
@@ -17,6 +17,8 @@ macro_rules! holds {
 
 #[cfg(test)]
 mod facts;
+#[cfg(test)]
+mod key_trials;
 #[cfg(test)]
 mod list_trials;
 #[cfg(test)]

@@ -1,13 +1,13 @@
 -- Rows that belong to a store.
 use Rattle.{std.specs.{FinMap.{entries, get}, List.AllByRecursion, Prelude.{Option, Result, Err, IsErrAnd}}, btree_walks.specs.{Prefixes.under, declared.rows.Row.Row}}
 use Rattle.{std.proofs.Common.{◌≡◌, ℕ, List, [], Bool, true, false, Some, None, Ok, refl, sym, ap, subst, ◌∙◌}, btree_walks.specs.Scanning.{TakesNextRow, fault_in, has_ended}}
-use Rattle.{btree_walks.{specs.declared.scans.Scan.Scan, proofs.RowsFound.all_found}, desk_model.specs.declared.ranges.CountyRange.CountyRange, desk_pages.specs.Looking.Looks}
+use Rattle.{btree_walks.specs.declared.scans.Scan.Scan, desk_model.specs.declared.ranges.CountyRange.CountyRange, desk_pages.specs.Looking.Looks, store_rows.specs.RowKeys.IsKey}
 use Rattle.{page_btree.specs.{declared.error.TreeError.TreeError, page_node.claim.Entries.Entry}, page_store.specs.{claim.Transactions.{IsQuiet, Passed}, declared.txn.Txn.Txn}}
-use Rattle.{page_store.specs.declared.pages.Pages.Pages, row_owners.specs.declared.wrong.Wrong.Wrong, store_rows.specs.claim.Rows.KeyMap}
-use Rattle.row_owners.{specs.Strays.{AllBelong, Belongs, IsAny, IsJudged, IsNamed, IsNaming, IsRight, IsStray, IsWrong, NamesAt, Tells}, proofs.KeyBytes.at_row}
-use Rattle.{sector_device.specs.declared.SectorDevice.Ghosts, store_rows.specs.claim.{Keys.{RowKey, key_of, part}, Lists.{AreChunks, chunks_bytes}}, row_owners.proofs.Whole.get_is}
+use Rattle.{page_store.specs.declared.pages.Pages.Pages, row_owners.{specs.declared.wrong.Wrong.Wrong, proofs.KeyBytes.at_row}, sector_device.specs.declared.SectorDevice.Ghosts}
+use Rattle.{row_owners.specs.Strays.{AllBelong, Belongs, IsAny, IsJudged, IsNamed, IsNaming, IsRight, IsStray, IsWrong, NamesAt, Tells}, store_rows.specs.claim.Rows.KeyMap}
+use Rattle.{store_rows.specs.claim.{Keys.{RowKey, key_of, part}, Lists.{AreChunks, chunks_bytes}}, btree_walks.proofs.RowsFound.all_found, row_owners.proofs.Whole.get_is}
 use Rattle.{btree_walks.proofs.Walked.{HasNext, HasWalked, walk_next, walk_passed}, desk_pages.proofs.Looking.{fails, looked}, store_rows.proofs.ListLaws.chunks_differ}
-use Rattle.store_rows.{specs.RowKeys.IsKey, proofs.RowLaws.keys_differ}
+use Rattle.store_rows.proofs.RowLaws.{keys_differ}
 
 module _ (ranges : List CountyRange) (m : KeyMap) (key value : List ℕ) where
   pub judged : (row : RowKey) → IsKey row key → (wrong : Option Wrong) → Tells (Belongs ranges m row value) wrong → IsJudged ranges (key, value) m wrong

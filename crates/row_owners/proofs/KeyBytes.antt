@@ -1,6 +1,6 @@
 -- Rows by the bytes of their keys.
-use Rattle.{std.proofs.Common.{◌≡◌, ℕ, List, sym, subst, ◌∙◌}, row_owners.specs.Wholes.{IsWhole, SaysSo}}
-use Rattle.store_rows.{specs.{RowKeys.IsKey, claim.Keys.{RowKey, key_of, Fits}}, proofs.RowLaws.keys_differ}
+use Rattle.{std.proofs.Common.{◌≡◌, ℕ, List, sym, subst, ◌∙◌}, row_owners.specs.Wholes.{IsWhole, SaysSo}, store_rows.specs.{RowKeys.IsKey, claim.Keys.{RowKey, key_of, Fits}}}
+use Rattle.store_rows.proofs.RowLaws.{keys_differ}
 
 -- a row with a key is one
 pub at_row : (P : RowKey → Type 0) (key : List ℕ) (row : RowKey) → IsKey row key → P row → (other : RowKey) → Fits other → key ≡ key_of other → P other

@@ -1,10 +1,9 @@
 -- Rows that belong to a store: what a row is of is there, and its value is one that such a row has.
 use Rattle.std.specs.{FinMap.get as row_at, Prelude.{◌≡◌, ◌⊎◌, ◌<◌, ◌+◌, ◌*◌, ◌^◌, ℕ, Bool, true, false, List, [], length, get_or, Option, Some, None, IfSome}}
 use Rattle.{btree_walks.specs.declared.rows.Row.Row, desk_model.specs.declared.{block.BlockRow.BlockRow, ranges.CountyRange.CountyRange}, row_owners.specs.Wholes.AreWhole}
-use Rattle.{page_btree.specs.page_node.claim.Entries.Entry}
-use Rattle.{row_owners.specs.declared.wrong.{Wrong.Wrong, WrongRow.WrongRow}, store_rows.specs.claim.{Lists.{AreChunks, chunks_bytes}, Rows.{KeyMap, Has}}}
+use Rattle.{page_btree.specs.page_node.claim.Entries.Entry, row_owners.specs.declared.wrong.{Wrong.Wrong, WrongRow.WrongRow}, store_rows.specs.claim.Rows.{KeyMap, Has}}
 use Rattle.store_rows.specs.claim.Keys.{RowKey, key_of, Fits, counters, retired, begun, holding, holder_count, named, part, seal, version, block, pair, chunk}
-use Rattle.store_rows.specs.claim.Values.{block_bytes, pair_bytes}
+use Rattle.store_rows.specs.claim.{Lists.{AreChunks, chunks_bytes}, Values.{block_bytes, pair_bytes}}
 
 abbrev pub no_county : CountyRange
 no_county = record { first = 0; count = 0 }

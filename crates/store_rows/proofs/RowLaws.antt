@@ -1,8 +1,8 @@
 -- A row is read back from its key, so different rows have different keys.
-use Rattle.std.{specs.Int.from_be_bytes, proofs.Common.{◌≡◌, ℕ, List, [], ◌∷◌, drop, get_or, if◌then◌else◌, nat_eq, refl, sym, ap, ◌∙◌, w16, w32, w64, arith}}
-use Rattle.std.proofs.lemmas.Nat.{from_be_bytes-to_be_bytes_2, from_be_bytes-to_be_bytes_4, from_be_bytes-to_be_bytes_8}
+use Rattle.std.{specs.Int.from_be_bytes, proofs.lemmas.Nat.{from_be_bytes-to_be_bytes_2, from_be_bytes-to_be_bytes_4, from_be_bytes-to_be_bytes_8}}
+use Rattle.std.proofs.Common.{◌≡◌, ℕ, List, [], ◌∷◌, drop, get_or, if◌then◌else◌, nat_eq, refl, sym, ap, ◌∙◌, w16, w32, w64, arith, Option, None, Some, MatchOption}
+use Rattle.store_rows.specs.{RowKeys.{IsKey, IsNoKey, IsShort, Says, row_of}, declared.row_key.RowKey.RowKey as Read}
 use Rattle.store_rows.specs.claim.Keys.{RowKey, counters, retired, begun, holding, holder_count, named, part, seal, version, block, pair, chunk, key_of, Fits}
-use Rattle.{std.proofs.Common.{length, Option, None, Some, MatchOption}, store_rows.specs.{RowKeys.{IsKey, IsNoKey, IsShort, Says, row_of}, declared.row_key.RowKey.{RowKey as Read}}}
 
 -- the row whose key this is, where it is one's
 pub row_read : List ℕ → RowKey

@@ -1,5 +1,5 @@
-use Rattle.{std.proofs.Common.{ℕ, List, sym, subst, rules, Option, MatchOption}, row_owners.{specs.Strays.NamesAt, proofs.Belonging.naming_at}}
-use Rattle.{store_rows.specs.{RowKeys.{IsKey, IsNoKey, row_of}, claim.Keys.part}, store_rows.specs.declared.row_key.RowKey.{RowKey as Read}}
+use Rattle.{std.proofs.Common.{ℕ, List, sym, subst, rules, Option, MatchOption}, row_owners.specs.Strays.NamesAt, store_rows.specs.RowKeys.{IsKey, IsNoKey, row_of}}
+use Rattle.{store_rows.specs.{claim.Keys.part, declared.row_key.RowKey.RowKey as Read}, row_owners.proofs.Belonging.naming_at}
 use Rattle.row_owners.proofs.namings.is_naming.Goals as goal
 
 pub returns-in_default-2 : goal.returns-in_default-2

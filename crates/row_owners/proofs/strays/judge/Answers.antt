@@ -1,6 +1,5 @@
-use Rattle.std.proofs.Common.{subst}
-use Rattle.{store_rows.specs.{RowKeys.{IsKey, row_of}, claim.Keys.{chunk, holding}}, desk_pages.proofs.Looking.{tells}, row_owners.proofs.Belonging.judged}
-use Rattle.store_rows.specs.declared.row_key.RowKey.{RowKey as Read}
+use Rattle.{std.proofs.Common.subst, store_rows.specs.{RowKeys.{IsKey, row_of}, claim.Keys.{chunk, holding}, declared.row_key.RowKey.RowKey as Read}}
+use Rattle.{desk_pages.proofs.Looking.tells, row_owners.proofs.Belonging.judged}
 use Rattle.row_owners.proofs.strays.judge.Goals as goal
 
 pub returns-in-Some-Holding : goal.returns-in-Some-Holding

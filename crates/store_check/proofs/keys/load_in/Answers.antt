@@ -1,4 +1,4 @@
-use Rattle.{std.proofs.Common.{inl, inr, ◌≡◌, subst, Option, None, MatchOption}, store_rows.specs.{RowKeys.{IsKey, IsNoKey, row_of}, claim.Keys.{block, pair}}}
+use Rattle.{std.proofs.Common.{inl, inr, subst, Option, MatchOption}, store_rows.specs.{RowKeys.{IsKey, IsNoKey, row_of}, claim.Keys.{block, pair}}}
 use Rattle.store_rows.specs.declared.row_key.RowKey.{RowKey as Read}
 use Rattle.store_check.proofs.keys.load_in.Goals as goal
 
