@@ -20,7 +20,8 @@
 //! - `prepare`, `commit` and `command` satisfy `Does`. An accepted command makes the desk's step,
 //!   and at every moment a crash state opens to the desk before or after it. A refused command
 //!   leaves the desk. Halted comes after a fault; Full if pages, journal pages, numbers or levels
-//!   are missing.
+//!   are missing. `depth_law`: levels are never missing for a command of fewer than 50 rows if the
+//!   stored tree has at most five.
 //! - A commit takes no memory and succeeds unless the device fails.
 //! - `Clerk::ask` returns the desk's answer.
 //! - `begin_load`, `load_batch`, `seal` and `sweep_step` do what geo_tables and store_sweep

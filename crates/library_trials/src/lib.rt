@@ -1,4 +1,4 @@
-//! Tests of the libraries below the clerk: rows and pages, plans, lists, districts, audits.
+//! Tests of the libraries below the clerk: keys, rows and pages, plans, lists, districts, audits.
 //!
 //! # Notes
 //!
@@ -18,6 +18,8 @@ macro_rules! holds {
 
 #[cfg(test)]
 mod facts;
+#[cfg(test)]
+mod key_trials;
 #[cfg(test)]
 mod list_trials;
 #[cfg(test)]

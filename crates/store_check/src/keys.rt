@@ -19,7 +19,7 @@ pub(crate) fn load_in(key: &[u8]) -> Option<u64>
 }
 
 /// The plan and the revision of the part with this key; None where it is no part's.
-pub fn part_in(key: &[u8]) -> Option<(u64, u32)>
+pub(crate) fn part_in(key: &[u8]) -> Option<(u64, u32)>
     ensures { MatchOption result ((plan revision index : ℕ) → key.now ≡ key_of (part plan revision index) → ⊥) (λ of. IsPartKey of.0 of.1 key.now) }
 {
     match RowKey::read(key) {

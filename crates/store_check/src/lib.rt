@@ -36,7 +36,6 @@ mod scans;
 
 pub use checks::check_numbers;
 pub use firsts::{first_from, refuse_from};
-pub use keys::part_in;
 pub use marks::refuse_unmarked;
 pub use numbers::is_version;
 pub use owners::check_owners;

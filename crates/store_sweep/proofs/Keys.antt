@@ -55,11 +55,6 @@ pub part_is : (plan : ℕ) → plan < 2 ^ 64 → (row : RowKey) → Fits row →
 part_is plan few (part other revision index) fits on = ((revision, index), ap (λ (p : ℕ). part p revision index) (number_is other plan (in_four revision ++ in_one index) fits.0 few on))
 part_is plan few _ fits on = cc
 
--- ---- pieces
-pub piece_is : (number : ℕ) → number < 2 ^ 64 → (row : RowKey) → Fits row → starts_with nat_eq (key_of row) (chunk_prefix number) ≡ true → (piece : ℕ) × (row ≡ chunk number piece)
-piece_is number few (chunk other piece) fits on = (piece, ap (λ (p : ℕ). chunk p piece) (number_is other number (in_two piece) fits.0 few on))
-piece_is number few _ fits on = cc
-
 -- ---- rows of loads
 pub data IsStagedRow (load : ℕ) : RowKey → Type 0 where
   of_block : (place : ℕ) → IsStagedRow load (block load place)
