@@ -41,7 +41,7 @@ pub(crate) struct HeldPair {
     pub(crate) number: u64,
 }
 
-/// What a look at the next part came to.
+/// The result of looking for the next part.
 #[derive(Clone, Copy, Drop)]
 pub(crate) enum PartLook {
     /// There is none.
@@ -92,7 +92,7 @@ pub(crate) fn part_from<D: SectorDevice>(
     Ok(row.key.as_slice().starts_with(Key::parts().as_slice()))
 }
 
-/// The part that a row tells; None where it isn't that of a part.
+/// Parses the row of a part; `None` for any other row.
 pub(crate) fn read_part(row: &Row) -> Option<Part>
     ensures { ReadsPart row.now result }
 {

@@ -19,7 +19,8 @@ struct Place {
     index: u8,
 }
 
-/// Of each chunk, and of each plan and chunk, a part that names it. Nothing rests on it: what stands there is looked up.
+/// For each chunk, and each plan and chunk, a part that names it. Nothing depends on it: the rows
+/// themselves are looked up.
 #[derive(Drop)]
 pub struct Hints {
     any: BTreeMap<u64, Place>,

@@ -20,7 +20,7 @@ struct Span {
     last: u16,
 }
 
-/// A chunk that deleted plans alone name is held to nothing.
+/// A chunk that only deleted plans name is not checked.
 const ANY: Span = Span {
     blocks: u64::MAX,
     last: u16::MAX,
@@ -35,7 +35,7 @@ pub(crate) struct Seen {
     /// Holdings that no part named so far, and those that one did.
     held: BTreeMap<u128, u64>,
     named: BTreeMap<u128, u64>,
-    /// Of each chunk how many plans hold it, until its count comes.
+    /// For each chunk the number of plans that hold it, until its count comes.
     counts: BTreeMap<u64, u64>,
     plans: BTreeMap<u64, PlanRow>,
     spans: BTreeMap<u64, Span>,
@@ -304,7 +304,8 @@ impl Seen {
         None
     }
 
-    /// A row of a load: of the sealed one, with a place below the count that the seal tells, or of one that was begun.
+    /// Checks a row of a load: of the sealed load, with a place below the seal's count, or of one
+    /// that was begun.
     fn see_row(&mut self, load: u64, place: u32, is_block: bool, value: &[u8]) -> Option<Wrong> {
         let is_sealed = match self.seal {
             Some(seal) if seal.load == load => {

@@ -122,7 +122,7 @@ pub(crate) fn judge<D: SectorDevice>(
         Some(RowKey::Pair { .. }) => Ok(judge_pair(value)),
         Some(RowKey::Chunk { number, piece }) => {
             let first = hints.any(number);
-            // No plan names the chunk, or none for a county that has so many blocks.
+            // No plan names the chunk, or none for a county with this number of blocks.
             let wrong = match first {
                 None => Wrong::NobodyHolds,
                 Some(_) => Wrong::WrongLength,

@@ -10,7 +10,7 @@ ghost use Rattle.store_check.specs.Numbers.{IsCount};
 
 use store_rows::{eight, four, read_chunks, read_plan, read_seal};
 
-/// Whether the value of a row is a number of 8 bytes that isn't 0, and no more than so many plans.
+/// Returns whether a row's value is a number of 8 bytes from 1 to `plans`.
 pub(crate) fn is_count(value: &[u8], plans: u64) -> bool
     ensures { IsTest result (IsCount plans value.now) }
 {
@@ -21,7 +21,7 @@ pub(crate) fn is_count(value: &[u8], plans: u64) -> bool
     count > 0 && count <= plans
 }
 
-/// Whether the value of the row of the version tells the second.
+/// Returns whether the version's row says the second version.
 pub fn is_version(value: &[u8]) -> bool
     ensures { IsTest result (value.now ≡ in_four 2) }
 {

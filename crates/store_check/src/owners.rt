@@ -53,8 +53,8 @@ fn part_from<D: SectorDevice>(
     }
 }
 
-/// The last revision of which a plan may have parts: as is counted, or any, where the plan was taken away. Refuses where it may
-/// have none of this one.
+/// Returns the last revision of which a plan may have parts: its counted ones, or any if the plan
+/// was deleted. Rejects the store if it may have no part of this one.
 fn last_of<D: SectorDevice>(
     txn: &Txn,
     pages: &mut Pages<D>,
@@ -103,9 +103,9 @@ fn pass_plan<D: SectorDevice>(
     }
 }
 
-/// Refuses a part of a revision whose plan has no such revision and wasn't taken away either. `counts` has for the number of each
-/// plan that is there the count of its revisions. It takes no memory. An error is `NotAStore`, where there is such a part,
-/// `DeviceFault` or `Halted`.
+/// Rejects a part of a revision whose plan neither has such a revision nor was deleted. `counts`
+/// has the number of revisions for the number of each existing plan. It takes no memory. An error
+/// is `NotAStore` if there is such a part, `DeviceFault` or `Halted`.
 pub fn check_owners<D: SectorDevice>(
     txn: &Txn,
     pages: &mut Pages<D>,

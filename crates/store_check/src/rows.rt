@@ -10,9 +10,9 @@ use crate::numbers::{are_chunks_below, is_count, is_plan_below, is_seal_below, i
 use btree_walks::Row;
 use store_rows::{Counters, RowKey};
 
-/// Whether each number that a row has is below the one of its kind that comes next, a row that tells who holds a chunk, or how
-/// many do, says no more than that, and a version is the second. The rows of blocks, of neighbours and of chunks' pieces are not
-/// looked at.
+/// Returns whether each number of a row is below the next one of its kind, whether a row of a
+/// holding or of a number of holders says no more than that, and whether a version is the second.
+/// The rows of blocks, of neighbours and of chunks' pieces are not examined.
 fn is_below(key: RowKey, value: &[u8], next: Counters) -> bool
     ensures { IsTest result (IsBelow next (row_of key.entry) value.now) }
 {

@@ -6,7 +6,7 @@ ghost use Rattle.store_rows.specs.RowKeys.{IsKey, IsNoKey, IsShort, row_of};
 use crate::key::Key;
 use crate::value::{eight, four, two};
 
-/// What a row is of, with the numbers or the name that its key tells.
+/// The kind of a row, with the numbers or the name in its key.
 #[derive(Clone, Copy)]
 pub enum RowKey<'a> {
     /// The numbers that the next plan, chunk and load get.

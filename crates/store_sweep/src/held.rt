@@ -52,7 +52,7 @@ pub(crate) fn is_bare(row: &Row) -> bool
     row.value.as_slice().is_empty()
 }
 
-/// Whether a row stands under a key.
+/// Returns whether a row with this key exists.
 pub(crate) fn is_there<D: SectorDevice>(
     txn: &Txn,
     pages: &mut Pages<D>,
@@ -68,7 +68,7 @@ pub(crate) fn is_there<D: SectorDevice>(
     }
 }
 
-/// Whether a row without a value stands under a key.
+/// Returns whether a row with this key and without a value exists.
 pub(crate) fn is_marked<D: SectorDevice>(
     txn: &Txn,
     pages: &mut Pages<D>,

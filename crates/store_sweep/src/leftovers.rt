@@ -21,11 +21,11 @@ use store_rows::{Key, RowKey, read_chunks};
 pub(crate) enum Left {
     /// A row that nothing needs, whose key was found.
     Row,
-    /// A chunk that a plan holds which was taken away.
+    /// A chunk that a deleted plan holds.
     Holding { plan: u64, number: u64 },
 }
 
-/// The plan that was taken away whose mark has this key; None where it is no such mark's.
+/// Parses the key of a deleted plan's mark; `None` for any other key.
 fn retired_in(key: &[u8]) -> Option<u64>
     ensures { MatchOption result ((plan : ℕ) → key.now ≡ key_of (retired plan) → ⊥) (λ plan. key.now ≡ key_of (retired plan)) }
 {
@@ -45,8 +45,9 @@ fn begun_in(key: &[u8]) -> Option<u64>
     }
 }
 
-/// What is left over of the parts of a plan that was taken away and holds no chunk, whose key is made that of `row`: a piece of a
-/// chunk that its first part names and that no plan holds; that part, where no such piece is left; the mark, where no part is left.
+/// Returns what is left of the parts of a deleted plan that holds no chunk, and stores its key in
+/// `row`: a piece of a chunk that its first part names and that no plan holds; that part if no such
+/// piece is left; the mark if no part is left.
 fn left_of_parts<D: SectorDevice>(
     txn: &Txn,
     pages: &mut Pages<D>,
@@ -72,7 +73,8 @@ fn left_of_parts<D: SectorDevice>(
     Ok(())
 }
 
-/// What is left over of a plan that was taken away, which has this mark: a chunk that it holds; a row, where it holds none.
+/// Returns what is left of a deleted plan with this mark: a chunk that it holds, or a row if it
+/// holds none.
 fn left_of_plan<D: SectorDevice>(
     txn: &Txn,
     pages: &mut Pages<D>,
@@ -146,7 +148,7 @@ fn left_of_loads<D: SectorDevice>(
     Ok(true)
 }
 
-/// What is left over of the first plan that was taken away, if there is one.
+/// Returns what is left of the first deleted plan, if there is one.
 fn left_of_plans<D: SectorDevice>(
     txn: &Txn,
     pages: &mut Pages<D>,

@@ -49,7 +49,7 @@ fn go_on_with(plan: u64, holder: &mut u64, known: &mut Vec<u64>)
     *holder = plan;
 }
 
-/// Refuses a chunk that a plan names and doesn't hold, unless the plan was taken away.
+/// Rejects a chunk that a plan names and does not hold, unless the plan was deleted.
 fn check_name<D: SectorDevice>(
     txn: &Txn,
     pages: &mut Pages<D>,
@@ -133,8 +133,9 @@ fn check_part<D: SectorDevice>(
     check_numbers(txn, pages, plan, numbers.as_slice(), first, known)
 }
 
-/// Refuses a chunk that a part of a revision names and that its plan doesn't hold, unless the plan was taken away. A chunk is looked up
-/// where the plan's revision before has another one at its place.
+/// Rejects a chunk that a part of a revision names and that its plan does not hold, unless the plan
+/// was deleted. A chunk is looked up only if the plan's revision before has another one at its
+/// place.
 pub(crate) fn check_names<D: SectorDevice>(
     alloc: Global,
     txn: &Txn,
