@@ -1,7 +1,7 @@
 """For tests/checks, tests/clauses, tests/census and tests/reads: the files of an invented state of four blocks in two counties, and
 runs of the program over texts, which it reads from files, or from pipes in pieces.
 
-Before it: rt run in crates/plandesk.
+tried.py finds the program.
 """
 import json, os, subprocess, tempfile, threading
 from pathlib import Path
