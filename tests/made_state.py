@@ -5,8 +5,9 @@ The files are put together by the rules of docs/FORMATS.md.
 """
 import os, resource, subprocess
 
+from tried import program
+
 here = os.path.dirname(os.path.abspath(__file__))
-program = os.path.join(here, '../crates/plandesk/out/plandesk')
 WIDTH = 50
 SECTOR = 4_096
 FILES = 'geo', 'seg1', 'seg2', 'seg3', 'gal'
