@@ -2,7 +2,7 @@
 
 docs/REPORT.md has each key, and docs/LAW.md each clause: what is said of the law here stands there too.
 """
-import json, os, sys
+import contextlib, json, os, sys
 from collections import Counter
 from dataclasses import dataclass
 from fractions import Fraction
@@ -17,11 +17,21 @@ GAP = 'district', 'from', 'to'
 
 
 class Refused(Exception):
-    """Why there is no page: what is told, and the status."""
+    """Why there is no result: what is printed, the status, and the file in which the fault is, if there is one."""
 
-    def __init__(self, code, status=3):
+    def __init__(self, code, status=3, place=None):
         super().__init__(code)
-        self.code, self.status = code, status
+        self.code, self.status, self.place = code, status, place
+
+
+@contextlib.contextmanager
+def within(place):
+    """Names this file in each fault that comes from within and names none."""
+    try:
+        yield
+    except Refused as fault:
+        fault.place = fault.place or place
+        raise
 
 
 @dataclass(frozen=True)

@@ -15,7 +15,7 @@ def bytes_of(path):
         with open(path, 'rb') as file:
             return file.read(LARGEST + 1)
     except (OSError, ValueError):
-        raise Refused(f'Unreadable {path}') from None
+        raise Refused('Unreadable', place=path) from None
 
 
 def is_revision(word):

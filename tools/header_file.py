@@ -38,7 +38,7 @@ def lines_of(path, fields, code):
                     raise Refused(f'{code} line {number}')
                 yield number, line
     except (OSError, ValueError):
-        raise Refused(f'Unreadable {path}') from None
+        raise Refused('Unreadable', place=path) from None
 
 
 def header_lines(path, levels):
@@ -76,15 +76,26 @@ def digits(field, code, number):
     return int(field)
 
 
-def people_of(header, segment):
-    """The people of each block: the first figure of the first segment, by the number of the block's record."""
-    records = {}
+def block_lines(header):
+    """The number of each block's record, and the block."""
     for number, found in header_lines(header, (b'750',)):
         block = b''.join(found[place] for place in (STATE, COUNTY, TRACT, BLOCK)).decode('latin-1')
         if not re.match(r'[0-9]{15}\Z', block):
             raise Refused(f'BadHeader line {number}')
-        records[digits(found[RECORD], 'BadHeader', number)] = block
-    people = {}
+        yield digits(found[RECORD], 'BadHeader', number), block
+
+
+def blocks_of(header):
+    """The blocks of the state."""
+    found = frozenset(block for _, block in block_lines(header))
+    if not found:
+        raise Refused('NoStateBlocks')
+    return found
+
+
+def people_of(header, segment):
+    """The people of each block: the first figure of the first segment, by the number of the block's record."""
+    records, people = dict(block_lines(header)), {}
     for number, line in lines_of(segment, SEGMENT_FIELDS, 'BadSegment'):
         record, count = line.split(b'|', 6)[4:6]
         block = records.get(digits(record, 'BadSegment', number))
