@@ -35,7 +35,7 @@ def lines_of(path, fields, code):
         with open(path, 'rb') as file:
             for number, line in enumerate(file, 1):
                 if line.count(b'|') != fields - 1:
-                    raise Refused(f'{code} line {number}')
+                    raise Refused(f'{code} line {number}', place=path)
                 yield number, line
     except (OSError, ValueError):
         raise Refused('Unreadable', place=path) from None
@@ -66,13 +66,13 @@ def names_of(path):
         if name:
             names[code.decode('latin-1')] = name
     if not counties and not cities:
-        raise Refused('NoNames')
+        raise Refused('NoNames', place=path)
     return Names(counties, cities)
 
 
-def digits(field, code, number):
+def digits(field, code, number, path):
     if not re.match(rb'[0-9]{1,10}\Z', field):
-        raise Refused(f'{code} line {number}')
+        raise Refused(f'{code} line {number}', place=path)
     return int(field)
 
 
@@ -81,15 +81,15 @@ def block_lines(header):
     for number, found in header_lines(header, (b'750',)):
         block = b''.join(found[place] for place in (STATE, COUNTY, TRACT, BLOCK)).decode('latin-1')
         if not re.match(r'[0-9]{15}\Z', block):
-            raise Refused(f'BadHeader line {number}')
-        yield digits(found[RECORD], 'BadHeader', number), block
+            raise Refused(f'BadHeader line {number}', place=header)
+        yield digits(found[RECORD], 'BadHeader', number, header), block
 
 
 def blocks_of(header):
     """The blocks of the state."""
     found = frozenset(block for _, block in block_lines(header))
     if not found:
-        raise Refused('NoStateBlocks')
+        raise Refused('NoStateBlocks', place=header)
     return found
 
 
@@ -98,7 +98,7 @@ def people_of(header, segment):
     records, people = dict(block_lines(header)), {}
     for number, line in lines_of(segment, SEGMENT_FIELDS, 'BadSegment'):
         record, count = line.split(b'|', 6)[4:6]
-        block = records.get(digits(record, 'BadSegment', number))
+        block = records.get(digits(record, 'BadSegment', number, segment))
         if block is not None:
-            people[block] = digits(count, 'BadSegment', number)
+            people[block] = digits(count, 'BadSegment', number, segment)
     return people
