@@ -3,7 +3,7 @@ from dataclasses import dataclass
 from fractions import Fraction
 from html import escape
 
-from audit import CLAUSES, KINDS, Report, count, decimal, grouped, not_met, verdict
+from audit import CLAUSES, KINDS, Report, count, decimal, grouped, not_met
 from audit_csv import csv_text, districts_rows, fault_row, json_text, plans_row, verdicts_rows
 from page_parts import element, link, name, navigation, table
 
@@ -71,12 +71,13 @@ def result_cell(entry):
     """The verdict, and which tests are not met."""
     if entry.report is None:
         return element('span', escape(entry.fault or 'no revision'), class_='is-not-met' if entry.fault else None)
-    said = escape(verdict(entry.report))
-    if not entry.report.broken:
-        return element('span', said, class_='is-met')
-    missing = '; see the blocks without a district' if entry.report.of_missing() else ''
+    broken, asked = len(entry.report.broken), len(entry.report.asked())
+    unjudged = element('small', 'Nesting was not judged: no senate plan was given') if entry.report.not_asked else ''
+    if not broken:
+        return element('span', f'all {asked} tests met', class_='is-met') + unjudged
+    missing = '; this may come of the blocks without a district' if entry.report.of_missing() else ''
     return element('span', 'not met: ' + escape(', '.join(not_met(entry.report))), class_='not-met') + \
-        element('small', said + missing)
+        element('small', f'{broken} of {asked} tests{missing}') + unjudged
 
 
 def plan_cell(entry):
@@ -91,10 +92,9 @@ def kind_cell(entry):
     return f'{KINDS.get(entry.kind, escape(entry.kind))}, {count(entry.districts, "district")}'
 
 
-def time_cell(entry):
-    if entry.time is None:
-        return 'unknown' if entry.revision else ''
-    return element('time', entry.time.replace('T', ' ').replace('Z', ' UTC'), datetime=entry.time)
+def time_part(time):
+    """A time as people read it; one that isn't known is said to be so."""
+    return 'unknown' if time is None else element('time', time.replace('T', ' ').replace('Z', ' UTC'), datetime=time)
 
 
 def figures_cells(entry):
@@ -109,7 +109,7 @@ def plans_table(entries, timed, caption):
     """The table of an index."""
     heads = [('Plan', False), ('Kind', False), *([('When', False)] if timed else []), ('Result', False), ('Largest deviation', True),
              ('Mean deviation', True), ('Overall range', True), ('Pieces', True), ('Divided counties', True), ('Without a district', True)]
-    rows = [(plan_cell(entry), kind_cell(entry), *([time_cell(entry)] if timed else []), result_cell(entry), *figures_cells(entry))
+    rows = [(plan_cell(entry), kind_cell(entry), *([time_part(entry.time) if entry.revision else ''] if timed else []), result_cell(entry), *figures_cells(entry))
             for entry in entries]
     return table(caption, heads, rows, labelled=True, class_='stacks')
 
@@ -134,22 +134,27 @@ def by_test(entries):
     return f'<h2 id="by-test">By test</h2>\n{said}' if said else ''
 
 
+def sentence(words):
+    """The words that explain a fault, with a capital letter and a full stop."""
+    return f'{words[0].upper()}{words[1:].rstrip(".")}.' if words else ''
+
+
 def refused_part(entries):
     """The plans that were not audited, with their faults and what to do."""
     refused = [entry for entry in entries if entry.fault]
     if not refused:
         return ''
-    rows = [(name(entry.plan), element('code', escape(entry.fault)), escape(entry.words or '')) for entry in refused]
+    rows = [(name(entry.plan), element('code', escape(entry.fault)), escape(sentence(entry.words))) for entry in refused]
     heads = ('File', False), ('Fault', False), ('What to do', False)
     return '<h2 id="refused">Not audited</h2>' + table(f'{count(len(refused), "file")} could not be audited.', heads, rows,
                                                         labelled=True, class_='stacks')
 
 
-def summary_words(entries):
-    """How many plans meet all tests, how many don't, and how many were refused."""
+def summary_words(entries, noun='plan'):
+    """How many plans, or revisions, meet all tests, how many don't, and how many were refused."""
     audited, faults = [entry for entry in entries if entry.report], sum(bool(entry.fault) for entry in entries)
     broken = sum(bool(entry.report.broken) for entry in audited)
-    said = [f'{count(len(audited), "plan")} audited', f'{grouped(len(audited) - broken)} meet all tests that were judged',
+    said = [f'{count(len(audited), noun)} audited', f'{grouped(len(audited) - broken)} meet all tests that were judged',
             f'{grouped(broken)} {"does" if broken == 1 else "do"} not']
     return ': '.join([said[0], ', '.join(said[1:])]) + (f'; {count(faults, "file")} refused' if faults else '')
 

@@ -18,12 +18,14 @@ COUNTIES = 3
 
 @dataclass(frozen=True)
 class More:
-    """Each as far as it is known; a link is its words and its address, and the notes say what was changed in a plan's file."""
+    """Each as far as it is known; a link is its words and its address, the notes say what was changed in a plan's file, and the
+    facts are more terms with their HTML."""
     names: Names = Names()
     ground: Ground = None
     made: Made = None
     links: tuple = ()
     notes: tuple = ()
+    facts: tuple = ()
 
 
 def links_part(links):

@@ -76,7 +76,7 @@ def congress_part(report):
                  list(map(str, report.divided_by_congress)), 'none')
 
 
-def facts(report):
+def facts(report, more):
     spread = report.spread()
     pairs = (('Kind', KINDS[report.kind]), ('Districts', report.districts), ('People', grouped(report.population)),
              ('Ideal for a district', exact(report.ideal())), ('Most people', grouped(max(report.populations))),
@@ -84,7 +84,7 @@ def facts(report):
              ('Overall range', 'none' if spread is None else f'{decimal(spread)} %'),
              ('Mean deviation', f'{decimal(report.mean_percent())} %' if report.population else 'none'),
              ('Blocks without a district', grouped(report.unassigned)))
-    return element('dl', ''.join(f'<div><dt>{term}</dt><dd>{escape(str(value))}</dd></div>' for term, value in pairs))
+    return element('dl', ''.join(f'<div><dt>{term}</dt><dd>{value}</dd></div>' for term, value in [*pairs, *more.facts]))
 
 
 def verdict_part(report):
@@ -110,5 +110,5 @@ def page(report, title, source, more=More()):
     if more.made:
         parts.append(('What was audited', made_part(more.made, more.ground)))
     parts.append(('The report itself', element('pre', escape(source))))
-    body = f'<h1>{breakable(title)}</h1>\n{links_part(more.links)}{verdict_part(report)}\n{facts(report)}\n'
+    body = f'<h1>{breakable(title)}</h1>\n{links_part(more.links)}{verdict_part(report)}\n{facts(report, more)}\n'
     return document(title, body + '\n'.join(f'<section>\n<h2>{head}</h2>\n{part}\n</section>' for head, part in parts))

@@ -30,9 +30,9 @@ dl div { border-top: 1px solid var(--rule); } dt { font-size: 0.85rem; color: va
 table + table { margin-top: 1.5rem; } table { border-collapse: collapse; width: 100%; }
 caption { text-align: left; font-size: 0.9rem; color: var(--quiet); padding: 0.3rem 0; }
 th, td { text-align: left; vertical-align: top; padding: 0.3rem 0.6rem 0.3rem 0; border-bottom: 1px solid var(--rule); }
-th.n, td.n { text-align: right; font-variant-numeric: tabular-nums; } small { display: block; color: var(--quiet); font-weight: normal; }
+th.n, td.n { text-align: right; font-variant-numeric: tabular-nums; } td.n { white-space: nowrap; } small { display: block; color: var(--quiet); font-weight: normal; }
 .name { display: inline-block; overflow-wrap: anywhere; max-width: 100%; }
-.is-not-met, .is-met { white-space: nowrap; } .is-not-met { color: var(--bad); font-weight: bold; } .is-met { color: var(--good); } .changed { background: var(--changed); }
+.is-not-met, .is-met { white-space: nowrap; } .is-not-met { color: var(--bad); font-weight: bold; } .is-met { color: var(--good); } .not-met { color: var(--bad); } .changed { background: var(--changed); }
 details { margin: 0.4rem 0; } summary { cursor: pointer; }
 figure { margin: 1rem 0; } figcaption { font-size: 0.9rem; color: var(--quiet); } svg { width: 100%; display: block; }
 svg text { font: 12px "DejaVu Sans", Verdana, sans-serif; fill: var(--text); } svg .rule { stroke: var(--quiet); }
@@ -40,7 +40,7 @@ svg .band { fill: var(--band); } svg .within { fill: var(--within); } svg .beyon
 svg text.broken { fill: var(--bad); }
 ul.codes { list-style: none; display: flex; flex-wrap: wrap; gap: 0.4rem; padding: 0; margin: 0.4rem 0; }
 ul.codes li { border: 1px solid var(--rule); border-radius: 0.3rem; padding: 0 0.5rem; font-variant-numeric: tabular-nums; }
-code { overflow-wrap: anywhere; font-size: 0.85rem; } nav a { margin-right: 1rem; }
+code { overflow-wrap: anywhere; font-size: 0.85rem; } nav > a { margin-right: 1rem; }
 pre { white-space: pre-wrap; overflow-wrap: anywhere; font-size: 0.8rem; background: var(--code-ground); padding: 0.6rem; }
 @media (max-width: 40rem) { .stacks thead { display: none; } .stacks, .stacks tbody, .stacks caption { display: block; }
   .stacks tr { display: block; border-bottom: 1px solid var(--rule); padding: 0.5rem 0; }
@@ -59,7 +59,7 @@ def element(name, content, **attributes):
     return f'<{name}{said}>{content}</{name}>'
 
 
-def row(cells, head=False, labels=None):
+def row(cells, head=False, labels=None, class_=None):
     """A row of a table: its cells' HTML, and whether each is a number. The first heads the row. A label is said before its cell
     where a narrow page shows the row as a block."""
     said = []
@@ -69,26 +69,27 @@ def row(cells, head=False, labels=None):
         attributes = {'scope': scope, 'role': ROLES[scope], 'class': 'n' if number else None,
                       'data-label': labels[place] if labels else None}
         said.append(element('th' if scope else 'td', content, **attributes))
-    return element('tr', ''.join(said), role='row')
+    return element('tr', ''.join(said), role='row', class_=class_)
 
 
-def table(caption, heads, rows, labelled=False, **attributes):
-    """A table of texts; each column has a head and whether it is of numbers."""
-    head = element('thead', row([(escape(text), number) for text, number in heads], head=True), role='rowgroup')
+def table(caption, heads, rows, labelled=False, marked=(), **attributes):
+    """A table of texts; each column has a head and whether it is of numbers. The rows at the marked places stand out."""
+    head = element('thead', row([(breakable(text), number) for text, number in heads], head=True), role='rowgroup')
     labels = [text for text, _ in heads] if labelled else None
-    body = ''.join(row([(cell, number) for cell, (_, number) in zip(cells, heads)], labels=labels) for cells in rows)
+    body = ''.join(row([(cell, number) for cell, (_, number) in zip(cells, heads)], labels=labels,
+                       class_='changed' if place in marked else None) for place, cells in enumerate(rows))
     content = element('caption', escape(caption)) + head + element('tbody', body, role='rowgroup')
     return element('table', content, role='table', **attributes)
 
 
 def breakable(text):
     """A text that a line breaks behind its signs first, and not in the middle of a word that has room."""
-    return re.sub('([-_.])(?=.)', '\\1<wbr>', escape(text))
+    return re.sub('([-_/])(?=.)', '\\1<wbr>', escape(text))
 
 
 def name(text):
     """The same in a cell, which is as wide as its longest word, if that is not too wide for a table."""
-    longest = max(map(len, re.split('(?<=[-_.])', text)))
+    longest = max(map(len, re.split('(?<=[-_/])', text)))
     return element('span', breakable(text), class_='name', style=f'min-width: min({longest}ch, 18rem)')
 
 
@@ -111,11 +112,12 @@ def codes(title, values, none):
     return f'<p>{escape(title)}: {len(values)}</p>' + element('ul', ''.join(element('li', escape(v)) for v in values), class_='codes')
 
 
-def document(title, body, wide=False):
-    """A page: its text is escaped already, but for the title."""
+def document(title, body, wide=False, feed=None):
+    """A page: its text is escaped already, but for the title. A feed is the file of a feed of what changed."""
+    feed_link = f'<link rel="alternate" type="application/atom+xml" href="{href(feed)}">\n' if feed else ''
     wide_class = ' class="wide"' if wide else ''
     return ('<!DOCTYPE html>\n<html lang="en">\n<head>\n<meta charset="utf-8">\n'
             '<meta http-equiv="Content-Security-Policy" content="default-src \'none\'; style-src \'unsafe-inline\'">\n'
             '<meta name="viewport" content="width=device-width, initial-scale=1">\n'
-            f'<title>{escape(title)}</title>\n<style>{STYLE}</style>\n</head>\n<body{wide_class}>\n<main>\n{body}\n</main>\n'
+            f'<title>{escape(title)}</title>\n{feed_link}<style>{STYLE}</style>\n</head>\n<body{wide_class}>\n<main>\n{body}\n</main>\n'
             '</body>\n</html>\n')
