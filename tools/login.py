@@ -4,6 +4,9 @@ import argparse, base64, netrc, os, ssl
 from audit import Refused
 
 USER, PASSWORD = 'PLANDESK_USER', 'PLANDESK_PASSWORD'
+# for the tools' help
+ABOUT = """A name and a password are sent by https only. They come from the first of these that is given: the file of --netrc, the variables
+PLANDESK_USER and PLANDESK_PASSWORD, or ~/.netrc, which nobody else may read."""
 
 
 def add_options(parser):
