@@ -19,8 +19,9 @@ def certificate(folder, name, *hosts):
              '-keyout', f'{folder}/{name}-key.pem', '-out', f'{folder}/{name}.pem')
 
 
-def configured(folder, desk, port):
-    """The configuration with this desk, a port of its own, files in the folder, and `localhost` as a further name."""
+def configured(folder, desk, port, listed):
+    """The configuration with this desk, a port of its own, files in the folder, and `localhost` as a further name, whose address is
+    listed among the origins with the port, or without it."""
     certificate(folder, 'certificate', 'desk.example.org', 'localhost')
     os.rename(f'{folder}/certificate-key.pem', f'{folder}/key.pem')
     with open(f'{folder}/names', 'w') as names:
@@ -30,7 +31,7 @@ def configured(folder, desk, port):
     for old, new in (('listen 443 ssl', f'listen 127.0.0.1:{port} ssl'), ('127.0.0.1:8080', f'127.0.0.1:{desk}'),
                      ('/etc/plandesk', folder), ('/var/log/nginx', folder), ('/var/lib/nginx', folder), ('/run/', f'{folder}/'),
                      ('server_name desk.example.org', 'server_name desk.example.org localhost'),
-                     ('"https://desk.example.org" 0;', f'"https://desk.example.org" 0; "https://localhost:{port}" 0;'),
+                     ('"https://desk.example.org" 0;', f'"https://desk.example.org" 0; "https://localhost{f":{port}" if listed else ""}" 0;'),
                      ('/usr/local/lib/plandesk/example', os.path.realpath(os.path.join(here, '../example')))):
         assert old in text, old
         text = text.replace(old, new)
@@ -40,10 +41,10 @@ def configured(folder, desk, port):
 
 
 @contextlib.contextmanager
-def proxied(folder, desk):
-    """The port of a proxy before the desk at this port."""
+def proxied(folder, desk, listed=True):
+    """The port of a proxy before the desk at this port. Unless it is listed, a page of the proxy's own is one of another origin."""
     port = free_port()
-    words = [shutil.which('nginx'), '-e', f'{folder}/first', '-c', configured(folder, desk, port)]
+    words = [shutil.which('nginx'), '-e', f'{folder}/first', '-c', configured(folder, desk, port, listed)]
     tried = subprocess.run([*words, '-t'], capture_output=True, text=True, timeout=60)
     assert tried.returncode == 0 and 'warn' not in tried.stderr, tried.stderr
     nginx = subprocess.Popen(words)
