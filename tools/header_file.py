@@ -1,6 +1,6 @@
 """For tools/report: the names of counties and cities in the census's geographic header, and the people of each block.
 
-docs/FORMATS.md has the fields that `plandesk` reads; the names are in field 88 of the records of counties and places.
+docs/INPUT-FILES.md has the fields that `plandesk` reads; the names are in field 88 of the records of counties and places.
 """
 import re
 from dataclasses import dataclass, field
