@@ -1,10 +1,9 @@
 -- A row that is taken says which plan it is of.
-use Rattle.{std.specs.{FinMap.{FinMap, get as row_at}, Prelude.Option}, btree_walks.specs.declared.rows.Row.Row, desk_model.specs.claim.Desk.{Plan, name_cmp}}
-use Rattle.{std.proofs.Common.{rules, arith, ◌≡◌, ◌<◌, ℕ, Bool, true, false, cond, List, ◌∷◌, length, Some, None, MatchOption, refl, sym, ap, subst, ◌∙◌}, desk_model.specs.claim.Geography.GeographyModel}
-use Rattle.{std.proofs.lemmas.Bool.{and_parts, Decides.nat_tests}, store_rows.specs.RowKeys.IsKey}
-use Rattle.{desk_model.specs.claim.Name.{IsPlanName, is_plan_name, plan_name_of}, desk_opening.specs.{Opening.{IsKeptPlan, IsNewPlan}, Reading.IsPlanRow}, store_rows.specs.Changes.plan_row_of}
-use Rattle.{plan_rows.specs.PlanLaws.{IsTold, PlansAreTold, RowFits}, store_rows.specs.claim.{DeskRows.{HasPlan, IsPlanAt}, Keys.{key_of, named}, Rows.KeyMap, Values.plan_bytes}}
-use Rattle.store_rows.{specs.declared.value.PlanRow.PlanRow, proofs.OneGeography.value_is}
+use Rattle.{std.{specs.{FinMap.{FinMap, get as row_at}, Prelude.Option}, proofs.lemmas.Bool.{and_parts, Decides.nat_tests}}, btree_walks.specs.declared.rows.Row.Row}
+use Rattle.{std.proofs.Common.{arith, ◌≡◌, ◌<◌, ℕ, Bool, true, false, cond, List, ◌∷◌, length, Some, None, MatchOption, refl, sym, ap, subst, ◌∙◌}, store_rows.specs.RowKeys.IsKey}
+use Rattle.{desk_model.specs.claim.{Desk.{Plan, name_cmp}, Geography.GeographyModel, Name.{IsPlanName, is_plan_name, plan_name_of}}, desk_opening.specs.Reading.IsPlanRow}
+use Rattle.{desk_opening.specs.Opening.{IsKeptPlan, IsNewPlan}, plan_rows.specs.PlanLaws.{IsTold, PlansAreTold, RowFits}, store_rows.specs.{Changes.plan_row_of, claim.Rows.KeyMap}}
+use Rattle.store_rows.{specs.{claim.{DeskRows.{HasPlan, IsPlanAt}, Keys.{key_of, named}, Values.plan_bytes}, declared.value.PlanRow.PlanRow}, proofs.OneGeography.value_is}
 
 -- ---- the name in a key
 pub name_told : (key name : List ℕ) (read : Option (List ℕ)) → read ≡ plan_name_of name → IsKey (named name) key → MatchOption read ((other : List ℕ) → IsPlanName other → key ≡ key_of (named other) → ⊥) (λ n. key ≡ key_of (named n))

@@ -1,7 +1,7 @@
 -- Which rows a key that begins with a tag or a prefix can be of.
 use Rattle.{std.specs.{FinMap.get, List.starts_with, Prelude.Some}, store_rows.specs.{Keys.{plan_parts_prefix, load_prefix}, claim.{Rows.{KeyMap, Has}, Tidy.AreRows}}}
 use Rattle.{std.proofs.Common.{◌≡◌, ◌<◌, ◌≤◌, ◌^◌, ◌+◌, ◌++◌, ℕ, true, nat_eq, List, [], ◌∷◌, length, refl, sym, ap, subst, ◌∙◌, arith}, store_rows.proofs.HolderCounts.eight_says}
-use Rattle.store_rows.specs.claim.Keys.{RowKey, key_of, Fits, retired, begun, holding, holder_count, part, block, pair, chunk, in_one, in_two, in_four, in_eight, retired_prefix, begun_prefix, holdings_prefix, chunk_prefix}
+use Rattle.store_rows.specs.claim.Keys.{RowKey, key_of, Fits, retired, begun, holding, holder_count, part, block, pair, in_one, in_four, in_eight, retired_prefix, begun_prefix, holdings_prefix}
 use Rattle.store_rows.proofs.KeyPrefixes.{starts_same}
 
 -- a row of a map is of this kind

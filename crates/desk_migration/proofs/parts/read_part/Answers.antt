@@ -1,5 +1,4 @@
-use Rattle.std.proofs.Common.{◌≡◌, ℕ, List, length, take, drop, sym, ap, ◌∙◌}
-use Rattle.store_rows.specs.claim.Keys.{key_of, part}
+use Rattle.{std.proofs.Common.{◌≡◌, ℕ, List, length, take, drop, sym, ap, ◌∙◌}, store_rows.specs.claim.Keys.{key_of, part}}
 use Rattle.desk_migration.proofs.parts.read_part.Goals as goal
 
 pub returns-in_err-plan : goal.returns-in_err-plan
