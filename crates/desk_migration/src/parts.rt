@@ -52,7 +52,7 @@ pub(crate) enum PartLook {
     Found(HeldPair),
 }
 
-/// The plan of the part with this key; None where it is no part's.
+/// Returns the plan of the part with this key; `None` for any other key.
 fn plan_in(key: &[u8]) -> Option<u64>
     ensures { MatchOption result ((plan revision index : ℕ) → key.now ≡ key_of (part plan revision index) → ⊥)
         (λ plan. (revision : ℕ) × (index : ℕ) × IsKey (part plan revision index) key.now) }

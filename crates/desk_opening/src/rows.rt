@@ -52,7 +52,7 @@ pub fn row_fits(row: PlanRow)
     revisions_fit(row.revisions);
 }
 
-/// The name of the plan whose row has this key; None where it is no plan's.
+/// Returns the name of the plan whose row has this key; `None` for any other key.
 pub fn name_in(key: &[u8]) -> Option<PlanName>
     ensures { MatchOption result ((name : List ℕ) → IsPlanName name → key.now ≡ key_of (named name) → ⊥) (λ name. key.now ≡ key_of (named name)) }
 {

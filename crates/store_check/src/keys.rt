@@ -6,7 +6,7 @@ ghost use Rattle.store_check.specs.Rows.{IsUnder};
 
 use store_rows::RowKey;
 
-/// The load whose block or pair of neighbours has this key.
+/// Returns the load whose block or pair of neighbours has this key; `None` for any other key.
 pub(crate) fn load_in(key: &[u8]) -> Option<u64>
     ensures { MatchOption result ((load place : ℕ) → (key.now ≡ key_of (block load place)) ⊎ (key.now ≡ key_of (pair load place)) → ⊥)
         (λ load. IsUnder load key.now) }
@@ -18,7 +18,7 @@ pub(crate) fn load_in(key: &[u8]) -> Option<u64>
     }
 }
 
-/// The plan and the revision of the part with this key; None where it is no part's.
+/// Returns the plan and the revision of the part with this key; `None` for any other key.
 pub(crate) fn part_in(key: &[u8]) -> Option<(u64, u32)>
     ensures { MatchOption result ((plan revision index : ℕ) → key.now ≡ key_of (part plan revision index) → ⊥) (λ of. IsPartKey of.0 of.1 key.now) }
 {

@@ -21,11 +21,10 @@ use sector_device::SectorDevice;
 use store_rows::{Key, SealRow};
 
 /// A key after all rows of a load.
-fn key_after(load: u64) -> [u8; 10]
+fn key_after(load: u64) -> Key
     ensures { result ≡ after_load load }
 {
-    let n = load.to_be_bytes();
-    [b'g', n[0], n[1], n[2], n[3], n[4], n[5], n[6], n[7], b'q']
+    Key::load(load).then(b"q")
 }
 
 /// Returns whether a key is a chunk's, or comes after all of these.
@@ -106,7 +105,7 @@ fn pass_load<D: SectorDevice>(
         None => Ok(false),
         Some(load) => {
             refuse_unknown(txn, pages, sealed, load)?;
-            from.set(&key_after(load));
+            from.set(key_after(load).as_slice());
             Ok(true)
         }
     }

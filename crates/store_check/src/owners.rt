@@ -17,15 +17,11 @@ use std::collections::BTreeMap;
 use store_rows::Key;
 
 /// A key after the parts of a revision, and below each other one after these.
-fn key_after(plan: u64, revision: u32) -> [u8; 15]
+fn key_after(plan: u64, revision: u32) -> Key
     ensures is { result ≡ after_revision plan revision }
     ensures fits { revision < 2 ^ 32 }
 {
-    let p = plan.to_be_bytes();
-    let r = revision.to_be_bytes();
-    [
-        b'R', p[0], p[1], p[2], p[3], p[4], p[5], p[6], p[7], r[0], r[1], r[2], r[3], 255, 0,
-    ]
+    Key::part(plan, revision, 255).then(&[0])
 }
 
 /// The plan and the revision of the first part from a key on; None where there is none.
@@ -97,7 +93,7 @@ fn pass_plan<D: SectorDevice>(
         None => Ok(false),
         Some((plan, revision)) => {
             let last = last_of(txn, pages, counts, plan, revision)?;
-            from.set(&key_after(plan, last));
+            from.set(key_after(plan, last).as_slice());
             Ok(true)
         }
     }

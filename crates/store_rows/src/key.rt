@@ -48,8 +48,8 @@ impl Key {
         let _ = self.bytes.try_extend_from_slice(more);
     }
 
-    /// The key with bytes after it that fit.
-    pub(crate) fn then(self, more: &[u8]) -> Key
+    /// Returns the key with more bytes after it, which fit.
+    pub fn then(self, more: &[u8]) -> Key
         requires { length self + length more.now ≤ 72 }
         ensures { result ≡ self ++ more.now }
     {

@@ -1,4 +1,4 @@
-//! Keys as rows: the row that a key is of, and the key of a row.
+//! Rows by their keys: the one place where keys are read.
 ghost use Rattle.std.specs.Prelude.{◌≡◌, MatchOption};
 ghost use Rattle.store_rows.specs.claim.Keys.{key_of};
 ghost use Rattle.store_rows.specs.RowKeys.{IsKey, IsNoKey, IsShort, row_of};
@@ -6,7 +6,7 @@ ghost use Rattle.store_rows.specs.RowKeys.{IsKey, IsNoKey, IsShort, row_of};
 use crate::key::Key;
 use crate::value::{eight, four, two};
 
-/// The kind of a row, with the numbers or the name in its key.
+/// The kinds of rows, each with the numbers or the name in its key.
 #[derive(Clone, Copy)]
 pub enum RowKey<'a> {
     /// The numbers that the next plan, chunk and load get.
@@ -21,7 +21,7 @@ pub enum RowKey<'a> {
     HolderCount { number: u64 },
     /// A plan, by its name.
     Named { name: &'a [u8] },
-    /// Some of the chunks of a revision, from 1; the parts are counted from 0.
+    /// Some of the chunks of a revision, counted from 1; its parts are counted from 0.
     Part { plan: u64, revision: u32, index: u8 },
     /// Which load is the geography.
     Seal,
@@ -31,12 +31,12 @@ pub enum RowKey<'a> {
     Block { load: u64, place: u32 },
     /// A pair of neighbours of a load, by its place.
     Pair { load: u64, place: u32 },
-    /// Some of the districts of a chunk; the pieces are counted from 0.
+    /// Some of the districts of a chunk; its pieces are counted from 0.
     Chunk { number: u64, piece: u16 },
 }
 
 impl<'a> RowKey<'a> {
-    /// The row that a key is of; None where it is no row's.
+    /// Returns the row that has this key; `None` if no row has it.
     pub fn read(key: &'a [u8]) -> Option<RowKey<'a>>
         ensures { MatchOption result (IsNoKey key.now) (λ k. IsKey (row_of k) key.now) }
     {
@@ -79,30 +79,28 @@ impl<'a> RowKey<'a> {
         }
     }
 
-    /// The key of the row.
+    /// Returns the key of the row.
     pub fn write(&self) -> Key
         requires short { IsShort (row_of self.now) }
         ensures { result ≡ key_of (row_of self.now) }
     {
         match *self {
-            RowKey::Counters => Key::tagged(b'A'),
-            RowKey::Retired { plan } => Key::numbered(b'D', plan),
-            RowKey::Begun { load } => Key::numbered(b'L', load),
-            RowKey::Holding { plan, number } => Key::holdings(plan).then(&number.to_be_bytes()),
-            RowKey::HolderCount { number } => Key::numbered(b'K', number),
+            RowKey::Counters => Key::counters(),
+            RowKey::Retired { plan } => Key::retired(plan),
+            RowKey::Begun { load } => Key::begun(load),
+            RowKey::Holding { plan, number } => Key::holding(plan, number),
+            RowKey::HolderCount { number } => Key::holder_count(number),
             RowKey::Named { name } => Key::plans().then(name),
             RowKey::Part {
                 plan,
                 revision,
                 index,
-            } => Key::revision(plan, revision).then(&index.to_be_bytes()),
-            RowKey::Seal => Key::tagged(b'S'),
-            RowKey::Version => Key::tagged(b'V'),
-            RowKey::Block { load, place } => Key::blocks(load).then(&place.to_be_bytes()),
-            RowKey::Pair { load, place } => Key::pairs(load).then(&place.to_be_bytes()),
-            RowKey::Chunk { number, piece } => {
-                Key::chunk_pieces(number).then(&piece.to_be_bytes())
-            }
+            } => Key::part(plan, revision, index),
+            RowKey::Seal => Key::seal(),
+            RowKey::Version => Key::version(),
+            RowKey::Block { load, place } => Key::block(load, place),
+            RowKey::Pair { load, place } => Key::pair(load, place),
+            RowKey::Chunk { number, piece } => Key::chunk(number, piece),
         }
     }
 }

@@ -14,7 +14,7 @@ use page_store::{Pages, Txn};
 use sector_device::SectorDevice;
 use store_rows::{Key, RowKey};
 
-/// The plan and the chunk of the holding with this key; None where it is no holding's.
+/// Returns the plan and the chunk of the holding with this key; `None` for any other key.
 pub(crate) fn holding_in(key: &[u8]) -> Option<(u64, u64)>
     ensures { MatchOption result ((plan number : ℕ) → key.now ≡ key_of (holding plan number) → ⊥) (λ of. IsKey (holding of.0 of.1) key.now) }
 {
@@ -24,7 +24,7 @@ pub(crate) fn holding_in(key: &[u8]) -> Option<(u64, u64)>
     }
 }
 
-/// The chunk whose holders the row with this key counts; None where it counts none's.
+/// Returns the chunk whose holders the row with this key counts; `None` for any other key.
 pub(crate) fn chunk_in(key: &[u8]) -> Option<u64>
     ensures { MatchOption result ((number : ℕ) → key.now ≡ key_of (holder_count number) → ⊥) (λ number. IsKey (holder_count number) key.now) }
 {
@@ -34,7 +34,7 @@ pub(crate) fn chunk_in(key: &[u8]) -> Option<u64>
     }
 }
 
-/// The plan of the part with this key, and which part of a revision it is; None where it is no part's.
+/// Returns the plan and the index of the part with this key; `None` for any other key.
 pub(crate) fn part_in(key: &[u8]) -> Option<(u64, u8)>
     ensures { MatchOption result ((plan revision index : ℕ) → key.now ≡ key_of (part plan revision index) → ⊥)
         (λ of. (revision : ℕ) × IsKey (part of.0 revision of.1) key.now) }

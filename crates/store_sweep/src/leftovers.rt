@@ -25,7 +25,7 @@ pub(crate) enum Left {
     Holding { plan: u64, number: u64 },
 }
 
-/// Parses the key of a deleted plan's mark; `None` for any other key.
+/// Returns the deleted plan whose mark has this key; `None` for any other key.
 fn retired_in(key: &[u8]) -> Option<u64>
     ensures { MatchOption result ((plan : ℕ) → key.now ≡ key_of (retired plan) → ⊥) (λ plan. key.now ≡ key_of (retired plan)) }
 {
@@ -35,7 +35,7 @@ fn retired_in(key: &[u8]) -> Option<u64>
     }
 }
 
-/// The load that was begun whose mark has this key; None where it is no such mark's.
+/// Returns the begun load whose mark has this key; `None` for any other key.
 fn begun_in(key: &[u8]) -> Option<u64>
     ensures { MatchOption result ((load : ℕ) → key.now ≡ key_of (begun load) → ⊥) (λ load. key.now ≡ key_of (begun load)) }
 {

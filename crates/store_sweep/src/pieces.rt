@@ -50,7 +50,7 @@ fn copy_key(page: &PageBytes, at: usize, found: &mut SmallBytes) -> Result<bool,
     }
 }
 
-/// The chunk of the piece with this key; None where it is no piece's.
+/// Returns the chunk of the piece with this key; `None` for any other key.
 fn chunk_of(key: &[u8]) -> Option<u64>
     ensures { MatchOption result ((number piece : ℕ) → key.now ≡ key_of (chunk number piece) → ⊥) (λ number. IsPieceKey number key.now) }
 {
