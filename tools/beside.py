@@ -75,11 +75,12 @@ def tests_table(first, second):
     """Both verdicts, test by test; the rows of tests whose results differ stand out."""
     rows, marked = [], []
     for clause in CLAUSES:
-        ends = [result(side.report, clause) if side.report.kind in clause.kinds else 'not asked' for side in (first, second)]
-        if ends != ['not asked'] * 2:
-            if ends[0] != ends[1]:
-                marked.append(len(rows))
-            rows.append((test_cell(clause), *map(result_cell, ends), 'changed' if ends[0] != ends[1] else ''))
+        ends = [result(side.report, clause) for side in (first, second) if side.report.kind in clause.kinds]
+        if len(set(ends)) > 1:
+            marked.append(len(rows))
+        if ends:
+            shown = [result(side.report, clause) if side.report.kind in clause.kinds else 'does not apply' for side in (first, second)]
+            rows.append((test_cell(clause), *map(result_cell, shown), 'differs' if len(set(ends)) > 1 else ''))
     heads = [(text, False) for text in ('Test', first.title(), second.title(), 'Difference')]
     return table('The results of both audits.', heads, rows, labelled=True, marked=marked, class_='stacks')
 

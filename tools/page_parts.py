@@ -95,7 +95,7 @@ def name(text):
 
 def href(file):
     """The address of a file in the same folder, also if its name begins with a dot or has a sign that addresses know."""
-    return f'./{quote(file)}'
+    return f'./{quote(file, safe="+")}'
 
 
 def link(text, file):
