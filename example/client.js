@@ -205,7 +205,7 @@ function told(fault) {
     return [made('p', 'The server gave no answer.'), made('p', 'What to do: check the network, and whether the server runs.')]
   }
   const parts = [made('p', fault.message), made('p', fault.means), made('p', `What to do: ${fault.todo}`)]
-  if (fault.line !== undefined) parts.splice(1, 0, made('p', 'The line is ', made('code', fault.line || 'empty'), '.'))
+  if (fault.line !== undefined) parts.splice(1, 0, made('p', 'The line is ', made('code', fault.line), '.'))
   return parts.filter(part => part.textContent)
 }
 

@@ -3,6 +3,7 @@
 somebody else changes the plan at the same time. Use it as a command (--help has more), or import Desk.
 """
 import argparse, base64, http.client, json, netrc, os, re, socket, ssl, sys
+from functools import partial
 from urllib.parse import quote, urlsplit
 
 EPILOG = '''DESK is the address of the server or of the proxy before it: 127.0.0.1:8080, http://127.0.0.1:8080 or
@@ -24,6 +25,10 @@ statuses:
   4    no server answered, or what answered is not plandesk
   6    the answer can't be printed
   130  Ctrl-C'''
+
+
+# a part of a path, or a value of a query
+part = partial(quote, safe='')
 
 
 class Refused(Exception):
@@ -132,24 +137,24 @@ class Desk:
     def audit(self, word, **companions):
         """The report of a revision, as JSON, next to those of the companions, by the names of their kinds."""
         plan, number = self.address(word)
-        query = '&'.join(f'{kind}={quote(":".join(self.address(other)))}' for kind, other in companions.items() if other)
-        return self.done('GET', f'/plans/{quote(plan)}/revisions/{quote(number)}/audit' + (f'?{query}' if query else ''))
+        query = '&'.join(f'{kind}={part(":".join(self.address(other)))}' for kind, other in companions.items() if other)
+        return self.done('GET', f'/plans/{part(plan)}/revisions/{part(number)}/audit' + (f'?{query}' if query else ''))
 
     def fork(self, new, word):
         """Makes a plan whose first revision is the one that the word names."""
-        return self.done('POST', f'/plans/{quote(new)}?from={quote(":".join(self.address(word)))}')
+        return self.done('POST', f'/plans/{part(new)}?from={part(":".join(self.address(word)))}')
 
     def last(self, plan):
         """The number of the plan's last revision, and its text."""
         number = self.revisions(plan)
-        return number, self.done('GET', f'/plans/{quote(plan)}/revisions/{number}') if number else 'BLOCKID|DISTRICT\n'
+        return number, self.done('GET', f'/plans/{part(plan)}/revisions/{number}') if number else 'BLOCKID|DISTRICT\n'
 
     def change(self, plan, edit):
         """Posts what `edit` makes of the last revision as the next one: the status and the text of the answer. If somebody else's
         revision came first, the server answers Stale: the new last one is read and edited in its turn."""
         while True:
             number, text = self.last(plan)
-            status, said = self.ask('POST', f'/plans/{quote(plan)}/revisions?after={number}', edit(text))
+            status, said = self.ask('POST', f'/plans/{part(plan)}/revisions?after={number}', edit(text))
             if status != 409 or answer_of(said).get('error') != 'Stale':
                 return status, said
 
