@@ -14,14 +14,17 @@
 //! `words_for` has what is known of a code. `Noting` keeps the line that was written last.
 #![tactic(auto)]
 
+mod audits;
 mod census;
 pub mod explaining;
 pub mod explanation;
 pub mod fault_status;
+mod file_tools;
 pub mod finding;
 mod http;
 pub mod noting;
 mod plans;
+mod server_tools;
 pub mod status;
 mod stores;
 pub mod telling;
