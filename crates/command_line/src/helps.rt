@@ -170,9 +170,13 @@ Exit statuses:
   6  standard input or output failed";
 
 pub(crate) const EXPLAIN_HELP: &str =
-    "CODE is an error code of plandesk or of a tool (G1, DeviceFault, LostZero), an error over HTTP (Stale), a test of an audit (42.4.3), a
-word of verify (NotFree), or a whole line that has one, in upper or lower case. Without CODE all codes are listed, one on a line:
-'CODE WITH WHAT FOLLOWS IT, PLACE, CASE: What happened. What to do: What to do.'
+    "CODE is one of these, in upper or lower case, or a whole line that has one:
+  an error code of plandesk or of a tool    G1, DeviceFault, LostZero
+  an error over HTTP                        Stale
+  a test of an audit                        42.4.3
+  a word that verify prints                 NotFree
+
+Without CODE all codes are listed, one on a line: code with what follows it, place, case: What happened. What to do: What to do.
 
 With --words, and at a terminal, each command prints this explanation after its error line.
 

@@ -171,7 +171,7 @@ const FORMAT: &[Argument] = &[
     Argument::Valued(
         "blocks",
         "B",
-        "Number of blocks of the state (1 to 1048576); give --counties, --plans and --revisions too, instead of --sectors and --journal",
+        "Number of blocks of the state (1 to 1048576); give --counties, --plans and --revisions too",
         Values::Numbers("a number of blocks", 1, 1_048_576),
         Presence::Optional(&["counties", "plans", "revisions"]),
     ),

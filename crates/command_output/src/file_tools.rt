@@ -131,9 +131,9 @@ pub(crate) static TOOL_PLAN: [FaultRow; 23] = [
     ),
     (
         "Repeated",
-        "line N, first line M",
+        "line N ..",
         "",
-        "The block of line N is also on line M.",
+        "The block of line N is also on an earlier line, whose number follows.",
         "Check which of the two lines is right, and remove the other.",
     ),
     (
@@ -384,23 +384,23 @@ pub(crate) static TOOL_NEIGHBOURS: [FaultRow; 14] = [
     ),
     (
         "Overlaps",
-        "N, first BLOCK BLOCK",
+        "N ..",
         "",
-        "N pairs of blocks overlap, so the shapes are not of one release.",
+        "N pairs of blocks overlap, of which the first follows; so the shapes are not of one release.",
         "Download the shapes again.",
     ),
     (
         "Gaps",
-        "N, first X Y",
+        "N ..",
         "",
-        "N places between the blocks belong to no block; the first is at this longitude and latitude.",
+        "N places between the blocks belong to no block; the longitude and latitude of the first follow.",
         "Look at the place on a map.",
     ),
     (
         "Islands",
-        "N, first BLOCK",
+        "N ..",
         "",
-        "N blocks have no neighbour. A district with such a block and others is not contiguous.",
+        "N blocks have no neighbour, of which the first follows. A district with such a block and others is not contiguous.",
         "If a bridge joins it, give the pair with --links.",
     ),
     (

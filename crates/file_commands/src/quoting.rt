@@ -27,7 +27,7 @@ fn line_after(text: &[u8], ends: u64) -> &[u8]
     ensures { result.now ≡ line_prefix (after_lines ends text.now) }
 {
     let mut rest = text;
-    for _k in 0..ends {
+    for _ in 0..ends {
         rest = after_line(rest);
     }
     first_line(rest)

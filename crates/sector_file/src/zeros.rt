@@ -11,7 +11,7 @@ pub(crate) fn write_zeros<W: Write>(writer: &mut W, sectors: u32) -> io::Result<
     ensures { OnOk result (Appends (W.contents writer.old) (W.contents writer.new) (replicate (4096 * sectors) 0)) }
 {
     let zeros = [0; SECTOR_SIZE];
-    for _k in 0..sectors {
+    for _ in 0..sectors {
         writer.write_all(&zeros)?;
     }
     Ok(())
