@@ -1,5 +1,6 @@
 //! The files of logs, by their paths.
-ghost use Rattle.std.specs.Prelude.{◌≡◌, ℕ, List, None, Some, true, IfOk, IfErr, OnOk, codes};
+ghost use Rattle.std.specs.Prelude.{◌≡◌, ℕ, List, Some, IfOk, IfErr, codes};
+ghost use Rattle.std.specs.Str.{bytes_eq};
 ghost use Rattle.std.specs.declared.fs.options.OpenOptions.{OpenOptions as Options};
 ghost use Rattle.file_commands.specs.Logs.{AddsLines, IsLogOf};
 
@@ -88,14 +89,11 @@ fn share(file: &File) -> Result<(), NoLog>
     }
 }
 
-/// The bytes with which every store begins.
-const STORE_BEGINS: [u8; 8] = *b"PLANDESK";
-
-/// Whether a file's first bytes are those of a store.
+/// Whether a file's first bytes are those with which every store begins.
 fn begins_store(first: &[u8]) -> bool
-    ensures { result ≡ true → first.now ≡ codes "PLANDESK" }
+    ensures { result ≡ bytes_eq first.now (codes "PLANDESK") }
 {
-    first == STORE_BEGINS.as_slice()
+    first == b"PLANDESK".as_slice()
 }
 
 /// Refuses the file of a log that begins as a store does, so that no line is added to it.
