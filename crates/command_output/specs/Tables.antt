@@ -1,12 +1,10 @@
 -- The words of each place, and what stands before a code in a fault's line.
 use Rattle.std.specs.{Borrow.Bor, Prelude.{ℕ, Bool, ◌||◌, List, [], ◌∷◌, map, codes, if◌then◌else◌, Option, Some, None}, Str.bytes_eq}
-use Rattle.command_output.specs.declared.{census.TheConstants.{GEO, SEGMENT, JOIN}, explanation.{Explanation.Explanation, FaultPlace.FaultPlace, Reason.Reason}}
-use Rattle.command_output.specs.declared.explanation.FaultPlace.TheVariants.{EveryFile, Geo, Segment, Join, Gal, Plan, Log, Store, Verify, Command, Bytes, Requests}
-use Rattle.command_output.specs.declared.explanation.FaultPlace.TheVariants.{Audit, ToolPlan, ToolReport, ToolNeighbours, ToolServer, ToolDesk, ToolExport, ToolKeep}
-use Rattle.command_output.specs.declared.{explanation.Reason.TheVariants.{InUse, NotPermitted, NoRoom, Stands, IsStore}, http.TheConstants.{BYTES, REQUESTS}}
-use Rattle.command_output.specs.declared.{plans.TheConstants.{EVERY_FILE, GAL, LOG, PLAN}, stores.TheConstants.{STORE, VERIFY, COMMAND}}
-use Rattle.command_output.specs.declared.{audits.TheConstants.{AUDIT}, file_tools.TheConstants.{TOOL_PLAN, TOOL_REPORT, TOOL_NEIGHBOURS}}
-use Rattle.command_output.specs.declared.server_tools.TheConstants.{TOOL_SERVER, TOOL_DESK, TOOL_EXPORT, TOOL_KEEP}
+use Rattle.command_output.specs.declared.{audits.TheConstants.AUDIT, census.TheConstants.{GEO, SEGMENT, JOIN}, explanation.{Explanation.Explanation, FaultPlace.FaultPlace}}
+use Rattle.command_output.specs.declared.explanation.FaultPlace.TheVariants.{EveryFile, Geo, Segment, Join, Gal, Plan, Log, Store, Verify, Command, Bytes, Requests, Audit, ToolPlan, ToolReport, ToolNeighbours, ToolServer, ToolDesk, ToolExport, ToolKeep}
+use Rattle.command_output.specs.declared.{explanation.Reason.{Reason, TheVariants.{InUse, NotPermitted, NoRoom, Stands, IsStore}}, http.TheConstants.{BYTES, REQUESTS}}
+use Rattle.command_output.specs.declared.{file_tools.TheConstants.{TOOL_PLAN, TOOL_REPORT, TOOL_NEIGHBOURS}, plans.TheConstants.{EVERY_FILE, GAL, LOG, PLAN}}
+use Rattle.command_output.specs.declared.{server_tools.TheConstants.{TOOL_SERVER, TOOL_DESK, TOOL_EXPORT, TOOL_KEEP}, stores.TheConstants.{STORE, VERIFY, COMMAND}}
 
 -- all places, in the order in which they are listed
 abbrev pub places : List FaultPlace
