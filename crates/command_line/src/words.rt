@@ -50,7 +50,7 @@ pub struct Asked<'a> {
     pub with_words: bool,
 }
 
-/// Why it does nothing: help or the version was asked for, the words are wrong, or memory was refused.
+/// Why nothing is done: help or the version was asked for, the arguments are wrong, or memory was refused.
 #[derive(Drop)]
 pub struct Mistake {
     status: Status,
@@ -72,24 +72,24 @@ impl Mistake {
     }
 }
 
-const ONLY_BESIDE_HOUSE: &str = "error: '--senate <FILE>' goes with '--kind house' alone\n";
+const ONLY_BESIDE_HOUSE: &str = "error: '--senate <FILE>' can be used only with '--kind house'\n";
 
 const NOT_BESIDE_CONGRESS: &str =
-    "error: '--congress <FILE>' goes with '--kind house' or '--kind senate' alone\n";
+    "error: '--congress <FILE>' can be used only with '--kind house' or '--kind senate'\n";
 
 const WRONG_NUMBER: &str =
-    "error: a number of districts is digits alone, 1 to 99 for a congress plan and 1 to 999 for others\n";
+    "error: '--districts <N>' is 1 to 99 for a congress plan, and 1 to 999 for other plans\n";
 
-const WRONG_WORKERS: &str = "error: a number of workers is digits alone, 1 to 64\n";
+const WRONG_WORKERS: &str = "error: '--workers <N>' is 1 to 64\n";
 
-const WRONG_SIZE: &str =
-    "error: a store's size is given as '--sectors <N> --journal <J>', or by what it is to hold as '--blocks <B> --counties <C> --plans <P> --revisions <R>', of at most 4294967295 sectors and 65536 journal pages\n";
+const NO_SIZE: &str =
+    "error: the store's size is missing\n\nGive it as '--sectors <N> --journal <J>', or as what the store is to hold: '--blocks <B> --counties <C> --plans <P> --revisions <R>'.\n";
+
+const TOO_LARGE: &str =
+    "error: a store for this would be too large: it can have 4294967295 sectors and 65536 journal pages at most\n";
 
 const WRONG_SERVING: &str =
-    "error: a port is digits alone, 1 to 65535, a number of workers 1 to 64, of connections 1 to 4294967295, and of seconds 1 to 86400\n";
-
-const WRONG_CODE: &str =
-    "error: invalid value for '<CODE>': no word of it is one of the codes in docs/FAULTS.md\n";
+    "error: '--port <P>' is 1 to 65535, '--workers <W>' 1 to 64, '--connections <C>' 1 to 4294967295, and a number of seconds 1 to 86400\n";
 
 fn memory() -> Mistake {
     Mistake {
@@ -370,15 +370,53 @@ fn entries_of(name: &str) -> &'static [Argument] {
     &[]
 }
 
+/// What is wrong with a size, whose numbers are in range.
+fn wrong_size<'a>(options: &ArgMatches<'a>) -> &'static str {
+    if options.get_str("blocks").is_some() {
+        return TOO_LARGE;
+    }
+    NO_SIZE
+}
+
 /// What is wrong with a command's options, which clap let pass.
 fn wrong_under<'a>(name: &str, options: &ArgMatches<'a>) -> &'static str {
     match name {
-        "format" => WRONG_SIZE,
+        "format" => wrong_size(options),
         "load" => "error: a file is missing\n",
         "serve" => WRONG_SERVING,
         "stat" | "verify" | "sweep" | "migrate" => "error: a store is missing\n",
-        "explain" => WRONG_CODE,
         _ => wrong_options(options),
+    }
+}
+
+/// The words that `explain` was given, with blanks between them.
+fn words_given<'a>(alloc: Global, options: &ArgMatches<'a>) -> Result<String, AllocError> {
+    let mut given = String::new(alloc);
+    let Some(words) = options.get_raw("code") else {
+        return Ok(given);
+    };
+    for word in words {
+        if !given.is_empty() {
+            given.push_str(" ")?;
+        }
+        given.push_str(word)?;
+    }
+    Ok(given)
+}
+
+/// The mistake of words for `explain` among which is no code.
+fn no_code<'a>(alloc: Global, options: &ArgMatches<'a>) -> Mistake {
+    match words_given(alloc, options) {
+        Ok(given) => {
+            let given = given.as_str();
+            telling(
+                Status::Usage,
+                format!(in alloc;
+                    "error: '{given}' has no code of plandesk or its tools\n\nGive a code such as G1, Stale or 42.4.3, or a whole error line. Without CODE, explain lists all codes.\n"
+                ),
+            )
+        }
+        Err(_) => memory(),
     }
 }
 
@@ -397,11 +435,16 @@ fn mistake_under<'a>(alloc: Global, name: &str, options: &ArgMatches<'a>) -> Mis
             telling(
                 Status::Usage,
                 format!(in alloc;
-                    "error: invalid value '{given}' for '--{option} <{value}>': {number} is {least} to {most}, digits alone\n"
+                    "error: invalid value '{given}' for '--{option} <{value}>': {number} is {least} to {most}, in digits only\n"
                 ),
             )
         }
-        None => usage(alloc, wrong_under(name, options)),
+        None => {
+            if name == "explain" {
+                return no_code(alloc, options);
+            }
+            usage(alloc, wrong_under(name, options))
+        }
     }
 }
 

@@ -22,14 +22,17 @@
 //! remembers the last line, so that it can be explained.
 #![tactic(auto)]
 
+mod audits;
 mod census;
 pub mod explaining;
 pub mod explanation;
 pub mod fault_status;
+mod file_tools;
 pub mod finding;
 mod http;
 pub mod noting;
 mod plans;
+mod server_tools;
 pub mod status;
 mod stores;
 pub mod telling;

@@ -1,7 +1,7 @@
 //! The lines of a log.
 ghost use Rattle.std.specs.Prelude.{◌≡◌, ◌+◌, ◌≤◌, ◌++◌, [], length, decimal, IfOk};
 ghost use Rattle.http_desk.specs.http_wire.Adding.{Adds};
-ghost use Rattle.connection_log.specs.Lines.{connection_line, dropped_line, end_line, entry_line, entry_moment, room_line, stamp, unsound_line};
+ghost use Rattle.connection_log.specs.Lines.{connection_line, cut_end, dropped_line, end_line, entry_line, entry_moment, room_line, stamp, unsound_line};
 ghost use Rattle.connection_log.specs.Lines.{change_line, deed_words, revision_words, source_words, two_digits, year_text};
 
 use crate::connection::Connection;
@@ -70,6 +70,15 @@ impl LogLine {
             LogLine::End(ending) => ending.at,
         }
     }
+}
+
+/// What is still to be told of lines before the next one.
+#[derive(Clone, Copy)]
+pub struct Owed {
+    /// How many were dropped.
+    pub lines: u64,
+    /// Whether the last one may be there in part, without its end.
+    pub is_cut: bool,
 }
 
 /// The text that is written next, with all the room that it ever takes.
@@ -296,17 +305,29 @@ impl LineText {
         }
     }
 
-    /// Puts how many lines were dropped until a moment, where any were.
-    pub fn put_dropped(&mut self, dropped: u64, at: Option<DateTime>)
+    /// Puts the end of a line that may be there in part.
+    fn put_cut_end(&mut self, is_cut: bool)
+        requires { self.old ≡ [] }
+        ensures items { self.new ≡ cut_end is_cut }
+        ensures short { length self.new ≤ 1 }
+    {
+        if is_cut {
+            self.put(b"\n");
+        }
+    }
+
+    /// Puts how many lines were dropped until a moment, where any were, after the end of a line that may be there in part.
+    pub fn put_dropped(&mut self, dropped: Owed, at: Option<DateTime>)
         requires { self.old ≡ [] }
         ensures items { self.new ≡ dropped_line at dropped }
         ensures short { length self.new ≤ 100 }
     {
-        if dropped == 0 {
+        self.put_cut_end(dropped.is_cut);
+        if dropped.lines == 0 {
             return;
         }
         self.put_moment(at);
-        self.put_number(dropped);
+        self.put_number(dropped.lines);
         self.put(b" lines were dropped\n");
     }
 }

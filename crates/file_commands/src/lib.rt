@@ -29,6 +29,7 @@ pub mod logs;
 pub mod migrating;
 pub mod prefixes;
 pub mod premises;
+pub mod quoting;
 pub mod stating;
 pub mod stores;
 pub mod sweeping;

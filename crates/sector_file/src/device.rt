@@ -9,6 +9,7 @@ use crate::error::{FileError, of_making, of_opening};
 use crate::reader::FileReader;
 use crate::recent::Recent;
 use crate::record::Record;
+use crate::zeros::write_zeros;
 use sector_device::{DeviceFault, SECTOR_SIZE, Sector, SectorDevice};
 use std::alloc::Global;
 use std::fs::{File, OpenOptions, TryLockError};
@@ -58,11 +59,16 @@ fn hold(file: &File) -> Result<(), FileError>
     }
 }
 
-/// Gives a new file its size, and syncs it.
-fn lengthen(file: &File, size: u64) -> Result<(), FileError>
+/// Gives a new file its size, writes zeros to all of it and syncs it. So the file has no hole, and a disk that gets full later refuses
+/// no write to it.
+fn fill(file: &File, count: u32) -> Result<(), FileError>
     ensures { IfErr result (λ e. (e ≢ FileError.WrongSize) × (e ≢ FileError.InUse)) }
 {
-    if let Err(error) = file.set_len(size) {
+    if let Err(error) = file.set_len(SECTOR_SIZE as u64 * count as u64) {
+        return Err(of_making(&error));
+    }
+    let mut writer = file;
+    if let Err(error) = write_zeros(&mut writer, count) {
         return Err(of_making(&error));
     }
     match file.sync_all() {
@@ -138,10 +144,10 @@ impl<S: Contents> FileDevice<S> {
         }
     }
 
-    /// Creates a file of `count` sectors and locks it. The caller writes its contents. Returns
-    /// Exists if a file exists, NotFound if its folder does not, NotPermitted and NoSpace as the
-    /// system says, and DeviceFault if the system refused a call for any other reason. `_start` is
-    /// consumed, as in `open`.
+    /// Creates a file of `count` sectors, writes it whole with zeros, and locks it. What else it has
+    /// the caller writes. Returns Exists if a file exists, NotFound if its folder does not,
+    /// NotPermitted and NoSpace as the system says, and DeviceFault if the system refused a call for
+    /// any other reason. `_start` is consumed, as in `open`.
     pub fn create(
         rt: &HostRuntime,
         path: &str,
@@ -163,7 +169,7 @@ impl<S: Contents> FileDevice<S> {
             Err(error) => return Err(of_making(&error)),
         };
         hold(&file)?;
-        lengthen(&file, SECTOR_SIZE as u64 * count as u64)?;
+        fill(&file, count)?;
         let size = size_of(&file)?;
         match FileDevice::of_size(rt.alloc(), file, size, count) {
             Ok(device) => Ok(device),

@@ -29,6 +29,7 @@ mod reader;
 mod recent;
 mod record;
 mod run;
+mod zeros;
 
 pub use contents::{Contents, Unknown};
 pub use device::FileDevice;
