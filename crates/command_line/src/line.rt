@@ -9,7 +9,7 @@ use std::alloc::{AllocError, Global};
 const VERSION: &str = "2.1.0 (logic dac8208d650f15bf)
 Compare its SHA-256 sum with SHA256SUMS: in prebuilt/ of the repository, or next to the program in a release.";
 
-/// A word that stands alone.
+/// An argument without an option's name.
 fn word<'a>(alloc: Global, name: &'a str, value: &'a str, help: &'a str) -> Arg<'a> {
     Arg::new(alloc, name).value_name(value).help(help)
 }
@@ -27,7 +27,7 @@ fn option<'a>(
         .action(ArgAction::Set);
     match values {
         Values::Kinds => option.value_parser(KINDS),
-        // so that a negative number is told as one out of range
+        // so that a negative number is reported as out of range
         Values::Numbers(_, _, _) => option.allow_negative_numbers(true),
         Values::Texts => option,
     }

@@ -4,7 +4,7 @@ use crate::helps::{
     SWEEP_HELP, TALK_HELP, VERIFY_HELP,
 };
 
-/// A command: its name, what it does, what is told after its options, and these.
+/// A command: its name, what it does, the text after its options, and the options.
 pub(crate) struct Subcommand {
     pub(crate) name: &'static str,
     pub(crate) about: &'static str,
@@ -14,7 +14,7 @@ pub(crate) struct Subcommand {
 
 /// A word or an option of a command.
 pub(crate) enum Argument {
-    /// The file of a store, a word that stands alone.
+    /// The file of a store, an argument without an option's name.
     Store,
     /// The code of a fault, or the words of a line that has one; they may be left out.
     Code,

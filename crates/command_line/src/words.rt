@@ -21,15 +21,16 @@ use std::alloc::{AllocError, Global};
 #[derive(Clone, Copy)]
 pub enum Job<'a> {
     Talk,
-    /// `check` with the census files alone, by so many workers.
+    /// `check` with only the census files, and the number of workers.
     Counts(CensusPaths<'a>, u16),
-    /// `check` with a plan, by so many workers.
+    /// `check` with a plan, and the number of workers.
     Audit(AuditPaths<'a>, Terms, u16),
-    /// `format`: a store of so many sectors, with so many journal pages, and whether these were reckoned by what it is to hold.
+    /// `format`: the store's name and size, and whether the size was computed from what it is to
+    /// hold.
     Format(&'a str, Size, bool),
     /// `load`: a store is filled with what the census files and the neighbour file say.
     Load(&'a str, CensusPaths<'a>, &'a str),
-    /// `serve`: a store is served to connections, which are told to the file of a log where one is named.
+    /// `serve`: the store's name, how it is served, and the file of the log, if one is named.
     Serve(&'a str, Serving, Option<&'a str>),
     /// `stat`: how full a store is, as JSON or in lines.
     Stat(&'a str, bool),
@@ -43,7 +44,7 @@ pub enum Job<'a> {
     Explain(Option<&'a str>),
 }
 
-/// What is asked for, and whether a fault is to be told with what it means.
+/// The job, and whether an error is printed with its explanation.
 #[derive(Clone, Copy)]
 pub struct Asked<'a> {
     pub job: Job<'a>,
@@ -63,7 +64,7 @@ impl Mistake {
         self.status
     }
 
-    /// What is told: on standard output with status 0, and else on standard error.
+    /// Returns the text: for standard output if the status is 0, otherwise for standard error.
     pub fn text(&self) -> &str {
         match &self.text {
             Some(text) => text.as_str(),
@@ -98,7 +99,7 @@ fn memory() -> Mistake {
     }
 }
 
-/// The paths that `check` is given, where all are there.
+/// Returns the paths of the census files, if all are given.
 fn census_paths<'a>(matches: &ArgMatches<'a>) -> Option<CensusPaths<'a>>
     ensures { IfSome result (AreCensusPaths (found_of matches.now)) }
 {
@@ -210,7 +211,7 @@ fn stat_job<'a>(matches: &ArgMatches<'a>) -> Option<Job<'a>>
     Some(Job::Stat(store, matches.get_flag("json")))
 }
 
-/// What a command is asked for that takes a store alone: `verify`, `sweep` or `migrate`.
+/// Returns the job of a command that takes only a store: `verify`, `sweep` or `migrate`.
 fn store_job<'a>(name: &str, matches: &ArgMatches<'a>) -> Option<Job<'a>>
     ensures { IsJobOf (found_of matches.now) result }
 {
@@ -251,7 +252,7 @@ fn explain_job<'a>(matches: &ArgMatches<'a>) -> Option<Job<'a>>
     }
 }
 
-/// A mistake that is told so, or want of memory where the text has none.
+/// A mistake with this text, or refused memory if there is no text.
 fn telling(status: Status, text: Result<String, AllocError>) -> Mistake {
     match text {
         Ok(text) => Mistake {
@@ -306,7 +307,7 @@ fn job_under<'a>(name: &str, options: &ArgMatches<'a>) -> Option<Job<'a>>
     }
 }
 
-/// The same, and whether its faults are told with what they mean.
+/// The same, and whether errors are printed with their explanations.
 fn asked_under<'a>(name: &str, options: &ArgMatches<'a>) -> Option<Asked<'a>>
     ensures valid { IfSome result (λ asked. IsJob asked.job) }
     ensures asked { IfSome result (IsAsked (found_of options.now)) }

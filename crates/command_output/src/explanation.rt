@@ -50,7 +50,7 @@ pub(crate) fn explanation_of(row: &FaultRow) -> Explanation
     }
 }
 
-/// Why a device fails, where that is told apart, or what a command did before its fault.
+/// Why a device failed, if that is known, or what a command did before its fault.
 #[derive(Clone, Copy)]
 pub enum Reason {
     /// Another open of the file holds it.

@@ -60,7 +60,8 @@ fn reason_of(role: &[u8], reason: Option<Reason>) -> Option<Reason>
     reason
 }
 
-/// Whose fault a line tells, by the word after the program's name: a file's role, or a command.
+/// Returns whose fault a line reports, by the word after the program's name: a file's role, or a
+/// command.
 #[tactic(auto, unfolding(crate::specs::Tables::place_at))]
 fn place_of(role: &[u8]) -> Option<FaultPlace>
     ensures { result ≡ place_at role.now }
@@ -171,7 +172,7 @@ fn path_of<'a>(role: &[u8], files: &[(&'static str, &'a str)]) -> Option<&'a str
     None
 }
 
-/// The path of the file whose fault a line tells, among the files of these roles.
+/// Returns the path of the file whose fault a line reports, among the files of these roles.
 #[tactic(auto, unfolding(crate::specs::Lines::line_path))]
 pub fn path_in<'a>(line: &[u8], files: &[(&'static str, &'a str)]) -> Option<&'a str>
     ensures { option_copied result ≡ line_path line.now (map named files.now) }

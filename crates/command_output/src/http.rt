@@ -1,7 +1,7 @@
 //! Refusals over HTTP, with the status as the case. `tests/explained` compares these tables with what the program prints.
 use crate::explanation::FaultRow;
 
-/// Of a request's bytes.
+/// Faults of a request's bytes.
 pub(crate) static BYTES: [FaultRow; 9] = [
     (
         "BadHead",
@@ -68,7 +68,7 @@ pub(crate) static BYTES: [FaultRow; 9] = [
     ),
 ];
 
-/// Of what a request asks for.
+/// Refusals of what a request asks for.
 pub(crate) static REQUESTS: [FaultRow; 17] = [
     (
         "NoRoute",

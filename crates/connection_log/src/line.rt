@@ -16,10 +16,10 @@ use std::marker::Model;
 /// Room for the longest line and the one of those that were dropped before it, in bytes.
 const LINE_LEN: usize = 512;
 
-/// What all connections came to, and when the last one had ended.
+/// The result of all connections, and when the last one had ended.
 #[derive(Clone, Copy)]
 pub struct Ending {
-    /// In UTC, where the clock told it.
+    /// In UTC, if the clock could be read.
     pub at: Option<DateTime>,
     pub ran: Ran,
 }
@@ -27,17 +27,17 @@ pub struct Ending {
 /// How much room the store has.
 #[derive(Clone, Copy)]
 pub struct Room {
-    /// In UTC, where the clock told it.
+    /// In UTC, if the clock could be read.
     pub at: Option<DateTime>,
     pub free_pages: u64,
-    /// So many a revision asks for by which each county changes.
+    /// The pages that a revision needs if each county changes.
     pub revision_pages: u64,
 }
 
 /// What an accepted command did.
 #[derive(Clone, Copy)]
 pub struct Change {
-    /// When its acknowledgement was sent, in UTC, where the clock told it.
+    /// When its acknowledgement was sent, in UTC, if the clock could be read.
     pub at: Option<DateTime>,
     pub accepted: Accepted,
 }
@@ -51,7 +51,8 @@ pub enum LogLine {
     Connection(Connection),
     /// How much room there is.
     Room(Room),
-    /// A sweep found rows that no desk leaves, at this moment of UTC, where the clock told it.
+    /// A sweep found rows that are not those of a desk, at this moment of UTC, if the clock could
+    /// be read.
     Unsound(Option<DateTime>),
     /// All connections.
     End(Ending),
@@ -72,7 +73,7 @@ impl LogLine {
     }
 }
 
-/// What is still to be told of lines before the next one.
+/// What the next line has to report about lost lines.
 #[derive(Clone, Copy)]
 pub struct Owed {
     /// How many were dropped.

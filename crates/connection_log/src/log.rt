@@ -23,7 +23,7 @@ pub trait Notes {
     // This line was handed to it.
     ghost notes: { Self → Line → Type 0 };
 
-    // It was told that all connections are served, and what they came to.
+    // It was told that all connections are served, with their result.
     ghost ends: { Self → Totals → Type 0 };
 
     /// Takes a line, or counts it where too many wait.

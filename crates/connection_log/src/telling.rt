@@ -5,8 +5,9 @@ use crate::line::{Ending, LineText, LogLine, Owed};
 use crate::waiting::Taken;
 use byte_stream::sink::Sink;
 
-/// Writes an entry's line, after the number of those that were dropped before: what is to be told so now. A line that could not be
-/// written may be there in part, so the next text begins with its end.
+/// Writes an entry's line, after the number of lines dropped before it, and returns what the next
+/// line has to report. A line that could not be written may be in the log in part, so the next text
+/// begins with its end.
 fn tell_entry<W: Sink>(writer: &mut W, text: &mut LineText, entry: &LogLine, dropped: Owed) -> Owed
     ensures { TellsEntry dropped entry.now result (W.contents writer.old) (W.contents writer.new) }
 {
@@ -49,8 +50,9 @@ fn tell_end<W: Sink>(
     }
 }
 
-/// Writes lines, and the one of all connections where the end has come. `refused` lines were dropped after these.
-/// The number of lines that the next one tells as dropped, those among them that can't be written.
+/// Writes lines, and at the end the line of all connections. `refused` lines were dropped after
+/// these. Returns the number of lines that the next one reports as dropped, including those that
+/// could not be written.
 pub fn tell_batch<W: Sink>(
     writer: &mut W,
     text: &mut LineText,

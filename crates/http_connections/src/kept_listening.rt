@@ -95,7 +95,7 @@ impl<'a, R: Wait + Clock + Sync> Arrivals for Listening<'a, R> {
     }
 
     /// Closes a connection, once its client has taken a refusal, and notifies the door. If it was
-    /// told that the store's device has failed, no further connection is served.
+    /// notified that the store's device has failed, no further connection is served.
     fn ended(
         &self,
         reader: KeptSource<'a, TcpStream, R>,
