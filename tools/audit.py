@@ -17,11 +17,12 @@ GAP = 'district', 'from', 'to'
 
 
 class Refused(Exception):
-    """Why there is no result: what is printed, the status, and the file in which the fault is, if there is one."""
+    """Why there is no result: what is printed, the status, the file in which the fault is, and what to do, if the tool's own table of
+    codes doesn't have it."""
 
-    def __init__(self, code, status=3, place=None):
+    def __init__(self, code, status=3, place=None, words=None):
         super().__init__(code)
-        self.code, self.status, self.place = code, status, place
+        self.code, self.status, self.place, self.words = code, status, place, words
 
 
 @contextlib.contextmanager

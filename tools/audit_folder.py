@@ -2,7 +2,7 @@
 import fnmatch, multiprocessing, os, re, signal, subprocess
 from dataclasses import dataclass
 
-from audit import SIZES, Refused, count, read, within
+from audit import SIZES, Refused, count, read
 from audit_csv import pieces_of
 from audit_inputs import Made, file_of
 from audit_index import Entry
@@ -127,13 +127,14 @@ def checked(state, rule, path, plan):
         return done.stdout
     said = done.stderr.decode('utf-8', 'replace').splitlines() or [f'plandesk: status {done.returncode}']
     role, code = (REFUSED.match(said[0]) or re.match('()(.*)', said[0])).groups()
+    # what the program says before its explanation names a file that is removed
+    words = ' '.join(said[1:])
+    words = (words.partition(' it means: ')[2] or words).strip() or None
     if role != 'plan':
-        raise StateRefused(f'{role}: {code}' if role else code, done.returncode if done.returncode in (3, 5, 6) else 3)
+        raise StateRefused(f'{role}: {code}' if role else code, done.returncode if done.returncode in (3, 5, 6) else 3, None, words)
     match = LINE.match(code)
     value = f' {quoted([plan.lines[int(match[1]) - 1]])}' if match and int(match[1]) <= len(plan.lines) else ''
-    fault = Refused(code + value)
-    fault.words = ' '.join(said[1:]).partition(': ')[2] or None
-    raise fault
+    raise Refused(code + value, words=words)
 
 
 def outcome(state, job):
@@ -166,8 +167,8 @@ def tried(state, job, meanings):
     except StateRefused:
         raise
     except Refused as fault:
-        rule = next((rule for rule in [*state.rules] if fault.code != 'NoRule'), None) and chosen_rule(state.rules, job.path)
-        words = getattr(fault, 'words', None) or meaning_of(fault.code, meanings)
+        rule = None if fault.code == 'NoRule' else chosen_rule(state.rules, job.path)
+        words = fault.words or meaning_of(fault.code, meanings)
         return Outcome(Entry(job.path, kind=rule and rule.kind, districts=rule and rule.districts, fault=fault.code, words=words))
 
 
@@ -179,7 +180,7 @@ def at_once(job):
     try:
         return tried(SHARED['state'], job, SHARED['meanings'])
     except StateRefused as fault:
-        return fault.code, fault.status, fault.place
+        return fault.code, fault.status, fault.place, fault.words
 
 
 def outcomes(state, jobs, meanings, workers):
@@ -189,6 +190,5 @@ def outcomes(state, jobs, meanings, workers):
     with multiprocessing.get_context('fork').Pool(min(workers, max(len(jobs), 1)), signal.signal, (signal.SIGINT, signal.SIG_IGN)) as pool:
         for found in pool.imap(at_once, jobs):
             if not isinstance(found, Outcome):
-                code, status, place = found
-                raise Refused(code, status, place)
+                raise Refused(*found)
             yield found

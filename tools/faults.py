@@ -11,9 +11,9 @@ def tell(tool, fault, meanings, words=False):
     """Prints a fault on standard error, and returns the status. At a terminal, or if words are asked for, a second line says what
     to do."""
     print(': '.join([tool, *([fault.place] if fault.place else []), fault.code]), file=sys.stderr)
-    meaning = meaning_of(fault.code, meanings)
+    meaning = fault.words or meaning_of(fault.code, meanings)
     if meaning and (words or sys.stderr.isatty()):
-        print(f'{meaning}.', file=sys.stderr)
+        print(f'{meaning.rstrip(".")}.', file=sys.stderr)
     return fault.status
 
 
