@@ -96,7 +96,9 @@ pub(crate) fn part_from<D: SectorDevice>(
 pub(crate) fn read_part(row: &Row) -> Option<Part>
     ensures { ReadsPart row.now result }
 {
-    let plan = plan_in(row.key.as_slice())?;
+    let Some(plan) = plan_in(row.key.as_slice()) else {
+        return None;
+    };
     match read_chunks(row.value.as_slice()) {
         None => None,
         Some(numbers) => Some(Part { plan, numbers }),

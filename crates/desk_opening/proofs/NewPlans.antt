@@ -11,7 +11,7 @@ name_told key name read is told = subst (λ (o : Option (List ℕ)). MatchOption
   where
     by : (b : Bool) → is_plan_name name ≡ b → MatchOption (cond b (Some name) None) ((other : List ℕ) → IsPlanName other → key ≡ key_of (named other) → ⊥) (λ n. key ≡ key_of (named n))
     by true named_so = told.is
-    by false not_named other is_name same =
+    by false not_named = λ other is_name same.
         let keys : ◌≡◌ {A = List ℕ} (80 ∷ name) (80 ∷ other) = sym told.is ∙ same in
         let names : name ≡ other = cc in
         let clash : false ≡ true = sym not_named ∙ ap is_plan_name names ∙ is_name in
