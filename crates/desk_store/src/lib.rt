@@ -2,9 +2,9 @@
 //!
 //! Seen as `desk_of`, the desk that is shown, `disk_of`, the device, and `Keeps`: each image opens to what is shown. `prepare`, `commit`,
 //! `command`: `Does`. An accepted command has the desk's step, and at every moment each image opens to the desk before or after; a refused
-//! one leaves the desk. Halted comes after a fault, Full for want of pages, journal pages, numbers or levels (`depth_law`: for want of levels
-//! never if the command writes fewer than 50 rows and the stored tree has at most five levels). A commit takes no memory and succeeds unless
-//! the device fails. `Clerk::ask`: the desk's answer. `begin_load`, `load_batch`, `seal`: geo_tables' at the clerk.
+//! one leaves the desk. Halted comes after a fault, Full for want of pages, journal pages, numbers or levels (`depth_law`: of levels never
+//! over a tree of at most five, if the command writes fewer than 50 rows). A commit takes no memory and succeeds unless the device fails.
+//! `Clerk::ask`: the desk's answer. `begin_load`, `load_batch`, `seal`: geo_tables' at the clerk.
 //! `sweep_step`: store_sweep's; a load under way goes on. `Clerk::open`: at each moment each image opens to a desk to which one opened
 //! before, and at Ok the clerk keeps one of these (`any_moment`, `opened`, with [their
 //! premise](docs/PROOFS.md#the-premise-of-every-clause-on-openings)). Of any device a clerk who is given shows the desk of the pages found
