@@ -21,7 +21,7 @@ pub(crate) static AUDIT: [FaultRow; 6] = [
         "42.4.1.a.range",
         "",
         "",
-        "One district has over 5 percent more people than another (Iowa Code 42.4(1)a, Senate and House plans).",
+        "One district has more than 5 percent more people than another (Iowa Code 42.4(1)a, Senate and House plans).",
         "The report's `range` names the most and the least populous district. Move blocks until no district exceeds another by more than 5 percent; other districts may exceed the limit too.",
     ),
     (
@@ -36,7 +36,7 @@ pub(crate) static AUDIT: [FaultRow; 6] = [
         "",
         "",
         "A district is not contiguous, or it has no block (Iowa Code 42.4(3)). Blocks that touch only at a corner are not neighbours.",
-        "The report's `contiguity` gives for each such district two blocks that no path within the district joins. Join its parts, or give each part to a neighbouring district. If the blocks do share an edge, check the neighbour file.",
+        "The report's `contiguity` gives for each such district two blocks that no path within it joins, or no blocks if it has none. Join its parts, or give each part to a neighbouring district. If the blocks do share an edge, check the neighbour file.",
     ),
     (
         "42.4.6",

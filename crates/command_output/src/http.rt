@@ -173,7 +173,7 @@ pub(crate) static REQUESTS: [FaultRow; 17] = [
         "",
         "507",
         "The store has no room for the change; nothing was changed.",
-        "Delete plans and try again later, while the server reclaims their space; or move to a larger store. `plandesk stat` shows what no longer fits, and whether the journal is too small.",
+        "Delete plans and try again later, while the server reclaims their space; or move to a larger store. `plandesk stat`, with the server stopped, shows what no longer fits, and whether the journal is too small.",
     ),
     (
         "Memory",

@@ -50,6 +50,8 @@ pub struct Door {
     came: Condvar,
     went: Condvar,
     waits: AtomicU64,
+    /// 1 while a connection that was refused waits for another one to end, and none has given way.
+    lacks: AtomicU64,
     faults: AtomicU64,
     is_over: AtomicBool,
     marks: Vec<Mark>,
@@ -161,6 +163,7 @@ impl Door {
             came: Condvar::new(),
             went: Condvar::new(),
             waits: AtomicU64::new(0),
+            lacks: AtomicU64::new(0),
             faults: AtomicU64::new(0),
             is_over: AtomicBool::new(false),
             marks,
@@ -179,7 +182,9 @@ impl Door {
 
     /// Whether a connection waits to which no other has given way, which has then, or all are to give way.
     pub fn lets_another_in(&self) -> bool {
-        self.waits.swap(0, Ordering::SeqCst) > 0 || self.is_over()
+        self.waits.swap(0, Ordering::SeqCst) > 0
+            || self.lacks.swap(0, Ordering::SeqCst) > 0
+            || self.is_over()
     }
 
     /// Whether each connection gives way once its requests are answered.
@@ -233,11 +238,12 @@ impl Door {
             MutexGuard::unlock(entrance);
             return false;
         }
-        self.waits.store(1, Ordering::SeqCst);
         let ended = entrance.ended;
+        self.lacks.store(1, Ordering::SeqCst);
         let entrance = self.went.wait_while(rt, entrance, |entrance| {
             entrance.ended == ended && !entrance.is_shut
         });
+        self.lacks.store(0, Ordering::SeqCst);
         MutexGuard::unlock(entrance);
         true
     }
