@@ -1,13 +1,14 @@
 """For tests/checks, tests/clauses, tests/census and tests/reads: the files of an invented state of four blocks in two counties, and
 runs of the program over texts, which it reads from files, or from pipes in pieces.
 
-Before it: rt run in crates/plandesk.
+tried.py finds the program.
 """
 import json, os, subprocess, tempfile, threading
 from pathlib import Path
 
+from tried import program
+
 here = os.path.dirname(os.path.abspath(__file__))
-program = os.path.join(here, '../crates/plandesk/out/plandesk')
 NOWHERE = Path(here, 'nowhere')
 NUMBERS = '0000001', '0000002', '0000003', '0000004', '0000005'
 PEOPLE = '2000', '505', '505', '495', '495'

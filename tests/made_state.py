@@ -1,12 +1,13 @@
 """The files of a made state, and runs of the program over stores in files: what tests/loads, tests/stores, tests/faults,
 tests/spoiled, tests/sweeps, tests/seats, tests/tables and tests/power share.
 
-The files are put together by the rules of docs/FORMATS.md.
+The files are put together by the rules of docs/INPUT-FILES.md.
 """
 import os, resource, subprocess
 
+from tried import program
+
 here = os.path.dirname(os.path.abspath(__file__))
-program = os.path.join(here, '../crates/plandesk/out/plandesk')
 WIDTH = 50
 SECTOR = 4_096
 FILES = 'geo', 'seg1', 'seg2', 'seg3', 'gal'

@@ -1,7 +1,7 @@
 """For tests/stores, tests/sweeps, tests/sweeps_beside, tests/seats, tests/wire, tests/pieces, tests/kept, tests/tables and tests/filled: stores in
 files, which a state was loaded into, served on 127.0.0.1, and what they are asked.
 
-Before it: rt run in crates/plandesk.
+tried.py finds the program.
 """
 import contextlib, http.client, os, socket, subprocess, tempfile, time
 

@@ -4,7 +4,7 @@ from html.parser import HTMLParser
 
 from tooling import root, tool
 
-VOID = 'meta', 'rect', 'line', 'circle'
+VOID = 'meta', 'rect', 'line', 'circle', 'wbr', 'link'
 
 
 def section(name):
