@@ -42,14 +42,15 @@ def hashed(path, name):
 
 
 def version_of(program):
-    """The line that a program prints of its version."""
+    """The first line that a program prints of its version."""
     try:
         done = subprocess.run([os.path.abspath(program), '--version'], stdin=subprocess.DEVNULL, capture_output=True, text=True, timeout=60)
     except (OSError, ValueError, subprocess.SubprocessError):
         raise Refused('NoVersion') from None
-    if done.returncode != 0 or not VERSION.match(done.stdout.strip()):
+    version = done.stdout.partition('\n')[0].strip()
+    if done.returncode != 0 or not VERSION.match(version):
         raise Refused('NoVersion')
-    return done.stdout.strip()
+    return version
 
 
 def date_of(told):
