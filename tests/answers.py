@@ -1,7 +1,7 @@
 """For tests/streams, tests/wire, tests/pieces, tests/kept, tests/tables and tests/filled: requests to a desk with the sample
 geography, and what it answers.
 
-The answers are put together by the rules of docs/FORMATS.md, docs/FAULTS.md, docs/LAW.md and docs/REPORT.md.
+The answers are put together by the rules of docs/INPUT-FILES.md, docs/ERRORS.md, docs/LAW.md and docs/REPORT.md.
 """
 import json
 

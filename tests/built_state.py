@@ -1,6 +1,6 @@
 """For tests/clauses: states that are put together from blocks and pairs of neighbours, their files and their plans.
 
-The files are put together by the rules of docs/FORMATS.md.
+The files are put together by the rules of docs/INPUT-FILES.md.
 """
 import collections
 from checking import STATE, block, header, neighbours, plan, segment

@@ -1,7 +1,7 @@
 """The files of a made state, and runs of the program over stores in files: what tests/loads, tests/stores, tests/faults,
 tests/spoiled, tests/sweeps, tests/seats, tests/tables and tests/power share.
 
-The files are put together by the rules of docs/FORMATS.md.
+The files are put together by the rules of docs/INPUT-FILES.md.
 """
 import os, resource, subprocess
 

@@ -1,4 +1,4 @@
-"""For tests/tables: a plain desk of lists, what it answers, and the rows that its store has by docs/FORMATS.md; commands to it;
+"""For tests/tables: a plain desk of lists, what it answers, and the rows that its store has by docs/dev/STORE-FORMAT.md; commands to it;
 and comparisons of a store, and of what a served one answers, with it.
 """
 import contextlib, copy

@@ -7,14 +7,15 @@ limit=240
 declare -A longer=([first_build]=900 [wrong_bodies]=5400)
 # these go side by side, one a processor, the longest first; what those below time, and the memory that wrong_bodies takes, they have alone
 beside=('first_build python3' 'hostile python3 rustc' 'report_files python3' 'plan_files python3' 'desks python3' 'refused_memory python3 rustc'
-        'openapi python3 rustc' 'migrates python3 rustc' 'ordered python3 rustc' 'names python3' 'exports python3' 'streams python3'
+        'openapi python3 rustc' 'audit_files python3' 'feeds python3' 'migrates python3 rustc' 'ordered python3 rustc' 'names python3' 'exports python3' 'streams python3'
         'wire python3 rustc' 'tables python3 rustc' 'filled python3' 'limits python3' 'faults python3 rustc' 'pieces python3 rustc'
         'clauses python3' 'sweeps python3 rustc' 'spoiled python3' 'release python3 git tar xz sha256sum curl' 'stores python3' 'reports python3'
         'explained python3' 'stat python3' 'verify python3' 'loads python3' 'traces python3 rustc' 'kept python3 rustc' 'checks python3'
-        'old_stores python3' 'trust python3' 'census python3' 'reads python3 rustc' 'words python3' 'prose python3')
+        'old_stores python3' 'trust python3' 'census python3' 'reads python3 rustc' 'words python3' 'generated python3' 'prose python3'
+        'closed_streams python3' 'full_disk python3 unshare mount')
 alone=('prebuilt python3' 'kept_connections python3' 'sweeps_beside python3' 'serve python3' 'seats python3 rustc' 'watched python3'
        'units python3 systemd-analyze flock setpriv' 'clients python3' 'proxy python3 nginx openssl' 'browser python3 nginx openssl chromium'
-       'examples python3 curl' 'wrong_bodies python3')
+       'examples python3 curl' 'tasks python3 curl' 'wrong_bodies python3')
 # these prove, and tests/program leaves them out
 proving=' first_build wrong_bodies '
 

@@ -1,5 +1,5 @@
-"""For tests/tables: an independent reader of stores, which goes by docs/FORMATS.md ('Stores') alone. It takes a store's file
-apart, down to the desk that its rows say, and asserts on the way what that page and docs/MODELS.md ('The store above its
+"""For tests/tables: an independent reader of stores, which goes by docs/dev/STORE-FORMAT.md ('Stores') alone. It takes a store's file
+apart, down to the desk that its rows say, and asserts on the way what that page and the heads of the crates ('The store above its
 pages') promise of them. Beside it a small writer, which puts rows into a store at rest, or takes them out, and makes one anew of rows.
 """
 import collections, re

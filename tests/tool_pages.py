@@ -1,26 +1,26 @@
-"""For tests/plan_files, tests/reports, tests/report_files and tests/neighbours: the sections of docs/TOOLS.md, and pages of HTML."""
+"""For tests/plan_files, tests/reports, tests/report_files and tests/neighbours: the parts of docs/TOOLS.md on tools, and pages of HTML."""
 import os, re, runpy, sys
 from html.parser import HTMLParser
 
 from tooling import root, tool
 
-VOID = 'meta', 'rect', 'line', 'circle'
+VOID = 'meta', 'rect', 'line', 'circle', 'wbr', 'link'
 
 
 def section(name):
-    """The part of docs/TOOLS.md on a tool."""
+    """The part of docs/TOOLS.md that is generated from a tool's help, which tests/generated compares with it."""
     with open(os.path.join(root, 'docs/TOOLS.md')) as page:
-        found = re.search(rf'^## `tools/{name}`.*?(?=^## |\Z)', page.read(), re.M | re.S)
+        found = re.search(rf'^<!-- generated: tools/{name} -->\n.*?^<!-- generated: end -->$', page.read(), re.M | re.S)
     return found[0]
 
 
 def is_explained(name):
-    """The page has each code of the tool with its meaning, and each option. The help has them too, with what to do and an example."""
+    """The help has each code of the tool with its meaning and what to do, each option, and an example; the page has them too."""
     said, sys.path[:0] = section(name), [os.path.join(root, 'tools')]
     found = runpy.run_path(os.path.join(root, 'tools', name))
     meanings = {**found['MEANINGS'], **found.get('WARNINGS', {})}
-    rows = dict(re.findall(r'^\| `(\w+)[^`|]*` \| (.*?) \|$', said, re.M))
-    assert rows == {code: meaning.partition('. ')[0] for code, meaning in meanings.items()}, (rows, meanings)
+    rows = set(re.findall(r'^\| `(\w+)[^`|]*` \| .*? \| .* \|$', said, re.M))
+    assert rows == set(meanings), rows ^ set(meanings)
     assert all(meaning.partition('. ')[2] for meaning in meanings.values()), meanings
     help_ = tool(name, '--help')
     assert f'tools/{name} ' in help_ and all(f'  {code}: ' in help_ for code in meanings), help_

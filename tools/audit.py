@@ -1,8 +1,8 @@
-"""For tools/report and tools/desk: the clauses that an audit judges, and a report, which is read from its JSON.
+"""For tools/report, tools/desk and tools/audit: the tests that an audit judges, and a report, which is read from its JSON.
 
-docs/REPORT.md has each key, and docs/LAW.md each clause: what is said of the law here stands there too.
+docs/REPORT.md has each key, and docs/LAW.md each test: what is said of the law here stands there too.
 """
-import json, os, sys
+import contextlib, json, os, sys
 from collections import Counter
 from dataclasses import dataclass
 from fractions import Fraction
@@ -17,11 +17,22 @@ GAP = 'district', 'from', 'to'
 
 
 class Refused(Exception):
-    """Why there is no page: what is told, and the status."""
+    """Why there is no result: what is printed, the status, the file in which the fault is, and what to do, if the tool's own table of
+    codes doesn't have it."""
 
-    def __init__(self, code, status=3):
+    def __init__(self, code, status=3, place=None, words=None):
         super().__init__(code)
-        self.code, self.status = code, status
+        self.code, self.status, self.place, self.words = code, status, place, words
+
+
+@contextlib.contextmanager
+def within(place):
+    """Names this file in each fault that comes from within and names none."""
+    try:
+        yield
+    except Refused as fault:
+        fault.place = fault.place or place
+        raise
 
 
 @dataclass(frozen=True)
@@ -38,7 +49,7 @@ CLAUSES = (
     Clause('42.4.1.a.mean', '42.4(1)a', ('senate', 'house'), 'Mean deviation',
            'the total of the absolute deviations of all districts from the ideal, divided by the number of districts, may not exceed '
            'one percent of the ideal'),
-    Clause('42.4.1.a.range', '42.4(1)a', ('senate', 'house'), 'Largest beside smallest',
+    Clause('42.4.1.a.range', '42.4(1)a', ('senate', 'house'), 'Overall range',
            'no senatorial district may have a population that exceeds that of another by more than five percent, and the same of '
            'representative districts'),
     Clause('42.4.1.b', '42.4(1)b', ('congress',), 'Each congressional district',
@@ -84,12 +95,33 @@ class Report:
         return Fraction(100 * total, self.districts * self.population) if self.population else None
 
     def asked(self):
-        """The clauses that are judged of such a plan."""
+        """The tests that are judged of such a plan."""
         return [clause for clause in CLAUSES if self.kind in clause.kinds and clause.name not in self.not_asked]
 
-    def over(self):
-        """The districts that a limit on people names."""
+    def named(self):
+        """The districts that the report names for their people: each one of a congressional plan that is beyond its limit, else the
+        most and the least populous one if they are too far apart."""
         return set(self.congress) if self.kind == 'congress' else set(self.range or ())
+
+    def beyond(self):
+        """The districts that are beyond the limit on people. Of a legislative plan they have over five percent more than the least."""
+        if self.kind == 'congress':
+            return set(self.congress)
+        least = min(self.populations)
+        return {district for district, people in enumerate(self.populations, 1) if 20 * people > 21 * least}
+
+    def spread(self):
+        """By how many percent of the least populous district the most populous one has more; none if nobody lives there."""
+        least = min(self.populations)
+        return Fraction(100 * (max(self.populations) - least), least) if least else None
+
+    def farthest(self):
+        """The deviation in percent of the district that is farthest from the ideal."""
+        return max(map(self.percent, self.populations), key=abs) if self.population else None
+
+    def of_missing(self):
+        """The tests that are not met, besides the one of blocks without a district, if there are such blocks."""
+        return [clause for clause in CLAUSES[1:] if self.unassigned and clause.name in self.broken]
 
 
 def is_number(value, low=0, high=PEOPLE):
@@ -259,14 +291,35 @@ def figures(report, clause):
 
 def result(report, clause):
     if clause.name in report.not_asked:
-        return 'not asked'
-    return 'broken' if clause.name in report.broken else 'kept'
+        return 'not judged'
+    return 'not met' if clause.name in report.broken else 'met'
 
 
 def verdict(report):
-    if not report.broken:
-        return 'breaks no clause that was judged'
-    return f'breaks {len(report.broken)} of the {len(report.asked())} clauses that were judged'
+    asked, broken = len(report.asked()), len(report.broken)
+    if broken in (0, asked):
+        return f'meets {"none of the" if broken else "all"} {asked} tests that were judged'
+    return f'does not meet {broken} of the {asked} tests that were judged'
+
+
+def not_met(report):
+    """The titles of the tests that a plan doesn't meet."""
+    return [clause.title for clause in CLAUSES if clause.name in report.broken]
+
+
+def and_words(words):
+    """Words with commas between them, and an 'and' before the last."""
+    return ' and '.join([', '.join(words[:-1]), words[-1]] if len(words) > 1 else words)
+
+
+def missing_words(report):
+    """That what is not met may come of the blocks without a district."""
+    titles = [f'‘{clause.title}’' for clause in report.of_missing()]
+    if not titles:
+        return ''
+    have = ('has', 'counts') if report.unassigned == 1 else ('have', 'count')
+    return (f'{count(report.unassigned, "block")} of the state {have[0]} no district and {have[1]} in none. That {and_words(titles)} '
+            f'{"is" if len(titles) == 1 else "are"} not met may come of that: give every block a district, and audit again.')
 
 
 def put(said, tool):

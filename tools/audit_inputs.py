@@ -37,7 +37,7 @@ def hashed(path, name):
                 digest.update(piece)
                 size += len(piece)
     except (OSError, ValueError):
-        raise Refused(f'Unreadable {path}') from None
+        raise Refused('Unreadable', place=path) from None
     return File(name, size, digest.hexdigest())
 
 

@@ -18,11 +18,14 @@ COUNTIES = 3
 
 @dataclass(frozen=True)
 class More:
-    """Each as far as it is known; a link is its words and its address."""
+    """Each as far as it is known; a link is its words and its address, the notes say what was changed in a plan's file, and the
+    facts are more terms with their HTML."""
     names: Names = Names()
     ground: Ground = None
     made: Made = None
     links: tuple = ()
+    notes: tuple = ()
+    facts: tuple = ()
 
 
 def links_part(links):
@@ -41,7 +44,7 @@ def found_again(ground):
 def made_part(made, ground):
     """What was audited, as far as somebody told it, and when the page was made."""
     said = [f'Asked of a desk: {made.source}.'] if made.source else []
-    said.append(f'The program: {made.version}.' if made.version else 'The version of the program was not told.')
+    said.append(f'The program: {made.version}.' if made.version else 'The version of the program is not known.')
     if len(made.files) == 1:
         said.append('No other file was named, so this page does not say which plan, census files and neighbours were audited.')
     said += [found_again(ground)] if ground else []

@@ -1,7 +1,7 @@
 """For tools/report: where a report comes from, with its plan, its neighbours and its people: from files, or from a served desk."""
 import os, re, sys
 
-from audit import LARGEST, Refused
+from audit import LARGEST, Refused, within
 from header_file import people_of
 from plan_pieces import agree, ground_of, read_file, read_neighbours, read_plan
 from served import Desk, districts, is_name, people
@@ -15,7 +15,7 @@ def bytes_of(path):
         with open(path, 'rb') as file:
             return file.read(LARGEST + 1)
     except (OSError, ValueError):
-        raise Refused(f'Unreadable {path}') from None
+        raise Refused('Unreadable', place=path) from None
 
 
 def is_revision(word):
@@ -23,7 +23,16 @@ def is_revision(word):
 
 
 def near_of(path):
-    return None if path is None else read_neighbours(read_file(path))
+    """The blocks and pairs of a neighbour file, if one is named."""
+    if path is None:
+        return None
+    with within(path):
+        return read_neighbours(read_file(path))
+
+
+def plan_in(path):
+    with within(path):
+        return read_plan(read_file(path))
 
 
 class Files:
@@ -32,7 +41,15 @@ class Files:
 
     def __init__(self, given):
         self.given = given
-        self.name = 'standard input' if given.file == '-' else os.path.basename(given.file)
+        self.place = 'standard input' if given.file == '-' else given.file
+        self.name = os.path.basename(self.place)
+
+    def plan_of(self):
+        """The plan and its revision, as tables name them: the file that is known, and no revision."""
+        return os.path.basename(self.given.plan) if self.given.plan else self.name, None
+
+    def before_of(self):
+        return os.path.basename(self.given.before), None
 
     def report(self):
         return bytes_of(self.given.file)
@@ -48,19 +65,19 @@ class Files:
         """The plan with its neighbours, which have to be those of the report."""
         if self.given.plan is None:
             return None
-        ground = ground_of(read_plan(read_file(self.given.plan)), near_of(self.given.gal), self.people())
+        ground = ground_of(plan_in(self.given.plan), near_of(self.given.gal), self.people())
         agree(ground, report)
         return ground
 
     def plans(self):
         """The districts in the plan before and in the plan, and the people."""
-        before, after = (read_plan(read_file(path)) for path in (self.given.before, self.given.plan))
+        before, after = (plan_in(path) for path in (self.given.before, self.given.plan))
         return before, after, self.people()
 
 
 class AtDesk:
     """A revision of a served desk, which is the last one where none is named; so are those of its companions."""
-    name = 'the report'
+    name, place = 'the report', None
 
     def __init__(self, given):
         if not is_name(given.plan):
@@ -72,9 +89,18 @@ class AtDesk:
         self.plan, self.number = given.plan, int(given.revision) if given.revision else self.last(given.plan)
         self.beside = {kind: (name, int(number) if number else self.last(name)) for kind, (name, number) in beside.items()}
         names = ' and '.join(f'{name}, revision {number}' for name, number in self.beside.values())
-        self.title = f'{self.plan}, revision {self.number}' + (f' beside {names}' if names else '')
+        self.title = f'{self.plan}, revision {self.number}' + (f' audited with {names}' if names else '')
         self.source = f'{given.desk}: {self.title}'
         self.address = f'{given.desk.rstrip("/")}/plans/{self.plan}/revisions/{self.number}'
+
+    def plan_of(self):
+        return self.plan, self.number
+
+    def before_number(self):
+        return self.number - 1 if self.given.before is None else int(self.given.before)
+
+    def before_of(self):
+        return self.plan, self.before_number()
 
     def words(self, word):
         """A companion's name and its revision, as far as it is named."""
@@ -117,5 +143,4 @@ class AtDesk:
         return ground
 
     def plans(self):
-        before = self.number - 1 if self.given.before is None else int(self.given.before)
-        return self.districts(before), self.districts(self.number), self.people()
+        return self.districts(self.before_number()), self.districts(self.number), self.people()

@@ -1,7 +1,7 @@
 """For tools/report: a report as lines for a terminal."""
 import itertools
 
-from audit import CLAUSES, KINDS, count, decimal, exact, figures, grouped, result, verdict
+from audit import CLAUSES, KINDS, count, decimal, exact, figures, grouped, missing_words, result, verdict
 from audit_more import MOST, SOME, More, found_again, numbered
 
 BAR = 20
@@ -22,6 +22,12 @@ def bar(percent, widest):
     return f'{below:>{BAR}}|{above:<{BAR}}'.rstrip()
 
 
+def people_mark(report, district):
+    if district in report.named():
+        return '  named'
+    return '  above the limit' if district in report.beyond() else ''
+
+
 def people_lines(report):
     far = [report.percent(people) for people in report.populations]
     rows = [(str(d), grouped(people), exact(people - report.ideal(), sign=True), decimal(percent, sign=True))
@@ -32,7 +38,7 @@ def people_lines(report):
     yield lines[0]
     for d, (text, percent) in enumerate(zip(lines[1:], far), 1):
         picture = '' if percent is None else bar(percent, widest)
-        yield f'{text:<{wide}}  {picture}{"  named" if d in report.over() else ""}'.rstrip()
+        yield f'{text:<{wide}}  {picture}{people_mark(report, d)}'.rstrip()
 
 
 def gap_line(gap, names):
@@ -83,7 +89,7 @@ def made_lines(made, ground):
         yield f'  {made.source}'
     if ground:
         yield found_again(ground)
-    yield f'Program: {made.version or "not told"}'
+    yield f'Program: {made.version or "not known"}'
     yield f'Made: {made.date}'
 
 
@@ -96,9 +102,11 @@ def text(report, title, more=More()):
     yield ''
     for clause in CLAUSES:
         if report.kind in clause.kinds:
-            yield f'{result(report, clause):9}  {clause.name:14}  {clause.title}'
-            if result(report, clause) == 'broken':
-                yield f'           {figures(report, clause)}'
+            yield f'{result(report, clause):10}  {clause.name:14}  {clause.title}'
+            if result(report, clause) == 'not met':
+                yield f'            {figures(report, clause)}'
+    if report.of_missing():
+        yield missing_words(report)
     yield ''
     yield from people_lines(report)
     yield from lists(report, more)

@@ -1,10 +1,10 @@
-"""For tools/desk: which revisions a plan is audited beside."""
+"""For tools/desk: with which revisions a plan is audited."""
 import re
 
 from audit import Refused
 from folder import read_file
 
-# the kinds of plans that are audited beside a companion of this kind
+# the kinds of plans that are audited with a companion of this kind
 TAKES = {'senate': ('house',), 'congress': ('house', 'senate')}
 
 
@@ -39,11 +39,11 @@ class Companions:
         return name, number
 
     def read(self, path):
-        """A line for each pair: a plan, and the revision beside which it is audited. Empty lines and those that begin with # count
+        """A line for each pair: a plan, and the revision with which it is audited. Empty lines and those that begin with # count
         for nothing."""
         data = read_file(path)
         if data is None:
-            raise Refused('Unreadable')
+            raise Refused('Unreadable', place=path)
         for number, line in enumerate(data.decode('utf-8', 'replace').splitlines(), 1):
             words = line.split()
             if words and not words[0].startswith('#'):

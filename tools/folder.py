@@ -1,4 +1,4 @@
-"""For tools/desk, tools/export and tools/release: files that are written whole or not at all, and a folder that knows what each of
+"""For tools/desk, tools/audit, tools/export and tools/release: files that are written whole or not at all, and a folder that knows what each of
 its pages was made of."""
 import glob, json, os
 
@@ -42,10 +42,10 @@ def as_json(value):
     return (json.dumps(value, indent=1, sort_keys=True) + '\n').encode()
 
 
-def maker():
-    """What makes the pages: the bytes of these tools."""
+def maker(tool):
+    """What makes the pages of a tool: its bytes and those of its parts."""
     here = os.path.dirname(os.path.abspath(__file__))
-    return digest(b''.join(read_file(path) or b'' for path in sorted([*glob.glob(f'{here}/*.py'), f'{here}/desk'])))
+    return digest(b''.join(read_file(path) or b'' for path in sorted([*glob.glob(f'{here}/*.py'), f'{here}/{tool}'])))
 
 
 class Pages:
@@ -53,8 +53,8 @@ class Pages:
     the same again stays as it is, and one of an earlier run that isn't shown any more is taken away. A file that is there under a
     page's name, and that the manifest doesn't name, is refused."""
 
-    def __init__(self, path):
-        self.path, self.maker = path, maker()
+    def __init__(self, path, tool):
+        self.path, self.maker = path, maker(tool)
         self.known, self.now, self.made, self.saved = self.read(), {}, 0, 0
 
     def read(self):

@@ -1,6 +1,6 @@
 """For tools/report: the names of counties and cities in the census's geographic header, and the people of each block.
 
-docs/FORMATS.md has the fields that `plandesk` reads; the names are in field 88 of the records of counties and places.
+docs/INPUT-FILES.md has the fields that `plandesk` reads; the names are in field 88 of the records of counties and places.
 """
 import re
 from dataclasses import dataclass, field
@@ -35,10 +35,10 @@ def lines_of(path, fields, code):
         with open(path, 'rb') as file:
             for number, line in enumerate(file, 1):
                 if line.count(b'|') != fields - 1:
-                    raise Refused(f'{code} line {number}')
+                    raise Refused(f'{code} line {number}', place=path)
                 yield number, line
     except (OSError, ValueError):
-        raise Refused(f'Unreadable {path}') from None
+        raise Refused('Unreadable', place=path) from None
 
 
 def header_lines(path, levels):
@@ -66,28 +66,39 @@ def names_of(path):
         if name:
             names[code.decode('latin-1')] = name
     if not counties and not cities:
-        raise Refused('NoNames')
+        raise Refused('NoNames', place=path)
     return Names(counties, cities)
 
 
-def digits(field, code, number):
+def digits(field, code, number, path):
     if not re.match(rb'[0-9]{1,10}\Z', field):
-        raise Refused(f'{code} line {number}')
+        raise Refused(f'{code} line {number}', place=path)
     return int(field)
+
+
+def block_lines(header):
+    """The number of each block's record, and the block."""
+    for number, found in header_lines(header, (b'750',)):
+        block = b''.join(found[place] for place in (STATE, COUNTY, TRACT, BLOCK)).decode('latin-1')
+        if not re.match(r'[0-9]{15}\Z', block):
+            raise Refused(f'BadHeader line {number}', place=header)
+        yield digits(found[RECORD], 'BadHeader', number, header), block
+
+
+def blocks_of(header):
+    """The blocks of the state."""
+    found = frozenset(block for _, block in block_lines(header))
+    if not found:
+        raise Refused('NoStateBlocks', place=header)
+    return found
 
 
 def people_of(header, segment):
     """The people of each block: the first figure of the first segment, by the number of the block's record."""
-    records = {}
-    for number, found in header_lines(header, (b'750',)):
-        block = b''.join(found[place] for place in (STATE, COUNTY, TRACT, BLOCK)).decode('latin-1')
-        if not re.match(r'[0-9]{15}\Z', block):
-            raise Refused(f'BadHeader line {number}')
-        records[digits(found[RECORD], 'BadHeader', number)] = block
-    people = {}
+    records, people = dict(block_lines(header)), {}
     for number, line in lines_of(segment, SEGMENT_FIELDS, 'BadSegment'):
         record, count = line.split(b'|', 6)[4:6]
-        block = records.get(digits(record, 'BadSegment', number))
+        block = records.get(digits(record, 'BadSegment', number, segment))
         if block is not None:
-            people[block] = digits(count, 'BadSegment', number)
+            people[block] = digits(count, 'BadSegment', number, segment)
     return people

@@ -1,5 +1,5 @@
-"""For tools/plan: the text that a file's bytes are, or a refusal that names what else the file is."""
-import codecs, io, sys, zipfile
+"""For tools/plan and tools/audit: the text that a file's bytes are, or a refusal that names what else the file is."""
+import codecs, csv, io, sys, zipfile, zlib
 
 from audit import Refused
 
@@ -11,6 +11,22 @@ MARKUP = ('<', 'html'), ('{', 'json'), ('[', 'json')
 # kinds of changes, as they are told
 MARK, WIDE, LATIN = 'byte order mark taken off', 'file turned from UTF-16', 'file read as Latin-1'
 CRLF, CR, LAST = 'line ends turned from CR LF', 'line ends turned from CR', 'line end put after the last line'
+# what a system puts into a zip besides what somebody packed
+NOT_PACKED = '__MACOSX/', '.'
+# so many names stand in a fault's line
+NAMES = 12
+
+
+def short(text):
+    """What stands in a fault's line of a text that came from outside."""
+    found = ''.join(sign if ' ' <= sign <= '~' else '?' for sign in text.strip()[:41])
+    return found if len(found) <= 40 else f'{found[:38]}..'
+
+
+def quoted(texts):
+    """Texts that came from outside, as a fault's line names them."""
+    more = [f'and {len(texts) - NAMES} more'] if len(texts) > NAMES else []
+    return ' '.join([*(f"'{short(text)}'" for text in texts[:NAMES]), *more])
 
 
 def bytes_of(path):
@@ -41,7 +57,7 @@ def archive_kind(data):
 
 
 def kind_of(data):
-    """What the bytes are where they are no text."""
+    """What the bytes are if they are no text."""
     if data.startswith((b'PK\x03\x04', b'PK\x05\x06')):
         return archive_kind(data)
     if data.startswith((codecs.BOM_UTF32_LE, codecs.BOM_UTF32_BE)):
@@ -50,6 +66,78 @@ def kind_of(data):
     if found is None and not data.startswith((codecs.BOM_UTF16_LE, codecs.BOM_UTF16_BE)) and b'\x00' in data:
         return 'binary'
     return found
+
+
+def chosen(names, part):
+    """The one name that is meant: the one that is given, or the only one."""
+    if part is not None:
+        found = [name for name in names if part in (name, name.rpartition('/')[2])]
+        if len(found) != 1:
+            raise Refused(f"{'ManyParts' if found else 'NoPart'} {quoted(found or names)}".rstrip())
+        return found[0]
+    if len(names) != 1:
+        raise Refused(f'ManyParts {quoted(names)}' if names else 'NoPart')
+    return names[0]
+
+
+def unpacked(data, part, changes):
+    """The bytes of the one file in a zip."""
+    try:
+        with zipfile.ZipFile(io.BytesIO(data)) as archive:
+            names = [name for name in archive.namelist()
+                     if not name.endswith('/') and not name.startswith(NOT_PACKED) and '/.' not in name]
+            name = chosen(names, part)
+            with archive.open(name) as file:
+                found = file.read(LARGEST + 1)
+    # a file that is cut, or locked by a password, or packed by a way that Python doesn't know
+    except (zipfile.BadZipFile, zlib.error, EOFError, OSError, ValueError, RuntimeError):
+        raise Refused('BadArchive zip') from None
+    if len(found) > LARGEST:
+        raise Refused('TooLarge')
+    changes[f'file {short(name)} taken out of a zip'] += 1
+    return found
+
+
+def cell_text(value):
+    """What a cell of a spreadsheet shows; a number without a fraction has none."""
+    if value is None:
+        return ''
+    if isinstance(value, float) and value.is_integer():
+        return str(int(value))
+    return ' '.join(str(value).splitlines())
+
+
+def some_sheet(book, part):
+    """The sheet that is given, or the only one that has a value."""
+    sheets = {sheet.title: sheet for sheet in book.worksheets}
+    if part is not None:
+        return sheets[chosen(list(sheets), part)]
+    return sheets[chosen([title for title, sheet in sheets.items()
+                          if any(value is not None for row in sheet.iter_rows(values_only=True) for value in row)], None)]
+
+
+def sheet_text(data, part, changes):
+    """The rows of a sheet of a spreadsheet, with commas."""
+    try:
+        import openpyxl
+    except ImportError:
+        raise Refused('NoModule openpyxl', 2) from None
+    said = io.StringIO()
+    rows = csv.writer(said, lineterminator='\n')
+    try:
+        book = openpyxl.load_workbook(io.BytesIO(data), read_only=True, data_only=True)
+        sheet = some_sheet(book, part)
+        for row in sheet.iter_rows(values_only=True):
+            rows.writerow([cell_text(value) for value in row])
+            if said.tell() > LARGEST:
+                raise Refused('TooLarge')
+    except Refused:
+        raise
+    # what the module raises for a file that is cut or damaged is no part of its promises
+    except Exception:
+        raise Refused('BadArchive xlsx') from None
+    changes[f'sheet {short(sheet.title)} taken out of a spreadsheet'] += 1
+    return said.getvalue()
 
 
 def decoded(data, changes):
@@ -68,14 +156,28 @@ def decoded(data, changes):
         return data.decode('latin-1')
 
 
-def text_of(data, changes):
-    """The text of a file; what it had otherwise than a plan's file has is counted."""
-    kind = kind_of(data)
+def plain_text(data, kind, changes):
+    """The text of a file that is neither a zip nor a spreadsheet."""
     text = decoded(data, changes) if kind is None else ''
     begins = text.lstrip()[:1]
     kind = kind or next((kind for sign, kind in MARKUP if begins == sign), None) or ('binary' if '\x00' in text else None)
     if kind is not None:
         raise Refused(f'NotText {kind}')
+    return text
+
+
+def text_of(data, changes, part=None):
+    """The text of a file, of the one file in a zip, or of a sheet of a spreadsheet. What it had otherwise than a plan's file has is
+    counted."""
+    kind = kind_of(data)
+    if kind == 'zip':
+        data = unpacked(data, part, changes)
+        kind, part = kind_of(data), None
+    if kind == 'xlsx':
+        return sheet_text(data, part, changes)
+    if part is not None:
+        raise Refused('NoPart')
+    text = plain_text(data, kind, changes)
     both = text.count('\r\n')
     changes[CRLF] += both
     changes[CR] += text.count('\r') - both

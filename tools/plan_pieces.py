@@ -72,9 +72,9 @@ def read_file(path):
         with open(path, 'rb') as file:
             found = file.read(LARGEST + 1)
     except (OSError, ValueError):
-        raise Refused(f'Unreadable {path}') from None
+        raise Refused('Unreadable', place=path) from None
     if len(found) > LARGEST:
-        raise Refused(f'TooLarge {path}')
+        raise Refused('TooLarge', place=path)
     return found
 
 

@@ -1,8 +1,8 @@
-"""For tools/plan: a delimited text as rows, and which of its columns have the blocks and the districts."""
+"""For tools/plan and tools/audit: a delimited text as rows, and which of its columns have the blocks and the districts."""
 import csv, io, itertools, re
 
 from audit import Refused
-from plan_file import LARGEST
+from plan_file import LARGEST, quoted, short
 
 # a field is as long as the file lets it be
 csv.field_size_limit(LARGEST)
@@ -59,6 +59,10 @@ def widths(text, delimiter):
     return found, None
 
 
+def first_line(text):
+    return next((line for line in io.StringIO(text) if line.strip()), '')
+
+
 def delimiter_of(text):
     """The one delimiter by which the first row has several fields, and all of the first rows as many of them."""
     even, some, faults = [], [], []
@@ -73,7 +77,7 @@ def delimiter_of(text):
     if len(found) > 1:
         raise Refused(f'ManyDelimiters {" ".join(found)}')
     if not found:
-        raise faults[0] if faults else Refused('NoDelimiter')
+        raise faults[0] if faults else Refused(f'NoDelimiter {quoted([first_line(text)])}')
     return found[0]
 
 
@@ -81,48 +85,46 @@ def plain(head):
     return re.sub(r'[\W_]', '', head).upper()
 
 
-def short(text):
-    """What stands in a fault's line of a text that came from outside."""
-    return re.sub(r'[^ -~]', '?', text.strip())[:40]
-
-
-def told_column(told, heads, width):
+def column_at(given, cells, heads):
     """The column that an option names: by its number, from 1, or by its head."""
-    if re.match(r'[0-9]{1,9}\Z', told):
-        found = [int(told) - 1] if 1 <= int(told) <= width else []
+    if re.match(r'[0-9]{1,9}\Z', given):
+        found = [int(given) - 1] if 1 <= int(given) <= len(cells) else []
     else:
-        found = [place for place, head in enumerate(heads) if head.strip().casefold() == told.strip().casefold()]
-    if len(found) != 1:
-        raise Refused(f'{"ManyColumns" if found else "NoColumn"} {short(told)}')
+        found = [place for place, head in enumerate(heads) if head.strip().casefold() == given.strip().casefold()]
+    if not found:
+        raise Refused(f'NoColumn {short(given)} among {quoted(cells)}')
+    if len(found) > 1:
+        raise Refused(f'ManyColumns {short(given)}')
     return found[0]
 
 
-def one_of(found, heads, what):
+def one_of(found, cells, heads, what):
     """The one column that was found."""
     if not found:
-        raise Refused(f'No{what}Column')
+        raise Refused(f'No{what}Column among {quoted(cells)}')
     if len(found) > 1:
-        raise Refused(' '.join([f'Many{what}Columns', *(short(heads[place]) if heads else str(place + 1) for place in found)]))
+        raise Refused(' '.join([f'Many{what}Columns', *(short(cells[place]) if heads else str(place + 1) for place in found)]))
     return found[0]
+
+
+def named_so(heads, names):
+    return [place for place, head in enumerate(heads) if plain(head) in names]
 
 
 def columns_of(first, block, district):
-    """Whether the first row has heads, and the places of the blocks' column and the districts', where the options name none."""
+    """Whether the first row has heads, and the places of the blocks' column and the districts', if the options name none."""
     likely = [place for place, cell in enumerate(first) if BLOCK_LIKE.match(cell.strip()) or EXPONENT.match(cell.strip())]
     heads = [] if likely else first
     if block is not None:
-        block = told_column(block, heads, len(first))
-    elif heads:
-        block = one_of([place for place, head in enumerate(heads) if plain(head) in BLOCKS], heads, 'Id')
+        block = column_at(block, first, heads)
     else:
-        block = one_of(likely, heads, 'Id')
+        block = one_of(named_so(heads, BLOCKS) if heads else likely, first, heads, 'Id')
     if district is not None:
-        district = told_column(district, heads, len(first))
-    elif heads:
-        district = one_of([place for place, head in enumerate(heads) if plain(head) in DISTRICTS], heads, 'District')
+        district = column_at(district, first, heads)
     else:
         # of two columns without heads the other one
-        district = one_of([1 - block] if len(first) == 2 else [], heads, 'District')
+        others = [1 - block] if len(first) == 2 else []
+        district = one_of(named_so(heads, DISTRICTS) if heads else others, first, heads, 'District')
     if block == district:
         raise Refused('SameColumn')
     return bool(heads), block, district

@@ -43,7 +43,7 @@ impl Break {
     }
 }
 
-/// Tells the districts from `first` on of which the lowest roots are given.
+/// Returns the breaks of the districts from `first` on, by their lowest roots.
 pub(crate) fn tell(
     alloc: Global,
     geography: &Geography,

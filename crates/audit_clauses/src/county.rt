@@ -7,8 +7,8 @@ use desk_model::block::BlockId;
 /// How many numbers of blocks a county has: those of its tracts and blocks have ten digits.
 const NUMBERS: u64 = 10_000_000_000;
 
-/// The county of the blocks between two numbers. Blocks of one county mostly stand one after the other, so a block's number is divided
-/// only where another county begins.
+/// The county of the blocks between two numbers. Blocks of one county usually follow each other, so
+/// a block's number is divided only when the county changes.
 #[derive(Drop)]
 pub struct CountySpan {
     first: u64,
@@ -21,7 +21,7 @@ impl CountySpan {
     ghost use Rattle.std.specs.Prelude.{◌≡◌, ◌<◌};
     ghost use Rattle.desk_model.specs.claim.Block.{county_of};
 
-    /// Of no block.
+    /// A span that contains no block.
     pub fn none() -> CountySpan {
         CountySpan {
             first: 0,

@@ -1,7 +1,8 @@
 //! Laws of the definitions.
 ghost use Rattle.audit_clauses.specs.Laws.{BreaksAreOneList, BreaksFollow, RisingListsAreOne};
 
-/// The breaks of a plan's districts are one list: what tells them tells the same.
+/// The breaks of a plan's districts are one list: any two lists that satisfy the definition are
+/// equal.
 pub fn breaks_are_one_list()
     ensures { BreaksAreOneList }
 {}

@@ -1,14 +1,24 @@
-//! The clauses of Iowa Code 42.4: population, districts that don't hold together, divided counties and cities, nesting.
+//! The tests of Iowa Code 42.4: population, contiguity, divided counties and cities, nesting.
 //!
-//! Seen as lists of numbers. `populations`, `mean_breaks`, `range_breaks`, `congress_breaks`: sums over all blocks and inequalities of
-//! products of whole numbers, without a quotient or rounding.
+//! # Model
 //!
-//! Districts that don't hold together, 42.4(3): seen as paths within a district. `breaks`, both ways: each broken district with its least
-//! block, and the least one that no such path reaches. `DistrictTrees` of `parts`: the same for the parts of sixteen districts that are
-//! asked for, over one forest; `laws` join them.
+//! A plan is a list with the district of each block; a clause speaks of sums and paths over blocks.
 //!
-//! Divided counties and cities, 42.4(2), and nesting, 42.4(6): seen as the values of a group's blocks. Both ways: `divided_groups`, two
-//! blocks of a county or city with two values; `nesting_breaks`, no one senate value on all blocks.
+//! # Proved
+//!
+//! - `populations`, `mean_breaks`, `range_breaks`, `congress_breaks`: the sums over all blocks, and
+//!   inequalities between products of whole numbers. Nothing is divided or rounded.
+//! - `breaks`, 42.4(3): exactly the districts that are not contiguous, each with its least block
+//!   and the least block that no path within the district reaches. `DistrictTrees` finds the same
+//!   for sixteen districts at a time, over one forest; `laws` join the parts.
+//! - `divided_groups`, 42.4(2): exactly the counties and cities with blocks in two districts.
+//! - `nesting_breaks`, 42.4(6): exactly the districts whose blocks do not all have one senate
+//!   value.
+//!
+//! # Not proved
+//!
+//! That these definitions are the law; `docs/LAW.md` compares them with the Code. The depth of the
+//! union-find forest is measured, not proved.
 #![tactic(auto)]
 
 pub mod breaks;

@@ -5,7 +5,7 @@ ghost use Rattle.audit_clauses.specs.Marks.{AreUnseen, marked, IsDividedAt};
 
 use std::alloc::{AllocError, Global};
 
-/// The values of a group's blocks. A group has parts, told by numbers that never fall along the blocks.
+/// The values on a group's blocks. A group has parts, whose numbers never fall along the blocks.
 #[derive(Clone, Copy)]
 pub enum GroupMark {
     Unseen,
@@ -35,7 +35,7 @@ impl GroupMark {
     }
 }
 
-/// So many groups of which no block was seen.
+/// Marks of `count` groups of which no block was seen yet.
 pub fn unseen(alloc: Global, count: usize) -> Result<Vec<GroupMark>, AllocError>
     ensures { IfOk result (λ v. AreUnseen count v.items) }
 {

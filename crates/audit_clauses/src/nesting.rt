@@ -32,7 +32,7 @@ fn is_unnested(mark: &GroupMark) -> bool
     }
 }
 
-/// The districts from 1 on that are asunder, rising.
+/// Returns the districts from 1 on whose blocks have more than one value, rising.
 fn unnested(alloc: Global, marks: &[GroupMark]) -> Result<Vec<u16>, AllocError>
     requires { length marks.now ≤ 2 ^ 16 }
     ensures { IfOk result (λ v. AreExactly (IsUnnestedAt marks.now) v.items) }

@@ -36,7 +36,7 @@ fn is_own(own: &[bool], district: u16) -> bool
     own[part]
 }
 
-/// The plan with the districts of the own parts alone, and 0 for each other.
+/// The plan with only the districts of the own parts; all others are 0.
 fn own_plan(alloc: Global, plan: &[u16], own: &[bool]) -> Result<Vec<u16>, AllocError>
     ensures { IfOk result (λ v. v.items ≡ map (kept own.now) plan.now) }
 {

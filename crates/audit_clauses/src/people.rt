@@ -11,7 +11,7 @@ use std::alloc::{AllocError, Global};
 /// The people of a state and of a plan's districts.
 #[derive(Drop)]
 pub struct StatePeople {
-    /// The people of districts 1 to the last, by the district of each block. Blocks of no such district are left out.
+    /// The people of districts 1 to the last. Blocks with another district are not counted.
     pub districts: Vec<u32>,
     /// The people of the state, whether a district has them or not.
     pub state: u32,

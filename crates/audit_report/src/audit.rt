@@ -114,9 +114,9 @@ pub fn assemble(
     })
 }
 
-/// The report of a plan of `count` districts, by the district of each block, 0 for none; beside it, likewise, the `senate` plan
-/// that a house plan is nested in, and the plan for the `congress` that divides districts of a house or senate plan. Iowa Code
-/// 42.4.
+/// Returns the report of a plan of `count` districts. `plan` has the district of each block, 0 for
+/// none; so have `senate`, the plan in which a house plan is nested, and `congress`, the
+/// congressional plan that divides districts of a house or senate plan. Iowa Code 42.4.
 pub fn audit(
     alloc: Global,
     geography: &Geography,

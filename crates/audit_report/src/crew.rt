@@ -3,12 +3,12 @@ ghost use Rattle.std.specs.Prelude.{ℕ};
 
 use desk_model::gate::{Gate, NoGate};
 
-/// Who is told of each worker that begins. The workers pass its gate.
+/// Is notified of each worker that begins. The workers pass its gate.
 pub trait Crew: Gate {
-    // A worker, of so many, began to find its own share.
+    // Worker w of n began to find its own share.
     ghost begins: { Self → ℕ → ℕ → Type 0 };
 
-    /// A worker, of so many, begins.
+    /// Worker `worker` of `workers` begins.
     fn begin(&self, worker: u32, workers: u32)
         ensures { begins self.now worker workers };
 }

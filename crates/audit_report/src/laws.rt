@@ -3,7 +3,7 @@ ghost use Rattle.audit_report.specs.Laws.{ReportIsOne};
 
 use audit_clauses::laws::{breaks_are_one_list, rising_lists_are_one};
 
-/// A plan has one report: what reports on it tells the same.
+/// A plan has one report: any two reports that satisfy the definition are equal.
 pub fn report_is_one()
     ensures { ReportIsOne }
 {

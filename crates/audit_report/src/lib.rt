@@ -1,11 +1,23 @@
-//! The audit of a plan under Iowa Code 42.4, by one thread or several: the clauses that it breaks, and the figures beside them.
+//! The audit of a plan under Iowa Code 42.4: the report, made by one thread or by several.
 //!
-//! Seen as a report: a record with a field for each key. `audit`: exactly the clauses that apply to the kind and are broken, and each
-//! figure by its definition. Which districts the congressional plan divides is given exactly where there is one, and breaks no clause.
-//! `Report::to_json`: its text. `laws::report_is_one`: a plan has one report beside the same companions.
+//! # Model
 //!
-//! `audit_with` gives that report too, for every number of workers and whichever threads start. Each of so many workers began to find its
-//! own share of the pieces (`IsSharedOut`). That two workers work at the same time is tested.
+//! A report is a record with a field for each key of the JSON text.
+//!
+//! # Proved
+//!
+//! - `audit` returns the report of the plan: exactly those clauses that apply to its kind and that
+//!   it breaks, and each figure by its definition. `laws::report_is_one`: there is only one such
+//!   report.
+//! - A house plan's report lists the districts that the congressional plan divides exactly if that
+//!   plan is given. No clause depends on it.
+//! - `Report::to_json` returns the report's text.
+//! - `audit_with` returns the same report for every number of workers, whichever threads start.
+//!   Each worker begins to find its own share of the pieces (`IsSharedOut`).
+//!
+//! # Not proved
+//!
+//! That two workers run at the same time (tested), and who found a piece.
 #![tactic(auto)]
 
 pub mod audit;

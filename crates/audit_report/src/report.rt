@@ -33,10 +33,11 @@ pub struct Report {
     pub counties: Vec<u16>,
     /// The number of districts.
     pub districts: u16,
-    /// The districts that the plan for the congress beside the plan divides, where there is one: Iowa Code 42.4(6).
+    /// The districts that the given congressional plan divides, if there is such a plan: Iowa Code
+    /// 42.4(6).
     pub divided_by_congress: Option<Vec<u16>>,
     pub kind: Kind,
-    /// The house districts that aren't nested in the senate plan beside the plan: Iowa Code 42.4(6).
+    /// The house districts that are not nested in the given senate plan: Iowa Code 42.4(6).
     pub nesting: Vec<u16>,
     /// The clauses that a senate plan is wanting for.
     pub not_asked: Vec<Clause>,
@@ -151,7 +152,7 @@ impl Report {
         Ok(())
     }
 
-    /// The report as JSON. A key is put in before those that are there.
+    /// Returns the report as JSON. Each key is inserted before those already present.
     fn to_value(&self, alloc: Global) -> Result<Value, AllocError>
         ensures { IfOk result (λ v. view v ≡ report_data self.now) }
     {

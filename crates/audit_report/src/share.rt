@@ -48,8 +48,8 @@ fn find_parts<G: Gate>(
     Ok(found)
 }
 
-/// What a worker finds, once it has told that it begins, in its pieces: those that leave its number when they are divided by the
-/// number of workers, rising, each after the gate.
+/// Reports that a worker begins and returns what it finds in its pieces: those whose number leaves
+/// the worker's number when divided by the number of workers, rising, each after the gate.
 fn find_share<C: Crew>(
     alloc: Global,
     crew: &C,

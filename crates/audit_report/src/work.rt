@@ -65,7 +65,7 @@ impl<'a> Model for Work<'a> {
 }
 
 impl<'a> Work<'a> {
-    /// A plan of `count` districts beside its geography.
+    /// The work on a plan of `count` districts over a geography.
     pub fn new(
         geography: &'a Geography,
         kind: Kind,

@@ -17,9 +17,10 @@ use desk_model::kind::Kind;
 use std::alloc::{AllocError, Global};
 use std::thread::Threads;
 
-/// The report of a plan, as `audit` tells it, by so many workers. The work is cut into pieces: 0 is the populations and their
-/// clauses, 1 the divided counties and cities, 2 the nesting in each companion, and `3 + i` the contiguity of the districts from
-/// `16 * i + 1` to `16 * i + 16`, or to the last. Worker w does the pieces that leave w when they are divided by the number of
+/// Returns the report of a plan, equal to that of `audit`, made by several workers. The work is cut
+/// into pieces: 0 is the populations and their clauses, 1 the divided counties and cities, 2 the
+/// nesting in each companion, and `3 + i` the contiguity of the districts from `16 * i + 1` to `16
+/// * i + 16`, or to the last. Worker w does the pieces that leave w when divided by the number of
 /// workers, rising, each after the crew's gate. There are no more workers than pieces.
 pub fn audit_with<R: Threads + Sync, C: Crew + Sync>(
     rt: &R,

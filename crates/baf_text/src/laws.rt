@@ -7,7 +7,7 @@ pub fn read_is_listed()
     ensures { ReadIsListed }
 {}
 
-/// The fault that is told is the first line's that has one.
+/// The fault returned is the fault of the first line that has one.
 pub fn fault_is_first()
     ensures { FaultIsFirst }
 {}

@@ -1,7 +1,27 @@
-//! Block assignment files (B1 to B6): in the Census Bureau's layout `BLOCKID|DISTRICT`, read against a geography, and printed.
+//! Block assignment files: reads `BLOCKID|DISTRICT` lines against a geography, and prints them.
 //!
-//! Seen as the district of each block, where it is listed. `read`: a file is read exactly where it is one, else its first line's fault and
-//! within it the smaller code. `write`: the canonical text. `laws::printed_is_read`: that text is read as its assignment and as no other.
+//! # Example
+//!
+//! ```text
+//! BLOCKID|DISTRICT
+//! 190010001001001|01
+//! 190010001001002|ZZZ       unassigned
+//! ```
+//!
+//! # Model
+//!
+//! For each block of the geography the district, if the file lists the block.
+//!
+//! # Proved
+//!
+//! - `read` succeeds exactly if the text is a block assignment file. Otherwise it returns the fault
+//!   of the first faulty line, and in that line the smallest code (B1 to B5).
+//! - `write` prints the canonical text.
+//! - `laws::printed_is_read`: that text is read as its assignment, and as no other.
+//!
+//! # Not proved
+//!
+//! Its speed. Lines that resemble the line before are read by a shorter way (`near`).
 #![tactic(auto)]
 
 pub mod laws;

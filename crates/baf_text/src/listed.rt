@@ -11,7 +11,7 @@ use std::marker::Model;
 pub struct Listed {
     /// How many blocks there are.
     count: usize,
-    /// Where the part stands.
+    /// The place of the part's first block.
     first: usize,
     part: Vec<Option<u16>>,
 }
@@ -31,7 +31,7 @@ impl Listed {
     ghost use Rattle.std.specs.Prelude.{◌≡◌, ◌<◌, [], length, get_or, slice_set, Some, None, IfOk, OnOk};
     ghost use Rattle.baf_text.specs.Listed.{spread, IsListedPart};
 
-    /// A list of so many blocks, none of which is listed, with room for a part of that length.
+    /// A list of `count` blocks, none of which is listed, with room for a part of `room` blocks.
     pub(crate) fn none(alloc: Global, count: usize, room: usize) -> Result<Listed, AllocError>
         ensures { IfOk result (λ listed. listed ≡ spread 0 [] count) }
     {
@@ -79,7 +79,7 @@ impl Listed {
     }
 }
 
-/// What is listed of a place, where the list stands from the place `first` on.
+/// Returns what is listed for a place, for a part that begins at the place `first`.
 fn part_at(first: usize, part: &[Option<u16>], place: usize) -> Option<u16>
     ensures { result ≡ listed_at first part.now place }
 {

@@ -8,7 +8,8 @@ use desk_model::block::BlockId;
 use desk_model::decimal::Padded;
 use std::marker::Model;
 
-/// A block's number in fifteen digits. The next block's differs mostly in the last two alone.
+/// A block's number in fifteen digits. The next block's number usually differs only in the last
+/// two.
 #[derive(Drop)]
 pub struct NumberText {
     number: u64,

@@ -105,7 +105,8 @@ fn take_line(
 /// A row has this many bytes at least: a block's number, a bar and the end of the line.
 const ROW: usize = ID_DIGITS + 2;
 
-/// The list in which no block is listed, with room for as many rows as a text has at most.
+/// The list in which no block is listed, with room for the largest number of rows that the text may
+/// have.
 #[tactic(auto, using(crate::proofs::Parts::spread_none))]
 fn none_listed(alloc: Global, geography: &Geography, bytes: &[u8]) -> Result<Listed, AllocError>
     ensures { IfOk result (λ listed. listed ≡ map (λ _. None) geography.now.blocks) }
@@ -114,9 +115,10 @@ fn none_listed(alloc: Global, geography: &Geography, bytes: &[u8]) -> Result<Lis
     Listed::none(alloc, count, count.min(bytes.len() / ROW))
 }
 
-/// Reads a block assignment file for a plan of `n` districts. After the header each line with bytes is a block's number of
-/// 15 digits, a bar and a code: 1 to 3 digits for a district, or `ZZ`, `ZZZ` or nothing for an unassigned block. A line
-/// ends with LF or CRLF, and the last may lack its end. Memory is told only where it was refused.
+/// Reads a block assignment file for a plan of `n` districts. After the header, each line that is
+/// not empty is a block's number of 15 digits, a bar and a code: 1 to 3 digits for a district, or
+/// `ZZ`, `ZZZ` or nothing for an unassigned block. A line ends with LF or CRLF; the last line may
+/// have no end. Memory is returned only if an allocation was refused.
 pub fn read(alloc: Global, bytes: &[u8], geography: &Geography, n: u16) -> Result<Listed, BafFault>
     ensures listed { IfOk result (λ listed. IsOkAnd (body_read geography.now n bytes.now)
         (λ values. listed ≡ listed_of geography.now values)) }

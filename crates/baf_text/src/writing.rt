@@ -58,7 +58,7 @@ fn write_code(row: &mut [u8], end: usize, district: u16, kind: Kind) -> usize
     start
 }
 
-/// The line of a block, which stands from a place in a row on.
+/// The line of a block, which begins at the returned place of the row.
 fn row_of(id: BlockId, district: u16, kind: Kind) -> ([u8; ROOM], usize)
     ensures long { length result.0 ≡ 48 }
     ensures start { result.1 ≤ 48 }

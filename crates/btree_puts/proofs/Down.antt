@@ -188,6 +188,8 @@ pub record StepsDown (n : ℕ) (P : Image) (d : ℕ) (low : List ℕ) (high : Op
   pub found : find key_cmp key (rows its) ≡ find key_cmp key (rows t)
   pub node : Node
   pub some : 0 < length node.entries
+  pub here : IsNode (P page) node
+  pub inside : 0 < node.level
   pub stays : (Q : Image) (left : List ℕ) (had : Bool) (right : Option ℕ) (upper : Node) → ((k : List ℕ) → IsRaised P Q (d - 1) its_low its_high free left key value had k child its right upper)
       → IsNode (Q page) node × AreFree n left × (IsIn page left → ⊥)
   pub kept : (Q : Image) (left : List ℕ) (had : Bool) (right : Option ℕ) (upper : Node) → ((k : List ℕ) → IsRaised P Q (d - 1) its_low its_high free left key value had k child its right upper) → right ≡ None
@@ -228,6 +230,8 @@ module _ (n : ℕ) (P : Image) (d : ℕ) (low : List ℕ) (high : Option (List �
         found = has.at.found;
         node = record { level = d; entries = links f };
         some = some_links f;
+        here = is.1;
+        inside = is.0;
         stays = stays;
         kept = λ Q left had right upper done to above k.
             let u = up Q left had right None upper done to in

@@ -1,10 +1,11 @@
 -- A put into the tree at a child, whose page was read.
-use Rattle.{std.specs.{FinMap.find, Option.option_map, Prelude.{Option, Some, None, Result, Ok, MatchResult}}, btree_puts.specs.Putting.{CanPutSome, linked}}
-use Rattle.{std.proofs.Common.{◌≡◌, ◌≢◌, ◌-◌, ◌<◌, ◌≤◌, ◌^◌, ℕ, List, [], ◌∷◌, length, sym, subst, ◌∙◌}, btree_puts.specs.declared.puts.Placed.Placed, page_node.specs.Places.floor}
+use Rattle.{std.specs.{FinMap.find, Option.option_map, Prelude.{Option, Some, None, Result, Ok, MatchResult, IfSome}}, btree_puts.specs.Putting.{CanPutSome, linked}}
+use Rattle.{std.proofs.Common.{◌≡◌, ◌≢◌, ◌-◌, ◌<◌, ◌≤◌, ◌^◌, ℕ, List, [], ◌∷◌, length, sym, subst, ◌∙◌}, btree_puts.specs.{Reach.Widens, declared.puts.Placed.Placed}}
 use Rattle.{btree_puts.specs.Outcomes.{CanPutIn, IsRaisedBy, IsWrittenBy, TakesNoPageAt, PutsRowAt}, page_btree.specs.{Errors.IsNoWant, claim.Tree.{Tree, rows}}}
-use Rattle.{page_btree.specs.declared.error.TreeError.TreeError, page_node.specs.{Entries.{key_at, child_in}, claim.{Entries.child_bytes, Node.{Node, IsNode}, Places.key_cmp}}}
-use Rattle.page_store.specs.{claim.{Chain.{IsIn, AreFree}, Transactions.{stored, disk_in, txn_pages, txn_free, over, free_over, IsQuiet}}, declared.pages.Pages.Pages}
-use Rattle.{page_store.specs.declared.txn.Txn.Txn, sector_device.specs.{claim.Disk.Image, declared.SectorDevice.Ghosts}, btree_puts.proofs.Down.{StepsDown, step_down}}
+use Rattle.{page_btree.specs.declared.error.TreeError.TreeError, page_node.specs.{Entries.{key_at, child_in}, Places.floor, claim.{Entries.child_bytes, Node.{Node, IsNode}}}}
+use Rattle.{page_node.specs.claim.Places.key_cmp, page_store.specs.claim.{Chain.{IsIn, AreFree}, Transactions.{stored, disk_in, txn_pages, txn_free, over, free_over, IsQuiet}}}
+use Rattle.{page_store.specs.declared.{pages.Pages.Pages, txn.Txn.Txn}, sector_device.specs.{claim.Disk.Image, declared.SectorDevice.Ghosts}}
+use Rattle.btree_puts.proofs.{Down.{StepsDown, step_down}, Wide.{widens_same, widens_written}}
 
 module _ {D : Type 0} {g : Ghosts D} (t : Txn) (old mid : Pages D g) (level page child : ℕ) (bytes below key value : List ℕ) (deep : level ≢ 0) (few : txn_pages t ≤ 2 ^ 32) (told : (node : Node) → IsNode bytes node → option_map child_in (floor key node.entries) ≡ Some child) (quiet : IsQuiet old mid) (reads : (disk_in mid).is_honest → below ≡ over t (stored old) child) (honest : (disk_in mid).is_honest) (low : List ℕ) (high : Option (List ℕ)) (tree : Tree) (can : CanPutIn t (stored old) level low high page bytes key tree) where
   step : StepsDown (txn_pages t) (over t (stored old)) level low high (free_over t (stored old)) page key value tree child
@@ -49,3 +50,20 @@ module _ {D : Type 0} {g : Ghosts D} (t : Txn) (old mid : Pages D g) (level page
         let written = links_it has.1.0 has.1.1 has.1.2 has.0 (subst (λ (T : Image). IsIn page (free_over u T) → ⊥) (sym same) stays.2) in
         step.more (over u (stored old)) (free_over u (stored old)) placed.had placed.right upper done q is (over v (stored old)) (free_over v (stored old)) cut above
         (subst (λ (T : Image). IsWrittenBy u v T page cut (record step.node { entries = linked key ((key_at upper.entries 0, child_bytes q) ∷ []) step.node.entries }) above) same written)
+
+    -- how many entries the node has
+    pub wide_none : placed.right ≡ None → Widens (over t (stored old) page) (over u (stored old) page) placed.right
+    wide_none none = widens_same (over t (stored old) page) (over u (stored old) page) step.node placed.right none step.here stays.0
+
+    pub wide_some : (v : Txn) (q : ℕ) (cut : Option ℕ) (above : Node) → txn_pages u ≡ txn_pages t → IsQuiet mid new
+        → ((node : Node) → IsNode (over u (stored new) page) node → 0 < length node.entries → AreFree (txn_pages u) (free_over u (stored new)) → (IsIn page (free_over u (stored new)) → ⊥)
+        → IsWrittenBy u v (stored new) page cut (record node { entries = linked key ((key_at upper.entries 0, child_bytes q) ∷ []) node.entries }) above)
+        → ((node : Node) → IsNode (over u (stored new) page) node → 0 < node.level → IfSome cut (λ q. 51 ≤ length node.entries))
+        → Widens (over t (stored old) page) (over v (stored old) page) cut
+    unfolding has_node
+    wide_some v q cut above pages_are then links_it wide =
+        let same = then.same after ∙ quiet.same honest in
+        let has = has_node pages_are then in
+        let written = links_it has.1.0 has.1.1 has.1.2 has.0 (subst (λ (T : Image). IsIn page (free_over u T) → ⊥) (sym same) stays.2) in
+        let moved = subst (λ (T : Image). IsWrittenBy u v T page cut (record step.node { entries = linked key ((key_at upper.entries 0, child_bytes q) ∷ []) step.node.entries }) above) same written in
+        widens_written (over t (stored old)) (over u (stored old)) (over v (stored old)) (free_over u (stored old)) (free_over v (stored old)) page cut step.node above key (key_at upper.entries 0, child_bytes q) step.here moved (wide has.1.0 has.1.1 step.inside)

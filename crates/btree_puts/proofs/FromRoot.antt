@@ -1,10 +1,11 @@
 -- A put into the tree at a root that was read.
-use Rattle.std.{specs.{FinMap.{get, insert, contains_key}, Prelude.{Some, None, Result, Ok, MatchResult}}, proofs.Common.{◌≡◌, ◌≢◌, ◌≤◌, ℕ, List, [], length, sym, subst, ◌∙◌}}
-use Rattle.btree_puts.specs.{Outcomes.{CanPutIn, IsGrownBy, TakesNoPageAt, PutsRowAt}, Putting.{CanPutSome, IsRaised}, declared.puts.Placed.Placed}
-use Rattle.{page_btree.specs.{Errors.IsNoWant, claim.{Keys.KeyMap, Map.{Holds, InTxn}, Tree.Tree}, declared.error.TreeError.TreeError}, page_node.specs.Entries.key_at}
-use Rattle.{page_node.specs.claim.Node.{Node, IsNode}, page_store.specs.{claim.Chain.AreFree, declared.{pages.Pages.Pages, txn.Txn.Txn}}, sector_device.specs.claim.Disk.Image}
-use Rattle.{page_store.specs.claim.Transactions.{stored, disk_in, txn_pages, txn_root, txn_free, over, free_over, IsQuiet}, sector_device.specs.declared.SectorDevice.Ghosts}
-use Rattle.btree_puts.proofs.Roots.{rooted, root_can, find_there, after_whole, after_grown, left_are}
+use Rattle.{std.specs.{FinMap.{get, insert, contains_key}, Prelude.{Some, None, Result, Ok, MatchResult}}, btree_puts.specs.Putting.{CanPutSome, IsRaised}}
+use Rattle.{std.proofs.Common.{◌≡◌, ◌≢◌, ◌≤◌, ℕ, List, [], length, sym, subst, ◌∙◌, ◌<◌, ◌+◌}, btree_puts.specs.Outcomes.{CanPutIn, IsGrownBy, TakesNoPageAt, PutsRowAt}}
+use Rattle.{btree_puts.specs.{Reach.{Widens, WidensAt}, declared.puts.Placed.Placed}, page_btree.specs.{Errors.IsNoWant, claim.{Errors.{level_in, reach_in, top_reach}, Tree.Tree}}}
+use Rattle.{page_btree.specs.{claim.{Keys.KeyMap, Map.{Holds, InTxn}}, declared.error.TreeError.TreeError}, page_node.specs.{Entries.key_at, claim.Node.{Node, IsNode, count_in}}}
+use Rattle.page_store.specs.{claim.{Chain.AreFree, Transactions.{stored, disk_in, txn_pages, txn_root, txn_free, over, free_over, IsQuiet}}, declared.pages.Pages.Pages}
+use Rattle.{page_store.specs.declared.txn.Txn.Txn, sector_device.specs.{claim.Disk.Image, declared.SectorDevice.Ghosts}, btree_puts.proofs.Wide.{tree_level, raised_level}}
+use Rattle.btree_puts.proofs.{Reach.{root_stays, root_grows, root_tall}, Roots.{rooted, level_same, root_can, find_there, after_whole, after_grown, left_are}}
 
 module _ {D : Type 0} {g : Ghosts D} (t : Txn) (old mid : Pages D g) (root level : ℕ) (bytes key : List ℕ) (root_is : root ≡ txn_root t) (some : root ≢ 0) (quiet : IsQuiet old mid) (reads : (disk_in mid).is_honest → bytes ≡ over t (stored old) root) (level_is : (node : Node) → IsNode bytes node → level ≡ node.level) (honest : (disk_in mid).is_honest) (m : KeyMap) (holds : InTxn t (stored old) m) where
   at_root : Holds (txn_pages t) (over t (stored old)) root (free_over t (stored old)) m
@@ -23,6 +24,11 @@ module _ {D : Type 0} {g : Ghosts D} (t : Txn) (old mid : Pages D g) (root level
       → MatchResult result (λ placed. (placed.right ≡ None) × (txn_free u ≡ txn_free t)) (λ e. IsNoWant e)
   same_length u new value held result fixed after there same =
       fixed after [] None tree held can (sym (find_there (txn_pages t) (over t (stored old)) root (free_over t (stored old)) m key bytes level at_root some (reads honest) level_is) ∙ there) same
+
+  level_here : level_in (over t (stored old)) root ≡ level
+  level_here =
+      let r = rooted (txn_pages t) (over t (stored old)) root (free_over t (stored old)) m key bytes level at_root some (reads honest) level_is in
+      tree_level (over t (stored old)) r.level [] None r.tree root r.stands r.root_is ∙ sym (level_same (txn_pages t) (over t (stored old)) root (free_over t (stored old)) m key bytes level at_root some (reads honest) level_is)
 
   module _ (u : Txn) (new : Pages D g) (value : List ℕ) (placed : Placed) (upper : Node) (put : PutsRowAt t u mid new level root bytes (key, value) upper (Ok placed)) (after : (disk_in new).is_honest) where
     raised : IsRaised (over t (stored old)) (over u (stored old)) level [] None (free_over t (stored old)) (free_over u (stored old)) key value placed.had [] root tree placed.right upper
@@ -48,3 +54,27 @@ module _ {D : Type 0} {g : Ghosts D} (t : Txn) (old mid : Pages D g) (root level
         let grown = subst (λ (T : Image). IsGrownBy u v T root q level (key_at upper.entries 0)) (then.same after ∙ quiet.same honest) (grows (free_then pages_are then)) in
         let done = after_grown (txn_pages t) (over t (stored old)) root (free_over t (stored old)) m key bytes level at_root some (reads honest) level_is (over u (stored old)) (free_over u (stored old)) value placed.had placed.right upper raised q is R last (txn_root v) few grown in
         (subst (λ (k : ℕ). Holds k R (txn_root v) last (insert m key value)) (sym (pages_then ∙ pages_are)) done.0, done.1)
+
+    -- ---- how near the tree is to a seventh level
+    widens : WidensAt t u mid new level root bytes key (Ok placed) → 0 < level → Widens (over t (stored old) root) (over u (stored old) root) placed.right
+    widens wide deep = subst (λ (T : Image). Widens (over t T root) (over u T root) placed.right) (quiet.same honest) (wide after deep [] None tree can)
+
+    pub reach_whole : placed.right ≡ None → txn_root u ≡ txn_root t → WidensAt t u mid new level root bytes key (Ok placed) → reach_in (over u (stored old)) (txn_root u) ≤ reach_in (over t (stored old)) (txn_root t) + 1
+    reach_whole none same_root wide =
+        let is = raised_level (over t (stored old)) (over u (stored old)) level [] None (free_over t (stored old)) (free_over u (stored old)) key value placed.had [] root tree placed.right upper none raised in
+        let more = root_stays (over t (stored old)) (over u (stored old)) root level some level_here is (λ deep. subst (λ r. Widens (over t (stored old) root) (over u (stored old) root) r) none (widens wide deep)) in
+        subst (λ (r : ℕ). reach_in (over u (stored old)) r ≤ reach_in (over t (stored old)) (txn_root t) + 1) (sym (same_root ∙ sym root_is))
+        (subst (λ (r : ℕ). reach_in (over u (stored old)) root ≤ reach_in (over t (stored old)) r + 1) root_is more)
+
+    wide_root : (q : ℕ) → placed.right ≡ Some q → WidensAt t u mid new level root bytes key (Ok placed) → 0 < level → 51 ≤ count_in (over t (stored old) root)
+    wide_root q is wide deep = subst (λ r. Widens (over t (stored old) root) (over u (stored old) root) r) is (widens wide deep)
+
+    pub reach_grown : (v : Txn) (q : ℕ) → placed.right ≡ Some q → txn_pages u ≡ txn_pages t → IsQuiet mid new → (AreFree (txn_pages u) (free_over u (stored new)) → IsGrownBy u v (stored new) root q level (key_at upper.entries 0)) → WidensAt t u mid new level root bytes key (Ok placed)
+        → reach_in (over v (stored old)) (txn_root v) ≤ reach_in (over t (stored old)) (txn_root t) + 1
+    reach_grown v q is pages_are then grows wide =
+        let grown = subst (λ (T : Image). IsGrownBy u v T root q level (key_at upper.entries 0)) (then.same after ∙ quiet.same honest) (grows (free_then pages_are then)) in
+        subst (λ (r : ℕ). reach_in (over v (stored old)) (txn_root v) ≤ reach_in (over t (stored old)) r + 1) root_is
+        (root_grows (over t (stored old)) (over v (stored old)) root (txn_root v) level some level_here (wide_root q is wide) grown.holds.level grown.holds.count)
+
+    pub reach_tall : (q : ℕ) → placed.right ≡ Some q → level ≡ 5 → WidensAt t u mid new level root bytes key (Ok placed) → top_reach ≤ reach_in (over t (stored old)) (txn_root t)
+    reach_tall q is five wide = subst (λ (r : ℕ). top_reach ≤ reach_in (over t (stored old)) r) root_is (root_tall (over t (stored old)) root level some level_here five (wide_root q is wide))

@@ -10,4 +10,6 @@ pub mod FromNode
 pub mod Fits
 pub mod Leads
 pub mod Placed
+pub mod Reach
+pub mod Wide
 pub use Rattle.page_btree.proofs as page_btree

@@ -3,4 +3,5 @@ pub mod Putting
 pub mod Fitting
 pub mod Fingers
 pub mod Outcomes
+pub mod Reach
 pub use Rattle.page_btree.specs as page_btree

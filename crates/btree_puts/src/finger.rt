@@ -39,7 +39,7 @@ impl Finger {
         }
     }
 
-    /// Whether a key belongs to the leaf, which is one of so many pages.
+    /// Returns whether a key belongs to the leaf, in a store of `count` pages.
     #[tactic(auto, using(page_btree::proofs::Rows::key_before))]
     fn has(&self, key: &[u8], count: u32) -> bool
         ensures some { result ≡ true → self.now.page ≢ 0 }
@@ -80,7 +80,8 @@ impl Fingers {
         }
     }
 
-    /// Makes the finger the first to whose leaf a key belongs, or else the one that was used longer ago. There are so many pages.
+    /// Makes the first finger the one to whose leaf a key belongs, or otherwise the one that was
+    /// used longer ago. The store has `count` pages.
     pub fn turn(&mut self, key: &[u8], count: u32)
         ensures { (t : Txn) (S : Image) → Stand t S self.old → Stand t S self.new }
     {

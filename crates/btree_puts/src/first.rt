@@ -4,8 +4,8 @@ ghost use Rattle.page_btree.specs.Asked.{IsRowToPut};
 
 use page_node::{NodeBuf, PageBytes};
 
-/// Writes the page at which a map with one row stands: what a put of the row into a map without rows writes. So a store can be
-/// formatted with its first row.
+/// Writes the page of a map with one row: the page that a put into an empty map writes. A store can
+/// be formatted with its first row so.
 #[tactic(auto, using(crate::proofs::Roots::only_holds))]
 pub fn write_first_row(page: &mut PageBytes, key: &[u8], value: &[u8])
     requires { IsRowToPut key.now value.now }

@@ -14,6 +14,7 @@ ghost use Rattle.page_btree.specs.Editing.{IsAlike, WritesOne};
 ghost use Rattle.btree_puts.specs.Fitting.{IsLeafPut, PutsAtLeaf};
 ghost use Rattle.btree_puts.specs.Fingers.{PutsRowBy, PutsFittingRow, PutByErr};
 ghost use Rattle.btree_puts.specs.Outcomes.{TakesPages};
+ghost use Rattle.btree_puts.specs.Reach.{RisesBy, IsTall, StaysInReach};
 ghost use Rattle.page_btree.specs.Asked.{IsPageOf, IsRowToPut};
 
 use crate::finger::{Finger, reach_leaf};
@@ -23,11 +24,14 @@ use page_node::{NotANode, PAGE_SIZE, RowNear, RowPut, put_row};
 use page_store::{Pages, Txn};
 use sector_device::SectorDevice;
 
-/// Puts a row, and tells whether its key was there. Its leaf may be known: then the finger stands at the row, or at none where nodes
-/// were cut. A key has 1 to 72 bytes, a value at most 1,024. At most 11 pages are written and 6 taken, and none is given back; none is
-/// taken where a value of the same length is replaced. After an error the transaction can only be abandoned: `NoPages` comes where
-/// fewer than six pages were free and none is left, `TooDeep` where the tree has six levels and a node of each was cut, `Memory` from a
-/// growth of the transaction, `NotAStore` where what is read is no store's, `DeviceFault` and `Halted` from the device.
+/// Puts a row and returns whether its key existed. If the finger knows the leaf, the search begins
+/// there; afterwards the finger is at the row, or knows no leaf if nodes were cut. A key has 1 to
+/// 72 bytes, a value at most 1,024. At most 11 pages are written and 6 taken, and none is given
+/// back; none is taken if a value of the same length is replaced. After an error the transaction
+/// can only be abandoned: `NoPages` comes if fewer than six pages were free and none is left,
+/// `TooDeep` if the tree has six levels and a node of each was cut, `Memory` from a growth of the
+/// transaction, `NotAStore` if a page read is not a store's, `DeviceFault` and `Halted` from the
+/// device.
 pub fn put<D: SectorDevice>(
     txn: &mut Txn,
     pages: &mut Pages<D>,
@@ -40,6 +44,8 @@ pub fn put<D: SectorDevice>(
     ensures reading { ReadsOnly (PutByErr finger.old txn.old pages.old pages.new) pages.old pages.new result }
     ensures takes { TakesPages txn.old txn.new pages.old pages.new (key.now, value.now) result }
     ensures put { PutsRowBy finger.old finger.new txn.old txn.new pages.old pages.new (key.now, value.now) result }
+    ensures rises { RisesBy finger.old txn.old txn.new pages.old pages.new result }
+    ensures tall { IsTall txn.old pages.old pages.new result }
 {
     match put_fitting(txn, pages, finger, key, value)? {
         Some(had) => Ok(had),
@@ -50,7 +56,8 @@ pub fn put<D: SectorDevice>(
     }
 }
 
-/// Puts a row where its leaf has room, and tells whether its key was there. Else the transaction stays as it is.
+/// Puts a row if its leaf has room, and returns whether its key existed. Otherwise the transaction
+/// stays as it is.
 fn put_fitting<D: SectorDevice>(
     txn: &mut Txn,
     pages: &mut Pages<D>,
@@ -64,6 +71,7 @@ fn put_fitting<D: SectorDevice>(
     ensures reading { ReadsOnly (λ e. PutByErr finger.old txn.old pages.old pages.new e × IsNoWant e) pages.old pages.new result }
     ensures pages { txn_pages txn.new ≡ txn_pages txn.old }
     ensures put { PutsFittingRow finger.old finger.new txn.old txn.new pages.old pages.new (key.now, value.now) result }
+    ensures reach { StaysInReach finger.old txn.old txn.new pages.old pages.new result }
     ensures kept { IfOk result (λ did. did ≡ None → IsAlike txn.old txn.new) }
     ensures costs { WritesOne txn.old txn.new result }
 {

@@ -1,17 +1,28 @@
-//! Puts into a map in pages.
+//! Puts a row into a map of keys in pages.
 //!
-//! Seen as the map with the row. `put`: the transaction then reads that map, and the answer says whether the key was there. At most 11
-//! pages are written and 6 taken; replacing a value of the same length takes none. NoPages comes where fewer than six pages were free and
-//! none is left, TooDeep where the root has level 5. A `Finger` that stands may know the leaf. `get_with`: a look-up by two `Fingers`.
-//! `write_first_row`: the page of the map with one row.
+//! # Model
+//!
+//! The map with the row.
+//!
+//! # Proved
+//!
+//! - After `put` the transaction reads the map with the row, and the result says whether the key
+//!   was there. At most 11 pages are written and at most 6 taken; replacing a value by one of the
+//!   same length takes none.
+//! - NoPages comes only if fewer than six pages were free and none is left. TooDeep comes only if
+//!   the root has level 5; a put raises the root's reach by one at most.
+//! - `get_with` is a lookup by two `Fingers`. `write_first_row` writes a map with one row.
+//!
+//! # Not proved
+//!
+//! That a finger saves time: this is measured.
 //!
 //! # Notes
 //!
-//! `put` first edits the leaf alone (`fitting`). Only where the row has no room are nodes read and cut: `step_down` goes down, and tests a
-//! child's number and level before it uses them, `cut` parts a node in two, and `link` puts one entry into the node above.
-//!
-//! A finger knows a leaf, the key that was put there last with its place, and the key at which the leaf's keys end. It stands where that is
-//! so (`StandsIn`). An edit of a leaf leaves each other finger standing, a cut none.
+//! `put` tries the leaf alone first (`fitting`). Only if the row has no room, it goes down
+//! (`step_down`), cuts full nodes in two (`cut`) and adds an entry to the node above (`link`). A
+//! `Finger` remembers the leaf of the last put and the key at which its keys end. It stays valid
+//! after an edit of another leaf, and is dropped after a cut.
 #![tactic(auto)]
 
 mod finger;

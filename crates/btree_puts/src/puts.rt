@@ -7,6 +7,10 @@ ghost use Rattle.btree_puts.specs.Errors.{PlaceErr, WriteErr, RowErr, LinkErr, G
 ghost use Rattle.btree_puts.specs.Putting.{CanPutSome, linked, AreFew};
 ghost use Rattle.btree_puts.specs.Outcomes.{PutsRow, PutsFirstRow, PutsRowAt, PutsRowInLeaf, PutsLink, TakesPages, StaysRooted};
 ghost use Rattle.btree_puts.specs.Outcomes.{MakesRoot, TakesNoPageAt, IsNotCut};
+ghost use Rattle.btree_puts.specs.Reach.{CutsWide, WidensAt, Rises, IsTall};
+ghost use Rattle.sector_device.specs.claim.Disk.{Image};
+ghost use Rattle.page_store.specs.claim.Transactions.{txn_root};
+ghost use Rattle.page_btree.specs.claim.Errors.{level_in};
 ghost use Rattle.page_btree.specs.declared.error.TreeError.TheVariants.{NoPages, TooDeep};
 ghost use Rattle.page_btree.specs.Asked.{IsPageOf, IsRowToPut};
 ghost use Rattle.page_btree.specs.Editing.{SpendsOne};
@@ -24,7 +28,7 @@ struct Placed {
     right: Option<u32>,
 }
 
-/// Puts a row where nodes may have to be cut, and tells whether its key was there.
+/// Puts a row, cutting nodes if necessary, and returns whether its key existed.
 pub(crate) fn put_cutting<D: SectorDevice>(
     txn: &mut Txn,
     pages: &mut Pages<D>,
@@ -36,6 +40,8 @@ pub(crate) fn put_cutting<D: SectorDevice>(
     ensures reading { ReadsOnly (PutErr txn.old pages.old pages.new) pages.old pages.new result }
     ensures takes { TakesPages txn.old txn.new pages.old pages.new (key.now, value.now) result }
     ensures put { PutsRow txn.old txn.new pages.old pages.new (key.now, value.now) result }
+    ensures rises { Rises txn.old txn.new pages.old pages.new result }
+    ensures tall { IsTall txn.old pages.old pages.new result }
 {
     let mut room = Workspace {
         page: [0; PAGE_SIZE],
@@ -77,6 +83,7 @@ fn put_first<D: SectorDevice>(
     ensures put { PutsFirstRow txn.old txn.new pages.old pages.new (key.now, value.now) result }
     ensures costs { SpendsOne txn.old txn.new result }
     ensures spent { IfErr result (λ e. e ≡ NoPages → txn_free txn.new ≡ 0) }
+    ensures leaf { OnOk result ((S : Image) → level_in (over txn.new S) (txn_root txn.new) ≡ 0) }
 {
     let page = txn.take_page(pages)?;
     room.node.clear(0);
@@ -135,6 +142,7 @@ fn put_at<D: SectorDevice>(
     ensures stays { StaysRooted txn.old txn.new result }
     ensures put { PutsRowAt txn.old txn.new pages.old pages.new level page room.old.page (key.now, value.now) room.new.upper result }
     ensures fixed { TakesNoPageAt txn.old txn.new pages.old pages.new level page room.old.page (key.now, value.now) result }
+    ensures wide { WidensAt txn.old txn.new pages.old pages.new level page room.old.page key.now result }
     ensures few { IfOk result (λ placed. AreFew level txn.old txn.new placed.right) }
     ensures some { IfOk result (λ placed. IfSome placed.right (λ right. (right < txn_pages txn.old) × (0 < length room.new.upper.entries))) }
 {
@@ -191,8 +199,8 @@ fn put_row<D: SectorDevice>(
     }
 }
 
-/// Puts the link to the upper half of a child after that child's, and tells the page of the node's own upper half where the
-/// node was cut.
+/// Inserts the link to the upper half of a child after the child's own link. Returns the page of
+/// the node's upper half if the node was cut, too.
 fn link<D: SectorDevice>(
     txn: &mut Txn,
     pages: &mut Pages<D>,
@@ -206,6 +214,7 @@ fn link<D: SectorDevice>(
     ensures reading { ReadsOnly (LinkErr page txn.old pages.old pages.new) pages.old pages.new result }
     ensures stays { StaysRooted txn.old txn.new result }
     ensures linked { PutsLink txn.old txn.new pages.old pages.new page key.now right room.old.upper room.new.upper result }
+    ensures wide { CutsWide txn.old pages.old pages.new page result }
     ensures few { IfOk result (λ cut. AreFew 0 txn.old txn.new cut) }
     ensures some { IfOk result (λ cut. IfSome cut (λ q. (q < txn_pages txn.old) × (0 < length room.new.upper.entries))) }
 {

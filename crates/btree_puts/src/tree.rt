@@ -23,7 +23,8 @@ use page_node::{NodeBuf, PageBytes, child_for, level_of};
 use page_store::{Pages, Txn};
 use sector_device::SectorDevice;
 
-/// What a put works in: a page's bytes, the node that they stand for, and the upper half of a node that was cut.
+/// The workspace of a put: the bytes of a page, the node in them, and the upper half of a node that
+/// was cut.
 #[derive(Drop)]
 pub(crate) struct Workspace {
     pub(crate) page: PageBytes,
@@ -54,7 +55,7 @@ pub(crate) fn write_node(
     Ok(())
 }
 
-/// Where a link stands that is put after the child of a key.
+/// Returns the place of a link that is inserted after the child of a key.
 pub(crate) fn place_after(node: &NodeBuf, key: &[u8]) -> usize
     requires { 0 < length node.now.entries }
     ensures within { result ≤ length node.now.entries }
@@ -68,7 +69,8 @@ pub(crate) fn place_after(node: &NodeBuf, key: &[u8]) -> usize
     node.len()
 }
 
-/// Writes the node in the room. Where it overflows it is cut, and its upper half stands on a page that was free.
+/// Writes the node in the workspace. If it overflows, it is cut and its upper half goes to a free
+/// page.
 pub(crate) fn settle<D: SectorDevice>(
     txn: &mut Txn,
     pages: &mut Pages<D>,
@@ -82,6 +84,7 @@ pub(crate) fn settle<D: SectorDevice>(
     ensures below { IfOk result (λ right. IfSome right (λ q. (q < txn_pages txn.old) × (0 < length room.new.upper.entries))) }
     ensures written { WritesNode txn.old txn.new pages.old pages.new page room.old.node room.new.upper result }
     ensures few { IfOk result (λ right. AreFew 0 txn.old txn.new right) }
+    ensures over { IfOk result (λ right. IfSome right (λ q. 4092 < size_of room.old.node.entries)) }
     ensures fits { Fits room.old.node → MatchResult result (λ right. right ≡ None) (λ e. e ≡ Memory) }
 {
     if room.node.overflows() {
@@ -117,8 +120,8 @@ fn cut<D: SectorDevice>(
     Ok(right)
 }
 
-/// Reads the page of the child that a key belongs to in place of its node's, which is at a page and of a level, and tells the
-/// child's page.
+/// Replaces a node by the child to which a key belongs, and returns the child's page. The node's
+/// page and level are given.
 pub(crate) fn step_down<D: SectorDevice>(
     txn: &Txn,
     pages: &mut Pages<D>,

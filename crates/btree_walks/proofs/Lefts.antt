@@ -1,9 +1,10 @@
 -- Where a remove begins, and the map that it leaves.
-use Rattle.std.specs.{FinMap.{find, is_sorted, get, get-entries, entries, entries_sorted, contains_key}, Prelude.{Option, Some, None, is_some}}
-use Rattle.{std.proofs.Common.{rules, ◌≡◌, ℕ, List, [], true, false, sym, ap, subst, ◌∙◌, arith}, btree_walks.specs.Removing.{CanRemove, IsRemoved, rows_left}}
-use Rattle.{page_btree.{specs.claim.{Keys.KeyMap, Map.{IsRooted, Holds}, Tree.{Tree, IsTree, rows}}, proofs.Booleans.true_is}, page_node.specs.claim.Places.{key_cmp, Rises}}
-use Rattle.{page_store.specs.claim.Chain.AreFree, sector_device.specs.claim.Disk.Image, btree_walks.proofs.Edits.{rises_unput, found_put, remove_rows, remove_none}}
-use Rattle.page_btree.proofs.Tops.{every_key, found_rows}
+use Rattle.{std.specs.{FinMap.{find, is_sorted, get, get-entries, entries, entries_sorted, contains_key}, Prelude.{Option, Some, None, is_some}}, page_btree.specs.Editing.IsAlike}
+use Rattle.{std.proofs.Common.{rules, ◌≡◌, ℕ, List, [], true, false, sym, ap, subst, ◌∙◌, arith, ◌<◌, ◌≤◌, inr, Option}, btree_walks.specs.Outcomes.IsNoNearer}
+use Rattle.{btree_walks.specs.Removing.{CanRemove, IsRemoved, rows_left}, page_btree.{specs.claim.{Errors.level_in, Keys.KeyMap, Map.{IsRooted, Holds}}, proofs.Booleans.true_is}}
+use Rattle.{page_btree.specs.claim.Tree.{Tree, IsTree, rows, page_of}, page_node.specs.claim.{Node.count_in, Places.{key_cmp, Rises}}, page_store.specs.claim.Chain.AreFree}
+use Rattle.{page_store.specs.{claim.Transactions.{txn_root, over}, declared.txn.Txn.Txn}, sector_device.specs.claim.Disk.Image, btree_walks.proofs.Thinner.thinner_reach}
+use Rattle.{btree_walks.proofs.Edits.{rises_unput, found_put, remove_rows, remove_none}, page_btree.proofs.{Descent.node_of, Tops.{every_key, found_rows}}}
 use Rattle.std.specs.FinMap as map
 
 abbrev pub can_remove : (n : ℕ) (P : Image) (root : ℕ) (free : List ℕ) (m : KeyMap) (r : IsRooted n P root free m) (key : List ℕ) (level p : ℕ) → AreFree n free → level ≡ r.level → p ≡ root → CanRemove n P free level key p
@@ -17,6 +18,29 @@ can_remove n P root free m r key level p are same at = record {
   free_are = are;
   between = every_key key;
 }
+
+-- ---- the root that is left
+tree_level : (P : Image) (d : ℕ) (low : List ℕ) (high : Option (List ℕ)) (t : Tree) (p : ℕ) → IsTree P d low high t → page_of t ≡ p → level_in P p ≡ d
+tree_level P d low high t p is at =
+    let node = node_of P d low high t is in
+    ap (λ q. level_in P q) (sym at) ∙ node.1.level ∙ node.2
+
+pub thinner_kept : (n : ℕ) (P : Image) (root : ℕ) (free : List ℕ) (m : KeyMap) (r : IsRooted n P root free m) (Q : Image) (q d : ℕ) (low : List ℕ) (high : Option (List ℕ)) (u : Tree) → d ≡ r.level → q ≡ root → IsTree Q d low high u → page_of u ≡ page_of r.tree
+    → (0 < d → count_in (Q (page_of r.tree)) ≤ count_in (P (page_of r.tree))) → IsNoNearer P root Q q
+thinner_kept n P root free m r Q q d low high u same at stands page few =
+    let was : level_in P root ≡ r.level = tree_level P r.level [] None r.tree root r.stands r.root_is in
+    let is : level_in Q root ≡ d = tree_level Q d low high u root stands (page ∙ r.root_is) in
+    thinner_reach P root Q q (inr (
+      at,
+      ap (λ x. level_in Q x) at ∙ is ∙ same ∙ sym was,
+      λ some. subst (λ (x : ℕ). count_in (Q x) ≤ count_in (P root)) (sym at) (subst (λ (x : ℕ). count_in (Q x) ≤ count_in (P x)) r.root_is (few (omega (arith, some, was, same)))),
+    ))
+
+pub thinner_same : (P : Image) (p : ℕ) → IsNoNearer P p P p
+thinner_same P p = omega arith
+
+pub thinner_alike : (t u : Txn) (S : Image) → IsAlike t u → IsNoNearer (over t S) (txn_root t) (over u S) (txn_root u)
+thinner_alike t u S alike = subst (λ (x : Image × ℕ). IsNoNearer (over t S) (txn_root t) x.0 x.1) (λ i. (sym (alike.over_is S) i, sym alike.root i)) (thinner_same (over t S) (txn_root t))
 
 -- ---- what is left of a map
 module _ (n : ℕ) (P : Image) (root : ℕ) (free : List ℕ) (m : KeyMap) (key : List ℕ) (r : IsRooted n P root free m) where

@@ -21,5 +21,6 @@ mod Trees
 pub mod Refusals
 pub mod Edits
 pub mod Steps
+pub mod Thinner
 pub mod Lefts
 pub mod Spares

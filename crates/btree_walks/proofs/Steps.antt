@@ -2,10 +2,10 @@
 use Rattle.std.specs.{FinMap.find, Option.option_map, Ordering.is_gt, Prelude.{Option, Some, None, remove, Result, Ok, Err, IfOk, true}, declared.cmp.Ordering.TheVariants.Less}
 use Rattle.std.proofs.Common.{rules, ◌≡◌, ◌≢◌, inl, inr, ℕ, ◌-◌, ◌<◌, ◌≤◌, ◌^◌, List, length, refl, sym, ap, subst, ◌∙◌, arith, ◌⊎◌, ◌+◌, ◌++◌, ⊎_elim, [], ◌∷◌, Bool, true, false, cond}
 use Rattle.{std.proofs.lemmas.List.append-nil, btree_walks.specs.{Sparing.TakesRow, declared.removes.Removed.{Removed, TheVariants.{Absent, Kept, Emptied}}}}
-use Rattle.btree_walks.specs.Removing.{IsRemoved, AreRemoved, CanRemove, RemovesAt, Removes, RowRemoves, IsPutBack, IsDone, StaysAt, TakenErr, unlinked, IsLess, rows_left, owns_left, size_left, forest_rows_left, forest_owns_left, forest_size_left}
+use Rattle.btree_walks.specs.Removing.{unlinked_from, IsRemoved, AreRemoved, CanRemove, RemovesAt, Removes, RowRemoves, IsPutBack, IsDone, StaysAt, TakenErr, unlinked, IsLess, rows_left, owns_left, size_left, forest_rows_left, forest_owns_left, forest_size_left}
 use Rattle.page_btree.specs.{Getting.{CanGet, IsLevel}, claim.{Keys.{IsBetween, IsUnder, Parts}, Map.IsSound}, declared.error.TreeError.TheVariants.NotAStore}
 use Rattle.page_btree.specs.claim.Tree.{Tree, Forest, leaf, inner, IsTree, page_of, links, rows, owns, one, more, first_key, forest_rows, forest_owns, size, forest_size, AreTrees, IsApart, AreApart}
-use Rattle.page_node.specs.{Entries.{child_in, value_at}, Places.{IsFound, floor}, claim.{Entries.{Entry, child_bytes}, Node.{Node, IsNode}, Places.{key_cmp, Rises}}}
+use Rattle.page_node.specs.{Entries.{child_in, value_at}, Places.{IsFound, floor}, claim.{Entries.{Entry, child_bytes}, Node.{count_in, Node, IsNode}, Places.{key_cmp, Rises}}}
 use Rattle.{page_store.specs.{claim.{Chain.{IsIn, AreFree}, Transactions.{txn_pages, over, free_over}}, declared.txn.Txn.Txn}, sector_device.specs.claim.Disk.Image}
 use Rattle.{btree_walks.proofs.Edits.{put_remove, none_removed, all_unput, rises_unput}, page_btree.proofs.{Booleans.either, MapLaws.{tree_same, trees_same}}}
 use Rattle.{page_btree.proofs.Descent.{named, node_of, owns_page, some_links, AreUsed, ChildFor, only_child, first_child, later_child}, page_node.proofs.Laws.less_trans}
@@ -198,6 +198,7 @@ module _ (n : ℕ) (S : Image) (t0 t1 : Txn) (low : List ℕ) (high : Option (Li
         leaf p (remove es done.0),
         subst (λ (l : List ℕ). IsRemoved n (over t0 S) (over t1 S) 0 low high (free_over t0 S) l key (leaf p es) (Some (leaf p (remove es done.0)))) (sym (done.5 n are used))
             (leaf_written n (over t0 S) (over t1 S) 0 low high (free_over t0 S) key p es done.0 done.1 is used are done.2 done.3 done.4),
+        λ some. absurd (omega (arith, some)),
       )
 
   leaf_removes : ((q : ℕ) → q ≢ p → over t1 S q ≡ over t0 S q) → (did : Removed) → RowRemoves t0 t1 p key es did → RemovesAt n (over t0 S) (over t1 S) 0 low high (free_over t0 S) (free_over t1 S) key (leaf p es) did
@@ -219,6 +220,16 @@ pub leaf_there : (n : ℕ) (P : Image) (free : List ℕ) (d : ℕ) (key : List �
 leaf_there n P free d key p can none = search rules
 
 -- ---- above the leaves
+unlinked_from_length : (key : List ℕ) (e : Entry) (es : List Entry) → length (unlinked_from key e es) ≤ length es
+unlinked_from_length key e [] = omega arith
+unlinked_from_length key e (d ∷ ds) =
+    let rest = unlinked_from_length key d ds in
+    elim (is_gt (key_cmp d.0 key)) as (λ (b : Bool). length (cond b (d ∷ ds) (e ∷ unlinked_from key d ds)) ≤ length (d ∷ ds)) [ true ↦ omega arith | false ↦ omega arith ]
+
+unlinked_length : (key : List ℕ) (es : List Entry) → length (unlinked key es) ≤ length es
+unlinked_length key [] = omega arith
+unlinked_length key (e ∷ es) = let rest = unlinked_from_length key e es in omega arith
+
 -- what is done to the child for a key is done to the tree
 pub record StepsDown (n : ℕ) (S : Image) (t0 : Txn) (d : ℕ) (low : List ℕ) (high : Option (List ℕ)) (key : List ℕ) (p child : ℕ) (t : Tree) : Type 0 where
   pub can : CanRemove n (over t0 S) (free_over t0 S) (d - 1) key child
@@ -245,6 +256,7 @@ module _ (n : ℕ) (S : Image) (t0 : Txn) (d : ℕ) (low : List ℕ) (high : Opt
     subst (λ (l : List ℕ). IsRemoved n (over t0 S) (over t2 S) d low high (free_over t0 S) l key (inner p f) (Some (inner p g))) (sym (back.2 S n are off))
         (inner_written n (over t0 S) (over t1 S) (over t2 S) d low high (free_over t0 S) (free_over t1 S) key p f g is sound.apart (sound.used p (inl refl)) done
         (subst (λ es. IsNode (over t2 S p) (record { level = d; entries = es })) (sym same) (back.1 S)) elsewhere),
+    λ some. let a = (back.1 S).count in let b = is.1.count in let few = unlinked_length key (links f) in omega (arith, a, b, few),
   )
   put_back_as t1 t2 Emptied (Some g) done same back elsewhere off are = absurd (let some = some_links g in let short = ap length (same ∙ back.0) in omega arith)
   put_back_as t1 t2 Emptied None done same back elsewhere off are = search (rules, back.1 S n are off, inner_given)
@@ -258,6 +270,7 @@ module _ (n : ℕ) (S : Image) (t0 : Txn) (d : ℕ) (low : List ℕ) (high : Opt
     inner_written n (over t0 S) (over t1 S) (over t1 S) d low high (free_over t0 S) (free_over t1 S) key p f g is sound.apart (sound.used p (inl refl)) done
         (subst (λ es. IsNode (over t1 S p) (record { level = d; entries = es })) (sym same) (subst (λ bytes. IsNode bytes (record { level = d; entries = links f })) (sym (done.less.frame p sound.apart.0)) is.1))
         (λ q other. refl),
+    λ some. let same_page : count_in (over t1 S p) ≡ count_in (over t0 S p) = ap count_in (done.less.frame p sound.apart.0) in omega (arith, same_page),
   )
 
   step_down_at : (child : ℕ) → n ≤ 2 ^ 32 → AreFree n (free_over t0 S) → IsBetween low high key → ((node : Node) → IsNode (over t0 S p) node → option_map child_in (floor key node.entries) ≡ Some child) → StepsDown n S t0 d low high key p child (inner p f)

@@ -1,9 +1,13 @@
 -- What a remove leaves, where the device is honest and the pages hold what they may.
-use Rattle.std.specs.{FinMap.{contains_key, remove as remove_key}, Prelude.{◌≡◌, ◌≢◌, ℕ, Bool, true, List, Option, Some, Result, OnOk, IfOk, IfSome}}
+use Rattle.std.specs.{FinMap.{contains_key, remove as remove_key}, Prelude.{◌≡◌, ◌≢◌, ◌≤◌, ℕ, Bool, true, List, Option, Some, Result, OnOk, IfOk, IfSome}}
 use Rattle.{btree_walks.specs.{Removing.{CanRemove, Removes}, Sparing.IsLeafTaken, declared.removes.Removed.Removed}, page_btree.specs.Editing.{IsAlike, LeafErr, WritesOne, Frees}}
-use Rattle.{page_btree.specs.{claim.{Errors.RemoveErr, Keys.KeyMap, Map.InTxn}, declared.error.TreeError.TreeError}, page_store.specs.{Outcomes.KeepsRoot, Reading.ReadsOnly}}
-use Rattle.{page_store.specs.{claim.Transactions.{stored, disk_in, txn_pages, over, free_over}, declared.{pages.Pages.Pages, txn.Txn.Txn}}, sector_device.specs.claim.Disk.Image}
-use Rattle.sector_device.specs.declared.SectorDevice.{Ghosts}
+use Rattle.{page_btree.specs.{claim.{Errors.{RemoveErr, reach_in}, Keys.KeyMap, Map.InTxn}, declared.error.TreeError.TreeError}, page_store.specs.Outcomes.KeepsRoot}
+use Rattle.page_store.specs.{Reading.ReadsOnly, claim.Transactions.{stored, disk_in, txn_pages, txn_root, over, free_over}, declared.{pages.Pages.Pages, txn.Txn.Txn}}
+use Rattle.sector_device.specs.{claim.Disk.Image, declared.SectorDevice.Ghosts}
+
+-- the tree at a root is no nearer to a seventh level than another was
+abbrev pub IsNoNearer : Image → ℕ → Image → ℕ → Type 0
+IsNoNearer P p Q q = reach_in Q q ≤ reach_in P p
 
 module _ {D : Type 0} {g : Ghosts D} where
   -- ---- a remove
@@ -11,13 +15,15 @@ module _ {D : Type 0} {g : Ghosts D} where
   abbrev pub RemovesKey : Txn → Txn → Pages D g → Pages D g → List ℕ → Result Bool TreeError → Type 0
   RemovesKey before after old new key result =
       (disk_in new).is_honest → (m : KeyMap) → InTxn before (stored old) m
-      → IfOk result (λ had. InTxn after (stored old) (remove_key m key) × (had ≡ contains_key m key))
+      → IfOk result (λ had. InTxn after (stored old) (remove_key m key) × (had ≡ contains_key m key)
+      × IsNoNearer (over before (stored old)) (txn_root before) (over after (stored old)) (txn_root after))
 
   -- the same where an edit of its leaf was enough
   abbrev pub RemovesSpareKey : Txn → Txn → Pages D g → Pages D g → List ℕ → Result (Option Bool) TreeError → Type 0
   RemovesSpareKey before after old new key result =
       (disk_in new).is_honest → (m : KeyMap) → InTxn before (stored old) m
-      → IfOk result (λ did. IfSome did (λ had. InTxn after (stored old) (remove_key m key) × (had ≡ contains_key m key)))
+      → IfOk result (λ did. IfSome did (λ had. InTxn after (stored old) (remove_key m key) × (had ≡ contains_key m key)
+      × IsNoNearer (over before (stored old)) (txn_root before) (over after (stored old)) (txn_root after)))
 
   -- the same in the tree at a page of these bytes
   abbrev pub RemovesKeyAt : Txn → Txn → Pages D g → Pages D g → ℕ → ℕ → List ℕ → List ℕ → Result Removed TreeError → Type 0

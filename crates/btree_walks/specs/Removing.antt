@@ -1,10 +1,10 @@
 -- What a remove does to a part of a tree.
-use Rattle.std.specs.{FinMap.{find, put}, Ordering.is_gt, Prelude.{◌≡◌, ◌⊎◌, ◌<◌, ◌+◌, ℕ, List, [], ◌∷◌, length, cond, Option, Some, None, remove}}
+use Rattle.std.specs.{FinMap.{find, put}, Ordering.is_gt, Prelude.{◌≡◌, ◌⊎◌, ◌<◌, ◌≤◌, ◌+◌, ℕ, List, [], ◌∷◌, length, cond, Option, Some, None, remove}}
 use Rattle.{btree_walks.specs.declared.removes.Removed.{Removed, TheVariants.{Absent, Kept, Emptied}}, page_btree.specs.{Getting.ReadsErr, claim.Keys.{IsBetween, Parts}}}
 use Rattle.{page_btree.specs.{claim.Map.IsSound, declared.error.TreeError.{TreeError, TheVariants.{NotAStore, Memory}}}, page_node.specs.{Places.IsFound, claim.Entries.Entry}}
 use Rattle.page_btree.specs.claim.Tree.{Tree, Forest, IsTree, AreTrees, IsApart, AreApart, page_of, first_key, rows, owns, size, forest_rows, forest_owns, forest_size}
-use Rattle.{page_node.specs.claim.{Node.{Node, IsNode}, Places.{key_cmp, Rises}}, page_store.specs.claim.{Chain.{IsIn, AreFree}, Transactions.{txn_pages, over, free_over}}}
-use Rattle.{page_store.specs.declared.{pages.Pages.Pages, txn.Txn.Txn}, sector_device.specs.{claim.Disk.Image, declared.SectorDevice.Ghosts}}
+use Rattle.{page_node.specs.claim.{Node.{Node, IsNode, count_in}, Places.{key_cmp, Rises}}, page_store.specs.{claim.Chain.{IsIn, AreFree}, declared.pages.Pages.Pages}}
+use Rattle.{page_store.specs.{claim.Transactions.{txn_pages, over, free_over}, declared.txn.Txn.Txn}, sector_device.specs.{claim.Disk.Image, declared.SectorDevice.Ghosts}}
 
 -- ---- what is left of a tree, or of children: a smaller one, or nothing
 abbrev pub rows_left : Option Tree → List Entry
@@ -86,10 +86,11 @@ pub record CanRemove (n : ℕ) (P : Image) (free : List ℕ) (d : ℕ) (key : Li
   pub free_are : AreFree n free
   pub between : IsBetween low high key
 
--- what a remove below a tree did
+-- what a remove below a tree did: where its page is still in use, the node above the leaves there has no more entries
 abbrev pub RemovesAt : ℕ → Image → Image → ℕ → List ℕ → Option (List ℕ) → List ℕ → List ℕ → List ℕ → Tree → Removed → Type 0
 RemovesAt n P Q d low high free left key t Absent = find key_cmp key (rows t) ≡ None
 RemovesAt n P Q d low high free left key t Kept = (u : Tree) × IsRemoved n P Q d low high free left key t (Some u)
+    × (0 < d → count_in (Q (page_of t)) ≤ count_in (P (page_of t)))
 RemovesAt n P Q d low high free left key t Emptied = IsRemoved n P Q d low high free left key t None
 
 abbrev pub Removes : {n : ℕ} {P : Image} {free : List ℕ} {d : ℕ} {key : List ℕ} {page : ℕ}

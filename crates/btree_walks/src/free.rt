@@ -44,7 +44,7 @@ fn check_free_page<D: SectorDevice, P: Progress>(
     Ok(word_at(bytes, 0))
 }
 
-/// Checks the list of free pages from the first one on, which has so many.
+/// Checks the list of the `count` free pages that begins at the first one.
 pub(crate) fn check_free<D: SectorDevice, P: Progress>(
     txn: &Txn,
     pages: &mut Pages<D>,

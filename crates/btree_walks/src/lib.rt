@@ -1,19 +1,29 @@
-//! Walks over a map in pages: its rows, rising, a row that is removed, and a check that each page has one owner.
+//! Walks over a map of keys in pages: scans, removals, and a check of the whole tree.
 //!
-//! Seen as the rows to come (`Rest`), under a prefix or from a key on. `Scan::new`, `from_key`, `next`, `advance`, `place`, `take_at`,
-//! `go_on`: the first row to come is given and the others are left. False comes where none is left or after a fault, which is kept. `laws`:
-//! rows taken in turn are all under the prefix, with the values that they have in the map. `row_limit`: more than the rows of any such map.
+//! # Example
 //!
-//! Removes: seen as the map without the key. `remove`: that map, and whether the key was there. At most 6 pages are written, at most 6
-//! given back, none taken; every page that the tree no longer has is free.
+//! `Scan::new(b"P")` begins before the first row whose key begins with `P`; each call of `next`
+//! gives the next row, and `fault` says why a scan ended early.
 //!
-//! The check: seen as `AreOwned`. `check_pages`: at Ok the pages hold a map, no page is named twice or lost, and free pages are blank; else
-//! a page of which that isn't so, exactly where it isn't so, and what is wrong with it (`IsWrongPage`). It reads each page once.
+//! # Model
 //!
-//! # Notes
+//! A scan is the list of rows to come (`Rest`). A removal is the map without the key.
 //!
-//! That each leaf is read once is tried. `remove` takes the row out of a leaf that keeps others (`takes`), else it unlinks what it
-//! empties.
+//! # Proved
+//!
+//! - `next`, `advance`, `place`, `take_at` and `go_on` give the first row to come and leave the
+//!   others. They return false if no row is left, or after a fault, which the scan keeps. `laws`:
+//!   the rows of a scan are all rows under the prefix, with their values.
+//! - After `remove` the transaction reads the map without the key, and the result says whether it
+//!   was there. At most 6 pages are written and at most 6 given back; none is taken. No page is
+//!   lost, and the tree does not grow in height.
+//! - `check_pages` succeeds exactly if the pages hold a map, no page is used twice or lost, and
+//!   free pages are blank. Otherwise it names a page and what is wrong with it (`IsWrongPage`).
+//! - `row_limit` is more than the number of rows of any such map.
+//!
+//! # Not proved
+//!
+//! That a scan and a check read each page once. Tests count the reads.
 #![tactic(auto)]
 
 mod checks;

@@ -19,7 +19,7 @@ impl Marks {
     ghost use Rattle.btree_walks.specs.Owners.{IsSeen, AreNamed};
     ghost use Rattle.btree_walks.specs.Faults.{IsUnnamed};
 
-    /// None of so many pages was named.
+    /// Marks for `pages` pages, none of which was named yet.
     #[tactic(auto, using(crate::proofs::Named::unseen_none))]
     pub(crate) fn new(alloc: Global, pages: u32) -> Result<Marks, AllocError>
         ensures long { IfOk result (λ marks. length marks.seen.items ≡ pages) }

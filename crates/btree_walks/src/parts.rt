@@ -3,7 +3,7 @@ ghost use Rattle.std.specs.Prelude.{◌≡◌, ◌≤◌, ◌+◌};
 
 use page_node::Lengths;
 
-/// Where a row stands in a leaf's page: its key, and its value after that.
+/// The place of a row in a leaf's page: its key, followed by its value.
 #[derive(Clone, Copy, Drop)]
 pub struct Parts {
     pub(crate) key: usize,
@@ -16,7 +16,7 @@ pub struct Parts {
     ghost value_short: { end ≤ value + 1024 },
 }
 
-/// A place in the leaf at which a scan stands, for a loop over its rows.
+/// The place of a scan within its leaf, for a loop over the rows of the leaf.
 #[derive(Drop)]
 pub struct ScanPlace {
     pub(crate) at: usize,
@@ -25,7 +25,7 @@ pub struct ScanPlace {
 }
 
 impl ScanPlace {
-    /// How many rows stand there that are known to be under the prefix.
+    /// Returns the number of rows ahead that are known to be under the prefix.
     pub fn left(&self) -> usize
         ensures { result ≡ self.now.left }
     {

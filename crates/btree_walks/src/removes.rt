@@ -26,7 +26,7 @@ pub(crate) enum Removed {
     Emptied,
 }
 
-/// Takes a key out where its leaf may be left without rows, and tells whether it was there.
+/// Removes a key whose leaf may become empty, and returns whether it existed.
 pub(crate) fn remove_through<D: SectorDevice>(
     txn: &mut Txn,
     pages: &mut Pages<D>,

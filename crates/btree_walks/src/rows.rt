@@ -33,7 +33,7 @@ impl Row {
     }
 }
 
-/// Takes the row before which a leaf stands, and stands after it.
+/// Copies the next row of a leaf and moves past it.
 pub(crate) fn take_row(
     page: &PageBytes,
     leaf: &mut Leaf,

@@ -91,7 +91,8 @@ impl Scan {
         Scan::before(&[], key)
     }
 
-    /// Stands at the next row, or tells that none comes: none is left, or there was a fault, which is kept. It takes no memory.
+    /// Moves to the next row and returns true, or returns false: no row is left, or there was a
+    /// fault, which the scan keeps. It takes no memory.
     pub fn advance<D: SectorDevice>(&mut self, txn: &Txn, pages: &mut Pages<D>) -> bool
         requires begun { txn_pages txn.now ≡ count_of pages.old }
         ensures { ScansOn txn.now pages.old pages.new self.old self.new (row_of self.new) result }
@@ -122,7 +123,7 @@ impl Scan {
         }
     }
 
-    /// The key of the row that it stands at.
+    /// Returns the key of the current row.
     pub fn key(&self) -> &[u8]
         ensures key { result.now ≡ (row_of self.now).key }
         ensures short { length result.now ≤ 72 }
@@ -130,7 +131,7 @@ impl Scan {
         &self.held.page()[self.parts.key..self.parts.value]
     }
 
-    /// The value of the row that it stands at.
+    /// Returns the value of the current row.
     pub fn value(&self) -> &[u8]
         ensures value { result.now ≡ (row_of self.now).value }
         ensures short { length result.now ≤ 1024 }
@@ -138,7 +139,8 @@ impl Scan {
         &self.held.page()[self.parts.value..self.parts.end]
     }
 
-    /// Copies the next row, or tells that none comes: none is left, or there was a fault, which is kept. It takes no memory.
+    /// Copies the next row and returns true, or returns false: no row is left, or there was a
+    /// fault, which the scan keeps. It takes no memory.
     pub fn next<D: SectorDevice>(&mut self, txn: &Txn, pages: &mut Pages<D>, row: &mut Row) -> bool
         requires begun { txn_pages txn.now ≡ count_of pages.old }
         ensures { ScansOn txn.now pages.old pages.new self.old self.new row.new result }
@@ -151,8 +153,9 @@ impl Scan {
         false
     }
 
-    /// The place at which it stands, where each row that is left of its leaf is known to be under the prefix. A loop takes these rows
-    /// one after the other by `take_at`, and tells how far it came by `go_on`. Of another leaf no row is left there.
+    /// Returns the scan's place if all rows left in its leaf are known to be under the prefix; for
+    /// any other leaf a place without rows. A loop takes these rows one after the other by
+    /// `take_at` and reports its progress by `go_on`.
     pub fn place(&self) -> ScanPlace
         ensures left { result.left ≡ cond (is_open self.now) self.now.leaf.left 0 }
         ensures fits { FitsIn self.now result }
@@ -172,8 +175,9 @@ impl Scan {
         place
     }
 
-    /// Takes the row at a place, and moves the place after it: where its key and value lie. Gives none where no row is left there, or
-    /// where the bytes aren't one: the call of `advance` after `go_on` tells which.
+    /// Takes the row at a place and moves the place past it; returns where its key and value are.
+    /// Returns none if no row is left, or if the bytes are not a row: the call of `advance` after
+    /// `go_on` tells which.
     #[tactic(auto, using(crate::proofs::Places::next_some, crate::proofs::Places::none_next))]
     pub fn take_at(&self, place: &mut ScanPlace) -> Option<Parts>
         ensures rows { TakesRowAt self.now place.old place.new result }
@@ -210,8 +214,8 @@ impl Scan {
         &self.held.page()[parts.value..parts.end]
     }
 
-    /// Stands at a place: the rows up to it are taken. `key` and `value` are still those of the row that the last call of `advance`
-    /// took.
+    /// Moves to a place; the rows before it count as taken. `key` and `value` still return the row
+    /// that the last call of `advance` took.
     pub fn go_on(&mut self, place: ScanPlace)
         ensures { self.new ≡ stood_at self.old place }
     {
@@ -259,7 +263,7 @@ fn step<D: SectorDevice>(
     Ok(page[parts.key..parts.value].starts_with(prefix.as_slice()))
 }
 
-/// Stands in the next leaf where no row of this one is left: in one that is held, or in one that is read.
+/// Moves to the next leaf if no row of this one is left: a leaf in memory, or one that is read.
 fn refill<D: SectorDevice>(
     txn: &Txn,
     pages: &mut Pages<D>,

@@ -21,9 +21,10 @@ use page_node::{NotANode, PAGE_SIZE, take_spare_row};
 use page_store::{Pages, Txn};
 use sector_device::SectorDevice;
 
-/// Takes a key out, and tells whether it was there. At most 6 pages are written, those that are given back among them, at most 6
-/// are given back, and none is taken. After an error the transaction can only be abandoned: `Memory` comes from a growth of the
-/// transaction, `NotAStore` where what is read is no store's, `DeviceFault` and `Halted` from the device.
+/// Removes a key and returns whether it existed. At most 6 pages are written, including those given
+/// back, at most 6 are given back, and none is taken. After an error the transaction can only be
+/// abandoned: `Memory` comes from a growth of the transaction, `NotAStore` if a page read is not a
+/// store's, `DeviceFault` and `Halted` from the device.
 pub fn remove<D: SectorDevice>(
     txn: &mut Txn,
     pages: &mut Pages<D>,
@@ -39,7 +40,8 @@ pub fn remove<D: SectorDevice>(
     }
 }
 
-/// Takes a key out where its leaf keeps other rows, and tells whether it was there. Else the transaction stays as it is.
+/// Removes a key if its leaf keeps other rows, and returns whether it existed. Otherwise the
+/// transaction stays as it is.
 fn take_spare<D: SectorDevice>(
     txn: &mut Txn,
     pages: &mut Pages<D>,

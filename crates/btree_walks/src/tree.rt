@@ -17,7 +17,7 @@ use page_node::{NodeBuf, level_of};
 use page_store::{Pages, Txn};
 use sector_device::SectorDevice;
 
-/// Reads the node of a level that a page stands for.
+/// Reads the node of a given level from its page.
 fn read_node<D: SectorDevice>(
     txn: &Txn,
     pages: &mut Pages<D>,
@@ -105,7 +105,7 @@ fn check_tree<D: SectorDevice, P: Progress>(
     Ok(())
 }
 
-/// Checks the tree at a root. Page 0 stands for none.
+/// Checks the tree at a root. Page 0 means no tree.
 pub(crate) fn check_root<D: SectorDevice, P: Progress>(
     txn: &Txn,
     pages: &mut Pages<D>,

@@ -9,7 +9,7 @@ use crate::held::HeldLeaves;
 use page_btree::{Leaf, TreeError};
 use page_node::place_from;
 
-/// Stands before the first row of the next leaf that is held.
+/// Moves to the first row of the next leaf in memory.
 pub(crate) fn turn(leaf: &mut Leaf, held: &mut HeldLeaves) -> Result<(), TreeError>
     requires { 0 < leaf.old.more }
     ensures turned { (rows : List Entry) → AreLeaves leaf.old.more (drop (held.old.which + 1) held.old.pages) rows

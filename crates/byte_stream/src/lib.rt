@@ -1,13 +1,29 @@
-//! Streams of bytes, and texts as lines, fields between bars, words and numbers: readers and writers that tell their failures.
+//! Streams of bytes with counted failures, and texts as lines, fields, words and numbers.
 //!
-//! Seen as the bytes left or written, turns and failures (`Source`, `Sink`). A turn is one call of the reader below. A send is all bytes,
-//! or a prefix of them and a failure. `turn_of`: an interrupted read is a turn without a byte, every other error a failure.
-//! `is_tried_again`: an interrupted write, 4,294,967,296 times a send. No clause says that `turn` and `write_all` go by these two.
+//! # Example
 //!
-//! Texts: seen as the lines or words that are left, of a whole text or a reader. Those of a reader come one at a time, however its bytes
-//! are cut, with the first fault.
+//! `Lines::new(b"a|b\r\nc")` gives line 1, `a|b`, and line 2, `c`. `Fields::new(b"a|b")` gives `a`
+//! and `b`.
 //!
-//! How far a long command is: seen as rows in all (`is_told`). What `Telling` writes has no clause.
+//! # Model
+//!
+//! A `Source` is the bytes that it has not given yet, with the number of reads (turns) and of
+//! failures. A `Sink` is the bytes written, with the same numbers. A text is the list of its lines
+//! or words, the same however a reader cuts it.
+//!
+//! # Proved
+//!
+//! - A send writes all bytes, or a prefix and then reports a failure.
+//! - `LineReader` and `Words` give each line or word in order, with its number, and the first
+//!   fault.
+//! - `turn_of`: an interrupted read is a turn without bytes, every other error a failure.
+//!   `is_tried_again`: an interrupted write is repeated, at most 4,294,967,296 times a send.
+//! - `number`, `digits_exactly`: exactly the decimal numbers of the given length.
+//!
+//! # Not proved
+//!
+//! That the adapters for files and sockets call `turn_of` and `is_tried_again`, and what a progress
+//! line (`Telling`) prints. Tests cover both.
 #![tactic(auto)]
 
 pub mod digits;

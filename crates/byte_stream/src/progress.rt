@@ -6,7 +6,7 @@ use std::io::Write;
 
 /// Hears again and again how many rows were written, read or taken out so far, or how many pages were read.
 pub trait Progress {
-    // It was told that there are so many rows in all.
+    // The total number of rows was announced.
     ghost is_told: { Self → ℕ → Type 0 };
 
     /// How many rows there are in all, before the first one, where that is known.
@@ -16,7 +16,7 @@ pub trait Progress {
     /// How many pages there are in all, where pages are read and not rows.
     fn expect_pages(&mut self, pages: u64);
 
-    /// How many there were so far. What was told of all stays.
+    /// Reports the number of rows so far. The total that was announced stays.
     fn note(&mut self, rows: u64)
         ensures { (all : ℕ) → is_told self.old all → is_told self.new all };
 }
@@ -24,7 +24,7 @@ pub trait Progress {
 /// How many pages come between two lines.
 const PAGES_BETWEEN: u64 = 16_384;
 
-/// Hears it and tells nobody.
+/// Ignores all reports.
 #[derive(Drop)]
 pub struct NoProgress;
 
@@ -38,8 +38,9 @@ impl Progress for NoProgress {
     fn note(&mut self, _: u64) {}
 }
 
-/// Tells whoever sits at a terminal a line for so many rows, or for each 16,384 pages, as far as that can be written, and of how many,
-/// where that is known. Where there is no terminal nothing is told.
+/// Prints a line to a terminal for every `rows_between` rows, or for every 16,384 pages, with the
+/// total if it is known. Prints nothing if standard error is no terminal. A line that cannot be
+/// written is dropped.
 #[derive(Drop)]
 pub struct Telling<E> {
     errors: E,
@@ -54,7 +55,7 @@ pub struct Telling<E> {
 impl<E> Telling<E> {
     ghost use Rattle.std.specs.Prelude.{◌≡◌, None};
 
-    /// Before the first row. The words stand before the number of rows in each line, and so many rows come between two lines.
+    /// A report before the first row. `words` precede the number of rows in each line.
     pub fn new(errors: E, is_terminal: bool, words: &'static [u8], rows_between: u64) -> Self
         ensures errors { result.errors ≡ errors }
         ensures terminal { result.is_terminal ≡ is_terminal }

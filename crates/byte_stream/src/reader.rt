@@ -71,7 +71,7 @@ enum AtHand {
     Part,
 }
 
-/// Makes room after the bytes from `start` to `end`: answers where they then stand.
+/// Makes room after the bytes from `start` to `end`, and returns where these bytes are then.
 fn make_room(buffer: &mut Vec<u8>, start: usize, end: usize) -> (usize, usize)
     requires order { start ≤ end }
     requires within { end ≤ vec_len buffer.old }

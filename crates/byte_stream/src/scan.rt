@@ -10,7 +10,7 @@ const BLOCK_LEN: usize = 128;
 /// A block in which bars are counted at once: a count of its bytes is below 256.
 const COUNT_LEN: usize = 240;
 
-/// Whether a byte stands in a block.
+/// Returns whether a block of bytes contains `byte`.
 fn has(block: &[u8], byte: u8) -> bool
     ensures { result ≡ false → All (λ b. (b == byte) ≡ false) block.now }
 {
@@ -21,7 +21,8 @@ fn has(block: &[u8], byte: u8) -> bool
     found
 }
 
-/// How many bytes stand before the first block that has `byte`, or before the rest that is smaller than a block.
+/// Returns the number of bytes before the first block that contains `byte`, or before the rest that
+/// is smaller than a block.
 #[tactic(auto, using(crate::proofs::ScanLemmas::none_more))]
 fn blocks_to(text: &[u8], byte: u8) -> usize
     ensures within { result ≤ length text.now }
@@ -37,7 +38,7 @@ fn blocks_to(text: &[u8], byte: u8) -> usize
     at
 }
 
-/// How many bytes stand before the first `byte`, which is likely to be near.
+/// Returns the number of bytes before the first `byte`. Fast if it is near.
 pub fn place_near(text: &[u8], byte: u8) -> usize
     ensures within { result ≤ length text.now }
     ensures before { All (λ b. (b == byte) ≡ false) (take result text.now) }
@@ -63,7 +64,8 @@ fn place_in(text: &[u8], byte: u8) -> usize
     }
 }
 
-/// How many bytes stand before the first `byte`: block by block, and closer in the block that has it.
+/// Returns the number of bytes before the first `byte`: block by block, and then within the block
+/// that contains it.
 #[tactic(auto, using(crate::proofs::ScanLemmas::none_before))]
 pub fn place_far(text: &[u8], byte: u8) -> usize
     ensures within { result ≤ length text.now }

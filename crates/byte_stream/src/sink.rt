@@ -26,8 +26,8 @@ pub trait Sink {
 /// How often an interrupted write is tried again in one send.
 pub const TRY_LIMIT: u64 = 4_294_967_296;
 
-/// Whether a write that failed so is tried again, where so many tries were made again already: only an interrupted one is,
-/// up to `TRY_LIMIT` times.
+/// Returns whether a failed write is repeated after `tries` repetitions. Only an interrupted write
+/// is, up to `TRY_LIMIT` times.
 pub fn is_tried_again(kind: ErrorKind, tries: u64) -> bool
     ensures yes { kind ≡ ErrorKind.Interrupted → tries < 4294967296 → result ≡ true }
     ensures only { result ≡ true → (kind ≡ ErrorKind.Interrupted) × (tries < 4294967296) }
@@ -69,7 +69,8 @@ impl<W: Write> WriteSink<W> {
     }
 }
 
-/// Writes the bytes, and answers whether all were written. A write of no byte ends it, and an interrupted one is tried again.
+/// Writes the bytes and returns whether all were written. A write of no byte ends it; an
+/// interrupted write is repeated.
 fn write_all<W: Write>(writer: &mut W, bytes: &[u8]) -> bool
     ensures { Sent (W.contents writer.old) (W.contents writer.new) result bytes.now }
 {

@@ -8,7 +8,7 @@ use std::io::{ErrorKind, Read};
 /// What one turn of reading gave.
 #[derive(Clone, Copy, PartialEq, Eq)]
 pub enum Turn {
-    /// So many bytes, which is none at the end of the input.
+    /// The number of bytes read, 0 at the end of the input.
     Read(usize),
     /// No byte came, and another turn may bring some.
     Interrupted,

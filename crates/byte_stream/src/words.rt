@@ -5,7 +5,7 @@ ghost use Rattle.byte_stream.specs.Words.{IsWord};
 
 use std::marker::Model;
 
-/// Whether a byte stands between words.
+/// Returns whether a byte separates words.
 #[tactic(auto, unfolding(crate::specs::claim::Words::is_separator))]
 pub fn is_separator(b: u8) -> bool
     ensures { result ≡ is_separator b }
@@ -27,7 +27,7 @@ pub fn separators_before(text: &[u8]) -> usize
     text.len()
 }
 
-/// How many bytes stand before a text's first separator.
+/// Returns the number of bytes before the first separator of a text.
 pub fn bytes_before(text: &[u8]) -> usize
     ensures within { result ≤ length text.now }
     ensures before { NoSeparator (take result text.now) }

@@ -26,8 +26,8 @@ use state_files::plan_file::{Companion, districts_of, read_companion, read_plan}
 use std::alloc::Global;
 use std::thread::Threads;
 
-/// The report of a plan beside a senate plan, if there is one, and beside the congressional plan that a file says, or the file's
-/// fault.
+/// Returns the report of a plan with a senate plan, if there is one, and with the congressional
+/// plan of a file, or the file's fault.
 fn report_beside<T: Threads + Sync, C: Crew + Sync, R: Source>(
     rt: &T,
     alloc: Global,
@@ -124,7 +124,7 @@ fn report_status(broken: bool) -> Status
     if broken { Status::Broken } else { Status::Done }
 }
 
-/// Writes the report, or tells the files' fault.
+/// Prints the report, or the fault of the files.
 fn end_audit<W: Sink, E: Sink>(
     alloc: Global,
     outcome: Result<Audited, FileFault>,
@@ -142,9 +142,10 @@ fn end_audit<W: Sink, E: Sink>(
     }
 }
 
-/// Prints the report of a plan of so many districts, which doesn't depend on the number of workers: 1 where it names a broken
-/// clause, else 0. 3 where a file is refused and 5 where memory is, with the file and its fault told and nothing printed; 6 where
-/// the writing fails. More than one worker read the census files at once.
+/// Prints the report of a plan of `districts` districts; it does not depend on the number of
+/// workers. The status is 1 if it names a broken clause, otherwise 0. If a file is rejected (3) or
+/// memory is refused (5), prints the file and its fault instead. 6 if the output fails. More than
+/// one worker read the census files at once.
 pub fn audit_plan<T: Threads + Sync, C: Crew + Sync, R: Source + Send + Drop, W: Sink, E: Sink>(
     rt: &T,
     alloc: Global,

@@ -32,7 +32,7 @@ fn counts_of<T: Threads + Sync, R: Source + Send + Drop>(
     }
 }
 
-/// Writes what was made of the files, or tells their fault.
+/// Prints the result of reading the files, or their fault.
 fn end<W: Sink, E: Sink>(
     alloc: Global,
     outcome: Result<Vec<u8>, FileFault>,
@@ -47,9 +47,9 @@ fn end<W: Sink, E: Sink>(
     }
 }
 
-/// Prints the numbers of blocks, counties and people of a state, and the people of each county: 0. 3 where a file is
-/// refused and 5 where memory is, with the file and its fault told and nothing printed; 6 where the writing fails. More than one
-/// worker read the files at once.
+/// Prints the numbers of blocks, counties and people of a state, and the people of each county. The
+/// status is 0. If a file is rejected (3) or memory is refused (5), prints the file and its fault
+/// instead. 6 if the output fails. More than one worker read the files at once.
 pub fn check<T: Threads + Sync, R: Source + Send + Drop, W: Sink, E: Sink>(
     rt: &T,
     alloc: Global,

@@ -130,7 +130,7 @@ fn push_number(text: &mut Vec<u8>, name: &[u8], number: u64) -> Result<(), Alloc
     text.extend_from_slice(b"\n")
 }
 
-/// The zeros before so many digits of a county's code.
+/// Returns the zeros before a county's code of `digits` digits.
 fn zeros(digits: usize) -> &'static [u8]
     ensures { result.now ≡ replicate (3 - digits) 48 }
 {

@@ -1,19 +1,28 @@
-//! `check`: the counts of a state's census files, and the audit of a plan from files.
+//! The `check` command: counts the people of the census files, or audits a plan from files.
 //!
-//! Seen as functions from readers to an exit status. `check`, `audit_plan`: the counts, or the text of a report on the plan that the files
-//! say; status 1 exactly where it names a broken clause. Files are judged in their order and the first fault is reported; of those after it
-//! nothing is read by one worker. Read faults and turn limits come only where that reader's counts say so. A refused file prints nothing.
-//! Status 6 comes exactly where the writer of standard output fails once more, and it then holds a prefix of the text. By more than one of
-//! `--workers` the census files are read at once, and a report is shared out among so many (`IsDoneBy`).
+//! # Model
+//!
+//! A function from readers to an exit status.
+//!
+//! # Proved
+//!
+//! - `check` and `audit_plan` print the counts, or the text of a report on the plan that the files
+//!   say. The status is 1 exactly if the report names a broken clause.
+//! - Files are judged in their order and the first fault is reported. One worker reads nothing of
+//!   the files after it. A read fault or a turn limit is reported only if that reader's counts say
+//!   so. A rejected file prints nothing.
+//! - Status 6 comes exactly if standard output fails, and then it holds a prefix of the text.
+//! - With more `--workers` the census files are read at once and the report is shared (`IsDoneBy`).
+//!
+//! # Not proved
+//!
+//! That the opened files are those that the user means.
 //!
 //! # Notes
 //!
-//! Each command is a function over its readers and writers that answers the exit status.
-//!
-//! From files an audit goes the same way as at the desk. `Audits` is a chain of steps, each by `Then` of state_files: a fault is the
-//! outcome of all that follow, and the files after it stay as they are. Each step names its file before and after, so that a failed read is
-//! reported where that file's reader counts one failure more. More than one worker read the census files at once, and of those after a
-//! fault nothing is said (`StandBy`).
+//! `Audits` is a chain of steps, joined by `Then` of state_files: after a fault the later files
+//! stay as they are. With more than one worker nothing is said about the files after a fault
+//! (`StandBy`).
 #![tactic(auto)]
 
 pub mod audit_plan;

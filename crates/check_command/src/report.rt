@@ -24,7 +24,7 @@ pub struct Audited {
     pub text: String,
 }
 
-/// The report by so many workers. One does all alone.
+/// Returns the report by `workers` workers; one worker needs no thread.
 fn audit_by<T: Threads + Sync, C: Crew + Sync>(
     rt: &T,
     alloc: Global,
@@ -87,7 +87,8 @@ fn print_report<T: Threads + Sync, C: Crew + Sync>(
     Ok(Audited { broken, text })
 }
 
-/// The report of a plan of n districts, by so many workers. `plan` and the plans beside it are as `audit_with` takes them.
+/// Returns the report of a plan of n districts by `workers` workers. `plan` and its companions are
+/// as for `audit_with`.
 pub fn report_of<T: Threads + Sync, C: Crew + Sync>(
     rt: &T,
     alloc: Global,

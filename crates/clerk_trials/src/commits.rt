@@ -82,7 +82,7 @@ fn let_go(alloc: Global, clerk: &mut Clerk<Fused>, name: PlanName) {
     drop(clerk.prepare(alloc, house(name)).ok());
 }
 
-/// Asserts that the plan is listed alone, after the change and where it is shown.
+/// Asserts that the list has exactly this plan, after the change and where it is shown.
 fn is_alone<R: Abort>(
     rt: &R,
     alloc: Global,

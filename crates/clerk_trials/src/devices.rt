@@ -21,7 +21,7 @@ pub fn picks<R: Abort>(rt: &R, alloc: Global, fill: Option<u8>) -> Vec<Pick> {
     picks_of(rt, alloc, SECTORS, fill)
 }
 
-/// A pick of so many sectors.
+/// A pick for each of `sectors` sectors.
 pub fn picks_of<R: Abort>(rt: &R, alloc: Global, sectors: u32, fill: Option<u8>) -> Vec<Pick> {
     let mut all = Vec::new(alloc);
     if let Some(byte) = fill {
@@ -32,8 +32,9 @@ pub fn picks_of<R: Abort>(rt: &R, alloc: Global, sectors: u32, fill: Option<u8>)
     all
 }
 
-/// A device over one in memory of which so many calls pass. The next one fails, and each after it too or that one alone. All trials
-/// take this type, so that a clerk is compiled for one type of device.
+/// A device over one in memory whose first `k` calls pass. The next one fails, and after it either
+/// every call or no other. All trials take this type, so that a clerk is compiled for one type of
+/// device.
 pub fn failing_at(device: MemoryDevice, k: u64, once: bool) -> Fused {
     if once {
         Fused::once(device, k)

@@ -42,7 +42,8 @@ const RETIRE: &[u8] = b"DELETE /plans/a HTTP/1.1\r\nHost: d\r\n\r\n";
 const RETIRED: &[u8] =
     b"HTTP/1.1 200 OK\r\nContent-Type: application/json\r\nContent-Length: 27\r\n\r\n{\"plan\":\"a\",\"retired\":true}";
 
-/// Forks that aren't made: of a revision that isn't there, of a plan that was taken away, and under a name that is taken.
+/// Forks that are refused: of a revision that does not exist, of a deleted plan, and under a name
+/// that is in use.
 const REFUSED: &[u8] =
     b"POST /plans/c?from=b:9 HTTP/1.1\r\nHost: d\r\n\r\nPOST /plans/c?from=a:1 HTTP/1.1\r\nHost: d\r\n\r\nPOST /plans/b?from=b:1 HTTP/1.1\r\nHost: d\r\n\r\n";
 
@@ -76,7 +77,7 @@ pub fn swept<R: Abort>(rt: &R, alloc: Global, clerk: &mut Clerk<Fused>) -> usize
     rows
 }
 
-/// A clerk at a store whose origin was taken away once both plans were changed.
+/// A clerk at a store whose origin was deleted after both plans were changed.
 fn retired<R: Abort>(rt: &R, alloc: Global) -> Clerk<Fused> {
     let store = sealed_store(rt, alloc);
     let mut clerk = opened(rt, alloc, device_with(rt, alloc, store.as_slice()));

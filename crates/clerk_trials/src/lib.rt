@@ -1,9 +1,9 @@
-//! Tests of the clerk's own calls, and of the desk that is found after a stop or a failure.
+//! Tests of the clerk's own calls, and of the desk that is found after a crash or a failure.
 //!
 //! # Notes
 //!
-//! There is a fork beside its origin. Served commands, loads, sweeps, openings and migrations meet a device that stops or fails at one of
-//! its calls. So do a journal's commits, and lives of a store, each ended by a stop (`stops`).
+//! Served commands, loads, sweeps, openings and migrations meet a device that stops or fails at one
+//! of its calls, and so do a journal's commits and lives of a store (`stops`).
 #![tactic(auto)]
 
 /// Asserts a fact on which no later step rests. It is a call where `assert!` is a branch, which is dearer to prove. So is `&&`: `&` joins

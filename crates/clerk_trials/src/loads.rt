@@ -10,7 +10,7 @@ use sector_memory::Fused;
 use std::alloc::Global;
 use std::process::Abort;
 
-/// Asserts what staging so many rows comes to.
+/// Asserts the result of staging `rows` rows.
 fn staged<R: Abort>(
     rt: &R,
     alloc: Global,
@@ -24,7 +24,7 @@ fn staged<R: Abort>(
     holds!(rt; stage(alloc, clerk, load, rows) == told);
 }
 
-/// Asserts what sealing comes to.
+/// Asserts the result of sealing.
 fn sealed<R: Abort>(
     rt: &R,
     alloc: Global,

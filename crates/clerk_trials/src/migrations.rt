@@ -36,8 +36,8 @@ const FORK: &[u8] =
 const FORKED: &[u8] =
     b"HTTP/1.1 201 Created\r\nContent-Type: application/json\r\nContent-Length: 26\r\n\r\n{\"plan\":\"d\",\"revisions\":1}HTTP/1.1 200 OK\r\nContent-Type: text/plain\r\nContent-Length: 93\r\n\r\nBLOCKID|DISTRICT\n190010001001001|02\n190010001001002|02\n190030001001001|02\n190030001001002|02\n";
 
-/// A store of the old version: two plans with two revisions each, which name three chunks each, and two forks, which name two
-/// each. All but the second plan were taken away, and nothing was swept.
+/// A store of the old version: two plans with two revisions each, which name three chunks each, and
+/// two forks, which name two each. All but the second plan were deleted, and nothing was swept.
 fn old_store<R: Abort>(rt: &R, alloc: Global, sectors: u32) -> MemoryDevice {
     let mut clerk = sealed(rt, alloc, sectors);
     let text = answers(rt, alloc, &mut clerk, COMMANDS);
@@ -50,7 +50,7 @@ fn old_store<R: Abort>(rt: &R, alloc: Global, sectors: u32) -> MemoryDevice {
     pages.into_device().stop(&[])
 }
 
-/// Whether a clerk opens the device; else it tells that its store is of the old version.
+/// Returns whether a clerk opens the device; otherwise the clerk must report the old version.
 fn is_new<R: Abort>(rt: &R, alloc: Global, device: MemoryDevice) -> (bool, MemoryDevice) {
     match Clerk::open(alloc, passing(device)) {
         Ok(clerk) => (true, device_of(clerk)),
@@ -61,7 +61,8 @@ fn is_new<R: Abort>(rt: &R, alloc: Global, device: MemoryDevice) -> (bool, Memor
     }
 }
 
-/// Migrates to the end: how many rows were put but that of the version. One that doesn't end is told as one without room.
+/// Migrates to the end and returns the number of rows put, without the version's row. A migration
+/// that does not end is reported as one without room.
 fn migrates<D: SectorDevice>(
     alloc: Global,
     migration: &mut Migration<D>,
@@ -103,7 +104,7 @@ fn begun<R: Abort>(rt: &R, alloc: Global, device: MemoryDevice) -> Migration<Fus
         .expect(rt, "not opened")
 }
 
-/// Asserts what a step comes to.
+/// Asserts the result of a step.
 fn steps<R: Abort>(
     rt: &R,
     alloc: Global,
@@ -180,8 +181,8 @@ fn migrated_at<R: Abort>(
     }
 }
 
-/// How far a migration was that was stopped: nothing of it is kept, its first step, both, or the version too. Begun anew, it ends
-/// with what the store showed.
+/// Returns how far a migration was when it was stopped: nothing of it, its first step, both, or the
+/// version too. Repeated, it ends with what the store showed.
 fn kept<R: Abort>(rt: &R, alloc: Global, device: MemoryDevice) -> usize
     ensures { result < 4 }
 {

@@ -6,7 +6,7 @@ use sector_device::Sector;
 use std::alloc::Global;
 use std::process::Abort;
 
-/// Whether the gate stands open.
+/// Returns whether the gate is open.
 fn is_open(image: &[Sector]) -> bool {
     image.len() > 1 && image[1][0] == 0xa5
 }

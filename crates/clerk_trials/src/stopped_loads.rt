@@ -16,7 +16,8 @@ use std::process::Abort;
 /// The calls of a load: its begin, two batches and the seal.
 const ALL: u32 = 4;
 
-/// Stages half of the sample's eight rows: whether that came to pass, and the device fails where it doesn't.
+/// Stages half of the sample's eight rows and returns whether it succeeded; the device fails
+/// otherwise.
 fn stages<R: Abort, D: SectorDevice>(
     rt: &R,
     alloc: Global,
@@ -42,7 +43,8 @@ fn seals<R: Abort, D: SectorDevice>(
     told.is_ok()
 }
 
-/// Loads the sample geography until the device fails: how many of the calls came to pass.
+/// Loads the sample geography until the device fails, and returns the number of calls that
+/// succeeded.
 fn loaded<R: Abort, D: SectorDevice>(rt: &R, alloc: Global, clerk: &mut Clerk<D>) -> u32 {
     let mut load = match clerk.begin_load(alloc, shared_sample(rt, alloc)) {
         Ok(load) => load,
@@ -71,8 +73,8 @@ pub fn is_sealed<R: Abort, D: SectorDevice>(rt: &R, alloc: Global, clerk: &Clerk
     sealed
 }
 
-/// Loads at a clerk whose device may fail: how many of the calls came to pass. After a fault the desk is shown as before, and a
-/// command is refused.
+/// Loads at a clerk whose device may fail, and returns the number of calls that succeeded. After a
+/// fault the desk is shown as before, and a command is refused.
 fn loads<R: Abort, D: SectorDevice>(rt: &R, alloc: Global, clerk: &mut Clerk<D>) -> u32 {
     let count = loaded(rt, alloc, clerk);
     holds!(rt; is_sealed(rt, alloc, clerk) == (count == ALL));
@@ -89,7 +91,8 @@ fn loads<R: Abort, D: SectorDevice>(rt: &R, alloc: Global, clerk: &mut Clerk<D>)
     count
 }
 
-/// Loads at a device with a fault at call k: how many of the calls came to pass, and the device stopped then.
+/// Loads at a device with a fault at call k, and returns the number of calls that succeeded, and
+/// the device after a crash.
 fn stopped<R: Abort>(
     rt: &R,
     alloc: Global,
@@ -107,7 +110,8 @@ fn stopped<R: Abort>(
     }
 }
 
-/// Whether the device opens to a desk with a geography. Where it has none, a load that is begun anew gives it one.
+/// Returns whether the device opens to a desk with a geography. If it has none, a new load gives it
+/// one.
 fn finds_sealed<R: Abort>(rt: &R, alloc: Global, device: MemoryDevice) -> bool {
     let mut clerk = opened(rt, alloc, device);
     let sealed = is_sealed(rt, alloc, &clerk);
@@ -117,8 +121,8 @@ fn finds_sealed<R: Abort>(rt: &R, alloc: Global, device: MemoryDevice) -> bool {
     sealed
 }
 
-/// A fault at each call in turn: how many leave the desk without a geography, and how many of a seal that wasn't told leave it
-/// with.
+/// A fault at each call in turn: how many leave the desk without a geography, and how many seals
+/// that were not acknowledged leave it with one.
 fn outcomes<R: Abort>(rt: &R, alloc: Global, once: bool, fill: Option<u8>) -> (u32, u32) {
     let image = new_store(rt, alloc);
     let picks = picks(rt, alloc, fill);

@@ -48,7 +48,7 @@ pub fn begun<R: Abort>(rt: &R, alloc: Global, clerk: &mut Clerk<Fused>) -> Load 
         .expect(rt, "not begun")
 }
 
-/// Stages so many rows of those that are left, at most all: how many are left then.
+/// Stages `rows` of the rows left, or all of them, and returns how many are left then.
 pub fn stage<D: SectorDevice>(
     alloc: Global,
     clerk: &mut Clerk<D>,

@@ -73,7 +73,8 @@ pub fn served<R: Abort>(
     }
 }
 
-/// Whether a device opens to just so many of the commands; else it opens to the next one too.
+/// Returns whether a device opens to exactly the first `made` commands; otherwise it opens to the
+/// next one too.
 fn finds_just<R: Abort>(rt: &R, alloc: Global, device: MemoryDevice, made: usize) -> bool {
     let text = found(rt, alloc, device);
     let just = shows(text.as_slice(), made);
@@ -81,7 +82,8 @@ fn finds_just<R: Abort>(rt: &R, alloc: Global, device: MemoryDevice, made: usize
     just
 }
 
-/// A fault at each call in turn: how many leave just the commands that were told as made, and how many the next one too.
+/// A fault at each call in turn: how many leave exactly the acknowledged commands, and how many the
+/// next one too.
 fn outcomes<R: Abort>(
     rt: &R,
     alloc: Global,

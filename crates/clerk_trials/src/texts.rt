@@ -25,7 +25,7 @@ static MADE: [&[u8]; ALL] = [
 pub const HALTED: &[u8] =
     b"HTTP/1.1 503 Service Unavailable\r\nContent-Type: application/json\r\nContent-Length: 18\r\n\r\n{\"error\":\"Halted\"}";
 
-/// What the queries are answered after so many of the commands.
+/// The answers to the queries after each number of commands.
 static SHOWN: [&[u8]; ALL + 1] = [
     b"HTTP/1.1 200 OK\r\nContent-Type: application/json\r\nContent-Length: 12\r\n\r\n{\"plans\":[]}HTTP/1.1 404 Not Found\r\nContent-Type: application/json\r\nContent-Length: 18\r\n\r\n{\"error\":\"NoPlan\"}HTTP/1.1 404 Not Found\r\nContent-Type: application/json\r\nContent-Length: 18\r\n\r\n{\"error\":\"NoPlan\"}HTTP/1.1 404 Not Found\r\nContent-Type: application/json\r\nContent-Length: 18\r\n\r\n{\"error\":\"NoPlan\"}HTTP/1.1 404 Not Found\r\nContent-Type: application/json\r\nContent-Length: 18\r\n\r\n{\"error\":\"NoPlan\"}",
     b"HTTP/1.1 200 OK\r\nContent-Type: application/json\r\nContent-Length: 70\r\n\r\n{\"plans\":[{\"districts\":2,\"kind\":\"congress\",\"name\":\"a\",\"revisions\":0}]}HTTP/1.1 404 Not Found\r\nContent-Type: application/json\r\nContent-Length: 22\r\n\r\n{\"error\":\"NoRevision\"}HTTP/1.1 404 Not Found\r\nContent-Type: application/json\r\nContent-Length: 22\r\n\r\n{\"error\":\"NoRevision\"}HTTP/1.1 404 Not Found\r\nContent-Type: application/json\r\nContent-Length: 18\r\n\r\n{\"error\":\"NoPlan\"}HTTP/1.1 404 Not Found\r\nContent-Type: application/json\r\nContent-Length: 18\r\n\r\n{\"error\":\"NoPlan\"}",
@@ -36,12 +36,13 @@ static SHOWN: [&[u8]; ALL + 1] = [
     b"HTTP/1.1 200 OK\r\nContent-Type: application/json\r\nContent-Length: 70\r\n\r\n{\"plans\":[{\"districts\":2,\"kind\":\"congress\",\"name\":\"b\",\"revisions\":2}]}HTTP/1.1 404 Not Found\r\nContent-Type: application/json\r\nContent-Length: 18\r\n\r\n{\"error\":\"NoPlan\"}HTTP/1.1 404 Not Found\r\nContent-Type: application/json\r\nContent-Length: 18\r\n\r\n{\"error\":\"NoPlan\"}HTTP/1.1 200 OK\r\nContent-Type: text/plain\r\nContent-Length: 93\r\n\r\nBLOCKID|DISTRICT\n190010001001001|01\n190010001001002|01\n190030001001001|02\n190030001001002|02\nHTTP/1.1 200 OK\r\nContent-Type: text/plain\r\nContent-Length: 93\r\n\r\nBLOCKID|DISTRICT\n190010001001001|02\n190010001001002|02\n190030001001001|02\n190030001001002|02\n",
 ];
 
-/// Whether these are the answers to the queries after so many of the commands.
+/// Returns whether these are the answers to the queries after `made` commands.
 pub fn shows(text: &[u8], made: usize) -> bool {
     made <= ALL && text == SHOWN[made]
 }
 
-/// How many of the commands these answers tell as made before the device fails; more than all, where they are other answers.
+/// Returns how many commands these answers acknowledge before the device fails; more than all if
+/// they are other answers.
 pub fn told_made(text: &[u8]) -> usize {
     let mut rest = text;
     let mut made = 0usize;

@@ -1,179 +1,192 @@
-//! What is told beside the options of each command.
+//! What the help of each command says after its options.
 
-pub(crate) const STATUSES: &str = "Statuses:
-  0  done; help or the version was told
-  1  a report names a broken clause
-  2  the command line is wrong; nothing was opened
-  3  a file was refused; its fault is told with the file's name
-  4  the store was refused, or its device failed
-  5  memory was refused
-  6  a socket, or standard input or output failed
+pub(crate) const STATUSES: &str = "Exit statuses:
+  0  success
+  1  the audited plan fails at least one test
+  2  the command line is wrong; no file was opened
+  3  an input file was rejected; the error line names the file's role and the error
+  4  the store was rejected, or its disk failed
+  5  there was not enough memory
+  6  a socket, standard input or standard output failed
 
-To read: README.md, and docs/FAULTS.md, of which explain prints a line.";
+Errors are printed as 'plandesk: FILE: CODE', where FILE is a role such as geo or store. Add --words to any command for an explanation
+after the error line, or run 'plandesk explain CODE'. 'plandesk explain' lists all codes.";
 
 pub(crate) const FORMAT_HELP: &str =
-    "Where it ends with 4 or 5 after the file was made, the file is no store: remove it before the next format.
+    "Give the size in one of two forms: --sectors and --journal, or what the store is to hold (--blocks, --counties, --plans and
+--revisions), from which plandesk computes the size, for three pairs of neighbours a block. A store cannot grow later.
 
-Examples, the second of a size that is reckoned as docs/FORMATS.md does, with three pairs of neighbours for each block:
-  ./plandesk format state.store --sectors 2000 --journal 256
-  ./plandesk format state.store --blocks 4 --counties 2 --plans 10 --revisions 5
+format writes every sector of the file, so a disk that is full later does not affect the store. If it fails with status 4 or 5, remove
+the unfinished file before you try again.
 
-Statuses:
-  0  the store is made
-  2  the command line is wrong; nothing was made
-  4  the store was refused, or its device failed
-  5  memory was refused
-  6  standard output failed
+Examples:
+  plandesk format state.store --blocks 4 --counties 2 --plans 10 --revisions 5
+  plandesk format state.store --sectors 2000 --journal 256
 
-To read: docs/FORMATS.md (how many sectors a state needs), docs/FAULTS.md.";
+Exit statuses:
+  0  the store was created
+  2  the command line is wrong; no file was created
+  4  the file could not be created or written
+  5  there was not enough memory
+  6  standard output failed; the store was created";
 
 pub(crate) const LOAD_HELP: &str =
-    "The files are judged in the order geo, seg1, seg2, seg3, gal, and the first fault ends the run; the store
-is opened after them all.
+    "The files are read in the order geo, seg1, seg2, seg3, gal, and the first error ends the command; the store is opened after all of
+them. If load is interrupted, the store contains no state, and load can be run again.
 
 Example, in the folder 'example':
-  ../plandesk load state.store --geo geo.pl --seg1 seg1.pl --seg2 seg2.pl --seg3 seg3.pl --gal neighbours.gal
+  plandesk load state.store --geo geo.pl --seg1 seg1.pl --seg2 seg2.pl --seg3 seg3.pl --gal neighbours.gal
 
-Statuses:
-  0  the geography is sealed in the store
-  2  the command line is wrong; nothing was opened
-  3  a file was refused; its fault is told with the file's name
-  4  the store was refused, or its device failed
-  5  memory was refused
-  6  standard output failed; the geography is sealed in the store
-
-To read: docs/IOWA.md (from the files of the census to a loaded store), docs/FAULTS.md.";
+Exit statuses:
+  0  the store contains the state
+  2  the command line is wrong; no file was opened
+  3  an input file was rejected; the error line names the file's role and the error
+  4  the store was rejected, or its disk failed
+  5  there was not enough memory
+  6  standard output failed; the store contains the state";
 
 pub(crate) const SERVE_HELP: &str =
-    "It listens on 127.0.0.1, and ends once so many connections were served, or else when it is killed. Each worker serves one connection
-at a time: commands go one after the other, and what is read waits for nobody. One that asks nothing gives way after the seconds of
---keep, and at once where another waits for a worker. One that is silent within a request, or takes no byte of an answer, ends after
-those of --idle, and one whose request hasn't come whole after those of --request.
-What deleted plans leave in the store is taken out between commands, unless --no-sweep is there.
-No connection waits for the log: lines for which there is no room are dropped, and the next one tells how many.
+    "plandesk listens on 127.0.0.1 only, and exits after --connections connections, or when it is stopped. Each worker serves one
+connection at a time. Changes are made one after the other; requests that only read never wait for them.
 
-Example, of a store that was formatted and loaded:
-  ./plandesk serve state.store --port 8080 --log state.log
+An idle connection is closed after --keep seconds, or within 0.2 seconds if another one waits for a worker. A connection is also closed
+if it sends nothing for --idle seconds in the middle of a request or accepts no data of an answer, and if its request is not complete
+--request seconds after the first byte.
+
+Between changes the server reclaims the space of deleted plans, unless --no-sweep is given. It never waits for the log: if more than
+1,024 lines wait to be written, further lines are dropped, and the next line gives their number.
+
+Example, with a store that was formatted and loaded:
+  plandesk serve state.store --port 8080 --log state.log
   curl http://127.0.0.1:8080/plans
 
-Statuses:
-  0  so many connections were served; one that broke ended alone
-  2  the command line is wrong; nothing was opened
-  3  the log's file was refused; its fault is told, and nothing else was opened
-  4  the store was refused, or its device failed
-  5  memory was refused
-  6  the socket or standard output failed
+Exit statuses:
+  0  the requested number of connections was served (a broken connection is not an error)
+  2  the command line is wrong; no file was opened
+  3  the log file could not be opened; nothing else was opened
+  4  the store was rejected, or its disk failed
+  5  there was not enough memory
+  6  the socket or standard output failed";
 
-To read: docs/OPERATE.md (serve, stop, back up, who may do what), docs/FAULTS.md.";
+pub(crate) const STAT_HELP: &str = "Prints one line for each figure, its key and its value:
+  version, sectors, journal_pages, pages, free_pages    the file
+  blocks, counties, pairs                               the state, 0 without one
+  plans, revisions                                      the plans, and the revisions of all of them
+  chunks                                                lists of a county's districts that plans hold
+  deleted_plans, stopped_loads                          what a sweep would remove
 
-pub(crate) const STAT_HELP: &str =
-    "It prints a line for each figure: its key and its value. For a whole revision, a patch of the largest county and a fork it tells
-whether they would be refused as Full now, how many free pages and pages of the journal they need, and how many free pages are short
-or left. chunks are those that plans hold; deleted_plans and stopped_loads hold pages until a sweep. Nothing in the store changes.
+The remaining keys begin with revision (a change of every county), patch (of the largest county) or fork, and end with:
+  _full                                                 yes, if it would be refused as Full now
+  _needs                                                the free pages, and pages of the journal, that it asks for
+  _short, _left                                         the free pages that it lacks, or that would remain
+
+stat changes nothing, except that it completes a change that a crash interrupted, as every command on a store does. So it needs the
+permission to write, and it cannot open a store that is being served.
 
 Example:
-  ./plandesk stat state.store --json
+  plandesk stat state.store --json
 
-Statuses:
+Exit statuses:
   0  the figures were printed
-  2  the command line is wrong; nothing was opened
-  4  the store was refused, is in use, or its device failed
-  5  memory was refused
-  6  standard output failed
-
-To read: docs/OPERATE.md (how full a store is), docs/FAULTS.md.";
+  2  the command line is wrong; no file was opened
+  4  the store was rejected, is in use, or its disk failed
+  5  there was not enough memory
+  6  standard output failed";
 
 pub(crate) const VERIFY_HELP: &str =
-    "It prints 'sound yes' where each page is free or in the tree, and each row is that of a desk: counts are those of the plans that
-hold a chunk, chunks are as long as their counties, and nothing is there that no plan names. Else it tells what is wrong, and with
-which page, or with which row: its key, two digits a byte. Nothing in the store changes.
+    "Prints 'sound yes' if each page of the store is free or in its tree, and all rows fit together: for example, each plan holds just the
+districts that it names, and each list of districts is as long as its county. Otherwise it prints what is wrong, with the number of the
+page, or with the row's key in hexadecimal; 'plandesk explain WORD' explains it.
 
-Example, of a copy:
-  ./plandesk verify state.copy
+verify changes nothing, except that it completes a change that a crash interrupted, as every command on a store does. So it needs the
+permission to write, and it cannot open a store that is being served: verify a copy.
 
-Statuses:
+Example:
+  plandesk verify state.copy
+
+Exit statuses:
   0  the store is sound
-  2  the command line is wrong; nothing was opened
-  4  the store isn't sound, was refused, is in use, or its device failed
-  5  memory was refused
-  6  standard output failed
-
-To read: docs/OPERATE.md (what goes wrong, and what to do), docs/FAULTS.md.";
+  2  the command line is wrong; no file was opened
+  4  the store is damaged, was rejected, is in use, or its disk failed
+  5  there was not enough memory
+  6  standard output failed";
 
 pub(crate) const SWEEP_HELP: &str =
-    "It goes on until no such row is left; where it is stopped, the next one goes on from there. The desk stays as it is.
+    "Removes everything that deleted plans and interrupted loads left in the store. You can interrupt it and run it again. Plans are not
+changed. A server does the same between changes, unless it runs with --no-sweep.
 
-Example, of a store whose plans were deleted:
-  ./plandesk sweep state.store
+Example:
+  plandesk sweep state.store
 
-Statuses:
-  0  no such row is left
-  2  the command line is wrong; nothing was opened
-  4  the store was refused, or its device failed
-  5  memory was refused
-  6  standard output failed; no such row is left
-
-To read: docs/OPERATE.md (what goes wrong, and what to do), docs/FAULTS.md.";
+Exit statuses:
+  0  nothing is left to remove
+  2  the command line is wrong; no file was opened
+  4  the store was rejected, is in use, or its disk failed
+  5  there was not enough memory
+  6  standard output failed; nothing is left to remove";
 
 pub(crate) const MIGRATE_HELP: &str =
-    "A store of version 1 is refused by the other commands as OldVersion. Its plans and revisions stay as they are. Where it is stopped,
-the next one goes on from there; keep a copy of the file until it is done, since no earlier plandesk takes what it leaves.
+    "Other commands refuse a store of version 1 as OldVersion. Its plans and revisions are not changed. You can interrupt it and run it
+again. Keep a copy of the file until it is done, because no earlier plandesk can read the result.
 
-Example, of a store that plandesk 1.0.0 made:
-  cp state.store state.copy && ./plandesk migrate state.store
+Example, with a store that plandesk 1.0.0 made:
+  cp state.store state.copy && plandesk migrate state.store
 
-Statuses:
-  0  the store is of version 2
-  2  the command line is wrong; nothing was opened
-  4  the store was refused, or its device failed
-  5  memory was refused
-  6  standard output failed; the store is of version 2
-
-To read: docs/OPERATE.md (what goes wrong, and what to do), docs/FAULTS.md.";
+Exit statuses:
+  0  the store has version 2
+  2  the command line is wrong; no file was opened
+  4  the store was rejected, is in use, or its disk failed
+  5  there was not enough memory
+  6  standard output failed; the store has version 2";
 
 pub(crate) const CHECK_HELP: &str =
-    "With the census files alone it prints the numbers of blocks, counties and people, and the people of
-each county; with a plan its audit under Iowa Code 42.4, as one line of JSON. The files are judged in the order
-geo, seg1, seg2, seg3, gal, plan, senate, congress, and the first fault ends the run.
+    "With the census files only, prints the numbers of blocks, counties and people, and the people of each county. With a plan, prints its
+audit under Iowa Code 42.4 as one line of JSON; 'broken' lists the tests that the plan fails, and 'plandesk explain TEST' explains one.
+The files are read in the order geo, seg1, seg2, seg3, gal, plan, senate, congress, and the first error ends the command.
 
 Examples, in the folder 'example':
-  ../plandesk check --geo geo.pl --seg1 seg1.pl --seg2 seg2.pl --seg3 seg3.pl
-  ../plandesk check --geo geo.pl --seg1 seg1.pl --seg2 seg2.pl --seg3 seg3.pl --gal neighbours.gal \\
+  plandesk check --geo geo.pl --seg1 seg1.pl --seg2 seg2.pl --seg3 seg3.pl
+  plandesk check --geo geo.pl --seg1 seg1.pl --seg2 seg2.pl --seg3 seg3.pl --gal neighbours.gal \\
     --plan house.txt --kind house --districts 2
 
-Statuses:
-  0  counts, or a report that names no clause
-  1  a report that names a broken clause
-  2  the command line is wrong; nothing was opened
-  3  a file was refused; its fault is told with the file's name
-  5  memory was refused
-  6  standard output failed
+Exit statuses:
+  0  the counts were printed, or the plan fails no test
+  1  the plan fails at least one test
+  2  the command line is wrong; no file was opened
+  3  an input file was rejected; the error line names the file's role and the error
+  5  there was not enough memory
+  6  standard output failed";
 
-To read: docs/REPORT.md (each key of an audit), docs/LAW.md (each clause), docs/IOWA.md, docs/FAULTS.md.";
+pub(crate) const TALK_HELP: &str =
+    "The store is in memory, holds a sample state of four blocks, and is gone at the end.
 
-pub(crate) const TALK_HELP: &str = "Example:
-  printf 'GET /plans HTTP/1.1\\r\\nHost: d\\r\\n\\r\\n' | ./plandesk talk
+Example:
+  printf 'GET /plans HTTP/1.1\\r\\nHost: d\\r\\n\\r\\n' | plandesk talk
 
-Statuses:
-  0  the input ended, or an answer closed the talk
+Exit statuses:
+  0  the input ended, or an answer closed the connection
   2  the command line is wrong; nothing was read
-  5  memory was refused
-  6  standard input or output failed
-
-To read: README.md (each request), docs/FAULTS.md.";
+  5  there was not enough memory
+  6  standard input or output failed";
 
 pub(crate) const EXPLAIN_HELP: &str =
-    "At a terminal, and with --words, the same words follow a fault's own line.
+    "CODE is one of these, in upper or lower case, or a whole line that has one:
+  an error code of plandesk or of a tool    G1, DeviceFault, LostZero
+  an error over HTTP                        Stale
+  a test of an audit                        42.4.3
+  a word that verify prints                 NotFree
 
-Examples, the last of which lists all codes:
-  ./plandesk explain A7
-  ./plandesk explain 'plandesk: plan: B2 line 2'
-  ./plandesk explain
+Without CODE all codes are listed, one on a line: code with what follows it, place, case: What happened. What to do: What to do.
 
-Statuses:
-  0  what is known of the code, or of all codes, was printed
-  2  the command line is wrong: none of its words is a fault's code
-  5  memory was refused
-  6  standard output failed
+With --words, and at a terminal, each command prints this explanation after its error line.
 
-To read: docs/FAULTS.md.";
+Examples:
+  plandesk explain A7
+  plandesk explain 'plandesk: plan: B2 line 2'
+  plandesk explain
+
+Exit statuses:
+  0  the explanation was printed
+  2  the command line is wrong, or no word of it is a code
+  5  there was not enough memory
+  6  standard output failed";

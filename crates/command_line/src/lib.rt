@@ -1,8 +1,18 @@
-//! What the command line asks for, and its helps: each command with its options, as clap takes them, or what is wrong with the words.
+//! The command line: which job the arguments ask for, and the help texts.
 //!
-//! Seen as a job, or what is wrong with the words. `job_of`: an audit is asked for with districts in range, and each companion exactly
-//! where its districts are given, for the kinds that take it. `check_job`: each path is its own option's value. `read_form`: which options
-//! go together.
+//! # Model
+//!
+//! A job, or what is wrong with the arguments.
+//!
+//! # Proved
+//!
+//! - `job_of` returns an audit only with districts in range, and with each companion exactly if its
+//!   number of districts is given, for the kinds that take one.
+//! - `check_job`: each path is the value of its own option. `read_form`: which options go together.
+//!
+//! # Not proved
+//!
+//! The help texts, and how clap splits the arguments.
 #![tactic(auto)]
 
 mod helps;

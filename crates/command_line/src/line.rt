@@ -4,10 +4,12 @@ use crate::tables::{Argument, KINDS, Presence, Subcommand, Values, orders};
 use clap::{Arg, ArgAction, Command};
 use std::alloc::{AllocError, Global};
 
-/// The program's version, with the sum of the logic that it was proved by: `tests/words` holds it against README.md and the kit's own word.
-const VERSION: &str = "2.0.0 (proved by rattle, logic dac8208d650f15bf)";
+/// The program's version, the logic that its proofs are written in, and how to identify the program: by its bytes, since an unproved
+/// build has the same constant. `tests/words` compares the logic with README.md and with the kit.
+const VERSION: &str = "2.1.0 (logic dac8208d650f15bf)
+Compare its SHA-256 sum with SHA256SUMS: in prebuilt/ of the repository, or next to the program in a release.";
 
-/// A word that stands alone.
+/// An argument without an option's name.
 fn word<'a>(alloc: Global, name: &'a str, value: &'a str, help: &'a str) -> Arg<'a> {
     Arg::new(alloc, name).value_name(value).help(help)
 }
@@ -25,7 +27,9 @@ fn option<'a>(
         .action(ArgAction::Set);
     match values {
         Values::Kinds => option.value_parser(KINDS),
-        _ => option,
+        // so that a negative number is reported as out of range
+        Values::Numbers(_, _, _) => option.allow_negative_numbers(true),
+        Values::Texts => option,
     }
 }
 
@@ -34,6 +38,9 @@ fn present<'a>(option: Arg<'a>, presence: &Presence) -> Result<Arg<'a>, AllocErr
     match presence {
         Presence::Required => Ok(option.required(true)),
         Presence::Optional(others) => option.requires_all(others),
+        Presence::Instead(others, excluded) => {
+            option.requires_all(others)?.conflicts_with_all(excluded)
+        }
     }
 }
 
@@ -45,12 +52,11 @@ fn flag<'a>(alloc: Global, name: &'a str, help: &'a str) -> Arg<'a> {
         .action(ArgAction::SetTrue)
 }
 
-const CODE: &str =
-    "The code of a fault, as G1 or DeviceFault, the error of an answer over HTTP, or a line that has one, in any case; without one all codes are listed";
+const CODE: &str = "Code to explain, or a line that has one; without it all codes are listed";
 
 /// The file of a store.
 fn store<'a>(alloc: Global) -> Arg<'a> {
-    word(alloc, "store", "STORE", "The store's file").required(true)
+    word(alloc, "store", "STORE", "File of the store").required(true)
 }
 
 /// The words among which the code of a fault is sought.
@@ -74,7 +80,7 @@ fn words<'a>(alloc: Global) -> Arg<'a> {
     flag(
         alloc,
         "words",
-        "Tells after a fault's line what it means, also where standard error is no terminal",
+        "Print an explanation after an error line, also if standard error is not a terminal",
     )
 }
 
@@ -119,7 +125,9 @@ fn commands<'a>(alloc: Global) -> Result<Vec<Command<'a>>, AllocError> {
 /// The program, without its commands.
 fn program<'a>(alloc: Global) -> Command<'a> {
     Command::new(alloc, "plandesk")
-        .about("The plan desk of a state: census blocks, district plans, and their audits")
+        .about(
+            "Checks district plans against Iowa Code 42.4, and keeps and serves every version of every plan",
+        )
         .version(VERSION)
         .after_help(STATUSES)
         .subcommand_required(true)

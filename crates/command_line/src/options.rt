@@ -12,7 +12,7 @@ use crate::sizes::size_for;
 use desk_model::companions::Companions;
 use desk_model::kind::Kind;
 
-/// What is audited: a plan of so many districts, and the plans beside it, each of so many.
+/// What is audited: the number of districts of the plan, and of each companion.
 #[derive(Clone, Copy)]
 pub struct Terms {
     pub kind: Kind,
@@ -36,9 +36,9 @@ pub struct Size {
     pub journal_pages: u32,
 }
 
-/// How large a store is to be: of so many sectors and journal pages, or as the numbers of what it is to hold are reckoned, which answers
-/// true. `None` where both are asked for or neither, where a number is missing, isn't digits alone, or is out of its range, and where a
-/// store of such a size can't be.
+/// Reads the size of a store: its sectors and journal pages, or, with true, the size computed from
+/// what it is to hold. `None` if both forms are given or neither, if a number is missing, has
+/// anything but digits or is out of its range, and if no store can have that size.
 pub fn read_format(
     sectors: Option<&[u8]>,
     journal: Option<&[u8]>,
@@ -60,7 +60,7 @@ pub fn read_format(
     Some((size, true))
 }
 
-/// The number of a word, 1 to `most`, where there is one: digits alone.
+/// Reads a number of 1 to `most`, digits only, if the argument is given.
 fn number_given(most: u32, word: Option<&[u8]>) -> Option<u32>
     ensures { GivesNumber (number_of most (option_copied word.entry)) 1 most result }
 {
@@ -86,7 +86,7 @@ fn read_reckoned(
     size_for(blocks, counties, plans, revisions)
 }
 
-/// Whether a text is a number from the least to the most, of digits alone.
+/// Returns whether a text is a number from `least` to `most`, digits only.
 pub(crate) fn is_number(least: u64, most: u64, text: &[u8]) -> bool {
     match number_up_to(4_294_967_295, text) {
         Some(number) => least <= number as u64 && number as u64 <= most,
@@ -105,8 +105,8 @@ pub struct Patience {
     pub request: u32,
 }
 
-/// On which port a store is served, by how many workers, to how many connections, or without end, and for how long each is kept; and
-/// whether it is swept beside.
+/// How a store is served: its port, workers, number of connections or no end, how long a connection
+/// is kept, and whether the store is swept meanwhile.
 #[derive(Clone, Copy)]
 pub struct Serving {
     pub port: u16,
@@ -116,7 +116,7 @@ pub struct Serving {
     pub sweeps: bool,
 }
 
-/// The number that digits alone write, where it is 1 to `most`. Leading zeros are digits like others.
+/// Parses a number of 1 to `most`, digits only. Leading zeros are allowed.
 fn number_up_to(most: u32, text: &[u8]) -> Option<u32>
     ensures { GivesNumber (number_in most text.now) 1 most result }
 {
@@ -154,7 +154,8 @@ fn read_journal(text: &[u8]) -> Option<u32>
     Some(pages)
 }
 
-/// How large a store is to be. `None` where a number is missing, isn't digits alone, or is out of its range.
+/// Reads the size of a store. `None` if a number is missing, has anything but digits or is out of
+/// its range.
 pub fn read_size(sectors: Option<&[u8]>, journal: Option<&[u8]>) -> Option<Size>
     ensures { Gives (size_read (option_copied sectors.entry) (option_copied journal.entry)) IsSize result }
 {
@@ -168,7 +169,7 @@ pub fn read_size(sectors: Option<&[u8]>, journal: Option<&[u8]>) -> Option<Size>
     })
 }
 
-/// The seconds that a word asks for, 1 to 86,400, a day: digits alone. The usual ones where there is no word.
+/// Reads a number of seconds, 1 to 86,400 (a day), digits only; `usual` without the argument.
 fn read_seconds(usual: u32, word: Option<&[u8]>) -> Option<u32>
     requires { (1 ≤ usual) × (usual ≤ 86400) }
     ensures { GivesNumber (seconds_read usual (option_copied word.entry)) 1 86400 result }
@@ -179,7 +180,7 @@ fn read_seconds(usual: u32, word: Option<&[u8]>) -> Option<u32>
     }
 }
 
-/// The number of threads that a word lets serve, 1 to 64: digits alone. 16 where there is no word.
+/// Reads the number of threads that serve, 1 to 64, digits only; 16 without the argument.
 fn read_serving_workers(word: Option<&[u8]>) -> Option<u16>
     ensures { GivesNumber (serving_workers_read (option_copied word.entry)) 1 64 result }
 {
@@ -189,7 +190,8 @@ fn read_serving_workers(word: Option<&[u8]>) -> Option<u16>
     }
 }
 
-/// After how many connections a word ends the serving, 1 to 4,294,967,295: digits alone. Never where there is no word.
+/// Reads the number of connections after which serving ends, 1 to 4,294,967,295, digits only; no
+/// end without the argument.
 fn read_connections(word: Option<&[u8]>) -> Option<Option<u32>>
     ensures value { result ≡ connections_read (option_copied word.entry) }
     ensures some { IfSome result (λ connections. IfSome connections (λ n. 1 ≤ n)) }
@@ -219,7 +221,8 @@ fn read_patience(
     })
 }
 
-/// How a store is to be served. `None` where the port is missing, or a number isn't digits alone or is out of its range.
+/// Reads how a store is to be served. `None` if the port is missing, or if a number has anything
+/// but digits or is out of its range.
 pub fn read_serving(
     port: Option<&[u8]>,
     workers: Option<&[u8]>,
@@ -245,7 +248,7 @@ pub fn read_serving(
     })
 }
 
-/// The number of workers that a word asks for, 1 to 64: digits alone. One where there is no word.
+/// Reads the number of workers, 1 to 64, digits only; one without the argument.
 pub fn read_workers(word: Option<&[u8]>) -> Option<u16>
     ensures { GivesNumber (workers_read (option_copied word.entry)) 1 64 result }
 {

@@ -46,8 +46,8 @@ fn geography_pages(blocks: u64) -> u64
     (blocks + 119) / 120 + (3 * blocks + 162) / 163
 }
 
-/// The size of a store for so many blocks in so many counties, and so many plans with so many whole revisions each. `None` where that is
-/// more than 4,294,967,295 sectors or 65,536 journal pages.
+/// Returns the size of a store for this many blocks, counties, plans, and whole revisions of each
+/// plan. `None` if that is more than 4,294,967,295 sectors or 65,536 journal pages.
 pub fn size_for(blocks: u32, counties: u32, plans: u32, revisions: u32) -> Option<Size>
     requires state { IsStateSize blocks counties }
     requires plans { plans ≤ 65535 }

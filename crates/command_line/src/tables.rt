@@ -4,7 +4,7 @@ use crate::helps::{
     SWEEP_HELP, TALK_HELP, VERIFY_HELP,
 };
 
-/// A command: its name, what it does, what is told after its options, and these.
+/// A command: its name, what it does, the text after its options, and the options.
 pub(crate) struct Subcommand {
     pub(crate) name: &'static str,
     pub(crate) about: &'static str,
@@ -14,7 +14,7 @@ pub(crate) struct Subcommand {
 
 /// A word or an option of a command.
 pub(crate) enum Argument {
-    /// The file of a store, a word that stands alone.
+    /// The file of a store, an argument without an option's name.
     Store,
     /// The code of a fault, or the words of a line that has one; they may be left out.
     Code,
@@ -36,8 +36,10 @@ pub(crate) enum Values {
 /// Whether an option has to be given.
 pub(crate) enum Presence {
     Required,
-    /// It may be left out; where it is given it requires these.
+    /// It may be left out; if it is given it requires these.
     Optional(&'static [&'static str]),
+    /// The same; and it can't be used with those.
+    Instead(&'static [&'static str], &'static [&'static str]),
 }
 
 /// The kinds of plans, as they are written.
@@ -47,7 +49,7 @@ pub(crate) const KINDS: &[&str] = &["congress", "senate", "house"];
 const GEO: Argument = Argument::Valued(
     "geo",
     "FILE",
-    "The geographic header",
+    "Geographic header of the 2020 census",
     Values::Texts,
     Presence::Required,
 );
@@ -55,7 +57,7 @@ const GEO: Argument = Argument::Valued(
 const SEG1: Argument = Argument::Valued(
     "seg1",
     "FILE",
-    "Segment 1",
+    "Segment 1 of the 2020 census",
     Values::Texts,
     Presence::Required,
 );
@@ -63,7 +65,7 @@ const SEG1: Argument = Argument::Valued(
 const SEG2: Argument = Argument::Valued(
     "seg2",
     "FILE",
-    "Segment 2",
+    "Segment 2 of the 2020 census",
     Values::Texts,
     Presence::Required,
 );
@@ -71,7 +73,7 @@ const SEG2: Argument = Argument::Valued(
 const SEG3: Argument = Argument::Valued(
     "seg3",
     "FILE",
-    "Segment 3",
+    "Segment 3 of the 2020 census",
     Values::Texts,
     Presence::Required,
 );
@@ -85,109 +87,112 @@ const CHECK: &[Argument] = &[
     Argument::Valued(
         "gal",
         "FILE",
-        "The neighbour file (GAL)",
+        "Neighbour file (GAL): which blocks share an edge",
         Values::Texts,
         Presence::Optional(&["plan"]),
     ),
     Argument::Valued(
         "plan",
         "FILE",
-        "The plan to be audited, a block assignment file",
+        "Plan to audit, a block assignment file",
         Values::Texts,
         Presence::Optional(&["kind"]),
     ),
     Argument::Valued(
         "kind",
         "KIND",
-        "The plan's kind",
+        "Kind of the plan",
         Values::Kinds,
         Presence::Optional(&["districts"]),
     ),
     Argument::Valued(
         "districts",
         "N",
-        "The plan's number of districts: 1 to 99 for congress, else 1 to 999",
+        "Number of districts of the plan (1 to 99 for congress, otherwise 1 to 999)",
         Values::Numbers("a number of districts", 1, 999),
         Presence::Optional(&["gal"]),
     ),
     Argument::Valued(
         "senate",
         "FILE",
-        "The senate plan that a house plan is nested in",
+        "Senate plan in whose districts those of a house plan have to lie",
         Values::Texts,
         Presence::Optional(&["senate-districts"]),
     ),
     Argument::Valued(
         "senate-districts",
         "N",
-        "The senate plan's number of districts: 1 to 999",
+        "Number of districts of the senate plan (1 to 999)",
         Values::Numbers("a number of districts", 1, 999),
         Presence::Optional(&["senate", "plan"]),
     ),
     Argument::Valued(
         "congress",
         "FILE",
-        "The congressional plan that the districts of a house or senate plan are held against",
+        "Congressional plan to compare the districts of a house or senate plan with",
         Values::Texts,
         Presence::Optional(&["congress-districts"]),
     ),
     Argument::Valued(
         "congress-districts",
         "N",
-        "The congressional plan's number of districts: 1 to 99",
+        "Number of districts of the congressional plan (1 to 99)",
         Values::Numbers("a number of districts", 1, 99),
         Presence::Optional(&["congress", "plan"]),
     ),
     Argument::Valued(
         "workers",
         "N",
-        "How many threads read the files and audit the plan: 1 to 64, by default 1",
+        "Number of threads that read the files and audit the plan (1 to 64, default 1)",
         Values::Numbers("a number of workers", 1, 64),
         Presence::Optional(&[]),
     ),
 ];
+
+/// What a store is to hold, as `format` is given it in place of a size.
+const HOLDINGS: &[&str] = &["blocks", "counties", "plans", "revisions"];
 
 const FORMAT: &[Argument] = &[
     Argument::Store,
     Argument::Valued(
         "sectors",
         "N",
-        "How many sectors of 4,096 bytes",
+        "Size of the store in sectors of 4,096 bytes; give --journal too",
         Values::Numbers("a number of sectors", 1, 4_294_967_295),
-        Presence::Optional(&["journal"]),
+        Presence::Instead(&["journal"], HOLDINGS),
     ),
     Argument::Valued(
         "journal",
         "J",
-        "How many pages a commit may write: 256 to 65536",
+        "Number of pages that one change may write (256 to 65536); give --sectors too",
         Values::Numbers("a number of journal pages", 256, 65_536),
-        Presence::Optional(&["sectors"]),
+        Presence::Instead(&["sectors"], HOLDINGS),
     ),
     Argument::Valued(
         "blocks",
         "B",
-        "In place of both, how many blocks the state has: 1 to 1048576",
+        "Number of blocks of the state (1 to 1048576); give --counties, --plans and --revisions too",
         Values::Numbers("a number of blocks", 1, 1_048_576),
         Presence::Optional(&["counties", "plans", "revisions"]),
     ),
     Argument::Valued(
         "counties",
         "C",
-        "In how many counties: 1 to 1000",
+        "Number of counties of the state (1 to 1000)",
         Values::Numbers("a number of counties", 1, 1_000),
         Presence::Optional(&["blocks"]),
     ),
     Argument::Valued(
         "plans",
         "P",
-        "How many plans the store has room for: 1 to 65535",
+        "Number of plans that the store is to hold (1 to 65535)",
         Values::Numbers("a number of plans", 1, 65_535),
         Presence::Optional(&["blocks"]),
     ),
     Argument::Valued(
         "revisions",
         "R",
-        "How many whole revisions each of them has: 1 to 65535",
+        "Number of revisions of each plan, if every revision changes all counties (1 to 65535)",
         Values::Numbers("a number of revisions", 1, 65_535),
         Presence::Optional(&["blocks"]),
     ),
@@ -202,7 +207,7 @@ const LOAD: &[Argument] = &[
     Argument::Valued(
         "gal",
         "FILE",
-        "The neighbour file (GAL)",
+        "Neighbour file (GAL): which blocks share an edge",
         Values::Texts,
         Presence::Required,
     ),
@@ -213,61 +218,61 @@ const SERVE: &[Argument] = &[
     Argument::Valued(
         "port",
         "P",
-        "The port of 127.0.0.1: 1 to 65535",
+        "Port of 127.0.0.1 (1 to 65535)",
         Values::Numbers("a port", 1, 65_535),
         Presence::Required,
     ),
     Argument::Valued(
         "workers",
         "W",
-        "How many threads serve: 1 to 64, by default 16",
+        "Number of connections that are served at once (1 to 64, default 16)",
         Values::Numbers("a number of workers", 1, 64),
         Presence::Optional(&[]),
     ),
     Argument::Valued(
         "connections",
         "C",
-        "After how many connections it ends: 1 to 4294967295, by default never",
+        "Exit after this number of connections (1 to 4294967295, default never)",
         Values::Numbers("a number of connections", 1, 4_294_967_295),
         Presence::Optional(&[]),
     ),
     Argument::Valued(
         "keep",
         "SECONDS",
-        "How long a connection may ask nothing before it is ended: 1 to 86400, by default 5",
+        "Close an idle connection after SECONDS (1 to 86400, default 5)",
         Values::Numbers("a number of seconds", 1, 86_400),
         Presence::Optional(&[]),
     ),
     Argument::Valued(
         "idle",
         "SECONDS",
-        "How long a connection may be silent within a request: 1 to 86400, by default 60",
+        "Close a connection that is silent for SECONDS in the middle of a request or an answer (1 to 86400, default 60)",
         Values::Numbers("a number of seconds", 1, 86_400),
         Presence::Optional(&[]),
     ),
     Argument::Valued(
         "request",
         "SECONDS",
-        "How long a request may take to come whole: 1 to 86400, by default 300",
+        "Close a connection whose request is not complete after SECONDS (1 to 86400, default 300)",
         Values::Numbers("a number of seconds", 1, 86_400),
         Presence::Optional(&[]),
     ),
     Argument::Valued(
         "log",
         "FILE",
-        "Where a line is added for each connection that ends, by default standard error where that is a terminal",
+        "Add a line to FILE for every accepted change, for every closed connection, and when free pages become too few or enough again (default: standard error, if it is a terminal)",
         Values::Texts,
         Presence::Optional(&[]),
     ),
     Argument::Flag(
         "no-sweep",
-        "Leaves what deleted plans hold to the command sweep",
+        "Do not reclaim the space of deleted plans while serving; plandesk sweep does it",
     ),
 ];
 
 const STAT: &[Argument] = &[
     Argument::Store,
-    Argument::Flag("json", "Prints the figures as one object of JSON"),
+    Argument::Flag("json", "Print the figures as one JSON object"),
 ];
 
 const VERIFY: &[Argument] = &[Argument::Store];
@@ -282,14 +287,14 @@ const EXPLAIN: &[Argument] = &[Argument::Code];
 /// all of a table that it lends.
 static CHECKING: Subcommand = Subcommand {
     name: "check",
-    about: "Prints the counts of a state's census files, or with a plan its audit",
+    about: "Counts a state's blocks and people from its census files, or audits a plan",
     after: CHECK_HELP,
     entries: CHECK,
 };
 
 static FORMATTING: Subcommand = Subcommand {
     name: "format",
-    about: "Makes an empty store in a new file",
+    about: "Creates an empty store in a new file",
     after: FORMAT_HELP,
     entries: FORMAT,
 };
@@ -303,7 +308,7 @@ static LOADING: Subcommand = Subcommand {
 
 static SERVING: Subcommand = Subcommand {
     name: "serve",
-    about: "Serves a store over HTTP/1.1",
+    about: "Serves a store over HTTP/1.1 on 127.0.0.1",
     after: SERVE_HELP,
     entries: SERVE,
 };
@@ -312,37 +317,37 @@ static SERVING: Subcommand = Subcommand {
 static LAST: [Subcommand; 6] = [
     Subcommand {
         name: "stat",
-        about: "Prints how full a store is, and what would be refused as Full now",
+        about: "Prints how full a store is, and which changes no longer fit",
         after: STAT_HELP,
         entries: STAT,
     },
     Subcommand {
         name: "verify",
-        about: "Reads all pages and rows of a store, and tells whether it is one that a desk leaves",
+        about: "Checks a store for damage",
         after: VERIFY_HELP,
         entries: VERIFY,
     },
     Subcommand {
         name: "sweep",
-        about: "Takes out of a store what deleted plans and ended loads left in it",
+        about: "Removes what deleted plans and interrupted loads left in a store",
         after: SWEEP_HELP,
         entries: SWEEP,
     },
     Subcommand {
         name: "migrate",
-        about: "Makes a store of an earlier plandesk one of version 2",
+        about: "Converts a store of version 1 to version 2",
         after: MIGRATE_HELP,
         entries: MIGRATE,
     },
     Subcommand {
         name: "talk",
-        about: "Serves HTTP/1.1 from standard input to standard output, over a sample geography",
+        about: "Serves HTTP/1.1 from standard input to standard output, with a sample state",
         after: TALK_HELP,
         entries: &[],
     },
     Subcommand {
         name: "explain",
-        about: "Prints what the code of a fault means, and what to do",
+        about: "Explains an error code and what to do about it",
         after: EXPLAIN_HELP,
         entries: EXPLAIN,
     },

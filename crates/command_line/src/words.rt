@@ -21,15 +21,16 @@ use std::alloc::{AllocError, Global};
 #[derive(Clone, Copy)]
 pub enum Job<'a> {
     Talk,
-    /// `check` with the census files alone, by so many workers.
+    /// `check` with only the census files, and the number of workers.
     Counts(CensusPaths<'a>, u16),
-    /// `check` with a plan, by so many workers.
+    /// `check` with a plan, and the number of workers.
     Audit(AuditPaths<'a>, Terms, u16),
-    /// `format`: a store of so many sectors, with so many journal pages, and whether these were reckoned by what it is to hold.
+    /// `format`: the store's name and size, and whether the size was computed from what it is to
+    /// hold.
     Format(&'a str, Size, bool),
     /// `load`: a store is filled with what the census files and the neighbour file say.
     Load(&'a str, CensusPaths<'a>, &'a str),
-    /// `serve`: a store is served to connections, which are told to the file of a log where one is named.
+    /// `serve`: the store's name, how it is served, and the file of the log, if one is named.
     Serve(&'a str, Serving, Option<&'a str>),
     /// `stat`: how full a store is, as JSON or in lines.
     Stat(&'a str, bool),
@@ -43,14 +44,14 @@ pub enum Job<'a> {
     Explain(Option<&'a str>),
 }
 
-/// What is asked for, and whether a fault is to be told with what it means.
+/// The job, and whether an error is printed with its explanation.
 #[derive(Clone, Copy)]
 pub struct Asked<'a> {
     pub job: Job<'a>,
     pub with_words: bool,
 }
 
-/// Why it does nothing: help or the version was asked for, the words are wrong, or memory was refused.
+/// Why nothing is done: help or the version was asked for, the arguments are wrong, or memory was refused.
 #[derive(Drop)]
 pub struct Mistake {
     status: Status,
@@ -63,7 +64,7 @@ impl Mistake {
         self.status
     }
 
-    /// What is told: on standard output with status 0, and else on standard error.
+    /// Returns the text: for standard output if the status is 0, otherwise for standard error.
     pub fn text(&self) -> &str {
         match &self.text {
             Some(text) => text.as_str(),
@@ -72,24 +73,24 @@ impl Mistake {
     }
 }
 
-const ONLY_BESIDE_HOUSE: &str = "error: '--senate <FILE>' goes with '--kind house' alone\n";
+const ONLY_BESIDE_HOUSE: &str = "error: '--senate <FILE>' can be used only with '--kind house'\n";
 
 const NOT_BESIDE_CONGRESS: &str =
-    "error: '--congress <FILE>' goes with '--kind house' or '--kind senate' alone\n";
+    "error: '--congress <FILE>' can be used only with '--kind house' or '--kind senate'\n";
 
 const WRONG_NUMBER: &str =
-    "error: a number of districts is digits alone, 1 to 99 for a congress plan and 1 to 999 for others\n";
+    "error: '--districts <N>' is 1 to 99 for a congress plan, and 1 to 999 for other plans\n";
 
-const WRONG_WORKERS: &str = "error: a number of workers is digits alone, 1 to 64\n";
+const WRONG_WORKERS: &str = "error: '--workers <N>' is 1 to 64\n";
 
-const WRONG_SIZE: &str =
-    "error: a store's size is given as '--sectors <N> --journal <J>', or by what it is to hold as '--blocks <B> --counties <C> --plans <P> --revisions <R>', of at most 4294967295 sectors and 65536 journal pages\n";
+const NO_SIZE: &str =
+    "error: the store's size is missing\n\nGive it as '--sectors <N> --journal <J>', or as what the store is to hold: '--blocks <B> --counties <C> --plans <P> --revisions <R>'.\n";
+
+const TOO_LARGE: &str =
+    "error: a store for this would be too large: it can have 4294967295 sectors and 65536 journal pages at most\n";
 
 const WRONG_SERVING: &str =
-    "error: a port is digits alone, 1 to 65535, a number of workers 1 to 64, of connections 1 to 4294967295, and of seconds 1 to 86400\n";
-
-const WRONG_CODE: &str =
-    "error: invalid value for '<CODE>': no word of it is one of the codes in docs/FAULTS.md\n";
+    "error: '--port <P>' is 1 to 65535, '--workers <W>' 1 to 64, '--connections <C>' 1 to 4294967295, and a number of seconds 1 to 86400\n";
 
 fn memory() -> Mistake {
     Mistake {
@@ -98,7 +99,7 @@ fn memory() -> Mistake {
     }
 }
 
-/// The paths that `check` is given, where all are there.
+/// Returns the paths of the census files, if all are given.
 fn census_paths<'a>(matches: &ArgMatches<'a>) -> Option<CensusPaths<'a>>
     ensures { IfSome result (AreCensusPaths (found_of matches.now)) }
 {
@@ -210,7 +211,7 @@ fn stat_job<'a>(matches: &ArgMatches<'a>) -> Option<Job<'a>>
     Some(Job::Stat(store, matches.get_flag("json")))
 }
 
-/// What a command is asked for that takes a store alone: `verify`, `sweep` or `migrate`.
+/// Returns the job of a command that takes only a store: `verify`, `sweep` or `migrate`.
 fn store_job<'a>(name: &str, matches: &ArgMatches<'a>) -> Option<Job<'a>>
     ensures { IsJobOf (found_of matches.now) result }
 {
@@ -251,7 +252,7 @@ fn explain_job<'a>(matches: &ArgMatches<'a>) -> Option<Job<'a>>
     }
 }
 
-/// A mistake that is told so, or want of memory where the text has none.
+/// A mistake with this text, or refused memory if there is no text.
 fn telling(status: Status, text: Result<String, AllocError>) -> Mistake {
     match text {
         Ok(text) => Mistake {
@@ -306,7 +307,7 @@ fn job_under<'a>(name: &str, options: &ArgMatches<'a>) -> Option<Job<'a>>
     }
 }
 
-/// The same, and whether its faults are told with what they mean.
+/// The same, and whether errors are printed with their explanations.
 fn asked_under<'a>(name: &str, options: &ArgMatches<'a>) -> Option<Asked<'a>>
     ensures valid { IfSome result (λ asked. IsJob asked.job) }
     ensures asked { IfSome result (IsAsked (found_of options.now)) }
@@ -370,15 +371,53 @@ fn entries_of(name: &str) -> &'static [Argument] {
     &[]
 }
 
+/// What is wrong with a size, whose numbers are in range.
+fn wrong_size<'a>(options: &ArgMatches<'a>) -> &'static str {
+    if options.get_str("blocks").is_some() {
+        return TOO_LARGE;
+    }
+    NO_SIZE
+}
+
 /// What is wrong with a command's options, which clap let pass.
 fn wrong_under<'a>(name: &str, options: &ArgMatches<'a>) -> &'static str {
     match name {
-        "format" => WRONG_SIZE,
+        "format" => wrong_size(options),
         "load" => "error: a file is missing\n",
         "serve" => WRONG_SERVING,
         "stat" | "verify" | "sweep" | "migrate" => "error: a store is missing\n",
-        "explain" => WRONG_CODE,
         _ => wrong_options(options),
+    }
+}
+
+/// The words that `explain` was given, with blanks between them.
+fn words_given<'a>(alloc: Global, options: &ArgMatches<'a>) -> Result<String, AllocError> {
+    let mut given = String::new(alloc);
+    let Some(words) = options.get_raw("code") else {
+        return Ok(given);
+    };
+    for word in words {
+        if !given.is_empty() {
+            given.push_str(" ")?;
+        }
+        given.push_str(word)?;
+    }
+    Ok(given)
+}
+
+/// The mistake of words for `explain` among which is no code.
+fn no_code<'a>(alloc: Global, options: &ArgMatches<'a>) -> Mistake {
+    match words_given(alloc, options) {
+        Ok(given) => {
+            let given = given.as_str();
+            telling(
+                Status::Usage,
+                format!(in alloc;
+                    "error: '{given}' has no code of plandesk or its tools\n\nGive a code such as G1, Stale or 42.4.3, or a whole error line. Without CODE, explain lists all codes.\n"
+                ),
+            )
+        }
+        Err(_) => memory(),
     }
 }
 
@@ -397,11 +436,16 @@ fn mistake_under<'a>(alloc: Global, name: &str, options: &ArgMatches<'a>) -> Mis
             telling(
                 Status::Usage,
                 format!(in alloc;
-                    "error: invalid value '{given}' for '--{option} <{value}>': {number} is {least} to {most}, digits alone\n"
+                    "error: invalid value '{given}' for '--{option} <{value}>': {number} is {least} to {most}, in digits only\n"
                 ),
             )
         }
-        None => usage(alloc, wrong_under(name, options)),
+        None => {
+            if name == "explain" {
+                return no_code(alloc, options);
+            }
+            usage(alloc, wrong_under(name, options))
+        }
     }
 }
 

@@ -4,7 +4,7 @@ use Rattle.command_output.specs.Tables.{Words}
 
 -- what is meant, and what to do
 abbrev pub words_of : Words → List ℕ
-words_of words = words.means ++ codes ". What to do: " ++ words.remedy ++ codes ".\n"
+words_of words = words.means ++ codes " What to do: " ++ words.remedy ++ codes "\n"
 
 -- how the line after a fault's line begins, with the path of the file where there is one
 abbrev pub head_of : Option (List ℕ) → List ℕ
@@ -20,6 +20,11 @@ abbrev pub case_text : List ℕ → List ℕ
 case_text [] = []
 case_text (c ∷ cs) = codes ", " ++ c ∷ cs
 
--- the same after the code, its place and its case
+-- so is what the code carries
+abbrev pub carries_text : List ℕ → List ℕ
+carries_text [] = []
+carries_text (c ∷ cs) = codes " " ++ c ∷ cs
+
+-- the same after the code with what it carries, its place and its case
 abbrev pub entry_of : (place : List ℕ) → Words → List ℕ
-entry_of place words = words.code ++ codes ", " ++ place ++ case_text words.case ++ codes ": " ++ words_of words
+entry_of place words = words.code ++ carries_text words.carries ++ codes ", " ++ place ++ case_text words.case ++ codes ": " ++ words_of words

@@ -13,8 +13,8 @@ use crate::telling::{print, send_line};
 use byte_stream::sink::Sink;
 use std::alloc::{AllocError, Global};
 
-/// Tells what the fault means whose line was told, and in which file it is, as far as it can be written. `Err` where memory is refused
-/// for it.
+/// Prints the explanation of a fault's line and its file, as far as it can be written. Returns an
+/// error if memory for it is refused.
 fn tell_known<E: Sink>(
     alloc: Global,
     line: &[u8],
@@ -37,9 +37,10 @@ fn tell_known<E: Sink>(
     }
 }
 
-/// Tells what the fault means whose line was told, as far as it can be written, where that is asked for or somebody sits at a terminal,
-/// and else nothing. `Err` where memory is refused for it. The reason is that of a device's fault, where it is known, and the files are
-/// those that the command was given, each with its role before its path.
+/// Prints the explanation of a fault's line, as far as it can be written, if asked for or at a
+/// terminal; otherwise nothing. Returns an error if memory for it is refused. The reason is a
+/// device fault's, if it is known; the files are those that the command was given, each with its
+/// role before its path.
 pub fn tell_words<E: Sink>(
     alloc: Global,
     is_asked: bool,

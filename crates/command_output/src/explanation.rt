@@ -1,42 +1,56 @@
-//! The words for a code, and whose code it is.
+//! What a code means and what to do, and where the code belongs.
 ghost use Rattle.std.specs.Prelude.{◌≡◌, ◌++◌, map, IfOk};
 ghost use Rattle.std.specs.Option.{option_copied};
-ghost use Rattle.command_output.specs.Sentences.{words_of, head_of, sentence_of, case_text, entry_of};
+ghost use Rattle.command_output.specs.Sentences.{words_of, head_of, sentence_of, case_text, carries_text, entry_of};
 ghost use Rattle.command_output.specs.Tables.{told, row_words, case_at, words_at, place_name};
 
+use crate::audits::AUDIT;
 use crate::census::{GEO, JOIN, SEGMENT};
+use crate::file_tools::{TOOL_NEIGHBOURS, TOOL_PLAN, TOOL_REPORT};
 use crate::http::{BYTES, REQUESTS};
-use crate::plans::{EVERY_FILE, GAL, PLAN};
-use crate::stores::{COMMAND, STORE};
+use crate::plans::{EVERY_FILE, GAL, LOG, PLAN};
+use crate::server_tools::{TOOL_DESK, TOOL_EXPORT, TOOL_KEEP, TOOL_SERVER};
+use crate::stores::{COMMAND, STORE, VERIFY};
 use std::alloc::{AllocError, Global};
 
 /// What a code means, and what to do.
 #[derive(Clone, Copy)]
 pub struct Explanation {
     pub code: &'static str,
-    /// The reason, or the answer's status, where the code alone doesn't tell all; else nothing.
+    /// What follows the code in a fault's line, such as `line N`, or nothing.
+    pub carries: &'static str,
+    /// The reason, or the status of the answer, if the code has several; otherwise nothing.
     pub case: &'static str,
+    /// What happened, in sentences.
     pub means: &'static str,
+    /// What to do, in sentences.
     pub remedy: &'static str,
 }
 
-/// A row of a table: a code, its case, what it means, and what to do.
-pub(crate) type FaultRow = (&'static str, &'static str, &'static str, &'static str);
+/// A row of a table: a code, what it carries, its case, what it means, and what to do.
+pub(crate) type FaultRow = (
+    &'static str,
+    &'static str,
+    &'static str,
+    &'static str,
+    &'static str,
+);
 
 /// What a row says.
 pub(crate) fn explanation_of(row: &FaultRow) -> Explanation
     ensures { told result ≡ row_words row.now }
 {
-    let (code, case, means, remedy) = *row;
+    let (code, carries, case, means, remedy) = *row;
     Explanation {
         code,
+        carries,
         case,
         means,
         remedy,
     }
 }
 
-/// Why a device fails, where that is told apart, or what a command did before its fault.
+/// Why a device failed, if that is known, or what a command did before its fault.
 #[derive(Clone, Copy)]
 pub enum Reason {
     /// Another open of the file holds it.
@@ -47,6 +61,8 @@ pub enum Reason {
     NoRoom,
     /// The command had done with its store what it was asked for.
     Stands,
+    /// The file is a store, and something else was wanted.
+    IsStore,
 }
 
 /// The case of a reason, as the tables have it.
@@ -59,11 +75,12 @@ pub(crate) fn case_of(reason: Option<Reason>) -> &'static str
         Some(Reason::NotPermitted) => "not permitted",
         Some(Reason::NoRoom) => "no room",
         Some(Reason::Stands) => "of `format`, `load`, `sweep` or `migrate`",
+        Some(Reason::IsStore) => "a store",
         None => "",
     }
 }
 
-/// Whose fault it is.
+/// Where a code belongs.
 #[derive(Clone, Copy)]
 pub enum FaultPlace {
     EveryFile,
@@ -72,27 +89,52 @@ pub enum FaultPlace {
     Join,
     Gal,
     Plan,
+    /// The file of a server's log.
+    Log,
     Store,
+    /// What `verify` prints of a damaged store.
+    Verify,
     /// The standard streams and sockets of a command.
     Command,
     /// The bytes of a request.
     Bytes,
     /// What a request asks.
     Requests,
+    /// The tests of an audit.
+    Audit,
+    ToolPlan,
+    ToolReport,
+    ToolNeighbours,
+    /// Any tool that asks a server.
+    ToolServer,
+    ToolDesk,
+    ToolExport,
+    /// The tools that back up, watch and pack.
+    ToolKeep,
 }
 
-/// All places, in the order of docs/FAULTS.md.
-pub(crate) static PLACES: [FaultPlace; 10] = [
+/// All places, in the order in which `explain` lists them.
+pub(crate) static PLACES: [FaultPlace; 20] = [
     FaultPlace::EveryFile,
     FaultPlace::Geo,
     FaultPlace::Segment,
     FaultPlace::Join,
     FaultPlace::Gal,
     FaultPlace::Plan,
+    FaultPlace::Log,
     FaultPlace::Store,
+    FaultPlace::Verify,
     FaultPlace::Command,
     FaultPlace::Bytes,
     FaultPlace::Requests,
+    FaultPlace::Audit,
+    FaultPlace::ToolPlan,
+    FaultPlace::ToolReport,
+    FaultPlace::ToolNeighbours,
+    FaultPlace::ToolServer,
+    FaultPlace::ToolDesk,
+    FaultPlace::ToolExport,
+    FaultPlace::ToolKeep,
 ];
 
 /// The codes of a place.
@@ -107,14 +149,24 @@ pub(crate) fn table_of(place: FaultPlace) -> &'static [FaultRow]
         FaultPlace::Join => &JOIN,
         FaultPlace::Gal => &GAL,
         FaultPlace::Plan => &PLAN,
+        FaultPlace::Log => &LOG,
         FaultPlace::Store => &STORE,
+        FaultPlace::Verify => &VERIFY,
         FaultPlace::Command => &COMMAND,
         FaultPlace::Bytes => &BYTES,
         FaultPlace::Requests => &REQUESTS,
+        FaultPlace::Audit => &AUDIT,
+        FaultPlace::ToolPlan => &TOOL_PLAN,
+        FaultPlace::ToolReport => &TOOL_REPORT,
+        FaultPlace::ToolNeighbours => &TOOL_NEIGHBOURS,
+        FaultPlace::ToolServer => &TOOL_SERVER,
+        FaultPlace::ToolDesk => &TOOL_DESK,
+        FaultPlace::ToolExport => &TOOL_EXPORT,
+        FaultPlace::ToolKeep => &TOOL_KEEP,
     }
 }
 
-/// What a place is called.
+/// What a place is called, without a comma and a colon, so that a script can cut a line of `explain` at these.
 #[tactic(auto, unfolding(crate::specs::Tables::place_name))]
 pub(crate) fn name_of(place: FaultPlace) -> &'static str
     ensures { result.now ≡ place_name place }
@@ -122,13 +174,24 @@ pub(crate) fn name_of(place: FaultPlace) -> &'static str
     match place {
         FaultPlace::EveryFile => "any file",
         FaultPlace::Geo => "geo",
-        FaultPlace::Segment => "seg1, seg2 or seg3",
+        FaultPlace::Segment => "seg1 seg2 seg3",
         FaultPlace::Join => "join",
         FaultPlace::Gal => "gal",
-        FaultPlace::Plan => "plan, senate or congress",
+        FaultPlace::Plan => "plan senate congress",
+        FaultPlace::Log => "log",
         FaultPlace::Store => "store",
+        FaultPlace::Verify => "verify",
         FaultPlace::Command => "standard streams and sockets",
-        FaultPlace::Bytes | FaultPlace::Requests => "over HTTP",
+        FaultPlace::Bytes => "bytes of an HTTP request",
+        FaultPlace::Requests => "HTTP",
+        FaultPlace::Audit => "test of an audit",
+        FaultPlace::ToolPlan => "tools/plan",
+        FaultPlace::ToolReport => "tools/report",
+        FaultPlace::ToolNeighbours => "tools/neighbours",
+        FaultPlace::ToolServer => "tools that ask a server",
+        FaultPlace::ToolDesk => "tools/desk",
+        FaultPlace::ToolExport => "tools/export and tools/import",
+        FaultPlace::ToolKeep => "tools/backup and tools/health and tools/release",
     }
 }
 
@@ -137,9 +200,9 @@ fn put_words(text: &mut Vec<u8>, words: Explanation) -> Result<(), AllocError>
     ensures { IfOk result (λ _. text.new.items ≡ text.old.items ++ words_of (told words)) }
 {
     text.extend_from_slice(words.means.as_bytes())?;
-    text.extend_from_slice(b". What to do: ")?;
+    text.extend_from_slice(b" What to do: ")?;
     text.extend_from_slice(words.remedy.as_bytes())?;
-    text.extend_from_slice(b".\n")?;
+    text.extend_from_slice(b"\n")?;
     Ok(())
 }
 
@@ -175,6 +238,17 @@ pub fn sentence(
     Ok(text)
 }
 
+/// Puts what a code carries after a text, if it carries something.
+fn put_carries(text: &mut Vec<u8>, carries: &[u8]) -> Result<(), AllocError>
+    ensures { IfOk result (λ _. text.new.items ≡ text.old.items ++ carries_text carries.now) }
+{
+    if carries.is_empty() {
+        return Ok(());
+    }
+    text.extend_from_slice(b" ")?;
+    text.extend_from_slice(carries)
+}
+
 /// Puts a case after a text, where there is one.
 fn put_case(text: &mut Vec<u8>, case: &[u8]) -> Result<(), AllocError>
     ensures { IfOk result (λ _. text.new.items ≡ text.old.items ++ case_text case.now) }
@@ -186,7 +260,7 @@ fn put_case(text: &mut Vec<u8>, case: &[u8]) -> Result<(), AllocError>
     text.extend_from_slice(case)
 }
 
-/// Puts a code, its place and its case after a text, and the words.
+/// Puts a code with what it carries, its place and its case after a text, and the words.
 pub(crate) fn put_entry(
     text: &mut Vec<u8>,
     place: &str,
@@ -195,6 +269,7 @@ pub(crate) fn put_entry(
     ensures { IfOk result (λ _. text.new.items ≡ text.old.items ++ entry_of place.now (told words)) }
 {
     text.extend_from_slice(words.code.as_bytes())?;
+    put_carries(text, words.carries.as_bytes())?;
     text.extend_from_slice(b", ")?;
     text.extend_from_slice(place.as_bytes())?;
     put_case(text, words.case.as_bytes())?;

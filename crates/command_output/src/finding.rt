@@ -4,7 +4,7 @@ ghost use Rattle.std.specs.Option.{option_copied, option_map};
 ghost use Rattle.std.specs.Str.{str_eq_ignore_ascii_case};
 ghost use Rattle.command_output.specs.Tables.{told, row_words, is_segment_role, is_plan_role, is_command, is_store_command, reason_at, place_at};
 ghost use Rattle.command_output.specs.Lines.{rest_after, word_to, row_for, place_words, code_words, line_words, path_among, line_path, named};
-ghost use Rattle.command_output.specs.Codes.{code_among as code_in_table, code_at as code_in_tables, code_of_word, prefix_word, code_in as code_of_text};
+ghost use Rattle.command_output.specs.Codes.{code_among as code_in_table, code_at as code_in_tables, code_of_word, prefix_word, begins_word, dotted_word, code_at_front, code_in as code_of_text};
 ghost use Rattle.command_output.specs.Entries.{entries_among, entries_in, entries_for, all_among, all_in, all_entries, entries_asked};
 
 use crate::explanation::{
@@ -60,7 +60,8 @@ fn reason_of(role: &[u8], reason: Option<Reason>) -> Option<Reason>
     reason
 }
 
-/// Whose fault a line tells, by the word after the program's name: a file's role, or a command.
+/// Returns whose fault a line reports, by the word after the program's name: a file's role, or a
+/// command.
 #[tactic(auto, unfolding(crate::specs::Tables::place_at))]
 fn place_of(role: &[u8]) -> Option<FaultPlace>
     ensures { result ≡ place_at role.now }
@@ -84,7 +85,7 @@ fn place_of(role: &[u8]) -> Option<FaultPlace>
         return Some(FaultPlace::Store);
     }
     if role == b"log".as_slice() {
-        return Some(FaultPlace::EveryFile);
+        return Some(FaultPlace::Log);
     }
     if is_command(role) {
         return Some(FaultPlace::Command);
@@ -116,7 +117,7 @@ fn among(table: &[FaultRow], code: &[u8], case: &str) -> Option<Explanation>
     ensures { option_map told result ≡ row_for code.now case.now (map row_words table.now) }
 {
     for row in table {
-        if row.0.as_bytes() == code && row.1 == case {
+        if row.0.as_bytes() == code && row.2 == case {
             return Some(explanation_of(row));
         }
     }
@@ -171,7 +172,7 @@ fn path_of<'a>(role: &[u8], files: &[(&'static str, &'a str)]) -> Option<&'a str
     None
 }
 
-/// The path of the file whose fault a line tells, among the files of these roles.
+/// Returns the path of the file whose fault a line reports, among the files of these roles.
 #[tactic(auto, unfolding(crate::specs::Lines::line_path))]
 pub fn path_in<'a>(line: &[u8], files: &[(&'static str, &'a str)]) -> Option<&'a str>
     ensures { option_copied result ≡ line_path line.now (map named files.now) }
@@ -231,7 +232,40 @@ fn prefix_of(text: &[u8]) -> &[u8]
     text
 }
 
-/// The code that a text has, as the tables write it: that of its first word of letters and digits which is one in any case.
+/// Whether a text begins with a letter or a digit.
+fn begins_with_letter(text: &[u8]) -> bool
+    ensures { result ≡ begins_word text.now }
+{
+    match text.first() {
+        Some(byte) => byte.is_ascii_alphanumeric(),
+        None => false,
+    }
+}
+
+/// The letters and digits at a text's start, with dots between them: the name of a test in a report, as `42.4.3`.
+fn dotted_of(text: &[u8]) -> &[u8]
+    ensures { result.now ≡ dotted_word text.now }
+{
+    for (i, byte) in text.iter().enumerate() {
+        if !byte.is_ascii_alphanumeric() && (*byte != b'.' || !begins_with_letter(&text[i + 1..])) {
+            return &text[..i];
+        }
+    }
+    text
+}
+
+/// The code at a text's start: that of its first word with dots, or otherwise of the part before the first dot.
+#[tactic(auto, unfolding(crate::specs::Codes::code_at_front))]
+fn code_in_front(text: &[u8]) -> Option<&'static str>
+    ensures { option_copied result ≡ code_at_front text.now }
+{
+    match code_of(dotted_of(text)) {
+        Some(code) => Some(code),
+        None => code_of(prefix_of(text)),
+    }
+}
+
+/// The code that a text has, as the tables write it: that of its first word of letters, digits and dots which is one in any case.
 #[tactic(auto, unfolding(crate::specs::Codes::code_in))]
 pub fn code_in(text: &[u8]) -> Option<&'static str>
     ensures { option_copied result ≡ code_of_text text.now }
@@ -240,7 +274,7 @@ pub fn code_in(text: &[u8]) -> Option<&'static str>
     for (i, byte) in text.iter().enumerate() {
         let is_letter = byte.is_ascii_alphanumeric();
         if is_letter && !in_word {
-            match code_of(prefix_of(&text[i..])) {
+            match code_in_front(&text[i..]) {
                 Some(code) => return Some(code),
                 None => {}
             }

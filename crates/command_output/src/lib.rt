@@ -1,27 +1,38 @@
-//! What commands print, and their exit statuses: a text on a writer, the line of a fault, and words that say what it means.
+//! What commands print, their exit statuses, and the explanations of all error codes.
 //!
-//! Seen as the bytes that the writer took. A text is written whole, or a prefix and the status of a stream's fault. A file's fault is its
-//! line and status. Words are shown at a terminal alone, or memory for them is refused (`TellsWords`).
+//! # Model
 //!
-//! The words are seen as a table, in the words of docs/FAULTS.md: what a code means and what to do. `explained`: the words of the code at
-//! its role's place, for the reason where there are such; none for any other line (`line_words`). `code_in`, `sentence`, `put_entry`: the
-//! code of a text, and how entries are shown.
+//! The bytes that the writer took. Explanations are a table: what a code means and what to do.
+//!
+//! # Proved
+//!
+//! - A text is written whole, or a prefix and then the status of an output failure.
+//! - The fault of a file is its line and its status.
+//! - Explanations are shown only at a terminal or on request, unless memory for them is refused
+//!   (`TellsWords`). `explained` returns the words for a fault's line, and none for any other line
+//!   (`line_words`). `code_in`, `sentence` and `put_entry` find codes and format entries.
+//!
+//! # Not proved
+//!
+//! That the explanations are helpful and true; tests compare them with the pages.
 //!
 //! # Notes
 //!
-//! The main calls are `print`, which sends a text, and `tell`, which sends the line of a fault and answers its status. `explained` finds
-//! the words for a fault's line and `path_in` its file, `sentence` makes the line that follows it, `code_in` finds the code of a text, and
-//! `words_for` has what is known of a code. `Noting` keeps the line that was written last.
+//! `print` sends a text; `tell` sends the line of a fault and returns its status; `Noting`
+//! remembers the last line, so that it can be explained.
 #![tactic(auto)]
 
+mod audits;
 mod census;
 pub mod explaining;
 pub mod explanation;
 pub mod fault_status;
+mod file_tools;
 pub mod finding;
 mod http;
 pub mod noting;
 mod plans;
+mod server_tools;
 pub mod status;
 mod stores;
 pub mod telling;

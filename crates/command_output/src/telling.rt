@@ -60,7 +60,8 @@ pub fn send_line<E: Sink>(errors: &mut E, line: &[u8])
     let _ = errors.send(line);
 }
 
-/// Prints a text: the status is `good`, or 6 where the writing fails, and this line is told then.
+/// Prints a text. The status is `good`, or 6 if the output fails, and then `line` is printed as the
+/// error.
 pub fn print<W: Sink, E: Sink>(
     line: &[u8],
     text: &[u8],
@@ -85,7 +86,8 @@ fn tell_memory<E: Sink>(fault: &FileFault, errors: &mut E)
     send_line(errors, memory_line_of(fault));
 }
 
-/// Tells a fault, as far as that can be written. Where memory for its line is refused, that is told in its place.
+/// Prints a fault's line, as far as it can be written. If memory for it is refused, prints that
+/// instead.
 pub fn tell<E: Sink>(alloc: Global, fault: FileFault, errors: &mut E) -> Status
     ensures { Tells fault result (written_of E.contents E.failures errors.old) (written_of E.contents E.failures errors.new) }
 {

@@ -1,8 +1,8 @@
 -- The lines of a log.
-use Rattle.std.specs.Prelude.{◌≡◌, ℕ, ◌+◌, ◌/◌, ◌%◌, ◌==◌, if◌then◌else◌, List, [], ◌∷◌, ◌++◌, codes, decimal, Option, Some, None, Result, Ok, Err, ℤ, unsigned_abs}
+use Rattle.std.specs.Prelude.{◌≡◌, ℕ, ◌+◌, ◌/◌, ◌%◌, ◌==◌, Bool, true, false, if◌then◌else◌, List, [], ◌∷◌, ◌++◌, codes, decimal, Option, Some, None, Result, Ok, Err, ℤ, unsigned_abs}
 use Rattle.{byte_stream.specs.{claim.{Counts.counted, Sends.Sends}, declared.sink.WriteFault.WriteFault}, connection_log.specs.declared.connection.Connection.Connection}
-use Rattle.{connection_log.specs.declared.line.{Change.Change, Ending.Ending, LogLine.LogLine, Room.Room}, http_desk.specs.{Accepting.plan_of, declared.accepted.Accepted.Accepted}}
-use Rattle.jiff_core.specs.declared.civil.datetime.DateTime.{DateTime}
+use Rattle.{connection_log.specs.declared.line.{Change.Change, Ending.Ending, LogLine.LogLine, Owed.Owed, Room.Room}, http_desk.specs.Accepting.plan_of}
+use Rattle.{http_desk.specs.declared.accepted.Accepted.Accepted, jiff_core.specs.declared.civil.datetime.DateTime.DateTime}
 use Rattle.http_desk.specs.declared.accepted.Accepted.TheVariants as accepted
 use Rattle.connection_log.specs.declared.line.LogLine.TheVariants as entry
 
@@ -69,36 +69,45 @@ entry_moment (entry.Room r) = r.at
 entry_moment (entry.Unsound at) = at
 entry_moment (entry.End e) = e.at
 
--- nothing where no line was dropped
-abbrev pub dropped_line : Option DateTime → ℕ → List ℕ
-dropped_line at n = if n == 0 then [] else stamp at ++ decimal n ++ codes " lines were dropped\n"
+-- the end of a line that may be there in part
+abbrev pub cut_end : Bool → List ℕ
+cut_end true = codes "\n"
+cut_end false = []
 
--- how many lines are still to be told as dropped, after one that was sent so
-abbrev pub dropped_after : {A E : Type 0} → ℕ → Result A E → ℕ
-dropped_after dropped (Ok a) = 0
-dropped_after dropped (Err e) = counted dropped 1
+-- how many lines were dropped, if any were; a line that may be there in part ends before that
+abbrev pub dropped_line : Option DateTime → Owed → List ℕ
+dropped_line at o = cut_end o.is_cut ++ (if o.lines == 0 then [] else stamp at ++ decimal o.lines ++ codes " lines were dropped\n")
+
+-- what is still to be told after a line that was sent so: one that failed may be there in part
+abbrev pub dropped_after : {A E : Type 0} → Owed → Result A E → Owed
+dropped_after dropped (Ok a) = record { lines = 0; is_cut = false }
+dropped_after dropped (Err e) = record { lines = counted dropped.lines 1; is_cut = true }
+
+-- lines more that were dropped, for which there was no room
+abbrev pub owed_with : Owed → ℕ → Owed
+owed_with o refused = record { lines = counted o.lines refused; is_cut = o.is_cut }
 
 -- an entry's line is sent after the number of those that were dropped before, and is one of these where that fails
-pub record TellsEntry (dropped : ℕ) (e : LogLine) (left : ℕ) (old new : Option (List ℕ)) : Type 0 where
+pub record TellsEntry (dropped : Owed) (e : LogLine) (left : Owed) (old new : Option (List ℕ)) : Type 0 where
   pub sent : Result (Unit {0}) WriteFault
   pub text : Sends old new sent (dropped_line (entry_moment e) dropped ++ entry_line e)
   pub drops : left ≡ dropped_after dropped sent
 
 -- each line, one after the other
-abbrev pub TellsEach : (dropped : ℕ) → List LogLine → (left : ℕ) → (old new : Option (List ℕ)) → Type 0
+abbrev pub TellsEach : (dropped : Owed) → List LogLine → (left : Owed) → (old new : Option (List ℕ)) → Type 0
 TellsEach dropped [] left old new = (left ≡ dropped) × (new ≡ old)
 TellsEach dropped (c ∷ cs) left old new =
-    (more : ℕ) × (middle : Option (List ℕ)) × TellsEntry dropped c more old middle × TellsEach more cs left middle new
+    (more : Owed) × (middle : Option (List ℕ)) × TellsEntry dropped c more old middle × TellsEach more cs left middle new
 
 -- the line of all connections, once they are all served
-abbrev pub TellsEnd : (dropped : ℕ) → Option Ending → (left : ℕ) → (old new : Option (List ℕ)) → Type 0
+abbrev pub TellsEnd : (dropped : Owed) → Option Ending → (left : Owed) → (old new : Option (List ℕ)) → Type 0
 TellsEnd dropped None left old new = (left ≡ dropped) × (new ≡ old)
 TellsEnd dropped (Some e) left old new = TellsEntry dropped (entry.End e) left old new
 
 -- the lines that waited, then the end, where it came; so many lines were dropped after them for want of room
-pub record TellsBatch (dropped : ℕ) (lines : List LogLine) (refused : ℕ)
-    (end : Option Ending) (left : ℕ) (old new : Option (List ℕ)) : Type 0 where
-  pub more : ℕ
+pub record TellsBatch (dropped : Owed) (lines : List LogLine) (refused : ℕ)
+    (end : Option Ending) (left : Owed) (old new : Option (List ℕ)) : Type 0 where
+  pub more : Owed
   pub middle : Option (List ℕ)
   pub each : TellsEach dropped lines more old middle
-  pub all : TellsEnd (counted more refused) end left middle new
+  pub all : TellsEnd (owed_with more refused) end left middle new

@@ -29,7 +29,8 @@ fn one(digit: u8, class: u8) -> u64
     if class >= digit { 1 } else { 0 }
 }
 
-/// The answers whose heads stand in a text. No body of an answer holds what a status line begins with.
+/// Counts the answers whose heads are in a text. No body of an answer contains the beginning of a
+/// status line.
 pub fn answers_in(text: &[u8]) -> Answers
     ensures { result ≡ answers_of_text text.now }
 {

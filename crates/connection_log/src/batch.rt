@@ -7,7 +7,7 @@ use std::alloc::{AllocError, Global};
 /// How many lines wait at most to be written.
 pub const MOST_WAITING: usize = 1024;
 
-/// Lines, with room for as many as ever wait.
+/// Lines, with room for the largest number that ever waits.
 #[derive(Drop)]
 pub struct Batch {
     pub(crate) list: Vec<LogLine>,

@@ -6,10 +6,10 @@ use crate::counting::Sent;
 use http_desk::serve::{Served, StreamFault};
 use jiff_core::civil::DateTime;
 
-/// What a connection came to.
+/// The result of a connection.
 #[derive(Clone, Copy)]
 pub struct Connection {
-    /// When it ended, in UTC, where the clock told it.
+    /// When it ended, in UTC, if the clock could be read.
     pub at: Option<DateTime>,
     /// Its place among those that were taken, from 1 on.
     pub number: u64,
@@ -43,7 +43,8 @@ fn faults(served: &Result<Served, StreamFault>) -> u64
     }
 }
 
-/// What a connection of this number, which ended at this moment, came to: so many bytes of it were read, and this was written.
+/// Returns the result of a connection with this number and end: the number of bytes read, and what
+/// was written.
 pub fn connection_of(
     at: Option<DateTime>,
     number: u64,

@@ -1,13 +1,21 @@
-//! A log of a served desk: accepted commands, its free pages, a line for each connection that has ended, and one for all of them.
+//! The log of a server: accepted commands, free pages, and a line for each connection that has
+//! ended.
 //!
-//! Seen as lines, and those that wait. `put_entry`: each line, after its time.
-//! `moment_of`: date and time by the seconds since 1970. `tell_batch`: lines in order; after one that failed the next
-//! says so (`TellsBatch`). `put`: into 1,024, else counted (`HasPut`); `take`: all (`HasTaken`). `counting`: bytes, answers and
-//! refusals of sends that ended well. What the threads do no clause says.
+//! # Model
 //!
-//! # Notes
+//! Lines, and the lines that wait to be written.
 //!
-//! Who serves a connection puts lines into a list of a fixed size, and one thread writes them.
+//! # Proved
+//!
+//! - `put_entry` formats a line after its time; `moment_of` computes date and time from seconds.
+//! - `put` queues up to 1,024 lines and counts the others (`HasPut`); `take` takes all
+//!   (`HasTaken`).
+//! - `tell_batch` writes lines in order; after a failed one the next line says how many were lost
+//!   (`TellsBatch`). `counting` counts bytes, answers and refusals of successful sends.
+//!
+//! # Not proved
+//!
+//! What the threads do: each connection queues lines, and one thread writes them.
 #![tactic(auto)]
 
 pub mod answers;

@@ -1,7 +1,7 @@
 //! The lines of a log.
 ghost use Rattle.std.specs.Prelude.{◌≡◌, ◌+◌, ◌≤◌, ◌++◌, [], length, decimal, IfOk};
 ghost use Rattle.http_desk.specs.http_wire.Adding.{Adds};
-ghost use Rattle.connection_log.specs.Lines.{connection_line, dropped_line, end_line, entry_line, entry_moment, room_line, stamp, unsound_line};
+ghost use Rattle.connection_log.specs.Lines.{connection_line, cut_end, dropped_line, end_line, entry_line, entry_moment, room_line, stamp, unsound_line};
 ghost use Rattle.connection_log.specs.Lines.{change_line, deed_words, revision_words, source_words, two_digits, year_text};
 
 use crate::connection::Connection;
@@ -16,10 +16,10 @@ use std::marker::Model;
 /// Room for the longest line and the one of those that were dropped before it, in bytes.
 const LINE_LEN: usize = 512;
 
-/// What all connections came to, and when the last one had ended.
+/// The result of all connections, and when the last one had ended.
 #[derive(Clone, Copy)]
 pub struct Ending {
-    /// In UTC, where the clock told it.
+    /// In UTC, if the clock could be read.
     pub at: Option<DateTime>,
     pub ran: Ran,
 }
@@ -27,17 +27,17 @@ pub struct Ending {
 /// How much room the store has.
 #[derive(Clone, Copy)]
 pub struct Room {
-    /// In UTC, where the clock told it.
+    /// In UTC, if the clock could be read.
     pub at: Option<DateTime>,
     pub free_pages: u64,
-    /// So many a revision asks for by which each county changes.
+    /// The pages that a revision needs if each county changes.
     pub revision_pages: u64,
 }
 
 /// What an accepted command did.
 #[derive(Clone, Copy)]
 pub struct Change {
-    /// When its acknowledgement was sent, in UTC, where the clock told it.
+    /// When its acknowledgement was sent, in UTC, if the clock could be read.
     pub at: Option<DateTime>,
     pub accepted: Accepted,
 }
@@ -51,7 +51,8 @@ pub enum LogLine {
     Connection(Connection),
     /// How much room there is.
     Room(Room),
-    /// A sweep found rows that no desk leaves, at this moment of UTC, where the clock told it.
+    /// A sweep found rows that are not those of a desk, at this moment of UTC, if the clock could
+    /// be read.
     Unsound(Option<DateTime>),
     /// All connections.
     End(Ending),
@@ -70,6 +71,15 @@ impl LogLine {
             LogLine::End(ending) => ending.at,
         }
     }
+}
+
+/// What the next line has to report about lost lines.
+#[derive(Clone, Copy)]
+pub struct Owed {
+    /// How many were dropped.
+    pub lines: u64,
+    /// Whether the last one may be there in part, without its end.
+    pub is_cut: bool,
 }
 
 /// The text that is written next, with all the room that it ever takes.
@@ -296,17 +306,29 @@ impl LineText {
         }
     }
 
-    /// Puts how many lines were dropped until a moment, where any were.
-    pub fn put_dropped(&mut self, dropped: u64, at: Option<DateTime>)
+    /// Puts the end of a line that may be there in part.
+    fn put_cut_end(&mut self, is_cut: bool)
+        requires { self.old ≡ [] }
+        ensures items { self.new ≡ cut_end is_cut }
+        ensures short { length self.new ≤ 1 }
+    {
+        if is_cut {
+            self.put(b"\n");
+        }
+    }
+
+    /// Puts how many lines were dropped until a moment, where any were, after the end of a line that may be there in part.
+    pub fn put_dropped(&mut self, dropped: Owed, at: Option<DateTime>)
         requires { self.old ≡ [] }
         ensures items { self.new ≡ dropped_line at dropped }
         ensures short { length self.new ≤ 100 }
     {
-        if dropped == 0 {
+        self.put_cut_end(dropped.is_cut);
+        if dropped.lines == 0 {
             return;
         }
         self.put_moment(at);
-        self.put_number(dropped);
+        self.put_number(dropped.lines);
         self.put(b" lines were dropped\n");
     }
 }

@@ -3,7 +3,7 @@ ghost use Rattle.connection_log.specs.declared.line.LogLine.{LogLine as Line};
 ghost use Rattle.http_connections.specs.declared.ran.Ran.{Ran as Totals};
 
 use crate::batch::Batch;
-use crate::line::{Ending, LineText, LogLine};
+use crate::line::{Ending, LineText, LogLine, Owed};
 use crate::moment::moment_now;
 use crate::telling::tell_batch;
 use crate::waiting::{Taken, Waiting};
@@ -23,7 +23,7 @@ pub trait Notes {
     // This line was handed to it.
     ghost notes: { Self → Line → Type 0 };
 
-    // It was told that all connections are served, and what they came to.
+    // It was told that all connections are served, with their result.
     ghost ends: { Self → Totals → Type 0 };
 
     /// Takes a line, or counts it where too many wait.
@@ -89,7 +89,10 @@ impl Log {
 
     /// Writes the lines as they come, and ends after the last one.
     fn write<W: Sink, R: Wait>(&self, rt: &R, pen: &mut Pen, writer: &mut W) {
-        let mut dropped = 0u64;
+        let mut dropped = Owed {
+            lines: 0,
+            is_cut: false,
+        };
         for _ in rt.forever() {
             let taken = self.take(rt, &mut pen.batch);
             dropped = tell_batch(writer, &mut pen.text, pen.batch.as_slice(), taken, dropped);

@@ -5,7 +5,8 @@ ghost use Rattle.jiff_core.specs.DateTime.{civil_nanos};
 use jiff_core::civil::DateTime;
 use std::time::{Clock, SystemTime, UNIX_EPOCH};
 
-/// The date and the time of day in UTC, so many seconds after 1970-01-01T00:00:00Z. None is later than the year 9999.
+/// Returns the date and the time of day in UTC, `seconds` after 1970-01-01T00:00:00Z; `None` after
+/// the year 9999.
 pub fn moment_of(seconds: u64) -> Option<DateTime>
     ensures value { IfSome result (λ at. civil_nanos at ≡ pos (seconds * 1_000_000_000)) }
     ensures some { seconds < 253402300800 → IsSome result }

@@ -14,13 +14,13 @@ pub struct Waiting {
     batch: Batch,
     /// The lines that found no room.
     refused: u64,
-    /// What all connections came to, once the last is served.
+    /// The result of all connections, once the last is served.
     end: Option<Ending>,
     /// The end is written, as far as it can be.
     is_over: bool,
 }
 
-/// What was taken beside the lines.
+/// What was taken together with the lines.
 #[derive(Clone, Copy)]
 pub struct Taken {
     pub refused: u64,
@@ -41,7 +41,7 @@ impl Waiting {
         })
     }
 
-    /// Puts a line after those that wait. Where there is no room for it, it is counted alone.
+    /// Puts a line after those that wait. If there is no room for it, it is only counted.
     pub fn put(&mut self, line: LogLine)
         ensures { HasPut self.old line self.new }
     {

@@ -18,36 +18,37 @@ use std::sync::Wait;
 use std::sync::atomic::{AtomicBool, AtomicU64, Ordering};
 use std::time::Clock;
 
-/// Where streams come from, and who hears of accepted commands, of the store's room and of what all streams came to.
+/// A source of streams that is told of accepted commands, of the store's room, and of the result of
+/// all streams.
 pub trait Watched: Listens + Hears {
-    // What was heard of a run.
+    // What was reported of a run.
     ghost use Rattle.std.specs.Prelude.{ℕ};
     ghost use Rattle.http_connections.specs.declared.ran.Ran.{Ran};
 
     ghost heard: { Self → Ran → Type 0 };
 
-    // So many free pages were heard of, and so many that a whole revision asks for.
+    // These numbers of free pages and of pages for a whole revision were reported.
     ghost heard_room: { Self → ℕ → ℕ → Type 0 };
 
     /// Hears how many pages are free before streams are served, and how many a whole revision asks for.
     fn begin(&self, free_pages: u64, revision_pages: u64)
         ensures { heard_room self.now free_pages revision_pages };
 
-    /// Hears what all streams came to.
+    /// Is told the result of all streams.
     fn hear(&self, ran: Ran)
         ensures { heard self.now ran };
 }
 
-/// Connections that are told to a log, where there is one.
+/// Connections that are written to a log, if there is one.
 #[derive(Drop)]
 pub struct Watching<'r, 'a, 'l, A, R, L> {
     rt: &'r R,
     arrivals: &'a A,
     log: Option<&'l L>,
     taken: AtomicU64,
-    /// A whole revision asks for so many free pages.
+    /// The free pages that a whole revision needs.
     revision_pages: AtomicU64,
-    /// Fewer are free, as far as the log was told.
+    /// Whether fewer are free, according to the log's last line about it.
     is_low: AtomicBool,
 }
 
@@ -86,7 +87,8 @@ fn note_room<R: Wait + Clock, L: Notes>(
     }
 }
 
-/// Whether the free pages fell below so many, or rose to them, since it was last noted whether they are fewer.
+/// Returns whether the free pages fell below `revision_pages`, or rose to it, since the last note,
+/// and updates the note.
 fn has_crossed(free_pages: u64, revision_pages: u64, is_low: &AtomicBool) -> bool {
     let is_lower = free_pages < revision_pages;
     is_low.swap(is_lower, Ordering::SeqCst) != is_lower
@@ -112,7 +114,7 @@ impl<'r, 'a, 'l, A: Listens, R: Wait + Clock, L: Notes> Hears for Watching<'r, '
         self.log.is_some()
     }
 
-    /// Tells it to the log.
+    /// Logs it.
     fn hear_change(&self, accepted: &Accepted) {
         if let Some(log) = self.log {
             let at = moment_now(self.rt);
@@ -126,8 +128,8 @@ impl<'r, 'a, 'l, A: Listens, R: Wait + Clock, L: Notes> Hears for Watching<'r, '
         }
     }
 
-    /// Tells the log each time that the free pages fall below what a whole revision asks for, or rise to it. Where several tell it at once,
-    /// the last of them looks again.
+    /// Logs each time that the free pages fall below what a whole revision needs, or rise to it. If
+    /// several threads log it at once, the last of them checks again.
     fn hear_room(&self, free_pages: &AtomicU64) {
         let needed = self.revision_pages.load(Ordering::SeqCst);
         for _ in 0..u64::MAX {
@@ -139,7 +141,7 @@ impl<'r, 'a, 'l, A: Listens, R: Wait + Clock, L: Notes> Hears for Watching<'r, '
         }
     }
 
-    /// Tells it to the log.
+    /// Logs it.
     fn hear_unsound(&self) {
         if let Some(log) = self.log {
             let at = moment_now(self.rt);
@@ -177,7 +179,7 @@ impl<'r, 'a, 'l, A: Listens, R: Wait + Clock, L: Notes> Arrivals for Watching<'r
         ))
     }
 
-    /// Closes it, and then tells what it came to.
+    /// Closes a connection, and then logs its result.
     fn ended(
         &self,
         reader: CountedSource<A::Reader>,
@@ -227,7 +229,7 @@ impl<'r, 'a, 'l, A: Listens, R: Wait + Clock, L: Notes> Watched for Watching<'r,
       revision_pages = revision_pages;
     })) };
 
-    /// Tells it to the log.
+    /// Logs it.
     fn begin(&self, free_pages: u64, revision_pages: u64) {
         self.revision_pages.store(revision_pages, Ordering::SeqCst);
         self.is_low
@@ -235,7 +237,7 @@ impl<'r, 'a, 'l, A: Listens, R: Wait + Clock, L: Notes> Watched for Watching<'r,
         note_room(self.rt, self.log, free_pages, revision_pages);
     }
 
-    /// Tells it to the log, and waits for the last lines, for a second at most.
+    /// Logs it, and waits for the last lines, for a second at most.
     fn hear(&self, ran: Ran) {
         if let Some(log) = self.log {
             log.end(self.rt, ran);

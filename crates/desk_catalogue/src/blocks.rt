@@ -21,7 +21,8 @@ const ROOM: usize = 64;
 /// A block's number has this many digits.
 const ID_DIGITS: usize = 15;
 
-/// Writes a number of at least so many digits before `end`, where the row has zeros, and gives its start.
+/// Writes a number of at least `width` digits so that it ends at `end`, in a row of zeros, and
+/// returns its start.
 fn write_number(row: &mut [u8], end: usize, number: u32, width: usize) -> usize
     requires room { HasZeros row.old end }
     requires narrow { width ≤ 5 }

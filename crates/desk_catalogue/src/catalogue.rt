@@ -75,15 +75,15 @@ pub(crate) struct Subject<'a> {
     pub(crate) beside: Companions<&'a Districts>,
 }
 
-/// A catalogue after a command, and which of the counties the command changes: none where it gives no plan that is there a
-/// revision.
+/// The catalogue after a command, and for each county whether the command changes it. No county
+/// changes unless an existing plan gets a revision.
 #[derive(Drop)]
 pub struct Draft {
     pub catalogue: Catalogue,
     pub changes: Vec<bool>,
 }
 
-/// A catalogue after a command that gives no plan that is there a revision.
+/// The catalogue after a command that gives no existing plan a revision.
 fn unchanged(alloc: Global, after: Result<Catalogue, Refusal>) -> Result<Draft, Refusal>
     ensures { MatchResult result (λ draft. (after ≡ Ok draft.catalogue) × (draft.changes.items ≡ [])) (λ refusal. after ≡ Err refusal) }
 {
@@ -120,7 +120,8 @@ impl Catalogue {
         }
     }
 
-    /// Keeps the text that lists the blocks, where memory for it is there, since a geography never changes: what is shown stays.
+    /// Caches the text that lists the blocks, if memory for it is granted: a geography never
+    /// changes. What is shown stays the same.
     pub fn keep_blocks(&mut self, alloc: Global)
         ensures { self.new ≡ self.old }
     {
@@ -287,7 +288,7 @@ impl Catalogue {
         Ok(Companions { senate, congress })
     }
 
-    /// What the audit of a revision of a plan judges, beside the companions that are asked for.
+    /// Returns the subject of an audit: a plan's revision and the companions of the query.
     pub(crate) fn subject(
         &self,
         name: &PlanName,
@@ -313,7 +314,7 @@ impl Catalogue {
         })
     }
 
-    /// The answer to an audit of a revision of a plan, beside the companions that are asked for.
+    /// Returns the answer to an audit of a plan's revision with the companions of the query.
     fn audited(
         &self,
         alloc: Global,
@@ -336,7 +337,8 @@ impl Catalogue {
         }
     }
 
-    /// Puts what the last command left pending among the plans into their tree, where memory for it is there: what is shown stays.
+    /// Moves the plan that the last command left pending into the tree, if memory for it is
+    /// granted. What is shown stays the same.
     pub fn settle(&mut self, alloc: Global)
         ensures { self.new ≡ self.old }
     {
@@ -420,7 +422,7 @@ impl Catalogue {
         self.with_plans(plans)
     }
 
-    /// The plan of that name, where it has so many revisions and may have one more.
+    /// Returns the plan with this name if it has `after` revisions and may have one more.
     fn revisable(&self, name: &PlanName, after: u32) -> Result<&Entry, Refusal>
         requires { IsSome self.now.geography }
         ensures { MatchResult result (λ entry. IsRevisable self.now name.now after entry.now) (λ refusal. (body : List ℕ)
@@ -481,7 +483,8 @@ impl Catalogue {
         self.with_revision(alloc, geography, entry, made)
     }
 
-    /// The catalogue with one more revision of a plan that is there, and which of the counties it changes.
+    /// Returns the catalogue with one more revision of an existing plan, and which counties it
+    /// changes.
     fn with_revision(
         &self,
         alloc: Global,

@@ -1,26 +1,30 @@
-//! The desk in memory, which doesn't change: a catalogue that answers queries and makes the catalogue after a command.
+//! The desk in memory: an immutable catalogue that answers queries and computes its successor.
 //!
-//! Seen as `Desk`. `restored`, `ask`, `after`, `draft`: the desk's answer and step, and the same desk after each refusal; of `draft` also
-//! for each county whether it changes (`changes_of`). Posted bodies are read here. An audit is answered with the text of a report on just
-//! the subject that the desk's answer names, or with its refusal. `ask_again`: the same answers where the report that was made last is kept
-//! (`MadeReport`), whose text answers an audit of its own subject alone. `keep_blocks`: the same desk, of which the blocks are listed from
-//! then on by one text.
+//! # Model
 //!
-//! What a revision changes: seen as lists of districts, cut at the counties. `changed_counties`: for each county whether its districts
-//! differ between two lists that are the same outside the span that the caller names; true where there is no list before. `revision_rows`:
-//! as many rows as desk_model says.
+//! A `Desk`. A `Counter` is what a served connection talks to: it takes commands and queries, and
+//! its relations say which replies it may give.
 //!
-//! The counter at which a served stream asks: seen as its own (`Counter`): which commands it takes, which replies a command or a query may
-//! have, and what they leave.
+//! # Proved
+//!
+//! - `ask` returns the desk's answer; `after` and `draft` return the desk after a command, or the
+//!   refusal, and leave this one as it was. `draft` also says which counties change (`changes_of`).
+//! - An audit is answered by the text of the report on exactly the subject that the query addresses
+//!   (`subject_of`), or by the refusal of that address.
+//! - `ask_again` gives the same answers, but returns the last report's text again if the subject is
+//!   the same (`MadeReport`). `keep_blocks` caches the listing of the blocks and changes no answer.
+//! - `changed_counties` finds the counties in which two lists differ; `revision_rows` and
+//!   `fork_rows` give the number of rows that desk_model defines.
+//!
+//! # Not proved
+//!
+//! That a cached text is used: this is measured.
 //!
 //! # Notes
 //!
-//! The query `Audit` has the address of each companion, or none. `answer` of desk_model says what is audited: `subject_of` finds the plan,
-//! the revision and the companions, or the refusal, in that order. `takes` is the one table of which kind takes which companion. What a
-//! report on that subject is, the audit's crates define above desk_model. So `QueryMay` takes the relation `Reports`, and this crate gives
-//! it once: `IsReportText`. `AskMay` is `QueryMay` with it.
-//!
-//! A clerk alone with its store is a counter, and a seat at an office another.
+//! desk_model defines what an audit is about, but not what a report is: that is defined above it.
+//! So `QueryMay` has the relation of reports as a parameter, and `AskMay` is `QueryMay` at
+//! `IsReportText`. `takes` is the table of which kind of plan takes which companion.
 #![tactic(auto)]
 
 mod blocks;

@@ -26,7 +26,7 @@ fn is_same(one: &Districts, other: &Districts) -> bool
     one.len() == other.len() && one.is_same_in(other, 0, one.len())
 }
 
-/// Whether both lists are there and the same, or neither is there.
+/// Returns whether both lists are present and equal, or both absent.
 fn is_same_if_any(one: &Option<Districts>, other: Option<&Districts>) -> bool
     ensures { IsTrue result → one.now ≡ option_copied other.entry }
 {
@@ -76,7 +76,7 @@ impl MadeReport {
     ghost use Rattle.desk_model.specs.Companions.{companions_copied};
     ghost use Rattle.desk_catalogue.specs.claim.Audits.{IsReportText};
 
-    /// Of a report on districts beside those of companions, and its text, which is copied.
+    /// A report on the districts of a plan and of its companions, with a copy of its text.
     fn new(
         alloc: Global,
         geography: &Arc<Geography>,
@@ -101,7 +101,7 @@ impl MadeReport {
         })
     }
 
-    /// A copy of its text, if it is on these districts beside those of these companions.
+    /// Returns a copy of the text if the report is on these districts and these companions.
     fn text_for(
         &self,
         alloc: Global,
@@ -148,7 +148,8 @@ impl Catalogue {
         }
     }
 
-    /// The answer to an audit of a revision of a plan, beside the companions that are asked for, where the last report is kept.
+    /// Returns the answer to an audit of a plan's revision with the companions of the query, and
+    /// caches the report.
     fn audited_again(
         &self,
         alloc: Global,
@@ -174,8 +175,8 @@ impl Catalogue {
     }
 }
 
-/// The report on a plan's districts, beside those of its companions, as JSON: the one that was made last, if that is on them. Else the
-/// new one is kept in its place, where memory for it is there.
+/// Returns the report on a plan's districts with its companions as JSON: the last report if it is
+/// on the same districts, otherwise a new one, which replaces the last if memory for it is granted.
 pub(crate) fn report_again(
     alloc: Global,
     geography: &Arc<Geography>,

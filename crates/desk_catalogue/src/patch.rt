@@ -22,8 +22,9 @@ fn is_listed(read: &Listed, place: usize) -> bool
     read.get(place).is_some()
 }
 
-/// The least county of which only a part is listed: that of the first two blocks of one county, one right after the
-/// other, of which just one is listed, since a county's blocks stand together and counties rise.
+/// Returns the least county that is listed in part: the county of the first two neighbouring blocks
+/// of one county of which exactly one is listed. A county's blocks follow each other, and counties
+/// rise.
 fn county_in_part(geography: &Geography, read: &Listed) -> Option<u16>
     requires { length read.now ≡ length geography.now.blocks }
     ensures { (values : Values) → read.now ≡ listed_of geography.now values → result ≡ partly_listed geography.now values }

@@ -33,7 +33,7 @@ fn as_list(flat: &Option<Vec<u16>>) -> Option<&[u16]>
     }
 }
 
-/// The report on a plan's districts, beside those of its companions, as JSON.
+/// Returns the report on a plan's districts with its companions as JSON.
 pub fn report(
     alloc: Global,
     geography: &Geography,

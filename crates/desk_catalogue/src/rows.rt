@@ -5,7 +5,7 @@ ghost use Rattle.desk_catalogue.specs.Cutting.{range_rows, AreForkRows, AreRevis
 
 use desk_model::ranges::CountyRange;
 
-/// How many rows of so many elements hold a number of them.
+/// Returns the number of rows that hold `count` elements, `size` to a row.
 fn rows_for(size: usize, count: usize) -> usize
     requires some { 1 ≤ size }
     requires fits { count + size < 2 ^ 64 }
@@ -14,7 +14,8 @@ fn rows_for(size: usize, count: usize) -> usize
     (count + (size - 1)) / size
 }
 
-/// The rows of a county's districts, and two that tell who holds them: none where it doesn't change.
+/// Returns the number of rows of a county's districts and of the two rows that say who holds them,
+/// 0 if the county does not change.
 fn rows_of_range(range: CountyRange, changes: bool) -> usize
     ensures rows { result ≡ range_rows changes range }
     ensures few { result ≤ 2 ^ 24 }
@@ -25,8 +26,9 @@ fn rows_of_range(range: CountyRange, changes: bool) -> usize
     rows_for(512, range.count as usize) + 2
 }
 
-/// The rows that a revision writes: the plan's and the counters', one for each 128 counties, and of a county that changes one for
-/// each 512 blocks, and two that tell who holds them. The counties are the geography's.
+/// Returns the number of rows that a revision writes: the plan's and the counters' rows, one for
+/// each 128 counties, and for each county that changes one for each 512 blocks and two that say who
+/// holds them. The counties are the geography's.
 pub fn revision_rows(ranges: &[CountyRange], changes: &[bool]) -> usize
     requires few { length ranges.now < 2 ^ 32 }
     requires each { length changes.now ≡ length ranges.now }
@@ -39,8 +41,9 @@ pub fn revision_rows(ranges: &[CountyRange], changes: &[bool]) -> usize
     rows
 }
 
-/// The rows that a fork writes where the geography has so many counties: the plan's and the counters', when it is made and when it
-/// gets its revision, one for each 128 counties, and two of each county, which tell who holds its blocks.
+/// Returns the number of rows that a fork writes in a geography of `counties` counties: the plan's
+/// and the counters' rows, when it is made and when it gets its revision, one for each 128
+/// counties, and two for each county, which say who holds its blocks.
 pub fn fork_rows(counties: usize) -> usize
     requires few { counties < 2 ^ 32 }
     ensures { AreForkRows counties result }

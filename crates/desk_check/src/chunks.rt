@@ -10,7 +10,8 @@ use page_store::{Pages, Txn};
 use plan_rows::append_chunk;
 use sector_device::SectorDevice;
 
-/// Looks at the chunk of a county that has so many blocks, none of them in a district above n. `part` is room for their districts.
+/// Checks the chunk of a county of `count` blocks: none of them is in a district above n. `part` is
+/// room for their districts.
 #[tactic(auto, using(crate::proofs::Told::not_seen, crate::proofs::Told::failed))]
 fn check_chunk<D: SectorDevice>(
     txn: &Txn,

@@ -1,12 +1,16 @@
-//! Whether rows are those of a desk, which isn't kept.
+//! Checks that rows are those of a desk, without keeping the desk in memory.
 //!
-//! Seen as `TellsDesk`: a desk within its limits is what the rows say (`IsReadFrom`), and has these counties. `check_desk`: at Ok that is
-//! so; it reads. An error says nothing of the rows.
+//! # Model
 //!
-//! # Notes
+//! `TellsDesk`: the rows say a desk within its limits (`IsReadFrom`), with these counties.
 //!
-//! `check_desk(alloc, &txn, &mut pages)?` reads what `read_desk` reads. It keeps the geography and the plans' numbers, and lets each chunk
-//! go, so it takes less memory and half the time.
+//! # Proved
+//!
+//! `check_desk` reads only, and succeeds only if that holds. It reads what `read_desk` reads.
+//!
+//! # Not proved
+//!
+//! An error says nothing about the rows. That it takes less memory and half the time is measured.
 #![tactic(auto)]
 
 mod chunks;

@@ -43,8 +43,8 @@ fn check_named<D: SectorDevice>(
     check_revisions(alloc, txn, pages, ranges, &plan, part)
 }
 
-/// Looks at the plan whose row was taken, that it wasn't taken away and that its number is no other's. It is noted, with the count of
-/// its revisions.
+/// Checks the plan of a row: it was not deleted, and its number is no other plan's. Notes the
+/// number with the count of its revisions.
 fn check_row<D: SectorDevice>(
     alloc: Global,
     txn: &Txn,

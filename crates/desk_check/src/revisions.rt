@@ -52,7 +52,7 @@ fn check_revision<D: SectorDevice>(
     Ok(())
 }
 
-/// Whether a plan may have so many districts, and so many revisions.
+/// Returns whether a plan may have this number of districts and of revisions.
 fn is_sized(row: &PlanRow) -> bool
     ensures { result ≡ true → IsSizedRow row.now }
 {

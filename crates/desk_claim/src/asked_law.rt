@@ -8,7 +8,8 @@ use byte_stream::source::Source;
 use http_connections::arrivals::Arrivals;
 use http_desk::GatherSink;
 
-/// Where a store is asked in each life, by requests, by a stream or by those who come to an office, one desk lives on and answers.
+/// If a store is only asked in each life, by requests, by a stream or by the clients of an office,
+/// then one desk lives on and answers.
 #[tactic(auto, using(crate::proofs::Alone::asked_law))]
 pub fn asked_lives<R: Source, W: GatherSink, A: Arrivals>()
     ensures { (workers : ℕ) → AskedLaw

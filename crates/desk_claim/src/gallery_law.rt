@@ -2,8 +2,9 @@
 ghost use Rattle.desk_claim.specs.Calls.{CallsLaw};
 ghost use Rattle.desk_claim.specs.Runs.{OfficeLaw};
 
-/// Of whatever list of changes was accepted, and of whatever visitors have done, each by itself, and none of them beyond what is
-/// shown: there is a list of events with no stop in it that leads to just this, in which each visitor is answered as it was.
+/// For every list of accepted changes, and whatever the visitors did, each by itself and none
+/// beyond what is shown: some list of events without a crash leads to exactly this, and in it each
+/// visitor is answered as it was.
 #[tactic(auto, using(crate::proofs::Weaving::office_law))]
 pub fn lists_are_run()
     ensures { OfficeLaw }

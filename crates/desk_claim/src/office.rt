@@ -11,7 +11,7 @@ use serve_command::book::GalleryId;
 use serve_command::front::Front;
 use serve_command::visitor::Visitor;
 
-/// None of the visitors has heard of more than the front shows.
+/// No visitor has seen more than the front shows.
 fn know_all<J: GalleryId, D: SectorDevice>(front: &mut Front<J, D>, visitors: &[Visitor<J>])
     ensures all { All (λ v. IsPrefix v front.new.shown) visitors.now }
     ensures same { front.new ≡ front.old }
@@ -21,8 +21,9 @@ fn know_all<J: GalleryId, D: SectorDevice>(front: &mut Front<J, D>, visitors: &[
     }
 }
 
-/// Whatever the visitors of a gallery did, each by itself: there is a list of events with no stop in it that leads to what the
-/// front shows and to what they have heard of, in which each visitor is answered as it was.
+/// Whatever the visitors of a gallery did, each by itself: some list of events without a crash
+/// leads to what the front shows and to what they have seen, and in it each visitor is answered as
+/// it was.
 pub fn office_is_run<J: GalleryId, D: SectorDevice>(
     front: &mut Front<J, D>,
     visitors: &[Visitor<J>],
@@ -34,7 +35,8 @@ pub fn office_is_run<J: GalleryId, D: SectorDevice>(
     know_all(front, visitors);
 }
 
-/// Whatever the visitors of a gallery did: the law of every list of events holds of what the front shows and what they have heard of.
+/// Whatever the visitors of a gallery did: the law of all lists of events holds for what the front
+/// shows and what they have seen.
 pub fn stands<J: GalleryId, D: SectorDevice>(front: &mut Front<J, D>, visitors: &[Visitor<J>])
     ensures lawful { IsLawful J.first (standing front.new.shown front.new.all visitors.now) }
     ensures same { front.new ≡ front.old }
@@ -43,7 +45,8 @@ pub fn stands<J: GalleryId, D: SectorDevice>(front: &mut Front<J, D>, visitors: 
     are_standing(front, visitors);
 }
 
-/// What the front shows, and what each visitor of its gallery has heard of, is a state of a world that events without a stop lead to.
+/// What the front shows, and what each visitor of its gallery has seen, is a state of a world to
+/// which events without a crash lead.
 pub fn are_standing<J: GalleryId, D: SectorDevice>(front: &mut Front<J, D>, visitors: &[Visitor<J>])
     ensures reached { IsReached J.first front.new.shown front.new.all visitors.now }
     ensures same { front.new ≡ front.old }

@@ -19,8 +19,8 @@ pub struct WorldChange {
     catalogue: Arc<Catalogue>,
 }
 
-/// The first catalogue, the changes since, of which the first so many are acknowledged and shown, and how many each visitor
-/// knows.
+/// The first catalogue, the changes since then, the numbers of those acknowledged and shown, and
+/// the number that each visitor knows.
 #[derive(Drop)]
 pub struct World {
     first: Arc<Catalogue>,
@@ -48,7 +48,7 @@ impl Model for World {
 }
 
 impl World {
-    /// The desk of a catalogue, before any change, with so many visitors who know of none.
+    /// The desk of a catalogue before any change, with visitors that know no change.
     pub fn new(alloc: Global, first: Arc<Catalogue>, visitors: usize) -> Result<World, AllocError>
         ensures { IfOk result (λ w. w ≡ (first.value, world [] 0 0 (replicate visitors 0))) }
     {
@@ -62,8 +62,8 @@ impl World {
         })
     }
 
-    /// Moves by an event, and tells a visit's reply. Where memory was refused to a commit or a visit, the reply says so and
-    /// nothing changes.
+    /// Moves by an event and returns a visit's reply. If memory is refused to a commit or a visit,
+    /// the reply says so and nothing changes.
     pub fn step(&mut self, alloc: Global, event: Event) -> Option<Reply>
         ensures first { self.new.0 ≡ self.old.0 }
         ensures moved { StepMay self.old.0 self.old.1 event result self.new.1 }
@@ -78,7 +78,7 @@ impl World {
         }
     }
 
-    /// The catalogue after so many changes.
+    /// Returns the catalogue after the first `number` changes.
     fn catalogue(&self, number: usize) -> &Catalogue
         requires { number ≤ length self.now.1.changes }
         ensures { result.now ≡ after self.now.0 (take number self.now.1.changes) }
@@ -89,7 +89,7 @@ impl World {
         &self.changes[number - 1].catalogue
     }
 
-    /// The catalogue after a change that may be written now, or what is told where none may.
+    /// Returns the catalogue after a change that may be written now, or the reply if none may.
     fn changed(&self, alloc: Global, command: &Command) -> Result<Arc<Catalogue>, Option<Reply>>
         ensures ok { IfOk result (λ c. IsChanged self.now.0 self.now.1 command.now c.value) }
         ensures err { IfErr result (λ told. CommitMay self.now.0 self.now.1 command.now told self.now.1) }
@@ -167,7 +167,7 @@ impl World {
         Some(reply)
     }
 
-    /// Tells a visitor of so many changes.
+    /// Tells a visitor a number of changes.
     fn learn(&mut self, visitor: u64, told: u64) -> Option<Reply>
         ensures first { self.new.0 ≡ self.old.0 }
         ensures moved { StepMay self.old.0 self.old.1 (Event.Learn visitor told) result self.new.1 }

@@ -104,8 +104,9 @@ impl<'a> Plain<Adding<'a>, LogEntry, u64> for Add {
     ghost state = { λ a. None };
 }
 
-/// Names one gallery: its list of changes with the first key, the counts of its seats, the desk before the changes, what is known
-/// of the store and of the clerk from the start, and which commands may be carried out. Each call of a program picks it.
+/// Identifies one gallery: its list of changes with the first key, the counts of its seats, the
+/// desk before the changes, what is known about the store and the clerk from the start, and which
+/// commands may be carried out. Each call of a program has an identity of its own.
 pub trait GalleryId {
     ghost use Rattle.std.specs.Prelude.{ℕ};
     ghost use Rattle.logbook.specs.Pages.{Book};
@@ -118,7 +119,7 @@ pub trait GalleryId {
 
     ghost root: { ℕ };
 
-    // the ledgers of what its seats are told
+    // the ledgers of the answers that its seats were given
     ghost counts: { Counts };
 
     ghost first: { Desk };

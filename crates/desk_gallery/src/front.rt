@@ -18,8 +18,8 @@ use std::alloc::Global;
 use std::marker::Model;
 use std::sync::{Arc, Wait};
 
-/// Commits a command whose change waits to be shown, and shows it once the commit is done. A fault leaves it pending. What is shown
-/// then is told with the catalogue after it.
+/// Commits a command whose change is pending, and shows it once the commit is acknowledged. After a
+/// fault the change stays pending. Returns what is shown then, with its catalogue.
 fn settle<J: GalleryId, D: SectorDevice, R: Wait>(
     rt: &R,
     clerk: &mut Clerk<D>,
@@ -42,7 +42,8 @@ fn settle<J: GalleryId, D: SectorDevice, R: Wait>(
     (reply, shower.tell_of(next))
 }
 
-/// What lies under an office's lock: a clerk, the writer that shows its desk, and the books of what its seats are told.
+/// What an office's lock protects: a clerk, the writer that shows its desk, and the books of the
+/// answers given to its seats.
 ///
 /// It is not `Drop`: end it by `close`.
 pub struct Front<J: GalleryId, D: SectorDevice> {
@@ -81,7 +82,8 @@ impl<J: GalleryId, D: SectorDevice> Front<J, D> {
     ghost use Rattle.desk_gallery.specs.claim.Working.{AreAccepted};
     ghost use Rattle.desk_gallery.specs.Working.{Joins};
 
-    /// Of a clerk and a writer that shows its desk, to which nothing was appended, and of books in which nothing stands.
+    /// A front of a clerk and a writer that shows the clerk's desk and has nothing pending, with
+    /// empty books.
     pub fn new(clerk: Clerk<D>, shower: Shower<J>, books: Books<J>) -> Front<J, D>
         requires none { shower ≡ ([], []) }
         requires books { (books.accepted.total ≡ 0) × (books.halted.total ≡ 0) }
@@ -110,7 +112,8 @@ impl<J: GalleryId, D: SectorDevice> Front<J, D> {
         self.shower.tell()
     }
 
-    /// Nobody has heard of more than is shown: what is shown begins with all that a visitor saw or was told of, whenever that was.
+    /// No visitor has seen more than is shown: what is shown begins with everything that a visitor
+    /// saw or was told, at any time.
     pub fn knows(&mut self, visitor: &Visitor<J>)
         ensures begins { IsPrefix visitor.now self.new.shown }
         ensures same { self.new ≡ self.old }
@@ -118,7 +121,7 @@ impl<J: GalleryId, D: SectorDevice> Front<J, D> {
         self.knows_told(&visitor.heard);
     }
 
-    /// What is shown begins with what any note tells.
+    /// What is shown begins with the contents of any note.
     pub fn knows_told(&mut self, told: &Told<J>)
         ensures begins { IsPrefix told.now self.new.shown }
         ensures same { self.new ≡ self.old }
@@ -147,8 +150,9 @@ impl<J: GalleryId, D: SectorDevice> Front<J, D> {
         let _ = &self.clerk;
     }
 
-    /// The outcome of a command, and what is shown then. A change is shown once its commit is done. The seat's tally counts what it is
-    /// told: no command is done that isn't counted there.
+    /// Carries out a command; returns its outcome and what is shown then. A change is shown once
+    /// its commit is acknowledged. The seat's tally counts the answer: no command is done that is
+    /// not counted there.
     pub fn command<R: Wait>(
         &mut self,
         rt: &R,
@@ -215,8 +219,9 @@ impl<J: GalleryId, D: SectorDevice> Front<J, D> {
         clerk
     }
 
-    /// The same by who has the tallies of all seats: each command that was accepted was told to one of them as that, once, and each
-    /// that was told as halted to one of them as that.
+    /// The same, for whoever has the tallies of all seats: each accepted command was answered as
+    /// accepted at one of them, once, and each command answered as halted was answered so at one of
+    /// them.
     pub fn close_counted<R: Wait>(self, rt: &R, tallies: Tallies<J>) -> Clerk<D>
         requires { tallies.accepted.parts ≡ J.counts.seats }
         ensures clerk { IsClerk J.first self result }

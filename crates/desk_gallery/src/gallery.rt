@@ -18,7 +18,7 @@ pub enum GalleryFault<J: GalleryId> {
     Refused(Shower<J>),
 }
 
-/// The writer, with room for so many visitors.
+/// The writer, with room for `visitors` visitors.
 fn shower<J: GalleryId>(
     alloc: Global,
     opened: Opened,
@@ -44,7 +44,7 @@ fn shower<J: GalleryId>(
     Ok(Shower::over(copies, whole))
 }
 
-/// Seats so many visitors. Err where no place or no memory is left.
+/// Gives `visitors` visitors a place each. Returns an error if no place or no memory is left.
 fn seat_all<J: GalleryId>(
     shower: &Shower<J>,
     seats: &mut Vec<Visitor<J>>,

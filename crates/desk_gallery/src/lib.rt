@@ -1,11 +1,41 @@
-//! Catalogues shown to visitors, and an office around the clerk: one writer shows them, and visitors never wait.
+//! Publishes catalogues: one writer shows them, and readers (visitors) never wait for it.
 //!
-//! Seen as a list of changes that all share, of which each part knows a prefix. `visit`: a catalogue after a list that begins with all
-//! that this visitor heard of. `learn`: the list that was reported begins the visitor's. `append`, `show`: all that was appended, at
-//! once. `Front::command`: the clerk's `Does`; what is shown grows by the command where it is acknowledged, else stays; the seat's
-//! `Tally` counts what is told as accepted and as halted. `Front::sweep_step`: the desk stays, and so does what is shown.
-//! `Front::is_kept`: each image opens to the desk that is shown, or after a halt to that with one change more. `Office::close`: the
-//! clerk, left by commands and steps of sweeps, whose acknowledged ones are those shown (`IsLeftBy`).
+//! # Layout
+//!
+//! ```text
+//! Office (one lock)                     left_right              visitors
+//!   clerk --commit--> store
+//!   shower --append, show---------------> published --visit---> visitor 0, 1, 2 ..
+//! ```
+//!
+//! Invariants:
+//!
+//! 1. The published list of changes only grows.
+//! 2. Each visitor knows a prefix of it, and its own list only grows.
+//! 3. A change is published only after its commit was acknowledged.
+//! 4. While the lock is free, the clerk's desk is the published one or, after a halt, one change
+//!    ahead.
+//!
+//! # Model
+//!
+//! One list of changes that all share, of which each part knows a prefix.
+//!
+//! # Proved
+//!
+//! - `visit` returns a catalogue after a list that begins with everything this visitor has seen.
+//!   `learn`: what was reported is a prefix of the visitor's list.
+//! - `append` and `show` publish everything that was appended, at once.
+//! - `Front::command` does the clerk's `Does`; the published list grows by the command if it is
+//!   acknowledged, and otherwise stays. The seat's `Tally` counts what is answered as accepted and
+//!   as halted. `Front::sweep_step` leaves the desk and what is published.
+//! - `Front::is_kept`: each crash state opens to the published desk, or after a halt to that with
+//!   one more change.
+//! - `Office::close` returns the clerk, whose acknowledged commands are those published
+//!   (`IsLeftBy`).
+//!
+//! # Not proved
+//!
+//! Fairness, waiting times, and that memory is really shared.
 #![tactic(auto)]
 
 pub mod book;

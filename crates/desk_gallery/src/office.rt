@@ -26,7 +26,8 @@ pub struct Office<J: GalleryId, D: SectorDevice> {
 }
 
 impl<J: GalleryId, D: SectorDevice> Office<J, D> {
-    /// Puts a clerk and a writer that shows its desk, to which nothing was appended, behind a lock, with books in which nothing stands.
+    /// Puts a clerk, and a writer that shows the clerk's desk and has nothing pending, behind a
+    /// lock, with empty books.
     pub fn new(clerk: Clerk<D>, shower: Shower<J>, books: Books<J>) -> Office<J, D>
         requires none { shower ≡ ([], []) }
         requires books { (books.accepted.total ≡ 0) × (books.halted.total ≡ 0) }
@@ -45,7 +46,7 @@ impl<J: GalleryId, D: SectorDevice> Office<J, D> {
         self.front.lock(rt)
     }
 
-    /// Notes how many pages are free, which whoever has the front tells.
+    /// Notes the number of free pages, for whoever reports it.
     pub fn note_room(&self, front: &Front<J, D>) {
         self.free_pages
             .store(u64::from(front.free_pages()), Ordering::SeqCst);
@@ -61,9 +62,9 @@ impl<J: GalleryId, D: SectorDevice> Office<J, D> {
         self.pace.note_rows();
     }
 
-    /// A step of a sweep, once rows are left, commands leave it time and nobody has the front: what it came to. Where others may follow, the
-    /// next one is given how often a command had come or the sweeper was woken before this one. Where memory is refused the next one comes
-    /// after the next deleted plan.
+    /// Waits until rows are left, commands leave time and the lock is free, then makes a step of a
+    /// sweep and returns its result. If more steps may follow, the result has the number of moves
+    /// before this step. If memory is refused, the next step comes after the next deleted plan.
     pub fn sweep_next<R: Wait>(&self, rt: &R, alloc: Global, last: u64) -> Swept
         ensures { MayTurn D.SectorDevice J.first result }
     {

@@ -3,13 +3,13 @@ use std::sync::Wait;
 use std::sync::atomic::{AtomicBool, AtomicU64, Ordering};
 use std::time::Duration;
 
-/// So many commands may come between two steps of a sweep while one comes after the other.
+/// The largest number of commands between two steps of a sweep while commands arrive without pause.
 const COMMANDS: u64 = 16;
 
-/// For so many milliseconds no command comes before a step, where one came since the step before.
+/// The milliseconds without a command before a step, if a command came since the last step.
 const CALM: u64 = 20;
 
-/// Tells a sweeper when commands come and rows may be left, and that it is to end.
+/// Signals to a sweeper that commands come, that rows may be left, and that it shall end.
 #[derive(Drop)]
 pub struct Pace {
     moves: AtomicU64,
@@ -59,7 +59,8 @@ impl Pace {
         self.moves.wake_all();
     }
 
-    /// Waits until a step may be done, where there were so many moves at the last one: false once nothing is swept any more.
+    /// Waits until a step may be made, given the number of moves at the last step. Returns false
+    /// once sweeping has ended.
     pub(crate) fn wait<R: Wait>(&self, rt: &R, last: u64) -> bool {
         for _ in rt.forever() {
             let now = self.moves();

@@ -89,7 +89,7 @@ impl<J: GalleryId> Model for Shower<J> {
 }
 
 impl<J: GalleryId> Shower<J> {
-    /// Of copies and their list, with nothing pending.
+    /// A writer over copies and their list, with nothing pending.
     pub(crate) fn over(copies: Copies<J>, whole: Whole<J>) -> Shower<J>
         requires stands { Stands J.book J.root J.first copies.desk.shown.value }
         requires shown { shown_of J.root copies.desk.shown.value.past.seen.log ≡ whole.0 }
@@ -104,7 +104,7 @@ impl<J: GalleryId> Shower<J> {
         }
     }
 
-    /// A visitor that has heard of nothing. Err where no place is left.
+    /// Returns a visitor that has seen nothing, or an error if no place is left.
     pub(crate) fn visitor(&self) -> Result<Visitor<J>, AllocError>
         requires { self.now.0 ≡ [] }
         ensures { IfOk result (λ v. v ≡ []) }

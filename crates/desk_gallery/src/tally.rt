@@ -19,7 +19,7 @@ impl<J: GalleryId> Ledger for Accepted<J> {
     ghost parts = { J.counts.seats };
 }
 
-/// The ledger of the commands that are told as halted.
+/// The ledger of the commands answered as halted.
 pub struct Halts<J> {
     of: PhantomData<J>,
 }
@@ -30,7 +30,8 @@ impl<J: GalleryId> Ledger for Halts<J> {
     ghost parts = { J.counts.seats };
 }
 
-/// Two ledgers for so many seats, which no gallery's name stands for yet. Contracts see what the name has to be.
+/// Two ledgers for `seats` seats that no gallery uses yet. Contracts say what the gallery's
+/// identity has to be.
 #[derive(Drop)]
 pub struct Blanks {
     accepted: Blank,
@@ -58,7 +59,7 @@ impl Blanks {
         }
     }
 
-    /// The books, in which nothing stands, and the tallies of all seats.
+    /// Returns the empty books, and the tallies of all seats.
     pub fn open<J: GalleryId>(self) -> (Books<J>, Tallies<J>)
         requires { self ≡ J.counts }
         ensures none { (result.0.accepted.total ≡ 0) × (result.0.halted.total ≡ 0) }
@@ -78,14 +79,14 @@ impl Blanks {
     }
 }
 
-/// How many commands were accepted, and how many told as halted, at all seats.
+/// The number of commands accepted, and of commands answered as halted, at all seats.
 #[derive(Drop)]
 pub struct Books<J: GalleryId> {
     accepted: Book<Accepted<J>>,
     halted: Book<Halts<J>>,
 }
 
-/// How many commands of one seat were accepted, and how many told as halted.
+/// The number of commands accepted, and of commands answered as halted, at one seat.
 #[derive(Drop)]
 pub struct Tally<J: GalleryId> {
     accepted: Share<Accepted<J>>,
@@ -103,7 +104,7 @@ pub struct Tallies<J: GalleryId> {
 }
 
 impl<J: GalleryId> Books<J> {
-    /// Counts a reply at the seat that is told it.
+    /// Counts a reply at the seat that receives it.
     pub(crate) fn count(&mut self, tally: &mut Tally<J>, reply: &Reply)
         ensures book { self.new.accepted.total ≡ self.old.accepted.total + accepted_in reply.now }
         ensures halts { self.new.halted.total ≡ self.old.halted.total + halted_in reply.now }
@@ -132,7 +133,7 @@ impl<J: GalleryId> Books<J> {
 }
 
 impl<J: GalleryId> Tallies<J> {
-    /// The tally of one seat more, which was told nothing.
+    /// Returns the tally of a further seat, which received no answer.
     pub fn seat(&mut self) -> Tally<J>
         requires left { 0 < self.old.accepted.parts }
         requires none { (self.old.accepted.amount ≡ 0) × (self.old.halted.amount ≡ 0) }

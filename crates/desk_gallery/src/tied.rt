@@ -6,7 +6,7 @@ use left_right::reader::Reader;
 use left_right::writer::Writer;
 use std::marker::PhantomData;
 
-/// What is shown is led to by the changes that are shown in the log beside it, from the gallery's first desk.
+/// What is shown follows from the gallery's first desk by the shown changes of the log.
 pub struct Tied<J> {
     of: PhantomData<J>,
 }

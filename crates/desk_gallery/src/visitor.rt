@@ -36,7 +36,7 @@ impl<J: GalleryId> Model for Told<J> {
 }
 
 impl<J: GalleryId> Told<J> {
-    /// Of a list and the catalogue after it, if there is one.
+    /// A note of a list and, if there is one, the catalogue after it.
     pub(crate) fn of(past: Past<J>, shown: Option<Arc<Catalogue>>) -> Told<J>
         requires { IfSome shown (λ s. s.value ≡ after J.first past) }
         ensures { result ≡ past }
@@ -90,7 +90,7 @@ fn look<J: GalleryId>(eye: Eye<J>, _none: ()) -> (Eye<J>, Option<Shelf>)
     }
 }
 
-/// Sees what is shown. Contracts see a visitor as the changes that it saw or was told of.
+/// Sees what is shown. Contracts see a visitor as the changes that it saw or was told.
 #[derive(Drop)]
 pub struct Visitor<J: GalleryId> {
     eye: Eye<J>,
@@ -113,16 +113,17 @@ impl<J: GalleryId> Visitor<J> {
         Visitor { eye, heard }
     }
 
-    /// How many changes it saw or was told of.
+    /// Returns the number of changes that it saw or was told.
     pub fn heard(&self) -> u128
         ensures { result ≡ length self.now }
     {
         u128::from(self.heard.past.len())
     }
 
-    /// The catalogue after a list of shown changes that begins with all that this visitor saw or was told of: of the copy that is
-    /// shown, or, where that has fewer changes, what the visitor has heard of already. Err where no reader is let in or one more
-    /// owner is refused; nothing was heard of then.
+    /// Returns the catalogue after a list of shown changes that begins with everything this visitor
+    /// saw or was told: of the copy that is shown or, if that has fewer changes, of what the
+    /// visitor knows already. Returns an error if no reader is let in or one more owner is refused;
+    /// the visitor then learned nothing.
     #[tactic(auto, using(crate::proofs::Pasts::prefix_same))]
     pub fn visit(&mut self) -> Result<Arc<Catalogue>, AllocError>
         ensures later { IsPrefix self.old self.new }
@@ -146,7 +147,7 @@ impl<J: GalleryId> Visitor<J> {
         self.learn(seen);
     }
 
-    /// Takes in what it is told: the longer of the two lists, which both begin.
+    /// Learns what a note says: the longer of the two lists, which begin alike.
     pub fn learn(&mut self, told: Told<J>)
         ensures one { (self.new ≡ self.old) ⊎ (self.new ≡ told) }
         ensures this { IsPrefix self.old self.new }

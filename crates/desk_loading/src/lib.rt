@@ -1,10 +1,21 @@
-//! Whole openings, loads and starts of a store: a start makes a device a store that holds a geography.
+//! Opens a store, loads a geography whole, and starts a new store with one.
 //!
-//! Seen as the clerk. `open_store`: `Clerk::open` as one relation (`IsOpened`, `IsUnopened`). `load_geography`: a load begun, staged whole
-//! and sealed; each image opens to the desk before, or to that with the geography and no plan. A refusal leaves the desk, and names the
-//! call that was refused and the clerk at it. A batch has what is left, at most what 13 journal pages a row and one for the mark allow, at
-//! least 1, at most 512. `start`: a clerk of a new store of this size with that geography, or which of format, opening and load was
-//! refused.
+//! # Model
+//!
+//! The clerk.
+//!
+//! # Proved
+//!
+//! - `open_store` is `Clerk::open` as one relation (`IsOpened`, `IsUnopened`).
+//! - `load_geography` begins a load, stages it whole and seals it. Each crash state opens to the
+//!   desk before, or to the one with the geography and without plans. A refusal leaves the desk and
+//!   names the call that was refused. A batch has the rows left, at most as many as 13 journal
+//!   pages a row and one row for the mark allow, and 1 to 512.
+//! - `start` makes a clerk of a new store with a geography, or says which call was refused.
+//!
+//! # Not proved
+//!
+//! How long a load takes.
 #![tactic(auto)]
 
 mod loads;

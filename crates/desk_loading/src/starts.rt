@@ -59,8 +59,8 @@ fn journal_fits<D: SectorDevice>(clerk: &Clerk<D>)
     word_fits(clerk.journal_pages());
 }
 
-/// Makes a device a store with so many journal pages, 256 to 65,536, which holds the geography and no plan, and opens it. What the
-/// device held is gone.
+/// Formats a device as a store with `journal_pages` journal pages, 256 to 65,536, that holds the
+/// geography and no plan, and opens it. What the device held is gone.
 pub fn start<D: SectorDevice + Drop>(
     alloc: Global,
     device: D,

@@ -4,10 +4,11 @@ use Rattle.std.proofs.Common.{rules, ◌≡◌, ◌⊎◌, ◌<◌, ◌≤◌, �
 use Rattle.{desk_migration.specs.Puts.{IsHeldMap, HasHeld, HoldErr, HoldsMore, HoldsTo, StepErr, Steps, TellsFaults, free_of}, desk_model.specs.claim.Desk.Desk}
 use Rattle.desk_pages.{specs.{Calls.CommitsFitting, Commits.FittingErr, Desks.{InPagesAs, InTxnAs}, Errors.tree_refusal, Moments.StopsLeaveEither}, proofs.Kept.kept_working}
 use Rattle.desk_pages.specs.{claim.Desks.{IsOldMap, OpensAs, OpensOld}, declared.error.StoreError.{StoreError, TheVariants.{Full, Memory, DeviceFault, Halted}}}
-use Rattle.{page_btree.specs.{claim.Map.{InTxn, InPages}, declared.error.TreeError.TreeError}, page_store.specs.declared.{pages.Pages.Pages, txn.Txn.Txn}}
+use Rattle.{page_btree.specs.{claim.Map.{InTxn, InPages}, declared.error.TreeError.TreeError}, page_store.specs.{Calls.BeginsOver, declared.{pages.Pages.Pages, txn.Txn.Txn}}}
 use Rattle.page_store.specs.{claim.Transactions.{stored, disk_in, count_of, journal_of, has_halted, txn_writes, IsKept, IsQuiet, IsSame, Passed}, gate_journal.claim.Store.home}
 use Rattle.{sector_device.specs.{claim.{Disk.Image, Moments.LeavesOnly}, declared.SectorDevice.Ghosts}, store_rows.specs.{MigrationLaws.NamedIsHeld, claim.Rows.KeyMap}}
-use Rattle.{desk_migration.proofs.Pairs.{map_by, none_by, same_map}, page_store.proofs.Stops.quiet_none, sector_device.proofs.Moments.{leaves_wider, on_ok}}
+use Rattle.{desk_migration.proofs.Pairs.{map_by, none_by, same_map}, desk_pages.proofs.Nearness.begun_near, page_store.proofs.Stops.quiet_none}
+use Rattle.sector_device.proofs.Moments.{leaves_wider, on_ok}
 use Rattle.page_btree.specs.declared.error.TreeError.TheVariants as tree
 use Rattle.desk_opening.proofs.plan_rows.Committing.{IsBegun, both, commit_leaves, failed_after, quiet_leaves, quiet_rows, quiet_shape, shape_after}
 
@@ -120,10 +121,10 @@ module _ {D : Type 0} {g : Ghosts D} where
   to_quiet from a b quiet honest working sectors d whole holds = quiet_leaves false a b quiet honest working sectors d whole (record { m = holds.m; holds = holds.holds; is = holds.is })
 
   -- ---- refusals
-  pub not_taken : (from : List ℕ) (t : Txn) (a b : Pages D g) → IsBegun a t → IsQuiet a b → (e : TreeError) → HoldErr 8 from t a b e → StepErr from a b (tree_refusal e)
-  not_taken from t a b start quiet tree.NotAStore why = (quiet, λ honest d holds. why honest holds.m (start.reads (quiet.honest honest) holds.m holds.holds) (record { tidy = holds.is.tidy; done = holds.done }))
-  not_taken from t a b start quiet tree.Halted why = both (has_halted a) why start.working
-  not_taken from t a b start quiet tree.NoPages why = (
+  pub not_taken : (from : List ℕ) (t : Txn) (a b : Pages D g) → IsBegun a t → BeginsOver a t → IsQuiet a b → (e : TreeError) → HoldErr 8 from t a b e → StepErr from a b (tree_refusal e)
+  not_taken from t a b start begins quiet tree.NotAStore why = (quiet, λ honest d holds. why honest holds.m (start.reads (quiet.honest honest) holds.m holds.holds) (record { tidy = holds.is.tidy; done = holds.done }))
+  not_taken from t a b start begins quiet tree.Halted why = both (has_halted a) why start.working
+  not_taken from t a b start begins quiet tree.NoPages why = (
     quiet,
     λ honest m holds way.
         let before = quiet.honest honest in
@@ -132,5 +133,11 @@ module _ {D : Type 0} {g : Ghosts D} where
         let free = start.free before in
         inl (record { pairs = want.count; few = want.few; n = want.n; by = want.by; short = omega arith }),
   )
-  not_taken from t a b start quiet tree.TooDeep why = (quiet, λ honest m holds way. inr (why honest m (start.reads (quiet.honest honest) m holds) way))
-  not_taken from t a b start quiet _ why = search rules
+  not_taken from t a b start begins quiet tree.TooDeep why = (
+    quiet,
+    λ honest m holds way.
+        let before = quiet.honest honest in
+        let deep = why honest m (start.reads before m holds) way in
+        inr (deep.0, begun_near 16 t a begins start.working before deep.1),
+  )
+  not_taken from t a b start begins quiet _ why = search rules

@@ -1,12 +1,12 @@
 -- Pairs that come to be held one after the other within a transaction.
-use Rattle.{std.{specs.Prelude.{Option, Some}, proofs.Common.{rules, ◌≡◌, ◌<◌, ◌+◌, ◌++◌, ℕ, false, [], refl, sym, ap, subst, ◌∙◌, arith}}, desk_migration.specs.Walks.IsNextPair}
-use Rattle.desk_migration.specs.{Puts.{AndStand, HasHeldAs, IsTurn, HoldErrOf}, claim.Holding.{AreUnheld, IsUnheld, hold_pairs}, declared.parts.HeldPair.HeldPair}
-use Rattle.{desk_pages.specs.{Reading.ReadErr, btree_puts.declared.finger.Fingers.Fingers}, page_btree.specs.{claim.Map.InTxn, declared.error.TreeError.TreeError}}
+use Rattle.{std.{specs.Prelude.{Option, Some}, proofs.Common.{rules, ◌≡◌, ◌<◌, ◌+◌, ◌*◌, ◌++◌, ℕ, false, [], refl, sym, ap, subst, ◌∙◌, arith}}, desk_pages.specs.Reading.ReadErr}
+use Rattle.desk_migration.specs.{Puts.{AndStand, HasHeldAs, IsTurn, HoldErrOf}, Walks.IsNextPair, claim.Holding.{AreUnheld, IsUnheld, hold_pairs}, declared.parts.HeldPair.HeldPair}
+use Rattle.{desk_pages.specs.btree_puts.declared.finger.Fingers.Fingers, page_btree.specs.{claim.Map.InTxn, declared.error.TreeError.TreeError}, store_rows.specs.claim.Shares.hold}
 use Rattle.{page_btree.specs.declared.error.TreeError.TheVariants.{NotAStore, NoPages, TooDeep, Memory}, page_store.specs.claim.Transactions.{stored, disk_in, IsQuiet, Passed}}
 use Rattle.{page_store.specs.declared.{pages.Pages.Pages, txn.Txn.Txn}, sector_device.specs.{claim.Disk.Image, declared.SectorDevice.Ghosts}, store_rows.specs.claim.Keys.holding}
-use Rattle.{store_rows.{specs.claim.{Holders.holding_rows, Rows.{KeyMap, Lacks}, Shares.hold, Tidy.Tidy}, proofs.Migrating.names_can_hold}, desk_pages.proofs.Rising.fresh_stand}
-use Rattle.{desk_migration.proofs.Pairs.{then_by, none_by, one_by, unheld_more, hold_more}, page_store.proofs.Stops.{passed_none, passed_more, failed_more}}
-use Rattle.desk_opening.proofs.plan_rows.Changed.{deep_after}
+use Rattle.{store_rows.specs.claim.{Holders.holding_rows, Rows.{KeyMap, Lacks}, Tidy.Tidy}, desk_migration.proofs.Pairs.{then_by, none_by, one_by, unheld_more, hold_more}}
+use Rattle.{desk_pages.proofs.Rising.fresh_stand, page_store.proofs.Stops.{passed_none, passed_more, failed_more}, store_rows.proofs.Migrating.names_can_hold}
+use Rattle.desk_opening.proofs.plan_rows.Changed.{deep_after, near_before, nears_as}
 use Rattle.desk_opening.specs.plan_rows.Holding as chunk
 
 -- what is known of a map is known of it where one pair more is held
@@ -31,6 +31,12 @@ module _ {D : Type 0} {g : Ghosts D} where
         record { n = hold m pair.plan pair.number; reads = rw same at did.0; by = one_by m pair.plan pair.number is.1; done = (stays m pair.plan pair.number is.1 is.0, rw same at did.1); all = λ never. absurd never };
     writes = let writes = one.writes in omega arith;
     taken = let taken = one.taken in omega arith;
+    nearer = λ honest m reads known.
+        let middle = one.passed.quiet.honest honest in
+        let same = ab.quiet.same middle in
+        let is = finds middle m reads known.0 in
+        let near = nears_as 2 t u b a same (one.nearer honest m (rw same reads) is.1.lacks (rw same known.1)) in
+        omega (arith, near);
   }
 
   pub pair_not_taken : (pair : HeldPair) (has then : KeyMap → Type 0) (f : Fingers) (t : Txn) (a b c : Pages D g) (e : TreeError) → ((m : KeyMap) → then m → Tidy m) → Passed a b → Finds (Some pair) has then t a b → IsQuiet b c
@@ -47,8 +53,10 @@ module _ {D : Type 0} {g : Ghosts D} where
       let middle = quiet.honest honest in
       let same = ab.quiet.same middle in
       let is = finds middle m reads known.0 in
-      let (count, deep) = why honest m (rw same reads) (is.1.lacks, rw same known.1) in
-      record { pairs = []; unheld = tt; plan = pair.plan; number = pair.number; count = count; txn = t; deep = deep_after [] (holding_rows pair.plan pair.number count) t t a b m m same refl deep }
+      let (count, deep, near) = why honest m (rw same reads) (is.1.lacks, rw same known.1) in (
+        record { pairs = []; unheld = tt; plan = pair.plan; number = pair.number; count = count; txn = t; deep = deep_after [] (holding_rows pair.plan pair.number count) t t a b m m same refl deep },
+        near_before 0 2 t t a b same (omega arith) near,
+      )
   pair_not_taken pair has then f t a b c _ tidy ab finds quiet why = search (arith, failed_more)
 
   -- it isn't known whether there is one
@@ -64,6 +72,7 @@ module _ {D : Type 0} {g : Ghosts D} where
     held = λ honest m reads known. record { n = m; reads = reads; by = none_by m; done = (known, fresh_stand t (stored a) fs first second); all = λ never. absurd never };
     writes = omega arith;
     taken = omega arith;
+    nearer = λ honest m reads known. omega arith;
   }
 
   module _ (count : ℕ) (has mid : KeyMap → Type 0) (f : Fingers) (t u : Txn) (a b c : Pages D g) (one : HasHeldAs ⊥ count has (AndStand mid f u (stored a)) t u a b) where
@@ -85,6 +94,12 @@ module _ {D : Type 0} {g : Ghosts D} where
           record { n = is.n; reads = subst (λ (P : Image). InTxn v P is.n) same is.reads; by = then_by count 1 m was.n is.n was.by is.by; done = subst (λ (P : Image). AndStand then h v P is.n) same is.done; all = λ never. absurd never };
       writes = let first = one.writes in let last = more.writes in omega arith;
       taken = let first = one.taken in let last = more.taken in omega arith;
+      nearer = λ honest m reads known.
+          let middle = more.passed.quiet.honest honest in
+          let was = one.held middle m reads known in
+          let first = one.nearer middle m reads known in
+          let last = nears_as (2 * 1) u v b a (one.passed.quiet.same middle) (more.nearer honest was.n (now was.n middle was.reads) (known_now was.n middle was.done)) in
+          omega (arith, first, last);
     }
 
     -- no more were left, and the fingers are let go
@@ -99,6 +114,7 @@ module _ {D : Type 0} {g : Ghosts D} where
           record { n = was.n; reads = was.reads; by = was.by; done = is.0.0; all = λ few. is.1 };
       writes = one.writes;
       taken = one.taken;
+      nearer = λ honest m reads known. one.nearer (none.0.quiet.honest honest) m reads known;
     })
 
     -- ---- refusals
@@ -118,17 +134,20 @@ module _ {D : Type 0} {g : Ghosts D} where
     not_later TooDeep few quiet why = λ honest m reads known.
         let middle = quiet.honest honest in
         let was = one.held middle m reads known in
-        let is = why honest was.n (now was.n middle was.reads) (known_now was.n middle was.done) in
-        let maps : hold_pairs was.n is.pairs ≡ hold_pairs m (was.by.pairs ++ is.pairs) = ap (λ (k : KeyMap). hold_pairs k is.pairs) was.by.rest ∙ hold_more was.by.pairs is.pairs m in
-        record {
-          pairs = was.by.pairs ++ is.pairs;
-          unheld = unheld_more was.by.pairs is.pairs m was.by.unheld (subst (λ (k : KeyMap). AreUnheld k is.pairs) was.by.rest is.unheld);
-          plan = is.plan;
-          number = is.number;
-          count = is.count;
-          txn = is.txn;
-          deep = deep_after [] (holding_rows is.plan is.number is.count) is.txn is.txn a b (hold_pairs m (was.by.pairs ++ is.pairs)) (hold_pairs was.n is.pairs) (one.passed.quiet.same middle) maps is.deep;
-        }
+        let (is, near) = why honest was.n (now was.n middle was.reads) (known_now was.n middle was.done) in
+        let before = near_before (2 * count) (2 * 1) t u a b (one.passed.quiet.same middle) (one.nearer middle m reads known) near in
+        let maps : hold_pairs was.n is.pairs ≡ hold_pairs m (was.by.pairs ++ is.pairs) = ap (λ (k : KeyMap). hold_pairs k is.pairs) was.by.rest ∙ hold_more was.by.pairs is.pairs m in (
+          record {
+            pairs = was.by.pairs ++ is.pairs;
+            unheld = unheld_more was.by.pairs is.pairs m was.by.unheld (subst (λ (k : KeyMap). AreUnheld k is.pairs) was.by.rest is.unheld);
+            plan = is.plan;
+            number = is.number;
+            count = is.count;
+            txn = is.txn;
+            deep = deep_after [] (holding_rows is.plan is.number is.count) is.txn is.txn a b (hold_pairs m (was.by.pairs ++ is.pairs)) (hold_pairs was.n is.pairs) (one.passed.quiet.same middle) maps is.deep;
+          },
+          omega (arith, few, before),
+        )
     not_later _ few quiet why = search (arith, failed_more)
 
   -- as many were taken as a step may, and the fingers are let go
@@ -141,6 +160,7 @@ module _ {D : Type 0} {g : Ghosts D} where
         record { n = was.n; reads = was.reads; by = rw all at was.by; done = was.done.0; all = λ never. absurd (omega arith) };
     writes = let writes = one.writes in omega arith;
     taken = let taken = one.taken in omega arith;
+    nearer = λ honest m reads known. let near = one.nearer honest m reads known in omega (arith, near, all);
   }
 
   -- ---- who knows more before, and is to know less then
@@ -151,8 +171,10 @@ module _ {D : Type 0} {g : Ghosts D} where
     held = λ honest m reads known. search (rules, one.held honest m reads (gives m known));
     writes = one.writes;
     taken = one.taken;
+    nearer = λ honest m reads known. one.nearer honest m reads (gives m known);
   }
 
   pub less_not_held : (most : ℕ) (has more : KeyMap → Type 0) (t : Txn) (a b : Pages D g) (e : TreeError) → ((m : KeyMap) → more m → has m) → HoldErrOf most has t a b e → HoldErrOf most more t a b e
   less_not_held most has more t a b Memory gives why = tt
+  less_not_held most has more t a b TooDeep gives why = λ honest m reads known. why honest m reads (gives m known)
   less_not_held most has more t a b _ gives why = search (why, gives)

@@ -1,8 +1,8 @@
 -- Chunks that plans come to hold within a transaction, and in pages.
 use Rattle.std.specs.Prelude.{◌≡◌, ◌⊎◌, ◌≤◌, ◌<◌, ◌+◌, ◌*◌, ℕ, Bool, true, false, List, [], ◌∷◌, length, Result, Err, OnOk}
 use Rattle.{desk_migration.specs.{Parts.IsUnderWay, claim.Holding.{AllAreHeld, AreHeldTo, AreUnheld, IsHeldBy, hold_pairs}}, desk_model.specs.claim.Desk.Desk}
-use Rattle.desk_pages.specs.{btree_puts.{Fingers.Stand, declared.finger.Fingers.Fingers}, claim.{Desks.IsOldMap, Puts.HasDeepened}, declared.error.StoreError.StoreError}
-use Rattle.{desk_pages.specs.declared.error.StoreError.TheVariants.{Full, Memory, NotAStore, DeviceFault, Halted}, page_btree.specs.claim.Map.{InTxn, InPages}}
+use Rattle.desk_pages.specs.{btree_puts.{Fingers.Stand, declared.finger.Fingers.Fingers}, claim.{Desks.IsOldMap, Puts.{HasDeepened, IsNear, IsStoredNear, Nears}}}
+use Rattle.{desk_pages.specs.declared.error.StoreError.{StoreError, TheVariants.{Full, Memory, NotAStore, DeviceFault, Halted}}, page_btree.specs.claim.Map.{InTxn, InPages}}
 use Rattle.{page_btree.specs.declared.error.TreeError.TreeError, page_store.specs.{claim.Chain.free_in, declared.{pages.Pages.Pages, txn.Txn.Txn}}, store_rows.specs.claim.Puts.Row}
 use Rattle.page_store.specs.claim.Transactions.{stored, disk_in, has_halted, txn_pages, txn_free, txn_writes, HasFailed, HasShape, IsKept, IsQuiet, IsSame, Passed}
 use Rattle.{sector_device.specs.{claim.Disk.Image, declared.SectorDevice.Ghosts}, store_rows.specs.claim.{Holders.holding_rows, Keys.{key_of, version, in_four}, Rows.KeyMap}}
@@ -42,6 +42,7 @@ module _ {D : Type 0} {g : Ghosts D} where
     pub held : (disk_in new).is_honest → (m : KeyMap) → InTxn t (stored old) m → has m → IsHeldMap ended count then u (stored old) m
     pub writes : txn_writes u ≤ txn_writes t + 22 * count
     pub taken : txn_free t ≤ txn_free u + 12 * count
+    pub nearer : (disk_in new).is_honest → (m : KeyMap) → InTxn t (stored old) m → has m → Nears (2 * count) t u old
 
   abbrev pub HasHeld : Type 0 → ℕ → List ℕ → List ℕ → Txn → Txn → Pages D g → Pages D g → Type 0
   HasHeld ended count from next t u old new = HasHeldAs ended count (IsUnderWay from) (AreHeldTo next) t u old new
@@ -61,13 +62,14 @@ module _ {D : Type 0} {g : Ghosts D} where
     pub txn : Txn
     pub deep : HasDeepened (holding_rows plan number count) txn old (hold_pairs m pairs)
 
-  -- why so many pairs aren't held: the device failed; the transaction reads no such map; too few pages were free; the tree was too deep
+  -- why so many pairs aren't held: the device failed; the transaction reads no such map; too few pages were free; the tree was too deep, and
+  -- before the first pair near enough to that for two rows a pair
   abbrev pub HoldErrOf : ℕ → (KeyMap → Type 0) → Txn → Pages D g → Pages D g → TreeError → Type 0
   HoldErrOf most has t old new tree.DeviceFault = HasFailed old new
   HoldErrOf most has t old new tree.NotAStore = (disk_in new).is_honest → (m : KeyMap) → InTxn t (stored old) m → has m → ⊥
   HoldErrOf most has t old new tree.Halted = has_halted old ≡ true
   HoldErrOf most has t old new tree.NoPages = (disk_in new).is_honest → (m : KeyMap) → InTxn t (stored old) m → has m → WantsPages most (txn_free t) m
-  HoldErrOf most has t old new tree.TooDeep = (disk_in new).is_honest → (m : KeyMap) → InTxn t (stored old) m → has m → IsDeep old m
+  HoldErrOf most has t old new tree.TooDeep = (disk_in new).is_honest → (m : KeyMap) → InTxn t (stored old) m → has m → IsDeep old m × IsNear (2 * most) t old
   HoldErrOf most has t old new tree.Memory = Unit {0}
 
   abbrev pub HoldErr : ℕ → List ℕ → Txn → Pages D g → Pages D g → TreeError → Type 0
@@ -124,19 +126,19 @@ module _ {D : Type 0} {g : Ghosts D} where
     pub by : IsHeldBy pairs m n
     pub short : free_of ps < 13 * (2 * pairs)
 
-  -- why no row was put
+  -- why no row was put: too few pages are free, or the tree had six levels then, to which 16 rows could bring the stored one; ..
   abbrev pub StepErr : List ℕ → Pages D g → Pages D g → StoreError → Type 0
   StepErr from old new Full = IsQuiet old new × ((disk_in new).is_honest → (m : KeyMap)
-      → InPages old m → IsUnderWay from m → IsShort old m ⊎ IsDeep old m)
+      → InPages old m → IsUnderWay from m → IsShort old m ⊎ (IsDeep old m × IsStoredNear 16 old))
   StepErr from old new Memory = IsQuiet old new
   StepErr from old new NotAStore = IsQuiet old new × ((disk_in new).is_honest → (d : Desk) → HoldsTo from old d → ⊥)
   StepErr from old new DeviceFault = HasFailed old new
   StepErr from old new Halted = (has_halted old ≡ true) × IsSame old new
   StepErr from old new _ = ⊥
 
-  -- the tree had six levels when the version's row was put
+  -- the tree had six levels when the version's row was put, to whose end one row could bring the stored one
   abbrev pub IsDeepForVersion : Pages D g → Pages D g → Type 0
-  IsDeepForVersion old new = (disk_in new).is_honest → (m : KeyMap) → InPages old m → (t : Txn) × HasDeepened version_rows t old m
+  IsDeepForVersion old new = (disk_in new).is_honest → (m : KeyMap) → InPages old m → ((t : Txn) × HasDeepened version_rows t old m) × IsStoredNear 1 old
 
   -- 13 pages are free for that row
   abbrev pub HasRoomForVersion : Pages D g → Pages D g → Type 0

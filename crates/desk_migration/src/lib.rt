@@ -1,15 +1,5 @@
-//! Turns a store of version 1 into one of version 2: there a row says of each plan that it holds a chunk, and another how many do.
-//!
-//! Seen as the desk, which stays, and the map. `Migration::open`: as the clerk's; AlreadyNew only where the version's row is there and a
-//! desk was read. `step`: at most 16 rows; at each moment each image opens to the desk in version 1; 0 exactly where each part of any plan
-//! names chunks that it holds. `finish`: in version 1 or 2, at Ok in version 2. Full exactly where fewer than 13 free pages a row are
-//! there, or the tree would be too deep.
-//!
-//! # Notes
-//!
-//! A stopped migration is begun anew, and keeps the rows that are there. The store keeps its desk all along
-//! (`Keeps`). Each image that a stop may leave opens to it: in version 1 up to `finish`, in either
-//! within it, and in version 2 after it.
+//! Turns a store of version 1 into one of version 2, in which rows say which plan holds which
+//! chunk.
 //!
 //! # Example
 //!
@@ -19,6 +9,24 @@
 //! migration.finish(alloc)?;
 //! let device = migration.into_device();
 //! ```
+//!
+//! # Model
+//!
+//! The desk, which stays the same, and the map of rows.
+//!
+//! # Proved
+//!
+//! - `Migration::open` accepts what a clerk would in version 1. AlreadyNew comes only if the row of
+//!   the version exists and a desk was read.
+//! - `step` puts at most 16 rows. At every moment each crash state opens to the desk in version 1.
+//!   It returns 0 exactly if each part of any plan names chunks that the plan holds.
+//! - `finish`: a crash leaves version 1 or 2; after success version 2.
+//! - Full comes exactly if there are fewer than 13 free pages a row, or if the tree would be too
+//!   deep.
+//!
+//! # Not proved
+//!
+//! How long a migration takes. One that was cut off begins again and keeps the rows it finds.
 #![tactic(auto)]
 
 mod holds;

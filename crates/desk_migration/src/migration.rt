@@ -16,7 +16,7 @@ pub const ROWS_PUT: usize = 16;
 #[derive(Drop)]
 pub struct Migration<D: SectorDevice> {
     pub(crate) pages: Pages<D>,
-    /// Each part of a revision whose key is below this one names chunks alone that its plan holds.
+    /// Each part of a revision whose key is below this one names only chunks that its plan holds.
     pub(crate) from: SmallBytes,
     /// The last step found nothing to be held.
     pub(crate) ended: bool,
@@ -28,10 +28,11 @@ impl<D: SectorDevice> Migration<D> {
     ghost use Rattle.std.specs.Prelude.{◌≡◌, true, false, Err};
     ghost use Rattle.desk_migration.specs.claim.Migrating.{device_of, disk_of, free_of, has_ended, is_halted, room_of};
 
-    /// Opens the store that a device holds, whose rows are to be of the old version: a commit that a stop cut short is finished or
-    /// dropped. At any moment of it a stop leaves a desk that was there at its start, in its version. With a refusal the device comes
-    /// back, its pages as they were; what is no store stays as it is. `Memory` and `AlreadyNew` come of a store alone, and after
-    /// `AlreadyNew` a stop leaves a desk of the new version.
+    /// Opens the store on a device, whose rows must be of the old version: completes or drops a
+    /// commit that a crash cut short. At any moment a crash leaves a desk that was there at the
+    /// start, in its version. A refusal returns the device with its pages as they were; what is no
+    /// store stays as it is. `Memory` and `AlreadyNew` come only of a store, and after `AlreadyNew`
+    /// a crash leaves a desk of the new version.
     pub fn open(alloc: Global, device: D) -> Result<Migration<D>, (StoreError, D)>
         ensures { OpensMigration D.SectorDevice device result }
     {
@@ -86,11 +87,12 @@ impl<D: SectorDevice> Migration<D> {
         pages.into_device()
     }
 
-    /// Puts up to 16 rows by which plans hold the chunks that parts of their revisions name, in one commit of at most 208 pages: how
-    /// many there were, 0 only where none is left. A pair of a plan and a chunk is two rows: the one that the plan holds the chunk, and
-    /// the count of those who do. Plans that were taken away and aren't swept are among them. The desk stays as it is, and so does the
-    /// version. `Full`, `Memory`, `NotAStore`: nothing changed. `DeviceFault`: the device failed in this call. `Halted`: it had failed
-    /// before.
+    /// Puts up to 16 rows by which plans hold the chunks that parts of their revisions name, in one
+    /// commit of at most 208 pages. Returns their number, 0 only if none is left. A pair of a plan
+    /// and a chunk has two rows: the plan's holding of the chunk, and the number of its holders.
+    /// Deleted plans that are not swept are included. The desk and the version stay. `Full`,
+    /// `Memory`, `NotAStore`: nothing changed. `DeviceFault`: the device failed in this call.
+    /// `Halted`: it had failed before.
     pub fn step(&mut self, alloc: Global) -> Result<usize, StoreError>
         ensures { TakesStep self.old self.new result }
     {
@@ -99,9 +101,10 @@ impl<D: SectorDevice> Migration<D> {
         Ok(count)
     }
 
-    /// Puts the row that tells the new version, where the last step found nothing to be held. A stop at any moment of it leaves the desk
-    /// in one of the versions. `Full`, `Memory`, `NotAStore`: nothing changed. `DeviceFault`: the device failed in this call; the store is
-    /// then of one of the versions. `Halted`: it had failed before.
+    /// Puts the row of the new version, once a step found nothing to hold. A crash at any moment
+    /// leaves the desk in one of the two versions. `Full`, `Memory`, `NotAStore`: nothing changed.
+    /// `DeviceFault`: the device failed in this call, and the store has one of the two versions.
+    /// `Halted`: it had failed before.
     pub fn finish(&mut self, alloc: Global) -> Result<(), StoreError>
         requires ended { has_ended self.old ≡ true }
         ensures { Finishes self.old self.new result }

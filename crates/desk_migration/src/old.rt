@@ -54,7 +54,7 @@ fn take_all<D: SectorDevice>(txn: &mut Txn, pages: &mut Pages<D>, tag: u8) -> Re
     Err(TreeError::NotAStore)
 }
 
-/// Takes out each row that tells who holds a chunk, how many do, and the version.
+/// Removes the rows of holdings, of numbers of holders, and of the version.
 fn take_new<D: SectorDevice>(txn: &mut Txn, pages: &mut Pages<D>) -> Result<(), TreeError>
     requires begun { txn_pages txn.old ≡ count_of pages.old }
     ensures { TakesVersion txn.old txn.new pages.old pages.new result }

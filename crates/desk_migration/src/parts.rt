@@ -1,8 +1,9 @@
 //! Parts of revisions, and the chunks that they name.
-ghost use Rattle.std.specs.Prelude.{◌≡◌, ◌<◌, ◌≤◌, ◌^◌, ◌++◌, [], ◌∷◌, length, take, drop, true, IfOk};
+ghost use Rattle.std.specs.Prelude.{◌≡◌, ◌≤◌, ℕ, ◌++◌, [], ◌∷◌, length, true, IfOk, MatchOption};
 ghost use Rattle.page_store.specs.claim.Transactions.{count_of, txn_pages};
 ghost use Rattle.desk_pages.specs.Looking.{Looks};
-ghost use Rattle.store_rows.specs.claim.Keys.{in_eight};
+ghost use Rattle.store_rows.specs.RowKeys.{IsKey};
+ghost use Rattle.store_rows.specs.claim.Keys.{key_of, part};
 ghost use Rattle.desk_migration.specs.Parts.{IsPartFrom, IsUnderParts};
 ghost use Rattle.desk_migration.specs.Outcomes.{IsNamedAt, ReadsPart};
 
@@ -12,7 +13,7 @@ use desk_pages::TreeError;
 use page_store::{Pages, Txn};
 use sector_device::SectorDevice;
 use store_check::first_from;
-use store_rows::{Key, PART_CHUNKS, read_chunks};
+use store_rows::{Key, PART_CHUNKS, RowKey, read_chunks};
 
 /// A part of a revision: its plan, and the chunks that it names.
 #[derive(Drop)]
@@ -40,7 +41,7 @@ pub(crate) struct HeldPair {
     pub(crate) number: u64,
 }
 
-/// What a look at the next part came to.
+/// The result of looking for the next part.
 #[derive(Clone, Copy, Drop)]
 pub(crate) enum PartLook {
     /// There is none.
@@ -51,15 +52,15 @@ pub(crate) enum PartLook {
     Found(HeldPair),
 }
 
-/// The number of the 8 bytes after a tag, the highest first.
-fn plan_in(key: &[u8]) -> u64
-    requires { length key.now ≡ 14 }
-    ensures bytes { in_eight result ≡ take 8 (drop 1 key.now) }
-    ensures fits { result < 2 ^ 64 }
+/// Returns the plan of the part with this key; `None` for any other key.
+fn plan_in(key: &[u8]) -> Option<u64>
+    ensures { MatchOption result ((plan revision index : ℕ) → key.now ≡ key_of (part plan revision index) → ⊥)
+        (λ plan. (revision : ℕ) × (index : ℕ) × IsKey (part plan revision index) key.now) }
 {
-    u64::from_be_bytes([
-        key[1], key[2], key[3], key[4], key[5], key[6], key[7], key[8],
-    ])
+    match RowKey::read(key) {
+        Some(RowKey::Part { plan, .. }) => Some(plan),
+        _ => None,
+    }
 }
 
 /// The key that comes next after that of a part.
@@ -91,15 +92,13 @@ pub(crate) fn part_from<D: SectorDevice>(
     Ok(row.key.as_slice().starts_with(Key::parts().as_slice()))
 }
 
-/// The part that a row tells; None where it isn't that of a part.
+/// Parses the row of a part; `None` for any other row.
 pub(crate) fn read_part(row: &Row) -> Option<Part>
     ensures { ReadsPart row.now result }
 {
-    let key = row.key.as_slice();
-    if key.len() != 14 {
+    let Some(plan) = plan_in(row.key.as_slice()) else {
         return None;
-    }
-    let plan = plan_in(key);
+    };
     match read_chunks(row.value.as_slice()) {
         None => None,
         Some(numbers) => Some(Part { plan, numbers }),

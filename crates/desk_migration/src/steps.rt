@@ -17,8 +17,8 @@ use std::alloc::Global;
 use store_rows::Key;
 use store_rows::migrations::{named_is_held, version_is_told};
 
-/// Puts up to 16 rows by which plans hold chunks that they name, in one commit: how many there were. `from` is the key up to which
-/// each part names held chunks alone, and goes on.
+/// Puts up to 16 rows by which plans hold chunks that they name, in one commit, and returns their
+/// number. `from` is the key up to which each part names only held chunks, and advances.
 pub(crate) fn put_holdings<D: SectorDevice>(
     alloc: Global,
     pages: &mut Pages<D>,
@@ -54,7 +54,7 @@ pub(crate) fn put_holdings<D: SectorDevice>(
     Ok(2 * pairs)
 }
 
-/// Puts the row that tells the new version.
+/// Puts the row of the new version.
 pub(crate) fn put_version<D: SectorDevice>(
     alloc: Global,
     pages: &mut Pages<D>,

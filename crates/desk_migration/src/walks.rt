@@ -17,13 +17,13 @@ use std::mem;
 /// A walk over parts of revisions, to the chunks that they name and their plans don't hold.
 #[derive(Drop)]
 pub(crate) struct Walk {
-    /// Each part whose key is below this one names chunks alone that its plan holds.
+    /// Each part whose key is below this one names only chunks that its plan holds.
     pub(crate) from: SmallBytes,
     /// The part under that key is being gone over.
     pub(crate) is_within: bool,
     /// That part.
     pub(crate) part: Part,
-    /// So many of its chunks, the first ones, are held by its plan.
+    /// The number of its first chunks that its plan holds.
     pub(crate) place: usize,
     /// The part passed last, whose plan holds each chunk that it names.
     pub(crate) seen: Part,
@@ -148,7 +148,8 @@ fn pass(walk: &mut Walk)
     mem::swap(&mut walk.seen, &mut walk.part);
 }
 
-/// Looks at the part that the walk is within or comes to next, and goes on after it where its plan holds each chunk that it names.
+/// Examines the current part, or the next one, and moves past it if its plan holds each chunk that
+/// it names.
 fn look<D: SectorDevice>(
     txn: &Txn,
     pages: &mut Pages<D>,

@@ -6,7 +6,7 @@ use crate::text::Text;
 /// A command changes the desk, or is refused and changes nothing.
 #[derive(Drop)]
 pub enum Command {
-    /// Makes a plan of that kind and so many districts, with no revision.
+    /// Makes a plan of this kind and number of districts, without revisions.
     Create {
         plan: PlanName,
         size: PlanSize,
@@ -49,8 +49,8 @@ pub enum Query {
         plan: PlanName,
         k: u32,
     },
-    /// The audit of a revision of a plan: of a house plan also beside a revision of a senate plan, and of a house or senate plan
-    /// beside one of a plan for the congress.
+    /// The audit of a plan's revision. A house plan may be audited with a revision of a senate
+    /// plan, and a house or senate plan with a revision of a congressional plan.
     Audit {
         plan: PlanName,
         k: u32,

@@ -6,10 +6,11 @@ use itoa::write_digits;
 use std::alloc::AllocError;
 use std::marker::Model;
 
-/// The longest number, 20 digits, and as many zeros as may be asked for.
+/// Room for the longest number, 20 digits, and for as many zeros as a caller may ask for.
 const ROOM: usize = 24;
 
-/// Writes a number of at least so many digits before `end`, where the row has zeros, and gives its start.
+/// Writes a number of at least `width` digits so that it ends at `end`, in a row of zeros, and
+/// returns its start.
 pub fn write_padded(row: &mut [u8], end: usize, number: u64, width: usize) -> usize
     requires room { (20 ≤ end) × (end ≤ length row.old) }
     requires narrow { width ≤ end }
@@ -26,7 +27,7 @@ pub fn write_padded(row: &mut [u8], end: usize, number: u64, width: usize) -> us
     }
 }
 
-/// A number of at least so many digits, zeros before it where it has fewer. It takes no memory.
+/// A number of at least `width` digits, with leading zeros. It takes no memory.
 #[derive(Drop)]
 pub struct Padded {
     cells: [u8; 24],
@@ -61,7 +62,7 @@ impl Padded {
     }
 }
 
-/// Appends a number of at least so many digits.
+/// Appends a number of at least `width` digits.
 pub fn push_padded(text: &mut Vec<u8>, number: u64, width: usize) -> Result<(), AllocError>
     requires { width ≤ 24 }
     ensures { OnOk result (text.new.items ≡ text.old.items ++ padded_decimal width number) }

@@ -77,7 +77,8 @@ pub fn place_of(blocks: &[BlockRow], id: BlockId) -> Option<usize>
     place_between(blocks, id, 0, blocks.len())
 }
 
-/// Two places between which a block is, if it is there: from a place that it isn't before, in steps that double.
+/// Returns two places between which a block is, if it exists: upward from a place at or before it,
+/// in steps that double.
 fn upward(blocks: &[BlockRow], id: BlockId, from: usize) -> (usize, usize)
     requires rising { IsStrictlyIncreasing (ids_of blocks.now) }
     requires between { IsBetween blocks.now id from (length blocks.now) }
@@ -99,7 +100,8 @@ fn upward(blocks: &[BlockRow], id: BlockId, from: usize) -> (usize, usize)
     (low, blocks.len())
 }
 
-/// Two places between which a block is, if it is there: back from a place that it is before, in steps that double.
+/// Returns two places between which a block is, if it exists: downward from a place after it, in
+/// steps that double.
 fn downward(blocks: &[BlockRow], id: BlockId, from: usize) -> (usize, usize)
     requires rising { IsStrictlyIncreasing (ids_of blocks.now) }
     requires between { IsBetween blocks.now id 0 from }
@@ -140,7 +142,7 @@ pub fn place_near(blocks: &[BlockRow], likely: usize, id: BlockId) -> Option<usi
     place_between(blocks, id, low, high)
 }
 
-/// The place of a block that is there.
+/// Returns the place of a block that exists.
 fn known_place(blocks: &[BlockRow], likely: u32, id: BlockId) -> u32
     requires few { length blocks.now ≤ BLOCK_LIMIT }
     requires rising { IsStrictlyIncreasing (ids_of blocks.now) }
@@ -185,7 +187,7 @@ fn placed(blocks: &[BlockRow], last: Pair, told: (BlockId, BlockId)) -> Pair
     pair_of(one, other)
 }
 
-/// The pairs of blocks that are told, in their order.
+/// Returns the pairs of the given blocks by place, in their order.
 fn placed_pairs(
     alloc: Global,
     blocks: &[BlockRow],
@@ -208,14 +210,14 @@ fn placed_pairs(
     Ok(pairs)
 }
 
-/// Whether one pair stands before another, by its first place and then by its second.
+/// Returns whether one pair precedes another, by its first place and then by its second.
 fn is_before(one: Pair, other: Pair) -> bool
     ensures { result ≡ is_before_of one other }
 {
     one.first < other.first || one.first == other.first && one.second < other.second
 }
 
-/// Whether each pair stands before the next.
+/// Returns whether each pair precedes the next.
 fn are_rising(pairs: &[Pair]) -> bool
     ensures { IsTrue result ↔ AreRising pairs.now }
 {
@@ -227,7 +229,7 @@ fn are_rising(pairs: &[Pair]) -> bool
     true
 }
 
-/// Whether the places of each pair are of a list of so many blocks, the smaller first.
+/// Returns whether the places of each pair are below `count`, the smaller first.
 fn are_pairs(pairs: &[Pair], count: usize) -> bool
     ensures { IsTrue result ↔ All (IsPair count) pairs.now }
 {
@@ -270,8 +272,8 @@ impl Geography {
         })
     }
 
-    /// The geography of these blocks and of these pairs of places. `None` where a pair's places aren't two of the
-    /// list, the smaller first, or a pair doesn't stand before the next.
+    /// Returns the geography of these blocks and these pairs of places. `None` if the places of a
+    /// pair are not two of the list, the smaller first, or if a pair does not precede the next.
     pub fn from_places(
         alloc: Global,
         blocks: Vec<BlockRow>,

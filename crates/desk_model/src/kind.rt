@@ -51,7 +51,7 @@ impl Kind {
         }
     }
 
-    /// Whether a plan of the kind is audited beside a plan of that one.
+    /// Returns whether a plan of this kind may be audited with a companion of kind `beside`.
     pub fn takes(self, beside: Kind) -> bool
         ensures { result ≡ takes beside self }
     {

@@ -7,7 +7,8 @@ pub fn least_county_is_told()
     ensures { LeastCountyIsTold }
 {}
 
-/// A list beside the blocks, cut by counties, is the list again part by part.
+/// A list with an element for each block, cut at the counties, is the same list when it is joined
+/// again.
 pub fn lists_are_cut()
     ensures { ListsAreCut }
 {}

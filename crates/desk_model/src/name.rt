@@ -54,7 +54,7 @@ fn padded(bytes: &[u8]) -> [u8; 64]
     cells
 }
 
-/// Whether every byte may stand in a name.
+/// Returns whether every byte is allowed in a name.
 fn all_name_bytes(bytes: &[u8]) -> bool
     ensures { result ≡ list_all is_name_byte_of bytes.now }
 {

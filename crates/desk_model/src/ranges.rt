@@ -5,8 +5,8 @@ ghost use Rattle.desk_model.specs.Ranges.{ranges_of_blocks};
 use crate::block::BlockRow;
 use std::alloc::{AllocError, Global};
 
-/// A county's blocks, which stand side by side in the list of blocks: the place of the first, from 0, and how many
-/// they are.
+/// A county's blocks, which are consecutive in the list of blocks: the place of the first, from 0,
+/// and their number.
 #[derive(Clone, Copy)]
 pub struct CountyRange {
     pub first: u32,

@@ -48,9 +48,9 @@ impl PlanRows {
 /// The answer to a command or a query.
 #[derive(Drop)]
 pub enum Reply {
-    /// The plan stands with so many revisions.
+    /// The plan now has this number of revisions.
     Created { plan: PlanName, revisions: u32 },
-    /// The plan is taken away.
+    /// The plan is deleted.
     Retired { plan: PlanName },
     Plans(PlanRows),
     /// A line for each block: its number, its city and its people.
@@ -71,7 +71,7 @@ pub enum BodyFault {
     Shape,
     /// B3: no block of the geography.
     UnknownBlock,
-    /// B4: the block stands on an earlier line.
+    /// B4: the block is on an earlier line, too.
     RepeatedBlock,
     /// B5: a district number that is 0 or above the plan's.
     OutOfRange,
@@ -106,7 +106,7 @@ pub enum Refusal {
     NotWholeCounty { county: u16 },
     /// The audited plan takes no such companion, or there is no such revision of a plan of the companion's kind.
     BadCompanion,
-    /// 65,535 plans, or 65,535 revisions of the plan, are there.
+    /// There are 65,535 plans already, or 65,535 revisions of the plan.
     Limit,
     /// The store has no room for the change.
     Full,

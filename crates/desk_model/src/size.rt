@@ -27,7 +27,7 @@ impl Model for PlanSize {
 }
 
 impl PlanSize {
-    /// A plan of the kind with so many districts, where it may have so many.
+    /// Returns the size of a plan of this kind with `n` districts, if the kind allows that number.
     pub fn read(kind: Kind, n: u64) -> Option<PlanSize>
         ensures { result ≡ sized kind n }
     {

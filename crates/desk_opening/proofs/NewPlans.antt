@@ -1,13 +1,25 @@
 -- A row that is taken says which plan it is of.
-use Rattle.{std.specs.{FinMap.{FinMap, get as row_at}, Prelude.Option}, btree_walks.specs.declared.rows.Row.Row, desk_model.specs.claim.Desk.{Plan, name_cmp}}
-use Rattle.{std.proofs.Common.{rules, ◌≡◌, ◌-◌, ℕ, List, ◌∷◌, length, take, drop, Some, refl, sym, ap, subst, ◌∙◌, take_all}, desk_model.specs.claim.Geography.GeographyModel}
-use Rattle.{desk_model.specs.claim.Name.{IsPlanName, plan_name_of}, desk_opening.specs.{Opening.{IsKeptPlan, IsNewPlan}, Reading.IsPlanRow}, store_rows.specs.Changes.plan_row_of}
-use Rattle.{plan_rows.specs.PlanLaws.{IsTold, PlansAreTold, RowFits}, store_rows.specs.claim.{DeskRows.{HasPlan, IsPlanAt}, Keys.{key_of, named}, Rows.KeyMap, Values.plan_bytes}}
-use Rattle.store_rows.{specs.declared.value.PlanRow.PlanRow, proofs.OneGeography.value_is}
+use Rattle.{std.{specs.{FinMap.{FinMap, get as row_at}, Prelude.Option}, proofs.lemmas.Bool.{and_parts, Decides.nat_tests}}, btree_walks.specs.declared.rows.Row.Row}
+use Rattle.{std.proofs.Common.{arith, ◌≡◌, ◌<◌, ℕ, Bool, true, false, cond, List, ◌∷◌, length, Some, None, MatchOption, refl, sym, ap, subst, ◌∙◌}, store_rows.specs.RowKeys.IsKey}
+use Rattle.{desk_model.specs.claim.{Desk.{Plan, name_cmp}, Geography.GeographyModel, Name.{IsPlanName, is_plan_name, plan_name_of}}, desk_opening.specs.Reading.IsPlanRow}
+use Rattle.{desk_opening.specs.Opening.{IsKeptPlan, IsNewPlan}, plan_rows.specs.PlanLaws.{IsTold, PlansAreTold, RowFits}, store_rows.specs.{Changes.plan_row_of, claim.Rows.KeyMap}}
+use Rattle.store_rows.{specs.{claim.{DeskRows.{HasPlan, IsPlanAt}, Keys.{key_of, named}, Values.plan_bytes}, declared.value.PlanRow.PlanRow}, proofs.OneGeography.value_is}
 
 -- ---- the name in a key
-pub name_again : (key name other : List ℕ) → key ≡ 80 ∷ other → IsPlanName other → ◌≡◌ {A = Option (List ℕ)} (plan_name_of (take (length key - 1) (drop 1 key))) (Some name) → name ≡ other
-name_again key name other is is_name read = search (rules, take_all)
+pub name_told : (key name : List ℕ) (read : Option (List ℕ)) → read ≡ plan_name_of name → IsKey (named name) key → MatchOption read ((other : List ℕ) → IsPlanName other → key ≡ key_of (named other) → ⊥) (λ n. key ≡ key_of (named n))
+name_told key name read is told = subst (λ (o : Option (List ℕ)). MatchOption o ((other : List ℕ) → IsPlanName other → key ≡ key_of (named other) → ⊥) (λ n. key ≡ key_of (named n))) (sym is) (by (is_plan_name name) refl)
+  where
+    by : (b : Bool) → is_plan_name name ≡ b → MatchOption (cond b (Some name) None) ((other : List ℕ) → IsPlanName other → key ≡ key_of (named other) → ⊥) (λ n. key ≡ key_of (named n))
+    by true named_so = told.is
+    by false not_named = λ other is_name same.
+        let keys : ◌≡◌ {A = List ℕ} (80 ∷ name) (80 ∷ other) = sym told.is ∙ same in
+        let names : name ≡ other = cc in
+        let clash : false ≡ true = sym not_named ∙ ap is_plan_name names ∙ is_name in
+        cc
+
+-- a name is short
+pub name_short : (name : List ℕ) → IsPlanName name → length name < 72
+name_short name is = search (arith, nat_tests, and_parts)
 
 -- ---- the plan of a row
 module _ (g : GeographyModel) (plans : FinMap name_cmp Plan) (row : Row) (m : KeyMap) (plan : List ℕ × Plan) (is : IsNewPlan g plans row m plan) where

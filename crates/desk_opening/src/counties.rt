@@ -67,8 +67,8 @@ pub fn is_known(last: &[u64], county: usize, number: u64) -> bool
     county < last.len() && last[county] == number
 }
 
-/// These districts with those of a county in the place of theirs. Where the revision before has the same chunk they stand there,
-/// and nothing is read.
+/// Returns these districts with those of one county replaced. If the revision before has the same
+/// chunk, they are in place already and nothing is read.
 fn lay_changed<D: SectorDevice>(
     alloc: Global,
     txn: &Txn,

@@ -45,12 +45,13 @@ fn read_rows<D: SectorDevice>(
     }
 }
 
-/// The desk that a transaction reads in either version: its geography, and each plan with all its revisions. The pages are only
-/// read. An error is `Memory`, where a growth was refused, `DeviceFault`, `NotAStore`, where it reads no desk, or `Halted`.
-/// A store in which a number that comes next is in use holds none: what is put there later would be read as another's. Nor does
-/// one whose sealed load was begun: a sweep would take its rows out; nor one that has a row which no desk has, as far as
-/// `HasNumbersBelow` of store_check tells; nor one with a part of a revision that no plan has, but for plans that were taken
-/// away.
+/// Returns the desk that a transaction reads, in either version: its geography, and each plan with
+/// all its revisions. Only reads the pages. An error is `Memory` if a growth was refused,
+/// `DeviceFault`, `NotAStore` if there is no desk, or `Halted`. A store is rejected if the next
+/// number is already in use: a later row would be taken for another plan's. It is also rejected if
+/// the sealed load is marked as begun, since a sweep would remove its rows; if it has a row that no
+/// desk has, as far as `HasNumbersBelow` of store_check says; or if it has a part of a revision
+/// that no plan has, except parts of deleted plans.
 pub fn read_desk<D: SectorDevice>(
     alloc: Global,
     txn: &Txn,

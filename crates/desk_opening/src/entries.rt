@@ -21,8 +21,9 @@ use sector_device::SectorDevice;
 use std::alloc::Global;
 use store_rows::PlanRow;
 
-/// A revision that stands under a plan's number. Its counties are laid over `before`, the districts of the revision before, whose
-/// chunks have the numbers of `last`; it gets the numbers of this one's. No block may be in a district above n.
+/// Reads a revision of a plan. Its counties are laid over `before`, the districts of the revision
+/// before, whose chunks have the numbers in `last`; `last` gets the numbers of this one. No block
+/// may be in a district above n.
 fn read_next<D: SectorDevice>(
     alloc: Global,
     txn: &Txn,
@@ -64,7 +65,7 @@ fn read_next<D: SectorDevice>(
     Ok(next)
 }
 
-/// So many blocks without a district.
+/// A list of `count` unassigned blocks.
 fn unassigned(alloc: Global, count: usize) -> Result<Districts, TreeError>
     ensures zeros { IfOk result (λ districts. districts ≡ replicate count 0) }
     ensures err { IfErr result (λ e. e ≡ Memory) }
@@ -96,8 +97,8 @@ fn districts_before(
     }
 }
 
-/// The plan of an entry with one revision more, which stands under a plan's number. `last` are the numbers of the chunks of the
-/// last one, and then of this one.
+/// Returns an entry's plan with one more revision. `last` has the numbers of the last revision's
+/// chunks, and then of this one's.
 fn with_next<D: SectorDevice>(
     alloc: Global,
     txn: &Txn,
@@ -139,8 +140,9 @@ fn with_next<D: SectorDevice>(
     }
 }
 
-/// The plan that stands under a name with this row, with all its revisions. `NotAStore` comes where the store has no
-/// such plan or one with a block in a district that it lacks, `Memory` where a growth was refused.
+/// Returns the plan of a name and row, with all its revisions. `NotAStore` comes if the store has
+/// no such plan, or if a block is in a district that the plan lacks, `Memory` if a growth was
+/// refused.
 #[tactic(auto, using(crate::proofs::Revisions::none_last))]
 pub fn read_entry<D: SectorDevice>(
     alloc: Global,

@@ -1,18 +1,29 @@
-//! A desk, read from rows of either version.
+//! Reads a desk from the rows of a store of either version.
 //!
-//! Seen as `IsDesk` and `Tidy` of store_rows. `read_desk`: where the transaction reads a desk, the catalogue of that desk; it reads. Of
-//! other rows `IsReadFrom` says that what is shown is what the rows say. That is the blocks and pairs of the sealed load, and of each
-//! revision the numbers of its chunks and their districts, within the plan's number. No part of a revision is of a plan that was never
-//! made, or beyond its plan's revisions. It doesn't say that no row stands after a list's last. `read_entry`, `add_plan`: a plan with all
-//! its revisions. `is_new`: whether the version's row is there.
+//! # Model
+//!
+//! `IsDesk` and `Tidy` of store_rows.
+//!
+//! # Proved
+//!
+//! - `read_desk` reads only. If the transaction reads a desk, it returns the catalogue of that
+//!   desk.
+//! - For other rows, `IsReadFrom` says that what it returns is what the rows say: the blocks and
+//!   pairs of the sealed load, and of each revision the numbers of its chunks and their districts.
+//!   No part of a revision belongs to a plan that was never made, or is beyond its plan's
+//!   revisions.
+//! - `read_entry` and `add_plan` read a plan with all its revisions. `is_new` says whether the row
+//!   of the version exists.
+//!
+//! # Not proved
+//!
+//! That no row stands after the last of a list; `plandesk verify` checks it.
 //!
 //! # Notes
 //!
-//! `read_desk(alloc, &txn, &mut pages)?` reads each plan whose row is there, with a number of its own that is below the next, and no other.
-//! A row is there for each part of the list of each of its revisions, and beyond these none, but of plans that were taken away.
-//!
-//! The revisions of a plan are read one after the other. Of each the list of its chunks is read, and then only the chunks that the revision
-//! before doesn't name for the same county. They are laid over its districts, and both share the rest.
+//! The revisions of a plan are read one after the other: first the list of chunks, then only those
+//! chunks that the revision before does not name for the same county. The two revisions share the
+//! rest.
 #![tactic(auto)]
 
 mod counties;

@@ -15,7 +15,7 @@ use sector_device::SectorDevice;
 use store_check::check_numbers;
 use store_rows::{Key, SealRow, read_plan};
 
-/// Refuses where a row stands under a key.
+/// Rejects the store if a row with this key exists.
 fn refuse_row<D: SectorDevice>(txn: &Txn, pages: &mut Pages<D>, key: &Key) -> Result<(), TreeError>
     requires begun { txn_pages txn.now ≡ count_of pages.old }
     ensures { Looks (λ m _. row_at m key.now ≡ None) (λ m. row_at m key.now ≡ None) txn.now pages.old pages.new result }
@@ -28,7 +28,7 @@ fn refuse_row<D: SectorDevice>(txn: &Txn, pages: &mut Pages<D>, key: &Key) -> Re
     }
 }
 
-/// Refuses where the plan whose row this is was taken away.
+/// Rejects the store if the plan of this row was deleted.
 pub fn refuse_gone<D: SectorDevice>(
     txn: &Txn,
     pages: &mut Pages<D>,

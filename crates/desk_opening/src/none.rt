@@ -26,7 +26,7 @@ fn refuse_seal<D: SectorDevice>(txn: &Txn, pages: &mut Pages<D>) -> Result<(), T
     }
 }
 
-/// Refuses where a plan stands.
+/// Rejects the store if it has a plan.
 fn refuse_plans<D: SectorDevice>(txn: &Txn, pages: &mut Pages<D>) -> Result<(), TreeError>
     requires begun { txn_pages txn.now ≡ count_of pages.old }
     ensures { Looks (λ m _. HasNoPlans m) HasNoPlans txn.now pages.old pages.new result }

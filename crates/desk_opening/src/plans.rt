@@ -20,7 +20,7 @@ use sector_device::SectorDevice;
 use std::alloc::Global;
 use store_rows::PlanRow;
 
-/// These plans with the one that stands under a name with this row.
+/// Returns the plans with the plan of this name and row added.
 pub fn add_plan<D: SectorDevice>(
     alloc: Global,
     txn: &Txn,

@@ -26,7 +26,7 @@ use plan_rows::plan_laws::plans_are_told;
 use sector_device::SectorDevice;
 use std::alloc::Global;
 use std::collections::BTreeMap;
-use store_rows::{Key, PlanRow, read_plan};
+use store_rows::{Key, PlanRow, RowKey, read_plan};
 
 /// A number of 64 bits is in its range.
 pub(crate) fn number_fits(number: u64)
@@ -52,18 +52,14 @@ pub fn row_fits(row: PlanRow)
     revisions_fit(row.revisions);
 }
 
-/// The name of the plan whose row has this key; None where it is no plan's.
+/// Returns the name of the plan whose row has this key; `None` for any other key.
 pub fn name_in(key: &[u8]) -> Option<PlanName>
     ensures { MatchOption result ((name : List ℕ) → IsPlanName name → key.now ≡ key_of (named name) → ⊥) (λ name. key.now ≡ key_of (named name)) }
 {
-    if key.is_empty() {
-        return None;
+    match RowKey::read(key) {
+        Some(RowKey::Named { name }) => PlanName::read(name),
+        _ => None,
     }
-    let name = PlanName::read(&key[1..])?;
-    if Key::named(&name).as_slice() != key {
-        return None;
-    }
-    Some(name)
 }
 
 /// These plans with the one whose row was taken, by its name.

@@ -14,8 +14,9 @@ use sector_device::SectorDevice;
 use store_check::is_version;
 use store_rows::Key;
 
-/// Whether the rows are of the new version, which a row tells; the old one has no such row. It takes no memory. An error is
-/// `NotAStore`, where that row says anything else, `DeviceFault`, or `Halted`.
+/// Returns whether the rows are of the new version, which has a row for it; the old one has none.
+/// It takes no memory. An error is `NotAStore` if that row says anything else, `DeviceFault`, or
+/// `Halted`.
 pub fn is_new<D: SectorDevice>(txn: &Txn, pages: &mut Pages<D>) -> Result<bool, TreeError>
     requires begun { txn_pages txn.now ≡ count_of pages.old }
     ensures { Looks (λ m new. row_in m version ≡ version_row new) HasVersion txn.now pages.old pages.new result }

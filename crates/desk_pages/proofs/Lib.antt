@@ -11,4 +11,6 @@ pub mod RowsPut
 pub mod Reading
 pub mod Looking
 pub mod Writing
+pub mod Nearness
+pub mod Forged
 pub mod Rising

@@ -1,11 +1,12 @@
 -- Lemmas on the definitions of Rising.
-use Rattle.{std.specs.{FinMap.insert, Prelude.{◌≡◌, ◌<◌, ◌≤◌, ◌+◌, ℕ, List, [], ◌∷◌, ◌++◌}}, btree_puts.specs.{Fingers.{Stand, StandsIn, PutByErr}, declared.finger.Finger.Finger}}
-use Rattle.{std.proofs.Common.{rules, suc, refl, sym, ap, subst, ◌∙◌, arith, append_assoc, length-append}, btree_puts.specs.declared.finger.Fingers.Fingers}
-use Rattle.{btree_puts.specs.page_btree.{claim.{Errors.{PutErr, level_in}, Map.InTxn}, declared.error.TreeError.TreeError}, desk_pages.specs.Rising.{HasPutWith, PutsErrWith}}
+use Rattle.{std.specs.{FinMap.insert, Prelude.{length, ◌≡◌, ◌<◌, ◌≤◌, ◌+◌, ℕ, List, [], ◌∷◌, ◌++◌}}, btree_puts.specs.Fingers.{Stand, StandsIn, PutByErr}}
+use Rattle.{std.proofs.Common.{rules, suc, refl, sym, ap, subst, ◌∙◌, arith, append_assoc, length-append}, btree_puts.specs.declared.finger.{Finger.Finger, Fingers.Fingers}}
+use Rattle.{btree_puts.specs.page_btree.{claim.{Errors.{reach_in, top_reach, PutErr, level_in}, Map.InTxn}, declared.error.TreeError.TreeError}, store_rows.specs.Puts.rows_told}
 use Rattle.{btree_puts.specs.page_btree.declared.error.TreeError.TheVariants.{DeviceFault, NotAStore, Halted, NoPages, TooDeep, Memory}, page_store.specs.declared.txn.Txn.Txn}
-use Rattle.{desk_pages.specs.claim.Puts.{HasPut, PutsErr}, page_store.specs.claim.Transactions.{stored, disk_in, txn_pages, txn_root, txn_free, txn_writes, over, IsQuiet, Passed}}
-use Rattle.{page_store.specs.declared.pages.Pages.Pages, sector_device.specs.{claim.Disk.Image, declared.SectorDevice.Ghosts}, store_rows.specs.{Puts.rows_told, claim.Rows.KeyMap}}
-use Rattle.{store_rows.{specs.claim.Puts.{Row, put_rows}, proofs.Puts.{put_rows-append, told_prefix}}, page_store.proofs.Stops.{passed_none, passed_more, failed_more}}
+use Rattle.{desk_pages.specs.{Rising.{HasPutWith, PutsErrWith}, claim.Puts.{HasPut, PutsErr}}, page_store.specs.declared.pages.Pages.Pages, sector_device.specs.claim.Disk.Image}
+use Rattle.{page_store.specs.claim.Transactions.{stored, disk_in, txn_pages, txn_root, txn_free, txn_writes, over, IsQuiet, Passed}, store_rows.specs.claim.Puts.{Row, put_rows}}
+use Rattle.{sector_device.specs.declared.SectorDevice.Ghosts, store_rows.specs.claim.Rows.KeyMap, page_store.proofs.Stops.{passed_none, passed_more, failed_more}}
+use Rattle.store_rows.proofs.Puts.{put_rows-append, told_prefix}
 use Rattle.btree_puts.proofs.page_btree.Refusals.{by_case}
 
 -- where no leaf is known, a finger stands, and so do both
@@ -22,7 +23,14 @@ module _ {D : Type 0} {g : Ghosts D} where
 
   -- calls that read at most put no row
   none_put_with : (fs : Fingers) (t : Txn) (a b : Pages D g) → Passed a b → HasPutWith fs fs [] t t a b
-  none_put_with fs t a b read = search rules
+  none_put_with fs t a b read = record {
+    passed = read;
+    pages = refl;
+    put = λ honest m holds stand. (holds, stand);
+    writes = omega arith;
+    taken = omega arith;
+    nearer = λ honest m holds stand. omega arith;
+  }
 
   -- what holds after some rows
   held_with : (f h : Fingers) (rows : List Row) (t u : Txn) (a b : Pages D g) → HasPutWith f h rows t u a b → (disk_in b).is_honest → (m : KeyMap)
@@ -43,6 +51,12 @@ module _ {D : Type 0} {g : Ghosts D} where
             (subst (λ n. InTxn v (stored b) n) (sym (put_rows-append m rows more)) whole.0, whole.1);
         writes = let one = first.writes in let other = then.writes in omega arith;
         taken = let one = first.taken in let other = then.taken in omega arith;
+        nearer = λ honest m holds stand.
+            let before = then.passed.quiet.honest honest in
+            let half = held_with f h rows t u a b first before m holds stand in
+            let one = first.nearer before m holds stand in
+            let other = subst (λ (P : Image). reach_in (over v P) (txn_root v) ≤ reach_in (over u P) (txn_root u) + length more) (first.passed.quiet.same before) (then.nearer honest (put_rows m rows) half.0 half.1) in
+            omega (arith, count, one, other);
       }
 
   -- after calls that read at most
@@ -51,23 +65,20 @@ module _ {D : Type 0} {g : Ghosts D} where
 
   -- one row was put
   pub one_put_with : (f h : Fingers) (key value : List ℕ) (t u : Txn) (a b : Pages D g) → Passed a b → txn_pages u ≡ txn_pages t → ((disk_in b).is_honest → (m : KeyMap) → InTxn t (stored a) m → Stand t (stored a) f → InTxn u (stored a) (insert m key value) × Stand u (stored a) h)
-      → txn_writes u ≤ txn_writes t + 11 → txn_free t ≤ txn_free u + 6 → HasPutWith f h ((key, value) ∷ []) t u a b
-  one_put_with f h key value t u a b passed pages put writes taken = search rules
+      → txn_writes u ≤ txn_writes t + 11 → txn_free t ≤ txn_free u + 6
+      → ((disk_in b).is_honest → (m : KeyMap) → InTxn t (stored a) m → Stand t (stored a) f → reach_in (over u (stored a)) (txn_root u) ≤ reach_in (over t (stored a)) (txn_root t) + 1) → HasPutWith f h ((key, value) ∷ []) t u a b
+  one_put_with f h key value t u a b passed pages put writes taken nearer = search rules
 
   -- or it was not, by one that stands where both do
-  pub one_not_put_with : (f : Fingers) (was : Finger) (row : Row) (t : Txn) (a b : Pages D g) → ((S : Image) → Stand t S f → StandsIn t S was) → (e : TreeError) → PutByErr was t a b e → PutsErrWith f (row ∷ []) t a b e
-  one_not_put_with f was row t a b stands NotAStore why = λ honest m holds stand. why honest m holds (stands (stored a) stand)
-  one_not_put_with f was row t a b stands NoPages why = omega arith
-  one_not_put_with f was row t a b stands TooDeep why = λ honest m holds stand. record {
-    prefix = [];
-    rest = row ∷ [];
-    are = refl;
-    txn = t;
-    holds = holds;
-    deep = why honest;
-  }
-  one_not_put_with f was row t a b stands Memory why = tt
-  one_not_put_with f was row t a b stands _ why = why
+  pub one_not_put_with : (f : Fingers) (was : Finger) (row : Row) (t : Txn) (a b : Pages D g) → ((S : Image) → Stand t S f → StandsIn t S was) → (e : TreeError)
+      → ((disk_in b).is_honest → (m : KeyMap) → InTxn t (stored a) m → e ≡ TooDeep → top_reach ≤ reach_in (over t (stored a)) (txn_root t)) → PutByErr was t a b e → PutsErrWith f (row ∷ []) t a b e
+  one_not_put_with f was row t a b stands NotAStore tall why = λ honest m holds stand. why honest m holds (stands (stored a) stand)
+  one_not_put_with f was row t a b stands NoPages tall why = omega arith
+  one_not_put_with f was row t a b stands TooDeep tall why = λ honest m holds stand.
+      let near = tall honest m holds refl in
+      (record { prefix = []; rest = row ∷ []; are = refl; txn = t; holds = holds; deep = why honest }, omega (arith, near))
+  one_not_put_with f was row t a b stands Memory tall why = tt
+  one_not_put_with f was row t a b stands _ tall why = why
 
   -- some were put, and then others were not
   pub then_not_put_with : (f h : Fingers) (rows more : List Row) (t u : Txn) (a b c : Pages D g) (e : TreeError) → HasPutWith f h rows t u a b → IsQuiet b c → PutsErrWith h more u b c e → PutsErrWith f (rows ++ more) t a c e
@@ -81,16 +92,22 @@ module _ {D : Type 0} {g : Ghosts D} where
       let before = quiet.honest honest in
       let same = put.passed.quiet.same before in
       let half = held_with f h rows t u a b put before m holds stand in
-      let deep = why honest (put_rows m rows) half.0 half.1 in
-      record {
-        prefix = rows ++ deep.prefix;
-        rest = deep.rest;
-        are = append_assoc rows deep.prefix deep.rest ∙ ap (λ l. rows ++ l) deep.are;
-        txn = deep.txn;
-        holds = subst (λ P. InTxn deep.txn P (put_rows m (rows ++ deep.prefix))) same
-            (subst (λ n. InTxn deep.txn (stored b) n) (sym (put_rows-append m rows deep.prefix)) deep.holds);
-        deep = subst (λ P. level_in (over deep.txn P) (txn_root deep.txn) ≡ 5) same deep.deep;
-      }
+      let both = why honest (put_rows m rows) half.0 half.1 in
+      let deep = both.0 in
+      let first = put.nearer before m holds stand in
+      let then = subst (λ (P : Image). top_reach ≤ reach_in (over u P) (txn_root u) + length more) same both.1 in
+      let count = length-append rows more in (
+        record {
+          prefix = rows ++ deep.prefix;
+          rest = deep.rest;
+          are = append_assoc rows deep.prefix deep.rest ∙ ap (λ l. rows ++ l) deep.are;
+          txn = deep.txn;
+          holds = subst (λ P. InTxn deep.txn P (put_rows m (rows ++ deep.prefix))) same
+              (subst (λ n. InTxn deep.txn (stored b) n) (sym (put_rows-append m rows deep.prefix)) deep.holds);
+          deep = subst (λ P. level_in (over deep.txn P) (txn_root deep.txn) ≡ 5) same deep.deep;
+        },
+        omega (arith, first, then, count),
+      )
   then_not_put_with f h rows more t u a b c Memory put quiet why = tt
 
   -- nothing is put after calls that read at most
@@ -101,15 +118,20 @@ module _ {D : Type 0} {g : Ghosts D} where
   pub prefix_not_put_with : (f : Fingers) (rows more : List Row) (t : Txn) (a b : Pages D g) (e : TreeError) → PutsErrWith f rows t a b e → PutsErrWith f (rows ++ more) t a b e
   prefix_not_put_with f rows more t a b NoPages why = let count = length-append rows more in omega arith
   prefix_not_put_with f rows more t a b TooDeep why = λ honest m holds stand.
-      let deep = why honest m holds stand in
-      record {
-        prefix = deep.prefix;
-        rest = deep.rest ++ more;
-        are = sym (append_assoc deep.prefix deep.rest more) ∙ ap (λ l. l ++ more) deep.are;
-        txn = deep.txn;
-        holds = deep.holds;
-        deep = deep.deep;
-      }
+      let both = why honest m holds stand in
+      let deep = both.0 in
+      let near = both.1 in
+      let count = length-append rows more in (
+        record {
+          prefix = deep.prefix;
+          rest = deep.rest ++ more;
+          are = sym (append_assoc deep.prefix deep.rest more) ∙ ap (λ l. l ++ more) deep.are;
+          txn = deep.txn;
+          holds = deep.holds;
+          deep = deep.deep;
+        },
+        omega (arith, near, count),
+      )
   prefix_not_put_with f rows more t a b Memory why = tt
   prefix_not_put_with f rows more t a b _ why = why
 
@@ -121,6 +143,7 @@ module _ {D : Type 0} {g : Ghosts D} where
     put = λ honest m holds. (did.put honest m holds (fresh_stand t (stored a) f first second)).0;
     writes = did.writes;
     taken = did.taken;
+    nearer = λ honest m holds. did.nearer honest m holds (fresh_stand t (stored a) f first second);
   }
 
   pub fresh_not_put : (f : Fingers) (rows : List Row) (t : Txn) (a b : Pages D g) (e : TreeError) → f.first.page ≡ 0 → f.second.page ≡ 0 → PutsErrWith f rows t a b e → PutsErr rows t a b e

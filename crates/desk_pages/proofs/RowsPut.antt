@@ -1,8 +1,8 @@
 -- Lemmas on the definitions of Puts: rows are put as with two leaves that are known, of which none is.
 use Rattle.std.{specs.{FinMap.insert, Prelude.{◌≡◌, ◌<◌, ◌≤◌, ◌+◌, ℕ, false, List, [], ◌∷◌, ◌++◌}}, proofs.Common.{rules, suc, refl, subst, arith}}
-use Rattle.btree_puts.specs.{declared.finger.{Finger.Finger, Fingers.Fingers}, page_btree.{claim.{Errors.PutErr, Map.InTxn}, declared.error.TreeError.TreeError}}
-use Rattle.{btree_puts.specs.page_btree.declared.error.TreeError.TheVariants.{NotAStore, NoPages, TooDeep, Memory}, desk_pages.specs.Rising.{HasPutWith, PutsErrWith}}
-use Rattle.{desk_pages.specs.claim.Puts.{HasPut, PutsErr}, page_store.specs.claim.Transactions.{stored, disk_in, txn_pages, txn_free, txn_writes, IsQuiet, Passed}}
+use Rattle.btree_puts.specs.{declared.finger.{Finger.Finger, Fingers.Fingers}, page_btree.claim.{Errors.{PutErr, reach_in, top_reach}, Map.InTxn}}
+use Rattle.{btree_puts.specs.page_btree.declared.error.TreeError.{TreeError, TheVariants.{NotAStore, NoPages, TooDeep, Memory}}, desk_pages.specs.Rising.{HasPutWith, PutsErrWith}}
+use Rattle.{desk_pages.specs.claim.Puts.{HasPut, PutsErr}, page_store.specs.claim.Transactions.{txn_root, over, stored, disk_in, txn_pages, txn_free, txn_writes, IsQuiet, Passed}}
 use Rattle.{page_store.specs.declared.{pages.Pages.Pages, txn.Txn.Txn}, sector_device.specs.declared.SectorDevice.Ghosts, store_rows.specs.{Puts.rows_told, claim.Puts.Row}}
 use Rattle.{store_rows.specs.claim.Rows.KeyMap, desk_pages.proofs.Rising.{fresh_stand, more_put_with, then_not_put_with, prefix_not_put_with, fresh_put, fresh_not_put}}
 use Rattle.{page_store.proofs.Stops.passed_none, store_rows.proofs.Puts.told_prefix}
@@ -24,6 +24,7 @@ module _ {D : Type 0} {g : Ghosts D} where
     put = λ honest m holds stand. (did.put honest m holds, fresh_stand u (stored a) no_leaves refl refl);
     writes = did.writes;
     taken = did.taken;
+    nearer = λ honest m holds stand. did.nearer honest m holds;
   }
 
   err_with_none : (rows : List Row) (t : Txn) (a b : Pages D g) (e : TreeError) → PutsErr rows t a b e → PutsErrWith no_leaves rows t a b e
@@ -36,15 +37,16 @@ module _ {D : Type 0} {g : Ghosts D} where
       (more_put_with no_leaves no_leaves no_leaves rows more t u v a b c (with_none rows t u a b first) (with_none more u v b c then))
 
   -- one row was put
-  pub one_put : (key value : List ℕ) (t u : Txn) (a b : Pages D g) → Passed a b → txn_pages u ≡ txn_pages t → ((disk_in b).is_honest → (m : KeyMap) → InTxn t (stored a) m → InTxn u (stored a) (insert m key value)) → txn_writes u ≤ txn_writes t + 11 → txn_free t ≤ txn_free u + 6 → HasPut ((key, value) ∷ []) t u a b
-  one_put key value t u a b passed pages put writes taken = search rules
+  pub one_put : (key value : List ℕ) (t u : Txn) (a b : Pages D g) → Passed a b → txn_pages u ≡ txn_pages t → ((disk_in b).is_honest → (m : KeyMap) → InTxn t (stored a) m → InTxn u (stored a) (insert m key value)) → txn_writes u ≤ txn_writes t + 11 → txn_free t ≤ txn_free u + 6
+      → ((disk_in b).is_honest → (m : KeyMap) → InTxn t (stored a) m → reach_in (over u (stored a)) (txn_root u) ≤ reach_in (over t (stored a)) (txn_root t) + 1) → HasPut ((key, value) ∷ []) t u a b
+  one_put key value t u a b passed pages put writes taken nearer = search rules
 
   -- or it was not
-  pub one_not_put : (row : Row) (t : Txn) (a b : Pages D g) (e : TreeError) → PutErr t a b e → PutsErr (row ∷ []) t a b e
-  one_not_put row t a b NoPages why = omega arith
-  one_not_put row t a b TooDeep why = λ honest m holds. record { prefix = []; rest = row ∷ []; are = refl; txn = t; holds = holds; deep = why honest }
-  one_not_put row t a b Memory why = tt
-  one_not_put row t a b _ why = why
+  pub one_not_put : (row : Row) (t : Txn) (a b : Pages D g) (e : TreeError) → ((disk_in b).is_honest → (m : KeyMap) → InTxn t (stored a) m → e ≡ TooDeep → top_reach ≤ reach_in (over t (stored a)) (txn_root t)) → PutErr t a b e → PutsErr (row ∷ []) t a b e
+  one_not_put row t a b NoPages tall why = omega arith
+  one_not_put row t a b TooDeep tall why = λ honest m holds. let near = tall honest m holds refl in (record { prefix = []; rest = row ∷ []; are = refl; txn = t; holds = holds; deep = why honest }, omega (arith, near))
+  one_not_put row t a b Memory tall why = tt
+  one_not_put row t a b _ tall why = why
 
   -- some were put, and then others were not
   pub then_not_put : (rows more : List Row) (t u : Txn) (a b c : Pages D g) (e : TreeError) → HasPut rows t u a b → IsQuiet b c → PutsErr more u b c e → PutsErr (rows ++ more) t a c e

@@ -1,9 +1,9 @@
 -- Rows that are put with two leaves that are known.
 use Rattle.std.specs.Prelude.{◌≡◌, ◌<◌, ◌≤◌, ◌+◌, ◌*◌, List, length, true, Result, MatchResult}
 use Rattle.{btree_puts.specs.{Fingers.Stand, declared.finger.Fingers.Fingers, page_btree.{claim.Map.InTxn, declared.error.TreeError.TreeError}}, store_rows.specs.claim.Rows.KeyMap}
-use Rattle.{btree_puts.specs.page_btree.declared.error.TreeError.TheVariants.{DeviceFault, NotAStore, Halted, NoPages, TooDeep, Memory}, desk_pages.specs.claim.Puts.HasDeepened}
-use Rattle.page_store.specs.{claim.Transactions.{stored, disk_in, has_halted, txn_pages, txn_free, txn_writes, HasFailed, Passed}, declared.{pages.Pages.Pages, txn.Txn.Txn}}
-use Rattle.{sector_device.specs.declared.SectorDevice.Ghosts, store_rows.specs.claim.Puts.{Row, put_rows}}
+use Rattle.{btree_puts.specs.page_btree.declared.error.TreeError.TheVariants.{DeviceFault, NotAStore, Halted, NoPages, TooDeep, Memory}, page_store.specs.declared.txn.Txn.Txn}
+use Rattle.{desk_pages.specs.claim.Puts.{HasDeepened, IsNear, Nears}, page_store.specs.declared.pages.Pages.Pages, sector_device.specs.declared.SectorDevice.Ghosts}
+use Rattle.{page_store.specs.claim.Transactions.{stored, disk_in, has_halted, txn_pages, txn_free, txn_writes, HasFailed, Passed}, store_rows.specs.claim.Puts.{Row, put_rows}}
 
 module _ {D : Type 0} {g : Ghosts D} where
   -- where both fingers stood, the rows were put, and both stand then: a row writes 11 pages at most, and takes 6
@@ -14,6 +14,7 @@ module _ {D : Type 0} {g : Ghosts D} where
         → InTxn u (stored old) (put_rows m rows) × Stand u (stored old) fs
     pub writes : txn_writes u ≤ txn_writes t + 11 * length rows
     pub taken : txn_free t ≤ txn_free u + 6 * length rows
+    pub nearer : (disk_in new).is_honest → (m : KeyMap) → InTxn t (stored old) m → Stand t (stored old) were → Nears (length rows) t u old
 
   -- why they are not all put
   abbrev pub PutsErrWith : Fingers → List Row → Txn → Pages D g → Pages D g → TreeError → Type 0
@@ -22,7 +23,7 @@ module _ {D : Type 0} {g : Ghosts D} where
   PutsErrWith were rows t old new Halted = has_halted old ≡ true
   PutsErrWith were rows t old new NoPages = txn_free t < 6 * length rows
   PutsErrWith were rows t old new TooDeep = (disk_in new).is_honest → (m : KeyMap)
-      → InTxn t (stored old) m → Stand t (stored old) were → HasDeepened rows t old m
+      → InTxn t (stored old) m → Stand t (stored old) were → HasDeepened rows t old m × IsNear (length rows) t old
   PutsErrWith were rows t old new Memory = Unit {0}
 
   -- the rows were put, or it is told why not

@@ -19,8 +19,9 @@ fn write_version(page: &mut Sector)
     write_first_row(page, key.as_slice(), &[0, 0, 0, 2]);
 }
 
-/// Makes a device a store of version 2 with so many journal pages, 256 to 65,536, whose desk has no geography and no plan. What the
-/// device held is gone; a stop before the end isn't covered: it is formatted again. After `TooSmall` and `Memory` it is as it was.
+/// Formats a device as a store of version 2 with `journal_pages` journal pages, 256 to 65,536,
+/// whose desk has no geography and no plans. What the device held is gone. A crash before the end
+/// is not covered: format the device again. After `TooSmall` and `Memory` the device is unchanged.
 pub fn format<D: SectorDevice>(
     alloc: Global,
     device: &mut D,

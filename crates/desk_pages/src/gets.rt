@@ -15,8 +15,8 @@ use page_store::{Pages, Txn};
 use sector_device::SectorDevice;
 use store_rows::{Counters, Key};
 
-/// The value of a row, or none where there is no such row. It takes no memory. An error is `NotAStore`, where what
-/// stands there is no such value, `DeviceFault` or `Halted`.
+/// Returns the value of a row, or none if the row does not exist. It takes no memory. An error is
+/// `NotAStore` if the bytes are no such value, `DeviceFault` or `Halted`.
 pub fn get_row<D: SectorDevice, R: RowValue>(
     txn: &Txn,
     pages: &mut Pages<D>,

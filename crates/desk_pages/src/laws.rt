@@ -3,7 +3,7 @@ ghost use Rattle.desk_pages.specs.Laws.{ReadsWhatPagesHold, HoldsWhatWasPrepared
 
 use store_rows::laws::desk_is_one;
 
-/// Pages with a root and free pages hold one desk at most, whichever version tells it.
+/// Pages with a root and free pages hold at most one desk, in whichever version.
 pub fn one_desk()
     ensures { HoldsOneDesk }
 {

@@ -1,13 +1,24 @@
-//! The desk in the pages of a store: rows that a transaction puts and reads, what it keeps of the desk, and a new store.
+//! The desk in the pages of a store: transactions that put and read rows, and new stores.
 //!
-//! Seen as the desk that pages hold (`HoldsDesk`), a transaction reads (`InTxn`), an image opens to (`OpensDesk`; `OpensOld` of version 1,
-//! `OpensEither`). Pages hold one desk at most. `prepare`, `commit`, `commit_txn`, `commit_fitting`: the map, and the desk, before or after
-//! at every moment, and after it at Ok. `format`: at Ok each image from then on opens to the desk without geography and plans, in a store
-//! with the journal pages that are asked for.
+//! # Model
 //!
-//! Rows are seen as a list, and the map with them put. `put_row`: at Ok the map with the row put, else why not (`PutsRows`).
-//! `put_row_with`, `get_row_with`: where leaves are known. `read_row`, `get_row`: what stands there (`Looks`), or that none does.
-//! `part_of`: a part of a list by its index.
+//! The desk that pages hold (`HoldsDesk`), that a transaction reads (`InTxn`), and to which a crash
+//! state opens (`OpensDesk`, in version 1 `OpensOld`, in either version `OpensEither`). Pages hold
+//! at most one desk. Rows to put are a list.
+//!
+//! # Proved
+//!
+//! - `prepare`, `commit`, `commit_txn`, `commit_fitting`: at every moment the store holds the desk
+//!   before or after, and after success the desk after.
+//! - `format`: after success each crash state opens to the desk without geography and plans, in a
+//!   store with the journal pages asked for.
+//! - `put_row` puts a row or says why not (`PutsRows`); `put_row_with` and `get_row_with` use known
+//!   leaves. `read_row` and `get_row` return what is stored, or none (`Looks`).
+//! - `part_of` cuts a list into parts by index.
+//!
+//! # Not proved
+//!
+//! A crash during `format`, and that known leaves save time.
 #![tactic(auto)]
 
 mod commits;

@@ -10,8 +10,8 @@ use page_store::{Pages, Txn};
 use sector_device::SectorDevice;
 use store_rows::Key;
 
-/// Copies the value of a row that is there to the start of a buffer: how many bytes it has. It takes no memory. An error is
-/// `NotAStore`, which comes also where the row isn't there, `DeviceFault` or `Halted`.
+/// Copies the value of an existing row to the start of a buffer and returns its length. It takes no
+/// memory. An error is `NotAStore`, also if the row does not exist, `DeviceFault` or `Halted`.
 pub fn read_row<D: SectorDevice>(
     txn: &Txn,
     pages: &mut Pages<D>,

@@ -3,7 +3,7 @@ use store_rows::{
     Counters, HolderCount, PlanRow, SealRow, read_counters, read_holder_count, read_plan, read_seal,
 };
 
-/// A value of a row, which is told by its bytes.
+/// The value of a row, determined by its bytes.
 pub trait RowValue: Drop + Sized {
     ghost use Rattle.std.specs.Prelude.{◌≡◌, ℕ, List, MatchOption};
 

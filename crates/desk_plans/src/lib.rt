@@ -1,12 +1,20 @@
-//! Plans by their names: in a tree that shares what doesn't change with the trees before it.
+//! The plans of a desk by name, in a balanced tree that shares nodes with its earlier versions.
 //!
-//! Seen as a finite map from names to plans (`Plans`). `Entry`: a plan, whose revisions are districts in pieces. `get`, `insert`,
-//! `replace`, `remove`, `rows`, `revised`, `forked`: the map after the change, and the plans before stay. `settle`, also where memory is
-//! refused: the same plans.
+//! # Model
 //!
-//! # Notes
+//! A finite map from names to plans (`Plans`). An `Entry` is a plan: name, kind, number of
+//! districts, and its revisions.
 //!
-//! How many nodes a change makes, and that the tree's heights are level, is tried and timed alone.
+//! # Proved
+//!
+//! `get`, `insert`, `replace`, `remove`, `rows`, `revised` and `forked` act as on the map, and the
+//! plans that a call starts from stay as they were. `settle` changes no plan, also if memory is
+//! refused.
+//!
+//! # Not proved
+//!
+//! The number of new nodes a change, and that the tree is balanced. `tests/limits` tries 65,535
+//! names.
 #![tactic(auto)]
 
 pub mod entry;

@@ -127,7 +127,7 @@ fn without(
     }
 }
 
-/// The lines of a tree's plans, which are so many.
+/// Returns the lines of a tree's `count` plans.
 fn lines(alloc: Global, root: &Option<Arc<Tree>>, count: usize) -> Result<Vec<PlanLine>, AllocError>
     ensures { IfOk result (λ rows. rows.items ≡ map plan_row (rows_of root.now)) }
 {
@@ -198,8 +198,9 @@ impl Plans {
         })
     }
 
-    /// Puts the pending plan into the tree, in place where no other plans share the node; from the first node on that is
-    /// shared the way is made anew. The next change then copies nothing. Where memory is refused the plan stays pending.
+    /// Moves the pending plan into the tree: in place as long as no other plans share the nodes,
+    /// and from the first shared node on by new nodes. The next change then copies nothing. If
+    /// memory is refused, the plan stays pending.
     pub fn settle(&mut self, alloc: Global)
         ensures { self.new ≡ self.old }
     {

@@ -15,8 +15,9 @@ use std::marker::Model;
 use std::mem;
 use std::sync::Arc;
 
-/// A plan, the tree of those before it and the tree of those after it. Trees are made with heights that differ by one
-/// at most, so a change makes some 20 nodes of 65,535 anew; the others are shared.
+/// A plan, the tree of the plans before it and the tree of those after it. The heights of the two
+/// trees differ by at most one, so a change makes some 20 new nodes in a tree of 65,535 plans; the
+/// others are shared.
 #[derive(Drop)]
 pub struct Tree {
     left: Option<Arc<Tree>>,
@@ -70,7 +71,7 @@ pub fn same(entry: &Arc<Entry>) -> Result<Arc<Entry>, AllocError>
     Ok(entry.clone()?)
 }
 
-/// How a name stands to a plan's.
+/// Compares a name with the name of an entry.
 #[inline(always)]
 pub fn order(name: &PlanName, entry: &Arc<Entry>) -> Ordering
     ensures { result ≡ name_cmp name.now entry.now.value.0 }
@@ -78,7 +79,7 @@ pub fn order(name: &PlanName, entry: &Arc<Entry>) -> Ordering
     name.cmp(entry.name())
 }
 
-/// How a plan's name stands to another plan's.
+/// Compares the names of two entries.
 #[inline(always)]
 fn order_of(entry: &Arc<Entry>, other: &Arc<Entry>) -> Ordering
     ensures { result ≡ name_cmp entry.now.value.0 other.now.value.0 }
@@ -108,7 +109,8 @@ fn fork(
     )?)
 }
 
-/// The tree of three trees with two plans between them, where the plan of the one in the middle comes to the top.
+/// Returns the tree of three trees with two plans between them, with the plan of the middle tree at
+/// the top.
 fn around(
     alloc: Global,
     left: Option<Arc<Tree>>,
@@ -212,7 +214,7 @@ fn measure(tree: &mut Tree)
         .saturating_add(1);
 }
 
-/// The tree on the left comes to the top, if nobody else has it.
+/// Rotates the left subtree to the top, if nobody shares it.
 fn turn_right(tree: &mut Tree)
     ensures { tree.new ≡ tree.old }
 {
@@ -230,7 +232,7 @@ fn turn_right(tree: &mut Tree)
     measure(tree);
 }
 
-/// The tree on the right comes to the top, if nobody else has it.
+/// Rotates the right subtree to the top, if nobody shares it.
 fn turn_left(tree: &mut Tree)
     ensures { tree.new ≡ tree.old }
 {
@@ -276,7 +278,7 @@ fn level_right(tree: &mut Tree)
     turn_left(tree);
 }
 
-/// Levels a tree, one side of which has come to a height.
+/// Balances a tree after the height of one side has changed.
 fn level(tree: &mut Tree, side: u8)
     ensures { tree.new ≡ tree.old }
 {
@@ -294,8 +296,8 @@ fn level(tree: &mut Tree, side: u8)
     }
 }
 
-/// Puts a plan into a tree, or over the one of its name. Nodes that nobody else has are changed in place; from the
-/// first one on that is shared the way is made anew.
+/// Puts a plan into a tree, in place of the one with the same name. Nodes that nobody shares are
+/// changed in place; from the first shared node on, new nodes are made.
 pub fn place(alloc: Global, tree: &mut Arc<Tree>, entry: Arc<Entry>) -> Result<(), AllocError>
     ensures put { OnOk result (IsPut entry.value tree.old.value tree.new.value) }
     ensures kept { OnErr result (tree.new.value ≡ tree.old.value) }

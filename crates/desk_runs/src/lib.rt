@@ -1,23 +1,23 @@
-//! Runs and lives of a store: what a stop at any moment leaves, and openings that give it, however often they are stopped.
+//! Runs and lives of a store: what a crash at any moment leaves, and what the next opening finds.
 //!
-//! Seen as a clerk's calls (`Run`) and a store's lives (`Life`). `runs_survive`: since the j-th acknowledgement each image opens to the
-//! desk after the first j acknowledged commands and some that follow. The command in which a fault came may come after them.
-//! `one_desk_opens`, `open_again`, `lives_survive`: see [PROOFS](docs/PROOFS.md).
+//! # Model
 //!
-//! Runs with steps of a sweep between commands: seen as a clerk's calls (`SweptRun`). `tend`: a step of a sweep, or the check that comes
-//! before each (`Tends`, `StepMay`). `outcome_of`: whether others may follow (`swept_of`). `each_swept_run_survives`: as `runs_survive`,
-//! with such steps between commands.
+//! A run is the list of a clerk's calls (`Run`, with steps of sweeps `SweptRun`). A life is an
+//! opening, commands and a crash, or a migration and a crash (`Life`).
 //!
-//! # Notes
+//! # Proved
 //!
-//! `runs_survive` is the law of a run, and `lives_survive` that of a store's lives, each an opening, commands and a stop, or a migration
-//! and a stop. `one_desk_opens` is about the desk that an image opens to.
+//! - `runs_survive`: since the j-th acknowledgement, each crash state opens to the desk after the
+//!   first j acknowledged commands and some that follow. The command during which the device failed
+//!   may come after them (`in_flight`); nothing is acknowledged after it.
+//! - `each_swept_run_survives`: the same with steps of a sweep between commands.
+//! - `one_desk_opens`: a crash state opens to one desk. `open_again`: an opening that is cut off
+//!   and repeated gives that desk. `lives_survive`: the same over any number of lives.
+//! - `tend` is a step of a sweep, or the check before the first (`Tends`, `StepMay`).
 //!
-//! `Does` of desk_store says of one command what each stop leaves. This crate joins the calls of a run (`Run`) and speaks of the moments at
-//! which acknowledged commands returned (`acknowledged_at`, `OpenSince`). The command in which a fault came may come after them
-//! (`in_flight`), and nothing is acknowledged after that. A query does nothing to the clerk, so a stream's run is its commands
-//! (`calls_served`). An image opens to one desk, and `open_again` gives that desk. So a stop within a recovery changes nothing, and
-//! `lives_survive` is one induction over lives (`Life`, `Follow`, `Lasted`).
+//! # Not proved
+//!
+//! Nothing is said about a device that is not honest.
 #![tactic(auto)]
 
 pub mod desk_law;

@@ -5,9 +5,10 @@ use crate::desk_law::one_desk_opens;
 use crate::law::each_run_survives;
 use sector_device::SectorDevice;
 
-/// Of any number of lives, each an opening, commands, and a stop at any moment of them, or a migration and a stop at any moment of it:
-/// what the last stop left opens, in one of the two versions, to the desk after, of each life, the commands that were accepted up to
-/// some place, with all that were acknowledged before its stop.
+/// For any number of lives, each an opening, commands and a crash at any moment, or a migration and
+/// a crash at any moment: what the last crash left opens, in one of the two versions, to the desk
+/// after, from each life, the accepted commands up to some place, which include all that were
+/// acknowledged before its crash.
 #[tactic(auto, using(crate::proofs::Following::lives_survive))]
 pub fn lives_survive<D: SectorDevice>()
     ensures { LivesSurvive D.SectorDevice }

@@ -13,9 +13,10 @@ use desk_store::clerk::Clerk;
 use sector_device::SectorDevice;
 use std::alloc::Global;
 
-/// Opens a device, as `Clerk::open`. Where each image that a stop may leave of it opens to one desk, in either version, the clerk shows
-/// that desk, and whatever the opening comes to, each image that a stop at any moment of it leaves opens to the same desk: so it does
-/// after the next opening, however many of them a stop cuts short.
+/// Opens a device, as `Clerk::open` does. If each crash state of it opens to one desk, in either
+/// version, the clerk shows that desk, and whatever the opening returns, each crash state at any
+/// moment of it opens to the same desk. So does the next opening, however many of them a crash cuts
+/// short.
 pub fn open_again<D: SectorDevice>(alloc: Global, device: D) -> Result<Clerk<D>, (StoreError, D)>
     ensures opening { IsOpening D.SectorDevice device result }
     ensures again { (D.disk (device_after result)).is_honest → (d : Desk) → HoldsEither (D.disk device) d → Recovers D.SectorDevice device d result }

@@ -4,10 +4,10 @@ ghost use Rattle.desk_runs.specs.Turns.{leaves_none, swept_of};
 
 use desk_pages::StoreError;
 
-/// What a turn of sweeping came to.
+/// The result of a turn of sweeping.
 #[derive(Clone, Copy)]
 pub enum Swept {
-    /// Others may follow. There were so many moves before it.
+    /// More turns may follow. There were this many moves before it.
     Again(u64),
     /// The rows are none that a desk leaves. None was taken out, and no other follows.
     Unsound,
@@ -15,8 +15,8 @@ pub enum Swept {
     Over,
 }
 
-/// What a turn came to whose step answered this, and before which there were so many moves. Where memory was refused others may follow;
-/// where the device failed none does.
+/// Returns the result of a turn whose step returned `did`, given the number of moves before it. If
+/// memory was refused, more turns may follow; if the device failed, none does.
 pub fn outcome_of(moves: u64, did: Result<Option<usize>, StoreError>) -> Swept
     ensures { result ≡ swept_of moves did }
 {

@@ -8,7 +8,7 @@ use Rattle.{page_btree.specs.declared.error.TreeError.{TreeError, TheVariants.{D
 use Rattle.{page_store.specs.{claim.Chain.{free_in, root_in}, declared.{pages.Pages.Pages, txn.{Prepared.Prepared, Txn.Txn}}}, plan_revisions.specs.claim.Rows.HasNumbers}
 use Rattle.page_store.specs.claim.Transactions.{stored, disk_in, count_of, has_halted, txn_pages, txn_writes, txn_free, txn_root, over, free_over, prepared_pages, prepared_writes, after, IsQuiet}
 use Rattle.{plan_revisions.specs.{claim.Steps.{HasStepped, LeavesNumbers, StepErr}, plan_rows.claim.Outcomes.HasExhausted}, sector_device.specs.claim.Disk.Image}
-use Rattle.{sector_device.specs.declared.SectorDevice.Ghosts, store_rows.specs.claim.Rows.KeyMap, desk_pages.proofs.{DeskLaws.begun_desk, Found.rows_before}}
+use Rattle.{sector_device.specs.declared.SectorDevice.Ghosts, store_rows.specs.claim.Rows.KeyMap, desk_pages.proofs.{DeskLaws.begun_desk, Found.rows_before, Nearness.near_stored}}
 use Rattle.{page_btree.proofs.MapLaws.begun_holds, page_store.proofs.Chains.length_chain}
 use Rattle.{desk_opening.proofs.plan_rows.Committing.both, plan_revisions.proofs.Accepted.{rows_some, geography_stays}}
 
@@ -96,7 +96,9 @@ module _ {D : Type 0} {g : Ghosts D} where
     λ on. both x.halted on working,
     full x b c e is (λ keeps honest.
         let was = quiet.honest honest in
-        inr (inr (record { txn = t; deep = why honest (desk_of x) (begun_reads (pages_of x) t (desk_of x) begun was (keeps.holds working was)) }))),
+        let deep = why honest (desk_of x) (begun_reads (pages_of x) t (desk_of x) begun was (keeps.holds working was)) in
+        let near = near_stored (command_rows (desk_of x) c) t (pages_of x) (λ i q. begun.over_is q i) (begun.root was) deep.near in
+        inr (inr (record { txn = t; deep = deep; near = near }))),
   )
   not_put x b c e t _ is room working begun quiet why off = absurd (cc)
 

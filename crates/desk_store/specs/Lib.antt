@@ -9,6 +9,7 @@ pub mod Finding
 pub mod Sweeps
 pub mod Openings
 pub mod Calls
+pub mod Depth
 pub use Rattle.geo_tables.specs as geo_tables
 pub use Rattle.store_sweep.specs as store_sweep
 pub use Rattle.desk_opening.specs as desk_opening

@@ -42,8 +42,8 @@ impl<D: SectorDevice> Clerk<D> {
         self.catalogue.clone()
     }
 
-    /// Keeps the text that lists the blocks with the catalogue that is shown, where nobody else has that and memory is there: what is
-    /// shown stays.
+    /// Caches the block listing in the current catalogue if nobody shares it and memory is granted.
+    /// What is shown stays the same.
     pub fn keep_blocks(&mut self, alloc: Global)
         ensures { self.new ≡ self.old }
     {

@@ -1,19 +1,5 @@
-//! The clerk, who keeps the desk in a store: the door by which everything above opens, changes, loads and sweeps it.
-//!
-//! Seen as `desk_of`, the desk that is shown, `disk_of`, the device, and `Keeps`: each image opens to what is shown. `prepare`, `commit`,
-//! `command`: `Does`. An accepted command has the desk's step, and at every moment each image opens to the desk before or after; a refused
-//! one leaves the desk. Halted comes after a fault, Full for want of pages, journal pages, numbers or levels. A commit takes no memory and
-//! succeeds unless the device fails. `Clerk::ask`: the desk's answer. `begin_load`, `load_batch`, `seal`: geo_tables' at the clerk.
-//! `sweep_step`: store_sweep's; a load under way goes on. `Clerk::open`: at each moment each image opens to a desk to which one opened
-//! before, and at Ok the clerk keeps one of these (`any_moment`, `opened`, with [their
-//! premise](docs/PROOFS.md#the-premise-of-every-clause-on-openings)). Of any device a clerk who is given shows the desk of the pages found
-//! (`found`). NotAStore leaves the device unwritten or with the pages that were found (`untouched`). `reopens`: what it keeps opens again.
-//!
-//! # Notes
-//!
-//! A `Clerk` keeps the desk in the pages of a device and shows it from a catalogue in memory. `format` makes a device a store of version 2,
-//! which `Clerk::open` takes alone. `Clerk::begin_load`, `load_batch` and `seal` load a geography, `prepare` and `Ready::commit` do a
-//! command, and `sweep_step` takes out what is left over. `desk_of` is in `specs/`.
+//! The clerk: keeps the desk in a store, for everything above that opens, changes, loads or sweeps
+//! it.
 //!
 //! # Example
 //!
@@ -23,12 +9,39 @@
 //! let ready = clerk.prepare(alloc, command)?;
 //! let reply = ready.commit(&mut clerk);
 //! ```
+//!
+//! # Model
+//!
+//! `desk_of`, the desk that is shown; `disk_of`, the device; and `Keeps`: each crash state opens to
+//! the desk that is shown.
+//!
+//! # Proved
+//!
+//! - `prepare`, `commit` and `command` satisfy `Does`. An accepted command makes the desk's step,
+//!   and at every moment a crash state opens to the desk before or after it. A refused command
+//!   leaves the desk. Halted comes after a fault; Full if pages, journal pages, numbers or levels
+//!   are missing. `depth_law`: levels are never missing for a command of fewer than 50 rows if the
+//!   stored tree has at most five.
+//! - A commit takes no memory and succeeds unless the device fails.
+//! - `Clerk::ask` returns the desk's answer.
+//! - `begin_load`, `load_batch`, `seal` and `sweep_step` do what geo_tables and store_sweep
+//!   promise.
+//! - `Clerk::open`: at every moment, each crash state opens to a desk to which one opened before,
+//!   and after success the clerk keeps one of these (`any_moment`, `opened`; their premise is
+//!   explained in [PROOFS](docs/dev/PROOFS.md)). Whatever the device, a clerk that is returned
+//!   shows the desk of the pages found (`found`). NotAStore leaves the device unwritten, or with
+//!   the pages that were found (`untouched`). `reopens`: what the clerk keeps can be opened again.
+//!
+//! # Not proved
+//!
+//! That memory suffices; tests try it at the limits.
 #![tactic(auto)]
 
 pub mod change;
 pub mod clerk;
 mod counter;
 mod failures;
+pub mod law;
 mod loads;
 mod opening;
 mod prepare;

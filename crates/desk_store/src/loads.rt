@@ -72,8 +72,8 @@ impl<D: SectorDevice> Clerk<D> {
         Ok(())
     }
 
-    /// Stages so many rows more of a load, 1 to 512 and no more than are left, and tells how many are left then. The desk stays as
-    /// it is. After an error the load is as it was.
+    /// Stages the next `rows` rows of a load, 1 to 512 and no more than are left, and returns how
+    /// many are left then. The desk stays as it is. After an error the load is as it was.
     pub fn load_batch(
         &mut self,
         alloc: Global,

@@ -54,10 +54,10 @@ impl<D: SectorDevice> Clerk<D> {
     ghost use Rattle.desk_store.specs.Openings.{Reopens};
     ghost use Rattle.desk_store.specs.Calls.{OpensClerk};
 
-    /// Opens the desk that a device holds: a commit that a stop cut short is finished or dropped, and the desk is read back. At any
-    /// moment of it a stop leaves a desk that was there at its start, in the version in which it was there. With a refusal the device
-    /// comes back, its pages as they were; what is no store stays as it is. `Memory` comes of a store alone, and `OldVersion` of one
-    /// whose rows tell no version.
+    /// Opens the desk on a device: completes or drops a commit that a crash cut short, and reads
+    /// the desk. At any moment a crash leaves a desk that was there at the start, in its version. A
+    /// refusal returns the device with its pages as they were; what is no store stays as it is.
+    /// `Memory` comes only of a store, and `OldVersion` of one whose rows have no version.
     pub fn open(alloc: Global, device: D) -> Result<Clerk<D>, (StoreError, D)>
         ensures { OpensClerk D.SectorDevice device result }
     {

@@ -20,7 +20,7 @@ use sector_device::SectorDevice;
 use std::alloc::Global;
 use std::sync::Arc;
 
-/// Whether so many pages are 13 for each row.
+/// Returns whether there are at least 13 pages for each row.
 fn is_enough(rows: usize, pages: u32) -> bool
     ensures { IsTrue result ↔ (13 * rows ≤ pages) }
 {
@@ -49,7 +49,7 @@ fn refusal_of(e: TreeError) -> Refusal
 }
 
 impl<D: SectorDevice> Clerk<D> {
-    /// Whether free pages and journal pages are enough for so many rows.
+    /// Returns whether free pages and journal pages suffice for `rows` rows.
     fn has_room(&self, rows: usize) -> bool
         ensures room { IsTrue result → HasRoom self.now rows }
         ensures short { (result ≡ false) → LacksRoom self.now rows }

@@ -21,10 +21,11 @@ fn in_range(number: Option<u64>) -> Option<u64>
 impl<D: SectorDevice> Clerk<D> {
     ghost use Rattle.desk_store.specs.Calls.{SweepsSome, ChecksHolders};
 
-    /// Takes out or changes up to 16 of the rows that plans that were taken away and loads that were begun and never sealed left in
-    /// the store: how many there were, 0 only where none is left. The desk stays as it is, and so does the load that was begun last since
-    /// the opening. `Memory`: nothing changed. `NotAStore`: the rows are none that a desk leaves, and nothing changed. `DeviceFault`: the
-    /// device failed in this call. `Halted`: it had failed before.
+    /// Removes or changes up to 16 of the rows that deleted plans and abandoned loads left in the
+    /// store. Returns their number, 0 only if none is left. The desk stays as it is, and so does
+    /// the last load begun since the opening. `Memory`: nothing changed. `NotAStore`: the rows are
+    /// not those of a desk, and nothing changed. `DeviceFault`: the device failed in this call.
+    /// `Halted`: it had failed before.
     pub fn sweep_step(&mut self, alloc: Global) -> Result<usize, StoreError>
         ensures { SweepsSome self.old self.new result }
     {
@@ -44,8 +45,9 @@ impl<D: SectorDevice> Clerk<D> {
         }
     }
 
-    /// Checks before a sweep that each chunk's count is the number of plans that hold it, and that a plan that wasn't taken away holds
-    /// each chunk that its revisions name. Nothing is written. `NotAStore`: that isn't so. The other errors are those of `sweep_step`.
+    /// Checks before a sweep that each chunk's count is the number of plans that hold it, and that
+    /// each existing plan holds every chunk that its revisions name. Nothing is written.
+    /// `NotAStore` if that is not so. The other errors are those of `sweep_step`.
     pub fn check_holders(&mut self, alloc: Global) -> Result<(), StoreError>
         ensures { ChecksHolders self.old self.new result }
     {

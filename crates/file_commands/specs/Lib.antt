@@ -1,5 +1,6 @@
 pub mod Premises
 pub mod Checks
 pub mod Prefixes
+pub mod Quotes
 pub mod Logs
 pub mod Refusals

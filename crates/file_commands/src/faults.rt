@@ -1,9 +1,11 @@
 //! The lines of faults on standard error, and what they mean.
 use crate::prefixes::{Prefixed, faulty_reader, prefix_line};
+use crate::quoting::quoted_line;
 use byte_stream::sink::WriteSink;
 use byte_stream::source::ReadSource;
 use command_output::explaining::tell_words;
 use command_output::explanation::Reason;
+use command_output::finding::path_in;
 use command_output::noting::Noting;
 use state_files::open::AuditFiles;
 use std::fs::File;
@@ -26,7 +28,8 @@ pub fn explain_last(
     explain_line(rt, &told.into_inner(), with_words, files, reason);
 }
 
-/// The same of a fault of an audit's files. Where it is the first line of a plan, what its file begins with is told too.
+/// The same of a fault of an audit's files. If it is about a plan's first line, this shows what the file begins with, and if it is about
+/// another line, that line.
 pub fn explain_audit(
     rt: &HostRuntime,
     told: WriteSink<Noting<Stderr>>,
@@ -45,6 +48,13 @@ pub fn explain_audit(
         if let Ok(text) = prefix_line(rt.alloc(), reader.prefix()) {
             let _ = terminal.write_all(text.as_slice());
         }
+        return;
+    }
+    let Some(path) = path_in(told.line(), named) else {
+        return;
+    };
+    if let Some(text) = quoted_line(rt, told.line(), path) {
+        let _ = terminal.write_all(text.as_slice());
     }
 }
 

@@ -1,13 +1,21 @@
-//! The commands over files and standard streams, and the words that the program is given: each opens by name what it reads and writes.
+//! The commands over files and standard streams: opens by name what each command reads and writes.
 //!
-//! Seen as an exit status. Safety and return alone, but of `premises_are_met` and `lives_find_what_is_read`
-//! ([PROOFS](docs/PROOFS.md#the-premise-of-every-clause-on-openings)).
+//! # Model
+//!
+//! An exit status.
+//!
+//! # Proved
+//!
+//! Safety and termination, and the two functions that meet the premises of the clauses on openings:
+//! `premises_are_met` and `lives_find_what_is_read` ([PROOFS](docs/dev/PROOFS.md)).
+//!
+//! # Not proved
+//!
+//! That the command gets the files that the arguments name; tests try it.
 //!
 //! # Notes
 //!
-//! What is opened is handed to the command, a function over readers and writers, and words say what a fault means. What a
-//! store's file holds is a parameter `S` of these functions, which no code can read. So all is proved whatever it holds, and `premises`
-//! says what that rests on.
+//! What a store's file holds is a parameter `S` of these functions, which no code can read.
 #![tactic(auto)]
 
 pub mod checks;
@@ -21,6 +29,7 @@ pub mod logs;
 pub mod migrating;
 pub mod prefixes;
 pub mod premises;
+pub mod quoting;
 pub mod stating;
 pub mod stores;
 pub mod sweeping;

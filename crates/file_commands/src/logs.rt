@@ -1,15 +1,18 @@
 //! The files of logs, by their paths.
-ghost use Rattle.std.specs.Prelude.{◌≡◌, ℕ, List, IfOk};
+ghost use Rattle.std.specs.Prelude.{◌≡◌, ℕ, List, Some, IfOk, IfErr, codes};
+ghost use Rattle.std.specs.Str.{bytes_eq};
 ghost use Rattle.std.specs.declared.fs.options.OpenOptions.{OpenOptions as Options};
 ghost use Rattle.file_commands.specs.Logs.{AddsLines, IsLogOf};
 
 use byte_stream::sink::WriteSink;
+use command_output::explanation::Reason;
 use connection_log::log::{Log, start};
 use state_files::fault::OpenFault;
 use std::alloc::Global;
 use std::fs::{File, Files, OpenOptions, TryLockError};
 use std::io;
 use std::io::{ErrorKind, IsTerminal};
+use std::os::unix::fs::FileExt;
 use std::sync::{Arc, Wait};
 use std::thread::Threads;
 
@@ -61,13 +64,56 @@ pub fn open_log<O: OpensFiles>(opener: &O, name: &str) -> Result<O::File, OpenFa
     }
 }
 
-/// Holds the file of a log beside others that add to it, and refuses one that is held by itself, as a store is. So a store can't be
-/// opened whose file is the log.
-fn share(file: &File) -> Result<(), OpenFault> {
+/// Why there is no log: the fault that is printed, and its reason if that is known.
+#[derive(Clone, Copy)]
+pub struct NoLog {
+    pub fault: OpenFault,
+    pub reason: Option<Reason>,
+}
+
+fn no_log(fault: OpenFault, reason: Option<Reason>) -> NoLog
+    ensures fault { result.fault ≡ fault }
+    ensures reason { result.reason ≡ reason }
+{
+    NoLog { fault, reason }
+}
+
+/// Holds the file of a log together with others that add to it, and refuses a file that another program holds as its own, as a plandesk
+/// holds its store. So a store can't be opened while its file is the log.
+fn share(file: &File) -> Result<(), NoLog>
+    ensures { IfErr result (λ e. (e.fault ≡ OpenFault.Unreadable) × (e.reason ≡ Some Reason.InUse)) }
+{
     match file.try_lock_shared() {
-        Err(TryLockError::WouldBlock) => Err(OpenFault::Unreadable),
+        Err(TryLockError::WouldBlock) => Err(no_log(OpenFault::Unreadable, Some(Reason::InUse))),
         Ok(()) | Err(TryLockError::Error(_)) => Ok(()),
     }
+}
+
+/// Whether a file's first bytes are those with which every store begins.
+fn begins_store(first: &[u8]) -> bool
+    ensures { result ≡ bytes_eq first.now (codes "PLANDESK") }
+{
+    first == b"PLANDESK".as_slice()
+}
+
+/// Refuses the file of a log that begins as a store does, so that no line is added to it.
+fn refuse_store(file: &File) -> Result<(), NoLog> {
+    let mut first = [0u8; 8];
+    if file.read_exact_at(&mut first, 0).is_ok() && begins_store(&first) {
+        return Err(no_log(OpenFault::Unreadable, Some(Reason::IsStore)));
+    }
+    Ok(())
+}
+
+/// The open file of a log, to which lines may be added.
+fn log_file(rt: &HostRuntime, name: &str) -> Result<File, NoLog> {
+    let file = match open_log(rt, name) {
+        Ok(file) => file,
+        Err(fault) => return Err(no_log(fault, None)),
+    };
+    share(&file)?;
+    refuse_store(&file)?;
+    Ok(file)
 }
 
 /// The log of a served store: in the file that is named, or else on standard error where that is a terminal, or else none.
@@ -75,13 +121,9 @@ pub fn log_of<T: Threads + Wait + Copy + Send + 'static>(
     rt: &HostRuntime,
     threads: &T,
     name: Option<&str>,
-) -> Result<Option<Arc<Log, Global>>, OpenFault> {
+) -> Result<Option<Arc<Log, Global>>, NoLog> {
     let started = match name {
-        Some(name) => {
-            let file = open_log(rt, name)?;
-            share(&file)?;
-            start(threads, rt.alloc(), WriteSink::new(file))
-        }
+        Some(name) => start(threads, rt.alloc(), WriteSink::new(log_file(rt, name)?)),
         None => {
             let terminal = rt.stderr();
             if !terminal.is_terminal() {
@@ -92,6 +134,6 @@ pub fn log_of<T: Threads + Wait + Copy + Send + 'static>(
     };
     match started {
         Ok(log) => Ok(Some(log)),
-        Err(_) => Err(OpenFault::Memory),
+        Err(_) => Err(no_log(OpenFault::Memory, None)),
     }
 }

@@ -123,7 +123,7 @@ fn sort(prefix: &[u8]) -> &'static [u8]
 }
 
 /// Puts the bytes after a text, each as it is shown.
-fn put_shown(text: &mut Vec<u8>, prefix: &[u8]) -> Result<(), AllocError>
+pub(crate) fn put_shown(text: &mut Vec<u8>, prefix: &[u8]) -> Result<(), AllocError>
     ensures { OnOk result (text.new.items ≡ text.old.items ++ map shown prefix.now) }
 {
     for byte in prefix {
@@ -134,7 +134,7 @@ fn put_shown(text: &mut Vec<u8>, prefix: &[u8]) -> Result<(), AllocError>
 }
 
 /// The bytes before the first line end, or all of them.
-fn first_line(prefix: &[u8]) -> &[u8]
+pub(crate) fn first_line(prefix: &[u8]) -> &[u8]
     ensures { result.now ≡ line_prefix prefix.now }
 {
     for (i, byte) in prefix.iter().enumerate() {

@@ -6,7 +6,8 @@ ghost use Rattle.gal_text.specs.claim.Texts.{block_text, blocks_text};
 use desk_model::block::BlockId;
 use std::fmt;
 
-/// A fault that stands at a place of the text. Words are counted from 1 after the header's line; the header is 0.
+/// A fault at a place of the text. Words are counted from 1 after the header's line; the header is
+/// 0.
 #[derive(Clone, Copy)]
 pub enum TextFault {
     /// A1: no header line, or one of 0, 2 or 3 words, or longer than 65,536 bytes.
@@ -15,7 +16,7 @@ pub enum TextFault {
     Count(u64),
     /// A3: a unit or a neighbour that isn't a block's 15 digits, at this word.
     UnknownBlock(u64),
-    /// A4: the unit stands there before.
+    /// A4: the unit occurs before.
     RepeatedUnit(BlockId),
     /// A6: the unit is its own neighbour.
     OwnNeighbour(BlockId),

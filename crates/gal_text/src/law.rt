@@ -1,8 +1,8 @@
 //! What the words of a neighbour file say together.
 ghost use Rattle.gal_text.specs.Relation.{UnitsLaw};
 
-/// The words are read without a fault exactly where they are those of as many different units as were told, one after
-/// the other, and what was read is what these list.
+/// The words are read without a fault exactly if they are the words of the announced number of
+/// different units, one after the other. What was read is what these units list.
 pub fn units_law()
     ensures { UnitsLaw }
 {}

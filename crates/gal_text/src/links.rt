@@ -63,7 +63,7 @@ fn sort_pairs(pairs: &mut Vec<(BlockId, BlockId)>)
     pairs.dedup();
 }
 
-/// Whether a pair stands there.
+/// Returns whether the list contains a pair.
 fn has_pair(pairs: &[(BlockId, BlockId)], pair: (BlockId, BlockId)) -> bool
     requires { AreRising pairs.now }
     ensures { IsTrue result ↔ Contains pairs.now pair }
@@ -87,7 +87,7 @@ fn is_one_way(link: &Link, up: &[(BlockId, BlockId)], down: &[(BlockId, BlockId)
     false
 }
 
-/// The one that stands first.
+/// Returns the link that comes first.
 fn first_of(one: Link, other: Link) -> Link
     ensures { result ≡ (if is_before other one then other else one) }
 {

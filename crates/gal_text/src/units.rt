@@ -31,7 +31,7 @@ pub enum Awaited {
     Block,
     /// This unit's number of neighbours.
     Count(BlockId),
-    /// A neighbour of this unit, the first of so many that are left.
+    /// A neighbour of this unit, the first of the given number that are left.
     Neighbour(BlockId, u64),
 }
 
@@ -42,7 +42,8 @@ pub enum UnitRefusal {
     Memory,
 }
 
-/// The units so far. It grows with the words, never with the count that the header tells.
+/// The units read so far. Its memory grows with the words, never with the number that the header
+/// announces.
 #[derive(Drop)]
 pub struct Graph {
     /// Whether the block at each place is a unit.
@@ -67,7 +68,7 @@ fn block_of(blocks: &[BlockRow], likely: usize, word: &[u8]) -> Option<(usize, B
     Some((place, id))
 }
 
-/// So many neighbours of the unit are left.
+/// The unit has `left` neighbours to come.
 fn neighbours_left(unit: BlockId, left: u64) -> Awaited
     ensures { result ≡ neighbours_left unit left }
 {
@@ -85,7 +86,7 @@ fn lists(links: &[Link], unit: BlockId, other: BlockId) -> bool
 }
 
 impl Graph {
-    /// No word was taken, and so many units are left.
+    /// No word was taken, and `left` units are to come.
     pub fn new(alloc: Global, blocks: &[BlockRow], left: u64) -> Result<Graph, AllocError>
         ensures { IfOk result (λ g. Holds blocks.now g (at_start left)) }
     {
@@ -178,7 +179,7 @@ impl Graph {
         Ok(())
     }
 
-    /// Adds a link of the unit at hand, of which so many are left behind it.
+    /// Adds a link of the current unit, which has `left` more links to come.
     fn add_link(&mut self, link: Link, left: u64) -> Result<(), UnitRefusal>
         ensures { (blocks : List Row) (p : Progress) → Holds blocks self.old p → IsAtHand p.units p.links self.old.first link.from
             → Meets blocks (Ok (with_link p link left)) result self.new }

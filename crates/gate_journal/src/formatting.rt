@@ -13,7 +13,7 @@ use crate::words::fill_header;
 use crate::writes::PageWrites;
 use sector_device::{DeviceFault, SECTOR_SIZE, SectorDevice};
 
-/// Whether 64 pages remain of so many sectors.
+/// Returns whether at least 64 of `sectors` sectors remain for pages.
 pub fn has_room(sectors: u32, journal_pages: u32) -> bool
     requires { journal_pages ≤ 65536 }
     ensures yes { result ≡ true → home journal_pages + 64 ≤ sectors }
@@ -23,8 +23,9 @@ pub fn has_room(sectors: u32, journal_pages: u32) -> bool
     sectors >= home && sectors - home >= LEAST_PAGES
 }
 
-/// Makes a device a store whose commits write up to so many pages. The pages hold what the device held. A stop before the
-/// end isn't covered: the device is formatted again. The answer is what the store has.
+/// Formats a device as a store whose commits may write up to `journal_pages` pages, and returns its
+/// layout. The contents of the pages stay as they were. A crash before the end is not covered:
+/// format the device again.
 pub fn format<D: SectorDevice>(device: &mut D, journal_pages: u32) -> Result<Layout, PageError>
     requires { IsJournalSize journal_pages }
     ensures { FormatsJournal D.SectorDevice journal_pages device.old device.new result }

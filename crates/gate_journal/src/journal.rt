@@ -10,7 +10,7 @@ use crate::steps::write_through;
 use crate::writes::PageWrites;
 use sector_device::{Sector, SectorDevice};
 
-/// Pages behind a gate, on a device.
+/// Pages behind a gate on a device: commits write all of their pages or none.
 #[derive(Drop)]
 pub struct Journal<D: SectorDevice> {
     device: D,
@@ -28,8 +28,8 @@ impl<D: SectorDevice> Journal<D> {
     ghost use Rattle.gate_journal.specs.claim.Contents.{device_of, page_count, journal_size, is_halted};
     ghost use Rattle.gate_journal.specs.Outcomes.{OpensJournal, ReadsPage, CommitsWrites};
 
-    /// Opens the store that a device holds. What a commit left behind an open gate is brought home first. With a refusal
-    /// the device comes back.
+    /// Opens the store on a device. If the gate is open, the interrupted commit is completed first.
+    /// A refusal returns the device.
     pub fn open(device: D) -> Result<Journal<D>, (PageError, D)>
         ensures { OpensJournal device result }
     {

@@ -1,13 +1,47 @@
-//! A journal with a gate byte: a commit is all of its pages or none, whatever moment it is stopped at.
+//! A journal with a gate byte: a commit writes all of its pages or none, also if the machine
+//! crashes.
 //!
-//! Seen as an array of pages. A commit is all pages or none, at every moment; after Ok each image has the pages after it. A commit within
-//! the journal's size, on pages that haven't halted, succeeds unless the device fails in it. An opening that finds no store writes nothing,
-//! or only brought home what an open gate left. After a halt every call leaves pages and journal.
+//! # Layout
 //!
-//! # Notes
+//! ```text
+//! sector 0            header: PLANDESK, version, journal pages J, number of pages
+//! sector 1            the gate: its first byte is 0xA5 while a commit must be completed
+//! sector 2 ..         the list: the number of pages of the commit, and their numbers
+//! then J sectors      the copies of these pages, in the order of the list
+//! then                the pages themselves
+//! ```
 //!
-//! Sector 0 is the header, sector 1 the gate; then come the list, the copies and the pages. A commit puts list and copies on the disk,
-//! opens the gate, writes the pages, and closes the gate. An opening brings home what an open gate left.
+//! A commit syncs the device five times:
+//!
+//! 1. before its first write, so that no older write is still unsynced;
+//! 2. after writing the list and the copies;
+//! 3. after opening the gate;
+//! 4. after writing the pages in their places;
+//! 5. after shutting the gate. Only then is the commit acknowledged.
+//!
+//! Invariants:
+//!
+//! 1. While the gate is shut, the pages are those before the commit or, after sync 4, after it.
+//! 2. While the gate is open, the list and the copies are on the disk and complete.
+//! 3. An opening that finds the gate open writes the copies to their places and shuts the gate.
+//!    After another crash it does the same again, with the same result.
+//!
+//! # Model
+//!
+//! An array of pages.
+//!
+//! # Proved
+//!
+//! - At every moment of a commit, a crash leaves the pages before or after it; after success, the
+//!   pages after it.
+//! - A commit within the journal's size, on pages that have not halted, succeeds unless the device
+//!   fails.
+//! - An opening that finds no store writes nothing, or has only completed an open commit.
+//! - After a fault every call answers Halted and changes nothing.
+//!
+//! # Not proved
+//!
+//! What the disk does (see sector_device).
 #![tactic(auto)]
 
 mod error;

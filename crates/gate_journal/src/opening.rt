@@ -50,7 +50,7 @@ fn find_layout<D: SectorDevice>(device: &mut D) -> Result<Option<Layout>, Device
     }
 }
 
-/// Closes the gate. Where it is open, what it left behind is brought home first.
+/// Shuts the gate. If it is open, the interrupted commit is completed first.
 fn close_gate<D: SectorDevice>(device: &mut D, layout: Layout) -> Result<(), PageError>
     requires room { HasRoom (D.disk device.old).sectors layout.journal_pages layout.pages }
     ensures { OpensSo (ClosesGate layout) (D.disk device.old) (D.disk device.new) result }

@@ -84,7 +84,7 @@ fn copy_back<D: SectorDevice>(device: &mut D, layout: Layout, count: u32) -> Res
     Ok(())
 }
 
-/// Brings home what an open gate left behind, and closes it.
+/// Completes the commit of an open gate, and shuts the gate.
 pub fn bring_back<D: SectorDevice>(
     device: &mut D,
     layout: Layout,

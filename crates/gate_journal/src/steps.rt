@@ -26,7 +26,7 @@ pub fn write_copies<D: SectorDevice>(
     Ok(())
 }
 
-/// Writes the pages, of which the first stands at a sector.
+/// Writes the pages to their own sectors, given the sector of page 0.
 pub fn write_homes<D: SectorDevice>(
     device: &mut D,
     home: u32,

@@ -8,7 +8,7 @@ use std::alloc::{AllocError, Global};
 /// Pages that a commit is to write, each once.
 #[derive(Drop)]
 pub struct PageWrites {
-    /// The number of each page, in the order of the list: a search passes over these alone.
+    /// The number of each page, in the order of the list; a search reads only these.
     numbers: Vec<u32>,
     pub(crate) list: Vec<(u32, Sector)>,
     ghost beside: { AreNumbers numbers.items list.items },
@@ -61,7 +61,7 @@ impl PageWrites {
         }
     }
 
-    /// Room for so many pages, and none yet.
+    /// Room for `count` pages, without a page yet.
     pub fn with_capacity(alloc: Global, count: usize) -> Result<PageWrites, AllocError>
         ensures none { IfOk result (λ writes. writes_of writes ≡ []) }
         ensures room { IfOk result (λ writes. count ≤ room_of writes) }
@@ -71,7 +71,7 @@ impl PageWrites {
         Ok(PageWrites { numbers, list })
     }
 
-    /// How many pages are written. Each stands once.
+    /// Returns the number of pages in the write set. Each occurs once.
     #[tactic(auto, using(crate::proofs::Overlays::is_once))]
     pub fn len(&self) -> usize
         ensures length { result ≡ length (writes_of self.now) }
@@ -118,7 +118,8 @@ impl PageWrites {
         Some(&self.list[k].1)
     }
 
-    /// Changes the bytes of a page that is written where they lie, and tells what that told; none where the page isn't written.
+    /// Applies `change` in place to a page that is already in the write set and returns its result;
+    /// `None` if the page is not in the set.
     pub fn edit<R, F: FnOnce(&mut Sector) -> R>(&mut self, page: u32, change: F) -> Option<R>
         requires { F.IsAlwaysCallable change }
         ensures { EditsPage (FnOnceReturnsAtMut F.FnOnce change) page self.old self.new result }

@@ -1,11 +1,11 @@
 -- A transaction that is begun, whose rows are put, and that is committed then.
 use Rattle.{std.{specs.Prelude.◌⊎◌, proofs.Common.{◌≡◌, ◌+◌, ◌*◌, ◌≤◌, ℕ, length, false, sym, subst, ◌∙◌, Result, inl, ⊎_elim, arith}}, desk_model.specs.claim.Desk.Desk}
 use Rattle.{desk_pages.specs.{Calls.CommitsFitting, claim.Desks.{InPages, InTxn, OpensDesk}, declared.error.StoreError.StoreError}, geo_tables.specs.Refusals.HasRoom}
-use Rattle.{geo_tables.specs.Starting.IsStarted, page_btree.specs.claim.Map.{InTxn as TxnHolds, InPages as PagesHold}, page_store.specs.{claim.Chain.free_in, declared.txn.Txn.Txn}}
-use Rattle.page_store.specs.{claim.Transactions.{stored, disk_in, count_of, journal_of, has_halted, txn_free, HasFailed, HasShape, IsQuiet, Passed}, declared.pages.Pages.Pages}
-use Rattle.{page_store.specs.gate_journal.claim.Store.home, sector_device.specs.{claim.{Disk.Image, Moments.LeavesOnly}, declared.SectorDevice.Ghosts}}
-use Rattle.{store_rows.specs.claim.Rows.KeyMap, desk_pages.proofs.Kept.opens_now, page_store.proofs.Stops.{leaves_here, leaves_quiet}}
-use Rattle.sector_device.proofs.Moments.{leaves_more, leaves_wider}
+use Rattle.{geo_tables.specs.Starting.IsStarted, page_btree.specs.claim.Map.{InTxn as TxnHolds, InPages as PagesHold}, page_store.specs.claim.Chain.{free_in, root_in}}
+use Rattle.page_store.specs.claim.Transactions.{stored, disk_in, count_of, journal_of, has_halted, txn_root, txn_free, over, HasFailed, HasShape, IsQuiet, Passed}
+use Rattle.{page_store.specs.{declared.{pages.Pages.Pages, txn.Txn.Txn}, gate_journal.claim.Store.home}, sector_device.specs.claim.{Disk.Image, Moments.LeavesOnly}}
+use Rattle.{sector_device.{specs.declared.SectorDevice.Ghosts, proofs.Moments.{leaves_more, leaves_wider}}, store_rows.specs.claim.Rows.KeyMap, desk_pages.proofs.Kept.opens_now}
+use Rattle.page_store.proofs.Stops.{leaves_here, leaves_quiet}
 
 module _ {D : Type 0} {g : Ghosts D} {a b : Pages D g} (quiet : IsQuiet a b) where
   -- pages that were read at most hold the same
@@ -66,6 +66,8 @@ module _ {D : Type 0} {g : Ghosts D} {a b : Pages D g} (passed : Passed a b) whe
     journal = journal;
     free = free;
     count = λ honest. subst (λ (P : Image). txn_free t ≡ length (free_in P)) (sym (passed.quiet.same honest)) (started.count (passed.quiet.honest honest));
+    same = λ honest. subst (λ (P : Image). over t P ≡ P) (sym (passed.quiet.same honest)) (started.same (passed.quiet.honest honest));
+    root = λ honest. subst (λ (P : Image). txn_root t ≡ root_in P) (sym (passed.quiet.same honest)) (started.root (passed.quiet.honest honest));
     reads = λ honest m holds. reads_then passed.quiet t honest m (started.reads (passed.quiet.honest honest) m (quiet_back passed.quiet honest m holds));
   }
 

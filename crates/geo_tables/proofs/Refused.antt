@@ -1,14 +1,14 @@
 -- Why a step of a load is refused, from why its parts are.
-use Rattle.std.proofs.{Common.{◌≡◌, ◌*◌, ◌≤◌, ◌<◌, ◌^◌, ℕ, Bool, List, Option, None, length, false, true, refl, sym, subst, ◌∙◌, inl, inr, arith}, lemmas.Bool.cases_lt}
+use Rattle.std.proofs.{Common.{◌≡◌, ◌*◌, ◌≤◌, ◌<◌, ◌^◌, ℕ, Bool, List, Option, None, length, false, true, refl, sym, subst, ◌∙◌, inl, inr, arith, ◌+◌}, lemmas.Bool.cases_lt}
 use Rattle.{desk_model.specs.claim.{Desk.Desk, Geography.GeographyModel}, desk_pages.specs.{Errors.tree_refusal, Reading.{HasNext, ReadErr, StandsAs}, claim.Puts.PutsErr}}
 use Rattle.desk_pages.specs.{claim.Desks.{IsDeskMap, InPages}, declared.error.StoreError.{StoreError, TheVariants.{Full, Memory, NotAStore, DeviceFault, Halted}}}
 use Rattle.geo_tables.specs.{Loads.{AreExhausted, IsNotBegun, BeginErr}, Refusals.{HasRoom, IsShort, IsDeep, AreBegun, NextErr, RowsErr, SealedErr, BeginErr as Begins}}
-use Rattle.{geo_tables.{specs.{Rows.begun_rows, Starting.{IsStarted, StartErr}, declared.load.Load.Load}, proofs.Maps.no_geography}, page_btree.specs.claim.Errors.level_in}
-use Rattle.{page_btree.specs.{claim.Map.{InTxn as TxnHolds, InPages as HoldsRows}, declared.error.TreeError.TreeError}, page_store.specs.declared.{pages.Pages.Pages, txn.Txn.Txn}}
-use Rattle.{page_store.specs.claim.Transactions.{stored, disk_in, journal_of, has_halted, txn_free, txn_root, over, IsQuiet, Passed}, sector_device.specs.claim.Disk.Image}
-use Rattle.{sector_device.specs.declared.SectorDevice.Ghosts, store_rows.specs.claim.{Keys.{key_of, seal}, Puts.{Row, put_rows}, Rows.{KeyMap, Lacks}, Values.seal_bytes}}
-use Rattle.{store_rows.specs.declared.value.SealRow.SealRow, geo_tables.proofs.{Joins.{failed_after, room_of, quiet_rows, quiet_desk}, SealedRows.seal_stands}}
-use Rattle.page_store.proofs.Stops.{quiet_more, quiet_none}
+use Rattle.{geo_tables.specs.{Rows.begun_rows, Starting.{IsStarted, StartErr}, declared.load.Load.Load}, page_btree.specs.claim.Errors.{level_in, reach_in, top_reach}}
+use Rattle.{page_btree.specs.{claim.Map.{InTxn as TxnHolds, InPages as HoldsRows}, declared.error.TreeError.TreeError}, page_store.specs.claim.Chain.root_in}
+use Rattle.page_store.specs.{claim.Transactions.{stored, disk_in, journal_of, has_halted, txn_free, txn_root, over, IsQuiet, Passed}, declared.{pages.Pages.Pages, txn.Txn.Txn}}
+use Rattle.{sector_device.specs.{claim.Disk.Image, declared.SectorDevice.Ghosts}, store_rows.specs.claim.{Keys.{key_of, seal}, Puts.{Row, put_rows}, Rows.{KeyMap, Lacks}}}
+use Rattle.{store_rows.specs.{claim.Values.seal_bytes, declared.value.SealRow.SealRow}, desk_pages.proofs.Nearness.near_stored, geo_tables.proofs.Maps.no_geography}
+use Rattle.{geo_tables.proofs.{Joins.{failed_after, room_of, quiet_rows, quiet_desk}, SealedRows.seal_stands}, page_store.proofs.Stops.{quiet_more, quiet_none}}
 use Rattle.page_btree.specs.declared.error.TreeError.TheVariants as tree
 
 pub both : {X : Type 0} (b : Bool) → b ≡ true → b ≡ false → X
@@ -26,7 +26,12 @@ module _ {D : Type 0} {g : Ghosts D} where
     rows_refused t a b started few quiet tree.NotAStore why = (quiet, λ honest d holds. why honest holds.m (started.reads (quiet.honest honest) holds.m holds.holds))
     rows_refused t a b started few quiet tree.Halted why = both (has_halted a) why started.working
     rows_refused t a b started few quiet tree.NoPages why = let free = started.free in absurd (omega arith)
-    rows_refused t a b started few quiet tree.TooDeep why = (quiet, inr (λ honest m holds. (all, refl, (t, why honest m (started.reads (quiet.honest honest) m holds)))))
+    rows_refused t a b started few quiet tree.TooDeep why = (
+      quiet,
+      inr (λ honest m holds.
+          let found = why honest m (started.reads (quiet.honest honest) m holds) in
+          (all, refl, (t, found.0), near_stored (length all) t a (started.same (quiet.honest honest)) (started.root (quiet.honest honest)) found.1)),
+    )
     rows_refused t a b started few quiet tree.Memory why = (quiet, room_of started quiet.honest)
 
   -- ---- a load that isn't begun
@@ -45,7 +50,12 @@ module _ {D : Type 0} {g : Ghosts D} where
     next_unput tree.TooDeep not = (
       quiet,
       inr (inr (λ honest m holds.
-          let reads = started.reads (quiet.honest honest) m holds in (begun_rows not.next, (not.next, not.was honest m reads, refl), (t, not.why honest m reads)))),
+          let reads = started.reads (quiet.honest honest) m holds in (
+            begun_rows not.next,
+            (not.next, not.was honest m reads, refl),
+            (t, (not.why honest m reads).0),
+            near_stored (length (begun_rows not.next)) t a (started.same (quiet.honest honest)) (started.root (quiet.honest honest)) (not.why honest m reads).1,
+          ))),
     )
     next_unput tree.Memory not = (quiet, room_of started quiet.honest)
 
@@ -63,7 +73,7 @@ module _ {D : Type 0} {g : Ghosts D} where
       let is = found.2.1 in
       let holds : TxnHolds is.txn (stored a) (put_rows m is.prefix) = subst (λ (P : Image). TxnHolds is.txn P (put_rows m is.prefix)) (quiet.same then) is.holds in
       let deep : level_in (over is.txn (stored a)) (txn_root is.txn) ≡ 5 = subst (λ (P : Image). level_in (over is.txn P) (txn_root is.txn) ≡ 5) (quiet.same then) is.deep in
-      (found.0, found.1, (found.2.0, search (arith)))
+      (found.0, found.1, (found.2.0, search (arith)), subst (λ (P : Image). top_reach ≤ reach_in P (root_in P) + length found.0) (quiet.same then) found.3)
 
   pub room_after : (rows : ℕ) (a b c : Pages D g) → IsQuiet a b → ((disk_in c).is_honest → (disk_in b).is_honest) → HasRoom rows b c → HasRoom rows a c
   room_after rows a b c quiet honest_then room = search (arith, room.journal, quiet.journal, quiet.same, honest_then, room.free)

@@ -1,6 +1,6 @@
 -- Why a load goes no further.
 use Rattle.std.specs.Prelude.{◌≡◌, ◌⊎◌, ◌<◌, ◌≤◌, ◌+◌, ◌*◌, ◌^◌, ℕ, List, [], ◌∷◌, length, Some, None, true, Result, Err, OnOk}
-use Rattle.{desk_model.specs.claim.{Desk.Desk, Geography.GeographyModel}, desk_pages.specs.{Commits.Commits, claim.{Desks.InPages, Puts.HasDeepened}}}
+use Rattle.{desk_model.specs.claim.{Desk.Desk, Geography.GeographyModel}, desk_pages.specs.{Commits.Commits, claim.{Desks.InPages, Puts.{HasDeepened, IsStoredNear}}}}
 use Rattle.{desk_pages.specs.declared.error.StoreError.{StoreError, TheVariants.{AlreadySealed, Full, Memory, NotAStore, DeviceFault, Halted}}, store_rows.specs.claim.Keys.seal}
 use Rattle.geo_tables.specs.{Loading.{HoldsLoad, number_of, geography_model_of, done_of}, Rows.{begun_rows, staged_rows, seal_row}, declared.load.Load.Load}
 use Rattle.{page_btree.specs.claim.Map.InPages as HoldsRows, page_store.specs.{claim.Chain.free_in, declared.{pages.Pages.Pages, txn.Txn.Txn}}, store_rows.specs.claim.Puts.Row}
@@ -31,10 +31,10 @@ module _ {D : Type 0} {g : Ghosts D} where
   abbrev pub IsExhausted : Pages D g → Pages D g → Type 0
   IsExhausted old new = (disk_in new).is_honest → (m : KeyMap) → HoldsRows old m → (next : Counters) × IsNext m next × (next.load + 1 ≡ 2 ^ 64)
 
-  -- the tree had six levels after some of the rows
+  -- the tree had six levels after some of the rows, and the stored tree was near enough to that for so many
   abbrev pub IsDeep : (KeyMap → List Row → Type 0) → Pages D g → Pages D g → Type 0
   IsDeep are old new = (disk_in new).is_honest → (m : KeyMap) → HoldsRows old m
-      → (rows : List Row) × are m rows × ((t : Txn) × HasDeepened rows t old m)
+      → (rows : List Row) × are m rows × ((t : Txn) × HasDeepened rows t old m) × IsStoredNear (length rows) old
 
   -- no geography is sealed
   abbrev pub IsUnsealed : Pages D g → Pages D g → Type 0

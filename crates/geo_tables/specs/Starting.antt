@@ -1,8 +1,8 @@
 -- A transaction that is begun where there is room for its rows, and that is committed.
 use Rattle.std.specs.Prelude.{◌≡◌, ◌⊎◌, ◌<◌, ◌≤◌, ◌*◌, ℕ, length, true, false}
-use Rattle.{desk_pages.specs.declared.error.StoreError.{StoreError, TheVariants.{Full, Halted}}, page_btree.specs.claim.Map.{InTxn, InPages}, page_store.specs.claim.Chain.free_in}
-use Rattle.page_store.specs.{claim.Transactions.{stored, disk_in, count_of, journal_of, has_halted, txn_pages, txn_free, txn_writes}, declared.{pages.Pages.Pages, txn.Txn.Txn}}
-use Rattle.{sector_device.specs.declared.SectorDevice.Ghosts, store_rows.specs.claim.Rows.KeyMap}
+use Rattle.{desk_pages.specs.declared.error.StoreError.{StoreError, TheVariants.{Full, Halted}}, page_btree.specs.claim.Map.{InTxn, InPages}, page_store.specs.declared.txn.Txn.Txn}
+use Rattle.page_store.specs.claim.{Chain.{free_in, root_in}, Transactions.{stored, disk_in, count_of, journal_of, has_halted, txn_pages, txn_root, txn_free, txn_writes, over}}
+use Rattle.{page_store.specs.declared.pages.Pages.Pages, sector_device.specs.declared.SectorDevice.Ghosts, store_rows.specs.claim.Rows.KeyMap}
 
 module _ {D : Type 0} {g : Ghosts D} where
   -- It reads what the pages hold and has written nothing. They have 13 free pages and 13 journal pages for each row.
@@ -13,6 +13,8 @@ module _ {D : Type 0} {g : Ghosts D} where
     pub journal : 13 * rows ≤ journal_of ps
     pub free : 13 * rows ≤ txn_free t
     pub count : (disk_in ps).is_honest → txn_free t ≡ length (free_in (stored ps))
+    pub same : (disk_in ps).is_honest → over t (stored ps) ≡ stored ps
+    pub root : (disk_in ps).is_honest → txn_root t ≡ root_in (stored ps)
     pub reads : (disk_in ps).is_honest → (m : KeyMap) → InPages ps m → InTxn t (stored ps) m
 
   -- why none is begun

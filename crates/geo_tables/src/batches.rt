@@ -18,7 +18,7 @@ use std::alloc::Global;
 /// How many rows a batch may have at most.
 pub const BATCH_ROWS: usize = 512;
 
-/// Puts so many rows more of a load and commits them.
+/// Puts the next `rows` rows of a load and commits them.
 fn stage<D: SectorDevice>(
     alloc: Global,
     pages: &mut Pages<D>,
@@ -44,8 +44,9 @@ fn stage<D: SectorDevice>(
     commit_fitting(txn, pages)
 }
 
-/// Stages so many rows more of a load, 1 to 512 and no more than are left, and tells how many are left then. The desk stays as
-/// it is. After an error the load is as it was, and but for `DeviceFault` so is the store.
+/// Stages the next `rows` rows of a load, 1 to 512 and no more than are left, and returns how many
+/// are left then. The desk stays as it is. After an error the load is as it was, and so is the
+/// store unless the error is `DeviceFault`.
 pub fn load_batch<D: SectorDevice>(
     alloc: Global,
     pages: &mut Pages<D>,

@@ -1,17 +1,5 @@
-//! A geography in a store: loaded by commits, whose rows are the store's once the load is sealed, and read back then.
-//!
-//! Seen as a load: its number, its geography and how many rows are staged. `begin_load`, `load_batch`: the desk stays at every moment, and
-//! at Ok exactly the rows asked for are staged in addition. `seal`: the desk before, or the one with the geography, and that one at Ok.
-//! Each looks first for 13 free pages and 13 journal pages a row. Refusals by cases (`BeginErr`, `BatchErr`, `SealErr`): AlreadySealed only
-//! where a seal is, Full for numbers only where the last one is next. `begin_rows`, `put_batch`, `seal_rows`: the same in a transaction.
-//!
-//! `geography` gives just the sealed geography of a map, or none: its blocks rising, then its pairs rising, as many as the seal says. Of
-//! other content it may give one that passes over rows which can't be read.
-//!
-//! # Notes
-//!
-//! A load is begun, its rows are staged by `load_batch`, and once all of them are staged it is sealed, each by a commit of its own. Until
-//! then the desk has no geography (`HoldsLoad`). `geography` reads what is sealed.
+//! The geography in a store: staged by several commits, valid once the load is sealed, and read
+//! back.
 //!
 //! # Example
 //!
@@ -23,6 +11,27 @@
 //! }
 //! seal(alloc, &mut pages, load)
 //! ```
+//!
+//! # Model
+//!
+//! A load is its number, its geography and the number of staged rows (`HoldsLoad`). Until the seal
+//! the desk has no geography.
+//!
+//! # Proved
+//!
+//! - `begin_load` and `load_batch` keep the desk at every moment; after success exactly the rows
+//!   asked for are staged in addition.
+//! - `seal`: at every moment the desk before, or the one with the geography; after success the
+//!   latter.
+//! - Each call first checks for 13 free pages and 13 journal pages a row. `BeginErr`, `BatchErr`
+//!   and `SealErr` say when each refusal comes: AlreadySealed only if a seal exists, Full for
+//!   numbers only if the last number is next.
+//! - `geography` returns exactly the sealed geography of a map, or none. `begin_rows`, `put_batch`
+//!   and `seal_rows` do the same within a transaction.
+//!
+//! # Not proved
+//!
+//! What `geography` returns if the rows are damaged: it may skip rows that it cannot read.
 #![tactic(auto)]
 
 mod batches;

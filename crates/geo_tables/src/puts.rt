@@ -89,8 +89,9 @@ pub fn has_small_places(geography: &Geography) -> bool
     geography.pairs().len() < 0x1_0000_0000
 }
 
-/// Puts so many rows of a geography under a load's number, from a place among its rows on: blocks rising, then pairs rising. The
-/// number is one that `begin_rows` gave. After an error the transaction can only be abandoned.
+/// Puts rows of a geography under a load's number, from a place among its rows on: blocks rising,
+/// then pairs rising. The number is one that `begin_rows` returned. After an error the transaction
+/// can only be abandoned.
 pub fn put_batch<D: SectorDevice>(
     txn: &mut Txn,
     pages: &mut Pages<D>,

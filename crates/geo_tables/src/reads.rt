@@ -48,7 +48,7 @@ fn append_element<D: SectorDevice, E: Element>(
     append_read(&bytes[..length], all)
 }
 
-/// Takes the next row of a scan, which stands at it then: whether there is one.
+/// Moves a scan to its next row and returns whether there is one.
 fn take_next<D: SectorDevice>(
     scan: &mut Scan,
     txn: &Txn,
@@ -121,7 +121,8 @@ fn append_along<D: SectorDevice, E: Element>(
     Ok(())
 }
 
-/// Room for so many elements, and for no more than a state may have blocks: what a seal tells wasn't held against its rows yet.
+/// Room for `count` elements, but for no more than a state may have blocks: a seal's count was not
+/// compared with its rows yet.
 fn room_for<E: Element>(alloc: Global, count: u32) -> Result<Vec<E>, TreeError>
     ensures { MatchResult result (λ all. all.items ≡ []) (λ e. e ≡ Memory) }
 {
@@ -135,7 +136,7 @@ fn room_for<E: Element>(alloc: Global, count: u32) -> Result<Vec<E>, TreeError>
     }
 }
 
-/// Reads so many elements of a load, from the first place on.
+/// Reads `count` elements of a load, from the first place on.
 pub(crate) fn read_elements<D: SectorDevice, E: Element>(
     alloc: Global,
     txn: &Txn,

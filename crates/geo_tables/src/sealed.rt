@@ -48,7 +48,7 @@ fn geography_of(
     }
 }
 
-/// Reads the geography whose rows a seal tells.
+/// Reads the geography of a seal.
 fn read_sealed<D: SectorDevice>(
     alloc: Global,
     txn: &Txn,

@@ -39,7 +39,7 @@ pub(crate) fn begin<D: SectorDevice>(alloc: Global, pages: &Pages<D>) -> Result<
     Ok(pages.begin(alloc))
 }
 
-/// Begins a transaction that is to write so many rows.
+/// Begins a transaction that will write `rows` rows.
 pub(crate) fn start<D: SectorDevice>(
     alloc: Global,
     pages: &Pages<D>,

@@ -35,7 +35,7 @@ impl<'a, A: Arrivals> Acceptor<'a, A> {
         self.arrivals.next(self.worker)
     }
 
-    /// Hands a stream back with what it came to, and counts it.
+    /// Hands a stream back with its result, and counts it.
     pub fn finish(
         &mut self,
         reader: A::Reader,
@@ -51,7 +51,7 @@ impl<'a, A: Arrivals> Acceptor<'a, A> {
         self.arrivals.ended(reader, writer, served);
     }
 
-    /// What its streams came to.
+    /// Returns the totals of its streams.
     pub fn into_totals(self) -> Totals
         ensures { result.ran ≡ self.entry.totals.ran }
     {

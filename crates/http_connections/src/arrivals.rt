@@ -16,14 +16,14 @@ pub trait Arrivals {
     // A worker of this number asked for the next stream, and was given this.
     ghost gives: { Self → ℕ → Option (Self.Reader × Self.Writer) → Type 0 } = { λ _ _ _. Unit {0} };
 
-    // A stream was taken back so, with what it came to.
+    // A stream was taken back with this result.
     ghost takes_back: { Self → Self.Reader → Self.Writer → Result Answered Fault → Type 0 } = { λ _ _ _ _. Unit {0} };
 
     /// The next stream, for the worker of this number, or None where no further one comes. It may wait.
     fn next(&self, worker: usize) -> Option<(Self::Reader, Self::Writer)>
         ensures { gives self.now worker result };
 
-    /// Takes a stream back once it is served, with what it came to.
+    /// Takes a stream back once it is served, with its result.
     fn ended(&self, reader: Self::Reader, writer: Self::Writer, served: Result<Served, StreamFault>)
         ensures { takes_back self.now reader writer served };
 }

@@ -2,7 +2,7 @@
 ghost use Rattle.std.specs.Prelude.{◌≤◌};
 
 use crate::arrivals::Arrivals;
-use crate::door::Door;
+use crate::door::{Door, Visit};
 use crate::listening::Listens;
 use crate::pace::{Limits, SLICE};
 use crate::sink::KeptSink;
@@ -42,24 +42,22 @@ impl<'a, R: Wait + Clock> Listening<'a, R> {
     /// The reader and the writer of a connection, whose answers the system is asked to send at once.
     fn stream_of(
         &self,
-        stream: TcpStream,
+        visit: Visit,
     ) -> Option<
         (
             KeptSource<'a, TcpStream, R>,
             KeptSink<'a, Gathering<TcpStream>>,
         ),
     > {
-        let _ = stream.set_nodelay(true);
-        if !self.limit(&stream) {
+        let Visit { reader, writer } = visit;
+        let _ = reader.set_nodelay(true);
+        if !self.limit(&reader) {
             return None;
         }
-        let Ok(other) = stream.try_clone() else {
-            return None;
-        };
         let mark = self.door.mark()?;
         Some((
-            KeptSource::new(self.rt, self.door, mark, stream, self.limits),
-            KeptSink::new(Gathering::new(other), mark, self.door),
+            KeptSource::new(self.rt, self.door, mark, reader, self.limits),
+            KeptSink::new(Gathering::new(writer), mark, self.door),
         ))
     }
 }
@@ -85,26 +83,31 @@ impl<'a, R: Wait + Clock + Sync> Arrivals for Listening<'a, R> {
             KeptSink<'a, Gathering<TcpStream>>,
         ),
     > {
-        let stream = self.door.next(self.rt)?;
-        match self.stream_of(stream) {
+        let visit = self.door.next(self.rt)?;
+        match self.stream_of(visit) {
             Some(stream) => Some(stream),
             None => {
+                self.door.leave(self.rt);
                 self.door.fail(self.rt);
                 None
             }
         }
     }
 
-    /// Closes it, once its client has taken a refusal. Where it was told that the store's device has failed, no further one is served.
+    /// Closes a connection, once its client has taken a refusal, and notifies the door. If it was
+    /// notified that the store's device has failed, no further connection is served.
     fn ended(
         &self,
         reader: KeptSource<'a, TcpStream, R>,
-        _writer: KeptSink<'a, Gathering<TcpStream>>,
+        writer: KeptSink<'a, Gathering<TcpStream>>,
         _served: Result<Served, StreamFault>,
     ) {
         let mut reader = reader;
         reader.linger();
         reader.release();
+        drop(reader);
+        drop(writer);
+        self.door.leave(self.rt);
         self.door.end(self.rt);
     }
 }

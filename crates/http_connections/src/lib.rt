@@ -1,12 +1,24 @@
-//! The connections of a served desk: where streams come from and go back to, their workers, and when a silent one gives way.
+//! The connections of a server: where streams come from, their workers, and when an idle one is
+//! closed.
 //!
-//! Seen as two relations of the maker's (`gives`, `takes_back`), and `Ran`, three numbers. A worker has streams by an `Acceptor` alone,
-//! which asks by its number and counts each that goes back.
+//! # Model
 //!
-//! Connections to a socket: seen as such streams. `fate` decides of a silent connection, by what it asked and when (`fate_of`): between
-//! requests it waits or gives way, within one it waits or fails. `at_turn`, `with_bytes`, `with_silence`: when requests begin, and silence.
-//! `turn` gives just the bytes that the connection had next. `is_answer`: an interim answer ends no request. `is_silence`, `is_passing`:
-//! errors. `begin`: as many connections as were asked for. No clause says when `turn` asks for the fate, or what threads do under the lock.
+//! Two relations of the maker's (`gives`, `takes_back`), and `Ran`, three numbers.
+//!
+//! # Proved
+//!
+//! - A worker gets streams only through an `Acceptor`, which asks by the worker's number and counts
+//!   each stream that goes back.
+//! - `fate` decides about an idle connection by what it asked and when (`fate_of`): between
+//!   requests it waits or is closed, within one it waits or fails. `at_turn`, `with_bytes`,
+//!   `with_silence` keep the times.
+//! - `turn` gives exactly the bytes that the connection had next. `is_answer`: an interim response
+//!   ends no request. `is_silence`, `is_passing` classify errors.
+//! - `begin` starts as many connections as were asked for.
+//!
+//! # Not proved
+//!
+//! When `turn` asks for the fate, and what threads do under the lock.
 #![tactic(auto)]
 
 pub mod acceptor;

@@ -43,7 +43,8 @@ pub struct Pace {
     pub silent: u64,
 }
 
-/// Between requests it gives way to another connection that waits, and in any case once it was silent for so many seconds.
+/// Between requests it is closed in favour of a waiting connection, and in any case after `keep`
+/// idle seconds.
 fn between(silent: u64, keep: u32, another_waits: bool) -> Fate
     ensures value { result ≡ fate_between silent keep another_waits }
     ensures short { result ≡ Fate.Waits → silent < keep * 1000 }
@@ -79,8 +80,8 @@ impl Pace {
         }
     }
 
-    /// At the beginning of a turn into so much room. After an answer nothing is asked where all of the inbox has room; otherwise a part
-    /// of the next request came with the last bytes.
+    /// Called before each read with the free buffer space. After a response, an empty buffer means
+    /// that no request is pending; otherwise a part of the next request came with the last bytes.
     pub fn at_turn(&self, is_answered: bool, room: usize) -> Pace
         ensures { result ≡ pace_at_turn self.now is_answered room }
     {

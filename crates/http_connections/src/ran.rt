@@ -4,7 +4,7 @@ ghost use Rattle.http_connections.specs.claim.Running.{joined, no_streams, one_m
 
 use http_desk::serve::{Served, StreamFault};
 
-/// What a run came to. The numbers stay at their greatest value.
+/// The result of a run. The numbers stop at their greatest value.
 #[derive(Clone, Copy)]
 pub struct Ran {
     /// The streams that were taken.
@@ -15,7 +15,7 @@ pub struct Ran {
     pub faults: u64,
 }
 
-/// What a run has come to so far.
+/// The result of a run so far.
 #[derive(Drop)]
 pub struct Totals {
     pub ran: Ran,
@@ -63,7 +63,7 @@ impl Totals {
         }
     }
 
-    /// The same with what another worker's streams came to.
+    /// Returns the sum with another worker's streams.
     pub fn with_worker(&self, other: &Totals) -> Totals
         ensures { result.ran ≡ joined self.now.ran other.now.ran }
     {

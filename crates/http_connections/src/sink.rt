@@ -9,7 +9,8 @@ use crate::mark::Mark;
 use byte_stream::sink::{Sink, WriteFault};
 use http_wire::gather::GatherSink;
 
-/// The writer of a connection, which marks that it was answered, and tells the door where the store's device has failed.
+/// The writer of a connection. It marks that the connection was answered, and reports to the door
+/// if the store's device has failed.
 #[derive(Drop)]
 pub struct KeptSink<'a, W> {
     writer: W,
@@ -17,7 +18,8 @@ pub struct KeptSink<'a, W> {
     door: &'a Door,
 }
 
-/// Whether a text answers a request: an interim answer, which is sent alone, doesn't.
+/// Returns whether a text answers a request: an interim response, which is sent by itself, does
+/// not.
 fn is_answer(text: &[u8]) -> bool
     ensures { result ≡ is_answer_text text.now }
 {

@@ -131,8 +131,9 @@ fn drain<S: Read, R: Clock>(rt: &R, door: &Door, reader: &mut S) {
 }
 
 impl<'a, R: Clock> KeptSource<'a, TcpStream, R> {
-    /// Where the connection ends after a refusal, tells the client that no answer follows, and drops what it still sends. Were it closed
-    /// with unread bytes, the system would reset it, and the refusal could be lost (RFC 9112, 9.6).
+    /// If the connection ends after a refusal, signals the client that no response follows, and
+    /// drops what it still sends. If it were closed with unread bytes, the system would reset it,
+    /// and the refusal could be lost (RFC 9112, section 9.6).
     pub fn linger(&mut self) {
         if self.mark.is_refused() && self.reader.shutdown(Shutdown::Write).is_ok() {
             drain(self.rt, self.door, &mut self.reader);

@@ -16,7 +16,8 @@ pub enum Accepted {
     Created {
         plan: PlanName,
     },
-    /// A plan has one more revision, of this number, by a file that lists so many blocks.
+    /// A plan has one more revision, with this number, from a file that lists this number of
+    /// blocks.
     Revised {
         plan: PlanName,
         revision: u64,
@@ -27,7 +28,7 @@ pub enum Accepted {
         plan: PlanName,
         from: (PlanName, u32),
     },
-    /// A plan was taken away with its revisions.
+    /// A plan was deleted with its revisions.
     Deleted {
         plan: PlanName,
     },
@@ -78,7 +79,7 @@ impl Accepted {
     }
 }
 
-/// What is heard of a command that would do this, where that is known: nothing where its reply refuses it.
+/// Returns the effect to report: `deed` if the reply accepts the command, otherwise nothing.
 pub fn heard(deed: Option<Accepted>, reply: &Reply) -> Option<Accepted>
     ensures { result ≡ heard_of deed reply.now }
 {

@@ -23,7 +23,7 @@ use http_wire::response::{ContentType, Response, WriteBuffer, write_response};
 use std::alloc::{AllocError, Global};
 use std::marker::Model;
 
-/// What an answer tells beside its body.
+/// The head of an answer.
 #[derive(Clone, Copy)]
 struct AnswerHead {
     status: StatusCode,
@@ -105,7 +105,7 @@ fn error_allow(error: Error) -> Option<Methods>
     }
 }
 
-/// The names of the methods, where there are any to tell.
+/// Returns the names of the allowed methods, if the answer lists them.
 fn allow_text(allow: Option<Methods>) -> Option<&'static str>
     ensures text { option_map (λ t. t.now) result ≡ option_map methods_text allow }
     ensures short { allowed_len (option_map (λ t. t.now) result) ≤ 64 }
@@ -259,8 +259,8 @@ impl Answer {
         self.is_long = true;
     }
 
-    /// Puts the answer to a reply, and tells whether it closes: where the request asks for it, or where the reply itself
-    /// does. Only an answer that may be long takes memory.
+    /// Appends the answer to a reply and returns whether the connection closes after it: if the
+    /// request asks for it, or if the reply does. Only an answer that may be long takes memory.
     fn put_reply(
         &mut self,
         reply: Reply,
@@ -308,7 +308,8 @@ impl Answer {
         }
     }
 
-    /// Puts the answer to a reply, or that memory is wanting for it, and tells whether the connection closes after it.
+    /// Appends the answer to a reply, or that memory for it is missing, and returns whether the
+    /// connection closes after it.
     pub fn tell(&mut self, reply: Reply, closing: bool, head_only: bool) -> bool
         ensures { Tells reply closing head_only self.new result }
     {

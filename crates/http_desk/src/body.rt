@@ -29,7 +29,7 @@ fn line_start(is_later: bool) -> &'static [u8]
     }
 }
 
-/// The kind, and what stands between it and the name.
+/// The kind, and the text between it and the name.
 fn kind_member(kind: Kind) -> &'static [u8]
     ensures { result.now ≡ codes ",\"kind\":\"" ++ (kind_name kind ++ codes "\",\"name\":\"") }
 {

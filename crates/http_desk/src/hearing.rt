@@ -3,7 +3,8 @@ use crate::accepted::Accepted;
 use desk_model::gate::{Gate, NoGate};
 use std::sync::atomic::AtomicU64;
 
-/// A gate of served streams at which accepted commands are heard of. Nobody waits for what it does with them.
+/// A gate of served streams that observes accepted commands. Nobody waits for what it does with
+/// them.
 pub trait Hears: Gate {
     ghost use Rattle.std.specs.Prelude.{◌≡◌, Bool};
     ghost use Rattle.http_desk.specs.declared.accepted.Accepted.{Accepted};
@@ -11,7 +12,7 @@ pub trait Hears: Gate {
     // Whether anybody listens.
     ghost listening: { Self → Bool };
 
-    // This change was heard of.
+    // This change was observed.
     ghost hears: { Self → Accepted → Type 0 } = { λ _ _. Unit {0} };
 
     // It was heard that the store's rows are none that a desk leaves.

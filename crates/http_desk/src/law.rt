@@ -3,7 +3,7 @@ ghost use Rattle.http_desk.specs.Laws.{AcceptanceIsTold};
 
 use baf_text::laws::read_is_listed;
 
-/// What is heard of a command that the desk accepts is what its step did.
+/// What is reported of a command that the desk accepts is what its step did.
 #[tactic(auto, using(crate::proofs::Steps::told_is))]
 pub fn acceptance_is_told()
     ensures { AcceptanceIsTold }

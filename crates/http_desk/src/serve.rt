@@ -41,7 +41,7 @@ use http_wire::response::WriteBuffer;
 use matchit::Router;
 use std::alloc::Global;
 
-/// What a stream came to: the number of answers that were written, the interim ones aside.
+/// The result of a stream: the number of answers written, without the interim ones.
 #[derive(Clone, Copy)]
 pub struct Served {
     pub requests: u64,
@@ -102,8 +102,8 @@ fn deed_for<G: Hears>(gate: &G, command: &Command) -> Option<Accepted>
     }
 }
 
-/// Answers a request, or why it is refused, and tells whether the connection closes after it. What an accepted command did is noted
-/// where somebody hears of it.
+/// Answers a request, or the reason why it is refused, and returns whether the connection closes
+/// after it. What an accepted command did is noted if somebody observes it.
 #[tactic(auto, using(crate::proofs::HearingLemmas::none_noted, crate::proofs::HearingLemmas::query_noted, crate::proofs::HearingLemmas::command_noted))]
 fn handle<C: Counter, G: Hears>(
     alloc: Global,
@@ -161,7 +161,7 @@ fn handle<C: Counter, G: Hears>(
     answer.tell(reply, closes, head_only)
 }
 
-/// Answers with the list of plans, and tells whether the connection closes after it.
+/// Answers with the list of plans, and returns whether the connection closes after it.
 fn list<C: Counter>(alloc: Global, counter: &mut C, answer: &mut Answer, closes: bool) -> bool
     ensures handles { Handled C.commands C.asks counter.old (Asked.List closes) answer.new result counter.new }
     ensures asked { (reply : Reply) × C.asks counter.old Plans reply counter.new }
@@ -200,7 +200,7 @@ fn put_answer<W: GatherSink>(
     }
 }
 
-/// Has a command heard of, where one was accepted.
+/// Notifies the observer of an accepted command, if there is one.
 fn tell<G: Hears>(gate: &G, accepted: &Option<Accepted>)
     ensures { IfSome accepted.now (λ change. G.hears gate.now change) }
 {
@@ -209,13 +209,13 @@ fn tell<G: Hears>(gate: &G, accepted: &Option<Accepted>)
     }
 }
 
-/// Takes the next request where it asks for the list of plans, and tells whether its answer closes.
+/// Takes the next request if it asks for the list of plans, and returns whether its answer closes.
 fn take_list(read_buffer: &mut ReadBuffer, room: &mut HeaderSlots) -> Option<bool>
     ensures taken { IfSome result (λ closes. IsPlain read_buffer.old (codes "GET") (codes "/plans") closes read_buffer.new) }
     ensures less { IfSome result (λ _. length read_buffer.new < length read_buffer.old) }
     ensures none { result ≡ None → read_buffer.new ≡ read_buffer.old }
 {
-    // Where another request stands first, no head is looked at for nothing.
+    // Any other request is not parsed in vain.
     if !read_buffer.as_slice().starts_with(b"GET /plans ") {
         return None;
     }
@@ -281,8 +281,8 @@ fn next_request<R: Source, W: Sink>(
     }
 }
 
-/// Reads one request and answers it. An accepted command is heard of once its answer is sent, or couldn't be, and that is sent at once
-/// where somebody hears of it.
+/// Reads one request and answers it. An accepted command is reported once its answer was sent, or
+/// could not be sent. That answer is sent at once if somebody observes it.
 fn exchange<R: Source, W: GatherSink, C: Counter, G: Hears>(
     alloc: Global,
     reader: &mut R,
@@ -371,12 +371,14 @@ fn start(alloc: Global) -> Option<Stream>
     })
 }
 
-/// Serves a stream of requests: reads each, lets the gate pass, and answers it before the next is taken. Answers wait in a
-/// buffer, and are sent before a turn of reading, before one that has no room after them, with one that acknowledges a command of which
-/// somebody hears, and at the end. The gate hears of each accepted command once its acknowledgement is sent, or couldn't be.
+/// Serves a stream of requests: reads each, passes the gate, and answers it before the next is
+/// taken. Answers wait in a buffer. They are sent before the next read, before an answer that has
+/// no room after them, with an answer that acknowledges an observed command, and at the end. The
+/// gate is told of each accepted command once its acknowledgement was sent, or could not be sent.
 ///
-/// The counter is handed those commands alone that the bytes of the reader ask for. The gate is passed as worker 0, with the number
-/// of requests that this call read before (4,294,967,295 at most).
+/// The counter is handed only those commands that the bytes of the reader ask for. The gate is
+/// passed as worker 0, with the number of requests that this call read before (4,294,967,295 at
+/// most).
 pub fn serve<R: Source, W: GatherSink, C: Counter, G: Hears>(
     alloc: Global,
     reader: &mut R,

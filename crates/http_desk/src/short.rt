@@ -57,7 +57,7 @@ impl ShortText {
         let _ = self.bytes.extend_from_slice(words);
     }
 
-    /// Puts words after what is there.
+    /// Appends words.
     fn put(&mut self, words: &[u8])
         requires { length self.old + length words.now ≤ 112 }
         ensures { Adds (length words.now) words.now self.old self.new }
@@ -65,7 +65,7 @@ impl ShortText {
         let _ = self.bytes.extend_from_slice(words);
     }
 
-    /// Puts a number after what is there.
+    /// Appends a number.
     fn put_number(&mut self, number: u64)
         requires { length self.old + 20 ≤ 112 }
         ensures { Adds 20 (decimal number) self.old self.new }
@@ -83,7 +83,7 @@ impl ShortText {
         self.put(Padded::new(number as u64, 3).as_slice());
     }
 
-    /// A plan stands with so many revisions.
+    /// Appends that a plan has this number of revisions.
     pub fn put_created(&mut self, plan: &PlanName, revisions: u32)
         ensures { self.new ≡ created_body plan.now revisions }
     {
@@ -94,7 +94,7 @@ impl ShortText {
         self.put(b"}");
     }
 
-    /// A plan is taken away.
+    /// Appends that a plan was deleted.
     pub fn put_retired(&mut self, plan: &PlanName)
         ensures { self.new ≡ retired_body plan.now }
     {

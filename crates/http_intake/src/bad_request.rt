@@ -9,8 +9,9 @@ pub enum BadRequest {
     HeadTooLarge,
     /// More than one Host line, or none in HTTP/1.1. 400
     BadHost,
-    /// More than one Content-Length line, or one that is not 1 to 20 digits, or one beside a Transfer-Encoding line; a
-    /// Transfer-Encoding line whose last coding is not `chunked`, or in HTTP/1.0. 400
+    /// More than one Content-Length line, or one that is not 1 to 20 digits, or one with a
+    /// Transfer-Encoding line; a Transfer-Encoding line whose last coding is not `chunked`, or in
+    /// HTTP/1.0. 400
     BadLength,
     /// A coding before `chunked`, which comes last. 501
     BadCoding,

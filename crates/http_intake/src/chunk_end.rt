@@ -5,7 +5,7 @@ ghost use Rattle.http_intake.specs.ChunkParts.{SeesEnd};
 use crate::bad_request::BadRequest;
 use crate::sought::{Seen, Sought};
 
-/// Looks for CR LF at the start of the bytes, and tells its length.
+/// Looks for CR LF at the start of the bytes, and returns its length.
 fn look_at_end(bytes: &[u8]) -> Seen<usize, BadRequest>
     ensures sees { SeesEnd bytes.now result }
     ensures short { result ≡ Seen.Incomplete → length bytes.now < 16384 }

@@ -6,7 +6,7 @@ use crate::bad_request::BadRequest;
 use crate::sought::{Seen, Sought};
 use httparse::{Status, parse_chunk_size};
 
-/// The line of a chunk ends within so many bytes.
+/// The largest number of bytes of a chunk's line.
 pub const CHUNK_LINE_LIMIT: usize = 256;
 
 /// A chunk's line.

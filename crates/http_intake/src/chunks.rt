@@ -79,7 +79,7 @@ fn read_data<R: Source>(
     }
 }
 
-/// What the last chunk comes to once its trailers were read so.
+/// Returns the result of the last chunk from the result of reading its trailers.
 fn after_trailers(came: Result<Chunked, WireFault>) -> Result<Option<Chunked>, WireFault>
     ensures { result ≡ after_trailers_by came }
 {
@@ -89,7 +89,7 @@ fn after_trailers(came: Result<Chunked, WireFault>) -> Result<Option<Chunked>, W
     }
 }
 
-/// What a chunk comes to once its data was read so.
+/// Returns the result of a chunk from the result of reading its data.
 fn after_data(came: Result<Chunked, WireFault>) -> Result<Option<Chunked>, WireFault>
     ensures { result ≡ after_data_by came }
 {

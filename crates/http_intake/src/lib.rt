@@ -1,13 +1,19 @@
-//! A stream's intake, bodies in chunks, limits of a head: the bytes that came and belong to nothing yet, and what brings more.
+//! The input of a connection: buffered bytes, bodies by length and in chunks, and limits of a head.
 //!
-//! Seen as a reader, the bytes that came, and the turns left (`Intake`). `Draws`: turns, failures, the limit; `Reads`: which bytes.
-//! `read_body`: filled to at most twice what has come and 65,536 bytes more; how much room std keeps isn't stated. `chunk_law`: each input
-//! begins with exactly one of a body, one fault, or incomplete.
+//! # Model
 //!
-//! # Notes
+//! `Intake`: a reader, the bytes that have come and are not used yet, and the turns left.
 //!
-//! The main calls are `read_body` and `read_chunks`: a body of a length, and one in chunks (RFC 9112, section 7.1). Both are read straight
-//! into memory of their own.
+//! # Proved
+//!
+//! - `Draws` counts turns and failures against the limit; `Reads` says which bytes came.
+//! - `read_body` and `read_chunks` (RFC 9112, section 7.1) read a body into memory of its own. The
+//!   memory grows to at most twice the bytes that have come, and 65,536 bytes more.
+//! - `chunk_law`: each input begins with exactly one of a body, one fault, or an incomplete body.
+//!
+//! # Not proved
+//!
+//! How much memory std reserves on top.
 #![tactic(auto)]
 
 pub mod bad_request;

@@ -1,9 +1,9 @@
 //! How much of a request is taken.
 
-/// A head is looked for in so many bytes, and so are trailers.
+/// The largest number of bytes of a head, and of trailers.
 pub const HEAD_LIMIT: usize = 16_384;
 
-/// So many header lines at most, and so many trailers.
+/// The largest number of header lines, and of trailers.
 pub const FIELD_LIMIT: usize = 64;
 
 /// Bodies are at most this long.

@@ -11,10 +11,11 @@ use byte_stream::source::{Source, Turn};
 use std::alloc::{AllocError, Global};
 use std::marker::Model;
 
-/// The room for bytes that have come and belong to no request yet. One turn brings at most so many.
+/// The room for bytes that have come and belong to no request yet, and the largest number that one
+/// read brings.
 pub const READ_BUFFER_LEN: usize = 65_536;
 
-/// So many bytes are looked at, whatever they are; a turn is taken where fewer have come.
+/// The number of bytes that are examined in any case; if fewer have come, the next bytes are read.
 pub const LOOK_LIMIT: usize = 16_384;
 
 // From here on what is left is moved to the start. It leaves room for a head and more.

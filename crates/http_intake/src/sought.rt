@@ -9,7 +9,7 @@ use crate::intake::Intake;
 use crate::read_buffer::LOOK_LIMIT;
 use byte_stream::source::Source;
 
-/// What stands at the start.
+/// What was found at the start of the bytes.
 #[derive(Clone, Copy)]
 pub enum Seen<T, E> {
     Found(T),
@@ -20,13 +20,13 @@ pub enum Seen<T, E> {
 
 /// A part that is looked for.
 pub trait Sought {
-    /// What is told of it.
+    /// The part that is found.
     type Part;
 
     /// Why none can come.
     type Refusal;
 
-    // What each look tells of the bytes.
+    // What each look finds in the bytes.
     ghost sees: { List ℕ → Seen Self.Part Self.Refusal → Type 0 };
 
     // The bytes that may come without a look.

@@ -29,7 +29,7 @@ fn unfinished(bytes: &[u8], part: &[u8]) -> Seen<usize, BadRequest>
     Seen::Incomplete
 }
 
-/// Looks for trailers at the start of the bytes, and tells their length.
+/// Looks for trailers at the start of the bytes, and returns their length.
 fn look_at_trailers(bytes: &[u8]) -> Seen<usize, BadRequest>
     ensures sees { SeesTrailers bytes.now result }
     ensures short { result ≡ Seen.Incomplete → length bytes.now < 16384 }

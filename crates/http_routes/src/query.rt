@@ -71,7 +71,7 @@ fn size_in(alloc: Global, kind: &[u8], districts: &[u8]) -> Result<Option<PlanSi
     Ok(size_of(kind.as_bytes(), districts.as_bytes()))
 }
 
-/// What the query of a create tells: `kind` and `districts`, each once. `None` where it tells anything else.
+/// Parses the query of a create: `kind` and `districts`, each once. `None` for anything else.
 pub fn create_query(alloc: Global, query: &[u8]) -> Result<Option<PlanSize>, AllocError>
     ensures { IfOk result (λ size. size ≡ create_query_of query.now) }
 {
@@ -107,7 +107,7 @@ fn number_told(alloc: Global, value: &[u8]) -> Result<Option<u32>, AllocError>
     Ok(short_number(decoded.as_bytes()))
 }
 
-/// What the query of a revision tells: `after`, once, of 1 to 5 digits. `None` where it tells anything else.
+/// Parses the query of a revision: `after`, once, with 1 to 5 digits. `None` for anything else.
 pub fn after_query(alloc: Global, query: &[u8]) -> Result<Option<u32>, AllocError>
     ensures { IfOk result (λ after. after ≡ after_query_of query.now) }
 {
@@ -138,7 +138,7 @@ fn address_told(alloc: Global, value: &[u8]) -> Result<Option<(PlanName, u32)>, 
     Ok(address_of(decoded.as_bytes()))
 }
 
-/// What the query of a fork tells: `from`, once, a revision of a plan. `None` where it tells anything else.
+/// Parses the query of a fork: `from`, once, a revision of a plan. `None` for anything else.
 pub fn from_query(alloc: Global, query: &[u8]) -> Result<Option<(PlanName, u32)>, AllocError>
     ensures { IfOk result (λ from. from ≡ from_query_of query.now) }
 {
@@ -151,7 +151,7 @@ pub fn from_query(alloc: Global, query: &[u8]) -> Result<Option<(PlanName, u32)>
     Ok(None)
 }
 
-/// The revision that a text tells, where none was told before.
+/// Parses the address of a revision, if none was given before.
 fn address_once(before: Option<(PlanName, u32)>, text: &[u8]) -> Option<(PlanName, u32)>
     ensures { result ≡ address_once_of before text.now }
 {
@@ -161,7 +161,8 @@ fn address_once(before: Option<(PlanName, u32)>, text: &[u8]) -> Option<(PlanNam
     }
 }
 
-/// The revisions that are told with one pair more: `senate` and `congress`, each once. `None` where it tells anything else.
+/// Adds a pair to the revisions found so far: `senate` and `congress`, each once. `None` for
+/// anything else.
 fn with_pair(
     told: Companions<(PlanName, u32)>,
     name: &CowStr<'_>,
@@ -181,7 +182,7 @@ fn with_pair(
     None
 }
 
-/// The revisions that are told with one encoded pair more.
+/// Adds an encoded pair to the revisions found so far.
 fn more_in(
     alloc: Global,
     told: Companions<(PlanName, u32)>,
@@ -195,7 +196,8 @@ fn more_in(
     Ok(with_pair(told, &name, &value))
 }
 
-/// What the query of an audit tells: a revision of each companion, or of none. `None` where it tells anything else.
+/// Parses the query of an audit: a revision of each companion, or of none. `None` for anything
+/// else.
 pub fn companions_query(
     alloc: Global,
     query: &[u8],

@@ -8,7 +8,7 @@ ghost use Rattle.http_routes.specs.claim.Routes.{plan_part as plan_part_of, revi
 use matchit::{InsertError, Router};
 use std::alloc::Global;
 
-/// What stands at a path.
+/// The page at a path.
 #[derive(Clone, Copy)]
 pub enum Route {
     /// `/blocks`
@@ -59,7 +59,7 @@ pub fn router(alloc: Global) -> Result<Router<Route>, InsertError>
     Ok(router)
 }
 
-/// What stands at the path.
+/// Returns the page at a path.
 pub fn route_of(router: &Router<Route>, path: &str) -> Option<Route>
     requires { router.now ≡ the_routes }
     ensures { result ≡ route_of_path path.now }
@@ -84,7 +84,8 @@ fn place_of(bytes: &[u8], byte: u8) -> usize
     bytes.len()
 }
 
-/// What stands before the first such byte, or everything, and what stands after it, or nothing.
+/// Splits at the first `byte`: returns what precedes it, or everything, and what follows it, or
+/// nothing.
 pub fn around(bytes: &[u8], byte: u8) -> (&[u8], &[u8])
     ensures before { result.0.now ≡ before_first (λ b. b == byte) bytes.now }
     ensures after { result.1.now ≡ after_first (λ b. b == byte) bytes.now }

@@ -7,7 +7,8 @@ use desk_gallery::tally::Tally;
 use desk_gallery::visitor::Visitor;
 use std::marker::Model;
 
-/// A visitor with the tally of what it was told. Contracts see it as the changes that it heard of, and the counts.
+/// A visitor with the tally of its answers. Contracts see it as the changes that it has seen, and
+/// the counts.
 #[derive(Drop)]
 pub struct Guest<J: GalleryId> {
     pub visitor: Visitor<J>,

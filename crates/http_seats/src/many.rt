@@ -76,7 +76,8 @@ impl<'a, J: GalleryId, D: SectorDevice, G: Hears> Hears for AtWorker<'a, J, D, G
     }
 }
 
-/// A worker's number, its guest until it begins and once it has ended, and what its streams came to.
+/// A worker's number, its guest before it begins and after it has ended, and the result of its
+/// streams.
 #[derive(Drop)]
 struct WorkerPlace<J: GalleryId> {
     worker: usize,
@@ -84,7 +85,7 @@ struct WorkerPlace<J: GalleryId> {
     totals: Totals,
 }
 
-/// Serves streams at one seat until no further one comes: what they came to.
+/// Serves streams at one seat until no further one comes, and returns their result.
 fn work<J: GalleryId, D: SectorDevice, A: Arrivals, G: Hears, R: Wait>(
     rt: &R,
     alloc: Global,
@@ -178,7 +179,7 @@ fn gather<J: GalleryId>(tallies: &mut Tallies<J>, places: Vec<WorkerPlace<J>>)
     }
 }
 
-/// What all workers came to together.
+/// Returns the sum over all workers.
 fn together<J: GalleryId>(places: &[WorkerPlace<J>]) -> Totals
     ensures { result.ran ≡ total_of (map (λ p. p.totals.ran) places.now) }
 {
@@ -262,8 +263,9 @@ fn follow<G: Hears>(gate: &G, swept: Swept) -> Option<u64>
     }
 }
 
-/// Sweeps beside those that serve, if it is asked to: step by step, while rows are left and commands leave it time, until the sweeps are
-/// ended. The gate hears of the free pages after each step, and once where rows are none that a desk leaves.
+/// If asked to, sweeps while others serve: step by step, while rows are left and commands leave
+/// time, until sweeping is ended. The gate is told the free pages after each step, and once if the
+/// rows are not those of a desk.
 fn sweep_beside<J: GalleryId, D: SectorDevice, G: Hears, R: Wait>(
     rt: &R,
     alloc: Global,
@@ -285,8 +287,8 @@ fn sweep_beside<J: GalleryId, D: SectorDevice, G: Hears, R: Wait>(
     unreachable!()
 }
 
-/// Serves streams at each place, with a thread beside that sweeps: the places as they are left. Where that thread can't be started nothing
-/// is swept.
+/// Serves streams at each place, with one more thread that sweeps, and returns the places as they
+/// are left. If that thread cannot be started, nothing is swept.
 fn serve_beside<
     J: GalleryId + Send + Sync,
     D: SectorDevice + Drop + Send + Sync,
@@ -316,7 +318,7 @@ fn serve_beside<
     left
 }
 
-/// The guest of a place has heard of no more than the front shows.
+/// The guest of a place has seen no more than the front shows.
 fn know_at<J: GalleryId, D: SectorDevice>(front: &mut Front<J, D>, place: &WorkerPlace<J>)
     ensures begins { IfSome place.now.guest (λ guest. IsPrefix guest.heard front.new.shown) }
     ensures same { front.new ≡ front.old }
@@ -326,7 +328,7 @@ fn know_at<J: GalleryId, D: SectorDevice>(front: &mut Front<J, D>, place: &Worke
     }
 }
 
-/// None of the places' guests has heard of more than the front shows.
+/// No guest of the places has seen more than the front shows.
 fn know_all<J: GalleryId, D: SectorDevice>(front: &mut Front<J, D>, places: &[WorkerPlace<J>])
     ensures all { All (λ p. IfSome p.guest (λ guest. IsPrefix guest.heard front.new.shown)) places.now }
     ensures same { front.new ≡ front.old }
@@ -336,18 +338,21 @@ fn know_all<J: GalleryId, D: SectorDevice>(front: &mut Front<J, D>, places: &[Wo
     }
 }
 
-/// Serves the streams that arrive, by one worker a visitor, whose number is the visitor's place, each until no further one comes to it, and
-/// then closes the office: its clerk, and what the streams came to. The calling thread is worker 0; a worker whose thread can't be
-/// started begins where another has ended.
+/// Serves the streams that arrive, by one worker for each visitor, whose number is the visitor's
+/// place, until no further stream comes to it. Then it closes the office and returns its clerk and
+/// the result of the streams. The calling thread is worker 0; a worker whose thread cannot be
+/// started begins when another has ended.
 ///
-/// What they came to is that of the streams of each worker, each of which was given to it by `Arrivals::next`, served, and taken back by
-/// `Arrivals::ended` as it was left: what was written to it is a talk over what was read from it, explained along one list of changes
-/// that grows, from what the visitor had heard of on, and that the commands begin with which the clerk has carried out in the end.
-/// Each command that the clerk was handed was asked for in the bytes of a stream that was given: this is what `asked` of the
-/// gallery's name has to say. Each that was accepted is done once: there are as many changes as answers that tell of one.
-/// With `sweeps` one more thread sweeps the store between commands, which no answer shows. The gate hears of each accepted command, of
-/// the free pages, and once where rows are none that a desk leaves.
-/// Err where memory for the workers is refused, and then no stream was taken.
+/// The result adds up the streams of each worker. Each of them was given to it by `Arrivals::next`,
+/// served, and taken back by `Arrivals::ended` as it was left: what was written to it is a talk
+/// over what was read from it, explained along one growing list of changes that begins with what
+/// the visitor had seen, and with which the commands begin that the clerk has carried out in the
+/// end. Each command that the clerk was handed was asked for in the bytes of a given stream: this
+/// is what `asked` of the gallery's identity has to say. Each accepted command is done once: there
+/// are as many changes as answers that report one. With `sweeps` one more thread sweeps the store
+/// between commands, which no answer shows. The gate is told of each accepted command, of the free
+/// pages, and once if the rows are not those of a desk. Returns an error if memory for the workers
+/// is refused; then no stream was taken.
 pub fn serve_many<
     J: GalleryId + Send + Sync,
     D: SectorDevice + Drop + Send + Sync,

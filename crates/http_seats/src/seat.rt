@@ -24,7 +24,8 @@ use std::alloc::{AllocError, Global};
 use std::marker::Model;
 use std::sync::{Arc, MutexGuard, Wait};
 
-/// The front, in which all that the visitor heard of is shown. Nothing is compared: nobody hears of more than is shown.
+/// Locks the office. What the visitor has seen is a prefix of what is shown; no runtime check is
+/// needed.
 fn front_for<'a, J: GalleryId, D: SectorDevice, R: Wait>(
     rt: &R,
     office: &'a Office<J, D>,
@@ -37,7 +38,7 @@ fn front_for<'a, J: GalleryId, D: SectorDevice, R: Wait>(
     front
 }
 
-/// Tells the office of the rows that a deleted plan leaves.
+/// Notifies the office of the rows that a deleted plan leaves.
 fn note_rows<J: GalleryId, D: SectorDevice>(office: &Office<J, D>, reply: &Reply) {
     if let Reply::Retired { .. } = reply {
         office.note_rows();
@@ -98,7 +99,7 @@ impl<'a, J: GalleryId, D: SectorDevice, R> Seat<'a, J, D, R> {
         }
     }
 
-    /// Its guest, who has heard of what the seat has, and was told what it was told.
+    /// Returns its guest, who has seen and was answered what the seat has seen and was answered.
     pub fn into_guest(self) -> Guest<J>
         ensures { result ≡ self.entry }
     {

@@ -96,7 +96,8 @@ fn write_rest<W: GatherWrite>(
     writer.write_both(&first[done..], second)
 }
 
-/// Writes two texts, and answers whether all was written. A write of no byte ends it, and an interrupted one is tried again.
+/// Writes two texts, and returns whether everything was written. A write of no byte ends it; an
+/// interrupted write is repeated.
 fn write_all<W: GatherWrite>(writer: &mut W, first: &[u8], second: &[u8]) -> bool
     ensures { Sent (W.contents writer.old) (W.contents writer.new) result (first.now ++ second.now) }
 {

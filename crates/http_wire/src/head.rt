@@ -16,7 +16,7 @@ use httparse::spans::HeaderSpan;
 /// How a body is framed (RFC 9112, section 6).
 #[derive(Clone, Copy)]
 pub enum Framing {
-    /// It has so many bytes, at most 33,554,432.
+    /// The body has this number of bytes, at most 33,554,432.
     Sized(usize),
     /// It comes in chunks.
     Chunked,
@@ -87,7 +87,7 @@ fn length_of(value: &[u8]) -> Result<usize, BadRequest>
     Ok(n as usize)
 }
 
-/// The framing by the Content-Length lines, of which there are so many.
+/// Returns the framing by the Content-Length lines, given their number.
 fn sized(lengths: usize, value: &[u8]) -> Result<Framing, BadRequest>
     ensures { (all : List (List ℕ)) → lengths ≡ length all → (0 < lengths → slice_get all 0 ≡ Some value.now) → result ≡ sized_by (lengths_of all) }
 {
@@ -115,7 +115,8 @@ fn ends_chunked(buf: &[u8], headers: &[HeaderSpan]) -> bool
     ends
 }
 
-/// Whether so many Transfer-Encoding lines, the first of which is known, name one coding in all.
+/// Returns whether the Transfer-Encoding lines, given their number and the first, name one coding
+/// in all.
 fn is_single(lines: usize, first: &[u8]) -> bool
     ensures { (all : List (List ℕ)) → lines ≡ length all → slice_get all 0 ≡ Some first.now → result ≡ (length (flat_map parts all) == 1) }
 {
@@ -145,7 +146,7 @@ fn framing_of(minor: u8, buf: &[u8], headers: &[HeaderSpan]) -> Result<Framing, 
     Ok(Framing::Chunked)
 }
 
-/// Whether there may be so many Host lines.
+/// Returns whether this number of Host lines is allowed.
 fn is_host_count(minor: u8, hosts: usize) -> bool
     ensures { result ≡ is_host_count_of minor hosts }
 {

@@ -3,8 +3,8 @@ ghost use Rattle.http_wire.specs.Law.{PrefixLaw, WorkedPrefixes};
 
 use http_intake::law::chunk_law;
 
-/// Each prefix of an input is exactly one of these: a request, one fault, or incomplete; but for more than 64 lines beside
-/// another fault of the head or the trailers.
+/// Each prefix of an input is exactly one of these: a request, one fault, or incomplete. Only more
+/// than 64 lines may come with another fault of the head or the trailers.
 pub fn prefix_law()
     ensures { PrefixLaw }
 {

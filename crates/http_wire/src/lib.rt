@@ -1,18 +1,30 @@
-//! HTTP/1.1 and 1.0 on the wire (RFC 9112, in this desk's profile): the requests that a stream holds, and answers that go out together.
+//! HTTP/1.1 and 1.0 on the wire (RFC 9112, in this server's profile): requests in, responses out.
 //!
-//! Seen as the list of requests that the bytes frame. `read_request`: they begin with one request, or have one fault, or are incomplete,
-//! however they were cut. It writes the interim line where the head asks for it, else nothing. `prefix_law`: exactly one of the three, but
-//! for a head or trailers of more than 64 lines with another fault; what follows changes nothing. `take_request`, `take_plain`: a request
-//! that has come whole, without a turn; `None` takes nothing. That they take what they could isn't stated.
+//! # Example
 //!
-//! Answers (section 4) are seen as the bytes that wait. `write_response`, `flush`: what waited and the answer, in order, is what was
-//! written and what waits, without memory; after a failed write, what was written is a prefix. `Gathering`: head and body by one write, or
-//! a prefix. That a connection's write takes the first before the second is the system's.
+//! `read_request` returns the next request with its body, the fault for which the connection
+//! closes, or the end of the input.
 //!
-//! # Notes
+//! # Model
 //!
-//! The main call is `read_request`: the next request with its body, the fault for which the connection closes, or the end. `read_target`
-//! says what a target asks for (section 3.2).
+//! Input is the list of requests that the bytes contain, however they were cut. Output is the bytes
+//! that wait to be sent.
+//!
+//! # Proved
+//!
+//! - `read_request`: the bytes begin with one request, or have one fault, or are incomplete. It
+//!   sends `100 Continue` exactly if the head asks for it. `prefix_law`: exactly one of the three
+//!   applies, but a head or trailers of more than 64 lines may have another fault as well; later
+//!   bytes change nothing.
+//! - `take_request` and `take_plain` take a request that has come whole, without reading.
+//! - `write_response`, `flush` (section 4): waiting bytes and the response are written in order, or
+//!   wait, without memory. After a failed write, what was written is a prefix. `Gathering` sends
+//!   head and body by one write. `read_target` parses a request target (section 3.2).
+//!
+//! # Not proved
+//!
+//! That `take_request` and `take_plain` take whatever they could, and that the system sends the
+//! first of two buffers before the second.
 #![tactic(auto)]
 
 mod connection;

@@ -52,7 +52,7 @@ fn comma_at(bytes: &[u8]) -> usize
     bytes.len()
 }
 
-/// What stands before the first comma, and what stands after it.
+/// Splits at the first comma: returns what precedes it and what follows it.
 fn cut(bytes: &[u8]) -> (&[u8], Option<&[u8]>)
     ensures { IsCut bytes.now result.0.now (option_copied result.1) }
 {

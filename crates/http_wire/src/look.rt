@@ -35,7 +35,8 @@ pub struct Head {
     pub expects: bool,
 }
 
-/// Why no head that may stand is at the start. The answer has no body where only a head is asked for.
+/// Why the bytes do not begin with a valid head. The answer has no body if only a head is asked
+/// for.
 #[derive(Clone, Copy)]
 pub struct HeadRefusal {
     pub fault: BadRequest,

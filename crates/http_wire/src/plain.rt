@@ -25,9 +25,8 @@ fn is_plain(bytes: &[u8], head: Head, method: &[u8], target: &[u8]) -> bool
     }
 }
 
-/// Takes the next request where it has come whole, with just this method and this target and without a body, and tells
-/// whether its answer closes. `None` where it is none of these, or not there yet: then nothing is taken, and `take_request`
-/// goes on.
+/// Takes the next request if it has come whole, has this method and target and no body, and returns
+/// whether its answer closes. Otherwise returns `None` and takes nothing: `take_request` continues.
 pub fn take_plain(
     read_buffer: &mut ReadBuffer,
     room: &mut HeaderSlots,

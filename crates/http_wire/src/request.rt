@@ -61,11 +61,11 @@ pub enum Incoming {
 #[derive(Drop)]
 struct Begun {
     request: Request,
-    /// Whether its target may stand. One that may not is judged after its body, and is not kept.
+    /// Whether its target is valid. An invalid one is rejected after the body and not kept.
     is_good: bool,
 }
 
-/// A copy of what a target asks for, if it may stand.
+/// Returns a copy of the target, if it is valid.
 fn copy_target(alloc: Global, target: &[u8]) -> Result<Option<Vec<u8>>, AllocError>
     ensures { IfOk result (λ copy. option_map (λ v. v.items) copy ≡ target_of target.now) }
 {
@@ -75,7 +75,7 @@ fn copy_target(alloc: Global, target: &[u8]) -> Result<Option<Vec<u8>>, AllocErr
     }
 }
 
-/// The method of a head, which is a token, so that this fails for memory alone.
+/// Returns the method of a head, which is a token, so only memory can be missing.
 fn copy_method(alloc: Global, method: &[u8]) -> Result<Method, AllocError>
     ensures { IfOk result (λ m. m ≡ method.now) }
 {
@@ -120,7 +120,7 @@ fn begin(alloc: Global, bytes: &[u8], head: Head) -> Result<Begun, AllocError>
     })
 }
 
-/// What the request comes to once its body is there.
+/// Returns the outcome of a request whose body is complete.
 fn targeted(request: Request, is_good: bool, head_only: bool) -> Incoming
     ensures { result ≡ targeted_by request is_good head_only }
 {
@@ -134,7 +134,7 @@ fn targeted(request: Request, is_good: bool, head_only: bool) -> Incoming
     }
 }
 
-/// What the request comes to once its body was read so.
+/// Turns the result of reading the body into the outcome of the request.
 fn finish(
     request: Request,
     is_good: bool,
@@ -231,10 +231,12 @@ fn read_next<R: Source, W: Sink>(
     }
 }
 
-/// Reads the next request, in as many turns as it needs. Where its head asks for the interim answer 100 (RFC 9110, section
-/// 10.1.1) it is written first, before the body is read, also where the body has come with the head; it takes no memory.
+/// Reads the next request, in as many reads as it needs. If its head asks for the interim response
+/// 100 (RFC 9110, section 10.1.1), that is written first, before the body is read, also if the body
+/// has come with the head. It takes no memory.
 ///
-/// After an `Err`, `Refused` or `OutOfMemory` the stream is over: what had come of a request is lost.
+/// After an `Err`, `Refused` or `OutOfMemory` the stream is over: what had come of a request is
+/// lost.
 pub fn read_request<R: Source, W: Sink>(
     alloc: Global,
     reader: &mut R,
@@ -260,7 +262,7 @@ pub fn read_request<R: Source, W: Sink>(
     read_next(alloc, &mut intake, writer)
 }
 
-/// A request whose head asks for no interim answer, and whose body of n bytes is there.
+/// Takes a request whose head asks for no interim response, and whose body of n bytes has come.
 #[tactic(auto, using(crate::proofs::TakenLemmas::taken_out_of_memory))]
 fn take_found(alloc: Global, read_buffer: &mut ReadBuffer, head: Head, n: usize) -> Incoming
     requires found { IsFound read_buffer.old head }
@@ -291,8 +293,9 @@ fn take_found(alloc: Global, read_buffer: &mut ReadBuffer, head: Head, n: usize)
     targeted(request, is_good, head.head_only)
 }
 
-/// Takes the next request without a turn of reading, or tells why it is refused. `None` where a turn may be wanted, or the
-/// interim answer, or where the body comes in chunks: then nothing is taken, and `read_request` goes on.
+/// Takes the next request without reading, or says why it is rejected. Returns `None` and takes
+/// nothing if more bytes may be needed, or the interim response, or if the body comes in chunks:
+/// `read_request` continues.
 pub fn take_request(
     alloc: Global,
     read_buffer: &mut ReadBuffer,

@@ -35,12 +35,12 @@ pub struct Response<'a> {
     pub allow: Option<&'a str>,
     /// Whether the connection closes after it.
     pub closes: bool,
-    /// Whether its body is left out, though its length is told: it answers HEAD.
+    /// Whether its body is omitted, though its length is given: it answers HEAD.
     pub head_only: bool,
     pub body: &'a [u8],
 }
 
-/// So many bytes of answers wait at most, and go out in one piece.
+/// The largest number of bytes of answers that wait and are sent in one piece.
 pub const WRITE_BUFFER_LEN: usize = 16_384;
 
 /// Room for a head, in bytes.
@@ -86,7 +86,7 @@ impl WriteBuffer {
         result
     }
 
-    /// Whether a head and so many bytes have room after what waits.
+    /// Returns whether a head and `len` bytes have room after what waits.
     fn has_room(&self, len: usize) -> bool
         ensures { result ≡ true → length self.now + 500 + len ≤ 16384 }
     {
@@ -124,7 +124,7 @@ impl WriteBuffer {
         }
     }
 
-    /// What stands before the body's length. Where a request for JSON is accepted it is put in one piece.
+    /// Appends what precedes the body's length. For an accepted request for JSON it is one piece.
     fn put_start(&mut self, status: StatusCode, kind: ContentType)
         requires { length self.old + 220 ≤ 16384 }
         ensures { Adds 220 (start_text status kind) self.old self.new }
@@ -167,7 +167,8 @@ impl WriteBuffer {
         }
     }
 
-    /// The end of a line, the line that tells that the connection closes, where it does, and the empty line.
+    /// Appends the end of a line, the line that announces the close, if the connection closes, and
+    /// the empty line.
     fn put_end(&mut self, closes: bool)
         requires { length self.old + 100 ≤ 16384 }
         ensures { Adds 100 (line_end ++ close_line closes ++ line_end) self.old self.new }

@@ -1,14 +1,22 @@
-//! `stat` and `verify`: how full a store is and which commands would be Full, and whether it is one that a desk leaves.
+//! The commands `stat` and `verify`: how full a store is, and whether it is undamaged.
 //!
-//! Seen as exit statuses, over what opens stores. `stat`: counts are those of the desk that the clerk shows; Full is said exactly where a
-//! command's `IsShort` is so (`TellsNeed`); the text has each figure under its key (`figures_text`). A stop at any moment leaves the desk
-//! (`StatsStore`). `verify` (`VerifiesStore`): at Ok each page has one owner (`AreOwned`), and rows are a desk's and belong (`IsSound`).
-//! Else a fault; a page only as it is (`IsWrongPage`), a stray row only where it doesn't belong. Nothing is written but what a
-//! stopped commit left (`IsSparedFor`).
+//! # Model
 //!
-//! # Notes
+//! Functions to an exit status, generic in what opens stores.
 //!
-//! `stat` counts by the very terms by which a clerk refuses a command as Full. Nothing is written but what a stop in a commit left to do.
+//! # Proved
+//!
+//! - `stat` prints the counts of the desk, and says Full for a command exactly if `IsShort` holds
+//!   for it (`TellsNeed`): the same condition by which the clerk refuses. A crash at any moment
+//!   leaves the desk (`StatsStore`).
+//! - `verify` succeeds only if each page has one owner (`AreOwned`) and the rows are those of a
+//!   desk (`IsSound`). Otherwise it reports a fault, a page only if it is wrong (`IsWrongPage`), a
+//!   row only if it does not belong (`VerifiesStore`).
+//! - Both write nothing but what completes a commit that was cut off (`IsSparedFor`).
+//!
+//! # Not proved
+//!
+//! Which of several faults `verify` names first.
 #![tactic(auto)]
 
 mod beside;

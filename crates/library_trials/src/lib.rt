@@ -1,10 +1,11 @@
-//! Tests of libraries below the clerk: rows and pages, plans, lists, districts, audits.
+//! Tests of the libraries below the clerk: keys, rows and pages, plans, lists, districts, audits.
 //!
 //! # Notes
 //!
-//! Devices stop and fail at each of their calls. Rows are put, got and removed in a tree of pages and in an ordered map. Plans, lists
-//! and districts go past the sizes at which their parts fill. The audits are of more districts of a congress plan than the program
-//! takes, and of what passes the gate between workers.
+//! Devices stop and fail at each of their calls. Rows are put, got and removed in a tree of pages
+//! and in an ordered map. Plans, lists and districts exceed the sizes at which their parts fill.
+//! The audits have more districts than the program accepts for congress, and check what passes the
+//! gate between workers.
 #![tactic(auto)]
 
 /// Asserts a fact on which no later step rests. It is a call where `assert!` is a branch, which is dearer to prove.
@@ -17,6 +18,8 @@ macro_rules! holds {
 
 #[cfg(test)]
 mod facts;
+#[cfg(test)]
+mod key_trials;
 #[cfg(test)]
 mod list_trials;
 #[cfg(test)]

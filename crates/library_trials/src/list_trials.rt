@@ -9,7 +9,7 @@ fn with<R: Abort>(rt: &R, alloc: Global, list: &SharedList<u32>, number: u32) ->
     list.with(alloc, number).expect(rt, "no memory")
 }
 
-/// The numbers from 0, so many.
+/// The numbers from 0 to `count` - 1.
 fn counted<R: Abort>(rt: &R, alloc: Global, count: u32) -> SharedList<u32> {
     let mut list = SharedList::new();
     for number in 0..count {
@@ -36,7 +36,7 @@ fn each_item_is_kept(rt: HostRuntime) {
 /// Numbers of items about those at which parts fill.
 static COUNTS: [u32; 8] = [0, 1, 2, 3, 6, 7, 1_022, 1_023];
 
-/// Asserts that a list of so many items stays as it was once another one is made of it.
+/// Asserts that a list of `count` items stays as it was when another one is made of it.
 fn stays<R: Abort>(rt: &R, alloc: Global, count: u32) {
     let list = counted(rt, alloc, count);
     let longer = with(rt, alloc, &list, 7);

@@ -26,7 +26,7 @@ pub fn opened<R: Abort>(rt: &R, alloc: Global, device: Fused) -> Pages<Fused> {
     Pages::open(alloc, device).ok().expect(rt, "not opened")
 }
 
-/// Commits a transaction unless it was refused, and tells what it told.
+/// Commits a transaction unless it was refused, and returns the result.
 fn store(
     txn: Txn,
     pages: &mut Pages<Fused>,
@@ -40,7 +40,7 @@ fn store(
     told
 }
 
-/// A key of 72 bytes, whose first ones tell its number.
+/// A key of 72 bytes that begins with its number.
 pub fn long_key(n: u32) -> [u8; 72] {
     let mut key = [7; 72];
     let [a, b, c, d] = n.to_be_bytes();
@@ -51,7 +51,7 @@ pub fn long_key(n: u32) -> [u8; 72] {
     key
 }
 
-/// Puts a row by a transaction of its own, and tells whether its key was there.
+/// Puts a row by a transaction of its own, and returns whether its key existed.
 pub fn put_row(
     alloc: Global,
     pages: &mut Pages<Fused>,
@@ -72,7 +72,7 @@ pub fn put_long(alloc: Global, pages: &mut Pages<Fused>, n: u32) -> Result<bool,
     put_row(alloc, pages, &long_key(n), &[(n % 256) as u8; 1024])
 }
 
-/// Whether such a row is there as it was put.
+/// Returns whether such a row exists as it was put.
 pub fn has_long(alloc: Global, pages: &mut Pages<Fused>, n: u32) -> Result<bool, TreeError> {
     let txn = pages.begin(alloc);
     let mut into = [0; 1024];
@@ -95,7 +95,7 @@ fn fill(alloc: Global, pages: &mut Pages<Fused>) -> Option<(u32, TreeError)> {
     None
 }
 
-/// Removes a row by a transaction of its own, and tells whether it was there.
+/// Removes a row by a transaction of its own, and returns whether it existed.
 pub fn take_row(alloc: Global, pages: &mut Pages<Fused>, key: &[u8]) -> Result<bool, TreeError>
     requires { IsKey key.now }
 {
@@ -104,7 +104,7 @@ pub fn take_row(alloc: Global, pages: &mut Pages<Fused>, key: &[u8]) -> Result<b
     store(txn, pages, had)
 }
 
-/// Removes such a row, and tells whether it was there.
+/// Removes such a row, and returns whether it existed.
 pub fn remove_long(alloc: Global, pages: &mut Pages<Fused>, n: u32) -> Result<bool, TreeError> {
     take_row(alloc, pages, &long_key(n))
 }
@@ -151,7 +151,7 @@ fn a_full_store_keeps_its_rows(rt: HostRuntime) {
     holds!(rt; (removed == rows) & (pages.free_pages() == before));
 }
 
-/// Puts such a row in a transaction, and tells whether it was put.
+/// Puts such a row in a transaction, and returns whether it was put.
 fn has_put(txn: &mut Txn, pages: &mut Pages<Fused>, n: u32) -> bool
     requires { txn_pages txn.old ≡ count_of pages.old }
     ensures { txn_pages txn.new ≡ count_of pages.new }
@@ -174,7 +174,8 @@ fn put_four(alloc: Global, pages: &mut Pages<Fused>, n: u32) -> u32 {
     count
 }
 
-/// Removes of so many rows the last ones, at most three, until a page more is free: how many rows are left.
+/// Removes the last rows, at most three, until one more page is free, and returns how many rows are
+/// left.
 fn remove_last<R: Abort>(
     rt: &R,
     alloc: Global,
@@ -207,7 +208,7 @@ fn a_transaction_that_fills_the_store_changes_nothing(rt: HostRuntime) {
     holds!(rt; (found == left) & (has_long(alloc, &mut pages, left) == Ok(false)));
 }
 
-/// Puts a row under so many first bytes of a key, and tells how long they are.
+/// Puts a row under the first `length` bytes of a key, and returns that length.
 fn put_prefix(alloc: Global, pages: &mut Pages<Fused>, length: usize) -> Result<bool, TreeError>
     requires from { 1 ≤ length }
     requires to { length ≤ 72 }

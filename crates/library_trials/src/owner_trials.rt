@@ -40,7 +40,7 @@ fn spoil<R: Abort>(rt: &R, device: &mut Fused, page: u32, at: usize, bytes: [u8;
     device.write(i, &sector).expect(rt, "not written");
 }
 
-/// What is told of such a store where four bytes of a page are others.
+/// Returns what is reported for such a store if four bytes of a page are changed.
 fn told<R: Abort>(
     rt: &R,
     alloc: Global,
@@ -53,7 +53,7 @@ fn told<R: Abort>(
     checked(alloc, opened(rt, alloc, device))
 }
 
-/// Where a store is spoiled, by which bytes, and what is told of which page.
+/// The place at which a store is damaged, by which bytes, and what is reported for which page.
 type Spoiled = (u32, usize, [u8; 4], u32, PageFaultKind);
 
 /// Stores spoiled in the header and in the list of free pages, and in the tree: page 3 is the root, and pages 1, 2 and 4 are its leaves.

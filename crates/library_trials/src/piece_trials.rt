@@ -3,7 +3,7 @@ use shared_lists::Districts;
 use std::alloc::Global;
 use std::process::Abort;
 
-/// So many districts, each that of its place but for the one at a place, which is another.
+/// Districts that are equal to their places, except at one place.
 fn listed<R: Abort>(rt: &R, alloc: Global, count: u16, other: u16) -> Vec<u16> {
     let mut list = Vec::new(alloc);
     for place in 0..count {
@@ -21,7 +21,7 @@ fn made<R: Abort>(rt: &R, alloc: Global, list: &[u16], last: Option<&Districts>)
     districts
 }
 
-/// Whether both have so many districts from a place on, and the same.
+/// Returns whether both have the same `count` districts from a place on.
 fn is_same(one: &Districts, other: &Districts, first: usize, count: usize) -> bool {
     first <= 2_000
         && count <= 2_000
@@ -36,7 +36,7 @@ static COUNTS: [u16; 4] = [1_023, 1_024, 1_025, 1_300];
 /// Places at the ends of pieces.
 static ENDS: [u16; 4] = [0, 511, 512, 1_022];
 
-/// Asserts that the districts with another one at a place differ from these there alone.
+/// Asserts that the districts with another one at a place differ from these only there.
 fn differs<R: Abort>(rt: &R, alloc: Global, last: &Districts, count: u16, other: u16) {
     let next = made(rt, alloc, &listed(rt, alloc, count, other), Some(last));
     let at = usize::from(other);

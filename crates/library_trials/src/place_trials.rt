@@ -15,7 +15,7 @@ use std::process::Abort;
 /// A row: the number of its key, the one that its value begins with, and the value's length.
 type Told = (u32, u32, usize);
 
-/// The length of a value that begins with a number, where the longest have at most as many bytes more than its four.
+/// The length of a value that begins with a number, at most `longest` bytes more than its four.
 fn length_of(value: u32, longest: u8) -> usize {
     let more = value.wrapping_mul(7) % (u32::from(longest) + 1);
     4 + more as usize
@@ -46,7 +46,7 @@ fn stored<R: Abort>(
     pages
 }
 
-/// What a row's bytes tell.
+/// Parses a row's bytes.
 fn told_of(key: &[u8], value: &[u8]) -> Option<Told> {
     let n = match key {
         [a, b] => u32::from_be_bytes([0, *a, *b, 0]),
@@ -59,7 +59,8 @@ fn told_of(key: &[u8], value: &[u8]) -> Option<Told> {
     }
 }
 
-/// Takes the row that a scan stands at, and those that are left of its leaf, but at most so many of them: how many these are.
+/// Takes the current row of a scan, and the rows left in its leaf up to a number, and returns how
+/// many these are.
 fn take_there(
     scan: &mut Scan,
     most: usize,
@@ -79,7 +80,8 @@ fn take_there(
     Ok(count)
 }
 
-/// Scans the rows under a prefix, at most so many of a leaf at places: how many were taken there.
+/// Scans the rows under a prefix, taking up to a number of rows of each leaf at places; returns how
+/// many were taken so.
 fn take_all<D: SectorDevice>(
     alloc: Global,
     pages: &mut Pages<D>,
@@ -105,7 +107,7 @@ fn take_all<D: SectorDevice>(
     Ok(there)
 }
 
-/// Whether a row is told with these numbers.
+/// Returns whether a row has these numbers.
 fn is_told(row: Option<&Option<Told>>, n: u32, value: u32, longest: u8) -> bool {
     match row {
         Some(Some((key, begins, length))) => {
@@ -139,7 +141,7 @@ fn agree(
     Some(found)
 }
 
-/// How many rows under a prefix are taken at places, at most so many of a leaf.
+/// Returns how many rows under a prefix are taken at places, up to a number for each leaf.
 fn agree_under<R: Abort, D: SectorDevice>(
     rt: &R,
     alloc: Global,

@@ -16,7 +16,7 @@ fn key_of(i: u32, stride: u32) -> u32 {
     i.wrapping_mul(stride) % ROWS
 }
 
-/// Puts a row, and tells whether its key was there.
+/// Puts a row, and returns whether its key existed.
 fn put_number(
     alloc: Global,
     pages: &mut Pages<Fused>,
@@ -121,7 +121,8 @@ fn root_of<R: Abort>(rt: &R, alloc: Global, pages: &mut Pages<Fused>) -> Sector 
     bytes
 }
 
-/// Asserts that the row of a key of seven is there, that another one is put beside it, and that it is removed.
+/// Asserts that the row of a key of seven exists, that another one is put next to it, and that it
+/// is removed.
 fn changes<R: Abort>(rt: &R, alloc: Global, with: &mut Pages<Fused>) {
     let there = value_of(rt, alloc, with, 7) == Some(9);
     let put = put_number(alloc, with, 8, 1) == Ok(false);

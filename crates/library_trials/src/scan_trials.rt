@@ -14,7 +14,7 @@ use std::process::Abort;
 
 pub const ROWS: u32 = 2000;
 
-/// The key of a number below 2 to the 24. Keys stand in the order of their numbers.
+/// The key of a number below 2 to the 24. Keys have the order of their numbers.
 pub fn key_of(n: u32) -> [u8; 3] {
     let [_, a, b, c] = n.to_be_bytes();
     [a, b, c]

@@ -26,7 +26,8 @@ fn picks<R: Abort>(rt: &R, alloc: Global, fill: (u8, u32)) -> Vec<(u64, Sector)>
     all
 }
 
-/// A store with so many rows. With three there is one leaf, which is full; a fourth one cuts it and makes a root above both.
+/// A store with `rows` rows. Three rows are one full leaf; a fourth row cuts it and makes a root
+/// above both.
 fn stored<R: Abort>(rt: &R, alloc: Global, rows: u32) -> MemoryDevice {
     let mut pages = made(rt, alloc, LEAST);
     for n in 0..rows {
@@ -35,7 +36,8 @@ fn stored<R: Abort>(rt: &R, alloc: Global, rows: u32) -> MemoryDevice {
     pages.into_device().stop(&[])
 }
 
-/// Puts the fourth row beside three, or removes it from four, whose leaf is then given back: whether that was acknowledged.
+/// Puts the fourth row next to three, or removes it from four, whose leaf is then given back.
+/// Returns whether that was acknowledged.
 fn turn(alloc: Global, pages: &mut Pages<Fused>, rows: u32) -> bool {
     if rows == 3 {
         put_long(alloc, pages, 3).is_ok()
@@ -44,7 +46,7 @@ fn turn(alloc: Global, pages: &mut Pages<Fused>, rows: u32) -> bool {
     }
 }
 
-/// Which of the rows are there.
+/// Returns which of the rows exist.
 fn rows_of(alloc: Global, pages: &mut Pages<Fused>) -> Result<[bool; 5], TreeError> {
     let mut rows = [false; 5];
     for n in 0..5u32 {
@@ -53,7 +55,7 @@ fn rows_of(alloc: Global, pages: &mut Pages<Fused>) -> Result<[bool; 5], TreeErr
     Ok(rows)
 }
 
-/// The free pages, as a number that their order tells.
+/// Returns the free pages as a number that depends on their order.
 fn free_of(alloc: Global, pages: &mut Pages<Fused>) -> Option<u64> {
     let mut txn = pages.begin(alloc);
     let mut told = 0u64;
@@ -83,7 +85,7 @@ fn turned(alloc: Global, device: Fused, rows: u32) -> (bool, Fused) {
     }
 }
 
-/// A turn that is stopped after so many calls: whether it was acknowledged, and what stands then.
+/// A turn that is stopped after some calls: whether it was acknowledged, and what is left.
 fn stop_after<R: Abort>(
     rt: &R,
     alloc: Global,
@@ -96,8 +98,8 @@ fn stop_after<R: Abort>(
     (told, reopened(alloc, device.stop(&picks(rt, alloc, fill))))
 }
 
-/// What stands: the first rows, so many, and these free pages, first this one, if it isn't 0, and then those from the other one
-/// on.
+/// What is left: the first `rows` rows, and the free pages, beginning with `first` if it is not 0,
+/// and then those from `from` on.
 fn standing(rows: usize, first: u64, from: u64) -> Option<([bool; 5], u64)> {
     let mut there = [false; 5];
     for n in 0..5 {

@@ -90,8 +90,9 @@ impl Gate for Watch {
     }
 }
 
-/// What so many workers report on a plan of the sample geography, two counties of two blocks each, three of the blocks in one city: how
-/// many lines on contiguity, and how many on what is broken.
+/// Returns what a number of workers report on a plan of the sample geography, two counties of two
+/// blocks each, three of the blocks in one city: how many lines on contiguity, and how many on what
+/// is broken.
 fn audit_by<R: Threads + Abort + Sync>(
     rt: &R,
     alloc: Global,

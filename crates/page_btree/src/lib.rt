@@ -1,21 +1,42 @@
-//! A map of keys in pages: what it is, and how it is read.
+//! A map of keys in pages, a B-tree: its definition and its lookups.
 //!
-//! Seen as a finite map of byte keys to byte values (`KeyMap`). Pages hold it by `Holds`, a transaction reads it by `InTxn`, an image opens
-//! to it by `OpensMap`. `get`: the value of a key, or none, without memory. `leaf_from`: the leaf with the first row from a key on, and up
-//! to three leaves after it under the same node. `laws`: pages hold one map at most; a commit that stopped leaves the map before or after;
-//! a map has at most 1,364 rows a page.
+//! # Layout
+//!
+//! ```text
+//!                 [ - | k2 | k5 ]            a node: the first key says nothing
+//!                /      |      \
+//!      [k0 k1]      [k2 k3 k4]    [k5 k7]    leaves: rows in rising order
+//! ```
+//!
+//! Invariants:
+//!
+//! 1. The rows of a child begin at its key and end before the next child's key.
+//! 2. All leaves are at level 0; the root has at most level 5.
+//! 3. Each page of the tree occurs in it once and is not free. The pages of the tree, the free
+//!    pages and page 0 are all pages, so no page is lost.
+//!
+//! # Model
+//!
+//! A finite map from keys (1 to 72 bytes) to values (0 to 1,024 bytes), `KeyMap`. A page array
+//! holds it by `Holds`, a transaction reads it by `InTxn`, a crash state opens to it by `OpensMap`.
+//!
+//! # Proved
+//!
+//! - `get` returns the value of a key, or none. It takes no memory.
+//! - `leaf_from` returns the leaf with the first row from a key on, and up to three leaves after
+//!   it.
+//! - `laws`: pages hold at most one map; a commit that was cut off leaves the map before or after;
+//!   a map has at most 1,364 rows a page.
+//!
+//! # Not proved
+//!
+//! Its speed.
 //!
 //! # Notes
 //!
-//! A map changes by transactions alone, whose puts and removes are those of `btree_puts` and `btree_walks`.
-//!
-//! A leaf has rows whose keys rise; a node above has children, each with a key. A child's rows are from its key on and below the next
-//! child's. The first key of a node says nothing: its rows begin at the bound from above (`IsTree` hands down two bounds). `Holds` also
-//! says that each page of the tree is there once and isn't free, and that the tree's pages, the free ones and page 0 are all. So no page is
-//! lost.
-//!
-//! `find_leaf` tells the leaf of a key, and a bound: the keys between them belong to the same leaf (`LeadsAll`), also once an edit of a
-//! leaf put a row there or elsewhere (`leads_stays`).
+//! `find_leaf` also returns a bound: all keys up to it lie in the same leaf (`LeadsAll`), also
+//! after a row was put into a leaf (`leads_stays`). The crates btree_puts and btree_walks change
+//! the map.
 #![tactic(auto)]
 
 mod error;

@@ -27,9 +27,9 @@ use sector_device::SectorDevice;
 /// A leaf that is read, from a place in it on, and the leaves that were read with it.
 #[derive(Drop)]
 pub struct Leaf {
-    /// Where the next row stands in its page.
+    /// The offset of the next row in its page.
     pub at: usize,
-    /// How many rows stand there.
+    /// The number of rows from there on.
     pub left: usize,
     /// How many leaves that follow it were read with it.
     pub more: usize,
@@ -60,10 +60,12 @@ impl Leaf {
     }
 }
 
-/// Reads the leaf with the first row that isn't below a key into the first of some pages, and stands before that row; and the
-/// leaves that follow it under the same node into the others, as far as these go and the keys that bound their rows begin with
-/// the prefix. Where there is no such row, no row is left and no other leaf is read. It takes no memory. An error is
-/// `NotAStore`, where what is read is no store's, `DeviceFault`, where the device failed, or `Halted`, where it had failed before.
+/// Reads the leaf with the first row at or after a key into the first of some pages, and moves to
+/// that row. Reads the leaves that follow it under the same node into the other pages, as far as
+/// there are such leaves and the keys that bound their rows begin with the prefix. If there is no
+/// such row, no row is left and no other leaf is read. It takes no memory. An error is `NotAStore`
+/// if a page read is not a store's, `DeviceFault` if the device failed, or `Halted` if it had
+/// failed before.
 pub fn leaf_from<D: SectorDevice>(
     txn: &Txn,
     pages: &mut Pages<D>,
@@ -113,8 +115,8 @@ fn leaf_after<D: SectorDevice>(
     leaf_for(txn, pages, from.as_slice(), prefix, leaf, held)
 }
 
-/// Reads the leaf in whose range a key falls, with those that follow it, and stands before the first of its rows that isn't below
-/// the key.
+/// Reads the leaf in whose range a key falls, with those that follow it, and moves to its first row
+/// at or after the key.
 fn leaf_for<D: SectorDevice>(
     txn: &Txn,
     pages: &mut Pages<D>,
@@ -201,7 +203,7 @@ fn leaves_below<D: SectorDevice>(
     stand(leaf, &held[0], key)
 }
 
-/// Reads the pages of a leaf and of so many more.
+/// Reads the pages of a leaf and of the next ones.
 fn read_leaves<D: SectorDevice>(
     txn: &Txn,
     pages: &mut Pages<D>,
@@ -221,7 +223,7 @@ fn read_leaves<D: SectorDevice>(
     Ok(())
 }
 
-/// Stands before the first row in a leaf's page that isn't below a key.
+/// Moves to the first row in a leaf's page at or after a key.
 fn stand(leaf: &mut Leaf, page: &PageBytes, key: &[u8]) -> Result<(), TreeError>
     ensures rows { (node : Node) → IsNode page.now node → Rises node.entries
         → OnOk result (IsAhead page.now leaf.new.at (entries_from key.now node.entries)) }

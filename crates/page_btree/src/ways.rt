@@ -14,8 +14,8 @@ use page_node::level_of;
 use page_store::{Pages, Txn};
 use sector_device::SectorDevice;
 
-/// Finds the page of the leaf that a key belongs to, in the tree at a root, and how far the keys that do reach from it on. An error
-/// is `NotAStore`, where no tree stands there, `DeviceFault` or `Halted`.
+/// Finds the page of the leaf to which a key belongs, in the tree at a root, and how far its keys
+/// reach. An error is `NotAStore` if there is no tree, `DeviceFault` or `Halted`.
 pub fn find_leaf<D: SectorDevice>(
     txn: &Txn,
     pages: &mut Pages<D>,

@@ -33,7 +33,7 @@ fn set_count(page: &mut PageBytes, count: usize)
     page[3] = (count % 256) as u8;
 }
 
-/// Puts an entry before the one at a place, and tells whether it had room.
+/// Inserts an entry before the one at a place, and returns whether it had room.
 #[tactic(auto, using(crate::proofs::Editing::count_small, crate::proofs::PageEdits::inserted_size))]
 fn insert_in(
     page: &mut PageBytes,
@@ -59,8 +59,8 @@ fn insert_in(
     Ok(true)
 }
 
-/// Replaces the value of the entry that begins and ends at two places, and tells whether it had room. A value of the same length
-/// is written where the old one lies.
+/// Replaces the value of the entry between two offsets, and returns whether it had room. A value of
+/// the same length is overwritten in place.
 fn replace_in(
     page: &mut PageBytes,
     index: usize,
@@ -87,8 +87,8 @@ fn replace_in(
     Ok(true)
 }
 
-/// Removes the entry that begins and ends at two places, and tells how many are left. All bytes after it are moved, so that it
-/// needn't be known where the last entry ends.
+/// Removes the entry between two offsets, and returns the number of entries left. All bytes after
+/// it are moved, so the end of the last entry need not be known.
 fn remove_in(page: &mut PageBytes, at: usize, end: usize) -> Result<usize, NotANode>
     requires { IsByteRange at end 4096 }
     ensures { MatchResult result (RemovesEntry page.old page.new at end)
@@ -110,8 +110,8 @@ pub struct RowPut {
     pub near: RowNear,
 }
 
-/// Puts a row into a leaf whose keys rise, or tells none where it has no room and the page stays. The search begins at a place
-/// before which each key is below this one.
+/// Puts a row into a leaf whose keys rise; returns none and leaves the page unchanged if it has no
+/// room. The search begins at a place before which each key is below this one.
 pub fn put_row(
     page: &mut PageBytes,
     from: RowNear,
@@ -135,7 +135,7 @@ pub fn put_row(
     Ok(told(fits, RowPut { had: false, near }))
 }
 
-/// What is told of a row that had room or hadn't.
+/// The result for a row that had room, or none if it had not.
 fn told(fits: bool, put: RowPut) -> Option<RowPut>
     ensures { result ≡ cond fits (Some put) None }
 {
@@ -154,8 +154,8 @@ pub fn take_row(page: &mut PageBytes, key: &[u8]) -> Result<Option<usize>, NotAN
     Ok(None)
 }
 
-/// Takes the row of a key out of a leaf whose keys rise, where others are left, and tells whether the key was there; or none where
-/// its row is the only one and the page stays.
+/// Removes the row of a key from a leaf whose keys rise, and returns whether the key existed;
+/// returns none and leaves the page unchanged if its row is the only one.
 pub fn take_spare_row(page: &mut PageBytes, key: &[u8]) -> Result<Option<bool>, NotANode>
     ensures { TakesSpareRow page.old page.new key.now result }
 {

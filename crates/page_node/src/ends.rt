@@ -5,7 +5,7 @@ ghost use Rattle.page_node.specs.Held.{HasEntryAt, IsCut, MayBeCut};
 
 use crate::sizes::PAGE_SIZE;
 
-/// Makes room for an entry of so many bytes at a place.
+/// Makes room for an entry of `size` bytes at a place.
 pub fn insert_end(ends: &mut [u16; 1366], i: usize, count: usize, size: u16)
     requires part { IsByteRange i count 1364 }
     requires fits { (k : ℕ) → k ≤ count → get_or ends.old k 0 + size < 2 ^ 16 }
@@ -19,7 +19,7 @@ pub fn insert_end(ends: &mut [u16; 1366], i: usize, count: usize, size: u16)
     }
 }
 
-/// Takes the entry at a place out, which has so many bytes.
+/// Removes the entry at a place, which has `size` bytes.
 pub fn remove_end(ends: &mut [u16; 1366], i: usize, count: usize, size: u16)
     requires { HasEntryAt ends.old i count size }
     ensures kept { (k : ℕ) → k ≤ i → get_or ends.new k 0 ≡ get_or ends.old k 0 }
@@ -30,7 +30,7 @@ pub fn remove_end(ends: &mut [u16; 1366], i: usize, count: usize, size: u16)
     }
 }
 
-/// Gives the entry at a place so many bytes in place of so many.
+/// Changes the size of the entry at a place from `old` to `new` bytes.
 pub fn resize_end(ends: &mut [u16; 1366], i: usize, count: usize, old: u16, new: u16)
     requires entry { HasEntryAt ends.old i count old }
     requires fits { (k : ℕ) → i < k → k ≤ count → get_or ends.old k 0 - old + new < 2 ^ 16 }
@@ -58,8 +58,8 @@ pub fn copy_ends(from: &[u16; 1366], i: usize, count: usize, to: &mut [u16; 1366
     }
 }
 
-/// How many entries stay where a node is split. An entry that was added as the last moves alone, where the others fit; else the
-/// cut is the first end at or past half.
+/// Returns the number of entries that stay when a node is split. An entry that was added as the
+/// last one moves by itself if the others fit; otherwise the cut is the first end at or past half.
 pub fn cut_at(ends: &[u16; 1366], count: usize, added: usize) -> usize
     requires { MayBeCut ends.now count }
     ensures { IsCut ends.now count added result }

@@ -6,15 +6,15 @@ ghost use Rattle.page_node.specs.Bytes.{HasRoomFor, IsByteRange, MayMove, TellsB
 
 use crate::sizes::{BODY_SIZE, KEY_LIMIT, PAGE_SIZE, PageBytes, VALUE_LIMIT};
 
-/// Where the value of an entry begins and ends. Its key stands before the value.
+/// Where the value of an entry begins and ends. Its key precedes the value.
 #[derive(Clone, Copy, Drop)]
 pub struct Bounds {
     pub value: usize,
     pub end: usize,
 }
 
-/// The lengths of the entry that was looked at last, as they stand in its first three bytes, and what follows from them. Where the
-/// next entry has the same, its end is known before its own are read.
+/// The lengths of the last entry, as in its first three bytes, and what follows from them. If the
+/// next entry has the same lengths, its end is known before its own lengths are read.
 #[derive(Drop)]
 pub struct Lengths {
     pub(crate) head: u32,

@@ -1,14 +1,37 @@
 //! The nodes of a tree of keys: lists of entries, and the bytes of the pages that hold them.
 //!
-//! Seen as a node: a level, 0 for a leaf, and a list of entries. `NodeBuf::read`: Ok exactly where the page's bytes are a node (`IsNode`),
-//! and then that one. `write`, `find`, `insert`, `replace`, `remove`, `split`: as on the list; both halves of a split fit and neither is
-//! empty. `value_for`, `child_for`, `way_for`, `ways_for`, `place_from`, `put_row`, `take_row`, `take_spare_row`: the same of a page where
-//! its bytes lie, without memory. How many children `ways_for` gives, up to three, is no clause's.
+//! # Layout
+//!
+//! ```text
+//! byte 0        the level, 0 for a leaf, at most 5
+//! byte 1        not used
+//! bytes 2, 3    the number of entries
+//! from byte 4   the entries, then zeros
+//!
+//! an entry      length of the key (1 byte), length of the value (2 bytes), key, value
+//!               above the leaves the value is a page number of 4 bytes
+//! ```
+//!
+//! # Model
+//!
+//! A node is a level and a list of entries.
+//!
+//! # Proved
+//!
+//! - `NodeBuf::read` succeeds exactly if the page holds a node (`IsNode`), and returns it.
+//! - `write`, `find`, `insert`, `replace`, `remove` and `split` act as on the list. Both halves of
+//!   a split fit in a page, and neither is empty.
+//! - `value_for`, `child_for`, `way_for`, `ways_for`, `place_from`, `put_row`, `take_row` and
+//!   `take_spare_row` do the same on the bytes of a page, without memory.
+//!
+//! # Not proved
+//!
+//! How many children `ways_for` returns (up to three): this serves speed only.
 //!
 //! # Notes
 //!
-//! `put_row` and `value_after` begin at a place (`RowNear`) before which each key is below theirs (`IsBelow`): that of the row before, or
-//! the first.
+//! `put_row` and `value_after` may begin at a place (`RowNear`) if all keys before it are below
+//! theirs (`IsBelow`).
 #![tactic(auto)]
 
 mod edit;

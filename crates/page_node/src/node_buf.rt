@@ -38,7 +38,7 @@ impl NodeBuf {
     ghost use Rattle.page_node.specs.Node.{bytes_of};
     ghost use Rattle.page_node.specs.Held.{SplitsInto, MayTake, ReadsNode, FindsKey, IsValueAt};
 
-    /// A leaf without entries. It is a constant, since what a function makes is copied to where it stands.
+    /// A leaf without entries. It is a constant, because the result of a function would be copied.
     pub const EMPTY: NodeBuf = NodeBuf {
         bytes: [0; 5200],
         ends: [4; 1366],
@@ -55,7 +55,7 @@ impl NodeBuf {
         self.count = 0;
     }
 
-    /// Reads the node that a page stands for. Where it stands for none, the buffer is a leaf without entries.
+    /// Reads the node in a page. If the page holds none, the buffer is a leaf without entries.
     pub fn read(&mut self, page: &PageBytes) -> Result<(), NotANode>
         ensures { ReadsNode page.now self.new result }
     {
@@ -184,7 +184,7 @@ impl NodeBuf {
         self.set_entry(i, &key[..length], value);
     }
 
-    /// Copies the key of an entry, and tells its length.
+    /// Copies the key of an entry and returns its length.
     fn copy_key(&self, i: usize, key: &mut [u8; KEY_LIMIT]) -> usize
         requires { i < length self.now.entries }
         ensures short { result ≤ 72 }
@@ -230,8 +230,9 @@ impl NodeBuf {
         self.count -= 1;
     }
 
-    /// Moves the upper entries to another buffer, so that both fit and neither is empty. Where the entry that was added is the
-    /// last, it moves alone, and rising keys fill their pages. Else the node is cut at the first end at or past half its bytes.
+    /// Moves the upper entries to another buffer, so that both fit and neither is empty. If the
+    /// added entry is the last, it moves by itself, so rising keys fill their pages; otherwise the
+    /// node is cut at the first end at or past half its bytes.
     pub fn split(&mut self, added: usize, right: &mut NodeBuf)
         requires { 2198 < size_of self.old.entries }
         ensures { SplitsInto self.old self.new right.new added }
@@ -246,7 +247,7 @@ impl NodeBuf {
         self.count = cut;
     }
 
-    /// Writes the page that stands for the node.
+    /// Writes the page of the node.
     pub fn write(&self, page: &mut PageBytes)
         requires { Fits self.now }
         ensures bytes { page.new ≡ bytes_of self.now }

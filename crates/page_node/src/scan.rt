@@ -7,11 +7,11 @@ ghost use Rattle.page_node.specs.Held.{HasEnds};
 use crate::entry::{Lengths, bounds_in};
 use crate::sizes::PageBytes;
 
-/// The bytes of a page stand for no node.
+/// The bytes of a page are not a node.
 #[derive(Clone, Copy, Debug, Drop, PartialEq, Eq)]
 pub struct NotANode;
 
-/// How many entries the page has, and where they end, if it stands for a node.
+/// Returns the number of entries of a page and writes where they end, if the page holds a node.
 #[tactic(auto, using(crate::proofs::Editing::count_small, crate::proofs::Scanning::scanned_no_child))]
 pub fn scan(page: &PageBytes, ends: &mut [u16; 1366]) -> Option<usize>
     requires { get_or ends.old 0 0 ≡ 4 }

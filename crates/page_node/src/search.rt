@@ -86,7 +86,8 @@ impl RowNear {
     pub const FIRST: RowNear = RowNear { k: 0, at: 4 };
 }
 
-/// The place that is known, where a page with so many entries can have it, and else that before the first entry.
+/// The known place if a page with `count` entries can have it, otherwise the place before the first
+/// entry.
 fn begun_at(from: RowNear, count: usize) -> RowNear
     ensures within { (4 ≤ result.at) × (result.at ≤ 4096) × (result.k ≤ count) }
     ensures below { (key : List ℕ) (es : List Entry) → IsBelow key es from.k from.at → IsBelow key es result.k result.at }
@@ -126,7 +127,7 @@ pub(crate) fn row_after(page: &PageBytes, from: RowNear, key: &[u8]) -> Option<R
     Some(near)
 }
 
-/// The value of a key in a page whose keys rise, if the key is there.
+/// Returns the value of a key in a page whose keys rise, if the key exists.
 #[inline(always)]
 #[tactic(auto, using(crate::proofs::Nearing::first_below, crate::proofs::Nearing::where_err))]
 pub fn value_for<'a>(page: &'a PageBytes, key: &[u8]) -> Result<Option<&'a [u8]>, NotANode>

@@ -9,8 +9,8 @@ pub const BODY_SIZE: usize = PAGE_SIZE - 4;
 /// The bytes of a page.
 pub type PageBytes = [u8; PAGE_SIZE];
 
-/// A key has so many bytes at most.
+/// The largest number of bytes of a key.
 pub const KEY_LIMIT: usize = 72;
 
-/// A value has so many bytes at most.
+/// The largest number of bytes of a value.
 pub const VALUE_LIMIT: usize = 1024;

@@ -15,7 +15,7 @@ use std::cmp::Ordering;
 pub(crate) struct Spot {
     pub(crate) at: usize,
     pub(crate) end: usize,
-    /// How many entries stand before it.
+    /// The number of entries before it.
     pub(crate) index: usize,
     pub(crate) found: bool,
 }
@@ -65,7 +65,7 @@ pub(crate) fn spot_after(page: &PageBytes, from: RowNear, key: &[u8]) -> Result<
     })
 }
 
-/// Passes over entries from one on, eight at once, as long as so many are left.
+/// Passes over entries from a place on, eight at a time, while at least eight are left.
 fn passed_from(page: &PageBytes, from: RowNear) -> Option<RowNear>
     requires { from.at ≤ 4096 }
     ensures { MatchOption result (NoneEnds page.now from.k from.at) (IsLater page.now from) }

@@ -79,8 +79,8 @@ impl<D: SectorDevice> Pages<D> {
     ghost use Rattle.page_store.specs.Transactions.{IsUntouched, OpenErr};
     ghost use Rattle.page_store.specs.Calls.{BeginsOver};
 
-    /// Opens the pages that a device holds, as `Journal::open`. With a refusal the device comes back. `Memory`: no room for the
-    /// pages that are to be held; it comes of a store alone.
+    /// Opens the pages on a device, as `Journal::open` does. A refusal returns the device. `Memory`
+    /// means no room for the pages cached in memory; it comes only if the device holds a store.
     pub fn open(alloc: Global, device: D) -> Result<Pages<D>, (PageError, D)>
         ensures sectors { (D.disk (device_after result)).sectors ≡ (D.disk device).sectors }
         ensures honest { (D.disk (device_after result)).is_honest → (D.disk device).is_honest }

@@ -124,7 +124,8 @@ impl Txn {
         Ok(())
     }
 
-    /// Changes a page that it writes, where that lies, and tells what the change told; none where it doesn't write the page.
+    /// Applies `change` in place to a page that the transaction writes and returns its result;
+    /// `None` if it does not write the page.
     pub fn edit<R, F: FnOnce(&mut Sector) -> R>(&mut self, p: u32, change: F) -> Option<R>
         requires { F.IsAlwaysCallable change }
         ensures rooted { KeepsRoot self.old self.new }
@@ -231,7 +232,7 @@ impl Txn {
         self.pages
     }
 
-    /// The root that the meta page is to name. Page 0 stands for none.
+    /// Returns the root that the meta page will name. Page 0 means no root.
     pub fn root(&self) -> u32
         ensures root { result ≡ txn_root self.now }
         ensures below { result < txn_pages self.now }

@@ -14,7 +14,8 @@ use sector_device::{SECTOR_SIZE, SectorDevice};
 use std::alloc::Global;
 use std::thread::{Threads, join};
 
-/// Looks at the rows beside the desk. The desk is what takes memory: a thread that is begun would ask the system for each page of it.
+/// Examines the rows and the desk at the same time. The desk is what takes memory: a new thread
+/// would ask the system for each page of it.
 fn look_last<T: Threads + Sync, R: SectorDevice + Send + Drop>(
     rt: &T,
     alloc: Global,
@@ -31,7 +32,7 @@ fn look_last<T: Threads + Sync, R: SectorDevice + Send + Drop>(
     )
 }
 
-/// Looks at the pages beside these.
+/// Examines the pages at the same time as rows and desk.
 fn look_all<T: Threads + Sync, R: SectorDevice + Send + Drop, P: Progress + Send>(
     rt: &T,
     alloc: Global,
@@ -97,8 +98,9 @@ fn joined(owners: Look<u64>, desk: Look<Vec<CountyRange>>, rows: Look<SeenRows>)
 /// The first byte of the gate's sector while copies in the journal count.
 const OPEN: u8 = 165;
 
-/// Whether the gate of a store is closed, as far as a reader of its own tells: an open one is closed by writing, which no reader does.
-/// Nothing rests on it. A call of it that fails isn't told, since each other reader makes it again.
+/// Returns whether the gate of a store is shut, as far as a reader of its own can see: shutting an
+/// open one needs writing, which no reader does. Nothing depends on it. A call of it that fails is
+/// not reported, since each other reader makes it again.
 fn is_closed<D: SectorDevice, R: SectorDevice + Drop, O: Readers<D, R>>(
     readers: &O,
     device: &D,
@@ -145,9 +147,10 @@ fn take_all_back<D: SectorDevice, R: SectorDevice, O: Readers<D, R>>(
     readers.take_back(device, third);
 }
 
-/// Looks at the store that a synced device holds by three readers at once: how many rows it has, where each page has one owner and the rows
-/// are those of a desk. The device is as it was, and has been told all that its readers were. A store that a stopped commit left is for
-/// the device alone. `progress` hears of pages.
+/// Examines the store on a synced device by three readers at once. Returns its number of rows if
+/// each page has one owner and the rows are those of a desk. The device is as it was, and its
+/// readers' calls count as its own. A store with an interrupted commit is left to the device
+/// itself. `progress` is told the number of pages.
 pub fn look_beside<
     T: Threads + Sync,
     D: SectorDevice,

@@ -15,7 +15,7 @@ use row_owners::{check_rows, note_parts};
 use sector_device::SectorDevice;
 use std::alloc::Global;
 
-/// The rows of a store that were looked at: how many they are, beside which counties.
+/// The rows that were examined: their number, and the counties.
 #[derive(Drop)]
 pub(crate) struct SeenRows {
     pub(crate) rows: u64,
@@ -37,7 +37,7 @@ fn owners_in<R: SectorDevice, P: Progress>(
     Some(rows)
 }
 
-/// Looks whether rows tell the new version, and a desk: its counties.
+/// Returns the counties of the desk if the rows have the new version and are a desk's.
 fn desk_in<R: SectorDevice>(alloc: Global, pages: &mut Pages<R>) -> Option<Vec<CountyRange>>
     requires working { has_halted pages.old ≡ false }
     ensures { Finds HasDesk pages.old pages.new result }

@@ -1,11 +1,18 @@
-//! A store that three readers of its device look at at once: at its pages, at its desk, and at its rows and holdings.
+//! Verifies a store by three readers at once: its pages, its desk, and its rows with their
+//! holdings.
 //!
-//! Seen as `Look`: what was found, that something isn't so, or that the device failed. `look_beside`: at Sound the store is sound
-//! (`IsSoundAt`); the device is as it was.
+//! # Model
 //!
-//! # Notes
+//! `Look`: what was found, that something is wrong, or that the device failed.
 //!
-//! What isn't so is not told here: whoever is to tell it looks again, one thing after the other.
+//! # Proved
+//!
+//! `look_beside`: if it reports Sound, the store is sound (`IsSoundAt`). The device stays as it
+//! was.
+//!
+//! # Not proved
+//!
+//! Speed. What is wrong is found by a second, sequential pass.
 #![tactic(auto)]
 
 mod beside;

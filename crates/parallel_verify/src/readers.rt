@@ -14,8 +14,8 @@ pub trait Readers<D: SectorDevice, R: SectorDevice> {
     fn lend(&self, device: &D) -> Option<R>
         ensures { IfSome result (λ reader. IsLent held (D.disk device.now) (R.disk reader)) };
 
-    /// Takes a reader back: what it was told the device has been told then, and has failed as often. So what was found by the reader is
-    /// found of the device.
+    /// Takes a reader back: its calls and failures count as the device's. So what the reader found
+    /// was found on the device.
     fn take_back(&self, device: &mut D, reader: R)
         ensures { IsTakenBack held (D.disk device.old) (R.disk reader) (D.disk device.new) };
 }

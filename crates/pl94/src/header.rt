@@ -92,7 +92,7 @@ impl Header {
         Ok(())
     }
 
-    /// Whether it has as many blocks as a state may have.
+    /// Returns whether there are as many blocks as a state may have.
     fn is_full(&self) -> bool
         ensures { result ≡ nat_le block_limit (length self.now.blocks.items) }
     {

@@ -1,12 +1,24 @@
-//! The 2020 Census PL 94-171 files (G1 to G10, S1 to S9): the geographic header, the segments, and their join.
+//! The 2020 Census PL 94-171 files: the geographic header, the three segments, and their join.
 //!
-//! Seen as the set of blocks with record numbers and cities. `GeoReader::read`: Ok exactly where the text is a header of a set of blocks,
-//! and then that set. Otherwise the first line's fault with the smaller code. A read fault comes only where the reader failed, the turn
-//! limit only at the limit. `Display` of each fault: its bytes.
+//! # Model
 //!
-//! The segments (S1 to S6), and their join with the header (S7 to S9): seen as record numbers to people. `SegmentReader::read`: as
-//! `GeoReader::read`, of a segment. `join`, of what was read: Ok exactly where the texts are census files of a set of blocks, and then that
-//! set, else the join's first fault. `Display` of each fault: its bytes.
+//! A header is a set of blocks, each with its record number and its city, if it has one. A segment
+//! is a map from record numbers to numbers of people.
+//!
+//! # Proved
+//!
+//! - `GeoReader::read` succeeds exactly if the text is a header of a set of blocks, and returns
+//!   that set. Otherwise it returns the fault of the first faulty line, and in that line the
+//!   smallest code (G1 to G10).
+//! - `SegmentReader::read`: the same for a segment (S1 to S6).
+//! - `join` succeeds exactly if the files are census files of one set of blocks, and returns the
+//!   blocks with their people. Otherwise it returns the join's first fault (S7 to S9).
+//! - A read fault is returned only if the reader failed, and the turn limit only at the limit.
+//! - `Display` prints each fault as documented.
+//!
+//! # Not proved
+//!
+//! That the census files contain the people of the state.
 #![tactic(auto)]
 
 pub mod entry;

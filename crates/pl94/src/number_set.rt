@@ -52,7 +52,7 @@ impl NumberSet {
         Ok(())
     }
 
-    /// Adds a number, and tells whether it is new.
+    /// Adds a number and returns whether it is new.
     pub fn insert(&mut self, number: u64) -> Result<bool, AllocError>
         ensures { IfOk result (Inserts self.old self.new number) }
     {

@@ -23,7 +23,7 @@ const GAP: usize = 16;
 pub struct SegRows {
     /// The number that came first.
     first: u64,
-    /// The people of the numbers from it on, which stand one after the other but for small gaps.
+    /// The people of the numbers from `first` on, which are consecutive but for small gaps.
     run: Vec<Option<u32>>,
     /// The people of all other numbers.
     others: BTreeMap<u64, u32>,

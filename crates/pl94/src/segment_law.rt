@@ -1,8 +1,8 @@
 //! What the four files say together.
 ghost use Rattle.pl94.specs.Files.{FilesLaw, SegmentLaw};
 
-/// A segment's lines are good one after the other exactly where all of them together are a segment's: every line has
-/// its shape, and no LOGRECNO stands twice.
+/// A segment's lines are good one after the other exactly if together they are a segment: every
+/// line has its shape, and no LOGRECNO occurs twice.
 pub fn segment_law()
     ensures { SegmentLaw }
 {}

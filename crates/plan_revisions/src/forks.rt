@@ -26,7 +26,7 @@ use std::alloc::Global;
 use store_rows::upkeep::next_is_one;
 use store_rows::{Counters, PlanRow};
 
-/// Reads the row of a plan, the numbers that come next, and those of the chunks of a revision, which are so many.
+/// Reads a plan's row, the next numbers, and the numbers of the `counties` chunks of a revision.
 fn read_source<D: SectorDevice>(
     alloc: Global,
     txn: &Txn,

@@ -1,14 +1,26 @@
-//! A command's rows in a transaction: a plan is created, taken away, forked, or gets one revision more.
+//! The rows of a command in a transaction: creates, retires, forks or revises a plan.
 //!
-//! Seen as the desk that the transaction reads, and the desk after the command. `command_rows`: the number that desk_model says.
-//! `put_command`, `create`, `retire`, `add`, `fork`: the next desk with as many rows put as room was asked for (`HasStepped`). Else the
-//! numbers weren't left and nothing was written (`HasExhausted`), or `StepErr`. A county that is as before keeps its chunk.
-//! `append_districts`: a revision's districts. The commit is the caller's.
+//! # Example
 //!
-//! # Notes
+//! After `put_command(alloc, txn, pages, &shown, &command, &then, changes)?` the transaction reads
+//! the desk after the command.
 //!
-//! The rows of a revision name the chunk of each county's districts, and those of a fork the chunks of the revision that it comes from.
-//! After `put_command(alloc, txn, pages, &shown, &command, &then, changes)?` the transaction reads the desk after the command.
+//! # Model
+//!
+//! The desk that the transaction reads before and after. The caller commits.
+//!
+//! # Proved
+//!
+//! - `command_rows` is the number of rows that desk_model defines.
+//! - `put_command`, `create`, `retire`, `add`, `fork`: the next desk, with at most as many rows as
+//!   room was asked for (`HasStepped`). Otherwise no number was left and nothing was written
+//!   (`HasExhausted`), or `StepErr` says why.
+//! - A county that does not change keeps its chunk. A fork names the chunks of its origin.
+//! - `append_districts` appends the districts of a revision.
+//!
+//! # Not proved
+//!
+//! Nothing beyond these relations is claimed.
 #![tactic(auto)]
 
 mod adds;

@@ -16,9 +16,9 @@ use sector_device::SectorDevice;
 use std::alloc::Global;
 use store_rows::{Counters, PlanRow};
 
-/// Puts the rows of one revision more of the plan with this row: the chunks of the counties that change, under the numbers that
-/// come next, which are so many, the rows by which the plan holds these, the names of all chunks, and the plan's row with that of the
-/// numbers.
+/// Puts the rows of one more revision of the plan with this row: the chunks of the counties that
+/// change, under the next numbers, the rows by which the plan holds them, the names of all chunks,
+/// and the rows of the plan and of the numbers.
 pub fn put_revision<D: SectorDevice>(
     alloc: Global,
     txn: &mut Txn,

@@ -14,7 +14,7 @@ use desk_model::command::Command;
 use desk_model::geography::Geography;
 use desk_model::name::PlanName;
 
-/// The districts of a revision that is there.
+/// Returns the districts of a revision that exists.
 pub(crate) fn next_of<'a>(then: &'a Catalogue, name: &PlanName, k: u32) -> &'a Districts
     requires { IsSome (revision_in (map_of.get then.now.plans name.now) k) }
     ensures value { (districts : List ℕ) → revision_in (map_of.get then.now.plans name.now) k ≡ Some districts → result.now ≡ districts }

@@ -6,7 +6,7 @@ use Rattle.{page_store.specs.{claim.Transactions.{stored, disk_in, IsQuiet, Pass
 use Rattle.{plan_rows.specs.{ChunkChanging.{IsByRows, HasChanged, MapErr}, Holding.{HasHeldWith, HoldErrWith, IsFreeFrom, CanHoldAll}}, store_rows.specs.ForkLaws.ChunksAreHeld}
 use Rattle.store_rows.specs.{Shares.hold_all, claim.{Holders.holding_rows, Keys.{holding, holder_count}, Puts.{Row, put_rows}, Rows.{KeyMap, row_in}}}
 use Rattle.{store_rows.specs.claim.Shares.{count_of, hold_by, hold}, desk_pages.proofs.Rising.fresh_stand, page_store.proofs.Stops.{passed_more, failed_more}}
-use Rattle.plan_rows.proofs.Changed.{read_changed, changed_as, deep_after, prefix_unchanged, more_by_rows}
+use Rattle.plan_rows.proofs.Changed.{read_changed, changed_as, deep_after, nears_as, near_before, prefix_unchanged, more_by_rows}
 
 -- ---- by how many rows
 held_by_two : (o : Option (List ℕ)) (m : KeyMap) (plan number : ℕ) → (put : List Row) × (length put ≤ 2) × (hold_by o m plan number ≡ put_rows m put)
@@ -44,7 +44,7 @@ module _ {D : Type 0} {g : Ghosts D} where
       let rows = holding_rows plan number deep.0 in
       let few = prefix.1 in
       let long = length-append prefix.0 rows in
-      record { put = prefix.0 ++ rows; few = omega arith; deep = deep_after prefix.0 rows t u a b m (f m) same prefix.2 deep.1 }
+      record { put = prefix.0 ++ rows; few = omega arith; deep = deep_after prefix.0 rows t u a b m (f m) same prefix.2 deep.1; near = near_before x 2 t u a b same (did.nearer before m holds) deep.2 }
   then_not_held f x can says fs plan number t u a b c _ by gives known did quiet why = search (arith, failed_more)
 
   -- of all chunks only the rest is not held yet, the plan holds none from a number on, and both fingers stand
@@ -75,6 +75,13 @@ module _ {D : Type 0} {g : Ghosts D} where
         changed = λ honest m holds. rw (before.held.passed.quiet.same (did.passed.quiet.honest honest)) at (both honest m holds).0;
         writes = let first = before.held.writes in let more = did.writes in omega arith;
         taken = let first = before.held.taken in let more = did.taken in omega arith;
+        nearer = λ honest m holds.
+            let earlier = did.passed.quiet.honest honest in
+            let same = before.held.passed.quiet.same earlier in
+            let known = before.none earlier m holds in
+            let first = before.held.nearer earlier m holds in
+            let more = nears_as 2 u v b a same (did.nearer honest (hold_all m plan prefix) (rw same (before.held.changed earlier m holds)) known.0 (rw same known.1)) in
+            omega (arith, first, more);
       } in
       record {
         prefix = prefix ++ number ∷ [];

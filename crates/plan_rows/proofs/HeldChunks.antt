@@ -4,11 +4,11 @@ use Rattle.std.proofs.Common.{rules, ◌≡◌, ◌<◌, ◌+◌, ◌-◌, ◌^�
 use Rattle.{desk_pages.specs.btree_puts.{Fingers.Stand, declared.finger.Fingers.Fingers}, page_btree.specs.{claim.Map.InTxn, declared.error.TreeError.TreeError}}
 use Rattle.{page_btree.specs.declared.error.TreeError.TheVariants.{NotAStore, TooDeep}, page_store.specs.claim.Transactions.{stored, disk_in, IsQuiet, Passed}}
 use Rattle.{page_store.specs.declared.{pages.Pages.Pages, txn.Txn.Txn}, sector_device.specs.declared.SectorDevice.Ghosts, store_rows.specs.{Shares.CanHold, claim.Puts.put_rows}}
-use Rattle.plan_rows.{specs.Holding.{Stands, HasHolderCount, HasHeld, HasHeldWith, WasHeld, HoldErrOf, HoldErrWith, IsCountOf, IsUnheld}, proofs.Changed.deep_after}
+use Rattle.{plan_rows.specs.Holding.{Stands, HasHolderCount, HasHeld, HasHeldWith, WasHeld, HoldErrOf, HoldErrWith, IsCountOf, IsUnheld}, store_rows.proofs.Sharing.count_back}
 use Rattle.store_rows.specs.{Values.holder_count_bytes, claim.{Holders.{holder_count_row, holding_rows}, Keys.{key_of, holding, holder_count}, Rows.{KeyMap, row_in, Lacks}}}
 use Rattle.{store_rows.specs.{claim.Shares.{count_of, hold_by, hold}, declared.value.HolderCount.HolderCount}, desk_pages.proofs.Looking.{looked, not_looked as unlooked}}
-use Rattle.{desk_pages.proofs.Rising.{fresh_stand, put_with_after, not_put_with_after}, page_store.proofs.Stops.{passed_more, failed_more}, store_rows.proofs.Sharing.count_back}
-use Rattle.store_rows.proofs.HolderCounts.{joins_holders}
+use Rattle.{desk_pages.proofs.Rising.{fresh_stand, put_with_after, not_put_with_after}, page_store.proofs.Stops.{passed_more, failed_more}}
+use Rattle.{plan_rows.proofs.Changed.{deep_after, nears_as, near_before}, store_rows.proofs.HolderCounts.joins_holders}
 
 -- ---- a count is a value of its row
 holder_count_in : (row : Option (List ℕ)) (count : ℕ) → row ≡ holder_count_row count → (value : Option HolderCount) × (option_map holder_count_bytes value ≡ row)
@@ -63,6 +63,7 @@ module _ {D : Type 0} {g : Ghosts D} (plan number : ℕ) where
     held = λ honest m holds. let same = first.quiet.same (did.passed.quiet.honest honest) in rw same at (did.held honest m (rw same holds));
     writes = did.writes;
     taken = did.taken;
+    nearer = λ honest m holds. let same = first.quiet.same (did.passed.quiet.honest honest) in nears_as 2 t u b a same (did.nearer honest m (rw same holds));
   }
 
   -- ---- where the plan doesn't hold it
@@ -80,6 +81,7 @@ module _ {D : Type 0} {g : Ghosts D} (plan number : ℕ) where
               );
           writes = let most = whole.writes in omega arith;
           taken = let most = whole.taken in omega arith;
+          nearer = λ honest m holds lacks stand. whole.nearer honest m holds stand;
         }
 
     pub too_many : (count ≡ 2 ^ 64 - 1) → HoldErrWith f (Lacking plan number) plan number t a b NotAStore
@@ -92,16 +94,16 @@ module _ {D : Type 0} {g : Ghosts D} (plan number : ℕ) where
       where
         told_of : (e : TreeError) → PutsErrWith f (holding_rows plan number count) t a c e → HoldErrWith f (Lacking plan number) plan number t a c e
         told_of NotAStore why = λ honest m limit holds may can fits. why honest m holds may.1
-        told_of TooDeep why = λ honest m holds may. (count, why honest m holds may.1)
+        told_of TooDeep why = λ honest m holds may. let both = why honest m holds may.1 in (count, both.0, both.1)
         told_of _ why = search arith
 
   -- of fewer maps, or of all
   pub held_of_fewer : {f h : Fingers} {says more : KeyMap → Type 0} {t u : Txn} {a b : Pages D g} → ((m : KeyMap) → more m → says m) → HasHeldWith f h says plan number t u a b → HasHeldWith f h more plan number t u a b
-  held_of_fewer gives did = record { passed = did.passed; pages = did.pages; held = λ honest m holds is stand. did.held honest m holds (gives m is) stand; writes = did.writes; taken = did.taken }
+  held_of_fewer gives did = record { passed = did.passed; pages = did.pages; held = λ honest m holds is stand. did.held honest m holds (gives m is) stand; writes = did.writes; taken = did.taken; nearer = λ honest m holds is stand. did.nearer honest m holds (gives m is) stand }
 
   -- no leaf is known then
   pub held_of_all : {f h : Fingers} {says : KeyMap → Type 0} {t u : Txn} {a b : Pages D g} → h.first.page ≡ 0 → h.second.page ≡ 0 → HasHeld plan number t u a b → HasHeldWith f h says plan number t u a b
-  held_of_all {f} {h} {says} {t} {u} {a} {b} first second did = search (arith, did.passed, did.pages, did.held, fresh_stand, did.writes, did.taken)
+  held_of_all {f} {h} {says} {t} {u} {a} {b} first second did = record { passed = did.passed; pages = did.pages; held = λ honest m holds is stand. (did.held honest m holds, fresh_stand u (stored a) h first second); writes = did.writes; taken = did.taken; nearer = λ honest m holds is stand. did.nearer honest m holds }
 
   pub held_unheld : {f h : Fingers} {t u : Txn} {a b : Pages D g} → f.first.page ≡ 0 → f.second.page ≡ 0 → IsUnheld plan number t a → HasHeldWith f h (Lacking plan number) plan number t u a b → HasHeld plan number t u a b
   held_unheld {f} {h} {t} {u} {a} {b} first second unheld did = record {
@@ -110,6 +112,7 @@ module _ {D : Type 0} {g : Ghosts D} (plan number : ℕ) where
     held = λ honest m holds. (did.held honest m holds (unheld (did.passed.quiet.honest honest) m holds) (fresh_stand t (stored a) f first second)).0;
     writes = did.writes;
     taken = did.taken;
+    nearer = λ honest m holds. did.nearer honest m holds (unheld (did.passed.quiet.honest honest) m holds) (fresh_stand t (stored a) f first second);
   }
 
   -- ---- why not
@@ -123,7 +126,7 @@ module _ {D : Type 0} {g : Ghosts D} (plan number : ℕ) where
     not_held_after c TooDeep first quiet why = λ honest m holds is.
         let same = first.quiet.same (quiet.honest honest) in
         let deep = why honest m (rw same holds) is in
-        (deep.0, deep_after [] (holding_rows plan number deep.0) t t a b m m same refl deep.1)
+        (deep.0, deep_after [] (holding_rows plan number deep.0) t t a b m m same refl deep.1, near_before 0 2 t t a b same (omega arith) deep.2)
     not_held_after c _ first quiet why = search (arith, failed_more)
 
     -- what is looked for first isn't read

@@ -1,9 +1,9 @@
 -- A map that changes in a transaction by rows that depend on what is there.
 use Rattle.std.specs.Prelude.{◌≡◌, ◌<◌, ◌≤◌, ◌+◌, ◌*◌, ℕ, List, length, true, Result}
-use Rattle.{desk_pages.specs.{Outcomes.Writes, claim.Puts.HasDeepened}, page_btree.specs.{claim.Map.InTxn, declared.error.TreeError.TreeError}, store_rows.specs.claim.Rows.KeyMap}
+use Rattle.{desk_pages.specs.{Outcomes.Writes, claim.Puts.{HasDeepened, IsNear, Nears}}, page_btree.specs.{claim.Map.InTxn, declared.error.TreeError.TreeError}}
 use Rattle.{page_btree.specs.declared.error.TreeError.TheVariants.{DeviceFault, NotAStore, Halted, NoPages, TooDeep, Memory}, page_store.specs.declared.pages.Pages.Pages}
 use Rattle.page_store.specs.{claim.Transactions.{stored, disk_in, has_halted, txn_pages, txn_free, txn_writes, HasFailed, Passed}, declared.txn.Txn.Txn}
-use Rattle.{sector_device.specs.declared.SectorDevice.Ghosts, store_rows.specs.claim.Puts.{Row, put_rows}}
+use Rattle.{sector_device.specs.declared.SectorDevice.Ghosts, store_rows.specs.claim.{Puts.{Row, put_rows}, Rows.KeyMap}}
 
 -- so many rows at most make of each map what follows
 abbrev pub IsByRows : (KeyMap → KeyMap) → ℕ → Type 0
@@ -17,12 +17,14 @@ module _ {D : Type 0} {g : Ghosts D} where
     pub changed : (disk_in new).is_honest → (m : KeyMap) → InTxn t (stored old) m → InTxn u (stored old) (then m)
     pub writes : txn_writes u ≤ txn_writes t + 11 * rows
     pub taken : txn_free t ≤ txn_free u + 6 * rows
+    pub nearer : (disk_in new).is_honest → (m : KeyMap) → InTxn t (stored old) m → Nears rows t u old
 
   -- the tree had six levels after some of so many rows at most
   pub record IsDeepAfter (rows : ℕ) (t : Txn) (old : Pages D g) (m : KeyMap) : Type 0 where
     pub put : List Row
     pub few : length put ≤ rows
     pub deep : HasDeepened put t old m
+    pub near : IsNear rows t old
 
   -- why it is not: the device failed, or the transaction reads no map that can change so; too few pages were free; the tree was too deep
   abbrev pub MapErr : (KeyMap → Type 0) → ℕ → Txn → Pages D g → Pages D g → TreeError → Type 0

@@ -1,10 +1,11 @@
 -- What it is for a plan to come to hold a chunk, and why it doesn't.
 use Rattle.std.specs.Prelude.{◌≡◌, ◌<◌, ◌≤◌, ◌+◌, ◌*◌, ◌^◌, ℕ, Bool, true, false, List, length, Option, Some, None, Contains, Result, MatchResult}
-use Rattle.desk_pages.specs.{Outcomes.Writes, Rising.{HasPutWith, PutsErrWith}, btree_puts.{Fingers.Stand, declared.finger.Fingers.Fingers}, claim.Puts.HasDeepened}
-use Rattle.page_btree.specs.{claim.Map.InTxn, declared.error.TreeError.{TreeError, TheVariants.{DeviceFault, NotAStore, Halted, NoPages, TooDeep, Memory}}}
-use Rattle.page_store.specs.{claim.Transactions.{stored, disk_in, has_halted, txn_pages, txn_free, txn_writes, HasFailed, Passed}, declared.{pages.Pages.Pages, txn.Txn.Txn}}
-use Rattle.{plan_rows.specs.ChunkChanging.ChangesMap, sector_device.specs.declared.SectorDevice.Ghosts, store_rows.specs.{Shares.{CanHold, hold_all}, claim.Puts.Row}}
-use Rattle.store_rows.specs.claim.{Holders.{holder_count_row, holding_rows}, Keys.{holding, holder_count}, Rows.{KeyMap, row_in, Has, Lacks}, Shares.hold}
+use Rattle.{desk_pages.specs.{Outcomes.Writes, Rising.{HasPutWith, PutsErrWith}, btree_puts.{Fingers.Stand, declared.finger.Fingers.Fingers}}, page_btree.specs.claim.Map.InTxn}
+use Rattle.{desk_pages.specs.claim.Puts.{HasDeepened, IsNear, Nears}, page_btree.specs.declared.error.TreeError.TreeError, page_store.specs.declared.pages.Pages.Pages}
+use Rattle.{page_btree.specs.declared.error.TreeError.TheVariants.{DeviceFault, NotAStore, Halted, NoPages, TooDeep, Memory}, page_store.specs.declared.txn.Txn.Txn}
+use Rattle.{page_store.specs.claim.Transactions.{stored, disk_in, has_halted, txn_pages, txn_free, txn_writes, HasFailed, Passed}, plan_rows.specs.ChunkChanging.ChangesMap}
+use Rattle.{sector_device.specs.declared.SectorDevice.Ghosts, store_rows.specs.{Shares.{CanHold, hold_all}, claim.{Holders.{holder_count_row, holding_rows}, Puts.Row}}}
+use Rattle.store_rows.specs.claim.{Keys.{holding, holder_count}, Rows.{KeyMap, row_in, Has, Lacks}, Shares.hold}
 
 -- a holding row is there, or not
 abbrev pub Stands : Bool → ℕ → ℕ → KeyMap → Type 0
@@ -36,6 +37,7 @@ module _ {D : Type 0} {g : Ghosts D} where
     pub held : (disk_in new).is_honest → (m : KeyMap) → InTxn t (stored old) m → InTxn u (stored old) (hold m plan number)
     pub writes : txn_writes u ≤ txn_writes t + 22
     pub taken : txn_free t ≤ txn_free u + 12
+    pub nearer : (disk_in new).is_honest → (m : KeyMap) → InTxn t (stored old) m → Nears 2 t u old
 
   -- no map that the transaction reads has the row by which the plan holds the chunk
   abbrev pub IsUnheld : ℕ → ℕ → Txn → Pages D g → Type 0
@@ -49,6 +51,7 @@ module _ {D : Type 0} {g : Ghosts D} where
         → InTxn u (stored old) (hold m plan number) × Stand u (stored old) fs
     pub writes : txn_writes u ≤ txn_writes t + 22
     pub taken : txn_free t ≤ txn_free u + 12
+    pub nearer : (disk_in new).is_honest → (m : KeyMap) → InTxn t (stored old) m → says m → Stand t (stored old) were → Nears 2 t u old
 
   -- whether the plan held it before
   abbrev pub WasHeld : Bool → ℕ → ℕ → Txn → Pages D g → Pages D g → Type 0
@@ -68,7 +71,7 @@ module _ {D : Type 0} {g : Ghosts D} where
   HoldErrOf may plan number t old new Halted = has_halted old ≡ true
   HoldErrOf may plan number t old new NoPages = txn_free t < 12
   HoldErrOf may plan number t old new TooDeep = (disk_in new).is_honest → (m : KeyMap)
-      → InTxn t (stored old) m → may m → (count : ℕ) × HasDeepened (holding_rows plan number count) t old m
+      → InTxn t (stored old) m → may m → (count : ℕ) × HasDeepened (holding_rows plan number count) t old m × IsNear 2 t old
   HoldErrOf may plan number t old new Memory = Unit {0}
 
   abbrev pub HoldErr : ℕ → ℕ → Txn → Pages D g → Pages D g → TreeError → Type 0

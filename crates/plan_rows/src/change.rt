@@ -5,6 +5,6 @@
 pub enum ChangeOutcome {
     /// Its rows were put.
     Made,
-    /// So many numbers aren't left: nothing was written.
+    /// Too few numbers are left: nothing was written.
     NumbersExhausted,
 }

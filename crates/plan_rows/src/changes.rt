@@ -31,9 +31,9 @@ pub fn put_plan<D: SectorDevice>(
     put_row(txn, pages, &Key::counters(), &counters_value(next))
 }
 
-/// Creates a plan without revisions, under the number that is next. The name is for the caller to choose: one under which no plan
-/// stands. After an error the transaction can only be abandoned; each comes as from `put_row`, `NotAStore` also where the
-/// store holds what are no numbers.
+/// Creates a plan without revisions, under the next number. The caller chooses a name that no plan
+/// has. After an error the transaction can only be abandoned. Errors as from `put_row`; `NotAStore`
+/// also if the store's counters are not numbers.
 pub fn create_plan<D: SectorDevice>(
     txn: &mut Txn,
     pages: &mut Pages<D>,
@@ -63,9 +63,9 @@ pub fn create_plan<D: SectorDevice>(
     Ok(ChangeOutcome::Made)
 }
 
-/// Puts the row of a plan with one revision more, and moves the chunks' number on by those that the revision took. The row is
-/// the one that stands under the name, and `next` are the numbers that come next. After an error the transaction can only be
-/// abandoned; each comes as from `put_row`.
+/// Puts the row of a plan with one more revision, and advances the chunks' number by those that the
+/// revision took. `row` is the plan's present row and `next` are the next numbers. After an error
+/// the transaction can only be abandoned. Errors as from `put_row`.
 pub fn revise_plan<D: SectorDevice>(
     txn: &mut Txn,
     pages: &mut Pages<D>,

@@ -12,7 +12,7 @@ use page_store::{Pages, Txn};
 use sector_device::SectorDevice;
 use store_rows::{Key, PIECE_DISTRICTS, read_districts};
 
-/// Appends a piece of a chunk, which has so many districts.
+/// Appends one part of a chunk of `count` districts.
 fn append_piece<D: SectorDevice>(
     txn: &Txn,
     pages: &mut Pages<D>,
@@ -40,8 +40,9 @@ fn append_piece<D: SectorDevice>(
     }
 }
 
-/// Appends the districts of a chunk, which has so many. After an error the list may hold some of them: `NotAStore` comes also
-/// where the store has no such chunk, as none has more than 33,554,432, and `Memory` where the list's growth was refused.
+/// Appends the districts of a chunk of `count` districts. After an error the list may contain some
+/// of them. `NotAStore` comes also if the store has no such chunk, since none has more than
+/// 33,554,432 districts, and `Memory` if the list could not grow.
 pub fn append_chunk<D: SectorDevice>(
     txn: &Txn,
     pages: &mut Pages<D>,

@@ -62,7 +62,7 @@ fn count_in(found: Option<HolderCount>) -> Result<u64, TreeError>
     }
 }
 
-/// Has the row of a chunk tell that so many plans hold it, or takes it out where none does.
+/// Sets a chunk's number of holders, and removes its row at zero.
 pub(crate) fn lower<D: SectorDevice>(
     txn: &mut Txn,
     pages: &mut Pages<D>,

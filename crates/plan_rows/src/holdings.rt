@@ -10,7 +10,7 @@ use page_store::{Pages, Txn};
 use sector_device::SectorDevice;
 use store_rows::{HolderCount, Key, holder_count_value};
 
-/// Puts the rows that tell that a plan holds so many chunks from the first on.
+/// Puts the rows that say that a plan holds `count` chunks from the first on.
 fn put_held<D: SectorDevice>(
     txn: &mut Txn,
     pages: &mut Pages<D>,
@@ -35,7 +35,7 @@ fn put_held<D: SectorDevice>(
     Ok(())
 }
 
-/// Puts the rows that tell that so many chunks from the first on are held by one plan.
+/// Puts the rows that say that `count` chunks from the first on have one holder each.
 fn put_counts<D: SectorDevice>(
     txn: &mut Txn,
     pages: &mut Pages<D>,
@@ -60,8 +60,9 @@ fn put_counts<D: SectorDevice>(
     Ok(())
 }
 
-/// Puts the rows by which a plan holds so many new chunks from the first on, and no other plan does: their numbers are for the
-/// caller to choose, as ones that name no chunk. Nothing is read. After an error the transaction can only be abandoned.
+/// Puts the rows by which a plan is the only holder of `count` new chunks from the first on. The
+/// caller chooses numbers that name no chunk. Reads nothing. After an error the transaction can
+/// only be abandoned.
 pub fn put_holdings<D: SectorDevice>(
     txn: &mut Txn,
     pages: &mut Pages<D>,

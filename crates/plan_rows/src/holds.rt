@@ -35,7 +35,7 @@ pub fn is_held<D: SectorDevice>(
     }
 }
 
-/// Puts the rows by which a plan holds a chunk that so many hold already.
+/// Puts the rows by which a plan becomes a further holder of a chunk.
 fn put_holding<D: SectorDevice>(
     txn: &mut Txn,
     pages: &mut Pages<D>,
@@ -95,8 +95,8 @@ pub fn hold_unheld<D: SectorDevice>(
     hold_unheld_with(txn, pages, &mut fingers, plan, number)
 }
 
-/// Has a plan hold a chunk: whether that put two rows, and not none since the plan holds it already. Pages and errors are those
-/// of `hold_unheld`.
+/// Makes a plan a holder of a chunk. Returns whether two rows were put; false if the plan holds the
+/// chunk already. Pages and errors as for `hold_unheld`.
 pub fn hold<D: SectorDevice>(
     txn: &mut Txn,
     pages: &mut Pages<D>,
@@ -113,7 +113,8 @@ pub fn hold<D: SectorDevice>(
     Ok(true)
 }
 
-/// From which number on a plan holds no chunk: from the first one on, where no row tells that it holds any, and else not known.
+/// Returns the number from which on a plan holds no chunk: the first one if the plan holds none,
+/// otherwise unknown.
 fn free_from<D: SectorDevice>(
     txn: &Txn,
     pages: &mut Pages<D>,

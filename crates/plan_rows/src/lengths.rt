@@ -1,7 +1,8 @@
 //! How long parts of lists are.
 ghost use Rattle.std.specs.Prelude.{◌≡◌, ◌-◌, ◌*◌, ◌<◌, min};
 
-/// How many elements the part at an index has of so many in all, where each part has `size` and the last one perhaps fewer.
+/// Returns the length of the part at an index of a list of `count` elements, in parts of `size` of
+/// which the last may be shorter.
 pub(crate) fn part_length(count: usize, size: usize, index: usize) -> usize
     requires within { size * index < count }
     ensures { result ≡ min size (count - size * index) }

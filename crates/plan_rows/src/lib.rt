@@ -1,22 +1,36 @@
-//! The rows of plans: chunks of districts under numbers, revisions as lists of these, and plans with the numbers left.
+//! The rows of plans: chunks of districts, revisions as lists of chunks, and the plans themselves.
 //!
-//! Seen as a chunk's rows. `put_chunk`: its rows were put. `append_chunk`: its districts are appended. `hold`, `hold_unheld`, `hold_all`,
-//! `release`: the map in which a plan holds chunks, or no longer does, with the holders counted anew; a release takes no page.
-//! `put_holdings`: the rows by which a plan holds new chunks.
+//! # Layout
 //!
-//! Revisions as numbers of chunks: seen as these numbers. `put_names`: the rows that name them were put, and every other revision stays.
-//! `append_names`, `append_revision`: numbers, or districts, are appended.
+//! ```text
+//! plan "h"  number 7, 2 revisions
+//! revision 1 of 7   chunks 30, 31      a chunk for each county
+//! revision 2 of 7   chunks 30, 32      county 001 is unchanged, so both name chunk 30
+//! chunk 30  part 0: 512 districts, part 1: ..
+//! holding 7 30      plan 7 holds chunk 30;  holders of 30: 1
+//! ```
 //!
-//! Plans and their numbers: seen as these rows. `find_plan`: the row under a name, or none. `create_plan`, `revise_plan`, `retire_plan`:
-//! just these rows (`created_rows`, `revised_rows`, `retired_map`). `create_plan` answers `NumbersExhausted` exactly where the numbers
-//! aren't enough, and nothing was written. At most 22 pages are written and 12 taken, of a retire 17 and 6. `plan_laws`: a found row is the
-//! desk's plan, and these rows make the desk after the change.
+//! # Model
 //!
-//! # Notes
+//! The rows, as part of the map that a transaction reads.
 //!
-//! Several plans may hold one chunk: for each there is a row that says so, and another row has their number.
+//! # Proved
 //!
-//! Chunks that a revision shares with an earlier one are named by both.
+//! - `put_chunk` puts the rows of a chunk, `append_chunk` appends its districts.
+//! - `hold`, `hold_unheld`, `hold_all`, `release`, `put_holdings`: the map in which a plan holds
+//!   chunks, or no longer does, with the number of holders updated. A release takes no page.
+//! - `put_names` puts the rows that name a revision's chunks and leaves other revisions unchanged;
+//!   `append_names` and `append_revision` append its chunk numbers or its districts.
+//! - `find_plan` returns a plan's row, or none. `create_plan`, `revise_plan`, `retire_plan` change
+//!   exactly its rows (`created_rows`, `revised_rows`, `retired_map`). `create_plan` returns
+//!   `NumbersExhausted` exactly if no number is left, and then wrote nothing.
+//! - At most 22 pages are written and 12 taken; a retire writes at most 17 and takes 6.
+//! - `plan_laws`: a row that was found is the desk's plan, and these rows make the desk after the
+//!   change.
+//!
+//! # Not proved
+//!
+//! Nothing beyond these laws is claimed.
 #![tactic(auto)]
 
 mod change;

@@ -12,7 +12,7 @@ use page_store::{Pages, Txn};
 use sector_device::SectorDevice;
 use store_rows::{Key, PART_CHUNKS, read_chunks};
 
-/// Appends a part of the numbers of a revision's chunks, which are so many.
+/// Appends one part of the numbers of a revision's `count` chunks.
 fn append_part<D: SectorDevice>(
     txn: &Txn,
     pages: &mut Pages<D>,
@@ -46,8 +46,9 @@ fn append_part<D: SectorDevice>(
     }
 }
 
-/// Appends the numbers of a revision's chunks, which are so many. After an error the list may hold some of them: `NotAStore` comes
-/// also where the store has no such revision, as none has more than 32,768, and `Memory` where the list's growth was refused.
+/// Appends the numbers of a revision's `count` chunks. After an error the list may contain some of
+/// them. `NotAStore` comes also if the store has no such revision, since none has more than 32,768
+/// chunks, and `Memory` if the list could not grow.
 pub fn append_names<D: SectorDevice>(
     txn: &Txn,
     pages: &mut Pages<D>,

@@ -1,13 +1,15 @@
 //! What holds of the rows of plans.
 ghost use Rattle.plan_rows.specs.PlanLaws.{NumbersMoveOn, PlansAreMade, PlansAreTold, RevisionsAreCounted};
 
-/// The row that is found tells the plan under the name, and where none is found the desk has no such plan.
+/// A row that was found describes the plan of that name; if none was found, the desk has no such
+/// plan.
 #[tactic(auto, using(crate::proofs::Told::plans_told))]
 pub fn plans_are_told()
     ensures { PlansAreTold }
 {}
 
-/// The rows of a plan that is created make the desk with that plan, and those of one that is taken away the desk without it.
+/// The rows of a new plan make the desk with that plan, and those of a deleted plan the desk
+/// without it.
 #[tactic(auto, using(crate::proofs::Made::plans_made))]
 pub fn plans_are_made()
     ensures { PlansAreMade }

@@ -10,8 +10,8 @@ use page_store::{Pages, Txn};
 use sector_device::SectorDevice;
 use store_rows::{Key, PlanRow};
 
-/// The row under a plan's name, or none. It takes no memory. An error is `NotAStore`, where what stands there is no plan's
-/// row, `DeviceFault` or `Halted`.
+/// Returns the row of a plan's name, or none. It takes no memory. An error is `NotAStore` if the
+/// bytes are not a plan's row, `DeviceFault` or `Halted`.
 pub fn find_plan<D: SectorDevice>(
     txn: &Txn,
     pages: &mut Pages<D>,

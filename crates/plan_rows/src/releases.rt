@@ -10,9 +10,10 @@ use page_store::{Pages, Txn};
 use sector_device::SectorDevice;
 use store_rows::Key;
 
-/// Has a plan let a chunk go that it holds: its row is taken out, and the count is one lower, or no row tells it any more. At most
-/// 17 pages are written, and none is taken. After an error the transaction can only be abandoned; `NotAStore` comes also where
-/// the store counts no plan that holds the chunk.
+/// Ends a plan's holding of a chunk: removes its row and lowers the number of holders by one,
+/// removing that row at zero. At most 17 pages are written, and none is taken. After an error the
+/// transaction can only be abandoned; `NotAStore` comes also if the store counts no holder of the
+/// chunk.
 pub fn release<D: SectorDevice>(
     txn: &mut Txn,
     pages: &mut Pages<D>,

@@ -54,9 +54,10 @@ fn append_counties<D: SectorDevice>(
     Ok(())
 }
 
-/// Appends the districts of a revision, county by county, where each county has as many as its range says. `names` is room for the
-/// numbers of the chunks: what it held is dropped. After an error `into` may hold some of the districts: `NotAStore` comes also
-/// where the store has no such revision, `Memory` where the growth of a list was refused.
+/// Appends the districts of a revision, county by county, with as many for each county as its range
+/// says. `names` is room for the numbers of the chunks; its contents are dropped. After an error
+/// `into` may contain some of the districts. `NotAStore` comes also if the store has no such
+/// revision, and `Memory` if a list could not grow.
 pub fn append_revision<D: SectorDevice>(
     txn: &Txn,
     pages: &mut Pages<D>,

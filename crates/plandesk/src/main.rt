@@ -1,10 +1,12 @@
-//! The program: it has its words taken and read, and has what they ask for done over files and standard streams.
+//! The program: reads its arguments and runs the command that they ask for.
 //!
-//! Safety and return alone.
+//! # Proved
 //!
-//! # Notes
+//! Safety and termination.
 //!
-//! A command is a function over its readers and writers that answers the exit status.
+//! # Not proved
+//!
+//! That each command is given its arguments; tests run the program.
 #![tactic(auto)]
 
 mod run;

@@ -48,10 +48,11 @@ pub fn serve_desk<
             watcher_of(&log),
             start,
         ),
-        Err(fault) => {
+        Err(refused) => {
             let mut errors = standard_error(rt);
-            let status = refuse_log(fault, &mut errors);
-            explain_last(rt, errors, with_words, &[("log", log.unwrap_or(""))], None);
+            let status = refuse_log(refused.fault, &mut errors);
+            let files = [("log", log.unwrap_or(""))];
+            explain_last(rt, errors, with_words, &files, refused.reason);
             status
         }
     }

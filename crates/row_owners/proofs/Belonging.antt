@@ -1,27 +1,23 @@
 -- Rows that belong to a store.
 use Rattle.{std.specs.{FinMap.{entries, get}, List.AllByRecursion, Prelude.{Option, Result, Err, IsErrAnd}}, btree_walks.specs.{Prefixes.under, declared.rows.Row.Row}}
 use Rattle.{std.proofs.Common.{◌≡◌, ℕ, List, [], Bool, true, false, Some, None, Ok, refl, sym, ap, subst, ◌∙◌}, btree_walks.specs.Scanning.{TakesNextRow, fault_in, has_ended}}
-use Rattle.{btree_walks.{specs.declared.scans.Scan.Scan, proofs.RowsFound.all_found}, desk_model.specs.declared.ranges.CountyRange.CountyRange, desk_pages.specs.Looking.Looks}
+use Rattle.{btree_walks.specs.declared.scans.Scan.Scan, desk_model.specs.declared.ranges.CountyRange.CountyRange, desk_pages.specs.Looking.Looks, store_rows.specs.RowKeys.IsKey}
 use Rattle.{page_btree.specs.{declared.error.TreeError.TreeError, page_node.claim.Entries.Entry}, page_store.specs.{claim.Transactions.{IsQuiet, Passed}, declared.txn.Txn.Txn}}
-use Rattle.{page_store.specs.declared.pages.Pages.Pages, row_owners.specs.declared.{kinds.Kind.TheVariants.Mark, wrong.Wrong.Wrong}, store_rows.specs.claim.Rows.KeyMap}
-use Rattle.row_owners.{specs.Strays.{AllBelong, Belongs, IsAny, IsJudged, IsNamed, IsNaming, IsOf, IsOfKind, IsRight, IsStray, IsWrong, NamesAt, Tells}, proofs.KeyBytes.at_row}
-use Rattle.{sector_device.specs.declared.SectorDevice.Ghosts, store_rows.specs.claim.{Keys.{RowKey, key_of, part}, Lists.{AreChunks, chunks_bytes}}, row_owners.proofs.Whole.get_is}
+use Rattle.{page_store.specs.declared.pages.Pages.Pages, row_owners.{specs.declared.wrong.Wrong.Wrong, proofs.KeyBytes.at_row}, sector_device.specs.declared.SectorDevice.Ghosts}
+use Rattle.{row_owners.specs.Strays.{AllBelong, Belongs, IsAny, IsJudged, IsNamed, IsNaming, IsRight, IsStray, IsWrong, NamesAt, Tells}, store_rows.specs.claim.Rows.KeyMap}
+use Rattle.{store_rows.specs.claim.{Keys.{RowKey, key_of, part}, Lists.{AreChunks, chunks_bytes}}, btree_walks.proofs.RowsFound.all_found, row_owners.proofs.Whole.get_is}
 use Rattle.{btree_walks.proofs.Walked.{HasNext, HasWalked, walk_next, walk_passed}, desk_pages.proofs.Looking.{fails, looked}, store_rows.proofs.ListLaws.chunks_differ}
 use Rattle.store_rows.proofs.RowLaws.{keys_differ}
 
 module _ (ranges : List CountyRange) (m : KeyMap) (key value : List ℕ) where
-  pub judged : (row : RowKey) → IsOf row key → (wrong : Option Wrong) → Tells (Belongs ranges m row value) wrong → IsJudged ranges (key, value) m wrong
+  pub judged : (row : RowKey) → IsKey row key → (wrong : Option Wrong) → Tells (Belongs ranges m row value) wrong → IsJudged ranges (key, value) m wrong
   judged row of None is = at_row (λ r. Belongs ranges m r value) key row of is
   judged row of (Some wrong) none = (row, of.fits, of.is, none)
-
-  pub mark_judged : (wrong : Option Wrong) → IsOfKind Mark key → Tells (value ≡ []) wrong → IsJudged ranges (key, value) m wrong
-  mark_judged None kind is = at_row (λ r. Belongs ranges m r value) key kind.0 kind.1 ((kind.2 ranges m value).0 is)
-  mark_judged (Some wrong) kind none = (kind.0, kind.1.fits, kind.1.is, λ has. none ((kind.2 ranges m value).1 has))
 
 -- ---- parts that name a chunk
 module _ (ranges : List CountyRange) (of : Option ℕ) (number piece : ℕ) where
   -- which part it is and its chunks are one
-  pub naming_at : (key value : List ℕ) (plan revision index : ℕ) (numbers : List ℕ) → IsOf (part plan revision index) key → AreChunks numbers → chunks_bytes numbers ≡ value → IsNaming ranges of number piece (key, value) → NamesAt ranges numbers index number piece
+  pub naming_at : (key value : List ℕ) (plan revision index : ℕ) (numbers : List ℕ) → IsKey (part plan revision index) key → AreChunks numbers → chunks_bytes numbers ≡ value → IsNaming ranges of number piece (key, value) → NamesAt ranges numbers index number piece
   naming_at key value plan revision index numbers is chunks bytes naming =
       let same : part plan revision index ≡ part naming.plan naming.revision naming.index = keys_differ _ _ is.fits naming.fits (sym is.is ∙ naming.key) in
       let equal : index ≡ naming.index = cc in

@@ -1,10 +1,9 @@
 -- Rows that belong to a store: what a row is of is there, and its value is one that such a row has.
 use Rattle.std.specs.{FinMap.get as row_at, Prelude.{◌≡◌, ◌⊎◌, ◌<◌, ◌+◌, ◌*◌, ◌^◌, ℕ, Bool, true, false, List, [], length, get_or, Option, Some, None, IfSome}}
 use Rattle.{btree_walks.specs.declared.rows.Row.Row, desk_model.specs.declared.{block.BlockRow.BlockRow, ranges.CountyRange.CountyRange}, row_owners.specs.Wholes.AreWhole}
-use Rattle.{page_btree.specs.page_node.claim.Entries.Entry, row_owners.specs.declared.kinds.Kind.{Kind, TheVariants.{Mark, Holding, Part, Block, Pair, Piece, Other}}}
-use Rattle.{row_owners.specs.declared.wrong.{Wrong.Wrong, WrongRow.WrongRow}, store_rows.specs.claim.{Lists.{AreChunks, chunks_bytes}, Rows.{KeyMap, Has}}}
+use Rattle.{page_btree.specs.page_node.claim.Entries.Entry, row_owners.specs.declared.wrong.{Wrong.Wrong, WrongRow.WrongRow}, store_rows.specs.claim.Rows.{KeyMap, Has}}
 use Rattle.store_rows.specs.claim.Keys.{RowKey, key_of, Fits, counters, retired, begun, holding, holder_count, named, part, seal, version, block, pair, chunk}
-use Rattle.store_rows.specs.claim.Values.{block_bytes, pair_bytes}
+use Rattle.store_rows.specs.claim.{Lists.{AreChunks, chunks_bytes}, Values.{block_bytes, pair_bytes}}
 
 abbrev pub no_county : CountyRange
 no_county = record { first = 0; count = 0 }
@@ -92,36 +91,6 @@ Holds was is says m x = IsHeldRow was m → IsHeldRow is m × says m x
 -- any map will do
 abbrev pub IsAny : KeyMap → Type 0
 IsAny m = Unit {0}
-
--- ---- kinds of keys
--- any value belongs there
-abbrev pub TakesAny : RowKey → Type 0
-TakesAny row = (ranges : List CountyRange) (m : KeyMap) (value : List ℕ) → Belongs ranges m row value
-
--- no value alone does
-abbrev pub TakesNone : RowKey → Type 0
-TakesNone row = (ranges : List CountyRange) (m : KeyMap) (value : List ℕ) → (value ≡ [] → Belongs ranges m row value) × (Belongs ranges m row value → value ≡ [])
-
-pub record IsOf (row : RowKey) (key : List ℕ) : Type 0 where
-  pub fits : Fits row
-  pub is : key ≡ key_of row
-
--- the key is that of a row of this kind
-abbrev pub IsOfKind : Kind → List ℕ → Type 0
-IsOfKind Mark key = (row : RowKey) × IsOf row key × TakesNone row
-IsOfKind (Holding plan number) key = IsOf (holding plan number) key
-IsOfKind (Part index) key = (plan : ℕ) × (revision : ℕ) × IsOf (part plan revision index) key
-IsOfKind Block key = (load : ℕ) × (place : ℕ) × IsOf (block load place) key
-IsOfKind Pair key = (load : ℕ) × (place : ℕ) × IsOf (pair load place) key
-IsOfKind (Piece number piece) key = IsOf (chunk number piece) key
-IsOfKind Other key = (row : RowKey) → Fits row → key ≡ key_of row → TakesAny row
-
--- the key is none of a mark, of a holding or of a part
-pub record IsNoneOf (key : List ℕ) : Type 0 where
-  pub no_retired : (plan : ℕ) → key ≡ key_of (retired plan) → ⊥
-  pub no_begun : (load : ℕ) → key ≡ key_of (begun load) → ⊥
-  pub no_holding : (plan number : ℕ) → key ≡ key_of (holding plan number) → ⊥
-  pub no_part : (plan revision index : ℕ) → key ≡ key_of (part plan revision index) → ⊥
 
 -- all rows were read, so many, and each belongs; or this one doesn't
 abbrev pub IsChecked : Option WrongRow → ℕ → List CountyRange → KeyMap → Type 0

@@ -3,12 +3,12 @@
 use desk_pages::TreeError;
 use std::collections::BTreeMap;
 
-/// The number that stands for a plan and a chunk.
+/// The number for a plan and a chunk.
 pub(crate) fn pair_of(plan: u64, number: u64) -> u128 {
     plan as u128 * 18_446_744_073_709_551_616 + number as u128
 }
 
-/// Notes a number, with what is told of it.
+/// Notes a number with its fact.
 pub(crate) fn note(
     told: &mut BTreeMap<u64, u64>,
     number: u64,

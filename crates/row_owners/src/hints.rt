@@ -9,8 +9,7 @@ use page_store::{Pages, Txn};
 use sector_device::SectorDevice;
 use std::alloc::Global;
 use std::collections::BTreeMap;
-use store_check::part_in;
-use store_rows::{Key, read_chunks};
+use store_rows::{Key, RowKey, read_chunks};
 
 /// A part of a revision.
 #[derive(Clone, Copy, Drop)]
@@ -20,7 +19,8 @@ struct Place {
     index: u8,
 }
 
-/// Of each chunk, and of each plan and chunk, a part that names it. Nothing rests on it: what stands there is looked up.
+/// For each chunk, and each plan and chunk, a part that names it. Nothing depends on it: the rows
+/// themselves are looked up.
 #[derive(Drop)]
 pub struct Hints {
     any: BTreeMap<u64, Place>,
@@ -93,15 +93,18 @@ impl Hints {
     /// Notes the chunks of a part by its row.
     fn note_row(&mut self, row: &Row) -> Result<(), TreeError> {
         let key = row.key.as_slice();
-        let Some((plan, revision)) = part_in(key) else {
+        let Some(
+            RowKey::Part {
+                plan,
+                revision,
+                index,
+            },
+        ) = RowKey::read(key)
+        else {
             return Ok(());
         };
         let Some(numbers) = read_chunks(row.value.as_slice()) else {
             return Ok(());
-        };
-        let index = match key.last() {
-            None => 0,
-            Some(index) => *index,
         };
         self.note_part(
             Place {

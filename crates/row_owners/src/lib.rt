@@ -1,13 +1,21 @@
-//! Checks that each row of a store is that of a desk: what an opening doesn't look at.
+//! Checks that each row of a store belongs to a desk, also the rows that an opening does not read.
 //!
-//! Seen as `AreWhole` and `AllBelong`. `check_rows`: at Ok all rows are counted, say what they are and belong, or one that doesn't
-//! belong is told (`IsStray`). `first_wrong`: a row that is wrong, by a name and its key; what it finds is tried.
+//! # Model
+//!
+//! `AreWhole` and `AllBelong`.
+//!
+//! # Proved
+//!
+//! `check_rows`: after success all rows are counted, are well formed and belong to the desk, or it
+//! returns a row that does not belong (`IsStray`).
+//!
+//! # Not proved
+//!
+//! Which wrong row `first_wrong` names; tests try it.
 #![tactic(auto)]
 
 mod facts;
 mod hints;
-mod keys;
-mod kinds;
 mod naming;
 mod namings;
 mod seen;

@@ -6,14 +6,13 @@ ghost use Rattle.page_btree.specs.Tests.{IsTest};
 ghost use Rattle.row_owners.specs.Strays.{HasPiece, Holds, IsAny, IsNamed, IsNamedAs, IsNaming, NamesAt};
 ghost use Rattle.desk_pages.specs.Looking.{Looks};
 
-use crate::kinds::part_key;
 use btree_walks::{Row, Scan, row_limit};
 use desk_model::ranges::CountyRange;
 use desk_pages::TreeError;
 use page_btree::{VALUE_LIMIT, get};
 use page_store::{Pages, Txn};
 use sector_device::SectorDevice;
-use store_rows::{Key, read_chunks};
+use store_rows::{Key, RowKey, read_chunks};
 
 /// Whether the county at a place has blocks for a piece of a chunk.
 fn has_piece(ranges: &[CountyRange], county: usize, piece: u16) -> bool
@@ -76,7 +75,7 @@ fn is_naming(
 ) -> bool
     ensures { IsTest result (IsNaming ranges.now of number piece (key.now, value.now)) }
 {
-    let Some((plan, index)) = part_key(key) else {
+    let Some(RowKey::Part { plan, index, .. }) = RowKey::read(key) else {
         return false;
     };
     if !is_of(of, plan) {

@@ -1,17 +1,16 @@
 //! What was seen of rows in the order of their keys, and the first that is wrong.
 
 use crate::facts::{note, note_pair, pair_of};
-use crate::keys::{holding_in, is_row, load_in, number_in, piece_in};
 use crate::wrong::{Wrong, WrongRow};
 use btree_walks::Row;
 use desk_model::ranges::CountyRange;
 use desk_pages::TreeError;
 use std::alloc::Global;
 use std::collections::BTreeMap;
-use store_check::{is_version, part_in};
+use store_check::is_version;
 use store_rows::{
-    Counters, Key, PlanRow, SealRow, read_block, read_chunks, read_counters, read_districts,
-    read_holder_count, read_pair, read_plan, read_seal,
+    Counters, Key, PlanRow, RowKey, SealRow, read_block, read_chunks, read_counters,
+    read_districts, read_holder_count, read_pair, read_plan, read_seal,
 };
 
 /// How many blocks a chunk is of, and the last district that it may have.
@@ -21,7 +20,7 @@ struct Span {
     last: u16,
 }
 
-/// A chunk that deleted plans alone name is held to nothing.
+/// A chunk that only deleted plans name is not checked.
 const ANY: Span = Span {
     blocks: u64::MAX,
     last: u16::MAX,
@@ -36,7 +35,7 @@ pub(crate) struct Seen {
     /// Holdings that no part named so far, and those that one did.
     held: BTreeMap<u128, u64>,
     named: BTreeMap<u128, u64>,
-    /// Of each chunk how many plans hold it, until its count comes.
+    /// For each chunk the number of plans that hold it, until its count comes.
     counts: BTreeMap<u64, u64>,
     plans: BTreeMap<u64, PlanRow>,
     spans: BTreeMap<u64, Span>,
@@ -228,12 +227,11 @@ impl Seen {
     fn see_part(
         &mut self,
         ranges: &[CountyRange],
-        key: &[u8],
+        plan: u64,
+        revision: u32,
+        index: u8,
         value: &[u8],
     ) -> Result<Option<Wrong>, TreeError> {
-        let Some((plan, revision)) = part_in(key) else {
-            return Ok(Some(Wrong::UnknownRow));
-        };
         let Some(numbers) = read_chunks(value) else {
             return Ok(Some(Wrong::BadValue));
         };
@@ -251,10 +249,7 @@ impl Seen {
                 None
             }
         };
-        let first = match key.last() {
-            None => 0,
-            Some(index) => 128 * *index as usize,
-        };
+        let first = 128 * index as usize;
         let wanted = ranges.len().saturating_sub(first).min(128);
         if last.is_some() && !ranges.is_empty() && numbers.len() != wanted {
             return Ok(Some(Wrong::WrongLength));
@@ -309,19 +304,12 @@ impl Seen {
         None
     }
 
-    /// A row of a load: of the sealed one, with a place below the count that the seal tells, or of one that was begun.
-    fn see_row(&mut self, key: &[u8], value: &[u8]) -> Option<Wrong> {
-        let Some(load) = load_in(key) else {
-            return Some(Wrong::UnknownRow);
-        };
-        if key.len() != 14 {
-            return Some(Wrong::UnknownRow);
-        }
-        let is_block = key[9] == b'b';
+    /// Checks a row of a load: of the sealed load, with a place below the seal's count, or of one
+    /// that was begun.
+    fn see_row(&mut self, load: u64, place: u32, is_block: bool, value: &[u8]) -> Option<Wrong> {
         let is_sealed = match self.seal {
             Some(seal) if seal.load == load => {
                 let count = if is_block { seal.blocks } else { seal.pairs };
-                let place = u32::from_be_bytes([key[10], key[11], key[12], key[13]]);
                 if place >= count {
                     return Some(Wrong::TooMany);
                 }
@@ -340,10 +328,7 @@ impl Seen {
         self.see_pair(is_sealed, value)
     }
 
-    fn see_piece(&mut self, key: &[u8], value: &[u8]) -> Option<Wrong> {
-        let Some((number, piece)) = piece_in(key) else {
-            return Some(Wrong::UnknownRow);
-        };
+    fn see_piece(&mut self, number: u64, piece: u16, value: &[u8]) -> Option<Wrong> {
         if number >= self.next.chunk {
             return Some(Wrong::NumberTooHigh);
         }
@@ -391,41 +376,34 @@ impl Seen {
         None
     }
 
-    fn see_tagged(
-        &mut self,
-        ranges: &[CountyRange],
-        tag: u8,
-        key: &[u8],
-        value: &[u8],
-    ) -> Result<Option<Wrong>, TreeError> {
-        let first = number_in(key);
-        let both = holding_in(key);
-        match (tag, first, both) {
-            (b'A', _, _) => Ok(self.see_counters(value)),
-            (b'D', Some(plan), _) => self.see_mark(plan, value),
-            (b'H', _, Some((plan, number))) => self.see_holding(plan, number, value),
-            (b'K', Some(number), _) => Ok(self.see_count(number, value)),
-            (b'L', Some(load), _) => self.see_load(load, value),
-            (b'P', _, _) => self.see_plan(value),
-            (b'R', _, _) => self.see_part(ranges, key, value),
-            (b'S', _, _) => Ok(self.see_seal(value)),
-            (b'V', _, _) if !is_version(value) => Ok(Some(Wrong::BadValue)),
-            (b'g', _, _) => Ok(self.see_row(key, value)),
-            (b'k', _, _) => Ok(self.see_piece(key, value)),
-            _ => Ok(None),
-        }
-    }
-
     /// What is wrong with the next row, if anything is. `ranges` are the counties.
     pub(crate) fn see(
         &mut self,
         ranges: &[CountyRange],
         row: &Row,
     ) -> Result<Option<Wrong>, TreeError> {
-        let key = row.key.as_slice();
-        if key.is_empty() || !is_row(key) {
+        let value = row.value.as_slice();
+        let Some(key) = RowKey::read(row.key.as_slice()) else {
             return Ok(Some(Wrong::UnknownRow));
+        };
+        match key {
+            RowKey::Counters => Ok(self.see_counters(value)),
+            RowKey::Retired { plan } => self.see_mark(plan, value),
+            RowKey::Begun { load } => self.see_load(load, value),
+            RowKey::Holding { plan, number } => self.see_holding(plan, number, value),
+            RowKey::HolderCount { number } => Ok(self.see_count(number, value)),
+            RowKey::Named { .. } => self.see_plan(value),
+            RowKey::Part {
+                plan,
+                revision,
+                index,
+            } => self.see_part(ranges, plan, revision, index, value),
+            RowKey::Seal => Ok(self.see_seal(value)),
+            RowKey::Version if !is_version(value) => Ok(Some(Wrong::BadValue)),
+            RowKey::Version => Ok(None),
+            RowKey::Block { load, place } => Ok(self.see_row(load, place, true, value)),
+            RowKey::Pair { load, place } => Ok(self.see_row(load, place, false, value)),
+            RowKey::Chunk { number, piece } => Ok(self.see_piece(number, piece, value)),
         }
-        self.see_tagged(ranges, key[0], key, row.value.as_slice())
     }
 }

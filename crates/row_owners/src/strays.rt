@@ -7,7 +7,6 @@ ghost use Rattle.row_owners.specs.Strays.{Holds, IsAny, IsJudged, IsNamed, Tells
 ghost use Rattle.desk_pages.specs.Looking.{Looks};
 
 use crate::hints::Hints;
-use crate::kinds::{Kind, kind_of};
 use crate::namings::is_named;
 use crate::wrong::Wrong;
 use btree_walks::Row;
@@ -16,7 +15,7 @@ use desk_model::ranges::CountyRange;
 use desk_pages::TreeError;
 use page_store::{Pages, Txn};
 use sector_device::SectorDevice;
-use store_rows::{Key, read_block, read_pair};
+use store_rows::{Key, RowKey, read_block, read_pair};
 
 /// What is wrong with the value of a mark.
 fn judge_mark(value: &[u8]) -> Option<Wrong>
@@ -101,9 +100,10 @@ pub(crate) fn judge<D: SectorDevice>(
     requires begun { txn_pages txn.now ≡ count_of pages.old }
     ensures { Looks (Holds part.old part.new (IsJudged ranges.now (key.now, value.now))) IsAny txn.now pages.old pages.new result }
 {
-    match kind_of(key) {
-        Kind::Mark => Ok(judge_mark(value)),
-        Kind::Holding(plan, number) => {
+    match RowKey::read(key) {
+        Some(RowKey::Retired { .. }) => Ok(judge_mark(value)),
+        Some(RowKey::Begun { .. }) => Ok(judge_mark(value)),
+        Some(RowKey::Holding { plan, number }) => {
             let first = hints.of_plan(plan, number);
             judge_named(
                 txn,
@@ -117,18 +117,23 @@ pub(crate) fn judge<D: SectorDevice>(
                 Wrong::NotNamed,
             )
         }
-        Kind::Part(index) => Ok(judge_part(index, ranges)),
-        Kind::Block => Ok(judge_block(value)),
-        Kind::Pair => Ok(judge_pair(value)),
-        Kind::Piece(number, piece) => {
+        Some(RowKey::Part { index, .. }) => Ok(judge_part(index, ranges)),
+        Some(RowKey::Block { .. }) => Ok(judge_block(value)),
+        Some(RowKey::Pair { .. }) => Ok(judge_pair(value)),
+        Some(RowKey::Chunk { number, piece }) => {
             let first = hints.any(number);
-            // No plan names the chunk, or none for a county that has so many blocks.
+            // No plan names the chunk, or none for a county with this number of blocks.
             let wrong = match first {
                 None => Wrong::NobodyHolds,
                 Some(_) => Wrong::WrongLength,
             };
             judge_named(txn, pages, part, first, ranges, None, number, piece, wrong)
         }
-        Kind::Other => Ok(None),
+        Some(RowKey::Counters)
+        | Some(RowKey::HolderCount { .. })
+        | Some(RowKey::Named { .. })
+        | Some(RowKey::Seal)
+        | Some(RowKey::Version)
+        | None => Ok(None),
     }
 }

@@ -9,7 +9,6 @@ ghost use Rattle.row_owners.specs.Wholes.{AllSay, IsRowOf, IsWhole};
 ghost use Rattle.desk_pages.specs.Looking.{Looks};
 
 use crate::hints::Hints;
-use crate::keys::{is_piece_key, is_place};
 use crate::strays::judge;
 use crate::wrong::{Wrong, WrongRow};
 use btree_walks::{Row, Scan, row_limit};
@@ -18,7 +17,7 @@ use desk_model::ranges::CountyRange;
 use desk_pages::TreeError;
 use page_store::{Pages, Txn};
 use sector_device::SectorDevice;
-use store_rows::{PIECE_DISTRICTS, read_chunks};
+use store_rows::{PIECE_DISTRICTS, RowKey, read_chunks};
 
 /// Whether a value is that of a part of a revision.
 fn is_part(value: &[u8]) -> bool
@@ -41,19 +40,16 @@ fn is_piece(value: &[u8]) -> bool
     true
 }
 
-/// Whether a row after the version's has the key of one, and a part or a piece says what it has.
+/// Whether a row's key is that of one, and a part or a piece says what it has.
 fn is_whole(key: &[u8], value: &[u8]) -> bool
     ensures yes { result ≡ true → IsWhole (key.now, value.now) }
     ensures no { result ≡ false → IsRowOf (key.now, value.now) → ⊥ }
 {
-    if key.is_empty() {
-        return true;
-    }
-    match key[0] {
-        b'R' => is_part(value),
-        b'g' => is_place(key),
-        b'k' => is_piece_key(key) && is_piece(value),
-        tag => tag <= b'V',
+    match RowKey::read(key) {
+        None => false,
+        Some(RowKey::Part { .. }) => is_part(value),
+        Some(RowKey::Chunk { .. }) => is_piece(value),
+        Some(_) => true,
     }
 }
 

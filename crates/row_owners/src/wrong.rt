@@ -6,7 +6,7 @@ use store_rows::Key;
 /// What is wrong with a row.
 #[derive(Clone, Copy, Drop)]
 pub enum Wrong {
-    /// The key is that of no row.
+    /// The key is no row's.
     UnknownRow,
     /// The value isn't one that such a row has.
     BadValue,
@@ -14,9 +14,9 @@ pub enum Wrong {
     NumberTooHigh,
     /// Two plans have one number.
     TwoPlans,
-    /// The plan's number is that of one that was taken away, or the sealed load is one that was begun.
+    /// The plan's number is a deleted plan's, or the sealed load is marked as begun.
     TakenAway,
-    /// A part of a revision is of no plan, or a block or a pair of neighbours of no load.
+    /// A part of a revision belongs to no plan, or a block or a pair of neighbours to no load.
     NoOwner,
     /// The plan has no such revision, or the seal counts no such row.
     TooMany,

@@ -27,8 +27,9 @@ const FOUR: &[u8] =
 const LISTED: &[u8] =
     b"HTTP/1.1 200 OK\r\nContent-Type: application/json\r\nContent-Length: 12\r\n\r\n{\"plans\":[]}";
 
-/// How many reads, passes, replies and writes there were, and commands heard of; whether the first write was that of an empty list, and
-/// whether something came out of its order. Of requests that come in turn each is replied to before the next is read.
+/// The number of reads, passes, replies, writes and observed commands; whether the first write was
+/// that of an empty list, and whether something came out of order. If requests come in turn, each
+/// is answered before the next is read.
 #[derive(Drop)]
 struct Notes {
     in_turn: bool,
@@ -55,7 +56,7 @@ impl Notes {
         }
     }
 
-    /// Notes that a step comes after so many of each, where requests come in turn.
+    /// Notes that a step follows these numbers of steps, if requests come in turn.
     fn expect(&self, reads: u32, passes: u32, replies: u32) {
         if self.in_turn
             && (self.reads.get() != reads
@@ -167,7 +168,7 @@ impl Noted<'_> {
 }
 
 impl<'a> Counter for Noted<'a> {
-    // What it answers is told by the test.
+    // What it answers is checked by the test.
     ghost commands = { λ _ _ _ _. Unit {0} };
 
     ghost asks = { λ _ _ _ _. Unit {0} };
@@ -189,7 +190,7 @@ impl<'a> Counter for Noted<'a> {
     }
 }
 
-/// Serves requests that come in pieces, to a writer of which so many writes end well.
+/// Serves requests that come in pieces, to a writer whose first writes succeed.
 fn served(
     alloc: Global,
     notes: &Notes,
@@ -218,7 +219,8 @@ fn a_gate_is_passed_once_a_request(rt: HostRuntime) {
     holds!(rt; (notes.replies.get() == 5) & (notes.heard.get() == 0) & !notes.is_wrong.get());
 }
 
-/// Four requests that come at once: each is answered by a write of its own, and heard of after it, also where the third write fails.
+/// Four requests that come at once: each is answered by a write of its own and observed after it,
+/// also if the third write fails.
 #[test]
 fn a_command_is_heard_of_after_its_answer(rt: HostRuntime) {
     let rt = &rt;

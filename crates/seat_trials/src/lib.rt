@@ -1,8 +1,9 @@
-//! Tests of what is served beside others: gates between requests, visitors, two streams at one office, worlds of events.
+//! Tests of concurrent service: gates between requests, visitors, two streams at one office,
+//! worlds.
 //!
 //! # Notes
 //!
-//! Visitors are also tried once a device has failed. Worked events move the worlds.
+//! Visitors are also tried after a device has failed. Worked events move the worlds.
 #![tactic(auto)]
 
 /// Asserts a fact on which no later step rests. It is a call where `assert!` is a branch, which is dearer to prove.

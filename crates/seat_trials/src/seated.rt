@@ -38,7 +38,7 @@ const ASKED: &[u8] = b"GET /plans HTTP/1.1\r\nHost: d\r\n\r\n";
 /// The number of turns after which a thread that waits goes on.
 const TURNS: u64 = 100_000_000;
 
-/// Waits until the flag is set, or for so many turns: whether it was.
+/// Waits until the flag is set, for a limited number of turns, and returns whether it was.
 fn is_set_in_time(flag: &AtomicBool) -> bool {
     for _ in 0..TURNS {
         if flag.load(Ordering::SeqCst) {
@@ -65,7 +65,7 @@ impl Write for Noted<'_> {
     }
 }
 
-/// So many streams, each of which asks for the plans; it counts those that come back as served.
+/// A number of streams, each of which asks for the plans; it counts those that come back as served.
 #[derive(Drop)]
 struct Streams<'a> {
     count: u64,
@@ -138,7 +138,7 @@ impl Hears for HoldsFirst<'_> {
     fn hear_unsound(&self) {}
 }
 
-/// Serves streams at the visitors' seats: what it came to.
+/// Serves streams at the visitors' seats and returns the result.
 fn serve_at<
     J: GalleryId + Send + Sync,
     A: Arrivals + Sync,
@@ -162,7 +162,7 @@ fn serve_at<
     ran.expect(rt, "no memory")
 }
 
-/// Serves streams at two seats: what it came to.
+/// Serves streams at two seats and returns the result.
 fn served_in<
     J: GalleryId + Send + Sync,
     A: Arrivals + Sync,

@@ -25,7 +25,7 @@ pub fn clerk_failing_at<R: Abort>(rt: &R, alloc: Global, k: u64) -> Option<Clerk
     Clerk::open(alloc, Fused::once(device, k)).ok()
 }
 
-/// A gallery with so many visitors.
+/// A gallery with a number of visitors.
 pub fn gallery_of<J: GalleryId, R: Wait + Abort>(
     rt: &R,
     alloc: Global,
@@ -64,7 +64,7 @@ pub fn is_halted(reply: &Reply) -> bool {
     matches!(reply, Reply::Refused(Refusal::Halted))
 }
 
-/// How many plans a visitor finds; a hundred, where it is told of none.
+/// Returns the number of plans that a visitor finds; a hundred if it is told of none.
 pub fn plans_seen<J: GalleryId, R: Abort>(
     rt: &R,
     alloc: Global,

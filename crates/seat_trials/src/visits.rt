@@ -18,7 +18,7 @@ use std::marker::Brand;
 use std::process::Abort;
 use std::sync::{Arc, Wait};
 
-/// A plan is made: the first visitor is told of it, and finds so many.
+/// A plan is made: the first visitor is told of it, and finds this number of plans.
 fn is_told<J: GalleryId, R: Wait + Abort>(
     rt: &R,
     alloc: Global,
@@ -40,7 +40,7 @@ fn is_told<J: GalleryId, R: Wait + Abort>(
     are_standing(front, visitors);
 }
 
-/// The first of two visitors is told that a plan is there, the other finds both.
+/// The first of two visitors is told that a plan exists, the other finds both.
 fn find_both<J: GalleryId, R: Wait + Abort>(
     rt: &R,
     alloc: Global,
@@ -60,8 +60,8 @@ fn find_both<J: GalleryId, R: Wait + Abort>(
     are_standing(front, visitors);
 }
 
-/// One visitor is told of each of two plans, the other of neither; what they and the front have is always a state of the world
-/// of events.
+/// One visitor is told of each of two plans, the other of neither; what they and the front have is
+/// always a state of the world of events.
 fn two_visitors<J: GalleryId, R: Wait + Abort>(
     rt: &R,
     alloc: Global,

@@ -13,7 +13,7 @@ use std::alloc::Global;
 use std::process::Abort;
 use std::sync::Arc;
 
-/// The sample's desk with so many visitors.
+/// The sample's desk with a number of visitors.
 fn world_of_sample<R: Abort>(rt: &R, alloc: Global, visitors: usize) -> World {
     let sample = sample(alloc).expect(rt, "no memory");
     let geography = Arc::new(alloc, sample).expect(rt, "no memory");
@@ -49,7 +49,7 @@ fn count_of(rows: &[PlanLine]) -> usize {
     }
 }
 
-/// Moves by an event of which nothing is told.
+/// Moves by an event without a reply.
 fn goes<R: Abort>(rt: &R, alloc: Global, world: &mut World, event: Event) {
     holds!(rt; world.step(alloc, event).is_none());
 }
@@ -66,15 +66,15 @@ fn plans_seen(alloc: Global, world: &mut World, visitor: u64) -> usize {
     }
 }
 
-/// A step of a story: an event of which nothing is told, or what a visitor is shown.
+/// A step of a story: an event without a reply, or what a visitor is shown.
 enum Step {
     /// A plan for congress with two districts is committed.
     Creates(&'static str),
     Acknowledge,
     Show,
-    /// A stop keeps so many of the changes.
+    /// A crash keeps this number of changes.
     Stop(u64),
-    /// So many plans are shown to a visitor, the first of which is plan a.
+    /// A visitor is shown this number of plans, the first of which is plan a.
     Sees(u64, usize),
 }
 

@@ -9,6 +9,7 @@ use crate::error::{FileError, of_making, of_opening};
 use crate::reader::FileReader;
 use crate::recent::Recent;
 use crate::record::Record;
+use crate::zeros::write_zeros;
 use sector_device::{DeviceFault, SECTOR_SIZE, Sector, SectorDevice};
 use std::alloc::Global;
 use std::fs::{File, OpenOptions, TryLockError};
@@ -20,13 +21,14 @@ use std::marker::PhantomData;
 pub struct FileDevice<S: Contents> {
     file: File,
     count: u32,
-    /// The bytes that the file has, as the system told.
+    /// The size of the file in bytes, as the system reported it.
     size: u64,
     log: Record,
     recent: Recent,
     /// Whether a write or a sync found the disk full.
     is_full: bool,
-    /// Whether it was written since it was opened, or made anew: if not, all that it holds is on the disk.
+    /// Whether the file was written since it was opened, or is new. If not, all that it holds is on
+    /// the disk.
     is_written: bool,
     start: PhantomData<S>,
     ghost few: { length (replay S.Contents.sector log.calls).0 < 2 ^ 32 },
@@ -36,7 +38,7 @@ pub struct FileDevice<S: Contents> {
     ghost as_opened: { is_written ≡ false → IsAsOpened S.Contents.sector count (replay S.Contents.sector log.calls) },
 }
 
-/// The size that the system tells of an open file.
+/// Returns the size that the system reports for an open file.
 fn size_of(file: &File) -> Result<u64, FileError>
     ensures { IfErr result (λ e. e ≡ FileError.DeviceFault) }
 {
@@ -57,11 +59,16 @@ fn hold(file: &File) -> Result<(), FileError>
     }
 }
 
-/// Gives a new file its size, and syncs it.
-fn lengthen(file: &File, size: u64) -> Result<(), FileError>
+/// Gives a new file its size, writes zeros to all of it and syncs it. So the file has no hole, and a disk that gets full later refuses
+/// no write to it.
+fn fill(file: &File, count: u32) -> Result<(), FileError>
     ensures { IfErr result (λ e. (e ≢ FileError.WrongSize) × (e ≢ FileError.InUse)) }
 {
-    if let Err(error) = file.set_len(size) {
+    if let Err(error) = file.set_len(SECTOR_SIZE as u64 * count as u64) {
+        return Err(of_making(&error));
+    }
+    let mut writer = file;
+    if let Err(error) = write_zeros(&mut writer, count) {
         return Err(of_making(&error));
     }
     match file.sync_all() {
@@ -102,10 +109,11 @@ impl<S: Contents> FileDevice<S> {
         })
     }
 
-    /// Opens a file that has just so many sectors, and holds it until the device is dropped. The first of these that applies is the
-    /// answer: NotFound, NotPermitted, WrongSize, InUse where another open of it holds it; DeviceFault where the system refused the
-    /// opening, its size or a sync for any other reason. No sector is read, and none is written. What others wrote before is on the
-    /// disk, since the file is synced: so a stop leaves what is read. The start is used up, so that code over any `S` opens one file.
+    /// Opens a file with exactly `count` sectors, and locks it until the device is dropped. Returns
+    /// the first error that applies: NotFound, NotPermitted, WrongSize, InUse if another open of it
+    /// holds the lock, DeviceFault if the system refused the opening, its size or a sync for any
+    /// other reason. No sector is read or written. The file is synced, so a crash leaves what is
+    /// read. `_start` is consumed, so that code over any `S` opens one file.
     pub fn open(
         rt: &HostRuntime,
         path: &str,
@@ -136,9 +144,10 @@ impl<S: Contents> FileDevice<S> {
         }
     }
 
-    /// Makes a file of so many sectors, where there is none, and holds it. What it has is for the caller to write. Exists where a
-    /// file is there, NotFound where its folder isn't, NotPermitted and NoSpace as the system says, DeviceFault where it refused a
-    /// call for any other reason. The start is used up, as in `open`.
+    /// Creates a file of `count` sectors, writes it whole with zeros, and locks it. What else it has
+    /// the caller writes. Returns Exists if a file exists, NotFound if its folder does not,
+    /// NotPermitted and NoSpace as the system says, and DeviceFault if the system refused a call for
+    /// any other reason. `_start` is consumed, as in `open`.
     pub fn create(
         rt: &HostRuntime,
         path: &str,
@@ -160,7 +169,7 @@ impl<S: Contents> FileDevice<S> {
             Err(error) => return Err(of_making(&error)),
         };
         hold(&file)?;
-        lengthen(&file, SECTOR_SIZE as u64 * count as u64)?;
+        fill(&file, count)?;
         let size = size_of(&file)?;
         match FileDevice::of_size(rt.alloc(), file, size, count) {
             Ok(device) => Ok(device),
@@ -173,9 +182,10 @@ impl<S: Contents> FileDevice<S> {
         self.is_full
     }
 
-    /// A reader of the file, which may go to another thread. Its descriptor is another handle of the same open file, so the lock stays
-    /// until both are closed. None where the system gave no descriptor, and where the device was made anew or written since it was opened:
-    /// so a stop leaves what the reader reads.
+    /// Returns a reader of the file, which may go to another thread. Its descriptor is another
+    /// handle of the same open file, so the lock stays until both are closed. Returns none if the
+    /// system gave no descriptor, or if the device is new or was written since it was opened, so
+    /// that a crash leaves what the reader reads.
     #[tactic(auto, using(crate::proofs::Readers::held_is, crate::proofs::Readers::synced_as_opened))]
     pub fn share(&self, alloc: Global) -> Option<FileReader<S>>
         ensures reader { IfSome result (λ reader. IsReader (file_disk self.now) (reader_disk reader)) }

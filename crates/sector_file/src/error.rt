@@ -20,7 +20,7 @@ pub enum FileError {
     NoSpace,
     /// The system refused a call for another reason.
     DeviceFault,
-    /// A file is there already.
+    /// The file exists already.
     Exists,
 }
 

@@ -1,18 +1,24 @@
-//! A device in a file, and its readers: sectors have 4,096 bytes, and each keeps a record of its calls of the system.
+//! A device in a file, and readers of it for other threads.
 //!
-//! Seen as `Disk` of what the file held at first, a parameter of the type (`Contents`), and of the calls since. `FileDevice::open`,
-//! `create`: exactly the number of sectors that is asked for. An opened one holds at first what its parameter says, and all of it counts as
-//! synced; of a new one nothing does. It keeps the model as long as each sector that is read is as it was last written, or as it was held
-//! first. `share`: a reader of the open file, for another thread, until the device is written. `take_back`: its calls count as the
-//! device's.
+//! # Model
 //!
-//! # Notes
+//! `Disk`, of what the file held when it was opened and of the calls since. No program can know
+//! what a file held, so that is a parameter of the type (`Contents`), and all is proved for every
+//! value.
 //!
-//! A reader reads ahead, where sectors follow one another.
+//! # Proved
 //!
-//! No code can know what a file held as it was opened, so that is a parameter of the device's type, and all is proved for any contents. The
-//! device keeps a record of each call of the system with its answer, which takes no memory. While each sector that was read is as the
-//! record has it, the device is honest. All that the model promises is promised of an honest device.
+//! - `FileDevice::open` and `create` succeed only with exactly the number of sectors asked for. An
+//!   opened file counts as synced, a new one does not.
+//! - The device implements the model as long as each sector read is as it was last written or, if
+//!   it was not written, as it was at the opening. It keeps a record of every system call with its
+//!   answer, which takes no memory; if the reads agree with the record, the device is honest.
+//! - `share` gives another thread a reader of the open file until the device is written;
+//!   `take_back` counts the reader's calls as the device's.
+//!
+//! # Not proved
+//!
+//! The behaviour of the file system, and that reading ahead helps.
 #![tactic(auto)]
 
 mod calls;
@@ -23,6 +29,7 @@ mod reader;
 mod recent;
 mod record;
 mod run;
+mod zeros;
 
 pub use contents::{Contents, Unknown};
 pub use device::FileDevice;

@@ -12,9 +12,10 @@ use std::alloc::Global;
 use std::fs::File;
 use std::marker::PhantomData;
 
-/// A device for reads alone, of a file that another device shares (`FileDevice::share`). It may go to another thread. Where a sector comes
-/// after the one that was read last, those that follow it are read with it, and held in memory. It keeps its own record of its calls,
-/// which `FileDevice::take_back` joins to the device's.
+/// A read-only device of a file that another device shares (`FileDevice::share`). It may go to
+/// another thread. If a sector follows the one that was read last, the next sectors are read with
+/// it and held in memory. It keeps its own record of its calls, which `FileDevice::take_back` joins
+/// to the device's.
 #[derive(Drop)]
 pub struct FileReader<S: Contents> {
     file: File,
@@ -37,7 +38,7 @@ impl<S: Contents> FileReader<S> {
     ghost use Rattle.sector_device.specs.Disk.{HasCause};
     ghost use Rattle.sector_file.specs.Device.{reader_disk};
 
-    /// A reader of an open file that has so many sectors.
+    /// A reader of an open file of `count` sectors.
     #[tactic(auto, using(crate::proofs::Readers::reader_long, crate::proofs::Runs::none_held))]
     pub(crate) fn new(alloc: Global, file: File, count: u32) -> FileReader<S>
         ensures count { result.count ≡ count }

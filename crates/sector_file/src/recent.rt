@@ -117,7 +117,7 @@ impl Recent {
         }
     }
 
-    /// Lets go of a sector, which alone may have changed.
+    /// Drops a sector from memory. Only this sector may have changed.
     pub(crate) fn forget(&mut self, sector: u32)
         ensures { (before after : List (List ℕ)) → ((j : ℕ) → j ≢ sector → get_or after j [] ≡ get_or before j [])
             → Recalls self.old before → Recalls self.new after }

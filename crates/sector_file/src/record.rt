@@ -35,7 +35,7 @@ impl Record {
     ghost use Rattle.std.specs.Prelude.{◌≡◌, ◌≢◌, [], ◌∷◌, ◌++◌, length};
     ghost use Rattle.sector_file.specs.Told.{replay, step, after_opening, after_read, after_fault, after_write, after_torn, after_sync, read_call, failed_call};
 
-    /// The record of no call.
+    /// A record without calls.
     pub(crate) fn new() -> Record
         ensures { result.calls ≡ [] }
     {
@@ -62,8 +62,8 @@ impl Record {
         self.note(numbers, bytes);
     }
 
-    /// The record of a file that was opened with so many sectors. What they hold is what `S` says, and none is known to be
-    /// on the disk.
+    /// The record of a file that was opened with `count` sectors. Their contents are what `S` says,
+    /// and none is known to be on the disk.
     #[tactic(auto, using(crate::proofs::Steps::length_held))]
     pub(crate) fn opened<S: Contents>(count: u32) -> Record
         ensures opened { replay S.Contents.sector result.calls ≡ after_opening S.Contents.sector count }
@@ -74,7 +74,7 @@ impl Record {
         log
     }
 
-    /// A read gave so many bytes of a sector.
+    /// A read returned `got` bytes of a sector.
     #[tactic(auto, using(crate::proofs::Steps::whole_read, crate::proofs::Steps::short_read))]
     pub(crate) fn read<S: Contents>(&mut self, i: u32, got: usize, sector: &Sector)
         ensures whole { got ≡ 4096 → replay S.Contents.sector self.new.calls ≡ after_read (replay S.Contents.sector self.old.calls) i sector.now }
@@ -84,7 +84,7 @@ impl Record {
         self.tell::<S>(&[READ, i as u64, got as u64], sector);
     }
 
-    /// A write took so many bytes of a sector.
+    /// A write accepted `put` bytes of a sector.
     #[tactic(auto, using(crate::proofs::Steps::whole_write, crate::proofs::Steps::torn_write))]
     pub(crate) fn written<S: Contents>(&mut self, i: u32, put: usize, sector: &Sector)
         ensures whole { put ≡ 4096 → replay S.Contents.sector self.new.calls ≡ after_write (replay S.Contents.sector self.old.calls) i sector.now }

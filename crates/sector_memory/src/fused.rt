@@ -4,13 +4,13 @@ ghost use Rattle.std.specs.Prelude.{◌≡◌, ◌+◌, ◌↔◌, ℕ, IsTrue, 
 use crate::memory::MemoryDevice;
 use sector_device::{DeviceFault, Sector, SectorDevice};
 
-/// Lets so many calls pass. The next one fails, and each after it too or that one alone.
+/// Lets a number of calls pass. The next one fails, and after it either every call or no other.
 #[derive(Drop)]
 pub struct Fused {
     device: MemoryDevice,
     /// How many calls pass before one fails, and none where no further one does.
     left: Option<u64>,
-    /// Whether that one alone fails.
+    /// Whether only one call fails.
     once: bool,
 }
 
@@ -20,7 +20,7 @@ impl Fused {
     ghost use Rattle.sector_memory.specs.Memory.{IsStopped};
     ghost use Rattle.sector_memory.specs.Fused.{fused_disk, inner, calls_before, is_once};
 
-    /// A device of which so many calls pass, and none of those after them.
+    /// A device whose first `left` calls pass and whose later calls fail.
     pub fn new(device: MemoryDevice, left: u64) -> Fused
         ensures device { inner result ≡ device }
         ensures left { calls_before result ≡ Some left }

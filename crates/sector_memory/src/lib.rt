@@ -1,10 +1,18 @@
-//! Devices in memory: one that keeps all it was given, and one over it that fails at a chosen call.
+//! Devices in memory for tests: one that stores all it is given, and one that fails at a chosen
+//! call.
 //!
-//! Seen as `Disk`: they keep the model. The caller picks what torn sectors hold.
+//! # Model
 //!
-//! # Notes
+//! `Disk`, as in sector_device.
 //!
-//! Each can be stopped. Torn sectors are those that weren't on the disk then.
+//! # Proved
+//!
+//! Both devices implement the model. `stop` crashes a device: each sector written since the last
+//! sync gets the bytes that the caller picks, or what a read returns.
+//!
+//! # Not proved
+//!
+//! Nothing beyond the model is claimed.
 #![tactic(auto)]
 
 mod fused;

@@ -45,7 +45,7 @@ impl MemoryDevice {
     ghost use Rattle.sector_memory.specs.Device.{disk_of, unsynced};
     ghost use Rattle.sector_memory.specs.Memory.{IsStopped};
 
-    /// A device of zeros, all of them on the disk. This alone takes memory.
+    /// A device of zeros, all of them on the disk. Only this call takes memory.
     pub fn new(alloc: Global, count: u32) -> Result<MemoryDevice, AllocError>
         ensures count { IfOk result (λ device. (disk_of device).sectors ≡ count) }
         ensures zeros { IfOk result (λ device. (i : ℕ) → i < count → (disk_of device).reads i ≡ replicate 4096 0) }

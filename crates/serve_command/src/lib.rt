@@ -1,14 +1,22 @@
-//! `serve`: a store is served to many connections.
+//! The `serve` command: opens a store, listens on 127.0.0.1 and serves many connections.
 //!
-//! Seen as an exit status, over what opens stores and what listens. `serve`: the store is opened, the line printed, streams served, the
-//! device closed, or the first fault with what was done by then (`Serves`). `serve_clerk`: commands one after the other led from the first
-//! clerk to the last. The acknowledged ones outlive each stop, from the desk on as which the device read (`OutlastsWhatIsRead`). Along them
-//! connections were answered by as many workers as were asked for, each until none was given to it (`ServesStreams`). When a socket's
-//! failure is asked for, no clause says. `listen_here`: the socket is asked for at 127.0.0.1.
+//! # Model
 //!
-//! # Notes
+//! An exit status, generic in what opens stores and what listens.
 //!
-//! The command is a function over what opens stores, over what listens, and over its writers, that answers the exit status.
+//! # Proved
+//!
+//! - `serve`: the store is opened, the line printed, streams served and the device closed, or the
+//!   first fault is reported with what was done until then (`Serves`).
+//! - `serve_clerk`: commands run one at a time, from the first clerk to the last. The acknowledged
+//!   ones survive every crash, beginning with the desk as which the device read
+//!   (`OutlastsWhatIsRead`).
+//! - Along these commands connections were answered by as many workers as were asked for, each
+//!   until it was given no more (`ServesStreams`). `listen_here` asks for a socket at 127.0.0.1.
+//!
+//! # Not proved
+//!
+//! When the failure of a socket is noticed, and that the system binds the address (tested).
 #![tactic(auto)]
 
 pub mod fault;

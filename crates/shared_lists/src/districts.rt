@@ -51,7 +51,7 @@ impl Districts {
         })
     }
 
-    /// So many blocks without a district: each full piece is the same one.
+    /// A list of `count` unassigned blocks; all full pieces share one allocation.
     pub fn unassigned(alloc: Global, count: usize) -> Result<Districts, AllocError>
         ensures { IfOk result (λ districts. districts ≡ replicate count 0) }
     {
@@ -65,8 +65,8 @@ impl Districts {
         Ok(Districts { full, rest, count })
     }
 
-    /// The list with the listed districts in the place of its own, where what is listed stands from the place `first` on. A piece
-    /// in which nothing changes is shared.
+    /// Returns the list with its districts replaced by the listed ones, which begin at the place
+    /// `first`. A piece that does not change is shared.
     #[tactic(auto, using(crate::proofs::Cut::joined_long))]
     pub fn with_listed(
         &self,
@@ -109,8 +109,8 @@ impl Districts {
         })
     }
 
-    /// The list with a part in the place of its own, which stands from the place `first` on. A piece in which nothing changes is
-    /// shared.
+    /// Returns the list with its districts replaced by a part, which begins at the place `first`. A
+    /// piece that does not change is shared.
     #[tactic(auto, using(crate::proofs::Cut::joined_long, crate::proofs::Cut::counted_all))]
     pub fn with_part(
         self,
@@ -233,7 +233,7 @@ fn rest_of(list: Option<&Districts>) -> Option<&Piece> {
     }
 }
 
-/// Puts a part, which stands from the place `first` on, into full pieces in the place of their own.
+/// Replaces the districts of full pieces by a part, which begins at the place `first`.
 fn put_pieces(
     alloc: Global,
     full: &mut Vec<Piece>,

@@ -1,15 +1,25 @@
-//! Lists that share their items: with the lists before them, and a district for each block in pieces that lists share.
+//! Lists that share memory with their earlier versions: revisions, and districts in pieces of 512.
 //!
-//! Seen as a list, which stays as it was when an item is added at its end: `with`, `get`.
+//! # Layout
 //!
-//! A district for each block: seen as a list of numbers below 2^16, in pieces of 512. `new`, `to_vec`, `part`, `is_same_in`, `with_part`,
-//! `with_listed`, `unassigned`, `share`: each the flat list's.
+//! ```text
+//! districts of a plan     [piece 0][piece 1][piece 2] ..   512 districts each, shared by revisions
+//! ```
 //!
-//! # Notes
+//! # Model
 //!
-//! A list's items are in complete trees; that an item more makes two nodes is timed alone.
+//! A list. A `Districts` is a list of numbers below 2^16.
 //!
-//! That a piece is shared and not copied is measured alone.
+//! # Proved
+//!
+//! Each call returns what the same call on a plain list returns: `with` and `get` of a
+//! `SharedList`; `new`, `to_vec`, `part`, `is_same_in`, `with_part`, `with_listed`, `unassigned`
+//! and `share` of `Districts`. The list that a call starts from stays as it was.
+//!
+//! # Not proved
+//!
+//! That pieces are shared and not copied, and that adding an item makes two nodes on average. Both
+//! are measured.
 #![tactic(auto)]
 
 mod districts;

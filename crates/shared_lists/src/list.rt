@@ -8,8 +8,9 @@ use std::alloc::{AllocError, Global};
 use std::marker::Model;
 use std::sync::Arc;
 
-/// A list. One item more makes a list of its own, which shares all that this one has: it takes room for two nodes, whatever the
-/// number of items. An item is read by way of at most twice as many nodes as that number has binary digits, a late one by fewer.
+/// A list. Adding an item makes a new list, which shares everything with the old one: it takes room
+/// for two nodes, whatever the number of items. Reading an item passes at most twice as many nodes
+/// as that number has binary digits, and fewer for a late item.
 #[derive(Drop)]
 pub struct SharedList<T: Drop> {
     trees: TreeRow<T>,

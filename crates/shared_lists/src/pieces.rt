@@ -8,7 +8,7 @@ use std::sync::Arc;
 /// A full piece has this many districts.
 pub const FULL: usize = 512;
 
-/// The districts of blocks that stand one after the other.
+/// The districts of consecutive blocks.
 pub type Piece = Arc<Vec<u16>>;
 
 /// The piece of these districts: the one that is kept, where it has the same, and else one of its own.
@@ -40,7 +40,7 @@ pub fn after(list: &[u16], place: usize) -> &[u16]
     &list[place..]
 }
 
-/// What is listed of a place, where the list stands from the place `first` on.
+/// Returns what is listed for a place, for a list that begins at the place `first`.
 fn listed_at(first: usize, listed: &[Option<u16>], place: usize) -> Option<u16>
     ensures { result ≡ listed_there first listed.now place }
 {
@@ -53,7 +53,8 @@ fn listed_at(first: usize, listed: &[Option<u16>], place: usize) -> Option<u16>
     }
 }
 
-/// Puts listed districts, which stand from the place `first` on, in the place of those of a list that stands from `start` on.
+/// Writes listed districts, which begin at the place `first`, over the districts of a list that
+/// begins at the place `start`.
 fn lay(districts: &mut [u16], start: usize, first: usize, listed: &[Option<u16>])
     requires { start + length districts.old < 2 ^ 64 }
     ensures { districts.new ≡ laid first listed.now start districts.old }
@@ -63,7 +64,8 @@ fn lay(districts: &mut [u16], start: usize, first: usize, listed: &[Option<u16>]
     }
 }
 
-/// Whether none of so many places from `start` on is one of `many` from `first` on, since all of them are before or after these.
+/// Returns whether the `count` places from `start` on and the `many` places from `first` on have
+/// none in common.
 fn is_apart(start: usize, count: usize, first: usize, many: usize) -> bool
     requires { start + count < 2 ^ 64 }
     ensures apart { result ≡ true → (start + count ≤ first) ⊎ (first + many ≤ start) }
@@ -77,7 +79,8 @@ fn districts_fit(districts: &[u16])
     ensures { (i : ℕ) → get_or districts.now i 0 < 2 ^ 16 }
 {}
 
-/// A piece that stands from `start` on, with the listed districts in the place of its own: itself, where that changes nothing.
+/// Returns a piece that begins at `start` with the listed districts written over it: the piece
+/// itself if nothing changes.
 pub fn piece_with(
     alloc: Global,
     kept: &Piece,
@@ -113,8 +116,8 @@ fn kept_or_new(alloc: Global, kept: &Piece, districts: Vec<u16>) -> Result<Piece
     Ok(Arc::new(alloc, districts)?)
 }
 
-/// A piece that stands from `start` on, with a part that stands from the place `first` on in the place of its own: itself, where that
-/// changes nothing.
+/// Returns a piece that begins at `start` with a part, which begins at `first`, written over it:
+/// the piece itself if nothing changes.
 pub fn piece_put(
     alloc: Global,
     kept: &Piece,

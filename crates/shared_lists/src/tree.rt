@@ -50,7 +50,7 @@ impl<T: Drop> Branch<T> {
         Ok(Arc::new(alloc, Branch { older, newer, item })?)
     }
 
-    /// The item at a place of so many, from 0.
+    /// Returns the item at a place below `count`.
     pub fn get(&self, count: usize, place: usize) -> Option<&T>
         requires { count ≡ length self.now }
         ensures { option_copied result ≡ slice_get self.now place }

@@ -70,7 +70,7 @@ impl<T: Drop> Trees<T> {
         })
     }
 
-    /// The item alone.
+    /// Trees with one item.
     pub fn first(alloc: Global, item: T) -> Result<Trees<T>, AllocError>
         ensures { IfOk result (λ trees. trees ≡ item ∷ []) }
     {

@@ -15,7 +15,7 @@ use std::alloc::Global;
 use std::mem;
 use std::thread::{Threads, join};
 
-/// What each file came to.
+/// The result of reading each file.
 #[derive(Drop)]
 struct Found {
     header: Result<GeoRows, FileFault>,
@@ -48,7 +48,7 @@ fn segment_of<R: Source>(
     (opened, read)
 }
 
-/// Reads the header beside the first segment.
+/// Reads the header and the first segment at the same time.
 fn read_first<T: Threads + Sync, R: Source + Send + Drop>(
     rt: &T,
     alloc: Global,
@@ -69,7 +69,7 @@ fn read_first<T: Threads + Sync, R: Source + Send + Drop>(
     )
 }
 
-/// Reads the second segment beside the third.
+/// Reads the second and the third segment at the same time.
 fn read_last<T: Threads + Sync, R: Source + Send + Drop>(
     rt: &T,
     alloc: Global,
@@ -158,8 +158,8 @@ fn read_at_once<T: Threads + Sync, R: Source + Send + Drop>(
     judge_each(alloc, found)
 }
 
-/// What `read_state` gives, by so many workers. More than one read all files at once, so a file after one with a fault may have been
-/// read too.
+/// Returns what `read_state` returns, by several workers. More than one worker read all files at
+/// once, so a file after a faulty one may have been read too.
 pub fn read_state_by<T: Threads + Sync, R: Source + Send + Drop>(
     rt: &T,
     alloc: Global,

@@ -21,9 +21,9 @@ pub enum OpenFault {
 #[derive(Clone, Copy)]
 pub enum PlanFile {
     Plan,
-    /// The senate plan beside a house plan.
+    /// The senate plan given with a house plan.
     Senate,
-    /// The congressional plan beside a house or senate plan.
+    /// The congressional plan given with a house or senate plan.
     Congress,
 }
 

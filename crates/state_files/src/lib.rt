@@ -1,15 +1,24 @@
-//! The files of a state, in their order: census, neighbour and plan files, opened by name, read and judged, and the first fault of all.
+//! Opens the files of a state by name and reads them in a fixed order: census, neighbours, plans.
 //!
-//! Seen as an opening: a file (bytes left, turns, failures), or why it isn't opened. `open_census`, `open_audit`, over any opener: each
-//! name is opened as its own file, each companion has its own number of districts. `read_state`, `read_state_by` (by several workers),
-//! `read_with_neighbours`, `read_plan`, `read_companion`: what each file says by its reader's relation, or the first fault, with each file
-//! before
-//! and after. `read_whole`: a plan's file whole; else more than 33,554,432 bytes came, the source failed or its turns were used up.
+//! # Model
 //!
-//! # Notes
+//! An opened file is its bytes, its turns and its failures; a file that did not open is the reason.
 //!
-//! Several workers read the census files at once (`at_once`). The blocks or the first fault are those of a reading in turn, of which the
-//! files before and after are named too. A file that it leaves unread, since it comes after a fault, may have been read (`AreLeftBy`).
+//! # Proved
+//!
+//! - `open_census` and `open_audit` open each name as its own file, and give each companion plan
+//!   its own number of districts.
+//! - `read_state`, `read_with_neighbours`, `read_plan`, `read_companion` return what each file says
+//!   by the relation of its reader, or the first fault in the order of the files.
+//! - `read_whole` returns a plan file whole, or says why not: more than 33,554,432 bytes, a failure
+//!   of the source, or no turns left.
+//! - `read_state_by` reads the census files with several workers and returns what reading one after
+//!   the other returns.
+//!
+//! # Not proved
+//!
+//! That a name leads to the file that the user means. After a fault, workers may have read later
+//! files already; their contents do not matter (`AreLeftBy`).
 #![tactic(auto)]
 
 pub mod at_once;

@@ -24,7 +24,7 @@ pub struct AuditPaths<'a> {
     pub census: CensusPaths<'a>,
     pub gal: &'a str,
     pub plan: &'a str,
-    /// The plans beside which it is audited.
+    /// The companion plans.
     pub beside: Companions<&'a str>,
 }
 
@@ -34,7 +34,7 @@ pub struct AuditFiles<R> {
     pub census: CensusFiles<R>,
     pub gal: Result<R, OpenFault>,
     pub plan: Result<R, OpenFault>,
-    /// The plans beside which it is audited.
+    /// The senate plan, if one is given.
     pub senate: Option<Companion<R>>,
     pub congress: Option<Companion<R>>,
 }
@@ -79,8 +79,8 @@ fn open_companion<R, O: Opener<R>>(
     Some(Companion { opened, districts })
 }
 
-/// Opens the census files, the neighbour file, the plan, and beside it the senate plan and the congressional one, in that order.
-/// These two have so many districts.
+/// Opens the census files, the neighbour file, the plan, and then the senate plan and the
+/// congressional plan, in that order. The numbers of districts of these two are given.
 pub fn open_audit<R, O: Opener<R>>(
     opener: &mut O,
     paths: AuditPaths<'_>,

@@ -14,7 +14,7 @@ use byte_stream::source::Source;
 use desk_model::geography::Geography;
 use std::alloc::Global;
 
-/// A plan beside which another one is audited: its file's opening, and its number of districts.
+/// A companion plan: its file's opening, and its number of districts.
 #[derive(Drop)]
 pub struct Companion<R> {
     pub opened: Result<R, OpenFault>,

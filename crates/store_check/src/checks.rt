@@ -10,8 +10,9 @@ use desk_pages::{TreeError, next_numbers};
 use page_store::{Pages, Txn};
 use sector_device::SectorDevice;
 
-/// Checks that the numbers of plans, chunks and loads that are in use are below those that come next, and that no row stands
-/// where a desk has none. It takes no memory. An error is `NotAStore`, where that isn't so, `DeviceFault` or `Halted`.
+/// Checks that the numbers of plans, chunks and loads in use are below the next ones, and that no
+/// row is where a desk has none. It takes no memory. An error is `NotAStore` if that is not so,
+/// `DeviceFault` or `Halted`.
 pub fn check_numbers<D: SectorDevice>(txn: &Txn, pages: &mut Pages<D>) -> Result<(), TreeError>
     requires begun { txn_pages txn.now ≡ count_of pages.old }
     ensures { Looks (λ m _. HasNumbersBelow m) IsKept txn.now pages.old pages.new result }

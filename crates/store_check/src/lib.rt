@@ -1,16 +1,26 @@
-//! Checks of a store's rows: numbers in use against those that come next, and that no row is where a desk has none.
+//! Checks that the numbers in use are below the next ones, and that no row is out of place.
 //!
-//! Seen as parts of `Tidy` of store_rows. `check_numbers`: `HasNumbersBelow`, or NotAStore where one of these doesn't hold. Each plan,
-//! chunk and load has a number below the next one. Each key up to the version's is that of a row (`AreRowsToVersion`). After it are rows of
-//! known loads within the seal's counts, and of chunks below the counter alone (`AreAfterSeal`). `check_owners`: each part of a revision
-//! is of one that is counted, or of a deleted plan.
+//! # Model
+//!
+//! Parts of `Tidy` of store_rows, in either version of the store.
+//!
+//! # Proved
+//!
+//! - `check_numbers` succeeds only if each plan, chunk and load has a number below the next one
+//!   (`HasNumbersBelow`), each key up to the version's row is the key of a row
+//!   (`AreRowsToVersion`), and the rows after it belong to known loads within the seal's counts or
+//!   to chunks below the counter (`AreAfterSeal`). It returns NotAStore if one of these is
+//!   violated.
+//! - `check_owners`: each part of a revision belongs to a counted revision, or to a deleted plan.
+//!
+//! # Not proved
+//!
+//! The rest of `Tidy`; `plandesk verify` checks more.
 //!
 //! # Notes
 //!
-//! A store is opened only where that holds, since a number that is given twice makes a row of one plan that of another. Up to the version a
-//! check passes over the rows; after it, it looks up the first row from a key on. The rows may be of either version. Of `Tidy` it finds
-//! `AreBelow` and parts of `AreRows` and `AreOwned`: `check_numbers(&txn, &mut pages)?`. `check_owners` compares the parts of revisions
-//! with the plans that were read.
+//! A store is opened only if these checks succeed: if a number were given twice, a row of one plan
+//! would become a row of another.
 #![tactic(auto)]
 
 mod checks;
@@ -26,7 +36,6 @@ mod scans;
 
 pub use checks::check_numbers;
 pub use firsts::{first_from, refuse_from};
-pub use keys::{is_numbered, part_in};
 pub use marks::refuse_unmarked;
 pub use numbers::is_version;
 pub use owners::check_owners;

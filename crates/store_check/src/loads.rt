@@ -21,21 +21,21 @@ use sector_device::SectorDevice;
 use store_rows::{Key, SealRow};
 
 /// A key after all rows of a load.
-fn key_after(load: u64) -> [u8; 10]
+fn key_after(load: u64) -> Key
     ensures { result ≡ after_load load }
 {
-    let n = load.to_be_bytes();
-    [b'g', n[0], n[1], n[2], n[3], n[4], n[5], n[6], n[7], b'q']
+    Key::load(load).then(b"q")
 }
 
-/// Whether a key is one of chunks, or stands after these.
+/// Returns whether a key is a chunk's, or comes after all of these.
 fn is_chunk(key: &[u8]) -> bool
     ensures { IsTest result (IsFrom chunks_prefix key.now) }
 {
     !key.is_empty() && key[0] >= b'k'
 }
 
-/// The load of the first row from a key on, which stands after the version's; None where only rows of chunks do, or none.
+/// Returns the load of the first row after the version's from a key on; `None` if only rows of
+/// chunks follow, or none.
 fn load_from<D: SectorDevice>(
     txn: &Txn,
     pages: &mut Pages<D>,
@@ -105,14 +105,14 @@ fn pass_load<D: SectorDevice>(
         None => Ok(false),
         Some(load) => {
             refuse_unknown(txn, pages, sealed, load)?;
-            from.set(&key_after(load));
+            from.set(key_after(load).as_slice());
             Ok(true)
         }
     }
 }
 
-/// Refuses where a row stands after the version's and before those of chunks that is none of a load that is sealed, or was
-/// begun. `sealed` is the seal's row, if there is one.
+/// Rejects the store if a row between the version's and the chunks' belongs to no load that is
+/// sealed or was begun. `sealed` is the seal's row, if there is one.
 pub(crate) fn check_loads<D: SectorDevice>(
     txn: &Txn,
     pages: &mut Pages<D>,

@@ -10,8 +10,8 @@ use page_store::{Pages, Txn};
 use sector_device::SectorDevice;
 use store_rows::Key;
 
-/// Refuses where no mark stands under a key: no row, or one that has a value. It takes no memory. An error is `NotAStore`,
-/// where there is none, `DeviceFault` or `Halted`.
+/// Rejects the store if no mark has this key: no row, or one with a value. It takes no memory. An
+/// error is `NotAStore` if there is none, `DeviceFault` or `Halted`.
 pub fn refuse_unmarked<D: SectorDevice>(
     txn: &Txn,
     pages: &mut Pages<D>,

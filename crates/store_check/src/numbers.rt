@@ -10,31 +10,7 @@ ghost use Rattle.store_check.specs.Numbers.{IsCount};
 
 use store_rows::{eight, four, read_chunks, read_plan, read_seal};
 
-/// Whether the number after a key's tag is below the next one.
-pub(crate) fn is_key_below(key: &[u8], next: u64) -> bool
-    ensures below { result ≡ true → (tag number : ℕ) (rest : List ℕ) → number < 2 ^ 64 → key.now ≡ tag ∷ (in_eight number ++ rest) → number < next }
-    ensures above { result ≡ false → (tag number : ℕ) (rest : List ℕ) → number < 2 ^ 64 → key.now ≡ tag ∷ (in_eight number ++ rest)
-        → number < next → ⊥ }
-{
-    if key.len() < 9 {
-        return false;
-    }
-    eight(&key[1..9]) < next
-}
-
-/// Whether the number after a key's tag and another number is below the next one.
-pub(crate) fn is_second_below(key: &[u8], next: u64) -> bool
-    ensures below { result ≡ true → (tag first number : ℕ) → number < 2 ^ 64 → key.now ≡ tag ∷ (in_eight first ++ in_eight number) → number < next }
-    ensures above { result ≡ false → (tag first number : ℕ) → number < 2 ^ 64 → key.now ≡ tag ∷ (in_eight first ++ in_eight number)
-        → number < next → ⊥ }
-{
-    if key.len() != 17 {
-        return false;
-    }
-    eight(&key[9..17]) < next
-}
-
-/// Whether the value of a row is a number of 8 bytes that isn't 0, and no more than so many plans.
+/// Returns whether a row's value is a number of 8 bytes from 1 to `plans`.
 pub(crate) fn is_count(value: &[u8], plans: u64) -> bool
     ensures { IsTest result (IsCount plans value.now) }
 {
@@ -45,7 +21,7 @@ pub(crate) fn is_count(value: &[u8], plans: u64) -> bool
     count > 0 && count <= plans
 }
 
-/// Whether the value of the row of the version tells the second.
+/// Returns whether the version's row says the second version.
 pub fn is_version(value: &[u8]) -> bool
     ensures { IsTest result (value.now ≡ in_four 2) }
 {

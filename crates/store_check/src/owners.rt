@@ -17,15 +17,11 @@ use std::collections::BTreeMap;
 use store_rows::Key;
 
 /// A key after the parts of a revision, and below each other one after these.
-fn key_after(plan: u64, revision: u32) -> [u8; 15]
+fn key_after(plan: u64, revision: u32) -> Key
     ensures is { result ≡ after_revision plan revision }
     ensures fits { revision < 2 ^ 32 }
 {
-    let p = plan.to_be_bytes();
-    let r = revision.to_be_bytes();
-    [
-        b'R', p[0], p[1], p[2], p[3], p[4], p[5], p[6], p[7], r[0], r[1], r[2], r[3], 255, 0,
-    ]
+    Key::part(plan, revision, 255).then(&[0])
 }
 
 /// The plan and the revision of the first part from a key on; None where there is none.
@@ -53,8 +49,8 @@ fn part_from<D: SectorDevice>(
     }
 }
 
-/// The last revision of which a plan may have parts: as is counted, or any, where the plan was taken away. Refuses where it may
-/// have none of this one.
+/// Returns the last revision of which a plan may have parts: its counted ones, or any if the plan
+/// was deleted. Rejects the store if it may have no part of this one.
 fn last_of<D: SectorDevice>(
     txn: &Txn,
     pages: &mut Pages<D>,
@@ -97,15 +93,15 @@ fn pass_plan<D: SectorDevice>(
         None => Ok(false),
         Some((plan, revision)) => {
             let last = last_of(txn, pages, counts, plan, revision)?;
-            from.set(&key_after(plan, last));
+            from.set(key_after(plan, last).as_slice());
             Ok(true)
         }
     }
 }
 
-/// Refuses a part of a revision whose plan has no such revision and wasn't taken away either. `counts` has for the number of each
-/// plan that is there the count of its revisions. It takes no memory. An error is `NotAStore`, where there is such a part,
-/// `DeviceFault` or `Halted`.
+/// Rejects a part of a revision whose plan neither has such a revision nor was deleted. `counts`
+/// has the number of revisions for the number of each existing plan. It takes no memory. An error
+/// is `NotAStore` if there is such a part, `DeviceFault` or `Halted`.
 pub fn check_owners<D: SectorDevice>(
     txn: &Txn,
     pages: &mut Pages<D>,

@@ -11,8 +11,8 @@ use page_store::{Pages, Txn};
 use sector_device::SectorDevice;
 use store_rows::Counters;
 
-/// Goes over the rows up to those of geographies and of chunks' pieces. An error is `NotAStore`, where a key is that of no row
-/// or a row has a number that comes next or later, `DeviceFault` or `Halted`.
+/// Checks the rows before those of geographies and of chunks' pieces. An error is `NotAStore` if a
+/// key is no row's or a row has a number that is next or later, `DeviceFault` or `Halted`.
 pub(crate) fn check_rows<D: SectorDevice>(
     txn: &Txn,
     pages: &mut Pages<D>,

@@ -1,16 +1,24 @@
-//! `format`, `load`, `sweep`, `migrate`: a store is made, filled with a state's geography, rid of leftover rows, and led to version 2.
+//! The commands `format`, `load`, `sweep` and `migrate`: make, fill, clean up and convert a store.
 //!
-//! Seen as functions to an exit status, over what makes and opens stores (`Stores`). The device that was opened and the one that was closed
-//! are named, so that nothing else touched it. `format`: a new store with exactly the sectors and journal pages that are asked for, without
-//! geography and plans; a large size is told. `load`: one load of the geography that the files say, in a store without one; where a file is
-//! refused no store is opened. `sweep`: as many rows as are printed, and none is left. `migrate`: as many rows as are printed, and each
-//! image opens in version 2 to a desk of version 1. Else the first fault, with nothing printed (`Sweeps`, `Migrates`). Where the device
-//! reads as a desk, a stop leaves it, or the desk after the command (`Reading.antt`).
+//! # Model
 //!
-//! # Notes
+//! Functions to an exit status, generic in what makes and opens stores (`Stores`). The device
+//! opened and the device closed are named, so nothing else was touched.
 //!
-//! Leftover rows are what deleted plans and ended loads left. Each command is a function over what makes and opens stores, over its readers
-//! and its writers, that answers the exit status.
+//! # Proved
+//!
+//! - `format` makes a new store with exactly the sectors and journal pages asked for.
+//! - `load` loads the geography that the files say into a store that has none. If a file is
+//!   rejected, no store is opened.
+//! - `sweep` removes as many rows as it prints, and then none is left.
+//! - `migrate` puts as many rows as it prints, and each crash state opens in version 2 to the desk
+//!   of version 1.
+//! - Otherwise the first fault is reported and nothing is printed (`Sweeps`, `Migrates`). If the
+//!   device reads as a desk, a crash leaves that desk or the one after the command.
+//!
+//! # Not proved
+//!
+//! That a large size is announced in fitting words.
 #![tactic(auto)]
 
 pub mod fault;

@@ -13,15 +13,15 @@ use std::alloc::Global;
 pub enum Led {
     /// It is of the new version.
     Whole,
-    /// So many steps were made, and it is still of the old one.
+    /// All steps asked for were made, and the store still has the old version.
     InPart,
-    /// A step was refused, or the last one, which tells the new version.
+    /// A step was refused, or the last one, which writes the new version.
     Stopped(StoreError),
     /// It was not opened for that.
     Unopened(StoreError),
 }
 
-/// Tells the new version.
+/// Writes the new version.
 fn end<D: SectorDevice>(alloc: Global, migration: &mut Migration<D>) -> Led
     requires ended { has_ended migration.old ≡ true }
     requires working { is_halted migration.old ≡ false }
@@ -33,7 +33,7 @@ fn end<D: SectorDevice>(alloc: Global, migration: &mut Migration<D>) -> Led
     }
 }
 
-/// Leads a store on by so many steps at most, and tells the new version where no more are to be made.
+/// Migrates a store by at most `steps` steps, and writes the new version if no step is left.
 pub fn lead<D: SectorDevice>(alloc: Global, migration: &mut Migration<D>, steps: u32) -> Led
     requires { is_halted migration.old ≡ false }
     ensures { LeadsOn migration.old result migration.new }

@@ -1,14 +1,19 @@
-//! Lives of a store: in each it is opened, then asked or led on to the new version, and stopped.
+//! Lives of a store: each opens it, asks it or migrates it, and ends with a crash.
 //!
-//! Seen as what was asked and what was told. `desk_lives::live`: the answers are those of the desk's model, each life from the desk that
-//! the stop before it left (`Lives`). `Restarts`: a device that stops and starts again.
+//! # Model
 //!
-//! One life of a store of either version, from start to stop: seen as what was told, and the desk and version that each image opens to.
-//! `live_in`, `lead_in`: answers are those of the desk's model once the store is of version 2, and before that refusals alone (`LivesIn`).
+//! What was asked and what was answered in each life.
 //!
-//! # Notes
+//! # Proved
 //!
-//! `live` runs them, and its contract says what is told in them by the desk's model. Lives of every kind are run in desk_claim.
+//! - `desk_lives::live`: the answers are those of the desk's model, each life beginning with the
+//!   desk that the crash before it left (`Lives`).
+//! - `live_in` and `lead_in`: one life of a store of either version. The answers are those of the
+//!   model once the store has version 2, and refusals before (`LivesIn`).
+//!
+//! # Not proved
+//!
+//! That a device restarts as `Restarts` says: that is the model of a disk.
 #![tactic(auto)]
 
 pub mod desk_law;

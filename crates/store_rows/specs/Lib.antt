@@ -1,5 +1,6 @@
 pub mod claim
 pub mod Keys
+pub mod RowKeys
 pub mod Values
 pub mod Lists
 pub mod Order

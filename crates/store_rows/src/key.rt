@@ -31,8 +31,8 @@ impl Model for Key {
 }
 
 impl Key {
-    /// A key of a tag alone.
-    fn tagged(tag: u8) -> Key
+    /// A key that consists of its tag.
+    pub(crate) fn tagged(tag: u8) -> Key
         ensures { result ≡ tag ∷ [] }
     {
         let mut bytes = ArrayVec::new();
@@ -46,6 +46,16 @@ impl Key {
         ensures { self.new ≡ self.old ++ more.now }
     {
         let _ = self.bytes.try_extend_from_slice(more);
+    }
+
+    /// Returns the key with more bytes after it, which fit.
+    pub fn then(self, more: &[u8]) -> Key
+        requires { length self + length more.now ≤ 72 }
+        ensures { result ≡ self ++ more.now }
+    {
+        let mut key = self;
+        key.add(more);
+        key
     }
 
     /// The bytes.
@@ -64,7 +74,7 @@ impl Key {
         Key::tagged(b'A')
     }
 
-    /// The row of a plan that was taken away.
+    /// The row of a deleted plan.
     pub fn retired(plan: u64) -> Key
         ensures { result ≡ key_of (retired plan) }
     {
@@ -72,7 +82,7 @@ impl Key {
     }
 
     /// A tag and a number.
-    fn numbered(tag: u8, number: u64) -> Key
+    pub(crate) fn numbered(tag: u8, number: u64) -> Key
         ensures { result ≡ (tag ∷ []) ++ in_eight number }
     {
         let mut key = Key::tagged(tag);
@@ -87,7 +97,7 @@ impl Key {
         Key::numbered(b'L', load)
     }
 
-    /// The row that tells that a plan holds a chunk.
+    /// The row that says that a plan holds a chunk.
     pub fn holding(plan: u64, number: u64) -> Key
         ensures { result ≡ key_of (holding plan number) }
     {
@@ -176,7 +186,7 @@ impl Key {
         Key::tagged(b'P')
     }
 
-    /// What the keys of all plans that were taken away begin with.
+    /// The prefix of the keys of all deleted plans.
     pub fn all_retired() -> Key
         ensures { result ≡ retired_prefix }
     {

@@ -22,7 +22,7 @@ pub struct Counters {
     pub load: u64,
 }
 
-/// What stands under a plan's name.
+/// The value under a plan's name.
 #[derive(Clone, Copy)]
 pub struct PlanRow {
     pub number: u64,
@@ -122,7 +122,7 @@ fn city_value(city: Option<u32>) -> [u8; 5]
     value
 }
 
-/// The value of the row of a pair of neighbours, which are told by their places.
+/// The value of the row of a pair of neighbours, given by their places.
 pub fn pair_value(pair: (u32, u32)) -> [u8; 8]
     ensures { result ≡ pair_bytes pair }
 {

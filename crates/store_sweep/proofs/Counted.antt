@@ -3,9 +3,9 @@ use Rattle.std.specs.{BTreeMap.{BTreeMap, IsEmpty, is_at, get as count_at}, Cmp.
 use Rattle.std.{specs.{FinMap.Entries.find-append, Map.lookup, Ordering.{nat_cmp, eq_by_cmp}}, proofs.lemmas.{Bool.cases_eq, Map.{Lookups.exact_unsigned, Views.tells_apart}}}
 use Rattle.std.proofs.Common.{◌≡◌, ◌<◌, ◌≤◌, ◌+◌, ◌^◌, ◌++◌, ℕ, suc, Bool, false, List, [], ◌∷◌, cond, Some, None, refl, sym, ap, subst, ◌∙◌, inl, inr, arith}
 use Rattle.{btree_walks.specs.{Prefixes.under, declared.rows.Row.Row}, page_btree.specs.page_node.claim.Entries.Entry, store_rows.specs.{TurnLaws.IsShared, claim.Order.key_cmp}}
-use Rattle.{store_rows.specs.claim.{Holders.AreHolders, Keys.{key_of, holding, in_eight}, Rows.{KeyMap, Lacks}}, btree_walks.proofs.RowsFound.{IsNextUnder, found_among}}
-use Rattle.{store_sweep.specs.Checks.{so_many, noted, IsOneMore, IsCounted, AreCounts}, store_rows.proofs.Counting.{holders_moved, no_holders, holders_joined}}
-use Rattle.store_rows.proofs.{Frames.{put_is_there, put_keeps_row}, HolderCounts.{other_chunk, other_plan}, KeyPrefixes.after_tag, OneGeography.no_value}
+use Rattle.{store_rows.specs.claim.{Holders.AreHolders, Keys.{key_of, holding}, Rows.{KeyMap, Lacks}}, store_sweep.specs.Checks.{so_many, noted, IsOneMore, IsCounted, AreCounts}}
+use Rattle.{btree_walks.proofs.RowsFound.{IsNextUnder, found_among}, store_rows.proofs.{Counting.{holders_moved, no_holders, holders_joined}, Frames.{put_is_there, put_keeps_row}}}
+use Rattle.store_rows.proofs.{HolderCounts.{other_chunk, other_plan}, OneGeography.no_value}
 
 -- so many of the plans in a map hold the chunk as were counted, and no more than rows were taken
 pub record IsCountedSo (counts : BTreeMap ℕ ℕ) (so m : KeyMap) (taken number : ℕ) : Type 0 where
@@ -71,11 +71,10 @@ found_more so rows e key found new =
 pub one_counted : (m : KeyMap) (rows : List Entry) (row : Row) (old new : BTreeMap ℕ ℕ) (taken : ℕ) → AreCountedSo rows old m taken → IsNextUnder (72 ∷ []) m rows (row.key, row.value) → IsCounted row old new m → AreCountedSo (rows ++ (row.key, row.value) ∷ []) new m (taken + 1)
 one_counted m rows row old new taken was next one =
     let e : Entry = (row.key, row.value) in
-    let key : row.key ≡ key_of (holding one.plan one.number) = after_tag row.key 72 (in_eight one.plan ++ in_eight one.number) next.under one.key in
-    let lacks : Lacks was.so (holding one.plan one.number) = was.found (key_of (holding one.plan one.number)) ∙ ap (λ (k : List ℕ). find key_cmp k rows) (sym key) ∙ next.new in
+    let lacks : Lacks was.so (holding one.plan one.number) = was.found (key_of (holding one.plan one.number)) ∙ ap (λ (k : List ℕ). find key_cmp k rows) (sym one.key) ∙ next.new in
     record {
       so = with_holder m was.so old new taken one.plan one.number one.fits.0 one.fits.1 lacks one.shared one.more;
-      found = λ k. ap (λ (x : KeyMap). get x k) (λ i. insert was.so (sym key i) (sym one.value i)) ∙ found_more was.so rows e k was.found next.new;
+      found = λ k. ap (λ (x : KeyMap). get x k) (λ i. insert was.so (sym one.key i) (sym one.value i)) ∙ found_more was.so rows e k was.found next.new;
       counted = λ number fits. counted_any m was.so old new taken one.plan one.number one.fits.0 one.fits.1 lacks one.shared one.more number fits (was.counted number fits);
     }
 

@@ -1,7 +1,7 @@
 -- Which rows a key that begins with a tag or a prefix can be of.
 use Rattle.{std.specs.{FinMap.get, List.starts_with, Prelude.Some}, store_rows.specs.{Keys.{plan_parts_prefix, load_prefix}, claim.{Rows.{KeyMap, Has}, Tidy.AreRows}}}
 use Rattle.{std.proofs.Common.{◌≡◌, ◌<◌, ◌≤◌, ◌^◌, ◌+◌, ◌++◌, ℕ, true, nat_eq, List, [], ◌∷◌, length, refl, sym, ap, subst, ◌∙◌, arith}, store_rows.proofs.HolderCounts.eight_says}
-use Rattle.store_rows.specs.claim.Keys.{RowKey, key_of, Fits, retired, begun, holding, holder_count, part, block, pair, chunk, in_one, in_two, in_four, in_eight, retired_prefix, begun_prefix, holdings_prefix, chunk_prefix}
+use Rattle.store_rows.specs.claim.Keys.{RowKey, key_of, Fits, retired, begun, holding, holder_count, part, block, pair, in_one, in_four, in_eight, retired_prefix, begun_prefix, holdings_prefix}
 use Rattle.store_rows.proofs.KeyPrefixes.{starts_same}
 
 -- a row of a map is of this kind
@@ -54,11 +54,6 @@ holding_is plan few _ fits on = cc
 pub part_is : (plan : ℕ) → plan < 2 ^ 64 → (row : RowKey) → Fits row → starts_with nat_eq (key_of row) (plan_parts_prefix plan) ≡ true → (a : ℕ × ℕ) × (row ≡ part plan a.0 a.1)
 part_is plan few (part other revision index) fits on = ((revision, index), ap (λ (p : ℕ). part p revision index) (number_is other plan (in_four revision ++ in_one index) fits.0 few on))
 part_is plan few _ fits on = cc
-
--- ---- pieces
-pub piece_is : (number : ℕ) → number < 2 ^ 64 → (row : RowKey) → Fits row → starts_with nat_eq (key_of row) (chunk_prefix number) ≡ true → (piece : ℕ) × (row ≡ chunk number piece)
-piece_is number few (chunk other piece) fits on = (piece, ap (λ (p : ℕ). chunk p piece) (number_is other number (in_two piece) fits.0 few on))
-piece_is number few _ fits on = cc
 
 -- ---- rows of loads
 pub data IsStagedRow (load : ℕ) : RowKey → Type 0 where

@@ -1,14 +1,14 @@
 -- The first key that isn't below another, and chunks by their numbers.
 use Rattle.std.specs.{Cmp.nat_cmp_is, FinMap.{entries, get}, List.starts_with, Ordering.{nat_cmp, is_gt}, Prelude.{Result, Ok, Err}, declared.cmp.Ordering.Ordering}
 use Rattle.std.{specs.declared.cmp.Ordering.TheVariants.{Less, Equal, Greater}, proofs.lemmas.{Bool.{cases_lt, Decides.nat_tests}, List.nil_from_length}}
-use Rattle.std.proofs.Common.{zero, suc, get_or, ◌≡◌, ◌<◌, ◌≤◌, ◌^◌, ◌++◌, ℕ, List, [], ◌∷◌, Bool, true, false, nat_eq, length, take, drop, Some, None, refl, sym, ap, subst, ◌∙◌, inl, inr, arith}
+use Rattle.std.proofs.Common.{zero, suc, get_or, ◌≡◌, ◌<◌, ◌≤◌, ◌^◌, ◌++◌, ℕ, List, [], ◌∷◌, Bool, true, false, nat_eq, length, drop, Some, None, refl, sym, ap, subst, ◌∙◌, inl, inr, arith}
 use Rattle.{desk_pages.specs.Looking.Looks, page_btree.specs.{Seeking.{AreLeaves, IsFrom}, claim.Map.InTxn, declared.{error.TreeError.TreeError, seeks.Leaf.Leaf}}}
 use Rattle.{page_btree.specs.page_node.{Places.entries_from, Walking.IsAhead, claim.{Entries.Entry, Node.IsNode, Places.key_cmp}}, page_store.specs.declared.pages.Pages.Pages}
 use Rattle.{page_store.specs.{claim.Transactions.{stored, disk_in, Passed}, declared.txn.Txn.Txn}, sector_device.specs.declared.SectorDevice.Ghosts}
-use Rattle.{store_rows.specs.claim.{Keys.{key_of, Fits, chunk, in_two, in_eight, chunk_prefix}, Rows.KeyMap, Tidy.AreRows}, btree_walks.proofs.Prefixes.under_is_from}
-use Rattle.{store_sweep.specs.Finding.{IsCopiedKey, IsLeast, IsFirstFrom, IsNextChunk, IsSought}, btree_walks.proofs.Ready.no_others as no_leaves}
+use Rattle.{store_rows.specs.claim.{Keys.{key_of, Fits, chunk, in_two, chunk_prefix}, Rows.KeyMap, Tidy.AreRows}, btree_walks.proofs.Prefixes.under_is_from}
+use Rattle.{store_sweep.specs.Finding.{IsCopiedKey, IsLeast, IsFirstFrom, IsNextChunk, IsPieceKey, IsSought}, btree_walks.proofs.Ready.no_others as no_leaves}
 use Rattle.{btree_walks.proofs.RowsFound.{first_is_from, first_least, first_there}, desk_pages.proofs.Looking.{looked, not_looked}, store_rows.proofs.Frames.either_way}
-use Rattle.{store_rows.proofs.{HolderCounts.eight_says, KeyPrefixes.starts_itself, Numbers.numbers_decide, TidyParts.some_or_none}, store_sweep.proofs.Keys.{row_under, piece_is}}
+use Rattle.store_rows.proofs.{KeyPrefixes.starts_itself, Numbers.numbers_decide, TidyParts.some_or_none}
 use Rattle.page_btree.proofs.page_node.Walking.{node_ahead}
 
 -- ---- entries from a key on
@@ -86,26 +86,18 @@ module _ (m : KeyMap) where
   pub least_piece : (number : ℕ) (key : List ℕ) → AreRows m → IsLeast (chunk_prefix number) key m → IsPieceRow number key
   least_piece number key rows least = let (row, fits, same) = rows key least.value least.there in (search (arith))
 
-  -- its number stands after the tag
-  pub least_starts : (number next : ℕ) (key : List ℕ) → next < 2 ^ 64 → in_eight next ≡ take 8 (drop 1 key) → AreRows m → IsLeast (chunk_prefix number) key m → starts_with nat_eq key (chunk_prefix next) ≡ true
-  least_starts number next key few told rows least =
-      let at = least_piece number key rows least in
-      let same : next ≡ at.next = eight_says next at.next few at.fits.0 (told ∙ ap (λ (k : List ℕ). take 8 (drop 1 k)) at.key_is) in
-      subst (λ (k : List ℕ). starts_with nat_eq k (chunk_prefix next) ≡ true) (sym at.key_is) (subst (λ (n : ℕ). starts_with nat_eq (key_of (chunk at.next at.piece)) (chunk_prefix n) ≡ true) (sym same) (starts_itself (chunk_prefix at.next) (in_two at.piece)))
-
   not_below : (number next piece : ℕ) → number < 2 ^ 64 → next < 2 ^ 64 → is_gt (key_cmp (chunk_prefix number) (key_of (chunk next piece))) ≡ false → number ≤ next
   not_below number next piece fits next_fits from = search (arith, either_way, nat_tests, chunk_cmp)
 
-  pub next_some : (number next : ℕ) (key : List ℕ) → number < 2 ^ 64 → next < 2 ^ 64 → AreRows m → IsLeast (chunk_prefix number) key m → starts_with nat_eq key (chunk_prefix next) ≡ true → IsNextChunk number key m (Some next)
-  next_some number next key fits few rows least on =
-      let at = row_under (chunk next) (chunk_prefix next) (piece_is next few) m key least.value rows least.there on in (
-        not_below number next at.a fits few (subst (λ (k : List ℕ). is_gt (key_cmp (chunk_prefix number) k) ≡ false) at.key_is least.from),
-        record { piece = at.a; fits = at.fits; key_is = at.key_is },
-        λ other from below other_fits index small. some_or_none (get m (key_of (chunk other index))) (λ value there.
-            let above = least.first (key_of (chunk other index)) value there (piece_from number other index fits other_fits from) in
-            let more : is_gt (key_cmp key (key_of (chunk other index))) ≡ true = ap (λ (k : List ℕ). is_gt (key_cmp k (key_of (chunk other index)))) at.key_is ∙ ap is_gt (chunk_cmp Greater (λ e. cc) next other (in_two at.a) (in_two index) few other_fits (sym (nat_cmp_is next other Greater below))) in
-            cc),
-      )
+  pub next_some : (number next : ℕ) (key : List ℕ) → number < 2 ^ 64 → IsLeast (chunk_prefix number) key m → IsPieceKey next key → IsNextChunk number key m (Some next)
+  next_some number next key fits least is = (
+    not_below number next is.piece fits is.fits.0 (subst (λ (k : List ℕ). is_gt (key_cmp (chunk_prefix number) k) ≡ false) is.key_is least.from),
+    is,
+    λ other from below other_fits index small. some_or_none (get m (key_of (chunk other index))) (λ value there.
+        let above = least.first (key_of (chunk other index)) value there (piece_from number other index fits other_fits from) in
+        let more : is_gt (key_cmp key (key_of (chunk other index))) ≡ true = ap (λ (k : List ℕ). is_gt (key_cmp k (key_of (chunk other index)))) is.key_is ∙ ap is_gt (chunk_cmp Greater (λ e. cc) next other (in_two is.piece) (in_two index) is.fits.0 other_fits (sym (nat_cmp_is next other Greater below))) in
+        cc),
+  )
 
   pub next_none : (number : ℕ) (key : List ℕ) → number < 2 ^ 64 → IsFirstFrom (chunk_prefix number) key m false → IsNextChunk number key m None
   next_none number key fits none = λ other from below other_fits index small. some_or_none (get m (key_of (chunk other index))) (λ value there. none (key_of (chunk other index)) value there (piece_from number other index fits other_fits from))

@@ -1,10 +1,10 @@
 -- What is found under a prefix is left over.
 use Rattle.{std.specs.{FinMap.get, List.starts_with, Prelude.{Contains, Option}}, btree_walks.specs.declared.rows.Row.Row, store_rows.specs.Keys.{plan_parts_prefix, load_prefix}}
-use Rattle.{std.proofs.Common.{◌≡◌, ◌<◌, ◌^◌, ℕ, List, [], length, drop, nat_eq, true, Some, None, refl, sym, ap, subst, ◌∙◌, ◌++◌, ◌∷◌, arith}, store_rows.specs.TurnLaws.IsLetGo}
+use Rattle.{std.proofs.Common.{◌≡◌, ◌<◌, ◌^◌, ℕ, List, [], nat_eq, true, Some, None, refl, sym, ap, subst, ◌∙◌, ◌++◌, ◌∷◌, arith}, store_rows.specs.RowKeys.IsKey}
+use Rattle.store_rows.{specs.{TurnLaws.IsLetGo, claim.{Lists.{AreChunks, chunks_bytes}, Rows.{KeyMap, Has}, Tidy.{AreRows, IsNamedBy}}}, proofs.KeyPrefixes.starts_itself}
 use Rattle.store_rows.specs.claim.Keys.{RowKey, key_of, counters, retired, begun, holding, part, block, pair, chunk, in_eight, retired_prefix, begun_prefix, holdings_prefix, in_four, in_one}
-use Rattle.{store_rows.specs.claim.{Lists.{AreChunks, chunks_bytes}, Rows.{KeyMap, Has}, Tidy.{AreRows, IsNamedBy}}, store_sweep.specs.Leftovers.{IsNoLoads, IsOfLoad, IsSpared}}
 use Rattle.store_sweep.specs.Finding.{IsUnder, IsMark, IsPieceOf, IsDone, IsLeft, IsLeftKey, IsLeftHolding, HasPlanMark, HasLoadMark, HoldsNone, spared_key}
-use Rattle.{store_sweep.specs.declared.leftovers.Left.Left, store_rows.proofs.{HolderCounts.eight_says, KeyPrefixes.{after_tag, starts_itself}, RowLaws.keys_differ}}
+use Rattle.{store_sweep.specs.{Leftovers.{IsNoLoads, IsOfLoad, IsSpared}, declared.leftovers.Left.Left}, store_rows.proofs.RowLaws.keys_differ}
 use Rattle.store_sweep.proofs.Keys.{IsRowOf, row_under, retired_is, begun_is, holding_is, part_is, staged_is}
 
 abbrev pub NoneUnder : List ℕ → KeyMap → Type 0
@@ -16,13 +16,14 @@ module _ (m : KeyMap) where
       → IsRowOf (holding plan) m row.key row.value
   holding_row plan few rows row is = row_under (holding plan) (holdings_prefix plan) (holding_is plan few) m row.key row.value rows is.there is.under
 
-  pub holding_long : (plan : ℕ) → plan < 2 ^ 64 → HasPlanMark plan m → (row : Row) → IsUnder (holdings_prefix plan) row m → length row.key ≡ 17
-  holding_long plan few has row is = ap (λ (k : List ℕ). length k) (holding_row plan few has.0.rows row is).key_is
+  pub holding_told : (plan : ℕ) → plan < 2 ^ 64 → HasPlanMark plan m → (row : Row) → IsUnder (holdings_prefix plan) row m → ((p number : ℕ) → row.key ≡ key_of (holding p number) → ⊥) → ⊥
+  holding_told plan few has row is none = let at = holding_row plan few has.0.rows row is in none plan at.a at.key_is
 
-  pub holding_left : (plan : ℕ) → plan < 2 ^ 64 → HasPlanMark plan m → (row : Row) → IsUnder (holdings_prefix plan) row m → (number : ℕ) → number < 2 ^ 64 → drop 9 row.key ≡ in_eight number → IsLeftHolding m plan number
-  holding_left plan few has row is number small told =
+  pub holding_left : (plan : ℕ) → plan < 2 ^ 64 → HasPlanMark plan m → (row : Row) → IsUnder (holdings_prefix plan) row m → (p number : ℕ) → IsKey (holding p number) row.key → IsLeftHolding m plan number
+  holding_left plan few has row is p number told =
       let at = holding_row plan few has.0.rows row is in
-      let same : number ≡ at.a = eight_says number at.a small at.fits.1 (sym told ∙ ap (λ (k : List ℕ). drop 9 k) at.key_is) in
+      let rows = keys_differ (holding p number) (holding plan at.a) told.fits at.fits (sym told.is ∙ at.key_is) in
+      let same : number ≡ at.a = cc in
       let held = has.0.holdings.held plan at.a row.value at.fits at.there in
       subst (λ (n : ℕ). IsLeftHolding m plan n) (sym same) (record { fits = at.fits; mark = has.1; held = at.there ∙ ap Some held.0 })
 
@@ -70,16 +71,19 @@ module _ (m : KeyMap) where
       record { row = begun load; fits = few; key_is = refl; left = (has.1, λ place small. (no_row place 98, no_row place 112)); is_apart = refl }
 
   -- ---- marks
-  pub retired_long : AreRows m → (spared : List ℕ) (row : Row) → IsMark retired_prefix spared row m → length row.key ≡ 9
-  retired_long rows spared row is = search (arith, rows, row.key, is.there, retired_is, is.under)
+  pub retired_told : AreRows m → (spared : List ℕ) (row : Row) → IsMark retired_prefix spared row m → ((plan : ℕ) → row.key ≡ key_of (retired plan) → ⊥) → ⊥
+  retired_told rows spared row is none =
+      let at = row_under retired retired_prefix (λ of fits on. let mark = retired_is of fits on in (mark.0, mark.2)) m row.key [] rows is.there is.under in
+      none at.a at.key_is
 
-  pub begun_long : AreRows m → (spared : List ℕ) (row : Row) → IsMark begun_prefix spared row m → length row.key ≡ 9
-  begun_long rows spared row is = search (arith, rows, row.key, is.there, begun_is, is.under)
+  pub begun_told : AreRows m → (spared : List ℕ) (row : Row) → IsMark begun_prefix spared row m → ((load : ℕ) → row.key ≡ key_of (begun load) → ⊥) → ⊥
+  begun_told rows spared row is none =
+      let at = row_under begun begun_prefix (λ of fits on. let mark = begun_is of fits on in (mark.0, mark.2)) m row.key [] rows is.there is.under in
+      none at.a at.key_is
 
-  -- it stands under a tag and a number
-  pub mark_of : (tag number : ℕ) (spared : List ℕ) (row : Row) → drop 1 row.key ≡ in_eight number → IsMark (tag ∷ []) spared row m
-      → get m (tag ∷ in_eight number) ≡ Some []
-  mark_of tag number spared row told is = ap (get m) (sym (after_tag row.key tag (in_eight number) is.under told)) ∙ is.there
+  -- it stands under its row's key
+  pub mark_of : (of : RowKey) (prefix spared : List ℕ) (row : Row) → row.key ≡ key_of of → IsMark prefix spared row m → Has m of []
+  mark_of of prefix spared row told is = ap (get m) (sym told) ∙ is.there
 
   -- none without a value is left but the one that is spared
   pub no_retired : ((key : List ℕ) → starts_with nat_eq key retired_prefix ≡ true → (key ≡ key_of counters → ⊥) → get m key ≡ Some [] → ⊥) → (plan : ℕ) → plan < 2 ^ 64 → Has m (retired plan) [] → ⊥
@@ -94,9 +98,9 @@ module _ (m : KeyMap) where
   no_begun running fits none load few apart there = none (key_of (begun load)) (starts_itself begun_prefix (in_eight load)) (spared_is running load few fits apart) there
 
   -- a row of a load that isn't spared
-  pub apart_mark : (running : Option ℕ) (load : ℕ) (row : Row) → drop 1 row.key ≡ in_eight load → IsMark begun_prefix (spared_key running) row m → (left : RowKey) → IsOfLoad load left → IsSpared running left → ⊥
+  pub apart_mark : (running : Option ℕ) (load : ℕ) (row : Row) → row.key ≡ key_of (begun load) → IsMark begun_prefix (spared_key running) row m → (left : RowKey) → IsOfLoad load left → IsSpared running left → ⊥
   apart_mark None load row told is left of spared = spared
-  apart_mark (Some l) load row told is left of spared = is.apart (after_tag row.key 76 (in_eight load) is.under told ∙ ap (λ (n : ℕ). key_of (begun n)) (same_load load l left of spared))
+  apart_mark (Some l) load row told is left of spared = is.apart (told ∙ ap (λ (n : ℕ). key_of (begun n)) (same_load load l left of spared))
     where
       same_load : (a b : ℕ) (left : RowKey) → IsOfLoad a left → IsOfLoad b left → a ≡ b
       same_load a b (begun other) x y = sym x ∙ y
@@ -104,7 +108,7 @@ module _ (m : KeyMap) where
       same_load a b (pair other place) x y = sym x ∙ y
       same_load a b _ x y = absurd x
 
-  pub load_next_left : (running : Option ℕ) (load : ℕ) (row : Row) → drop 1 row.key ≡ in_eight load → IsMark begun_prefix (spared_key running) row m → (key : List ℕ) → IsLeftKey m key (IsOfLoad load) → IsLeftKey m key (λ of. IsSpared running of → ⊥)
+  pub load_next_left : (running : Option ℕ) (load : ℕ) (row : Row) → row.key ≡ key_of (begun load) → IsMark begun_prefix (spared_key running) row m → (key : List ℕ) → IsLeftKey m key (IsOfLoad load) → IsLeftKey m key (λ of. IsSpared running of → ⊥)
   load_next_left running load row told is key found = record { row = found.row; fits = found.fits; key_is = found.key_is; left = found.left; is_apart = apart_mark running load row told is found.row found.is_apart }
 
 -- a row of no load isn't spared

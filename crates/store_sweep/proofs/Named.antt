@@ -1,10 +1,10 @@
 -- What parts of revisions name.
 use Rattle.{std.specs.{FinMap.{entries, get}, List.AllByRecursion, Prelude.{All, Contains, get_or}}, btree_walks.specs.{Prefixes.under, declared.rows.Row.Row}}
-use Rattle.{std.proofs.Common.{◌≡◌, ◌<◌, ◌^◌, ◌+◌, ◌++◌, ℕ, List, [], ◌∷◌, Some, None, refl, sym, ap, subst, ◌∙◌, inl, inr, take, drop, arith}, store_rows.specs.claim.Rows.KeyMap}
-use Rattle.{std.proofs.lemmas.List.Elements.{All-contains, All-nil, All-push, All-set, Contains-get_or}, page_btree.specs.page_node.claim.Entries.Entry}
-use Rattle.store_rows.{specs.claim.{Keys.{key_of, Fits, holding, holder_count, part, in_eight}, Lists.{AreChunks, chunks_bytes}}, proofs.ListLaws.chunks_differ}
-use Rattle.store_sweep.specs.{Checks.{IsEntryNamed, IsHoldingRow, IsNewTidy, IsPartRow, IsPlansList, IsWithOne}, claim.Checks.{AreNamesHeld, IsHeldOrGone}}
-use Rattle.{btree_walks.proofs.RowsFound.{IsNextUnder, all_found, found_among}, store_rows.proofs.{HolderCounts.{eight_says, held_counted_by_holders}, OneGeography.no_value}}
+use Rattle.{std.proofs.Common.{◌≡◌, ◌+◌, ℕ, List, [], ◌∷◌, Some, None, refl, sym, ap, subst, ◌∙◌, inl, inr}, page_btree.specs.page_node.claim.Entries.Entry}
+use Rattle.{std.proofs.lemmas.List.Elements.{All-contains, All-nil, All-push, All-set, Contains-get_or}, store_rows.specs.{RowKeys.IsKey, claim.Lists.{AreChunks, chunks_bytes}}}
+use Rattle.{store_rows.specs.claim.{Keys.{key_of, Fits, holding, holder_count, part, in_eight}, Rows.KeyMap}, store_sweep.specs.claim.Checks.{AreNamesHeld, IsHeldOrGone}}
+use Rattle.{store_sweep.specs.Checks.{IsEntryNamed, IsHoldingRow, IsNewTidy, IsPartRow, IsPlansList, IsWithOne}, btree_walks.proofs.RowsFound.{IsNextUnder, all_found, found_among}}
+use Rattle.store_rows.proofs.{HolderCounts.held_counted_by_holders, ListLaws.chunks_differ, OneGeography.no_value, RowLaws.keys_differ}
 use Rattle.store_sweep.proofs.Keys.{row_under, any_holding_is, any_part_is}
 
 -- ---- rows of a tidy map
@@ -31,28 +31,27 @@ part_next m taken row is next =
     record { plan = a.0; revision = a.1; index = a.2; fits = fits; key = at.key_is; numbers = told.0; chunks = told.1; value = told.2; held = held }
 
 -- ---- what a part's row says
--- its plan
-pub plan_says : (key : List ℕ) (plan other revision index : ℕ) → plan < 2 ^ 64 → take 8 (drop 1 key) ≡ in_eight plan → Fits (part other revision index) → key ≡ key_of (part other revision index) → plan ≡ other
-plan_says key plan other revision index small told fits is = search (arith, eight_says)
-
--- the chunk of a holding
-pub number_says : (key : List ℕ) (plan number p n : ℕ) → number < 2 ^ 64 → drop 1 key ≡ in_eight plan ++ in_eight number → Fits (holding p n) → key ≡ key_of (holding p n) → number ≡ n
-number_says key plan number p n small told fits is = search (arith, eight_says)
-
 -- a holding's chunk has a count
-pub count_there : (m : KeyMap) (row : Row) (plan number : ℕ) → number < 2 ^ 64 → drop 1 row.key ≡ in_eight plan ++ in_eight number → get m (key_of (holder_count number)) ≡ None → IsHoldingRow row m → ⊥
-count_there m row plan number small told lacks is = search (arith, number_says, row.key, is.plan, is.number, is.fits, is.key, no_value, is.shared.0, is.shared.1)
+pub count_there : (m : KeyMap) (row : Row) (plan number : ℕ) → IsKey (holding plan number) row.key → get m (key_of (holder_count number)) ≡ None → IsHoldingRow row m → ⊥
+count_there m row plan number told lacks is =
+    let rows = keys_differ (holding plan number) (holding is.plan is.number) told.fits is.fits (sym told.is ∙ is.key) in
+    let same : is.number ≡ number = cc in
+    no_value is.shared.0 (sym is.shared.1 ∙ ap (λ (n : ℕ). get m (key_of (holder_count n))) same ∙ lacks)
+
+-- a part's plan
+same_plan : (key : List ℕ) (plan revision index p r i : ℕ) → IsKey (part plan revision index) key → Fits (part p r i) → key ≡ key_of (part p r i) → plan ≡ p
+same_plan key plan revision index p r i told fits is = let rows = keys_differ (part plan revision index) (part p r i) told.fits fits (sym told.is ∙ is) in cc
 
 -- its chunks
-pub entry_named : (m : KeyMap) (key value : List ℕ) (plan : ℕ) (numbers : List ℕ) → plan < 2 ^ 64 → take 8 (drop 1 key) ≡ in_eight plan → AreChunks numbers → chunks_bytes numbers ≡ value → All (IsHeldOrGone m plan) numbers → IsEntryNamed m (key, value)
-entry_named m key value plan numbers small told chunks bytes all other revision index ns fits is are says number among =
-    let same : plan ≡ other = plan_says key plan other revision index small told fits is in
+pub entry_named : (m : KeyMap) (key value : List ℕ) (plan at index_at : ℕ) (numbers : List ℕ) → IsKey (part plan at index_at) key → AreChunks numbers → chunks_bytes numbers ≡ value → All (IsHeldOrGone m plan) numbers → IsEntryNamed m (key, value)
+entry_named m key value plan at index_at numbers told chunks bytes all other revision index ns fits is are says number among =
+    let same : plan ≡ other = same_plan key plan at index_at other revision index told fits is in
     let equal : numbers ≡ ns = chunks_differ numbers ns chunks are (bytes ∙ says) in
     subst (λ (p : ℕ). IsHeldOrGone m p number) same (All-contains (IsHeldOrGone m plan) numbers number all (subst (λ (l : List ℕ). Contains l number) (sym equal) among))
 
-pub part_all : (m : KeyMap) (row : Row) (plan : ℕ) (numbers : List ℕ) → plan < 2 ^ 64 → take 8 (drop 1 row.key) ≡ in_eight plan → AreChunks numbers → chunks_bytes numbers ≡ row.value → IsPartRow row m → All (IsHeldOrGone m plan) numbers
-part_all m row plan numbers small told chunks bytes is =
-    let same : plan ≡ is.plan = plan_says row.key plan is.plan is.revision is.index small told is.fits is.key in
+pub part_all : (m : KeyMap) (row : Row) (plan revision index : ℕ) (numbers : List ℕ) → IsKey (part plan revision index) row.key → AreChunks numbers → chunks_bytes numbers ≡ row.value → IsPartRow row m → All (IsHeldOrGone m plan) numbers
+part_all m row plan revision index numbers told chunks bytes is =
+    let same : plan ≡ is.plan = same_plan row.key plan revision index is.plan is.revision is.index told is.fits is.key in
     let equal : numbers ≡ is.numbers = chunks_differ numbers is.numbers chunks is.chunks (bytes ∙ is.value) in
     λ k d less. subst (λ (p : ℕ). IsHeldOrGone m p (get_or numbers k d)) (sym same) (is.held (get_or numbers k d) (subst (λ (l : List ℕ). Contains l (get_or numbers k d)) equal (Contains-get_or numbers k d less)))
 

@@ -1,6 +1,6 @@
 -- What counts tell beside what was counted.
 use Rattle.{std.{specs.{BTreeMap.{BTreeMap, get as count_at}, FinMap.entries, List.AllByRecursion, Ordering.nat_cmp}, proofs.lemmas.Bool.cases_lt}, store_rows.proofs.Counting.few}
-use Rattle.std.proofs.Common.{◌≡◌, ◌⊎◌, ◌<◌, ◌≤◌, ◌+◌, ◌^◌, ℕ, zero, suc, List, [], ◌∷◌, Option, Some, None, refl, sym, ap, ◌∙◌, inl, inr, arith, drop, length}
+use Rattle.std.proofs.Common.{◌≡◌, ◌⊎◌, ◌<◌, ◌≤◌, ◌+◌, ◌^◌, ℕ, zero, suc, List, [], ◌∷◌, Option, Some, None, refl, sym, ap, ◌∙◌, inl, inr, arith, drop}
 use Rattle.{btree_walks.specs.Prefixes.under, page_btree.specs.page_node.claim.Entries.Entry, store_rows.specs.claim.Holders.{AreHolders, IsTallied, AreTallied, holder_count_row}}
 use Rattle.{store_rows.specs.claim.{Keys.{key_of, holder_count, in_eight}, Rows.{KeyMap, row_in, Has}}, btree_walks.proofs.RowsFound.{IsNextUnder, all_found, found_among}}
 use Rattle.{store_sweep.specs.Checks.{noted, HasCount, AreCounts, HasCounts, IsEntryTold, AreTold}, store_rows.proofs.{HolderCounts.eight_says, OneGeography.{no_value, value_is}}}
@@ -42,10 +42,8 @@ told_by counts m number value fits counted is has = by is.count is.fits is.row i
 pub not_told : (counts : BTreeMap ℕ ℕ) (m : KeyMap) (taken : List Entry) (e : Entry) → HasCounts counts m → IsNextUnder (75 ∷ []) m taken e → (IsEntryTold counts e → ⊥) → ⊥
 not_told counts m taken e has next other =
     let at = row_under holder_count (75 ∷ []) holder_count_is m e.0 e.1 has.is.tidy.rows next.there next.under in
-    let key = ap (λ (k : List ℕ). drop 1 k) at.key_is in
-    let long = ap (λ (k : List ℕ). length k) at.key_is in
     let by = told_by counts m at.a e.1 at.fits (has.counts_are at.a at.fits) (has.is.tidy.holdings.counted_by_holders at.a at.fits) at.there in
-    other (record { number = at.a; count = by.0; fits = at.fits; key = key; long = long; value = by.2; count_fits = by.1; told = by.3 })
+    other (record { number = at.a; count = by.0; fits = at.fits; key = at.key_is; value = by.2; count_fits = by.1; told = by.3 })
 
 -- ---- rows of counts, one after the other
 pub all_told : (counts : BTreeMap ℕ ℕ) (m : KeyMap) (rows : List Entry) → under (75 ∷ []) (entries m) ≡ rows
@@ -53,7 +51,7 @@ pub all_told : (counts : BTreeMap ℕ ℕ) (m : KeyMap) (rows : List Entry) → 
 all_told counts m rows whole all number value fits has =
     let key = key_of (holder_count number) in
     let is = all_found (IsEntryTold counts) key value rows all (sym (found_among m (75 ∷ []) rows key refl whole) ∙ has) in
-    (is.count, is.value, ap (count_at nat_cmp counts) (sym (eight_says is.number number is.fits fits (sym is.key))) ∙ is.told)
+    (is.count, is.value, ap (count_at nat_cmp counts) (sym (eight_says is.number number is.fits fits (ap (λ (k : List ℕ). drop 1 k) (sym is.key)))) ∙ is.told)
 
 -- ---- so chunks are counted
 pub counted_by_holders_by : (counts : BTreeMap ℕ ℕ) (m : KeyMap) → AreCounts counts m → AreTold counts m → AreTallied m

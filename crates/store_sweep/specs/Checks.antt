@@ -1,6 +1,6 @@
 -- What no promise rests on, beside claim/Checks.antt.
 use Rattle.{std.specs.{BTreeMap.{BTreeMap, Updates, get as count_at}, FinMap.get as row_at, Ordering.nat_cmp}, btree_walks.specs.declared.rows.Row.Row}
-use Rattle.std.specs.Prelude.{◌≡◌, ◌⊎◌, ◌<◌, ◌+◌, ◌^◌, ℕ, zero, suc, Bool, true, false, List, [], ◌∷◌, ◌++◌, set, drop, length, Option, Some, None, Contains}
+use Rattle.std.specs.Prelude.{◌≡◌, ◌⊎◌, ◌<◌, ◌+◌, ◌^◌, ℕ, zero, suc, Bool, true, false, List, [], ◌∷◌, ◌++◌, set, Option, Some, None, Contains}
 use Rattle.{page_btree.specs.page_node.claim.Entries.Entry, store_rows.specs.{TurnLaws.IsShared, claim.{Holders.AreHolders, Lists.{AreChunks, chunks_bytes}, Rows.{KeyMap, Has}}}}
 use Rattle.{store_rows.specs.claim.{Keys.{key_of, Fits, holding, holder_count, part, in_eight}, Tidy.Tidy}, store_sweep.specs.claim.Checks.IsHeldOrGone}
 
@@ -34,12 +34,12 @@ noted (suc more) = Some (more + 1)
 abbrev pub IsOneMore : ℕ → BTreeMap ℕ ℕ → BTreeMap ℕ ℕ → Type 0
 IsOneMore number old new = Updates nat_cmp old new number (Some (so_many (count_at nat_cmp old number) + 1))
 
--- a key tells a plan and a chunk after its tag, and the row no value; the chunk has a count, and one more was counted that holds it
+-- a holding's row without a value, of a chunk that has a count, and one more was counted that holds it
 pub record IsCounted (row : Row) (old new : BTreeMap ℕ ℕ) (m : KeyMap) : Type 0 where
   pub plan : ℕ
   pub number : ℕ
   pub fits : Fits (holding plan number)
-  pub key : drop 1 row.key ≡ in_eight plan ++ in_eight number
+  pub key : row.key ≡ key_of (holding plan number)
   pub value : row.value ≡ []
   pub shared : IsShared m number
   pub more : IsOneMore number old new
@@ -75,8 +75,7 @@ pub record IsEntryTold (counts : BTreeMap ℕ ℕ) (e : Entry) : Type 0 where
   pub number : ℕ
   pub count : ℕ
   pub fits : number < 2 ^ 64
-  pub key : drop 1 e.0 ≡ in_eight number
-  pub long : length e.0 ≡ 9
+  pub key : e.0 ≡ key_of (holder_count number)
   pub value : e.1 ≡ in_eight count
   pub count_fits : count < 2 ^ 64
   pub told : count_at nat_cmp counts number ≡ Some count

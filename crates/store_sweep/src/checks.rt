@@ -13,9 +13,10 @@ use sector_device::SectorDevice;
 use std::alloc::Global;
 use std::collections::BTreeMap;
 
-/// Checks that each chunk's count is the number of plans that hold it, and that a plan that wasn't taken away holds each chunk that a part
-/// of its revisions names. It passes over the rows of holdings, of counts and of parts once, and takes memory for a number for each chunk,
-/// and for those of one revision. An error is `Memory`, `NotAStore`, where that isn't so, `DeviceFault` or `Halted`.
+/// Checks that each chunk's count is the number of plans that hold it, and that each existing plan
+/// holds every chunk that a part of its revisions names. It passes over the rows of holdings, of
+/// counts and of parts once, and takes memory for a number for each chunk, and for those of one
+/// revision. An error is `Memory`, `NotAStore` if that is not so, `DeviceFault` or `Halted`.
 pub fn check_holdings<D: SectorDevice>(
     alloc: Global,
     txn: &Txn,

@@ -41,7 +41,8 @@ fn count_one(counts: &mut BTreeMap<u64, u64>, number: u64) -> Result<(), TreeErr
     }
 }
 
-/// Counts the plan that holds a chunk by this row. Refuses a row that tells no holding, and one of a chunk without a count.
+/// Counts the holder of a chunk by this row. Rejects a row that is no holding, and a holding of a
+/// chunk without a count.
 fn count_holder<D: SectorDevice>(
     txn: &Txn,
     pages: &mut Pages<D>,
@@ -87,7 +88,7 @@ pub(crate) fn count_holders<D: SectorDevice>(
     Err(TreeError::NotAStore)
 }
 
-/// Whether the row of a count tells what was counted.
+/// Returns whether a count's row says what was counted.
 fn is_told(row: &Row, counts: &BTreeMap<u64, u64>) -> bool
     ensures { IsTest result (IsEntryTold counts.now (row.now.key, row.now.value)) }
 {

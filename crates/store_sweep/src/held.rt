@@ -1,9 +1,10 @@
 //! Rows by their keys.
-ghost use Rattle.std.specs.Prelude.{◌≡◌, ◌<◌, ◌^◌, [], ◌++◌, true, false, None, length, take, drop, MatchOption};
+ghost use Rattle.std.specs.Prelude.{◌≡◌, ℕ, [], true, false, None, MatchOption};
 ghost use Rattle.page_store.specs.claim.Transactions.{count_of, txn_pages};
 ghost use Rattle.page_btree.specs.Tests.{IsTest};
 ghost use Rattle.desk_pages.specs.Looking.{Looks};
-ghost use Rattle.store_rows.specs.claim.Keys.{in_eight};
+ghost use Rattle.store_rows.specs.RowKeys.{IsKey};
+ghost use Rattle.store_rows.specs.claim.Keys.{holding, holder_count, key_of, part};
 ghost use Rattle.store_sweep.specs.Checks.{IsMarkedAs, IsThere};
 
 use btree_walks::Row;
@@ -11,37 +12,37 @@ use desk_pages::TreeError;
 use page_btree::{VALUE_LIMIT, get};
 use page_store::{Pages, Txn};
 use sector_device::SectorDevice;
-use store_rows::{Key, eight};
+use store_rows::{Key, RowKey};
 
-/// The plan and the chunk after the tag of a holding's key; None where they aren't 16 bytes.
+/// Returns the plan and the chunk of the holding with this key; `None` for any other key.
 pub(crate) fn holding_in(key: &[u8]) -> Option<(u64, u64)>
-    ensures { MatchOption result (length key.now ≡ 17 → ⊥)
-        (λ of. (of.0 < 2 ^ 64) × (of.1 < 2 ^ 64) × (drop 1 key.now ≡ in_eight of.0 ++ in_eight of.1)) }
+    ensures { MatchOption result ((plan number : ℕ) → key.now ≡ key_of (holding plan number) → ⊥) (λ of. IsKey (holding of.0 of.1) key.now) }
 {
-    if key.len() != 17 {
-        return None;
+    match RowKey::read(key) {
+        Some(RowKey::Holding { plan, number }) => Some((plan, number)),
+        _ => None,
     }
-    Some((eight(&key[1..9]), eight(&key[9..17])))
 }
 
-/// The chunk after the tag of a count's key; None where it isn't 8 bytes.
+/// Returns the chunk whose holders the row with this key counts; `None` for any other key.
 pub(crate) fn chunk_in(key: &[u8]) -> Option<u64>
-    ensures { MatchOption result (length key.now ≡ 9 → ⊥) (λ number. (number < 2 ^ 64) × (drop 1 key.now ≡ in_eight number)) }
+    ensures { MatchOption result ((number : ℕ) → key.now ≡ key_of (holder_count number) → ⊥) (λ number. IsKey (holder_count number) key.now) }
 {
-    if key.len() != 9 {
-        return None;
+    match RowKey::read(key) {
+        Some(RowKey::HolderCount { number }) => Some(number),
+        _ => None,
     }
-    Some(eight(&key[1..9]))
 }
 
-/// The plan after the tag of a part's key; None where that key has another length.
-pub(crate) fn plan_in(key: &[u8]) -> Option<u64>
-    ensures { MatchOption result (length key.now ≡ 14 → ⊥) (λ plan. (plan < 2 ^ 64) × (take 8 (drop 1 key.now) ≡ in_eight plan)) }
+/// Returns the plan and the index of the part with this key; `None` for any other key.
+pub(crate) fn part_in(key: &[u8]) -> Option<(u64, u8)>
+    ensures { MatchOption result ((plan revision index : ℕ) → key.now ≡ key_of (part plan revision index) → ⊥)
+        (λ of. (revision : ℕ) × IsKey (part of.0 revision of.1) key.now) }
 {
-    if key.len() != 14 {
-        return None;
+    match RowKey::read(key) {
+        Some(RowKey::Part { plan, index, .. }) => Some((plan, index)),
+        _ => None,
     }
-    Some(eight(&key[1..9]))
 }
 
 /// Whether a row has no value.
@@ -51,7 +52,7 @@ pub(crate) fn is_bare(row: &Row) -> bool
     row.value.as_slice().is_empty()
 }
 
-/// Whether a row stands under a key.
+/// Returns whether a row with this key exists.
 pub(crate) fn is_there<D: SectorDevice>(
     txn: &Txn,
     pages: &mut Pages<D>,
@@ -67,7 +68,7 @@ pub(crate) fn is_there<D: SectorDevice>(
     }
 }
 
-/// Whether a row without a value stands under a key.
+/// Returns whether a row with this key and without a value exists.
 pub(crate) fn is_marked<D: SectorDevice>(
     txn: &Txn,
     pages: &mut Pages<D>,

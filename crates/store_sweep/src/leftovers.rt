@@ -1,51 +1,53 @@
 //! Finds what is left over.
-ghost use Rattle.std.specs.Prelude.{◌≡◌, ◌<◌, ◌^◌, ℕ, length, drop, Some, MatchOption};
+ghost use Rattle.std.specs.Prelude.{◌≡◌, ◌<◌, ◌^◌, ℕ, Some, MatchOption};
 ghost use Rattle.page_store.specs.claim.Transactions.{count_of, txn_pages};
 ghost use Rattle.desk_pages.specs.Looking.{Looks};
-ghost use Rattle.store_rows.specs.claim.Keys.{in_eight};
+ghost use Rattle.store_rows.specs.claim.Keys.{begun, key_of, retired};
 ghost use Rattle.store_rows.specs.claim.Tidy.{Tidy};
 ghost use Rattle.store_sweep.specs.Leftovers.{IsNoLoads, IsOfLoad};
 ghost use Rattle.store_sweep.specs.Finding.{HasLoadMark, HasPlanMark, HoldsNone, IsLeft, IsLeftKey, IsLoadLeft, IsNextLeft, IsPlanLeft, spared_key};
 
 use crate::firsts::{first_mark, first_under};
+use crate::held::holding_in;
 use crate::pieces::first_piece;
 use btree_walks::Row;
 use desk_pages::TreeError;
 use page_store::{Pages, Txn};
 use sector_device::SectorDevice;
-use store_rows::{Key, eight, read_chunks};
+use store_rows::{Key, RowKey, read_chunks};
 
 /// What is left over.
 #[derive(Clone, Copy, Drop)]
 pub(crate) enum Left {
     /// A row that nothing needs, whose key was found.
     Row,
-    /// A chunk that a plan holds which was taken away.
+    /// A chunk that a deleted plan holds.
     Holding { plan: u64, number: u64 },
 }
 
-/// The number after the tag of a key; None where it isn't 8 bytes.
-fn number_in(key: &[u8]) -> Option<u64>
-    ensures { MatchOption result (length key.now ≡ 9 → ⊥) (λ number. drop 1 key.now ≡ in_eight number) }
+/// Returns the deleted plan whose mark has this key; `None` for any other key.
+fn retired_in(key: &[u8]) -> Option<u64>
+    ensures { MatchOption result ((plan : ℕ) → key.now ≡ key_of (retired plan) → ⊥) (λ plan. key.now ≡ key_of (retired plan)) }
 {
-    if key.len() != 9 {
-        return None;
+    match RowKey::read(key) {
+        Some(RowKey::Retired { plan }) => Some(plan),
+        _ => None,
     }
-    Some(eight(&key[1..]))
 }
 
-/// The chunk of a holding's key; None where it is no such key.
-fn chunk_in(key: &[u8]) -> Option<u64>
-    ensures { MatchOption result (length key.now ≡ 17 → ⊥) (λ number. (drop 9 key.now ≡ in_eight number) × (number < 2 ^ 64)) }
+/// Returns the begun load whose mark has this key; `None` for any other key.
+fn begun_in(key: &[u8]) -> Option<u64>
+    ensures { MatchOption result ((load : ℕ) → key.now ≡ key_of (begun load) → ⊥) (λ load. key.now ≡ key_of (begun load)) }
 {
-    if key.len() != 17 {
-        return None;
+    match RowKey::read(key) {
+        Some(RowKey::Begun { load }) => Some(load),
+        _ => None,
     }
-    Some(eight(&key[9..]))
 }
 
-/// What is left over of the parts of a plan that was taken away and holds no chunk, whose key is made that of `row`: a piece of a
-/// chunk that its first part names and that no plan holds; that part, where no such piece is left; the mark, where no part is left.
+/// Returns what is left of the parts of a deleted plan that holds no chunk, and stores its key in
+/// `row`: a piece of a chunk that its first part names and that no plan holds; that part if no such
+/// piece is left; the mark if no part is left.
 fn left_of_parts<D: SectorDevice>(
     txn: &Txn,
     pages: &mut Pages<D>,
@@ -71,7 +73,8 @@ fn left_of_parts<D: SectorDevice>(
     Ok(())
 }
 
-/// What is left over of a plan that was taken away, which has this mark: a chunk that it holds; a row, where it holds none.
+/// Returns what is left of a deleted plan with this mark: a chunk that it holds, or a row if it
+/// holds none.
 fn left_of_plan<D: SectorDevice>(
     txn: &Txn,
     pages: &mut Pages<D>,
@@ -83,10 +86,13 @@ fn left_of_plan<D: SectorDevice>(
 {
     let prefix = Key::holdings(plan);
     if first_under(txn, pages, prefix.as_slice(), row)? {
-        let Some(number) = chunk_in(row.key.as_slice()) else {
+        let Some(held) = holding_in(row.key.as_slice()) else {
             return Err(TreeError::NotAStore);
         };
-        return Ok(Left::Holding { plan, number });
+        return Ok(Left::Holding {
+            plan,
+            number: held.1,
+        });
     }
     left_of_parts(txn, pages, plan, row)?;
     Ok(Left::Row)
@@ -135,14 +141,14 @@ fn left_of_loads<D: SectorDevice>(
     if !first_mark(txn, pages, prefix.as_slice(), spared.as_slice(), row)? {
         return Ok(false);
     }
-    let Some(load) = number_in(row.key.as_slice()) else {
+    let Some(load) = begun_in(row.key.as_slice()) else {
         return Err(TreeError::NotAStore);
     };
     left_of_load(txn, pages, load, row)?;
     Ok(true)
 }
 
-/// What is left over of the first plan that was taken away, if there is one.
+/// Returns what is left of the first deleted plan, if there is one.
 fn left_of_plans<D: SectorDevice>(
     txn: &Txn,
     pages: &mut Pages<D>,
@@ -156,7 +162,7 @@ fn left_of_plans<D: SectorDevice>(
     if !first_mark(txn, pages, prefix.as_slice(), none.as_slice(), row)? {
         return Ok(None);
     }
-    let Some(plan) = number_in(row.key.as_slice()) else {
+    let Some(plan) = retired_in(row.key.as_slice()) else {
         return Err(TreeError::NotAStore);
     };
     let left = left_of_plan(txn, pages, plan, row)?;

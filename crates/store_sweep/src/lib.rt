@@ -1,17 +1,28 @@
-//! Takes leftover rows out of a store: those of deleted plans and of loads that were never sealed, a few in each commit.
+//! Removes the rows of deleted plans and of abandoned loads, at most 16 in each commit.
 //!
-//! Seen as the desk, which is the same at every moment. `sweep_step`: at most 16 leftover rows are changed or taken out in one commit, none
-//! of the load under way. Free pages never fall, and 0 comes exactly where no such row is left.
+//! # Model
 //!
-//! The check before a sweep: seen as `AreSoundHoldings`. `check_holdings`: at Ok each chunk's count is the number of plans that hold it,
-//! and a plan that wasn't deleted holds each chunk that a part of its revisions names; it reads. Tidy rows of version 2 have it.
+//! The desk, which stays the same at every moment.
+//!
+//! # Proved
+//!
+//! - `sweep_step` changes or removes at most 16 leftover rows in one commit, none of the load that
+//!   is under way. The number of free pages never falls. It returns 0 exactly if no such row is
+//!   left.
+//! - `check_holdings` reads only, and succeeds only if each chunk's count is the number of plans
+//!   that hold it and each plan holds each chunk that its revisions name (`AreSoundHoldings`). Tidy
+//!   rows of version 2 are sound.
+//!
+//! # Not proved
+//!
+//! How long a sweep takes.
 //!
 //! # Notes
 //!
-//! A sweep takes turns (`turns_are_swept`), each found anew from the marks on. Of the deleted plan with the least number it first takes out
-//! holdings, with their counts. Then it takes, of its first part, the pieces that no plan holds, the part itself, and in the end the mark.
-//! A load that was begun goes the same way. Where no mark is left, nothing else is (`swept_is_clean`). A chunk goes where it has no
-//! holder left, so a sweep goes on only where the holdings are sound.
+//! A sweep takes turns (`turns_are_swept`), and finds each from the marks of what is to be removed.
+//! Of the deleted plan with the least number it first removes the holdings, with their counts, then
+//! the first part of a revision with the pieces that no plan holds, and in the end the mark. An
+//! abandoned load goes the same way. If no mark is left, nothing else is (`swept_is_clean`).
 #![tactic(auto)]
 
 mod checks;

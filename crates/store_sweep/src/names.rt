@@ -6,13 +6,13 @@ ghost use Rattle.desk_pages.specs.Looking.{Gathers, Looks};
 ghost use Rattle.store_sweep.specs.claim.Checks.{AreNamesHeld, IsHeldOrGone};
 ghost use Rattle.store_sweep.specs.Checks.{IsEntryNamed, IsNewTidy, IsPartRow, IsPlansList, IsWithOne};
 
-use crate::held::{is_marked, plan_in};
+use crate::held::{is_marked, part_in};
 use btree_walks::{Row, Scan, row_limit};
 use desk_pages::TreeError;
 use page_store::{Pages, Txn};
 use sector_device::SectorDevice;
 use std::alloc::Global;
-use store_rows::{Key, read_chunks};
+use store_rows::{Key, PART_CHUNKS, read_chunks};
 
 /// Whether a chunk is noted at a place of a list.
 fn is_noted(known: &[u64], place: usize, number: u64) -> bool
@@ -49,15 +49,7 @@ fn go_on_with(plan: u64, holder: &mut u64, known: &mut Vec<u64>)
     *holder = plan;
 }
 
-/// The last byte of a key.
-fn last_of(key: &[u8]) -> u8 {
-    match key.last() {
-        None => 0,
-        Some(byte) => *byte,
-    }
-}
-
-/// Refuses a chunk that a plan names and doesn't hold, unless the plan was taken away.
+/// Rejects a chunk that a plan names and does not hold, unless the plan was deleted.
 fn check_name<D: SectorDevice>(
     txn: &Txn,
     pages: &mut Pages<D>,
@@ -130,19 +122,20 @@ fn check_part<D: SectorDevice>(
         → IsEntryNamed m (row.now.key, row.now.value) × All (IsHeldOrGone m holder.new) known.new.items)
         (IsPartRow row.now) txn.now pages.old pages.new result }
 {
-    let Some(plan) = plan_in(row.key.as_slice()) else {
+    let Some((plan, index)) = part_in(row.key.as_slice()) else {
         return Err(TreeError::NotAStore);
     };
     let Some(numbers) = read_chunks(row.value.as_slice()) else {
         return Err(TreeError::NotAStore);
     };
-    let first = 128 * last_of(row.key.as_slice()) as usize;
+    let first = PART_CHUNKS * index as usize;
     go_on_with(plan, holder, known);
     check_numbers(txn, pages, plan, numbers.as_slice(), first, known)
 }
 
-/// Refuses a chunk that a part of a revision names and that its plan doesn't hold, unless the plan was taken away. A chunk is looked up
-/// where the plan's revision before has another one at its place.
+/// Rejects a chunk that a part of a revision names and that its plan does not hold, unless the plan
+/// was deleted. A chunk is looked up only if the plan's revision before has another one at its
+/// place.
 pub(crate) fn check_names<D: SectorDevice>(
     alloc: Global,
     txn: &Txn,

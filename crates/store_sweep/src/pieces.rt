@@ -1,9 +1,10 @@
 //! Finds a piece that is left of some chunks.
-ghost use Rattle.std.specs.Prelude.{◌≡◌, ◌<◌, true};
+ghost use Rattle.std.specs.Prelude.{◌≡◌, ◌<◌, ℕ, true, MatchOption};
 ghost use Rattle.page_store.specs.claim.Transactions.{count_of, txn_pages};
 ghost use Rattle.desk_pages.specs.Looking.{Looks};
+ghost use Rattle.store_rows.specs.claim.Keys.{chunk, key_of};
 ghost use Rattle.store_rows.specs.claim.Tidy.{AreRows};
-ghost use Rattle.store_sweep.specs.Finding.{IsCopiedKey, IsFirstFrom, IsFirstPiece, IsGap, IsNextChunk, IsSought, IsSoughtLeft};
+ghost use Rattle.store_sweep.specs.Finding.{IsCopiedKey, IsFirstFrom, IsFirstPiece, IsGap, IsNextChunk, IsPieceKey, IsSought, IsSoughtLeft};
 
 use crate::held::is_there;
 use btree_walks::{Row, SmallBytes};
@@ -11,7 +12,7 @@ use desk_pages::TreeError;
 use page_btree::{Leaf, Lengths, PAGE_SIZE, PageBytes, bounds_in, leaf_from};
 use page_store::{Pages, Txn};
 use sector_device::SectorDevice;
-use store_rows::{Key, eight};
+use store_rows::{Key, RowKey};
 
 /// Copies the first key in the map that isn't below a key, if there is one.
 fn key_from<D: SectorDevice>(
@@ -49,6 +50,16 @@ fn copy_key(page: &PageBytes, at: usize, found: &mut SmallBytes) -> Result<bool,
     }
 }
 
+/// Returns the chunk of the piece with this key; `None` for any other key.
+fn chunk_of(key: &[u8]) -> Option<u64>
+    ensures { MatchOption result ((number piece : ℕ) → key.now ≡ key_of (chunk number piece) → ⊥) (λ number. IsPieceKey number key.now) }
+{
+    match RowKey::read(key) {
+        Some(RowKey::Chunk { number, .. }) => Some(number),
+        _ => None,
+    }
+}
+
 /// The first chunk from a number on that has a piece, whose key is copied; none where no chunk from there on has one.
 fn chunk_from<D: SectorDevice>(
     txn: &Txn,
@@ -63,14 +74,9 @@ fn chunk_from<D: SectorDevice>(
     if !key_from(txn, pages, prefix.as_slice(), &mut row.key)? {
         return Ok(None);
     }
-    let key = row.key.as_slice();
-    if key.len() < 9 {
+    let Some(next) = chunk_of(row.key.as_slice()) else {
         return Err(TreeError::NotAStore);
-    }
-    let next = eight(&key[1..9]);
-    if !key.starts_with(Key::chunk_pieces(next).as_slice()) {
-        return Err(TreeError::NotAStore);
-    }
+    };
     Ok(Some(next))
 }
 

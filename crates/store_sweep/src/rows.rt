@@ -27,8 +27,9 @@ fn is_key(bytes: &[u8]) -> bool
     bytes.len() <= KEY_LIMIT
 }
 
-/// Takes the next turn, if anything is left over: a row that nothing needs is taken out, or a plan that was taken away lets a chunk go.
-/// How many rows that changed or took out; `row` is room for one.
+/// Makes the next turn if anything is left over: removes a row that nothing needs, or ends a
+/// deleted plan's holding of a chunk. Returns the number of rows that it changed or removed; `row`
+/// is room for one.
 fn sweep_turn<D: SectorDevice>(
     txn: &mut Txn,
     pages: &mut Pages<D>,

@@ -18,10 +18,11 @@ use page_store::Pages;
 use sector_device::SectorDevice;
 use std::alloc::Global;
 
-/// Changes or takes out up to 16 rows that plans that were taken away and loads that were begun and never sealed left behind, in one
-/// commit of at most 208 pages: how many there were, 0 only where none is left. Such a plan lets the chunks go that it holds, each by two
-/// rows; a chunk's pieces are taken out once no plan holds it. `running` is the load that is under way, whose rows are spared. The desk
-/// stays as it is, and no number is used again. But for `DeviceFault` a refusal changes nothing.
+/// Changes or removes up to 16 rows that deleted plans and abandoned loads left behind, in one
+/// commit of at most 208 pages. Returns their number, 0 only if none is left. A deleted plan
+/// releases its chunks, each by two rows; a chunk's pieces are removed once no plan holds it.
+/// `running` is the load that is under way, whose rows are spared. The desk stays as it is, and no
+/// number is used again. Except for `DeviceFault` a refusal changes nothing.
 pub fn sweep_step<D: SectorDevice>(
     alloc: Global,
     pages: &mut Pages<D>,
@@ -49,8 +50,9 @@ pub fn sweep_step<D: SectorDevice>(
     Ok(count)
 }
 
-/// Checks before a sweep that each chunk's count is the number of plans that hold it, and that a plan that wasn't taken away holds each
-/// chunk that its revisions name: a sweep takes out a chunk without a count. Nothing is written.
+/// Checks before a sweep that each chunk's count is the number of plans that hold it, and that each
+/// existing plan holds every chunk that its revisions name, because a sweep removes a chunk without
+/// a count. Nothing is written.
 pub fn check_holders<D: SectorDevice>(alloc: Global, pages: &mut Pages<D>) -> Result<(), StoreError>
     ensures quiet { IsQuiet pages.old pages.new }
     ensures sound { (disk_in pages.new).is_honest → (m : KeyMap) → InPages pages.old m → OnOk result (AreSoundHoldings m) }

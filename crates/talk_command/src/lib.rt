@@ -1,10 +1,20 @@
-//! `talk`: the desk over HTTP/1.1 from a reader to a writer.
+//! The `talk` command: serves HTTP/1.1 from standard input to standard output.
 //!
-//! Seen as an exit status, and a talk of a clerk whose store keeps the sample desk, over what was read, with its stops: `talk` (`Talks`).
-//! `desks_talk`: it is a talk of desks, in which a command has its step or is refused with the desk as it was.
+//! # Model
 //!
-//! A stream at any clerk: seen as what was asked and what was told. `serve_clerk`: `Serves`, and each image opens to the desk after some of
-//! the stream's commands with every acknowledged one (`ServesDurably`). `streams_survive`: the same of whatever talk `serve` allows.
+//! An exit status, and a talk of a clerk whose store holds the sample geography.
+//!
+//! # Proved
+//!
+//! - `talk` (`Talks`): what is written is a talk over what was read. `desks_talk`: it is a talk of
+//!   desks, in which each command makes its step or is refused with the desk unchanged.
+//! - `serve_clerk`, a stream at any clerk: `Serves`, and each crash state opens to the desk after
+//!   some of the stream's commands, with every acknowledged one (`ServesDurably`).
+//!   `streams_survive`: the same for whatever talk `serve` allows.
+//!
+//! # Not proved
+//!
+//! Nothing beyond these relations is claimed.
 #![tactic(auto)]
 
 pub mod laws;

@@ -81,7 +81,7 @@ fn status_of(served: Result<Served, StreamFault>) -> Status
     }
 }
 
-/// What is told of a fault on standard error.
+/// Returns the line for standard error of a fault.
 fn fault_line(fault: StreamFault) -> &'static [u8]
     ensures { result.now ≡ line_of_fault fault }
 {

@@ -36,8 +36,8 @@ fn two_pages<R: Abort>(rt: &R, alloc: Global, byte: u8) -> PageWrites
     writes
 }
 
-/// A new store of so many sectors, with this many pages. All calls of its device pass, which could stop and are noted, so that a journal is
-/// compiled for one type of devices.
+/// A new store of `sectors` sectors with `pages` pages. All calls of its device pass and are
+/// recorded, so that a journal is compiled for one type of devices.
 fn formatted<R: Abort>(rt: &R, alloc: Global, sectors: u32, pages: u32) -> Recorder {
     let memory = MemoryDevice::new(alloc, sectors).expect(rt, "no memory");
     let mut device = Recorder::passing(memory);
@@ -91,7 +91,8 @@ fn written(journal: &mut Journal<Recorder>, writes: &PageWrites) -> (bool, bool)
     }
 }
 
-/// Writes pages where the device opens, and stops: whether it was acknowledged, whether all was as it must be, and what stands then.
+/// Writes pages if the device opens, and crashes: whether it was acknowledged, whether everything
+/// was as it must be, and what is left.
 fn stop_after<R: Abort>(
     rt: &R,
     alloc: Global,
@@ -148,7 +149,7 @@ fn read_sector<R: Abort>(rt: &R, device: &mut MemoryDevice, i: u32, sector: &mut
     device.read(i, sector).expect(rt, "not read");
 }
 
-/// A store whose gate stands open on the disk, as ten calls of opening and commit leave it.
+/// A store whose gate is open on the disk, as ten calls of opening and commit leave it.
 fn left_open<R: Abort>(rt: &R, alloc: Global, writes: &PageWrites, fill: Option<u8>) -> MemoryDevice
     requires { (n : ℕ) → 64 ≤ n → IsWithin (writes_of writes.now) n }
 {
@@ -163,7 +164,7 @@ fn left_open<R: Abort>(rt: &R, alloc: Global, writes: &PageWrites, fill: Option<
     device
 }
 
-/// Opens, stopped after so many calls.
+/// An opening that is stopped after some calls.
 fn opening_stopped<R: Abort>(
     rt: &R,
     alloc: Global,
@@ -233,7 +234,7 @@ fn too_small<R: Abort>(rt: &R, alloc: Global) {
     holds!(rt; (e == Some(PageError::NotAStore)) & device.sync().is_ok());
 }
 
-/// As many pages as the journal has are committed, and one more is refused.
+/// Commits the largest number of pages that the journal allows; one more is refused.
 fn most_pages<R: Abort>(rt: &R, alloc: Global, journal: &mut Journal<Recorder>)
     requires { 257 ≤ page_count journal.old }
 {

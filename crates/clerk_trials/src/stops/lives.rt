@@ -100,7 +100,7 @@ fn listed(reply: &Answer) -> Option<usize> {
     Some(found)
 }
 
-/// Which of the two plans are named, where a list alone was told.
+/// Returns which of the two plans are named, if only a list was answered.
 pub(crate) fn listed_alone(told: &Told) -> Option<usize> {
     let Ok(answers) = told else {
         return None;
@@ -111,10 +111,11 @@ pub(crate) fn listed_alone(told: &Told) -> Option<usize> {
     }
 }
 
-/// Which plans are there once so many of the three commands were done.
+/// The plans that exist after the first commands, by their number.
 static PLANS: [usize; 4] = [0, 1, 3, 2];
 
-/// What a life told: how many commands it acknowledged, whether each list names these plans, and whether it has swept a row.
+/// Sums up a life: the number of commands acknowledged, whether each list names these plans, and
+/// whether a row was swept.
 fn summed(told: &Told, plans: usize) -> (usize, bool, bool) {
     let answers = match told {
         Ok(told) => told.as_slice(),
@@ -135,7 +136,7 @@ fn summed(told: &Told, plans: usize) -> (usize, bool, bool) {
     (done, tells, has_swept)
 }
 
-/// What a new store is told in these lives, and what the last stop leaves.
+/// Returns what a new store answers in these lives, and what the last crash leaves.
 pub(crate) fn lived<R: Abort>(
     rt: &R,
     alloc: Global,
@@ -152,7 +153,8 @@ pub(crate) fn lived<R: Abort>(
     }
 }
 
-/// How many commands were acknowledged, which plans are there in the last life, and whether a row was swept.
+/// Returns the number of commands acknowledged, which plans exist in the last life, and whether a
+/// row was swept.
 fn found<R: Abort>(rt: &R, answers: &[Told]) -> (usize, usize, bool) {
     let [_, changed, swept, looked, last] = answers else {
         panic!(rt; "not five lives");
@@ -184,8 +186,8 @@ fn passing_in(life: usize, k: u64) -> Fuses {
     }
 }
 
-/// Tries each call of a life, the first of the lives being 0: how often what was acknowledged was there alone, how often the command in
-/// which the device failed was there too, and how often rows were swept.
+/// Tries each call of a life, the first of the lives being 0: how often exactly the acknowledged
+/// commands were done, how often the command in flight was done too, and how often rows were swept.
 fn tried_at_each<R: Abort>(
     rt: &R,
     alloc: Global,
@@ -207,9 +209,10 @@ fn tried_at_each<R: Abort>(
     (alone, more, swept)
 }
 
-/// Of a life, the first being 0, how many of its calls are tried, how often what was acknowledged is there alone, and how often rows are
-/// swept, each at least and at most. A load is done or not. Of commands those that were acknowledged are there, and at times the one in
-/// which the device failed. A sweep takes no plan.
+/// For a life, the first being 0: the number of its calls that are tried, how often exactly what
+/// was acknowledged was done, and how often rows are swept, each at least and at most. A load is
+/// done or not. Acknowledged commands are done, and sometimes the command in flight. A sweep
+/// deletes no plan.
 static TRIED: [(usize, u64, [u32; 2], [u32; 2]); 3] = [
     (0, 90, [90, 90], [90, 90]),
     (1, 150, [1, 149], [1, 150]),

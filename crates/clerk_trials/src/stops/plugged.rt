@@ -8,7 +8,8 @@ use store_lives::restarts::Restarts;
 /// How many calls pass in each of the next lives.
 pub type Fuses = [u64; 5];
 
-/// A device that lets so many calls pass in each of its lives, and refuses that call and each later one until it starts again.
+/// A device that lets a number of calls pass in each of its lives, and refuses the next call and
+/// all later ones until it starts again.
 #[derive(Drop)]
 pub struct Plugged {
     device: Fused,

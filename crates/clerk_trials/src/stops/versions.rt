@@ -25,7 +25,8 @@ fn turned_back<R: Abort>(rt: &R, alloc: Global, device: Plugged) -> Plugged {
     }
 }
 
-/// A device that lets so many calls pass in the first life after those in which it becomes a store of the old version with two plans.
+/// A device that lets a number of calls pass in the first life after those in which it becomes a
+/// store of the old version with two plans.
 fn old_store<R: Abort>(rt: &R, alloc: Global, passing: u64, byte: Option<u8>) -> Unplugged {
     let fuses = [u64::MAX, u64::MAX, passing, u64::MAX, u64::MAX];
     let (_, off) = lived(rt, alloc, fuses, byte, &MADE);
@@ -54,7 +55,7 @@ fn is_new<R: Abort>(rt: &R, first: &Led, then: &Told, again: &Led, last: &Told) 
     new
 }
 
-/// Whether the store was of the new version after a migration in which so many calls passed.
+/// Returns whether the store had the new version after a migration in which `passing` calls passed.
 fn is_new_after<R: Abort>(rt: &R, alloc: Global, passing: u64, byte: Option<u8>) -> bool {
     let off = old_store(rt, alloc, passing, byte);
     let (first, off) = led_on(alloc, off);

@@ -1,11 +1,23 @@
 -- Rows that are put one after the other in a transaction.
-use Rattle.std.specs.Prelude.{◌≡◌, ◌<◌, ◌≤◌, ◌+◌, ◌*◌, List, ◌++◌, length, true}
-use Rattle.{btree_puts.specs.page_btree.{claim.{Errors.{IsUnsound, level_in}, Map.InTxn}, declared.error.TreeError.TreeError}, page_store.specs.declared.pages.Pages.Pages}
-use Rattle.{btree_puts.specs.page_btree.declared.error.TreeError.TheVariants.{DeviceFault, NotAStore, Halted, NoPages, TooDeep, Memory}, page_store.specs.declared.txn.Txn.Txn}
-use Rattle.page_store.specs.claim.Transactions.{stored, disk_in, has_halted, txn_pages, txn_root, txn_free, txn_writes, over, HasFailed, Passed}
-use Rattle.{sector_device.specs.declared.SectorDevice.Ghosts, store_rows.specs.claim.{Puts.{Row, put_rows}, Rows.KeyMap}}
+use Rattle.std.specs.Prelude.{◌≡◌, ◌<◌, ◌≤◌, ◌+◌, ◌*◌, ℕ, List, ◌++◌, length, true}
+use Rattle.btree_puts.specs.page_btree.{claim.{Errors.{IsUnsound, level_in, reach_in, top_reach}, Map.InTxn}, declared.error.TreeError.TreeError}
+use Rattle.{btree_puts.specs.page_btree.declared.error.TreeError.TheVariants.{DeviceFault, NotAStore, Halted, NoPages, TooDeep, Memory}, page_store.specs.claim.Chain.root_in}
+use Rattle.page_store.specs.{claim.Transactions.{stored, disk_in, has_halted, txn_pages, txn_root, txn_free, txn_writes, over, HasFailed, Passed}, declared.pages.Pages.Pages}
+use Rattle.{page_store.specs.declared.txn.Txn.Txn, sector_device.specs.declared.SectorDevice.Ghosts, store_rows.specs.claim.{Puts.{Row, put_rows}, Rows.KeyMap}}
 
 module _ {D : Type 0} {g : Ghosts D} where
+  -- so many rows could bring a transaction's tree to the end of its sixth level: a row is one step of 301, and 50 of these are a level
+  abbrev pub IsNear : ℕ → Txn → Pages D g → Type 0
+  IsNear rows t old = top_reach ≤ reach_in (over t (stored old)) (txn_root t) + rows
+
+  -- and so of the stored tree
+  abbrev pub IsStoredNear : ℕ → Pages D g → Type 0
+  IsStoredNear rows ps = top_reach ≤ reach_in (stored ps) (root_in (stored ps)) + rows
+
+  -- a transaction's tree is nearer to it than another's by so many at most
+  abbrev pub Nears : ℕ → Txn → Txn → Pages D g → Type 0
+  Nears rows t u old = reach_in (over u (stored old)) (txn_root u) ≤ reach_in (over t (stored old)) (txn_root t) + rows
+
   -- the rows were put: a row writes 11 pages at most, and takes 6
   pub record HasPut (rows : List Row) (t u : Txn) (old new : Pages D g) : Type 0 where
     pub passed : Passed old new
@@ -13,6 +25,8 @@ module _ {D : Type 0} {g : Ghosts D} where
     pub put : (disk_in new).is_honest → (m : KeyMap) → InTxn t (stored old) m → InTxn u (stored old) (put_rows m rows)
     pub writes : txn_writes u ≤ txn_writes t + 11 * length rows
     pub taken : txn_free t ≤ txn_free u + 6 * length rows
+    -- a row brings the tree one nearer to a seventh level at most
+    pub nearer : (disk_in new).is_honest → (m : KeyMap) → InTxn t (stored old) m → Nears (length rows) t u old
 
   -- the tree had six levels after some of the rows
   pub record HasDeepened (rows : List Row) (t : Txn) (old : Pages D g) (m : KeyMap) : Type 0 where
@@ -29,5 +43,5 @@ module _ {D : Type 0} {g : Ghosts D} where
   PutsErr rows t old new NotAStore = IsUnsound t old new
   PutsErr rows t old new Halted = has_halted old ≡ true
   PutsErr rows t old new NoPages = txn_free t < 6 * length rows
-  PutsErr rows t old new TooDeep = (disk_in new).is_honest → (m : KeyMap) → InTxn t (stored old) m → HasDeepened rows t old m
+  PutsErr rows t old new TooDeep = (disk_in new).is_honest → (m : KeyMap) → InTxn t (stored old) m → HasDeepened rows t old m × IsNear (length rows) t old
   PutsErr rows t old new Memory = Unit {0}

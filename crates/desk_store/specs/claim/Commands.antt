@@ -2,10 +2,10 @@
 use Rattle.std.specs.Prelude.{◌≡◌, ◌⊎◌, ◌≤◌, ◌<◌, ◌+◌, ◌*◌, ℕ, true, false, length}
 use Rattle.{desk_catalogue.specs.claim.Accepting.{IsAfter, acceptance}, desk_model.specs.claim.{Desk.Desk, Outcome.{IsAcceptance, CommandMay, RefusalMay}, Step.step}}
 use Rattle.desk_model.specs.{claim.Room.{need, command_rows}, declared.{command.Command.Command, reply.{Refusal.{Refusal, TheVariants.Halted}, Reply.{Reply, TheVariants.Refused}}}}
-use Rattle.{desk_pages.specs.claim.{Commits.HoldsAfter, Desks.IsDeskMap}, desk_store.specs.claim.Clerks.{desk_of, disk_of, free_of, pages_of, room_of, HaltsByDevice, Keeps, Moves}}
-use Rattle.{desk_store.specs.declared.{clerk.Clerk.Clerk, ready.Ready.Ready}, page_btree.specs.claim.Map.InPages as HoldsRows, page_store.specs.claim.Chain.free_in}
-use Rattle.page_store.specs.{claim.Transactions.{stored, disk_in, count_of, prepared_pages, prepared_writes, after, IsQuiet}, declared.{pages.Pages.Pages, txn.Txn.Txn}}
-use Rattle.{page_store.specs.declared.txn.Prepared.Prepared as Written, plan_revisions.specs.claim.{Rows.HasNumbers, Steps.IsDeep}, store_rows.specs.claim.Rows.KeyMap}
+use Rattle.{desk_pages.specs.claim.{Commits.HoldsAfter, Desks.IsDeskMap, Puts.IsStoredNear}, desk_store.specs.declared.{clerk.Clerk.Clerk, ready.Ready.Ready}}
+use Rattle.{desk_store.specs.claim.Clerks.{desk_of, disk_of, free_of, pages_of, room_of, HaltsByDevice, Keeps, Moves}, page_btree.specs.claim.Map.InPages as HoldsRows}
+use Rattle.page_store.specs.{claim.{Chain.free_in, Transactions.{stored, disk_in, count_of, prepared_pages, prepared_writes, after, IsQuiet}}, declared.pages.Pages.Pages}
+use Rattle.{page_store.specs.declared.txn.{Prepared.Prepared as Written, Txn.Txn}, plan_revisions.specs.claim.{Rows.HasNumbers, Steps.IsDeep}, store_rows.specs.claim.Rows.KeyMap}
 use Rattle.{sector_device.specs.declared.SectorDevice.Ghosts, store_rows.specs.{claim.Tidy.{IsNext, CountersFit}, declared.value.Counters.Counters}}
 
 abbrev pub command_of : Ready → Command
@@ -33,10 +33,11 @@ module _ {D : Type 0} {g : Ghosts D} where
     pub is_next : IsNext m next
     pub none : HasNumbers (desk_of x) c next → ⊥
 
-  -- the tree had six levels in the command's transaction
+  -- the tree had six levels in the command's transaction, and the stored tree was near enough to that for the command's rows
   pub record HasDeepened (x : Clerk D g) (c : Command) : Type 0 where
     pub txn : Txn
     pub deep : IsDeep (command_rows (desk_of x) c) txn (pages_of x)
+    pub near : IsStoredNear (command_rows (desk_of x) c) (pages_of x)
 
   -- too few pages are free, or a commit may write too few
   abbrev pub IsShort : Clerk D g → Command → Type 0

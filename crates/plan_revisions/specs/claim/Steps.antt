@@ -1,10 +1,10 @@
 -- One step of the desk that a transaction reads, and why there was none.
 use Rattle.std.specs.{FinMap.remove, Prelude.{◌≡◌, ◌⊎◌, ◌<◌, ◌≤◌, ◌+◌, ◌*◌, ℕ, List, length, true}}
-use Rattle.{desk_model.specs.claim.Desk.Desk, desk_pages.specs.claim.{Desks.InTxn, Puts.HasDeepened}, page_btree.specs.claim.Map.InTxn as HasMap, store_rows.specs.claim.Puts.Row}
+use Rattle.{desk_model.specs.claim.Desk.Desk, desk_pages.specs.claim.{Desks.InTxn, Puts.{HasDeepened, IsNear}}, page_btree.specs.claim.Map.InTxn as HasMap}
 use Rattle.{page_btree.specs.declared.error.TreeError.{TreeError, TheVariants.{DeviceFault, NotAStore, Halted, NoPages, TooDeep, Memory}}, page_store.specs.declared.txn.Txn.Txn}
 use Rattle.page_store.specs.{claim.Transactions.{stored, disk_in, has_halted, txn_pages, txn_free, txn_writes, HasFailed, Passed}, declared.pages.Pages.Pages}
-use Rattle.{plan_rows.specs.{claim.Outcomes.HasExhausted, declared.change.ChangeOutcome.{ChangeOutcome, TheVariants.{Made, NumbersExhausted}}}, store_rows.specs.claim.Rows.KeyMap}
-use Rattle.{sector_device.specs.declared.SectorDevice.Ghosts, store_rows.specs.{claim.Tidy.{IsNext, CountersFit}, declared.value.Counters.Counters}}
+use Rattle.{plan_rows.specs.{claim.Outcomes.HasExhausted, declared.change.ChangeOutcome.{ChangeOutcome, TheVariants.{Made, NumbersExhausted}}}, store_rows.specs.claim.Puts.Row}
+use Rattle.{sector_device.specs.declared.SectorDevice.Ghosts, store_rows.specs.{claim.{Rows.KeyMap, Tidy.{IsNext, CountersFit}}, declared.value.Counters.Counters}}
 
 -- a map, or that without one of its rows
 abbrev pub IsLess : KeyMap → KeyMap → Type 0
@@ -30,7 +30,8 @@ module _ {D : Type 0} {g : Ghosts D} where
   IsStepped says next rows enough t u old new Made = HasStepped says next rows t u old new × LeavesNumbers enough t old new
   IsStepped says next rows enough t u old new NumbersExhausted = HasExhausted enough t u old new
 
-  -- the tree had six levels after some of the step's rows, which were put into the transaction's map, or into that without one row
+  -- the tree had six levels after some of the step's rows, which were put into the transaction's map, or into that without one row; and so
+  -- many rows could bring the transaction's tree to the end of its sixth level
   pub record IsDeep (rows : ℕ) (t : Txn) (old : Pages D g) : Type 0 where
     pub m : KeyMap
     pub holds : HasMap t (stored old) m
@@ -39,6 +40,7 @@ module _ {D : Type 0} {g : Ghosts D} where
     pub put : List Row
     pub few : length put ≤ rows
     pub deep : HasDeepened put t old less
+    pub near : IsNear rows t old
 
   -- why there was no step: the device failed; the transaction reads no such desk; too few pages were free; the tree was too deep
   abbrev pub StepErr : (Desk → Type 0) → ℕ → Txn → Pages D g → Pages D g → TreeError → Type 0

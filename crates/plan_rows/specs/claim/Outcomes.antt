@@ -1,6 +1,6 @@
 -- What became of a change of plans, and why it was refused.
 use Rattle.std.specs.{FinMap.remove, Prelude.{◌≡◌, ◌<◌, ◌≤◌, ◌+◌, ℕ, List, true}}
-use Rattle.{desk_pages.specs.claim.Puts.{HasPut, HasDeepened}, page_btree.specs.{claim.{Errors.IsUnsound, Map.InTxn}, declared.error.TreeError.TreeError}}
+use Rattle.{desk_pages.specs.claim.Puts.{HasPut, HasDeepened, IsNear}, page_btree.specs.{claim.{Errors.IsUnsound, Map.InTxn}, declared.error.TreeError.TreeError}}
 use Rattle.{page_btree.specs.declared.error.TreeError.TheVariants.{DeviceFault, NotAStore, Halted, NoPages, TooDeep, Memory}, page_store.specs.declared.pages.Pages.Pages}
 use Rattle.page_store.specs.{claim.Transactions.{stored, disk_in, has_halted, txn_pages, txn_free, txn_writes, HasFailed, Passed}, declared.txn.Txn.Txn}
 use Rattle.plan_rows.specs.{claim.PlanRows.{retired_rows, retired_map}, declared.change.ChangeOutcome.{ChangeOutcome, TheVariants.{Made, NumbersExhausted}}}
@@ -39,7 +39,7 @@ module _ {D : Type 0} {g : Ghosts D} where
   ChangeErr rows t old new Halted = has_halted old ≡ true
   ChangeErr rows t old new NoPages = txn_free t < 12
   ChangeErr rows t old new TooDeep = (disk_in new).is_honest → (m : KeyMap) → InTxn t (stored old) m
-      → (next : Counters) × CountersFit next × IsNext m next × HasDeepened (rows next) t old m
+      → (next : Counters) × CountersFit next × IsNext m next × HasDeepened (rows next) t old m × IsNear 2 t old
   ChangeErr rows t old new Memory = Unit {0}
 
   -- the plan was taken away
@@ -57,5 +57,5 @@ module _ {D : Type 0} {g : Ghosts D} where
   RetireErr name number t old new Halted = has_halted old ≡ true
   RetireErr name number t old new NoPages = txn_free t < 6
   RetireErr name number t old new TooDeep = (disk_in new).is_honest → (m : KeyMap)
-      → InTxn t (stored old) m → HasDeepened (retired_rows number) t old (remove m (key_of (named name)))
+      → InTxn t (stored old) m → HasDeepened (retired_rows number) t old (remove m (key_of (named name))) × IsNear 1 t old
   RetireErr name number t old new Memory = Unit {0}

@@ -1,6 +1,7 @@
-use Rattle.{std.{specs.{FinMap.{insert, contains_key}, Prelude.IfSome}, proofs.Common.{refl, ◌≡◌, ◌+◌, sym, subst, ◌∙◌, rules}}, btree_puts.specs.Fingers.IsPutBy}
-use Rattle.{page_btree.specs.{Errors.IsNoWant, claim.Map.InTxn, declared.error.TreeError.TheVariants.TooDeep}, page_store.specs.claim.Transactions.{stored, txn_free}}
-use Rattle.{btree_puts.proofs.Fits.{put_failed_more, put_failed_alike, by_err}, page_btree.proofs.{Editing.still_in, Outcomes.{map_ok, map_err, map_both, reads_after}}}
+use Rattle.{std.{specs.{FinMap.{insert, contains_key}, Prelude.IfSome}, proofs.Common.{refl, ◌≡◌, ◌+◌, sym, subst, ◌∙◌, rules, ◌≤◌, arith}}, btree_puts.specs.Fingers.IsPutBy}
+use Rattle.page_btree.{specs.{Errors.IsNoWant, claim.{Errors.{reach_in, top_reach}, Map.InTxn}, declared.error.TreeError.TheVariants.TooDeep}, proofs.Editing.still_in}
+use Rattle.{page_store.specs.claim.Transactions.{stored, txn_free, txn_root, over}, btree_puts.proofs.Fits.{put_failed_more, put_failed_alike, by_err}}
+use Rattle.page_btree.proofs.Outcomes.{map_ok, map_err, map_both, reads_after}
 use Rattle.btree_puts.proofs.fitting.put.Goals as goal
 
 pub returns-in-Some-clause-put : goal.returns-in-Some-clause-put
@@ -38,3 +39,37 @@ returns-in-None-clause-takes g c =
       spent = search rules;
       deep = map_err r (λ e. e ≡ TooDeep → txn_free u ≡ txn_free v + 6) (λ e. e ≡ TooDeep → txn_free t ≡ txn_free v + 6) (λ e h is. sym free ∙ h is) takes.deep;
     }
+
+-- ---- how near the tree is to a seventh level
+pub returns-in-Some-clause-rises : goal.returns-in-Some-clause-rises
+returns-in-Some-clause-rises g c = λ honest m holds stands.
+    let S = stored c.args.pages.now in
+    let t = c.args.txn.now in
+    let u = c.put_fitting.new.txn in
+    let same : reach_in (over u S) (txn_root u) ≡ reach_in (over t S) (txn_root t) = subst (λ d. IfSome d (λ _. reach_in (over u S) (txn_root u) ≡ reach_in (over t S) (txn_root t))) c.in-Some.is (c.in_ok-had.ensures.reach honest m holds stands) in
+    omega (arith, same)
+
+pub returns-in-None-clause-rises : goal.returns-in-None-clause-rises
+returns-in-None-clause-rises g c = λ honest m holds stands.
+    let S = stored c.args.pages.now in
+    let t = c.args.txn.now in
+    let u = c.put_fitting.new.txn in
+    let v = c.put_cutting.new.txn in
+    let alike = c.in_ok-had.ensures.kept c.in-None.is in
+    let same = c.put_fitting.ensures.reading.quiet.same (c.put_cutting.ensures.reading.quiet.honest honest) in
+    let reach : reach_in (over u S) (txn_root u) ≡ reach_in (over t S) (txn_root t) = λ i. reach_in (alike.over_is S i) (alike.root i) in
+    map_ok c.put_cutting.result (λ _. reach_in (over v S) (txn_root v) ≤ reach_in (over u S) (txn_root u) + 1) (λ _. reach_in (over v S) (txn_root v) ≤ reach_in (over t S) (txn_root t) + 1)
+    (λ _ more. omega (arith, reach, more))
+    (rw same at (c.put_cutting.ensures.rises honest m (rw same (still_in t u S m alike holds))))
+
+pub returns-in-None-clause-tall : goal.returns-in-None-clause-tall
+returns-in-None-clause-tall g c = λ honest m holds.
+    let S = stored c.args.pages.now in
+    let t = c.args.txn.now in
+    let u = c.put_fitting.new.txn in
+    let alike = c.in_ok-had.ensures.kept c.in-None.is in
+    let same = c.put_fitting.ensures.reading.quiet.same (c.put_cutting.ensures.reading.quiet.honest honest) in
+    let reach : reach_in (over u S) (txn_root u) ≡ reach_in (over t S) (txn_root t) = λ i. reach_in (alike.over_is S i) (alike.root i) in
+    map_err c.put_cutting.result (λ e. e ≡ TooDeep → top_reach ≤ reach_in (over u S) (txn_root u)) (λ e. e ≡ TooDeep → top_reach ≤ reach_in (over t S) (txn_root t))
+    (λ e h is. let tall = h is in omega (arith, reach, tall))
+    (rw same at (c.put_cutting.ensures.tall honest m (rw same (still_in t u S m alike holds))))

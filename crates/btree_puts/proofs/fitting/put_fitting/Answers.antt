@@ -1,7 +1,8 @@
-use Rattle.{std.{specs.{FinMap.{insert, put as put_entry}, Prelude.IfSome}, proofs.Common.{◌≡◌, ℕ, refl, sym, subst, ◌∙◌}}, btree_puts.specs.{Fingers.IsReached, Fitting.IsLeafPut}}
-use Rattle.{page_btree.specs.{Leading.CanLead, claim.Map.Holds}, page_node.specs.claim.Places.key_cmp, sector_device.specs.claim.Disk.Image, btree_puts.proofs.Leads.put_whole}
-use Rattle.{page_store.{specs.claim.Transactions.{stored, txn_pages, txn_root, over, free_over}, proofs.Stops.passed_more}, btree_puts.proofs.Fits.{reach_failed, leaf_failed}}
-use Rattle.{btree_puts.proofs.Placed.{leaf_there, other_stays, row_stands, put_at}, page_btree.proofs.{Leads.can_lead, Outcomes.{reads_ok, refused_as, refused_after}}}
+use Rattle.{std.{specs.{FinMap.{insert, put as put_entry}, Prelude.IfSome}, proofs.Common.{◌≡◌, ℕ, refl, sym, subst, ◌∙◌, ap}}, btree_puts.specs.Fingers.IsReached}
+use Rattle.{btree_puts.specs.Fitting.IsLeafPut, page_btree.specs.{Leading.CanLead, claim.{Errors.reach_in, Map.Holds}}, page_node.specs.claim.Places.key_cmp}
+use Rattle.{page_store.specs.claim.Transactions.{stored, txn_pages, txn_root, over, free_over}, sector_device.specs.claim.Disk.Image, btree_puts.proofs.Leads.put_whole}
+use Rattle.{btree_puts.proofs.{Fits.{reach_failed, leaf_failed}, Placed.{leaf_there, other_stays, row_stands, put_at}, Reach.leaf_edited}, page_btree.proofs.Leads.can_lead}
+use Rattle.{page_btree.proofs.Outcomes.{reads_ok, refused_as, refused_after}, page_store.proofs.Stops.passed_more}
 use Rattle.btree_puts.proofs.fitting.put_fitting.Goals as goal
 
 pub returns-in_err-reach_leaf-clause-reading : goal.returns-in_err-reach_leaf-clause-reading
@@ -61,3 +62,26 @@ returns-in-Some-clause-put g c = λ honest m holds stands.
       stands = row_stands n S t0 t1 root m few at_root some leaf there.0 rows there.1 done.1 done.3 (record { page = was.page; low = c.set.new.self; reach = was.reach; near = did.near }) key refl c.set.ensures root_is reached.all done.2;
       others = λ _ other differs standing. other_stays n S t0 t1 root m few at_root some leaf there.0 rows there.1 done.1 done.3 other differs c.root-root.ensures.root root_is standing;
     }
+
+pub returns-in-Some-clause-reach : goal.returns-in-Some-clause-reach
+returns-in-Some-clause-reach g c = λ honest m holds stands.
+    let S = stored c.args.pages.now in
+    let t0 = c.args.txn.now in
+    let t1 = c.put_leaf.new.txn in
+    let n = txn_pages t0 in
+    let root = c.root-root.result in
+    let key = c.args.key.now in
+    let value = c.args.value.now in
+    let was = c.reach_leaf.new.finger in
+    let leaf = was.page in
+    let did = c.in-Some.put in
+    let before = c.in_ok-put_leaf.ensures.reading.quiet.honest honest in
+    let at_root : Holds n (over t0 S) root (free_over t0 S) m = subst (λ (r : ℕ). Holds n (over t0 S) r (free_over t0 S) m) (sym c.root-root.ensures.root) holds in
+    let reached : IsReached t0 S root key was = c.in_ok-reach_leaf.ensures.reached before stands in
+    let same_stored : stored c.reach_leaf.new.pages ≡ S = c.in_ok-reach_leaf.ensures.reading.quiet.same before in
+    let put : IsLeafPut t0 t1 S leaf was.near key value did = subst (λ (T : Image). IsLeafPut t0 t1 T leaf was.near key value did) same_stored
+    (subst (λ d. IfSome d (IsLeafPut t0 t1 (stored c.reach_leaf.new.pages) leaf was.near key value)) c.in-Some.is (c.in_ok-put_leaf.ensures.put honest)) in
+    let there = leaf_there n S t0 t1 root m c.in_ok-reach_leaf.ensures.few at_root c.if-root-eq0.false key leaf reached.leads in
+    let done = put there.0 there.1 there.2 (reached.after there.0 there.1) in
+    ap (λ r. reach_in (over t1 S) r) c.in_ok-put_leaf.ensures.rooted.root
+    ∙ leaf_edited (over t0 S) (over t1 S) (txn_root t0) leaf there.0 (put_entry key_cmp key value there.0) there.1 done.1 done.3

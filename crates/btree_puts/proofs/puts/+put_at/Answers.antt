@@ -1,7 +1,7 @@
 use Rattle.{std.{specs.{FinMap.{find, put}, Prelude.{Ok, Err, is_some}}, proofs.Common.{◌≡◌, ◌-◌, ℕ, List, None, arith, rules}}, btree_puts.specs.Outcomes.IsRaisedBy}
 use Rattle.{btree_puts.specs.Putting.{IsWritten, CanPutSome}, page_btree.specs.Errors.IsNoWant, page_node.specs.claim.Places.key_cmp, page_store.proofs.Stops.passed_more}
 use Rattle.{page_store.specs.claim.Transactions.{stored, txn_pages, txn_free, over, free_over}, btree_puts.proofs.Counting.{few_none, few_some, few_taken}}
-use Rattle.btree_puts.proofs.{Failing.{step_failed, below_failed, link_failed}, FromNode.{can_some, same_length, put_none, has_node, put_some}}
+use Rattle.btree_puts.proofs.{Failing.{step_failed, below_failed, link_failed}, FromNode.{can_some, same_length, put_none, has_node, put_some, wide_none, wide_some}}
 use Rattle.btree_puts.proofs.Leaves.{leaf_rows, leaf_node, leaf_rises, leaf_off, leaf_raised}
 use Rattle.page_btree.proofs.Outcomes.{map_ok, match_of, reads_ok, reads_as, refused_as, refused_after}
 use Rattle.btree_puts.proofs.puts.+put_at.Goals as goal
@@ -111,3 +111,18 @@ returns-in_ok-cut-in-Some-clause-fixed g t c = λ honest low high tree held can 
 
 pub returns-in_ok-cut-in-Some-clause-few : goal.returns-in_ok-cut-in-Some-clause-few
 returns-in_ok-cut-in-Some-clause-few g t c = let deep = c.if-level-eq0.false in few_some c.args.level c.args.txn.now c.put_at.new.txn c.link.new.txn c.in-Some.right c.in_ok-below.below.right c.in_ok-cut-in-Some.cut (omega arith) c.in-Some.is c.in_ok-below.ensures.few c.in_ok-cut-in-Some.ensures.few
+
+-- ---- how many entries the node has
+pub returns-then-level-eq0-clause-wide : goal.returns-then-level-eq0-clause-wide
+returns-then-level-eq0-clause-wide g t c = λ honest deep. absurd (let z = c.if-level-eq0.true in omega arith)
+
+pub returns-in-None-clause-wide : goal.returns-in-None-clause-wide
+returns-in-None-clause-wide g t c = λ honest deep low high tree can.
+    wide_none c.args.txn.now c.args.pages.now c.step_down.new.pages c.args.level c.args.page c.in_ok-child.child c.args.room.now.page c.step_down.new.bytes c.args.key.now c.args.value.now c.if-level-eq0.false c.in_ok-child.ensures.few c.in_ok-child.ensures.told c.step_down.ensures.reading.quiet c.in_ok-child.ensures.reads (c.put_at.ensures.reading.quiet.honest honest) low high tree can
+    c.put_at.new.txn c.put_at.new.pages c.in_ok-below.below c.put_at.new.room.upper c.in_ok-below.ensures.put honest c.in-None.is
+
+pub returns-in_ok-cut-in-Some-clause-wide : goal.returns-in_ok-cut-in-Some-clause-wide
+returns-in_ok-cut-in-Some-clause-wide g t c = λ honest deep low high tree can.
+    let middle = c.link.ensures.reading.quiet.honest honest in
+    wide_some c.args.txn.now c.args.pages.now c.step_down.new.pages c.args.level c.args.page c.in_ok-child.child c.args.room.now.page c.step_down.new.bytes c.args.key.now c.args.value.now c.if-level-eq0.false c.in_ok-child.ensures.few c.in_ok-child.ensures.told c.step_down.ensures.reading.quiet c.in_ok-child.ensures.reads (c.put_at.ensures.reading.quiet.honest middle) low high tree can
+    c.put_at.new.txn c.put_at.new.pages c.in_ok-below.below c.put_at.new.room.upper c.in_ok-below.ensures.put middle c.link.new.txn c.in-Some.right c.in_ok-cut-in-Some.cut c.link.new.room.upper c.put_at.ensures.stays.rooted.pages c.put_at.ensures.reading.quiet (c.in_ok-cut-in-Some.ensures.linked honest) (c.in_ok-cut-in-Some.ensures.wide honest)

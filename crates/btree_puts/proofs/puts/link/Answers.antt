@@ -1,6 +1,7 @@
-use Rattle.{std.proofs.Common.{◌≡◌, sym, subst, rules}, page_node.{specs.{Entries.key_at, claim.{Entries.{Entry, child_bytes}, Node.IsNode}}, proofs.Laws.node_unique}}
-use Rattle.{page_store.specs.claim.Transactions.stored, btree_puts.proofs.Failing.{link_read_failed, link_written_failed}}
-use Rattle.page_btree.proofs.Outcomes.{reads_after, refused_as, refused_by}
+use Rattle.{std.{specs.Prelude.{IfSome, ◌<◌, ◌≤◌, length}, proofs.{Common.{◌≡◌, sym, subst, rules, ap}, lemmas.Option.IfSome_then}}, page_node.specs.Entries.key_at}
+use Rattle.{page_node.specs.claim.{Entries.{Entry, child_bytes, size_of}, Node.IsNode}, page_store.specs.claim.Transactions.stored, btree_puts.proofs.Wide.cut_wide}
+use Rattle.{btree_puts.proofs.Failing.{link_read_failed, link_written_failed}, page_btree.proofs.Outcomes.{reads_after, refused_as, refused_by, map_ok}}
+use Rattle.page_node.proofs.Laws.{node_unique}
 use Rattle.btree_puts.proofs.puts.link.Goals as goal
 
 pub returns-clause-reading : goal.returns-clause-reading
@@ -20,3 +21,12 @@ returns-in_err-read-clause-reading g c = refused_as _ c.in_err-read.ensures.read
 pub returns-in_err-read-2-clause-reading : goal.returns-in_err-read-2-clause-reading
 returns-in_err-read-2-clause-reading g c = refused_by _ c.from_residual-in_err-read-2.ensures.1 c.in_ok-read.ensures.reading.quiet
     (λ honest are node is some. c.in_err-read-2.ensures.refused node (rw (c.in_ok-read.ensures.reads honest) is))
+
+pub returns-clause-wide : goal.returns-clause-wide
+returns-clause-wide g c = λ honest node is high.
+    let before = c.settle.ensures.reading.quiet.honest honest in
+    let there : IsNode c.read.new.page node = subst (λ bytes. IsNode bytes node) (sym (c.in_ok-read.ensures.reads before)) is in
+    let four : length c.to_be_bytes.result ≡ 4 = ap length c.to_be_bytes.ensures in
+    map_ok c.settle.result (λ cut. IfSome cut (λ q. 4092 < size_of c.insert.new.self.entries)) (λ cut. IfSome cut (λ q. 51 ≤ length node.entries))
+    (λ cut over. IfSome_then cut over (λ q more. cut_wide c.read.new.page c.read-2.new.self node c.insert.new.self c.place_after-place.result c.key.result.now c.to_be_bytes.result (node_unique c.read.new.page c.read-2.new.self node c.in_ok-read-2.ensures.read there) c.insert.ensures c.key.ensures.short four there high more))
+    c.settle.ensures.over

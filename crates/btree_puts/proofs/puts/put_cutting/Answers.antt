@@ -1,7 +1,9 @@
-use Rattle.{std.{specs.Prelude.{Ok, Err, is_some}, proofs.Common.{◌≡◌, sym, ap, ◌∙◌, arith, rules}}, btree_puts.specs.{Outcomes.TakesNoPage, Putting.CanPutSome}}
-use Rattle.{page_btree.specs.Errors.IsNoWant, page_store.specs.claim.Transactions.{txn_pages, txn_root, over, free_over}, btree_puts.proofs.Counting.few_some_taken}
-use Rattle.btree_puts.proofs.{Failing.{first_failed, root_read_failed, place_failed, grow_failed}, FromRoot.{can_some, same_length, put_whole, free_then, put_grown}}
-use Rattle.{page_btree.proofs.{Outcomes.{match_of, reads_ok, refused_as, refused_after}, Tops.no_root}, page_store.proofs.Stops.passed_more}
+use Rattle.{std.{specs.Prelude.{Ok, Err, is_some, ◌≤◌}, proofs.Common.{◌≡◌, sym, ap, ◌∙◌, arith, rules, subst}}, btree_puts.specs.{Errors.GrowErr, Outcomes.TakesNoPage}}
+use Rattle.{btree_puts.specs.Putting.CanPutSome, page_btree.specs.{Errors.IsNoWant, claim.Errors.{reach_in, top_reach}, declared.error.TreeError.TheVariants.TooDeep}}
+use Rattle.{page_store.specs.claim.Transactions.{txn_pages, txn_root, over, free_over, stored}, btree_puts.proofs.{Counting.few_some_taken, Reach.first_rises}}
+use Rattle.{btree_puts.proofs.Failing.{first_failed, root_read_failed, place_failed, grow_failed}, page_btree.proofs.Tops.no_root, page_store.proofs.Stops.passed_more}
+use Rattle.btree_puts.proofs.FromRoot.{can_some, same_length, put_whole, free_then, put_grown, reach_whole, reach_grown, reach_tall}
+use Rattle.page_btree.proofs.Outcomes.{match_of, reads_ok, refused_as, refused_after, err_of}
 use Rattle.btree_puts.proofs.puts.put_cutting.Goals as goal
 
 -- ---- no root
@@ -102,3 +104,29 @@ returns-in_ok-grow-in-Some-clause-put g c = λ honest m holds.
     put_grown c.args.txn.now c.args.pages.now c.read.new.pages c.root-root.result c.level_of-level.result c.read.new.page c.args.key.now c.root-root.ensures.root c.if-root-eq0.false c.read.ensures.reading.quiet c.in_ok-read.ensures.reads c.level_of-level.ensures.level (c.put_at.ensures.reading.quiet.honest middle) m holds
     c.put_at.new.txn c.put_at.new.pages c.args.value.now c.in_ok-placed.placed c.put_at.new.room.upper c.in_ok-placed.ensures.put middle c.grow.new.txn c.in-Some.right c.in-Some.is c.put_at.ensures.stays.rooted.pages c.grow.ensures.pages c.put_at.ensures.reading.quiet
     c.in_ok-grow-in-Some.ensures.few (c.in_ok-grow-in-Some.ensures.grown honest)
+
+-- ---- how near the tree is to a seventh level
+pub returns-then-root-eq0-clause-rises : goal.returns-then-root-eq0-clause-rises
+returns-then-root-eq0-clause-rises g c = λ honest m holds.
+    let S = stored c.args.pages.now in
+    first_rises (over c.args.txn.now S) (over c.put_first.new.txn S) (txn_root c.args.txn.now) (txn_root c.put_first.new.txn) (sym c.root-root.ensures.root ∙ c.if-root-eq0.true) (c.in_ok-put_first.ensures.leaf S)
+
+pub returns-in-None-clause-rises : goal.returns-in-None-clause-rises
+returns-in-None-clause-rises g c = λ honest m holds.
+    reach_whole c.args.txn.now c.args.pages.now c.read.new.pages c.root-root.result c.level_of-level.result c.read.new.page c.args.key.now c.root-root.ensures.root c.if-root-eq0.false c.read.ensures.reading.quiet c.in_ok-read.ensures.reads c.level_of-level.ensures.level (c.put_at.ensures.reading.quiet.honest honest) m holds
+    c.put_at.new.txn c.put_at.new.pages c.args.value.now c.in_ok-placed.placed c.put_at.new.room.upper c.in_ok-placed.ensures.put honest c.in-None.is c.put_at.ensures.stays.rooted.root c.in_ok-placed.ensures.wide
+
+pub returns-in_ok-grow-in-Some-clause-rises : goal.returns-in_ok-grow-in-Some-clause-rises
+returns-in_ok-grow-in-Some-clause-rises g c = λ honest m holds.
+    let middle = c.grow.ensures.reading.quiet.honest honest in
+    reach_grown c.args.txn.now c.args.pages.now c.read.new.pages c.root-root.result c.level_of-level.result c.read.new.page c.args.key.now c.root-root.ensures.root c.if-root-eq0.false c.read.ensures.reading.quiet c.in_ok-read.ensures.reads c.level_of-level.ensures.level (c.put_at.ensures.reading.quiet.honest middle) m holds
+    c.put_at.new.txn c.put_at.new.pages c.args.value.now c.in_ok-placed.placed c.put_at.new.room.upper c.in_ok-placed.ensures.put middle c.grow.new.txn c.in-Some.right c.in-Some.is c.put_at.ensures.stays.rooted.pages c.put_at.ensures.reading.quiet (c.in_ok-grow-in-Some.ensures.grown honest) c.in_ok-placed.ensures.wide
+
+pub returns-in_err-grow-in-Some-clause-tall : goal.returns-in_err-grow-in-Some-clause-tall
+returns-in_err-grow-in-Some-clause-tall g c = λ honest m holds.
+    let middle = c.grow.ensures.reading.quiet.honest honest in
+    let S = stored c.args.pages.now in
+    let level = c.level_of-level.result in
+    err_of c.from_residual-in_err-grow-in-Some.result c.in_err-grow-in-Some.field-0.0 (λ e. e ≡ TooDeep → top_reach ≤ reach_in (over c.args.txn.now S) (txn_root c.args.txn.now)) c.from_residual-in_err-grow-in-Some.ensures.1
+    (λ deep. reach_tall c.args.txn.now c.args.pages.now c.read.new.pages c.root-root.result c.level_of-level.result c.read.new.page c.args.key.now c.root-root.ensures.root c.if-root-eq0.false c.read.ensures.reading.quiet c.in_ok-read.ensures.reads c.level_of-level.ensures.level (c.put_at.ensures.reading.quiet.honest middle) m holds
+    c.put_at.new.txn c.put_at.new.pages c.args.value.now c.in_ok-placed.placed c.put_at.new.room.upper c.in_ok-placed.ensures.put middle c.in-Some.right c.in-Some.is (subst (λ e. GrowErr level c.put_at.new.txn c.put_at.new.pages c.grow.new.pages e) deep c.in_err-grow-in-Some.ensures.reading.err) c.in_ok-placed.ensures.wide)

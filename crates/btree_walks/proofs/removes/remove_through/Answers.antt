@@ -1,5 +1,5 @@
-use Rattle.{std.proofs.Common.{◌≡◌, sym, ◌∙◌, rules}, btree_walks.specs.Removing.CanRemove, page_store.specs.claim.Transactions.{stored, txn_pages, over, free_over}}
-use Rattle.{sector_device.specs.claim.Disk.Image, btree_walks.proofs.{FromRoot.{can_there, absent, kept, emptied}, Lefts.none_there, Refusals.remove_fails}}
+use Rattle.{std.proofs.Common.{◌≡◌, sym, ◌∙◌, rules}, btree_walks.specs.Removing.CanRemove, page_store.specs.claim.Transactions.{stored, txn_pages, txn_root, over, free_over}}
+use Rattle.{sector_device.specs.claim.Disk.Image, btree_walks.proofs.{FromRoot.{can_there, absent, kept, emptied}, Lefts.{none_there, thinner_same}, Refusals.remove_fails}}
 use Rattle.{page_btree.proofs.{Outcomes.{reads_ok, refused_after}, Tops.no_root}, page_store.proofs.Stops.passed_more}
 use Rattle.btree_walks.proofs.removes.remove_through.Goals as goal
 
@@ -7,7 +7,9 @@ pub returns-then-root-eq0 : goal.returns-then-root-eq0
 returns-then-root-eq0 g c = record {
   reading = search rules;
   pages = search rules;
-  remove = λ honest m holds. search (rules, none_there _ _ _ _ m c.args.key.now holds (no_root _ _ _ _ m c.args.key.now holds (sym c.root-root.ensures.root ∙ c.if-root-eq0.true)));
+  remove = λ honest m holds.
+      let none = no_root _ _ _ _ m c.args.key.now holds (sym c.root-root.ensures.root ∙ c.if-root-eq0.true) in
+      (search (rules, none_there _ _ _ _ m c.args.key.now holds none), search (rules, none_there _ _ _ _ m c.args.key.now holds none), thinner_same (over c.args.txn.now (stored c.args.pages.now)) (txn_root c.args.txn.now));
   costs = search rules;
 }
 

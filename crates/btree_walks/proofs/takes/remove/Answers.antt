@@ -1,6 +1,6 @@
-use Rattle.{std.{specs.{FinMap.{contains_key, remove as remove_key}, Prelude.IfSome}, proofs.Common.{◌≡◌, ◌≤◌, ◌+◌, subst, arith, rules}}, page_btree.specs.claim.Map.InTxn}
-use Rattle.{page_store.specs.claim.Transactions.{stored, txn_free, txn_writes}, btree_walks.proofs.Spares.remove_failed_more, page_btree.proofs.Editing.still_in}
-use Rattle.page_btree.proofs.Outcomes.{map_ok, reads_after}
+use Rattle.{std.{specs.{FinMap.{contains_key, remove as remove_key}, Prelude.IfSome}, proofs.Common.{◌≡◌, ◌≤◌, ◌+◌, subst, arith, rules, ℕ}}, btree_walks.specs.Outcomes.IsNoNearer}
+use Rattle.{page_btree.specs.claim.Map.InTxn, page_store.specs.claim.Transactions.{stored, txn_free, txn_writes, txn_root, over}, sector_device.specs.claim.Disk.Image}
+use Rattle.{btree_walks.proofs.Spares.remove_failed_more, page_btree.proofs.{Editing.still_in, Outcomes.{map_ok, reads_after}}}
 use Rattle.btree_walks.proofs.takes.remove.Goals as goal
 
 pub returns-in-Some : goal.returns-in-Some
@@ -8,7 +8,7 @@ returns-in-Some g c = record {
   reading = search rules;
   pages = search rules;
   remove = λ honest m holds.
-      subst (λ d. IfSome d (λ had. InTxn c.take_spare.new.txn (stored c.args.pages.now) (remove_key m c.args.key.now) × (had ≡ contains_key m c.args.key.now))) c.in-Some.is (c.in_ok-had.ensures.remove honest m holds);
+      subst (λ d. IfSome d (λ had. InTxn c.take_spare.new.txn (stored c.args.pages.now) (remove_key m c.args.key.now) × (had ≡ contains_key m c.args.key.now) × IsNoNearer (over c.args.txn.now (stored c.args.pages.now)) (txn_root c.args.txn.now) (over c.take_spare.new.txn (stored c.args.pages.now)) (txn_root c.take_spare.new.txn))) c.in-Some.is (c.in_ok-had.ensures.remove honest m holds);
   costs = search rules;
 }
 
@@ -26,7 +26,12 @@ returns-in-None g c =
       pages = search rules;
       remove = λ honest m holds.
           let same = first.quiet.same (later.reading.quiet.honest honest) in
-          rw same at (later.remove honest m (rw same (still_in t u (stored c.args.pages.now) m alike holds)));
+          let S = stored c.args.pages.now in
+          let v = c.remove_through.new.txn in
+          let key = c.args.key.now in
+          map_ok c.remove_through.result (λ had. InTxn v S (remove_key m key) × (had ≡ contains_key m key) × IsNoNearer (over u S) (txn_root u) (over v S) (txn_root v)) (λ had. InTxn v S (remove_key m key) × (had ≡ contains_key m key) × IsNoNearer (over t S) (txn_root t) (over v S) (txn_root v))
+          (λ had did. (did.0, did.1, subst (λ (x : Image × ℕ). IsNoNearer x.0 x.1 (over v S) (txn_root v)) (λ i. (alike.over_is S i, alike.root i)) did.2))
+          (rw same at (later.remove honest m (rw same (still_in t u S m alike holds))));
       costs = record {
         writes = map_ok c.remove_through.result (λ _. txn_writes c.remove_through.new.txn ≤ txn_writes u + 6) (λ _. txn_writes c.remove_through.new.txn ≤ txn_writes t + 6) (λ had h. omega arith) later.costs.writes;
         given = map_ok c.remove_through.result (λ _. txn_free u ≤ txn_free c.remove_through.new.txn) (λ _. txn_free t ≤ txn_free c.remove_through.new.txn) (λ had h. omega arith) later.costs.given;

@@ -1,8 +1,8 @@
-use Rattle.std.{specs.{FinMap.{contains_key, remove as remove_key}, Prelude.{IfOk, IfSome, Some, true, false}}, proofs.Common.{◌≡◌, List, refl, sym, subst, ◌∙◌}}
-use Rattle.{btree_walks.specs.Sparing.IsLeafTaken, page_btree.specs.{Editing.IsAlike, Leading.CanLead, claim.Map.{Holds, InTxn}}, page_node.specs.claim.Entries.Entry}
-use Rattle.{page_node.specs.claim.{Node.IsNode, Places.Rises}, page_store.specs.claim.Transactions.{stored, txn_pages, txn_root, over, free_over}}
-use Rattle.{sector_device.specs.claim.Disk.Image, btree_walks.proofs.{Lefts.{can_remove, absent_same, had_none, had_after, kept_holds, holds_at}, Refusals.remove_fails}}
-use Rattle.{btree_walks.proofs.Spares.{removes_there, reads_remove, top_some, none_only, leaf_fails}, page_btree.proofs.{Editing.still_in, Leads.{can_lead, leads_leaf}}}
+use Rattle.std.{specs.{FinMap.{contains_key, remove as remove_key}, Prelude.{IfOk, IfSome, Some, true, false}}, proofs.Common.{◌≡◌, List, refl, sym, subst, ◌∙◌, ℕ, [], None}}
+use Rattle.{btree_walks.specs.{Outcomes.IsNoNearer, Sparing.IsLeafTaken}, page_btree.{specs.{Editing.IsAlike, Leading.CanLead, claim.Map.{Holds, InTxn}}, proofs.Editing.still_in}}
+use Rattle.{page_node.specs.claim.{Entries.Entry, Node.IsNode, Places.Rises}, page_store.specs.claim.Transactions.{stored, txn_pages, txn_root, over, free_over}}
+use Rattle.{sector_device.specs.claim.Disk.Image, btree_walks.proofs.Lefts.{can_remove, absent_same, had_none, had_after, kept_holds, holds_at, thinner_kept, thinner_alike}}
+use Rattle.{btree_walks.proofs.{Refusals.remove_fails, Spares.{removes_there, reads_remove, top_some, none_only, leaf_fails}}, page_btree.proofs.Leads.{can_lead, leads_leaf}}
 use Rattle.page_btree.proofs.{Outcomes.{refused_as, reads_after}, Tops.{rooted, can_get, at_root}}
 use Rattle.btree_walks.proofs.takes.take_spare.Goals as goal
 
@@ -46,17 +46,20 @@ returns-clause-remove g c = λ honest m holds.
     let root_is : txn_root t1 ≡ root = c.take_leaf.ensures.rooted.root ∙ sym c.root-root.ensures.root in
     top_some c.take_leaf.result
     (IsLeafTaken t0 t1 S leaf key)
-    (λ had. InTxn t1 S (remove_key m key) × (had ≡ contains_key m key))
+    (λ had. InTxn t1 S (remove_key m key) × (had ≡ contains_key m key) × IsNoNearer (over t0 S) (txn_root t0) (over t1 S) (txn_root t1))
     (IsAlike t0 t1)
     (λ w.
     let gone = removes_there _ S t0 t1 key true c.find_leaf.ensures.few leaf w r.level root leads can in
     let kept = kept_holds _ _ _ _ m key r _ _ at.free_are r.level gone.0 refl gone.1 in (
       holds_at _ _ _ _ _ _ _ _ _ c.take_leaf.ensures.rooted.pages refl root_is refl kept,
       sym (had_after _ _ _ _ m key r _ _ at.free_are r.level (Some gone.0) gone.1),
+      subst (λ (x : ℕ). IsNoNearer (over t0 S) x (over t1 S) (txn_root t1)) c.root-root.ensures.root
+          (thinner_kept (txn_pages t0) (over t0 S) root (free_over t0 S) m r (over t1 S) (txn_root t1) r.level [] None gone.0 refl root_is gone.1.stands.0 gone.1.stands.2 gone.2),
     ))
     (λ w alike.
     let gone = removes_there _ S t0 t1 key false c.find_leaf.ensures.few leaf w r.level root leads can in (
       still_in t0 t1 S (remove_key m key) alike (subst (λ k. InTxn t0 S k) (sym (absent_same _ _ _ _ m key r gone)) holds),
       sym (had_none _ _ _ _ m key r gone),
+      thinner_alike t0 t1 S alike,
     ))
     (subst (λ (T : Image). IfOk c.take_leaf.result (λ did. IfSome did (IsLeafTaken t0 t1 T leaf key))) same_stored (c.take_leaf.ensures.taken honest)) c.take_leaf.ensures.kept

@@ -33,7 +33,7 @@ returns-in_err-pairs-clause-err g c =
     let at = goal.at.returns-in_err-pairs-clause-err g c in
     let e = c.in_err-pairs.field-0.0 in
     err_of c.from_residual.result (tree_refusal e) (StepErr c.args.from.now c.args.pages.now c.hold_pairs.new.pages) c.from_residual.ensures.1
-    (not_taken c.args.from.now c.begin-txn.result c.args.pages.now c.hold_pairs.new.pages (begun g at.After-begin-txn) c.in_err-pairs.ensures.holds.quiet e (subst (λ (k : List ℕ). HoldErr 8 k c.begin-txn.result c.args.pages.now c.hold_pairs.new.pages e) (c.set.ensures ∙ c.as_slice.ensures.bytes) c.in_err-pairs.ensures.holds.put))
+    (not_taken c.args.from.now c.begin-txn.result c.args.pages.now c.hold_pairs.new.pages (begun g at.After-begin-txn) c.begin-txn.ensures c.in_err-pairs.ensures.holds.quiet e (subst (λ (k : List ℕ). HoldErr 8 k c.begin-txn.result c.args.pages.now c.hold_pairs.new.pages e) (c.set.ensures ∙ c.as_slice.ensures.bytes) c.in_err-pairs.ensures.holds.put))
 
 -- ---- none was left
 pub returns-then-pairs-eq0 : goal.returns-then-pairs-eq0

@@ -1,12 +1,12 @@
 use Rattle.{std.proofs.Common.{◌≡◌, ◌⊎◌, ◌≤◌, ◌+◌, ℕ, List, [], ◌∷◌, true, false, ◌∙◌, inl, inr, ⊎_elim, arith, ◌<◌, refl, sym, subst, rules}, desk_model.specs.claim.Desk.Desk}
 use Rattle.{desk_migration.specs.{Puts.{version_rows, FinishErr, HoldsAll, free_of}, claim.Holding.AllAreHeld}, desk_pages.specs.{Commits.FittingErr, Desks.{InPagesAs, InTxnAs}}}
 use Rattle.desk_pages.specs.{Errors.tree_refusal, Moments.StopsLeaveEither, claim.Desks.{IsMapOf, IsOldMap, OpensAs, OpensOld, OpensDesk, OpensEither, InPages as HoldsDesk}}
-use Rattle.{desk_pages.specs.{claim.Puts.{HasPut, PutsErr}, declared.error.StoreError.{StoreError, TheVariants.{Memory, DeviceFault, Full}}}, page_store.specs.declared.txn.Txn.Txn}
-use Rattle.{page_btree.specs.{claim.Map.{InTxn, InPages}, declared.error.TreeError.TreeError}, page_store.specs.{declared.pages.Pages.Pages, gate_journal.claim.Store.home}}
-use Rattle.{page_store.specs.claim.Transactions.{stored, disk_in, count_of, journal_of, has_halted, txn_writes, IsQuiet}, sector_device.specs.claim.Disk.Image}
-use Rattle.{sector_device.specs.{claim.Moments.LeavesOnly, declared.SectorDevice.Ghosts}, store_rows.specs.{MigrationLaws.{VersionIsTold, as_new}, claim.{Puts.Row, Rows.KeyMap}}}
-use Rattle.{store_rows.specs.claim.Keys.{key_of, version, in_four}, desk_migration.proofs.Stepped.{commit_steps, halted_steps, refused_steps}, desk_pages.proofs.Outcomes.err_of}
-use Rattle.{page_btree.proofs.Outcomes.{map_err, on_ok as if_ok}, page_store.proofs.Stops.quiet_none, sector_device.proofs.Moments.{leaves_wider, on_ok}}
+use Rattle.{desk_pages.specs.{claim.Puts.{HasPut, PutsErr}, declared.error.StoreError.{StoreError, TheVariants.{Memory, DeviceFault, Full}}}, page_store.specs.Calls.BeginsOver}
+use Rattle.{page_btree.specs.{claim.Map.{InTxn, InPages}, declared.error.TreeError.TreeError}, page_store.specs.declared.{pages.Pages.Pages, txn.Txn.Txn}}
+use Rattle.page_store.{specs.{claim.Transactions.{stored, disk_in, count_of, journal_of, has_halted, txn_writes, IsQuiet}, gate_journal.claim.Store.home}, proofs.Stops.quiet_none}
+use Rattle.{sector_device.specs.{claim.{Disk.Image, Moments.LeavesOnly}, declared.SectorDevice.Ghosts}, store_rows.specs.{MigrationLaws.{VersionIsTold, as_new}, claim.Puts.Row}}
+use Rattle.{store_rows.specs.claim.{Keys.{key_of, version, in_four}, Rows.KeyMap}, desk_migration.proofs.Stepped.{commit_steps, halted_steps, refused_steps}}
+use Rattle.{desk_pages.proofs.{Nearness.begun_near, Outcomes.err_of}, page_btree.proofs.Outcomes.{map_err, on_ok as if_ok}, sector_device.proofs.Moments.{leaves_wider, on_ok}}
 use Rattle.desk_opening.proofs.plan_rows.Committing.{IsBegun, both, commit_leaves, failed_after, quiet_leaves, begun_now}
 use Rattle.page_btree.specs.declared.error.TreeError.TheVariants as tree
 use Rattle.desk_migration.proofs.steps.put_version.Given.{Over}
@@ -59,13 +59,19 @@ module _ {D : Type 0} {g : Ghosts D} where
     version_not_committed c room honest _ why = absurd why
 
   -- ---- it wasn't
-  version_not_put : (t : Txn) (a b : Pages D g) → IsBegun a t → IsQuiet a b → ((disk_in a).is_honest → 13 ≤ free_of a) → (e : TreeError) → PutsErr version_rows t a b e → FinishErr a b (tree_refusal e)
-  version_not_put t a b start quiet room tree.DeviceFault why = (λ honest. room (quiet.honest honest), why)
-  version_not_put t a b start quiet room tree.NotAStore why = (quiet, λ honest d holds. why honest holds.m (start.reads (quiet.honest honest) holds.m holds.holds))
-  version_not_put t a b start quiet room tree.Halted why = both (has_halted a) why start.working
-  version_not_put t a b start quiet room tree.NoPages why = (quiet, inl (λ honest. let free = start.free (quiet.honest honest) in omega arith))
-  version_not_put t a b start quiet room tree.TooDeep why = (quiet, inr (λ honest m holds. (t, why honest m (start.reads (quiet.honest honest) m holds))))
-  version_not_put t a b start quiet room tree.Memory why = (quiet, λ honest. room (quiet.honest honest))
+  version_not_put : (t : Txn) (a b : Pages D g) → IsBegun a t → BeginsOver a t → IsQuiet a b → ((disk_in a).is_honest → 13 ≤ free_of a) → (e : TreeError) → PutsErr version_rows t a b e → FinishErr a b (tree_refusal e)
+  version_not_put t a b start begins quiet room tree.DeviceFault why = (λ honest. room (quiet.honest honest), why)
+  version_not_put t a b start begins quiet room tree.NotAStore why = (quiet, λ honest d holds. why honest holds.m (start.reads (quiet.honest honest) holds.m holds.holds))
+  version_not_put t a b start begins quiet room tree.Halted why = both (has_halted a) why start.working
+  version_not_put t a b start begins quiet room tree.NoPages why = (quiet, inl (λ honest. let free = start.free (quiet.honest honest) in omega arith))
+  version_not_put t a b start begins quiet room tree.TooDeep why = (
+    quiet,
+    inr (λ honest m holds.
+        let before = quiet.honest honest in
+        let deep = why honest m (start.reads before m holds) in
+        ((t, deep.0), begun_near 1 t a begins start.working before deep.1)),
+  )
+  version_not_put t a b start begins quiet room tree.Memory why = (quiet, λ honest. room (quiet.honest honest))
 
 begun : (g : Over) (c : After-begin-txn g) → IsBegun c.args.pages.now c.begin-txn.result
 begun g c = begun_now c.args.pages.now c.begin-txn.result (sym c.is_halted.ensures ∙ c.if-is_halted.false) c.begin-txn.ensures.none c.begin-txn.ensures.pages c.begin-txn.ensures.over c.begin-txn.ensures.root c.begin-txn.ensures.free
@@ -99,7 +105,7 @@ returns-in_err-put_row-clause-err g c =
     let at = goal.at.returns-in_err-put_row-clause-err g c in
     let e = c.in_err-put_row.field-0.0 in
     err_of c.from_residual.result (tree_refusal e) (FinishErr c.args.pages.now c.put_row.new.pages) c.from_residual.ensures.1
-    (version_not_put c.begin-txn.result c.args.pages.now c.put_row.new.pages (begun g at.After-begin-txn) c.in_err-put_row.ensures.puts.quiet (room_now c.args.pages.now c.free_pages.result (c.free_pages.ensures (sym c.is_halted.ensures ∙ c.if-is_halted.false)) c.if-free_pages-lt-ROW_PAGES.false) e (subst (λ (rows : List Row). PutsErr rows c.begin-txn.result c.args.pages.now c.put_row.new.pages e) (one_row c.version.result c.to_be_bytes.result c.version.ensures c.to_be_bytes.ensures) c.in_err-put_row.ensures.puts.put))
+    (version_not_put c.begin-txn.result c.args.pages.now c.put_row.new.pages (begun g at.After-begin-txn) c.begin-txn.ensures c.in_err-put_row.ensures.puts.quiet (room_now c.args.pages.now c.free_pages.result (c.free_pages.ensures (sym c.is_halted.ensures ∙ c.if-is_halted.false)) c.if-free_pages-lt-ROW_PAGES.false) e (subst (λ (rows : List Row). PutsErr rows c.begin-txn.result c.args.pages.now c.put_row.new.pages e) (one_row c.version.result c.to_be_bytes.result c.version.ensures c.to_be_bytes.ensures) c.in_err-put_row.ensures.puts.put))
 
 -- ---- the commit
 pub commit_fitting-requires-clause-working : goal.commit_fitting-requires-clause-working

@@ -22,7 +22,8 @@ returns-in-Ok-clause-put g c =
         subst (λ x. StandsIn u S x) (sym c.part.ensures.first) did.stands,
         λ some. let apart = c.part.ensures.second some in subst (λ x. StandsIn u S x) (sym apart.2) (did.others apart.0 c.turn.new.self.second apart.1 turned.1) some,
       ),
-    )) put.takes.costs.writes put.takes.costs.taken)
+    )) put.takes.costs.writes put.takes.costs.taken
+    (λ honest m holds stand. put.rises honest m holds (c.turn.ensures t S stand).0))
 
 pub returns-in-Err-clause-put : goal.returns-in-Err-clause-put
 returns-in-Err-clause-put g c =
@@ -31,4 +32,4 @@ returns-in-Err-clause-put g c =
     let b = c.put.new.pages in
     let f = c.args.fingers.now in
     subst (λ (key : List ℕ). PutsErrWith f ((key, c.args.value.now) ∷ []) t a b c.in-Err.error) c.as_slice-bytes.ensures.bytes
-    (one_not_put_with f c.turn.new.self.first (c.as_slice-bytes.result.now, c.args.value.now) t a b (λ S stand. (c.turn.ensures t S stand).0) c.in-Err.error c.in-Err.ensures.reading.err)
+    (one_not_put_with f c.turn.new.self.first (c.as_slice-bytes.result.now, c.args.value.now) t a b (λ S stand. (c.turn.ensures t S stand).0) c.in-Err.error c.in-Err.ensures.tall c.in-Err.ensures.reading.err)

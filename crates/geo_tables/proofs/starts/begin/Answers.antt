@@ -11,5 +11,7 @@ returns g c =
       journal = omega arith;
       free = omega arith;
       count = λ honest. sym (free_count c.begin.result (stored c.args.pages.now)) ∙ ap (λ l. length l) (c.begin.ensures.free working honest);
+      same = λ honest i q. c.begin.ensures.over q i;
+      root = λ honest. c.begin.ensures.root working honest;
       reads = λ honest. reads_rows c.args.pages.now c.begin.result c.begin.ensures.pages c.begin.ensures.over (c.begin.ensures.root working honest) (c.begin.ensures.free working honest);
     }

@@ -9,7 +9,7 @@ use Rattle.plan_rows.proofs.changes.create_plan.Goals as goal
 -- The numbers are read, and then rows are put.
 module _ {D : Type 0} {g : Ghosts D} where
   nothing_put : (t : Txn) (a b : Pages D g) → Passed a b → HasPut [] t t a b
-  nothing_put t a b passed = search arith
+  nothing_put t a b passed = record { passed = passed; pages = refl; put = λ honest m holds. holds; writes = omega arith; taken = omega arith; nearer = λ honest m holds. omega arith }
 
   -- the numbers are still those of the first pages
   told_then : (next : Counters) (t : Txn) (a b c : Pages D g) → IsQuiet b c → CountersFit next → ((disk_in b).is_honest → (m : KeyMap) → InTxn t (stored a) m → IsNext m next) → AreNext next t a c
@@ -24,7 +24,7 @@ module _ {D : Type 0} {g : Ghosts D} where
   numbers_not_read rows t a b e why = search (arith, why)
 
   not_changed : (rows : Counters → List Row) (next : Counters) (t : Txn) (a c : Pages D g) (e : TreeError) → length (rows next) ≡ 2 → AreNext next t a c → PutsErr (rows next) t a c e → ChangeErr rows t a c e
-  not_changed rows next t a c TooDeep two are why = λ honest m holds. (next, are.fit, are.told honest m holds, why honest m holds)
+  not_changed rows next t a c TooDeep two are why = λ honest m holds. let both = why honest m holds in let near = both.1 in (next, are.fit, are.told honest m holds, both.0, omega (arith, two, near))
   not_changed rows next t a c _ two are why = search arith
 
   numbered_not_put : (rows : Counters → List Row) (next : Counters) (t : Txn) (a b c : Pages D g) (e : TreeError) → length (rows next) ≡ 2 → Passed a b → CountersFit next → ((disk_in b).is_honest → (m : KeyMap) → InTxn t (stored a) m → IsNext m next) → IsQuiet b c → PutsErr (rows next) t b c e → ChangeErr rows t a c e

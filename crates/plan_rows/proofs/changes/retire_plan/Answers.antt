@@ -1,14 +1,15 @@
-use Rattle.{std.{specs.FinMap.remove, proofs.Common.{◌≡◌, ◌≤◌, ◌+◌, ℕ, List, [], refl, ◌∙◌, arith, ◌∷◌, rules, sym}}, desk_pages.specs.claim.Puts.{HasPut, PutsErr}}
-use Rattle.{page_btree.specs.{claim.{Errors.RemoveErr, Map.InTxn}, declared.error.TreeError.{TreeError, TheVariants.{NotAStore, TooDeep}}}, page_store.specs.declared.txn.Txn.Txn}
-use Rattle.page_store.specs.{claim.Transactions.{stored, disk_in, txn_pages, txn_free, txn_writes, IsQuiet, Passed}, declared.pages.Pages.Pages}
-use Rattle.{plan_rows.specs.claim.{Outcomes.{HasRetired, RetireErr}, PlanRows.retired_rows}, sector_device.specs.declared.SectorDevice.Ghosts, store_rows.specs.claim.Rows.KeyMap}
-use Rattle.{store_rows.specs.claim.Keys.{key_of, named, retired}, desk_pages.proofs.{Outcomes.match_of, Writing.puts_as}, page_store.proofs.Stops.{passed_more, failed_more}}
-use Rattle.plan_rows.proofs.{Changed.deep_after, Writing.{after_reads, until_full, writes_as}}
+use Rattle.{std.{specs.FinMap.remove, proofs.Common.{◌≡◌, ◌≤◌, ◌+◌, ℕ, List, [], refl, ◌∙◌, arith, ◌∷◌, rules, sym}}, btree_walks.specs.Outcomes.IsNoNearer}
+use Rattle.{desk_pages.{specs.claim.Puts.{HasPut, PutsErr}, proofs.Outcomes.match_of}, page_btree.specs.{claim.{Errors.RemoveErr, Map.InTxn}, declared.error.TreeError.TreeError}}
+use Rattle.{page_btree.specs.declared.error.TreeError.TheVariants.{NotAStore, TooDeep}, page_store.specs.declared.{pages.Pages.Pages, txn.Txn.Txn}}
+use Rattle.{page_store.specs.claim.Transactions.{stored, disk_in, txn_pages, txn_root, txn_free, txn_writes, over, IsQuiet, Passed}, plan_rows.specs.claim.PlanRows.retired_rows}
+use Rattle.{plan_rows.specs.claim.Outcomes.{HasRetired, RetireErr}, sector_device.specs.declared.SectorDevice.Ghosts, store_rows.specs.claim.Keys.{key_of, named, retired}}
+use Rattle.{store_rows.specs.claim.Rows.KeyMap, desk_pages.proofs.Writing.puts_as, page_store.proofs.Stops.{passed_more, failed_more}}
+use Rattle.plan_rows.proofs.{Changed.{deep_after, near_before}, Writing.{after_reads, until_full, writes_as}}
 use Rattle.plan_rows.proofs.changes.retire_plan.Goals as goal
 
 -- A plan's row is removed, and then its number is marked.
 module _ {D : Type 0} {g : Ghosts D} (name : List ℕ) (number : ℕ) (t u : Txn) (a b c : Pages D g) (passed : Passed a b)
-    (removed : (disk_in b).is_honest → (m : KeyMap) → InTxn t (stored a) m → InTxn u (stored a) (remove m (key_of (named name)))) where
+    (removed : (disk_in b).is_honest → (m : KeyMap) → InTxn t (stored a) m → InTxn u (stored a) (remove m (key_of (named name)))) (thin : (disk_in b).is_honest → (m : KeyMap) → InTxn t (stored a) m → IsNoNearer (over t (stored a)) (txn_root t) (over u (stored a)) (txn_root u)) where
   -- what the transaction reads between the two
   half_way : (disk_in b).is_honest → (m : KeyMap) → InTxn t (stored a) m → InTxn u (stored b) (remove m (key_of (named name)))
   half_way honest m holds = rw (passed.quiet.same honest) (removed honest m holds)
@@ -29,7 +30,11 @@ module _ {D : Type 0} {g : Ghosts D} (name : List ℕ) (number : ℕ) (t u : Txn
   plan_not_gone TooDeep given quiet why = λ honest m holds.
       let n = remove m (key_of (named name)) in
       let before = quiet.honest honest in
-      deep_after [] (retired_rows number) t u a b n n (passed.quiet.same before) refl (why honest n (half_way before m holds))
+      let both = why honest n (half_way before m holds) in
+      let less = thin before m holds in (
+        deep_after [] (retired_rows number) t u a b n n (passed.quiet.same before) refl both.0,
+        near_before 0 1 t u a b (passed.quiet.same before) (omega (arith, less)) both.1,
+      )
   plan_not_gone _ given quiet why = search (arith, failed_more)
 
 -- the plan's row isn't removed
@@ -53,6 +58,7 @@ returns g c =
     let did = c.in_ok-remove.ensures in
     let key_is : c.as_slice.result.now ≡ key_of (named name) = c.as_slice.ensures.bytes ∙ c.named-key.ensures in
     let removed = λ (honest : (disk_in b).is_honest) (m : KeyMap) (holds : InTxn t (stored a) m). rw key_is at (did.remove honest m holds).0 in
+    let thin = λ (honest : (disk_in b).is_honest) (m : KeyMap) (holds : InTxn t (stored a) m). (did.remove honest m holds).2 in
     until_full (writes_as c.put_row.result (after_reads c.put_row.result did.reading.quiet (puts_as (λ i. (c.retired.ensures i, []) ∷ []) c.put_row.ensures.puts))
-    (λ _ put. plan_gone name number t u a b d did.reading.passed removed c.put_row.new.txn did.pages did.costs.writes did.costs.given put)
-    (λ e why. plan_not_gone name number t u a b d did.reading.passed removed e did.costs.given why.0 why.1)) (search rules)
+    (λ _ put. plan_gone name number t u a b d did.reading.passed removed thin c.put_row.new.txn did.pages did.costs.writes did.costs.given put)
+    (λ e why. plan_not_gone name number t u a b d did.reading.passed removed thin e did.costs.given why.0 why.1)) (search rules)

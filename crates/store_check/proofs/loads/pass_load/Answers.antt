@@ -19,4 +19,4 @@ returns-in_err-refuse_unknown-in-Some-clause-looks g c =
 pub returns-in_ok-refuse_unknown-in-Some-clause-looks : goal.returns-in_ok-refuse_unknown-in-Some-clause-looks
 returns-in_ok-refuse_unknown-in-Some-clause-looks g c = finds (both c.in_ok-found.ensures c.in_ok-refuse_unknown-in-Some.ensures) (λ m is stands before.
     let (first, more, next, under) = subst (λ (k : List ℕ). IsNextLoad k m (Some c.in-Some.load)) c.as_slice.ensures.bytes (subst (λ (o : Option ℕ). IsNextLoad c.as_slice.result.now m o) c.in-Some.is is.0) in
-    subst (λ (k : List ℕ). ComesBefore true c.args.from.now k m) (sym (c.set.ensures ∙ c.key_after.ensures)) (goes_on m c.args.from.now first more next c.in-Some.load under (is.1 stands) before))
+    subst (λ (k : List ℕ). ComesBefore true c.args.from.now k m) (sym (c.set.ensures ∙ c.as_slice-in-Some.ensures.bytes ∙ c.key_after.ensures)) (goes_on m c.args.from.now first more next c.in-Some.load under (is.1 stands) before))

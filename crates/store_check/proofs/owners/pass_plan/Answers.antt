@@ -17,11 +17,11 @@ returns-in_err-last-in-Some-clause-looks g c =
     first_owned c.args.counts.now m c.as_slice.result.now first more is c.in-Some.plan c.in-Some.revision of has.owned)
 
 pub returns-in_ok-last-in-Some-clause-under : goal.returns-in_ok-last-in-Some-clause-under
-returns-in_ok-last-in-Some-clause-under g c = subst IsUnderParts (sym (c.set.ensures ∙ c.key_after.ensures.is)) (starts_after c.in-Some.plan c.in_ok-last-in-Some.last)
+returns-in_ok-last-in-Some-clause-under g c = subst IsUnderParts (sym (c.set.ensures ∙ c.as_slice-in-Some.ensures.bytes ∙ c.key_after.ensures.is)) (starts_after c.in-Some.plan c.in_ok-last-in-Some.last)
 
 pub returns-in_ok-last-in-Some-clause-looks : goal.returns-in_ok-last-in-Some-clause-looks
 returns-in_ok-last-in-Some-clause-looks g c = finds (both c.in_ok-found.ensures c.in_ok-last-in-Some.ensures) (λ m found before.
     let counts = c.args.counts.now in
     let (first, more, is, of) = subst (λ (k : List ℕ). IsNextPart k m (Some (c.in-Some.plan, c.in-Some.revision))) c.as_slice.ensures.bytes (subst (λ (o : Option (ℕ × ℕ)). IsNextPart c.as_slice.result.now m o) c.in-Some.is found.0) in
-    subst (λ (k : List ℕ). Passes true counts c.args.from.now k m) (sym (c.set.ensures ∙ c.key_after.ensures.is))
+    subst (λ (k : List ℕ). Passes true counts c.args.from.now k m) (sym (c.set.ensures ∙ c.as_slice-in-Some.ensures.bytes ∙ c.key_after.ensures.is))
     (passes_on counts m c.args.from.now first more is c.in-Some.plan c.in-Some.revision of c.in_ok-last-in-Some.last c.key_after.ensures.fits found.1 before))

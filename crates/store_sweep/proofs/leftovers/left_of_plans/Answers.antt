@@ -1,5 +1,5 @@
-use Rattle.{std.proofs.Common.{ℕ, List, drop, length, ap, sym, ◌∙◌}, desk_pages.proofs.Looking.{both, fails, fails_then, finds, refuses}}
-use Rattle.store_sweep.proofs.Left.{mark_of, retired_long, no_retired}
+use Rattle.{std.proofs.Common.{sym, ◌∙◌}, store_rows.specs.claim.Keys.retired, desk_pages.proofs.Looking.{both, fails, fails_then, finds, refuses}}
+use Rattle.store_sweep.proofs.Left.{mark_of, retired_told, no_retired}
 use Rattle.store_sweep.proofs.leftovers.left_of_plans.Goals as goal
 
 pub returns-in_err-first_mark : goal.returns-in_err-first_mark
@@ -11,16 +11,16 @@ returns-then-not-branch g c = finds c.in_ok-first_mark.ensures (λ m found tidy.
 
 pub returns-in_default : goal.returns-in_default
 returns-in_default g c =
-    refuses c.in_ok-first_mark.ensures (λ m found tidy. c.in_default.ensures (ap (λ (k : List ℕ). length k) c.as_slice-3.ensures.bytes
-    ∙ retired_long m tidy.rows _ _ (rw (c.as_slice.ensures.bytes, c.all_retired-prefix.ensures, c.if-not-branch.false) at found)))
+    refuses c.in_ok-first_mark.ensures (λ m found tidy. retired_told m tidy.rows _ _ (rw (c.as_slice.ensures.bytes, c.all_retired-prefix.ensures, c.if-not-branch.false) at found)
+    (λ plan is. c.in_default.ensures plan (c.as_slice-3.ensures.bytes ∙ is)))
 
 pub returns-in_err-left : goal.returns-in_err-left
 returns-in_err-left g c = fails_then c.in_ok-first_mark.ensures c.from_residual-in_err-left.result c.in_err-left.ensures c.from_residual-in_err-left.ensures.1 (λ m found tidy.
-    let told = ap (λ (k : List ℕ). drop 1 k) (sym c.as_slice-3.ensures.bytes) ∙ c.in-Some.ensures in
-    (tidy, mark_of m 68 c.in-Some.plan _ _ told (rw (c.as_slice.ensures.bytes, c.all_retired-prefix.ensures, c.if-not-branch.false) at found)))
+    let told = sym c.as_slice-3.ensures.bytes ∙ c.in-Some.ensures in
+    (tidy, mark_of m (retired c.in-Some.plan) _ _ _ told (rw (c.as_slice.ensures.bytes, c.all_retired-prefix.ensures, c.if-not-branch.false) at found)))
 
 pub returns : goal.returns
 returns g c = finds (both c.in_ok-first_mark.ensures c.in_ok-left.ensures) (λ m found tidy.
-    let told = ap (λ (k : List ℕ). drop 1 k) (sym c.as_slice-3.ensures.bytes) ∙ c.in-Some.ensures in
+    let told = sym c.as_slice-3.ensures.bytes ∙ c.in-Some.ensures in
     let is = rw (c.as_slice.ensures.bytes, c.all_retired-prefix.ensures, c.if-not-branch.false) at found.0 in
-    found.1 (tidy, mark_of m 68 c.in-Some.plan _ _ told is))
+    found.1 (tidy, mark_of m (retired c.in-Some.plan) _ _ _ told is))
