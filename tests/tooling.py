@@ -1,5 +1,5 @@
-"""For tests/desks, tests/exports, tests/units, tests/clients, tests/browser and tests/proxy: runs of the tools over a desk that is
-served for as long as a test lasts, and what their pages have.
+"""Runs of the tools and of the clients over a desk that is served for as long as a test lasts, what their pages have, and an address at
+which something answers that is no desk: for the scripts that try what asks a desk.
 """
 import contextlib, html, http.server, os, re, subprocess, threading
 

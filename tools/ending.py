@@ -1,6 +1,7 @@
 """For the tools: how one ends, by what it says or by its fault."""
 import sys
 
+import streams  # (before anything is read or printed)
 from audit import Refused, put
 from faults import tell
 

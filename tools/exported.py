@@ -7,6 +7,14 @@ from served import digest, is_name
 
 FORMAT, MANIFEST = 1, 'manifest.json'
 TEXTS = 'revisions'
+# the faults of a folder, for the tools' help
+MEANINGS = {
+    'NoManifest': 'the folder is missing or has no manifest. Check the path',
+    'BadManifest': 'the manifest is damaged. Take the folder as it was written, from another copy',
+    'OtherFormat': 'the manifest is of another version of the tool. Use the tool that wrote it',
+    'Incomplete': 'the export was stopped. Run export again',
+    'NoText': 'a text is missing. Run export again, or take another copy',
+    'BadHash': 'a text is not the one that was written. Remove the file and run export again, or take another copy'}
 HASH = re.compile(r'[0-9a-f]{64}\Z')
 
 

@@ -4,14 +4,18 @@ import argparse, base64, netrc, os, ssl
 from audit import Refused
 
 USER, PASSWORD = 'PLANDESK_USER', 'PLANDESK_PASSWORD'
+# for the tools' help
+ABOUT = """A name and a password are sent by https only. They come from the first of these that is given: the file of --netrc, the variables
+PLANDESK_USER and PLANDESK_PASSWORD, or ~/.netrc, which nobody else may read."""
 
 
 def add_options(parser):
     """The options of every tool that asks a desk, which may stand behind a proxy."""
     parser.formatter_class = argparse.RawDescriptionHelpFormatter
-    parser.add_argument('--netrc', metavar='FILE', help='the file of names and passwords; without it the variables '
-                        f'{USER} and {PASSWORD} count, and then ~/.netrc')
-    parser.add_argument('--ca', metavar='FILE', help="the certificates of one's own authority, as PEM; without it the system's count")
+    parser.add_argument('--netrc', metavar='FILE', help='a file with lines such as `machine desk.example.org login clerk password '
+                        f'"of ink"`; otherwise the variables {USER} and {PASSWORD}, and then ~/.netrc')
+    parser.add_argument('--ca', metavar='FILE', help="the certificates of the authority that signed the proxy's, as PEM; otherwise "
+                        "those of the system, or of the file that SSL_CERT_FILE names")
 
 
 def from_netrc(host, path):

@@ -1,5 +1,5 @@
 """For the tools that ask a served desk: what it is asked, over HTTP, on one connection that is kept."""
-import hashlib, http.client, json, re, select, ssl
+import hashlib, http.client, json, re, select, socket, ssl
 from urllib.parse import urlsplit
 
 from audit import SIZES, Refused
@@ -12,6 +12,31 @@ NAME = re.compile(r'[A-Za-z0-9._-]{1,64}\Z')
 BLOCK = re.compile(r'([0-9]{15})\|([0-9]{1,3}|ZZ|ZZZ|)\Z')
 PLACED = re.compile(r'([0-9]{15})\|([0-9]{5})?\|([0-9]{1,10})\Z')
 PLAN_KEYS = {'name', 'kind', 'districts', 'revisions'}
+# every fault of a tool that asks a desk, for its help and for a terminal
+MEANINGS = {
+    'BadAddress': "the address is not one of http or https, or it has a query. Write it as https://desk.example.org",
+    'PasswordInAddress': 'the address contains an @. Change a password that others may have seen, and give it by --netrc',
+    'HalfLogin': 'only one of the variables PLANDESK_USER and PLANDESK_PASSWORD is set, the name contains a colon, or one of them '
+                 'contains a control character. Set both, or neither',
+    'BadNetrc': 'the file of names and passwords is missing, is not such a file, or others may read the one in your home folder. '
+                'Check the path, and run chmod 600 ~/.netrc',
+    'BadAuthority': 'the file of --ca is missing or has no certificate. Give a PEM file',
+    'UnknownHost': 'no address was found for the name in the address, so nothing was asked. Check the spelling, /etc/hosts and the DNS',
+    'NoAnswer': 'there is no connection, or it broke before the answer was complete. Check that the server and the proxy run, and '
+                'the port',
+    'BadCertificate': "the certificate is from an unknown authority, for another name, or expired. Give --ca, or write the server's "
+                      'name as the certificate has it',
+    'NoTls': 'what listens there does not speak TLS. Write http, or the port of the proxy',
+    'NoLogin': '401, a name and a password are required, and none was found. Give them by --netrc or the two variables',
+    'BadLogin': '401, the name or the password is wrong. Check both',
+    'Forbidden': '403, the proxy does not allow this to this name. Ask whoever runs the server',
+    'NoDesk': '502, 503 or 504, the proxy answers and the server behind it does not. Start the server',
+    'NotADesk': 'the answer is not one that plandesk gives. Check the address, and whether it begins with https',
+    'BadPlans': 'the list of plans is not one that plandesk gives. Check the address',
+    'BadBlocks': 'the list of blocks is not one that plandesk gives. Check the address',
+    'BadRevision': 'the text of a revision is not one that plandesk gives. Check the address',
+    'TooLarge': 'the answer is longer than 64 MiB (67,108,864 bytes). Check the address',
+    'desk': "the server refused: the status and its own name for the reason follow. Run plandesk explain with that name"}
 # what a connection that was kept too long ends with: a question may be asked again on a new one
 ENDED = ConnectionResetError, BrokenPipeError, http.client.RemoteDisconnected
 
@@ -74,6 +99,8 @@ class Desk:
             raise Refused('BadCertificate', 4) from None
         except ssl.SSLError as fault:
             raise Refused('NoAnswer' if isinstance(fault, ssl.SSLEOFError) else 'NoTls', 4) from None
+        except (socket.gaierror, UnicodeError):
+            raise Refused('UnknownHost', 4) from None
         except (OSError, http.client.HTTPException, ValueError):
             raise Refused('NoAnswer', 4) from None
         if len(found) > LARGEST:
