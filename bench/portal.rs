@@ -1,5 +1,5 @@
-// For bench/portal alone: what a portal's visitors ask of a server. So many connections make plans and post a whole revision of each;
-// others audit each plan meanwhile, and compare the revision that they read back with what was posted.
+// The client of bench/portal: some connections make plans and post a whole revision of each; others audit each plan at the same time, and
+// compare the revision that they read back with the one that was posted.
 mod client;
 
 use client::{Connection, get, with_body};
@@ -18,7 +18,7 @@ const HEAD: &[u8] = b"BLOCKID|DISTRICT\n";
 const LINE: usize = 20;
 const DISTRICTS: usize = 100;
 
-/// The text of a plan in rising order of its blocks, whose districts each plan shifts by another number of blocks.
+/// The text of a plan, by rising blocks. Each plan shifts the districts by another number of blocks.
 #[derive(Clone)]
 struct Text {
     bytes: Vec<u8>,
@@ -46,7 +46,7 @@ impl Text {
     }
 }
 
-/// A server that is asked over a connection that stays, or over a new one for each request where it closes each.
+/// A server, over one connection that stays open, or over a new one for each request if the server closes it.
 struct Server {
     port: u16,
     stays: bool,
@@ -77,7 +77,7 @@ fn milliseconds(work: impl FnOnce()) -> f64 {
     start.elapsed().as_secs_f64() * 1e3
 }
 
-/// Makes and posts plans until there are enough: the waits for both.
+/// Makes and posts plans until there are enough. Returns the milliseconds of each create and each post.
 fn posts(mut server: Server, plans: usize, next: &AtomicUsize, mut text: Text, posted: Sender<usize>) -> [Vec<f64>; 2] {
     let mut waits = [Vec::new(), Vec::new()];
     loop {
@@ -93,7 +93,7 @@ fn posts(mut server: Server, plans: usize, next: &AtomicUsize, mut text: Text, p
     }
 }
 
-/// Audits each plan that was posted, and reads it back: the waits for both.
+/// Audits each posted plan and reads it back. Returns the milliseconds of each audit and each read-back.
 fn reads(mut server: Server, posted: &Mutex<Receiver<usize>>, mut text: Text) -> [Vec<f64>; 2] {
     let (mut waits, mut body) = ([Vec::new(), Vec::new()], Vec::new());
     loop {
@@ -124,7 +124,7 @@ fn joined(threads: Vec<thread::ScopedJoinHandle<'_, [Vec<f64>; 2]>>) -> [Vec<f64
     all
 }
 
-/// PORT PLAN PLANS POSTERS READERS stays|closes: the plans that were posted in a second, and the waits.
+/// PORT PLAN PLANS POSTERS READERS stays|closes: prints the plans posted per second and the milliseconds of each request.
 fn load(words: &[String]) {
     let (port, stays) = (words[0].parse().unwrap(), words[5] == "stays");
     let numbers: Vec<usize> = words[2..5].iter().map(|word| word.parse().unwrap()).collect();
@@ -144,7 +144,7 @@ fn load(words: &[String]) {
     });
 }
 
-/// PROGRAM STORE PORT: the seconds until a store is served.
+/// PROGRAM STORE PORT: prints the seconds until the store is served.
 fn opening(words: &[String]) {
     let start = Instant::now();
     let mut server = Command::new(&words[0]).args(["serve", &words[1], "--port", &words[2]]).stdout(Stdio::piped()).spawn().unwrap();

@@ -1,7 +1,7 @@
 #!/usr/bin/env python3
-"""For bench/portal alone: a server of plans as one writes it with Flask and SQLite in an afternoon. It takes the requests of bench/portal,
-refuses a text that isn't a block assignment file, keeps a revision as a row (WAL, full syncs), and audits it in plain Python: complete,
-mean, range and contiguity.
+"""The peer of bench/portal: a server of plans as one writes it with Flask and SQLite in an afternoon. It answers the requests of
+bench/portal, rejects a text that isn't a block assignment file, stores each revision as a row (WAL, full syncs), and audits it in plain
+Python: complete, mean, range and contiguity.
 
 portal_flask.py FOLDER DATABASE PORT, where FOLDER has the files of a state that bench/check.rs made.
 """

@@ -35,7 +35,7 @@ const codes = {
   B4: ['The block is in the file twice.', 'List each block once.'],
   B5: ['The district is 0, or above the number of districts of the plan.', 'Check the number, or choose a plan with more districts.']
 }
-// What a proxy says by its status alone.
+// The refusals of a proxy, by their status.
 const statuses = {
   401: ['The proxy asks for a name and a password.', 'Load this page again.'],
   403: ['The proxy does not allow this to your name. Some names may only read.', 'Ask whoever runs the server.'],
@@ -45,7 +45,7 @@ const statuses = {
 }
 statuses[503] = statuses[504] = statuses[502]
 
-// A text that is shown in parts: what happened, what it means, what to do, and the line of the file that is meant.
+// What is shown of a refusal: what happened, what it means, what to do, and the line of the file.
 class Refused extends Error {
   constructor(head, [means, todo], line) {
     super(head)
@@ -95,7 +95,7 @@ async function plans() {
 }
 
 // Posts a text or a file as the plan's next revision.
-async function keep(plan, after, body) {
+async function save(plan, after, body) {
   const made = JSON.parse(await ask('POST', `/plans/${plan}/revisions?after=${after}`, body))
   return `Revision ${made.revisions} of ${made.plan} is saved.`
 }
@@ -107,7 +107,7 @@ async function change(plan, edit) {
     const last = (await plans()).find(found => found.name === plan)?.revisions ?? 0
     const text = last ? await ask('GET', `/plans/${plan}/revisions/${last}`) : 'BLOCKID|DISTRICT\n'
     try {
-      return await keep(plan, last, edit(text))
+      return await save(plan, last, edit(text))
     } catch (fault) {
       if (fault.error !== 'Stale') throw fault
     }
@@ -179,7 +179,7 @@ async function list() {
   shown = await plans()
   at('plans').replaceChildren(...shown.map(plan =>
     row(cell(plan.name), cell(`${plan.kind}, ${districts(plan.districts)}`), cell(button(plan)))))
-  for (const form of ['keep', 'move']) {
+  for (const form of ['save', 'move']) {
     const { plan } = at(form).elements, chosen = plan.value
     plan.replaceChildren(...shown.map(each => new Option(each.name)))
     if (shown.some(each => each.name === chosen)) plan.value = chosen
@@ -199,8 +199,8 @@ async function audit(plan) {
   return `The audit of ${plan.name} is below.`
 }
 
-// The paragraphs that tell of a fault.
-function told(fault) {
+// The paragraphs about a fault.
+function paragraphs(fault) {
   if (!(fault instanceof Refused)) {
     return [made('p', 'The server gave no answer.'), made('p', 'What to do: check the network, and whether the server runs.')]
   }
@@ -209,14 +209,14 @@ function told(fault) {
   return parts.filter(part => part.textContent)
 }
 
-// Does what a form or a button asks for, and tells what came of it.
+// Does what a form or a button asks for, and shows the result.
 async function during(work) {
   const said = at('said')
   try {
     said.replaceChildren(made('p', await work()))
     said.className = ''
   } catch (fault) {
-    said.replaceChildren(...told(fault))
+    said.replaceChildren(...paragraphs(fault))
     said.className = 'refused'
     said.scrollIntoView({ block: 'nearest' })
   }
@@ -238,11 +238,11 @@ on('make', async given => {
   await ask('PUT', `/plans/${plan}?kind=${given.kind.value}&districts=${given.districts.value}`)
   return `The plan ${plan} is made. It has no revision yet.`
 })
-on('keep', async given => {
+on('save', async given => {
   const [file] = given.file.files, kind = await otherKind(file)
   if (kind) throw new Refused(`Not sent: ${file.name} is not a block assignment file. ${kind}`, ['', codes.B1[1]])
   const after = shown.find(plan => plan.name === given.plan.value).revisions
-  return keep(given.plan.value, after, file)
+  return save(given.plan.value, after, file)
 })
 on('move', async given => {
   const blocks = given.blocks.value.split(/\s+/).filter(Boolean)

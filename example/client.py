@@ -35,13 +35,13 @@ class Refused(Exception):
     """An answer other than the one that was asked for."""
 
     def __init__(self, status, text):
-        super().__init__(told(status, text))
+        super().__init__(words_of(status, text))
         self.is_by_plandesk = bool(answer_of(text))
         self.status = status
 
 
 class Unreachable(Exception):
-    """Why there is no answer of a server."""
+    """The reason why no server answered."""
 
 
 def answer_of(text):
@@ -53,8 +53,8 @@ def answer_of(text):
     return found if isinstance(found, dict) and isinstance(found.get('error'), str) else {}
 
 
-def told(status, text):
-    """A refusal in one line: its status, its name, and what else it says."""
+def words_of(status, text):
+    """A refusal in one line: its status, its name and its other fields."""
     found = answer_of(text)
     if not found:
         return f'{status}: ' + {401: 'a name and a password are required, or they are wrong', 403: 'the proxy does not allow this'}.get(
@@ -87,7 +87,7 @@ def authorization(host):
 
 
 class Desk:
-    """A server, asked over one connection that is kept."""
+    """A server, asked over one connection that stays open."""
 
     def __init__(self, address, authority=None):
         scheme, host, port, self.path = place_of(address)
@@ -99,9 +99,9 @@ class Desk:
             self.connection = http.client.HTTPConnection(host, port, timeout=60)
 
     def ask(self, method, path, body=None):
-        """The status and the text of the answer. The server closes a connection that asks nothing for some seconds, so the request is
-        sent again on a new one. If it kept a revision before that, the second answer is Stale."""
-        kept = self.connection.sock is not None
+        """The status and the text of the answer. The server closes a connection that asks nothing for some seconds; then the request is
+        sent again on a new one. If the server had saved a revision before it closed, the second answer is Stale."""
+        stayed = self.connection.sock is not None
         try:
             try:
                 self.connection.request(method, self.path + path, body, self.heads)
@@ -111,7 +111,7 @@ class Desk:
             return answer.status, answer.read().decode()
         except (BrokenPipeError, ConnectionResetError):
             self.connection.close()
-            if not kept:
+            if not stayed:
                 raise
         return self.ask(method, path, body)
 
@@ -175,7 +175,7 @@ def moved(text, blocks, district):
 
 
 def answered(given):
-    """What the server says to a command; why there is no answer is raised in words."""
+    """The server's answer to a command; the reason is raised in words if there is none."""
     try:
         desk = Desk(given.desk, given.ca)
         text = given.work(desk, given)

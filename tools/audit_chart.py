@@ -7,7 +7,7 @@ from page_parts import element
 
 # where a picture's scale begins and ends, in hundredths of its width: districts stand before it, and people after it
 LEFT, RIGHT = 13, 78
-ROW, TOP = 18, 62
+ROW, TOP = 16, 62
 # how many districts a picture has at most, so that a printed page has room for it
 DISTRICTS = 20
 # one district in so many may be cut at the edge, if it is so many times as far from the ideal as the others and the limits
@@ -77,11 +77,11 @@ def kind_of(report, district):
 def bar(scale, percent, y, kind):
     """A district's bar. One that is cut has a mark at the edge, and its percent on the other side of the ideal."""
     low, high = min(percent, 0), max(percent, 0)
-    said = f'<rect class="{kind}" x="{scale.at(low)}" y="{y}" width="{scale.between(low, high)}" height="{ROW - 7}"/>'
+    said = f'<rect class="{kind}" x="{scale.at(low)}" y="{y}" width="{scale.between(low, high)}" height="{ROW - 6}"/>'
     if not scale.is_cut(percent):
-        return said + f'<circle class="{kind}" cx="{scale.at(percent)}" cy="{y + 5.5}" r="3"/>'
-    sign, edge, other = ('«', 'end', 'start') if percent < 0 else ('»', 'start', 'end')
-    return (f'{said}<text x="{scale.at(percent)}" y="{y + 9}" text-anchor="{edge}">{sign}</text>'
+        return said + f'<circle class="{kind}" cx="{scale.at(percent)}" cy="{y + 5}" r="3"/>'
+    sign, edge, other = ('«', 'start', 'start') if percent < 0 else ('»', 'end', 'end')
+    return (f'{said}<text class="on" x="{scale.at(percent)}" y="{y + 9}" text-anchor="{edge}">{sign}</text>'
             f'<text x="{scale.at(0)}" dx="{6 if percent < 0 else -6}" y="{y + 9}" text-anchor="{other}">'
             f'{decimal(percent, sign=True)} %</text>')
 

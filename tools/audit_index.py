@@ -154,7 +154,8 @@ def summary_words(entries, noun='plan'):
     """How many plans, or revisions, meet all tests, how many don't, and how many were refused."""
     audited, faults = [entry for entry in entries if entry.report], sum(bool(entry.fault) for entry in entries)
     broken = sum(bool(entry.report.broken) for entry in audited)
-    said = [f'{count(len(audited), noun)} audited', f'{grouped(len(audited) - broken)} meet all tests that were judged',
+    met = len(audited) - broken
+    said = [f'{count(len(audited), noun)} audited', f'{grouped(met)} {"meets" if met == 1 else "meet"} all tests that were judged',
             f'{grouped(broken)} {"does" if broken == 1 else "do"} not']
     return ': '.join([said[0], ', '.join(said[1:])]) + (f'; {count(faults, "file")} refused' if faults else '')
 

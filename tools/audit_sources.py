@@ -15,7 +15,7 @@ def bytes_of(path):
         with open(path, 'rb') as file:
             return file.read(LARGEST + 1)
     except (OSError, ValueError):
-        raise Refused('Unreadable', place=path) from None
+        raise Refused('Unreadable') from None
 
 
 def is_revision(word):
@@ -52,7 +52,8 @@ class Files:
         return os.path.basename(self.given.before), None
 
     def report(self):
-        return bytes_of(self.given.file)
+        with within(self.place):
+            return bytes_of(self.given.file)
 
     def texts(self):
         """Texts beside the report that are no files here."""

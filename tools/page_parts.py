@@ -37,7 +37,7 @@ details { margin: 0.4rem 0; } summary { cursor: pointer; }
 figure { margin: 1rem 0; } figcaption { font-size: 0.9rem; color: var(--quiet); } svg { width: 100%; display: block; }
 svg text { font: 12px "DejaVu Sans", Verdana, sans-serif; fill: var(--text); } svg .rule { stroke: var(--quiet); }
 svg .band { fill: var(--band); } svg .within { fill: var(--within); } svg .beyond { fill: var(--beyond); } svg .named { fill: var(--named); }
-svg text.broken { fill: var(--bad); }
+svg text.broken { fill: var(--bad); } svg text.on { fill: var(--ground); }
 ul.codes { list-style: none; display: flex; flex-wrap: wrap; gap: 0.4rem; padding: 0; margin: 0.4rem 0; }
 ul.codes li { border: 1px solid var(--rule); border-radius: 0.3rem; padding: 0 0.5rem; font-variant-numeric: tabular-nums; }
 code { overflow-wrap: anywhere; font-size: 0.85rem; } nav > a { margin-right: 1rem; }

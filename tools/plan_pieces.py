@@ -2,6 +2,7 @@
 its neighbours, which have to agree with the report."""
 import re
 from dataclasses import dataclass
+from functools import cached_property
 
 from audit import Refused
 from joined import roots
@@ -33,8 +34,9 @@ class Ground:
     def unassigned(self):
         return [block for block, district in self.districts.items() if district == 0]
 
-    def pieces(self):
-        """The pieces of each district that has several of them: the one with the most people first, or with the most blocks."""
+    @cached_property
+    def found(self):
+        """The pieces, which are searched for once."""
         if self.pairs is None:
             return []
         blocks, of = list(self.districts), list(self.districts.values())
@@ -47,6 +49,10 @@ class Ground:
             by_district.setdefault(district, []).append(Piece(district, members, self.people_in(members)))
         return [piece for _, pieces in sorted(by_district.items()) if len(pieces) > 1
                 for piece in sorted(pieces, key=lambda piece: (-(piece.people or 0), -len(piece.blocks), piece.blocks[0]))]
+
+    def pieces(self):
+        """The pieces of each district that has several of them: the one with the most people first, or with the most blocks."""
+        return self.found
 
     def gaps(self, districts):
         """What a report has in `contiguity`."""
