@@ -1,10 +1,10 @@
-//! Tests of libraries below the clerk: keys, rows and pages, plans, lists, districts, audits.
+//! Tests of libraries below the clerk: rows and pages, plans, lists, districts, audits.
 //!
 //! # Notes
 //!
-//! Devices stop and fail at each of their calls. Rows are put, got and removed in a tree of pages and in an ordered map. Plans, lists
-//! and districts go past the sizes at which their parts fill. The audits are of more districts of a congress plan than the program
-//! takes, and of what passes the gate between workers.
+//! Devices stop and fail at each of their calls. Rows are put, got and removed in a tree of pages and in an ordered map, and keys of
+//! rows are written and read by the table of docs/FORMATS.md. Plans, lists and districts go past the sizes at which their parts fill.
+//! The audits are of more districts of a congress plan than the program takes, and of what passes the gate between workers.
 #![tactic(auto)]
 
 /// Asserts a fact on which no later step rests. It is a call where `assert!` is a branch, which is dearer to prove.

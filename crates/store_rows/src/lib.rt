@@ -10,9 +10,9 @@
 //! # Notes
 //!
 //! A row is a key and a value, each a list of bytes, and a store's rows are a finite map from keys to values
-//! (`KeyMap`). `Key` makes the keys; the calls named after a kind of row write its value and read it back.
-//! What a map of rows says (its geography, its chunks and revisions, its desk) is defined in specs/. The laws of it are for the crates that
-//! put and remove rows.
+//! (`KeyMap`). `Key` makes keys, and what several keys begin with. `RowKey::read` parses a key, and `RowKey::write` returns that of a row.
+//! The calls named after a kind of row write its value and read it back. What a map of rows says (its geography, its chunks and
+//! revisions, its desk) is defined in specs/. The laws of it are for the crates that put and remove rows.
 //!
 //! # Example
 //!
