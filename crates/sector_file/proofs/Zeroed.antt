@@ -1,5 +1,6 @@
 -- Zeros that are written one sector after the other.
-use Rattle.std.{specs.Io.KnownBytes.Appends, proofs.{Common.{◌≡◌, ℕ, ◌+◌, ◌*◌, List, Option, replicate, subst, arith}, KnownBytes.{Appends-nil, Appends-trans}, lemmas.List.replicate-append-replicate}}
+use Rattle.std.{specs.Io.KnownBytes.Appends, proofs.{Common.{◌≡◌, ℕ, ◌+◌, ◌*◌, List, Option, replicate, subst, arith}, KnownBytes.{Appends-nil, Appends-trans}}}
+use Rattle.std.proofs.lemmas.List.{replicate-append-replicate}
 
 pub zeros_none : (m : ℕ) (a : Option (List ℕ)) → Appends a a (replicate (m * 0) 0)
 zeros_none m a = let e : 0 ≡ m * 0 = omega arith in subst (λ (n : ℕ). Appends a a (replicate n 0)) e (Appends-nil a)
