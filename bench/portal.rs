@@ -134,7 +134,10 @@ fn load(words: &[String]) {
     thread::scope(|scope| {
         let posters = (0..numbers[1]).map(|_| (text.clone(), sender.clone())).collect::<Vec<_>>();
         drop(sender);
-        let posters = posters.into_iter().map(|(text, sender)| scope.spawn(|| posts(Server::new(port, stays), numbers[0], &next, text, sender))).collect();
+        let posters = posters
+            .into_iter()
+            .map(|(text, sender)| scope.spawn(|| posts(Server::new(port, stays), numbers[0], &next, text, sender)))
+            .collect();
         let readers = (0..numbers[2]).map(|_| text.clone()).collect::<Vec<_>>();
         let readers = readers.into_iter().map(|text| scope.spawn(|| reads(Server::new(port, stays), &posted, text))).collect();
         let [make, post] = joined(posters);

@@ -285,14 +285,14 @@ pub(crate) static TOOL_KEEP: [FaultRow; 8] = [
         "NotStopped",
         "",
         "",
-        "systemd did not stop the service.",
+        "The service did not stop when systemd was asked to stop it.",
         "Check the system's log.",
     ),
     (
         "NotStarted",
         "",
         "",
-        "systemd did not start the service again; the copy may be complete.",
+        "The service did not start again; the copy may be complete.",
         "Check the system's log, and start the service.",
     ),
     (

@@ -97,7 +97,7 @@ fn keys_of_the_format_are_read_as_their_rows(rt: HostRuntime) {
         })
     );
     let name = match RowKey::read(b"Pa-1") {
-        Some(RowKey::Named { name }) => name == b"a-1",
+        Some(RowKey::Named { name }) => name == b"a-1".as_slice(),
         _ => false,
     };
     let none = RowKey::read(b"").is_none()

@@ -3,7 +3,8 @@
 //! # Notes
 //!
 //! Devices stop and fail at each of their calls. Rows are put, got and removed in a tree of pages
-//! and in an ordered map. Plans, lists and districts exceed the sizes at which their parts fill.
+//! and in an ordered map. Keys of rows are written and read by the table of the store's format.
+//! Plans, lists and districts exceed the sizes at which their parts fill.
 //! The audits have more districts than the program accepts for congress, and check what passes the
 //! gate between workers.
 #![tactic(auto)]

@@ -2,4 +2,5 @@ mod Steps
 mod Disks
 mod Readers
 mod Runs
+mod Zeroed
 pub mod Sending
