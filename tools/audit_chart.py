@@ -7,7 +7,7 @@ from page_parts import element
 
 # where a picture's scale begins and ends, in hundredths of its width: districts stand before it, and people after it
 LEFT, RIGHT = 13, 78
-ROW, TOP = 16, 62
+ROW, TOP = 14, 52
 # how many districts a picture has at most, so that a printed page has room for it
 DISTRICTS = 20
 # one district in so many may be cut at the edge, if it is so many times as far from the ideal as the others and the limits
@@ -51,18 +51,23 @@ def limits(report):
     return (report.percent(least), 'least populous'), (report.percent(Fraction(21 * least, 20)), 'least populous + 5 %')
 
 
+def anchored(place, is_low):
+    """How the words of a limit are put beside its line: away from the other limit, if there is room for them."""
+    before = place > 27 if is_low else place > 62
+    return ('end', -4) if before else ('start', 4)
+
+
 def marks(scale, low, high, height):
-    """The band that is allowed, its limits, and the ideal, each with its words in a line of its own."""
+    """The band that is allowed, the ideal and the limits, each with its words in a line of its own."""
     band = (f'<rect class="band" x="{scale.at(low[0])}" y="{TOP - 8}" width="{scale.between(low[0], high[0])}" '
             f'height="{height - TOP + 4}"/>')
     lines = ''
-    for (percent, words), y in ((low, 12), (high, 28), ((0, 'ideal'), 44)):
+    for (percent, words), y, (anchor, shift), dashes in (
+            ((0, 'ideal'), 11, ('middle', 0), ''), (low, 25, anchored(scale.place(low[0]), True), ' stroke-dasharray="4 3"'),
+            (high, 39, anchored(scale.place(high[0]), False), ' stroke-dasharray="4 3"')):
         cut = f' ({decimal(percent, sign=True)} %)' if scale.is_cut(percent) else ''
-        dashes = '' if words == 'ideal' else ' stroke-dasharray="4 3"'
-        place, (anchor, shift) = scale.at(percent), ('end', -4) if scale.place(percent) > 50 else ('start', 4)
-        if words == 'ideal':
-            anchor, shift = 'middle', 0
-        lines += (f'<line class="rule" x1="{place}" x2="{place}" y1="{y + 4}" y2="{height - 4}"{dashes}/>'
+        place = scale.at(percent)
+        lines += (f'<line class="rule" x1="{place}" x2="{place}" y1="{y + 3}" y2="{height - 4}"{dashes}/>'
                   f'<text x="{place}" dx="{shift}" y="{y}" text-anchor="{anchor}">{escape(words + cut)}</text>')
     return band + lines
 
@@ -77,9 +82,9 @@ def kind_of(report, district):
 def bar(scale, percent, y, kind):
     """A district's bar. One that is cut has a mark at the edge, and its percent on the other side of the ideal."""
     low, high = min(percent, 0), max(percent, 0)
-    said = f'<rect class="{kind}" x="{scale.at(low)}" y="{y}" width="{scale.between(low, high)}" height="{ROW - 6}"/>'
+    said = f'<rect class="{kind}" x="{scale.at(low)}" y="{y}" width="{scale.between(low, high)}" height="{ROW - 5}"/>'
     if not scale.is_cut(percent):
-        return said + f'<circle class="{kind}" cx="{scale.at(percent)}" cy="{y + 5}" r="3"/>'
+        return said + f'<circle class="{kind}" cx="{scale.at(percent)}" cy="{y + 4.5}" r="3"/>'
     sign, edge, other = ('«', 'start', 'start') if percent < 0 else ('»', 'end', 'end')
     return (f'{said}<text class="on" x="{scale.at(percent)}" y="{y + 9}" text-anchor="{edge}">{sign}</text>'
             f'<text x="{scale.at(0)}" dx="{6 if percent < 0 else -6}" y="{y + 9}" text-anchor="{other}">'
