@@ -1,6 +1,6 @@
 -- What an opening of a device comes to.
-use Rattle.std.specs.Prelude.{◌≡◌, false, None}
-use Rattle.desk_pages.specs.{Openings.{IsSpared, LeavesOneOf}, claim.Openings.{AllVersions, IsOneOf, LeavesOneAs}, declared.error.StoreError.{StoreError, TheVariants.NotAStore}}
+use Rattle.std.specs.Prelude.{◌≡◌, ◌≢◌, ◌≤◌, false, None}
+use Rattle.desk_pages.specs.{Openings.{IsSpared, LeavesOneOf}, claim.Openings.{AllVersions, IsOneOf, LeavesOneAs}, declared.error.StoreError.{StoreError, TheVariants.{DeviceFault, NotAStore}}}
 use Rattle.desk_store.specs.{Openings.{IsFound, OpenRefused}, claim.Clerks.{desk_of, disk_of, is_halted, sectors_of, Keeps}, declared.clerk.Clerk.Clerk}
 use Rattle.sector_device.specs.declared.SectorDevice.{Ghosts}
 
@@ -28,4 +28,6 @@ module _ {D : Type 0} (g : Ghosts D) where
     pub any_moment : LeavesOneOf (g.disk device) (g.disk left)
     pub any_version : LeavesOneAs (g.disk device) (g.disk left)
     pub why : OpenRefused g device left e
+    pub faults : (g.disk left).is_honest → (g.disk device).faults ≤ (g.disk left).faults
+    pub calm : (g.disk left).is_honest → e ≢ DeviceFault → (g.disk left).faults ≡ (g.disk device).faults
     pub spared : (g.disk left).is_honest → e ≡ NotAStore → IsSpared (g.disk device) (g.disk left)

@@ -1,10 +1,10 @@
 -- Steps of a migration, one after the other, and the end after them.
 use Rattle.{std.{specs.Prelude.{Result, Ok, Err}, proofs.Common.{rules, ◌≡◌, ◌≤◌, ◌+◌, ℕ, false, inl, inr, refl, sym, subst, ◌∙◌, arith}}, desk_model.specs.claim.Desk.Desk}
-use Rattle.{desk_pages.specs.claim.Desks.{OpensDesk, OpensOld, OpensEither}, desk_runs.specs.desk_migration.declared.migration.Migration.Migration}
+use Rattle.{desk_pages.specs.claim.Desks.{OpensDesk, OpensOld, OpensEither}, desk_runs.specs.{Recovery.ImagesAreOne, desk_migration.declared.migration.Migration.Migration}}
 use Rattle.desk_runs.specs.desk_migration.claim.Migrating.{device_of, disk_of, is_halted, sectors_of, Ends, HasMore, HasRows, Keeps, KeepsNew, Moves}
 use Rattle.{sector_device.specs.{claim.{Disk.Disk, Moments.LeavesOnly}, declared.SectorDevice.Ghosts}, store_command.specs.{Filling.HasDesk, Reading.BeginsAtWhatIsRead}}
 use Rattle.store_command.specs.Migrating.{HasMigrated, HasOld, HasPut, HasStopped, IsBegun, IsStopped, LeavesEither, MigratesAll, MigratesDevice, WhereItReadsOld}
-use Rattle.{store_command.specs.declared.fault.StoreFault.{StoreFault, TheVariants.NotAStore}, store_rows.specs.claim.Rows.KeyMap}
+use Rattle.{store_command.{specs.declared.fault.StoreFault.{StoreFault, TheVariants.NotAStore}, proofs.Led.{migrated_life, stopped_life}}, store_rows.specs.claim.Rows.KeyMap}
 use Rattle.sector_device.proofs.Moments.{leaves_more, leaves_wider}
 use Rattle.desk_runs.proofs.desk_migration.Pairs.{then_by, none_by}
 
@@ -39,8 +39,8 @@ module _ {D : Type 0} {g : Ghosts D} where
   }
 
   -- so many steps were made that more rows were put than a store has
-  pub endless : (x y : Migration D g) (rows : ℕ) → 281474976710656 ≤ rows → ((disk_of y).is_honest → (d : Desk) (m : KeyMap) → HasRows x d m → HasPut x d m rows y) → IsStopped x NotAStore y
-  endless x y rows many put = inr (refl, λ honest d m has. record { rows = rows; many = many; put = put honest d m has })
+  pub endless : (x y : Migration D g) (rows : ℕ) → 281474976710656 ≤ rows → is_halted y ≡ false → ((disk_of y).is_honest → (d : Desk) (m : KeyMap) → HasRows x d m → HasPut x d m rows y) → IsStopped x NotAStore y
+  endless x y rows many works put = inr (refl, record { works = works; rows = rows; many = many; put = put })
 
   -- ---- the device
   module _ (device : D) (x : Migration D g) (begun : IsBegun device x) (begins : BeginsAtWhatIsRead device x) where
@@ -80,6 +80,6 @@ module _ {D : Type 0} {g : Ghosts D} where
         old_left z (it.ends.goes.sectors ∙ it.moves.goes.sectors) (λ is. it.moves.goes.honest (it.ends.goes.honest is)) (λ d keeps. it.stays works d (it.moves.keeps d keeps))
 
     -- what was opened, migrated and given back
-    pub device_migrated : (z : Migration D g) (did : Result ℕ StoreFault) → MigratesAll x did z → (left : D) → left ≡ device_of z → MigratesDevice g device did left
-    device_migrated z (Ok rows) is left back = subst (λ (d : D). HasMigrated g device rows d) (sym back) (search (ended, new_left))
-    device_migrated z (Err fault) is left back = inr (subst (λ (d : D). HasStopped g device fault d) (sym back) (search (any_left, old_after)))
+    pub device_migrated : ImagesAreOne → (z : Migration D g) (did : Result ℕ StoreFault) → MigratesAll x did z → (left : D) → left ≡ device_of z → MigratesDevice g device did left
+    device_migrated law z (Ok rows) is left back = subst (λ (d : D). HasMigrated g device rows d) (sym back) (let life = migrated_life law device x begun rows z is in search (ended, new_left, life))
+    device_migrated law z (Err fault) is left back = inr (subst (λ (d : D). HasStopped g device fault d) (sym back) (let life = stopped_life law device x begun fault z is in search (any_left, old_after, life)))

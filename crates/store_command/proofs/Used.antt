@@ -1,10 +1,14 @@
 -- A device that was opened, used by the clerk, and given back.
-use Rattle.{std.proofs.Common.{◌≡◌, ℕ, false, inl, inr, ⊎_elim, sym, subst, ◌∙◌}, desk_loading.{specs.{Loads.{IsLoaded, LoadRefused}, Openings.IsOpened}, proofs.Moves.OneOf}}
-use Rattle.{desk_model.specs.claim.{Desk.Desk, Geography.GeographyModel}, desk_pages.specs.{claim.Desks.OpensDesk, declared.error.StoreError.StoreError}}
-use Rattle.desk_runs.specs.desk_store.{Keeping.sealed_desk, claim.Clerks.{desk_of, disk_of, pages_of, sectors_of, Keeps, Moves}, declared.clerk.Clerk.Clerk}
+use Rattle.std.{specs.declared.{alloc.Global.Global, sync.Arc.Arc}, proofs.Common.{◌≡◌, ℕ, false, [], ◌∷◌, inl, inr, ⊎_elim, refl, sym, subst, ◌∙◌}}
+use Rattle.{desk_loading.{specs.{Loads.{IsLoaded, LoadRefused}, Openings.IsOpened}, proofs.Moves.OneOf}, desk_model.specs.claim.{Desk.Desk, Geography.GeographyModel}}
+use Rattle.{desk_pages.specs.{claim.Desks.OpensDesk, declared.error.StoreError.StoreError}, desk_runs.specs.desk_store.{Keeping.sealed_desk, declared.clerk.Clerk.Clerk}}
+use Rattle.{desk_runs.specs.desk_store.claim.Clerks.{desk_of, disk_of, pages_of, sectors_of, Keeps, Moves}, desk_theorem.{specs.claim.OneLife.RequestsHold, proofs.Asked.one_asked}}
 use Rattle.{page_store.specs.claim.Transactions.device_in, sector_device.specs.{claim.{Disk.{Disk, Image}, Moments.LeavesOnly}, declared.SectorDevice.Ghosts}}
-use Rattle.{store_command.specs.{Filling.{HasDesk, HasLoaded, HasKept, OpensOr, WhereItReads}, Reading.{LeavesDesk, ReadsDesk, ShowsWhatIsRead}}, desk_runs.proofs.One.left_working}
-use Rattle.sector_device.proofs.Moments.{leaves_more, leaves_wider}
+use Rattle.store_command.specs.{Filling.{HasDesk, HasLoaded, HasKept, LoadedOnce, OpensOr, WhereItReads}, Reading.{LeavesDesk, ReadsDesk, ShowsWhatIsRead}}
+use Rattle.{desk_runs.proofs.One.left_working, sector_device.proofs.Moments.{leaves_more, leaves_wider}, store_command.proofs.Opened.asked_life}
+use Rattle.desk_theorem.{specs.store_lives.declared.desk_lives.{Answer.{Answer, TheVariants.{Loaded, Unloaded}}, Request.TheVariants.Load}, proofs.store_lives.DeskLiving.{may_fail, may_refuse, refused_for}}
+use Rattle.desk_theorem.specs.store_lives.DeskInside.{Answers}
+use Rattle.desk_runs.specs.Recovery.{ImagesAreOne}
 
 module _ {D : Type 0} {g : Ghosts D} (device : D) (x y : Clerk D g) (opened : IsOpened device x) (shows : ShowsWhatIsRead device x) where
   abbrev old : Disk
@@ -42,9 +46,21 @@ module _ {D : Type 0} {g : Ghosts D} (device : D) (x y : Clerk D g) (opened : Is
       subst (λ (e : Desk). OpensDesk old.sectors e c) (desk ∙ (shows d reads).desk (moves.honest honest)) (left_now next moves (shows d reads).keeps works honest c leaves)
 
   -- a load
-  module _ (area : GeographyModel) (moves : Moves (sealed_desk area) x y) (left : D) (back : left ≡ device_in (pages_of y)) where
-    pub has_loaded : IsLoaded x area y → HasLoaded g device area left
-    has_loaded loaded = subst (λ (d : D). HasLoaded g device area d) (sym back) (search (used_left, left_next))
+  module _ (law : ImagesAreOne) (arc : Arc GeographyModel Global) (moves : Moves (sealed_desk arc.value) x y) (left : D) (back : left ≡ device_in (pages_of y)) where
+    one_load : (a : Answer) → Answers x (Load arc) a y → LoadedOnce old (disk_of y) arc.value a
+    one_load a did = (arc, refl, asked_life law device x y (RequestsHold (Load arc ∷ []) (a ∷ [])) opened (one_asked x (Load arc) a y did))
 
-    pub has_kept : (e : StoreError) → LoadRefused x area e y → desk_of y ≡ desk_of x → HasKept g device area e left
-    has_kept e why desk = subst (λ (d : D). HasKept g device area e d) (sym back) (search (used_left, left_same))
+    loaded_life : IsLoaded x arc.value y → LoadedOnce old (disk_of y) arc.value Loaded
+    loaded_life loaded = one_load Loaded (moves, (loaded.whole.begun.unsealed, loaded.desk, loaded.works))
+
+    kept_life : (e : StoreError) → LoadRefused x arc.value e y → desk_of y ≡ desk_of x → LoadedOnce old (disk_of y) arc.value (Unloaded e)
+    kept_life e why desk = one_load (Unloaded e) (
+      moves,
+      (desk, (λ works keeps honest. may_refuse x arc.value e y why works keeps honest), (λ on keeps honest. may_fail x arc.value e y why on keeps honest), refused_for x arc.value e y why),
+    )
+
+    pub has_loaded : IsLoaded x arc.value y → HasLoaded g device arc.value left
+    has_loaded loaded = subst (λ (d : D). HasLoaded g device arc.value d) (sym back) (let life = loaded_life loaded in search (used_left, left_next, life))
+
+    pub has_kept : (e : StoreError) → LoadRefused x arc.value e y → desk_of y ≡ desk_of x → HasKept g device arc.value e left
+    has_kept e why desk = subst (λ (d : D). HasKept g device arc.value e d) (sym back) (let life = kept_life e why desk in search (used_left, left_same, life))

@@ -1,10 +1,11 @@
 -- A store that is filled with a geography.
-use Rattle.std.specs.Prelude.{◌≡◌, ◌⊎◌, ℕ, false, Result, Ok, Err}
+use Rattle.std.specs.{Prelude.{◌≡◌, ◌⊎◌, ℕ, false, [], ◌∷◌, Result, Ok, Err}, declared.{alloc.Global.Global, sync.Arc.Arc}}
 use Rattle.{desk_loading.specs.{Loads.{IsLoaded, LoadRefused}, Openings.{IsOpened, IsUnopened}}, desk_model.specs.claim.{Desk.Desk, Geography.GeographyModel}}
 use Rattle.{desk_pages.specs.{claim.Desks.OpensDesk, declared.error.StoreError.StoreError}, desk_runs.specs.desk_store.{Keeping.sealed_desk, declared.clerk.Clerk.Clerk}}
-use Rattle.{desk_runs.specs.desk_store.claim.Clerks.{desk_of, is_halted, pages_of}, page_store.specs.claim.Transactions.device_in, sector_device.specs.claim.Disk.{Disk, Image}}
-use Rattle.{sector_device.specs.{claim.Moments.LeavesOnly, declared.SectorDevice.Ghosts}, store_command.specs.{Faults.fault_of_store, declared.fault.StoreFault.StoreFault}}
-use Rattle.store_command.specs.Reading.{ReadsDesk, RefusesWhatIsRead, ShowsWhatIsRead}
+use Rattle.{desk_runs.specs.desk_store.claim.Clerks.{desk_of, is_halted, pages_of}, desk_theorem.specs.claim.{Device.OnDevice, OneLife.{Asked, RequestsHold, UnopenedHolds}}}
+use Rattle.desk_theorem.specs.store_lives.declared.desk_lives.{Answer.{Answer, TheVariants.{Loaded, Unloaded}}, Request.TheVariants.Load}
+use Rattle.{page_store.specs.claim.Transactions.device_in, sector_device.specs.{claim.{Disk.{Disk, Image}, Moments.LeavesOnly}, declared.SectorDevice.Ghosts}}
+use Rattle.store_command.specs.{Faults.fault_of_store, Reading.{ReadsDesk, RefusesWhatIsRead, ShowsWhatIsRead}, declared.fault.StoreFault.StoreFault}
 
 -- the image opens to the desk, or to the next one
 abbrev pub OpensOr : ℕ → (d next : Desk) → Image → Type 0
@@ -17,6 +18,10 @@ HasDesk old new d = (c : Image) → new.leaves c → OpensDesk old.sectors d c
 -- Of what a device reads: this, where it reads as a desk, and is found honest after that.
 abbrev pub WhereItReads : (old new : Disk) → (Desk → Type 0) → Type 0
 WhereItReads old new P = new.is_honest → (d : Desk) → ReadsDesk old d → P d
+
+-- one life, in which one load of this geography was answered so
+abbrev pub LoadedOnce : (old new : Disk) → GeographyModel → Answer → Type 0
+LoadedOnce old new area a = (arc : Arc GeographyModel Global) × (arc.value ≡ area) × OnDevice (Asked (RequestsHold (Load arc ∷ []) (a ∷ []))) old new
 
 module _ {D : Type 0} (g : Ghosts D) where
   -- The device was opened, and the clerk loaded the geography where none was sealed and gave it back so. Where the device read as a
@@ -32,6 +37,7 @@ module _ {D : Type 0} (g : Ghosts D) where
     pub any_moment : WhereItReads (g.disk device) (g.disk left)
         (λ d. LeavesOnly (OpensOr (g.disk device).sectors d (sealed_desk area)) (g.disk device) (g.disk left))
     pub after : WhereItReads (g.disk device) (g.disk left) (λ d. HasDesk (g.disk device) (g.disk left) (sealed_desk area))
+    pub life : LoadedOnce (g.disk device) (g.disk left) area Loaded
 
   -- The device was opened, and a load that was refused left the desk. Where no fault came, what a stop leaves from then on opens
   -- to it.
@@ -46,6 +52,7 @@ module _ {D : Type 0} (g : Ghosts D) where
     pub any_moment : WhereItReads (g.disk device) (g.disk left)
         (λ d. LeavesOnly (OpensOr (g.disk device).sectors d (sealed_desk area)) (g.disk device) (g.disk left))
     pub after : is_halted y ≡ false → WhereItReads (g.disk device) (g.disk left) (λ d. HasDesk (g.disk device) (g.disk left) d)
+    pub life : LoadedOnce (g.disk device) (g.disk left) area (Unloaded e)
 
   -- the device isn't opened, and is left so
   pub record IsNotOpened (device : D) (fault : StoreFault) (left : D) : Type 0 where
@@ -53,6 +60,7 @@ module _ {D : Type 0} (g : Ghosts D) where
     pub told : fault ≡ fault_of_store error
     pub why : IsUnopened g device error left
     pub refuses : (g.disk left).is_honest → RefusesWhatIsRead (g.disk device) (g.disk left) error
+    pub life : OnDevice (UnopenedHolds error) (g.disk device) (g.disk left)
 
   -- or the geography isn't loaded
   pub record IsUnloaded (device : D) (area : GeographyModel) (fault : StoreFault) (left : D) : Type 0 where

@@ -1,3 +1,4 @@
+pub mod claim
 pub mod Faults
 pub mod Filling
 pub mod Formatting
@@ -11,3 +12,4 @@ pub mod Using
 pub use Rattle.desk_loading.specs as desk_loading
 pub use Rattle.desk_runs.specs as desk_runs
 pub use Rattle.desk_runs.specs.desk_store
+pub use Rattle.desk_theorem.specs as desk_theorem

@@ -1,26 +1,8 @@
 -- A state that is loaded: its files are read and judged one after the other, and then a store is filled with what they say.
-use Rattle.std.specs.{Prelude.{◌≡◌, ℕ, List, Option, codes, Result, Ok, Err, Vec}, declared.alloc.Global.Global}
+use Rattle.std.specs.{Prelude.{◌≡◌, ℕ, List, codes, Result, Ok, Err, Vec}, declared.alloc.Global.Global}
 use Rattle.{command_output.specs.{claim.{Telling.Tells, Writing.{Written, write_fault_line}}, declared.status.Status.Status}, desk_model.specs.claim.Geography.GeographyModel}
-use Rattle.{sector_device.specs.declared.SectorDevice.Ghosts, state_files.specs.claim.{GeographyModels.ReadsWithNeighbours, Opening.{Opening, opening_of, Census, census_of}}}
-use Rattle.{state_files.specs.{claim.State.{Then, ReadsState}, declared.fault.FileFault.FileFault}, store_command.specs.{Filling.FillsDevice, Telling.EndsStore, Texts.loaded_text}}
-use Rattle.store_command.specs.{Using.Uses, declared.{fault.StoreFault.StoreFault, load.StateFiles.StateFiles}}
-
--- the openings of the files, in the order in which they are judged
-pub record Openings : Type 0 where
-  pub census : Census
-  pub neighbours : Opening
-
-abbrev pub openings_of : {R : Type 0} → (R → Option (List ℕ)) → (R → ℕ) → (R → ℕ) → StateFiles R → Openings
-openings_of unread turns failures files = record {
-  census = census_of unread turns failures files.census;
-  neighbours = opening_of unread turns failures files.gal;
-}
-
--- the files one after the other, and the geography that they say
-abbrev pub ReadsGeography : (before after : Openings) → Result GeographyModel FileFault → Type 0
-ReadsGeography before after =
-    Then (ReadsState before.census after.census) (after.neighbours ≡ before.neighbours)
-    (λ rows. ReadsWithNeighbours rows.items before.neighbours after.neighbours)
+use Rattle.{sector_device.specs.declared.SectorDevice.Ghosts, state_files.specs.declared.fault.FileFault.FileFault, store_command.specs.{Filling.FillsDevice, Telling.EndsStore}}
+use Rattle.store_command.specs.{Texts.loaded_text, Using.Uses, claim.Files.{Openings, ReadsGeography}, declared.fault.StoreFault.StoreFault}
 
 module _ {D O : Type 0} (g : Ghosts D) (opens : O → List ℕ → Result D StoreFault → O → Type 0) (closes : O → D → O → Type 0) where
   -- what comes of a store, with the text that is printed; where memory is refused before, none is opened

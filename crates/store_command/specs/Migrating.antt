@@ -4,10 +4,11 @@ use Rattle.{command_output.specs.{claim.Writing.{Written, write_fault_line}, dec
 use Rattle.desk_pages.specs.{claim.{Desks.{OpensEither, OpensOld}, Openings.{AllVersions, IsOneOld, OpensOneAs}}, declared.error.StoreError.StoreError}
 use Rattle.desk_runs.specs.desk_migration.{Openings.{IsFound, IsRefused}, Puts.{FinishErr, StepErr}, claim.Holding.IsHeldBy, declared.migration.Migration.Migration}
 use Rattle.desk_runs.specs.desk_migration.claim.Migrating.{device_of, disk_of, has_ended, is_halted, sectors_of, Ends, HasRows, Keeps, KeepsNew, Moves}
-use Rattle.{sector_device.specs.{claim.{Disk.{Disk, Image}, Moments.LeavesOnly}, declared.SectorDevice.Ghosts}, store_command.specs.{Faults.fault_of_store, Filling.HasDesk}}
-use Rattle.store_command.specs.{Reading.{BarsWhatIsRead, BeginsAtWhatIsRead, ReadsOld}, Telling.EndsStore, Texts.rows_text, Using.Uses, declared.fault.StoreFault.StoreFault}
-use Rattle.{store_command.specs.declared.fault.StoreFault.TheVariants.NotAStore, store_rows.specs.claim.Rows.KeyMap}
+use Rattle.{desk_theorem.specs.claim.{Device.OnDevice, OneLife.LedHolds}, sector_device.specs.{claim.{Disk.{Disk, Image}, Moments.LeavesOnly}, declared.SectorDevice.Ghosts}}
+use Rattle.store_command.specs.{Faults.fault_of_store, Filling.HasDesk, Reading.{BarsWhatIsRead, BeginsAtWhatIsRead, ReadsOld}, Telling.EndsStore, Texts.rows_text, Using.Uses}
+use Rattle.{store_command.specs.declared.fault.StoreFault.{StoreFault, TheVariants.NotAStore}, store_rows.specs.claim.Rows.KeyMap}
 use Rattle.desk_pages.specs.declared.error.StoreError.TheVariants as store
+use Rattle.desk_theorem.specs.store_lives.declared.leading.Led.TheVariants as led
 
 -- what is printed of so many rows that were put
 abbrev pub migrated_text : ℕ → List ℕ
@@ -57,18 +58,20 @@ module _ {D : Type 0} {g : Ghosts D} where
     pub w : Migration D g
     pub before : Moves x w
     pub worked : is_halted w ≡ false
+    pub last : Moves w y
     pub why : StepErr w.from w.pages y.pages e
 
   -- more rows were put than a store has
-  pub record HasEndless (x : Migration D g) (d : Desk) (m : KeyMap) (y : Migration D g) : Type 0 where
+  pub record IsEndless (x : Migration D g) (y : Migration D g) : Type 0 where
+    pub works : is_halted y ≡ false
     pub rows : ℕ
     pub many : 2 ^ 48 ≤ rows
-    pub put : HasPut x d m rows y
+    pub put : (disk_of y).is_honest → (d : Desk) (m : KeyMap) → HasRows x d m → HasPut x d m rows y
 
   -- a step was refused for this reason; or the device holds what no store has
   abbrev pub IsStopped : Migration D g → StoreFault → Migration D g → Type 0
   IsStopped x fault y = ((e : StoreError) × (fault ≡ fault_of_store e) × StepStopped x e y)
-      ⊎ ((fault ≡ NotAStore) × ((disk_of y).is_honest → (d : Desk) (m : KeyMap) → HasRows x d m → HasEndless x d m y))
+      ⊎ ((fault ≡ NotAStore) × IsEndless x y)
 
   -- what the steps came to
   abbrev pub PutsAll : Migration D g → Result ℕ StoreFault → Migration D g → Type 0
@@ -105,6 +108,11 @@ module _ {D : Type 0} {g : Ghosts D} where
   MigratesAll x (Ok rows) z = IsMigrated x rows z
   MigratesAll x (Err fault) z = (Moves x z × IsStopped x fault z) ⊎ EndsStopped x fault z
 
+-- One life, in which the migration was stopped for this; one that put more rows than a store has was given up in part.
+abbrev pub StoppedLife : (old new : Disk) → StoreFault → Type 0
+StoppedLife old new fault = ((e : StoreError) × (fault ≡ fault_of_store e) × OnDevice (LedHolds (led.Stopped e)) old new)
+    ⊎ ((fault ≡ NotAStore) × ((rows : ℕ) × (2 ^ 48 ≤ rows) × OnDevice (LedHolds led.InPart) old new))
+
 module _ {D : Type 0} (g : Ghosts D) where
   -- The device is not opened for a migration, and is left so: at each moment of that a stop left what opens to a desk to which
   -- one opened before, in its version. What is no store stays as it is.
@@ -117,6 +125,7 @@ module _ {D : Type 0} (g : Ghosts D) where
     pub why : IsRefused (g.disk device) (g.disk left) error
     pub spared : (g.disk left).is_honest → error ≡ store.NotAStore → IsSpared (g.disk device) (g.disk left)
     pub bars : (g.disk left).is_honest → BarsWhatIsRead (g.disk device) (g.disk left) error
+    pub life : OnDevice (LedHolds (led.Unopened error)) (g.disk device) (g.disk left)
 
   -- The device was opened and migrated, and given back so. Where it read as a desk in the old version, a stop at any moment of both
   -- left this desk, in either version; and what it leaves from then on opens to it in the new one.
@@ -129,6 +138,7 @@ module _ {D : Type 0} (g : Ghosts D) where
     pub back : left ≡ device_of z
     pub any_moment : WhereItReadsOld (g.disk device) (g.disk left) (λ d. LeavesEither (g.disk device) (g.disk left) d)
     pub after : WhereItReadsOld (g.disk device) (g.disk left) (λ d. HasDesk (g.disk device) (g.disk left) d)
+    pub life : OnDevice (LedHolds led.Whole) (g.disk device) (g.disk left)
 
   -- The device was opened, and its migration was stopped. Where no fault came, what a stop leaves from then on opens in the old
   -- version.
@@ -141,6 +151,7 @@ module _ {D : Type 0} (g : Ghosts D) where
     pub back : left ≡ device_of z
     pub any_moment : WhereItReadsOld (g.disk device) (g.disk left) (λ d. LeavesEither (g.disk device) (g.disk left) d)
     pub after : is_halted z ≡ false → WhereItReadsOld (g.disk device) (g.disk left) (λ d. HasOld (g.disk device) (g.disk left) d)
+    pub life : StoppedLife (g.disk device) (g.disk left) fault
 
   -- what became of the device: it isn't opened, or its migration went so far
   abbrev pub MigratesDevice : D → Result ℕ StoreFault → D → Type 0

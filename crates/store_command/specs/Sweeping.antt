@@ -1,11 +1,13 @@
 -- A store that is swept until nothing is left to be taken out.
-use Rattle.std.specs.{Prelude.{◌≡◌, ◌⊎◌, ◌≤◌, ◌^◌, ℕ, List, codes, false, Result, Ok, Err, Vec}, declared.alloc.Global.Global}
+use Rattle.std.specs.{Prelude.{◌≡◌, ◌⊎◌, ◌≤◌, ◌^◌, ℕ, List, [], ◌∷◌, codes, false, Result, Ok, Err, Vec}, declared.alloc.Global.Global}
 use Rattle.{command_output.specs.{claim.Writing.{Written, write_fault_line}, declared.status.Status.Status}, desk_loading.specs.Openings.IsOpened, store_command.specs.Using.Uses}
 use Rattle.{desk_pages.specs.declared.error.StoreError.StoreError, desk_runs.specs.desk_store.{Sweeps.{HasRows, IsClean, SweepRefused}, declared.clerk.Clerk.Clerk}}
-use Rattle.{desk_runs.specs.{desk_store.claim.Clerks.{desk_of, disk_of, is_halted, pages_of, Moves}, store_sweep.Leftovers.IsSweptBy}, store_command.specs.Faults.fault_of_store}
-use Rattle.{desk_store.specs.store_sweep.claim.Checks.AreSoundHoldings, page_btree.specs.claim.Map.InPages as HoldsRows, page_store.specs.claim.Transactions.{device_in, IsQuiet}}
-use Rattle.{sector_device.specs.declared.SectorDevice.Ghosts, store_command.specs.{Filling.{HasDesk, IsNotOpened, WhereItReads}, Reading.{LeavesDesk, ShowsWhatIsRead}}}
-use Rattle.{store_command.specs.{Telling.EndsStore, Texts.rows_text, declared.fault.StoreFault.{StoreFault, TheVariants.NotAStore}}, store_rows.specs.claim.Rows.KeyMap}
+use Rattle.desk_runs.specs.{desk_store.claim.Clerks.{desk_of, disk_of, is_halted, pages_of, Moves}, store_sweep.{Leftovers.IsSweptBy, claim.Checks.AreSoundHoldings}}
+use Rattle.desk_theorem.specs.{claim.{Device.OnDevice, OneLife.{Asked, RequestsHold}}, store_lives.declared.desk_lives.Answer.{Answer, TheVariants.{Swept, Unswept}}}
+use Rattle.{desk_theorem.specs.store_lives.declared.desk_lives.Request.TheVariants.Sweep, page_btree.specs.claim.Map.InPages as HoldsRows, sector_device.specs.claim.Disk.Disk}
+use Rattle.{page_store.specs.claim.Transactions.{device_in, IsQuiet}, sector_device.specs.declared.SectorDevice.Ghosts, store_command.specs.Faults.fault_of_store}
+use Rattle.store_command.specs.{Filling.{HasDesk, IsNotOpened, WhereItReads}, Reading.{LeavesDesk, ShowsWhatIsRead}, Telling.EndsStore, Texts.rows_text}
+use Rattle.{store_command.specs.declared.fault.StoreFault.{StoreFault, TheVariants.NotAStore}, store_rows.specs.claim.Rows.KeyMap}
 
 -- what is printed of so many rows that were taken out or changed
 abbrev pub swept_text : ℕ → List ℕ
@@ -40,18 +42,20 @@ module _ {D : Type 0} {g : Ghosts D} where
     pub w : Clerk D g
     pub before : KeepsDesk x w
     pub worked : is_halted w ≡ false
+    pub last : Moves (desk_of w) w y
     pub why : SweepRefused w e (is_halted y) (pages_of y)
 
   -- more rows were taken out than a store has
-  pub record HasEndless (x : Clerk D g) (m : KeyMap) (y : Clerk D g) : Type 0 where
+  pub record IsEndless (x : Clerk D g) (y : Clerk D g) : Type 0 where
+    pub works : is_halted y ≡ false
     pub rows : ℕ
     pub many : 2 ^ 48 ≤ rows
-    pub taken : HasTaken x m rows y
+    pub taken : (disk_of y).is_honest → (m : KeyMap) → HasRows x m → HasTaken x m rows y
 
   -- a step was refused for this reason; or the device holds what no store has
   abbrev pub IsStopped : Clerk D g → StoreFault → Clerk D g → Type 0
   IsStopped x fault y = ((e : StoreError) × (fault ≡ fault_of_store e) × StepStopped x e y)
-      ⊎ ((fault ≡ NotAStore) × ((disk_of y).is_honest → (m : KeyMap) → HasRows x m → HasEndless x m y))
+      ⊎ ((fault ≡ NotAStore) × IsEndless x y)
 
   -- what steps of a sweep came to
   abbrev pub SweepsSteps : Clerk D g → Result ℕ StoreFault → Clerk D g → Type 0
@@ -78,6 +82,16 @@ module _ {D : Type 0} {g : Ghosts D} where
   SweepsAll x (Ok rows) y = (w : Clerk D g) × IsChecked x w × IsSweptOut w rows y
   SweepsAll x (Err fault) y = IsUnchecked x fault y ⊎ ((w : Clerk D g) × IsChecked x w × IsStopped w fault y)
 
+-- one life, in which one sweep was answered so
+abbrev pub SweptOnce : (old new : Disk) → Answer → Type 0
+SweptOnce old new a = OnDevice (Asked (RequestsHold (Sweep ∷ []) (a ∷ []))) old new
+
+-- so it was by what it came to; a sweep that took out more rows than a store has was given up
+abbrev pub SweptLife : (old new : Disk) → Result ℕ StoreFault → Type 0
+SweptLife old new (Ok rows) = SweptOnce old new (Swept rows)
+SweptLife old new (Err fault) = ((e : StoreError) × (fault ≡ fault_of_store e) × SweptOnce old new (Unswept e))
+    ⊎ ((fault ≡ NotAStore) × ((rows : ℕ) × (2 ^ 48 ≤ rows) × SweptOnce old new (Swept rows)))
+
 module _ {D : Type 0} (g : Ghosts D) where
   -- The device was opened, and the clerk swept it and gave it back so. Where it read as a desk, a stop at any moment of both left this
   -- desk; and where no fault came, what it leaves from then on opens to it.
@@ -91,6 +105,7 @@ module _ {D : Type 0} (g : Ghosts D) where
     pub back : left ≡ device_in (pages_of y)
     pub any_moment : WhereItReads (g.disk device) (g.disk left) (λ d. LeavesDesk (g.disk device) (g.disk left) d)
     pub after : is_halted y ≡ false → WhereItReads (g.disk device) (g.disk left) (λ d. HasDesk (g.disk device) (g.disk left) d)
+    pub life : SweptLife (g.disk device) (g.disk left) swept
 
   -- what became of the device: it isn't opened, or it was swept
   abbrev pub SweepsDevice : D → Result ℕ StoreFault → D → Type 0

@@ -44,6 +44,7 @@ pub fn fill<D: SectorDevice + Drop, P: Progress>(
     requires { IsSynced (D.disk device) }
     ensures { FillsDevice D.SectorDevice device geography.value result.0 result.1 }
 {
+    one_desk_opens();
     let mut clerk = match open_clerk(alloc, device) {
         Ok(clerk) => clerk,
         Err((fault, left)) => return (Err(fault), left),

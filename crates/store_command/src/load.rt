@@ -1,7 +1,8 @@
 //! `load`: a store is filled with what a state's files say.
 ghost use Rattle.std.specs.Prelude.{◌≡◌};
 ghost use Rattle.command_output.specs.Writing.{OfWriters};
-ghost use Rattle.store_command.specs.Loading.{openings_of, ReadsGeography, Fills, EndsLoad, Loads};
+ghost use Rattle.store_command.specs.claim.Files.{openings_of, ReadsGeography};
+ghost use Rattle.store_command.specs.Loading.{Fills, EndsLoad, Loads};
 
 use crate::fault::StoreFault;
 use crate::filling::fill;

@@ -12,6 +12,7 @@ use crate::texts::{put_rows, room_for_text};
 use byte_stream::progress::Progress;
 use byte_stream::sink::Sink;
 use command_output::status::Status;
+use desk_runs::desk_law::one_desk_opens;
 use sector_device::SectorDevice;
 use std::alloc::Global;
 
@@ -24,6 +25,7 @@ fn migrate_device<D: SectorDevice + Drop, P: Progress>(
     requires { IsSynced (D.disk device) }
     ensures { MigratesDevice D.SectorDevice device result.0 result.1 }
 {
+    one_desk_opens();
     let mut migration = match begin(alloc, device) {
         Ok(migration) => migration,
         Err((fault, left)) => return (Err(fault), left),

@@ -13,6 +13,7 @@ use crate::texts::{put_rows, room_for_text};
 use byte_stream::progress::Progress;
 use byte_stream::sink::Sink;
 use command_output::status::Status;
+use desk_runs::desk_law::one_desk_opens;
 use sector_device::SectorDevice;
 use std::alloc::Global;
 
@@ -25,6 +26,7 @@ fn sweep_device<D: SectorDevice + Drop, P: Progress>(
     requires { IsSynced (D.disk device) }
     ensures { SweepsDevice D.SectorDevice device result.0 result.1 }
 {
+    one_desk_opens();
     let mut clerk = match open_clerk(alloc, device) {
         Ok(clerk) => clerk,
         Err((fault, left)) => return (Err(fault), left),

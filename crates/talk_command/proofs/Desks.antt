@@ -1,10 +1,10 @@
 -- A talk of clerks is one of the desks that they show.
 use Rattle.std.{specs.Prelude.{◌⊎◌, ℕ, ◌+◌, Bool, false, List, [], ◌++◌, Option, Result, Ok, Err}, proofs.Common.{refl, sym, ap, subst, inl, inr, ⊎_elim, add-zero}}
 use Rattle.{std.proofs.lemmas.List.append-nil, desk_model.specs.{claim.{Desk.Desk, Outcome.{CommandMay, IsStep}, Sample.sample_desk}, declared.command.Command.Command}}
-use Rattle.{desk_model.specs.declared.reply.{Refusal.TheVariants.{BadCompanion, Full, Memory, Halted}, Reply.Reply}, desk_store.specs.claim.Clerks.desk_of}
-use Rattle.{desk_store.specs.declared.clerk.Clerk.Clerk, http_desk.specs.{claim.{Serving.{ServesTo, IsPrefixTalk, IsCutInHead}, Talk.Talk}, declared.serve.Served.Served}}
-use Rattle.{http_desk.specs.declared.serve.StreamFault.StreamFault, sector_device.specs.declared.SectorDevice.Ghosts, talk_command.proofs.Seen.talk_seen}
-use Rattle.talk_command.specs.Desks.{desk_commands, desk_asks, DeskTalk, IsTalkToHead, DeskServesTo, ServesDesk}
+use Rattle.{desk_model.specs.declared.reply.{Refusal.TheVariants.{BadCompanion, Full, Memory, Halted}, Reply.Reply}, desk_runs.specs.desk_store.claim.Clerks.desk_of}
+use Rattle.{desk_runs.specs.desk_store.declared.clerk.Clerk.Clerk, desk_theorem.specs.claim.Streams.Ends, http_desk.specs.claim.Serving.{ServesTo, IsPrefixTalk, IsCutInHead}}
+use Rattle.{http_desk.specs.{claim.Talk.Talk, declared.serve.{Served.Served, StreamFault.StreamFault}}, sector_device.specs.declared.SectorDevice.Ghosts}
+use Rattle.talk_command.{specs.Desks.{desk_commands, desk_asks, DeskTalk, IsTalkToHead, DeskServesTo, ServesDesk}, proofs.Seen.talk_seen}
 use Rattle.talk_command.specs.claim.Talking.{clerk_commands, clerk_asks, ServesSample, ServesClerk, IsUnserved}
 use Rattle.desk_model.specs.declared.reply.Reply.TheVariants as reply
 use Rattle.http_desk.specs.declared.serve.StreamFault.TheVariants as fault
@@ -23,14 +23,14 @@ outcome_seen must may failed d c (reply.Retired name) e told = inl (λ none. non
 outcome_seen must may failed d c _ e told = absurd told
 
 -- no clerk could be made
-unserved_seen : (served : Result Served StreamFault) (unread left before after : Option (List ℕ)) → IsUnserved served unread left before after → ServesDesk served unread left before after
-unserved_seen served unread left before after is = record {
+unserved_seen : (served : Result Served StreamFault) (old new : Ends) → IsUnserved served old new → ServesDesk served old.unread new.unread old.written new.written
+unserved_seen served old new is = record {
   last = sample_desk;
   input = [];
   output = [];
   reads = is.reads;
   writes = is.writes;
-  serves = subst (λ (s : Result Served StreamFault). DeskServesTo sample_desk s left [] [] sample_desk) (sym is.memory) (refl, refl);
+  serves = subst (λ (s : Result Served StreamFault). DeskServesTo sample_desk s new.unread [] [] sample_desk) (sym is.memory) (refl, refl);
 }
 
 module _ {D : Type 0} {g : Ghosts D} where
@@ -67,15 +67,15 @@ module _ {D : Type 0} {g : Ghosts D} where
   served_seen (Err fault.Memory) left x input output y told = (told.0, told.1)
   served_seen (Err _) left x input output y told = ⊎_elim (λ all. inl (all.0, desks_talk x input output all.0 false y all.1)) (λ cut. inr (head_seen x input output y cut)) told
 
-  clerk_seen : (served : Result Served StreamFault) (unread left before after : Option (List ℕ)) → ServesClerk g served unread left before after → ServesDesk served unread left before after
-  clerk_seen served unread left before after is = record {
+  clerk_seen : (served : Result Served StreamFault) (old new : Ends) → ServesClerk g served old new → ServesDesk served old.unread new.unread old.written new.written
+  clerk_seen served old new is = record {
     last = desk_of is.last;
     input = is.serves.input;
     output = is.serves.output;
     reads = is.serves.reads;
     writes = is.serves.writes;
-    serves = subst (λ (d : Desk). DeskServesTo d served left is.serves.input is.serves.output (desk_of is.last)) is.desk (served_seen served left is.clerk is.serves.input is.serves.output is.last is.serves.serves);
+    serves = subst (λ (d : Desk). DeskServesTo d served new.unread is.serves.input is.serves.output (desk_of is.last)) is.desk (served_seen served new.unread is.clerk is.serves.input is.serves.output is.last is.serves.serves);
   }
 
-  pub sample_seen : (served : Result Served StreamFault) (unread left before after : Option (List ℕ)) → ServesSample g served unread left before after → ServesDesk served unread left before after
-  sample_seen served unread left before after = ⊎_elim (clerk_seen served unread left before after) (unserved_seen served unread left before after)
+  pub sample_seen : (served : Result Served StreamFault) (old new : Ends) → ServesSample g served old new → ServesDesk served old.unread new.unread old.written new.written
+  sample_seen served old new = ⊎_elim (clerk_seen served old new) (unserved_seen served old new)

@@ -1,3 +1,4 @@
 pub mod Seen
 pub mod Desks
 mod Streams
+mod Living

@@ -1,6 +1,6 @@
 -- The commands of a talk are a run.
 use Rattle.{std.proofs.Common.{ℕ, ◌+◌, Bool, true, false, List, [], ◌++◌, Option, Result, Ok, Err, inl, inr, subst}, desk_runs.specs.claim.Runs.{Call, Run, SurvivesEachRun}}
-use Rattle.{desk_store.specs.declared.clerk.Clerk.Clerk, http_desk.specs.{claim.{Serving.ServesTo, Talk.{Talk, MayAnswer}}, declared.serve.Served.Served}}
+use Rattle.{desk_runs.specs.desk_store.declared.clerk.Clerk.Clerk, http_desk.specs.{claim.{Serving.ServesTo, Talk.{Talk, MayAnswer}}, declared.serve.Served.Served}}
 use Rattle.http_desk.specs.{declared.serve.StreamFault.StreamFault, http_routes.{claim.Orders.order_of, declared.order.Order.Order}, http_wire.claim.Prefix.{closes_after, is_head}}
 use Rattle.sector_device.specs.declared.SectorDevice.{Ghosts}
 use Rattle.talk_command.specs.claim.Served.{DoesAtCounter, AsksAtCounter, calls_with, calls_in, calls_served, SurvivesEachStream}

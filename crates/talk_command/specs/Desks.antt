@@ -1,10 +1,10 @@
 -- The same talk, told of desks alone.
 use Rattle.std.specs.{Io.KnownBytes.{Appends, Consumes, IsAtEnd}, Prelude.{◌≡◌, ◌⊎◌, ⊤, ℕ, false, Bool, List, [], ◌++◌, Option, IfSome, Result, Ok, Err}}
 use Rattle.{desk_catalogue.specs.claim.Audits.AskMay, desk_model.specs.{claim.{Desk.Desk, Outcome.CommandMay, Sample.sample_desk}, declared.command.{Command.Command, Query.Query}}}
-use Rattle.{desk_model.specs.declared.reply.{Refusal.TheVariants.Halted, Reply.{Reply, TheVariants.Refused}}, desk_store.specs.declared.clerk.Clerk.Clerk}
-use Rattle.{desk_store.specs.claim.Clerks.{desk_of, is_halted, room_of, sectors_of, Keeps}, http_desk.specs.{claim.{Serving.IsCutTalk, Talk.Talk}, declared.serve.Served.Served}}
-use Rattle.{http_desk.specs.{declared.serve.StreamFault.StreamFault, http_wire.claim.Interim.IsCutHead}, sector_device.specs.declared.SectorDevice.Ghosts}
-use Rattle.talk_command.specs.claim.Talking.{ServesSample}
+use Rattle.{desk_model.specs.declared.reply.{Refusal.TheVariants.Halted, Reply.{Reply, TheVariants.Refused}}, desk_runs.specs.desk_store.declared.clerk.Clerk.Clerk}
+use Rattle.{desk_runs.specs.desk_store.claim.Clerks.{desk_of, is_halted, room_of, sectors_of, Keeps}, desk_theorem.specs.claim.Streams.Ends, http_desk.specs.claim.Talk.Talk}
+use Rattle.http_desk.specs.{claim.Serving.IsCutTalk, declared.serve.{Served.Served, StreamFault.StreamFault}, http_wire.claim.Interim.IsCutHead}
+use Rattle.{sector_device.specs.declared.SectorDevice.Ghosts, talk_command.specs.claim.Talking.ServesSample}
 use Rattle.http_desk.specs.declared.serve.StreamFault.TheVariants as fault
 
 -- A command has the desk's step, or it is refused for want of room or of memory, or since the device failed, and the desk is as it was.
@@ -50,8 +50,8 @@ pub record ServesDesk (served : Result Served StreamFault) (unread left before a
 -- a talk of clerks over the sample desk is one of desks
 abbrev pub SampleIsServed : {D : Type 0} → Ghosts D → Type 0
 SampleIsServed g =
-    (served : Result Served StreamFault) (unread left before after : Option (List ℕ)) → ServesSample g served unread left before after
-    → ServesDesk served unread left before after
+    (served : Result Served StreamFault) (old new : Ends) → ServesSample g served old new
+    → ServesDesk served old.unread new.unread old.written new.written
 
 -- a clerk, where there is one, keeps this desk on a device of so many sectors, and has 256 journal pages
 pub record IsClerkOf {D : Type 0} {g : Ghosts D} (kept : Desk) (sectors : ℕ) (result : Option (Clerk D g)) : Type 0 where

@@ -11,6 +11,7 @@
 //! - `serve_clerk`, a stream at any clerk: `Serves`, and each crash state opens to the desk after
 //!   some of the stream's commands, with every acknowledged one (`ServesDurably`).
 //!   `streams_survive`: the same for whatever talk `serve` allows.
+//! - Both are one life of the store, with the five clauses of the claim (`StreamHolds`).
 //!
 //! # Not proved
 //!

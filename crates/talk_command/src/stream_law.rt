@@ -2,7 +2,7 @@
 ghost use Rattle.talk_command.specs.claim.Served.{SurvivesEachStream};
 
 use desk_runs::law::runs_survive;
-use desk_store::clerk::Clerk;
+use desk_theorem::Clerk;
 use sector_device::SectorDevice;
 
 /// Whatever is served at a clerk from now on, and however it ends, the acknowledged commands of it outlive each stop, as

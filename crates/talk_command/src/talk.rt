@@ -3,19 +3,18 @@ ghost use Rattle.std.specs.Prelude.{◌≡◌, Err};
 ghost use Rattle.byte_stream.specs.claim.Counts.{counted};
 ghost use Rattle.http_desk.specs.claim.Serving.{read_failures, write_failures};
 ghost use Rattle.desk_model.specs.claim.Sample.{sample_desk};
-ghost use Rattle.desk_store.specs.Keeping.{sealed_desk};
+ghost use Rattle.desk_runs.specs.desk_store.Keeping.{sealed_desk};
 ghost use Rattle.sector_memory.specs.Device.{disk_of};
-ghost use Rattle.talk_command.specs.claim.Talking.{Talks, ServesSample, status_of as status_of_served};
+ghost use Rattle.talk_command.specs.claim.Talking.{Talks, ServesSample, ends_of, status_of as status_of_served};
 ghost use Rattle.talk_command.specs.Faults.{fault_line as line_of_fault};
 ghost use Rattle.talk_command.specs.Desks.{IsClerkOf};
 
 use crate::serve::serve_clerk;
 use byte_stream::source::Source;
 use command_output::status::Status;
-use desk_loading::start;
 use desk_model::gate::NoGate;
 use desk_model::geography::{Geography, sample};
-use desk_store::clerk::Clerk;
+use desk_theorem::{Clerk, start};
 use http_desk::GatherSink;
 use http_desk::serve::{Served, StreamFault};
 use sector_device::SectorDevice;
@@ -59,8 +58,9 @@ fn serve_sample<R: Source, W: GatherSink>(
     reader: &mut R,
     writer: &mut W,
 ) -> Result<Served, StreamFault>
-    ensures serves { ServesSample ⟦<MemoryDevice as SectorDevice>⟧ result (R.remaining reader.old)
-        (R.remaining reader.new) (W.contents writer.old) (W.contents writer.new) }
+    ensures serves { ServesSample ⟦<MemoryDevice as SectorDevice>⟧ result
+        (ends_of (R.remaining reader.old) (R.turns reader.old) (R.failures reader.old) (W.contents writer.old) (W.failures writer.old))
+        (ends_of (R.remaining reader.new) (R.turns reader.new) (R.failures reader.new) (W.contents writer.new) (W.failures writer.new)) }
     ensures read_failures { R.failures reader.new ≡ read_failures (R.failures reader.old) result }
     ensures write_failures { W.failures writer.new ≡ write_failures (W.failures writer.old) result }
     ensures turns { result ≡ Err StreamFault.TurnLimit → R.turns reader.new ≡ counted (R.turns reader.old) 4294967296 }

@@ -1,7 +1,7 @@
 -- What a stop at any moment of a served stream leaves.
 use Rattle.std.{specs.{Io.KnownBytes.{Appends, Consumes}, Prelude.{◌≡◌, ℕ, ◌+◌, Bool, true, false, List, [], ◌∷◌, ◌++◌, Option, Result, Ok, Err}}, proofs.Common.{inl, inr}}
-use Rattle.{desk_catalogue.specs.claim.Audits.AskMay, desk_model.specs.declared.{command.{Command.Command, Query.Query}, reply.Reply.Reply}, desk_store.specs.claim.Commands.Does}
-use Rattle.{desk_runs.specs.claim.Runs.{Call, Run, Survives}, desk_store.specs.{claim.Clerks.{desk_of, disk_of, Keeps}, declared.clerk.Clerk.Clerk}}
+use Rattle.{desk_catalogue.specs.claim.Audits.AskMay, desk_model.specs.declared.{command.{Command.Command, Query.Query}, reply.Reply.Reply}}
+use Rattle.desk_runs.specs.{claim.Runs.{Call, Run, Survives}, desk_store.{claim.{Clerks.{desk_of, disk_of, Keeps}, Commands.Does}, declared.clerk.Clerk.Clerk}}
 use Rattle.http_desk.specs.{claim.{Serving.{ServesTo, IsShortTalk}, Talk.{Talk, MayAnswer}}, declared.serve.{Served.Served, StreamFault.StreamFault}}
 use Rattle.http_desk.specs.{http_routes.{claim.Orders.order_of, declared.order.Order.Order}, http_wire.claim.Prefix.{closes_after, is_head}}
 use Rattle.sector_device.specs.declared.SectorDevice.{Ghosts}

@@ -44,7 +44,7 @@ returns-in-Err-clause-moves g c =
 pub returns-in-Err-clause-puts : goal.returns-in-Err-clause-puts
 returns-in-Err-clause-puts g c =
     let before = c.loop-steps.invariant in
-    inl (c.in-Err.e, c.store_fault.ensures, record { w = c.loop-steps.migration; before = before.moves; worked = before.working; why = c.in-Err.ensures.err })
+    inl (c.in-Err.e, c.store_fault.ensures, record { w = c.loop-steps.migration; before = before.moves; worked = before.working; last = c.in-Err.ensures.moves; why = c.in-Err.ensures.err })
 
 pub returns-clause-puts : goal.returns-clause-puts
-returns-clause-puts g c = endless c.args.migration.now c.loop-steps.migration c.loop-steps.rows (omega arith) c.loop-steps.invariant.put
+returns-clause-puts g c = endless c.args.migration.now c.loop-steps.migration c.loop-steps.rows (omega arith) c.loop-steps.invariant.working c.loop-steps.invariant.put

@@ -34,7 +34,10 @@ returns-then-count-eq0 g c =
     }
 
 pub returns-in-Err : goal.returns-in-Err
-returns-in-Err g c = record { keeps = search (rules, kept_after); sweeps = search (step_stopped, c.in-Err.ensures.maintains.err) }
+returns-in-Err g c = record {
+  keeps = search (rules, kept_after);
+  sweeps = step_stopped c.args.clerk.now c.loop-steps.clerk c.sweep_step.new.self c.in-Err.e c.store_fault.result c.store_fault.ensures c.loop-steps.invariant.kept c.loop-steps.invariant.working c.in-Err.ensures.maintains.moves c.in-Err.ensures.maintains.err;
+}
 
 pub returns-clause-sweeps : goal.returns-clause-sweeps
-returns-clause-sweeps g c = endless c.args.clerk.now c.loop-steps.clerk c.loop-steps.rows (omega arith) c.loop-steps.invariant.taken
+returns-clause-sweeps g c = endless c.args.clerk.now c.loop-steps.clerk c.loop-steps.rows (omega arith) c.loop-steps.invariant.working c.loop-steps.invariant.taken

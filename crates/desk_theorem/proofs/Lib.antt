@@ -1,0 +1,13 @@
+pub mod Sweeping
+pub mod Requests
+mod Refused
+mod Audits
+mod Readers
+mod StreamAsked
+pub mod Sim
+pub mod OneLife
+pub mod Device
+mod Lives
+pub mod Asked
+pub mod Looked
+pub use Rattle.store_lives.proofs as store_lives

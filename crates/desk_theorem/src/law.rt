@@ -1,0 +1,16 @@
+//! The laws on lives.
+ghost use Rattle.http_seats.specs.Streams.{traffic};
+ghost use Rattle.desk_theorem.specs.claim.Lives.{LivesOnDevice, PlanDesk};
+
+use http_connections::arrivals::Arrivals;
+use sector_device::SectorDevice;
+
+/// States that lives which each begin on a crash state of the life before are lives of the first store.
+pub fn lives_are_one<A: Arrivals>()
+    ensures { PlanDesk (λ a. traffic A.gives A.takes_back A.Reader.Source A.Writer.Sink a) }
+{}
+
+/// States that a life on a device that was synced when it was opened is a life on what the device read, whichever crash state it leaves.
+pub fn devices_live<D: SectorDevice, A: Arrivals>()
+    ensures { LivesOnDevice (λ a. traffic A.gives A.takes_back A.Reader.Source A.Writer.Sink a) D.SectorDevice }
+{}
