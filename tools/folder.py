@@ -24,15 +24,17 @@ def make_folder(path):
         raise Refused('WriteFault', 6) from None
 
 
-def write_whole(path, data):
-    """Writes a file beside its place and then puts it there, so that a stop leaves the old one or the new one."""
+def write_whole(path, data, synced=True):
+    """Writes a file next to its place and then moves it there, so that a stop leaves the old one or the new one. If it is not synced,
+    a crash of the machine can leave an empty one."""
     part = f'{path}.part'
     make_folder(os.path.dirname(path))
     try:
         with open(part, 'wb') as file:
             file.write(data)
             file.flush()
-            os.fsync(file.fileno())
+            if synced:
+                os.fsync(file.fileno())
         os.replace(part, path)
     except (OSError, ValueError):
         raise Refused('WriteFault', 6) from None
@@ -83,7 +85,8 @@ class Pages:
         # what no earlier run wrote is somebody else's, unless it is the same
         if name not in self.known and os.path.lexists(self.place(name)) and read_file(self.place(name)) != data:
             raise Refused(f'OtherFile {name}')
-        write_whole(self.place(name), data)
+        # after a crash the next run finds by the hash what isn't as it was written
+        write_whole(self.place(name), data, synced=False)
         self.now[name] = {'of': of, 'sha256': digest(data)}
         self.made += 1
 
