@@ -2,7 +2,7 @@
 use crate::explanation::FaultRow;
 
 /// `tools/plan`.
-pub(crate) static TOOL_PLAN: [FaultRow; 23] = [
+pub(crate) static TOOL_PLAN: [FaultRow; 34] = [
     (
         "Unreadable",
         "",
@@ -163,6 +163,83 @@ pub(crate) static TOOL_PLAN: [FaultRow; 23] = [
         "",
         "Printing failed.",
         "Check the disk, or the program that reads the output.",
+    ),
+    (
+        "BadArchive",
+        "KIND",
+        "",
+        "The zip file or spreadsheet is cut off, damaged, or locked by a password.",
+        "Ask for the file again.",
+    ),
+    (
+        "ManyParts",
+        "NAMES",
+        "",
+        "The zip file has several files, or the spreadsheet several sheets with values.",
+        "Give the right one with --part.",
+    ),
+    (
+        "NoPart",
+        "NAMES",
+        "",
+        "The zip file or spreadsheet has no part of the name that --part gives, or none at all; or the file is neither.",
+        "Check --part against the names that the line shows.",
+    ),
+    (
+        "NoModule",
+        "NAME",
+        "",
+        "Reading a spreadsheet needs a Python module that is missing.",
+        "Install it with `apt-get install python3-openpyxl`, or save the sheet as CSV.",
+    ),
+    (
+        "BadHeader",
+        "line N",
+        "",
+        "Line N of the geographic header is not a line of the 2020 census's file.",
+        "Use the file unzipped and unchanged.",
+    ),
+    (
+        "NoStateBlocks",
+        "",
+        "",
+        "The geographic header has no block.",
+        "Use the whole header of the state.",
+    ),
+    (
+        "UnknownBlock",
+        "line N ..",
+        "",
+        "The block on this line is not in the geographic header.",
+        "Check whether the plan is of another state or of another census.",
+    ),
+    (
+        "NoRule",
+        "",
+        "of `tools/audit`",
+        "Nothing says what kind of plan the file is, and how many districts it has.",
+        "Give --kind with --districts, or a pattern with --of.",
+    ),
+    (
+        "BadRule",
+        "WORDS",
+        "of `tools/audit`",
+        "The kind is not congress, senate or house, or the number of districts is not 1 to 99 for congress, otherwise 1 to 999.",
+        "Mend it.",
+    ),
+    (
+        "HighDistrict",
+        "",
+        "of `tools/audit`",
+        "A district is above the plan's number of districts.",
+        "Check --districts or --of: the plan may be of another kind.",
+    ),
+    (
+        "NoFiles",
+        "",
+        "of `tools/audit`",
+        "The folders contain no file.",
+        "Check their names.",
     ),
 ];
 

@@ -2,7 +2,7 @@
 use crate::explanation::FaultRow;
 
 /// Tools that ask a server.
-pub(crate) static TOOL_SERVER: [FaultRow; 17] = [
+pub(crate) static TOOL_SERVER: [FaultRow; 18] = [
     (
         "BadAddress",
         "",
@@ -44,6 +44,13 @@ pub(crate) static TOOL_SERVER: [FaultRow; 17] = [
         "",
         "The server's certificate is of an unknown authority, is for another name, or is out of date.",
         "Give the authority's certificate with --ca, and write the server's name as the certificate has it.",
+    ),
+    (
+        "UnknownHost",
+        "",
+        "",
+        "No address was found for the host name in the address.",
+        "Check the spelling, /etc/hosts and the DNS.",
     ),
     (
         "NoTls",
