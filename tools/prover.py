@@ -6,7 +6,7 @@ from crate_lines import ROOT, below
 RT = shutil.which('rt')
 if not RT:
     print("plandesk: there is no `rt` on the PATH, without which nothing is proved or built: "
-          "see 'Run it' in README.md", file=sys.stderr)
+          "see 'Check the program, or build it yourself' in README.md", file=sys.stderr)
     sys.exit(127)
 KIT = os.path.dirname(os.path.dirname(os.path.realpath(RT)))
 RATTLE = f'{KIT}/bin/rattle'

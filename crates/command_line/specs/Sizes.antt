@@ -1,4 +1,4 @@
--- How large a store is for what it is to hold: the reckoning of docs/FORMATS.md, each part of which is rounded up.
+-- How large a store has to be for what it will contain: the formula of docs/dev/STORE-FORMAT.md, each part of which is rounded up.
 use Rattle.std.specs.Prelude.{ℕ, ◌≤◌, ◌+◌, ◌*◌, ◌/◌, nat_le, max, ◌&&◌, if◌then◌else◌, Option, Some, None}
 use Rattle.command_line.specs.declared.options.Size.{Size}
 

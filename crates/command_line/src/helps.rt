@@ -13,7 +13,7 @@ Errors are printed as 'plandesk: FILE: CODE', where FILE is a role such as geo o
 after the error line, or run 'plandesk explain CODE'. 'plandesk explain' lists all codes.";
 
 pub(crate) const FORMAT_HELP: &str =
-    "Give the size in one of two forms: --sectors and --journal, or what the store is to hold (--blocks, --counties, --plans and
+    "Give the size in one of two forms: --sectors and --journal, or what the store will contain (--blocks, --counties, --plans and
 --revisions), from which plandesk computes the size, for three pairs of neighbours a block. A store cannot grow later.
 
 format writes every sector of the file, so a disk that is full later does not affect the store. If it fails with status 4 or 5, remove

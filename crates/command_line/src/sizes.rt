@@ -1,4 +1,4 @@
-//! How large a store is to be for what it is to hold, as docs/FORMATS.md reckons it.
+//! How large a store has to be for what it will contain, by the formula of docs/dev/STORE-FORMAT.md.
 ghost use Rattle.std.specs.Prelude.{◌≡◌, ◌≤◌, ◌*◌, IfSome};
 ghost use Rattle.command_line.specs.Options.{IsSize};
 ghost use Rattle.command_line.specs.Sizes.{few_enough, free_for, geography_pages as geography_for, revision_pages as revision_for, size_reckoned, IsStateSize};

@@ -115,7 +115,7 @@ const CHECK: &[Argument] = &[
     Argument::Valued(
         "senate",
         "FILE",
-        "Senate plan in whose districts those of a house plan have to lie",
+        "Senate plan for the nesting test of a house plan",
         Values::Texts,
         Presence::Optional(&["senate-districts"]),
     ),
@@ -185,7 +185,7 @@ const FORMAT: &[Argument] = &[
     Argument::Valued(
         "plans",
         "P",
-        "Number of plans that the store is to hold (1 to 65535)",
+        "Number of plans that the store will contain (1 to 65535)",
         Values::Numbers("a number of plans", 1, 65_535),
         Presence::Optional(&["blocks"]),
     ),

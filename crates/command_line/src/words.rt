@@ -84,7 +84,7 @@ const WRONG_NUMBER: &str =
 const WRONG_WORKERS: &str = "error: '--workers <N>' is 1 to 64\n";
 
 const NO_SIZE: &str =
-    "error: the store's size is missing\n\nGive it as '--sectors <N> --journal <J>', or as what the store is to hold: '--blocks <B> --counties <C> --plans <P> --revisions <R>'.\n";
+    "error: the store's size is missing\n\nGive it as '--sectors <N> --journal <J>', or as what the store will contain: '--blocks <B> --counties <C> --plans <P> --revisions <R>'.\n";
 
 const TOO_LARGE: &str =
     "error: a store for this would be too large: it can have 4294967295 sectors and 65536 journal pages at most\n";
@@ -413,7 +413,7 @@ fn no_code<'a>(alloc: Global, options: &ArgMatches<'a>) -> Mistake {
             telling(
                 Status::Usage,
                 format!(in alloc;
-                    "error: '{given}' has no code of plandesk or its tools\n\nGive a code such as G1, Stale or 42.4.3, or a whole error line. Without CODE, explain lists all codes.\n"
+                    "error: '{given}' is not a code of plandesk or its tools\n\nGive a code such as G1, Stale or 42.4.3, or a whole error line. Without CODE, explain lists all codes.\n"
                 ),
             )
         }

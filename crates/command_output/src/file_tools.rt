@@ -50,14 +50,14 @@ pub(crate) static TOOL_PLAN: [FaultRow; 34] = [
         "line N",
         "",
         "A quotation mark is not closed, or something other than a delimiter follows it.",
-        "Mend the line.",
+        "Correct the line.",
     ),
     (
         "BadFields",
         "line N",
         "",
         "The line has more or fewer fields than the first row.",
-        "Mend the line, or give --delimiter.",
+        "Correct the line, or give --delimiter.",
     ),
     (
         "NoIdColumn",
@@ -155,7 +155,7 @@ pub(crate) static TOOL_PLAN: [FaultRow; 34] = [
         "line N",
         "",
         "The table of --letters could not be read, or its line N is not a name and a number (or ZZ), or repeats a name.",
-        "Mend the table.",
+        "Correct the table.",
     ),
     (
         "WriteFault",
@@ -225,7 +225,7 @@ pub(crate) static TOOL_PLAN: [FaultRow; 34] = [
         "WORDS",
         "of `tools/audit`",
         "The kind is not congress, senate or house, or the number of districts is not 1 to 99 for congress, otherwise 1 to 999.",
-        "Mend it.",
+        "Correct it.",
     ),
     (
         "HighDistrict",
@@ -341,14 +341,14 @@ pub(crate) static TOOL_REPORT: [FaultRow; 20] = [
         "",
         "",
         "The date is not written as 2031-09-30 or 2031-09-30T16:00:00Z, or SOURCE_DATE_EPOCH is not a number of seconds.",
-        "Mend it.",
+        "Correct it.",
     ),
     (
         "BadHref",
         "",
         "",
         "The address of a link is neither relative nor one of http or https.",
-        "Mend it.",
+        "Correct it.",
     ),
     (
         "BadName",
@@ -362,7 +362,7 @@ pub(crate) static TOOL_REPORT: [FaultRow; 20] = [
         "",
         "",
         "The number of a revision is not 1 to 5 digits.",
-        "Mend it, or leave it out for the last revision.",
+        "Correct it, or leave it out for the last revision.",
     ),
     (
         "NoPlan",
@@ -450,7 +450,7 @@ pub(crate) static TOOL_NEIGHBOURS: [FaultRow; 14] = [
         "N",
         "",
         "Line N of the links is not two different blocks of the shapes.",
-        "Mend it.",
+        "Correct it.",
     ),
     (
         "WriteFault",

@@ -167,7 +167,7 @@ pub(crate) static PLAN: [FaultRow; 6] = [
         "line N",
         "",
         "The line is not a 15-digit block number, a bar (|) and a district: 1 to 3 digits, `ZZ`, `ZZZ` or nothing.",
-        "Mend the line, or convert the file by `tools/plan FILE > plan.txt`. Look for commas, spaces, and leading zeros that a spreadsheet removed.",
+        "Correct the line, or convert the file by `tools/plan FILE > plan.txt`. Look for commas, spaces, and leading zeros that a spreadsheet removed.",
     ),
     (
         "B3",
@@ -188,6 +188,6 @@ pub(crate) static PLAN: [FaultRow; 6] = [
         "line N",
         "",
         "The district on this line is 0, or above the plan's number of districts.",
-        "Mend the line, or check `--districts`; for a companion plan, check `--senate-districts` or `--congress-districts`.",
+        "Correct the line, or check `--districts`; for a companion plan, check `--senate-districts` or `--congress-districts`.",
     ),
 ];

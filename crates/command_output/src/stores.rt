@@ -22,7 +22,7 @@ pub(crate) static STORE: [FaultRow; 14] = [
         "",
         "",
         "`format` was given too few sectors: fewer than 64 pages would remain next to the journal. No file was created.",
-        "Give more sectors, or give what the store is to hold: `--blocks`, `--counties`, `--plans` and `--revisions`.",
+        "Give more sectors, or give what the store will contain: `--blocks`, `--counties`, `--plans` and `--revisions`.",
     ),
     (
         "WrongSize",

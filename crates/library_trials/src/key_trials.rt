@@ -1,4 +1,4 @@
-//! Keys of rows, by the table of docs/FORMATS.md.
+//! Keys of rows, by the table of docs/dev/STORE-FORMAT.md.
 ghost use Rattle.store_rows.specs.RowKeys.{IsShort, row_of};
 
 use store_rows::RowKey;
