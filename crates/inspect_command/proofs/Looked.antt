@@ -1,14 +1,14 @@
 -- A device that a clerk opened, and that was opened once more by its pages.
-use Rattle.{std.{specs.Prelude.{Result, Ok, Err, IfOk, IfErr}, proofs.Common.{◌≡◌, ℕ, true, refl, sym, subst, ◌∙◌, inl, inr, arith}}, desk_model.specs.claim.Desk.Desk}
+use Rattle.{std.{specs.Prelude.{Result, Ok, Err, IfOk, IfErr}, proofs.Common.{◌≡◌, ◌≤◌, ℕ, [], true, refl, sym, subst, ◌∙◌, inl, inr, arith}}, desk_model.specs.claim.Desk.Desk}
 use Rattle.{desk_pages.specs.{Openings.{AllDesks, LeavesOneOf, OpensOneOf}, claim.Desks.OpensDesk}, inspect_command.specs.{Figures.AreHeld, declared.figures.Held.Held}}
 use Rattle.inspect_command.specs.{Rows.{AreCounted, CountsRows, IsUncounted}, Stats.{joined, HasNoFigures, IsLookedAt, StatsDevice}, declared.rows.Rows.Rows}
 use Rattle.{page_btree.specs.claim.Map.InPages, page_store.specs.{claim.Transactions.{disk_in, device_in, count_of, journal_of, IsQuiet}, declared.pages.Pages.Pages}}
 use Rattle.{page_store.specs.gate_journal.Recovery.Found, sector_device.specs.{claim.Disk.Disk, declared.SectorDevice.Ghosts}, store_command.specs.desk_loading.Openings.IsOpened}
 use Rattle.store_command.specs.{Reading.{LeavesDesk, ShowsWhatIsRead}, declared.fault.StoreFault.{StoreFault, TheVariants.Memory}, desk_runs.Recovery.ImagesAreOne}
-use Rattle.{store_command.specs.desk_store.{claim.Clerks.{disk_of, pages_of}, declared.clerk.Clerk.Clerk}, store_rows.specs.claim.Rows.KeyMap}
-use Rattle.{desk_pages.proofs.Found.{found_after, rows_before}, sector_device.proofs.Moments.{leaves_more, leaves_now, leaves_wider}}
+use Rattle.store_command.specs.{desk_store.{claim.Clerks.{disk_of, pages_of}, declared.clerk.Clerk.Clerk}, desk_theorem.claim.OneLife.RequestsHold}
+use Rattle.{store_rows.specs.claim.Rows.KeyMap, desk_pages.proofs.Found.{found_after, rows_before}, sector_device.proofs.Moments.{leaves_more, leaves_now, leaves_wider}}
 use Rattle.store_command.proofs.desk_runs.One.{few_sectors}
-use Rattle.store_command.proofs.desk_store.Opened.{reopened}
+use Rattle.store_command.proofs.{Opened.asked_life, desk_store.Opened.reopened, desk_theorem.{Asked.none_asked, Looked.looked_on}}
 
 then_left : ImagesAreOne → (old mid new : Disk) (d : Desk) → mid.sectors ≡ old.sectors → LeavesDesk old mid d → AllDesks mid → new.is_honest → LeavesOneOf mid new → LeavesDesk old new d
 then_left law old mid new d sectors first all honest then =
@@ -22,8 +22,8 @@ then_left law old mid new d sectors first all honest then =
 
 module _ {D : Type 0} (g : Ghosts D) where
   looked_at : ImagesAreOne → (device : D) (x : Clerk D g) (left : D) → IsOpened device x → ShowsWhatIsRead device x → (g.disk left).sectors ≡ (disk_of x).sectors → ((g.disk left).is_honest → (disk_of x).is_honest) → LeavesOneOf (disk_of x) (g.disk left)
-      → IsLookedAt g device x left
-  looked_at law device x left opened shows sectors honest leaves =
+      → ((g.disk left).is_honest → (disk_of x).faults ≤ (g.disk left).faults) → IsLookedAt g device x left
+  looked_at law device x left opened shows sectors honest leaves more =
       let same : (disk_of x).sectors ≡ (g.disk device).sectors = sym (pages_of x).journal.room.whole ∙ opened.sectors in
       record {
         opened = opened;
@@ -31,6 +31,7 @@ module _ {D : Type 0} (g : Ghosts D) where
         sectors = sectors ∙ same;
         honest = honest;
         any_moment = λ good d reads. then_left law (g.disk device) (disk_of x) (g.disk left) d same ((shows d reads).any_moment (honest good)) (reopened x (shows d reads).keeps (honest good)) good leaves;
+        life = looked_on law (g.disk device) (disk_of x) (g.disk left) (asked_life law device x x (RequestsHold [] []) opened (none_asked x)) sectors honest more leaves;
       }
 
   no_figures : (device : D) (x : Clerk D g) (left : D) (fault : StoreFault) → IsLookedAt g device x left → IsUncounted g (device_in (pages_of x)) left fault → HasNoFigures g device fault left
@@ -47,13 +48,14 @@ module _ {D : Type 0} (g : Ghosts D) where
   -- what the clerk gave back was opened by its pages
   abbrev Reopened : D → D → Result Rows StoreFault → Type 0
   Reopened middle left counted = ((g.disk left).sectors ≡ (g.disk middle).sectors) × ((g.disk left).is_honest → (g.disk middle).is_honest) × LeavesOneOf (g.disk middle) (g.disk left)
+      × ((g.disk left).is_honest → (g.disk middle).faults ≤ (g.disk left).faults)
       × IfOk counted (λ rows. CountsRows g middle rows left) × IfErr counted (λ fault. IsUncounted g middle left fault)
 
   pub stated : ImagesAreOne → (device : D) (x : Clerk D g) (middle left : D) (sectors : ℕ) (told : Result Held StoreFault) (counted : Result Rows StoreFault) → IsOpened device x → ShowsWhatIsRead device x → middle ≡ device_in (pages_of x) → sectors ≡ (g.disk device).sectors → IfOk told (λ held. AreHeld x held) → IfErr told (λ fault. fault ≡ Memory)
       → Reopened middle left counted → StatsDevice g device (joined sectors told counted) left
   stated law device x middle left sectors told counted opened shows is same has none again =
       let here : Reopened (device_in (pages_of x)) left counted = subst (λ (m : D). Reopened m left counted) is again in
-      told_so device x left sectors told counted (looked_at law device x left opened shows here.0 here.1 here.2) same has none here.3 here.4
+      told_so device x left sectors told counted (looked_at law device x left opened shows here.0 here.1 here.2 here.3) same has none here.4 here.5
 
   pub counts : (device : D) (a b : Pages D g) (left : D) (result : Result Rows StoreFault) → left ≡ device_in b → ((disk_in a).is_honest → Found (journal_of a) (count_of a) (g.disk device) (disk_in a)) → IsQuiet a b → IfOk result (λ rows. rows.pages ≡ count_of a)
       → ((disk_in b).is_honest → (m : KeyMap) → InPages a m → IfOk result (λ rows. AreCounted m rows)) → IfOk result (λ rows. CountsRows g device rows left)

@@ -1,5 +1,5 @@
 -- Rows that aren't read, where a device failed.
-use Rattle.std.{specs.Prelude.{◌<◌, Result, Ok, Err, OnErr, IfErr}, proofs.Common.{rules, ◌≡◌, Bool, true, false, inl, inr, refl, sym, subst, ◌∙◌, arith}}
+use Rattle.std.{specs.Prelude.{◌<◌, Result, Ok, Err, OnErr, IfErr}, proofs.Common.{rules, ◌≡◌, ◌≤◌, Bool, true, false, inl, inr, refl, sym, subst, ◌∙◌, arith}}
 use Rattle.{desk_pages.specs.{Errors.page_refusal, Openings.LeavesOneOf, Reading.ReadErr}, inspect_command.specs.Rows.{fault_of_rows, AreUnread, IsUncounted}}
 use Rattle.{inspect_command.specs.declared.rows.Rows.Rows, page_btree.specs.{claim.Map.InTxn, declared.error.TreeError.TreeError}, page_store.specs.Transactions.OpenErr}
 use Rattle.page_store.specs.{claim.Transactions.{stored, disk_in, device_in, count_of, journal_of, has_halted, IsQuiet}, declared.{pages.Pages.Pages, txn.Txn.Txn}}
@@ -15,6 +15,10 @@ pub opened_leaves : (old new : Disk) → (new.is_honest → AllStores old → Le
 opened_leaves old new leaves honest all = open_leaves old new all (leaves honest (stores_of old (all_versions old all)))
 
 module _ {D : Type 0} {g : Ghosts D} where
+  -- pages that were opened and only read met no fewer faults
+  pub no_less : (a b : Pages D g) (old : Disk) → has_halted a ≡ false → ((disk_in a).is_honest → (disk_in a).faults ≡ old.faults) → IsQuiet a b → (disk_in b).is_honest → old.faults ≤ (disk_in b).faults
+  no_less a b old working passed quiet honest = let same = passed (quiet.honest honest) in let more = (quiet.moves honest working).faults in omega (arith, same, more)
+
   pub unread : (t : Txn) (a b : Pages D g) (e : TreeError) → ReadErr IsAny t a b e → has_halted a ≡ false → (disk_in b).is_honest → (m : KeyMap) → InTxn t (stored a) m → (disk_in a).faults < (disk_in b).faults
   unread t a b tree.DeviceFault why working honest m holds = why.rose honest
   unread t a b tree.NotAStore why working honest m holds = absurd (why honest m holds tt)

@@ -11,3 +11,4 @@ pub use Rattle.store_command.specs as store_command
 pub use Rattle.store_command.specs.desk_loading
 pub use Rattle.store_command.specs.desk_runs
 pub use Rattle.store_command.specs.desk_store
+pub use Rattle.store_command.specs.desk_theorem

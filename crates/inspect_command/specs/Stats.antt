@@ -1,10 +1,11 @@
 -- A store of which is told how full it is.
-use Rattle.std.specs.{Prelude.{◌≡◌, ◌⊎◌, ◌<◌, ℕ, List, codes, Result, Ok, Err, Vec}, declared.alloc.Global.Global}
+use Rattle.std.specs.{Prelude.{◌≡◌, ◌⊎◌, ◌<◌, ℕ, List, [], codes, Result, Ok, Err, Vec}, declared.alloc.Global.Global}
 use Rattle.{command_output.specs.{claim.Writing.{Written, write_fault_line}, declared.status.Status.Status}, inspect_command.specs.{Figures.AreHeld, Rows.CountsRows}}
 use Rattle.{inspect_command.specs.{Texts.figures_text, declared.{figures.{Figures.Figures, Held.Held}, rows.Rows.Rows, texts.Style.Style}}, store_command.specs.Telling.EndsStore}
 use Rattle.{page_store.specs.claim.Transactions.device_in, sector_device.specs.declared.SectorDevice.Ghosts, store_command.specs.Filling.{IsNotOpened, WhereItReads}}
 use Rattle.store_command.specs.{Reading.{LeavesDesk, ShowsWhatIsRead}, declared.fault.StoreFault.{StoreFault, TheVariants.{NotAStore, DeviceFault, Memory}}}
-use Rattle.store_command.specs.{desk_loading.Openings.IsOpened, desk_store.{claim.Clerks.{disk_of, pages_of}, declared.clerk.Clerk.Clerk}}
+use Rattle.store_command.specs.{desk_loading.Openings.IsOpened, desk_store.{claim.Clerks.{disk_of, pages_of}, declared.clerk.Clerk.Clerk}, desk_theorem.claim.Device.OnDevice}
+use Rattle.store_command.specs.desk_theorem.claim.OneLife.{Asked, RequestsHold}
 
 -- the figures, where both parts of them were found
 abbrev pub joined : ℕ → Result Held StoreFault → Result Rows StoreFault → Result Figures StoreFault
@@ -14,13 +15,14 @@ joined sectors (Err fault) counted = Err fault
 
 module _ {D : Type 0} (g : Ghosts D) where
   -- The device was opened by a clerk, and then by its rows alone. Where it read as a desk, the clerk shows this desk, and a stop at any
-  -- moment of both, and from then on, leaves it.
+  -- moment of both, and from then on, leaves it. So this is one life, in which nothing is asked.
   pub record IsLookedAt (device : D) (x : Clerk D g) (left : D) : Type 0 where
     pub opened : IsOpened device x
     pub shows : ShowsWhatIsRead device x
     pub sectors : (g.disk left).sectors ≡ (g.disk device).sectors
     pub honest : (g.disk left).is_honest → (disk_of x).is_honest
     pub any_moment : WhereItReads (g.disk device) (g.disk left) (λ d. LeavesDesk (g.disk device) (g.disk left) d)
+    pub life : OnDevice (Asked (RequestsHold [] [])) (g.disk device) (g.disk left)
 
   -- and the figures are what the clerk tells, and the rows that are counted
   pub record HasFigures (device : D) (figures : Figures) (left : D) : Type 0 where

@@ -8,7 +8,7 @@
 //!
 //! - `stat` prints the counts of the desk, and says Full for a command exactly if `IsShort` holds
 //!   for it (`TellsNeed`): the same condition by which the clerk refuses. A crash at any moment
-//!   leaves the desk (`StatsStore`).
+//!   leaves the desk (`StatsStore`). It is one life of the store, in which nothing is asked.
 //! - `verify` succeeds only if each page has one owner (`AreOwned`) and the rows are those of a
 //!   desk (`IsSound`). Otherwise it reports a fault, a page only if it is wrong (`IsWrongPage`), a
 //!   row only if it does not belong (`VerifiesStore`).
@@ -31,4 +31,6 @@ pub mod verify;
 mod verifying;
 
 pub use parallel_verify::Readers;
-pub use store_command::{Clerk, fault, filling, stores, swept_law, telling};
+pub use store_command::{
+    Clerk, desk_law, fault, filling, format, load, migrate, stores, sweep, swept_law, telling,
+};

@@ -99,6 +99,7 @@ pub fn rows_of<D: SectorDevice>(alloc: Global, device: D) -> (Result<Rows, Store
     ensures sectors { (D.disk result.1).sectors ≡ (D.disk device).sectors }
     ensures honest { (D.disk result.1).is_honest → (D.disk device).is_honest }
     ensures any_moment { LeavesOneOf (D.disk device) (D.disk result.1) }
+    ensures faults { (D.disk result.1).is_honest → (D.disk device).faults ≤ (D.disk result.1).faults }
     ensures counted { IfOk result.0 (λ rows. CountsRows D.SectorDevice device rows result.1) }
     ensures err { IfErr result.0 (λ fault. IsUncounted D.SectorDevice device result.1 fault) }
 {

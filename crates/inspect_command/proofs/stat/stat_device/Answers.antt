@@ -7,4 +7,4 @@ returns g c =
     let rows = c.rows_of-counted.ensures in
     subst (λ (r : Result Figures StoreFault). StatsDevice g.D.SectorDevice c.args.device r c.rows_of-counted.result.1) (sym c.join.ensures)
     (stated g.D.SectorDevice c.one_desk_opens.ensures c.args.device c.in-Ok.clerk c.into_device-middle.result c.rows_of-counted.result.1 c.count-sectors.result c.held_by-told.result c.rows_of-counted.result.0
-    c.in-Ok.ensures.ok c.in-Ok.ensures.shows c.into_device-middle.ensures c.count-sectors.ensures c.held_by-told.ensures.held c.held_by-told.ensures.err (rows.sectors, rows.honest, rows.any_moment, rows.counted, rows.err))
+    c.in-Ok.ensures.ok c.in-Ok.ensures.shows c.into_device-middle.ensures c.count-sectors.ensures c.held_by-told.ensures.held c.held_by-told.ensures.err (rows.sectors, rows.honest, rows.any_moment, rows.faults, rows.counted, rows.err))
