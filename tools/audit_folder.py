@@ -13,7 +13,7 @@ from plan_file import bytes_of, quoted
 from plan_pieces import agree, ground_of, read_plan
 from plan_turn import turned
 
-TESTS = 'geo', 'seg1', 'seg2', 'seg3', 'gal'
+ROLES = 'geo', 'seg1', 'seg2', 'seg3', 'gal'
 REFUSED = re.compile(r'plandesk: (?:(\w+): )?(.*)\Z')
 LINE = re.compile(r'B[0-9] line ([0-9]+)\Z')
 
@@ -86,7 +86,7 @@ class State:
 
     def words(self, kind):
         """The options of `plandesk check` for a plan of this kind, but for the plan."""
-        words = [word for role in TESTS for word in (f'--{role}', self.paths[role])]
+        words = [word for role in ROLES for word in (f'--{role}', self.paths[role])]
         for role, kinds in (('senate', ('house',)), ('congress', ('house', 'senate'))):
             if role in self.companions and kind in kinds:
                 path, districts = self.companions[role]
@@ -137,14 +137,22 @@ def checked(state, rule, path, plan):
     raise Refused(code + value, words=words)
 
 
+def put_text(path, text):
+    """Writes a turned plan for the program to read; without room for it no plan can be audited."""
+    try:
+        with open(path, 'w', encoding='ascii') as file:
+            file.write(text)
+    except OSError:
+        raise StateRefused('WriteFault', 6) from None
+
+
 def outcome(state, job):
     """The audit of a plan, and its page."""
     rule = chosen_rule(state.rules, job.path)
     data = bytes_of(job.path)
     plan = turned(data, state.reading(rule.districts))
     text, path = plan.text(), os.path.join(state.folder, f'{job.number}.txt')
-    with open(path, 'w', encoding='ascii') as file:
-        file.write(text)
+    put_text(path, text)
     line = checked(state, rule, path, plan)
     os.remove(path)
     report, ground = read(line), ground_of(read_plan(text.encode()), state.near, state.people)

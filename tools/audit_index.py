@@ -109,7 +109,8 @@ def plans_table(entries, timed, caption):
     """The table of an index."""
     heads = [('Plan', False), ('Kind', False), *([('When', False)] if timed else []), ('Result', False), ('Largest deviation', True),
              ('Mean deviation', True), ('Overall range', True), ('Pieces', True), ('Divided counties', True), ('Without a district', True)]
-    rows = [(plan_cell(entry), kind_cell(entry), *([time_part(entry.time) if entry.revision else ''] if timed else []), result_cell(entry), *figures_cells(entry))
+    rows = [(plan_cell(entry), kind_cell(entry), *([time_part(entry.time) if entry.revision else ''] if timed else []),
+             result_cell(entry), *figures_cells(entry))
             for entry in entries]
     return table(caption, heads, rows, labelled=True, class_='stacks')
 
