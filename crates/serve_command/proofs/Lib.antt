@@ -1,3 +1,5 @@
 mod Ends
 mod Failing
 mod Lasts
+mod Offices
+pub mod Living

@@ -1,9 +1,10 @@
 -- A store that is served: what is opened, printed and told, and the status that goes with it.
-use Rattle.std.specs.{Borrow.Bor, Prelude.{◌≡◌, ◌⊎◌, ℕ, List, ◌++◌, codes, decimal, Bool, true, false, Option, Some, None, Result, Ok, Err}}
+use Rattle.std.specs.{Borrow.Bor, Prelude.{◌≡◌, ◌⊎◌, ℕ, List, [], ◌++◌, codes, decimal, Bool, true, false, Option, Some, None, Result, Ok, Err}}
 use Rattle.{byte_stream.specs.declared.sink.WriteFault.WriteFault, command_output.specs.claim.{Faults.status_of_open, Writing.{Written, Writes, Told}}}
 use Rattle.{command_output.specs.declared.status.Status.Status, desk_model.specs.claim.Desk.Desk, http_connections.specs.declared.ran.Ran.Ran}
 use Rattle.{http_seats.specs.{claim.Streams.Traffic, desk_gallery.Working.IsRunFrom}, inspect_command.specs.{desk_loading.Openings.IsOpened, desk_store.declared.clerk.Clerk.Clerk}}
-use Rattle.inspect_command.specs.{desk_store.claim.Clerks.{desk_of, disk_of, is_halted, pages_of, Keeps}, store_command.{Filling.IsNotOpened, Reading.{ReadsDesk, ShowsWhatIsRead}}}
+use Rattle.inspect_command.specs.{desk_store.claim.Clerks.{desk_of, disk_of, is_halted, pages_of, Keeps}, desk_theorem.claim.Device.OnDevice, store_command.Filling.IsNotOpened}
+use Rattle.inspect_command.specs.{desk_theorem.claim.OneLife.{Asked, ClosedHolds, OfficeHolds, RequestsHold}, store_command.Reading.{ReadsDesk, ShowsWhatIsRead}}
 use Rattle.inspect_command.specs.store_command.{Telling.{store_line, status_of as status_of_store}, declared.fault.StoreFault.StoreFault}
 use Rattle.{inspect_command.specs.store_command.declared.fault.StoreFault.TheVariants.{Memory, NotAStore, DeviceFault}, page_store.specs.claim.Transactions.device_in}
 use Rattle.{sector_device.specs.declared.SectorDevice.Ghosts, serve_command.specs.{Outlasting.{FailsSince, OutlastsWhatIsRead}, claim.Lasting.{LastsAsked, ServesStreams}}}
@@ -76,6 +77,7 @@ module _ {D O : Type 0} (g : Ghosts D) (opens : O → List ℕ → Result D Stor
     pub middle : O
     pub given : IsOpen before name clerk middle
     pub closed : ClosesClerk middle clerk after
+    pub life : OnDevice (Asked (RequestsHold [] [])) (g.disk given.device) (disk_of clerk)
 
   -- the name's device was opened, and not as a store, and was closed so
   pub record IsNoStore (before : O) (name : List ℕ) (fault : StoreFault) (after : O) : Type 0 where
@@ -114,6 +116,7 @@ module _ {D O : Type 0} (g : Ghosts D) (opens : O → List ℕ → Result D Stor
       pub listens : listening ≡ Some listener
       pub came_to : Ran
       pub served : ServesStreams (streams listener) workers first last came_to
+      pub life : OnDevice (Asked (OfficeHolds (streams listener) workers came_to)) (g.disk found.device) (disk_of last)
       pub survives : OutlastsWhatIsRead found.device first last served.lasts
       pub told : heard listener came_to
       pub failed : fails listener socket_failed
@@ -135,6 +138,7 @@ module _ {D O : Type 0} (g : Ghosts D) (opens : O → List ℕ → Result D Stor
       pub listener : A
       pub listens : listening ≡ Some listener
       pub done : LastsAsked (streams listener) first last
+      pub life : OnDevice (Asked (ClosedHolds (streams listener) workers)) (g.disk found.device) (disk_of last)
       pub survives : OutlastsWhatIsRead found.device first last done.lasts
       pub closed : ClosesClerk middle last after
 

@@ -1,2 +1,3 @@
 -- What has to be read to believe a promise.
 pub mod Lasting
+pub mod Living

@@ -9,6 +9,8 @@ ghost use Rattle.http_seats.specs.desk_gallery.Working.{IsRunFrom};
 ghost use Rattle.http_seats.specs.claim.Streams.{IsAskedOf};
 ghost use Rattle.http_seats.specs.Streams.{traffic};
 ghost use Rattle.serve_command.specs.claim.Lasting.{HasTalked, LastsAsked, ServesStreams};
+ghost use Rattle.inspect_command.specs.desk_theorem.claim.OneLife.{ClosedHolds, OfficeHolds};
+ghost use Rattle.inspect_command.specs.desk_theorem.store_lives.DeskInside.{LivedThrough};
 ghost use Rattle.serve_command.specs.Lasting.{clerk_in};
 
 use desk_catalogue::catalogue::Catalogue;
@@ -101,6 +103,8 @@ pub fn serve_clerk<
     ensures ran { IsRunFrom (desk_of clerk) (desk_of (clerk_in result)) }
     ensures lasts { LastsAsked (traffic A.gives A.takes_back A.Reader.Source A.Writer.Sink arrivals.now) clerk (clerk_in result) }
     ensures served { IfOk result (λ end. ServesStreams (traffic A.gives A.takes_back A.Reader.Source A.Writer.Sink arrivals.now) workers clerk end.0 end.1) }
+    ensures life { IfOk result (λ end. LivedThrough (OfficeHolds (traffic A.gives A.takes_back A.Reader.Source A.Writer.Sink arrivals.now) workers end.1) clerk end.0) }
+    ensures closed { LivedThrough (ClosedHolds (traffic A.gives A.takes_back A.Reader.Source A.Writer.Sink arrivals.now) workers) clerk (clerk_in result) }
 {
     each_swept_run_survives::<D>();
     // (the blocks never change, and each visitor shows this catalogue or one that a command made of it)

@@ -18,6 +18,7 @@ use command_output::status::Status;
 use command_output::telling::send_line;
 use connection_log::watching::Watched;
 use inspect_command::Clerk;
+use inspect_command::desk_law::one_desk_opens;
 use inspect_command::fault::StoreFault;
 use inspect_command::filling::open_clerk;
 use inspect_command::stores::Stores;
@@ -93,6 +94,7 @@ fn serve_store<
         (Some listening.now) serving.workers serving.port stores.old name.now result stores.new
         (written_of W.contents W.failures writer.old) (written_of W.contents W.failures writer.new) }
 {
+    one_desk_opens();
     let Ok(text) = listening_text(alloc, serving.port) else {
         return Err(ServeFault::Store(StoreFault::Memory));
     };

@@ -1,5 +1,6 @@
 use Rattle.{std.proofs.Common.{ap, subst, ◌∙◌}, desk_model.specs.claim.Desk.Desk, http_seats.specs.{Streams.traffic, desk_gallery.Working.IsRunFrom}}
 use Rattle.{inspect_command.specs.desk_store.claim.Clerks.desk_of, serve_command.{specs.Lasting.clerk_in, proofs.Lasts.{all_serve, lasts_asked, none_asked}}}
+use Rattle.serve_command.proofs.Offices.{all_live, closed_life}
 use Rattle.serve_command.proofs.office.serve_clerk.Goals as goal
 
 pub returns-clause-ran : goal.returns-clause-ran
@@ -17,3 +18,12 @@ returns-clause-lasts g c =
 
 pub returns-in_default-clause-lasts : goal.returns-in_default-clause-lasts
 returns-in_default-clause-lasts g c = rw c.keep_blocks.ensures (none_asked _ c.args.clerk c.each_swept_run_survives.ensures)
+
+pub returns-clause-life : goal.returns-clause-life
+returns-clause-life g c = all_live (traffic g.A.Arrivals.gives g.A.Arrivals.takes_back g.A.Reader.Source g.A.Writer.Sink c.args.arrivals.now) c.args.workers c.args.clerk c.serve_named.result (returns-clause-served g c)
+
+pub returns-clause-closed : goal.returns-clause-closed
+returns-clause-closed g c = closed_life (traffic g.A.Arrivals.gives g.A.Arrivals.takes_back g.A.Reader.Source g.A.Writer.Sink c.args.arrivals.now) c.args.workers c.args.clerk (clerk_in c.serve_named.result) (returns-clause-lasts g c)
+
+pub returns-in_default-clause-closed : goal.returns-in_default-clause-closed
+returns-in_default-clause-closed g c = closed_life _ c.args.workers c.args.clerk _ (returns-in_default-clause-lasts g c)

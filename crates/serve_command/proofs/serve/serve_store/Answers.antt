@@ -1,7 +1,8 @@
-use Rattle.{std.proofs.Common.{◌≡◌, ℕ, List, Some, Result, Ok, Err, ◌∙◌, inl, inr, refl, sym, subst}, command_output.specs.{Writing.written_of, claim.Writing.Writes}}
+use Rattle.{std.proofs.Common.{◌≡◌, ℕ, List, [], Some, Result, Ok, Err, ◌∙◌, inl, inr, refl, sym, subst}, command_output.specs.{Writing.written_of, claim.Writing.Writes}}
 use Rattle.{http_seats.specs.Streams.traffic, inspect_command.specs.desk_store.claim.Clerks.pages_of, page_store.specs.claim.Transactions.has_halted}
 use Rattle.serve_command.{specs.{Outlasting.FailsSince, Serving.{listening_text, HasAnnounced, Announces}, declared.fault.ServeFault.ServeFault}, proofs.Ends.run_ends}
 use Rattle.serve_command.proofs.Lasts.{fails_since, lasts_on, none_read}
+use Rattle.inspect_command.{specs.desk_theorem.claim.OneLife.{ClosedHolds, OfficeHolds, RequestsHold}, proofs.{desk_theorem.Asked.none_asked, store_command.Opened.asked_life}}
 use Rattle.serve_command.proofs.serve.serve_store.Goals as goal
 
 pub returns-in-Err-send : goal.returns-in-Err-send
@@ -16,6 +17,7 @@ returns-in-Err-send g c =
         middle = c.open_store.new.stores;
         given = c.in-Ok-open_store.ensures;
         closed = subst (λ d. g.O.Stores.closes c.open_store.new.stores d c.close.new.self) c.into_device.ensures c.close.ensures;
+        life = asked_life c.one_desk_opens.ensures _ _ _ (RequestsHold [] []) c.in-Ok-open_store.ensures.opened (none_asked c.in-Ok-open_store.clerk);
       },
     )
 
@@ -44,6 +46,7 @@ returns-in-Ok-serve_clerk g c =
       listens = refl;
       came_to = c.in-Ok-serve_clerk.ran;
       served = c.in-Ok-serve_clerk.ensures.served;
+      life = asked_life c.one_desk_opens.ensures _ _ _ (OfficeHolds (streams c.args.listening.now) c.args.serving.workers c.in-Ok-serve_clerk.ran) c.in-Ok-open_store.ensures.opened c.in-Ok-serve_clerk.ensures.life;
       survives = lasts_on c.in-Ok-open_store.ensures.device c.in-Ok-open_store.clerk c.in-Ok-serve_clerk.last c.in-Ok-open_store.ensures.shows c.in-Ok-open_store.ensures.opened.working c.in-Ok-serve_clerk.ensures.served.lasts;
       told = c.hear.ensures;
       failed = c.has_failed.ensures;
@@ -74,6 +77,7 @@ returns g c =
           listener = c.args.listening.now;
           listens = refl;
           done = c.in-Err-serve_clerk.ensures.lasts;
+          life = asked_life c.one_desk_opens.ensures _ _ _ (ClosedHolds (traffic g.A.Arrivals.gives g.A.Arrivals.takes_back g.A.Reader.Source g.A.Writer.Sink c.args.listening.now) c.args.serving.workers) c.in-Ok-open_store.ensures.opened c.in-Err-serve_clerk.ensures.closed;
           survives = lasts_on c.in-Ok-open_store.ensures.device c.in-Ok-open_store.clerk c.in-Err-serve_clerk.unserved c.in-Ok-open_store.ensures.shows c.in-Ok-open_store.ensures.opened.working c.in-Err-serve_clerk.ensures.lasts.lasts;
           closed = subst (λ d. g.O.Stores.closes c.open_store.new.stores d c.close-in-Err-serve_clerk.new.self) c.into_device-in-Err-serve_clerk.ensures c.close-in-Err-serve_clerk.ensures;
         },
