@@ -1,8 +1,8 @@
 -- What an opening of a device comes to.
 use Rattle.std.specs.Prelude.{◌≡◌, ◌≢◌, ◌≤◌, false, None}
-use Rattle.desk_pages.specs.{Openings.{IsSpared, LeavesOneOf}, claim.Openings.{AllVersions, IsOneOf, LeavesOneAs}, declared.error.StoreError.{StoreError, TheVariants.{DeviceFault, NotAStore}}}
-use Rattle.desk_store.specs.{Openings.{IsFound, OpenRefused}, claim.Clerks.{desk_of, disk_of, is_halted, sectors_of, Keeps}, declared.clerk.Clerk.Clerk}
-use Rattle.sector_device.specs.declared.SectorDevice.{Ghosts}
+use Rattle.desk_pages.specs.{Openings.{IsSpared, LeavesOneOf}, claim.Openings.{AllVersions, IsOneOf, LeavesOneAs}, declared.error.StoreError.StoreError}
+use Rattle.{desk_pages.specs.declared.error.StoreError.TheVariants.{DeviceFault, NotAStore}, desk_store.specs.{Openings.{IsFound, OpenRefused}, declared.clerk.Clerk.Clerk}}
+use Rattle.{desk_store.specs.claim.Clerks.{desk_of, disk_of, is_halted, sectors_of, Keeps}, sector_device.specs.declared.SectorDevice.Ghosts}
 
 module _ {D : Type 0} {g : Ghosts D} where
   -- A clerk who opened the device: at each moment of it a stop left what opens to a desk to which one opened before. One of these is
