@@ -9,10 +9,10 @@ module _ {X Y : Type 0} (life : (t u : ℕ) → Desk → X → Y → Desk → Ty
       → (u : ℕ) × (e : Desk) × LifeAfterLife life t u d lives answers e × OpensDesk sectors e left
   lives_on sectors t held left d [] [] opens is = (t, d, (omega arith, refl), rw is opens)
   lives_on sectors t held left d (asked ∷ lives) (told ∷ answers) opens is =
-      let first = is.1 d opens in
-      let s = t + (first.after - first.before) in
-      let rest = lives_on sectors s is.0 left first.last lives answers first.opens is.2 in
-      (rest.0, rest.1, (s, omega arith, first.last, later first.before first.after t s (λ less. omega (arith, less)) (λ same. omega (arith, same)) d asked told first.last first.lived, rest.2), rest.3)
+      let first = is.2 d opens in
+      let s = t + (is.1 - first.before) in
+      let rest = lives_on sectors s is.0 left first.last lives answers first.opens is.3 in
+      (rest.0, rest.1, (s, omega arith, first.last, later first.before is.1 t s (λ less. omega (arith, less)) (λ same. omega (arith, same)) d asked told first.last first.lived, rest.2), rest.3)
   lives_on sectors t held left d _ _ opens is = absurd is
 
   are_lives : AreLives life
@@ -23,12 +23,11 @@ module _ {X Y : Type 0} (life : (t u : ℕ) → Desk → X → Y → Desk → Ty
 module _ {R W P Q A : Type 0} (ends : R → W → Ends) (streams : A → Traffic P Q) (workers : ℕ) where
   pub asked_in_file_law : AskedInFileLaw ends streams workers
   asked_in_file_law = record {
-    one = λ sectors held left asking told life d opens.
+    one = λ sectors held left after asking told life d opens.
         (let is = life (version_2, d) opens in
-        let one = one_asked ends streams workers is.before is.after d asking told is.last is.lived.told_so in
+        let one = one_asked ends streams workers is.before after d asking told is.last is.lived.told_so in
         record {
           before = is.before;
-          after = is.after;
           last = is.last.1;
           lived = one.1;
           opens = subst (λ (v : Version). OpensAs v sectors is.last.1 left) one.0 is.opens;

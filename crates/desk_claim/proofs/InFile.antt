@@ -26,7 +26,7 @@ only_one law v disk d e holds one =
 
 module _ {R W P Q A : Type 0} (ends : R → W → Ends) (streams : A → Traffic P Q) (workers : ℕ) where
   pub lives_from : ImagesAreOne → (task : Task R W A) (told : Done R W) (n : ℕ) (held : Image) (old new : Disk) → old.sectors ≡ n → old.reads ≡ held → IsSynced old
-      → LivesIn (IsLife ends streams workers task told) old new → new.is_honest → (left : Image) → new.leaves left → LivesFrom ends streams workers n held task told left
+      → LivesIn (IsLife ends streams workers task told) old new → new.is_honest → (left : Image) → new.leaves left → LivesFrom ends streams workers n held task told left new.faults
   lives_from law task told n held old new count reads synced once honest left stops s opens =
       let v = s.0 in
       let d = s.1 in
@@ -37,7 +37,6 @@ module _ {R W P Q A : Type 0} (ends : R → W → Ends) (streams : A → Traffic
       let same : d ≡ is.0 = only_one law v old d is.0 holds is.1 in
       record {
         before = old.faults;
-        after = new.faults;
         no_fewer = once.faults honest (all_open v old d holds);
         last = (became.0, is.2.0);
         lived = life_holds ends streams workers old.faults new.faults (v, d) task told (became.0, is.2.0)
@@ -48,7 +47,7 @@ module _ {R W P Q A : Type 0} (ends : R → W → Ends) (streams : A → Traffic
   pub are_lives : AreLives ends streams workers
   are_lives sectors held left s [] [] opens is = record { last = s; lived = refl; opens = rw is opens }
   are_lives sectors held left s (task ∷ lives) (told ∷ answers) opens is =
-      let first = is.1 s opens in
-      let rest = are_lives sectors is.0 left first.last lives answers first.opens is.2 in
-      record { last = rest.last; lived = (first.before, first.after, first.no_fewer, first.last, first.lived, rest.lived); opens = rest.opens }
+      let first = is.2 s opens in
+      let rest = are_lives sectors is.0 left first.last lives answers first.opens is.3 in
+      record { last = rest.last; lived = (first.before, is.1, first.no_fewer, first.last, first.lived, rest.lived); opens = rest.opens }
   are_lives sectors held left s _ _ opens is = absurd is

@@ -1,20 +1,26 @@
 //! `format` and `load` over the file system and the standard streams.
-ghost use Rattle.std.specs.Prelude.{◌≤◌};
+ghost use Rattle.std.specs.Prelude.{◌≡◌, ◌≤◌};
+ghost use Rattle.sector_file.specs.Device.{file_disk, first_image};
+ghost use Rattle.file_commands.specs.Premises.{IsJustOpened};
+ghost use Rattle.inspect_command.specs.store_command.claim.Living.{LoadsLife};
+ghost use Rattle.inspect_command.specs.store_command.claim.Files.{openings_of};
 
 use crate::faults::{explain_last, standard_error};
 use crate::files::Files;
 use crate::stores::StoreFiles;
-use byte_stream::progress::Telling;
-use byte_stream::sink::WriteSink;
-use byte_stream::source::ReadSource;
+use byte_stream::progress::{Progress, Telling};
+use byte_stream::sink::{Sink, WriteSink};
+use byte_stream::source::{ReadSource, Source};
 use command_line::options::Size;
 use command_output::status::Status;
+use inspect_command::format::format;
+use inspect_command::load::{StateFiles, load};
+use sector_device::SectorDevice;
 use sector_file::{Contents, FileDevice};
 use state_files::open::{CensusPaths, Opener, open_census};
+use std::alloc::Global;
 use std::fs::File;
 use std::io::IsTerminal;
-use store_command::format::format;
-use store_command::load::{StateFiles, load};
 
 /// Makes a store in a new file, whose bytes are printed too where that is asked for.
 pub fn format_store<S: Contents>(
@@ -46,6 +52,24 @@ pub fn format_store<S: Contents>(
     status
 }
 
+/// Fills the store in a file by its name with what the files of a state say, whatever they and that file hold and wherever it is told: one
+/// life of that store.
+pub fn load_in_file<R: Source, S: Contents, P: Progress, W: Sink, E: Sink>(
+    alloc: Global,
+    files: &mut StateFiles<R>,
+    stores: &mut StoreFiles<'_, S>,
+    name: &str,
+    progress: &mut P,
+    writer: &mut W,
+    errors: &mut E,
+) -> Status
+    ensures { LoadsLife ⟦<FileDevice<S> as SectorDevice>⟧ (λ device. IsJustOpened (first_image S.Contents.sector) (file_disk device))
+        (stores.new.is_opened ≡ stores.old.is_opened) result
+        (openings_of R.remaining R.turns R.failures files.old) (openings_of R.remaining R.turns R.failures files.new) }
+{
+    load::<R, FileDevice<S>, _, _, _, _>(alloc, files, stores, name, progress, writer, errors)
+}
+
 /// Fills a store with what the files at these paths say.
 pub fn load_state<S: Contents>(
     rt: &HostRuntime,
@@ -65,7 +89,7 @@ pub fn load_state<S: Contents>(
     let terminal = rt.stderr();
     let is_terminal = terminal.is_terminal();
     let mut progress = Telling::new(terminal, is_terminal, b"plandesk: load: ", 65_536);
-    let status = load::<_, FileDevice<S>, _, _, _, _>(
+    let status = load_in_file(
         rt.alloc(),
         &mut files,
         &mut stores,

@@ -1,12 +1,34 @@
 //! `migrate` over the file system and the standard streams.
+ghost use Rattle.std.specs.Prelude.{◌≡◌};
+ghost use Rattle.sector_file.specs.Device.{file_disk, first_image};
+ghost use Rattle.file_commands.specs.Premises.{IsJustOpened};
+ghost use Rattle.inspect_command.specs.store_command.claim.Living.{MigratesLife};
+
 use crate::faults::{explain_last, standard_error};
 use crate::stores::StoreFiles;
-use byte_stream::progress::Telling;
-use byte_stream::sink::WriteSink;
+use byte_stream::progress::{Progress, Telling};
+use byte_stream::sink::{Sink, WriteSink};
 use command_output::status::Status;
+use inspect_command::migrate::migrate;
+use sector_device::SectorDevice;
 use sector_file::{Contents, FileDevice};
+use std::alloc::Global;
 use std::io::IsTerminal;
-use store_command::migrate::migrate;
+
+/// Migrates the store in a file by its name, whatever the file holds and wherever it is told: one life of that store.
+pub fn migrate_in_file<S: Contents, P: Progress, W: Sink, E: Sink>(
+    alloc: Global,
+    stores: &mut StoreFiles<'_, S>,
+    name: &str,
+    progress: &mut P,
+    writer: &mut W,
+    errors: &mut E,
+) -> Status
+    ensures { MigratesLife ⟦<FileDevice<S> as SectorDevice>⟧ (λ device. IsJustOpened (first_image S.Contents.sector) (file_disk device))
+        (stores.new.is_opened ≡ stores.old.is_opened) result }
+{
+    migrate::<FileDevice<S>, _, _, _, _>(alloc, stores, name, progress, writer, errors)
+}
 
 /// Leads a store from the old version to the new one.
 pub fn migrate_desk<S: Contents>(
@@ -21,7 +43,7 @@ pub fn migrate_desk<S: Contents>(
     let terminal = rt.stderr();
     let is_terminal = terminal.is_terminal();
     let mut progress = Telling::new(terminal, is_terminal, b"plandesk: migrate: ", 16_384);
-    let status = migrate::<FileDevice<S>, _, _, _, _>(
+    let status = migrate_in_file(
         rt.alloc(),
         &mut stores,
         name,

@@ -1,19 +1,19 @@
 //! The premises of what is proved of commands, met at the device that these are handed.
 ghost use Rattle.std.specs.Prelude.{◌≤◌, IfOk, OnOk};
 ghost use Rattle.desk_pages.specs.Desks.{new_desk};
-ghost use Rattle.store_command.specs.Reading.{HoldsWhatIsRead, FindsWhatIsRead, ReadsDesk};
+ghost use Rattle.inspect_command.specs.store_command.Reading.{HoldsWhatIsRead, FindsWhatIsRead, ReadsDesk};
 ghost use Rattle.sector_file.specs.Device.{first_image};
 ghost use Rattle.file_commands.specs.Premises.{HasNoPremise};
 
 use crate::stores::StoreFiles;
 use desk_pages::{StoreError, format};
-use desk_store::clerk::Clerk;
+use inspect_command::Clerk;
+use inspect_command::fault::StoreFault;
+use inspect_command::filling::open_clerk;
+use inspect_command::stores::Stores;
 use sector_device::SectorDevice;
 use sector_file::{Contents, FileDevice};
 use std::alloc::Global;
-use store_command::fault::StoreFault;
-use store_command::filling::open_clerk;
-use store_command::stores::Stores;
 
 /// Opens the store of a name as the commands do. Whatever its file held: where that opens to a desk, each premise of what is proved of
 /// openings, loads, sweeps, migrations, lives, runs and served stores is met by this very device and this clerk. That the device keeps to

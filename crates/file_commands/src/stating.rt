@@ -1,11 +1,34 @@
 //! `stat` over the file system and the standard streams.
+ghost use Rattle.std.specs.Prelude.{◌≡◌};
+ghost use Rattle.sector_file.specs.Device.{file_disk, first_image};
+ghost use Rattle.file_commands.specs.Premises.{IsJustOpened};
+ghost use Rattle.inspect_command.specs.store_command.claim.Living.{LooksLife};
+
 use crate::faults::{explain_last, standard_error};
 use crate::stores::StoreFiles;
-use byte_stream::sink::WriteSink;
+use byte_stream::sink::{Sink, WriteSink};
 use command_output::status::Status;
 use inspect_command::stat::stat;
-use inspect_command::texts::style_of;
+use inspect_command::texts::{Style, style_of};
+use sector_device::SectorDevice;
 use sector_file::{Contents, FileDevice};
+use std::alloc::Global;
+
+/// Tells how full the store in a file by its name is, whatever the file holds and wherever it is told: one life of that store, in which it
+/// is asked nothing.
+pub fn stat_in_file<S: Contents, W: Sink, E: Sink>(
+    alloc: Global,
+    stores: &mut StoreFiles<'_, S>,
+    name: &str,
+    style: Style,
+    writer: &mut W,
+    errors: &mut E,
+) -> Status
+    ensures { LooksLife ⟦<FileDevice<S> as SectorDevice>⟧ (λ device. IsJustOpened (first_image S.Contents.sector) (file_disk device))
+        (stores.new.is_opened ≡ stores.old.is_opened) result }
+{
+    stat::<FileDevice<S>, _, _, _>(alloc, stores, name, style, writer, errors)
+}
 
 /// Prints how full a store is.
 pub fn stat_desk<S: Contents>(
@@ -18,7 +41,7 @@ pub fn stat_desk<S: Contents>(
     let mut stores = StoreFiles::new(rt, start);
     let mut writer = WriteSink::new(rt.stdout());
     let mut errors = standard_error(rt);
-    let status = stat::<FileDevice<S>, _, _, _>(
+    let status = stat_in_file(
         rt.alloc(),
         &mut stores,
         name,

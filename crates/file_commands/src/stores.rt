@@ -7,12 +7,12 @@ ghost use Rattle.file_commands.specs.Refusals.{IsTold, fault_of_file, reason_of_
 
 use command_output::explanation::Reason;
 use inspect_command::Readers;
+use inspect_command::fault::StoreFault;
+use inspect_command::stores::Stores;
 use sector_device::SECTOR_SIZE;
 use sector_file::{Contents, FileDevice, FileError, FileReader};
 use std::fs::{File, metadata};
 use std::io::{Error, ErrorKind};
-use store_command::fault::StoreFault;
-use store_command::stores::Stores;
 
 /// Makes, opens and closes the file of a store in the file system, and knows why it was refused. `S` says what the file holds.
 #[derive(Drop)]
@@ -22,6 +22,8 @@ pub struct StoreFiles<'a, S: Contents> {
     start: Option<S>,
     /// The last device is that of a new file.
     is_new: bool,
+    /// A file that was there was opened as a device.
+    is_opened: bool,
     reason: Option<Reason>,
 }
 
@@ -33,6 +35,7 @@ impl<'a, S: Contents> StoreFiles<'a, S> {
             rt,
             start: Some(start),
             is_new: false,
+            is_opened: false,
             reason: None,
         }
     }
@@ -48,6 +51,7 @@ impl<'a, S: Contents> StoreFiles<'a, S> {
     fn refuse(&mut self, refused: Refused) -> StoreFault
         ensures fault { result ≡ refused.fault }
         ensures reason { self.new.reason ≡ refused.reason }
+        ensures opened { self.new.is_opened ≡ self.old.is_opened }
     {
         self.reason = refused.reason;
         refused.fault
@@ -166,6 +170,7 @@ fn open_device<S: Contents>(
 }
 
 impl<'a, S: Contents> Stores<FileDevice<S>> for StoreFiles<'a, S> {
+    ghost use Rattle.std.specs.Prelude.{true};
     ghost use Rattle.sector_file.specs.Device.{file_disk, first_image};
     ghost use Rattle.file_commands.specs.Premises.{IsJustOpened};
     ghost use Rattle.file_commands.specs.Refusals.{IsTold};
@@ -173,9 +178,9 @@ impl<'a, S: Contents> Stores<FileDevice<S>> for StoreFiles<'a, S> {
     // The reason that is kept is that of the fault.
     ghost makes = { λ _ _ _ result after. IfErr result (λ fault. IsTold fault after.reason) };
 
-    // What the file system has under a name is what `S` says.
-    ghost opens = { λ _ _ result after. IfOk result (λ device. IsJustOpened (first_image S.Contents.sector) (file_disk device))
-        × IfErr result (λ fault. IsTold fault after.reason) };
+    // What the file system has under a name is what `S` says. It is known whether a device was opened.
+    ghost opens = { λ before _ result after. IfOk result (λ device. IsJustOpened (first_image S.Contents.sector) (file_disk device) × (after.is_opened ≡ true))
+        × IfErr result (λ fault. IsTold fault after.reason × (after.is_opened ≡ before.is_opened)) };
 
     ghost closes = { λ _ _ _. Unit {0} };
 
@@ -199,6 +204,7 @@ impl<'a, S: Contents> Stores<FileDevice<S>> for StoreFiles<'a, S> {
         match open_device(self.rt, name, start) {
             Ok(device) => {
                 self.is_new = false;
+                self.is_opened = true;
                 Ok(device)
             }
             Err(refused) => Err(self.refuse(refused)),

@@ -14,23 +14,22 @@ abbrev pub IsStoreAs : ℕ → Store → Image → Type 0
 IsStoreAs sectors s c = OpensAs s.0 sectors s.1 c
 
 module _ {R W P Q A : Type 0} (ends : R → W → Ends) (streams : A → Traffic P Q) (workers : ℕ) where
-  -- From a store on this is one life, and what is left in the file is the store that it ended with. Its device failed so often before, and
-  -- after it.
-  pub record HasLived (sectors : ℕ) (s : Store) (task : Task R W A) (told : Done R W) (left : Image) : Type 0 where
+  -- From a store on this is one life, and what is left in the file is the store that it ended with. Its device had failed so often before,
+  -- and `after` times after it.
+  pub record HasLived (sectors : ℕ) (s : Store) (task : Task R W A) (told : Done R W) (left : Image) (after : ℕ) : Type 0 where
     pub before : ℕ
-    pub after : ℕ
     pub no_fewer : before ≤ after
     pub last : Store
     pub lived : LifeHolds ends streams workers before after s task told last
     pub opens : IsStoreAs sectors last left
 
   -- of whatever store the file held
-  abbrev pub LivesFrom : ℕ → Image → Task R W A → Done R W → Image → Type 0
-  LivesFrom sectors held task told left = (s : Store) → IsStoreAs sectors s held → HasLived sectors s task told left
+  abbrev pub LivesFrom : ℕ → Image → Task R W A → Done R W → Image → ℕ → Type 0
+  LivesFrom sectors held task told left after = (s : Store) → IsStoreAs sectors s held → HasLived sectors s task told left after
 
-  -- of whatever a stop may leave of the file after it, as long as the file's device kept to its model
+  -- of whatever a stop may leave of the file after it, as long as the file's device kept to its model: it has failed as often as that
   abbrev pub PlanDeskInFile : ℕ → Image → Task R W A → Done R W → Disk → Type 0
-  PlanDeskInFile sectors held task told disk = disk.is_honest → (left : Image) → disk.leaves left → LivesFrom sectors held task told left
+  PlanDeskInFile sectors held task told disk = disk.is_honest → (left : Image) → disk.leaves left → LivesFrom sectors held task told left disk.faults
 
   -- life after life in one file: each finds there what a stop left in the one before
   abbrev pub FileLives : ℕ → Image → List (Task R W A) → List (Done R W) → Image → Type 0
@@ -38,7 +37,7 @@ module _ {R W P Q A : Type 0} (ends : R → W → Ends) (streams : A → Traffic
   FileLives sectors held [] (told ∷ answers) left = ⊥
   FileLives sectors held (task ∷ lives) [] left = ⊥
   FileLives sectors held (task ∷ lives) (told ∷ answers) left =
-      (next : Image) × LivesFrom sectors held task told next × FileLives sectors next lives answers left
+      (next : Image) × (after : ℕ) × LivesFrom sectors held task told next after × FileLives sectors next lives answers left
 
   -- from a store on and to the last one, each life with the faults of its own device
   abbrev pub EachLife : Store → List (Task R W A) → List (Done R W) → Store → Type 0

@@ -1,4 +1,4 @@
-use Rattle.store_command.proofs.Read.{holds_read, finds_read}
+use Rattle.inspect_command.proofs.store_command.Read.{holds_read, finds_read}
 use Rattle.file_commands.proofs.premises.lives_find_what_is_read.Goals as goal
 
 pub returns-clause-first : goal.returns-clause-first
