@@ -35,7 +35,7 @@ pub enum Told<R, W> {
     Answers(Vec<Answer>),
     /// The stream was served, to its end or as far as it could be. The reader and the writer come back.
     Served(Result<Served, StreamFault>, R, W),
-    /// Streams were served until no further one came, and this they came to.
+    /// Streams were served until no further one came, with this result.
     Seated(Ran),
     /// Memory for the seats was refused.
     Unseated,

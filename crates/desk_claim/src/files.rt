@@ -37,8 +37,8 @@ pub enum Unmade {
     Store(StoreError),
 }
 
-/// Makes a file of so many sectors a store with so many journal pages. Whatever a stop leaves of it then holds the desk that nothing was
-/// told, and a journal of that size.
+/// Formats a file of `sectors` sectors as a store with `journal_pages` journal pages. Whatever a
+/// crash leaves of it then holds the empty desk and a journal of that size.
 pub fn make_in_file<S: Contents>(
     rt: &HostRuntime,
     path: &str,
@@ -61,8 +61,9 @@ pub fn make_in_file<S: Contents>(
     }
 }
 
-/// Opens the store in a file of so many sectors for one life. Whatever store the file held, this is one life of it, and whatever a stop
-/// leaves of the file then holds the store with which that life ended.
+/// Opens the store in a file of `sectors` sectors for one life. Whatever store the file held, this
+/// is one life of it, and whatever a crash leaves of the file then holds the store with which that
+/// life ended.
 pub fn live_in_file<
     S: Contents + Send + Sync,
     R: Source + Drop,
@@ -97,7 +98,7 @@ pub fn live_in_file<
     }
 }
 
-/// Whatever came to a store in a file, life after life, it was one store that lives on.
+/// Whatever happened to a store in a file, life after life, it was one store that lives on.
 pub fn file_lives_are_one<R: Source, W: GatherSink, A: Arrivals>()
     ensures { (workers : ℕ) → AreLives
         (λ r w. record { unread = R.remaining r; turns = R.turns r; failed_reads = R.failures r; written = W.contents w; failed_writes = W.failures w })

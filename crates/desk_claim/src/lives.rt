@@ -29,14 +29,14 @@ use store_lives::restarts::Restarts;
 #[derive(Drop)]
 pub enum Task<R, W, A> {
     Ask(Asking<R, W, A>),
-    /// The store is led on to the new version, by so many steps at most.
+    /// The store is migrated to the new version, by at most this number of steps.
     Migrate(u32),
 }
 
 /// What came of it.
 #[derive(Drop)]
 pub enum Done<R, W> {
-    /// What was told, or why the store was not opened.
+    /// The answers, or why the store was not opened.
     Told(Result<Told<R, W>, StoreError>),
     Led(Led),
 }
@@ -192,8 +192,8 @@ pub fn live_from<
     live_on::<R, W, A, D, G, T>(rt, alloc, device.stop(), workers, gate, lives)
 }
 
-/// Makes a device a store, which stops. Then it lives on: in each life it is opened, and asked by requests, by a stream or by those who
-/// come to an office, or led on to the new version, and it is stopped.
+/// Formats a device as a store, which crashes. Then it lives on: in each life it is opened, serves
+/// requests, a stream or an office, or is migrated to the new version, and crashes.
 pub fn live<
     R: Source + Drop,
     W: GatherSink + Drop,

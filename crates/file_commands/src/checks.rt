@@ -23,7 +23,7 @@ use std::alloc::Global;
 use std::fs::File;
 use std::thread::Threads;
 
-/// Prints the counts of the census files at these paths, read by so many workers.
+/// Prints the counts of the census files at these paths, read by a number of workers.
 pub fn check_counts<T: Threads + Sync>(
     rt: &HostRuntime,
     threads: &T,
@@ -55,7 +55,7 @@ pub fn check_counts<T: Threads + Sync>(
     status
 }
 
-/// Prints the audit of a plan from the files at these paths, by so many workers.
+/// Prints the audit of a plan from the files at these paths, by a number of workers.
 pub fn check_plan<T: Threads + Sync>(
     rt: &HostRuntime,
     threads: &T,
@@ -108,7 +108,7 @@ fn audit_paths<
     (status, files)
 }
 
-/// The same, where a crew is told of the workers.
+/// The same, with a crew that is notified of the workers.
 fn check_by<T: Threads + Sync, C: Crew + Sync>(
     rt: &HostRuntime,
     threads: &T,
@@ -145,7 +145,7 @@ fn check_by<T: Threads + Sync, C: Crew + Sync>(
         ("seg3", census.seg3),
         ("gal", paths.gal),
         ("plan", paths.plan),
-        // without a companion no fault is told of one
+        // without a companion no fault names one
         ("senate", paths.beside.senate.unwrap_or("")),
         ("congress", paths.beside.congress.unwrap_or("")),
     ];

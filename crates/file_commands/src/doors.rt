@@ -60,7 +60,7 @@ pub fn listening_at<'a, T: Wait + Clock>(
     }
 }
 
-/// They, told to a log where there is one.
+/// Wraps the listener so that connections are logged if there is a log.
 pub fn watching_at<'r, 'a, 'l, T: Wait + Clock + Sync>(
     threads: &'r T,
     listening: Option<&'a Listening<'a, T>>,

@@ -11,13 +11,14 @@ use state_files::open::AuditFiles;
 use std::fs::File;
 use std::io::{IsTerminal, Stderr, Write};
 
-/// Standard error, where a command tells its fault.
+/// Standard error, where a command prints its fault.
 pub fn standard_error(rt: &HostRuntime) -> WriteSink<Noting<Stderr>> {
     WriteSink::new(Noting::new(rt.stderr()))
 }
 
-/// Tells what the fault means whose line was told last, where one was, and that is asked for or somebody sits at a terminal. The files
-/// are those that the command was given, each with its role before its path. The reason is that of a store's device.
+/// Prints the explanation of the last fault, if there was one and `--words` or a terminal asks for
+/// it. The files are those that the command was given, each with its role before its path. The
+/// reason is that of a store's device.
 pub fn explain_last(
     rt: &HostRuntime,
     told: WriteSink<Noting<Stderr>>,
@@ -44,7 +45,7 @@ pub fn explain_audit(
         return;
     }
     if let Some(reader) = faulty_reader(told.line(), files) {
-        // without memory for it the line stands without what the file begins with
+        // without memory for it the line does not say what the file begins with
         if let Ok(text) = prefix_line(rt.alloc(), reader.prefix()) {
             let _ = terminal.write_all(text.as_slice());
         }
@@ -69,7 +70,7 @@ pub fn explain_line(
     let terminal = rt.stderr();
     let is_terminal = terminal.is_terminal();
     let mut errors = WriteSink::new(terminal);
-    // without memory for them the line stands without words
+    // without memory for it the line has no explanation
     let _ = tell_words(
         rt.alloc(),
         with_words,

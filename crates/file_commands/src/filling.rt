@@ -52,8 +52,8 @@ pub fn format_store<S: Contents>(
     status
 }
 
-/// Fills the store in a file by its name with what the files of a state say, whatever they and that file hold and wherever it is told: one
-/// life of that store.
+/// Fills the store in a file by its name with what the files of a state say, whatever they and that
+/// file hold and wherever it is printed: one life of that store.
 pub fn load_in_file<R: Source, S: Contents, P: Progress, W: Sink, E: Sink>(
     alloc: Global,
     files: &mut StateFiles<R>,

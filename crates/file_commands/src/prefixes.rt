@@ -145,7 +145,7 @@ pub(crate) fn first_line(prefix: &[u8]) -> &[u8]
     prefix
 }
 
-/// The line that tells what a file begins with.
+/// Returns the line that says what a file begins with.
 pub fn prefix_line(alloc: Global, prefix: &[u8]) -> Result<Vec<u8>, AllocError>
     ensures { IfOk result (λ text. text.items ≡ prefix_told prefix.now) }
 {
@@ -182,7 +182,7 @@ fn reader_beside(
     }
 }
 
-/// The reader of the plan's file whose first line's fault is told by this line.
+/// Returns the reader of the plan's file if this line reports a fault of its first line.
 pub fn faulty_reader(
     line: &[u8],
     files: AuditFiles<ReadSource<Prefixed<File>>>,

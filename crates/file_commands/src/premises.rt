@@ -39,8 +39,9 @@ pub fn premises_are_met<S: Contents>(
     }
 }
 
-/// Of lives of a store: what was synced as it was opened is a device on which lives may begin, by what it reads; and where it reads as an
-/// image that a stop in a life may have left, it is what the next life finds.
+/// On lives of a store: a device that was synced when it was opened is one on which lives may
+/// begin, with what it reads; and if it reads as a crash state of an earlier life, it is what the
+/// next life finds.
 pub fn lives_find_what_is_read<D: SectorDevice>()
     ensures first { HoldsWhatIsRead D.SectorDevice }
     ensures next { FindsWhatIsRead D.SectorDevice }

@@ -14,8 +14,8 @@ use sector_device::SectorDevice;
 use sector_file::{Contents, FileDevice};
 use std::alloc::Global;
 
-/// Tells how full the store in a file by its name is, whatever the file holds and wherever it is told: one life of that store, in which it
-/// is asked nothing.
+/// Prints how full the store in a file by its name is, whatever the file holds and wherever it is
+/// printed: one life of that store without requests.
 pub fn stat_in_file<S: Contents, W: Sink, E: Sink>(
     alloc: Global,
     stores: &mut StoreFiles<'_, S>,

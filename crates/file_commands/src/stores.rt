@@ -40,7 +40,7 @@ impl<'a, S: Contents> StoreFiles<'a, S> {
         }
     }
 
-    /// Why the device of a store fails, where that is told apart.
+    /// Returns why the device of a store failed, if that is known.
     pub fn reason(&self) -> Option<Reason>
         ensures { result ≡ self.now.reason }
     {
@@ -58,7 +58,7 @@ impl<'a, S: Contents> StoreFiles<'a, S> {
     }
 }
 
-/// Why a file is no device: the fault that is told, and its reason, where that is told apart.
+/// Why a file is no device: the fault, and its reason, if that is known.
 #[derive(Clone, Copy)]
 struct Refused {
     fault: StoreFault,
@@ -146,14 +146,14 @@ fn sectors_of(rt: &HostRuntime, name: &str) -> Result<u32, Refused>
     Ok(sectors as u32)
 }
 
-/// What is told where one file was made or opened, and another is asked for.
+/// The refusal if one file was made or opened already, and another is asked for.
 fn refused_again() -> Refused
     ensures { IsTold result.fault result.reason }
 {
     without_reason(StoreFault::DeviceFault)
 }
 
-/// Opens a file as a device of as many sectors as it has.
+/// Opens a file as a device with the file's number of sectors.
 fn open_device<S: Contents>(
     rt: &HostRuntime,
     name: &str,
@@ -211,8 +211,8 @@ impl<'a, S: Contents> Stores<FileDevice<S>> for StoreFiles<'a, S> {
         }
     }
 
-    // A device's file closes where the device is dropped. That the disk is full is a reason for a new file alone, which is to be
-    // made again.
+    // A device's file closes when the device is dropped. A full disk is a reason only for a new
+    // file, which has to be made again.
     fn close(&mut self, device: FileDevice<S>) {
         if self.is_new && device.is_full() {
             self.reason = Some(Reason::NoRoom);

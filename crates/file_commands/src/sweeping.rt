@@ -15,7 +15,8 @@ use sector_file::{Contents, FileDevice};
 use std::alloc::Global;
 use std::io::IsTerminal;
 
-/// Sweeps the store in a file by its name, whatever the file holds and wherever it is told: one life of that store.
+/// Sweeps the store in a file by its name, whatever the file holds and wherever it is printed: one
+/// life of that store.
 pub fn sweep_in_file<S: Contents, P: Progress, W: Sink, E: Sink>(
     alloc: Global,
     stores: &mut StoreFiles<'_, S>,

@@ -9,7 +9,7 @@ use sector_file::{Contents, FileDevice, FileReader};
 use std::io::IsTerminal;
 use std::thread::Threads;
 
-/// Tells whether a store is one that a desk leaves. Threads read it at once.
+/// Prints whether a store is undamaged. Threads read it at once.
 pub fn verify_desk<T: Threads + Sync, S: Contents + Send>(
     rt: &HostRuntime,
     threads: &T,

@@ -15,7 +15,8 @@ use std::thread::Threads;
 use store_command::desk_law::one_desk_opens;
 use store_command::fault::{StoreFault, store_fault};
 
-/// Opens the store that was found to be sound on a synced device, with so many rows, and gives the device back.
+/// Opens the store on a synced device that was found sound, with this number of rows, and returns
+/// the device.
 fn open_sound<D: SectorDevice + Drop, P: Progress>(
     alloc: Global,
     device: D,
@@ -43,9 +44,10 @@ fn open_sound<D: SectorDevice + Drop, P: Progress>(
     (Ok(found), pages.into_device())
 }
 
-/// Verifies the store that a synced device holds by three readers at once, and gives the device back. Where they don't find it sound, it is
-/// verified one thing after the other, and what isn't so is told. Nothing is written but what a stop in a commit left to be done.
-/// `progress` hears how many pages were looked at so far, and of how many.
+/// Verifies the store on a synced device by three readers at once, and returns the device. If they
+/// do not find it sound, it is verified sequentially and what is wrong is printed. Writes nothing
+/// but what completes an interrupted commit. `progress` is told the number of pages so far and in
+/// all.
 pub(crate) fn verify_beside<
     T: Threads + Sync,
     D: SectorDevice + Drop,

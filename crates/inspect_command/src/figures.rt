@@ -26,12 +26,12 @@ pub struct Held {
     pub revisions: u128,
     /// A revision by which each county changes.
     pub revision: Need,
-    /// A revision by which the largest county alone changes.
+    /// A revision in which only the largest county changes.
     pub patch: Need,
     pub fork: Need,
 }
 
-/// What is told of a store.
+/// The figures of a store.
 #[derive(Clone, Copy)]
 pub struct Figures {
     pub sectors: u32,
@@ -96,7 +96,7 @@ fn count_plans<D: SectorDevice>(
     }
 }
 
-/// What the clerk of a store tells of its desk. An error is `Memory`.
+/// Returns the figures of a clerk's desk. An error is `Memory`.
 pub fn held_by<D: SectorDevice>(alloc: Global, clerk: &Clerk<D>) -> Result<Held, StoreFault>
     requires { is_halted clerk.now ≡ false }
     ensures held { IfOk result (λ held. AreHeld clerk.now held) }

@@ -12,20 +12,20 @@ use std::alloc::{AllocError, Global};
 /// Free pages, and pages of the journal, that each row of a command asks for.
 const ROW_PAGES: u128 = 13;
 
-/// How much room a command needs beside the free pages.
+/// The room that a command needs, compared with the free pages.
 #[derive(Clone, Copy)]
 pub struct Need {
-    /// So many free pages and pages of the journal it asks for.
+    /// The number of free pages and of journal pages that it needs.
     pub pages: u128,
     /// There are too few of the ones or the others.
     pub is_full: bool,
-    /// So many free pages are missing, or left.
+    /// The number of free pages that are missing, or left.
     pub short: u128,
     pub left: u128,
 }
 
-/// The rows that a revision writes by which each county changes, that one writes which changes the largest county alone, and those
-/// of a fork.
+/// The numbers of rows of a revision in which each county changes, of one in which only the largest
+/// county changes, and of a fork.
 #[derive(Clone, Copy)]
 pub struct RowsNeeded {
     pub revision: usize,
@@ -40,7 +40,7 @@ fn is_short(free: u32, journal: u32, pages: u128) -> bool
     (free as u128) < pages || (journal as u128) < pages
 }
 
-/// Room for so many rows.
+/// Returns the room for a number of rows.
 pub(crate) fn need_of(free: u32, journal: u32, rows: usize) -> Need
     ensures { IsNeed free journal rows result }
 {
@@ -67,7 +67,7 @@ fn largest(ranges: &[CountyRange]) -> usize
     place
 }
 
-/// Of so many counties this one alone changes.
+/// Changes of `counties` counties of which only one changes.
 fn only(alloc: Global, counties: usize, place: usize) -> Result<Vec<bool>, AllocError>
     requires { place < counties }
     ensures { IfOk result (λ changes. changes.items ≡ one_changes counties place) }
@@ -77,7 +77,7 @@ fn only(alloc: Global, counties: usize, place: usize) -> Result<Vec<bool>, Alloc
     Ok(changes)
 }
 
-/// Of so many counties each changes.
+/// Changes of `counties` counties that all change.
 fn every(alloc: Global, counties: usize) -> Result<Vec<bool>, AllocError>
     ensures { IfOk result (λ changes. changes.items ≡ all_change counties) }
 {

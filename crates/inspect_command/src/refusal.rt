@@ -14,8 +14,8 @@ use std::alloc::{AllocError, Global};
 use store_command::fault::StoreFault;
 use store_command::telling::{store_line, store_status};
 
-/// Why a store isn't found to be sound. What is no store may have a page or a row that is wrong. `is_stray` tells that such a one was
-/// found in a store whose desk may open.
+/// Why a store is not found sound. What is no store may have a wrong page or row. `is_stray` says
+/// that one was found in a store whose desk may open.
 #[derive(Drop)]
 pub struct Refusal {
     pub fault: StoreFault,
@@ -120,7 +120,7 @@ fn long_line(alloc: Global, refusal: &Refusal) -> Option<Vec<u8>>
     }
 }
 
-/// Tells why, as far as that can be written. Without memory for it the fault's line stands alone.
+/// Prints why, as far as it can be written. Without memory for it only the fault's line is printed.
 pub(crate) fn tell_refusal<E: Sink>(alloc: Global, refusal: &Refusal, errors: &mut E) -> Status
     ensures { TellsRefusal refusal.now result (written_of E.contents E.failures errors.old) (written_of E.contents E.failures errors.new) }
 {

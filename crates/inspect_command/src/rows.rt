@@ -17,11 +17,11 @@ use sector_device::SectorDevice;
 use std::alloc::Global;
 use store_command::fault::{StoreFault, store_fault};
 
-/// The pages of a store, and rows that stand there.
+/// The pages of a store, and numbers of its rows.
 #[derive(Clone, Copy)]
 pub struct Rows {
     pub pages: u32,
-    /// The chunks that plans hold: those that are there, and deleted ones that were not swept.
+    /// The number of chunks that plans hold, including deleted plans that were not swept.
     pub chunks: u64,
     /// The plans that were deleted and not swept.
     pub deleted_plans: u64,
@@ -68,7 +68,8 @@ fn count_rows<D: SectorDevice>(txn: &Txn, pages: &mut Pages<D>) -> Result<Rows, 
     })
 }
 
-/// What is told of rows that aren't counted: where no failure halted the pages, they are none of a store.
+/// Returns the fault of rows that could not be counted: unless a failure halted the pages, they are
+/// not a store's.
 fn rows_fault<D: SectorDevice>(pages: &Pages<D>) -> StoreFault
     ensures { result ≡ fault_of_rows (has_halted pages.now) }
 {

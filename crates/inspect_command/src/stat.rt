@@ -55,8 +55,8 @@ fn stat_device<D: SectorDevice + Drop>(alloc: Global, device: D) -> (Result<Figu
     (join(sectors, told, counted), left)
 }
 
-/// Tells the figures of the store of a name, and closes it: what is printed of it. Memory for that is taken before the store is
-/// opened.
+/// Prints the figures of the store with this name into a text, and closes the store. Memory for the
+/// text is taken before the store is opened.
 fn stat_store<D: SectorDevice + Drop, O: Stores<D>>(
     alloc: Global,
     stores: &mut O,
@@ -78,9 +78,10 @@ fn stat_store<D: SectorDevice + Drop, O: Stores<D>>(
     }
 }
 
-/// Prints how full the store of a name is: 0. 4 where the store is refused or its device fails, and 5 where memory is refused, with
-/// the fault told and nothing printed; 6 where the writing fails. The device is closed whatever came of it, and nothing is written
-/// on it but what a stop in a commit left to be done.
+/// Prints how full the store with this name is. The status is 0. If the store is rejected or its
+/// device fails (4), or memory is refused (5), prints the fault instead; 6 if the output fails. The
+/// device is closed in any case, and nothing is written on it but what completes an interrupted
+/// commit.
 pub fn stat<D: SectorDevice + Drop, O: Stores<D>, W: Sink, E: Sink>(
     alloc: Global,
     stores: &mut O,

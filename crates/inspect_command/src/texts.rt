@@ -54,7 +54,7 @@ fn truth(style: Style, is: bool) -> &'static [u8]
     }
 }
 
-/// Adds a figure under a key, which is told in two parts.
+/// Adds a figure under a key, which is given in two parts.
 fn push_field(
     text: &mut Vec<u8>,
     style: Style,
@@ -174,7 +174,7 @@ fn push_rows(text: &mut Vec<u8>, style: Style, rows: &Rows) -> Result<(), AllocE
     Ok(())
 }
 
-/// Adds what is told of a command's room, under keys that begin so.
+/// Adds a command's room, under keys with this prefix.
 fn push_need(text: &mut Vec<u8>, style: Style, prefix: &[u8], need: &Need) -> Result<(), AllocError>
     ensures { OnOk result (text.new.items ≡ text.old.items ++ need_fields style prefix.now need.now) }
 {

@@ -51,7 +51,7 @@ fn verify_store<
     }
 }
 
-/// Prints what was found, or tells the refusal.
+/// Prints what was found, or the refusal.
 fn end_verify<W: Sink, E: Sink>(
     alloc: Global,
     given: Result<Vec<u8>, Refusal>,
@@ -72,10 +72,11 @@ fn end_verify<W: Sink, E: Sink>(
     }
 }
 
-/// Verifies the store of a name, and prints how many pages and rows it has: 0. 4 where the store is refused, isn't one that a desk leaves,
-/// or its device fails, and 5 where memory is refused, with the fault told and nothing printed; 6 where the writing fails. The device
-/// is closed whatever came of it, and nothing is written on it but what a stop in a commit left to be done. `progress` hears how many rows
-/// there are, once each page has one owner, and how many were read so far.
+/// Verifies the store with this name, and prints its numbers of pages and rows. The status is 0. If
+/// the store is rejected, is damaged, or its device fails (4), or memory is refused (5), prints the
+/// fault instead; 6 if the output fails. The device is closed in any case, and nothing is written
+/// on it but what completes an interrupted commit. `progress` is told the number of rows, once each
+/// page has one owner, and how many were read so far.
 pub fn verify<
     T: Threads + Sync,
     D: SectorDevice + Drop,

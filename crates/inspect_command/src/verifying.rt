@@ -134,7 +134,7 @@ fn wrong_row<D: SectorDevice>(
     }
 }
 
-/// The row that is told with a fault.
+/// Returns the row that is reported with a fault.
 fn row_for<D: SectorDevice>(
     alloc: Global,
     txn: &Txn,
@@ -153,7 +153,8 @@ fn row_for<D: SectorDevice>(
     }
 }
 
-/// Verifies the rows that opened pages hold, so many as their leaves have. `progress` hears how many these are, and then of each.
+/// Verifies the rows of opened pages, whose leaves have this number of rows. `progress` is told
+/// this number, and then each row.
 fn verify_rows<D: SectorDevice, P: Progress>(
     alloc: Global,
     pages: &mut Pages<D>,
@@ -222,7 +223,7 @@ fn verify_pages<D: SectorDevice, P: Progress>(
     }
 }
 
-/// What is told of pages that aren't found to be owned.
+/// Returns the refusal of pages that do not each have one owner.
 fn refusal_of(e: PagesError) -> Refusal
     ensures { TellsPages e result }
 {

@@ -17,7 +17,7 @@ pub enum ServeFault {
     Output,
 }
 
-/// What is told of a fault.
+/// Returns the line of a fault.
 pub fn fault_line(fault: ServeFault) -> &'static [u8]
     ensures { result.now ≡ line_of_fault fault }
 {

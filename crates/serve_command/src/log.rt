@@ -27,7 +27,8 @@ fn log_status(fault: OpenFault) -> Status
     }
 }
 
-/// Tells that a log's file can't be opened, as far as that can be written: 3, or 5 where memory was refused.
+/// Prints that a log's file cannot be opened, as far as it can be written. The status is 3, or 5 if
+/// memory was refused.
 pub fn refuse_log<E: Sink>(fault: OpenFault, errors: &mut E) -> Status
     ensures { RefusesLog fault result (written_of E.contents E.failures errors.old) (written_of E.contents E.failures errors.new) }
 {

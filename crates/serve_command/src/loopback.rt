@@ -20,7 +20,7 @@ pub trait Binds {
 impl<N: Net> Binds for N {
     type Listener = N::Listener;
 
-    // Of the network's sockets nothing is known.
+    // Nothing is known about the network's sockets.
     ghost binds = { λ _ _ _. Unit {0} };
 
     fn bind(&self, address: SocketAddrV4) -> io::Result<N::Listener> {

@@ -30,8 +30,9 @@ use std::marker::Brand;
 use std::sync::{Arc, Wait};
 use std::thread::Threads;
 
-/// Serves what a clerk keeps at the seats of so many workers, until no further stream comes: the clerk as it then is, and what the
-/// streams came to. Where memory for the seats is refused the clerk comes back with that.
+/// Serves a clerk's desk at the seats of a number of workers, until no further stream comes.
+/// Returns the clerk as it then is and the result of the streams; if memory for the seats is
+/// refused, returns the clerk with that error.
 fn serve_named<
     J: GalleryId + Send + Sync,
     D: SectorDevice + Drop + Send + Sync,
@@ -79,11 +80,13 @@ fn serve_named<
     }
 }
 
-/// Serves what a clerk keeps by so many workers, until no further stream comes: the clerk as it then is, whose desk is what commands
-/// led to that were accepted one after the other, and what the streams came to. At whatever moment a stop comes: since a command was
-/// acknowledged, each image that the stop may leave opens to the desk after that command and all before it. Each stream was answered
-/// along these very commands, and each command was asked for in the bytes of one. With `sweeps` the store is swept between commands. The
-/// gate hears of the accepted commands and of the free pages. Err where memory is refused, with the clerk, and then nothing was served.
+/// Serves a clerk's desk by a number of workers, until no further stream comes. Returns the clerk
+/// as it then is, whose desk follows from commands accepted one after the other, and the result of
+/// the streams. At whatever moment a crash comes: since a command was acknowledged, each crash
+/// state opens to the desk after that command and all before it. Each stream was answered along
+/// these commands, and each command was asked for in the bytes of one. With `sweeps` the store is
+/// swept between commands. The gate is told of the accepted commands and of the free pages. Returns
+/// an error if memory is refused, with the clerk; then nothing was served.
 pub fn serve_clerk<
     D: SectorDevice + Drop + Send + Sync,
     A: Arrivals + Sync,

@@ -59,7 +59,7 @@ fn halt_fault(device_failed: bool) -> StoreFault
     }
 }
 
-/// What a run came to, by its last clerk and whether the socket failed.
+/// Returns the result of a run, by its last clerk and whether the socket failed.
 fn end_run<D: SectorDevice>(last: &Clerk<D>, socket_failed: bool) -> Result<(), ServeFault>
     ensures { result ≡ end_of (is_halted last.now) (has_halted (pages_of last.now)) socket_failed }
 {
@@ -132,10 +132,12 @@ fn serve_store<
     }
 }
 
-/// Serves the store of a name to the connections that come: 0 once no further one comes. 4 where the store is refused, its device
-/// fails or a command meets rows that no desk leaves, 5 where memory is refused, and 6 where no socket listens or standard output fails,
-/// with the fault told. The line that says where it listens is printed once the store is open, and the store is closed once the last clerk
-/// gives it back. Then what listens hears what the connections came to. With `sweeps` the store is swept between commands.
+/// Serves the store with this name to the connections that come. The status is 0 once no further
+/// one comes. It is 4 if the store is rejected, its device fails or a command meets rows of no
+/// desk, 5 if memory is refused, and 6 if no socket listens or standard output fails, and the fault
+/// is printed. The line that says where it listens is printed once the store is open, and the store
+/// is closed once the last clerk returns it. Then the listener is told the result of the
+/// connections. With `sweeps` the store is swept between commands.
 pub fn serve<
     D: SectorDevice + Drop + Send + Sync,
     O: Stores<D>,
@@ -167,7 +169,7 @@ pub fn serve<
     end_serving(ended, errors)
 }
 
-/// The status of a run, whose fault is told.
+/// Returns the status of a run, and prints its fault.
 fn end_serving<E: Sink>(ended: Result<(), ServeFault>, errors: &mut E) -> Status
     ensures { EndsServing ended result (written_of E.contents E.failures errors.old) (written_of E.contents E.failures errors.new) }
 {
@@ -180,7 +182,8 @@ fn end_serving<E: Sink>(ended: Result<(), ServeFault>, errors: &mut E) -> Status
     }
 }
 
-/// Tells that memory was refused before anything was opened, as far as that can be written: 5.
+/// Prints that memory was refused before anything was opened, as far as it can be written. The
+/// status is 5.
 pub fn refuse_memory<E: Sink>(errors: &mut E) -> Status
     ensures { EndsServing (Err (Store Memory)) result (written_of E.contents E.failures errors.old) (written_of E.contents E.failures errors.new) }
 {

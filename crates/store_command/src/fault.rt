@@ -12,9 +12,9 @@ pub enum StoreFault {
     NotFound,
     /// The file isn't whole sectors, or is more of them than a store has.
     WrongSize,
-    /// A file is there already.
+    /// The file exists already.
     Exists,
-    /// Fewer than 64 pages would remain beside the journal.
+    /// Fewer than 64 pages would remain next to the journal.
     TooSmall,
     /// The file holds no store.
     NotAStore,
@@ -41,7 +41,7 @@ impl From<AllocError> for StoreFault {
     }
 }
 
-/// What is told of a store's refusal. A load that was just begun never ends.
+/// Returns the fault of a store's refusal. A load that was just begun never ends.
 pub fn store_fault(e: StoreError) -> StoreFault
     ensures { result ≡ fault_of_store e }
 {

@@ -18,7 +18,7 @@ use std::alloc::{AllocError, Global};
 /// The first number of sectors that make a file of 1,000,000,000 bytes or more.
 const LARGE: u32 = 244_141;
 
-/// Tells how many bytes a large file is to have, as far as that can be written.
+/// Prints the number of bytes of a large file, as far as it can be written.
 fn tell_size<E: Sink>(alloc: Global, sectors: u32, errors: &mut E) -> Result<(), AllocError>
     ensures told { OnOk result (TellsSize sectors (written_of E.contents E.failures errors.old) (written_of E.contents E.failures errors.new)) }
     ensures same { OnErr result (written_of E.contents E.failures errors.new ≡ written_of E.contents E.failures errors.old) }
@@ -31,7 +31,7 @@ fn tell_size<E: Sink>(alloc: Global, sectors: u32, errors: &mut E) -> Result<(),
     Ok(())
 }
 
-/// Makes a store: what is printed of it. How large it is to be is told before, where that is much.
+/// Makes a store and returns its line. Its size is printed before, if it is large.
 fn make_store<D: SectorDevice + Drop, O: Stores<D>, E: Sink>(
     alloc: Global,
     stores: &mut O,
@@ -59,10 +59,11 @@ fn make_store<D: SectorDevice + Drop, O: Stores<D>, E: Sink>(
     }
 }
 
-/// Makes a store of so many sectors and journal pages in a new file, and prints both, with its bytes where that is asked for: 0. 4 where
-/// the store is refused, and 5 where memory is, with the fault told and nothing printed; 6 where the writing fails. Of too few sectors no
-/// file is made; one that is made is closed as the formatting left it. Where the file is to have 1,000,000,000 bytes or more, that is told
-/// before it is made.
+/// Makes a store of this many sectors and journal pages in a new file, and prints both, with the
+/// number of bytes if asked for. The status is 0. If the store is rejected (4) or memory is refused
+/// (5), prints the fault instead; 6 if the output fails. For too few sectors no file is made; a
+/// file that is made is closed as the formatting left it. If the file will have 1,000,000,000 bytes
+/// or more, prints that before it is made.
 pub fn format<D: SectorDevice + Drop, O: Stores<D>, W: Sink, E: Sink>(
     alloc: Global,
     stores: &mut O,

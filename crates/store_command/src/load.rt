@@ -63,7 +63,7 @@ fn fill_store<D: SectorDevice + Drop, O: Stores<D>, P: Progress>(
     }
 }
 
-/// Fills the store of a name with the geography that the files say, or tells their fault.
+/// Fills the store with this name with the geography of the files, or prints their fault.
 fn end_load<D: SectorDevice + Drop, O: Stores<D>, P: Progress, W: Sink, E: Sink>(
     alloc: Global,
     read: Result<Geography, FileFault>,
@@ -85,10 +85,10 @@ fn end_load<D: SectorDevice + Drop, O: Stores<D>, P: Progress, W: Sink, E: Sink>
     }
 }
 
-/// Fills a store with the geography that the files say, and prints its blocks, counties and people: 0. 3 where a file is refused,
-/// 4 where the store is and 5 where memory is, with the fault told and nothing printed; 6 where the writing fails. The files are
-/// judged before the store is opened, and its device is closed whatever came of it. `progress` hears how many rows were written
-/// so far.
+/// Fills a store with the geography of the files, and prints its blocks, counties and people. The
+/// status is 0. If a file is rejected (3), the store is (4) or memory is refused (5), prints the
+/// fault instead; 6 if the output fails. The files are judged before the store is opened, and its
+/// device is closed in any case. `progress` is told the number of rows written so far.
 pub fn load<R: Source, D: SectorDevice + Drop, O: Stores<D>, P: Progress, W: Sink, E: Sink>(
     alloc: Global,
     files: &mut StateFiles<R>,

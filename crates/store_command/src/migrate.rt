@@ -56,10 +56,11 @@ fn migrate_store<D: SectorDevice + Drop, O: Stores<D>, P: Progress>(
     }
 }
 
-/// Leads the store of a name from the old version to the new one, and prints how many rows were put, that of the version with
-/// them: 0. 4 where the store is refused, is of the new version, has too few free pages, or its device fails, and 5 where memory
-/// is refused, with the fault told and nothing printed; 6 where the writing fails. The device is closed whatever came of it.
-/// `progress` hears after each step how many rows there were so far.
+/// Migrates the store with this name from the old version to the new one, and prints the number of
+/// rows put, including the version's. The status is 0. If the store is rejected, has the new
+/// version or too few free pages, or its device fails (4), or if memory is refused (5), prints the
+/// fault instead; 6 if the output fails. The device is closed in any case. `progress` is told the
+/// number of rows after each step.
 pub fn migrate<D: SectorDevice + Drop, O: Stores<D>, P: Progress, W: Sink, E: Sink>(
     alloc: Global,
     stores: &mut O,

@@ -8,7 +8,8 @@ use sector_device::SectorDevice;
 
 /// Makes and opens the devices of stores by their names, and closes them.
 pub trait Stores<D: SectorDevice> {
-    // A device of so many sectors was asked for under a name that is new, with this result, and that left the maker so.
+    // A device of this many sectors was asked for under a new name, with this result, and that left
+    // the maker so.
     ghost makes: { Self → List ℕ → ℕ → Result D Fault → Self → Type 0 };
 
     // The device of a name was asked for, with this result, and that left the opener so.

@@ -57,9 +57,10 @@ fn sweep_store<D: SectorDevice + Drop, O: Stores<D>, P: Progress>(
     }
 }
 
-/// Sweeps the store of a name until nothing is left to be taken out, and prints how many rows were: 0. 4 where the store is
-/// refused or its device fails, and 5 where memory is refused, with the fault told and nothing printed; 6 where the writing
-/// fails. The device is closed whatever came of it. `progress` hears after each step how many rows there were so far.
+/// Sweeps the store with this name until nothing is left to remove, and prints the number of rows
+/// removed. The status is 0. If the store is rejected or its device fails (4), or if memory is
+/// refused (5), prints the fault instead; 6 if the output fails. The device is closed in any case.
+/// `progress` is told the number of rows after each step.
 pub fn sweep<D: SectorDevice + Drop, O: Stores<D>, P: Progress, W: Sink, E: Sink>(
     alloc: Global,
     stores: &mut O,

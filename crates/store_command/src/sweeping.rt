@@ -12,8 +12,8 @@ use std::alloc::Global;
 /// More steps than a store has rows: each takes one row out at least.
 const MOST_STEPS: u64 = 281_474_976_710_656;
 
-/// Takes out of a clerk's store what deleted plans and ended loads left in it, step by step: how many rows there were. `progress` hears
-/// of each step.
+/// Removes from a clerk's store what deleted plans and abandoned loads left in it, step by step,
+/// and returns the number of rows. `progress` is told of each step.
 fn sweep_steps<D: SectorDevice, P: Progress>(
     alloc: Global,
     clerk: &mut Clerk<D>,

@@ -8,7 +8,7 @@ use byte_stream::sink::Sink;
 use command_output::status::Status;
 use command_output::telling::{print, send_line};
 
-/// What is told of a fault.
+/// Returns the line of a fault.
 pub fn store_line(fault: StoreFault) -> &'static [u8]
     ensures { result.now ≡ line_of_fault fault }
 {
@@ -37,7 +37,7 @@ pub fn store_status(fault: StoreFault) -> Status
     }
 }
 
-/// Tells a fault, as far as that can be written.
+/// Prints a fault, as far as it can be written.
 fn tell_store<E: Sink>(fault: StoreFault, errors: &mut E) -> Status
     ensures { TellsStore fault result (written_of E.contents E.failures errors.old) (written_of E.contents E.failures errors.new) }
 {
@@ -45,7 +45,7 @@ fn tell_store<E: Sink>(fault: StoreFault, errors: &mut E) -> Status
     store_status(fault)
 }
 
-/// Prints the text, or tells the fault. Where standard output fails, this line is told.
+/// Prints the text, or the fault. If standard output fails, prints `line`.
 pub fn end_store<W: Sink, E: Sink>(
     line: &[u8],
     given: Result<Vec<u8>, StoreFault>,

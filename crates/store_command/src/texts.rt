@@ -17,7 +17,7 @@ pub fn room_for_text(alloc: Global) -> Result<Vec<u8>, AllocError>
     Vec::with_capacity(alloc, ROOM)
 }
 
-/// Puts words after what is there.
+/// Appends words.
 pub fn add(text: &mut Vec<u8>, words: &[u8])
     requires room { ROOM ≤ vec_capacity text.old }
     requires short { vec_len text.old + length words.now ≤ ROOM }
@@ -28,7 +28,7 @@ pub fn add(text: &mut Vec<u8>, words: &[u8])
     let _ = text.extend_from_slice(words);
 }
 
-/// Puts a number after what is there.
+/// Appends a number.
 pub fn add_number(text: &mut Vec<u8>, number: u64)
     requires room { ROOM ≤ vec_capacity text.old }
     requires short { vec_len text.old + 20 ≤ ROOM }
@@ -40,7 +40,7 @@ pub fn add_number(text: &mut Vec<u8>, number: u64)
     add(text, digits.format(number).as_bytes());
 }
 
-/// Puts the line of so many rows in the text's place.
+/// Replaces the text by the line of a number of rows.
 pub fn put_rows(text: &mut Vec<u8>, words: &[u8], rows: u64)
     requires room { ROOM ≤ vec_capacity text.old }
     requires short { length words.now + 26 ≤ ROOM }
@@ -87,7 +87,7 @@ pub fn formatted_text(
     Ok(text)
 }
 
-/// What is told before so many sectors are made a store.
+/// Returns the line printed before a store of this many sectors is made.
 pub fn size_line(alloc: Global, sectors: u32) -> Result<Vec<u8>, AllocError>
     ensures { IfOk result (λ text. text.items ≡ line_of_size sectors) }
 {
