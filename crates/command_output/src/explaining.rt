@@ -1,4 +1,4 @@
-//! What a fault means: told after its line where somebody asks for it or sits at a terminal, and printed for its code.
+//! Explanations of faults: printed after the fault's line on request or at a terminal, and for a code.
 ghost use Rattle.std.specs.Prelude.{◌≡◌, ◌||◌, map};
 ghost use Rattle.std.specs.Option.{option_copied};
 ghost use Rattle.command_output.specs.Writing.{written_of, OfWriters};

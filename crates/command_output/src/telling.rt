@@ -1,4 +1,4 @@
-//! What is printed, and the line that is told of a fault.
+//! Prints texts, and the lines of faults.
 ghost use Rattle.std.specs.Prelude.{◌≡◌, IfOk, string_bytes};
 ghost use Rattle.state_files.specs.claim.Texts.{segment_file, plan_file};
 ghost use Rattle.command_output.specs.claim.Telling.{memory_at, fault_line, memory_line, Tells};

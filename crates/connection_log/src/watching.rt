@@ -1,4 +1,4 @@
-//! Connections that are watched: each is told to a log when it ends.
+//! Watched connections: each is logged when it ends.
 ghost use Rattle.connection_log.specs.Hearing.{IsNoted};
 ghost use Rattle.connection_log.specs.declared.line.LogLine.TheVariants as entry;
 
@@ -18,8 +18,8 @@ use std::sync::Wait;
 use std::sync::atomic::{AtomicBool, AtomicU64, Ordering};
 use std::time::Clock;
 
-/// A source of streams that is told of accepted commands, of the store's room, and of the result of
-/// all streams.
+/// A source of streams that observes accepted commands, the store's room, and the result of all
+/// streams.
 pub trait Watched: Listens + Hears {
     // What was reported of a run.
     ghost use Rattle.std.specs.Prelude.{ℕ};
@@ -34,7 +34,7 @@ pub trait Watched: Listens + Hears {
     fn begin(&self, free_pages: u64, revision_pages: u64)
         ensures { heard_room self.now free_pages revision_pages };
 
-    /// Is told the result of all streams.
+    /// Receives the result of all streams.
     fn hear(&self, ran: Ran)
         ensures { heard self.now ran };
 }

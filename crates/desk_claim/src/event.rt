@@ -12,7 +12,7 @@ pub enum Event {
     Show,
     /// A visitor looks at what is shown, and is answered.
     Visit { visitor: u64, query: Query },
-    /// A visitor is told a number of changes. Possible only if that many are shown.
+    /// A visitor learns a number of changes. Possible only if that many are shown.
     Learn { visitor: u64, told: u64 },
     /// The desk stops and is opened again with its first changes. Possible where each acknowledged one is kept.
     Stop { kept: u64 },

@@ -3,7 +3,7 @@
 //! # Layout
 //!
 //! `specs/claim/Sentence.antt` has the clauses of one life; read it from top to bottom. `World` has
-//! the events: a change is written, acknowledged, shown; a visitor looks or is told a number; a
+//! the events: a change is written, acknowledged, shown; a visitor looks or learns a number; a
 //! crash keeps at least the acknowledged changes.
 //!
 //! # Model

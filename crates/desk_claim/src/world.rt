@@ -167,7 +167,7 @@ impl World {
         Some(reply)
     }
 
-    /// Tells a visitor a number of changes.
+    /// Lets a visitor learn a number of changes.
     fn learn(&mut self, visitor: u64, told: u64) -> Option<Reply>
         ensures first { self.new.0 ≡ self.old.0 }
         ensures moved { StepMay self.old.0 self.old.1 (Event.Learn visitor told) result self.new.1 }

@@ -15,7 +15,7 @@
 //!
 //! # Not proved
 //!
-//! That a device reads, when it is opened again, what a crash left. A crash within a life is told
+//! That a device reads, when it is opened again, what a crash left. A crash within a life counts
 //! as one at its end: `SurvivesEachRun` has every moment.
 //!
 //! # Notes

@@ -1,4 +1,4 @@
-//! The connections that come in at a door of a served store, and the log that is told of them.
+//! The connections that come in at a door of a served store, and their log.
 ghost use Rattle.std.specs.Prelude.{◌≡◌, ◌≤◌, ◌^◌, ◌-◌, ℕ, None, Some, is_some};
 
 use command_line::options::Serving;

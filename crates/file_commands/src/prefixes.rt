@@ -1,4 +1,4 @@
-//! What a plan's file begins with, which is told where its first line isn't the one that was looked for.
+//! What a plan's file begins with, which is printed if its first line is not the expected one.
 ghost use Rattle.std.specs.Prelude.{◌≡◌, ◌≤◌, ◌++◌, map, IfOk, OnOk};
 ghost use Rattle.file_commands.specs.Prefixes.{shown, begins as begins_so, has_comma as comma_in, sort_of, line_prefix, prefix_told};
 

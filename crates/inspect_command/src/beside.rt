@@ -46,7 +46,7 @@ fn open_sound<D: SectorDevice + Drop, P: Progress>(
 
 /// Verifies the store on a synced device by three readers at once, and returns the device. If they
 /// do not find it sound, it is verified sequentially and what is wrong is printed. Writes nothing
-/// but what completes an interrupted commit. `progress` is told the number of pages so far and in
+/// but what completes an interrupted commit. `progress` receives the number of pages so far and in
 /// all.
 pub(crate) fn verify_beside<
     T: Threads + Sync,

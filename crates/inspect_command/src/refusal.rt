@@ -1,4 +1,4 @@
-//! Why a store isn't found to be sound, and how that is told.
+//! Why a store is not found sound, and how that is printed.
 ghost use Rattle.std.specs.Prelude.{◌≡◌, IfOk, IfSome};
 ghost use Rattle.command_output.specs.Writing.{written_of};
 ghost use Rattle.store_command.specs.declared.fault.StoreFault.TheVariants.{NotAStore};

@@ -75,7 +75,7 @@ fn end_verify<W: Sink, E: Sink>(
 /// Verifies the store with this name, and prints its numbers of pages and rows. The status is 0. If
 /// the store is rejected, is damaged, or its device fails (4), or memory is refused (5), prints the
 /// fault instead; 6 if the output fails. The device is closed in any case, and nothing is written
-/// on it but what completes an interrupted commit. `progress` is told the number of rows, once each
+/// on it but what completes an interrupted commit. `progress` receives the number of rows, once each
 /// page has one owner, and how many were read so far.
 pub fn verify<
     T: Threads + Sync,

@@ -153,7 +153,7 @@ fn row_for<D: SectorDevice>(
     }
 }
 
-/// Verifies the rows of opened pages, whose leaves have this number of rows. `progress` is told
+/// Verifies the rows of opened pages, whose leaves have this number of rows. `progress` receives
 /// this number, and then each row.
 fn verify_rows<D: SectorDevice, P: Progress>(
     alloc: Global,

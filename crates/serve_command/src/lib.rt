@@ -14,7 +14,7 @@
 //! - Along these commands connections were answered by as many workers as were asked for, each
 //!   until it was given no more (`ServesStreams`). `listen_here` asks for a socket at 127.0.0.1.
 //! - `serve` and `serve_clerk` are one life of the store, with the five clauses of the claim
-//!   (`OfficeHolds`, `ClosedHolds`). `ServesLife` tells that life by the exit status.
+//!   (`OfficeHolds`, `ClosedHolds`). `ServesLife` gives that life by the exit status.
 //!
 //! # Not proved
 //!

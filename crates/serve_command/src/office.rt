@@ -85,7 +85,7 @@ fn serve_named<
 /// the streams. At whatever moment a crash comes: since a command was acknowledged, each crash
 /// state opens to the desk after that command and all before it. Each stream was answered along
 /// these commands, and each command was asked for in the bytes of one. With `sweeps` the store is
-/// swept between commands. The gate is told of the accepted commands and of the free pages. Returns
+/// swept between commands. The gate observes the accepted commands and of the free pages. Returns
 /// an error if memory is refused, with the clerk; then nothing was served.
 pub fn serve_clerk<
     D: SectorDevice + Drop + Send + Sync,

@@ -31,7 +31,7 @@ fn room_of<D: SectorDevice>(alloc: Global, clerk: &Clerk<D>) -> Result<(u64, u64
     }
 }
 
-/// Tells the listener the room of a clerk's store, if there is memory to compute it, and returns
+/// Gives the listener the room of a clerk's store, if there is memory to compute it, and returns
 /// whether it did.
 pub fn tell_room<D: SectorDevice, A: Watched>(
     alloc: Global,

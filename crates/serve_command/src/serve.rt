@@ -136,7 +136,7 @@ fn serve_store<
 /// one comes. It is 4 if the store is rejected, its device fails or a command meets rows of no
 /// desk, 5 if memory is refused, and 6 if no socket listens or standard output fails, and the fault
 /// is printed. The line that says where it listens is printed once the store is open, and the store
-/// is closed once the last clerk returns it. Then the listener is told the result of the
+/// is closed once the last clerk returns it. Then the listener receives the result of the
 /// connections. With `sweeps` the store is swept between commands.
 pub fn serve<
     D: SectorDevice + Drop + Send + Sync,

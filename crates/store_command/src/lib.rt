@@ -15,7 +15,7 @@
 //!   of version 1.
 //! - Otherwise the first fault is reported and nothing is printed (`Sweeps`, `Migrates`). If the
 //!   device reads as a desk, a crash leaves that desk or the one after the command.
-//! - `load`, `sweep` and `migrate` are one life each of the store that they open, told by the exit
+//! - `load`, `sweep` and `migrate` are one life each of the store that they open, given by the exit
 //!   status (`LoadsLife`, `SweepsLife`, `MigratesLife`).
 //!
 //! # Not proved

@@ -88,7 +88,7 @@ fn end_load<D: SectorDevice + Drop, O: Stores<D>, P: Progress, W: Sink, E: Sink>
 /// Fills a store with the geography of the files, and prints its blocks, counties and people. The
 /// status is 0. If a file is rejected (3), the store is (4) or memory is refused (5), prints the
 /// fault instead; 6 if the output fails. The files are judged before the store is opened, and its
-/// device is closed in any case. `progress` is told the number of rows written so far.
+/// device is closed in any case. `progress` receives the number of rows written so far.
 pub fn load<R: Source, D: SectorDevice + Drop, O: Stores<D>, P: Progress, W: Sink, E: Sink>(
     alloc: Global,
     files: &mut StateFiles<R>,

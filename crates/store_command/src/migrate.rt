@@ -59,7 +59,7 @@ fn migrate_store<D: SectorDevice + Drop, O: Stores<D>, P: Progress>(
 /// Migrates the store with this name from the old version to the new one, and prints the number of
 /// rows put, including the version's. The status is 0. If the store is rejected, has the new
 /// version or too few free pages, or its device fails (4), or if memory is refused (5), prints the
-/// fault instead; 6 if the output fails. The device is closed in any case. `progress` is told the
+/// fault instead; 6 if the output fails. The device is closed in any case. `progress` receives the
 /// number of rows after each step.
 pub fn migrate<D: SectorDevice + Drop, O: Stores<D>, P: Progress, W: Sink, E: Sink>(
     alloc: Global,

@@ -60,7 +60,7 @@ fn sweep_store<D: SectorDevice + Drop, O: Stores<D>, P: Progress>(
 /// Sweeps the store with this name until nothing is left to remove, and prints the number of rows
 /// removed. The status is 0. If the store is rejected or its device fails (4), or if memory is
 /// refused (5), prints the fault instead; 6 if the output fails. The device is closed in any case.
-/// `progress` is told the number of rows after each step.
+/// `progress` receives the number of rows after each step.
 pub fn sweep<D: SectorDevice + Drop, O: Stores<D>, P: Progress, W: Sink, E: Sink>(
     alloc: Global,
     stores: &mut O,

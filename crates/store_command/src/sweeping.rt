@@ -13,7 +13,7 @@ use std::alloc::Global;
 const MOST_STEPS: u64 = 281_474_976_710_656;
 
 /// Removes from a clerk's store what deleted plans and abandoned loads left in it, step by step,
-/// and returns the number of rows. `progress` is told of each step.
+/// and returns the number of rows. `progress` observes each step.
 fn sweep_steps<D: SectorDevice, P: Progress>(
     alloc: Global,
     clerk: &mut Clerk<D>,

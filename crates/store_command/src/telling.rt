@@ -1,4 +1,4 @@
-//! What is printed and told of a store.
+//! Prints what was done with a store, and its faults.
 ghost use Rattle.std.specs.Prelude.{◌≡◌};
 ghost use Rattle.command_output.specs.Writing.{OfWriters, written_of};
 ghost use Rattle.store_command.specs.Telling.{status_of, store_line as line_of_fault, TellsStore, EndsStore};
