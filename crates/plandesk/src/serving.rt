@@ -1,11 +1,16 @@
 //! `serve` over the file system, the network and the standard streams.
-ghost use Rattle.std.specs.Prelude.{◌≤◌};
+ghost use Rattle.std.specs.Prelude.{◌≡◌, ◌≤◌};
+ghost use Rattle.file_commands.specs.Premises.{IsJustOpened};
+ghost use Rattle.sector_file.specs.Device.{file_disk, first_image};
+ghost use Rattle.serve_command.specs.claim.Living.{ServesLife};
+ghost use Rattle.serve_command.specs.http_seats.Streams.{traffic};
+ghost use Rattle.serve_command.specs.Serving.{listener_of};
 
-use byte_stream::sink::WriteSink;
+use byte_stream::sink::{Sink, WriteSink};
 use command_line::options::Serving;
 use command_output::status::Status;
 use connection_log::log::Log;
-use connection_log::watching::Watching;
+use connection_log::watching::{Watched, Watching};
 use file_commands::doors::{connections_of, listening_at, watcher_of, watching_at};
 use file_commands::faults::{explain_last, standard_error};
 use file_commands::logs::log_of;
@@ -13,10 +18,12 @@ use file_commands::stores::StoreFiles;
 use http_connections::door;
 use http_connections::door::Door;
 use http_connections::listening::Listens;
+use sector_device::SectorDevice;
 use sector_file::{Contents, FileDevice};
 use serve_command::log::refuse_log;
 use serve_command::loopback::listen_here;
 use serve_command::serve::{refuse_memory, serve};
+use std::alloc::Global;
 use std::sync::Wait;
 use std::thread::Threads;
 use std::time::Clock;
@@ -125,6 +132,41 @@ fn serve_door<'a, T: Threads + Wait + Clock + Sync, S: Contents + Send + Sync>(
     )
 }
 
+/// Serves the store in a file by its name to the connections that come, whatever the file holds, whatever listens and wherever it is told:
+/// this is one life of that store.
+fn serve_in_file<
+    S: Contents + Send + Sync,
+    A: Watched + Sync,
+    T: Threads + Wait + Sync,
+    W: Sink,
+    E: Sink,
+>(
+    threads: &T,
+    alloc: Global,
+    stores: &mut StoreFiles<'_, S>,
+    name: &str,
+    serving: Serving,
+    listening: Option<&A>,
+    writer: &mut W,
+    errors: &mut E,
+) -> Status
+    requires { 1 ≤ serving.workers }
+    ensures { ServesLife ⟦<FileDevice<S> as SectorDevice>⟧ (λ device. IsJustOpened (first_image S.Contents.sector) (file_disk device))
+        (stores.new.is_opened ≡ stores.old.is_opened) (traffic A.gives A.takes_back A.Reader.Source A.Writer.Sink) (listener_of listening.entry) serving.workers result }
+{
+    serve::<FileDevice<S>, _, _, _, _, _>(
+        threads,
+        alloc,
+        stores,
+        name,
+        serving,
+        serving.sweeps,
+        listening,
+        writer,
+        errors,
+    )
+}
+
 /// Serves a store to the connections that come, where a socket listens. They come from any type that listens, since a known one would be
 /// spelled out whole to the prover.
 fn serve_at<A: Listens + Sync, T: Threads + Wait + Clock + Sync, S: Contents + Send + Sync>(
@@ -141,13 +183,12 @@ fn serve_at<A: Listens + Sync, T: Threads + Wait + Clock + Sync, S: Contents + S
     let mut stores = StoreFiles::new(rt, start);
     let mut writer = WriteSink::new(rt.stdout());
     let mut errors = standard_error(rt);
-    let status = serve::<FileDevice<S>, _, _, _, _, _>(
+    let status = serve_in_file(
         threads,
         rt.alloc(),
         &mut stores,
         name,
         serving,
-        serving.sweeps,
         listening,
         &mut writer,
         &mut errors,
