@@ -16,7 +16,7 @@ PLAN = re.compile(rf'plan (?P<plan>{NAME}) (?:(?P<created>created)|(?P<deleted>d
                   rf'forked from (?P<source>{NAME}) revision (?P<of>[0-9]{{1,5}}))\Z')
 OTHER = re.compile(r'connection [0-9]+: |served: |free [0-9]+ pages|store NotAStore')
 LOST = re.compile(r'[0-9]+ lines were dropped\Z')
-# so many of the last changes are kept for a feed
+# a feed has at most this number of changes, the last ones
 MOST = 100
 
 
