@@ -159,11 +159,19 @@ fn opening(words: &[String]) {
     server.wait().unwrap();
 }
 
+/// PORT: prints the audit of the first plan.
+fn audit(words: &[String]) {
+    let mut body = Vec::new();
+    assert_eq!(Connection::new(words[0].parse().unwrap()).ask(&get(&format!("{}/revisions/1/audit", path(0))), Some(&mut body)), 200);
+    println!("{}", String::from_utf8(body).unwrap());
+}
+
 fn main() {
     let words: Vec<String> = env::args().skip(1).collect();
     match words[0].as_str() {
         "load" => load(&words[1..]),
         "opening" => opening(&words[1..]),
+        "audit" => audit(&words[1..]),
         word => panic!("no such word: {word}"),
     }
 }

@@ -18,6 +18,12 @@ DEVICE_FAULT = 4, b'plandesk: store: DeviceFault\n'
 NO_STORE = 4, b'plandesk: store: NotAStore\n'
 
 
+def in_use(store):
+    """What every command says of a store that another program has open, also in a pipe."""
+    return (f'plandesk: store: DeviceFault\n  In {store} it means: Another program has the store open, such as a `plandesk serve`; or the file '
+            'is also the log. What to do: Stop that program first; `fuser FILE` shows its process ID.\n')
+
+
 @contextlib.contextmanager
 def folder_in_memory():
     """A folder for stores; in memory, where there is such a place, since a sync of a file on a disk takes long."""

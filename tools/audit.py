@@ -103,6 +103,12 @@ class Report:
         most and the least populous one if they are too far apart."""
         return set(self.congress) if self.kind == 'congress' else set(self.range or ())
 
+    def named_as(self, district):
+        """Why the report names a district for its people."""
+        if self.kind == 'congress':
+            return 'beyond the limit'
+        return 'most populous' if district == self.range[0] else 'least populous'
+
     def beyond(self):
         """The districts that are beyond the limit on people. Of a legislative plan they have over five percent more than the least."""
         if self.kind == 'congress':
@@ -305,6 +311,11 @@ def verdict(report):
 def not_met(report):
     """The titles of the tests that a plan doesn't meet."""
     return [clause.title for clause in CLAUSES if clause.name in report.broken]
+
+
+def verdict_words(report):
+    """The verdict, with the tests that a plan doesn't meet."""
+    return verdict(report) + (f': {", ".join(not_met(report))}' if report.broken else '')
 
 
 def and_words(words):

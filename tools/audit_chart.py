@@ -51,6 +51,18 @@ def limits(report):
     return (report.percent(least), 'least populous'), (report.percent(Fraction(21 * least, 20)), 'least populous + 5 %')
 
 
+def scale_of(report):
+    """The scale that all pictures of a report have."""
+    return Scale([report.percent(people) for people in report.populations], [percent for percent, _ in limits(report)])
+
+
+def band_words(report):
+    """What the band is, or that the scale ends before it begins."""
+    scale = scale_of(report)
+    low, high = (scale.place(percent) for percent, _ in limits(report))
+    return 'the band is what the law allows' if low < high else 'what the law allows lies outside the picture'
+
+
 def anchored(place, is_low):
     """How the words of a limit are put beside its line: away from the other limit, if there is room for them."""
     before = place > 27 if is_low else place > 62
@@ -68,7 +80,7 @@ def marks(scale, low, high, height):
         cut = f' ({decimal(percent, sign=True)} %)' if scale.is_cut(percent) else ''
         place = scale.at(percent)
         lines += (f'<line class="rule" x1="{place}" x2="{place}" y1="{y + 3}" y2="{height - 4}"{dashes}/>'
-                  f'<text x="{place}" dx="{shift}" y="{y}" text-anchor="{anchor}">{escape(words + cut)}</text>')
+                  f'<text class="limit" x="{place}" dx="{shift}" y="{y}" text-anchor="{anchor}">{escape(words + cut)}</text>')
     return band + lines
 
 
@@ -104,7 +116,7 @@ def people_picture(report, first):
     """People of some districts from the first on, as their distance from the ideal, with what the law allows."""
     last = min(first + DISTRICTS - 1, report.districts)
     low, high = limits(report)
-    scale = Scale([report.percent(people) for people in report.populations], [low[0], high[0]])
+    scale = scale_of(report)
     height = TOP + ROW * (last - first + 1) + 6
     some = report.populations[first - 1:last]
     told = (f'The ideal is {exact(report.ideal())}. The least populous of these districts has {grouped(min(some))} people, the most '
@@ -132,7 +144,7 @@ def people_pictures(report):
     pictures = ''.join(people_picture(report, first) for first in range(1, report.districts + 1, DISTRICTS))
     allowed = 'within one percent of the ideal' if report.kind == 'congress' else \
         'from the least populous district to five percent above it'
-    caption = f'Each bar is a district, from the ideal to its people; the band is what the law allows: {allowed}.'
+    caption = f'Each bar is a district, from the ideal to its people; {band_words(report)}: {allowed}.'
     return element('figure', pictures + element('figcaption', caption + marked_words(report)))
 
 

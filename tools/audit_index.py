@@ -94,7 +94,10 @@ def kind_cell(entry):
 
 def time_part(time):
     """A time as people read it; one that isn't known is said to be so."""
-    return 'unknown' if time is None else element('time', time.replace('T', ' ').replace('Z', ' UTC'), datetime=time)
+    if time is None:
+        return 'unknown'
+    date, _, clock = time.partition('T')
+    return element('time', f'<span>{date}</span> <span>{clock.replace("Z", " UTC")}</span>', datetime=time)
 
 
 def figures_cells(entry):
@@ -125,12 +128,12 @@ def listed(entries):
     return element('ul', ''.join(element('li', plan_cell(entry)) for entry in entries))
 
 
-def by_test(entries):
-    """For each test the plans that don't meet it, and the plans that meet all that were judged."""
+def by_test(entries, noun='plan'):
+    """For each test the plans, or revisions, that don't meet it, and those that meet all that were judged."""
     audited = [entry for entry in entries if entry.report]
-    parts = [('Plans that meet all tests that were judged', [entry for entry in audited if not entry.report.broken])]
+    parts = [('All tests that were judged: met', [entry for entry in audited if not entry.report.broken])]
     parts += [(f'{clause.title}: not met', [entry for entry in audited if clause.name in entry.report.broken]) for clause in CLAUSES]
-    said = ''.join(element('details', element('summary', f'{escape(words)} ({count(len(found), "plan")})') + listed(found))
+    said = ''.join(element('details', element('summary', f'{escape(words)} ({count(len(found), noun)})') + listed(found))
                    for words, found in parts if found)
     return f'<h2 id="by-test">By test</h2>\n{said}' if said else ''
 

@@ -37,13 +37,13 @@ def links_part(links):
 def found_again(ground):
     """Which figures of the report were found again from the files of its blocks."""
     found = ['the blocks without a district'] + (['the people of each district'] if ground.people is not None else []) + \
-        (['what does not hold together'] if ground.pairs is not None else [])
+        (['the districts that are not contiguous'] if ground.pairs is not None else [])
     return f'For this page the plan was read again; it gives the same as the report for {", ".join(found)}.'
 
 
 def made_part(made, ground):
     """What was audited, as far as somebody told it, and when the page was made."""
-    said = [f'Asked of a desk: {made.source}.'] if made.source else []
+    said = [f'Asked of a server: {made.source}.'] if made.source else []
     said.append(f'The program: {made.version}.' if made.version else 'The version of the program is not known.')
     if len(made.files) == 1:
         said.append('No other file was named, so this page does not say which plan, census files and neighbours were audited.')
@@ -89,7 +89,7 @@ def pieces_part(ground, names):
     people = [('People', True)] if ground.people is not None else []
     heads = [('District', False), ('Piece', False), ('Blocks', True), *people, ('Which blocks', False), ('Counties', False)]
     which = 'All' if len(pieces) <= MOST else f'The first {MOST} of {grouped(len(pieces))}'
-    caption = f'{which} pieces of these districts, found anew from the plan and the neighbours.'
+    caption = f'{which} pieces of these districts, by the plan and the neighbour file.'
     return table(caption, heads, rows, labelled=True, class_='stacks')
 
 

@@ -2,7 +2,7 @@
 and it loads nothing."""
 from html import escape
 
-from audit import CLAUSES, KINDS, count, decimal, exact, figures, grouped, missing_words, not_met, result, verdict
+from audit import CLAUSES, KINDS, count, decimal, exact, figures, grouped, missing_words, result, verdict_words
 from audit_chart import gap_picture, mean_picture, people_pictures
 from audit_more import More, links_part, made_part, pieces_part, unassigned_part
 from page_parts import breakable, codes, document, element, table
@@ -31,8 +31,8 @@ def tests_part(report):
 def people_mark(report, district):
     """What is said of a district beside its number."""
     if district in report.named():
-        return ' <span class="is-not-met">named</span>'
-    return ' <span class="is-not-met">above the limit</span>' if district in report.beyond() else ''
+        return f' <span class="not-met">{report.named_as(district)}</span>'
+    return ' <span class="not-met">above the limit</span>' if district in report.beyond() else ''
 
 
 def people_part(report):
@@ -46,13 +46,13 @@ def people_part(report):
 
 def gaps_part(report, more):
     if not report.contiguity:
-        return '<p>Each district holds together: every two of its blocks are joined by neighbours within it.</p>'
+        return '<p>Every district is contiguous: a path of neighbours within it joins any two of its blocks.</p>'
     rows = [(str(gap['district']), escape(more.names.of_block(gap['from'])) if 'from' in gap else 'no block',
              escape(more.names.of_block(gap['to'])) if 'to' in gap else '', gap_picture(gap) if 'from' in gap else '')
             for gap in report.contiguity]
-    heads = [(text, False) for text in ('District', 'Its least block', 'Not reached from there', 'Picture')]
-    said = table('A block has its state and county, tract and number here: the first block of the district, and the first one to '
-                 'which no path of neighbours within the district leads from it.', heads, rows)
+    heads = [(text, False) for text in ('District', 'First block', 'Not reached from it', 'Picture')]
+    said = table('For each district its first block, and the first one to which no path of neighbours within the district leads from '
+                 'it. The parts of a number are state, county, tract and block.', heads, rows)
     return said + (pieces_part(more.ground, more.names) if more.ground and more.ground.pieces() else '')
 
 
@@ -89,15 +89,14 @@ def facts(report, more):
 
 def verdict_part(report):
     """The verdict, with the tests that are not met."""
-    which = f': {", ".join(not_met(report))}' if report.broken else ''
     return (f'<p class="verdict{" broken" if report.broken else ""}">{KINDS[report.kind]} plan of '
-            f'{count(report.districts, "district")}: it {verdict(report)}{escape(which)}.</p>')
+            f'{count(report.districts, "district")}: it {escape(verdict_words(report))}.</p>')
 
 
 def page(report, title, source, more=More()):
     """The page of a report; the source is its line of JSON."""
     parts = [('The tests', tests_part(report)), ('People by district', people_part(report)),
-             ('What does not hold together', gaps_part(report, more))]
+             ('Districts that are not contiguous', gaps_part(report, more))]
     if more.ground and more.ground.unassigned():
         parts.append(('Blocks without a district', unassigned_part(more.ground, more.names)))
     if report.kind == 'house':

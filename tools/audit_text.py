@@ -1,7 +1,7 @@
 """For tools/report: a report as lines for a terminal."""
 import itertools
 
-from audit import CLAUSES, KINDS, count, decimal, exact, figures, grouped, missing_words, result, verdict
+from audit import CLAUSES, KINDS, count, decimal, exact, figures, grouped, missing_words, result, verdict_words
 from audit_more import MOST, SOME, More, found_again, numbered
 
 BAR = 20
@@ -24,7 +24,7 @@ def bar(percent, widest):
 
 def people_mark(report, district):
     if district in report.named():
-        return '  named'
+        return f'  {report.named_as(district)}'
     return '  above the limit' if district in report.beyond() else ''
 
 
@@ -59,7 +59,7 @@ def piece_lines(ground, names):
     rows = [(str(piece.district), f'{place} of {of}', grouped(len(piece.blocks)), '' if piece.people is None else grouped(piece.people))
             for piece, place, of in itertools.islice(numbered(pieces), MOST)]
     yield ''
-    yield 'Their pieces'
+    yield 'Pieces of these districts'
     last = ['Lowest block', *(names.of_block(piece.blocks[0]) for piece in pieces)]
     heads = 'District', 'Piece', 'Blocks', '' if ground.people is None else 'People'
     yield from (f'{line}  {words}' for line, words in zip(table(heads, rows), last))
@@ -97,7 +97,7 @@ def text(report, title, more=More()):
     """The lines of a report."""
     names = more.names
     yield title
-    yield f'{KINDS[report.kind]} plan of {count(report.districts, "district")}: it {verdict(report)}.'
+    yield f'{KINDS[report.kind]} plan of {count(report.districts, "district")}: it {verdict_words(report)}.'
     yield f'People {grouped(report.population)}, ideal {exact(report.ideal())}, mean deviation {decimal(report.mean_percent())} percent'
     yield ''
     for clause in CLAUSES:
@@ -119,10 +119,10 @@ def text(report, title, more=More()):
 
 
 def lists(report, more):
-    """What does not hold together, the blocks without a district, and the districts that are not nested or are divided."""
+    """The districts that are not contiguous, the blocks without a district, and the districts that are not nested or are divided."""
     if report.contiguity:
         yield ''
-        yield 'What does not hold together'
+        yield 'Districts that are not contiguous'
         yield from (gap_line(gap, more.names) for gap in report.contiguity)
     if more.ground:
         yield from piece_lines(more.ground, more.names)

@@ -146,7 +146,7 @@ def by_district(found, words):
         where, people = most.get(district, ('', 0))
         share = f'{where} ({decimal(Fraction(100 * people, one), 1)} %)' if where and one else where
         rows.append((district, grouped(one), grouped(other), signed(other - one), share))
-    heads = ('District', False), *((f'People {word}', True) for word in words), ('Difference', True), ('Most of the first are then in', True)
+    heads = ('District', False), *((f'People {word}', True) for word in words), ('Difference', True), ('Most of its people are then in', True)
     unchanged = len((ones.keys() | others.keys()) - touched)
     return table(f'The districts that have other blocks; {count(unchanged, "district has", "districts have")} the same.', heads, rows,
                  labelled=True, class_='stacks')

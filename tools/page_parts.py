@@ -32,12 +32,12 @@ caption { text-align: left; font-size: 0.9rem; color: var(--quiet); padding: 0.3
 th, td { text-align: left; vertical-align: top; padding: 0.3rem 0.6rem 0.3rem 0; border-bottom: 1px solid var(--rule); }
 th.n, td.n { text-align: right; font-variant-numeric: tabular-nums; } td.n { white-space: nowrap; } small { display: block; color: var(--quiet); font-weight: normal; }
 .name { display: inline-block; overflow-wrap: anywhere; max-width: 100%; }
-.is-not-met, .is-met { white-space: nowrap; } .is-not-met { color: var(--bad); font-weight: bold; } .is-met { color: var(--good); } .not-met { color: var(--bad); } .changed { background: var(--changed); }
+.is-not-met, .is-met, time span { white-space: nowrap; } .is-not-met { color: var(--bad); font-weight: bold; } .is-met { color: var(--good); } .not-met { color: var(--bad); } .changed { background: var(--changed); }
 details { margin: 0.4rem 0; } summary { cursor: pointer; }
 figure { margin: 1rem 0; } figcaption { font-size: 0.9rem; color: var(--quiet); } svg { width: 100%; display: block; }
 svg text { font: 12px "DejaVu Sans", Verdana, sans-serif; fill: var(--text); } svg .rule { stroke: var(--quiet); }
 svg .band { fill: var(--band); } svg .within { fill: var(--within); } svg .beyond { fill: var(--beyond); } svg .named { fill: var(--named); }
-svg text.broken { fill: var(--bad); } svg text.on { fill: var(--ground); }
+svg text.limit { paint-order: stroke; stroke: var(--ground); stroke-width: 5px; } svg text.broken { fill: var(--bad); } svg text.on { fill: var(--ground); }
 ul.codes { list-style: none; display: flex; flex-wrap: wrap; gap: 0.4rem; padding: 0; margin: 0.4rem 0; }
 ul.codes li { border: 1px solid var(--rule); border-radius: 0.3rem; padding: 0 0.5rem; font-variant-numeric: tabular-nums; }
 code { overflow-wrap: anywhere; font-size: 0.85rem; } nav > a { margin-right: 1rem; }

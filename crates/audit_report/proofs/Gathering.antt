@@ -2,9 +2,9 @@
 use Rattle.std.{specs.{Prelude.Vec, declared.alloc.Global.Global}, proofs.{Math.Nat.{mul-le-mul_left, div-add-mod, mod-lt}, lemmas.Bool.{cases_lt, cases_eq}}}
 use Rattle.std.proofs.Common.{rules, ◌≡◌, ℕ, ◌+◌, ◌-◌, ◌*◌, ◌/◌, ◌%◌, ◌<◌, ◌≤◌, min, List, ◌++◌, length, get_or, set, remove, sym, ap, ◌∙◌, subst, inl, inr, arith}
 use Rattle.std.proofs.lemmas.List.{get_or_default, length-set, get_or-set_same, get_or-set_other, Edits.{get_or-remove_below, length-remove}}
-use Rattle.audit_clauses.specs.{Laws.BreaksFollow, claim.Breaks.AreBreaks, declared.{breaks.Break.Break, splits.DividedGroups.DividedGroups}}
-use Rattle.audit_report.specs.{Share.{AreNumberedBelow, IsHeld, AreShares, IsTaken, IsThere}, Work.{Audit, IsPieceOf, IsFound, breaks_in}, declared.pieces.People.People}
-use Rattle.audit_report.specs.declared.{pieces.Unnested.Unnested, work.Found.Found}
+use Rattle.{audit_contiguity.specs.{Laws.BreaksFollow, claim.Breaks.AreBreaks, declared.breaks.Break.Break}, audit_report.specs.Work.{Audit, IsPieceOf, IsFound, breaks_in}}
+use Rattle.audit_report.specs.{Share.{AreNumberedBelow, IsHeld, AreShares, IsTaken, IsThere}, declared.{pieces.{People.People, Unnested.Unnested}, work.Found.Found}}
+use Rattle.audit_splits_nesting.specs.declared.splits.DividedGroups.{DividedGroups}
 use Rattle.audit_report.specs.declared.work.Found.TheVariants as found
 
 -- of two pieces of one worker the one before has the lower place

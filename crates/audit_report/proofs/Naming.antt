@@ -3,7 +3,7 @@ use Rattle.{std.{specs.List.Sorted.IsStrictlyIncreasing, proofs.lemmas.{Bool.{ca
 use Rattle.std.proofs.Common.{rules, ◌≡◌, ℕ, ◌+◌, ◌<◌, Bool, true, false, IsTrue, zero, suc, List, [], ◌∷◌, ◌++◌, map, All, Contains, refl, ap, sym, ◌∙◌, arith, ⊎_elim}
 use Rattle.{std.proofs.lemmas.List.Elements.{All-push, All-map, All-nil, All-weaker, Contains-push, Contains-append_left}, audit_report.specs.declared.clause.Clause.Clause}
 use Rattle.audit_report.specs.{claim.Clauses.{rank, AreExactlyClauses}, declared.clause.Clause.TheVariants.{Complete, Mean, Range, Congress, Contiguous, Nested}}
-use Rattle.audit_clauses.proofs.Telling.{rising_push}
+use Rattle.audit_contiguity.proofs.Telling.{rising_push}
 
 -- the clauses of a lower rank of which this holds are named
 pub record AreNamed (Holds : Clause → Type 0) (count : ℕ) (clauses : List Clause) : Type 0 where

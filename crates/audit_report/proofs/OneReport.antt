@@ -1,10 +1,11 @@
 -- A plan has one report.
 use Rattle.std.proofs.{Common.{rules, ◌≡◌, ℕ, ◌<◌, List, [], ◌∷◌, length, map, get_or, Option, Some, None, MatchOption, Contains, refl, sym, ap, ◌∙◌}, lemmas.Bool.cases_lt}
-use Rattle.{std.proofs.lemmas.List.{length-map, get_or-map, Elements.{All-contains, Contains-get_or}}, audit_clauses.specs.Laws.{BreaksAreOneList, RisingListsAreOne}}
-use Rattle.audit_clauses.specs.claim.{Clauses.{RangeBreaks, AreExtremes, IsFirstMostPopulous, IsFirstLeastPopulous}, Exactly.AreExactly, Nested.BreaksNesting}
-use Rattle.audit_clauses.specs.{claim.{Divided.{IsDividedCounty, IsDividedCity, IsDividedWithinCounty}, People.populations_of}, declared.deviations.Extremes.Extremes}
-use Rattle.audit_report.specs.{Laws.ReportIsOne, claim.{Clauses.{rank, IsNamed, AreExactlyClauses}, Report.{IsRange, IsNesting, IsDividedBy}}, declared.clause.Clause.Clause}
-use Rattle.{audit_report.{specs.declared.clause.Clause.TheVariants.Complete, proofs.Naming.{clause_at, at_rank}}, desk_model.specs.declared.kind.Kind.Kind}
+use Rattle.{std.proofs.lemmas.List.{length-map, get_or-map, Elements.{All-contains, Contains-get_or}}, audit_contiguity.specs.Laws.{BreaksAreOneList, RisingListsAreOne}}
+use Rattle.audit_population.specs.claim.{Clauses.{RangeBreaks, AreExtremes, IsFirstMostPopulous, IsFirstLeastPopulous}, People.populations_of}
+use Rattle.{audit_population.specs.declared.deviations.Extremes.Extremes, audit_report.specs.{Laws.ReportIsOne, claim.Clauses.{rank, IsNamed, AreExactlyClauses}}}
+use Rattle.{audit_report.specs.{claim.Report.{IsRange, IsNesting, IsDividedBy}, declared.clause.Clause.{Clause, TheVariants.Complete}}, desk_model.specs.declared.kind.Kind.Kind}
+use Rattle.audit_splits_nesting.specs.claim.{Divided.{IsDividedCounty, IsDividedCity, IsDividedWithinCounty}, Exactly.AreExactly, Nested.BreaksNesting}
+use Rattle.audit_report.proofs.Naming.{clause_at, at_rank}
 use Rattle.desk_model.specs.declared.kind.Kind.TheVariants as kind
 
 from_ranks : (xs : List Clause) → map clause_at (map rank xs) ≡ xs

@@ -1,14 +1,14 @@
 -- From the pieces to the report.
 use Rattle.std.{specs.{Borrow.Bor, Option.option_copied}, proofs.lemmas.Bool.{cases_lt, lt-ltb, ltb-true, false≢true, some_since, and_from, cases_Bool, eqb-true}}
 use Rattle.std.proofs.Common.{rules, ◌≡◌, ℕ, IsTrue, List, [], length, get_or, filter, Option, Some, None, is_some, MatchOption, refl, ap, sym, ◌∙◌, inl, inr, arith, ◌-◌, ◌<◌, ◌≤◌, Bool, true, eqb, zero, suc, ◌∷◌, count_by, All, Contains, eq-eqb}
-use Rattle.{std.proofs.lemmas.List.{length-map, Elements.{All-contains_itself, All-filter, filter_passes}, Sums.length-filter}, audit_clauses.specs.claim.Breaks.{IsGap, AreBreaks}}
-use Rattle.{std.proofs.lemmas.List.FromFn.{length-map-range_with_len, get_or-range_with_len, length-range_with_len}, audit_clauses.specs.claim.Paths.{IsIn, HoldsTogether}}
-use Rattle.audit_clauses.specs.{claim.{Clauses.{deviates, RangeBreaks, AreExtremes}, People.{people_in, populations_of, state_people, districts}}, declared.breaks.Break.Break}
-use Rattle.{audit_clauses.specs.declared.{breaks.Gap.Gap, deviations.Extremes.Extremes}, audit_report.specs.{Assembled.{is_listed, found_clauses}, Pieces.ArePeople}}
+use Rattle.{std.proofs.lemmas.List.{length-map, Elements.{All-contains_itself, All-filter, filter_passes}, Sums.length-filter}, audit_contiguity.specs.declared.breaks.Break.Break}
+use Rattle.{std.proofs.lemmas.List.FromFn.{length-map-range_with_len, get_or-range_with_len, length-range_with_len}, audit_contiguity.specs.claim.Breaks.{IsGap, AreBreaks}}
+use Rattle.{audit_contiguity.specs.{claim.Paths.{IsIn, HoldsTogether}, declared.breaks.Gap.Gap}, audit_population.specs.claim.Clauses.{deviates, RangeBreaks, AreExtremes}}
+use Rattle.{audit_population.specs.{claim.People.{people_in, populations_of, state_people, districts}, declared.deviations.Extremes.Extremes}, audit_report.specs.Pieces.ArePeople}
+use Rattle.audit_report.specs.{Assembled.{is_listed, found_clauses}, claim.Report.{congress_of, IsRange, IsNesting}, declared.{clause.Clause.Clause, pieces.Pieces.Pieces}}
 use Rattle.audit_report.specs.claim.Clauses.{is_house, is_congress, is_legislative, CongressBreaks, ContiguityBreaks, NestingBreaks, IsNamed, AreExactlyClauses}
-use Rattle.audit_report.specs.{claim.Report.{congress_of, IsRange, IsNesting}, declared.clause.Clause.{Clause, TheVariants.{Complete, Mean, Range, Congress, Contiguous, Nested}}}
-use Rattle.{audit_report.specs.declared.pieces.Pieces.Pieces, desk_model.specs.{claim.{Companions.takes, Geography.GeographyModel}, declared.block.BlockRow.BlockRow}}
-use Rattle.{desk_model.specs.declared.kind.Kind.Kind, audit_report.proofs.Naming.{named_none, named_more, named_all}}
+use Rattle.{audit_report.specs.declared.clause.Clause.TheVariants.{Complete, Mean, Range, Congress, Contiguous, Nested}, desk_model.specs.claim.Companions.takes}
+use Rattle.{desk_model.specs.{claim.Geography.GeographyModel, declared.{block.BlockRow.BlockRow, kind.Kind.Kind}}, audit_report.proofs.Naming.{named_none, named_more, named_all}}
 use Rattle.desk_model.specs.declared.kind.Kind.TheVariants as kind
 
 -- Counts and filters that aren't empty.

@@ -1,8 +1,8 @@
 -- What a worker found so far, and all workers together.
 use Rattle.std.{specs.{Prelude.Vec, declared.alloc.{AllocError.AllocError, Global.Global}}, proofs.Math.Nat.{add_comm, add-mul, mul-le-mul_right, div-add-mod, mod-lt, mul_comm}}
 use Rattle.std.proofs.Common.{rules, ◌≡◌, ℕ, ◌+◌, ◌-◌, ◌*◌, ◌/◌, ◌%◌, ◌<◌, ◌≤◌, min, Bool, List, [], ◌∷◌, ◌++◌, length, map, get_or, Result, Ok, IfOk, sym, ap, ◌∙◌, subst, inl, inr, arith}
-use Rattle.{std.proofs.lemmas.{Bool.cases_lt, List.{length-map, length_push, get_or-map, get_or_push, get_or_append_left}, Nat.mod-mul-add}, audit_clauses.specs.Parts.Shown}
-use Rattle.{audit_clauses.specs.{claim.Breaks.AreBreaks, declared.breaks.Break.Break}, audit_report.specs.Share.{IsHeld, IsShare, AreNext, AreOwnParts, AreShares}}
+use Rattle.{std.proofs.lemmas.{Bool.cases_lt, List.{length-map, length_push, get_or-map, get_or_push, get_or_append_left}, Nat.mod-mul-add}, audit_contiguity.specs.Parts.Shown}
+use Rattle.{audit_contiguity.specs.{claim.Breaks.AreBreaks, declared.breaks.Break.Break}, audit_report.specs.Share.{IsHeld, IsShare, AreNext, AreOwnParts, AreShares}}
 use Rattle.audit_report.specs.{Work.{Audit, IsFound, shown_of}, declared.work.Found.Found}
 use Rattle.audit_report.specs.declared.work.Found.TheVariants as found
 

@@ -1,6 +1,6 @@
 -- What can be audited.
 use Rattle.std.specs.Prelude.{◌≡◌, ℕ, List, length}
-use Rattle.{audit_clauses.specs.Counts.IsCount, desk_model.specs.{Companions.{AreLong, AreTaken}, claim.Geography.GeographyModel, declared.companions.Companions.Companions}}
+use Rattle.{audit_population.specs.Counts.IsCount, desk_model.specs.{Companions.{AreLong, AreTaken}, claim.Geography.GeographyModel, declared.companions.Companions.Companions}}
 use Rattle.desk_model.specs.declared.kind.Kind.{Kind}
 
 -- a plan of so many districts, with one or none for each block

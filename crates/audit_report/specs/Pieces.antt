@@ -1,9 +1,9 @@
 -- What the pieces of the work found.
 use Rattle.std.specs.Prelude.{◌≡◌, ℕ, Bool, IsTrue, List, option_map, is_some}
-use Rattle.audit_clauses.specs.{Splits.AreDividedGroups, claim.{Breaks.AreBreaks, Clauses.MeanBreaks, People.{populations_of, state_people}}}
+use Rattle.{audit_contiguity.specs.claim.Breaks.AreBreaks, audit_population.specs.claim.{Clauses.MeanBreaks, People.{populations_of, state_people}}}
 use Rattle.audit_report.specs.claim.{Clauses.is_legislative, Figures.Figures, Report.{unassigned_of, congress_of, IsRange, IsNesting, IsDividedBy, IsReport}}
-use Rattle.{audit_report.specs.declared.pieces.{People.People, Pieces.Pieces, Unnested.Unnested}, desk_model.specs.{Companions.AreTaken, claim.Geography.GeographyModel}}
-use Rattle.desk_model.specs.declared.{companions.Companions.Companions, kind.Kind.Kind}
+use Rattle.{audit_report.specs.declared.pieces.{People.People, Pieces.Pieces, Unnested.Unnested}, audit_splits_nesting.specs.Splits.AreDividedGroups}
+use Rattle.desk_model.specs.{Companions.AreTaken, claim.Geography.GeographyModel, declared.{companions.Companions.Companions, kind.Kind.Kind}}
 
 -- whether the clause of the mean applies and is broken
 pub record IsMean (kind : Kind) (populations : List ℕ) (total : ℕ) (told : Bool) : Type 0 where

@@ -1,8 +1,8 @@
 -- An audit's work in numbered pieces.
 use Rattle.std.specs.Prelude.{◌≡◌, ℕ, ◌+◌, ◌-◌, ◌*◌, ◌<◌, ◌≤◌, min, List, [], Bool}
-use Rattle.{audit_clauses.specs.{Parts.Shown, Splits.AreDividedGroups, claim.Breaks.AreBreaks, declared.breaks.Break.Break}, audit_report.specs.declared.pieces.Pieces.Pieces}
-use Rattle.{audit_report.specs.{Pieces.{ArePeople, AreUnnested, ArePieces}, declared.work.Found.Found}, desk_model.specs.{claim.Geography.GeographyModel, declared.kind.Kind.Kind}}
-use Rattle.desk_model.specs.declared.companions.Companions.{Companions}
+use Rattle.{audit_contiguity.specs.{Parts.Shown, claim.Breaks.AreBreaks, declared.breaks.Break.Break}, audit_report.specs.Pieces.{ArePeople, AreUnnested, ArePieces}}
+use Rattle.{audit_report.specs.declared.{pieces.Pieces.Pieces, work.Found.Found}, audit_splits_nesting.specs.Splits.AreDividedGroups, desk_model.specs.declared.kind.Kind.Kind}
+use Rattle.desk_model.specs.{claim.Geography.GeographyModel, declared.companions.Companions.Companions}
 use Rattle.audit_report.specs.declared.work.Found.TheVariants as found
 
 -- a plan of count districts, with what it is judged by

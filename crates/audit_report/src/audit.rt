@@ -9,8 +9,8 @@ ghost use Rattle.audit_report.specs.claim.Report.{not_asked_of, IsReport};
 use crate::clause::Clause;
 use crate::pieces::{People, Pieces, Unnested, find_nesting, find_people};
 use crate::report::Report;
-use audit_clauses::breaks::breaks;
-use audit_clauses::splits::{DividedGroups, divided_groups};
+use audit_contiguity::breaks::breaks;
+use audit_splits_nesting::splits::{DividedGroups, divided_groups};
 use desk_model::companions::Companions;
 use desk_model::geography::Geography;
 use desk_model::kind::Kind;
@@ -134,7 +134,7 @@ pub fn audit(
         people: find_people(alloc, geography, kind, count, plan)?,
         splits: divided_groups(alloc, geography, plan)?,
         unnested: find_nesting(alloc, count, plan, beside)?,
-        contiguity: breaks(alloc, geography, count, plan)?,
+        contiguity: breaks(alloc, plan, geography, count)?,
     };
     assemble(alloc, kind, count, senate.is_some(), pieces)
 }

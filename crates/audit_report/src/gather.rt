@@ -1,13 +1,13 @@
 //! The pieces of an audit put together.
 ghost use Rattle.std.specs.Prelude.{IfOk};
-ghost use Rattle.audit_clauses.specs.claim.Breaks.{AreBreaks};
+ghost use Rattle.audit_contiguity.specs.claim.Breaks.{AreBreaks};
 ghost use Rattle.audit_report.specs.Share.{AreAllShares, IsTaken, IsThere};
 ghost use Rattle.audit_report.specs.Work.{ArePiecesOf};
 
 use crate::pieces::Pieces;
 use crate::work::{Found, Work};
-use audit_clauses::breaks::Break;
-use audit_clauses::laws::breaks_follow;
+use audit_contiguity::breaks::Break;
+use audit_contiguity::laws::breaks_follow;
 use std::alloc::{AllocError, Global};
 
 /// Takes what a piece found out of the share in which it lies.

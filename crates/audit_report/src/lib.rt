@@ -32,4 +32,4 @@ mod values;
 mod work;
 pub mod workers;
 
-pub use audit_clauses::people::total;
+pub use audit_population::people::total;

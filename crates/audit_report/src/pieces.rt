@@ -2,16 +2,16 @@
 ghost use Rattle.std.specs.Prelude.{◌≡◌, ◌<◌, ◌≤◌, ◌^◌, length, IfOk, IfSome, option_map};
 ghost use Rattle.std.specs.Option.{option_copied};
 ghost use Rattle.desk_model.specs.Companions.{AreLong, companions_copied};
-ghost use Rattle.audit_clauses.specs.Counts.{IsCount};
+ghost use Rattle.audit_population.specs.Counts.{IsCount};
 ghost use Rattle.audit_report.specs.claim.Report.{unassigned_of, congress_of, IsRange, IsNesting, IsDividedBy};
 ghost use Rattle.audit_report.specs.Audits.{IsPlanOf};
 ghost use Rattle.audit_report.specs.Pieces.{IsMean, ArePeople, AreUnnested};
 
-use audit_clauses::breaks::Break;
-use audit_clauses::deviations::{Extremes, congress_breaks, mean_breaks, range_breaks};
-use audit_clauses::nesting::nesting_breaks;
-use audit_clauses::people::{StatePeople, populations};
-use audit_clauses::splits::DividedGroups;
+use audit_contiguity::breaks::Break;
+use audit_population::deviations::{Extremes, congress_breaks, mean_breaks, range_breaks};
+use audit_population::people::{StatePeople, populations};
+use audit_splits_nesting::nesting::nesting_breaks;
+use audit_splits_nesting::splits::DividedGroups;
 use desk_model::companions::Companions;
 use desk_model::geography::Geography;
 use desk_model::kind::Kind;

@@ -9,8 +9,8 @@ use crate::values::{
     breaks_value, cities_value, clauses_value, counties_value, districts_value, divided_value,
     people_value, range_value,
 };
-use audit_clauses::breaks::Break;
-use audit_clauses::deviations::Extremes;
+use audit_contiguity::breaks::Break;
+use audit_population::deviations::Extremes;
 use desk_model::kind::Kind;
 use serde_json::{Map, Value, put};
 use std::alloc::{AllocError, Global};

@@ -5,8 +5,8 @@ ghost use Rattle.desk_model.specs.claim.Padded.{padded_decimal};
 ghost use Rattle.audit_report.specs.claim.ReportText.{clause_data, code_data, number_data, list_data, break_data, divided_data, range_data};
 
 use crate::clause::Clause;
-use audit_clauses::breaks::Break;
-use audit_clauses::deviations::Extremes;
+use audit_contiguity::breaks::Break;
+use audit_population::deviations::Extremes;
 use desk_model::block::BlockId;
 use serde_json::{Value, json};
 use std::alloc::{AllocError, Global};

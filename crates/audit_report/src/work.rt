@@ -6,9 +6,9 @@ ghost use Rattle.audit_report.specs.Share.{AreAllPieces};
 ghost use Rattle.audit_report.specs.Work.{IsFound, breaks_in, shown_of};
 
 use crate::pieces::{People, Unnested, find_nesting, find_people};
-use audit_clauses::breaks::Break;
-use audit_clauses::parts::{DistrictTrees, part_count};
-use audit_clauses::splits::{DividedGroups, divided_groups};
+use audit_contiguity::breaks::Break;
+use audit_contiguity::parts::{DistrictTrees, part_count};
+use audit_splits_nesting::splits::{DividedGroups, divided_groups};
 use desk_model::companions::Companions;
 use desk_model::geography::Geography;
 use desk_model::kind::Kind;

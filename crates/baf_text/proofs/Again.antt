@@ -4,11 +4,11 @@ use Rattle.std.proofs.Common.{◌≡◌, ℕ, ◌+◌, ◌-◌, ◌<◌, ◌≤�
 use Rattle.std.proofs.lemmas.{Bool.{ne_eqb, eq-eqb, and_parts, and_from, cond-true, cond-false, not-true, Decides.nat_tests}, List.{length-map, Kept.AllPairs-from_increasing}}
 use Rattle.{std.proofs.lemmas.List.{Elements.{All-cons, All-append, All-head, All-tail, All-weaker, Contains-get_or}, Sums.AllPass-from_list_all}, baf_text.specs.Listed.listed_of}
 use Rattle.{std.proofs.lemmas.Slice.Zip.{get_or-zip, length-zip, seconds-zip}, baf_text.specs.{Body.{IsBody, value_of}, Laws.{IsAssignment, PrintedIsRead}}}
-use Rattle.{byte_stream.specs.claim.Fields.fields, desk_model.specs.claim.{Baf.{Values, Fault, value_at, fields_of, body_read, header, with_header}, GeographyModels.AreBlocks}}
-use Rattle.desk_model.specs.{claim.{Geography.{GeographyModel, ids}, Padded.padded_decimal, Printed.{code_text, row_text, printed}, Sizes.most_districts}, declared.kind.Kind.Kind}
-use Rattle.{desk_model.specs.declared.{block.BlockRow.BlockRow, kind.Kind.TheVariants.Congress}, baf_text.proofs.Codes.{Writes, padded_writes, said, code_again, in_range_again}}
-use Rattle.baf_text.proofs.{Listing.{body_listed, rows_first, somes, value_in, with_bytes}, Rows.{digits_all, two_fields, fields_from_row}}
-use Rattle.byte_stream.proofs.TextLemmas.{lines-cut}
+use Rattle.desk_model.specs.claim.{Baf.{Values, Fault, value_at, fields_of, body_read, header, with_header}, Geography.{GeographyModel, ids}, GeographyModels.AreBlocks}
+use Rattle.desk_model.specs.{claim.{Padded.padded_decimal, Printed.{code_text, row_text, printed}, Sizes.most_districts}, declared.{block.BlockRow.BlockRow, kind.Kind.Kind}}
+use Rattle.{desk_model.specs.declared.kind.Kind.TheVariants.Congress, field_text.specs.claim.Fields.fields, baf_text.proofs.Rows.{digits_all, two_fields, fields_from_row}}
+use Rattle.baf_text.proofs.{Codes.{Writes, padded_writes, said, code_again, in_range_again}, Listing.{body_listed, rows_first, somes, value_in, with_bytes}}
+use Rattle.field_text.proofs.TextLemmas.{lines-cut}
 
 -- a byte that ends no line
 record IsInLine (b : ℕ) : Type 0 where

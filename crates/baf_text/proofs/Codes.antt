@@ -2,9 +2,9 @@
 use Rattle.std.{specs.{Char.is_ascii_digit, Cmp.Lexicographic.pointwise, Fmt.decimal, List.list_all, Prelude.nat_eq, Str.Parse.digits_value}, proofs.Math.Dec.eqb-suc-zero}
 use Rattle.std.proofs.Common.{◌≡◌, ℕ, ◌-◌, ◌<◌, ◌≤◌, ◌^◌, true, false, cond, eqb, List, ◌++◌, length, replicate, zero, suc, refl, ◌∙◌, arith, Option, Some, None, rules}
 use Rattle.std.proofs.lemmas.{Bool.{ne_eqb, eqb-true, le-leb, and_from, and_parts, false_from_ne_true}, Fmt.{length-decimal-le, digits_decimal, digits_value-decimal}}
-use Rattle.{std.proofs.lemmas.{List.Folds.list_all-append, Option.cond_some, Slice.Eq.bytes_eq-Decides}, byte_stream.specs.claim.Digits.number_of_digits, baf_text.proofs.Rows.own}
-use Rattle.desk_model.specs.{claim.{Baf.{code_value, in_range}, Padded.padded_decimal, Printed.code_text, Sizes.most_districts}, declared.kind.Kind.{Kind, TheVariants.Congress}}
-use Rattle.baf_text.proofs.Printing.{length-padded}
+use Rattle.{std.proofs.lemmas.{List.Folds.list_all-append, Option.cond_some, Slice.Eq.bytes_eq-Decides}, desk_model.specs.claim.{Baf.{code_value, in_range}, Padded.padded_decimal}}
+use Rattle.{desk_model.specs.{claim.{Printed.code_text, Sizes.most_districts}, declared.kind.Kind.{Kind, TheVariants.Congress}}, field_text.specs.claim.Digits.number_of_digits}
+use Rattle.baf_text.proofs.{Printing.length-padded, Rows.own}
 
 -- so many digits, which write n
 pub record Writes (width n : ℕ) (text : List ℕ) : Type 0 where

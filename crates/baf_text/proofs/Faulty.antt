@@ -2,8 +2,8 @@
 use Rattle.std.{specs.{Cmp.Lexicographic.pointwise, Prelude.nat_eq, Str.Lines.lines}, proofs.lemmas.Bool.{cases_Bool, both_ways, eqb-false, ne_eqb, false_from_ne_true}}
 use Rattle.std.proofs.Common.{◌≡◌, ◌≢◌, ◌⊎◌, ⊎_elim, ℕ, ◌+◌, true, false, eqb, List, [], ◌∷◌, ◌++◌, length, suc, refl, sym, ◌∙◌, ap, arith, add-zero, Result, Ok, Err, rules}
 use Rattle.{std.proofs.lemmas.{Option.same_Some, Slice.Eq.bytes_eq-Decides}, baf_text.specs.Body.{IsBody, IsFaultyLine, HasNoHeader, FaultIsFirst}}
-use Rattle.{byte_stream.specs.claim.Fields.fields, desk_model.specs.claim.{Baf.{Values, header, fields_of, line_read, at_line, rows_read, with_header}, Geography.GeographyModel}}
-use Rattle.{desk_model.specs.declared.reply.BodyFault.BodyFault, baf_text.proofs.Listing.{body_lists, body_listed, goes_on}}
+use Rattle.desk_model.specs.{claim.{Baf.{Values, header, fields_of, line_read, at_line, rows_read, with_header}, Geography.GeographyModel}, declared.reply.BodyFault.BodyFault}
+use Rattle.{field_text.specs.claim.Fields.fields, baf_text.proofs.Listing.{body_lists, body_listed, goes_on}}
 
 -- the lines up to a fault, read from some values on
 record FaultIn (g : GeographyModel) (n at : ℕ) (so_far : Values) (ls : List (List ℕ)) (code : BodyFault) (told : ℕ) : Type 0 where

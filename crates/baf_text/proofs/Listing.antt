@@ -3,8 +3,8 @@ use Rattle.std.{specs.{Cmp.Lexicographic.pointwise, List.list_any, Prelude.{AllP
 use Rattle.std.proofs.Common.{inl, inr, ◌≡◌, ◌≢◌, ℕ, ◌+◌, Bool, true, false, not, cond, eqb, List, [], ◌∷◌, ◌++◌, map, filter, length, get_or, zero, suc, refl, sym, ◌∙◌, ap, arith, All, Contains, Option, Some, None, Result, Ok, Err, is_some, append_assoc, ⊎_elim, rules}
 use Rattle.std.proofs.lemmas.List.{append-nil, get_or_default, Elements.{All-cons, All-nil, All-head, All-tail}, Folds.{list_any_at, Any-from_list_any}, Kept.AllPairs-cons}
 use Rattle.{std.proofs.lemmas.{Option.same_Some, Slice.Eq.bytes_eq-Decides}, baf_text.specs.Body.{with_district, value_of, IsBody, ReadIsListed}}
-use Rattle.{byte_stream.specs.claim.Fields.fields, desk_model.specs.claim.Baf.{Values, value_at, header, fields_of, in_range, placed, line_read, at_line, rows_read, with_header}}
-use Rattle.desk_model.specs.{claim.Geography.{GeographyModel, ids}, declared.reply.BodyFault.{BodyFault, TheVariants.{UnknownBlock, RepeatedBlock}}}
+use Rattle.desk_model.specs.claim.{Baf.{Values, value_at, header, fields_of, in_range, placed, line_read, at_line, rows_read, with_header}, Geography.{GeographyModel, ids}}
+use Rattle.{desk_model.specs.declared.reply.BodyFault.{BodyFault, TheVariants.{UnknownBlock, RepeatedBlock}}, field_text.specs.claim.Fields.fields}
 use Rattle.baf_text.proofs.Values.{value_at-push_other}
 
 -- a line's fields add this block with its district

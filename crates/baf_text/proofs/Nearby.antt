@@ -2,8 +2,8 @@
 use Rattle.std.{specs.{Char.{is_ascii_digit, digit_value}, List.list_all, Str.{Lines.strip_carriage_return, Parse.digits_value}}, proofs.lemmas.{Bool.and_parts, Option.cond_some}}
 use Rattle.std.proofs.Common.{rules, ◌≡◌, ℕ, ◌+◌, ◌-◌, ◌*◌, ◌/◌, ◌<◌, ◌≤◌, ◌^◌, Bool, true, ◌&&◌, eqb, List, [], ◌∷◌, ◌++◌, length, take, drop, get_or, sym, ◌∙◌, ap, arith, All, Option, Some, append_assoc, length-append, take-append-drop}
 use Rattle.{std.proofs.lemmas.{Int.Digits.digits_value_more, List.{take_at, length-take-le, Folds.list_all_more}, Str.digit_value_digit}, baf_text.proofs.Prefix.{IsNoFeed, prefix}}
-use Rattle.{baf_text.specs.Prefix.{HasHead, HasCode, HasHundreds, HasFirst}, byte_stream.specs.claim.Digits.number_of_digits, desk_model.specs.claim.Baf.{are_digits, code_value}}
-use Rattle.{baf_text.proofs.Rows.value_small, byte_stream.proofs.DigitLemmas.{digit_high, digit_low}}
+use Rattle.{baf_text.specs.Prefix.{HasHead, HasCode, HasHundreds, HasFirst}, desk_model.specs.claim.Baf.{are_digits, code_value}, field_text.specs.claim.Digits.number_of_digits}
+use Rattle.{baf_text.proofs.Rows.value_small, field_text.proofs.DigitLemmas.{digit_high, digit_low}}
 
 -- fifteen digits, the last two by themselves
 record IsTold (text : List ℕ) : Type 0 where

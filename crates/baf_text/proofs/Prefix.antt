@@ -2,7 +2,7 @@
 use Rattle.std.{specs.{Char.is_ascii_digit, List.list_all, Str.{Lines.{lines, strip_carriage_return}, Parse.digits_value}}, proofs.{Math.Dec.eqb-suc-zero, lemmas.Bool.and_parts}}
 use Rattle.std.proofs.Common.{◌≡◌, ℕ, ◌-◌, Bool, true, false, cond, eqb, List, [], ◌∷◌, ◌++◌, length, take, drop, get_or, suc, refl, sym, ◌∙◌, ap, arith, All, Option, Some, append_assoc, length-append, length-drop, take-append-drop}
 use Rattle.{std.proofs.lemmas.{Bool.Decides.nat_tests, List.{drop_more, Elements.{All-cons, All-append}}, Option.cond_some}, baf_text.specs.Prefix.{HasHead, HasFirst, line_parts}}
-use Rattle.{desk_model.specs.claim.Baf.{are_digits, code_value}, baf_text.proofs.Rows.{IsRow, digits_all, two_fields, fields_from_row}, byte_stream.proofs.TextLemmas.lines-cut}
+use Rattle.{desk_model.specs.claim.Baf.{are_digits, code_value}, baf_text.proofs.Rows.{IsRow, digits_all, two_fields, fields_from_row}, field_text.proofs.TextLemmas.lines-cut}
 
 abbrev pub IsNoFeed : ℕ → Type 0
 IsNoFeed b = eqb b 10 ≡ false

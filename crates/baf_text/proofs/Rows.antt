@@ -3,9 +3,9 @@ use Rattle.std.specs.{Char.is_ascii_digit, Cmp.Lexicographic.pointwise, List.{li
 use Rattle.std.proofs.Common.{◌≡◌, ℕ, ◌<◌, ◌≤◌, ◌^◌, Bool, true, false, cond, ◌&&◌, ◌||◌, eqb, nat_le, List, [], ◌∷◌, ◌++◌, length, take, drop, get_or, refl, sym, ◌∙◌, ap, arith, rules, All, Option, Some, None, length-append}
 use Rattle.std.proofs.lemmas.{Bool.{eqb-true, leb-true, and_parts, or_cases, Decides.nat_tests}, List.Elements.{All-cons, All-nil, All-same, All-weaker}, Option.cond_some}
 use Rattle.std.proofs.lemmas.{List.{take_at, drop_at, drop-drop, drop_more, take-append-drop, get_or_at, nil_from_length, Sums.AllPass-from_list_all}, Slice.Eq.bytes_eq-Decides}
-use Rattle.{std.proofs.lemmas.List.Splits.{slice_split_at, slice_split_none, join_with_byte-slice_split}, byte_stream.specs.claim.Digits.{number_of, number_of_digits}}
-use Rattle.{std.proofs.lemmas.Str.Parse.{IsNumeralModel, IsDigitsTest, numerals_by_value, digits_value_short}, byte_stream.specs.claim.Fields.fields}
-use Rattle.desk_model.specs.claim.Baf.{are_digits, code_value, with_id, fields_of}
+use Rattle.{std.proofs.lemmas.List.Splits.{slice_split_at, slice_split_none, join_with_byte-slice_split}, desk_model.specs.claim.Baf.{are_digits, code_value, with_id, fields_of}}
+use Rattle.{std.proofs.lemmas.Str.Parse.{IsNumeralModel, IsDigitsTest, numerals_by_value, digits_value_short}, field_text.specs.claim.Digits.{number_of, number_of_digits}}
+use Rattle.field_text.specs.claim.Fields.{fields}
 
 tells_digits : IsDigitsTest (λ ds. list_all is_ascii_digit ds ≡ true)
 tells_digits = search rules

@@ -1,7 +1,7 @@
 -- What the lines so far make of the list, and what the list and the lines that are left make of the text.
 use Rattle.{std.proofs.Common.{◌≡◌, ℕ, ◌+◌, Bool, true, false, cond, eqb, List, ◌∷◌, length, Option, Result, Ok, Err, sym, ◌∙◌, ap}, baf_text.specs.Listed.{listed_of, IsLineTaken}}
-use Rattle.{baf_text.specs.{claim.Faults.IsFaultOf, declared.reading.BafFault.{BafFault, TheVariants.{Body, Memory}}}, byte_stream.specs.claim.Fields.fields}
-use Rattle.desk_model.specs.{claim.{Baf.{Values, body_read, rows_read, line_read, at_line, fields_of}, Geography.GeographyModel}, declared.reply.BodyFault.BodyFault}
+use Rattle.{baf_text.specs.{claim.Faults.IsFaultOf, declared.reading.BafFault.{BafFault, TheVariants.{Body, Memory}}}, desk_model.specs.claim.Geography.GeographyModel}
+use Rattle.{desk_model.specs.{claim.Baf.{Values, body_read, rows_read, line_read, at_line, fields_of}, declared.reply.BodyFault.BodyFault}, field_text.specs.claim.Fields.fields}
 
 -- some values are listed, and the text reads on from them
 pub record IsUnderWay (g : GeographyModel) (n : ℕ) (text : List ℕ) (at : ℕ) (left : List (List ℕ)) (listed : List (Option ℕ)) : Type 0 where

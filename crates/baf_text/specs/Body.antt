@@ -1,7 +1,7 @@
 -- What a block assignment file lists, without an order of reading.
-use Rattle.{std.specs.{List.slice_get, Str.Lines.lines}, byte_stream.specs.claim.Fields.fields, desk_model.specs.claim.Geography.{GeographyModel, ids}}
+use Rattle.{std.specs.{List.slice_get, Str.Lines.lines}, desk_model.specs.claim.{Baf.{Values, header, fields_of, in_range, line_read, body_read}, Geography.{GeographyModel, ids}}}
 use Rattle.std.specs.Prelude.{◌≡◌, ◌≢◌, ◌↔◌, ◌⊎◌, ℕ, ◌+◌, not, ◌==◌, List, ◌∷◌, ◌++◌, map, filter, drop, length, Option, Some, None, Ok, Err, All, AllPairs, Contains}
-use Rattle.desk_model.specs.{claim.Baf.{Values, header, fields_of, in_range, line_read, body_read}, declared.reply.BodyFault.{BodyFault, TheVariants.Header}}
+use Rattle.{desk_model.specs.declared.reply.BodyFault.{BodyFault, TheVariants.Header}, field_text.specs.claim.Fields.fields}
 
 abbrev pub with_district : ℕ → Option ℕ → Option (ℕ × ℕ)
 with_district id None = None

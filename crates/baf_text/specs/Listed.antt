@@ -1,7 +1,7 @@
 -- The blocks that a text lists, and a text's fault.
 use Rattle.std.specs.Prelude.{◌≡◌, ◌≢◌, ◌≤◌, ◌+◌, ◌-◌, ℕ, zero, suc, nat_lt, List, [], ◌∷◌, map, length, get_or, slice_set, Option, Some, None, Result, Ok, Err, IsOkAnd, if◌then◌else◌, ◌==◌}
-use Rattle.{baf_text.specs.declared.reading.BafFault.{BafFault, TheVariants.{Body, Memory}}, byte_stream.specs.claim.Fields.fields}
-use Rattle.desk_model.specs.{claim.{Baf.{Values, value_at, fields_of, line_read}, Geography.{GeographyModel, ids}}, declared.reply.BodyFault.BodyFault}
+use Rattle.{baf_text.specs.declared.reading.BafFault.{BafFault, TheVariants.{Body, Memory}}, desk_model.specs.claim.Baf.{Values, value_at, fields_of, line_read}}
+use Rattle.{desk_model.specs.{claim.Geography.{GeographyModel, ids}, declared.reply.BodyFault.BodyFault}, field_text.specs.claim.Fields.fields}
 
 -- the value of each block, rising: nothing where a block isn't listed
 abbrev pub listed_of : GeographyModel → Values → List (Option ℕ)

@@ -1,7 +1,7 @@
 -- The first line of a text, as a row.
-use Rattle.{std.specs.{Char.is_ascii_digit, List.list_all, Str.{Lines.{lines, strip_carriage_return}, Parse.digits_value}}, byte_stream.specs.claim.Digits.number_of_digits}
+use Rattle.{std.specs.{Char.is_ascii_digit, List.list_all, Str.{Lines.{lines, strip_carriage_return}, Parse.digits_value}}, desk_model.specs.claim.Baf.{code_value, fields_of}}
 use Rattle.std.specs.Prelude.{◌≡◌, ◌<◌, ◌*◌, ℕ, true, false, All, List, ◌∷◌, ◌++◌, length, take, get_or, Option, Some, None, if◌then◌else◌, ◌==◌}
-use Rattle.{byte_stream.specs.claim.Fields.fields, desk_model.specs.claim.Baf.{code_value, fields_of}}
+use Rattle.field_text.specs.claim.{Digits.number_of_digits, Fields.fields}
 
 -- a text begins with a block's number and a bar
 pub record HasHead (text : List ℕ) (block : ℕ) : Type 0 where

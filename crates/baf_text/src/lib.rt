@@ -31,3 +31,7 @@ pub mod number;
 pub mod reading;
 mod row;
 pub mod writing;
+
+pub use listed::whole;
+pub use reading::{BafFault, read};
+pub use writing::write;

@@ -1,11 +1,11 @@
 //! The head and the code of a line, which are mostly nearly or quite those of the line before.
 ghost use Rattle.std.specs.Prelude.{◌≡◌, ◌≤◌, ℕ, length, take, IsTrue, Some, MatchOption, IfSome};
-ghost use Rattle.byte_stream.specs.claim.Digits.{number_of_digits};
+ghost use Rattle.field_text.specs.claim.Digits.{number_of_digits};
 ghost use Rattle.baf_text.specs.Prefix.{HasHead, HasCode};
 
 use crate::row::{ID_DIGITS, code_number, head_of};
-use byte_stream::lines::{cut_near, without_return};
 use desk_model::block::BlockId;
+use field_text::line::{cut_near, without_return};
 use std::marker::Model;
 
 /// Whether two slices of one length are equal. Each byte is compared, without a branch: for a length that is known.

@@ -1,7 +1,7 @@
 //! Reading a block assignment file.
 ghost use Rattle.std.specs.Prelude.{◌≡◌, ◌<◌, ◌+◌, ◌^◌, ℕ, List, map, length, None, IfOk, IfErr, OnOk, IsOkAnd};
 ghost use Rattle.desk_model.specs.claim.Baf.{Values, body_read, fields_of, in_range};
-ghost use Rattle.byte_stream.specs.claim.Fields.{fields};
+ghost use Rattle.field_text.specs.claim.Fields.{fields};
 ghost use Rattle.baf_text.specs.Prefix.{line_parts};
 ghost use Rattle.baf_text.specs.Listed.{listed_of, IsEntry, IsLineTaken};
 ghost use Rattle.baf_text.specs.claim.Faults.{IsFaultOf};
@@ -10,9 +10,9 @@ ghost use Rattle.baf_text.specs.declared.reading.BafFault.TheVariants.{Memory};
 use crate::listed::Listed;
 use crate::near::{LastCode, LastHead};
 use crate::row::{BafRow, ID_DIGITS, next_row};
-use byte_stream::lines::first_line;
 use desk_model::geography::{Geography, place_near};
 use desk_model::reply::BodyFault;
+use field_text::line::first_line;
 use std::alloc::{AllocError, Global};
 
 /// The first line of a block assignment file.

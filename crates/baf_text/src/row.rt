@@ -2,14 +2,14 @@
 ghost use Rattle.std.specs.Prelude.{◌≡◌, ◌<◌, ℕ, [], length, MatchOption, IfSome, Some};
 ghost use Rattle.std.specs.Str.Lines.{lines};
 ghost use Rattle.desk_model.specs.claim.Baf.{code_value, fields_of};
-ghost use Rattle.byte_stream.specs.claim.Digits.{number_of_digits};
-ghost use Rattle.byte_stream.specs.claim.Fields.{fields};
+ghost use Rattle.field_text.specs.claim.Digits.{number_of_digits};
+ghost use Rattle.field_text.specs.claim.Fields.{fields};
 ghost use Rattle.baf_text.specs.Prefix.{HasHead, HasFirst, line_parts};
 
 use crate::near::{LastCode, LastHead};
-use byte_stream::digits::{digits_exactly, fifteen_digits, number};
-use byte_stream::lines::first_line;
 use desk_model::block::BlockId;
+use field_text::digits::{digits_exactly, fifteen_digits, number};
+use field_text::line::first_line;
 
 /// A block's number has this many digits.
 pub const ID_DIGITS: usize = 15;

@@ -1,9 +1,10 @@
 -- Lines that are judged one after the other.
 use Rattle.std.{specs.{Io.KnownBytes.IsAtEnd, Str.Lines.{lines, strip_carriage_return}}, proofs.lemmas.{Bool.eqb-true, List.{append-nil, map-append}}}
 use Rattle.std.proofs.Common.{◌≡◌, ℕ, ◌+◌, ◌<◌, ◌⊎◌, List, [], ◌∷◌, ◌++◌, Bool, true, false, eqb, Option, None, Some, length, map, refl, sym, ap, ◌∙◌, arith, append_assoc, inl, inr, length-append, rules}
-use Rattle.{std.proofs.lemmas.List.Elements.{All-append, All-cons, All-nil}, byte_stream.{specs.Reading.{IsLong, IsTooLong, IsLastLine}, proofs.TextLemmas.{lines-cut, lines-last}}}
+use Rattle.{std.proofs.lemmas.List.Elements.{All-append, All-cons, All-nil}, byte_stream.specs.Reading.{IsLong, IsTooLong, IsLastLine}}
 use Rattle.byte_stream.specs.claim.Judged.{Judge, AreGood, IsFirstFault, ShowsFault, with_ends, AreCut, BeginsWithLines, IsCutShort}
 use Rattle.byte_stream.{specs.claim.Reading.{NoLineFeed, IsBroken, BeginsWithLine, line_limit}, proofs.BufferLemmas.{stripped, strip_shorter}}
+use Rattle.field_text.proofs.TextLemmas.{lines-cut, lines-last}
 
 -- ---- whole lines at the start of a text
 

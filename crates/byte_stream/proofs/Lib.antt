@@ -1,9 +1,6 @@
 pub mod BufferLemmas
-pub mod DigitLemmas
 pub mod JudgedLemmas
 pub mod ReadingLemmas
-pub mod ScanLemmas
-pub mod TextLemmas
 pub mod WordLaws
 pub mod WordLemmas
 pub mod WordSteps

@@ -1,6 +1,5 @@
 pub mod claim
 pub mod Buffer
-pub mod Lines
 pub mod Reading
 pub mod Sends
 pub mod Turns

@@ -1,7 +1,5 @@
 -- What has to be read to believe a promise.
 pub mod Counts
-pub mod Digits
-pub mod Fields
 pub mod Judged
 pub mod Reading
 pub mod Sends

@@ -1,9 +1,4 @@
-//! Streams of bytes with counted failures, and texts as lines, fields, words and numbers.
-//!
-//! # Example
-//!
-//! `Lines::new(b"a|b\r\nc")` gives line 1, `a|b`, and line 2, `c`. `Fields::new(b"a|b")` gives `a`
-//! and `b`.
+//! Streams of bytes with counted failures, and the lines and words of a reader.
 //!
 //! # Model
 //!
@@ -18,7 +13,6 @@
 //!   fault.
 //! - `turn_of`: an interrupted read is a turn without bytes, every other error a failure.
 //!   `is_tried_again`: an interrupted write is repeated, at most 4,294,967,296 times a send.
-//! - `number`, `digits_exactly`: exactly the decimal numbers of the given length.
 //!
 //! # Not proved
 //!
@@ -26,12 +20,8 @@
 //! line (`Telling`) prints. Tests cover both.
 #![tactic(auto)]
 
-pub mod digits;
-pub mod fields;
-pub mod lines;
 pub mod progress;
 pub mod reader;
-mod scan;
 pub mod sink;
 pub mod source;
 pub mod words;

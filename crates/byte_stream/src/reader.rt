@@ -10,9 +10,9 @@ ghost use Rattle.byte_stream.specs.claim.Reading.{NoLineFeed, BeginsWithLine, tu
 ghost use Rattle.byte_stream.specs.Reading.{Gives, number_after, failures_after_step, CountsFrom, Fills};
 ghost use Rattle.byte_stream.specs.Words.{GivesWord, failures_after_word, TakesWord, TakesLastWord, number_taken, number_after_word};
 
-use crate::lines::{cut, without_return};
 use crate::source::{Source, Turn};
 use crate::words::{bytes_before, separators_before};
+use field_text::line::{cut, without_return};
 use std::alloc::{AllocError, Global};
 use std::marker::Model;
 

@@ -3,9 +3,9 @@ use Rattle.{std.proofs.Common.{◌≡◌, true, false, Result, Ok, Err, IfOk, re
 use Rattle.{check_command.specs.{claim.Auditing.EndsAudit, declared.report.Audited.Audited}, command_output.specs.claim.{Faults.status_of_fault, Writing.Written}}
 use Rattle.{command_output.specs.declared.status.Status.Status, state_files.specs.declared.fault.FileFault.FileFault}
 use Rattle.state_files.specs.declared.fault.FileFault.TheVariants.{NoHeader, Header, NoSegment, Segment, Join, NoGal, Gal, Plan}
-use Rattle.state_files.specs.pl94.declared.geo.GeoFault.TheVariants as geo
-use Rattle.state_files.specs.pl94.declared.segment.SegFault.TheVariants as segment
-use Rattle.state_files.specs.pl94.declared.join.JoinFault.TheVariants as join
+use Rattle.state_files.specs.pl94_geo.declared.geo.GeoFault.TheVariants as geo
+use Rattle.state_files.specs.pl94_segment.declared.segment.SegFault.TheVariants as segment
+use Rattle.state_files.specs.pl94_segment.declared.join.JoinFault.TheVariants as join
 use Rattle.state_files.specs.gal_text.declared.fault.GalFault.TheVariants as gal
 use Rattle.state_files.specs.declared.fault.OpenFault.TheVariants as opening
 use Rattle.state_files.specs.declared.fault.PlanFault.TheVariants as plan

@@ -4,7 +4,7 @@ use Rattle.{byte_stream.specs.declared.source.Source.Ghosts, check_command.specs
 use Rattle.{command_output.specs.{claim.Writing.Written, declared.status.Status.{Status, TheVariants.Done}}, desk_model.specs.declared.block.BlockRow.BlockRow}
 use Rattle.state_files.specs.{claim.{Opening.{Census, census_of}, State.{Then, NoFile, ReadsState, AreLeftBy}}, declared.census.CensusFiles.CensusFiles}
 use Rattle.state_files.specs.declared.fault.FileFault.{FileFault, TheVariants.Join}
-use Rattle.state_files.specs.pl94.declared.join.JoinFault.TheVariants as join
+use Rattle.state_files.specs.pl94_segment.declared.join.JoinFault.TheVariants as join
 
 -- the counts of the blocks
 abbrev pub PrintsCounts : Vec BlockRow Global → Result (Vec ℕ Global) FileFault → Type 0

@@ -3,7 +3,7 @@ use crate::stores::sealed;
 use desk_model::command::{Command, Query};
 use desk_model::kind::Kind;
 use desk_model::name::PlanName;
-use desk_model::reply::{PlanLine, Reply};
+use desk_model::reply::{PlanRow, Reply};
 use desk_model::size::PlanSize;
 use desk_store::change::Change;
 use desk_store::clerk::Clerk;
@@ -23,7 +23,7 @@ fn is_made(reply: Reply, name: &PlanName) -> bool {
     }
 }
 
-fn is_row(row: &PlanLine, name: &PlanName) -> bool {
+fn is_row(row: &PlanRow, name: &PlanName) -> bool {
     row.name == *name && row.kind == Kind::House && row.n == 100 && row.revisions == 0
 }
 

@@ -1,9 +1,9 @@
 -- What the program may be asked for.
 use Rattle.std.specs.{Option.option_copied, Prelude.{◌≡◌, ◌≤◌, ℕ, Bool, true, false, List, [], ◌∷◌, codes, not, Option, None, Some, IfSome, is_some, option_map}}
 use Rattle.{clap.specs.{Matches.{first_value, one_text, matched_of, raw_values}, declared.parser.matches.Found.Found}, command_line.specs.declared.options.Form.Form}
-use Rattle.command_line.specs.{Options.{AreTerms, form_read, workers_read, IsSize, format_read, IsServing, serving_read}, declared.words.{Asked.Asked, Job.Job}}
-use Rattle.{command_line.specs.declared.words.Job.TheVariants.{Talk, Counts, Audit, Format, Load, Serve, Stat, Verify, Sweep, Migrate, Explain}, state_files.specs.Opens.AreAlike}
-use Rattle.{command_output.specs.Codes.{code_in, or_code}, state_files.specs.declared.open.CensusPaths.CensusPaths}
+use Rattle.command_line.specs.{Options.{AreTerms, form_read, workers_read, IsSize, format_read, IsInterval, interval_read, IsServing, serving_read}, declared.words.Asked.Asked}
+use Rattle.command_line.specs.declared.words.Job.{Job, TheVariants.{Talk, Counts, Audit, Format, Load, Serve, Stat, Verify, Sweep, Migrate, Explain}}
+use Rattle.{command_output.specs.Codes.{code_in, or_code}, state_files.specs.{Opens.AreAlike, declared.open.CensusPaths.CensusPaths}}
 use Rattle.command_line.specs.declared.options.Form.TheVariants as form
 
 -- counts and an audit are asked for by 1 to 64 workers, an audit with its terms in range, and each companion's file goes with its number of
@@ -14,7 +14,7 @@ IsJob (Counts paths workers) = (1 ≤ workers) × (workers ≤ 64)
 IsJob (Audit paths terms workers) = AreTerms terms × AreAlike paths.beside terms.beside × (1 ≤ workers) × (workers ≤ 64)
 IsJob (Format store size reckoned) = IsSize size
 IsJob (Load store census gal) = Unit {0}
-IsJob (Serve store serving log) = IsServing serving
+IsJob (Serve store serving log) = IsServing serving × IfSome log.tell IsInterval
 IsJob (Stat store json) = Unit {0}
 IsJob (Verify store) = Unit {0}
 IsJob (Sweep store) = Unit {0}
@@ -77,7 +77,8 @@ HasPaths found (Serve store serving log) = (first_value found (codes "store") �
     × (serving_read (first_value found (codes "port")) (first_value found (codes "workers"))
     (first_value found (codes "connections")) (first_value found (codes "keep"))
     (first_value found (codes "idle")) (first_value found (codes "request")) (not rests) ≡ Some serving))
-    × (first_value found (codes "log") ≡ option_copied log)
+    × (first_value found (codes "log") ≡ option_copied log.file)
+    × (interval_read (first_value found (codes "tell")) ≡ Some log.tell)
 HasPaths found (Stat store json) = (first_value found (codes "store") ≡ Some store.now) × IsFlag found (codes "json") json
 HasPaths found (Verify store) = first_value found (codes "store") ≡ Some store.now
 HasPaths found (Sweep store) = first_value found (codes "store") ≡ Some store.now

@@ -64,6 +64,11 @@ abbrev pub connections_read : Option (List ℕ) → Option (Option ℕ)
 connections_read None = Some None
 connections_read (Some text) = option_map Some (number_to 4294967295 text)
 
+-- the seconds between two times that something is done, and never where nothing says it
+abbrev pub interval_read : Option (List ℕ) → Option (Option ℕ)
+interval_read None = Some None
+interval_read (Some text) = option_map Some (number_to 86400 text)
+
 -- for how long a connection is kept: 5 seconds between requests, 60 of silence within one, and 300 for all of one, where nothing says it
 abbrev pub patience_read : (keep idle request : Option (List ℕ)) → Option Patience
 patience_read keep idle request =
@@ -84,6 +89,11 @@ pub record IsPatience (patience : Patience) : Type 0 where
   pub idle_day : patience.idle ≤ 86400
   pub request : 1 ≤ patience.request
   pub request_day : patience.request ≤ 86400
+
+-- a day at most
+pub record IsInterval (seconds : ℕ) : Type 0 where
+  pub some : 1 ≤ seconds
+  pub day : seconds ≤ 86400
 
 pub record IsServing (serving : Serving) : Type 0 where
   pub port : 1 ≤ serving.port

@@ -54,7 +54,8 @@ if it sends nothing for --idle seconds in the middle of a request or accepts no 
 --request seconds after the first byte.
 
 Between changes the server reclaims the space of deleted plans, unless --no-sweep is given. It never waits for the log: if more than
-1,024 lines wait to be written, further lines are dropped, and the next line gives their number.
+1,024 lines wait to be written, further lines are dropped, and the next line gives their number. With --tell the log also has a line
+with the free pages every so many seconds, whether or not anything happens.
 
 Example, with a store that was formatted and loaded:
   plandesk serve state.store --port 8080 --log state.log

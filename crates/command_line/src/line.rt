@@ -6,7 +6,7 @@ use std::alloc::{AllocError, Global};
 
 /// The program's version, the logic that its proofs are written in, and how to identify the program: by its bytes, since an unproved
 /// build has the same constant. `tests/words` compares the logic with README.md and with the kit.
-const VERSION: &str = "2.1.0 (logic dac8208d650f15bf)
+const VERSION: &str = "2.2.0 (logic dac8208d650f15bf)
 Compare its SHA-256 sum with SHA256SUMS: in prebuilt/ of the repository, or next to the program in a release.";
 
 /// An argument without an option's name.

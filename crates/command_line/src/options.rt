@@ -6,7 +6,7 @@ ghost use Rattle.desk_model.specs.Companions.{companions_copied};
 ghost use Rattle.state_files.specs.Opens.{AreAlike};
 ghost use Rattle.command_line.specs.Options.{number_to as number_in, number_given as number_of, beside_read, companions_read, terms_read, is_any, form_read, AreTerms, IsForm, Gives, GivesNumber};
 ghost use Rattle.command_line.specs.Options.{HasCompanions, workers_read, at_least, size_read, IsSize, reckoned_read, format_read};
-ghost use Rattle.command_line.specs.Options.{seconds_read, serving_workers_read, connections_read, patience_read, serving_read, IsPatience, IsServing};
+ghost use Rattle.command_line.specs.Options.{seconds_read, serving_workers_read, connections_read, patience_read, serving_read, interval_read, IsPatience, IsInterval, IsServing};
 
 use crate::sizes::size_for;
 use desk_model::companions::Companions;
@@ -116,6 +116,14 @@ pub struct Serving {
     pub sweeps: bool,
 }
 
+/// The log of a served store: its file, if one is named, and the seconds between two of its lines of
+/// the free pages, if they are asked for.
+#[derive(Clone, Copy)]
+pub struct Logging<'a> {
+    pub file: Option<&'a str>,
+    pub tell: Option<u32>,
+}
+
 /// Parses a number of 1 to `most`, digits only. Leading zeros are allowed.
 fn number_up_to(most: u32, text: &[u8]) -> Option<u32>
     ensures { GivesNumber (number_in most text.now) 1 most result }
@@ -201,6 +209,19 @@ fn read_connections(word: Option<&[u8]>) -> Option<Option<u32>>
     };
     let connections = number_up_to(4_294_967_295, text)?;
     Some(Some(connections))
+}
+
+/// Reads the seconds between two times that something is done, 1 to 86,400, digits only; never
+/// without the argument.
+pub fn read_interval(word: Option<&[u8]>) -> Option<Option<u32>>
+    ensures value { result ≡ interval_read (option_copied word.entry) }
+    ensures some { IfSome result (λ every. IfSome every IsInterval) }
+{
+    let Some(text) = word else {
+        return Some(None);
+    };
+    let seconds = number_up_to(86_400, text)?;
+    Some(Some(seconds))
 }
 
 /// For how long a connection is kept.

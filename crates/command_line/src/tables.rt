@@ -264,6 +264,13 @@ const SERVE: &[Argument] = &[
         Values::Texts,
         Presence::Optional(&[]),
     ),
+    Argument::Valued(
+        "tell",
+        "SECONDS",
+        "Add a line with the number of free pages to the log every SECONDS (1 to 86400, default never)",
+        Values::Numbers("a number of seconds", 1, 86_400),
+        Presence::Optional(&[]),
+    ),
     Argument::Flag(
         "no-sweep",
         "Do not reclaim the space of deleted plans while serving; plandesk sweep does it",

@@ -6,7 +6,8 @@ ghost use Rattle.command_line.specs.Jobs.{IsJob, AreCensusPaths, HasPaths, IsAsk
 
 use crate::line::command;
 use crate::options::{
-    Form, Serving, Size, Terms, is_number, read_form, read_format, read_serving, read_workers,
+    Form, Logging, Serving, Size, Terms, is_number, read_form, read_format, read_interval,
+    read_serving, read_workers,
 };
 use crate::tables::{Argument, Values, orders};
 use clap::ArgMatches;
@@ -30,8 +31,8 @@ pub enum Job<'a> {
     Format(&'a str, Size, bool),
     /// `load`: a store is filled with what the census files and the neighbour file say.
     Load(&'a str, CensusPaths<'a>, &'a str),
-    /// `serve`: the store's name, how it is served, and the file of the log, if one is named.
-    Serve(&'a str, Serving, Option<&'a str>),
+    /// `serve`: the store's name, how it is served, and its log.
+    Serve(&'a str, Serving, Logging<'a>),
     /// `stat`: how full a store is, as JSON or in lines.
     Stat(&'a str, bool),
     /// `verify`: whether a store is one that a desk leaves.
@@ -200,7 +201,11 @@ fn serve_job<'a>(matches: &ArgMatches<'a>) -> Option<Job<'a>>
         word_of(matches, "request"),
         sweeps,
     )?;
-    Some(Job::Serve(store, serving, matches.get_str("log")))
+    let log = Logging {
+        file: matches.get_str("log"),
+        tell: read_interval(word_of(matches, "tell"))?,
+    };
+    Some(Job::Serve(store, serving, log))
 }
 
 /// What `stat` is asked for.

@@ -119,8 +119,8 @@ pub(crate) static TOOL_PLAN: [FaultRow; 34] = [
         "LostZero",
         "line N",
         "",
-        "A block number has 14 digits: a spreadsheet probably removed its leading zero.",
-        "Import the column as text into the spreadsheet, and save the file again.",
+        "A block number has 14 digits: its first digit is missing.",
+        "Give --geo, which restores the digit if the state has such a block, or ask for the original file.",
     ),
     (
         "LostDigits",
@@ -394,7 +394,7 @@ pub(crate) static TOOL_NEIGHBOURS: [FaultRow; 14] = [
         "NAME",
         "",
         "A Python module is missing.",
-        "Install the Debian packages python3-geopandas and python3-libpysal.",
+        "Run `apt-get install python3-geopandas python3-libpysal`. Without root, run `pip install geopandas libpysal` in a virtual environment, and run the tool by its python3.",
     ),
     (
         "Unreadable",

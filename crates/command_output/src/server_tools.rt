@@ -266,7 +266,7 @@ pub(crate) static TOOL_EXPORT: [FaultRow; 10] = [
 ];
 
 /// `tools/backup`, `tools/health` and `tools/release`.
-pub(crate) static TOOL_KEEP: [FaultRow; 8] = [
+pub(crate) static TOOL_KEEP: [FaultRow; 11] = [
     (
         "InUse",
         "",
@@ -313,14 +313,35 @@ pub(crate) static TOOL_KEEP: [FaultRow; 8] = [
         "NoProgram",
         "",
         "",
-        "There is no program to pack, or it prints no version.",
-        "Build it with `./plandesk --version`.",
+        "The folder prebuilt has no program that runs, or lacks its sum or its sources.",
+        "Run tools/first_build, and then tools/keep_program.",
+    ),
+    (
+        "SpoiledProgram",
+        "",
+        "",
+        "The program in the folder prebuilt has another sum than prebuilt/SHA256SUMS.",
+        "Take both from one commit.",
+    ),
+    (
+        "StaleProgram",
+        "",
+        "",
+        "The program in the folder prebuilt was made of other sources.",
+        "Run tools/first_build, and then tools/keep_program.",
+    ),
+    (
+        "BadReadme",
+        "",
+        "",
+        "The lines of README.md that begin and end a part for the repository alone do not alternate.",
+        "Correct these lines.",
     ),
     (
         "NoTree",
         "",
         "",
-        "The folder is not a git clone of plandesk.",
-        "Run the tool in a clone.",
+        "git has no README.md and CHANGELOG.md in this folder.",
+        "Run the tool in a clone of the repository.",
     ),
 ];

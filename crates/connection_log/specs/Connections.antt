@@ -1,17 +1,17 @@
 -- What a connection came to.
 use Rattle.{std.specs.Prelude.{ℕ, Option, Result, Ok, Err}, connection_log.specs.declared.{connection.Connection.Connection, counting.Sent.Sent}}
-use Rattle.{http_desk.specs.declared.serve.{Served.Served, StreamFault.StreamFault}, jiff_core.specs.declared.civil.datetime.DateTime.DateTime}
+use Rattle.{http_desk.specs.declared.serve.{ServeFault.ServeFault, Served.Served}, jiff_core.specs.declared.civil.datetime.DateTime.DateTime}
 
 -- the answers of one that was served to its end are told by who served it; of another they are those that were written
-abbrev pub requests_of : Result Served StreamFault → Sent → ℕ
+abbrev pub requests_of : Result Served ServeFault → Sent → ℕ
 requests_of (Ok served) sent = served.requests
 requests_of (Err fault) sent = sent.answers
 
-abbrev pub faults_of : Result Served StreamFault → ℕ
+abbrev pub faults_of : Result Served ServeFault → ℕ
 faults_of (Ok served) = 0
 faults_of (Err fault) = 1
 
-abbrev pub connection_of : Option DateTime → (number : ℕ) → Result Served StreamFault → (read : ℕ) → Sent → Connection
+abbrev pub connection_of : Option DateTime → (number : ℕ) → Result Served ServeFault → (read : ℕ) → Sent → Connection
 connection_of at number served read sent = record {
   at = at;
   number = number;

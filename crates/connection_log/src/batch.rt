@@ -1,7 +1,8 @@
 //! Lines that wait together.
-ghost use Rattle.std.specs.Prelude.{◌≡◌, ◌≤◌, [], vec_capacity, IfOk};
+ghost use Rattle.std.specs.Prelude.{◌≡◌, ◌≤◌, ◌<◌, ◌++◌, ◌∷◌, [], MatchBool, length, vec_capacity, IfOk};
 
-use crate::line::LogLine;
+use crate::line::{Change, LogLine};
+use http_desk::accepted::Accepted;
 use std::alloc::{AllocError, Global};
 
 /// How many lines wait at most to be written.
@@ -27,6 +28,23 @@ impl Batch {
         ensures { result.now ≡ self.now.list.items }
     {
         self.list.as_slice()
+    }
+
+    /// Whether there is no place for one more.
+    pub fn is_full(&self) -> bool
+        ensures { MatchBool result (1024 ≤ length self.now.list.items) (length self.now.list.items < 1024) }
+    {
+        self.list.len() >= MOST_WAITING
+    }
+
+    /// Puts a line after the others.
+    pub fn put(&mut self, line: LogLine)
+        requires { length self.old.list.items < 1024 }
+        ensures { self.new.list.items ≡ self.old.list.items ++ line ∷ [] }
+    {
+        // (the prover wants each type that a line may hold named here)
+        let _ = (None::<Change>, None::<Accepted>);
+        let _ = self.list.push(line);
     }
 
     /// Empties it.

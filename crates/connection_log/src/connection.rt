@@ -3,7 +3,7 @@ ghost use Rattle.std.specs.Prelude.{◌≡◌};
 ghost use Rattle.connection_log.specs.Connections.{connection_of as connection_by, requests_of, faults_of};
 
 use crate::counting::Sent;
-use http_desk::serve::{Served, StreamFault};
+use http_desk::serve::{ServeFault, Served};
 use jiff_core::civil::DateTime;
 
 /// The result of a connection.
@@ -25,7 +25,7 @@ pub struct Connection {
     pub written: u64,
 }
 
-fn requests(served: &Result<Served, StreamFault>, sent: &Sent) -> u64
+fn requests(served: &Result<Served, ServeFault>, sent: &Sent) -> u64
     ensures { result ≡ requests_of served.now sent.now }
 {
     match served {
@@ -34,7 +34,7 @@ fn requests(served: &Result<Served, StreamFault>, sent: &Sent) -> u64
     }
 }
 
-fn faults(served: &Result<Served, StreamFault>) -> u64
+fn faults(served: &Result<Served, ServeFault>) -> u64
     ensures { result ≡ faults_of served.now }
 {
     match served {
@@ -48,7 +48,7 @@ fn faults(served: &Result<Served, StreamFault>) -> u64
 pub fn connection_of(
     at: Option<DateTime>,
     number: u64,
-    served: &Result<Served, StreamFault>,
+    served: &Result<Served, ServeFault>,
     read: u64,
     sent: &Sent,
 ) -> Connection

@@ -7,6 +7,8 @@
 //!
 //! # Proved
 //!
+//! - `left_of` and `put` of a batch: when the next line of the store's room is due, and that it
+//!   follows the lines at hand.
 //! - `put_entry` formats a line after its time; `moment_of` computes date and time from seconds.
 //! - `put` queues up to 1,024 lines and counts the others (`HasPut`); `take` takes all
 //!   (`HasTaken`).
@@ -22,6 +24,7 @@ pub mod answers;
 pub mod batch;
 pub mod connection;
 pub mod counting;
+mod interval;
 pub mod line;
 pub mod log;
 pub mod moment;

@@ -13,7 +13,7 @@ use http_connections::listening::Listens;
 use http_connections::ran::Ran;
 use http_desk::accepted::Accepted;
 use http_desk::hearing::Hears;
-use http_desk::serve::{Served, StreamFault};
+use http_desk::serve::{ServeFault, Served};
 use std::sync::Wait;
 use std::sync::atomic::{AtomicBool, AtomicU64, Ordering};
 use std::time::Clock;
@@ -87,6 +87,20 @@ fn note_room<R: Wait + Clock, L: Notes>(
     }
 }
 
+/// Gives a log the store's room, where there is one. If several threads do so at once, the last of them gives it again.
+fn keep_room<L: Notes>(log: Option<&L>, free_pages: &AtomicU64, revision_pages: u64) {
+    let Some(log) = log else {
+        return;
+    };
+    for _ in 0..u64::MAX {
+        let free = free_pages.load(Ordering::SeqCst);
+        log.keep_room(free, revision_pages);
+        if free_pages.load(Ordering::SeqCst) == free {
+            return;
+        }
+    }
+}
+
 /// Returns whether the free pages fell below `revision_pages`, or rose to it, since the last note,
 /// and updates the note.
 fn has_crossed(free_pages: u64, revision_pages: u64, is_low: &AtomicBool) -> bool {
@@ -110,6 +124,10 @@ impl<'r, 'a, 'l, A: Listens, R: Wait + Clock, L: Notes> Hears for Watching<'r, '
 
     ghost hears_unsound = { λ w. IsNoted L.notes w.log (λ at. entry.Unsound at) };
 
+    fn pass_before(&self, worker: u32, piece: u32) {
+        self.pass(worker, piece);
+    }
+
     fn listens(&self) -> bool {
         self.log.is_some()
     }
@@ -132,6 +150,7 @@ impl<'r, 'a, 'l, A: Listens, R: Wait + Clock, L: Notes> Hears for Watching<'r, '
     /// several threads log it at once, the last of them checks again.
     fn hear_room(&self, free_pages: &AtomicU64) {
         let needed = self.revision_pages.load(Ordering::SeqCst);
+        keep_room(self.log, free_pages, needed);
         for _ in 0..u64::MAX {
             let free = free_pages.load(Ordering::SeqCst);
             if !has_crossed(free, needed, &self.is_low) {
@@ -184,7 +203,7 @@ impl<'r, 'a, 'l, A: Listens, R: Wait + Clock, L: Notes> Arrivals for Watching<'r
         &self,
         reader: CountedSource<A::Reader>,
         writer: CountedSink<A::Writer>,
-        served: Result<Served, StreamFault>,
+        served: Result<Served, ServeFault>,
     )
         ensures { A.takes_back self.now.arrivals.now reader.reader writer.writer served
             × IsNoted L.notes self.now.log (λ at. entry.Connection (connection_by at reader.number served reader.read (sent_of writer.sent))) }
@@ -234,6 +253,7 @@ impl<'r, 'a, 'l, A: Listens, R: Wait + Clock, L: Notes> Watched for Watching<'r,
         self.revision_pages.store(revision_pages, Ordering::SeqCst);
         self.is_low
             .store(free_pages < revision_pages, Ordering::SeqCst);
+        keep_room(self.log, &AtomicU64::new(free_pages), revision_pages);
         note_room(self.rt, self.log, free_pages, revision_pages);
     }
 

@@ -13,8 +13,9 @@
 //!   (`subject_of`), or by the refusal of that address.
 //! - `ask_again` gives the same answers, but returns the last report's text again if the subject is
 //!   the same (`MadeReport`). `keep_blocks` caches the listing of the blocks and changes no answer.
-//! - `changed_counties` finds the counties in which two lists differ; `revision_rows` and
-//!   `fork_rows` give the number of rows that desk_model defines.
+//! - `overlay` lays listed districts over the last ones (`overlaid`). `changed_counties` finds the
+//!   counties in which two lists differ; `revision_rows` and `fork_rows` give the number of rows
+//!   that desk_model defines.
 //!
 //! # Not proved
 //!
@@ -42,5 +43,6 @@ pub use changes::{Span, changed_counties};
 pub use desk_plans::entry::{Entry, REVISION_LIMIT};
 pub use desk_plans::plans::Plans;
 pub use made::MadeReport;
+pub use patch::overlay;
 pub use rows::{fork_rows, revision_rows};
 pub use shared_lists::Districts;

@@ -51,9 +51,9 @@ fn county_in_part(geography: &Geography, read: &Listed) -> Option<u16>
     None
 }
 
-/// The district of each block: the listed one, or else the last one, 0 where there is none. Pieces in which nothing changes are
-/// those of the last ones.
-fn overlay(
+/// Returns the district of each block: the listed one, otherwise the last one, or 0 if there is none.
+/// Pieces in which nothing changes are those of the last ones.
+pub fn overlay(
     alloc: Global,
     listed: &Listed,
     last: Option<&Districts>,

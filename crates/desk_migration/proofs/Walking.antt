@@ -1,12 +1,13 @@
 -- Steps of a walk over parts of revisions.
 use Rattle.std.{specs.{FinMap.{entries, get}, Prelude.IfSome}, proofs.Common.{rules, ◌≡◌, ◌<◌, ℕ, List, [], length, take, get_or, Bool, true, false, Option, Some, sym, subst}}
-use Rattle.{std.proofs.lemmas.List.Elements.Contains-get_or, btree_walks.specs.declared.rows.Row.Row, desk_migration.specs.Outcomes.{IsReadAs, IsToldAt}}
+use Rattle.{std.proofs.lemmas.List.Elements.Contains-get_or, btree_scan.specs.declared.rows.Row.Row, desk_migration.specs.{Outcomes.{IsReadAs, IsToldAt}, declared.parts.Part.Part}}
 use Rattle.desk_migration.specs.{Parts.{IsPartFrom, IsPartRow, IsUnderWay}, Walks.{after, HoldsEach, IsNextPart, IsWalking}, claim.Holding.{AreHeldTo, IsUnheld}}
-use Rattle.{desk_migration.specs.declared.{parts.Part.Part, walks.Walk.Walk}, page_btree.specs.page_node.Places.entries_from, store_rows.specs.claim.Keys.{Fits, holding, part}}
-use Rattle.{store_rows.specs.claim.{Lists.chunks_bytes, Rows.{KeyMap, Lacks}}, desk_migration.proofs.Order.{fewer_after, first_itself}, store_check.proofs.FirstRows.first_there}
+use Rattle.{desk_migration.specs.declared.walks.Walk.Walk, page_btree.specs.node.Places.entries_from, store_rows.specs.claim.{Keys.{Fits, holding, part}, Lists.chunks_bytes}}
+use Rattle.{store_rows.specs.claim.Rows.{KeyMap, Lacks}, desk_migration.proofs.Order.{fewer_after, first_itself}}
 use Rattle.desk_migration.proofs.PartRows.{part_passed, part_reached, part_row, read_as, stands_held}
-use Rattle.desk_opening.proofs.plan_rows.Committing.{both}
-use Rattle.desk_opening.specs.plan_rows.Holding as chunk
+use Rattle.desk_opening.proofs.tidy.FirstRows.{first_there}
+use Rattle.desk_opening.proofs.chunk_table.Committing.{both}
+use Rattle.desk_opening.specs.chunk_table.Holding as chunk
 
 -- ---- the beginning
 pub begins_walking : (m : KeyMap) (from : List ℕ) (walk : Walk) → walk.from ≡ from → walk.is_within ≡ false → walk.seen.numbers.items ≡ [] → IsUnderWay from m → IsWalking walk m

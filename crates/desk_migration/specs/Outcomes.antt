@@ -1,13 +1,13 @@
 -- What calls tell: relations over values before and after a call, and its result.
 use Rattle.std.specs.Prelude.{◌≡◌, ◌<◌, ◌≤◌, ◌^◌, ◌↔◌, ℕ, Bool, true, false, List, length, take, drop, get_or, Option, Some, None, Result, IfOk, IfSome}
-use Rattle.{btree_walks.specs.declared.rows.Row.Row, desk_migration.specs.{Parts.IsPartRow, Puts.{AndStand, HasHeld, HasHeldAs, HoldErr, HoldErrOf, HoldsMore, IsTurn}}}
+use Rattle.{btree_scan.specs.declared.rows.Row.Row, desk_migration.specs.{Parts.IsPartRow, Puts.{AndStand, HasHeld, HasHeldAs, HoldErr, HoldErrOf, HoldsMore, IsTurn}}}
 use Rattle.desk_migration.specs.{TurningBack.{IsTakenFirst, IsWithout}, Walks.{Enters, HoldsEach, HoldsIt, IsHeldTo, IsNextPair, IsWalking, LacksIn, Looks}}
 use Rattle.desk_migration.specs.{claim.{Holding.{AllAreHeld, AreHeldTo}, Migrating.{disk_of, HasMore, HasRows}}, declared.{migration.Migration.Migration, parts.HeldPair.HeldPair}}
 use Rattle.{desk_migration.specs.declared.{parts.{Part.Part, PartLook.PartLook}, walks.Walk.Walk}, desk_model.specs.claim.Desk.Desk, desk_pages.specs.Outcomes.Writes}
-use Rattle.{desk_pages.specs.{btree_puts.declared.finger.Fingers.Fingers, claim.Desks.{IsOldMap, InTxnOf}, declared.error.StoreError.StoreError}, store_rows.specs.claim.Tidy.Tidy}
-use Rattle.{page_btree.specs.{claim.Map.{InPages, InTxn}, declared.error.TreeError.TreeError}, page_store.specs.claim.Transactions.{stored, disk_in, Passed}}
+use Rattle.{desk_pages.specs.{claim.Desks.{IsOldMap, InTxnOf}, declared.error.StoreError.StoreError}, page_btree.specs.gets.claim.Map.{InPages, InTxn}}
+use Rattle.{page_btree.specs.{gets.declared.error.TreeError.TreeError, puts.declared.finger.Fingers.Fingers}, page_store.specs.claim.Transactions.{stored, disk_in, Passed}}
 use Rattle.{page_store.specs.declared.{pages.Pages.Pages, txn.Txn.Txn}, sector_device.specs.declared.SectorDevice.Ghosts, store_rows.specs.claim.Keys.{holding, in_eight}}
-use Rattle.store_rows.specs.claim.{Lists.{AreChunks, chunks_bytes}, Rows.{KeyMap, Lacks}}
+use Rattle.store_rows.specs.claim.{Lists.{AreChunks, chunks_bytes}, Rows.{KeyMap, Lacks}, Tidy.Tidy}
 
 -- the bytes of a row are those of a part
 pub record IsReadAs (row : Row) (of : Part) : Type 0 where

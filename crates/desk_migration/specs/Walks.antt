@@ -1,9 +1,8 @@
 -- A walk over parts of revisions, to the chunks that they name and their plans don't hold.
 use Rattle.std.specs.{FinMap.{entries, get}, Prelude.{◌≡◌, ◌<◌, ◌++◌, ℕ, Bool, true, false, List, [], ◌∷◌, length, take, Option, Some, None, All}}
 use Rattle.desk_migration.specs.{Parts.IsUnderParts, claim.Holding.{AllAreHeld, AreHeldTo, IsUnheld}, declared.parts.{HeldPair.HeldPair, Part.Part, PartLook.PartLook}}
-use Rattle.{desk_migration.specs.declared.{parts.PartLook.TheVariants.{Ended, Passed, Found}, walks.Walk.Walk}, page_btree.specs.page_node.Places.entries_from}
-use Rattle.{page_btree.specs.page_node.claim.Entries.Entry, store_rows.specs.claim.{Holders.IsHeld, Keys.{key_of, Fits, holding, part}, Lists.{AreChunks, chunks_bytes}, Tidy.Tidy}}
-use Rattle.store_rows.specs.claim.Rows.{KeyMap, Lacks}
+use Rattle.{desk_migration.specs.declared.{parts.PartLook.TheVariants.{Ended, Passed, Found}, walks.Walk.Walk}, page_btree.specs.node.{Places.entries_from, claim.Entries.Entry}}
+use Rattle.store_rows.specs.claim.{Holders.IsHeld, Keys.{key_of, Fits, holding, part}, Lists.{AreChunks, chunks_bytes}, Rows.{KeyMap, Lacks}, Tidy.Tidy}
 
 -- the key that comes next after another one
 abbrev pub after : List ℕ → List ℕ

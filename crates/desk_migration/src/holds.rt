@@ -6,9 +6,9 @@ ghost use Rattle.desk_migration.specs.Walks.{StandsUnder};
 ghost use Rattle.desk_migration.specs.Outcomes.{HoldsAlong, HoldsNext, HoldsPairs};
 
 use crate::walks::{Walk, next_pair};
-use btree_walks::SmallBytes;
 use desk_opening::hold_unheld_with;
 use desk_pages::{Fingers, TreeError};
+use page_btree::SmallBytes;
 use page_store::{Pages, Txn};
 use sector_device::SectorDevice;
 use store_rows::migrations::named_is_held;

@@ -3,8 +3,8 @@ ghost use Rattle.desk_migration.specs.Parts.{IsUnderParts};
 
 use crate::opening::judge;
 use crate::steps::{put_holdings, put_version};
-use btree_walks::SmallBytes;
 use desk_pages::StoreError;
+use page_btree::SmallBytes;
 use page_store::Pages;
 use sector_device::SectorDevice;
 use std::alloc::Global;

@@ -7,14 +7,14 @@ ghost use Rattle.desk_pages.specs.claim.Desks.{InPages, InPagesOf, OpensEither};
 ghost use Rattle.desk_pages.specs.Moments.{StopsLeave};
 ghost use Rattle.desk_migration.specs.Outcomes.{TakesAll, TakesFirst, TakesVersion};
 
-use btree_walks::{Row, remove, row_limit};
+use btree_scan::{Row, row_limit};
+use desk_opening::first_from;
 pub use desk_opening::read_desk;
 use desk_pages::{StoreError, TreeError, commit_txn};
-use page_btree::KEY_LIMIT;
+use page_btree::{KEY_LIMIT, remove};
 use page_store::{Pages, Txn};
 use sector_device::SectorDevice;
 use std::alloc::Global;
-use store_check::first_from;
 
 /// Takes out the first row whose key begins with a tag, if there is one. `row` is room for it.
 fn take_first<D: SectorDevice>(

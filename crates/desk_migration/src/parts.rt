@@ -8,11 +8,11 @@ ghost use Rattle.desk_migration.specs.Parts.{IsPartFrom, IsUnderParts};
 ghost use Rattle.desk_migration.specs.Outcomes.{IsNamedAt, ReadsPart};
 
 use arrayvec::ArrayVec;
-use btree_walks::Row;
+use btree_scan::Row;
+use desk_opening::first_from;
 use desk_pages::TreeError;
 use page_store::{Pages, Txn};
 use sector_device::SectorDevice;
-use store_check::first_from;
 use store_rows::{Key, PART_CHUNKS, RowKey, read_chunks};
 
 /// A part of a revision: its plan, and the chunks that it names.

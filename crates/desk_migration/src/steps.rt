@@ -9,8 +9,8 @@ ghost use Rattle.desk_migration.specs.Outcomes.{PutsHoldings};
 ghost use Rattle.desk_migration.specs.Puts.{FinishErr, HoldsAll, HoldsTo, StepErr, free_of, Steps};
 
 use crate::holds::hold_pairs;
-use btree_walks::SmallBytes;
 use desk_pages::{ROW_PAGES, StoreError, commit_fitting, put_row};
+use page_btree::SmallBytes;
 use page_store::Pages;
 use sector_device::SectorDevice;
 use std::alloc::Global;

@@ -7,9 +7,10 @@ ghost use Rattle.desk_migration.specs.Walks.{after, IsWalking, StandsUnder};
 ghost use Rattle.desk_migration.specs.Outcomes.{EntersPart, FindsNext, IsFirstUnheld, IsToldAt, LooksAt};
 
 use crate::parts::{HeldPair, Part, PartLook, key_after, names_too, part_from, read_part};
-use btree_walks::{Row, SmallBytes, row_limit};
+use btree_scan::{Row, row_limit};
 use desk_opening::is_held;
 use desk_pages::TreeError;
+use page_btree::SmallBytes;
 use page_store::{Pages, Txn};
 use sector_device::SectorDevice;
 use std::mem;

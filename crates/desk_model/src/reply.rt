@@ -7,38 +7,38 @@ use crate::name::PlanName;
 use crate::text::Text;
 use std::marker::Model;
 
-/// A line of the list of plans.
+/// A row of the list of plans: a plan, its kind, its number of districts and its number of revisions.
 #[derive(Clone, Copy)]
-pub struct PlanLine {
+pub struct PlanRow {
     pub name: PlanName,
     pub kind: Kind,
     pub n: u16,
     pub revisions: u32,
 }
 
-/// Lines of the list of plans, which contracts see as their list.
+/// The rows of the list of plans, in rising order of the names. A small type around a `Vec`, so that contracts see a list.
 #[derive(Drop)]
 pub struct PlanRows {
-    rows: Vec<PlanLine>,
+    rows: Vec<PlanRow>,
 }
 
 impl Model for PlanRows {
     ghost use Rattle.std.specs.Prelude.{List};
-    ghost use Rattle.desk_model.specs.declared.reply.PlanLine.{PlanLine};
+    ghost use Rattle.desk_model.specs.declared.reply.PlanRow.{PlanRow};
 
-    ghost Value = { List PlanLine };
+    ghost Value = { List PlanRow };
 
     ghost view = { λ a. a.rows.items };
 }
 
 impl PlanRows {
-    pub fn from_vec(rows: Vec<PlanLine>) -> PlanRows
+    pub fn from_vec(rows: Vec<PlanRow>) -> PlanRows
         ensures { result ≡ rows.items }
     {
         PlanRows { rows }
     }
 
-    pub fn as_slice(&self) -> &[PlanLine]
+    pub fn as_slice(&self) -> &[PlanRow]
         ensures { result.now ≡ self.now }
     {
         self.rows.as_slice()
@@ -52,6 +52,7 @@ pub enum Reply {
     Created { plan: PlanName, revisions: u32 },
     /// The plan is deleted.
     Retired { plan: PlanName },
+    /// The plans, in rising order of their names.
     Plans(PlanRows),
     /// A line for each block: its number, its city and its people.
     Blocks(Text),

@@ -5,6 +5,9 @@ ghost use Rattle.desk_model.specs.claim.Sizes.{most_districts, sized};
 use crate::kind::Kind;
 use std::marker::Model;
 
+/// The number of a district of a plan, from 1. In a list of a block for each place, 0 is a block without a district.
+pub type District = u16;
+
 /// The kind of a plan and its number of districts: 1 to 99 for congress, 1 to 999 for the other kinds.
 #[derive(Clone, Copy)]
 pub struct PlanSize {

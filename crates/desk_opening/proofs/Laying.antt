@@ -1,8 +1,8 @@
 -- The counties of a revision, laid one after the other over the districts of the one before.
-use Rattle.{std.{specs.List.concat, proofs.{Math.Seq.take-add, lemmas.{Bool.cases_lt, List.Elements.{All-drop, All-take}}}}, desk_catalogue.specs.shared_lists.Laid.with_at}
+use Rattle.{std.{specs.List.concat, proofs.{Math.Seq.take-add, lemmas.{Bool.cases_lt, List.Elements.{All-drop, All-take}}}}, chunk_table.specs.ChunkReading.HasPieces}
 use Rattle.std.proofs.Common.{rules, ◌≡◌, ◌<◌, ◌≤◌, ◌+◌, ◌-◌, ◌++◌, ℕ, zero, suc, List, [], ◌∷◌, length, get_or, take, take_all, drop, map, refl, sym, ap, subst, ◌∙◌, arith, append_assoc, length-append, length-drop, inl, inr, ◌*◌, ◌^◌}
 use Rattle.std.proofs.lemmas.List.{append-nil, drop-append-le, drop-drop, drop_all, drop_at, length-take-le, take_at, take-append-drop, take-append-le}
-use Rattle.{desk_model.specs.{Ranges.{laid, ListsAreCut}, claim.Room.rows_for, declared.ranges.CountyRange.CountyRange}, plan_rows.specs.ChunkReading.HasPieces}
+use Rattle.{desk_catalogue.specs.shared_lists.Laid.with_at, desk_model.specs.{Ranges.{laid, ListsAreCut}, claim.Room.rows_for, declared.ranges.CountyRange.CountyRange}}
 use Rattle.{desk_opening.specs.Reading.{AreCountiesOf, AreNamed, AreChunksRead, IsCounty, IsCountyRead, IsLaid, no_cut, part_of}, store_rows.specs.claim.Lists.districts_bytes}
 use Rattle.{store_rows.specs.claim.{RevisionRows.HasChunk, Rows.KeyMap}, desk_pages.proofs.ListParts.{part_there, some_of_part, most_of_part, each_of_part, parts_more}}
 use Rattle.store_rows.proofs.{ChunkRows.few_rows, ListLaws.districts_differ, OneGeography.value_is as given}

@@ -1,4 +1,5 @@
 pub mod Laying
+pub mod FreeLists
 pub mod Revisions
 pub mod Parts
 pub mod NewPlans
@@ -8,4 +9,8 @@ pub mod PlanNumbers
 pub mod Owned
 pub mod Within
 pub mod Readings
-pub use Rattle.plan_rows.proofs as plan_rows
+pub mod Made
+pub mod Told
+pub use Rattle.plan_revisions.proofs as plan_revisions
+pub use Rattle.plan_revisions.proofs.chunk_table
+pub use Rattle.desk_opening_tidy.proofs as tidy

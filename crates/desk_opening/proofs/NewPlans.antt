@@ -1,9 +1,10 @@
 -- A row that is taken says which plan it is of.
-use Rattle.{std.{specs.{FinMap.{FinMap, get as row_at}, Prelude.Option}, proofs.lemmas.Bool.{and_parts, Decides.nat_tests}}, btree_walks.specs.declared.rows.Row.Row}
+use Rattle.{std.{specs.{FinMap.{FinMap, get as row_at}, Prelude.Option}, proofs.lemmas.Bool.{and_parts, Decides.nat_tests}}, btree_scan.specs.declared.rows.Row.Row}
 use Rattle.{std.proofs.Common.{arith, ◌≡◌, ◌<◌, ℕ, Bool, true, false, cond, List, ◌∷◌, length, Some, None, MatchOption, refl, sym, ap, subst, ◌∙◌}, store_rows.specs.RowKeys.IsKey}
 use Rattle.{desk_model.specs.claim.{Desk.{Plan, name_cmp}, Geography.GeographyModel, Name.{IsPlanName, is_plan_name, plan_name_of}}, desk_opening.specs.Reading.IsPlanRow}
-use Rattle.{desk_opening.specs.Opening.{IsKeptPlan, IsNewPlan}, plan_rows.specs.PlanLaws.{IsTold, PlansAreTold, RowFits}, store_rows.specs.{Changes.plan_row_of, claim.Rows.KeyMap}}
-use Rattle.store_rows.{specs.{claim.{DeskRows.{HasPlan, IsPlanAt}, Keys.{key_of, named}, Values.plan_bytes}, declared.value.PlanRow.PlanRow}, proofs.OneGeography.value_is}
+use Rattle.{desk_opening.specs.Opening.{IsKeptPlan, IsNewPlan}, plan_revisions.specs.PlanLaws.{IsTold, PlansAreTold, RowFits}, store_rows.specs.Changes.plan_row_of}
+use Rattle.store_rows.specs.{claim.{DeskRows.{HasPlan, IsPlanAt}, Keys.{key_of, named}, Rows.KeyMap, Values.plan_bytes}, declared.value.StoredPlan.StoredPlan}
+use Rattle.store_rows.proofs.OneGeography.{value_is}
 
 -- ---- the name in a key
 pub name_told : (key name : List ℕ) (read : Option (List ℕ)) → read ≡ plan_name_of name → IsKey (named name) key → MatchOption read ((other : List ℕ) → IsPlanName other → key ≡ key_of (named other) → ⊥) (λ n. key ≡ key_of (named n))
@@ -32,10 +33,10 @@ module _ (g : GeographyModel) (plans : FinMap name_cmp Plan) (row : Row) (m : Ke
   value_there : ◌≡◌ {A = Option (List ℕ)} (Some (plan_bytes (plan_row_of has_plan.0 plan.1))) (Some row.value)
   value_there = sym has_plan.1.row ∙ ap (row_at m) (sym is.key) ∙ is.value
 
-  pub value_told : (p : PlanRow) × (plan_bytes p ≡ row.value)
+  pub value_told : (p : StoredPlan) × (plan_bytes p ≡ row.value)
   value_told = (plan_row_of has_plan.0 plan.1, value_is (plan_bytes (plan_row_of has_plan.0 plan.1)) row.value value_there)
 
-  pub is_plan_row : PlansAreTold → (name : List ℕ) (read : PlanRow) → RowFits read → row.key ≡ key_of (named name) → plan_bytes read ≡ row.value → IsPlanRow g name read m plan.1
+  pub is_plan_row : PlansAreTold → (name : List ℕ) (read : StoredPlan) → RowFits read → row.key ≡ key_of (named name) → plan_bytes read ≡ row.value → IsPlanRow g name read m plan.1
   is_plan_row told name read fits key bytes =
       let found : ◌≡◌ {A = Option (List ℕ)} (Some (plan_bytes read)) (row_at m (key_of (named plan.0))) = ap Some bytes ∙ sym is.value ∙ ap (row_at m) is.key in
       let t = subst (λ (p : Option Plan). IsTold m g plan.0 p (Some read)) is.there (told m g is.all plan.0 (Some read) is.desk found fits) in

@@ -1,8 +1,8 @@
 -- The parts of revisions are those of plans whose revisions are counted, or of plans that were taken away.
-use Rattle.{std.specs.{BTreeMap.{BTreeMap, get as count_at}, Ordering.nat_cmp}, desk_model.specs.claim.Desk.Desk, desk_pages.specs.claim.Desks.IsMapOf}
-use Rattle.{std.proofs.Common.{◌≡◌, ◌⊎◌, inl, inr, ◌<◌, ◌≤◌, ◌^◌, ℕ, List, [], Bool, Option, Some, None, refl, sym, subst, ◌∙◌}, store_rows.specs.claim.Keys.{Fits, part, retired}}
-use Rattle.{desk_opening.specs.Opening.{AreCounts, ArePartsOwned, IsRevisionCounted}, store_check.specs.Owners.{AreOwnedBy, HasOwners, IsOwnedAs}}
-use Rattle.{store_rows.specs.claim.Rows.{KeyMap, Has}, desk_opening.proofs.PlanNumbers.some_or_none}
+use Rattle.{std.specs.{BTreeMap.{BTreeMap, get as count_at}, Ordering.nat_cmp}, desk_model.specs.claim.Desk.Desk, desk_opening_tidy.specs.Owners.{AreOwnedBy, HasOwners, IsOwnedAs}}
+use Rattle.{std.proofs.Common.{◌≡◌, ◌⊎◌, inl, inr, ◌<◌, ◌≤◌, ◌^◌, ℕ, List, [], Bool, Option, Some, None, refl, sym, subst, ◌∙◌}, desk_pages.specs.claim.Desks.IsMapOf}
+use Rattle.{desk_opening.specs.Opening.{AreCounts, ArePartsOwned, IsRevisionCounted}, store_rows.specs.claim.{Keys.{Fits, part, retired}, Rows.{KeyMap, Has}}}
+use Rattle.desk_opening.proofs.PlanNumbers.{some_or_none}
 
 module _ (m : KeyMap) (counts : BTreeMap ℕ ℕ) (are : AreCounts m counts) where
   counted_or_gone : (plan revision : ℕ) (o : Option ℕ) → count_at nat_cmp counts plan ≡ o → IsOwnedAs m plan revision o → IsRevisionCounted m plan revision ⊎ Has m (retired plan) []

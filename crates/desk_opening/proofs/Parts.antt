@@ -2,10 +2,10 @@
 use Rattle.std.specs.{Cmp.Lexicographic.nat_list_cmp_total, FinMap.Entries.find-append, Ordering.eq_by_cmp, Prelude.{Option, is_some, MatchOption}}
 use Rattle.std.specs.FinMap.{FinMap, empty, entries, find, get, insert, len, remove, empty_of_len, get-empty, get-entries, get-insert, len-entries, len-insert, len-remove, same_map, slice_cmp-IsAntisymmetric, nat_cmp-IsAntisymmetric}
 use Rattle.std.proofs.Common.{rules, ◌≡◌, ◌<◌, ◌≤◌, ◌+◌, ◌-◌, ℕ, zero, suc, cond, Bool, true, false, List, [], ◌∷◌, ◌++◌, length, Some, None, refl, sym, ap, subst, subst₂, ◌∙◌, inl, inr, arith}
-use Rattle.{std.proofs.lemmas.Option.{MatchOption-at_none, MatchOption-at_some}, btree_walks.specs.Prefixes.under, desk_catalogue.specs.Kept.AreWhole}
+use Rattle.{std.proofs.lemmas.Option.{MatchOption-at_none, MatchOption-at_some}, btree_scan.specs.Prefixes.under, desk_catalogue.specs.Kept.AreWhole}
 use Rattle.{desk_model.specs.claim.{Desk.{Plan, name_cmp}, Geography.GeographyModel, Step.plan_limit}, desk_opening.specs.Reading.IsWhole, store_rows.specs.Changes.desk_with}
-use Rattle.{page_btree.specs.page_node.claim.Entries.Entry, store_rows.specs.claim.{DeskRows.{IsDesk, IsPlanAt}, Keys.{key_of, named, plans_prefix}, Order.key_cmp, Rows.KeyMap}}
-use Rattle.{btree_walks.proofs.RowsFound.{next_under, found_among as found_under}, store_rows.proofs.Changes.{cases_key, other_row, plan_gone as gone, plan_left as left}}
+use Rattle.{page_btree.specs.node.claim.Entries.Entry, store_rows.specs.claim.{DeskRows.{IsDesk, IsPlanAt}, Keys.{key_of, named, plans_prefix}, Order.key_cmp, Rows.KeyMap}}
+use Rattle.{btree_scan.proofs.RowsFound.{next_under, found_among as found_under}, store_rows.proofs.Changes.{cases_key, other_row, plan_gone as gone, plan_left as left}}
 use Rattle.store_rows.proofs.{Frames.{differs, itself}, KeyPrefixes.starts_itself}
 
 -- the next row is that of a plan, stands in the map, and wasn't taken before

@@ -2,19 +2,20 @@
 use Rattle.std.specs.{BTreeMap.{BTreeMap, IsEmpty, is_at, get as count_at}, FinMap.{entries, find, get}, Int.from_be_bytes, List.AllByRecursion, Map.lookup}
 use Rattle.std.{specs.Ordering.{eq_by_cmp, nat_cmp}, proofs.lemmas.{Map.{Lookups.exact_unsigned, Views.tells_apart}, Nat.from_be_bytes-to_be_bytes_8}}
 use Rattle.std.proofs.Common.{rules, ◌≡◌, ◌⊎◌, ◌<◌, ◌^◌, ℕ, cond, List, [], ◌∷◌, ◌++◌, Bool, true, Option, Some, None, inl, inr, w64, refl, sym, ap, subst, ◌∙◌, arith, append_assoc}
-use Rattle.{btree_walks.specs.{Prefixes.under, declared.rows.Row.Row}, desk_model.specs.claim.{Desk.Plan, Geography.GeographyModel}, desk_pages.specs.Looking.Says}
+use Rattle.{btree_scan.specs.{Prefixes.under, declared.rows.Row.Row}, desk_model.specs.claim.{Desk.Plan, Geography.GeographyModel}, desk_pages.specs.Looking.Says}
 use Rattle.{desk_opening.specs.Opening.{AreCounts, ArePlans, ArePlansApart, HasNoPlans, IsFreshPlan, IsNoted, IsUnused, NoteErr}, desk_pages.specs.Reading.SeekErr}
-use Rattle.{page_btree.specs.{declared.error.TreeError.{TreeError, TheVariants.{NotAStore, Memory}}, page_node.claim.Entries.Entry}, page_store.specs.declared.pages.Pages.Pages}
+use Rattle.{page_btree.specs.{gets.declared.error.TreeError.{TreeError, TheVariants.{NotAStore, Memory}}, node.claim.Entries.Entry}, page_store.specs.declared.pages.Pages.Pages}
 use Rattle.{page_store.specs.declared.txn.Txn.Txn, sector_device.specs.declared.SectorDevice.Ghosts, store_rows.specs.{Changes.plan_row_of, claim.DeskRows.IsPlanAt}}
-use Rattle.store_rows.specs.{claim.{Keys.{key_of, named, plans_prefix}, Order.key_cmp, Rows.{KeyMap, Has}, Tidy.IsNumbered, Values.plan_bytes}, declared.value.PlanRow.PlanRow}
-use Rattle.{btree_walks.proofs.RowsFound.{all_found, all_more}, desk_opening.proofs.{NewPlans.is_kept_plan, Parts.{Plans, found_among, next_plan}}, page_btree.proofs.Rows.all_map}
-use Rattle.store_rows.proofs.{Frames.{either_way, is_equal, itself, same_key}, OneGeography.{no_value, value_is}}
+use Rattle.store_rows.specs.claim.{Keys.{key_of, named, plans_prefix}, Order.key_cmp, Rows.{KeyMap, Has}, Tidy.IsNumbered, Values.plan_bytes}
+use Rattle.{store_rows.specs.declared.value.StoredPlan.StoredPlan, btree_scan.proofs.RowsFound.{all_found, all_more}, desk_opening.proofs.NewPlans.is_kept_plan}
+use Rattle.{desk_opening.proofs.Parts.{Plans, found_among, next_plan}, store_rows.proofs.{Frames.{either_way, is_equal, itself, same_key}, OneGeography.{no_value, value_is}}}
+use Rattle.page_btree.proofs.gets.Rows.{all_map}
 
 -- ---- the number that a row's value begins with
 pub number_in : List ℕ → ℕ
 number_in value = from_be_bytes w64 value
 
-number_is : (p : PlanRow) → p.number < 2 ^ 64 → number_in (plan_bytes p) ≡ p.number
+number_is : (p : StoredPlan) → p.number < 2 ^ 64 → number_in (plan_bytes p) ≡ p.number
 unfolding number_in
 number_is p fits = from_be_bytes-to_be_bytes_8 p.number fits
 
@@ -35,7 +36,7 @@ pub record IsAmong (rows : List Entry) (number count : ℕ) : Type 0 where
   pub row : Entry
   pub after : List Entry
   pub whole : rows ≡ before ++ row ∷ after
-  pub plan : PlanRow
+  pub plan : StoredPlan
   pub value : row.1 ≡ plan_bytes plan
   pub is : plan.number ≡ number
   pub fits : number < 2 ^ 64

@@ -2,7 +2,7 @@
 use Rattle.std.proofs.{Common.{rules, ◌≡◌, ◌<◌, ◌+◌, ◌++◌, ℕ, List, [], ◌∷◌, length, take, get_or, sym, subst, inl, inr, arith, length-append}, lemmas.Bool.cases_lt}
 use Rattle.{std.proofs.lemmas.List.{get_or_append_left, get_or_at}, desk_model.specs.{Ranges.ranges_of, claim.{Desk.Plan, Geography.GeographyModel}}}
 use Rattle.{desk_model.specs.declared.ranges.CountyRange.CountyRange, desk_opening.specs.Reading.{AreChunksRead, IsNextRead, IsPlanRow, IsRevisionShown, LastIsRead, NamesLast}}
-use Rattle.{store_rows.specs.{Changes.with_revision, claim.Rows.KeyMap, declared.value.PlanRow.PlanRow}, desk_opening.proofs.Revisions.last_is}
+use Rattle.{store_rows.specs.{Changes.with_revision, claim.Rows.KeyMap, declared.value.StoredPlan.StoredPlan}, desk_opening.proofs.Revisions.last_is}
 
 -- so are those that were read, and the numbers are those of the last one
 pub record ReadSoFar (number : ℕ) (ranges : List CountyRange) (m : KeyMap) (last : List ℕ) (p : Plan) : Type 0 where
@@ -10,7 +10,7 @@ pub record ReadSoFar (number : ℕ) (ranges : List CountyRange) (m : KeyMap) (la
   pub last_read : LastIsRead last p ranges m
 
 -- an entry so far: its revisions are what their rows say, and where the map has the plan of a row, the first of that plan's
-pub record IsEntryRead (g : GeographyModel) (name : List ℕ) (row : PlanRow) (i : ℕ) (last : List ℕ) (m : KeyMap) (entry : List ℕ × Plan) : Type 0 where
+pub record IsEntryRead (g : GeographyModel) (name : List ℕ) (row : StoredPlan) (i : ℕ) (last : List ℕ) (m : KeyMap) (entry : List ℕ × Plan) : Type 0 where
   pub read : ReadSoFar row.number (ranges_of g) m last entry.1
   pub is : (p : Plan) → IsPlanRow g name row m p → entry ≡ (name, record p { revisions = take i p.revisions })
   pub known : (p : Plan) → IsPlanRow g name row m p → NamesLast g last entry.1 m

@@ -3,8 +3,8 @@ use Rattle.{std.{specs.Prelude.{Option, IfSome}, proofs.lemmas.List.{take_more, 
 use Rattle.std.proofs.Common.{rules, ◌≡◌, ◌<◌, ◌+◌, ◌-◌, ℕ, zero, suc, List, [], ◌∷◌, ◌++◌, length, get_or, take, drop, Some, refl, sym, ap, subst, ◌∙◌, arith, length-append}
 use Rattle.{desk_model.specs.{claim.{Geography.GeographyModel, Subject.revision_at}, declared.ranges.CountyRange.CountyRange}, desk_pages.specs.claim.Desks.AreWithin}
 use Rattle.desk_opening.specs.Reading.{AreChunksRead, AreKnown, AreNamed, BecomesKnown, BecomesLast, IsAfter, IsLast, IsNext, IsOfBlocks, IsPlanRow, IsRevisionRead, IsTold, NamesLast}
-use Rattle.{plan_rows.specs.RevisionReading.{AppendsParts, AreNames, HasParts}, store_rows.specs.{Changes.with_revision, claim.Rows.KeyMap, declared.value.PlanRow.PlanRow}}
-use Rattle.desk_catalogue.proofs.{Counted.laid_long, Drafted.end_of}
+use Rattle.{plan_revisions.specs.RevisionReading.{AppendsParts, AreNames, HasParts}, store_rows.specs.{Changes.with_revision, claim.Rows.KeyMap}}
+use Rattle.{store_rows.specs.declared.value.StoredPlan.StoredPlan, desk_catalogue.proofs.{Counted.laid_long, Drafted.end_of}}
 
 parts_long : (ns xs : List ℕ) → length (parts ns xs) ≡ length ns
 parts_long [] xs = refl
@@ -91,13 +91,13 @@ becomes_last g plan revision last before p m names next was known all said other
     search (last_is p next other is, known all (next_of g plan revision last before p m all was said))
 
 -- a plan's revisions, one after the other
-of_blocks : (g : GeographyModel) (name : List ℕ) (row : PlanRow) (m : KeyMap) (p : Plan) (i : ℕ) → IsPlanRow g name row m p → i < row.revisions → IsOfBlocks g row.number (i + 1) m (get_or p.revisions i [])
+of_blocks : (g : GeographyModel) (name : List ℕ) (row : StoredPlan) (m : KeyMap) (p : Plan) (i : ℕ) → IsPlanRow g name row m p → i < row.revisions → IsOfBlocks g row.number (i + 1) m (get_or p.revisions i [])
 of_blocks g name row m p i is less = search rules
 
-within_at : (g : GeographyModel) (name : List ℕ) (row : PlanRow) (m : KeyMap) (p : Plan) (i : ℕ) → IsPlanRow g name row m p → i < row.revisions → AreWithin p.n (get_or p.revisions i [])
+within_at : (g : GeographyModel) (name : List ℕ) (row : StoredPlan) (m : KeyMap) (p : Plan) (i : ℕ) → IsPlanRow g name row m p → i < row.revisions → AreWithin p.n (get_or p.revisions i [])
 within_at g name row m p i is less = search rules
 
-pub comes_after : (g : GeographyModel) (name : List ℕ) (row : PlanRow) (m : KeyMap) (p : Plan) (i : ℕ) (last : List ℕ) (entry : Plan)
+pub comes_after : (g : GeographyModel) (name : List ℕ) (row : StoredPlan) (m : KeyMap) (p : Plan) (i : ℕ) (last : List ℕ) (entry : Plan)
     → IsPlanRow g name row m p → i < row.revisions → entry.n ≡ row.districts
     → NamesLast g last entry m → IsAfter g row.number (i + 1) last entry m (get_or p.revisions i [])
 comes_after g name row m p i last entry is less sized known =

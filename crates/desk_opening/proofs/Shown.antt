@@ -1,13 +1,13 @@
 -- The plans that are shown are those whose rows a scan took, each with what its row says.
-use Rattle.{std.specs.{FinMap.{empty, entries, find, get, get-empty}, Prelude.Option}, btree_walks.specs.{Prefixes.under, declared.rows.Row.Row}, desk_pages.specs.Desks.new_desk}
+use Rattle.{std.specs.{FinMap.{empty, entries, find, get, get-empty}, Prelude.Option}, btree_scan.specs.{Prefixes.under, declared.rows.Row.Row}, desk_pages.specs.Desks.new_desk}
 use Rattle.{std.proofs.Common.{◌≡◌, ◌<◌, ◌^◌, ℕ, List, [], ◌∷◌, ◌++◌, length, Some, None, refl, sym, ap, subst, subst₂, ◌∙◌}, desk_model.specs.claim.Desk.{Desk, Plan, name_cmp}}
 use Rattle.{desk_model.specs.declared.ranges.CountyRange.CountyRange, desk_opening.specs.Opening.{ArePlansShown, HasNothing, IsListed, IsNotGone, IsShown, IsShownAt}}
-use Rattle.{desk_opening.specs.Reading.AreRevisionsShown, page_btree.specs.page_node.claim.Entries.Entry, store_rows.specs.{Changes.plan_row_of, claim.Order.key_cmp}}
-use Rattle.store_rows.specs.{claim.{Keys.{key_of, named, plans_prefix, retired}, Rows.{KeyMap, Lacks}, Values.plan_bytes}, declared.value.PlanRow.PlanRow}
+use Rattle.{desk_opening.specs.Reading.AreRevisionsShown, page_btree.specs.node.claim.Entries.Entry, store_rows.specs.{Changes.plan_row_of, claim.Order.key_cmp}}
+use Rattle.store_rows.specs.{claim.{Keys.{key_of, named, plans_prefix, retired}, Rows.{KeyMap, Lacks}, Values.plan_bytes}, declared.value.StoredPlan.StoredPlan}
 use Rattle.{desk_opening.proofs.Parts.{Plans, at_more, found_among, next_plan}, store_rows.proofs.OneGeography.no_value}
 
 -- a row's numbers are those of the plan
-pub row_is : (row : PlanRow) (p : Plan) → p.kind ≡ row.kind → p.n ≡ row.districts → length p.revisions ≡ row.revisions → row ≡ plan_row_of row.number p
+pub row_is : (row : StoredPlan) (p : Plan) → p.kind ≡ row.kind → p.n ≡ row.districts → length p.revisions ≡ row.revisions → row ≡ plan_row_of row.number p
 row_is row p kind districts revisions = λ i. record { number = row.number; kind = sym kind i; districts = sym districts i; revisions = sym revisions i }
 
 -- the plan of a row that was taken, or none

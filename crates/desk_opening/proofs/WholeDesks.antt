@@ -1,12 +1,12 @@
 -- A desk of its geography and its plans.
 use Rattle.std.specs.{Cmp.Lexicographic.nat_list_cmp_total, FinMap.{empty, get, get-empty, same_map, slice_cmp-IsAntisymmetric, nat_cmp-IsAntisymmetric}, Prelude.Option}
 use Rattle.{std.proofs.Common.{rules, ◌≡◌, List, ℕ, Bool, Some, None, Result, Ok, Err, IfOk, refl, sym, subst, ◌∙◌}, desk_model.specs.claim.Desk.{Desk, Plan, name_cmp}}
-use Rattle.{desk_model.specs.claim.Geography.GeographyModel, desk_opening.specs.Opening.{ArePlans, HasNothing, IsMapAs, OpenErr}, desk_pages.specs.Desks.new_desk}
-use Rattle.{desk_pages.specs.{Looking.{Gathers, Says}, Reading.{ReadErr, SeekErr}, claim.Desks.{IsMapOf, InTxnOf}}, page_btree.specs.claim.Map.InTxn as InTree}
-use Rattle.{page_btree.specs.declared.error.TreeError.{TreeError, TheVariants.{DeviceFault, NotAStore, Halted, Memory}}, page_store.specs.declared.{pages.Pages.Pages, txn.Txn.Txn}}
-use Rattle.{page_store.specs.claim.Transactions.{stored, disk_in, IsQuiet, Passed}, sector_device.specs.{claim.Disk.Image, declared.SectorDevice.Ghosts}}
-use Rattle.{store_check.specs.Numbers.IsKept, store_rows.specs.claim.{DeskRows.IsPlanAt, GeographyRows.IsGeography, Keys.named, Rows.{KeyMap, Lacks}}}
-use Rattle.{desk_pages.proofs.{Looking.{looked, may_lack, not_looked, then_unread}, Reading.less_sought}, page_store.proofs.Stops.failed_more}
+use Rattle.{desk_model.specs.claim.Geography.GeographyModel, desk_opening.specs.Opening.{ArePlans, HasNothing, IsMapAs, OpenErr}, desk_opening_tidy.specs.Numbers.IsKept}
+use Rattle.{desk_pages.specs.{Desks.new_desk, Looking.{Gathers, Says}, Reading.{ReadErr, SeekErr}, claim.Desks.{IsMapOf, InTxnOf}}, page_btree.specs.gets.claim.Map.InTxn as InTree}
+use Rattle.{page_btree.specs.gets.declared.error.TreeError.{TreeError, TheVariants.{DeviceFault, NotAStore, Halted, Memory}}, page_store.specs.declared.pages.Pages.Pages}
+use Rattle.{page_store.specs.{claim.Transactions.{stored, disk_in, IsQuiet, Passed}, declared.txn.Txn.Txn}, sector_device.specs.{claim.Disk.Image, declared.SectorDevice.Ghosts}}
+use Rattle.{store_rows.specs.claim.{DeskRows.IsPlanAt, GeographyRows.IsGeography, Keys.named, Rows.{KeyMap, Lacks}}, desk_pages.proofs.Reading.less_sought}
+use Rattle.{desk_pages.proofs.Looking.{looked, may_lack, not_looked, then_unread}, page_store.proofs.Stops.failed_more}
 
 none_at : (m : KeyMap) (name : List ℕ) (p : Option Plan) → IsPlanAt m None name p → (p ≡ None) × Lacks m (named name)
 none_at m name None lacks = (refl, lacks)

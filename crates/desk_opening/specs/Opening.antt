@@ -1,13 +1,13 @@
 -- What is read back of a desk row by row, and why it is not.
-use Rattle.{std.specs.{BTreeMap.{BTreeMap, Updates, get as count_at}, FinMap.{FinMap, get, insert, len, get as row_at}, Ordering.nat_cmp}, btree_walks.specs.declared.rows.Row.Row}
+use Rattle.{std.specs.{BTreeMap.{BTreeMap, Updates, get as count_at}, FinMap.{FinMap, get, insert, len, get as row_at}, Ordering.nat_cmp}, btree_scan.specs.declared.rows.Row.Row}
 use Rattle.std.specs.Prelude.{◌≡◌, ◌⊎◌, ◌<◌, ◌≤◌, ◌^◌, ℕ, List, [], Bool, true, Option, Some, None}
 use Rattle.desk_model.specs.{Ranges.ranges_in, claim.{Desk.{Desk, Plan, name_cmp}, Geography.GeographyModel, Step.plan_limit}, declared.ranges.CountyRange.CountyRange}
-use Rattle.{desk_opening.specs.Reading.AreRevisionsShown, desk_pages.specs.{Reading.StandsAs, claim.Desks.{InTxnOf, IsMapOf, IsSized, IsWithinLimits}}}
-use Rattle.{geo_tables.specs.Elements.IsGeographyRead, page_btree.specs.declared.error.TreeError.{TreeError, TheVariants.{DeviceFault, NotAStore, Halted, Memory}}}
-use Rattle.{page_store.specs.{claim.Transactions.{stored, disk_in, has_halted, HasFailed}, declared.{pages.Pages.Pages, txn.Txn.Txn}}, store_check.specs.Numbers.HasNumbersBelow}
-use Rattle.{sector_device.specs.declared.SectorDevice.Ghosts, store_rows.specs.{Changes.{desk_with, plan_row_of}, claim.{DeskRows.IsDesk, Rows.{KeyMap, row_in, Has, Lacks}}}}
-use Rattle.store_rows.specs.claim.{Keys.{key_of, Fits, begun, named, part, retired, seal, version}, Tidy.{IsNumbered, Tidy, version_row}, Values.{plan_bytes, seal_bytes}}
-use Rattle.store_rows.specs.declared.value.{PlanRow.PlanRow, SealRow.SealRow}
+use Rattle.{desk_opening.specs.Reading.AreRevisionsShown, desk_opening_tidy.specs.Numbers.HasNumbersBelow, desk_pages.specs.Reading.StandsAs, page_store.specs.declared.txn.Txn.Txn}
+use Rattle.{desk_pages.specs.claim.Desks.{InTxnOf, IsMapOf, IsSized, IsWithinLimits}, geo_tables.specs.Elements.IsGeographyRead, page_store.specs.declared.pages.Pages.Pages}
+use Rattle.{page_btree.specs.gets.declared.error.TreeError.{TreeError, TheVariants.{DeviceFault, NotAStore, Halted, Memory}}, sector_device.specs.declared.SectorDevice.Ghosts}
+use Rattle.{page_store.specs.claim.Transactions.{stored, disk_in, has_halted, HasFailed}, store_rows.specs.{Changes.{desk_with, plan_row_of}, claim.DeskRows.IsDesk}}
+use Rattle.store_rows.specs.claim.{Keys.{key_of, Fits, begun, named, part, retired, seal, version}, Rows.{KeyMap, row_in, Has, Lacks}, Tidy.{IsNumbered, Tidy, version_row}}
+use Rattle.store_rows.specs.{claim.Values.{plan_bytes, seal_bytes}, declared.value.{SealRow.SealRow, StoredPlan.StoredPlan}}
 
 -- the device failed, or the transaction reads no desk in either version; or a growth was refused
 abbrev pub OpenErr : {D : Type 0} {g : Ghosts D} → Txn → Pages D g → Pages D g → TreeError → Type 0
@@ -45,22 +45,22 @@ pub record IsNewPlan (g : GeographyModel) (plans : FinMap name_cmp Plan) (row : 
 
 -- the number of the plan whose row this is was not taken away
 abbrev pub IsNotGone : Row → KeyMap → Type 0
-IsNotGone row m = (p : PlanRow) → p.number < 2 ^ 64 → row.value ≡ plan_bytes p → Lacks m (retired p.number)
+IsNotGone row m = (p : StoredPlan) → p.number < 2 ^ 64 → row.value ≡ plan_bytes p → Lacks m (retired p.number)
 
 -- and it is the row of a plan
 pub record IsKeptPlan (row : Row) (m : KeyMap) : Type 0 where
-  pub plan : PlanRow
+  pub plan : StoredPlan
   pub fits : plan.number < 2 ^ 64
   pub value : row.value ≡ plan_bytes plan
   pub kept : Lacks m (retired plan.number)
 
 -- no plan was read that has the number of the one whose row this is
 abbrev pub IsUnused : BTreeMap ℕ ℕ → Row → Type 0
-IsUnused counts row = (p : PlanRow) → p.number < 2 ^ 64 → row.value ≡ plan_bytes p → count_at nat_cmp counts p.number ≡ None
+IsUnused counts row = (p : StoredPlan) → p.number < 2 ^ 64 → row.value ≡ plan_bytes p → count_at nat_cmp counts p.number ≡ None
 
 -- that number was noted beside those of the plans before it, with the count of its revisions
 pub record IsNoted (row : Row) (old new : BTreeMap ℕ ℕ) : Type 0 where
-  pub plan : PlanRow
+  pub plan : StoredPlan
   pub fits : plan.number < 2 ^ 64
   pub count_fits : plan.revisions < 2 ^ 32
   pub value : row.value ≡ plan_bytes plan
@@ -68,7 +68,7 @@ pub record IsNoted (row : Row) (old new : BTreeMap ℕ ℕ) : Type 0 where
   pub is : Updates nat_cmp old new plan.number (Some plan.revisions)
 
 abbrev pub NoteErr : Row → BTreeMap ℕ ℕ → TreeError → Type 0
-NoteErr row counts NotAStore = (p : PlanRow) → p.number < 2 ^ 64 → row.value ≡ plan_bytes p → count_at nat_cmp counts p.number ≡ None → ⊥
+NoteErr row counts NotAStore = (p : StoredPlan) → p.number < 2 ^ 64 → row.value ≡ plan_bytes p → count_at nat_cmp counts p.number ≡ None → ⊥
 NoteErr row counts Memory = Unit {0}
 NoteErr row counts _ = ⊥
 
@@ -85,7 +85,7 @@ ArePlansApart m = (name other : List ℕ) (number : ℕ) → IsNumbered m name n
 -- the row of the plan with this number counts so many revisions
 pub record HasCount (m : KeyMap) (number count : ℕ) : Type 0 where
   pub name : List ℕ
-  pub plan : PlanRow
+  pub plan : StoredPlan
   pub row : Has m (named name) (plan_bytes plan)
   pub is : plan.number ≡ number
   pub counts : plan.revisions ≡ count
@@ -144,7 +144,7 @@ pub record IsAdded (plans : FinMap name_cmp Plan) (row : Row) (all : FinMap name
   pub is : all ≡ insert plans name plan
 
 -- the same under a name with this row, and its revisions are what their rows say
-pub record IsAddedAs (plans : FinMap name_cmp Plan) (name : List ℕ) (row : PlanRow) (ranges : List CountyRange) (m : KeyMap) (all : FinMap name_cmp Plan)
+pub record IsAddedAs (plans : FinMap name_cmp Plan) (name : List ℕ) (row : StoredPlan) (ranges : List CountyRange) (m : KeyMap) (all : FinMap name_cmp Plan)
     : Type 0 where
   pub plan : Plan
   pub of : row ≡ plan_row_of row.number plan

@@ -1,10 +1,10 @@
 -- What is read back of a desk.
 use Rattle.std.specs.Prelude.{◌≡◌, ◌⊎◌, ◌≤◌, ◌<◌, ◌+◌, ℕ, List, [], length, take, drop, get_or, All, IfSome, Result}
-use Rattle.{desk_catalogue.specs.shared_lists.Laid.with_at, desk_model.specs.{Ranges.ranges_of, claim.{Desk.Plan, Geography.GeographyModel, Ranges.cut, Sizes.most_districts}}}
-use Rattle.{desk_model.specs.{claim.Subject.revision_at, declared.ranges.CountyRange.CountyRange}, desk_pages.specs.{Looking.{Gathers, Says}, claim.Desks.AreWithin}}
-use Rattle.{page_btree.specs.declared.error.TreeError.TreeError, page_store.specs.declared.{pages.Pages.Pages, txn.Txn.Txn}, plan_rows.specs.ChunkReading.{HasPieces, IsChunk}}
-use Rattle.{plan_rows.specs.RevisionReading.HasParts, sector_device.specs.declared.SectorDevice.Ghosts, store_rows.specs.{Changes.with_revision, claim.DeskRows.HasPlan}}
-use Rattle.store_rows.specs.{claim.{RevisionRows.{HasChunk, HasRevision}, Rows.KeyMap}, declared.value.PlanRow.PlanRow}
+use Rattle.{chunk_table.specs.ChunkReading.{HasPieces, IsChunk}, desk_catalogue.specs.shared_lists.Laid.with_at, desk_model.specs.{Ranges.ranges_of, claim.{Desk.Plan, Ranges.cut}}}
+use Rattle.desk_model.specs.{claim.{Geography.GeographyModel, Sizes.most_districts, Subject.revision_at}, declared.ranges.CountyRange.CountyRange}
+use Rattle.{desk_pages.specs.{Looking.{Gathers, Says}, claim.Desks.AreWithin}, page_btree.specs.gets.declared.error.TreeError.TreeError, page_store.specs.declared.txn.Txn.Txn}
+use Rattle.{page_store.specs.declared.pages.Pages.Pages, plan_revisions.specs.RevisionReading.HasParts, sector_device.specs.declared.SectorDevice.Ghosts}
+use Rattle.store_rows.specs.{Changes.with_revision, claim.{DeskRows.HasPlan, RevisionRows.{HasChunk, HasRevision}, Rows.KeyMap}, declared.value.StoredPlan.StoredPlan}
 
 -- `reads` is so of what was read; and where a map says a value, it is what `told` makes of that
 pub record IsTold {X V : Type 0} (reads : KeyMap → V → Type 0) (says : KeyMap → X → Type 0) (told : X → V) (m : KeyMap) (value : V) : Type 0 where
@@ -139,7 +139,7 @@ pub record IsNextRead (plan revision : ℕ) (ranges : List CountyRange) (last : 
   pub read : LastIsRead last p ranges m → AreChunksRead names districts ranges m
 
 -- the plan stands under the name with this row, and its size is one that plans may have
-pub record IsPlanRow (g : GeographyModel) (name : List ℕ) (row : PlanRow) (m : KeyMap) (p : Plan) : Type 0 where
+pub record IsPlanRow (g : GeographyModel) (name : List ℕ) (row : StoredPlan) (m : KeyMap) (p : Plan) : Type 0 where
   pub has : HasPlan m g name row.number p
   pub kind : row.kind ≡ p.kind
   pub districts : row.districts ≡ p.n

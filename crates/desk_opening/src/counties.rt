@@ -6,12 +6,12 @@ ghost use Rattle.desk_pages.specs.claim.Desks.{AreWithin};
 ghost use Rattle.desk_opening.specs.Reading.{AreCountiesOf, AreNamed, AreChunksRead, Reads};
 ghost use Rattle.desk_opening.specs.Reading.{IsChunkWithin, IsCounty, IsCountyRead, IsLaid};
 
+use chunk_table::{ChunkId, get_chunk};
 use desk_catalogue::Districts;
 use desk_model::laws::lists_are_cut;
 use desk_model::ranges::CountyRange;
 use desk_pages::TreeError;
 use page_store::{Pages, Txn};
-use plan_rows::append_chunk;
 use sector_device::SectorDevice;
 use std::alloc::Global;
 
@@ -47,7 +47,7 @@ fn lay_county<D: SectorDevice>(
         (λ chunk. with_at range.first chunk districts) txn.now pages.old pages.new result }
 {
     part.clear();
-    append_chunk(txn, pages, number, range.count as usize, part)?;
+    get_chunk(txn, pages, ChunkId { number }, range.count as usize, part)?;
     if part.len() != range.count as usize {
         return Err(TreeError::NotAStore);
     }

@@ -4,7 +4,7 @@ ghost use Rattle.std.specs.BTreeMap.{IsEmpty};
 ghost use Rattle.desk_model.specs.claim.Desk.{Desk};
 ghost use Rattle.page_store.specs.claim.Transactions.{stored, disk_in, count_of, txn_pages};
 ghost use Rattle.page_store.specs.Reading.{ReadsOnly};
-ghost use Rattle.page_btree.specs.claim.Map.{InTxn as InTree};
+ghost use Rattle.page_btree.specs.gets.claim.Map.{InTxn as InTree};
 ghost use Rattle.store_rows.specs.claim.Rows.{KeyMap};
 ghost use Rattle.desk_pages.specs.claim.Desks.{InTxnOf};
 ghost use Rattle.desk_opening.specs.Opening.{AreCounts, IsMapAs, IsReadFrom, IsShown, OpenErr};
@@ -14,6 +14,7 @@ use crate::marks::check_rows;
 use crate::none::read_none;
 use crate::rows::read_plans;
 use desk_catalogue::catalogue::Catalogue;
+use desk_opening_tidy::check_owners;
 use desk_pages::TreeError;
 use geo_tables::geography;
 use page_store::{Pages, Txn};
@@ -21,7 +22,6 @@ use sector_device::SectorDevice;
 use std::alloc::Global;
 use std::collections::BTreeMap;
 use std::sync::Arc;
-use store_check::check_owners;
 
 /// What the rows of a transaction's desk say: its geography, and each plan with all its revisions. The pages are only read. The
 /// plans' numbers are noted, each with the count of its revisions.
@@ -50,7 +50,7 @@ fn read_rows<D: SectorDevice>(
 /// `DeviceFault`, `NotAStore` if there is no desk, or `Halted`. A store is rejected if the next
 /// number is already in use: a later row would be taken for another plan's. It is also rejected if
 /// the sealed load is marked as begun, since a sweep would remove its rows; if it has a row that no
-/// desk has, as far as `HasNumbersBelow` of store_check says; or if it has a part of a revision
+/// desk has, as far as `HasNumbersBelow` of desk_opening_tidy says; or if it has a part of a revision
 /// that no plan has, except parts of deleted plans.
 pub fn read_desk<D: SectorDevice>(
     alloc: Global,

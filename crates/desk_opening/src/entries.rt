@@ -4,7 +4,7 @@ ghost use Rattle.desk_model.specs.Ranges.{ranges_of};
 ghost use Rattle.desk_model.specs.claim.Step.{revision_limit};
 ghost use Rattle.page_store.specs.claim.Transactions.{count_of, txn_pages};
 ghost use Rattle.store_rows.specs.Changes.{plan_row_of, with_revision};
-ghost use Rattle.page_btree.specs.declared.error.TreeError.TheVariants.{Memory};
+ghost use Rattle.page_btree.specs.gets.declared.error.TreeError.TheVariants.{Memory};
 ghost use Rattle.desk_pages.specs.claim.Desks.{AreWithin};
 ghost use Rattle.desk_opening.specs.Reading.{AreAllWithin, AreRevisionsShown, BecomesKnown, BecomesLast, Reads, IsAfter};
 ghost use Rattle.desk_opening.specs.Reading.{IsLast, IsNext, IsNextRead, IsPlanRow, IsRevisionRead, IsWhole};
@@ -16,10 +16,10 @@ use desk_model::name::PlanName;
 use desk_model::size::PlanSize;
 use desk_pages::TreeError;
 use page_store::{Pages, Txn};
-use plan_rows::append_names;
+use plan_revisions::append_names;
 use sector_device::SectorDevice;
 use std::alloc::Global;
-use store_rows::PlanRow;
+use store_rows::StoredPlan;
 
 /// Reads a revision of a plan. Its counties are laid over `before`, the districts of the revision
 /// before, whose chunks have the numbers in `last`; `last` gets the numbers of this one. No block
@@ -150,7 +150,7 @@ pub fn read_entry<D: SectorDevice>(
     pages: &mut Pages<D>,
     geography: &Geography,
     name: PlanName,
-    row: &PlanRow,
+    row: &StoredPlan,
 ) -> Result<Entry, TreeError>
     requires begun { txn_pages txn.now ≡ count_of pages.old }
     ensures named { IfOk result (λ entry. entry.0 ≡ name) }

@@ -12,12 +12,16 @@
 //!   pairs of the sealed load, and of each revision the numbers of its chunks and their districts.
 //!   No part of a revision belongs to a plan that was never made, or is beyond its plan's
 //!   revisions.
+//! - `check_desk` reads only, and succeeds only if the rows say a desk within its limits, with
+//!   these counties (`TellsDesk`). It reads what `read_desk` reads, and keeps nothing of it.
 //! - `read_entry` and `add_plan` read a plan with all its revisions. `is_new` says whether the row
-//!   of the version exists.
+//!   of the version exists. After `check_held` the pages hold rows, unless their list of free pages
+//!   does not end.
 //!
 //! # Not proved
 //!
-//! That no row stands after the last of a list; `plandesk verify` checks it.
+//! That no row stands after the last of a list; `plandesk verify` checks it. An error of
+//! `check_desk` says nothing about the rows.
 //!
 //! # Notes
 //!
@@ -29,20 +33,26 @@
 mod counties;
 mod desks;
 mod entries;
+mod held;
 mod marks;
 mod none;
 mod numbers;
 mod plans;
 mod rows;
+mod unkept_chunks;
+mod unkept_desks;
+mod unkept_plans;
+mod unkept_revisions;
 mod versions;
 
-pub use counties::{is_above, is_known};
+pub use chunk_table::{hold_unheld, hold_unheld_with, is_held};
+pub use desk_opening_tidy::{first_from, is_version, refuse_from};
 pub use desks::read_desk;
 pub use entries::read_entry;
-pub use marks::{check_rows, refuse_gone};
+pub use held::check_held;
+pub use marks::check_rows;
 pub use none::read_none;
-pub use numbers::note_number;
-pub use plan_rows::{hold_unheld, hold_unheld_with, is_held};
 pub use plans::add_plan;
-pub use rows::{name_in, row_fits};
+pub use rows::name_in;
+pub use unkept_desks::check_desk;
 pub use versions::is_new;

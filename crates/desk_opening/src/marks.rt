@@ -3,16 +3,16 @@ ghost use Rattle.std.specs.Prelude.{◌≡◌, None};
 ghost use Rattle.std.specs.FinMap.{get as row_at};
 ghost use Rattle.page_store.specs.claim.Transactions.{count_of, txn_pages};
 ghost use Rattle.desk_opening.specs.Opening.{HasSoundNumbers, IsKeptPlan, IsNotGone, IsSealEnded, IsSealKept};
-ghost use Rattle.store_check.specs.Numbers.{IsKept};
+ghost use Rattle.desk_opening_tidy.specs.Numbers.{IsKept};
 ghost use Rattle.desk_pages.specs.Looking.{Looks};
 
 use crate::rows::{number_fits, row_fits};
-use btree_walks::Row;
+use btree_scan::Row;
+use desk_opening_tidy::check_numbers;
 use desk_pages::{TreeError, get_row};
 use page_btree::{VALUE_LIMIT, get};
 use page_store::{Pages, Txn};
 use sector_device::SectorDevice;
-use store_check::check_numbers;
 use store_rows::{Key, SealRow, read_plan};
 
 /// Rejects the store if a row with this key exists.

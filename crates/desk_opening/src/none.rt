@@ -7,7 +7,7 @@ ghost use Rattle.desk_pages.specs.Looking.{Looks};
 ghost use Rattle.desk_pages.specs.Desks.{new_desk};
 ghost use Rattle.desk_opening.specs.Opening.{HasNoPlans, HasNothing};
 
-use btree_walks::{Row, Scan};
+use btree_scan::{Row, scan};
 use desk_catalogue::catalogue::Catalogue;
 use desk_pages::{TreeError, get_row};
 use page_store::{Pages, Txn};
@@ -32,7 +32,7 @@ fn refuse_plans<D: SectorDevice>(txn: &Txn, pages: &mut Pages<D>) -> Result<(), 
     ensures { Looks (λ m _. HasNoPlans m) HasNoPlans txn.now pages.old pages.new result }
 {
     let prefix = Key::plans();
-    let mut scan = Scan::new(prefix.as_slice());
+    let mut scan = scan(prefix.as_slice());
     let mut row = Row::empty();
     if scan.next(txn, pages, &mut row) {
         return Err(TreeError::NotAStore);

@@ -3,7 +3,7 @@ ghost use Rattle.std.specs.Prelude.{OnOk, IfErr};
 ghost use Rattle.desk_opening.specs.Opening.{IsNoted, NoteErr};
 
 use crate::rows::row_fits;
-use btree_walks::Row;
+use btree_scan::Row;
 use desk_pages::TreeError;
 use std::collections::BTreeMap;
 use store_rows::read_plan;

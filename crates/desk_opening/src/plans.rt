@@ -18,7 +18,7 @@ use desk_pages::TreeError;
 use page_store::{Pages, Txn};
 use sector_device::SectorDevice;
 use std::alloc::Global;
-use store_rows::PlanRow;
+use store_rows::StoredPlan;
 
 /// Returns the plans with the plan of this name and row added.
 pub fn add_plan<D: SectorDevice>(
@@ -28,7 +28,7 @@ pub fn add_plan<D: SectorDevice>(
     geography: &Geography,
     plans: &Plans,
     name: PlanName,
-    row: &PlanRow,
+    row: &StoredPlan,
 ) -> Result<Plans, TreeError>
     requires begun { txn_pages txn.now ≡ count_of pages.old }
     requires missing { map_of.get plans.now name ≡ None }

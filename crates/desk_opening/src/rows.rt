@@ -7,7 +7,7 @@ ghost use Rattle.desk_model.specs.claim.Name.{IsPlanName};
 ghost use Rattle.page_store.specs.claim.Transactions.{count_of, txn_pages};
 ghost use Rattle.store_rows.specs.claim.Keys.{key_of, named};
 ghost use Rattle.desk_catalogue.specs.Kept.{AreWhole};
-ghost use Rattle.plan_rows.specs.PlanLaws.{RowFits};
+ghost use Rattle.plan_revisions.specs.PlanLaws.{RowFits};
 ghost use Rattle.desk_opening.specs.Reading.{Reads};
 ghost use Rattle.desk_opening.specs.Opening.{AreCounts, ArePlans, ArePlansApart, ArePlansShown, IsAdded};
 ghost use Rattle.desk_opening.specs.Opening.{IsFreshPlan, IsListed, IsNoted, IsNewPlan, IsNotGone};
@@ -15,18 +15,18 @@ ghost use Rattle.desk_opening.specs.Opening.{IsFreshPlan, IsListed, IsNoted, IsN
 use crate::marks::refuse_gone;
 use crate::numbers::note_number;
 use crate::plans::add_plan;
-use btree_walks::{Row, Scan, row_limit};
+use btree_scan::{Row, row_limit, scan};
 use desk_catalogue::Plans;
 use desk_catalogue::catalogue::PLAN_LIMIT;
 use desk_model::geography::Geography;
 use desk_model::name::PlanName;
 use desk_pages::TreeError;
 use page_store::{Pages, Txn};
-use plan_rows::plan_laws::plans_are_told;
+use plan_revisions::plan_laws::plans_are_told;
 use sector_device::SectorDevice;
 use std::alloc::Global;
 use std::collections::BTreeMap;
-use store_rows::{Key, PlanRow, RowKey, read_plan};
+use store_rows::{Key, RowKey, StoredPlan, read_plan};
 
 /// A number of 64 bits is in its range.
 pub(crate) fn number_fits(number: u64)
@@ -44,7 +44,7 @@ fn revisions_fit(revisions: u32)
 {}
 
 /// The numbers of a plan's row are in their ranges.
-pub fn row_fits(row: PlanRow)
+pub fn row_fits(row: StoredPlan)
     ensures { RowFits row }
 {
     number_fits(row.number);
@@ -133,7 +133,7 @@ pub(crate) fn read_plans<D: SectorDevice>(
 {
     let mut plans = Plans::new();
     let prefix = Key::plans();
-    let mut scan = Scan::new(prefix.as_slice());
+    let mut scan = scan(prefix.as_slice());
     let mut row = Row::empty();
     for taken in 0..row_limit(txn) {
         if !scan.next(txn, pages, &mut row) {

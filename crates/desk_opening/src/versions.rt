@@ -7,11 +7,11 @@ ghost use Rattle.store_rows.specs.claim.Tidy.{version_row};
 ghost use Rattle.desk_opening.specs.Opening.{HasVersion};
 ghost use Rattle.desk_pages.specs.Looking.{Looks};
 
+use desk_opening_tidy::is_version;
 use desk_pages::TreeError;
 use page_btree::{VALUE_LIMIT, get};
 use page_store::{Pages, Txn};
 use sector_device::SectorDevice;
-use store_check::is_version;
 use store_rows::Key;
 
 /// Returns whether the rows are of the new version, which has a row for it; the old one has none.

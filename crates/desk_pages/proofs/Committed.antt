@@ -1,13 +1,13 @@
 -- What is held before and after a commit.
-use Rattle.{std.specs.Prelude.IfOk, btree_puts.specs.page_btree.claim.Map.{Holds, InTxn, InPages}, desk_pages.specs.{Commits.{OpensRows, FittingErr}, Errors.page_refusal}}
+use Rattle.{std.specs.Prelude.IfOk, desk_pages.specs.{Commits.{OpensRows, FittingErr}, Errors.page_refusal, claim.Commits.HoldsAfter}, page_store.specs.Transactions.txn_first}
 use Rattle.std.proofs.Common.{rules, ◌≡◌, ◌≢◌, ◌⊎◌, ◌≤◌, ◌+◌, ℕ, true, false, List, length, Result, Ok, Err, OnOk, inl, inr, ⊎_elim, sym, ap, subst, ◌∙◌, arith}
-use Rattle.{desk_pages.specs.claim.Commits.HoldsAfter, page_store.specs.{Transactions.txn_first, claim.Chain.{AreFree, IsPages, root_in, free_in}, declared.pages.Pages.Pages}}
+use Rattle.{page_btree.specs.gets.claim.Map.{Holds, InTxn, InPages}, page_store.specs.{claim.Chain.{AreFree, IsPages, root_in, free_in}, declared.{pages.Pages.Pages, txn.Txn.Txn}}}
 use Rattle.page_store.specs.claim.Transactions.{stored, disk_in, count_of, has_halted, txn_pages, txn_root, txn_free, over, free_over, prepared_pages, prepared_writes, after, journal_of, HasShape, CommitErr}
-use Rattle.page_store.specs.{declared.txn.{Prepared.Prepared, Txn.Txn}, gate_journal.{Store.IsBeforeOrAfter, claim.Store.home, declared.error.PageError.PageError}}
+use Rattle.page_store.specs.{declared.txn.Prepared.Prepared, gate_journal.{Store.IsBeforeOrAfter, claim.Store.home, declared.error.PageError.PageError}}
 use Rattle.{sector_device.{specs.{claim.{Disk.{Disk, Image}, Moments.LeavesOnly}, declared.SectorDevice.Ghosts}, proofs.Moments.leaves_wider}, store_rows.specs.claim.Rows.KeyMap}
 use Rattle.page_store.proofs.Chains.{length_chain}
 use Rattle.page_store.specs.gate_journal.declared.error.PageError.TheVariants as page
-use Rattle.btree_puts.proofs.page_btree.MapLaws.{prepared_holds}
+use Rattle.page_btree.proofs.gets.MapLaws.{prepared_holds}
 
 pub holds_after : (t : Txn) (r : Result Prepared PageError) → IfOk r (λ made. prepared_pages made ≡ txn_pages t) → IfOk r (λ made. (P : Image) (q : ℕ) → q ≢ 0 → after made P q ≡ over t P q) → IfOk r (λ made. (P : Image) → root_in (after made P) ≡ txn_root t)
     → IfOk r (λ made. (P : Image) → AreFree (txn_pages t) (free_over t P) → free_in (after made P) ≡ free_over t P) → IfOk r (λ made. (P : Image) → AreFree (txn_pages t) (free_over t P) → IsPages (txn_pages t) (after made P)) → IfOk r (λ made. (P : Image) (m : KeyMap) → InTxn t P m → HoldsAfter made P m)

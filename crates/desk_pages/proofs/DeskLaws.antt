@@ -3,7 +3,7 @@ use Rattle.{std.{specs.Prelude.{◌≡◌, ◌≢◌, ◌⊎◌, ◌≤◌, ◌+
 use Rattle.{desk_pages.specs.claim.Desks.{HoldsDeskOf, InTxnOf, OpensDeskOf}, page_store.specs.{claim.Chain.{root_in, free_in, IsPages}, declared.txn.Txn.Txn}}
 use Rattle.page_store.specs.{claim.Transactions.{txn_pages, txn_root, over, free_over}, gate_journal.{Store.IsBeforeOrAfter, claim.Store.{home, overlay}}}
 use Rattle.store_rows.specs.{Laws.DeskIsOne, claim.{DeskRows.IsDesk, Rows.KeyMap}}
-use Rattle.btree_puts.proofs.page_btree.MapLaws.{begun_holds, prepared_holds, one_map}
+use Rattle.page_btree.proofs.gets.MapLaws.{begun_holds, prepared_holds, one_map}
 
 -- a transaction that is begun reads the desk that the pages hold
 pub begun_desk : {new : Bool} (t : Txn) (P : Image) (d : Desk) → HoldsDeskOf new (txn_pages t) P (root_in P) (free_in P) d → ((q : ℕ) → over t P q ≡ P q) → txn_root t ≡ root_in P → free_over t P ≡ free_in P → InTxnOf new t P d

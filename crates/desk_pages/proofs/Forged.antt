@@ -1,8 +1,7 @@
 -- A transaction whose tree has six levels, whatever the pages: nothing that few rows could bring to a seventh.
 use Rattle.{std.proofs.Common.{◌≡◌, ◌≢◌, ◌<◌, ◌+◌, ℕ, zero, suc, List, [], ◌∷◌, replicate, get_or, refl, arith, Global, sym, ◌∙◌}, desk_pages.specs.claim.Puts.IsNear}
-use Rattle.{btree_puts.specs.page_btree.{claim.Errors.level_in, page_node.claim.Node.count_in}, page_store.specs.claim.Transactions.{over, stored, txn_root}}
-use Rattle.{page_store.specs.declared.{pages.Pages.Pages, txn.Txn.Txn}, sector_device.specs.{claim.Disk.Image, declared.SectorDevice.Ghosts}}
-use Rattle.desk_pages.proofs.Nearness.{thin_not_near}
+use Rattle.{page_btree.specs.{gets.claim.Errors.level_in, node.claim.Node.count_in}, page_store.specs.{claim.Transactions.{over, stored, txn_root}, declared.pages.Pages.Pages}}
+use Rattle.{page_store.specs.declared.txn.Txn.Txn, sector_device.specs.{claim.Disk.Image, declared.SectorDevice.Ghosts}, desk_pages.proofs.Nearness.thin_not_near}
 use denote.RawPtr.{null_ptr}
 
 abbrev link : ℕ → ℕ → List ℕ

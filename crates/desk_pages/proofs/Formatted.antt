@@ -1,10 +1,10 @@
 -- A new store holds the desk without geography and plans, and the row of the version alone.
 use Rattle.{std.{specs.FinMap.{empty, get, len, get-empty, len-empty}, proofs.Common.{◌≡◌, ℕ, List, Option, Some, None, sym, ◌∙◌, subst, arith}}, desk_pages.specs.Desks.new_desk}
-use Rattle.{btree_puts.specs.page_btree.{Map.IsOnlyRow, claim.Map.Holds}, desk_model.specs.claim.Desk.{Plan, name_cmp}, desk_pages.specs.Errors.page_refusal}
-use Rattle.{desk_pages.specs.{Formats.{FormatErr, OpensNew, HasJournal}, claim.Desks.{IsSized, IsWithinLimits}}, page_store.specs.New.{IsNewWith, FormatErr as PagesErr}}
-use Rattle.{page_store.specs.{claim.Chain.free_in, gate_journal.{claim.Store.pages, declared.error.PageError.PageError}}, sector_device.specs.claim.Disk.Disk}
-use Rattle.{sector_device.specs.declared.SectorDevice.Ghosts, store_rows.specs.{MigrationLaws.as_new, claim.{DeskRows.{IsPlanAt, IsDesk}, Order.key_cmp, Rows.KeyMap}}}
-use Rattle.store_rows.{specs.claim.{Keys.{key_of, seal, named, version, in_four}, Tidy.AllHold}, proofs.{Migrating.{version_told, new_tidy}, TidyFree.empty_tidy}}
+use Rattle.{desk_model.specs.claim.Desk.{Plan, name_cmp}, desk_pages.specs.{Errors.page_refusal, Formats.{FormatErr, OpensNew, HasJournal}, claim.Desks.{IsSized, IsWithinLimits}}}
+use Rattle.{page_btree.specs.gets.{Map.IsOnlyRow, claim.Map.Holds}, page_store.specs.{New.{IsNewWith, FormatErr as PagesErr}, claim.Chain.free_in, gate_journal.claim.Store.pages}}
+use Rattle.{page_store.specs.gate_journal.declared.error.PageError.PageError, sector_device.specs.{claim.Disk.Disk, declared.SectorDevice.Ghosts}}
+use Rattle.store_rows.specs.{MigrationLaws.as_new, claim.{DeskRows.{IsPlanAt, IsDesk}, Keys.{key_of, seal, named, version, in_four}, Order.key_cmp, Rows.KeyMap, Tidy.AllHold}}
+use Rattle.store_rows.proofs.{Migrating.{version_told, new_tidy}, TidyFree.empty_tidy}
 use Rattle.page_store.proofs.gate_journal.Commit.{settled_opens}
 use Rattle.page_store.specs.gate_journal.declared.error.PageError.TheVariants as page
 

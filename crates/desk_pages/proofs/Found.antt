@@ -1,10 +1,10 @@
 -- Desks of a store that an opening finds.
-use Rattle.{std.proofs.Common.{rules, ◌≡◌, ◌+◌, ℕ, Bool, true, sym, ap, subst, ◌∙◌, arith}, btree_puts.specs.page_btree.claim.Map.InPages as HasRows}
-use Rattle.{desk_model.specs.claim.Desk.Desk, desk_pages.specs.{Desks.InPagesAs, Openings.{AllDesks, OpensOneOf, HasPages, StillStands}, claim.Desks.{OpensAs, OpensDeskOf}}}
-use Rattle.{desk_pages.specs.claim.Openings.{AllVersions, OpensOneAs}, page_store.specs.{Openings.AllPageStores, declared.pages.Pages.Pages}, store_rows.specs.claim.Rows.KeyMap}
+use Rattle.{std.proofs.Common.{rules, ◌≡◌, ◌+◌, ℕ, Bool, true, sym, ap, subst, ◌∙◌, arith}, desk_model.specs.claim.Desk.Desk, desk_pages.specs.Desks.InPagesAs}
+use Rattle.desk_pages.specs.{Openings.{AllDesks, OpensOneOf, HasPages, StillStands}, claim.{Desks.{OpensAs, OpensDeskOf}, Openings.{AllVersions, OpensOneAs}}}
+use Rattle.{page_btree.specs.gets.claim.Map.InPages as HasRows, page_store.specs.{Openings.AllPageStores, declared.pages.Pages.Pages}, sector_device.specs.claim.Disk.{Disk, Image}}
 use Rattle.page_store.specs.{claim.Transactions.{stored, disk_in, count_of, journal_of, IsKept, IsQuiet}, gate_journal.Recovery.{HasRoom, AllStores, ReadsAs, Found}}
-use Rattle.{page_store.{specs.gate_journal.claim.Store.{home, IsStore, Opens, pages}, proofs.Stops.kept_quiet}, sector_device.specs.claim.{Disk.{Disk, Image}, Moments.LeavesOnly}}
-use Rattle.sector_device.{specs.declared.SectorDevice.Ghosts, proofs.Moments.leaves_wider}
+use Rattle.{page_store.specs.gate_journal.claim.Store.{home, IsStore, Opens, pages}, sector_device.specs.{claim.Moments.LeavesOnly, declared.SectorDevice.Ghosts}}
+use Rattle.{store_rows.specs.claim.Rows.KeyMap, page_store.proofs.Stops.kept_quiet, sector_device.proofs.Moments.leaves_wider}
 use Rattle.page_store.proofs.gate_journal.Headers.{same_journal}
 
 -- what is of the new version is of either

@@ -1,7 +1,7 @@
 -- Pages that no fault has stopped, and what a transaction leaves of them.
-use Rattle.{std.proofs.Common.{◌≡◌, ◌+◌, ℕ, Result, Ok, Err, OnOk, Bool, false}, btree_puts.specs.page_btree.claim.Map.{InTxn as TxnHolds, InPages as PagesHold}}
-use Rattle.{desk_model.specs.claim.Desk.Desk, desk_pages.specs.claim.{Commits.HoldsAfter, Desks.{InPagesOf, OpensDeskOf}}, page_store.specs.declared.pages.Pages.Pages}
-use Rattle.page_store.specs.{claim.Transactions.{stored, disk_in, count_of, journal_of, has_halted, IsKept}, declared.txn.{Prepared.Prepared, Txn.Txn}}
+use Rattle.{std.proofs.Common.{◌≡◌, ◌+◌, ℕ, Result, Ok, Err, OnOk, Bool, false}, desk_model.specs.claim.Desk.Desk, desk_pages.specs.claim.Commits.HoldsAfter}
+use Rattle.{desk_pages.specs.claim.Desks.{InPagesOf, OpensDeskOf}, page_btree.specs.gets.claim.Map.{InTxn as TxnHolds, InPages as PagesHold}, page_store.specs.declared.txn.Txn.Txn}
+use Rattle.page_store.specs.{claim.Transactions.{stored, disk_in, count_of, journal_of, has_halted, IsKept}, declared.{pages.Pages.Pages, txn.Prepared.Prepared}}
 use Rattle.{page_store.specs.gate_journal.claim.Store.home, sector_device.specs.{claim.Disk.Image, declared.SectorDevice.Ghosts}, store_rows.specs.claim.Rows.KeyMap}
 use Rattle.desk_pages.proofs.Committed.{pages_sound}
 use Rattle.page_store.proofs.gate_journal.Commit.{settled_opens}

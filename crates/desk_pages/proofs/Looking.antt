@@ -1,9 +1,10 @@
 -- Looks, one after the other.
 use Rattle.std.{specs.{FinMap.get as row_at, Prelude.{◌≡◌, ℕ, List, Option, Result, Ok, Err, IsErrAnd}}, proofs.Common.{rules, refl, sym, subst, ◌∙◌}}
-use Rattle.btree_puts.specs.page_btree.{claim.Map.InTxn, declared.error.TreeError.{TreeError, TheVariants.{DeviceFault, NotAStore, Halted, Memory}}}
-use Rattle.{desk_pages.specs.{Looking.{Gathers, Looks, Seeks}, Reading.{IsReadAs, ReadErr, SeekErr, StandsAs}}, page_store.specs.declared.{pages.Pages.Pages, txn.Txn.Txn}}
-use Rattle.{page_store.specs.claim.Transactions.{stored, disk_in, IsQuiet, Passed}, sector_device.specs.declared.SectorDevice.Ghosts, store_rows.specs.claim.Rows.KeyMap}
-use Rattle.{desk_pages.proofs.Reading.{less_sought, value_read, value_unread}, page_store.proofs.Stops.{quiet_more, passed_more, passed_none, failed_more}}
+use Rattle.{desk_pages.specs.{Looking.{Gathers, Looks, Seeks}, Reading.{IsReadAs, ReadErr, SeekErr, StandsAs}}, page_btree.specs.gets.claim.Map.InTxn}
+use Rattle.{page_btree.specs.gets.declared.error.TreeError.{TreeError, TheVariants.{DeviceFault, NotAStore, Halted, Memory}}, page_store.specs.declared.pages.Pages.Pages}
+use Rattle.{page_store.specs.{claim.Transactions.{stored, disk_in, IsQuiet, Passed}, declared.txn.Txn.Txn}, sector_device.specs.declared.SectorDevice.Ghosts}
+use Rattle.{store_rows.specs.claim.Rows.KeyMap, desk_pages.proofs.Reading.{less_sought, value_read, value_unread}}
+use Rattle.page_store.proofs.Stops.{quiet_more, passed_more, passed_none, failed_more}
 
 module _ {D X : Type 0} {g : Ghosts D} {short : Type 0} {says : KeyMap → X → Type 0} {has : KeyMap → Type 0} {t : Txn} {a b : Pages D g} where
   -- calls passed, and this is so after them

@@ -1,8 +1,8 @@
 -- A tree of few levels isn't deepened to a seventh by few rows.
 use Rattle.{std.proofs.{Common.{◌≡◌, ◌<◌, ◌≤◌, ◌+◌, ℕ, zero, suc, false, subst, arith}, Math.Nat.{min-le_left, min-le_right}}, desk_pages.specs.claim.Puts.{IsNear, IsStoredNear}}
-use Rattle.{btree_puts.specs.page_btree.{claim.Errors.{level_in, reach_at, reach_in, top_reach}, page_node.claim.Node.count_in}, page_store.specs.Calls.BeginsOver}
-use Rattle.page_store.specs.{claim.{Chain.root_in, Transactions.{stored, disk_in, has_halted, txn_root, over}}, declared.{pages.Pages.Pages, txn.Txn.Txn}}
-use Rattle.sector_device.specs.{claim.Disk.Image, declared.SectorDevice.Ghosts}
+use Rattle.{page_btree.specs.{gets.claim.Errors.{level_in, reach_at, reach_in, top_reach}, node.claim.Node.count_in}, page_store.specs.{Calls.BeginsOver, claim.Chain.root_in}}
+use Rattle.{page_store.specs.{claim.Transactions.{stored, disk_in, has_halted, txn_root, over}, declared.{pages.Pages.Pages, txn.Txn.Txn}}, sector_device.specs.claim.Disk.Image}
+use Rattle.sector_device.specs.declared.SectorDevice.{Ghosts}
 
 low_reach : (d e : ℕ) → d ≤ 4 → reach_at d e ≤ 251
 low_reach zero e low = omega arith

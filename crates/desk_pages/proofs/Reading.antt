@@ -1,11 +1,10 @@
 -- Lemmas on the definitions of Reading.
 use Rattle.std.specs.{FinMap.get as row_at, Prelude.{◌≡◌, ℕ, List, [], Option, Some, None, Result, Ok, Err, IfOk, IfErr, option_map, MatchOption}}
-use Rattle.{std.proofs.Common.{rules, refl, sym, ap, ◌∙◌}, btree_puts.specs.{Fingers.{Stand, GetWhereErr}, declared.finger.Fingers.Fingers, page_btree.claim.Errors.GetErr}}
-use Rattle.{btree_puts.specs.page_btree.{claim.Map.InTxn, declared.error.TreeError.{TreeError, TheVariants.NotAStore}}, desk_pages.specs.claim.Puts.{HasPut, PutsErr}}
-use Rattle.{desk_pages.specs.Reading.{HasNext, IsReadAs, ReadErr, ReadErrWith, SeekErr, StandsAs}, page_store.specs.claim.Transactions.{stored, disk_in, IsQuiet, Passed}}
-use Rattle.{page_store.specs.declared.{pages.Pages.Pages, txn.Txn.Txn}, sector_device.specs.{claim.Disk.Image, declared.SectorDevice.Ghosts}, store_rows.specs.claim.Puts.Row}
-use Rattle.store_rows.specs.{claim.{Keys.{key_of, counters}, Rows.KeyMap, Tidy.no_numbers, Values.counters_bytes}, declared.value.Counters.Counters}
-use Rattle.desk_pages.proofs.RowsPut.{more_put, then_not_put}
+use Rattle.{std.proofs.Common.{rules, refl, sym, ap, ◌∙◌}, desk_pages.specs.{Reading.{HasNext, IsReadAs, ReadErr, ReadErrWith, SeekErr, StandsAs}, claim.Puts.{HasPut, PutsErr}}}
+use Rattle.page_btree.specs.{gets.{claim.{Errors.GetErr, Map.InTxn}, declared.error.TreeError.{TreeError, TheVariants.NotAStore}}, puts.Fingers.{Stand, GetWhereErr}}
+use Rattle.{page_btree.specs.puts.declared.finger.Fingers.Fingers, page_store.specs.{claim.Transactions.{stored, disk_in, IsQuiet, Passed}, declared.pages.Pages.Pages}}
+use Rattle.{page_store.specs.declared.txn.Txn.Txn, sector_device.specs.{claim.Disk.Image, declared.SectorDevice.Ghosts}, store_rows.specs.claim.{Keys.{key_of, counters}, Puts.Row}}
+use Rattle.{store_rows.specs.{claim.{Rows.KeyMap, Tidy.no_numbers, Values.counters_bytes}, declared.value.Counters.Counters}, desk_pages.proofs.RowsPut.{more_put, then_not_put}}
 
 -- and has one value
 pub one_value : (key a b : List ℕ) (m : KeyMap) → row_at m key ≡ Some a → row_at m key ≡ Some b → a ≡ b

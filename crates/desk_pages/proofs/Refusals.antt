@@ -1,6 +1,6 @@
 -- What is told of pages that aren't opened, and of rows that aren't read.
-use Rattle.{std.proofs.Common.{rules, ◌≡◌, ◌≢◌, Bool, true, false, inl, refl, sym}, btree_puts.specs.page_btree.declared.error.TreeError.TreeError}
-use Rattle.desk_pages.specs.{Errors.{page_refusal, row_refusal, IsCalm}, Openings.IsSpared, declared.error.StoreError.{StoreError, TheVariants.{NotAStore, DeviceFault}}}
+use Rattle.{std.proofs.Common.{rules, ◌≡◌, ◌≢◌, Bool, true, false, inl, refl, sym}, desk_pages.specs.{Errors.{page_refusal, row_refusal, IsCalm}, Openings.IsSpared}}
+use Rattle.{desk_pages.specs.declared.error.StoreError.{StoreError, TheVariants.{NotAStore, DeviceFault}}, page_btree.specs.gets.declared.error.TreeError.TreeError}
 use Rattle.page_store.specs.{Transactions.IsUntouched, claim.Transactions.{disk_in, device_in, has_halted, IsQuiet}, declared.pages.Pages.Pages}
 use Rattle.{page_store.specs.gate_journal.declared.error.PageError.PageError, sector_device.specs.{claim.Disk.Disk, declared.SectorDevice.Ghosts}}
 use Rattle.page_store.specs.gate_journal.declared.error.PageError.TheVariants as page

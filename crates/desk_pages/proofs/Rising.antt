@@ -1,13 +1,12 @@
 -- Lemmas on the definitions of Rising.
-use Rattle.{std.specs.{FinMap.insert, Prelude.{length, ◌≡◌, ◌<◌, ◌≤◌, ◌+◌, ℕ, List, [], ◌∷◌, ◌++◌}}, btree_puts.specs.Fingers.{Stand, StandsIn, PutByErr}}
-use Rattle.{std.proofs.Common.{rules, suc, refl, sym, ap, subst, ◌∙◌, arith, append_assoc, length-append}, btree_puts.specs.declared.finger.{Finger.Finger, Fingers.Fingers}}
-use Rattle.{btree_puts.specs.page_btree.{claim.{Errors.{reach_in, top_reach, PutErr, level_in}, Map.InTxn}, declared.error.TreeError.TreeError}, store_rows.specs.Puts.rows_told}
-use Rattle.{btree_puts.specs.page_btree.declared.error.TreeError.TheVariants.{DeviceFault, NotAStore, Halted, NoPages, TooDeep, Memory}, page_store.specs.declared.txn.Txn.Txn}
-use Rattle.{desk_pages.specs.{Rising.{HasPutWith, PutsErrWith}, claim.Puts.{HasPut, PutsErr}}, page_store.specs.declared.pages.Pages.Pages, sector_device.specs.claim.Disk.Image}
-use Rattle.{page_store.specs.claim.Transactions.{stored, disk_in, txn_pages, txn_root, txn_free, txn_writes, over, IsQuiet, Passed}, store_rows.specs.claim.Puts.{Row, put_rows}}
-use Rattle.{sector_device.specs.declared.SectorDevice.Ghosts, store_rows.specs.claim.Rows.KeyMap, page_store.proofs.Stops.{passed_none, passed_more, failed_more}}
-use Rattle.store_rows.proofs.Puts.{put_rows-append, told_prefix}
-use Rattle.btree_puts.proofs.page_btree.Refusals.{by_case}
+use Rattle.{std.specs.{FinMap.insert, Prelude.{length, ◌≡◌, ◌<◌, ◌≤◌, ◌+◌, ℕ, List, [], ◌∷◌, ◌++◌}}, desk_pages.specs.Rising.{HasPutWith, PutsErrWith}}
+use Rattle.{std.proofs.Common.{rules, suc, refl, sym, ap, subst, ◌∙◌, arith, append_assoc, length-append}, desk_pages.specs.claim.Puts.{HasPut, PutsErr}}
+use Rattle.page_btree.specs.{gets.{claim.{Errors.{reach_in, top_reach, level_in}, Map.InTxn}, declared.error.TreeError.TreeError}, puts.Fingers.{Stand, StandsIn, PutByErr}}
+use Rattle.page_btree.specs.{gets.declared.error.TreeError.TheVariants.{DeviceFault, NotAStore, Halted, NoPages, TooDeep, Memory}, puts.declared.finger.Finger.Finger}
+use Rattle.{page_btree.specs.puts.declared.finger.Fingers.Fingers, page_store.specs.declared.{pages.Pages.Pages, txn.Txn.Txn}, sector_device.specs.claim.Disk.Image}
+use Rattle.{page_store.specs.claim.Transactions.{stored, disk_in, txn_pages, txn_root, txn_free, txn_writes, over, IsQuiet, Passed}, store_rows.specs.Puts.rows_told}
+use Rattle.{sector_device.specs.declared.SectorDevice.Ghosts, store_rows.{specs.claim.{Puts.{Row, put_rows}, Rows.KeyMap}, proofs.Puts.{put_rows-append, told_prefix}}}
+use Rattle.page_store.proofs.Stops.{passed_none, passed_more, failed_more}
 
 -- where no leaf is known, a finger stands, and so do both
 pub none_stands : (t : Txn) (S : Image) (f : Finger) → f.page ≡ 0 → StandsIn t S f
@@ -17,10 +16,6 @@ pub fresh_stand : (t : Txn) (S : Image) (fs : Fingers) → fs.first.page ≡ 0 �
 fresh_stand t S fs first second = (none_stands t S fs.first first, none_stands t S fs.second second)
 
 module _ {D : Type 0} {g : Ghosts D} where
-  -- a put by a finger that knows no leaf
-  pub plain_err : (was : Finger) (t : Txn) (old new : Pages D g) → was.page ≡ 0 → (e : TreeError) → PutByErr was t old new e → PutErr t old new e
-  plain_err was t old new none = search (rules, by_case, none_stands)
-
   -- calls that read at most put no row
   none_put_with : (fs : Fingers) (t : Txn) (a b : Pages D g) → Passed a b → HasPutWith fs fs [] t t a b
   none_put_with fs t a b read = record {

@@ -1,11 +1,10 @@
 -- Lemmas on the definitions of Puts: rows are put as with two leaves that are known, of which none is.
 use Rattle.std.{specs.{FinMap.insert, Prelude.{◌≡◌, ◌<◌, ◌≤◌, ◌+◌, ℕ, false, List, [], ◌∷◌, ◌++◌}}, proofs.Common.{rules, suc, refl, subst, arith}}
-use Rattle.btree_puts.specs.{declared.finger.{Finger.Finger, Fingers.Fingers}, page_btree.claim.{Errors.{PutErr, reach_in, top_reach}, Map.InTxn}}
-use Rattle.{btree_puts.specs.page_btree.declared.error.TreeError.{TreeError, TheVariants.{NotAStore, NoPages, TooDeep, Memory}}, desk_pages.specs.Rising.{HasPutWith, PutsErrWith}}
-use Rattle.{desk_pages.specs.claim.Puts.{HasPut, PutsErr}, page_store.specs.claim.Transactions.{txn_root, over, stored, disk_in, txn_pages, txn_free, txn_writes, IsQuiet, Passed}}
-use Rattle.{page_store.specs.declared.{pages.Pages.Pages, txn.Txn.Txn}, sector_device.specs.declared.SectorDevice.Ghosts, store_rows.specs.{Puts.rows_told, claim.Puts.Row}}
-use Rattle.{store_rows.specs.claim.Rows.KeyMap, desk_pages.proofs.Rising.{fresh_stand, more_put_with, then_not_put_with, prefix_not_put_with, fresh_put, fresh_not_put}}
-use Rattle.{page_store.proofs.Stops.passed_none, store_rows.proofs.Puts.told_prefix}
+use Rattle.{desk_pages.specs.{Rising.{HasPutWith, PutsErrWith}, claim.Puts.{HasPut, PutsErr}}, page_btree.specs.gets.claim.{Errors.{PutErr, reach_in, top_reach}, Map.InTxn}}
+use Rattle.page_btree.specs.{gets.declared.error.TreeError.{TreeError, TheVariants.{NotAStore, NoPages, TooDeep, Memory}}, puts.declared.finger.{Finger.Finger, Fingers.Fingers}}
+use Rattle.page_store.specs.{claim.Transactions.{txn_root, over, stored, disk_in, txn_pages, txn_free, txn_writes, IsQuiet, Passed}, declared.{pages.Pages.Pages, txn.Txn.Txn}}
+use Rattle.{sector_device.specs.declared.SectorDevice.Ghosts, store_rows.specs.{Puts.rows_told, claim.{Puts.Row, Rows.KeyMap}}, page_store.proofs.Stops.passed_none}
+use Rattle.{desk_pages.proofs.Rising.{fresh_stand, more_put_with, then_not_put_with, prefix_not_put_with, fresh_put, fresh_not_put}, store_rows.proofs.Puts.told_prefix}
 
 abbrev no_leaf : Finger
 no_leaf = record { page = 0; low = []; reach = record { bounded = false; bound = [] }; near = record { k = 0; at = 0 } }

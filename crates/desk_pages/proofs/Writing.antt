@@ -1,6 +1,6 @@
 -- Rows that are put, call by call.
 use Rattle.{std.{specs.Prelude.{◌≡◌, ◌<◌, ◌+◌, ℕ, List, ◌++◌, [], ◌∷◌, Result, Ok, Err, IsErrAnd}, proofs.Common.{rules, sym, subst}}, desk_pages.specs.Outcomes.{PutsRows, Writes}}
-use Rattle.{btree_puts.specs.page_btree.declared.error.TreeError.TreeError, page_store.specs.{claim.Transactions.{count_of, txn_pages, IsQuiet}, declared.pages.Pages.Pages}}
+use Rattle.{page_btree.specs.gets.declared.error.TreeError.TreeError, page_store.specs.{claim.Transactions.{count_of, txn_pages, IsQuiet}, declared.pages.Pages.Pages}}
 use Rattle.{page_store.specs.declared.txn.Txn.Txn, sector_device.specs.declared.SectorDevice.Ghosts, store_rows.specs.{Puts.rows_told, claim.Puts.Row}}
 use Rattle.{desk_pages.proofs.RowsPut.{more_put, none_put, prefix_not_put, then_not_put, told_more, told_not_put}, page_store.proofs.Stops.{quiet_more, quiet_none}}
 

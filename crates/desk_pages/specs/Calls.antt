@@ -1,8 +1,8 @@
 -- What commits leave, each in one relation.
 use Rattle.std.specs.Prelude.{◌≡◌, ◌≤◌, ◌+◌, length, IfOk, IfErr, Result, true, false, Err, OnOk, IsErr}
-use Rattle.{btree_puts.specs.page_btree.claim.Map.{InTxn, InPages}, desk_pages.specs.{Commits.{OpensRows, TxnErr, Leaves, FittingErr}, Desks.{InTxnAs, InPagesAs}}}
-use Rattle.desk_pages.specs.{Moments.StopsLeaveEither, claim.{Commits.HoldsAfter, Desks.{InTxn as DeskInTxn, InPages as DeskInPages, OpensDesk, OpensAs}}}
-use Rattle.{desk_pages.specs.declared.error.StoreError.StoreError, page_store.specs.{Outcomes.Commits, claim.Chain.free_in, declared.{pages.Pages.Pages, txn.Prepared.Prepared}}}
+use Rattle.desk_pages.specs.{Commits.{OpensRows, TxnErr, Leaves, FittingErr}, Desks.{InTxnAs, InPagesAs}, Moments.StopsLeaveEither, claim.Commits.HoldsAfter}
+use Rattle.desk_pages.specs.{claim.Desks.{InTxn as DeskInTxn, InPages as DeskInPages, OpensDesk, OpensAs}, declared.error.StoreError.StoreError}
+use Rattle.{page_btree.specs.gets.claim.Map.{InTxn, InPages}, page_store.specs.{Outcomes.Commits, claim.Chain.free_in, declared.{pages.Pages.Pages, txn.Prepared.Prepared}}}
 use Rattle.page_store.specs.claim.Transactions.{txn_pages, txn_writes, txn_free, prepared_pages, prepared_writes, after, stored, disk_in, has_halted, IsSame, CommitErr}
 use Rattle.{page_store.specs.{declared.txn.Txn.Txn, gate_journal.declared.error.PageError.{PageError, TheVariants.{Memory, Halted}}}, sector_device.specs.claim.Disk.Image}
 use Rattle.{sector_device.specs.declared.SectorDevice.Ghosts, store_rows.specs.claim.Rows.KeyMap}

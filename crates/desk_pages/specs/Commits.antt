@@ -1,7 +1,7 @@
 -- What no promise rests on, beside claim/Commits.antt.
 use Rattle.std.specs.Prelude.{◌≡◌, ◌⊎◌, ◌<◌, ◌+◌, ℕ, true, false, Result, OnOk, IfErr}
-use Rattle.{btree_puts.specs.page_btree.Map.OpensMap, desk_model.specs.claim.Desk.Desk, desk_pages.specs.claim.Desks.{InTxn as DeskInTxn, InPages as DeskInPages, OpensDesk}}
-use Rattle.{desk_pages.specs.declared.error.StoreError.StoreError, page_store.specs.{claim.Chain.IsPages, declared.{pages.Pages.Pages, txn.Txn.Txn}, gate_journal.claim.Store.home}}
+use Rattle.{desk_model.specs.claim.Desk.Desk, desk_pages.specs.{claim.Desks.{InTxn as DeskInTxn, InPages as DeskInPages, OpensDesk}, declared.error.StoreError.StoreError}}
+use Rattle.{page_btree.specs.gets.Map.OpensMap, page_store.specs.{claim.Chain.IsPages, declared.{pages.Pages.Pages, txn.Txn.Txn}, gate_journal.claim.Store.home}}
 use Rattle.page_store.specs.claim.Transactions.{stored, disk_in, count_of, journal_of, has_halted, txn_writes, HasFailed, HasShape, IsKept, IsSame}
 use Rattle.{page_store.specs.gate_journal.declared.error.PageError.{PageError, TheVariants.{DeviceFault, Halted, TooManyPages, Memory}}, sector_device.specs.claim.Disk.Image}
 use Rattle.{sector_device.specs.{claim.Moments.LeavesOnly, declared.SectorDevice.Ghosts}, store_rows.specs.claim.Rows.KeyMap}

@@ -1,10 +1,10 @@
 -- What pages and trees refuse, as refusals of a store.
 use Rattle.std.specs.Prelude.{◌≡◌, ◌≢◌, Bool, false, if◌then◌else◌}
-use Rattle.{btree_puts.specs.page_btree.declared.error.TreeError.TreeError, desk_pages.specs.declared.error.StoreError.StoreError, page_store.specs.claim.Transactions.has_halted}
-use Rattle.{desk_pages.specs.declared.error.StoreError.TheVariants.{TooSmall, NotAStore, Full, Memory, DeviceFault, Halted}, page_store.specs.declared.pages.Pages.Pages}
+use Rattle.desk_pages.specs.declared.error.StoreError.{StoreError, TheVariants.{TooSmall, NotAStore, Full, Memory, DeviceFault, Halted}}
+use Rattle.{page_btree.specs.gets.declared.error.TreeError.TreeError, page_store.specs.{claim.Transactions.has_halted, declared.pages.Pages.Pages}}
 use Rattle.{page_store.specs.gate_journal.declared.error.PageError.PageError, sector_device.specs.declared.SectorDevice.Ghosts}
 use Rattle.page_store.specs.gate_journal.declared.error.PageError.TheVariants as page
-use Rattle.btree_puts.specs.page_btree.declared.error.TreeError.TheVariants as tree
+use Rattle.page_btree.specs.gets.declared.error.TreeError.TheVariants as tree
 
 abbrev pub page_refusal : PageError → StoreError
 page_refusal page.NotAStore = NotAStore

@@ -11,4 +11,3 @@ pub mod Looking
 pub mod Outcomes
 pub mod Rising
 pub mod Calls
-pub use Rattle.btree_puts.specs as btree_puts

@@ -1,6 +1,6 @@
 -- What comes of looking at the rows of a transaction.
 use Rattle.std.specs.Prelude.{◌≡◌, Result, OnOk, IfOk, IfErr}
-use Rattle.{btree_puts.specs.page_btree.{claim.Map.InTxn, declared.error.TreeError.TreeError}, desk_pages.specs.Reading.SeekErr, page_store.specs.declared.pages.Pages.Pages}
+use Rattle.{desk_pages.specs.Reading.SeekErr, page_btree.specs.gets.{claim.Map.InTxn, declared.error.TreeError.TreeError}, page_store.specs.declared.pages.Pages.Pages}
 use Rattle.{page_store.specs.{claim.Transactions.{stored, disk_in, IsQuiet, Passed}, declared.txn.Txn.Txn}, sector_device.specs.declared.SectorDevice.Ghosts}
 use Rattle.store_rows.specs.claim.Rows.{KeyMap}
 

@@ -1,8 +1,7 @@
 -- What becomes of rows that are put.
 use Rattle.std.specs.Prelude.{◌≡◌, List, Result, MatchResult}
-use Rattle.{btree_puts.specs.page_btree.declared.error.TreeError.TreeError, desk_pages.specs.claim.Puts.{HasPut, PutsErr}, page_store.specs.declared.pages.Pages.Pages}
-use Rattle.{page_store.specs.{claim.Transactions.{count_of, txn_pages, IsQuiet}, declared.txn.Txn.Txn}, sector_device.specs.declared.SectorDevice.Ghosts}
-use Rattle.store_rows.specs.claim.Puts.{Row}
+use Rattle.{desk_pages.specs.claim.Puts.{HasPut, PutsErr}, page_btree.specs.gets.declared.error.TreeError.TreeError, page_store.specs.declared.{pages.Pages.Pages, txn.Txn.Txn}}
+use Rattle.{page_store.specs.claim.Transactions.{count_of, txn_pages, IsQuiet}, sector_device.specs.declared.SectorDevice.Ghosts, store_rows.specs.claim.Puts.Row}
 
 -- Pages were only read, a transaction goes on with them, and it did so, or it is told why not.
 pub record Writes {D T : Type 0} {g : Ghosts D} (done : T → Type 0) (failed : TreeError → Type 0) (u : Txn) (old new : Pages D g) (result : Result T TreeError) : Type 0 where

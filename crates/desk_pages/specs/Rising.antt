@@ -1,9 +1,9 @@
 -- Rows that are put with two leaves that are known.
 use Rattle.std.specs.Prelude.{◌≡◌, ◌<◌, ◌≤◌, ◌+◌, ◌*◌, List, length, true, Result, MatchResult}
-use Rattle.{btree_puts.specs.{Fingers.Stand, declared.finger.Fingers.Fingers, page_btree.{claim.Map.InTxn, declared.error.TreeError.TreeError}}, store_rows.specs.claim.Rows.KeyMap}
-use Rattle.{btree_puts.specs.page_btree.declared.error.TreeError.TheVariants.{DeviceFault, NotAStore, Halted, NoPages, TooDeep, Memory}, page_store.specs.declared.txn.Txn.Txn}
-use Rattle.{desk_pages.specs.claim.Puts.{HasDeepened, IsNear, Nears}, page_store.specs.declared.pages.Pages.Pages, sector_device.specs.declared.SectorDevice.Ghosts}
-use Rattle.{page_store.specs.claim.Transactions.{stored, disk_in, has_halted, txn_pages, txn_free, txn_writes, HasFailed, Passed}, store_rows.specs.claim.Puts.{Row, put_rows}}
+use Rattle.{desk_pages.specs.claim.Puts.{HasDeepened, IsNear, Nears}, page_btree.specs.{gets.{claim.Map.InTxn, declared.error.TreeError.TreeError}, puts.Fingers.Stand}}
+use Rattle.page_btree.specs.{gets.declared.error.TreeError.TheVariants.{DeviceFault, NotAStore, Halted, NoPages, TooDeep, Memory}, puts.declared.finger.Fingers.Fingers}
+use Rattle.page_store.specs.{claim.Transactions.{stored, disk_in, has_halted, txn_pages, txn_free, txn_writes, HasFailed, Passed}, declared.{pages.Pages.Pages, txn.Txn.Txn}}
+use Rattle.{sector_device.specs.declared.SectorDevice.Ghosts, store_rows.specs.claim.{Puts.{Row, put_rows}, Rows.KeyMap}}
 
 module _ {D : Type 0} {g : Ghosts D} where
   -- where both fingers stood, the rows were put, and both stand then: a row writes 11 pages at most, and takes 6

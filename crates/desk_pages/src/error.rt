@@ -2,7 +2,7 @@
 ghost use Rattle.std.specs.Prelude.{◌≡◌};
 ghost use Rattle.desk_pages.specs.Errors.{row_refusal};
 
-use btree_puts::TreeError;
+use page_btree::TreeError;
 use page_store::PageError;
 
 /// Why a store isn't made, opened, filled, swept or migrated.

@@ -1,12 +1,12 @@
 //! Makes a device a store without geography and plans.
 ghost use Rattle.std.specs.Prelude.{OnOk};
 ghost use Rattle.page_store.specs.Formats.{FormatsDevice, IsJournalSize};
-ghost use Rattle.btree_puts.specs.page_btree.Map.{IsOnlyRow};
+ghost use Rattle.page_btree.specs.gets.Map.{IsOnlyRow};
 ghost use Rattle.store_rows.specs.claim.Keys.{key_of, version, in_four};
 ghost use Rattle.desk_pages.specs.Formats.{FormatErr, OpensNew, HasJournal};
 
 use crate::error::StoreError;
-use btree_puts::write_first_row;
+use page_btree::write_first_row;
 use sector_device::{SECTOR_SIZE, Sector, SectorDevice};
 use std::alloc::Global;
 use store_rows::Key;

@@ -2,15 +2,15 @@
 ghost use Rattle.std.specs.Prelude.{◌≡◌, ◌<◌, ◌≤◌, ◌^◌, Option, take, option_map, IfOk, IfSome};
 ghost use Rattle.page_store.specs.claim.Transactions.{stored, disk_in, count_of, txn_pages};
 ghost use Rattle.page_store.specs.Reading.{ReadsOnly};
-ghost use Rattle.btree_puts.specs.Fingers.{Stand};
-ghost use Rattle.btree_puts.specs.page_btree.claim.Map.{InTxn};
+ghost use Rattle.page_btree.specs.puts.Fingers.{Stand};
+ghost use Rattle.page_btree.specs.gets.claim.Map.{InTxn};
 ghost use Rattle.store_rows.specs.claim.Rows.{KeyMap};
 ghost use Rattle.store_rows.specs.claim.Tidy.{IsNext};
 ghost use Rattle.desk_pages.specs.Looking.{Looks};
 ghost use Rattle.desk_pages.specs.Reading.{HasNext, IsReadAs, ReadErrWith, StandsAs};
 
 use crate::values::RowValue;
-use btree_puts::{Fingers, TreeError, VALUE_LIMIT, get, get_with};
+use page_btree::{Fingers, TreeError, VALUE_LIMIT, get, get_with};
 use page_store::{Pages, Txn};
 use sector_device::SectorDevice;
 use store_rows::{Counters, Key};

@@ -31,11 +31,11 @@ mod puts;
 mod reads;
 mod values;
 
-pub use btree_puts::{Finger, Fingers, TreeError, put};
 pub use commits::{commit, commit_fitting, commit_txn, prepare};
 pub use error::{StoreError, row_error};
 pub use formatting::format;
 pub use gets::{get_row, get_row_with, next_numbers};
+pub use page_btree::{Finger, Fingers, TreeError, put_with};
 pub use parts::part_of;
 pub use puts::{ROW_PAGES, put_row, put_row_with};
 pub use reads::read_row;

@@ -3,9 +3,9 @@ ghost use Rattle.std.specs.Prelude.{◌≡◌, ◌≤◌, ◌+◌, [], ◌∷◌
 ghost use Rattle.page_store.specs.claim.Transactions.{count_of, txn_pages, txn_free, IsQuiet};
 ghost use Rattle.desk_pages.specs.Outcomes.{PutsRows};
 ghost use Rattle.desk_pages.specs.Rising.{PutsRowsWith};
-ghost use Rattle.btree_puts.specs.page_btree.declared.error.TreeError.TheVariants.{NoPages, TooDeep};
+ghost use Rattle.page_btree.specs.gets.declared.error.TreeError.TheVariants.{NoPages, TooDeep};
 
-use btree_puts::{Finger, Fingers, TreeError, put};
+use page_btree::{Fingers, TreeError, put, put_with};
 use page_store::{Pages, Txn};
 use sector_device::SectorDevice;
 use store_rows::Key;
@@ -28,8 +28,7 @@ pub fn put_row<D: SectorDevice>(
     ensures spent { IfErr result (λ e. e ≡ NoPages → txn_free txn.new ≡ 0) }
     ensures deep { IfErr result (λ e. e ≡ TooDeep → txn_free txn.old ≡ txn_free txn.new + 6) }
 {
-    let mut finger = Finger::none();
-    match put(txn, pages, &mut finger, key.as_slice(), value) {
+    match put(txn, pages, key.as_slice(), value) {
         Ok(_) => Ok(()),
         Err(error) => Err(error),
     }
@@ -54,7 +53,7 @@ pub fn put_row_with<D: SectorDevice>(
     let bytes = key.as_slice();
     let count = txn.page_count();
     fingers.turn(bytes, count);
-    match put(txn, pages, &mut fingers.first, bytes, value) {
+    match put_with(txn, pages, &mut fingers.first, bytes, value) {
         Ok(_) => {
             fingers.part();
             Ok(())

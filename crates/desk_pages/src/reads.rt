@@ -5,7 +5,7 @@ ghost use Rattle.page_store.specs.claim.Transactions.{count_of, txn_pages};
 ghost use Rattle.desk_pages.specs.Looking.{Looks};
 ghost use Rattle.desk_pages.specs.Reading.{HasRow};
 
-use btree_puts::{TreeError, VALUE_LIMIT, get};
+use page_btree::{TreeError, VALUE_LIMIT, get};
 use page_store::{Pages, Txn};
 use sector_device::SectorDevice;
 use store_rows::Key;

@@ -1,6 +1,7 @@
 //! What is read back from a row.
 use store_rows::{
-    Counters, HolderCount, PlanRow, SealRow, read_counters, read_holder_count, read_plan, read_seal,
+    Counters, HolderCount, SealRow, StoredPlan, read_counters, read_holder_count, read_plan,
+    read_seal,
 };
 
 /// The value of a row, determined by its bytes.
@@ -24,12 +25,12 @@ impl RowValue for Counters {
     }
 }
 
-impl RowValue for PlanRow {
+impl RowValue for StoredPlan {
     ghost use Rattle.store_rows.specs.claim.Values.{plan_bytes};
 
     ghost bytes_of = { plan_bytes };
 
-    fn read(bytes: &[u8]) -> Option<PlanRow> {
+    fn read(bytes: &[u8]) -> Option<StoredPlan> {
         read_plan(bytes)
     }
 }

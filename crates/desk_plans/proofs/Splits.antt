@@ -78,3 +78,7 @@ found_none name = record { prefix = []; back = []; split = split_none name }
 pub others_of_more : (l more : List Row) → 0 < length l → drop 1 (l ++ more) ≡ drop 1 l ++ more
 others_of_more [] more some = absurd (omega arith)
 others_of_more (d ∷ l) more some = refl
+
+-- the plans of a tree that is a height and plans
+pub rows_are : {height : ℕ} {rows : List Row} {tree : ℕ × List Row} → (height, rows) ≡ tree → rows ≡ tree.1
+rows_are is = ap (λ (t : ℕ × List Row). t.1) is

@@ -6,8 +6,8 @@ by_sides : (left right : Option (Arc Tree Global)) (entry : Arc Row Global) (hei
     → deep-Tree (record { left = left; entry = entry; height = height; right = right }) ≤ length (rows_of left ++ entry.value ∷ rows_of right)
 by_sides None None entry height = omega arith
 by_sides None (Some r) entry height = omega arith
-by_sides (Some l) None entry height = omega (arith, length-append l.value (entry.value ∷ []))
-by_sides (Some l) (Some r) entry height = omega (arith, length-append l.value (entry.value ∷ r.value))
+by_sides (Some l) None entry height = omega (arith, length-append l.value.1 (entry.value ∷ []))
+by_sides (Some l) (Some r) entry height = omega (arith, length-append l.value.1 (entry.value ∷ r.value.1))
 
 -- no side is deeper than the tree has plans
 pub falls : (a : Inside) → deep-Tree a ≤ length (rows_of a.left ++ a.entry.value ∷ rows_of a.right)

@@ -6,7 +6,7 @@ ghost use Rattle.desk_model.specs.claim.Subject.{revision_at};
 
 use desk_model::kind::Kind;
 use desk_model::name::PlanName;
-use desk_model::reply::PlanLine;
+use desk_model::reply::PlanRow;
 use desk_model::size::PlanSize;
 use shared_lists::{Districts, SharedList};
 use std::alloc::{AllocError, Global};
@@ -86,10 +86,10 @@ impl Entry {
     }
 
     /// The plan's line in the list of plans.
-    pub fn row(&self) -> PlanLine
+    pub fn row(&self) -> PlanRow
         ensures { result ≡ plan_row self.now }
     {
-        PlanLine {
+        PlanRow {
             name: self.name,
             kind: self.size.kind(),
             n: self.size.n(),

@@ -10,7 +10,7 @@ ghost use Rattle.desk_plans.specs.Tree.{rows_of};
 use crate::entry::Entry;
 use crate::tree::{Tree, order, place, same, share};
 use desk_model::name::PlanName;
-use desk_model::reply::{PlanLine, PlanRows};
+use desk_model::reply::{PlanRow, PlanRows};
 use std::alloc::{AllocError, Global};
 use std::marker::Model;
 use std::sync::Arc;
@@ -79,13 +79,14 @@ fn place_in(
     ensures put { OnOk result (IsPut entry.value (rows_of root.old) (rows_of root.new)) }
     ensures kept { OnErr result (rows_of root.new ≡ rows_of root.old) }
 {
-    match root {
-        Some(tree) => place(alloc, tree, entry),
-        None => {
-            *root = Some(Tree::of(alloc, entry)?);
-            Ok(())
-        }
+    let Some(tree) = root else {
+        *root = Some(Tree::of(alloc, entry)?);
+        return Ok(());
+    };
+    if !place(alloc, tree, &entry)? {
+        *tree = tree.put(alloc, entry)?;
     }
+    Ok(())
 }
 
 /// Puts the pending plan into the tree.
@@ -128,7 +129,7 @@ fn without(
 }
 
 /// Returns the lines of a tree's `count` plans.
-fn lines(alloc: Global, root: &Option<Arc<Tree>>, count: usize) -> Result<Vec<PlanLine>, AllocError>
+fn lines(alloc: Global, root: &Option<Arc<Tree>>, count: usize) -> Result<Vec<PlanRow>, AllocError>
     ensures { IfOk result (λ rows. rows.items ≡ map plan_row (rows_of root.now)) }
 {
     let Some(tree) = root else {

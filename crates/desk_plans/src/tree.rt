@@ -1,18 +1,18 @@
 //! A tree of plans, in the order of their names.
-ghost use Rattle.std.specs.Prelude.{◌≡◌, ◌<◌, ◌++◌, ◌∷◌, [], length, drop, map, IfOk, OnOk, OnErr};
+ghost use Rattle.std.specs.Prelude.{◌≡◌, ◌≤◌, ◌<◌, ◌++◌, ◌∷◌, [], true, false, suc, max, length, drop, map, IfOk, OnOk, OnErr};
 ghost use Rattle.std.specs.Option.{option_copied};
 ghost use Rattle.desk_model.specs.claim.Desk.{name_cmp};
 ghost use Rattle.desk_model.specs.claim.Step.{plan_row};
+ghost use Rattle.desk_plans.specs.Heights.{AreLevel, AreNear, IsAround, IsRaised, IsLowered};
 ghost use Rattle.desk_plans.specs.Rows.{IsPut, IsRemoved, IsFound};
-ghost use Rattle.desk_plans.specs.Tree.{rows_of};
+ghost use Rattle.desk_plans.specs.Tree.{height_of, rows_of, IsPlaced};
 
 use crate::entry::Entry;
 use desk_model::name::PlanName;
-use desk_model::reply::PlanLine;
+use desk_model::reply::PlanRow;
 use std::alloc::{AllocError, Global};
 use std::cmp::Ordering;
 use std::marker::Model;
-use std::mem;
 use std::sync::Arc;
 
 /// A plan, the tree of the plans before it and the tree of those after it. The heights of the two
@@ -27,16 +27,19 @@ pub struct Tree {
 }
 
 impl Model for Tree {
-    ghost use Rattle.std.specs.Prelude.{List, ◌∷◌, ◌++◌, length};
+    ghost use Rattle.std.specs.Prelude.{ℕ, List, ◌∷◌, ◌++◌, length};
+    ghost use Rattle.desk_plans.specs.Heights.{IsBalanced};
     ghost use Rattle.desk_plans.specs.Rows.{Row};
 
-    ghost Value = { List Row };
+    ghost Value = { ℕ × List Row };
 
-    ghost use Rattle.desk_plans.specs.Tree.{rows_of};
+    ghost use Rattle.desk_plans.specs.Tree.{height_of, rows_of};
 
-    ghost view = { λ a. rows_of a.left ++ a.entry.value ∷ rows_of a.right };
+    ghost view = { λ a. (a.height, rows_of a.left ++ a.entry.value ∷ rows_of a.right) };
 
-    ghost size = { length };
+    ghost invariant = { λ a. IsBalanced (height_of a.left) (height_of a.right) a.height };
+
+    ghost size = { λ v. length v.1 };
 
     ghost use Rattle.desk_plans.specs.Falls.{falls};
 
@@ -45,17 +48,36 @@ impl Model for Tree {
 
 /// The height of a tree, 0 of none.
 #[inline(always)]
-fn height(tree: &Option<Arc<Tree>>) -> u8 {
+fn height(tree: &Option<Arc<Tree>>) -> u8
+    ensures { result ≡ height_of tree.now }
+{
     match tree {
-        Some(tree) => tree.height,
+        Some(tree) => {
+            let tree: &Tree = tree;
+            tree.height
+        }
         None => 0,
     }
+}
+
+/// Returns the height of a tree whose sides have these heights. A tree of 256 levels has more plans
+/// than any memory holds: memory for it is refused.
+#[inline(always)]
+fn above(left: u8, right: u8) -> Result<u8, AllocError>
+    ensures { IfOk result (λ high. high ≡ suc (max left right)) }
+{
+    let higher = if left < right { right } else { left };
+    if higher == u8::MAX {
+        return Err(AllocError);
+    }
+    Ok(higher + 1)
 }
 
 /// The same tree.
 #[inline(always)]
 pub fn share(tree: &Option<Arc<Tree>>) -> Result<Option<Arc<Tree>>, AllocError>
-    ensures { IfOk result (λ same. rows_of same ≡ rows_of tree.now) }
+    ensures rows { IfOk result (λ same. rows_of same ≡ rows_of tree.now) }
+    ensures high { IfOk result (λ same. height_of same ≡ height_of tree.now) }
 {
     match tree {
         Some(tree) => Ok(Some(tree.clone()?)),
@@ -95,9 +117,11 @@ fn fork(
     entry: Arc<Entry>,
     right: Option<Arc<Tree>>,
 ) -> Result<Arc<Tree>, AllocError>
-    ensures { IfOk result (λ t. t.value ≡ rows_of left ++ entry.value ∷ rows_of right) }
+    requires { AreLevel (height_of left) (height_of right) }
+    ensures rows { IfOk result (λ t. t.value.1 ≡ rows_of left ++ entry.value ∷ rows_of right) }
+    ensures high { IfOk result (λ t. t.value.0 ≡ suc (max (height_of left) (height_of right))) }
 {
-    let height = height(&left).max(height(&right)).saturating_add(1);
+    let height = above(height(&left), height(&right))?;
     Ok(Arc::new(
         alloc,
         Tree {
@@ -110,7 +134,7 @@ fn fork(
 }
 
 /// Returns the tree of three trees with two plans between them, with the plan of the middle tree at
-/// the top.
+/// the top. The middle tree is one level higher than the others.
 fn around(
     alloc: Global,
     left: Option<Arc<Tree>>,
@@ -119,7 +143,10 @@ fn around(
     second: Arc<Entry>,
     right: Option<Arc<Tree>>,
 ) -> Result<Arc<Tree>, AllocError>
-    ensures { IfOk result (λ t. t.value ≡ rows_of left ++ first.value ∷ (inner.now ++ second.value ∷ rows_of right)) }
+    requires same { height_of left ≡ height_of right }
+    requires above { inner.now.0 ≡ suc (height_of left) }
+    ensures rows { IfOk result (λ t. t.value.1 ≡ rows_of left ++ first.value ∷ (inner.now.1 ++ second.value ∷ rows_of right)) }
+    ensures high { IfOk result (λ t. t.value.0 ≡ suc inner.now.0) }
 {
     let before = fork(alloc, left, first, share(&inner.left)?)?;
     let after = fork(alloc, share(&inner.right)?, second, right)?;
@@ -133,12 +160,15 @@ fn lean_left(
     entry: Arc<Entry>,
     right: Option<Arc<Tree>>,
 ) -> Result<Arc<Tree>, AllocError>
-    ensures { IfOk result (λ t. t.value ≡ left.now ++ entry.value ∷ rows_of right) }
+    requires { left.now.0 ≡ suc (suc (height_of right)) }
+    ensures rows { IfOk result (λ t. t.value.1 ≡ left.now.1 ++ entry.value ∷ rows_of right) }
+    ensures high { IfOk result (λ t. IsAround left.now.0 (height_of right) t.value.0) }
 {
     let outer = share(&left.left)?;
     let middle = same(&left.entry)?;
-    if height(&left.right) > height(&left.left) {
-        if let Some(inner) = &left.right {
+    if let Some(inner) = &left.right {
+        let inner: &Tree = inner;
+        if inner.height > height(&left.left) {
             return around(alloc, outer, middle, inner, entry, right);
         }
     }
@@ -153,12 +183,15 @@ fn lean_right(
     entry: Arc<Entry>,
     right: &Tree,
 ) -> Result<Arc<Tree>, AllocError>
-    ensures { IfOk result (λ t. t.value ≡ rows_of left ++ entry.value ∷ right.now) }
+    requires { right.now.0 ≡ suc (suc (height_of left)) }
+    ensures rows { IfOk result (λ t. t.value.1 ≡ rows_of left ++ entry.value ∷ right.now.1) }
+    ensures high { IfOk result (λ t. IsAround right.now.0 (height_of left) t.value.0) }
 {
     let outer = share(&right.right)?;
     let middle = same(&right.entry)?;
-    if height(&right.left) > height(&right.right) {
-        if let Some(inner) = &right.left {
+    if let Some(inner) = &right.left {
+        let inner: &Tree = inner;
+        if inner.height > height(&right.right) {
             return around(alloc, left, entry, inner, middle, outer);
         }
     }
@@ -173,15 +206,19 @@ fn balanced(
     entry: Arc<Entry>,
     right: Option<Arc<Tree>>,
 ) -> Result<Arc<Tree>, AllocError>
-    ensures { IfOk result (λ t. t.value ≡ rows_of left ++ entry.value ∷ rows_of right) }
+    requires { AreNear (height_of left) (height_of right) }
+    ensures rows { IfOk result (λ t. t.value.1 ≡ rows_of left ++ entry.value ∷ rows_of right) }
+    ensures high { IfOk result (λ t. IsAround (height_of left) (height_of right) t.value.0) }
 {
-    if height(&left) > height(&right).saturating_add(1) {
-        if let Some(higher) = &left {
+    if let Some(higher) = &left {
+        let higher: &Tree = higher;
+        if higher.height as usize > height(&right) as usize + 1 {
             return lean_left(alloc, higher, entry, right);
         }
     }
-    if height(&right) > height(&left).saturating_add(1) {
-        if let Some(higher) = &right {
+    if let Some(higher) = &right {
+        let higher: &Tree = higher;
+        if higher.height as usize > height(&left) as usize + 1 {
             return lean_right(alloc, left, entry, higher);
         }
     }
@@ -194,7 +231,9 @@ fn joined(
     left: &Option<Arc<Tree>>,
     right: &Option<Arc<Tree>>,
 ) -> Result<Option<Arc<Tree>>, AllocError>
-    ensures { IfOk result (λ all. rows_of all ≡ rows_of left.now ++ rows_of right.now) }
+    requires { AreLevel (height_of left.now) (height_of right.now) }
+    ensures rows { IfOk result (λ all. rows_of all ≡ rows_of left.now ++ rows_of right.now) }
+    ensures high { IfOk result (λ all. IsLowered (suc (max (height_of left.now) (height_of right.now))) (height_of all)) }
 {
     match right {
         Some(after) => {
@@ -205,146 +244,75 @@ fn joined(
     }
 }
 
-/// Sets the height of a tree by those of its sides.
-fn measure(tree: &mut Tree)
-    ensures { tree.new ≡ tree.old }
+/// Puts a plan into a tree by new nodes, if the tree keeps its height, and returns whether it did.
+/// A tree whose sides are of one height is left to the tree above it: since its side grew, it would
+/// grow too.
+fn put_over(alloc: Global, tree: &mut Arc<Tree>, entry: &Arc<Entry>) -> Result<bool, AllocError>
+    ensures put { IfOk result (IsPlaced entry.now.value tree.old.value.1 tree.new.value.1) }
+    ensures high { tree.new.value.0 ≡ tree.old.value.0 }
+    ensures kept { OnErr result (tree.new.value ≡ tree.old.value) }
 {
-    tree.height = height(&tree.left)
-        .max(height(&tree.right))
-        .saturating_add(1);
-}
-
-/// Rotates the left subtree to the top, if nobody shares it.
-fn turn_right(tree: &mut Tree)
-    ensures { tree.new ≡ tree.old }
-{
-    let Some(left) = &mut tree.left else {
-        return;
-    };
-    let Some(lower) = Arc::get_mut(left) else {
-        return;
-    };
-    mem::swap(&mut tree.entry, &mut lower.entry);
-    mem::swap(&mut lower.left, &mut lower.right);
-    mem::swap(&mut lower.right, &mut tree.right);
-    measure(lower);
-    mem::swap(&mut tree.left, &mut tree.right);
-    measure(tree);
-}
-
-/// Rotates the right subtree to the top, if nobody shares it.
-fn turn_left(tree: &mut Tree)
-    ensures { tree.new ≡ tree.old }
-{
-    let Some(right) = &mut tree.right else {
-        return;
-    };
-    let Some(lower) = Arc::get_mut(right) else {
-        return;
-    };
-    mem::swap(&mut tree.entry, &mut lower.entry);
-    mem::swap(&mut lower.left, &mut lower.right);
-    mem::swap(&mut lower.left, &mut tree.left);
-    measure(lower);
-    mem::swap(&mut tree.left, &mut tree.right);
-    measure(tree);
-}
-
-/// Levels a tree whose left side is two levels higher.
-fn level_left(tree: &mut Tree)
-    ensures { tree.new ≡ tree.old }
-{
-    if let Some(left) = &mut tree.left {
-        if let Some(own) = Arc::get_mut(left) {
-            if height(&own.right) > height(&own.left) {
-                turn_left(own);
-            }
-        }
+    let old: &Tree = tree;
+    if height(&old.left) == height(&old.right) {
+        return Ok(false);
     }
-    turn_right(tree);
+    let high = old.height;
+    let new = old.put(alloc, same(entry)?)?;
+    let made: &Tree = &new;
+    if made.height != high {
+        return Ok(false);
+    }
+    *tree = new;
+    Ok(true)
 }
 
-/// Levels a tree whose right side is two levels higher.
-fn level_right(tree: &mut Tree)
-    ensures { tree.new ≡ tree.old }
-{
-    if let Some(right) = &mut tree.right {
-        if let Some(own) = Arc::get_mut(right) {
-            if height(&own.left) > height(&own.right) {
-                turn_right(own);
-            }
-        }
-    }
-    turn_left(tree);
-}
-
-/// Balances a tree after the height of one side has changed.
-fn level(tree: &mut Tree, side: u8)
-    ensures { tree.new ≡ tree.old }
-{
-    if side < tree.height {
-        return;
-    }
-    let left = height(&tree.left);
-    let right = height(&tree.right);
-    if left > right.saturating_add(1) {
-        level_left(tree);
-    } else if right > left.saturating_add(1) {
-        level_right(tree);
-    } else {
-        tree.height = side.saturating_add(1);
-    }
-}
-
-/// Puts a plan into a tree, in place of the one with the same name. Nodes that nobody shares are
-/// changed in place; from the first shared node on, new nodes are made.
-pub fn place(alloc: Global, tree: &mut Arc<Tree>, entry: Arc<Entry>) -> Result<(), AllocError>
-    ensures put { OnOk result (IsPut entry.value tree.old.value tree.new.value) }
+/// Puts a plan into a tree, in place of the one with the same name, if the tree keeps its height,
+/// and returns whether it did. Nodes that nobody shares stay down to the lowest one whose side grows
+/// and that keeps its height; from there on, new nodes are made.
+pub fn place(alloc: Global, tree: &mut Arc<Tree>, entry: &Arc<Entry>) -> Result<bool, AllocError>
+    ensures put { IfOk result (IsPlaced entry.now.value tree.old.value.1 tree.new.value.1) }
+    ensures high { tree.new.value.0 ≡ tree.old.value.0 }
     ensures kept { OnErr result (tree.new.value ≡ tree.old.value) }
 {
     let Some(own) = Arc::get_mut(tree) else {
-        *tree = tree.put(alloc, entry)?;
-        return Ok(());
+        return put_over(alloc, tree, entry);
     };
-    match order_of(&entry, &own.entry) {
-        Ordering::Less => match &mut own.left {
-            Some(left) => {
-                place(alloc, left, entry)?;
-                let side = left.height;
-                level(own, side);
+    match order_of(entry, &own.entry) {
+        Ordering::Less => {
+            if let Some(left) = &mut own.left {
+                if place(alloc, left, entry)? {
+                    return Ok(true);
+                }
             }
-            None => {
-                own.left = Some(Tree::of(alloc, entry)?);
-                level(own, 1);
+            put_over(alloc, tree, entry)
+        }
+        Ordering::Greater => {
+            if let Some(right) = &mut own.right {
+                if place(alloc, right, entry)? {
+                    return Ok(true);
+                }
             }
-        },
-        Ordering::Greater => match &mut own.right {
-            Some(right) => {
-                place(alloc, right, entry)?;
-                let side = right.height;
-                level(own, side);
-            }
-            None => {
-                own.right = Some(Tree::of(alloc, entry)?);
-                level(own, 1);
-            }
-        },
-        Ordering::Equal => own.entry = entry,
+            put_over(alloc, tree, entry)
+        }
+        Ordering::Equal => {
+            own.entry = same(entry)?;
+            Ok(true)
+        }
     }
-    Ok(())
 }
 
 impl Tree {
     /// The tree of one plan.
     pub fn of(alloc: Global, entry: Arc<Entry>) -> Result<Arc<Tree>, AllocError>
-        ensures { IfOk result (λ t. t.value ≡ entry.value ∷ []) }
+        ensures rows { IfOk result (λ t. t.value.1 ≡ entry.value ∷ []) }
+        ensures high { IfOk result (λ t. t.value.0 ≡ 1) }
     {
         fork(alloc, None, entry, None)
     }
 
     /// The plan of a name.
     pub fn find(&self, name: &PlanName) -> Option<&Entry>
-        ensures { IsFound name.now self.now (option_copied result) }
+        ensures { IsFound name.now self.now.1 (option_copied result) }
     {
         match order(name, &self.entry) {
             Ordering::Less => match &self.left {
@@ -361,7 +329,8 @@ impl Tree {
 
     /// The tree with a plan more, or with it in the place of the one of its name.
     pub fn put(&self, alloc: Global, entry: Arc<Entry>) -> Result<Arc<Tree>, AllocError>
-        ensures { IfOk result (λ t. IsPut entry.value self.now t.value) }
+        ensures put { IfOk result (λ t. IsPut entry.value self.now.1 t.value.1) }
+        ensures high { IfOk result (λ t. IsRaised self.now.0 t.value.0) }
     {
         match order_of(&entry, &self.entry) {
             Ordering::Less => {
@@ -384,7 +353,7 @@ impl Tree {
 
     /// The first plan.
     fn least(&self) -> Result<Arc<Entry>, AllocError>
-        ensures { IfOk result (λ e. self.now ≡ e.value ∷ drop 1 self.now) }
+        ensures { IfOk result (λ e. self.now.1 ≡ e.value ∷ drop 1 self.now.1) }
     {
         match &self.left {
             Some(left) => left.least(),
@@ -394,8 +363,9 @@ impl Tree {
 
     /// The plans but for the first.
     fn without_least(&self, alloc: Global) -> Result<Option<Arc<Tree>>, AllocError>
-        ensures rest { IfOk result (λ rest. rows_of rest ≡ drop 1 self.now) }
-        ensures some { 0 < length self.now }
+        ensures rest { IfOk result (λ rest. rows_of rest ≡ drop 1 self.now.1) }
+        ensures high { IfOk result (λ rest. IsLowered self.now.0 (height_of rest)) }
+        ensures some { 0 < length self.now.1 }
     {
         match &self.left {
             Some(left) => {
@@ -408,7 +378,8 @@ impl Tree {
 
     /// The plans without the one of a name.
     pub fn remove(&self, alloc: Global, name: &PlanName) -> Result<Option<Arc<Tree>>, AllocError>
-        ensures { IfOk result (λ rest. IsRemoved name.now self.now (rows_of rest)) }
+        ensures removed { IfOk result (λ rest. IsRemoved name.now self.now.1 (rows_of rest)) }
+        ensures high { IfOk result (λ rest. IsLowered self.now.0 (height_of rest)) }
     {
         match order(name, &self.entry) {
             Ordering::Less => {
@@ -430,8 +401,8 @@ impl Tree {
     }
 
     /// Puts the lines of the plans after.
-    pub fn add_rows(&self, rows: &mut Vec<PlanLine>) -> Result<(), AllocError>
-        ensures { OnOk result (rows.new.items ≡ rows.old.items ++ map plan_row self.now) }
+    pub fn add_rows(&self, rows: &mut Vec<PlanRow>) -> Result<(), AllocError>
+        ensures { OnOk result (rows.new.items ≡ rows.old.items ++ map plan_row self.now.1) }
     {
         if let Some(left) = &self.left {
             left.add_rows(rows)?;

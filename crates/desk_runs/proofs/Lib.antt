@@ -6,5 +6,5 @@ mod Stepping
 pub mod Steps
 pub mod SweptRuns
 pub use Rattle.desk_store.proofs as desk_store
-pub use Rattle.desk_store.proofs.store_sweep
+pub use Rattle.desk_store.proofs.plan_revisions_sweeps
 pub use Rattle.desk_migration.proofs as desk_migration

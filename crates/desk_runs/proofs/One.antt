@@ -5,7 +5,8 @@ use Rattle.desk_pages.specs.{claim.Desks.{HoldsDeskOf, OpensDeskOf, OpensDesk, O
 use Rattle.{desk_runs.specs.{Recovery.{ImagesAreOne, Shows, Recovers}, claim.{Lives.IsOpening, Recovery.HoldsEither}}, desk_store.specs.Openings.{DiskRefused, OpenRefused}}
 use Rattle.{desk_store.specs.{claim.{Clerks.desk_of, Keeping.{IsLeft, OpensOneMore}, Openings.device_after}, declared.clerk.Clerk.Clerk}, store_rows.specs.claim.Keys.version}
 use Rattle.{page_store.specs.{claim.Chain.{root_in, free_in}, gate_journal.claim.Store.pages}, sector_device.specs.{claim.Disk.{Disk, Image}, declared.SectorDevice.Ghosts}}
-use Rattle.{store_rows.specs.claim.{Rows.row_in, Tidy.version_row}, page_btree.proofs.MapLaws.one_map, sector_device.proofs.Moments.leaves_wider}
+use Rattle.{store_rows.specs.claim.{Rows.row_in, Tidy.version_row}, sector_device.proofs.Moments.leaves_wider}
+use Rattle.page_btree.proofs.gets.MapLaws.{one_map}
 use Rattle.page_store.proofs.gate_journal.Headers.{same_journal}
 
 -- what pages say of their desk

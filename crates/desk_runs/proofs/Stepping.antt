@@ -1,7 +1,7 @@
 -- A step of a sweep, by what the clerk says of it.
 use Rattle.{std.proofs.Common.{◌≡◌, ◌≤◌, Bool, true, false, rules}, desk_runs.specs.claim.SweptRuns.Tends, desk_store.specs.declared.clerk.Clerk.Clerk}
-use Rattle.desk_store.specs.{claim.Clerks.{desk_of, disk_of, free_of, pages_of, HaltsByDevice, Keeps, Moves}, store_sweep.claim.Checks.AreSoundHoldings}
-use Rattle.{page_btree.specs.claim.Map.InPages as HoldsRows, page_store.specs.claim.Transactions.IsQuiet, sector_device.specs.declared.SectorDevice.Ghosts}
+use Rattle.desk_store.specs.{claim.Clerks.{desk_of, disk_of, free_of, pages_of, HaltsByDevice, Keeps, Moves}, plan_revisions_sweeps.claim.Checks.AreSoundHoldings}
+use Rattle.{page_btree.specs.gets.claim.Map.InPages as HoldsRows, page_store.specs.claim.Transactions.IsQuiet, sector_device.specs.declared.SectorDevice.Ghosts}
 use Rattle.store_rows.specs.claim.Rows.{KeyMap}
 
 module _ {D : Type 0} {g : Ghosts D} where

@@ -7,7 +7,7 @@ use Rattle.desk_store.specs.{claim.Commands.{command_of, after_of, IsExhausted, 
 use Rattle.{desk_store.specs.claim.Keeping.{IsLeft, OpensOneMore}, page_store.specs.{claim.{Chain.free_in, Transactions.IsQuiet}, gate_journal.claim.Store.home}}
 use Rattle.{sector_device.specs.{claim.{Disk.Image, Moments.LeavesOnly}, declared.SectorDevice.Ghosts}, desk_store.proofs.Kept.acceptance_is, page_store.proofs.Chains.either}
 use Rattle.{page_store.proofs.Stops.{leaves_here, leaves_quiet}, sector_device.proofs.Moments.{leaves_more, leaves_now}}
-use Rattle.desk_opening.proofs.plan_rows.Committing.{both}
+use Rattle.desk_opening.proofs.chunk_table.Committing.{both}
 
 -- an accepted command has the step's outcome
 made_may : (must may failed : Type 0) (d : Desk) (c : Command) (e : Desk) → ¬ failed → IsAfter d c e → ¬ must → CommandMay must may failed d c (acceptance c) e

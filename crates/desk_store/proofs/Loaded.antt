@@ -8,8 +8,8 @@ use Rattle.{desk_store.specs.claim.Clerks.{desk_of, disk_of, pages_of, sectors_o
 use Rattle.{geo_tables.specs.{Refusals.{BeginErr, RowsErr}, declared.load.Load.Load}, page_store.specs.{Outcomes.Commits as Fulfils, declared.pages.Pages.Pages}}
 use Rattle.{page_store.specs.claim.Transactions.{disk_in, has_halted, HasFailed, IsQuiet}, sector_device.specs.{claim.Moments.LeavesOnly, declared.SectorDevice.Ghosts}}
 use Rattle.{store_rows.specs.{Changes.desk_with, claim.{DeskRows.{IsDesk, IsPlanAt}, Puts.Row, Rows.KeyMap}}, desk_store.proofs.Done.OneOf}
-use Rattle.desk_store.proofs.Moved.{Left, faulted, with_pages, worked}
-use Rattle.{sector_device.proofs.Moments.leaves_wider, desk_opening.proofs.plan_rows.Committing.both}
+use Rattle.{desk_store.proofs.Moved.{Left, faulted, with_pages, worked}, sector_device.proofs.Moments.leaves_wider}
+use Rattle.desk_opening.proofs.chunk_table.Committing.{both}
 use Rattle.std.specs.FinMap as map_of
 
 -- a desk without geography has no plan

@@ -1,9 +1,9 @@
 -- A command of few rows isn't refused for the depth of a tree of few levels.
 use Rattle.{std.proofs.{Common.{◌<◌, ◌≤◌, ◌+◌, ◌*◌, ℕ, zero, suc, inl, inr, arith}, Math.Nat.min-le_left}, desk_model.specs.claim.Room.{command_rows, need}}
 use Rattle.{desk_model.specs.declared.command.Command.{Command, TheVariants.{Create, Retire}}, desk_store.specs.Depth.{level_of, IsAnsweredFull, IsNeverDeep}}
-use Rattle.{desk_store.specs.{claim.{Clerks.{desk_of, free_of, pages_of, room_of}, Commands.IsExhausted}, declared.clerk.Clerk.Clerk}, page_store.specs.claim.Chain.root_in}
-use Rattle.{page_btree.specs.{claim.Errors.{level_in, reach_at, reach_in}, page_node.claim.Node.count_in}, page_store.specs.claim.Transactions.stored}
-use Rattle.sector_device.specs.{claim.Disk.Image, declared.SectorDevice.Ghosts}
+use Rattle.{desk_store.specs.{claim.{Clerks.{desk_of, free_of, pages_of, room_of}, Commands.IsExhausted}, declared.clerk.Clerk.Clerk}, page_btree.specs.node.claim.Node.count_in}
+use Rattle.{page_btree.specs.gets.claim.Errors.{level_in, reach_at, reach_in}, page_store.specs.claim.{Chain.root_in, Transactions.stored}, sector_device.specs.claim.Disk.Image}
+use Rattle.sector_device.specs.declared.SectorDevice.{Ghosts}
 
 reach_most : (d e : ℕ) → reach_at d e ≤ 50 * d + 51
 reach_most zero e = omega arith

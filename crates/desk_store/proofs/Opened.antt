@@ -1,19 +1,22 @@
 -- What an opening finds.
-use Rattle.{std.proofs.Common.{rules, ◌≡◌, ℕ, Bool, true, false, inl, ⊎_elim, refl, sym, ap, subst, ◌∙◌, arith}, desk_model.specs.claim.Desk.Desk, desk_pages.specs.Desks.InPagesAs}
-use Rattle.{desk_opening.specs.Opening.{HasVersion, IsReadFrom, OpenErr as ReadErr}, desk_pages.specs.Errors.{missing, page_refusal, row_refusal}, desk_store.specs.Finding.FindErr}
-use Rattle.desk_pages.specs.{Openings.{AllDesks, OpensOneOf}, claim.{Desks.{IsMapOf, InPagesOf, InPages, OpensDesk, OpensDeskOf}, Openings.{AllVersions, IsOneOf, OpensOneAs}}}
-use Rattle.{desk_pages.specs.declared.error.StoreError.{StoreError, TheVariants.{NotAStore, DeviceFault, Memory, OldVersion}}, desk_store.specs.declared.clerk.Clerk.Clerk}
-use Rattle.desk_store.{specs.{Openings.{DiskRefused, IsOldStore, IsFound, OpenRefused}, claim.Clerks.{desk_of, disk_of, pages_of, sectors_of, Keeps}}, proofs.Kept.kept_opens}
-use Rattle.{desk_store.specs.claim.Keeping.{IsLeft, OpensOneMore}, page_btree.specs.{claim.Map.{InPages as HasRows, InTxn as TxnHas}, declared.error.TreeError.TreeError}}
-use Rattle.page_store.specs.{Transactions.OpenErr, claim.Transactions.{stored, disk_in, count_of, journal_of, has_halted, IsQuiet, IsKept}, declared.pages.Pages.Pages}
-use Rattle.page_store.specs.{declared.txn.Txn.Txn, gate_journal.{Recovery.{AllStores, HasRoom, Found, ReadsAs}, claim.Store.pages, declared.error.PageError.PageError}}
-use Rattle.{plan_revisions.specs.desk_pages.Reading.ReadErr as RowErr, sector_device.specs.{claim.{Disk.{Disk, Image}, Moments.LeavesOnly}, declared.SectorDevice.Ghosts}}
-use Rattle.{store_rows.specs.claim.{Keys.{version, in_four}, Rows.{KeyMap, row_in, Has, Lacks}, Tidy.version_row}, page_store.proofs.Stops.{kept_quiet, leaves_quiet, passed_none}}
+use Rattle.{std.{specs.Prelude.◌⊎◌, proofs.Common.{rules, ◌≡◌, ℕ, Bool, true, false, inl, ⊎_elim, refl, sym, ap, subst, ◌∙◌, arith}}, desk_model.specs.claim.Desk.Desk}
+use Rattle.{desk_opening.specs.{Held.{AreOld, GoesOn, HeldErr, IsHeld}, Opening.{HasVersion, IsReadFrom, OpenErr as ReadErr}}, desk_pages.specs.Desks.InPagesAs}
+use Rattle.desk_pages.specs.{Errors.{missing, page_refusal, row_refusal}, Openings.{AllDesks, OpensOneOf}, claim.Openings.{AllVersions, IsOneOf, OpensOneAs}}
+use Rattle.desk_pages.specs.{claim.Desks.{HoldsDeskOf, IsMapOf, InPagesOf, InPages, OpensDesk, OpensDeskOf}, declared.error.StoreError.StoreError}
+use Rattle.{desk_pages.specs.declared.error.StoreError.TheVariants.{NotAStore, DeviceFault, Memory, OldVersion}, desk_store.specs.Finding.{FindErr, OldErr}}
+use Rattle.desk_store.specs.{Openings.{DiskRefused, IsOldStore, IsFound, OpenRefused}, claim.Clerks.{desk_of, disk_of, pages_of, sectors_of, Keeps}, declared.clerk.Clerk.Clerk}
+use Rattle.{desk_store.specs.claim.Keeping.{IsLeft, OpensOneMore}, page_btree.specs.gets.{claim.Map.{InPages as HasRows, InTxn as TxnHas}, declared.error.TreeError.TreeError}}
+use Rattle.page_store.specs.{Transactions.OpenErr, claim.{Chain.{root_in, free_in}, Transactions.{stored, disk_in, count_of, journal_of, has_halted, IsQuiet, IsKept, Passed}}}
+use Rattle.page_store.specs.{declared.{pages.Pages.Pages, txn.Txn.Txn}, gate_journal.{Recovery.{AllStores, HasRoom, Found, ReadsAs}, claim.Store.pages}}
+use Rattle.{page_store.specs.gate_journal.declared.error.PageError.PageError, plan_revisions.specs.desk_pages.Reading.ReadErr as RowErr, store_rows.specs.claim.Tidy.version_row}
+use Rattle.{sector_device.specs.{claim.{Disk.{Disk, Image}, Moments.LeavesOnly}, declared.SectorDevice.Ghosts}, store_rows.specs.claim.Keys.{version, in_four}}
+use Rattle.{store_rows.specs.claim.Rows.{KeyMap, row_in, Has, Lacks}, desk_opening.proofs.WholeDesks.unread_unopened, desk_store.proofs.Kept.kept_opens}
 use Rattle.desk_pages.proofs.Found.{all_versions, stores_of, open_leaves, open_versions, page_stores_of, found_desk, found_after, pages_left, rows_before}
-use Rattle.{desk_store.proofs.Prepared.{IsBegun, begun_reads, begun_rows, still_held}, store_rows.proofs.OneGeography.no_value}
-use Rattle.desk_opening.proofs.{WholeDesks.unread_unopened, plan_rows.Committing.both}
+use Rattle.{desk_store.proofs.Prepared.{IsBegun, begun_reads, begun_rows, still_held}, page_store.proofs.Stops.{kept_quiet, leaves_quiet, passed_none}}
+use Rattle.store_rows.proofs.OneGeography.{no_value}
+use Rattle.desk_opening.proofs.chunk_table.Committing.{both}
 use Rattle.page_store.specs.gate_journal.declared.error.PageError.TheVariants as page
-use Rattle.page_btree.specs.declared.error.TreeError.TheVariants as tree
+use Rattle.page_btree.specs.gets.declared.error.TreeError.TheVariants as tree
 
 pub page_refused : {D : Type 0} (h : Ghosts D) (old new : D) (e : PageError) → OpenErr h old new e → OpenRefused h old new (page_refusal e)
 page_refused h old new page.NotAStore why = λ honest all. why honest (page_stores_of (h.disk old) all)
@@ -99,20 +102,18 @@ module _ {D : Type 0} {g : Ghosts D} where
 
   -- the rows of pages that were found, which tell no version
   old_left : (old : Disk) (a b : Pages D g) → HasRoom old.sectors (journal_of a) (count_of a) → ((disk_in a).is_honest → Found (journal_of a) (count_of a) old (disk_in a)) → IsQuiet a b
-      → ((disk_in b).is_honest → (m : KeyMap) → HasRows a m → Lacks m version) → (disk_in b).is_honest → IsOldStore old (disk_in b) × (AllDesks old → ⊥)
-  old_left old a b room found quiet none honest = (
-    record {
-      J = journal_of b;
-      n = count_of b;
-      found = found_after old a b found quiet honest;
-      none = λ m holds. search (rules, found_after old a b found quiet honest);
-    },
-    λ all.
-        let was = found (quiet.honest honest) in
-        let is = all was.was was.left in
-        let holds : InPages a is.0 = found_desk old a was room (true, is.0) is.1 in
-        no_value (in_four 2) (sym (new_tells holds.m is.0 holds.is) ∙ none honest holds.m holds.holds),
-  )
+      → ((disk_in b).is_honest → AreOld (count_of a) (stored a)) → (disk_in b).is_honest → IsOldStore old (disk_in b) × (AllDesks old → ⊥)
+  old_left old a b room found quiet is_old honest =
+      let it = found_after old a b found quiet honest in
+      let counted : AreOld (count_of b) (stored a) = subst (λ (n : ℕ). AreOld n (stored a)) (sym quiet.count) (is_old honest) in
+      let here : AreOld (count_of b) (stored b) = subst (AreOld (count_of b)) (sym (quiet.same honest)) counted in (
+        record { J = journal_of b; n = count_of b; found = it; rows = subst (AreOld (count_of b)) it.same here },
+        λ all.
+            let was = found (quiet.honest honest) in
+            let is = all was.was was.left in
+            let holds : InPages a is.0 = found_desk old a was room (true, is.0) is.1 in
+            no_value (in_four 2) (sym (new_tells holds.m is.0 holds.is) ∙ (is_old honest).none holds.m holds.holds),
+      )
 
   pub find_refused : (device : D) (a b : Pages D g) (e : StoreError) → HasRoom (g.disk device).sectors (journal_of a) (count_of a) → ((disk_in a).is_honest → Found (journal_of a) (count_of a) (g.disk device) (disk_in a)) → has_halted a ≡ false
       → ((disk_in a).is_honest → (disk_in a).faults ≡ (g.disk device).faults) → IsQuiet a b → FindErr a b e → DiskRefused (g.disk device) (disk_in b) e
@@ -134,6 +135,32 @@ module _ {D : Type 0} {g : Ghosts D} where
   none_read a b t tree.Memory true begun quiet is working why = sym is
   none_read a b t tree.Memory false begun quiet is working why = tt
   none_read a b t _ halted begun quiet is working why = search (rules, both)
+
+  -- why no rows are found
+  pub none_held : (a b : Pages D g) (e : TreeError) (halted : Bool) → halted ≡ has_halted b → has_halted a ≡ false → HeldErr a b e → OldErr a b (row_refusal e halted)
+  none_held a b e true is working why = sym is
+  none_held a b tree.NotAStore false is working why = λ honest x holds. why honest (holds.m, holds.holds)
+  none_held a b tree.Memory false is working why = tt
+  none_held a b tree.DeviceFault false is working why = absurd (both (has_halted b) why.halted (sym is))
+  none_held a b tree.Halted false is working why = absurd (both (has_halted a) why working)
+  none_held a b _ false is working why = absurd why
+
+  -- nor what is told after it of pages whose rows tell no version
+  pub old_refused : (a b c : Pages D g) (t : Txn) (e : StoreError) → IsBegun a t → Passed a b → IsQuiet b c → ((disk_in b).is_honest → (m : KeyMap) → TxnHas t (stored a) m → Lacks m version) → OldErr b c e → FindErr a c e
+  old_refused a b c t OldVersion begun passed quiet none why = λ honest.
+      let was = quiet.honest honest in
+      let counted : IsHeld (count_of a) (stored b) ⊎ GoesOn (stored b) = subst (λ (n : ℕ). IsHeld n (stored b) ⊎ GoesOn (stored b)) passed.quiet.count (why honest) in
+      record {
+        there = subst (λ (P : Image). IsHeld (count_of a) P ⊎ GoesOn P) (passed.quiet.same was) counted;
+        none = λ m holds. none was m (rows_begun a b t m begun passed.quiet was holds);
+      }
+  old_refused a b c t NotAStore begun passed quiet none why = λ honest x holds.
+      let was = quiet.honest honest in
+      let counted = subst (λ (n : ℕ). HoldsDeskOf x.0 n (stored a) (root_in (stored a)) (free_in (stored a)) x.1) (sym passed.quiet.count) holds in
+      why honest x (subst (λ (P : Image). HoldsDeskOf x.0 (count_of b) P (root_in P) (free_in P) x.1) (sym (passed.quiet.same was)) counted)
+  old_refused a b c t DeviceFault begun passed quiet none why = why
+  old_refused a b c t Memory begun passed quiet none why = tt
+  old_refused a b c t _ begun passed quiet none why = absurd why
 
   -- nor is a version told
   pub version_unread : (a b : Pages D g) (t : Txn) (e : TreeError) (halted : Bool) → IsBegun a t → IsQuiet a b → halted ≡ has_halted b → has_halted a ≡ false → RowErr HasVersion t a b e → FindErr a b (row_refusal e halted)

@@ -3,14 +3,15 @@ use Rattle.{std.proofs.Common.{rules, ◌≡◌, ◌⊎◌, ◌≤◌, ◌+◌, 
 use Rattle.{desk_catalogue.specs.claim.Accepting.IsAfter, desk_model.specs.{claim.{Outcome.{IsFull, RefusalMay}, Room.{need, command_rows}}, declared.command.Command.Command}}
 use Rattle.{desk_pages.specs.claim.{Commits.HoldsAfter, Desks.{HoldsDeskOf, InPages, InPagesOf, InTxn, InTxnOf}}, desk_store.specs.Faults.{is_fault, refusal_of}}
 use Rattle.desk_store.specs.claim.{Clerks.{desk_of, disk_of, pages_of, room_of, Keeps, Reads}, Commands.{command_of, after_of, written_of, IsReady, HasRoom, MustBeFull, MayBeFull}}
-use Rattle.{desk_store.{specs.declared.{clerk.Clerk.Clerk, ready.Ready.Ready}, proofs.Kept.accepted_is}, page_btree.specs.claim.Map.{InTxn as TxnHas, InPages as HoldsRows}}
-use Rattle.{page_btree.specs.declared.error.TreeError.{TreeError, TheVariants.{DeviceFault, NotAStore, Halted, NoPages, TooDeep, Memory}}, page_store.specs.Transactions.txn_first}
-use Rattle.{page_store.specs.{claim.Chain.{free_in, root_in}, declared.{pages.Pages.Pages, txn.{Prepared.Prepared, Txn.Txn}}}, plan_revisions.specs.claim.Rows.HasNumbers}
+use Rattle.{desk_store.{specs.declared.{clerk.Clerk.Clerk, ready.Ready.Ready}, proofs.Kept.accepted_is}, page_btree.specs.gets.claim.Map.{InTxn as TxnHas, InPages as HoldsRows}}
+use Rattle.{page_btree.specs.gets.declared.error.TreeError.{TreeError, TheVariants.{DeviceFault, NotAStore, Halted, NoPages, TooDeep, Memory}}, store_rows.specs.claim.Rows.KeyMap}
+use Rattle.page_store.{specs.{Transactions.txn_first, claim.Chain.{free_in, root_in}, declared.{pages.Pages.Pages, txn.{Prepared.Prepared, Txn.Txn}}}, proofs.Chains.length_chain}
 use Rattle.page_store.specs.claim.Transactions.{stored, disk_in, count_of, has_halted, txn_pages, txn_writes, txn_free, txn_root, over, free_over, prepared_pages, prepared_writes, after, IsQuiet}
-use Rattle.{plan_revisions.specs.{claim.Steps.{HasStepped, LeavesNumbers, StepErr}, plan_rows.claim.Outcomes.HasExhausted}, sector_device.specs.claim.Disk.Image}
-use Rattle.{sector_device.specs.declared.SectorDevice.Ghosts, store_rows.specs.claim.Rows.KeyMap, desk_pages.proofs.{DeskLaws.begun_desk, Found.rows_before, Nearness.near_stored}}
-use Rattle.{page_btree.proofs.MapLaws.begun_holds, page_store.proofs.Chains.length_chain}
-use Rattle.{desk_opening.proofs.plan_rows.Committing.both, plan_revisions.proofs.Accepted.{rows_some, geography_stays}}
+use Rattle.{plan_revisions.specs.claim.{Outcomes.HasExhausted, Rows.HasNumbers, Steps.{HasStepped, LeavesNumbers, StepErr}}, sector_device.specs.claim.Disk.Image}
+use Rattle.{sector_device.specs.declared.SectorDevice.Ghosts, desk_pages.proofs.{DeskLaws.begun_desk, Found.rows_before, Nearness.near_stored}}
+use Rattle.plan_revisions.proofs.Accepted.{rows_some, geography_stays}
+use Rattle.page_btree.proofs.gets.MapLaws.{begun_holds}
+use Rattle.desk_opening.proofs.chunk_table.Committing.{both}
 
 -- the pages of a prepared transaction, which read what the one before reads with the command's rows
 pub record IsReadied (t : Txn) (made : Prepared) : Type 0 where

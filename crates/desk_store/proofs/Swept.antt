@@ -4,12 +4,12 @@ use Rattle.{desk_model.specs.claim.{Desk.Desk, Geography.GeographyModel}, desk_p
 use Rattle.{desk_pages.specs.declared.error.StoreError.TheVariants.{Memory, NotAStore, Halted}, desk_store.specs.{Calls.SweepsSome, Failures.is_failure, Loads.{Stages, IsLast}}}
 use Rattle.desk_store.specs.{Sweeps.{HasRows, HasSwept, Maintains, SweepRefused}, claim.Clerks.{desk_of, disk_of, free_of, pages_of, HaltsByDevice, Keeps, Reads, Moves}}
 use Rattle.{desk_store.specs.declared.clerk.Clerk.Clerk, geo_tables.specs.{Loading.{HoldsLoad, number_of, geography_model_of, done_of}, declared.load.Load.Load}}
-use Rattle.{page_btree.specs.claim.Map.InPages as HoldsRows, page_store.specs.{claim.Transactions.{disk_in, has_halted, IsQuiet}, declared.pages.Pages.Pages}}
-use Rattle.{sector_device.specs.declared.SectorDevice.Ghosts, store_rows.specs.{Holders.released, Rows.SameTag, claim.{GeographyRows.IsStaged, Rows.{KeyMap, row_in}}}}
-use Rattle.{store_rows.specs.TurnLaws.{Turn, goes, lets_go, IsUnneeded, CanTurn, turned, take_turns, AreTurns}, store_sweep.specs.Sweeping.{SweepErr, Sweeps}}
-use Rattle.{store_rows.specs.claim.Keys.{RowKey, key_of, Fits, begun, seal, block, pair, in_eight}, store_sweep.specs.Leftovers.{IsOfLoad, IsApart, AreNotSpared, IsSweptBy}}
-use Rattle.{desk_store.proofs.Done.{quiet_device, reads_move}, store_rows.proofs.{Frames.{remove_keeps, put_keeps_tag, remove_keeps_tag, tag_follows}, RowLaws.keys_differ}}
-use Rattle.desk_opening.proofs.plan_rows.Committing.{both, quiet_rows}
+use Rattle.{page_btree.specs.gets.claim.Map.InPages as HoldsRows, page_store.specs.{claim.Transactions.{disk_in, has_halted, IsQuiet}, declared.pages.Pages.Pages}}
+use Rattle.{plan_revisions.specs.sweeps.{Leftovers.{IsOfLoad, IsApart, AreNotSpared, IsSweptBy}, Sweeping.{SweepErr, Sweeps}}, sector_device.specs.declared.SectorDevice.Ghosts}
+use Rattle.store_rows.specs.{Holders.released, Rows.SameTag, TurnLaws.{Turn, goes, lets_go, IsUnneeded, CanTurn, turned, take_turns, AreTurns}, claim.GeographyRows.IsStaged}
+use Rattle.{store_rows.specs.claim.{Keys.{RowKey, key_of, Fits, begun, seal, block, pair, in_eight}, Rows.{KeyMap, row_in}}, desk_store.proofs.Done.{quiet_device, reads_move}}
+use Rattle.store_rows.proofs.{Frames.{remove_keeps, put_keeps_tag, remove_keeps_tag, tag_follows}, RowLaws.keys_differ}
+use Rattle.desk_opening.proofs.chunk_table.Committing.{both, quiet_rows}
 
 -- ---- turns leave the rows of a load
 -- a plan that lets a chunk go leaves the rows with other tags

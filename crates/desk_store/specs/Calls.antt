@@ -4,9 +4,9 @@ use Rattle.desk_pages.specs.{Openings.{IsSpared, LeavesOneOf}, claim.Openings.{A
 use Rattle.{desk_pages.specs.declared.error.StoreError.TheVariants.{DeviceFault, NotAStore}, desk_store.specs.{Keeping.sealed_desk, Openings.{IsFound, OpenRefused}}}
 use Rattle.desk_store.specs.{Loads.{Loads, Stages, IsLast, BatchRefused, SealRefused}, Sweeps.{HasRows, IsClean, HasSwept, Maintains}, claim.Openings.device_after}
 use Rattle.desk_store.specs.{claim.Clerks.{desk_of, disk_of, is_halted, sectors_of, Keeps, pages_of, MovesIf, free_of, HaltsByDevice}, declared.clerk.Clerk.Clerk}
-use Rattle.{geo_tables.specs.{Loading.{IsFurther, geography_model_of, done_of}, declared.load.Load.Load}, page_btree.specs.claim.Map.InPages as HoldsRows}
-use Rattle.{page_store.specs.claim.Transactions.IsQuiet, sector_device.specs.declared.SectorDevice.Ghosts, store_rows.specs.claim.{GeographyRows.geography_rows, Rows.KeyMap}}
-use Rattle.store_sweep.specs.claim.Checks.{AreSoundHoldings}
+use Rattle.{geo_tables.specs.{Loading.{IsFurther, geography_model_of, done_of}, declared.load.Load.Load}, page_btree.specs.gets.claim.Map.InPages as HoldsRows}
+use Rattle.{page_store.specs.claim.Transactions.IsQuiet, plan_revisions.specs.sweeps.claim.Checks.AreSoundHoldings, sector_device.specs.declared.SectorDevice.Ghosts}
+use Rattle.store_rows.specs.claim.{GeographyRows.geography_rows, Rows.KeyMap}
 
 -- a clerk is opened over a desk that the device holds, or the device comes back; a stop leaves a desk that was there
 pub record OpensClerk {D : Type 0} (g : Ghosts D) (device : D) (result : Result (Clerk D g) (StoreError × D)) : Type 0 where

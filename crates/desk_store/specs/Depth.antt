@@ -2,7 +2,7 @@
 use Rattle.std.specs.Prelude.{◌≤◌, ◌<◌, ◌+◌, ◌*◌, ℕ, List}
 use Rattle.desk_model.specs.{claim.Room.{command_rows, need}, declared.{command.Command.{Command, TheVariants.{Create, Retire}}, kind.Kind.Kind, reply.Refusal.TheVariants.Full}}
 use Rattle.{desk_model.specs.declared.reply.Reply.TheVariants.Refused, desk_store.specs.claim.Clerks.{desk_of, disk_of, pages_of, free_of, room_of, Keeps}}
-use Rattle.{desk_store.specs.{claim.Commands.{Does, IsExhausted}, declared.clerk.Clerk.Clerk}, page_btree.specs.claim.Errors.level_in, page_store.specs.claim.Chain.root_in}
+use Rattle.{desk_store.specs.{claim.Commands.{Does, IsExhausted}, declared.clerk.Clerk.Clerk}, page_btree.specs.gets.claim.Errors.level_in, page_store.specs.claim.Chain.root_in}
 use Rattle.{page_store.specs.claim.Transactions.stored, sector_device.specs.declared.SectorDevice.Ghosts}
 
 module _ {D : Type 0} {g : Ghosts D} where

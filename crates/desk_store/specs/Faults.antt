@@ -1,6 +1,6 @@
 -- What a clerk tells of a transaction that came to nothing.
-use Rattle.{std.specs.Prelude.{Bool, true, false}, desk_model.specs.declared.reply.Refusal.Refusal, page_btree.specs.declared.error.TreeError.TreeError}
-use Rattle.page_btree.specs.declared.error.TreeError.TheVariants.{DeviceFault, NotAStore, Halted, NoPages, TooDeep, Memory}
+use Rattle.{std.specs.Prelude.{Bool, true, false}, desk_model.specs.declared.reply.Refusal.Refusal, page_btree.specs.gets.declared.error.TreeError.TreeError}
+use Rattle.page_btree.specs.gets.declared.error.TreeError.TheVariants.{DeviceFault, NotAStore, Halted, NoPages, TooDeep, Memory}
 use Rattle.desk_model.specs.declared.reply.Refusal.TheVariants as refusal
 
 -- the device failed, or the rows are none that a desk has

@@ -11,5 +11,5 @@ pub mod Openings
 pub mod Calls
 pub mod Depth
 pub use Rattle.geo_tables.specs as geo_tables
-pub use Rattle.store_sweep.specs as store_sweep
+pub use Rattle.plan_revisions.specs.sweeps as plan_revisions_sweeps
 pub use Rattle.desk_opening.specs as desk_opening

@@ -1,17 +1,18 @@
 -- What no promise rests on, beside claim/Openings.antt.
 use Rattle.std.specs.Prelude.{◌≡◌, ◌<◌, ℕ}
-use Rattle.{desk_model.specs.claim.Desk.Desk, desk_opening.specs.Opening.IsReadFrom, desk_pages.specs.{Openings.{AllDesks, HasPages}, claim.{Desks.InPages, Openings.AllVersions}}}
-use Rattle.{desk_pages.specs.declared.error.StoreError.{StoreError, TheVariants.{NotAStore, DeviceFault, Memory, OldVersion}}, desk_store.specs.declared.clerk.Clerk.Clerk}
-use Rattle.{desk_store.specs.claim.Clerks.{desk_of, disk_of, pages_of}, page_btree.specs.claim.Map.{Holds, InPages as HasRows}, page_store.specs.claim.Chain.{root_in, free_in}}
+use Rattle.{desk_model.specs.claim.Desk.Desk, desk_opening.specs.{Held.AreOld, Opening.IsReadFrom}, desk_pages.specs.{Openings.{AllDesks, HasPages}, claim.Desks.InPages}}
+use Rattle.desk_pages.specs.{claim.Openings.AllVersions, declared.error.StoreError.{StoreError, TheVariants.{NotAStore, DeviceFault, Memory, OldVersion}}}
+use Rattle.{desk_store.specs.{claim.Clerks.{desk_of, disk_of, pages_of}, declared.clerk.Clerk.Clerk}, page_btree.specs.gets.claim.Map.InPages as HasRows}
 use Rattle.{page_store.specs.{claim.Transactions.{count_of, journal_of}, gate_journal.{Recovery.Found, claim.Store.pages}}, sector_device.specs.claim.Disk.Disk}
-use Rattle.{sector_device.specs.declared.SectorDevice.Ghosts, store_rows.specs.claim.{Keys.{version, in_four}, Rows.{KeyMap, Has, Lacks}}}
+use Rattle.{sector_device.specs.declared.SectorDevice.Ghosts, store_rows.specs.claim.{Keys.{version, in_four}, Rows.{KeyMap, Has}}}
 
--- the pages of a store that was there, as they were, whose rows tell no version
+-- The pages of a store that was there, as they were. They hold rows, or their list of free pages goes on where it is to end; and the
+-- rows that they hold tell no version.
 pub record IsOldStore (old new : Disk) : Type 0 where
   pub J : ℕ
   pub n : ℕ
   pub found : Found J n old new
-  pub none : (m : KeyMap) → Holds n (pages J found.was) (root_in (pages J found.was)) (free_in (pages J found.was)) m → Lacks m version
+  pub rows : AreOld n (pages J found.was)
 
 -- The clerk's pages are those of a store that was there, their rows tell the new version, and the desk that they hold is the one that is
 -- shown. Of rows that are no desk's, what is shown is read from them.

@@ -24,7 +24,7 @@
 //!   stored tree has at most five.
 //! - A commit takes no memory and succeeds unless the device fails.
 //! - `Clerk::ask` returns the desk's answer.
-//! - `begin_load`, `load_batch`, `seal` and `sweep_step` do what geo_tables and store_sweep
+//! - `begin_load`, `load_batch`, `seal` and `sweep_step` do what geo_tables and plan_revisions
 //!   promise.
 //! - `Clerk::open`: at every moment, each crash state opens to a desk to which one opened before,
 //!   and after success the clerk keeps one of these (`any_moment`, `opened`; their premise is
@@ -55,5 +55,5 @@ pub use desk_catalogue::catalogue::Catalogue;
 pub use desk_opening::{is_new, read_desk};
 pub use desk_pages::{StoreError, format};
 pub use geo_tables::{BATCH_ROWS, Load, geography};
+pub use plan_revisions::check_holdings;
 pub use ready::Ready;
-pub use store_sweep::check_holdings;

@@ -1,24 +1,38 @@
 //! Opens the desk of a store.
 ghost use Rattle.std.specs.Prelude.{◌≡◌, Bool, false, OnOk, IfOk, IfErr};
-ghost use Rattle.page_store.specs.claim.Transactions.{disk_in, has_halted};
+ghost use Rattle.page_store.specs.claim.Transactions.{disk_in, has_halted, IsQuiet};
 ghost use Rattle.page_store.specs.Reading.{ReadsOnly};
 ghost use Rattle.desk_model.specs.claim.Desk.{Desk};
-ghost use Rattle.page_btree.specs.claim.Map.{InPages as HasRows};
+ghost use Rattle.page_btree.specs.gets.claim.Map.{InPages as HasRows};
 ghost use Rattle.store_rows.specs.claim.Keys.{version, in_four};
 ghost use Rattle.store_rows.specs.claim.Rows.{KeyMap, Has};
 ghost use Rattle.desk_opening.specs.Opening.{IsReadFrom};
 ghost use Rattle.desk_pages.specs.Desks.{InPagesAs};
 ghost use Rattle.desk_pages.specs.Errors.{IsCalm};
-ghost use Rattle.desk_store.specs.Finding.{FindErr};
+ghost use Rattle.desk_store.specs.Finding.{FindErr, OldErr};
 
 use crate::clerk::Clerk;
 use desk_catalogue::catalogue::Catalogue;
-use desk_opening::{is_new, read_desk};
+use desk_opening::{check_held, is_new, read_desk};
 use desk_pages::{StoreError, row_error};
 use page_store::Pages;
 use sector_device::SectorDevice;
 use std::alloc::Global;
 use std::sync::Arc;
+
+/// Returns why pages whose rows tell no version are refused: `OldVersion` only if they hold rows.
+#[tactic(auto, using(crate::proofs::Opened::none_held, desk_pages::proofs::Refusals::calm_told))]
+fn refusal_of_old<D: SectorDevice>(alloc: Global, pages: &mut Pages<D>) -> StoreError
+    requires working { has_halted pages.old ≡ false }
+    ensures quiet { IsQuiet pages.old pages.new }
+    ensures why { OldErr pages.old pages.new result }
+    ensures calm { IsCalm pages.new result }
+{
+    match check_held(alloc, pages) {
+        Ok(()) => StoreError::OldVersion,
+        Err(e) => row_error(e, pages.is_halted()),
+    }
+}
 
 /// Reads the desk that pages hold in the new version, to be shown.
 fn read_shown<D: SectorDevice>(
@@ -35,7 +49,7 @@ fn read_shown<D: SectorDevice>(
     let txn = pages.begin(alloc);
     match is_new(&txn, pages) {
         Ok(true) => {}
-        Ok(false) => return Err(StoreError::OldVersion),
+        Ok(false) => return Err(refusal_of_old(alloc, pages)),
         Err(e) => return Err(row_error(e, pages.is_halted())),
     }
     let catalogue = match read_desk(alloc, &txn, pages) {
@@ -57,7 +71,8 @@ impl<D: SectorDevice> Clerk<D> {
     /// Opens the desk on a device: completes or drops a commit that a crash cut short, and reads
     /// the desk. At any moment a crash leaves a desk that was there at the start, in its version. A
     /// refusal returns the device with its pages as they were; what is no store stays as it is.
-    /// `Memory` comes only of a store, and `OldVersion` of one whose rows have no version.
+    /// `Memory` comes only of a store, and `OldVersion` of one that holds rows, none of which tells a
+    /// version. Then each page is read, and a byte of memory is taken for each.
     pub fn open(alloc: Global, device: D) -> Result<Clerk<D>, (StoreError, D)>
         ensures { OpensClerk D.SectorDevice device result }
     {

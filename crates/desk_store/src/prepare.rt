@@ -4,7 +4,7 @@ ghost use Rattle.desk_model.specs.Ranges.{ranges_in};
 ghost use Rattle.desk_model.specs.claim.Room.{command_rows as rows_of_command};
 ghost use Rattle.desk_catalogue.specs.claim.Accepting.{IsAfter};
 ghost use Rattle.desk_catalogue.specs.Drafts.{changes_of};
-ghost use Rattle.page_btree.specs.declared.error.TreeError.TheVariants.{DeviceFault, Halted};
+ghost use Rattle.page_btree.specs.gets.declared.error.TreeError.TheVariants.{DeviceFault, Halted};
 ghost use Rattle.desk_store.specs.claim.Clerks.{desk_of, disk_of, Reads};
 ghost use Rattle.desk_store.specs.claim.Commands.{command_of, IsReady, HasRoom, LacksRoom, MustBeFull, PrepareErr, Does};
 ghost use Rattle.desk_store.specs.Faults.{is_fault as is_fault_of, refusal_of as refusal_of_error};

@@ -33,7 +33,7 @@ impl<D: SectorDevice> Clerk<D> {
             return Err(StoreError::Halted);
         }
         let running = in_range(self.loading);
-        match store_sweep::sweep_step(alloc, &mut self.pages, running) {
+        match plan_revisions::sweep_step(alloc, &mut self.pages, running) {
             Ok(count) => Ok(count),
             Err(e) => {
                 if has_failed(e, &self.pages) {
@@ -54,7 +54,7 @@ impl<D: SectorDevice> Clerk<D> {
         if self.halted {
             return Err(StoreError::Halted);
         }
-        match store_sweep::check_holders(alloc, &mut self.pages) {
+        match plan_revisions::check_holders(alloc, &mut self.pages) {
             Ok(()) => Ok(()),
             Err(e) => {
                 if has_failed(e, &self.pages) {

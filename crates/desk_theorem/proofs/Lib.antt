@@ -10,4 +10,8 @@ pub mod Device
 mod Lives
 pub mod Asked
 pub mod Looked
+mod Calling
+mod Core
+mod Weaving
+mod Worlds
 pub use Rattle.store_lives.proofs as store_lives

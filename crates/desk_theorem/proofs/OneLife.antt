@@ -2,10 +2,10 @@
 use Rattle.{std.proofs.{Common.{◌≡◌, ℕ, List, [], All, Result}, lemmas.List.Elements.All-nil}, desk_model.specs.claim.Desk.Desk, desk_theorem.specs.claim.Exchanges.exchanges_in}
 use Rattle.{desk_pages.specs.declared.error.StoreError.StoreError, desk_theorem.specs.claim.{Offices.{Answered, Officed}, Streams.{Ends, Streamed, working}}}
 use Rattle.{desk_theorem.specs.claim.Clauses.{Account, Clauses, ShowsAcknowledged, nothing, of_calls, of_exchanges, of_requests}, http_connections.specs.declared.ran.Ran.Ran}
-use Rattle.{desk_theorem.specs.claim.OneLife.{RequestsHold, StreamHolds, OfficeHolds, ClosedHolds, UnopenedHolds, LedHolds}, http_desk.specs.declared.serve.Served.Served}
-use Rattle.{http_desk.specs.declared.serve.StreamFault.StreamFault, http_seats.specs.claim.Streams.{Traffic, Worker}, store_lives.specs.claim.DeskLives.Lived}
-use Rattle.{store_lives.specs.{claim.Versions.{Leads, MayBar, Store}, declared.{desk_lives.{Answer.Answer, Request.Request}, leading.Led.Led}}, desk_theorem.proofs.Requests.lasts}
-use Rattle.desk_theorem.proofs.{Audits.lived_audits, Readers.shows_acknowledged, Refused.lived_without, StreamAsked.stream_asked}
+use Rattle.{desk_theorem.specs.claim.OneLife.{RequestsHold, StreamHolds, OfficeHolds, ClosedHolds, UnopenedHolds, ReadHolds, LedHolds}, store_lives.specs.claim.DeskLives.Lived}
+use Rattle.{http_desk.specs.declared.serve.{ServeFault.ServeFault, Served.Served}, http_seats.specs.claim.Streams.{Traffic, Worker}, store_lives.specs.declared.leading.Led.Led}
+use Rattle.{store_lives.specs.{claim.Versions.{Leads, MayBar, Store}, declared.desk_lives.{Answer.Answer, Request.Request}}, desk_theorem.proofs.Audits.lived_audits}
+use Rattle.desk_theorem.proofs.{Readers.shows_acknowledged, Refused.lived_without, Requests.lasts, StreamAsked.stream_asked}
 
 none_shown : (life : Account) → All (λ w. ShowsAcknowledged life w) []
 none_shown life = All-nil (λ (w : Worker). ShowsAcknowledged life w)
@@ -25,7 +25,7 @@ nothing_came t u d e same = clauses_of t u d nothing e same (none_shown nothing)
 pub requests_hold : (asked : List Request) (told : List Answer) (t u : ℕ) (d e : Desk) → Lived t u d asked told e → RequestsHold asked told t u d e
 requests_hold asked told t u d e is = record { told_so = is; clauses = clauses_of t u d (of_requests asked told) e is (none_shown (of_requests asked told)) }
 
-pub stream_holds : (old new : Ends) (served : Result Served StreamFault) (t u : ℕ) (d e : Desk) → Streamed t u d old new served e → StreamHolds old new served t u d e
+pub stream_holds : (old new : Ends) (served : Result Served ServeFault) (t u : ℕ) (d e : Desk) → Streamed t u d old new served e → StreamHolds old new served t u d e
 stream_holds old new served t u d e is =
     let all = exchanges_in t u (working d) served new.unread is.input is.output is.end is.talk in
     record { told_so = is; clauses = clauses_of t u d (of_exchanges all) e (stream_asked t u d old new served e is) (none_shown (of_exchanges all)) }
@@ -42,6 +42,9 @@ module _ {R W : Type 0} (streams : Traffic R W) (workers : ℕ) where
 
 pub unopened_holds : (why : StoreError) (t u : ℕ) (s e : Store) → MayBar t u s.0 why × (e ≡ s) → UnopenedHolds why t u s e
 unopened_holds why t u s e is = record { told_so = is; clauses = nothing_came t u s.1 e.1 (λ i. (is.1 i).1) }
+
+pub read_holds : (t u : ℕ) (s e : Store) → e ≡ s → ReadHolds t u s e
+read_holds t u s e is = record { told_so = is; clauses = nothing_came t u s.1 e.1 (λ i. (is i).1) }
 
 pub led_holds : (far : Led) (t u : ℕ) (s e : Store) → Leads t u s.0 far e.0 × (e.1 ≡ s.1) → LedHolds far t u s e
 led_holds far t u s e is = record { told_so = is; clauses = nothing_came t u s.1 e.1 is.1 }

@@ -3,13 +3,13 @@ use Rattle.{std.{specs.Prelude.⊤, proofs.lemmas.List.append-nil}, desk_catalog
 use Rattle.std.proofs.Common.{◌≡◌, ◌⊎◌, ◌≤◌, ◌<◌, ℕ, Bool, true, false, List, [], Option, Result, Ok, Err, ◌+◌, inl, inr, ⊎_elim, refl, sym, ap, subst, ◌∙◌, arith}
 use Rattle.{desk_model.specs.declared.{command.{Command.Command, Query.Query}, reply.Reply.Reply}, desk_pages.specs.claim.Desks.OpensDesk, sector_device.specs.claim.Disk.Image}
 use Rattle.{desk_theorem.specs.claim.Streams.{State, working, failed, shown_in, left_in, Takes, Looks, Ends, HasCause, ServedAs, Streamed}, sector_device.proofs.Moments.leaves_now}
-use Rattle.http_desk.specs.{claim.{Serving.{Serves, ServesTo, IsShortTalk, IsPrefixTalk}, Talk.{Talk, MayAnswer}}, declared.serve.{Served.Served, StreamFault.StreamFault}}
+use Rattle.http_desk.specs.{claim.{Serving.{Serves, ServesTo, IsShortTalk, IsPrefixTalk}, Talk.{Talk, MayAnswer}}, declared.serve.{ServeFault.ServeFault, Served.Served}}
 use Rattle.http_desk.specs.{http_routes.{claim.Orders.order_of, declared.order.Order.Order}, http_wire.claim.Prefix.{closes_after, is_head}}
 use Rattle.{sector_device.specs.declared.SectorDevice.Ghosts, store_lives.specs.{DeskInside.LivedThrough, desk_store.claim.Commands.{Does, MustBeFull, MayBeFull}}}
 use Rattle.store_lives.specs.desk_store.{claim.Clerks.{desk_of, disk_of, is_halted, pages_of, sectors_of, Keeps}, declared.clerk.Clerk.Clerk}
 use Rattle.store_lives.proofs.DeskLiving.{either, calm, halt, clash_of, left_working}
 use Rattle.http_desk.specs.http_routes.declared.order.Order.TheVariants as order
-use Rattle.http_desk.specs.declared.serve.StreamFault.TheVariants as fault
+use Rattle.http_desk.specs.declared.serve.ServeFault.TheVariants as fault
 
 -- ---- talks in which a query leaves all as it is
 module _ {X : Type 0} (does : X → Command → Reply → X → Type 0) (asks : X → Query → Reply → X → Type 0) where
@@ -42,11 +42,11 @@ module _ {X : Type 0} (does : X → Command → Reply → X → Type 0) (asks : 
     prefix_good : (x : X) (input answers : List ℕ) (y : X) → IsPrefixTalk does asks x input answers y → Good y → Good x
     prefix_good x input answers y f good = talk_good x f.prefix answers f.count f.shut y f.talk good
 
-    served_good : (x : X) (result : Result Served StreamFault) (left : Option (List ℕ)) (input output : List ℕ) (y : X) → ServesTo does asks x result left input output y → Good y → Good x
+    served_good : (x : X) (result : Result Served ServeFault) (left : Option (List ℕ)) (input output : List ℕ) (y : X) → ServesTo does asks x result left input output y → Good y → Good x
     served_good x (Ok served) left input output y serves good = talk_good x input output served.requests serves.0 y serves.1 good
-    served_good x (Err fault.Read) left input output y serves good = prefix_good x input output y (prefix_of x input output y serves) good
+    served_good x (Err fault.ReadFault) left input output y serves good = prefix_good x input output y (prefix_of x input output y serves) good
     served_good x (Err fault.TurnLimit) left input output y serves good = prefix_good x input output y (prefix_of x input output y serves) good
-    served_good x (Err fault.Write) left input output y serves good = prefix_good x input serves.answers y serves.over_prefix good
+    served_good x (Err fault.WriteFault) left input output y serves good = prefix_good x input serves.answers y serves.over_prefix good
     served_good x (Err fault.Memory) left input output y serves good = subst Good serves.2 good
 
     -- seen as a state, as each command and each query is
@@ -79,14 +79,14 @@ module _ {X : Type 0} (does : X → Command → Reply → X → Type 0) (asks : 
           let there = talk_seen x f.prefix answers f.count f.shut y f.talk good s sees in
           (there.0, record { prefix = f.prefix; unread = f.unread; read = f.read; count = f.count; shut = f.shut; talk = there.1 }, there.2)
 
-      served_seen : (x : X) (result : Result Served StreamFault) (unread : Option (List ℕ)) (input output : List ℕ) (y : X) → ServesTo does asks x result unread input output y → Good y → (s : State) → Sees x s
+      served_seen : (x : X) (result : Result Served ServeFault) (unread : Option (List ℕ)) (input output : List ℕ) (y : X) → ServesTo does asks x result unread input output y → Good y → (s : State) → Sees x s
           → (end : State) × ServedAs t u s result unread input output end × Sees y end
       served_seen x (Ok served) unread input output y serves good s sees =
           let there = talk_seen x input output served.requests serves.0 y serves.1 good s sees in
           (there.0, (serves.0, there.1, serves.2), there.2)
-      served_seen x (Err fault.Read) unread input output y serves good s sees = prefix_seen x input output y (prefix_of x input output y serves) good s sees
+      served_seen x (Err fault.ReadFault) unread input output y serves good s sees = prefix_seen x input output y (prefix_of x input output y serves) good s sees
       served_seen x (Err fault.TurnLimit) unread input output y serves good s sees = prefix_seen x input output y (prefix_of x input output y serves) good s sees
-      served_seen x (Err fault.Write) unread input output y serves good s sees =
+      served_seen x (Err fault.WriteFault) unread input output y serves good s sees =
           let there = prefix_seen x input serves.answers y serves.over_prefix good s sees in
           (there.0, record { answers = serves.answers; unwritten = serves.unwritten; written = serves.written; over_prefix = there.1 }, there.2)
       served_seen x (Err fault.Memory) unread input output y serves good s sees = (s, (serves.0, serves.1, refl), rw serves.2 sees)
@@ -139,7 +139,7 @@ module _ {D : Type 0} {g : Ghosts D} where
           (leaves_now _ _ _ (does.moves.any_moment sees.1 sees.0 lasts.0) i (lasts.1 on).0))
     ]
 
-    served_from : (x : Clerk D g) (d : Desk) (result : Result Served StreamFault) (unread : Option (List ℕ)) (input output : List ℕ) (y : Clerk D g) → ServesTo DoesAtCounter AsksAtCounter x result unread input output y
+    served_from : (x : Clerk D g) (d : Desk) (result : Result Served ServeFault) (unread : Option (List ℕ)) (input output : List ℕ) (y : Clerk D g) → ServesTo DoesAtCounter AsksAtCounter x result unread input output y
         → Lasts y → Sees x (working d) → (end : State) × ServedAs t u (working d) result unread input output end × Sees y end
     served_from x d result unread input output y serves lasts sees =
         served_seen DoesAtCounter AsksAtCounter (λ x q r y asks. asks.1) Lasts lasted t u Sees commanded
@@ -154,7 +154,7 @@ module _ {D : Type 0} {g : Ghosts D} where
     no_less y (failed shown left) sees = let more = sees.3 in omega (arith, more)
 
 -- a clerk that served a stream
-pub stream_lived : {D : Type 0} {g : Ghosts D} → (x y : Clerk D g) (old new : Ends) (served : Result Served StreamFault) → Serves DoesAtCounter AsksAtCounter x served y old.unread new.unread old.written new.written → HasCause old new served
+pub stream_lived : {D : Type 0} {g : Ghosts D} → (x y : Clerk D g) (old new : Ends) (served : Result Served ServeFault) → Serves DoesAtCounter AsksAtCounter x served y old.unread new.unread old.written new.written → HasCause old new served
     → LivedThrough (λ t u d e. Streamed t u d old new served e) x y
 stream_lived {D} {g} x y old new served serves cause =
     let t = (disk_of x).faults in
@@ -201,18 +201,18 @@ module _ (t u s v : ℕ) (more : t < u → s < v) where
       let there = talk_later x f.prefix answers f.count f.shut y f.talk in
       (there.0, record { prefix = f.prefix; unread = f.unread; read = f.read; count = f.count; shut = f.shut; talk = there.1 }, there.2)
 
-  served_later : (x : State) (served : Result Served StreamFault) (left : Option (List ℕ)) (input output : List ℕ) (y : State) → ServedAs t u x served left input output y → (end : State) × ServedAs s v x served left input output end × (y ≡ end)
+  served_later : (x : State) (served : Result Served ServeFault) (left : Option (List ℕ)) (input output : List ℕ) (y : State) → ServedAs t u x served left input output y → (end : State) × ServedAs s v x served left input output end × (y ≡ end)
   served_later x (Ok served) left input output y is =
       let there = talk_later x input output served.requests is.0 y is.1 in
       (there.0, (is.0, there.1, is.2), there.2)
-  served_later x (Err fault.Read) left input output y is = prefix_later x input output y is
+  served_later x (Err fault.ReadFault) left input output y is = prefix_later x input output y is
   served_later x (Err fault.TurnLimit) left input output y is = prefix_later x input output y is
-  served_later x (Err fault.Write) left input output y is =
+  served_later x (Err fault.WriteFault) left input output y is =
       let there = prefix_later x input is.answers y is.over_prefix in
       (there.0, record { answers = is.answers; unwritten = is.unwritten; written = is.written; over_prefix = there.1 }, there.2)
   served_later x (Err fault.Memory) left input output y is = (y, is, refl)
 
-  pub streamed_later : (d : Desk) (old new : Ends) (served : Result Served StreamFault) (e : Desk) → Streamed t u d old new served e → Streamed s v d old new served e
+  pub streamed_later : (d : Desk) (old new : Ends) (served : Result Served ServeFault) (e : Desk) → Streamed t u d old new served e → Streamed s v d old new served e
   streamed_later d old new served e is =
       let there = served_later (working d) served new.unread is.input is.output is.end is.talk in
       let left = ap left_in (sym there.2) ∙ is.left in

@@ -1,12 +1,12 @@
 -- The requests of a stream as those of a life.
 use Rattle.std.proofs.{Common.{◌≡◌, ℕ, Bool, true, false, List, [], ◌∷◌, ◌++◌, map, Option, Result, Ok, Err, inl, inr, ⊎_elim, refl, sym, subst, ◌∙◌}, lemmas.List.append-nil}
 use Rattle.{desk_catalogue.specs.claim.Audits.AskMay, desk_model.specs.{claim.Desk.Desk, declared.{command.{Command.Command, Query.Query}, reply.Reply.Reply}}}
-use Rattle.{desk_theorem.specs.claim.Exchanges.{exchange_of, exchanges_of, exchanges_in}, http_desk.specs.{claim.Talk.{Talk, MayAnswer}, declared.serve.Served.Served}}
-use Rattle.{desk_theorem.specs.claim.Streams.{State, working, failed, shown_in, left_in, Takes, Looks, Ends, ServedAs, Streamed}, http_desk.specs.http_routes.claim.Orders.order_of}
-use Rattle.http_desk.specs.{declared.serve.StreamFault.StreamFault, http_routes.declared.order.Order.Order, http_wire.claim.Prefix.{closes_after, is_head}}
+use Rattle.{desk_theorem.specs.claim.Exchanges.{exchange_of, exchanges_of, exchanges_in}, http_desk.specs.{claim.Talk.{Talk, MayAnswer}, declared.serve.ServeFault.ServeFault}}
+use Rattle.{desk_theorem.specs.claim.Streams.{State, working, failed, shown_in, left_in, Takes, Looks, Ends, ServedAs, Streamed}, http_desk.specs.declared.serve.Served.Served}
+use Rattle.http_desk.specs.{http_routes.{claim.Orders.order_of, declared.order.Order.Order}, http_wire.claim.Prefix.{closes_after, is_head}}
 use Rattle.store_lives.specs.{claim.DeskLives.{Failed, Lived}, declared.desk_lives.{Answer.{Answer, TheVariants.Said}, Request.{Request, TheVariants.{Change, Look}}}}
 use Rattle.http_desk.specs.http_routes.declared.order.Order.TheVariants as order
-use Rattle.http_desk.specs.declared.serve.StreamFault.TheVariants as fault
+use Rattle.http_desk.specs.declared.serve.ServeFault.TheVariants as fault
 
 abbrev pub Exchange : Type 0
 Exchange = Request × Answer
@@ -56,16 +56,16 @@ module _ (t u : ℕ) where
       one_first s (order_of h.method target body) (closes_after h) (is_head h.method) text false y may (exchanges_of t u y rest output m shut z talk) (left_in z) (talk_goes y rest output m shut z talk)
   talk_goes s _ _ _ _ _ _ = stays s
 
-  served_goes : (s : State) (served : Result Served StreamFault) (left : Option (List ℕ)) (input output : List ℕ) (end : State) (is : ServedAs t u s served left input output end)
+  served_goes : (s : State) (served : Result Served ServeFault) (left : Option (List ℕ)) (input output : List ℕ) (end : State) (is : ServedAs t u s served left input output end)
       → Goes s (exchanges_in t u s served left input output end is) (left_in end)
   served_goes s (Ok served) left input output end is = talk_goes s input output served.requests is.0 end is.1
-  served_goes s (Err fault.Read) left input output end is = talk_goes s is.prefix output is.count is.shut end is.talk
+  served_goes s (Err fault.ReadFault) left input output end is = talk_goes s is.prefix output is.count is.shut end is.talk
   served_goes s (Err fault.TurnLimit) left input output end is = talk_goes s is.prefix output is.count is.shut end is.talk
-  served_goes s (Err fault.Write) left input output end is = talk_goes s is.over_prefix.prefix is.answers is.over_prefix.count is.over_prefix.shut end is.over_prefix.talk
+  served_goes s (Err fault.WriteFault) left input output end is = talk_goes s is.over_prefix.prefix is.answers is.over_prefix.count is.over_prefix.shut end is.over_prefix.talk
   served_goes s (Err fault.Memory) left input output end is = subst (λ (x : State). Goes s [] (left_in x)) (sym is.2) (stays s)
 
   -- the requests of a stream are those of a life
-  pub stream_asked : (d : Desk) (old new : Ends) (served : Result Served StreamFault) (e : Desk) (is : Streamed t u d old new served e)
+  pub stream_asked : (d : Desk) (old new : Ends) (served : Result Served ServeFault) (e : Desk) (is : Streamed t u d old new served e)
       → Goes (working d) (exchanges_in t u (working d) served new.unread is.input is.output is.end is.talk) e
   stream_asked d old new served e is =
       subst (λ (x : Desk). Goes (working d) (exchanges_in t u (working d) served new.unread is.input is.output is.end is.talk) x) is.left

@@ -1,3 +1,4 @@
+pub mod claim
 pub mod Premises
 pub mod Checks
 pub mod Prefixes

@@ -65,6 +65,7 @@ pub fn check_plan<T: Threads + Sync>(
     workers: u16,
 ) -> Status
     requires job { IsJob (Audit paths terms workers) }
+    ensures audit { IsOfAudit ⟦<ReadSource<Prefixed<File>> as Source>⟧ terms result }
 {
     check_by(rt, threads, &NoGate, with_words, paths, terms, workers)
 }

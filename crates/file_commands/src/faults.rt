@@ -1,4 +1,6 @@
 //! The lines of faults on standard error, and what they mean.
+ghost use Rattle.std.specs.Prelude.{◌≡◌, true, Some};
+
 use crate::prefixes::{Prefixed, faulty_reader, prefix_line};
 use crate::quoting::quoted_line;
 use byte_stream::sink::WriteSink;
@@ -16,7 +18,22 @@ pub fn standard_error(rt: &HostRuntime) -> WriteSink<Noting<Stderr>> {
     WriteSink::new(Noting::new(rt.stderr()))
 }
 
-/// Prints the explanation of the last fault, if there was one and `--words` or a terminal asks for
+/// Whether a fault's explanation follows it although nothing asks for it: its code alone doesn't say that the store is in use.
+fn needs_words(reason: Option<Reason>) -> bool
+    ensures in_use { reason ≡ Some Reason.InUse → result ≡ true }
+    ensures only { result ≡ true → reason ≡ Some Reason.InUse }
+{
+    match reason {
+        Some(Reason::InUse) => true,
+        Some(Reason::NotPermitted) => false,
+        Some(Reason::NoRoom) => false,
+        Some(Reason::Stands) => false,
+        Some(Reason::IsStore) => false,
+        None => false,
+    }
+}
+
+/// Prints the explanation of the last fault, if there was one and `--words`, a terminal or its reason asks for
 /// it. The files are those that the command was given, each with its role before its path. The
 /// reason is that of a store's device.
 pub fn explain_last(
@@ -73,7 +90,7 @@ pub fn explain_line(
     // without memory for it the line has no explanation
     let _ = tell_words(
         rt.alloc(),
-        with_words,
+        with_words || needs_words(reason),
         is_terminal,
         told.line(),
         reason,

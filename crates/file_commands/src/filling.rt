@@ -1,7 +1,9 @@
 //! `format` and `load` over the file system and the standard streams.
-ghost use Rattle.std.specs.Prelude.{◌≡◌, ◌≤◌};
+ghost use Rattle.std.specs.Prelude.{◌≡◌, false, ◌≤◌};
 ghost use Rattle.sector_file.specs.Device.{file_disk, first_image};
+ghost use Rattle.command_output.specs.Writing.{OfWriters};
 ghost use Rattle.file_commands.specs.Premises.{IsJustOpened};
+ghost use Rattle.file_commands.specs.claim.Running.{RunsLoad};
 ghost use Rattle.inspect_command.specs.store_command.claim.Living.{LoadsLife};
 ghost use Rattle.inspect_command.specs.store_command.claim.Files.{openings_of};
 
@@ -63,9 +65,11 @@ pub fn load_in_file<R: Source, S: Contents, P: Progress, W: Sink, E: Sink>(
     writer: &mut W,
     errors: &mut E,
 ) -> Status
-    ensures { LoadsLife ⟦<FileDevice<S> as SectorDevice>⟧ (λ device. IsJustOpened (first_image S.Contents.sector) (file_disk device))
-        (stores.new.is_opened ≡ stores.old.is_opened) result
-        (openings_of R.remaining R.turns R.failures files.old) (openings_of R.remaining R.turns R.failures files.new) }
+    requires fresh { stores.old.is_opened ≡ false }
+    ensures { OfWriters (LoadsLife ⟦<FileDevice<S> as SectorDevice>⟧ (λ device. IsJustOpened (first_image S.Contents.sector) (file_disk device))
+        (stores.new.is_opened ≡ false) result
+        (openings_of R.remaining R.turns R.failures files.old) (openings_of R.remaining R.turns R.failures files.new))
+        W.Sink writer.old writer.new E.Sink errors.old errors.new }
 {
     load::<R, FileDevice<S>, _, _, _, _>(alloc, files, stores, name, progress, writer, errors)
 }
@@ -78,7 +82,9 @@ pub fn load_state<S: Contents>(
     paths: CensusPaths<'_>,
     neighbours: &str,
     start: S,
-) -> Status {
+) -> Status
+    ensures { RunsLoad ⟦<FileDevice<S> as SectorDevice>⟧ (λ device. IsJustOpened (first_image S.Contents.sector) (file_disk device)) result }
+{
     let mut opener = Files::new(rt);
     let census = open_census(&mut opener, paths);
     let gal = opener.open(neighbours);

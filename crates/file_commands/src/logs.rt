@@ -5,6 +5,7 @@ ghost use Rattle.std.specs.declared.fs.options.OpenOptions.{OpenOptions as Optio
 ghost use Rattle.file_commands.specs.Logs.{AddsLines, IsLogOf};
 
 use byte_stream::sink::WriteSink;
+use command_line::options::Logging;
 use command_output::explanation::Reason;
 use connection_log::log::{Log, start};
 use state_files::fault::OpenFault;
@@ -15,6 +16,7 @@ use std::io::{ErrorKind, IsTerminal};
 use std::os::unix::fs::FileExt;
 use std::sync::{Arc, Wait};
 use std::thread::Threads;
+use std::time::Clock;
 
 /// What opens files in the ways that are asked for.
 pub trait OpensFiles {
@@ -116,20 +118,27 @@ fn log_file(rt: &HostRuntime, name: &str) -> Result<File, NoLog> {
     Ok(file)
 }
 
-/// The log of a served store: in the file that is named, or else on standard error where that is a terminal, or else none.
-pub fn log_of<T: Threads + Wait + Copy + Send + 'static>(
+/// The log of a served store: in the file that is named, or else on standard error where that is a terminal, or else none. With `tell`
+/// it has a line of the store's room after each that many seconds.
+pub fn log_of<T: Threads + Wait + Clock + Copy + Send + 'static>(
     rt: &HostRuntime,
     threads: &T,
-    name: Option<&str>,
+    logging: Logging<'_>,
 ) -> Result<Option<Arc<Log, Global>>, NoLog> {
-    let started = match name {
-        Some(name) => start(threads, rt.alloc(), WriteSink::new(log_file(rt, name)?)),
+    let Logging { file, tell } = logging;
+    let started = match file {
+        Some(name) => start(
+            threads,
+            rt.alloc(),
+            WriteSink::new(log_file(rt, name)?),
+            tell,
+        ),
         None => {
             let terminal = rt.stderr();
             if !terminal.is_terminal() {
                 return Ok(None);
             }
-            start(threads, rt.alloc(), WriteSink::new(terminal))
+            start(threads, rt.alloc(), WriteSink::new(terminal), tell)
         }
     };
     match started {

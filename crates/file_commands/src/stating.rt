@@ -1,8 +1,10 @@
 //! `stat` over the file system and the standard streams.
-ghost use Rattle.std.specs.Prelude.{◌≡◌};
+ghost use Rattle.std.specs.Prelude.{◌≡◌, false};
+ghost use Rattle.command_output.specs.Writing.{OfWriters};
 ghost use Rattle.sector_file.specs.Device.{file_disk, first_image};
 ghost use Rattle.file_commands.specs.Premises.{IsJustOpened};
-ghost use Rattle.inspect_command.specs.store_command.claim.Living.{LooksLife};
+ghost use Rattle.file_commands.specs.claim.Running.{RunsStat};
+ghost use Rattle.inspect_command.specs.claim.Living.{LooksLife};
 
 use crate::faults::{explain_last, standard_error};
 use crate::stores::StoreFiles;
@@ -24,8 +26,10 @@ pub fn stat_in_file<S: Contents, W: Sink, E: Sink>(
     writer: &mut W,
     errors: &mut E,
 ) -> Status
-    ensures { LooksLife ⟦<FileDevice<S> as SectorDevice>⟧ (λ device. IsJustOpened (first_image S.Contents.sector) (file_disk device))
-        (stores.new.is_opened ≡ stores.old.is_opened) result }
+    requires fresh { stores.old.is_opened ≡ false }
+    ensures { OfWriters (LooksLife ⟦<FileDevice<S> as SectorDevice>⟧ (λ device. IsJustOpened (first_image S.Contents.sector) (file_disk device))
+        (stores.new.is_opened ≡ false) result style)
+        W.Sink writer.old writer.new E.Sink errors.old errors.new }
 {
     stat::<FileDevice<S>, _, _, _>(alloc, stores, name, style, writer, errors)
 }
@@ -37,7 +41,9 @@ pub fn stat_desk<S: Contents>(
     name: &str,
     json: bool,
     start: S,
-) -> Status {
+) -> Status
+    ensures { RunsStat ⟦<FileDevice<S> as SectorDevice>⟧ (λ device. IsJustOpened (first_image S.Contents.sector) (file_disk device)) result }
+{
     let mut stores = StoreFiles::new(rt, start);
     let mut writer = WriteSink::new(rt.stdout());
     let mut errors = standard_error(rt);

@@ -28,9 +28,11 @@ pub struct StoreFiles<'a, S: Contents> {
 }
 
 impl<'a, S: Contents> StoreFiles<'a, S> {
-    ghost use Rattle.std.specs.Prelude.{◌≡◌};
+    ghost use Rattle.std.specs.Prelude.{◌≡◌, false};
 
-    pub fn new(rt: &'a HostRuntime, start: S) -> StoreFiles<'a, S> {
+    pub fn new(rt: &'a HostRuntime, start: S) -> StoreFiles<'a, S>
+        ensures fresh { result.is_opened ≡ false }
+    {
         StoreFiles {
             rt,
             start: Some(start),

@@ -1,7 +1,9 @@
 //! `sweep` over the file system and the standard streams.
-ghost use Rattle.std.specs.Prelude.{◌≡◌};
+ghost use Rattle.std.specs.Prelude.{◌≡◌, false};
 ghost use Rattle.sector_file.specs.Device.{file_disk, first_image};
+ghost use Rattle.command_output.specs.Writing.{OfWriters};
 ghost use Rattle.file_commands.specs.Premises.{IsJustOpened};
+ghost use Rattle.file_commands.specs.claim.Running.{RunsSweep};
 ghost use Rattle.inspect_command.specs.store_command.claim.Living.{SweepsLife};
 
 use crate::faults::{explain_last, standard_error};
@@ -25,14 +27,18 @@ pub fn sweep_in_file<S: Contents, P: Progress, W: Sink, E: Sink>(
     writer: &mut W,
     errors: &mut E,
 ) -> Status
-    ensures { SweepsLife ⟦<FileDevice<S> as SectorDevice>⟧ (λ device. IsJustOpened (first_image S.Contents.sector) (file_disk device))
-        (stores.new.is_opened ≡ stores.old.is_opened) result }
+    requires fresh { stores.old.is_opened ≡ false }
+    ensures { OfWriters (SweepsLife ⟦<FileDevice<S> as SectorDevice>⟧ (λ device. IsJustOpened (first_image S.Contents.sector) (file_disk device))
+        (stores.new.is_opened ≡ false) result)
+        W.Sink writer.old writer.new E.Sink errors.old errors.new }
 {
     sweep::<FileDevice<S>, _, _, _, _>(alloc, stores, name, progress, writer, errors)
 }
 
 /// Takes out of a store what deleted plans and ended loads left in it.
-pub fn sweep_desk<S: Contents>(rt: &HostRuntime, with_words: bool, name: &str, start: S) -> Status {
+pub fn sweep_desk<S: Contents>(rt: &HostRuntime, with_words: bool, name: &str, start: S) -> Status
+    ensures { RunsSweep ⟦<FileDevice<S> as SectorDevice>⟧ (λ device. IsJustOpened (first_image S.Contents.sector) (file_disk device)) result }
+{
     let mut stores = StoreFiles::new(rt, start);
     let mut writer = WriteSink::new(rt.stdout());
     let mut errors = standard_error(rt);

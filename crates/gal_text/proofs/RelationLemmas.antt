@@ -3,7 +3,7 @@ use Rattle.std.{specs.{List.{All, AllZip, Contains, IsDistinct, flat_map}, Prelu
 use Rattle.std.proofs.Common.{◌≡◌, ◌≢◌, ℕ, ◌+◌, ◌-◌, ◌<◌, ◌≤◌, inl, inr, Bool, true, false, cond, ◌&&◌, eqb, ltb, List, [], ◌∷◌, ◌++◌, length, map, get_or, Option, Some, None, Result, Ok, Err, refl, sym, ap, subst, ◌∙◌, arith, append_assoc, rules}
 use Rattle.std.proofs.lemmas.{Bool.{cond-false, eq-eqb, eqb-false, eqb-true, false_from_ne_true, ltb-false, ne_eqb, false≢true}, List.Folds.{Any-from_list_any, list_any-from_Any}}
 use Rattle.std.proofs.lemmas.List.Elements.{All-nil, All-cons, All-head, All-tail, All-contains, All-weaker, All-append, All-map, All-from_recursion, recursion_from_All, Contains-append_left, Contains-push, Contains-push_cases, Contains-get_or}
-use Rattle.{std.proofs.lemmas.Map.Keys.{IsDistinct-cons, IsDistinct-head, IsDistinct-tail}, byte_stream.specs.claim.Digits.{number_of, number_of_digits}}
+use Rattle.{std.proofs.lemmas.Map.Keys.{IsDistinct-cons, IsDistinct-head, IsDistinct-tail}, field_text.specs.claim.Digits.{number_of, number_of_digits}}
 use Rattle.gal_text.specs.{Relation.{Listing, IsListing, AreNames, IsWritten, AreWritten, blocks_of, links_of, IsSaid}, claim.Links.Lists, declared.fault.TextFault.TextFault}
 use Rattle.gal_text.specs.claim.Units.{Progress, at_start, at_end, go_on, link_of, lists, known, block_of, has_number, neighbour_limit, neighbours_left, unit_read, count_read, neighbour_read, word_awaited, word_read, words_read, awaits_block}
 use Rattle.gal_text.specs.declared.{fault.TextFault.TheVariants.{RepeatedUnit, OwnNeighbour, TooManyNeighbours, TrailingWord, EndsEarly, RepeatedNeighbour}, units.Awaited.Awaited}

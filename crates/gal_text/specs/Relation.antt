@@ -1,6 +1,6 @@
 -- Which words are those of a neighbour file's units, in one view of all of them.
 use Rattle.std.specs.{List.{AllZip, IsDistinct, flat_map}, Prelude.{◌≡◌, ℕ, ◌≤◌, ◌↔◌, List, ◌∷◌, length, map, All, Contains, nat_eq, Some, Ok}}
-use Rattle.{byte_stream.specs.claim.Digits.{number_of, number_of_digits}, gal_text.specs.claim.Units.{Progress, at_start, at_end, go_on, link_of, neighbour_limit, words_read}}
+use Rattle.{field_text.specs.claim.Digits.{number_of, number_of_digits}, gal_text.specs.claim.Units.{Progress, at_start, at_end, go_on, link_of, neighbour_limit, words_read}}
 use Rattle.gal_text.specs.declared.units.{Awaited.TheVariants.Block, Link.Link}
 
 -- a unit: its block, and the blocks that it lists

@@ -1,13 +1,13 @@
 //! The header's line of a neighbour file.
 ghost use Rattle.std.specs.Prelude.{◌≡◌};
-ghost use Rattle.byte_stream.specs.claim.Digits.{number_of};
+ghost use Rattle.field_text.specs.claim.Digits.{number_of};
 ghost use Rattle.byte_stream.specs.claim.Words.{words};
 ghost use Rattle.gal_text.specs.claim.Units.{count_of_word, count_of_words, header_count};
 
 use crate::fault::TextFault;
-use byte_stream::digits::number;
 use byte_stream::reader::LINE_LIMIT;
 use byte_stream::words::Words;
+use field_text::digits::number;
 
 fn count_of_word(word: &[u8]) -> Result<u64, TextFault>
     ensures { result ≡ count_of_word (number_of 10 word.now) }

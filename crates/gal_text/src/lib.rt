@@ -32,3 +32,6 @@ pub mod header;
 pub mod law;
 pub mod links;
 pub mod units;
+
+pub use fault::GalFault;
+pub use gal::read;

@@ -9,9 +9,9 @@ ghost use Rattle.byte_stream.specs.claim.Words.{word_limit};
 ghost use Rattle.gal_text.specs.Holding.{Holds, IsHeld, IsAtHand, with_link, Meets, Takes, IsPlaced};
 
 use crate::fault::TextFault;
-use byte_stream::digits::{digits_exactly, number as number_of};
 use desk_model::block::{BlockId, BlockRow};
 use desk_model::geography::place_near;
+use field_text::digits::{digits_exactly, number as number_of};
 use std::alloc::{AllocError, Global};
 
 /// A unit has at most this many neighbours.

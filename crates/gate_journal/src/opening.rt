@@ -11,7 +11,7 @@ use crate::words::{fill_header, word_at};
 use sector_device::{DeviceFault, SECTOR_SIZE, SectorDevice};
 
 /// The fewest journal pages, and the most.
-const LEAST_JOURNAL: u32 = 256;
+pub const LEAST_JOURNAL: u32 = 256;
 
 const MOST_JOURNAL: u32 = 65536;
 

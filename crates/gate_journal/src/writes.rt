@@ -2,6 +2,7 @@
 ghost use Rattle.std.specs.Prelude.{◌≡◌, ◌≢◌, ◌<◌, ℕ, false, length, MatchOption, slice_index_or};
 ghost use Rattle.gate_journal.specs.Store.{AreNumbers, AreApart};
 
+use crate::opening::LEAST_JOURNAL;
 use sector_device::Sector;
 use std::alloc::{AllocError, Global};
 
@@ -52,23 +53,24 @@ impl PageWrites {
     ghost use Rattle.gate_journal.specs.Writes.{room_of, IsLast};
     ghost use Rattle.gate_journal.specs.Outcomes.{EditsPage, PushesWrite, PutsWrite};
 
-    pub fn new(alloc: Global) -> PageWrites
+    /// Returns a write set without pages, with memory for those of a commit of the smallest journal, 256 pages.
+    pub fn new(alloc: Global) -> Result<PageWrites, AllocError>
+        ensures none { IfOk result (λ writes. writes_of writes ≡ []) }
+        ensures room { IfOk result (λ writes. 256 ≤ room_of writes) }
+    {
+        let numbers = Vec::with_capacity(alloc, LEAST_JOURNAL as usize)?;
+        let list = Vec::with_capacity(alloc, LEAST_JOURNAL as usize)?;
+        Ok(PageWrites { numbers, list })
+    }
+
+    /// Returns a write set without pages that holds no memory yet.
+    pub fn empty(alloc: Global) -> PageWrites
         ensures { writes_of result ≡ [] }
     {
         PageWrites {
             numbers: Vec::new(alloc),
             list: Vec::new(alloc),
         }
-    }
-
-    /// Room for `count` pages, without a page yet.
-    pub fn with_capacity(alloc: Global, count: usize) -> Result<PageWrites, AllocError>
-        ensures none { IfOk result (λ writes. writes_of writes ≡ []) }
-        ensures room { IfOk result (λ writes. count ≤ room_of writes) }
-    {
-        let numbers = Vec::with_capacity(alloc, count)?;
-        let list = Vec::with_capacity(alloc, count)?;
-        Ok(PageWrites { numbers, list })
     }
 
     /// Returns the number of pages in the write set. Each occurs once.

@@ -1,9 +1,9 @@
 -- The rows under a prefix are rows of the map.
-use Rattle.{std.specs.{FinMap.entries, Prelude.{Option, IfSome}}, btree_walks.specs.{Prefixes.under, Scanning.{Rest, IsNextRow, ScanErr, fault_in, has_ended, CanScan}}}
-use Rattle.{std.proofs.Common.{◌≡◌, ◌++◌, ℕ, List, [], ◌∷◌, Bool, true, false, Some, None, refl, sym, subst, ◌∙◌, append_assoc, arith}, btree_walks.specs.declared.rows.Row.Row}
-use Rattle.{btree_walks.specs.declared.scans.Scan.Scan, desk_pages.specs.Reading.ReadErr, geo_tables.specs.Following.{AreIn, IsFound, IsTaken, Scans}}
-use Rattle.{page_btree.specs.{declared.error.TreeError.TreeError, page_node.claim.Entries.Entry}, page_store.specs.declared.{pages.Pages.Pages, txn.Txn.Txn}}
-use Rattle.{sector_device.specs.declared.SectorDevice.Ghosts, store_rows.specs.claim.Rows.KeyMap, btree_walks.proofs.{RowsFound.next_under, Scanning.none_to_come}}
+use Rattle.{std.specs.{FinMap.entries, Prelude.{Option, IfSome}}, btree_scan.specs.{Prefixes.under, Scanning.{Rest, IsNextRow, ScanErr, fault_in, has_ended, CanScan}}}
+use Rattle.{std.proofs.Common.{◌≡◌, ◌++◌, ℕ, List, [], ◌∷◌, Bool, true, false, Some, None, refl, sym, subst, ◌∙◌, append_assoc, arith}, btree_scan.specs.declared.rows.Row.Row}
+use Rattle.{btree_scan.specs.declared.scans.RowScan.RowScan, desk_pages.specs.Reading.ReadErr, geo_tables.specs.Following.{AreIn, IsFound, IsTaken, Scans}}
+use Rattle.{page_btree.specs.{gets.declared.error.TreeError.TreeError, node.claim.Entries.Entry}, page_store.specs.declared.{pages.Pages.Pages, txn.Txn.Txn}}
+use Rattle.{sector_device.specs.declared.SectorDevice.Ghosts, store_rows.specs.claim.Rows.KeyMap, btree_scan.proofs.{RowsFound.next_under, Scanning.none_to_come}}
 
 -- those that follow some of the rows under a prefix
 rest_in : (m : KeyMap) (prefix : List ℕ) (taken es : List Entry) → under prefix (entries m) ≡ taken ++ es → AreIn m es
@@ -15,7 +15,7 @@ pub all_in : (m : KeyMap) (prefix : List ℕ) → AreIn m (under prefix (entries
 all_in m prefix = rest_in m prefix [] (under prefix (entries m)) refl
 
 -- a call of a scan took a row of the map, or none is left
-module _ (m : KeyMap) (old new : Scan) (row : Row) where
+module _ (m : KeyMap) (old new : RowScan) (row : Row) where
   pub taken_so : (found : Bool) → (found ≡ false → has_ended new ≡ true) → fault_in new ≡ None → Scans old m → ((rest : List Entry) → Rest old (entries m) rest → IsNextRow found new row (entries m) rest) → IsTaken found new row m
   taken_so found ended none scans next = search (arith, next, none_to_come, ended)
 
@@ -24,6 +24,6 @@ pub found_same : (m : KeyMap) (found : Bool) (row taken : Row) → row.key ≡ t
 found_same m found row taken key value is = search (arith)
 
 -- a fault of a scan, told of the map
-module _ {D : Type 0} {g : Ghosts D} (old : Scan) (t : Txn) (a b : Pages D g) where
+module _ {D : Type 0} {g : Ghosts D} (old : RowScan) (t : Txn) (a b : Pages D g) where
   pub fault_unread : (kept : Option TreeError) (fault : TreeError) → kept ≡ Some fault → IfSome kept (λ e. ScanErr (CanScan old) t a b e) → ReadErr (Scans old) t a b fault
   fault_unread kept fault is why = search (arith, (subst (λ (o : Option TreeError). IfSome o (λ e. ScanErr (CanScan old) t a b e)) is why))

@@ -3,13 +3,13 @@ use Rattle.std.proofs.{Common.{◌≡◌, ◌*◌, ◌≤◌, ◌<◌, ◌^◌, 
 use Rattle.{desk_model.specs.claim.{Desk.Desk, Geography.GeographyModel}, desk_pages.specs.{Errors.tree_refusal, Reading.{HasNext, ReadErr, StandsAs}, claim.Puts.PutsErr}}
 use Rattle.desk_pages.specs.{claim.Desks.{IsDeskMap, InPages}, declared.error.StoreError.{StoreError, TheVariants.{Full, Memory, NotAStore, DeviceFault, Halted}}}
 use Rattle.geo_tables.specs.{Loads.{AreExhausted, IsNotBegun, BeginErr}, Refusals.{HasRoom, IsShort, IsDeep, AreBegun, NextErr, RowsErr, SealedErr, BeginErr as Begins}}
-use Rattle.{geo_tables.specs.{Rows.begun_rows, Starting.{IsStarted, StartErr}, declared.load.Load.Load}, page_btree.specs.claim.Errors.{level_in, reach_in, top_reach}}
-use Rattle.{page_btree.specs.{claim.Map.{InTxn as TxnHolds, InPages as HoldsRows}, declared.error.TreeError.TreeError}, page_store.specs.claim.Chain.root_in}
+use Rattle.{geo_tables.specs.{Rows.begun_rows, Starting.{IsStarted, StartErr}, declared.load.Load.Load}, page_btree.specs.gets.claim.Errors.{level_in, reach_in, top_reach}}
+use Rattle.{page_btree.specs.gets.{claim.Map.{InTxn as TxnHolds, InPages as HoldsRows}, declared.error.TreeError.TreeError}, page_store.specs.claim.Chain.root_in}
 use Rattle.page_store.specs.{claim.Transactions.{stored, disk_in, journal_of, has_halted, txn_free, txn_root, over, IsQuiet, Passed}, declared.{pages.Pages.Pages, txn.Txn.Txn}}
 use Rattle.{sector_device.specs.{claim.Disk.Image, declared.SectorDevice.Ghosts}, store_rows.specs.claim.{Keys.{key_of, seal}, Puts.{Row, put_rows}, Rows.{KeyMap, Lacks}}}
 use Rattle.{store_rows.specs.{claim.Values.seal_bytes, declared.value.SealRow.SealRow}, desk_pages.proofs.Nearness.near_stored, geo_tables.proofs.Maps.no_geography}
 use Rattle.{geo_tables.proofs.{Joins.{failed_after, room_of, quiet_rows, quiet_desk}, SealedRows.seal_stands}, page_store.proofs.Stops.{quiet_more, quiet_none}}
-use Rattle.page_btree.specs.declared.error.TreeError.TheVariants as tree
+use Rattle.page_btree.specs.gets.declared.error.TreeError.TheVariants as tree
 
 pub both : {X : Type 0} (b : Bool) → b ≡ true → b ≡ false → X
 both b one other = absurd (cc)

@@ -3,7 +3,7 @@ use Rattle.{std.proofs.Common.{◌≡◌, ◌+◌, ◌*◌, ◌≤◌, ◌<◌, 
 use Rattle.{desk_model.specs.claim.GeographyModels.IsGeographyModel, desk_pages.specs.claim.{Desks.{InTxn, InPages}, Puts.HasPut}, geo_tables.specs.Refusals.LackSeal}
 use Rattle.geo_tables.specs.{Loading.{HoldsLoad, HoldsFurther, HoldsNew, number_of, geography_model_of, done_of}, Loads.{HasBegun, HasSealed, sealed_rows}, Staging.Stages}
 use Rattle.{geo_tables.specs.{Rows.{begun_rows, staged_row, staged_rows}, Starting.IsStarted, declared.load.Load.Load}, page_store.specs.declared.{pages.Pages.Pages, txn.Txn.Txn}}
-use Rattle.{page_btree.specs.claim.Map.{InTxn as TxnHolds, InPages as PagesHold}, page_store.specs.claim.Transactions.{stored, disk_in, journal_of, txn_writes}}
+use Rattle.{page_btree.specs.gets.claim.Map.{InTxn as TxnHolds, InPages as PagesHold}, page_store.specs.claim.Transactions.{stored, disk_in, journal_of, txn_writes}}
 use Rattle.{sector_device.specs.declared.SectorDevice.Ghosts, store_rows.specs.{Changes.desk_with, claim.{GeographyRows.{IsStaged, geography_rows}, Keys.begun}}}
 use Rattle.{store_rows.specs.{claim.{Puts.{Row, put_rows}, Rows.{KeyMap, Has}, Tidy.{IsNext, CountersFit}}, declared.value.Counters.Counters}, geo_tables.proofs.Joins.reads_then}
 use Rattle.geo_tables.proofs.{LoadRows.{begun_mark, begun_unsealed}, Maps.{begun_is, begun_none, batch_is, batch_mark, batch_unsealed, seal_is}}

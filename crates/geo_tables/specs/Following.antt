@@ -1,6 +1,6 @@
 -- A scan that goes along while rows are read by their places.
 use Rattle.std.specs.{FinMap.{entries, get as row_at}, Prelude.{◌≡◌, ℕ, List, [], ◌∷◌, Bool, true, false, Some}}
-use Rattle.{btree_walks.specs.{Scanning.Rest, declared.{rows.Row.Row, scans.Scan.Scan}}, page_btree.specs.page_node.claim.Entries.Entry, store_rows.specs.claim.Rows.KeyMap}
+use Rattle.{btree_scan.specs.{Scanning.Rest, declared.{rows.Row.Row, scans.RowScan.RowScan}}, page_btree.specs.node.claim.Entries.Entry, store_rows.specs.claim.Rows.KeyMap}
 
 -- each of some rows is one of the map
 abbrev pub AreIn : KeyMap → List Entry → Type 0
@@ -8,7 +8,7 @@ AreIn m [] = Unit {0}
 AreIn m (e ∷ es) = (row_at m e.0 ≡ Some e.1) × AreIn m es
 
 -- a scan of rows of the map
-abbrev pub Scans : Scan → KeyMap → Type 0
+abbrev pub Scans : RowScan → KeyMap → Type 0
 Scans scan m = (rest : List Entry) × Rest scan (entries m) rest × AreIn m rest
 
 -- a row that was found is one of the map
@@ -20,6 +20,6 @@ IsFound false row m = Unit {0}
 abbrev pub at_hand : (key value : List ℕ) → Row
 at_hand key value = record { key = key; value = value }
 
-pub record IsTaken (found : Bool) (scan : Scan) (row : Row) (m : KeyMap) : Type 0 where
+pub record IsTaken (found : Bool) (scan : RowScan) (row : Row) (m : KeyMap) : Type 0 where
   pub scans : Scans scan m
   pub row_is : IsFound found row m

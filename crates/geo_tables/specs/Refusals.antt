@@ -3,9 +3,9 @@ use Rattle.std.specs.Prelude.{◌≡◌, ◌⊎◌, ◌<◌, ◌≤◌, ◌+◌,
 use Rattle.{desk_model.specs.claim.{Desk.Desk, Geography.GeographyModel}, desk_pages.specs.{Commits.Commits, claim.{Desks.InPages, Puts.{HasDeepened, IsStoredNear}}}}
 use Rattle.{desk_pages.specs.declared.error.StoreError.{StoreError, TheVariants.{AlreadySealed, Full, Memory, NotAStore, DeviceFault, Halted}}, store_rows.specs.claim.Keys.seal}
 use Rattle.geo_tables.specs.{Loading.{HoldsLoad, number_of, geography_model_of, done_of}, Rows.{begun_rows, staged_rows, seal_row}, declared.load.Load.Load}
-use Rattle.{page_btree.specs.claim.Map.InPages as HoldsRows, page_store.specs.{claim.Chain.free_in, declared.{pages.Pages.Pages, txn.Txn.Txn}}, store_rows.specs.claim.Puts.Row}
+use Rattle.{page_btree.specs.gets.claim.Map.InPages as HoldsRows, page_store.specs.{claim.Chain.free_in, declared.{pages.Pages.Pages, txn.Txn.Txn}}}
 use Rattle.{page_store.specs.claim.Transactions.{stored, disk_in, journal_of, has_halted, HasFailed, IsQuiet, IsSame, Passed}, sector_device.specs.declared.SectorDevice.Ghosts}
-use Rattle.store_rows.specs.{claim.{Rows.{KeyMap, Lacks}, Tidy.IsNext}, declared.value.Counters.Counters}
+use Rattle.store_rows.specs.{claim.{Puts.Row, Rows.{KeyMap, Lacks}, Tidy.IsNext}, declared.value.Counters.Counters}
 
 -- the rows with which the next load begins
 abbrev pub AreBegun : KeyMap → List Row → Type 0

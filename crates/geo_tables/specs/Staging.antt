@@ -1,7 +1,7 @@
 -- Rows of a geography that are put in batches are staged.
 use Rattle.std.specs.Prelude.{◌+◌, ℕ, [], ◌∷◌, Result}
-use Rattle.{desk_model.specs.claim.Geography.GeographyModel, desk_pages.specs.{Outcomes.Writes, Rising.{HasPutWith, PutsErrWith}, btree_puts.declared.finger.Fingers.Fingers}}
-use Rattle.{geo_tables.specs.Rows.staged_rows, page_btree.specs.declared.error.TreeError.TreeError, page_store.specs.declared.{pages.Pages.Pages, txn.Txn.Txn}}
+use Rattle.{desk_model.specs.claim.Geography.GeographyModel, desk_pages.specs.{Outcomes.Writes, Rising.{HasPutWith, PutsErrWith}}, geo_tables.specs.Rows.staged_rows}
+use Rattle.{page_btree.specs.{gets.declared.error.TreeError.TreeError, puts.declared.finger.Fingers.Fingers}, page_store.specs.declared.{pages.Pages.Pages, txn.Txn.Txn}}
 use Rattle.{sector_device.specs.declared.SectorDevice.Ghosts, store_rows.specs.claim.{GeographyRows.IsStaged, Puts.{Row, put_rows}, Rows.KeyMap}}
 
 -- what a batch's rows do, and one row more

@@ -1,7 +1,7 @@
 //! Begins a load.
 ghost use Rattle.std.specs.Prelude.{◌≡◌, ◌≤◌, ◌<◌, ◌*◌, ◌^◌, ◌↔◌, length, None, IfOk, MatchResult, IsTrue};
 ghost use Rattle.page_store.specs.claim.Transactions.{disk_in, journal_of, txn_free, IsQuiet};
-ghost use Rattle.page_btree.specs.claim.Map.{InPages as HoldsRows};
+ghost use Rattle.page_btree.specs.gets.claim.Map.{InPages as HoldsRows};
 ghost use Rattle.desk_model.specs.claim.Desk.{Desk};
 ghost use Rattle.store_rows.specs.declared.value.Counters.{Counters};
 ghost use Rattle.store_rows.specs.claim.Rows.{KeyMap};

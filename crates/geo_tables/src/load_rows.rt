@@ -7,9 +7,9 @@ ghost use Rattle.desk_pages.specs.Outcomes.{PutsRows, Writes};
 ghost use Rattle.geo_tables.specs.Rows.{begun_rows, seal_row};
 ghost use Rattle.geo_tables.specs.Loads.{BeginErr, Begins, HasSealed};
 
-use btree_walks::remove;
 use desk_model::geography::Geography;
 use desk_pages::{TreeError, next_numbers, put_row};
+use page_btree::remove;
 use page_store::{Pages, Txn};
 use sector_device::SectorDevice;
 use store_rows::{Counters, Key, SealRow, counters_value, seal_value};

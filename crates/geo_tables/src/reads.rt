@@ -2,14 +2,14 @@
 ghost use Rattle.std.specs.Prelude.{◌≡◌, [], None, OnOk, MatchResult};
 ghost use Rattle.page_store.specs.claim.Transactions.{count_of, txn_pages};
 ghost use Rattle.desk_pages.specs.Looking.{Gathers, IsOnly, Looks, Says};
-ghost use Rattle.page_btree.specs.declared.error.TreeError.TheVariants.{Memory};
-ghost use Rattle.btree_walks.specs.Parts.{row_of};
-ghost use Rattle.btree_walks.specs.Scanning.{fault_in};
+ghost use Rattle.page_btree.specs.gets.declared.error.TreeError.TheVariants.{Memory};
+ghost use Rattle.btree_scan.specs.Parts.{row_of};
+ghost use Rattle.btree_scan.specs.Scanning.{fault_in};
 ghost use Rattle.geo_tables.specs.Following.{IsFound, IsTaken, Scans, at_hand};
 ghost use Rattle.geo_tables.specs.Elements.{AddsOne, HoldsElement, HoldsElements, IsIn, ValueErr};
 
 use crate::elements::Element;
-use btree_walks::Scan;
+use btree_scan::{RowScan, scan};
 use desk_model::geography::BLOCK_LIMIT;
 use desk_pages::{TreeError, read_row};
 use page_btree::VALUE_LIMIT;
@@ -50,7 +50,7 @@ fn append_element<D: SectorDevice, E: Element>(
 
 /// Moves a scan to its next row and returns whether there is one.
 fn take_next<D: SectorDevice>(
-    scan: &mut Scan,
+    scan: &mut RowScan,
     txn: &Txn,
     pages: &mut Pages<D>,
 ) -> Result<bool, TreeError>
@@ -94,7 +94,7 @@ fn append_next<D: SectorDevice, E: Element>(
 
 /// Appends the element of a row, along a scan that goes by the rows of the load.
 fn append_along<D: SectorDevice, E: Element>(
-    scan: &mut Scan,
+    scan: &mut RowScan,
     txn: &Txn,
     pages: &mut Pages<D>,
     load: u64,
@@ -150,7 +150,7 @@ pub(crate) fn read_elements<D: SectorDevice, E: Element>(
 {
     let mut all = room_for(alloc, count)?;
     let prefix = E::prefix(load);
-    let mut scan = Scan::new(prefix.as_slice());
+    let mut scan = scan(prefix.as_slice());
     for place in 0..count {
         append_along(&mut scan, txn, pages, load, place, &mut all)?;
     }

@@ -4,7 +4,7 @@ ghost use Rattle.http_connections.specs.claim.Running.{no_streams, one_more, req
 
 use crate::arrivals::Arrivals;
 use crate::ran::Totals;
-use http_desk::serve::{Served, StreamFault};
+use http_desk::serve::{ServeFault, Served};
 
 /// The streams of one worker: each comes by `accept` and goes back by `finish`, which counts it. Its worker has no other way to them.
 #[derive(Drop)]
@@ -40,7 +40,7 @@ impl<'a, A: Arrivals> Acceptor<'a, A> {
         &mut self,
         reader: A::Reader,
         writer: A::Writer,
-        served: Result<Served, StreamFault>,
+        served: Result<Served, ServeFault>,
     )
         ensures from { self.new.arrivals.now ≡ self.old.arrivals.now }
         ensures number { self.new.worker ≡ self.old.worker }

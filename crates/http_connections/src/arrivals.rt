@@ -1,10 +1,10 @@
 //! Where streams come from.
 ghost use Rattle.std.specs.Prelude.{ℕ, Option, Result};
 ghost use Rattle.http_desk.specs.declared.serve.Served.{Served as Answered};
-ghost use Rattle.http_desk.specs.declared.serve.StreamFault.{StreamFault as Fault};
+ghost use Rattle.http_desk.specs.declared.serve.ServeFault.{ServeFault as Fault};
 
 use byte_stream::source::Source;
-use http_desk::serve::{Served, StreamFault};
+use http_desk::serve::{ServeFault, Served};
 use http_wire::gather::GatherSink;
 
 /// Where streams come from, and where each goes back to. Nothing else can let go of one.
@@ -24,6 +24,6 @@ pub trait Arrivals {
         ensures { gives self.now worker result };
 
     /// Takes a stream back once it is served, with its result.
-    fn ended(&self, reader: Self::Reader, writer: Self::Writer, served: Result<Served, StreamFault>)
+    fn ended(&self, reader: Self::Reader, writer: Self::Writer, served: Result<Served, ServeFault>)
         ensures { takes_back self.now reader writer served };
 }

@@ -2,6 +2,7 @@
 ghost use Rattle.std.specs.Prelude.{◌≡◌, ◌≢◌, ◌⊎◌, ◌==◌, ◌&&◌, ◌<◌, ◌+◌, ◌-◌, ◌^◌, not, true, Some, IfOk, length};
 ghost use Rattle.http_connections.specs.Entering.{HasBegun, HasEnded};
 
+use crate::doorway::Doorway;
 use crate::mark::Mark;
 use std::alloc::{AllocError, Global};
 use std::io::ErrorKind;
@@ -180,13 +181,6 @@ impl Door {
         None
     }
 
-    /// Whether a connection waits to which no other has given way, which has then, or all are to give way.
-    pub fn lets_another_in(&self) -> bool {
-        self.waits.swap(0, Ordering::SeqCst) > 0
-            || self.lacks.swap(0, Ordering::SeqCst) > 0
-            || self.is_over()
-    }
-
     /// Whether each connection gives way once its requests are answered.
     pub fn is_over(&self) -> bool {
         self.is_over.load(Ordering::SeqCst)
@@ -363,4 +357,16 @@ pub fn open<R: Threads + Wait + Copy + Send + 'static>(
     let admitting = thread::spawn(rt, move || admitted.admit(&own, connections))?;
     drop(admitting);
     Ok(door)
+}
+
+impl Doorway for Door {
+    fn lets_all_go(&self) -> bool {
+        self.is_over()
+    }
+
+    fn lets_one_go(&self) -> bool {
+        self.waits.swap(0, Ordering::SeqCst) > 0
+            || self.lacks.swap(0, Ordering::SeqCst) > 0
+            || self.is_over()
+    }
 }

@@ -7,7 +7,7 @@ use crate::listening::Listens;
 use crate::pace::{Limits, SLICE};
 use crate::sink::KeptSink;
 use crate::source::KeptSource;
-use http_desk::serve::{Served, StreamFault};
+use http_desk::serve::{ServeFault, Served};
 use http_wire::gather::Gathering;
 use std::net::TcpStream;
 use std::sync::Wait;
@@ -45,7 +45,7 @@ impl<'a, R: Wait + Clock> Listening<'a, R> {
         visit: Visit,
     ) -> Option<
         (
-            KeptSource<'a, TcpStream, R>,
+            KeptSource<'a, TcpStream, R, Door>,
             KeptSink<'a, Gathering<TcpStream>>,
         ),
     > {
@@ -69,7 +69,7 @@ impl<'a, R: Wait + Clock + Sync> Listens for Listening<'a, R> {
 }
 
 impl<'a, R: Wait + Clock + Sync> Arrivals for Listening<'a, R> {
-    type Reader = KeptSource<'a, TcpStream, R>;
+    type Reader = KeptSource<'a, TcpStream, R, Door>;
 
     type Writer = KeptSink<'a, Gathering<TcpStream>>;
 
@@ -79,7 +79,7 @@ impl<'a, R: Wait + Clock + Sync> Arrivals for Listening<'a, R> {
         _worker: usize,
     ) -> Option<
         (
-            KeptSource<'a, TcpStream, R>,
+            KeptSource<'a, TcpStream, R, Door>,
             KeptSink<'a, Gathering<TcpStream>>,
         ),
     > {
@@ -98,9 +98,9 @@ impl<'a, R: Wait + Clock + Sync> Arrivals for Listening<'a, R> {
     /// notified that the store's device has failed, no further connection is served.
     fn ended(
         &self,
-        reader: KeptSource<'a, TcpStream, R>,
+        reader: KeptSource<'a, TcpStream, R, Door>,
         writer: KeptSink<'a, Gathering<TcpStream>>,
-        _served: Result<Served, StreamFault>,
+        _served: Result<Served, ServeFault>,
     ) {
         let mut reader = reader;
         reader.linger();

@@ -12,8 +12,10 @@
 //! - `fate` decides about an idle connection by what it asked and when (`fate_of`): between
 //!   requests it waits or is closed, within one it waits or fails. `at_turn`, `with_bytes`,
 //!   `with_silence` keep the times.
-//! - `turn` gives exactly the bytes that the connection had next. `is_answer`: an interim response
-//!   ends no request. `is_silence`, `is_passing` classify errors.
+//! - `turn` gives exactly the bytes that the reader below had next. It ends the stream only if that
+//!   reader is at its end, or if no request is under way and the door lets the connection go or
+//!   `keep` seconds were silent (`MayEnd`).
+//! - `is_answer`: an interim response ends no request. `is_silence`, `is_passing` classify errors.
 //! - `begin` starts as many connections as were asked for.
 //!
 //! # Not proved
@@ -24,6 +26,7 @@
 pub mod acceptor;
 pub mod arrivals;
 pub mod door;
+pub mod doorway;
 pub mod kept_listening;
 pub mod listening;
 pub mod mark;

@@ -1,5 +1,5 @@
 //! How long a connection is kept, by what it has asked and when. Times are in milliseconds.
-ghost use Rattle.std.specs.Prelude.{◌≡◌, ◌<◌, ◌≤◌, ◌+◌, ◌-◌, ◌*◌, true};
+ghost use Rattle.std.specs.Prelude.{◌≡◌, ◌⊎◌, ◌<◌, ◌≤◌, ◌+◌, ◌-◌, ◌*◌, true, false};
 ghost use Rattle.http_connections.specs.Paces.{new_pace, pace_at_turn, pace_with_bytes, pace_with_silence};
 ghost use Rattle.http_connections.specs.Paces.{fate_between, fate_within, fate_of, silence_of};
 
@@ -48,6 +48,7 @@ pub struct Pace {
 fn between(silent: u64, keep: u32, another_waits: bool) -> Fate
     ensures value { result ≡ fate_between silent keep another_waits }
     ensures short { result ≡ Fate.Waits → silent < keep * 1000 }
+    ensures lets_go { result ≡ Fate.GivesWay → (another_waits ≡ true) ⊎ (keep * 1000 ≤ silent) }
 {
     if another_waits || silent >= keep as u64 * 1_000 {
         return Fate::GivesWay;
@@ -60,6 +61,7 @@ fn within(silent: u64, asking: u64, limits: &Limits) -> Fate
     ensures value { result ≡ fate_within silent asking limits.now }
     ensures short { result ≡ Fate.Waits → silent < limits.now.idle * 1000 }
     ensures timely { result ≡ Fate.Waits → asking < limits.now.request * 1000 }
+    ensures keeps { result ≡ Fate.GivesWay → ⊥ }
 {
     if silent >= limits.idle as u64 * 1_000 || asking >= limits.request as u64 * 1_000 {
         return Fate::Fails;
@@ -127,6 +129,7 @@ impl Pace {
         ensures value { result ≡ fate_of self.now time another_waits limits.now }
         ensures short { result ≡ Fate.Waits → self.now.silent < silence_of limits.now self.now.asks }
         ensures timely { result ≡ Fate.Waits → self.now.asks ≡ true → time - self.now.first < limits.now.request * 1000 }
+        ensures lets_go { result ≡ Fate.GivesWay → (self.now.asks ≡ false) × ((another_waits ≡ true) ⊎ (limits.now.keep * 1000 ≤ self.now.silent)) }
     {
         if self.asks {
             return within(self.silent, time.saturating_sub(self.first), limits);

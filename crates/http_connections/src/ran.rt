@@ -2,7 +2,7 @@
 ghost use Rattle.std.specs.Prelude.{◌≡◌, ◌≤◌};
 ghost use Rattle.http_connections.specs.claim.Running.{joined, no_streams, one_more, requests_of};
 
-use http_desk::serve::{Served, StreamFault};
+use http_desk::serve::{ServeFault, Served};
 
 /// The result of a run. The numbers stop at their greatest value.
 #[derive(Clone, Copy)]
@@ -37,7 +37,7 @@ impl Totals {
     }
 
     /// The same with one stream more.
-    pub fn with_stream(&self, served: &Result<Served, StreamFault>) -> Totals
+    pub fn with_stream(&self, served: &Result<Served, ServeFault>) -> Totals
         ensures { result.ran ≡ one_more self.now.ran (requests_of served.now) }
     {
         let Ran {

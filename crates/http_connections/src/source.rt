@@ -4,9 +4,9 @@ ghost use Rattle.std.specs.Duration.{as_nanos};
 ghost use Rattle.byte_stream.specs.claim.Counts.{counted};
 ghost use Rattle.byte_stream.specs.Turns.{TurnConsumes, failures_after};
 ghost use Rattle.http_connections.specs.Paces.{IsPatient, TakesInTime};
-ghost use Rattle.http_connections.specs.Taking.{TakesBytes};
+ghost use Rattle.http_connections.specs.Taking.{MayEnd, TakesBytes};
 
-use crate::door::Door;
+use crate::doorway::Doorway;
 use crate::mark::Mark;
 use crate::pace::{Fate, Limits, Pace};
 use byte_stream::source::{Source, Turn, turn_of};
@@ -22,9 +22,9 @@ const DRAIN_SILENCE: u64 = 10;
 
 /// The reader of a connection. Its reads wait for a slice of a second each.
 #[derive(Drop)]
-pub struct KeptSource<'a, S, R> {
+pub struct KeptSource<'a, S, R, O> {
     rt: &'a R,
-    door: &'a Door,
+    door: &'a O,
     mark: &'a Mark,
     reader: S,
     limits: Limits,
@@ -62,11 +62,18 @@ fn time_of<R: Clock>(rt: &R, last: u64) -> u64 {
     }
 }
 
+/// Whether the door lets a connection go, which is asked only if that has asked for nothing.
+fn is_let_go<O: Doorway>(door: &O, asks: bool) -> bool
+    ensures { result ≡ true → O.lets_go door.now }
+{
+    !asks && door.lets_one_go()
+}
+
 /// Reads until bytes come, the stream ends, or the connection's time is up, which is looked at after each slice of silence.
-#[tactic(auto, using(crate::proofs::Taken::turns))]
-fn take_turn<S: Read, R: Clock>(
+#[tactic(auto, using(crate::proofs::Taken::turns, crate::proofs::Taken::ends_by_fate))]
+fn take_turn<S: Read, R: Clock, O: Doorway>(
     rt: &R,
-    door: &Door,
+    door: &O,
     limits: &Limits,
     pace: &mut Pace,
     reader: &mut S,
@@ -77,8 +84,9 @@ fn take_turn<S: Read, R: Clock>(
     ensures patient { IsPatient limits.now pace.new }
     ensures timely { TakesInTime limits.now pace.old result }
     ensures taken { TakesBytes (S.remaining reader.old) (S.remaining reader.new) result buf.new }
+    ensures ends { MayEnd (O.lets_go door.now) limits.now pace.new (S.remaining reader.new) result buf.new }
 {
-    match pace.fate(pace.last, door.is_over(), limits) {
+    match pace.fate(pace.last, door.lets_all_go(), limits) {
         Fate::Waits => {}
         Fate::GivesWay => return Turn::Read(0),
         Fate::Fails => return Turn::Failed,
@@ -97,7 +105,7 @@ fn take_turn<S: Read, R: Clock>(
             }
         }
         *pace = pace.with_silence();
-        let another_waits = !pace.asks && door.lets_another_in();
+        let another_waits = is_let_go(door, pace.asks);
         match pace.fate(time_of(rt, pace.last), another_waits, limits) {
             Fate::Waits => {}
             Fate::GivesWay => return Turn::Read(0),
@@ -108,7 +116,7 @@ fn take_turn<S: Read, R: Clock>(
 }
 
 /// Reads on and drops what comes, until the stream ends, a second of silence, half a minute, or another connection waits.
-fn drain<S: Read, R: Clock>(rt: &R, door: &Door, reader: &mut S) {
+fn drain<S: Read, R: Clock, O: Doorway>(rt: &R, door: &O, reader: &mut S) {
     let mut dropped = [0; 8_192];
     let start = time_of(rt, 0);
     let mut silent = 0u64;
@@ -124,13 +132,13 @@ fn drain<S: Read, R: Clock>(rt: &R, door: &Door, reader: &mut S) {
             }
         }
         let spent = time_of(rt, start).saturating_sub(start);
-        if silent >= DRAIN_SILENCE || spent >= DRAIN_TIME || door.lets_another_in() {
+        if silent >= DRAIN_SILENCE || spent >= DRAIN_TIME || door.lets_one_go() {
             return;
         }
     }
 }
 
-impl<'a, R: Clock> KeptSource<'a, TcpStream, R> {
+impl<'a, R: Clock, O: Doorway> KeptSource<'a, TcpStream, R, O> {
     /// If the connection ends after a refusal, signals the client that no response follows, and
     /// drops what it still sends. If it were closed with unread bytes, the system would reset it,
     /// and the refusal could be lost (RFC 9112, section 9.6).
@@ -141,15 +149,15 @@ impl<'a, R: Clock> KeptSource<'a, TcpStream, R> {
     }
 }
 
-impl<'a, S: Read, R: Clock> KeptSource<'a, S, R> {
+impl<'a, S: Read, R: Clock, O: Doorway> KeptSource<'a, S, R, O> {
     /// The reader of a connection that has this mark.
     pub fn new(
         rt: &'a R,
-        door: &'a Door,
+        door: &'a O,
         mark: &'a Mark,
         reader: S,
         limits: Limits,
-    ) -> KeptSource<'a, S, R>
+    ) -> KeptSource<'a, S, R, O>
         ensures reader { result.reader ≡ reader }
         ensures limits { result.limits ≡ limits }
         ensures none { (result.turns ≡ 0) × (result.failures ≡ 0) }
@@ -172,7 +180,7 @@ impl<'a, S: Read, R: Clock> KeptSource<'a, S, R> {
     }
 }
 
-impl<'a, S: Read, R: Clock> Source for KeptSource<'a, S, R> {
+impl<'a, S: Read, R: Clock, O: Doorway> Source for KeptSource<'a, S, R, O> {
     // A connection that gives way may have had more.
     ghost remaining = { λ _. None };
 
@@ -185,6 +193,7 @@ impl<'a, S: Read, R: Clock> Source for KeptSource<'a, S, R> {
         ensures turns { self.new.turns ≡ counted self.old.turns 1 }
         ensures failures { self.new.failures ≡ failures_after self.old.failures result }
         ensures taken { TakesBytes (S.remaining self.old.reader) (S.remaining self.new.reader) result buf.new }
+        ensures ends { MayEnd (O.lets_go self.new.door.now) self.new.limits self.new.pace (S.remaining self.new.reader) result buf.new }
     {
         self.turns = self.turns.saturating_add(1);
         self.pace = self.pace.at_turn(self.mark.take_answer(), buf.len());

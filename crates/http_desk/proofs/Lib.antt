@@ -6,3 +6,5 @@ pub mod ShortLemmas
 mod Steps
 pub mod TalkLemmas
 pub use Rattle.http_wire.proofs as http_wire
+pub mod Owing
+pub mod Passing

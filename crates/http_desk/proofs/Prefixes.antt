@@ -1,7 +1,7 @@
 -- A line whose first bytes were looked at before its end was found.
 use Rattle.std.{specs.Str.Lines.{lines, strip_carriage_return}, proofs.lemmas.{Bool.{cond-false, cond_both}, List.{length-take-le, Elements.All-append}}}
 use Rattle.std.proofs.Common.{◌≡◌, ℕ, ◌≤◌, false, eqb, ne_eqb, List, ◌∷◌, ◌++◌, length, take, drop, sym, ◌∙◌, ap, arith, All, append_assoc, length-append, length-drop, take-append-drop, get_or, ◌-◌}
-use Rattle.{http_desk.specs.Rows.BeginsWith, byte_stream.proofs.TextLemmas.lines-cut}
+use Rattle.{http_desk.specs.Rows.BeginsWith, field_text.proofs.TextLemmas.lines-cut}
 
 abbrev IsNoFeed : ℕ → Type 0
 IsNoFeed b = eqb b 10 ≡ false

@@ -1,10 +1,10 @@
 -- What the step of an accepted command did.
 use Rattle.{std.{specs.{Prelude.nat_le, Str.Lines.lines}, proofs.lemmas.{Bool.Decides.nat_tests, List.length-map}}, baf_text.specs.Body.{ReadIsListed, value_of, rows}}
 use Rattle.std.proofs.Common.{◌≡◌, ℕ, ◌+◌, Bool, true, false, cond, not, eqb, List, length, Option, Some, None, Result, Ok, Err, refl, sym, ap, ◌∙◌, arith, rules}
-use Rattle.{byte_stream.specs.claim.Fields.fields, desk_model.specs.claim.{Baf.{Values, Fault, body_read, fields_of}, Desk.{Desk, Plan}, Geography.GeographyModel}}
-use Rattle.desk_model.specs.{claim.{Outcome.IsAcceptance, Subject.revision_at}, declared.command.Command.{Command, TheVariants.{Create, Whole, Counties, Retire, Fork}}}
+use Rattle.desk_model.specs.claim.{Baf.{Values, Fault, body_read, fields_of}, Desk.{Desk, Plan}, Geography.GeographyModel, Outcome.IsAcceptance, Subject.revision_at}
 use Rattle.desk_model.specs.claim.Step.{Outcome, refused, plan_limit, on_revisions, whole_read, patch_read, county_patched, partly_listed, create, retired, fork, fork_from, fork_of, step_at}
-use Rattle.{desk_model.specs.declared.{kind.Kind.Kind, reply.Refusal.TheVariants.Limit}, http_desk.specs.{Accepting.{done_by, rows_in}, Laws.{IsRevised, IsDone, AcceptanceIsTold}}}
+use Rattle.desk_model.specs.declared.{command.Command.{Command, TheVariants.{Create, Whole, Counties, Retire, Fork}}, kind.Kind.Kind, reply.Refusal.TheVariants.Limit}
+use Rattle.{field_text.specs.claim.Fields.fields, http_desk.specs.{Accepting.{done_by, rows_in}, Laws.{IsRevised, IsDone, AcceptanceIsTold}}}
 use Rattle.std.specs.FinMap as map_of
 use Rattle.desk_model.specs.declared.reply.Reply.TheVariants as reply
 

@@ -2,14 +2,14 @@
 use Rattle.{std.{specs.Io.KnownBytes.{Appends, Consumes}, proofs.{KnownBytes.{Appends-nil, Appends-trans, Consumes-trans}, lemmas.List.append-nil}}, http_wire.specs.Queue.Queued}
 use Rattle.std.proofs.Common.{◌≡◌, ◌⊎◌, ℕ, suc, Bool, true, false, List, [], ◌++◌, Option, Some, Result, Ok, Err, refl, sym, ap, subst, ◌∙◌, append_assoc, inl, inr, ◌+◌, arith, codes, rules}
 use Rattle.{desk_model.specs.declared.{command.{Command.Command, Query.Query}, reply.Reply.Reply}, http_desk.specs.{Asking.TakesAll, claim.Asking.{Asks, IsAskedAfter, IsAskedIn}}}
-use Rattle.http_desk.specs.{Serving.{CutsNext, Handled, IsUnanswered, Leaves, MayHandle, NextCame, Puts}, declared.serve.{Asked.Asked, Next.Next, StreamFault.StreamFault}}
+use Rattle.http_desk.specs.{Serving.{CutsNext, Handled, IsUnanswered, Leaves, MayHandle, NextCame, Puts}, declared.serve.{Asked.Asked, Next.Next, ServeFault.ServeFault}}
 use Rattle.{http_desk.specs.claim.Serving.{Exchanges, IsCutTalk, IsPrefixTalk, IsShortTalk, GoesOn, ServesTo}, http_routes.specs.claim.Orders.order_of}
 use Rattle.{http_desk.specs.claim.Talk.{Talk, Handles, over, ended, out_of_memory, refused, closed, went}, http_wire.specs.{Interim.IsCutShort, declared.request.Incoming.Incoming}}
 use Rattle.{http_wire.specs.claim.{Interim.{continue_text, asks_to_continue}, Prefix.{HasRequest, closes_after as closes_after_head, is_head}}, httparse.specs.Grammar.RequestHead}
 use Rattle.http_wire.specs.declared.request.Incoming.TheVariants as came
 use Rattle.http_desk.specs.declared.serve.Asked.TheVariants as asked
 use Rattle.http_desk.specs.declared.serve.Next.TheVariants as next
-use Rattle.http_desk.specs.declared.serve.StreamFault.TheVariants as fault
+use Rattle.http_desk.specs.declared.serve.ServeFault.TheVariants as fault
 use Rattle.http_routes.specs.declared.order.Order.TheVariants as order
 
 -- one text after another waits
@@ -95,19 +95,19 @@ module _ {X : Type 0} (commands : X → Command → Reply → X → Type 0) (ask
   }
 
   -- the answer was put after what waits
-  pub put : (x y : X) (old mid new left : Option (List ℕ)) (input rest before pending after interim text : List ℕ) (shut : Bool) (result : Result Next StreamFault) → Answered x input rest (interim ++ text) shut y
+  pub put : (x y : X) (old mid new left : Option (List ℕ)) (input rest before pending after interim text : List ℕ) (shut : Bool) (result : Result Next ServeFault) → Answered x input rest (interim ++ text) shut y
       → Queued old mid before pending interim → Puts mid new pending after shut result text
       → (output : List ℕ) × (unsent : List ℕ) × Queued old new before unsent output × Exchanges commands asks x result left input rest output y × Leaves result unsent after
   put x y old mid new left input rest before pending after interim text true (Ok next.Last) a q p = (interim ++ text, [], queued_then old mid new before pending [] interim text q p.1, a, refl)
   put x y old mid new left input rest before pending after interim text false (Ok next.Again) a q p = (interim ++ text, after, queued_then old mid new before pending after interim text q p.1, a, refl)
-  put x y old mid new left input rest before pending after interim text true (Err fault.Write) a q p = (
+  put x y old mid new left input rest before pending after interim text true (Err fault.WriteFault) a q p = (
     interim ++ text,
     p.0,
     queued_then old mid new before pending p.0 interim text q p.1,
     record { prefix = input; unread = []; read = sym (append-nil input); count = 1; shut = true; talk = a },
     tt,
   )
-  put x y old mid new left input rest before pending after interim text false (Err fault.Write) a q p = (interim ++ text, p.0, queued_then old mid new before pending p.0 interim text q p.1, gone x y input rest (interim ++ text) a, tt)
+  put x y old mid new left input rest before pending after interim text false (Err fault.WriteFault) a q p = (interim ++ text, p.0, queued_then old mid new before pending p.0 interim text q p.1, gone x y input rest (interim ++ text) a, tt)
   put x y old mid new left input rest before pending after interim text false (Ok next.Last) a q p = absurd (cc (p.0))
   put x y old mid new left input rest before pending after interim text true (Ok next.Again) a q p = absurd (cc (p.0))
   put x y old mid new left input rest before pending after interim text shut _ a q p = absurd p
@@ -217,10 +217,10 @@ module _ {X : Type 0} (commands : X → Command → Reply → X → Type 0) (ask
       )
 
   -- a fault of an exchange ends the stream
-  pub fails : (x0 x y : X) (u v w b0 b1 b2 : Option (List ℕ)) (read_buffer rest pending after came sent unsent : List ℕ) (requests : ℕ) (e : StreamFault) → Stands x0 u v b0 b1 x read_buffer pending requests → Consumes v w came
+  pub fails : (x0 x y : X) (u v w b0 b1 b2 : Option (List ℕ)) (read_buffer rest pending after came sent unsent : List ℕ) (requests : ℕ) (e : ServeFault) → Stands x0 u v b0 b1 x read_buffer pending requests → Consumes v w came
       → Queued b1 b2 pending unsent sent → Exchanges commands asks x (Err e) w (read_buffer ++ came) rest sent y → Leaves (Err e) unsent after
       → (input : List ℕ) × (output : List ℕ) × Consumes u w input × Appends b0 b2 output × ServesTo commands asks x0 (Err e) w input output y
-  fails x0 x y u v w b0 b1 b2 read_buffer rest pending after came sent unsent requests fault.Write s read write t none = ends_cut x0 x y u v w b0 b1 b2 read_buffer pending came sent unsent requests s read write t
+  fails x0 x y u v w b0 b1 b2 read_buffer rest pending after came sent unsent requests fault.WriteFault s read write t none = ends_cut x0 x y u v w b0 b1 b2 read_buffer pending came sent unsent requests s read write t
   fails x0 x y u v w b0 b1 b2 read_buffer rest pending after came sent unsent requests fault.Memory s read write t none = absurd t
   fails x0 x y u v w b0 b1 b2 read_buffer rest pending after came sent unsent requests _ s read write t none =
       ends (λ input output. IsShortTalk commands asks x0 input output y) x0 x u v w b0 b1 b2 read_buffer pending came sent unsent requests s read write none (shortly x0 x y u v b0 b1 read_buffer pending (read_buffer ++ came) sent requests s t)

@@ -5,5 +5,6 @@ pub mod Hearing
 pub mod Laws
 pub mod Rows
 pub mod Serving
+pub mod Owing
 pub use Rattle.http_routes.specs as http_routes
 pub use Rattle.http_wire.specs as http_wire

@@ -1,18 +1,18 @@
 -- What no promise rests on, beside claim/Serving.antt.
 use Rattle.std.specs.{Prelude.{◌≡◌, ◌⊎◌, ⊤, ℕ, ◌<◌, ◌≤◌, Bool, true, false, List, [], ◌++◌, Option, Some, None, Result, Ok, Err, codes}, Str.IsAscii}
 use Rattle.{desk_model.specs.declared.{command.{Command.Command, Query.Query}, reply.Reply.Reply}, http_desk.specs.claim.Answers.{bytes_of, fault_message, memory_text}}
-use Rattle.{http_desk.specs.{claim.Talk.Handles, declared.serve.{Asked.Asked, Next.Next, StreamFault.StreamFault}}, http_routes.specs.claim.Orders.order_of}
+use Rattle.{http_desk.specs.{claim.Talk.Handles, declared.serve.{Asked.Asked, Next.Next, ServeFault.ServeFault}}, http_routes.specs.claim.Orders.order_of}
 use Rattle.http_wire.specs.{Incoming.{Came, IsNoEnd, TakesSome as RequestTakes}, Interim.IsCutShort, Plain.IsPlain, Queue.Queued, claim.Interim.Interim}
 use Rattle.http_wire.specs.{claim.Prefix.{IsIncomplete, is_head}, declared.{fault.RequestFault.RequestFault, request.Incoming.Incoming}}
 use Rattle.http_desk.specs.declared.serve.Asked.TheVariants as asked
 use Rattle.http_desk.specs.declared.serve.Next.TheVariants as next
-use Rattle.http_desk.specs.declared.serve.StreamFault.TheVariants as fault
+use Rattle.http_desk.specs.declared.serve.ServeFault.TheVariants as fault
 use Rattle.http_routes.specs.declared.order.Order.TheVariants as order
 use Rattle.http_wire.specs.declared.fault.RequestFault.TheVariants as request
 use Rattle.http_wire.specs.declared.request.Incoming.TheVariants as came
 
 -- what a stream can still give never grows, and each request that is answered takes some of it
-abbrev pub TakesSome : Result Next StreamFault → ℕ → ℕ → Type 0
+abbrev pub TakesSome : Result Next ServeFault → ℕ → ℕ → Type 0
 TakesSome (Ok next.Again) old new = new < old
 TakesSome (Ok next.Last) old new = new ≤ old
 TakesSome (Ok next.End) old new = new ≤ old
@@ -26,23 +26,23 @@ TakesNext (Ok None) old new = new ≤ old
 TakesNext (Err e) old new = new ≤ old
 
 -- the answer was put after what waited, and all that was sent where it closes; or a prefix was
-abbrev pub Puts : (old new : Option (List ℕ)) → (before after : List ℕ) → (closes : Bool) → Result Next StreamFault → List ℕ → Type 0
+abbrev pub Puts : (old new : Option (List ℕ)) → (before after : List ℕ) → (closes : Bool) → Result Next ServeFault → List ℕ → Type 0
 Puts old new before after closes (Ok next.Again) text = (closes ≡ false) × Queued old new before after text
 Puts old new before after closes (Ok next.Last) text = (closes ≡ true) × Queued old new before [] text
-Puts old new before after closes (Err fault.Write) text = (unsent : List ℕ) × Queued old new before unsent text
+Puts old new before after closes (Err fault.WriteFault) text = (unsent : List ℕ) × Queued old new before unsent text
 Puts old new before after closes (Ok next.End) text = ⊥
-Puts old new before after closes (Err fault.Read) text = ⊥
+Puts old new before after closes (Err fault.ReadFault) text = ⊥
 Puts old new before after closes (Err fault.Memory) text = ⊥
 Puts old new before after closes (Err fault.TurnLimit) text = ⊥
 
 -- what is unsent waits, but at the end and at a read fault nothing does
-abbrev pub Leaves : Result Next StreamFault → (unsent pending : List ℕ) → Type 0
+abbrev pub Leaves : Result Next ServeFault → (unsent pending : List ℕ) → Type 0
 Leaves (Ok next.Again) unsent pending = unsent ≡ pending
 Leaves (Ok next.Last) unsent pending = unsent ≡ []
 Leaves (Ok next.End) unsent pending = unsent ≡ []
-Leaves (Err fault.Read) unsent pending = unsent ≡ []
+Leaves (Err fault.ReadFault) unsent pending = unsent ≡ []
 Leaves (Err fault.TurnLimit) unsent pending = unsent ≡ []
-Leaves (Err fault.Write) unsent pending = ⊤
+Leaves (Err fault.WriteFault) unsent pending = ⊤
 Leaves (Err fault.Memory) unsent pending = ⊤
 
 -- no answer is due: nothing came, or not enough to tell

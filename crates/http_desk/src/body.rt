@@ -5,7 +5,7 @@ ghost use Rattle.serde_json.specs.Written.{compact_text, comma_if};
 ghost use Rattle.http_desk.specs.claim.Bodies.{row_data, plans_body};
 
 use desk_model::kind::Kind;
-use desk_model::reply::PlanLine;
+use desk_model::reply::PlanRow;
 use itoa::Buffer;
 use std::alloc::AllocError;
 
@@ -41,7 +41,7 @@ fn kind_member(kind: Kind) -> &'static [u8]
 }
 
 /// Appends a line of the list, after a comma where it isn't the first.
-fn put_item(text: &mut Vec<u8>, row: &PlanLine, is_later: bool) -> Result<(), AllocError>
+fn put_item(text: &mut Vec<u8>, row: &PlanRow, is_later: bool) -> Result<(), AllocError>
     ensures { OnOk result (text.new.items ≡ text.old.items ++ (comma_if is_later ++ compact_text (row_data row.now))) }
 {
     text.extend_from_slice(line_start(is_later))?;
@@ -56,7 +56,7 @@ fn put_item(text: &mut Vec<u8>, row: &PlanLine, is_later: bool) -> Result<(), Al
 
 /// Writes the list of plans in place of what was there.
 #[tactic(auto, using(crate::proofs::BodyLemmas::begins))]
-pub fn put_plans(text: &mut Vec<u8>, rows: &[PlanLine]) -> Result<(), AllocError>
+pub fn put_plans(text: &mut Vec<u8>, rows: &[PlanRow]) -> Result<(), AllocError>
     ensures { OnOk result (text.new.items ≡ plans_body rows.now) }
 {
     text.clear();

@@ -6,8 +6,11 @@ use std::sync::atomic::AtomicU64;
 /// A gate of served streams that observes accepted commands. Nobody waits for what it does with
 /// them.
 pub trait Hears: Gate {
-    ghost use Rattle.std.specs.Prelude.{◌≡◌, Bool};
+    ghost use Rattle.std.specs.Prelude.{◌≡◌, ℕ, Bool};
     ghost use Rattle.http_desk.specs.declared.accepted.Accepted.{Accepted};
+
+    // A worker of this number passed it before a piece of work of this number.
+    ghost passes: { Self → ℕ → ℕ → Type 0 } = { λ _ _ _. Unit {0} };
 
     // Whether anybody listens.
     ghost listening: { Self → Bool };
@@ -17,6 +20,10 @@ pub trait Hears: Gate {
 
     // It was heard that the store's rows are none that a desk leaves.
     ghost hears_unsound: { Self → Type 0 } = { λ _. Unit {0} };
+
+    /// Passes it before a piece of work.
+    fn pass_before(&self, worker: u32, piece: u32)
+        ensures { passes self.now worker piece };
 
     /// Whether anybody hears of commands.
     fn listens(&self) -> bool
@@ -38,6 +45,10 @@ impl Hears for NoGate {
     ghost use Rattle.std.specs.Prelude.{false};
 
     ghost listening = { λ _. false };
+
+    fn pass_before(&self, worker: u32, piece: u32) {
+        self.pass(worker, piece);
+    }
 
     fn listens(&self) -> bool {
         false

@@ -23,6 +23,9 @@
 //!   written is a prefix of a talk's answers.
 //! - Memory is answered to a request that did not reach the counter, by the counter, or in place of
 //!   the list of plans, and never to a head that is rejected.
+//! - Nothing is done for a request before the gate was passed for it (`passed` of `serve`).
+//! - `answers_come_first`: nothing is read while an answer is owed, and no body before the interim
+//!   line that its head asks for.
 //! - `heard` reports an accepted command to an observer (`heard_of`); `acceptance_is_told`: the
 //!   report is what the desk's step did (`IsDone`).
 //!

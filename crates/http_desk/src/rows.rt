@@ -4,7 +4,7 @@ ghost use Rattle.std.specs.Str.Lines.{lines};
 ghost use Rattle.http_desk.specs.Accepting.{one_row, rows_in};
 ghost use Rattle.http_desk.specs.Rows.{BeginsWith};
 
-use byte_stream::lines::{cut_near, first_line};
+use field_text::line::{cut_near, first_line};
 
 /// 1 where a line has bytes.
 fn one(line: &[u8]) -> u64

@@ -1,5 +1,5 @@
 //! One stream of requests, from its reader to its writer.
-ghost use Rattle.std.specs.Prelude.{◌≡◌, ◌≤◌, ◌<◌, ◌++◌, ℕ, List, [], Option, length, codes, Ok, Err, None, IfSome};
+ghost use Rattle.std.specs.Prelude.{◌≡◌, ◌+◌, ◌≤◌, ◌<◌, ◌++◌, ℕ, min, false, List, [], Option, length, codes, Ok, Err, None, IfOk, IfSome};
 ghost use Rattle.std.specs.Io.KnownBytes.{Consumes, IsAtEnd};
 ghost use Rattle.http_intake.specs.Budget.{reading_left};
 ghost use Rattle.http_wire.specs.Budget.{read_failures_of, write_failures_of};
@@ -49,11 +49,11 @@ pub struct Served {
 
 /// Why a stream was not served to its end.
 #[derive(Clone, Copy)]
-pub enum StreamFault {
+pub enum ServeFault {
     /// A read failed. The answers to all requests that were read whole are written.
-    Read,
+    ReadFault,
     /// A write failed. What was written is a prefix of the answers; accepted commands stay.
-    Write,
+    WriteFault,
     /// Memory for the first buffers was refused. Nothing was read or written.
     Memory,
     /// The 4,294,967,296 turns of reading are used up. The answers to all requests that were read whole are written.
@@ -102,38 +102,26 @@ fn deed_for<G: Hears>(gate: &G, command: &Command) -> Option<Accepted>
     }
 }
 
-/// Answers a request, or the reason why it is refused, and returns whether the connection closes
+/// Answers a request before which the gate was passed, and returns whether the connection closes
 /// after it. What an accepted command did is noted if somebody observes it.
 #[tactic(auto, using(crate::proofs::HearingLemmas::none_noted, crate::proofs::HearingLemmas::query_noted, crate::proofs::HearingLemmas::command_noted))]
-fn handle<C: Counter, G: Hears>(
+fn work<C: Counter, G: Hears>(
     alloc: Global,
     router: &Router<Route>,
     counter: &mut C,
     gate: &G,
     piece: u32,
-    incoming: Incoming,
+    request: Request,
     answer: &mut Answer,
     accepted: &mut Option<Accepted>,
 ) -> bool
+    requires passed { G.passes gate.now 0 piece }
     requires routes { router.now ≡ the_routes }
-    requires takes { MayHandle C.takes counter.old incoming }
-    ensures handles { Handled C.commands C.asks counter.old (Asked.Of incoming) answer.new result counter.new }
+    requires takes { MayHandle C.takes counter.old (Incoming.Request request) }
+    requires none { accepted.old ≡ None }
+    ensures handles { Handled C.commands C.asks counter.old (Asked.Of (Incoming.Request request)) answer.new result counter.new }
     ensures noted { IsNoted C.commands C.asks (G.listening gate.now) counter.old accepted.new counter.new }
 {
-    *accepted = None;
-    let request = match incoming {
-        Incoming::Refused { fault, head_only } => {
-            answer.put_fault(fault, head_only);
-            return true;
-        }
-        Incoming::OutOfMemory { head_only } => {
-            answer.put_memory(head_only);
-            return true;
-        }
-        Incoming::End => unreachable!(),
-        Incoming::Request(request) => request,
-    };
-    gate.pass(0, piece);
     let Request {
         method,
         target,
@@ -161,8 +149,54 @@ fn handle<C: Counter, G: Hears>(
     answer.tell(reply, closes, head_only)
 }
 
-/// Answers with the list of plans, and returns whether the connection closes after it.
-fn list<C: Counter>(alloc: Global, counter: &mut C, answer: &mut Answer, closes: bool) -> bool
+/// Answers a request as `work` does, after the gate was passed, or the reason why it is refused.
+#[tactic(auto, using(crate::proofs::HearingLemmas::none_noted))]
+fn handle<C: Counter, G: Hears>(
+    alloc: Global,
+    router: &Router<Route>,
+    counter: &mut C,
+    gate: &G,
+    piece: u32,
+    incoming: Incoming,
+    answer: &mut Answer,
+    accepted: &mut Option<Accepted>,
+) -> bool
+    requires routes { router.now ≡ the_routes }
+    requires takes { MayHandle C.takes counter.old incoming }
+    ensures handles { Handled C.commands C.asks counter.old (Asked.Of incoming) answer.new result counter.new }
+    ensures noted { IsNoted C.commands C.asks (G.listening gate.now) counter.old accepted.new counter.new }
+    ensures passed { result ≡ false → G.passes gate.now 0 piece }
+{
+    *accepted = None;
+    match incoming {
+        Incoming::Refused { fault, head_only } => {
+            answer.put_fault(fault, head_only);
+            true
+        }
+        Incoming::OutOfMemory { head_only } => {
+            answer.put_memory(head_only);
+            true
+        }
+        Incoming::End => unreachable!(),
+        Incoming::Request(request) => {
+            gate.pass_before(0, piece);
+            work(
+                alloc, router, counter, gate, piece, request, answer, accepted,
+            )
+        }
+    }
+}
+
+/// Answers with the list of plans after the gate was passed, and returns whether the connection closes after it.
+fn list<C: Counter, G: Hears>(
+    alloc: Global,
+    counter: &mut C,
+    gate: &G,
+    piece: u32,
+    answer: &mut Answer,
+    closes: bool,
+) -> bool
+    requires { G.passes gate.now 0 piece }
     ensures handles { Handled C.commands C.asks counter.old (Asked.List closes) answer.new result counter.new }
     ensures asked { (reply : Reply) × C.asks counter.old Plans reply counter.new }
 {
@@ -178,20 +212,20 @@ fn put_answer<W: GatherSink>(
     write_buffer: &mut WriteBuffer,
     closes: bool,
     at_once: bool,
-) -> Result<Next, StreamFault>
+) -> Result<Next, ServeFault>
     ensures bytes { Puts (W.contents writer.old) (W.contents writer.new) write_buffer.old write_buffer.new closes result answer.now }
     ensures failures { W.failures writer.new ≡ write_failures (W.failures writer.old) result }
 {
     match answer.send(writer, write_buffer) {
         Ok(()) => {}
-        Err(_) => return Err(StreamFault::Write),
+        Err(_) => return Err(ServeFault::WriteFault),
     }
     if !closes && !at_once {
         return Ok(Next::Again);
     }
     match write_buffer.flush(writer) {
         Ok(()) => {}
-        Err(_) => return Err(StreamFault::Write),
+        Err(_) => return Err(ServeFault::WriteFault),
     }
     if closes {
         Ok(Next::Last)
@@ -291,7 +325,7 @@ fn exchange<R: Source, W: GatherSink, C: Counter, G: Hears>(
     gate: &G,
     stream: &mut Stream,
     piece: u32,
-) -> Result<Next, StreamFault>
+) -> Result<Next, ServeFault>
     requires { TakesAll C.takes stream.old.read_buffer (R.remaining reader.old) }
     ensures heard { (noted : Option Accepted) × IsNoted C.commands C.asks (G.listening gate.now) counter.old noted counter.new
         × IfSome noted (λ change. G.hears gate.now change) }
@@ -302,13 +336,14 @@ fn exchange<R: Source, W: GatherSink, C: Counter, G: Hears>(
     ensures read_failures { R.failures reader.new ≡ read_failures (R.failures reader.old) result }
     ensures write_failures { W.failures writer.new ≡ write_failures (W.failures writer.old) result }
     ensures turns { Spends stream.old.turns stream.new.turns (R.turns reader.old) (R.turns reader.new) }
-    ensures limit { result ≡ Err StreamFault.TurnLimit → stream.new.turns ≡ 0 }
+    ensures limit { result ≡ Err ServeFault.TurnLimit → stream.new.turns ≡ 0 }
     ensures left { TakesSome result (reading_left stream.old.turns stream.old.read_buffer) (reading_left stream.new.turns stream.new.read_buffer) }
+    ensures passed { result ≡ Ok Next.Again → G.passes gate.now 0 piece }
 {
     let incoming = match next_request(alloc, reader, writer, stream) {
         Ok(Some(Asked::List { closes })) => {
-            gate.pass(0, piece);
-            let closes = list(alloc, counter, &mut stream.answer, closes);
+            gate.pass_before(0, piece);
+            let closes = list(alloc, counter, gate, piece, &mut stream.answer, closes);
             return put_answer(
                 writer,
                 &stream.answer,
@@ -319,9 +354,9 @@ fn exchange<R: Source, W: GatherSink, C: Counter, G: Hears>(
         }
         Ok(Some(Asked::Of(incoming))) => incoming,
         Ok(None) => return Ok(Next::End),
-        Err(RequestFault::Read) => return Err(StreamFault::Read),
-        Err(RequestFault::Write) => return Err(StreamFault::Write),
-        Err(RequestFault::TurnLimit) => return Err(StreamFault::TurnLimit),
+        Err(RequestFault::Read) => return Err(ServeFault::ReadFault),
+        Err(RequestFault::Write) => return Err(ServeFault::WriteFault),
+        Err(RequestFault::TurnLimit) => return Err(ServeFault::TurnLimit),
     };
     let mut accepted = None;
     let closes = handle(
@@ -371,6 +406,13 @@ fn start(alloc: Global) -> Option<Stream>
     })
 }
 
+/// Returns the number of a request as that of a piece of work, which is 4,294,967,295 at most.
+fn piece_of(requests: u64) -> u32
+    ensures { result ≡ min requests 4294967295 }
+{
+    u32::try_from(requests).unwrap_or(u32::MAX)
+}
+
 /// Serves a stream of requests: reads each, passes the gate, and answers it before the next is
 /// taken. Answers wait in a buffer. They are sent before the next read, before an answer that has
 /// no room after them, with an answer that acknowledges an observed command, and at the end. The
@@ -385,20 +427,21 @@ pub fn serve<R: Source, W: GatherSink, C: Counter, G: Hears>(
     writer: &mut W,
     counter: &mut C,
     gate: &G,
-) -> Result<Served, StreamFault>
+) -> Result<Served, ServeFault>
     requires { (x : C) (c : Command) → IsAskedIn (R.remaining reader.old) c → C.takes x c }
     ensures talks { Serves C.commands C.asks counter.old result counter.new (R.remaining reader.old)
         (R.remaining reader.new) (W.contents writer.old) (W.contents writer.new) }
     ensures read_failures { R.failures reader.new ≡ read_failures (R.failures reader.old) result }
     ensures write_failures { W.failures writer.new ≡ write_failures (W.failures writer.old) result }
-    ensures turn_limit { result ≡ Err StreamFault.TurnLimit → R.turns reader.new ≡ counted (R.turns reader.old) 4294967296 }
+    ensures turn_limit { result ≡ Err ServeFault.TurnLimit → R.turns reader.new ≡ counted (R.turns reader.old) 4294967296 }
+    ensures passed { IfOk result (λ served. (k : ℕ) → k + 1 < served.requests → G.passes gate.now 0 (min k 4294967295)) }
 {
     let Some(mut stream) = start(alloc) else {
-        return Err(StreamFault::Memory);
+        return Err(ServeFault::Memory);
     };
     let mut requests = 0u64;
     loop {
-        let piece = u32::try_from(requests).unwrap_or(u32::MAX);
+        let piece = piece_of(requests);
         match exchange(alloc, reader, writer, counter, gate, &mut stream, piece) {
             Ok(Next::Again) => requests += 1,
             Ok(Next::Last) => {

@@ -2,7 +2,7 @@
 ghost use Rattle.std.specs.Prelude.{◌≡◌, true, ◌&&◌, Some, IfOk, OnErr};
 ghost use Rattle.std.specs.Str.{IsAscii};
 ghost use Rattle.http_routes.specs.claim.Routes.{the_routes};
-ghost use Rattle.http_routes.specs.claim.Orders.{order_of as order_of_request, order_at, order_on};
+ghost use Rattle.http_routes.specs.claim.Orders.{order_of as order_of_request, order_on, order_with};
 ghost use Rattle.http_routes.specs.claim.Orders.{name_in as name_in_path, create_order as create_order_of};
 ghost use Rattle.http_routes.specs.claim.Orders.{whole_order as whole_order_of, counties_order as counties_order_of};
 ghost use Rattle.http_routes.specs.claim.Orders.{retire_order as retire_order_of, fork_order as fork_order_of};
@@ -16,7 +16,7 @@ use crate::method::{Methods, is_known, methods_of};
 use crate::query::{
     after_query, companions_query, create_query, from_query, is_no_query, short_number,
 };
-use crate::route::{Route, around, plan_part, revision_part, route_of};
+use crate::route::{Place, Route, around, place_at};
 use desk_model::command::{Command, Query};
 use desk_model::companions::Companions;
 use desk_model::name::PlanName;
@@ -52,19 +52,19 @@ pub enum Order {
     Refused(Error),
 }
 
-/// The plan's name in a path.
-fn name_in(alloc: Global, path: &[u8]) -> Result<Option<PlanName>, AllocError>
-    ensures { IfOk result (λ name. name ≡ name_in_path path.now) }
+/// The plan's name that a part of a path spells.
+fn name_in(alloc: Global, part: &[u8]) -> Result<Option<PlanName>, AllocError>
+    ensures { IfOk result (λ name. name ≡ name_in_path part.now) }
 {
-    let decoded = percent_decode(plan_part(path)).into_cow(alloc)?;
+    let decoded = percent_decode(part).into_cow(alloc)?;
     Ok(PlanName::read(decoded.as_slice()))
 }
 
 /// A create at `/plans/{p}`.
-fn create_order(alloc: Global, path: &[u8], query: &[u8]) -> Result<Order, AllocError>
-    ensures { IfOk result (λ order. order ≡ create_order_of (name_in_path path.now) (create_query_of query.now)) }
+fn create_order(alloc: Global, plan_part: &[u8], query: &[u8]) -> Result<Order, AllocError>
+    ensures { IfOk result (λ order. order ≡ create_order_of (name_in_path plan_part.now) (create_query_of query.now)) }
 {
-    let Some(plan) = name_in(alloc, path)? else {
+    let Some(plan) = name_in(alloc, plan_part)? else {
         return Ok(Order::Refused(Error::BadName));
     };
     let Some(size) = create_query(alloc, query)? else {
@@ -73,19 +73,24 @@ fn create_order(alloc: Global, path: &[u8], query: &[u8]) -> Result<Order, Alloc
     Ok(Order::Command(Command::Create { plan, size }))
 }
 
-/// The number of a revision in a path.
-fn number_in(alloc: Global, path: &[u8]) -> Result<Option<u32>, AllocError>
-    ensures { IfOk result (λ k. k ≡ number_in_path path.now) }
+/// The number of a revision that a part of a path spells.
+fn number_in(alloc: Global, part: &[u8]) -> Result<Option<u32>, AllocError>
+    ensures { IfOk result (λ k. k ≡ number_in_path part.now) }
 {
-    let decoded = percent_decode(revision_part(path)).into_cow(alloc)?;
+    let decoded = percent_decode(part).into_cow(alloc)?;
     Ok(short_number(decoded.as_slice()))
 }
 
 /// A body at `/plans/{p}/revisions`.
-fn whole_order(alloc: Global, path: &[u8], query: &[u8], body: Vec<u8>) -> Result<Order, AllocError>
-    ensures { IfOk result (λ order. order ≡ whole_order_of (name_in_path path.now) (after_query_of query.now) body.items) }
+fn whole_order(
+    alloc: Global,
+    plan_part: &[u8],
+    query: &[u8],
+    body: Vec<u8>,
+) -> Result<Order, AllocError>
+    ensures { IfOk result (λ order. order ≡ whole_order_of (name_in_path plan_part.now) (after_query_of query.now) body.items) }
 {
-    let Some(plan) = name_in(alloc, path)? else {
+    let Some(plan) = name_in(alloc, plan_part)? else {
         return Ok(Order::Refused(Error::BadName));
     };
     let Some(after) = after_query(alloc, query)? else {
@@ -98,13 +103,13 @@ fn whole_order(alloc: Global, path: &[u8], query: &[u8], body: Vec<u8>) -> Resul
 /// A body at `/plans/{p}/counties`.
 fn counties_order(
     alloc: Global,
-    path: &[u8],
+    plan_part: &[u8],
     query: &[u8],
     body: Vec<u8>,
 ) -> Result<Order, AllocError>
-    ensures { IfOk result (λ order. order ≡ counties_order_of (name_in_path path.now) (after_query_of query.now) body.items) }
+    ensures { IfOk result (λ order. order ≡ counties_order_of (name_in_path plan_part.now) (after_query_of query.now) body.items) }
 {
-    let Some(plan) = name_in(alloc, path)? else {
+    let Some(plan) = name_in(alloc, plan_part)? else {
         return Ok(Order::Refused(Error::BadName));
     };
     let Some(after) = after_query(alloc, query)? else {
@@ -115,10 +120,10 @@ fn counties_order(
 }
 
 /// The end of a plan at `/plans/{p}`.
-fn retire_order(alloc: Global, path: &[u8], query: &[u8]) -> Result<Order, AllocError>
-    ensures { IfOk result (λ order. order ≡ retire_order_of (name_in_path path.now) query.now) }
+fn retire_order(alloc: Global, plan_part: &[u8], query: &[u8]) -> Result<Order, AllocError>
+    ensures { IfOk result (λ order. order ≡ retire_order_of (name_in_path plan_part.now) query.now) }
 {
-    let Some(plan) = name_in(alloc, path)? else {
+    let Some(plan) = name_in(alloc, plan_part)? else {
         return Ok(Order::Refused(Error::BadName));
     };
     if !is_no_query(query) {
@@ -128,10 +133,10 @@ fn retire_order(alloc: Global, path: &[u8], query: &[u8]) -> Result<Order, Alloc
 }
 
 /// A fork at `/plans/{p}`.
-fn fork_order(alloc: Global, path: &[u8], query: &[u8]) -> Result<Order, AllocError>
-    ensures { IfOk result (λ order. order ≡ fork_order_of (name_in_path path.now) (from_query_of query.now)) }
+fn fork_order(alloc: Global, plan_part: &[u8], query: &[u8]) -> Result<Order, AllocError>
+    ensures { IfOk result (λ order. order ≡ fork_order_of (name_in_path plan_part.now) (from_query_of query.now)) }
 {
-    let Some(plan) = name_in(alloc, path)? else {
+    let Some(plan) = name_in(alloc, plan_part)? else {
         return Ok(Order::Refused(Error::BadName));
     };
     let Some(from) = from_query(alloc, query)? else {
@@ -152,26 +157,36 @@ fn plain_query(asked: Query, query: &[u8]) -> Order
 }
 
 /// A look at `/plans/{p}/revisions/{k}`.
-fn revision_order(alloc: Global, path: &[u8], query: &[u8]) -> Result<Order, AllocError>
-    ensures { IfOk result (λ order. order ≡ revision_order_of (name_in_path path.now) (number_in_path path.now) query.now) }
+fn revision_order(
+    alloc: Global,
+    plan_part: &[u8],
+    revision_part: &[u8],
+    query: &[u8],
+) -> Result<Order, AllocError>
+    ensures { IfOk result (λ order. order ≡ revision_order_of (name_in_path plan_part.now) (number_in_path revision_part.now) query.now) }
 {
-    let Some(plan) = name_in(alloc, path)? else {
+    let Some(plan) = name_in(alloc, plan_part)? else {
         return Ok(Order::Refused(Error::BadName));
     };
-    let Some(k) = number_in(alloc, path)? else {
+    let Some(k) = number_in(alloc, revision_part)? else {
         return Ok(Order::Refused(Error::BadNumber));
     };
     Ok(plain_query(Query::Revision { plan, k }, query))
 }
 
 /// A look at `/plans/{p}/revisions/{k}/audit`.
-fn audit_order(alloc: Global, path: &[u8], query: &[u8]) -> Result<Order, AllocError>
-    ensures { IfOk result (λ order. order ≡ audit_order_of (name_in_path path.now) (number_in_path path.now) (companions_query_of query.now)) }
+fn audit_order(
+    alloc: Global,
+    plan_part: &[u8],
+    revision_part: &[u8],
+    query: &[u8],
+) -> Result<Order, AllocError>
+    ensures { IfOk result (λ order. order ≡ audit_order_of (name_in_path plan_part.now) (number_in_path revision_part.now) (companions_query_of query.now)) }
 {
-    let Some(plan) = name_in(alloc, path)? else {
+    let Some(plan) = name_in(alloc, plan_part)? else {
         return Ok(Order::Refused(Error::BadName));
     };
-    let Some(k) = number_in(alloc, path)? else {
+    let Some(k) = number_in(alloc, revision_part)? else {
         return Ok(Order::Refused(Error::BadNumber));
     };
     let Some(beside) = companions_query(alloc, query)? else {
@@ -190,19 +205,19 @@ fn audit_order(alloc: Global, path: &[u8], query: &[u8]) -> Result<Order, AllocE
 fn plan_order(
     alloc: Global,
     method: &Method,
-    path: &[u8],
+    plan_part: &[u8],
     query: &[u8],
 ) -> Result<Order, AllocError>
-    ensures { IfOk result (λ order. order ≡ plan_order_of method.now path.now query.now) }
+    ensures { IfOk result (λ order. order ≡ plan_order_of method.now plan_part.now query.now) }
 {
     if *method == Method::PUT {
-        return create_order(alloc, path, query);
+        return create_order(alloc, plan_part, query);
     }
     if *method == Method::POST {
-        return fork_order(alloc, path, query);
+        return fork_order(alloc, plan_part, query);
     }
     if *method == Method::DELETE {
-        return retire_order(alloc, path, query);
+        return retire_order(alloc, plan_part, query);
     }
     Ok(Order::Refused(Error::MethodNotAllowed(Methods::Make)))
 }
@@ -212,21 +227,22 @@ fn order_on_page(
     alloc: Global,
     route: Route,
     method: &Method,
-    path: &[u8],
+    plan_part: &[u8],
+    revision_part: &[u8],
     query: &[u8],
     body: Vec<u8>,
 ) -> Result<Order, AllocError>
-    ensures order { IfOk result (λ order. order ≡ order_on route method.now path.now query.now body.items) }
+    ensures order { IfOk result (λ order. order ≡ order_on route method.now plan_part.now revision_part.now query.now body.items) }
     ensures memory { OnErr result (is_decoded route ≡ true) }
 {
     match route {
         Route::Blocks => Ok(plain_query(Query::Blocks, query)),
         Route::Plans => Ok(plain_query(Query::Plans, query)),
-        Route::Plan => plan_order(alloc, method, path, query),
-        Route::Revisions => whole_order(alloc, path, query, body),
-        Route::Counties => counties_order(alloc, path, query, body),
-        Route::Revision => revision_order(alloc, path, query),
-        Route::Audit => audit_order(alloc, path, query),
+        Route::Plan => plan_order(alloc, method, plan_part, query),
+        Route::Revisions => whole_order(alloc, plan_part, query, body),
+        Route::Counties => counties_order(alloc, plan_part, query, body),
+        Route::Revision => revision_order(alloc, plan_part, revision_part, query),
+        Route::Audit => audit_order(alloc, plan_part, revision_part, query),
     }
 }
 
@@ -235,18 +251,19 @@ fn order_at_page(
     alloc: Global,
     route: Route,
     method: &Method,
-    path: &[u8],
+    plan_part: &[u8],
+    revision_part: &[u8],
     query: &[u8],
     body: Vec<u8>,
 ) -> Result<Order, AllocError>
-    ensures order { IfOk result (λ order. order ≡ order_at (Some route) method.now path.now query.now body.items) }
+    ensures order { IfOk result (λ order. order ≡ order_with route method.now plan_part.now revision_part.now query.now body.items) }
     ensures memory { OnErr result (may_decode (Some route) method.now ≡ true) }
 {
     let methods = methods_of(route);
     if !methods.takes(method) {
         return Ok(Order::Refused(Error::MethodNotAllowed(methods)));
     }
-    order_on_page(alloc, route, method, path, query, body)
+    order_on_page(alloc, route, method, plan_part, revision_part, query, body)
 }
 
 /// What a request asks for. Only want of memory is an error, and only at a page of one plan.
@@ -266,12 +283,18 @@ pub fn order_of(
         return Ok(Order::Refused(Error::UnknownMethod));
     }
     let (path, query) = around(target, b'?');
-    let route = match from_utf8(path) {
-        Ok(text) => route_of(router, text),
+    let place = match from_utf8(path) {
+        Ok(text) => place_at(router, text),
         Err(_) => unreachable!(),
     };
-    match route {
-        Some(route) => order_at_page(alloc, route, method, path, query, body),
+    match place {
+        Some(
+            Place {
+                route,
+                plan,
+                revision,
+            },
+        ) => order_at_page(alloc, route, method, plan, revision, query, body),
         None => Ok(Order::Refused(Error::NoRoute)),
     }
 }

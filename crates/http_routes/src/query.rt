@@ -8,14 +8,14 @@ ghost use Rattle.http_routes.specs.claim.Queries.{after_query as after_query_of,
 ghost use Rattle.http_routes.specs.claim.Queries.{address_of as address_of_text, address_once as address_once_of, more_told};
 ghost use Rattle.http_routes.specs.claim.Queries.{companions_query as companions_query_of, is_no_query as has_no_pair};
 ghost use Rattle.http_routes.specs.Pairs.{HasOne, HasTwo};
-ghost use Rattle.byte_stream.specs.claim.Digits.{number_of};
+ghost use Rattle.field_text.specs.claim.Digits.{number_of};
 
 use crate::route::around;
-use byte_stream::digits::number;
 use desk_model::companions::Companions;
 use desk_model::kind::Kind;
 use desk_model::name::PlanName;
 use desk_model::size::PlanSize;
+use field_text::digits::number;
 use form_urlencoded::{decode, raw_pairs};
 use std::alloc::{AllocError, Global};
 use std::borrow::CowStr;

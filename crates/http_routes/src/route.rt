@@ -1,11 +1,11 @@
 //! The table of paths.
-ghost use Rattle.std.specs.Prelude.{◌≡◌, ◌==◌, ◌≤◌, IfOk, IfErr, OnOk, [], length};
+ghost use Rattle.std.specs.Prelude.{◌≡◌, ◌==◌, ◌≤◌, IfOk, IfErr, IfSome, OnOk, [], length, drop, get_or, option_map};
+ghost use Rattle.std.specs.Str.{IsAscii};
 ghost use Rattle.std.specs.List.{before_first, after_first, position_or_len};
-ghost use Rattle.http_routes.specs.claim.Routes.{the_routes, with_route, route_of as route_of_path};
-ghost use Rattle.http_routes.specs.Routes.{Declines, MakesTable};
-ghost use Rattle.http_routes.specs.claim.Routes.{plan_part as plan_part_of, revision_part as revision_part_of};
+ghost use Rattle.http_routes.specs.claim.Routes.{the_routes, with_route, route_of, plan_part, revision_part, no_part};
+ghost use Rattle.http_routes.specs.Routes.{AreUtf8, Declines, MakesTable};
 
-use matchit::{InsertError, Router};
+use matchit::{InsertError, ParamsIter, Router};
 use std::alloc::Global;
 
 /// The page at a path.
@@ -59,13 +59,47 @@ pub fn router(alloc: Global) -> Result<Router<Route>, InsertError>
     Ok(router)
 }
 
-/// Returns the page at a path.
-pub fn route_of(router: &Router<Route>, path: &str) -> Option<Route>
-    requires { router.now ≡ the_routes }
-    ensures { result ≡ route_of_path path.now }
+/// A page that was found, and the parts of the path that the names of its pattern took.
+#[derive(Clone, Copy)]
+pub struct Place<'p> {
+    pub route: Route,
+    /// The part `{p}`, or nothing if the pattern has no such name.
+    pub plan: &'p [u8],
+    /// The part `{k}`, or nothing.
+    pub revision: &'p [u8],
+}
+
+/// Returns the parts of the path that the first two names took, each of which is empty if there is no such name.
+fn parts_of<'p>(params: &mut ParamsIter<'_, '_, 'p>) -> (&'p [u8], &'p [u8])
+    requires { AreUtf8 params.old }
+    ensures first { result.0.now ≡ (get_or params.old 0 no_part).1 }
+    ensures second { result.1.now ≡ (get_or params.old 1 no_part).1 }
+{
+    let Some((_, first)) = params.next() else {
+        return (&[], &[]);
+    };
+    match params.next() {
+        Some((_, second)) => (first.as_bytes(), second.as_bytes()),
+        None => (first.as_bytes(), &[]),
+    }
+}
+
+/// Returns the page at a path, with its parts.
+pub fn place_at<'p>(router: &Router<Route>, path: &'p str) -> Option<Place<'p>>
+    requires routes { router.now ≡ the_routes }
+    requires ascii { IsAscii path.now }
+    ensures route { option_map (λ place. place.route) result ≡ route_of path.now }
+    ensures parts { IfSome result (λ place. (place.plan.now ≡ plan_part path.now) × (place.revision.now ≡ revision_part path.now)) }
 {
     match router.at(path) {
-        Ok(found) => Some(*found.value),
+        Ok(found) => {
+            let (plan, revision) = parts_of(&mut found.params.iter());
+            Some(Place {
+                route: *found.value,
+                plan,
+                revision,
+            })
+        }
         Err(_) => None,
     }
 }
@@ -95,24 +129,4 @@ pub fn around(bytes: &[u8], byte: u8) -> (&[u8], &[u8])
         return (bytes, &bytes[at..]);
     }
     (&bytes[..at], &bytes[at + 1..])
-}
-
-/// The part `{p}` of a path.
-pub fn plan_part(path: &[u8]) -> &[u8]
-    ensures { result.now ≡ plan_part_of path.now }
-{
-    let (_, past_first) = around(path, b'/');
-    let (_, after_second) = around(past_first, b'/');
-    around(after_second, b'/').0
-}
-
-/// The part `{k}` of a path.
-pub fn revision_part(path: &[u8]) -> &[u8]
-    ensures { result.now ≡ revision_part_of path.now }
-{
-    let (_, past_first) = around(path, b'/');
-    let (_, after_second) = around(past_first, b'/');
-    let (_, after_third) = around(after_second, b'/');
-    let (_, after_fourth) = around(after_third, b'/');
-    around(after_fourth, b'/').0
 }

@@ -1,12 +1,12 @@
 -- What no promise rests on, beside claim/Streams.antt.
 use Rattle.std.specs.Prelude.{◌≡◌, ℕ, List, [], ◌∷◌, length, reverse, Option, Some, None, Result, ⊤}
-use Rattle.{desk_model.specs.{claim.Desk.Desk, declared.command.Command.Command}, http_connections.specs.declared.ran.Ran.Ran, http_desk.specs.declared.serve.Served.Served}
-use Rattle.{http_desk.specs.declared.serve.StreamFault.StreamFault, http_seats.specs.claim.{Seated.{Seated, newcomer}, Streams.{Traffic, IsAskedOf, HasWorked}}}
+use Rattle.{desk_model.specs.{claim.Desk.Desk, declared.command.Command.Command}, http_connections.specs.declared.ran.Ran.Ran, http_desk.specs.declared.serve.ServeFault.ServeFault}
+use Rattle.{http_desk.specs.declared.serve.Served.Served, http_seats.specs.claim.{Seated.{Seated, newcomer}, Streams.{Traffic, IsAskedOf, HasWorked}}}
 use Rattle.byte_stream.specs.declared.source.Source as source
 use Rattle.byte_stream.specs.declared.sink.Sink as sink
 
 -- of what comes from here
-abbrev pub traffic : {A R W : Type 0} → (A → ℕ → Option (R × W) → Type 0) → (A → R → W → Result Served StreamFault → Type 0)
+abbrev pub traffic : {A R W : Type 0} → (A → ℕ → Option (R × W) → Type 0) → (A → R → W → Result Served ServeFault → Type 0)
     → source.Ghosts R → sink.Ghosts W → A → Traffic R W
 traffic gives takes_back r w from =
     record {

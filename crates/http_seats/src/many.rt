@@ -51,12 +51,18 @@ impl<'a, J: GalleryId, D: SectorDevice, G: Hears> Gate for AtWorker<'a, J, D, G>
 }
 
 impl<'a, J: GalleryId, D: SectorDevice, G: Hears> Hears for AtWorker<'a, J, D, G> {
-    // What the gate hears.
+    // What the gate hears, and that the worker passed it.
+    ghost passes = { λ w _ piece. G.passes w.gate.now w.worker piece };
+
     ghost listening = { λ w. G.listening w.gate.now };
 
     ghost hears = { λ w accepted. G.hears w.gate.now accepted };
 
     ghost hears_unsound = { λ w. G.hears_unsound w.gate.now };
+
+    fn pass_before(&self, _worker: u32, piece: u32) {
+        self.gate.pass_before(self.worker, piece);
+    }
 
     fn listens(&self) -> bool {
         self.gate.listens()

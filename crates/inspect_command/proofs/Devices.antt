@@ -1,21 +1,22 @@
 -- A device whose store is verified.
-use Rattle.std.{specs.Prelude.{Option, Some, None, Result, Ok, Err, IfOk, IfErr}, proofs.Common.{rules, ◌≡◌, ◌+◌, ℕ, Bool, true, false, inl, inr, refl, sym, ap, subst, ◌∙◌, arith}}
-use Rattle.{std.proofs.lemmas.Option.none-some, btree_walks.specs.{Errors.CheckErr, Faults.{IsWrongPage, TellsOf}, Owners.AreOwned, declared.error.PageFault.PageFault}}
-use Rattle.{btree_walks.specs.declared.error.PagesError.PagesError, desk_model.specs.{Ranges.ranges_in, claim.Desk.Desk}, desk_pages.specs.Errors.page_refusal}
+use Rattle.{std.{specs.Prelude.{Option, Some, None, Result, Ok, Err, IfOk, IfErr}, proofs.lemmas.Option.none-some}, desk_model.specs.{Ranges.ranges_in, claim.Desk.Desk}}
+use Rattle.{std.proofs.Common.{rules, ◌≡◌, ◌+◌, ◌≤◌, ℕ, Bool, true, false, inl, inr, refl, sym, ap, subst, ◌∙◌, arith}, desk_pages.specs.Errors.page_refusal}
 use Rattle.desk_pages.specs.{Openings.{LeavesOneOf, OpensOneOf, StillStands}, claim.Desks.{HoldsDeskOf, InPages as HoldsDesk, InTxn as ReadsIn}}
-use Rattle.{desk_pages.specs.declared.error.StoreError.StoreError, inspect_command.specs.{Sound.{HasSound, HasStray}, declared.refusal.Refusal.Refusal}}
+use Rattle.{desk_pages.specs.{claim.Openings.{LeavesOneAs, OpensOneAs}, declared.error.StoreError.StoreError}, inspect_command.specs.Sound.{HasSound, HasStray}}
 use Rattle.inspect_command.specs.Verifying.{HoldsOwned, HoldsSound, HoldsStray, IsUnowned, IsFoundWrong, IsLookedAt, NamesPageOrRow, IsRefused, IsSparedFor, IsUnsound, StrayOr, TellsPages, Unsound, VerifiesDevice}
-use Rattle.{inspect_command.specs.declared.verifying.Verified.Verified, page_btree.specs.claim.Map.{Holds, InPages as HoldsRows, InTxn}, page_store.specs.declared.txn.Txn.Txn}
-use Rattle.page_store.specs.{Transactions.{IsUntouched, OpenErr}, claim.Chain.{root_in, free_in}, declared.pages.Pages.Pages, gate_journal.claim.Store.{home, pages}}
-use Rattle.{page_store.specs.claim.Transactions.{stored, disk_in, device_in, count_of, journal_of, has_halted, txn_pages, IsKept, IsQuiet}, parallel_verify.specs.Looking.IsSoundAt}
-use Rattle.{page_store.specs.gate_journal.{Recovery.{HasRoom, AllStores, ReadsAs, Found}, declared.error.PageError.PageError}, row_owners.specs.Strays.AllBelong}
-use Rattle.{row_owners.specs.declared.wrong.WrongRow.WrongRow, sector_device.specs.{Disk.IsSynced, claim.{Disk.{Disk, Image}, Moments.LeavesOnly}, declared.SectorDevice.Ghosts}}
-use Rattle.store_command.specs.{Faults.fault_of_store, Reading.ReadsDesk, declared.fault.StoreFault.{StoreFault, TheVariants.{NotAStore, OldVersion, DeviceFault, Memory}}}
-use Rattle.{store_command.specs.desk_runs.Recovery.ImagesAreOne, store_rows.specs.claim.Rows.KeyMap, inspect_command.proofs.Unread.opened_leaves}
-use Rattle.{desk_pages.proofs.Found.{page_stores_of, found_desk, found_after, pages_stand, rows_before}, page_store.proofs.Stops.{leaves_quiet, quiet_more}}
-use Rattle.{parallel_verify.proofs.Seen.{agreed, same_layout}, store_command.proofs.Read.{left_opens, leaves_new, all_either}}
+use Rattle.{inspect_command.specs.declared.{refusal.Refusal.Refusal, verifying.Verified.Verified}, page_btree.specs.checks.{Errors.CheckErr, Faults.{IsWrongPage, TellsOf}}}
+use Rattle.page_btree.specs.{checks.{Owners.AreOwned, declared.error.{PageFault.PageFault, PagesError.PagesError}}, gets.claim.Map.{Holds, InPages as HoldsRows, InTxn}}
+use Rattle.page_store.specs.{Transactions.{IsUntouched, OpenErr}, claim.Chain.{root_in, free_in}, declared.{pages.Pages.Pages, txn.Txn.Txn}, gate_journal.claim.Store.{home, pages}}
+use Rattle.{page_store.specs.claim.Transactions.{stored, disk_in, device_in, count_of, journal_of, has_halted, txn_pages, IsKept, IsQuiet}, sector_device.specs.Disk.IsSynced}
+use Rattle.{page_store.specs.gate_journal.{Recovery.{HasRoom, AllStores, ReadsAs, Found}, declared.error.PageError.PageError}, sector_device.specs.claim.Disk.{Disk, Image}}
+use Rattle.{sector_device.specs.{claim.Moments.LeavesOnly, declared.SectorDevice.Ghosts}, store_command.specs.{Faults.fault_of_store, Reading.ReadsDesk}}
+use Rattle.{store_command.specs.declared.fault.StoreFault.{StoreFault, TheVariants.{NotAStore, OldVersion, DeviceFault, Memory}}, store_verification.specs.Looking.IsSoundAt}
+use Rattle.{store_verification.specs.rows.{Strays.AllBelong, declared.wrong.WrongRow.WrongRow}, page_store.proofs.Stops.{leaves_quiet, quiet_more}}
+use Rattle.{desk_pages.proofs.Found.{page_stores_of, found_desk, found_after, pages_stand, rows_before}, store_command.proofs.Read.{left_opens, leaves_new, all_either}}
+use Rattle.store_verification.proofs.Seen.{agreed, same_layout}
+use Rattle.{store_command.specs.desk_runs.Recovery.ImagesAreOne, store_rows.specs.claim.Rows.KeyMap, inspect_command.proofs.Unread.{no_less, opened_leaves, opened_versions}, store_command.proofs.desk_theorem.Device.read_on}
 use Rattle.page_store.specs.gate_journal.declared.error.PageError.TheVariants as page
-use Rattle.btree_walks.specs.declared.error.PagesError.TheVariants as owners
+use Rattle.page_btree.specs.checks.declared.error.PagesError.TheVariants as owners
 use Rattle.store_command.proofs.desk_store.Prepared.{IsBegun, begun_rows}
 
 -- ---- what is told for another reason than a part of the store
@@ -103,15 +104,20 @@ module _ {D : Type 0} (g : Ghosts D) (law : ImagesAreOne) (device : D) (synced :
   page_refused left page.Memory why = tt
   page_refused left _ why = absurd why
 
-  pub looked_at : (left : D) → (g.disk left).sectors ≡ old.sectors → ((g.disk left).is_honest → old.is_honest) → LeavesOneOf old (g.disk left) → IsLookedAt g device left
-  looked_at left sectors honest leaves = search leaves_new
+  pub looked_at : (left : D) → (g.disk left).sectors ≡ old.sectors → ((g.disk left).is_honest → old.is_honest) → LeavesOneOf old (g.disk left) → LeavesOneAs old (g.disk left) → ((g.disk left).is_honest → old.faults ≤ (g.disk left).faults) → IsLookedAt g device left
+  looked_at left sectors honest leaves versions more = record {
+    sectors = sectors;
+    honest = honest;
+    any_moment = λ good d reads. leaves_new old synced law (g.disk left) good leaves d reads;
+    life = read_on law old (g.disk left) sectors honest versions more;
+  }
 
   pub not_opened_verifies : (left : D) (e : PageError) (refusal : Refusal) {fault : StoreFault} {error : StoreError} → refusal.fault ≡ fault → fault ≡ fault_of_store error → error ≡ page_refusal e → refusal.is_stray ≡ false → refusal.page ≡ None → (g.disk left).sectors ≡ old.sectors
       → ((g.disk left).is_honest → old.is_honest) → ((g.disk left).is_honest → AllStores old → LeavesOnly (ReadsAs old) old (g.disk left)) → OpenErr g device left e
-      → ((g.disk left).is_honest → e ≡ page.NotAStore → IsUntouched old (g.disk left)) → VerifiesDevice g device (Err refusal) left
-  not_opened_verifies left e refusal same is from opens whole sectors honest leaves why untouched =
+      → ((g.disk left).is_honest → e ≡ page.NotAStore → IsUntouched old (g.disk left)) → ((g.disk left).is_honest → old.faults ≤ (g.disk left).faults) → VerifiesDevice g device (Err refusal) left
+  not_opened_verifies left e refusal same is from opens whole sectors honest leaves why untouched more =
       let told = same ∙ is ∙ ap (λ (error : StoreError). fault_of_store error) from in (
-        looked_at left sectors honest (opened_leaves old (g.disk left) leaves),
+        looked_at left sectors honest (opened_leaves old (g.disk left) leaves) (opened_versions old (g.disk left) leaves) more,
         subst (λ (f : StoreFault). IsSparedFor g device left f) (sym told) (not_opened g device left e why untouched),
         other_told refusal (fault_of_store (page_refusal e)) (IsFoundWrong g device left refusal.page refusal.row) (IsRefused g device left) told opens whole (page_refused left e why),
       )
@@ -131,8 +137,9 @@ module _ {D : Type 0} (g : Ghosts D) (law : ImagesAreOne) (device : D) (synced :
     same_sectors : (disk_in b).sectors ≡ (disk_in a).sectors
     same_sectors = sym b.journal.room.whole ∙ ap (λ J. home J + count_of b) quiet.journal ∙ ap (λ n. home (journal_of a) + n) quiet.count ∙ a.journal.room.whole
 
-    looked : IsLookedAt g device (device_in a) → LeavesOneOf old (disk_in a) → IsLookedAt g device (device_in b)
-    looked first leaves = looked_at (device_in b) (same_sectors ∙ first.sectors) (λ honest. first.honest (quiet.honest honest)) (λ honest all. leaves_quiet a b quiet honest (OpensOneOf old) old (leaves (quiet.honest honest) all))
+    looked : IsLookedAt g device (device_in a) → LeavesOneOf old (disk_in a) → LeavesOneAs old (disk_in a) → IsLookedAt g device (device_in b)
+    looked first leaves versions = looked_at (device_in b) (same_sectors ∙ first.sectors) (λ honest. first.honest (quiet.honest honest)) (λ honest all. leaves_quiet a b quiet honest (OpensOneOf old) old (leaves (quiet.honest honest) all))
+        (λ honest all. leaves_quiet a b quiet honest (OpensOneAs old) old (versions (quiet.honest honest) all)) (λ honest. no_less a b old working passed quiet honest)
 
     told : (result : Result Verified Refusal) → IsLookedAt g device (device_in b) → IfOk result (λ v. HoldsOwned b v) → IfErr result (λ r. IsUnsound a b r) → VerifiesDevice g device result (device_in b)
     told (Ok v) look sound why = (look, pages_stand old a b found kept quiet, record { ps = b; back = refl; found = λ honest. found_after old a b found quiet honest; sound = sound })
@@ -143,9 +150,9 @@ module _ {D : Type 0} (g : Ghosts D) (law : ImagesAreOne) (device : D) (synced :
           (λ part. record { ps = b; back = refl; found = λ honest. found_after old a b found quiet honest; wrong = part }) (λ other. (refused r.fault other.0, other.1)) why,
     )
 
-    pub verified : (result : Result Verified Refusal) (left : D) → left ≡ device_in b → IsLookedAt g device (device_in a) → LeavesOneOf old (disk_in a)
+    pub verified : (result : Result Verified Refusal) (left : D) → left ≡ device_in b → IsLookedAt g device (device_in a) → LeavesOneOf old (disk_in a) → LeavesOneAs old (disk_in a)
         → IfOk result (λ v. HoldsOwned b v) → IfErr result (λ r. IsUnsound a b r) → VerifiesDevice g device result left
-    verified result left is first leaves sound why = subst (λ (d : D). VerifiesDevice g device result d) (sym is) (told result (looked first leaves) sound why)
+    verified result left is first leaves versions sound why = subst (λ (d : D). VerifiesDevice g device result d) (sym is) (told result (looked first leaves versions) sound why)
 
 -- what readers found of the device is so of pages that are opened on it
 module _ {D : Type 0} {g : Ghosts D} (old : Disk) (synced : IsSynced old) (a : Pages D g) (room : HasRoom old.sectors (journal_of a) (count_of a))

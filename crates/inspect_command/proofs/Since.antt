@@ -1,11 +1,12 @@
 -- A device whose readers looked at it before it was verified.
-use Rattle.{std.{specs.Prelude.{Result, Ok, Err, None}, proofs.Common.{rules, ◌≡◌, ◌<◌, ℕ, false, inl, inr, sym, subst, ◌∙◌, arith}}, desk_model.specs.claim.Desk.Desk}
+use Rattle.{std.{specs.Prelude.{Result, Ok, Err, None}, proofs.Common.{rules, ◌≡◌, ◌<◌, ℕ, false, inl, inr, refl, sym, subst, ◌∙◌, arith}}, desk_model.specs.claim.Desk.Desk}
 use Rattle.{desk_pages.specs.{Openings.{HasPages, IsSpared, StillStands}, claim.Desks.OpensDesk}, inspect_command.specs.declared.refusal.Refusal.Refusal}
 use Rattle.inspect_command.specs.{Verifying.{IsFoundWrong, IsLookedAt, IsRefused, IsSparedFor, VerifiesDevice}, declared.verifying.Verified.Verified}
 use Rattle.{page_store.specs.{claim.Transactions.{journal_of, count_of}, gate_journal.Recovery.Found}, sector_device.specs.{Disk.IsSynced, claim.Moments.LeavesOnly}}
 use Rattle.{sector_device.specs.{claim.Disk.{Disk, Image, Nowhere, Touches}, declared.SectorDevice.Ghosts}, store_command.specs.Reading.{LeavesDesk, ReadsDesk}}
-use Rattle.{store_command.specs.declared.fault.StoreFault.{StoreFault, TheVariants.{NotAStore, OldVersion, DeviceFault, Memory}}, parallel_verify.proofs.Seen.agreed}
+use Rattle.{store_command.specs.declared.fault.StoreFault.{StoreFault, TheVariants.{NotAStore, OldVersion, DeviceFault, Memory}}, store_verification.proofs.Seen.agreed}
 use Rattle.{inspect_command.proofs.Devices.{map_stray, other_told}, sector_device.proofs.Moments.{leaves_from, leaves_more, touches_more}}
+use Rattle.store_command.{specs.desk_theorem.{claim.{Device.{HoldsStore, IsStoreAs, OnDevice}, OneLife.ReadHolds}, store_lives.claim.Versions.Store}, proofs.desk_theorem.OneLife.read_holds}
 
 -- the first device, and the one that was left by its readers
 module _ (a b : Disk) (synced : IsSynced a) (sectors : b.sectors ≡ a.sectors) (moves : Touches Nowhere a b) where
@@ -32,7 +33,41 @@ module _ (a b : Disk) (synced : IsSynced a) (sectors : b.sectors ≡ a.sectors) 
   desk_before : (c : Disk) (d : Desk) → ReadsDesk a d → LeavesDesk b c d → LeavesDesk a c d
   desk_before c d reads leaves = leaves_more (OpensDesk a.sectors d) a b c (leaves_desk d reads) (subst (λ (n : ℕ). LeavesOnly (OpensDesk n d) b c) sectors leaves)
 
-module _ {D : Type 0} (g : Ghosts D) (device mid : D) (synced : IsSynced (g.disk device)) (sectors : (g.disk mid).sectors ≡ (g.disk device).sectors)
+-- a store that one held, the other holds
+held_on : (a b : Disk) → IsSynced a → IsSynced b → b.sectors ≡ a.sectors → Touches Nowhere a b → (s : Store) → HoldsStore s a → HoldsStore s b
+held_on a b synced still sectors moves s held c left =
+    let was : IsStoreAs a.sectors s a.reads = held a.reads a.as_read in
+    let same : a.reads ≡ c = agreed a.reads b.reads moves.reads ∙ agreed b.reads c (still c left) in
+    subst (λ (n : ℕ). IsStoreAs n s c) (sym sectors) (subst (λ (i : Image). IsStoreAs a.sectors s i) same was)
+
+-- it was read in between
+read_since : (a b c : Disk) → IsSynced a → IsSynced b → b.sectors ≡ a.sectors → (c.is_honest → Touches Nowhere a b) → OnDevice ReadHolds b c → OnDevice ReadHolds a c
+read_since a b c synced still sectors moves once = record {
+  sectors = once.sectors ∙ sectors;
+  honest = λ now. (moves now).was_honest;
+  lived = λ now s held.
+      (let first = moves now in
+      let leads = once.lived now s (held_on a b synced still sectors first s held) in
+      record {
+        no_fewer = let more = leads.no_fewer in let fewer = first.faults in omega (arith, more, fewer);
+        left = λ i stops.
+            (let is = leads.left i stops in
+            (is.0, read_holds a.faults c.faults s is.0 is.1.told_so, subst (λ (n : ℕ). IsStoreAs n is.0 i) sectors is.2));
+      });
+}
+
+-- only its readers looked at it
+read_first : (a b : Disk) → IsSynced a → IsSynced b → b.sectors ≡ a.sectors → (b.is_honest → Touches Nowhere a b) → OnDevice ReadHolds a b
+read_first a b synced still sectors moves = record {
+  sectors = sectors;
+  honest = λ now. (moves now).was_honest;
+  lived = λ now s held. record {
+    no_fewer = (moves now).faults;
+    left = λ i stops. (s, read_holds a.faults b.faults s s refl, subst (λ (n : ℕ). IsStoreAs n s i) sectors (held_on a b synced still sectors (moves now) s held i stops));
+  };
+}
+
+module _ {D : Type 0} (g : Ghosts D) (device mid : D) (synced : IsSynced (g.disk device)) (still : IsSynced (g.disk mid)) (sectors : (g.disk mid).sectors ≡ (g.disk device).sectors)
     (moves : (g.disk mid).is_honest → Touches Nowhere (g.disk device) (g.disk mid)) where
   abbrev a : Disk
   a = g.disk device
@@ -46,6 +81,7 @@ module _ {D : Type 0} (g : Ghosts D) (device mid : D) (synced : IsSynced (g.disk
     sectors = sectors;
     honest = λ good. (moves good).was_honest;
     any_moment = λ good d reads. leaves_desk a b synced sectors (moves good) d reads;
+    life = read_first a b synced still sectors moves;
   }
 
   pub failed_first : (refusal : Refusal) → refusal.fault ≡ DeviceFault → refusal.is_stray ≡ false → refusal.page ≡ None → (b.is_honest → a.faults < b.faults) → VerifiesDevice g device (Err refusal) mid
@@ -62,6 +98,7 @@ module _ {D : Type 0} (g : Ghosts D) (device mid : D) (synced : IsSynced (g.disk
       sectors = look.sectors ∙ sectors;
       honest = λ good. (by good).was_honest;
       any_moment = λ good d reads. desk_before a b synced sectors (by good) (g.disk left) d reads (look.any_moment good d (reads_on a b synced sectors (by good) d reads));
+      life = read_since a b (g.disk left) synced still sectors by look.life;
     }
 
     refused_before : (fault : StoreFault) → IsRefused g mid left fault → IsRefused g device left fault

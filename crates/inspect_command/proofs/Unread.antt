@@ -1,18 +1,21 @@
 -- Rows that aren't read, where a device failed.
 use Rattle.std.{specs.Prelude.{◌<◌, Result, Ok, Err, OnErr, IfErr}, proofs.Common.{rules, ◌≡◌, ◌≤◌, Bool, true, false, inl, inr, refl, sym, subst, ◌∙◌, arith}}
-use Rattle.{desk_pages.specs.{Errors.page_refusal, Openings.LeavesOneOf, Reading.ReadErr}, inspect_command.specs.Rows.{fault_of_rows, AreUnread, IsUncounted}}
-use Rattle.{inspect_command.specs.declared.rows.Rows.Rows, page_btree.specs.{claim.Map.InTxn, declared.error.TreeError.TreeError}, page_store.specs.Transactions.OpenErr}
-use Rattle.page_store.specs.{claim.Transactions.{stored, disk_in, device_in, count_of, journal_of, has_halted, IsQuiet}, declared.{pages.Pages.Pages, txn.Txn.Txn}}
-use Rattle.{page_store.specs.gate_journal.{Recovery.{HasRoom, Found, AllStores, ReadsAs}, declared.error.PageError.PageError}, row_owners.specs.Strays.IsAny}
+use Rattle.{desk_pages.specs.{Errors.page_refusal, Openings.LeavesOneOf, Reading.ReadErr, claim.Openings.LeavesOneAs}, inspect_command.specs.declared.rows.Rows.Rows}
+use Rattle.{inspect_command.specs.Rows.{fault_of_rows, AreUnread, IsUncounted}, page_btree.specs.gets.{claim.Map.InTxn, declared.error.TreeError.TreeError}}
+use Rattle.page_store.specs.{Transactions.OpenErr, claim.Transactions.{stored, disk_in, device_in, count_of, journal_of, has_halted, IsQuiet}, declared.pages.Pages.Pages}
+use Rattle.page_store.specs.{declared.txn.Txn.Txn, gate_journal.{Recovery.{HasRoom, Found, AllStores, ReadsAs}, declared.error.PageError.PageError}}
 use Rattle.{sector_device.specs.{claim.{Disk.Disk, Moments.LeavesOnly}, declared.SectorDevice.Ghosts}, store_command.specs.Faults.fault_of_store}
 use Rattle.{store_command.specs.declared.fault.StoreFault.{StoreFault, TheVariants.{NotAStore, DeviceFault}}, store_rows.specs.claim.Rows.KeyMap}
-use Rattle.desk_pages.proofs.Found.{all_versions, stores_of, page_stores_of, open_leaves, found_desk}
+use Rattle.{store_verification.specs.rows.Strays.IsAny, desk_pages.proofs.Found.{all_versions, stores_of, page_stores_of, open_leaves, open_versions, found_desk}}
 use Rattle.page_store.specs.gate_journal.declared.error.PageError.TheVariants as page
-use Rattle.page_btree.specs.declared.error.TreeError.TheVariants as tree
+use Rattle.page_btree.specs.gets.declared.error.TreeError.TheVariants as tree
 
 -- an opening left one of the desks that were there
 pub opened_leaves : (old new : Disk) → (new.is_honest → AllStores old → LeavesOnly (ReadsAs old) old new) → LeavesOneOf old new
 opened_leaves old new leaves honest all = open_leaves old new all (leaves honest (stores_of old (all_versions old all)))
+
+pub opened_versions : (old new : Disk) → (new.is_honest → AllStores old → LeavesOnly (ReadsAs old) old new) → LeavesOneAs old new
+opened_versions old new leaves honest all = open_versions old new all (leaves honest (stores_of old all))
 
 module _ {D : Type 0} {g : Ghosts D} where
   -- pages that were opened and only read met no fewer faults

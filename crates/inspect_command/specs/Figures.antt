@@ -1,25 +1,10 @@
 -- What is told of a clerk's desk, and of the room that is left.
-use Rattle.std.specs.Prelude.{◌≡◌, ◌↔◌, ◌-◌, ℕ, IsTrue, List, map, length, sum_by, Option, Some, None}
-use Rattle.desk_model.specs.{Ranges.{ranges_in, ranges_of}, claim.{Desk.Desk, Geography.GeographyModel, Room.need, Step.plan_row}, declared.command.Command.Command}
-use Rattle.{desk_model.specs.declared.{command.Command.TheVariants.Fork, reply.PlanLine.PlanLine}, inspect_command.specs.declared.{figures.Held.Held, needs.Need.Need}}
-use Rattle.{inspect_command.specs.Needs.{all_change, one_changes, IsLargest, IsNeed, IsRevision}, sector_device.specs.declared.SectorDevice.Ghosts}
-use Rattle.store_command.specs.desk_store.{claim.{Clerks.{desk_of, disk_of, free_of, room_of}, Commands.IsShort}, declared.clerk.Clerk.Clerk}
-use Rattle.std.specs.FinMap as map_of
-
-abbrev pub blocks_in : Option GeographyModel → ℕ
-blocks_in None = 0
-blocks_in (Some g) = length g.blocks
-
-abbrev pub pairs_in : Option GeographyModel → ℕ
-pairs_in None = 0
-pairs_in (Some g) = length g.pairs
-
--- the list of plans that is shown, and how many revisions they have together
-abbrev pub plan_lines : Desk → List PlanLine
-plan_lines d = map plan_row (map_of.entries d.plans)
-
-abbrev pub revisions_in : List PlanLine → ℕ
-revisions_in lines = sum_by (λ (line : PlanLine). line.revisions) lines
+use Rattle.std.specs.Prelude.{◌≡◌, ◌↔◌, ◌-◌, ℕ, IsTrue, List, length, Some, None}
+use Rattle.desk_model.specs.{Ranges.{ranges_in, ranges_of}, claim.{Geography.GeographyModel, Room.need}, declared.command.Command.{Command, TheVariants.Fork}}
+use Rattle.inspect_command.specs.{Needs.{all_change, one_changes, IsLargest, IsNeed, IsRevision}, declared.{figures.Held.Held, needs.Need.Need}}
+use Rattle.{sector_device.specs.declared.SectorDevice.Ghosts, store_command.specs.desk_store.claim.{Clerks.{desk_of, disk_of, free_of, room_of}, Commands.IsShort}}
+use Rattle.store_command.specs.desk_store.declared.clerk.Clerk.{Clerk}
+pub use Rattle.inspect_command.specs.claim.Living.{blocks_in, pairs_in, plan_lines, revisions_in}
 
 module _ {D : Type 0} {g : Ghosts D} where
   -- The pages that the command needs; that it would be refused as Full by the very clause that commands have; how many free pages are

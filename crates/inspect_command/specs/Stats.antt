@@ -1,9 +1,9 @@
 -- A store of which is told how full it is.
 use Rattle.std.specs.{Prelude.{◌≡◌, ◌⊎◌, ◌<◌, ℕ, List, [], codes, Result, Ok, Err, Vec}, declared.alloc.Global.Global}
 use Rattle.{command_output.specs.{claim.Writing.{Written, write_fault_line}, declared.status.Status.Status}, inspect_command.specs.{Figures.AreHeld, Rows.CountsRows}}
-use Rattle.{inspect_command.specs.{Texts.figures_text, declared.{figures.{Figures.Figures, Held.Held}, rows.Rows.Rows, texts.Style.Style}}, store_command.specs.Telling.EndsStore}
+use Rattle.inspect_command.specs.{Texts.figures_text, claim.Living.{Hinders, IsOfDesk}, declared.{figures.{Figures.Figures, Held.Held}, rows.Rows.Rows, texts.Style.Style}}
 use Rattle.{page_store.specs.claim.Transactions.device_in, sector_device.specs.declared.SectorDevice.Ghosts, store_command.specs.Filling.{IsNotOpened, WhereItReads}}
-use Rattle.store_command.specs.{Reading.{LeavesDesk, ShowsWhatIsRead}, declared.fault.StoreFault.{StoreFault, TheVariants.{NotAStore, DeviceFault, Memory}}}
+use Rattle.store_command.specs.{Reading.{LeavesDesk, ShowsWhatIsRead}, Telling.EndsStore, declared.fault.StoreFault.{StoreFault, TheVariants.{NotAStore, DeviceFault, Memory}}}
 use Rattle.store_command.specs.{desk_loading.Openings.IsOpened, desk_store.{claim.Clerks.{disk_of, pages_of}, declared.clerk.Clerk.Clerk}, desk_theorem.claim.Device.OnDevice}
 use Rattle.store_command.specs.desk_theorem.claim.OneLife.{Asked, RequestsHold}
 
@@ -31,6 +31,7 @@ module _ {D : Type 0} (g : Ghosts D) where
     pub sectors : figures.sectors ≡ (g.disk device).sectors
     pub held : AreHeld x figures.held
     pub rows : CountsRows g (device_in (pages_of x)) figures.rows left
+    pub life : OnDevice (λ t u s e. Asked (RequestsHold [] []) t u s e × IsOfDesk s.1 figures.held) (g.disk device) (g.disk left)
 
   -- or memory was refused; the device failed; or it read as no desk
   pub record HasNoFigures (device : D) (fault : StoreFault) (left : D) : Type 0 where
@@ -39,6 +40,7 @@ module _ {D : Type 0} (g : Ghosts D) where
     pub told : (fault ≡ Memory)
         ⊎ (((fault ≡ DeviceFault) × ((g.disk left).is_honest → (g.disk device).faults < (g.disk left).faults))
         ⊎ ((fault ≡ NotAStore) × WhereItReads (g.disk device) (g.disk left) (λ d. ⊥)))
+    pub life : OnDevice (λ t u s e. Asked (RequestsHold [] []) t u s e × Hinders fault t u) (g.disk device) (g.disk left)
 
   -- what came of the device: it isn't opened, or its figures are told
   abbrev pub StatsDevice : D → Result Figures StoreFault → D → Type 0

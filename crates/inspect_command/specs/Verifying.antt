@@ -1,14 +1,14 @@
 -- A store that is verified.
 use Rattle.std.specs.{Prelude.{◌≡◌, ◌⊎◌, ◌<◌, ℕ, Bool, true, false, List, codes, Option, Some, None, Result, Ok, Err, IfOk, IfErr, Vec}, declared.alloc.Global.Global}
-use Rattle.{btree_walks.specs.{Faults.IsWrongPage, Owners.AreOwned, declared.error.{PageFault.PageFault, PagesError.PagesError}}, desk_model.specs.Ranges.ranges_in}
-use Rattle.{command_output.specs.{claim.Writing.{Written, Prints, write_fault_line}, declared.status.Status.{Status, TheVariants.Done}}, desk_model.specs.claim.Desk.Desk}
-use Rattle.{desk_pages.specs.{Openings.{HasPages, IsSpared, StillStands}, claim.Desks.InPages as HoldsDesk}, inspect_command.specs.Sound.{HasSound, HasStray}}
-use Rattle.{inspect_command.specs.{SoundTexts.{verified_text, TellsRefusal}, declared.{refusal.Refusal.Refusal, verifying.Verified.Verified}}, page_btree.specs.claim.Map.InPages}
+use Rattle.{command_output.specs.{claim.Writing.{Written, Prints, write_fault_line}, declared.status.Status.{Status, TheVariants.Done}}, desk_model.specs.Ranges.ranges_in}
+use Rattle.{desk_model.specs.claim.Desk.Desk, desk_pages.specs.{Openings.{HasPages, IsSpared, StillStands}, claim.Desks.InPages as HoldsDesk}, store_rows.specs.claim.Rows.KeyMap}
+use Rattle.inspect_command.specs.{Sound.{HasSound, HasStray}, SoundTexts.{verified_text, TellsRefusal}, declared.{refusal.Refusal.Refusal, verifying.Verified.Verified}}
+use Rattle.page_btree.specs.{checks.{Faults.IsWrongPage, Owners.AreOwned, declared.error.{PageFault.PageFault, PagesError.PagesError}}, gets.claim.Map.InPages}
 use Rattle.page_store.specs.{claim.Transactions.{stored, disk_in, device_in, count_of, journal_of, has_halted, IsQuiet}, declared.pages.Pages.Pages, gate_journal.Recovery.Found}
-use Rattle.{row_owners.specs.{Strays.AllBelong, declared.wrong.WrongRow.WrongRow}, sector_device.specs.declared.SectorDevice.Ghosts, store_command.specs.Filling.WhereItReads}
-use Rattle.{store_command.specs.{Reading.LeavesDesk, declared.fault.StoreFault.StoreFault}, store_rows.specs.claim.Rows.KeyMap}
+use Rattle.{sector_device.specs.declared.SectorDevice.Ghosts, store_command.specs.{Filling.WhereItReads, Reading.LeavesDesk, declared.fault.StoreFault.StoreFault}}
 use Rattle.store_command.specs.declared.fault.StoreFault.TheVariants.{NotFound, WrongSize, Exists, TooSmall, NotAStore, OldVersion, AlreadyNew, AlreadySealed, Full, DeviceFault, Memory}
-use Rattle.btree_walks.specs.declared.error.PagesError.TheVariants as owners
+use Rattle.{store_command.specs.desk_theorem.claim.{Device.OnDevice, OneLife.ReadHolds}, store_verification.specs.rows.{Strays.AllBelong, declared.wrong.WrongRow.WrongRow}}
+use Rattle.page_btree.specs.checks.declared.error.PagesError.TheVariants as owners
 
 module _ {D : Type 0} {g : Ghosts D} where
   -- what was found in pages: so many are there, and what rows they hold are those of a desk
@@ -78,11 +78,13 @@ module _ {D : Type 0} (g : Ghosts D) where
   IsRefused device left Memory = Unit {0}
   IsRefused device left _ = ⊥
 
-  -- Nothing was written but what a stop in a commit left to be done: where the device reads as a desk, a stop at any moment leaves it.
+  -- Nothing was written but what a stop in a commit left to be done: where the device reads as a desk, a stop at any moment leaves it. So
+  -- this is one life, in which the store of either version stays.
   pub record IsLookedAt (device left : D) : Type 0 where
     pub sectors : (g.disk left).sectors ≡ (g.disk device).sectors
     pub honest : (g.disk left).is_honest → (g.disk device).is_honest
     pub any_moment : WhereItReads (g.disk device) (g.disk left) (λ d. LeavesDesk (g.disk device) (g.disk left) d)
+    pub life : OnDevice ReadHolds (g.disk device) (g.disk left)
 
   -- Pages and header stand as they were found, and nothing else was written. Of what isn't opened for want of memory that is said of the
   -- pages alone, and nothing where the device failed.

@@ -1,6 +1,6 @@
 //! A device's store, verified by readers that look at it at once. What isn't so is looked for again, one thing after the other.
 ghost use Rattle.sector_device.specs.Disk.{IsSynced};
-ghost use Rattle.parallel_verify.specs.Looking.{IsSoundAt};
+ghost use Rattle.store_verification.specs.Looking.{IsSoundAt};
 ghost use Rattle.inspect_command.specs.Verifying.{VerifiesTelling};
 
 use crate::refusal::Refusal;
@@ -8,12 +8,12 @@ use crate::verifying::{Verified, verify_device};
 use byte_stream::progress::Progress;
 use desk_pages::StoreError;
 use page_store::Pages;
-use parallel_verify::{Look, Readers, look_beside};
 use sector_device::SectorDevice;
 use std::alloc::Global;
 use std::thread::Threads;
 use store_command::desk_law::one_desk_opens;
 use store_command::fault::{StoreFault, store_fault};
+use store_verification::{Look, Readers, look_beside};
 
 /// Opens the store on a synced device that was found sound, with this number of rows, and returns
 /// the device.

@@ -8,7 +8,7 @@ use crate::needs::{Need, need_of, needed};
 use crate::rows::Rows;
 use desk_model::command::Query;
 use desk_model::geography::Geography;
-use desk_model::reply::{PlanLine, Reply};
+use desk_model::reply::{PlanRow, Reply};
 use sector_device::SectorDevice;
 use std::alloc::Global;
 use store_command::Clerk;
@@ -68,7 +68,7 @@ fn wide(revisions: u32) -> u128
 }
 
 /// How many revisions the plans of a list have together.
-fn count_revisions(lines: &[PlanLine]) -> u128
+fn count_revisions(lines: &[PlanRow]) -> u128
     ensures { result ≡ revisions_in lines.now }
 {
     let mut revisions = 0;

@@ -8,10 +8,12 @@
 //!
 //! - `stat` prints the counts of the desk, and says Full for a command exactly if `IsShort` holds
 //!   for it (`TellsNeed`): the same condition by which the clerk refuses. A crash at any moment
-//!   leaves the desk (`StatsStore`). It is one life of the store, in which nothing is asked.
+//!   leaves the desk (`StatsStore`). It is one life of the store, in which nothing is asked
+//!   (`LooksLife`).
 //! - `verify` succeeds only if each page has one owner (`AreOwned`) and the rows are those of a
 //!   desk (`IsSound`). Otherwise it reports a fault, a page only if it is wrong (`IsWrongPage`), a
-//!   row only if it does not belong (`VerifiesStore`).
+//!   row only if it does not belong (`VerifiesStore`). It is one life of a store of either version,
+//!   in which that is read (`VerifiesLife`).
 //! - Both write nothing but what completes a commit that was cut off (`IsSparedFor`).
 //!
 //! # Not proved
@@ -30,7 +32,7 @@ pub mod texts;
 pub mod verify;
 mod verifying;
 
-pub use parallel_verify::Readers;
 pub use store_command::{
     Clerk, desk_law, fault, filling, format, load, migrate, stores, sweep, swept_law, telling,
 };
+pub use store_verification::Readers;

@@ -4,15 +4,15 @@ ghost use Rattle.command_output.specs.Writing.{written_of};
 ghost use Rattle.store_command.specs.declared.fault.StoreFault.TheVariants.{NotAStore};
 ghost use Rattle.inspect_command.specs.SoundTexts.{IsLongLine, TellsRefusal, kind_word, page_line};
 
-use btree_walks::{PageFault, PageFaultKind};
 use byte_stream::sink::Sink;
 use command_output::status::Status;
 use command_output::telling::send_line;
 use itoa::Buffer;
-use row_owners::WrongRow;
+use page_btree::{PageFault, PageFaultKind};
 use std::alloc::{AllocError, Global};
 use store_command::fault::StoreFault;
 use store_command::telling::{store_line, store_status};
+use store_verification::WrongRow;
 
 /// Why a store is not found sound. What is no store may have a wrong page or row. `is_stray` says
 /// that one was found in a store whose desk may open.

@@ -2,16 +2,17 @@
 ghost use Rattle.std.specs.Prelude.{◌≡◌, ◌≤◌, false, length, OnErr, IfOk, IfErr};
 ghost use Rattle.std.specs.FinMap.{entries};
 ghost use Rattle.page_store.specs.claim.Transactions.{disk_in, count_of, has_halted, txn_pages, IsQuiet};
-ghost use Rattle.page_btree.specs.claim.Map.{InPages};
-ghost use Rattle.btree_walks.specs.Prefixes.{under};
+ghost use Rattle.page_btree.specs.gets.claim.Map.{InPages};
+ghost use Rattle.btree_scan.specs.Prefixes.{under};
 ghost use Rattle.store_rows.specs.claim.Rows.{KeyMap};
 ghost use Rattle.desk_pages.specs.Looking.{Looks};
 ghost use Rattle.desk_pages.specs.Openings.{LeavesOneOf};
 ghost use Rattle.inspect_command.specs.Rows.{AreCounted, CountsRows, fault_of_rows, AreUnread, IsUncounted};
-ghost use Rattle.row_owners.specs.Strays.{IsAny};
+ghost use Rattle.store_verification.specs.rows.Strays.{IsAny};
 
-use btree_walks::{Scan, TreeError, row_limit};
+use btree_scan::{row_limit, scan};
 use desk_pages::StoreError;
+use page_btree::TreeError;
 use page_store::{Pages, Txn};
 use sector_device::SectorDevice;
 use std::alloc::Global;
@@ -39,7 +40,7 @@ fn count_under<D: SectorDevice>(
     requires short { length prefix.now ≤ 72 }
     ensures { Looks (λ m count. count ≡ length (under prefix.now (entries m))) IsAny txn.now pages.old pages.new result }
 {
-    let mut scan = Scan::new(prefix);
+    let mut scan = scan(prefix);
     for taken in 0..row_limit(txn) {
         if !scan.advance(txn, pages) {
             match scan.fault() {

@@ -9,12 +9,12 @@ use byte_stream::progress::Progress;
 use byte_stream::sink::Sink;
 use command_output::status::Status;
 use command_output::telling::print;
-use parallel_verify::Readers;
 use sector_device::SectorDevice;
 use std::alloc::Global;
 use std::thread::Threads;
 use store_command::fault::StoreFault;
 use store_command::stores::Stores;
+use store_verification::Readers;
 
 /// Verifies the store of a name, and closes it: what is printed of it. Memory for that is taken before the store is opened.
 fn verify_store<

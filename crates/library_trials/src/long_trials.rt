@@ -1,11 +1,9 @@
 //! The longest rows, keys that begin one another, and a store that is full.
 ghost use Rattle.std.specs.Prelude.{◌≡◌, ◌≤◌, length};
-ghost use Rattle.page_btree.specs.Keys.{IsKey};
+ghost use Rattle.page_btree.specs.gets.Keys.{IsKey};
 ghost use Rattle.page_store.specs.claim.Transactions.{count_of, txn_pages};
 
-use btree_puts::{Finger, put};
-use btree_walks::remove;
-use page_btree::{TreeError, get};
+use page_btree::{Finger, TreeError, get, put, put_with, remove};
 use page_store::{Pages, Txn, format};
 use sector_memory::{Fused, MemoryDevice};
 use std::alloc::Global;
@@ -62,8 +60,7 @@ pub fn put_row(
     requires value { length value.now ≤ 1024 }
 {
     let mut txn = pages.begin(alloc);
-    let mut finger = Finger::none();
-    let had = put(&mut txn, pages, &mut finger, key, value);
+    let had = put(&mut txn, pages, key, value);
     store(txn, pages, had)
 }
 
@@ -158,7 +155,7 @@ fn has_put(txn: &mut Txn, pages: &mut Pages<Fused>, n: u32) -> bool
 {
     let mut finger = Finger::none();
     let value = [(n % 256) as u8; 1024];
-    put(txn, pages, &mut finger, &long_key(n), &value).is_ok()
+    put_with(txn, pages, &mut finger, &long_key(n), &value).is_ok()
 }
 
 /// Puts four such rows in one transaction, which is let go of: how many were put before one was refused.

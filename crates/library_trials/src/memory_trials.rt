@@ -1,6 +1,6 @@
 //! Devices in memory: what a stop leaves, and the call that fails.
 use sector_device::SectorDevice;
-use sector_memory::{Fused, MemoryDevice};
+use sector_memory::{FailOnce, Fused, MemoryDevice};
 
 /// Whether a sector has this byte.
 fn has_byte<D: SectorDevice>(device: &mut D, i: u32, byte: u8) -> bool {
@@ -30,7 +30,7 @@ fn the_chosen_call_fails(rt: HostRuntime) {
     let device = MemoryDevice::new(rt.alloc(), 8).expect(rt, "no memory");
     let mut device = Fused::new(device, 1);
     holds!(rt; writes(&mut device, 5) & device.sync().is_err() & device.sync().is_err());
-    let mut device = Fused::once(device.stop(&[(5, [255; 4096])]), 1);
+    let mut device = FailOnce::new(device.stop(&[(5, [255; 4096])]), 1);
     let once = (device.count() == 8) & has_byte(&mut device, 5, 255);
     holds!(rt; once & !writes(&mut device, 6) & device.sync().is_ok());
     let mut device = device.stop(&[(6, [255; 4096])]);

@@ -1,7 +1,7 @@
 //! Stores whose pages have one owner each, and stores with a spoiled page.
 use crate::long_trials::{made, opened, put_long};
-use btree_walks::{PageFault, PageFaultKind, PagesError, check_pages};
 use byte_stream::progress::NoProgress;
+use page_btree::{PageFault, PageFaultKind, PagesError, check_pages};
 use page_store::Pages;
 use sector_device::SectorDevice;
 use sector_memory::Fused;

@@ -105,3 +105,44 @@ fn listed_districts_stand_over_others(rt: HostRuntime) {
     stands_over(rt, alloc, 510, &[None, None, Some(7_777), None], 512);
     stands_over(rt, alloc, 1_300, &[Some(7_777)], 2_000);
 }
+
+/// The district of a place in a list that is kept as one district, as runs, as bytes, or as two
+/// bytes for each block.
+fn in_form(form: u16, place: u16) -> u16 {
+    match form {
+        0 => 7,
+        1 => place / 100,
+        2 => place % 200,
+        _ => place,
+    }
+}
+
+/// The districts at these places of a list in a form.
+fn formed<R: Abort>(rt: &R, alloc: Global, form: u16, from: u16, to: u16) -> Vec<u16> {
+    let mut list = Vec::new(alloc);
+    for place in from..to {
+        list.push(in_form(form, place)).expect(rt, "no memory");
+    }
+    list
+}
+
+#[test]
+fn each_form_holds_its_districts(rt: HostRuntime) {
+    let rt = &rt;
+    let alloc = rt.alloc();
+    for form in 0..4u16 {
+        let list = formed(rt, alloc, form, 0, 1_300);
+        let within = formed(rt, alloc, form, 500, 1_100);
+        let one = made(rt, alloc, list.as_slice(), None);
+        for other in 0..4u16 {
+            let list = formed(rt, alloc, other, 0, 1_300);
+            let next = made(rt, alloc, list.as_slice(), Some(&one));
+            let same = is_same(&one, &next, 0, 1_300);
+            let part = is_part(rt, alloc, &one, 500, within.as_slice());
+            holds!(rt; part & (same == (form == other)));
+        }
+    }
+    let runs = made(rt, alloc, formed(rt, alloc, 1, 0, 1_300).as_slice(), None);
+    let bytes = made(rt, alloc, formed(rt, alloc, 2, 0, 1_300).as_slice(), None);
+    holds!(rt; is_same(&runs, &bytes, 0, 1) & !is_same(&runs, &bytes, 0, 2));
+}

@@ -4,7 +4,7 @@ ghost use Rattle.std.specs.Prelude.{◌≤◌, length};
 use crate::long_trials::{made, put_row};
 use crate::row_trials::insert;
 use crate::scan_trials::{PREFIXES, ROWS, key_of};
-use btree_walks::{Scan, row_limit};
+use btree_scan::{RowScan, row_limit, scan};
 use page_store::Pages;
 use sector_device::SectorDevice;
 use sector_memory::Fused;
@@ -62,7 +62,7 @@ fn told_of(key: &[u8], value: &[u8]) -> Option<Told> {
 /// Takes the current row of a scan, and the rows left in its leaf up to a number, and returns how
 /// many these are.
 fn take_there(
-    scan: &mut Scan,
+    scan: &mut RowScan,
     most: usize,
     rows: &mut Vec<Option<Told>>,
 ) -> Result<u32, AllocError> {
@@ -92,7 +92,7 @@ fn take_all<D: SectorDevice>(
     requires short { length prefix.now ≤ 1024 }
 {
     let txn = pages.begin(alloc);
-    let mut scan = Scan::new(prefix);
+    let mut scan = scan(prefix);
     let mut there = 0u32;
     for _ in 0..row_limit(&txn) {
         if !scan.advance(&txn, pages) {

@@ -1,5 +1,5 @@
 //! A congress plan of more districts than the program takes.
-use audit_clauses::deviations::congress_breaks;
+use audit_population::deviations::congress_breaks;
 use std::alloc::Global;
 use std::process::Abort;
 

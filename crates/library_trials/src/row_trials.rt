@@ -1,7 +1,6 @@
 //! Rows in three orders, each removed again.
 use crate::long_trials::{made, opened, passing, put_row, take_row};
-use btree_puts::write_first_row;
-use page_btree::{TreeError, get};
+use page_btree::{TreeError, get, write_first_row};
 use page_store::{Pages, format_with};
 use sector_device::Sector;
 use sector_memory::{Fused, MemoryDevice};

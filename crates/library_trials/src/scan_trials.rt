@@ -3,7 +3,7 @@ ghost use Rattle.std.specs.Prelude.{◌≤◌, length};
 
 use crate::long_trials::{made, put_row};
 use crate::row_trials::insert;
-use btree_walks::{Row, Scan};
+use btree_scan::{Row, scan};
 use page_btree::TreeError;
 use page_store::Pages;
 use sector_device::SectorDevice;
@@ -66,7 +66,7 @@ pub fn scanned<D: SectorDevice>(
     requires order { from ≤ to }
 {
     let txn = pages.begin(alloc);
-    let mut scan = Scan::new(prefix);
+    let mut scan = scan(prefix);
     let mut row = Row::empty();
     let mut found = 0u32;
     for (n, value) in model.range(from..to) {

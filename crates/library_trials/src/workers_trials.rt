@@ -1,6 +1,6 @@
 //! What passes the gate between workers.
 ghost use Rattle.std.specs.Prelude.{◌≤◌};
-ghost use Rattle.audit_clauses.specs.Counts.{IsCount};
+ghost use Rattle.audit_population.specs.Counts.{IsCount};
 
 use audit_report::crew::Crew;
 use audit_report::workers::audit_with;

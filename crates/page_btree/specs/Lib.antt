@@ -1,13 +1,5 @@
-pub mod claim
-pub mod Asked
-pub mod Keys
-pub mod Map
-pub mod Errors
-pub mod Getting
-pub mod Leading
-pub mod Seeking
-pub mod Tests
-pub mod Editing
-pub mod Outcomes
-pub use Rattle.page_store.specs.gate_journal
-pub use Rattle.page_node.specs as page_node
+pub use Rattle.page_btree_puts.specs.gets.node
+pub use Rattle.page_btree_puts.specs.gets
+pub use Rattle.page_btree_puts.specs as puts
+pub use Rattle.page_btree_removes.specs as removes
+pub use Rattle.page_btree_checks.specs as checks

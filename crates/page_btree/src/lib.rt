@@ -1,19 +1,12 @@
-//! A map of keys in pages, a B-tree: its definition and its lookups.
+//! A map of keys in pages, a B-tree: lookups, puts, removes, and a check of its pages.
 //!
-//! # Layout
+//! # Example
 //!
 //! ```text
-//!                 [ - | k2 | k5 ]            a node: the first key says nothing
-//!                /      |      \
-//!      [k0 k1]      [k2 k3 k4]    [k5 k7]    leaves: rows in rising order
+//! put(txn, pages, b"Pa", b"value")?;
+//! get(txn, pages, b"Pa", &mut bytes)?      Some(5)
+//! remove(txn, pages, b"Pa")?               true
 //! ```
-//!
-//! Invariants:
-//!
-//! 1. The rows of a child begin at its key and end before the next child's key.
-//! 2. All leaves are at level 0; the root has at most level 5.
-//! 3. Each page of the tree occurs in it once and is not free. The pages of the tree, the free
-//!    pages and page 0 are all pages, so no page is lost.
 //!
 //! # Model
 //!
@@ -22,11 +15,13 @@
 //!
 //! # Proved
 //!
-//! - `get` returns the value of a key, or none. It takes no memory.
-//! - `leaf_from` returns the leaf with the first row from a key on, and up to three leaves after
-//!   it.
-//! - `laws`: pages hold at most one map; a commit that was cut off leaves the map before or after;
-//!   a map has at most 1,364 rows a page.
+//! - `get` returns the value of a key, or none. After `put` the transaction reads the map with the
+//!   row, after `remove` the map without the key, and both say whether the key was there.
+//! - A put writes at most 11 pages and takes at most 6; replacing a value by one of the same length
+//!   takes none. A remove writes at most 6, gives back at most 6 and takes none.
+//! - `NoPages` comes only if fewer than six pages were free, `TooDeep` only if the root has level
+//!   5.
+//! - `check_pages` says whether pages hold a map and no page is lost.
 //!
 //! # Not proved
 //!
@@ -34,24 +29,16 @@
 //!
 //! # Notes
 //!
-//! `find_leaf` also returns a bound: all keys up to it lie in the same leaf (`LeadsAll`), also
-//! after a row was put into a leaf (`leads_stays`). The crates btree_puts and btree_walks change
-//! the map.
+//! This is the room of the crates page_btree_node, page_btree_gets, page_btree_puts,
+//! page_btree_removes and page_btree_checks, which no crate outside names. `put_with` and
+//! `get_with` are `put` and `get` by a leaf that is remembered (`Finger`). `leaf_from` serves
+//! scans.
 #![tactic(auto)]
 
-mod error;
-mod gets;
-mod kept;
-mod reach;
-mod seeks;
-mod small_bytes;
-mod ways;
-
-pub use error::TreeError;
-pub use gets::{get, get_in_leaf, read_level};
-pub use kept::laws;
-pub use page_node::{KEY_LIMIT, Lengths, PAGE_SIZE, PageBytes, VALUE_LIMIT, bounds_in};
-pub use reach::{KeyBytes, Reach};
-pub use seeks::{Leaf, leaf_from};
-pub use small_bytes::SmallBytes;
-pub use ways::find_leaf;
+pub use page_btree_checks::{PageFault, PageFaultKind, PagesError, check_pages};
+pub use page_btree_puts::{
+    Finger, Fingers, KEY_LIMIT, Leaf, Lengths, PAGE_SIZE, PageBytes, SmallBytes, TreeError,
+    VALUE_LIMIT, bounds_in, get, get_with, laws, leaf_from, place_from, put, put_with,
+    write_first_row,
+};
+pub use page_btree_removes::remove;

@@ -117,7 +117,7 @@ fn link_all<D: SectorDevice>(
     if !has_room(device.count(), journal_pages) {
         return Err(PageError::TooSmall);
     }
-    let mut writes = PageWrites::with_capacity(alloc, BATCH as usize)?;
+    let mut writes = PageWrites::new(alloc)?;
     let layout = gate_journal::format(device, journal_pages)?;
     for batch in 0..(layout.pages + 254) / 256 {
         link_batch(device, layout, &mut writes, 1 + 256 * batch)?;

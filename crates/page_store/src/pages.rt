@@ -160,7 +160,7 @@ impl<D: SectorDevice> Pages<D> {
         ensures { BeginsOver self.now result }
     {
         Txn {
-            writes: PageWrites::new(alloc),
+            writes: PageWrites::empty(alloc),
             pages: self.journal.page_count(),
             root: self.root,
             first: self.first,

@@ -1,20 +1,20 @@
 -- A fork that is read and put is a step of the desk.
 use Rattle.std.proofs.Common.{rules, ◌≢◌, ◌≤◌, Result, Ok, ◌≡◌, ◌+◌, ◌*◌, ◌-◌, ◌^◌, ℕ, List, length, Some, refl, ap, subst, ◌∙◌, arith, length-append}
-use Rattle.desk_model.specs.{Ranges.{ranges_of, ListsAreCut}, claim.{Desk.Desk, Geography.GeographyModel, GeographyModels.AreBlocks, Name.IsPlanName, Room.{rows_for, fork_rows}}}
-use Rattle.{desk_model.specs.declared.ranges.CountyRange.CountyRange, desk_pages.specs.{Looking.Gathers, Outcomes.Writes, claim.{Desks.IsDeskMap, Puts.{HasPut, PutsErr}}}}
-use Rattle.{page_btree.specs.{claim.Map.InTxn as HasMap, declared.error.TreeError.TreeError}, page_store.specs.claim.Transactions.{stored, disk_in, IsQuiet}}
-use Rattle.{page_store.specs.declared.{pages.Pages.Pages, txn.Txn.Txn}, plan_revisions.{specs.{Lookups.HasSomeRevision, Plans.{TakesFork, with_fork}}, proofs.Looking.stands_at}}
-use Rattle.plan_revisions.specs.{Forking.{CanFork, CanMake, ForksAreMade, IsSource, MakesFork, PutsFork, forked_map, row_like, rows_of_fork}, declared.reads.Reading.Reading}
-use Rattle.{plan_revisions.specs.claim.Steps.{HasStepped, LeavesNumbers, StepErr}, plan_rows.specs.{ChunkChanging.{HasChanged, MapErr}, Holding.CanHoldAll}}
-use Rattle.plan_rows.specs.{PlanLaws.{PlansAreTold, RowFits}, PlanRows.{IsFound, created_rows}, RevisionReading.AreNames, claim.{Outcomes.HasExhausted, PlanRows.HasPlanNumber}}
+use Rattle.{chunk_table.specs.{ChunkChanging.{HasChanged, MapErr}, Holding.CanHoldAll}, desk_model.specs.{Ranges.{ranges_of, ListsAreCut}, claim.{Desk.Desk, Name.IsPlanName}}}
+use Rattle.desk_model.specs.{claim.{Geography.GeographyModel, GeographyModels.AreBlocks, Room.{rows_for, fork_rows}}, declared.ranges.CountyRange.CountyRange}
+use Rattle.{desk_pages.specs.{Looking.Gathers, Outcomes.Writes, claim.{Desks.IsDeskMap, Puts.{HasPut, PutsErr}}}, page_btree.specs.gets.claim.Map.InTxn as HasMap}
+use Rattle.{page_btree.specs.gets.declared.error.TreeError.TreeError, page_store.specs.{claim.Transactions.{stored, disk_in, IsQuiet}, declared.{pages.Pages.Pages, txn.Txn.Txn}}}
+use Rattle.plan_revisions.specs.{Forking.{CanFork, CanMake, ForksAreMade, IsSource, MakesFork, PutsFork, forked_map, row_like, rows_of_fork}, Lookups.HasSomeRevision}
+use Rattle.plan_revisions.specs.{PlanLaws.{PlansAreTold, RowFits}, PlanRows.{IsFound, created_rows}, Plans.{TakesFork, with_fork}, RevisionReading.AreNames}
+use Rattle.plan_revisions.specs.{claim.{Outcomes.HasExhausted, PlanRows.HasPlanNumber, Steps.{HasStepped, LeavesNumbers, StepErr}}, declared.reads.Reading.Reading}
 use Rattle.{sector_device.specs.declared.SectorDevice.Ghosts, store_rows.specs.{Shares.{hold_all, shared_rows}, Steps.one_plan_more, TidyLaws.NextIsOne, claim.Rows.KeyMap}}
-use Rattle.{store_rows.specs.{claim.{Puts.{Row, put_rows}, Tidy.CountersFit}, declared.value.{Counters.Counters, PlanRow.PlanRow}}, plan_rows.proofs.HeldAll.held_by_rows}
-use Rattle.{plan_revisions.proofs.{LastRevision.{ranges_long, last_named}, Retiring.{stepped_by, not_stepped_by}}, plan_rows.proofs.Writing.{after_reads, writes_as}}
-use Rattle.plan_rows.proofs.Changed.{changed_as, prefix_unchanged, more_by_rows, more_changed, rows_by_rows, rows_changed, rows_unchanged, then_unchanged}
-use Rattle.store_rows.proofs.Puts.{length-rows_told}
+use Rattle.{store_rows.specs.{claim.{Puts.{Row, put_rows}, Tidy.CountersFit}, declared.value.{Counters.Counters, StoredPlan.StoredPlan}}, chunk_table.proofs.HeldAll.held_by_rows}
+use Rattle.chunk_table.proofs.Changed.{changed_as, prefix_unchanged, more_by_rows, more_changed, rows_by_rows, rows_changed, rows_unchanged, then_unchanged}
+use Rattle.{chunk_table.proofs.Writing.{after_reads, writes_as}, plan_revisions.proofs.{LastRevision.{ranges_long, last_named}, Looking.stands_at}}
+use Rattle.{plan_revisions.proofs.Retiring.{stepped_by, not_stepped_by}, store_rows.proofs.Puts.length-rows_told}
 
 -- ---- what is read
-module _ (told : PlansAreTold) (cut_law : ListsAreCut) (the_geography : GeographyModel) (from : List ℕ) (k : ℕ) (row : PlanRow) (count : ℕ) (many : count ≡ length (ranges_of the_geography)) (fits : RowFits row) where
+module _ (told : PlansAreTold) (cut_law : ListsAreCut) (the_geography : GeographyModel) (from : List ℕ) (k : ℕ) (row : StoredPlan) (count : ℕ) (many : count ≡ length (ranges_of the_geography)) (fits : RowFits row) where
   -- a revision that the desk has names so many chunks
   pub names_there : (m : KeyMap) (d : Desk) → IsFound m from (Some row) → IsDeskMap m d → HasSomeRevision the_geography from k d → (numbers : List ℕ) × AreNames row.number k count m numbers
   names_there m d found is says =
@@ -22,7 +22,7 @@ module _ (told : PlansAreTold) (cut_law : ListsAreCut) (the_geography : Geograph
       (at.is.has.numbers, last_named m the_geography row.number k says.0 count many at.is.has)
 
 -- ---- what is put
-module _ (name : List ℕ) (source : PlanRow) (next : Counters) (numbers : List ℕ) where
+module _ (name : List ℕ) (source : StoredPlan) (next : Counters) (numbers : List ℕ) where
   abbrev made_rows : List Row
   made_rows = created_rows name source.kind source.districts next
 

@@ -1,5 +1,5 @@
 -- A step is refused for the depth of the stored tree alone, where the transaction was begun over it.
-use Rattle.{std.proofs.Common.{◌≡◌, ◌<◌, ◌≤◌, ℕ, false}, desk_pages.specs.claim.Puts.IsStoredNear, page_btree.specs.claim.Errors.level_in, page_store.specs.Calls.BeginsOver}
+use Rattle.{std.proofs.Common.{◌≡◌, ◌<◌, ◌≤◌, ℕ, false}, desk_pages.specs.claim.Puts.IsStoredNear, page_btree.specs.gets.claim.Errors.level_in, page_store.specs.Calls.BeginsOver}
 use Rattle.page_store.specs.{claim.{Chain.root_in, Transactions.{stored, disk_in, has_halted}}, declared.{pages.Pages.Pages, txn.Txn.Txn}}
 use Rattle.{plan_revisions.specs.claim.Steps.IsDeep, sector_device.specs.declared.SectorDevice.Ghosts, desk_pages.proofs.Nearness.{begun_near, never_stored_near}}
 

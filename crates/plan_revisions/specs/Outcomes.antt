@@ -1,10 +1,10 @@
 -- What becomes of a step of a desk's plans, and of a revision that is added.
 use Rattle.std.specs.Prelude.{◌≡◌, ℕ, Bool, List, length, Option, Result}
 use Rattle.{desk_catalogue.specs.Cutting.changes_in, desk_model.specs.{Ranges.ranges_of, claim.{Desk.Desk, Geography.GeographyModel, Room.{changed, revision_rows}}}}
-use Rattle.{desk_model.specs.declared.ranges.CountyRange.CountyRange, desk_pages.specs.Outcomes.{PutsRows, Writes}, page_btree.specs.declared.error.TreeError.TreeError}
+use Rattle.{desk_model.specs.declared.ranges.CountyRange.CountyRange, desk_pages.specs.Outcomes.{PutsRows, Writes}, page_btree.specs.gets.declared.error.TreeError.TreeError}
 use Rattle.{page_store.specs.declared.{pages.Pages.Pages, txn.Txn.Txn}, plan_revisions.specs.{Adding.rows_put, Counties.new_lists, Plans.{TakesNext, with_next}}}
-use Rattle.{plan_revisions.specs.claim.Steps.{HasStepped, IsStepped, StepErr}, plan_rows.specs.{claim.PlanRows.HasChunkNumbers, declared.change.ChangeOutcome.ChangeOutcome}}
-use Rattle.{sector_device.specs.declared.SectorDevice.Ghosts, store_rows.specs.declared.value.{Counters.Counters, PlanRow.PlanRow}}
+use Rattle.plan_revisions.specs.{claim.{PlanRows.HasChunkNumbers, Steps.{HasStepped, IsStepped, StepErr}}, declared.change.ChangeOutcome.ChangeOutcome}
+use Rattle.{sector_device.specs.declared.SectorDevice.Ghosts, store_rows.specs.declared.value.{Counters.Counters, StoredPlan.StoredPlan}}
 
 module _ {D : Type 0} {g : Ghosts D} where
   -- the step was made, or it is told why not
@@ -18,7 +18,7 @@ module _ {D : Type 0} {g : Ghosts D} where
       Writes (λ change. IsStepped says next rows enough t u old new change) (StepErr says rows t old new) u old new result
 
 -- the rows of a revision in which these counties change, with the numbers of its chunks, of which so many are used
-abbrev pub AddsRows : {D T : Type 0} {g : Ghosts D} → List ℕ → PlanRow → Counters → List Bool
+abbrev pub AddsRows : {D T : Type 0} {g : Ghosts D} → List ℕ → StoredPlan → Counters → List Bool
     → List ℕ → List CountyRange → List ℕ → ℕ → Txn → Txn → Pages D g → Pages D g → Result T TreeError → Type 0
 AddsRows name row counters changes next ranges numbers used t u old new result =
     PutsRows (rows_put name row counters (new_lists changes next ranges) numbers used) t u old new result
@@ -32,3 +32,9 @@ AddsRevision geography changes name next t u old new result = Writes
     (HasChunkNumbers (length (changed geography last next))) t u old new change)
     (λ e. (last : Option (List ℕ)) → changes ≡ changes_in last next (ranges_of geography)
     → StepErr (TakesNext geography name last next) (revision_rows geography last next) t old new e) u old new result
+
+-- after this last revision, if there is any: the desk's plan has one more, where numbers were left for the chunks of the counties that change
+abbrev pub AddsNext : {D : Type 0} {g : Ghosts D} → GeographyModel → List ℕ → Option (List ℕ)
+    → List ℕ → Txn → Txn → Pages D g → Pages D g → Result ChangeOutcome TreeError → Type 0
+AddsNext geography name last next t u old new result = StepsWhereLeft (TakesNext geography name last next) (with_next name next)
+    (revision_rows geography last next) (HasChunkNumbers (length (changed geography last next))) t u old new result

@@ -4,6 +4,7 @@ ghost use Rattle.desk_model.specs.Ranges.{ranges_of};
 ghost use Rattle.page_store.specs.claim.Transactions.{count_of, txn_pages};
 ghost use Rattle.plan_revisions.specs.Outcomes.{AddsRevision};
 
+use crate::change::ChangeOutcome;
 use crate::counties::{assign_numbers, count_changes};
 use crate::laws::{counties_are_chunks, desks_are_added};
 use crate::reads::read_plan;
@@ -14,7 +15,6 @@ use desk_model::geography::Geography;
 use desk_model::name::PlanName;
 use desk_pages::TreeError;
 use page_store::{Pages, Txn};
-use plan_rows::ChangeOutcome;
 use sector_device::SectorDevice;
 use std::alloc::Global;
 use store_rows::upkeep::next_is_one;

@@ -5,26 +5,29 @@ ghost use Rattle.store_rows.specs.Shares.{shared_rows};
 ghost use Rattle.store_rows.specs.claim.Tidy.{CountersFit};
 ghost use Rattle.desk_pages.specs.Looking.{Gathers};
 ghost use Rattle.desk_pages.specs.Outcomes.{PutsRows};
-ghost use Rattle.plan_rows.specs.claim.PlanRows.{HasPlanNumber};
-ghost use Rattle.plan_rows.specs.PlanRows.{CanRevise};
-ghost use Rattle.plan_rows.specs.PlanLaws.{RowFits};
+ghost use Rattle.plan_revisions.specs.claim.PlanRows.{HasPlanNumber};
+ghost use Rattle.plan_revisions.specs.PlanRows.{CanRevise};
+ghost use Rattle.plan_revisions.specs.PlanLaws.{RowFits};
 ghost use Rattle.plan_revisions.specs.Forking.{Forks, HasSource, IsSource, PutsFork};
 
+use crate::change::ChangeOutcome;
+use crate::changes::{put_plan, revise_plan};
 use crate::laws::{counties_are_chunks, forks_are_made};
+use crate::names::append_names;
+use crate::plan_laws::plans_are_told;
+use crate::plan_reads::find_plan;
 use crate::reads::Reading;
+use crate::revision_puts::put_names;
+use chunk_table::hold_all;
 use desk_model::geography::Geography;
 use desk_model::laws::lists_are_cut;
 use desk_model::name::PlanName;
 use desk_pages::{TreeError, next_numbers};
 use page_store::{Pages, Txn};
-use plan_rows::plan_laws::plans_are_told;
-use plan_rows::{
-    ChangeOutcome, append_names, find_plan, hold_all, put_names, put_plan, revise_plan,
-};
 use sector_device::SectorDevice;
 use std::alloc::Global;
 use store_rows::upkeep::next_is_one;
-use store_rows::{Counters, PlanRow};
+use store_rows::{Counters, StoredPlan};
 
 /// Reads a plan's row, the next numbers, and the numbers of the `counties` chunks of a revision.
 fn read_source<D: SectorDevice>(
@@ -59,7 +62,7 @@ fn put_shared<D: SectorDevice>(
     txn: &mut Txn,
     pages: &mut Pages<D>,
     name: &PlanName,
-    row: &PlanRow,
+    row: &StoredPlan,
     next: &Counters,
     numbers: &[u64],
 ) -> Result<(), TreeError>
@@ -77,7 +80,7 @@ fn put_fork<D: SectorDevice>(
     txn: &mut Txn,
     pages: &mut Pages<D>,
     name: &PlanName,
-    source: &PlanRow,
+    source: &StoredPlan,
     next: &Counters,
     numbers: &[u64],
 ) -> Result<(), TreeError>
@@ -87,7 +90,7 @@ fn put_fork<D: SectorDevice>(
     requires left { HasPlanNumber next.now }
     ensures { PutsFork name.now source.now next.now numbers.now txn.old txn.new pages.old pages.new result }
 {
-    let row = PlanRow {
+    let row = StoredPlan {
         number: next.plan,
         kind: source.kind,
         districts: source.districts,

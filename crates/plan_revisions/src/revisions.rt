@@ -1,20 +1,22 @@
 //! Puts the rows of a revision.
 ghost use Rattle.std.specs.Prelude.{◌≡◌, ◌≤◌, ◌*◌, ◌^◌, length};
 ghost use Rattle.page_store.specs.claim.Transactions.{count_of, txn_pages};
-ghost use Rattle.plan_rows.specs.PlanRows.{CanRevise};
+ghost use Rattle.plan_revisions.specs.PlanRows.{CanRevise};
 ghost use Rattle.plan_revisions.specs.Counties.{count_new, AreDrafted};
 ghost use Rattle.plan_revisions.specs.Outcomes.{AddsRows};
 
+use crate::changes::revise_plan;
 use crate::chunks::put_changes;
+use crate::revision_puts::put_names;
+use chunk_table::put_holdings;
 use desk_catalogue::Districts;
 use desk_model::name::PlanName;
 use desk_model::ranges::CountyRange;
 use desk_pages::TreeError;
 use page_store::{Pages, Txn};
-use plan_rows::{put_holdings, put_names, revise_plan};
 use sector_device::SectorDevice;
 use std::alloc::Global;
-use store_rows::{Counters, PlanRow};
+use store_rows::{Counters, StoredPlan};
 
 /// Puts the rows of one more revision of the plan with this row: the chunks of the counties that
 /// change, under the next numbers, the rows by which the plan holds them, the names of all chunks,
@@ -27,7 +29,7 @@ pub fn put_revision<D: SectorDevice>(
     changes: &[bool],
     name: &PlanName,
     next: &Districts,
-    row: &PlanRow,
+    row: &StoredPlan,
     counters: &Counters,
     numbers: &[u64],
     used: u64,

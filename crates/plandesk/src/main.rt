@@ -2,7 +2,9 @@
 //!
 //! # Proved
 //!
-//! Safety and termination.
+//! - `run_job`: what a job is for the store that it opens, by the exit status (`RunsJob`). `run`
+//!   hands that up for some job.
+//! - Of the other functions: safety and termination.
 //!
 //! # Not proved
 //!

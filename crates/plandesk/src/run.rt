@@ -1,7 +1,11 @@
 //! What the words ask for, done.
 ghost use Rattle.command_line.specs.Jobs.{IsJob};
+ghost use Rattle.file_commands.specs.Premises.{IsJustOpened};
+ghost use Rattle.plandesk.specs.claim.Running.{Runs, RunsJob};
+ghost use Rattle.sector_file.specs.Device.{file_disk, first_image};
 
 use crate::serving::serve_desk;
+use byte_stream::source::{ReadSource, Source};
 use command_line::words::{Asked, Job, job_of};
 use command_output::status::Status;
 use file_commands::checks::{check_counts, check_plan};
@@ -9,11 +13,14 @@ use file_commands::explaining::explain_code;
 use file_commands::filling::{format_store, load_state};
 use file_commands::given::end_mistake;
 use file_commands::migrating::migrate_desk;
+use file_commands::prefixes::Prefixed;
 use file_commands::stating::stat_desk;
 use file_commands::sweeping::sweep_desk;
 use file_commands::talking::serve_talk;
 use file_commands::verifying::verify_desk;
-use sector_file::Contents;
+use sector_device::SectorDevice;
+use sector_file::{Contents, FileDevice};
+use std::fs::File;
 use std::sync::Wait;
 use std::thread::Threads;
 use std::time::Clock;
@@ -26,6 +33,7 @@ fn run_job<T: Threads + Wait + Clock + Copy + Send + Sync + 'static, S: Contents
     start: S,
 ) -> Status
     requires { IsJob asked.job }
+    ensures { RunsJob ⟦<FileDevice<S> as SectorDevice>⟧ (λ device. IsJustOpened (first_image S.Contents.sector) (file_disk device)) ⟦<ReadSource<Prefixed<File>> as Source>⟧ asked.entry.job result }
 {
     let words = asked.with_words;
     match asked.job {
@@ -59,7 +67,9 @@ pub fn run<T: Threads + Wait + Clock + Copy + Send + Sync + 'static, S: Contents
     threads: &T,
     words: &[&str],
     start: S,
-) -> Status {
+) -> Status
+    ensures { Runs ⟦<FileDevice<S> as SectorDevice>⟧ (λ device. IsJustOpened (first_image S.Contents.sector) (file_disk device)) ⟦<ReadSource<Prefixed<File>> as Source>⟧ result }
+{
     match job_of(rt.alloc(), words) {
         Ok(asked) => run_job(rt, threads, asked, start),
         Err(mistake) => end_mistake(rt, &mistake),

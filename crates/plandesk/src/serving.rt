@@ -1,19 +1,23 @@
 //! `serve` over the file system, the network and the standard streams.
-ghost use Rattle.std.specs.Prelude.{◌≡◌, ◌≤◌};
+ghost use Rattle.std.specs.Prelude.{◌≡◌, ◌≤◌, false};
+ghost use Rattle.command_output.specs.Writing.{OfWriters};
 ghost use Rattle.file_commands.specs.Premises.{IsJustOpened};
 ghost use Rattle.sector_file.specs.Device.{file_disk, first_image};
+ghost use Rattle.plandesk.specs.claim.Running.{RunsServe};
 ghost use Rattle.serve_command.specs.claim.Living.{ServesLife};
 ghost use Rattle.serve_command.specs.http_seats.Streams.{traffic};
 ghost use Rattle.serve_command.specs.Serving.{listener_of};
 
 use byte_stream::sink::{Sink, WriteSink};
-use command_line::options::Serving;
+use byte_stream::source::{ReadSource, Source};
+use command_line::options::{Logging, Serving};
 use command_output::status::Status;
 use connection_log::log::Log;
 use connection_log::watching::{Watched, Watching};
 use file_commands::doors::{connections_of, listening_at, watcher_of, watching_at};
 use file_commands::faults::{explain_last, standard_error};
 use file_commands::logs::log_of;
+use file_commands::prefixes::Prefixed;
 use file_commands::stores::StoreFiles;
 use http_connections::door;
 use http_connections::door::Door;
@@ -24,6 +28,7 @@ use serve_command::log::refuse_log;
 use serve_command::loopback::listen_here;
 use serve_command::serve::{refuse_memory, serve};
 use std::alloc::Global;
+use std::fs::File;
 use std::sync::Wait;
 use std::thread::Threads;
 use std::time::Clock;
@@ -39,11 +44,12 @@ pub fn serve_desk<
     with_words: bool,
     name: &str,
     serving: Serving,
-    log: Option<&str>,
+    log: Logging<'_>,
     start: S,
 ) -> Status
     requires workers { 1 ≤ serving.workers }
     requires idle { 1 ≤ serving.patience.idle }
+    ensures { RunsServe ⟦<FileDevice<S> as SectorDevice>⟧ (λ device. IsJustOpened (first_image S.Contents.sector) (file_disk device)) ⟦<ReadSource<Prefixed<File>> as Source>⟧ result }
 {
     match log_of(rt, threads, log) {
         Ok(log) => serve_watched(
@@ -58,7 +64,7 @@ pub fn serve_desk<
         Err(refused) => {
             let mut errors = standard_error(rt);
             let status = refuse_log(refused.fault, &mut errors);
-            let files = [("log", log.unwrap_or(""))];
+            let files = [("log", log.file.unwrap_or(""))];
             explain_last(rt, errors, with_words, &files, refused.reason);
             status
         }
@@ -80,6 +86,7 @@ fn serve_watched<
 ) -> Status
     requires workers { 1 ≤ serving.workers }
     requires idle { 1 ≤ serving.patience.idle }
+    ensures { RunsServe ⟦<FileDevice<S> as SectorDevice>⟧ (λ device. IsJustOpened (first_image S.Contents.sector) (file_disk device)) ⟦<ReadSource<Prefixed<File>> as Source>⟧ result }
 {
     let Ok(listener) = listen_here(rt, serving.port) else {
         return serve_door(rt, threads, with_words, name, serving, None, log, start);
@@ -118,6 +125,7 @@ fn serve_door<'a, T: Threads + Wait + Clock + Sync, S: Contents + Send + Sync>(
 ) -> Status
     requires workers { 1 ≤ serving.workers }
     requires idle { 1 ≤ serving.patience.idle }
+    ensures { RunsServe ⟦<FileDevice<S> as SectorDevice>⟧ (λ device. IsJustOpened (first_image S.Contents.sector) (file_disk device)) ⟦<ReadSource<Prefixed<File>> as Source>⟧ result }
 {
     let listening = listening_at(threads, door, &serving);
     let watching = watching_at(threads, listening.as_ref(), log);
@@ -150,11 +158,13 @@ fn serve_in_file<
     writer: &mut W,
     errors: &mut E,
 ) -> Status
-    requires { 1 ≤ serving.workers }
-    ensures { ServesLife ⟦<FileDevice<S> as SectorDevice>⟧ (λ device. IsJustOpened (first_image S.Contents.sector) (file_disk device))
-        (stores.new.is_opened ≡ stores.old.is_opened) (traffic A.gives A.takes_back A.Reader.Source A.Writer.Sink) (listener_of listening.entry) serving.workers result }
+    requires workers { 1 ≤ serving.workers }
+    requires fresh { stores.old.is_opened ≡ false }
+    ensures { OfWriters (ServesLife ⟦<FileDevice<S> as SectorDevice>⟧ (λ device. IsJustOpened (first_image S.Contents.sector) (file_disk device))
+        (stores.new.is_opened ≡ false) (traffic A.gives A.takes_back A.Reader.Source A.Writer.Sink) A.fails (listener_of listening.entry)
+        serving.workers serving.port result) W.Sink writer.old writer.new E.Sink errors.old errors.new }
 {
-    serve::<FileDevice<S>, _, _, _, _, _>(
+    let served = serve::<FileDevice<S>, _, _, _, _, _>(
         threads,
         alloc,
         stores,
@@ -164,7 +174,8 @@ fn serve_in_file<
         listening,
         writer,
         errors,
-    )
+    );
+    served
 }
 
 /// Serves a store to the connections that come, where a socket listens. They come from any type that listens, since a known one would be
@@ -179,6 +190,7 @@ fn serve_at<A: Listens + Sync, T: Threads + Wait + Clock + Sync, S: Contents + S
     start: S,
 ) -> Status
     requires { 1 ≤ serving.workers }
+    ensures { RunsServe ⟦<FileDevice<S> as SectorDevice>⟧ (λ device. IsJustOpened (first_image S.Contents.sector) (file_disk device)) ⟦<ReadSource<Prefixed<File>> as Source>⟧ result }
 {
     let mut stores = StoreFiles::new(rt, start);
     let mut writer = WriteSink::new(rt.stdout());

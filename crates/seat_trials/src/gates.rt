@@ -10,7 +10,7 @@ use desk_model::gate::Gate;
 use desk_model::reply::{PlanRows, Refusal, Reply};
 use http_desk::accepted::Accepted;
 use http_desk::hearing::Hears;
-use http_desk::serve::{Served, StreamFault, serve};
+use http_desk::serve::{ServeFault, Served, serve};
 use std::alloc::Global;
 use std::cell::Cell;
 use std::io;
@@ -133,6 +133,10 @@ impl Gate for Listener<'_> {
 impl Hears for Listener<'_> {
     ghost listening = { λ _. true };
 
+    fn pass_before(&self, worker: u32, piece: u32) {
+        self.pass(worker, piece);
+    }
+
     fn listens(&self) -> bool {
         true
     }
@@ -196,7 +200,7 @@ fn served(
     notes: &Notes,
     pieces: &[&'static [u8]],
     most: u32,
-) -> Result<Served, StreamFault> {
+) -> Result<Served, ServeFault> {
     let mut reader = ReadSource::new(Asking { notes, pieces });
     let mut writer = WriteSink::new(Written { notes, most });
     let mut counter = Noted { notes };
@@ -226,6 +230,6 @@ fn a_command_is_heard_of_after_its_answer(rt: HostRuntime) {
     let rt = &rt;
     let notes = Notes::new(false);
     let served = served(rt.alloc(), &notes, &[FOUR], 2);
-    holds!(rt; matches!(served, Err(StreamFault::Write)));
+    holds!(rt; matches!(served, Err(ServeFault::WriteFault)));
     holds!(rt; (notes.heard.get() == 3) & !notes.is_wrong.get());
 }

@@ -15,6 +15,7 @@ macro_rules! holds {
 }
 
 #[cfg(test)]
+#[cfg(test)]
 mod facts;
 #[cfg(test)]
 mod gates;

@@ -6,12 +6,12 @@ ghost use Rattle.desk_gallery.specs.Naming.{IsOpenedFor};
 
 use crate::visitors::{clerk_failing_at, create, gallery_of, is_created, plans_seen};
 use desk_catalogue::catalogue::Catalogue;
-use desk_claim::office::are_standing;
 use desk_gallery::book::{GalleryId, Opened};
 use desk_gallery::front::Front;
 use desk_gallery::tally::{Blanks, Tally};
 use desk_gallery::visitor::Visitor;
 use desk_store::clerk::Clerk;
+use desk_theorem::office::are_standing;
 use sector_memory::Fused;
 use std::alloc::Global;
 use std::marker::Brand;

@@ -1,14 +1,14 @@
 //! A world of the sample's catalogue: what visitors are answered, event by event.
 use desk_catalogue::catalogue::Catalogue;
-use desk_claim::event::Event;
-use desk_claim::world::World;
 use desk_model::command::{Command, Query};
 use desk_model::geography::sample;
 use desk_model::kind::Kind;
 use desk_model::name::PlanName;
-use desk_model::reply::{PlanLine, Refusal, Reply};
+use desk_model::reply::{PlanRow, Refusal, Reply};
 use desk_model::size::PlanSize;
 use desk_model::text::Text;
+use desk_theorem::event::Event;
+use desk_theorem::world::World;
 use std::alloc::Global;
 use std::process::Abort;
 use std::sync::Arc;
@@ -34,7 +34,7 @@ fn create<R: Abort>(rt: &R, text: &str) -> Command {
 }
 
 /// Whether this is plan a, as it was made.
-fn is_first(row: &PlanLine) -> bool {
+fn is_first(row: &PlanRow) -> bool {
     row.name.as_slice() == b"a".as_slice()
         && row.kind == Kind::Congress
         && row.n == 2
@@ -42,7 +42,7 @@ fn is_first(row: &PlanLine) -> bool {
 }
 
 /// How many plans are listed, the first of which is plan a; a hundred, where it isn't.
-fn count_of(rows: &[PlanLine]) -> usize {
+fn count_of(rows: &[PlanRow]) -> usize {
     match rows.first() {
         Some(row) if !is_first(row) => 100,
         _ => rows.len(),

@@ -33,7 +33,8 @@ impl Fused {
         }
     }
 
-    /// A device whose call k fails, counted from 0, and no other.
+    /// A device whose call k fails, counted from 0, and no other, as `FailOnce`. Trials take it, so that
+    /// what they try is compiled for one type of device.
     pub fn once(device: MemoryDevice, k: u64) -> Fused
         ensures device { inner result ≡ device }
         ensures left { calls_before result ≡ Some k }

@@ -1,58 +1,88 @@
 -- What a run of `serve` is for the store that it opened.
-use Rattle.{std.proofs.Common.{◌≡◌, ◌⊎◌, ℕ, Bool, true, false, List, Option, Result, Ok, Err, inl, inr, ⊎_elim, refl, ap, ◌∙◌}, command_output.specs.claim.Writing.Written}
-use Rattle.{command_output.specs.declared.status.Status.Status, http_connections.specs.declared.ran.Ran.Ran, http_seats.specs.claim.Streams.Traffic}
-use Rattle.inspect_command.specs.{desk_store.claim.Clerks.pages_of, store_command.{Telling.status_of as status_of_store, claim.Living.IsBarred}}
-use Rattle.{inspect_command.specs.store_command.declared.fault.StoreFault.StoreFault, page_store.specs.claim.Transactions.device_in}
-use Rattle.{sector_device.specs.declared.SectorDevice.Ghosts, serve_command.specs.{claim.Living.{OfficeLived, ClosedLived, ServesLife}, declared.fault.ServeFault.ServeFault}}
-use Rattle.serve_command.specs.Serving.{fault_of_halt, Announces, EndsServing, HasStopped, IsNoStore, IsServed, IsGivenUp, NotOpened, Serves}
-use Rattle.serve_command.specs.declared.fault.ServeFault.TheVariants.{Store, Socket, Output}
-use Rattle.inspect_command.proofs.store_command.Living.{either_status, told_as, unmoved}
-use Rattle.command_output.specs.declared.status.Status.TheVariants as status
-use Rattle.inspect_command.specs.store_command.declared.fault.StoreFault.TheVariants as store
+use Rattle.{std.proofs.Common.{◌≡◌, ◌⊎◌, ◌<◌, ℕ, Bool, true, false, List, Option, Result, Ok, Err, inl, inr, ⊎_elim, sym, subst, ◌∙◌, arith}, serve_command.proofs.Failing.along}
+use Rattle.{command_output.specs.{claim.Writing.Written, declared.status.Status.Status}, http_connections.specs.declared.ran.Ran.Ran, http_seats.specs.claim.Streams.Traffic}
+use Rattle.inspect_command.specs.{desk_store.claim.Clerks.{disk_of, pages_of}, desk_theorem.claim.{Device.HoldsStore, OneLife.{Asked, OfficeHolds}}}
+use Rattle.inspect_command.specs.{desk_theorem.store_lives.claim.Versions.Store as Held, store_command.{claim.Living.{Bars, IsRefused}, declared.fault.StoreFault.StoreFault}}
+use Rattle.{page_store.specs.claim.Transactions.device_in, sector_device.specs.declared.SectorDevice.Ghosts, serve_command.specs.declared.fault.ServingFault.ServingFault}
+use Rattle.serve_command.specs.Serving.{Announces, EndsServing, HasAnnounced, HasStopped, IsNoStore, IsServed, IsGivenUp, NotOpened, Serves}
+use Rattle.serve_command.specs.{claim.Living.{ClosedLived, HaltedLived, HasServed, OfficeLived, ServesLife}, declared.fault.ServingFault.TheVariants.{Store, Socket, Output}}
+use Rattle.inspect_command.proofs.{desk_theorem.Device.{and_on, held_all}, store_command.Living.{none_opened, told_for}}
 
-halt_status : (failed : Bool) → status_of_store (fault_of_halt failed) ≡ status.Store
-halt_status true = refl
-halt_status false = refl
+module _ {D O : Type 0} (g : Ghosts D) (opens : O → List ℕ → Result D StoreFault → O → Type 0) (closes : O → D → O → Type 0) {A R W : Type 0} (streams : A → Traffic R W) (heard : A → Ran → Type 0) (fails : A → Bool → Type 0) (listening : Option A) (workers : ℕ) (opened : D → Type 0) (none : O → Type 0) (tells : (before : O) (name : List ℕ) (d : D) (after : O) → opens before name (Ok d) after → opened d) (refuses : (before : O) (name : List ℕ) (f : StoreFault) (after : O) → opens before name (Err f) after → none before → none after) where
+  module _ (stores after : O) (fresh : none stores) (name : List ℕ) (port : ℕ) (end : Status) (old new told_old told_new : Written) where
+    abbrev Lives : Type 0
+    Lives = ServesLife g opened (none after) streams fails listening workers port end old new told_old told_new
 
-module _ {D O : Type 0} (g : Ghosts D) (opens : O → List ℕ → Result D StoreFault → O → Type 0) (closes : O → D → O → Type 0) {A R W : Type 0} (streams : A → Traffic R W) (heard : A → Ran → Type 0) (fails : A → Bool → Type 0) (listening : Option A) (workers : ℕ) (opened : D → Type 0) (kept : O → O → Type 0) (tells : (before : O) (name : List ℕ) (d : D) (after : O) → opens before name (Ok d) after → opened d) (refuses : (before : O) (name : List ℕ) (f : StoreFault) (after : O) → opens before name (Err f) after → kept before after) (same : (o : O) → kept o o) where
-  module _ (stores after : O) (name : List ℕ) (end : Status) where
-    office : (halted device_failed socket_failed : Bool) → IsServed g opens closes streams heard fails listening workers stores name halted device_failed socket_failed after → OfficeLived g opened (kept stores after) streams listening workers end
+    office : (halted device_failed socket_failed : Bool) → IsServed g opens closes streams heard fails listening workers stores name halted device_failed socket_failed after → OfficeLived g opened (none after) streams fails listening workers port end socket_failed
     office halted device_failed socket_failed is = record {
       from = is.listener;
       listens = is.listens;
+      failed = is.failed;
       ran = is.came_to;
       life = record { old = is.found.device; new = device_in (pages_of is.last); was = tells stores name is.found.device is.middle is.found.given; lived = is.life };
     }
 
-    given_up : IsGivenUp g opens closes streams heard fails listening workers stores name after → ClosedLived g opened (kept stores after) streams listening workers end
+    -- where the office halted over a store, its device has failed since
+    fell : (device_failed socket_failed : Bool) (is : IsServed g opens closes streams heard fails listening workers stores name true device_failed socket_failed after) → (disk_of is.last).is_honest → (s : Held) → HoldsStore s (g.disk is.found.device)
+        → (g.disk is.found.device).faults < (disk_of is.last).faults
+    fell device_failed socket_failed is honest s held =
+        let lasts = is.served.lasts in
+        let start = lasts.is_first in
+        let went = along false lasts.start lasts.calls lasts.checked is.last lasts.run in
+        let keeps = start.keeps (is.found.opened.keeps (held_all s (g.disk is.found.device) held)) in
+        let rose = went.rose keeps (start.halted ∙ is.found.opened.working) is.halts honest in
+        let same = is.found.opened.calm (start.honest (went.honest honest)) in
+        let first = start.faults in
+        omega (arith, rose, same, first)
+
+    halted_office : (device_failed socket_failed : Bool) → IsServed g opens closes streams heard fails listening workers stores name true device_failed socket_failed after → HaltedLived g opened (none after) streams fails listening workers port end
+    halted_office device_failed socket_failed is = record {
+      from = is.listener;
+      listens = is.listens;
+      ran = is.came_to;
+      life = record {
+        old = is.found.device;
+        new = device_in (pages_of is.last);
+        was = tells stores name is.found.device is.middle is.found.given;
+        lived = and_on (Asked (OfficeHolds (streams is.listener) workers is.came_to)) (λ t u s. t < u) (g.disk is.found.device) (disk_of is.last) (fell device_failed socket_failed is) is.life;
+      };
+    }
+
+    given_up : IsGivenUp g opens closes streams heard fails listening workers stores name after → ClosedLived g opened (none after) streams fails listening workers port end
     given_up is = record {
       from = is.listener;
       listens = is.listens;
       life = record { old = is.found.device; new = device_in (pages_of is.last); was = tells stores name is.found.device is.middle is.found.given; lived = is.life };
     }
 
-    no_store : (f : StoreFault) → end ≡ status_of_store f → IsNoStore g opens closes stores name f after → IsBarred g opened (kept stores after) end
-    no_store f is not = (not.why.error, told_as end f not.why.error is not.why.told, record { old = not.device; new = not.left; was = tells stores name not.device not.middle not.given; lived = not.why.life })
+    no_store : (f : StoreFault) → IsRefused f end old new told_old told_new → IsNoStore g opens closes stores name f after → Bars g opened (none after) end old new told_old told_new
+    no_store f is not = record {
+      why = not.why.error;
+      told = told_for end old new told_old told_new not.why.told is;
+      life = record { old = not.device; new = not.left; was = tells stores name not.device not.middle not.given; lived = not.why.life };
+    }
 
-    unopened : (f : StoreFault) → end ≡ status_of_store f → NotOpened g opens closes stores name f after → ServesLife g opened (kept stores after) streams listening workers end
-    unopened f is (inl none) = ServesLife.not_opened (unmoved kept same stores after none.1, either_status end f is)
-    unopened f is (inr (inl refused)) = ServesLife.not_opened (refuses stores name f after refused, either_status end f is)
+    unopened : (f : StoreFault) → IsRefused f end old new told_old told_new → NotOpened g opens closes stores name f after → Lives
+    unopened f is (inl same) = ServesLife.not_opened (none_opened g opens closes opened none tells refuses stores after fresh name end old new told_old told_new f is (inl same))
+    unopened f is (inr (inl refused)) = ServesLife.not_opened (none_opened g opens closes opened none tells refuses stores after fresh name end old new told_old told_new f is (inr refused))
     unopened f is (inr (inr not)) = ServesLife.barred (no_store f is not)
 
-    halted : (f : StoreFault) → end ≡ status_of_store f → HasStopped g opens closes streams heard fails listening workers stores name f after → ServesLife g opened (kept stores after) streams listening workers end
-    halted f is (inl given) = ServesLife.given_up (is ∙ ap status_of_store given.0) (given_up given.1)
-    halted f is (inr served) = ServesLife.stopped (inr (is ∙ ap status_of_store served.1 ∙ halt_status served.0)) (office true served.0 served.2 served.3)
+    -- a fault is told by another name
+    ends_as : {e f : StoreFault} → e ≡ f → HasAnnounced port old new → EndsServing (Err (Store e)) end told_old told_new → HasServed g opened (none after) streams fails listening workers port end (Err (Store f)) old new told_old told_new
+    ends_as same line ends = (line, subst (λ (h : StoreFault). EndsServing (Err (Store h)) end told_old told_new) same ends)
 
-    announced : (port : ℕ) (ended : Result (Unit {0}) ServeFault) (old new told_old told_new : Written) → Announces g opens closes streams heard fails listening workers port stores name ended after old new → EndsServing ended end told_old told_new
-        → ServesLife g opened (kept stores after) streams listening workers end
-    announced port (Ok u) old new told_old told_new is ends = ServesLife.served ends.0 (office false false false is.1)
-    announced port (Err (Store f)) old new told_old told_new is ends = ⊎_elim (λ none. unopened f ends.0 none.1) (λ stop. halted f ends.0 stop.1) is
-    announced port (Err Socket) old new told_old told_new is ends =
-        ⊎_elim (λ none. ServesLife.not_listening ends.0 none.0 (unmoved kept same stores after none.2)) (λ served. ServesLife.stopped (inl ends.0) (office false false true served.1)) is
-    announced port (Err Output) old new told_old told_new is ends =
+    stopped : (f : StoreFault) → HasAnnounced port old new → EndsServing (Err (Store f)) end told_old told_new → HasStopped g opens closes streams heard fails listening workers stores name f after → Lives
+    stopped f line ends (inl given) = ServesLife.given_up (ends_as given.0 line ends) (given_up given.1)
+    stopped f line ends (inr served) = ServesLife.halted served.0 (ends_as served.1 line ends) (halted_office served.0 served.2 served.3)
+
+    announced : (ended : Result (Unit {0}) ServingFault) → Announces g opens closes streams heard fails listening workers port stores name ended after old new → EndsServing ended end told_old told_new → Lives
+    announced (Ok u) is ends = ServesLife.served (is.0, ends) (office false false false is.1)
+    announced (Err (Store f)) is ends = ⊎_elim (λ first. unopened f (first.0, ends) first.1) (λ stop. stopped f stop.0 ends stop.1) is
+    announced (Err Socket) is ends =
+        ⊎_elim (λ first. ServesLife.not_listening first.0 first.1 ends (subst none (sym first.2) fresh)) (λ served. ServesLife.unheard (served.0, ends) (office false false true served.1)) is
+    announced (Err Output) is ends =
         let it = is.1 in
-        ServesLife.unused ends.0 (record { old = it.given.device; new = device_in (pages_of it.clerk); was = tells stores name it.given.device it.middle it.given.given; lived = it.life })
+        ServesLife.unused is.0.0 is.0.1 ends (record { old = it.given.device; new = device_in (pages_of it.clerk); was = tells stores name it.given.device it.middle it.given.given; lived = it.life })
 
-    pub serves_life : (port : ℕ) (old new told_old told_new : Written) → Serves g opens closes streams heard fails listening workers port stores name end after old new told_old told_new
-        → ServesLife g opened (kept stores after) streams listening workers end
-    serves_life port old new told_old told_new is = announced port is.0 old new told_old told_new is.1 is.2
+    pub serves_life : Serves g opens closes streams heard fails listening workers port stores name end after old new told_old told_new → Lives
+    serves_life is = announced is.0 is.1 is.2

@@ -1,37 +1,19 @@
 -- A store that is served: what is opened, printed and told, and the status that goes with it.
-use Rattle.std.specs.{Borrow.Bor, Prelude.{◌≡◌, ◌⊎◌, ℕ, List, [], ◌++◌, codes, decimal, Bool, true, false, Option, Some, None, Result, Ok, Err}}
+use Rattle.std.specs.{Borrow.Bor, Prelude.{◌≡◌, ◌⊎◌, ℕ, List, [], codes, Bool, true, false, Option, Some, None, Result, Ok, Err}}
 use Rattle.{byte_stream.specs.declared.sink.WriteFault.WriteFault, command_output.specs.claim.{Faults.status_of_open, Writing.{Written, Writes, Told}}}
 use Rattle.{command_output.specs.declared.status.Status.Status, desk_model.specs.claim.Desk.Desk, http_connections.specs.declared.ran.Ran.Ran}
 use Rattle.{http_seats.specs.{claim.Streams.Traffic, desk_gallery.Working.IsRunFrom}, inspect_command.specs.{desk_loading.Openings.IsOpened, desk_store.declared.clerk.Clerk.Clerk}}
 use Rattle.inspect_command.specs.{desk_store.claim.Clerks.{desk_of, disk_of, is_halted, pages_of, Keeps}, desk_theorem.claim.Device.OnDevice, store_command.Filling.IsNotOpened}
 use Rattle.inspect_command.specs.{desk_theorem.claim.OneLife.{Asked, ClosedHolds, OfficeHolds, RequestsHold}, store_command.Reading.{ReadsDesk, ShowsWhatIsRead}}
-use Rattle.inspect_command.specs.store_command.{Telling.{store_line, status_of as status_of_store}, declared.fault.StoreFault.StoreFault}
-use Rattle.{inspect_command.specs.store_command.declared.fault.StoreFault.TheVariants.{Memory, NotAStore, DeviceFault}, page_store.specs.claim.Transactions.device_in}
+use Rattle.{inspect_command.specs.store_command.declared.fault.StoreFault.{StoreFault, TheVariants.Memory}, page_store.specs.claim.Transactions.device_in}
 use Rattle.{sector_device.specs.declared.SectorDevice.Ghosts, serve_command.specs.{Outlasting.{FailsSince, OutlastsWhatIsRead}, claim.Lasting.{LastsAsked, ServesStreams}}}
-use Rattle.{serve_command.specs.declared.fault.ServeFault.{ServeFault, TheVariants.{Store, Socket, Output}}, state_files.specs.declared.fault.OpenFault.OpenFault}
+use Rattle.{serve_command.specs.declared.fault.ServingFault.{ServingFault, TheVariants.{Store, Socket, Output}}, state_files.specs.declared.fault.OpenFault.OpenFault}
 use Rattle.state_files.specs.declared.fault.OpenFault.TheVariants.{Unreadable, Memory as NoMemory}
 use Rattle.command_output.specs.declared.status.Status.TheVariants as status
-
-abbrev pub listening_text : (port : ℕ) → List ℕ
-listening_text port = codes "listening on 127.0.0.1:" ++ decimal port ++ codes "\n"
-
-abbrev pub fault_line : ServeFault → List ℕ
-fault_line (Store fault) = store_line fault
-fault_line Socket = codes "plandesk: serve: SocketFault\n"
-fault_line Output = codes "plandesk: serve: WriteFault\n"
-
-abbrev pub status_of : ServeFault → Status
-status_of (Store fault) = status_of_store fault
-status_of Socket = status.Stream
-status_of Output = status.Stream
-
--- why a clerk halted: its device failed, or a command met rows that no desk leaves
-abbrev pub fault_of_halt : (device_failed : Bool) → StoreFault
-fault_of_halt true = DeviceFault
-fault_of_halt false = NotAStore
+pub use Rattle.serve_command.specs.claim.Telling.{listening_text, fault_line, status_of, fault_of_halt, HasAnnounced, EndsServing}
 
 -- what a run came to, by whether the clerk halted in it, whether its device failed, and whether the socket did
-abbrev pub end_of : (halted device_failed socket_failed : Bool) → Result (Unit {0}) ServeFault
+abbrev pub end_of : (halted device_failed socket_failed : Bool) → Result (Unit {0}) ServingFault
 end_of true device_failed _ = Err (Store (fault_of_halt device_failed))
 end_of false _ true = Err Socket
 end_of false _ false = Ok tt
@@ -49,15 +31,6 @@ log_line NoMemory = codes "plandesk: log: Memory\n"
 -- it is told, and the status is that of every file that can't be opened
 abbrev pub RefusesLog : OpenFault → Status → (told_before told_after : Written) → Type 0
 RefusesLog fault end told_before told_after = (end ≡ status_of_open fault) × Told told_before told_after (log_line fault)
-
--- the line was printed whole
-abbrev pub HasAnnounced : (port : ℕ) → (before after : Written) → Type 0
-HasAnnounced port before after = Writes before after (listening_text port) (Ok tt)
-
--- 0 with nothing told, or the fault's status with its line
-abbrev pub EndsServing : Result (Unit {0}) ServeFault → Status → (told_before told_after : Written) → Type 0
-EndsServing (Ok u) end told_before told_after = (end ≡ status.Done) × (told_after ≡ told_before)
-EndsServing (Err fault) end told_before told_after = (end ≡ status_of fault) × Told told_before told_after (fault_line fault)
 
 module _ {D O : Type 0} (g : Ghosts D) (opens : O → List ℕ → Result D StoreFault → O → Type 0) (closes : O → D → O → Type 0) where
   -- this clerk opened the store of the name, and shows the desk to which opens what its device read
@@ -152,7 +125,7 @@ module _ {D O : Type 0} (g : Ghosts D) (opens : O → List ℕ → Result D Stor
     -- What comes of a store and is printed: the line once it is open, nothing where it isn't, and a prefix of the line where standard
     -- output fails, after which nothing is served. Where no socket listens, no store is opened; where one does, its fault is told where it
     -- says that it failed, and none where it says that it didn't.
-    abbrev pub Announces : (port : ℕ) → (stores : O) → List ℕ → Result (Unit {0}) ServeFault → (stores_after : O) → (before after : Written) → Type 0
+    abbrev pub Announces : (port : ℕ) → (stores : O) → List ℕ → Result (Unit {0}) ServingFault → (stores_after : O) → (before after : Written) → Type 0
     Announces port stores name (Ok u) stores_after before after = HasAnnounced port before after × IsServed stores name false false false stores_after
     Announces port stores name (Err (Store fault)) stores_after before after =
         ((after ≡ before) × NotOpened stores name fault stores_after) ⊎ (HasAnnounced port before after × HasStopped stores name fault stores_after)
@@ -164,5 +137,5 @@ module _ {D O : Type 0} (g : Ghosts D) (opens : O → List ℕ → Result D Stor
 
     -- the store of the name, served
     abbrev pub Serves : (port : ℕ) → (stores : O) → List ℕ → Status → (stores_after : O) → (before after told_before told_after : Written) → Type 0
-    Serves port stores name end stores_after before after told_before told_after = (ended : Result (Unit {0}) ServeFault)
+    Serves port stores name end stores_after before after told_before told_after = (ended : Result (Unit {0}) ServingFault)
         × Announces port stores name ended stores_after before after × EndsServing ended end told_before told_after

@@ -8,7 +8,7 @@ use inspect_command::telling::{store_line, store_status};
 
 /// Why a store isn't served, or no longer.
 #[derive(Clone, Copy)]
-pub enum ServeFault {
+pub enum ServingFault {
     /// The store was refused, its device failed, or memory was refused.
     Store(StoreFault),
     /// No socket listens, or no further connection is given.
@@ -18,22 +18,22 @@ pub enum ServeFault {
 }
 
 /// Returns the line of a fault.
-pub fn fault_line(fault: ServeFault) -> &'static [u8]
+pub fn fault_line(fault: ServingFault) -> &'static [u8]
     ensures { result.now ≡ line_of_fault fault }
 {
     match fault {
-        ServeFault::Store(fault) => store_line(fault),
-        ServeFault::Socket => b"plandesk: serve: SocketFault\n",
-        ServeFault::Output => b"plandesk: serve: WriteFault\n",
+        ServingFault::Store(fault) => store_line(fault),
+        ServingFault::Socket => b"plandesk: serve: SocketFault\n",
+        ServingFault::Output => b"plandesk: serve: WriteFault\n",
     }
 }
 
 /// The status that goes with it.
-pub fn fault_status(fault: ServeFault) -> Status
+pub fn fault_status(fault: ServingFault) -> Status
     ensures { result ≡ status_of_fault fault }
 {
     match fault {
-        ServeFault::Store(fault) => store_status(fault),
-        ServeFault::Socket | ServeFault::Output => Status::Stream,
+        ServingFault::Store(fault) => store_status(fault),
+        ServingFault::Socket | ServingFault::Output => Status::Stream,
     }
 }

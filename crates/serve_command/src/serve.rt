@@ -5,10 +5,10 @@ ghost use Rattle.inspect_command.specs.desk_store.claim.Clerks.{is_halted, pages
 ghost use Rattle.command_output.specs.Writing.{OfWriters, written_of};
 ghost use Rattle.http_seats.specs.Streams.{traffic};
 ghost use Rattle.inspect_command.specs.store_command.declared.fault.StoreFault.TheVariants.{Memory};
-ghost use Rattle.serve_command.specs.declared.fault.ServeFault.TheVariants.{Store};
+ghost use Rattle.serve_command.specs.declared.fault.ServingFault.TheVariants.{Store};
 ghost use Rattle.serve_command.specs.Serving.{end_of, fault_of_halt, listener_of, OpensStore, Announces, Serves, EndsServing};
 
-use crate::fault::{ServeFault, fault_line, fault_status};
+use crate::fault::{ServingFault, fault_line, fault_status};
 use crate::office::serve_clerk;
 use crate::room::tell_room;
 use crate::texts::listening_text;
@@ -60,14 +60,14 @@ fn halt_fault(device_failed: bool) -> StoreFault
 }
 
 /// Returns the result of a run, by its last clerk and whether the socket failed.
-fn end_run<D: SectorDevice>(last: &Clerk<D>, socket_failed: bool) -> Result<(), ServeFault>
+fn end_run<D: SectorDevice>(last: &Clerk<D>, socket_failed: bool) -> Result<(), ServingFault>
     ensures { result ≡ end_of (is_halted last.now) (has_halted (pages_of last.now)) socket_failed }
 {
     if last.halted() {
-        return Err(ServeFault::Store(halt_fault(last.has_device_failed())));
+        return Err(ServingFault::Store(halt_fault(last.has_device_failed())));
     }
     if socket_failed {
-        return Err(ServeFault::Socket);
+        return Err(ServingFault::Socket);
     }
     Ok(())
 }
@@ -88,7 +88,7 @@ fn serve_store<
     sweeps: bool,
     listening: &A,
     writer: &mut W,
-) -> Result<(), ServeFault>
+) -> Result<(), ServingFault>
     requires { 1 ≤ serving.workers }
     ensures { Announces D.SectorDevice O.opens O.closes (traffic A.gives A.takes_back A.Reader.Source A.Writer.Sink) A.heard A.fails
         (Some listening.now) serving.workers serving.port stores.old name.now result stores.new
@@ -96,17 +96,17 @@ fn serve_store<
 {
     one_desk_opens();
     let Ok(text) = listening_text(alloc, serving.port) else {
-        return Err(ServeFault::Store(StoreFault::Memory));
+        return Err(ServingFault::Store(StoreFault::Memory));
     };
     let clerk = match open_store(alloc, stores, name) {
         Ok(clerk) => clerk,
-        Err(fault) => return Err(ServeFault::Store(fault)),
+        Err(fault) => return Err(ServingFault::Store(fault)),
     };
     match writer.send(text.as_slice()) {
         Ok(()) => {}
         Err(_) => {
             stores.close(clerk.into_device());
-            return Err(ServeFault::Output);
+            return Err(ServingFault::Output);
         }
     }
     let _ = tell_room(alloc, &clerk, listening);
@@ -127,7 +127,7 @@ fn serve_store<
         }
         Err((_, unserved)) => {
             stores.close(unserved.into_device());
-            Err(ServeFault::Store(StoreFault::Memory))
+            Err(ServingFault::Store(StoreFault::Memory))
         }
     }
 }
@@ -164,13 +164,13 @@ pub fn serve<
 {
     let ended = match listening {
         Some(listening) => serve_store(rt, alloc, stores, name, serving, sweeps, listening, writer),
-        None => Err(ServeFault::Socket),
+        None => Err(ServingFault::Socket),
     };
     end_serving(ended, errors)
 }
 
 /// Returns the status of a run, and prints its fault.
-fn end_serving<E: Sink>(ended: Result<(), ServeFault>, errors: &mut E) -> Status
+fn end_serving<E: Sink>(ended: Result<(), ServingFault>, errors: &mut E) -> Status
     ensures { EndsServing ended result (written_of E.contents E.failures errors.old) (written_of E.contents E.failures errors.new) }
 {
     match ended {
@@ -187,5 +187,5 @@ fn end_serving<E: Sink>(ended: Result<(), ServeFault>, errors: &mut E) -> Status
 pub fn refuse_memory<E: Sink>(errors: &mut E) -> Status
     ensures { EndsServing (Err (Store Memory)) result (written_of E.contents E.failures errors.old) (written_of E.contents E.failures errors.new) }
 {
-    end_serving(Err(ServeFault::Store(StoreFault::Memory)), errors)
+    end_serving(Err(ServingFault::Store(StoreFault::Memory)), errors)
 }

@@ -61,27 +61,27 @@ append_fit (d ∷ ds) es small more (suc i) = append_fit ds es (λ k. small (suc
 
 -- ---- lists in pieces
 module _ (first : ℕ) (listed : List (Option ℕ)) (ps new : List Piece) (all : List Piece) (k : ℕ) (p d : Piece) where
-  pub next_laid : joined ps ≡ laid first listed 0 (joined (take k all)) → AreFull all → k < length all → new ≡ ps ++ p ∷ [] → p.value.items ≡ laid first listed (k * 512) (get_or all k d).value.items
+  pub next_laid : joined ps ≡ laid first listed 0 (joined (take k all)) → AreFull all → k < length all → new ≡ ps ++ p ∷ [] → p ≡ laid first listed (k * 512) (get_or all k d)
       → joined new ≡ laid first listed 0 (joined (take (k + 1) all))
   next_laid same full within put is =
-      let so_long = joined_long (take k all) (All-take (λ q. length q.value.items ≡ 512) k all full) in
+      let so_long = joined_long (take k all) (All-take (λ q. length q ≡ 512) k all full) in
       joined_push ps new p put (laid first listed 0 (joined (take k all))) same
-      ∙ ap (λ l. laid first listed 0 (joined (take k all)) ++ l) (is ∙ ap (λ n. laid first listed n (get_or all k d).value.items) (omega (arith, so_long, length-take k all)))
-      ∙ sym (laid-append first listed 0 (joined (take k all)) (get_or all k d).value.items) ∙ ap (laid first listed 0) (joined_take all k d within)
+      ∙ ap (λ l. laid first listed 0 (joined (take k all)) ++ l) (is ∙ ap (λ n. laid first listed n (get_or all k d)) (omega (arith, so_long, length-take k all)))
+      ∙ sym (laid-append first listed 0 (joined (take k all)) (get_or all k d)) ∙ ap (laid first listed 0) (joined_take all k d within)
 
-  pub next_fit : Fit (joined ps) → Fit p.value.items → new ≡ ps ++ p ∷ [] → Fit (joined new)
-  next_fit so_far fits put = subst Fit (sym (joined_push ps new p put (joined ps) refl)) (append_fit (joined ps) p.value.items so_far fits)
+  pub next_fit : Fit (joined ps) → Fit p → new ≡ ps ++ p ∷ [] → Fit (joined new)
+  next_fit so_far fits put = subst Fit (sym (joined_push ps new p put (joined ps) refl)) (append_fit (joined ps) p so_far fits)
 
-  pub next_full_laid : AreFull ps → AreFull all → k < length all → new ≡ ps ++ p ∷ [] → p.value.items ≡ laid first listed (k * 512) (get_or all k d).value.items → AreFull new
-  next_full_laid so_far full within put is = full_push ps new p put so_far (ap length is ∙ length-laid first listed (k * 512) (get_or all k d).value.items ∙ full k d within)
+  pub next_full_laid : AreFull ps → AreFull all → k < length all → new ≡ ps ++ p ∷ [] → p ≡ laid first listed (k * 512) (get_or all k d) → AreFull new
+  next_full_laid so_far full within put is = full_push ps new p put so_far (ap length is ∙ length-laid first listed (k * 512) (get_or all k d) ∙ full k d within)
 
 -- the pieces and the one after them, when all are laid over
 module _ (first : ℕ) (listed : List (Option ℕ)) (ps full : List Piece) (rest kept : Piece) (k : ℕ) (same : joined ps ≡ laid first listed 0 (joined (take k full))) (all : length full ≤ k)
-    (are_full : AreFull full) (is : rest.value.items ≡ laid first listed (length full * 512) kept.value.items) where
-  pub laid_whole : joined ps ++ rest.value.items ≡ laid first listed 0 (joined full ++ kept.value.items)
+    (are_full : AreFull full) (is : rest ≡ laid first listed (length full * 512) kept) where
+  pub laid_whole : joined ps ++ rest ≡ laid first listed 0 (joined full ++ kept)
   laid_whole = search (rules, take_all, joined_long, laid-append)
 
-  pub laid_cut : (count : ℕ) → AreFull ps → IsCut full kept count → Fit (joined ps) → Fit rest.value.items → IsCut ps rest count
-  laid_cut count so_far cut fits fits_after = cut_of ps rest (joined ps ++ rest.value.items) count so_far refl
-      (cut.counted ∙ sym (length-append (joined full) kept.value.items) ∙ sym (length-laid first listed 0 (joined full ++ kept.value.items)) ∙ sym (ap length laid_whole))
-      (append_fit (joined ps) rest.value.items fits fits_after)
+  pub laid_cut : (count : ℕ) → AreFull ps → IsCut full kept count → Fit (joined ps) → Fit rest → IsCut ps rest count
+  laid_cut count so_far cut fits fits_after = cut_of ps rest (joined ps ++ rest) count so_far refl
+      (cut.counted ∙ sym (length-append (joined full) kept) ∙ sym (length-laid first listed 0 (joined full ++ kept)) ∙ sym (ap length laid_whole))
+      (append_fit (joined ps) rest fits fits_after)

@@ -1,3 +1,4 @@
 pub mod Cut
+pub mod Forming
 pub mod Laying
 pub mod Puts

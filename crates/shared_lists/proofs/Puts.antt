@@ -1,15 +1,12 @@
 -- A part of a list in the place of its own.
 use Rattle.{std.{specs.Prelude.unwrap_or, proofs.lemmas.Bool.{cases_lt, le-ltb}}, shared_lists.{specs.Laid.{listed_at, laid, with_at}, proofs.Cut.{cut_of, joined_long}}}
 use Rattle.std.proofs.Common.{rules, ◌≡◌, ℕ, suc, ◌+◌, ◌-◌, ◌*◌, ◌^◌, ◌<◌, ◌≤◌, List, [], ◌∷◌, ◌++◌, length, get_or, take, take_all, drop, map, length-append, length-take, length-drop, Option, Some, None, arith, refl, ap, sym, ◌∙◌, ◌⊎◌, inl, inr, min, max}
-use Rattle.std.proofs.lemmas.List.{get_or_past, ext_get_or, drop-drop, get_or-map, length-map, get_or-take, get_or-drop, get_or_append_left, get_or-append_right, take-append-drop}
+use Rattle.std.proofs.lemmas.List.{get_or_past, ext_get_or, drop-drop, get_or-map, length-map, get_or-take, get_or-drop, get_or_append_left, get_or-append_right, append-nil, drop_all}
 use Rattle.shared_lists.{specs.Pieces.{Piece, joined, AreFull, ArePut, IsCut}, proofs.Laying.{Fit, length-laid, get_or-laid, laid-append, unlaid_apart, not_before, not_after}}
 use borrow.Rule.Slice.PartMut.{put_mid}
 
 get_same : (xs : List ℕ) (i j : ℕ) → i ≡ j → get_or xs i 0 ≡ get_or xs j 0
 get_same xs i j same = ap (λ (k : ℕ). get_or xs k 0) same
-
-in_three : (a b : ℕ) (xs : List ℕ) → a ≤ b → take a xs ++ (take (b - a) (drop a xs) ++ drop b xs) ≡ xs
-in_three a b xs order = search (rules, drop-drop (b - a) a xs, take-append-drop (b - a) (drop a xs), take-append-drop a xs)
 
 -- what was put into the middle of a list
 pub in_middle : (a b : ℕ) (xs ds ys new : List ℕ) → a ≤ b → xs ≡ ds → ys ≡ new → put_mid a (b - a) xs ys ≡ take a ds ++ (new ++ drop b ds)
@@ -73,9 +70,12 @@ module _ (first : ℕ) (part : List ℕ) where
     laid_between = ext_get_or 0 (prefix ++ (cut_out ++ back)) (laid first listed start ds) (put_long ∙ sym (length-laid first listed start ds))
         (λ i within. let long = put_long in put_at i (omega arith) ∙ sym (get_or-laid first listed start ds i (omega arith)))
 
-    -- where the part is what stood there, the list stays
-    pub same_between : take (to - start - (from - start)) (drop (from - start) ds) ≡ cut_out → ds ≡ laid first listed start ds
-    same_between same = sym (in_three (from - start) (to - start) ds (omega arith)) ∙ ap (λ (l : List ℕ). prefix ++ (l ++ back)) same ∙ laid_between
+    -- where it is as long as the list, it is all of it
+    pub all_cut_out : length cut_out ≡ length ds → cut_out ≡ laid first listed start ds
+    all_cut_out long =
+        let e : from - start ≡ 0 = omega (arith, cut_long, long, cut.here, cut.end) in
+        let f : length ds ≤ to - start = omega (arith, cut_long, long, cut.here, cut.end) in
+        sym (append-nil cut_out) ∙ (λ i. take (sym e i) ds ++ (cut_out ++ sym (drop_all (to - start) ds f) i)) ∙ laid_between
 
   pub is_cut_out : (start many from to : ℕ) → from ≡ max first start → to ≡ min (first + length part) (start + many) → (first < start + many) × (start < first + length part) → IsCutOut start many from to
   is_cut_out start many from to is_from is_to beside = search rules
@@ -106,7 +106,7 @@ module _ (first : ℕ) (part : List ℕ) where
   -- those before a place have the part, and those from there on are as they were
   pub record IsPut (old new : List Piece) (k : ℕ) : Type 0 where
     pub long : length new ≡ length old
-    pub done : (i : ℕ) (d : Piece) → i < length old → i < k → (get_or new i d).value.items ≡ laid first listed (i * 512) (get_or old i d).value.items
+    pub done : (i : ℕ) (d : Piece) → i < length old → i < k → (get_or new i d) ≡ laid first listed (i * 512) (get_or old i d)
     pub rest : (i : ℕ) (d : Piece) → k ≤ i → get_or new i d ≡ get_or old i d
 
   pub put_none : (old : List Piece) (k : ℕ) → AreFull old → k * 512 ≤ first → IsPut old old k
@@ -120,24 +120,24 @@ module _ (first : ℕ) (part : List ℕ) where
   from_there start from ds same = ap (λ (k : ℕ). laid first listed k ds) same
 
   each_laid : (start : ℕ) (old new : List Piece) → AreFull old → length new ≡ length old
-      → ((i : ℕ) (d : Piece) → i < length old → (get_or new i d).value.items ≡ laid first listed (start + i * 512) (get_or old i d).value.items) → joined new ≡ laid first listed start (joined old)
+      → ((i : ℕ) (d : Piece) → i < length old → (get_or new i d) ≡ laid first listed (start + i * 512) (get_or old i d)) → joined new ≡ laid first listed start (joined old)
   each_laid start [] [] full long each = refl
   each_laid start (o ∷ os) (n ∷ ns) full long each =
-      let one : length o.value.items ≡ 512 = full 0 o (omega arith) in
-      let here : n.value.items ≡ laid first listed start o.value.items = each 0 o (omega arith) ∙ from_there (start + 0 * 512) start o.value.items (omega arith) in
+      let one : length o ≡ 512 = full 0 o (omega arith) in
+      let here : n ≡ laid first listed start o = each 0 o (omega arith) ∙ from_there (start + 0 * 512) start o (omega arith) in
       let rest : joined ns ≡ laid first listed (start + 512) (joined os)
-      = each_laid (start + 512) os ns (λ k d within. full (suc k) d (omega arith)) (omega arith) (λ k d within. each (suc k) d (omega arith) ∙ from_there (start + suc k * 512) (start + 512 + k * 512) (get_or os k d).value.items (omega arith)) in
+      = each_laid (start + 512) os ns (λ k d within. full (suc k) d (omega arith)) (omega arith) (λ k d within. each (suc k) d (omega arith) ∙ from_there (start + suc k * 512) (start + 512 + k * 512) (get_or os k d) (omega arith)) in
       search (rules, laid-append)
   each_laid start _ _ full long each = absurd (omega arith)
 
-  module _ (old new : List Piece) (kept rest : Piece) (full : AreFull old) (put : ArePut first part old new) (is : rest.value.items ≡ laid first listed (length new * 512) kept.value.items) where
-    pub put_whole : joined new ++ rest.value.items ≡ laid first listed 0 (joined old ++ kept.value.items)
+  module _ (old new : List Piece) (kept rest : Piece) (full : AreFull old) (put : ArePut first part old new) (is : rest ≡ laid first listed (length new * 512) kept) where
+    pub put_whole : joined new ++ rest ≡ laid first listed 0 (joined old ++ kept)
     put_whole = search (rules, each_laid, put.long, put.each, joined_long, laid-append)
 
     fits_at : (o : Option ℕ) (own : ℕ) → ((k : ℕ) → get_or part k 0 < 2 ^ 16) → own < 2 ^ 16 → (k : ℕ) → (o ≡ None) ⊎ (o ≡ Some (get_or part k 0)) → unwrap_or o own < 2 ^ 16
     fits_at o own small less k is = elim is [ inl none ↦ rw none less | inr some ↦ rw some (small k) ]
 
     pub put_cut : (count : ℕ) → Fit part → IsCut old kept count → IsCut new rest count
-    put_cut count small cut = cut_of new rest (laid first listed 0 (joined old ++ kept.value.items)) count (search (rules, length-laid)) put_whole
-        (cut.counted ∙ sym (length-append (joined old) kept.value.items) ∙ sym (length-laid first listed 0 (joined old ++ kept.value.items)))
+    put_cut count small cut = cut_of new rest (laid first listed 0 (joined old ++ kept)) count (search (rules, length-laid)) put_whole
+        (cut.counted ∙ sym (length-append (joined old) kept) ∙ sym (length-laid first listed 0 (joined old ++ kept)))
         (λ i. search (rules, cases_lt, get_or-laid, fits_at, not_before, among, not_after, listed_long, get_or_past, length-laid))

@@ -1,5 +1,5 @@
 -- Listed districts in the place of others.
-use Rattle.std.specs.Prelude.{ℕ, suc, ◌+◌, ◌-◌, List, [], ◌∷◌, ◌++◌, length, take, drop, get_or, unwrap_or, nat_lt, Option, None, if◌then◌else◌}
+use Rattle.std.specs.Prelude.{ℕ, suc, ◌+◌, ◌-◌, ◌<◌, ◌^◌, List, [], ◌∷◌, ◌++◌, length, take, drop, get_or, unwrap_or, nat_lt, Option, None, if◌then◌else◌}
 
 -- what is listed of a place, where the list stands from the place `first` on
 abbrev pub listed_at : ℕ → List (Option ℕ) → ℕ → Option ℕ
@@ -13,3 +13,7 @@ laid first listed place (d ∷ ds) = unwrap_or (listed_at first listed place) d 
 -- a list with a part in the place of its own, from a place on
 abbrev pub with_at : ℕ → List ℕ → List ℕ → List ℕ
 with_at first part ds = take first ds ++ (part ++ drop (first + length part) ds)
+
+-- each of the districts has two bytes
+abbrev pub AreShort : List ℕ → Type 0
+AreShort ds = (i : ℕ) → get_or ds i 0 < 2 ^ 16

@@ -1,3 +1,4 @@
+pub mod Forms
 pub mod Laid
 pub mod Parts
 pub mod Pieces

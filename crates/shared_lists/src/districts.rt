@@ -1,13 +1,13 @@
 //! The list.
-ghost use Rattle.std.specs.Prelude.{◌≡◌, ◌+◌, ◌*◌, ◌≤◌, ◌<◌, ◌^◌, ℕ, ◌++◌, length, get_or, take, drop, replicate, nat_eq, IfOk, OnOk};
+ghost use Rattle.std.specs.Prelude.{◌≡◌, ◌+◌, ◌-◌, ◌*◌, ◌≤◌, ◌<◌, ◌^◌, ℕ, ◌++◌, length, get_or, take, drop, replicate, nat_eq, IfOk, OnOk};
 ghost use Rattle.std.specs.Cmp.Lexicographic.{pointwise};
 ghost use Rattle.shared_lists.specs.Laid.{laid, with_at};
 ghost use Rattle.shared_lists.specs.Pieces.{joined, AreFull, ArePut, IsCut};
 
-use crate::pieces::{FULL, Piece, after, piece_of, piece_put, piece_with, prefix};
+use crate::piece::{FULL, Piece};
+use crate::pieces::{after, piece_of, piece_put, piece_with, prefix};
 use std::alloc::{AllocError, Global};
 use std::marker::Model;
-use std::sync::Arc;
 
 /// A list of districts, which shares its pieces with the list that it was made after.
 #[derive(Drop)]
@@ -23,7 +23,7 @@ impl Model for Districts {
 
     ghost Value = { List ℕ };
 
-    ghost view = { λ a. joined a.full.items ++ a.rest.value.items };
+    ghost view = { λ a. joined a.full.items ++ a.rest };
 
     ghost invariant = { λ a. IsCut a.full.items a.rest a.count };
 }
@@ -51,16 +51,16 @@ impl Districts {
         })
     }
 
-    /// A list of `count` unassigned blocks; all full pieces share one allocation.
+    /// A list of `count` unassigned blocks, which takes no memory but for the list of its pieces.
     pub fn unassigned(alloc: Global, count: usize) -> Result<Districts, AllocError>
         ensures { IfOk result (λ districts. districts ≡ replicate count 0) }
     {
         let number = count / FULL;
-        let piece: Piece = Arc::new(alloc, vec![in alloc; 0u16; FULL]?)?;
-        let rest: Piece = Arc::new(alloc, vec![in alloc; 0u16; count % FULL]?)?;
+        let piece = Piece::unassigned(FULL);
+        let rest = Piece::unassigned(count % FULL);
         let mut full = Vec::with_capacity(alloc, number)?;
         for _place in 0..number {
-            full.push(piece.clone()?)?;
+            full.push(piece.share()?)?;
         }
         Ok(Districts { full, rest, count })
     }
@@ -76,13 +76,18 @@ impl Districts {
     ) -> Result<Districts, AllocError>
         ensures { IfOk result (λ districts. districts ≡ laid first listed.now 0 self.now) }
     {
-        let _count = self.count;
         let pieces = self.full.as_slice();
+        let after = self.count - pieces.len() * FULL;
         let mut full = Vec::with_capacity(alloc, pieces.len())?;
         for place in 0..pieces.len() {
-            full.push(piece_with(alloc, &pieces[place], place * FULL, first, listed)?)?;
+            let kept = &pieces[place];
+            let next = piece_with(alloc, kept, place * FULL, FULL, first, listed)?;
+            next.districts_fit();
+            full.push(next)?;
         }
-        let rest = piece_with(alloc, &self.rest, pieces.len() * FULL, first, listed)?;
+        let start = pieces.len() * FULL;
+        let rest = piece_with(alloc, &self.rest, start, after, first, listed)?;
+        rest.districts_fit();
         Ok(Districts {
             full,
             rest,
@@ -99,9 +104,9 @@ impl Districts {
         let number = pieces.len();
         let mut full = Vec::with_capacity(alloc, number)?;
         for place in 0..number {
-            full.push(pieces[place].clone()?)?;
+            full.push(pieces[place].share()?)?;
         }
-        let rest = self.rest.clone()?;
+        let rest = self.rest.share()?;
         Ok(Districts {
             full,
             rest,
@@ -127,8 +132,10 @@ impl Districts {
             rest,
             count,
         } = self;
+        let after = count - full.len() * FULL;
         put_pieces(alloc, &mut full, first, part)?;
-        let rest = piece_put(alloc, &rest, full.len() * FULL, first, part)?;
+        let start = count - after;
+        let rest = piece_put(alloc, &rest, start, after, first, part)?;
         Ok(Districts { full, rest, count })
     }
 
@@ -151,28 +158,66 @@ impl Districts {
     {
         let mut list = Vec::with_capacity(alloc, self.count)?;
         for piece in &self.full {
-            let piece: &Piece = piece;
-            list.extend_from_slice(piece.as_slice())?;
+            piece.append_to(&mut list)?;
         }
-        list.extend_from_slice(self.rest.as_slice())?;
+        self.rest.append_to(&mut list)?;
         Ok(list)
     }
 
     /// The districts from a place on that lie in one piece.
-    fn piece_from(&self, place: usize) -> &[u16]
+    fn piece_from(&self, alloc: Global, place: usize) -> Result<Vec<u16>, AllocError>
         requires { place < length self.now }
-        ensures prefix { take (length result.now) (drop place self.now) ≡ result.now }
-        ensures some { 0 < length result.now }
+        ensures prefix { IfOk result (λ here. take (length here.items) (drop place self.now) ≡ here.items) }
+        ensures some { IfOk result (λ here. 0 < length here.items) }
     {
         let at = place / FULL;
         let full = self.full.as_slice();
         if at < full.len() {
             let piece: &Piece = &full[at];
-            let districts: &Vec<u16> = piece;
-            return after(districts.as_slice(), place % FULL);
+            return piece.tail(alloc, place % FULL);
         }
-        let rest: &Vec<u16> = &self.rest;
-        after(rest.as_slice(), place - full.len() * FULL)
+        self.rest.tail(alloc, place - full.len() * FULL)
+    }
+
+    /// The district at a place.
+    fn at(&self, place: usize) -> u16
+        requires { place < length self.now }
+        ensures { result ≡ get_or self.now place 0 }
+    {
+        let at = place / FULL;
+        let full = self.full.as_slice();
+        if at < full.len() {
+            let piece: &Piece = &full[at];
+            return piece.at(place % FULL);
+        }
+        self.rest.at(place - full.len() * FULL)
+    }
+
+    /// Returns a place up to which two lists have the same districts from a place on, and the place
+    /// itself if they differ there. With `whole` it compares the whole piece first.
+    #[tactic(auto, using(crate::proofs::Cut::counted_all))]
+    fn same_until(&self, other: &Districts, place: usize, whole: bool) -> usize
+        requires here { place < length self.now }
+        requires there { place < length other.now }
+        ensures after { place ≤ result }
+        ensures same { take (result - place) (drop place self.now) ≡ take (result - place) (drop place other.now) }
+        ensures apart { result ≡ place → get_or self.now place 0 ≡ get_or other.now place 0 → ⊥ }
+    {
+        let _count = self.count;
+        let at = place / FULL;
+        let full = self.full.as_slice();
+        let others = other.full.as_slice();
+        if whole && at < full.len() && at < others.len() {
+            let here: &Piece = &full[at];
+            let there: &Piece = &others[at];
+            if here.is_alike(there) {
+                return (at + 1) * FULL;
+            }
+        }
+        if self.at(place) == other.at(place) {
+            return place + 1;
+        }
+        place
     }
 
     /// Whether another list has the same districts at these places.
@@ -186,13 +231,11 @@ impl Districts {
         let end = first + count;
         let mut place = first;
         while place < end {
-            let here = self.piece_from(place);
-            let there = other.piece_from(place);
-            let some = here.len().min(there.len()).min(end - place);
-            if prefix(here, some) != prefix(there, some) {
+            let next = self.same_until(other, place, place == first || place % FULL == 0);
+            if next == place {
                 return false;
             }
-            place += some;
+            place = next.min(end);
         }
         true
     }
@@ -208,9 +251,9 @@ impl Districts {
         let end = first + count;
         let mut place = first;
         while place < end {
-            let here = self.piece_from(place);
+            let here = self.piece_from(alloc, place)?;
             let some = here.len().min(end - place);
-            part.extend_from_slice(prefix(here, some))?;
+            part.extend_from_slice(prefix(here.as_slice(), some))?;
             place += some;
         }
         Ok(part)
@@ -247,7 +290,7 @@ fn put_pieces(
 {
     let end = (first + part.len()) / FULL + 1;
     for place in first / FULL..end.min(full.len()) {
-        full[place] = piece_put(alloc, &full[place], place * FULL, first, part)?;
+        full[place] = piece_put(alloc, &full[place], place * FULL, FULL, first, part)?;
     }
     Ok(())
 }

@@ -4,6 +4,10 @@
 //!
 //! ```text
 //! districts of a plan     [piece 0][piece 1][piece 2] ..   512 districts each, shared by revisions
+//! a piece                 (district, count)                all blocks in one district
+//!                         [(district, count)]              at most 64 runs
+//!                         [u8]                             districts up to 255
+//!                         [u16]                            any others
 //! ```
 //!
 //! # Model
@@ -18,12 +22,14 @@
 //!
 //! # Not proved
 //!
-//! That pieces are shared and not copied, and that adding an item makes two nodes on average. Both
-//! are measured.
+//! That pieces are shared and not copied, that a piece has the form that takes the least memory,
+//! and that adding an item makes two nodes on average. All are measured.
 #![tactic(auto)]
 
 mod districts;
+mod form;
 mod list;
+mod piece;
 mod pieces;
 mod tree;
 mod trees;

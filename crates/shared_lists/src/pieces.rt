@@ -2,26 +2,20 @@
 ghost use Rattle.std.specs.Prelude.{◌≡◌, ◌≤◌, ◌<◌, ◌+◌, ◌-◌, ◌⊎◌, ◌^◌, ℕ, Some, ◌++◌, length, get_or, map, take, drop, unwrap_or, true, false, IfOk};
 ghost use Rattle.shared_lists.specs.Laid.{listed_at as listed_there, laid};
 
+use crate::piece::Piece;
 use std::alloc::{AllocError, Global};
-use std::sync::Arc;
-
-/// A full piece has this many districts.
-pub const FULL: usize = 512;
-
-/// The districts of consecutive blocks.
-pub type Piece = Arc<Vec<u16>>;
 
 /// The piece of these districts: the one that is kept, where it has the same, and else one of its own.
 pub fn piece_of(alloc: Global, part: &[u16], kept: Option<&Piece>) -> Result<Piece, AllocError>
-    ensures { IfOk result (λ piece. piece.value.items ≡ part.now) }
+    ensures { IfOk result (λ piece. piece ≡ part.now) }
 {
+    let piece = Piece::pack(alloc, part)?;
     if let Some(kept) = kept {
-        let districts: &Vec<u16> = kept;
-        if districts.as_slice() == part {
-            return Ok(kept.clone()?);
+        if kept.is_alike(&piece) {
+            return kept.share();
         }
     }
-    Ok(Arc::new(alloc, Vec::from_slice(alloc, part)?)?)
+    Ok(piece)
 }
 
 /// The first districts of a list.
@@ -74,74 +68,55 @@ fn is_apart(start: usize, count: usize, first: usize, many: usize) -> bool
     start + count <= first || start >= first && start - first >= many
 }
 
-/// A district has two bytes: a law, with nothing to run.
-fn districts_fit(districts: &[u16])
-    ensures { (i : ℕ) → get_or districts.now i 0 < 2 ^ 16 }
-{}
-
-/// Returns a piece that begins at `start` with the listed districts written over it: the piece
-/// itself if nothing changes.
+/// Returns a piece of `count` districts that begins at `start` with the listed districts written over
+/// it: the piece itself if nothing changes.
 pub fn piece_with(
     alloc: Global,
     kept: &Piece,
     start: usize,
+    count: usize,
     first: usize,
     listed: &[Option<u16>],
 ) -> Result<Piece, AllocError>
-    requires { start + length kept.now.value.items < 2 ^ 64 }
-    ensures laid { IfOk result (λ piece. piece.value.items ≡ laid first listed.now start kept.now.value.items) }
-    ensures fit { IfOk result (λ piece. (i : ℕ) → get_or piece.value.items i 0 < 2 ^ 16) }
+    requires fits { start + length kept.now < 2 ^ 64 }
+    requires counted { count ≡ length kept.now }
+    ensures { IfOk result (λ piece. piece ≡ laid first listed.now start kept.now) }
 {
-    let known: &Vec<u16> = kept;
-    let districts = known.as_slice();
-    districts_fit(districts);
-    if is_apart(start, districts.len(), first, listed.len()) {
-        return Ok(kept.clone()?);
+    if is_apart(start, count, first, listed.len()) {
+        return kept.share();
     }
-    let mut changed = Vec::from_slice(alloc, districts)?;
-    lay(&mut changed, start, first, listed);
-    kept_or_new(alloc, kept, changed)
+    let mut districts = kept.to_vec(alloc)?;
+    lay(&mut districts, start, first, listed);
+    piece_of(alloc, districts.as_slice(), Some(kept))
 }
 
-/// The piece of these districts: the one that is kept, where it has the same, and else one of its own.
-fn kept_or_new(alloc: Global, kept: &Piece, districts: Vec<u16>) -> Result<Piece, AllocError>
-    ensures same { IfOk result (λ piece. piece.value.items ≡ districts.items) }
-    ensures fit { IfOk result (λ piece. (i : ℕ) → get_or piece.value.items i 0 < 2 ^ 16) }
-{
-    districts_fit(districts.as_slice());
-    let known: &Vec<u16> = kept;
-    if known.as_slice() == districts.as_slice() {
-        return Ok(kept.clone()?);
-    }
-    Ok(Arc::new(alloc, districts)?)
-}
-
-/// Returns a piece that begins at `start` with a part, which begins at `first`, written over it:
-/// the piece itself if nothing changes.
+/// Returns a piece of `count` districts that begins at `start` with a part, which begins at `first`,
+/// written over it: the piece itself if nothing changes.
 pub fn piece_put(
     alloc: Global,
     kept: &Piece,
     start: usize,
+    count: usize,
     first: usize,
     part: &[u16],
 ) -> Result<Piece, AllocError>
-    requires here { start + length kept.now.value.items < 2 ^ 64 }
+    requires here { start + length kept.now < 2 ^ 64 }
+    requires counted { count ≡ length kept.now }
     requires there { first + length part.now < 2 ^ 64 }
-    ensures { IfOk result (λ piece. piece.value.items ≡ laid first (map Some part.now) start kept.now.value.items) }
+    ensures { IfOk result (λ piece. piece ≡ laid first (map Some part.now) start kept.now) }
 {
-    let known: &Vec<u16> = kept;
-    let districts = known.as_slice();
-    if is_apart(start, districts.len(), first, part.len()) {
-        return Ok(kept.clone()?);
+    if is_apart(start, count, first, part.len()) {
+        return kept.share();
     }
     let from = first.max(start);
-    let to = (first + part.len()).min(start + districts.len());
+    let to = (first + part.len()).min(start + count);
     let new = between(part, from - first, to - first);
-    if between(districts, from - start, to - start) == new {
-        return Ok(kept.clone()?);
+    if new.len() == count {
+        return piece_of(alloc, new, Some(kept));
     }
-    let changed = replaced(alloc, districts, from - start, to - start, new)?;
-    Ok(Arc::new(alloc, changed)?)
+    let districts = kept.to_vec(alloc)?;
+    let changed = replaced(districts, from - start, to - start, new);
+    piece_of(alloc, changed.as_slice(), Some(kept))
 }
 
 /// Puts districts in the place of those between two places of a list.
@@ -156,21 +131,15 @@ fn replace(districts: &mut [u16], from: usize, to: usize, new: &[u16])
 }
 
 /// A list with districts in the place of those between two places.
-fn replaced(
-    alloc: Global,
-    districts: &[u16],
-    from: usize,
-    to: usize,
-    new: &[u16],
-) -> Result<Vec<u16>, AllocError>
+fn replaced(districts: Vec<u16>, from: usize, to: usize, new: &[u16]) -> Vec<u16>
     requires order { from ≤ to }
-    requires within { to ≤ length districts.now }
+    requires within { to ≤ length districts.items }
     requires fit { length new.now ≡ to - from }
-    ensures { IfOk result (λ list. list.items ≡ take from districts.now ++ (new.now ++ drop to districts.now)) }
+    ensures { result.items ≡ take from districts.items ++ (new.now ++ drop to districts.items) }
 {
-    let mut list = Vec::from_slice(alloc, districts)?;
+    let mut list = districts;
     replace(&mut list, from, to, new);
-    Ok(list)
+    list
 }
 
 /// The districts of a list between two places.

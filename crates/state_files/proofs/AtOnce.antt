@@ -1,6 +1,6 @@
 -- Files that were read at once, and judged in their order, are as if they had been read in turn up to the first fault.
-use Rattle.{std.proofs.Common.{ℕ, ◌<◌, inl, inr, Result, Ok, Err, Vec, Global, refl}, byte_stream.specs.declared.source.Source.Ghosts, pl94.specs.declared.geo.GeoRows.GeoRows}
-use Rattle.{desk_model.specs.declared.block.BlockRow.BlockRow, pl94.specs.declared.segment.SegRows.SegRows, state_files.specs.AtOnce.{ReadsEach, JudgesEach, ReadsStateBy}}
+use Rattle.{std.proofs.Common.{ℕ, ◌<◌, inl, inr, Result, Ok, Err, Vec, Global, refl}, byte_stream.specs.declared.source.Source.Ghosts, pl94_geo.specs.declared.geo.GeoRows.GeoRows}
+use Rattle.{desk_model.specs.declared.block.BlockRow.BlockRow, pl94_segment.specs.declared.segment.SegRows.SegRows, state_files.specs.AtOnce.{ReadsEach, JudgesEach, ReadsStateBy}}
 use Rattle.state_files.specs.{claim.{Opening.census_of, State.ReadsState}, declared.{census.CensusFiles.CensusFiles, fault.FileFault.FileFault}}
 
 module _ {R : Type 0} (r : Ghosts R) (workers : ℕ) (before after : CensusFiles R) where

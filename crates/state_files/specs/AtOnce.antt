@@ -1,9 +1,9 @@
 -- The census files of a state read at once, and judged in their order.
 use Rattle.std.specs.{Prelude.{ℕ, ◌<◌, Result, Vec}, declared.alloc.Global.Global}
-use Rattle.{byte_stream.specs.declared.source.Source.Ghosts, desk_model.specs.declared.block.BlockRow.BlockRow, pl94.specs.declared.{geo.GeoRows.GeoRows, segment.SegRows.SegRows}}
-use Rattle.{pl94.specs.declared.record.SegmentNumber.{SegmentNumber, TheVariants.{One, Two, Three}}, state_files.specs.claim.Opening.{opening_of, census_of}}
-use Rattle.state_files.specs.{claim.State.{ThenReads, NoFile, ReadsHeader, ReadsSegment, Joins, ReadsState, AreLeftBy}, declared.census.CensusFiles.CensusFiles}
-use Rattle.state_files.specs.declared.fault.{FileFault.FileFault, OpenFault.OpenFault}
+use Rattle.{byte_stream.specs.declared.source.Source.Ghosts, desk_model.specs.declared.block.BlockRow.BlockRow, pl94_geo.specs.declared.geo.GeoRows.GeoRows}
+use Rattle.pl94_segment.specs.{declared.record.SegmentNumber.{SegmentNumber, TheVariants.{One, Two, Three}}, declared.segment.SegRows.SegRows}
+use Rattle.state_files.specs.claim.{Opening.{opening_of, census_of}, State.{ThenReads, NoFile, ReadsHeader, ReadsSegment, Joins, ReadsState, AreLeftBy}}
+use Rattle.state_files.specs.declared.{census.CensusFiles.CensusFiles, fault.{FileFault.FileFault, OpenFault.OpenFault}}
 
 abbrev pub ReadsHeaderFile : {R : Type 0} → Ghosts R → (before after : Result R OpenFault) → Result GeoRows FileFault → Type 0
 ReadsHeaderFile r before after =

@@ -1,16 +1,16 @@
 //! The census files of a state, read at once and judged in their order.
 ghost use Rattle.std.specs.Prelude.{◌≡◌, IfOk};
 ghost use Rattle.desk_model.specs.claim.GeographyModels.{AreBlocks};
-ghost use Rattle.pl94.specs.GeoFile.{AreGeoRows};
+ghost use Rattle.pl94_geo.specs.GeoFile.{AreGeoRows};
 ghost use Rattle.state_files.specs.AtOnce.{ReadsHeaderFile, ReadsSegmentFile, ReadsEach, JudgesEach, ReadsAtOnce, ReadsStateBy};
 
 use crate::census::{CensusFiles, join_rows, read_header, read_segment, read_state};
 use crate::fault::{FileFault, OpenFault};
 use byte_stream::source::Source;
 use desk_model::block::BlockRow;
-use pl94::geo::GeoRows;
-use pl94::record::SegmentNumber;
-use pl94::segment::SegRows;
+use pl94_geo::geo::GeoRows;
+use pl94_segment::record::SegmentNumber;
+use pl94_segment::segment::SegRows;
 use std::alloc::Global;
 use std::mem;
 use std::thread::{Threads, join};

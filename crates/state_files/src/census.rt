@@ -1,17 +1,17 @@
 //! The census files of a state, each opened, read and judged in turn.
 ghost use Rattle.std.specs.Prelude.{◌≡◌, IfOk};
 ghost use Rattle.desk_model.specs.claim.GeographyModels.{AreBlocks};
-ghost use Rattle.pl94.specs.GeoFile.{AreGeoRows};
+ghost use Rattle.pl94_geo.specs.GeoFile.{AreGeoRows};
 ghost use Rattle.state_files.specs.claim.State.{ReadsHeader, ReadsSegment, Joins, ReadsState};
 ghost use Rattle.state_files.specs.claim.Opening.{opening_of, census_of};
 
 use crate::fault::{FileFault, OpenFault};
 use byte_stream::source::Source;
 use desk_model::block::BlockRow;
-use pl94::geo::{GeoReader, GeoRows};
-use pl94::join::{JoinFault, join};
-use pl94::record::SegmentNumber;
-use pl94::segment::{SegRows, SegmentReader};
+use pl94_geo::geo::{GeoReader, GeoRows};
+use pl94_segment::join::{JoinFault, join};
+use pl94_segment::record::SegmentNumber;
+use pl94_segment::segment::{SegRows, SegmentReader};
 use std::alloc::Global;
 
 /// The openings of the geographic header and of the three segments.

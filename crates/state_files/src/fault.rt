@@ -4,10 +4,10 @@ ghost use Rattle.state_files.specs.claim.Texts.{segment_file, plan_file, file_te
 
 use desk_model::reply::BodyFault;
 use gal_text::fault::GalFault;
-use pl94::geo::GeoFault;
-use pl94::join::JoinFault;
-use pl94::record::SegmentNumber;
-use pl94::segment::SegFault;
+use pl94_geo::geo::GeoFault;
+use pl94_segment::join::JoinFault;
+use pl94_segment::record::SegmentNumber;
+use pl94_segment::segment::SegFault;
 use std::fmt;
 
 /// Why a file isn't opened.

@@ -30,7 +30,7 @@ pub mod plan_file;
 pub mod whole;
 
 pub use gal_text::fault::GalFault;
-pub use pl94::geo::GeoFault;
-pub use pl94::join::JoinFault;
-pub use pl94::record::SegmentNumber;
-pub use pl94::segment::SegFault;
+pub use pl94_geo::geo::GeoFault;
+pub use pl94_segment::join::JoinFault;
+pub use pl94_segment::record::SegmentNumber;
+pub use pl94_segment::segment::SegFault;

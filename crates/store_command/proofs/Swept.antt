@@ -2,14 +2,14 @@
 use Rattle.std.{specs.Prelude.{Result, Ok, Err}, proofs.Common.{◌≡◌, ◌≤◌, ◌+◌, ℕ, [], ◌∷◌, Option, false, inl, inr, refl, sym, subst, ◌∙◌, arith}}
 use Rattle.{desk_loading.specs.Openings.IsOpened, desk_model.specs.claim.Desk.Desk, desk_pages.specs.declared.error.StoreError.StoreError, desk_runs.specs.Recovery.ImagesAreOne}
 use Rattle.desk_runs.specs.desk_store.{Sweeps.{HasRows, HasSwept as HasSweptStep, SweepRefused}, claim.Clerks.{desk_of, disk_of, pages_of, Keeps, Moves}}
-use Rattle.{desk_runs.specs.{desk_store.declared.clerk.Clerk.Clerk, store_sweep.Leftovers.IsSweptBy}, desk_theorem.specs.store_lives.declared.desk_lives.Answer.Answer}
+use Rattle.{desk_runs.specs.{desk_store.declared.clerk.Clerk.Clerk, plan_revisions_sweeps.Leftovers.IsSweptBy}, desk_theorem.specs.store_lives.declared.desk_lives.Answer.Answer}
 use Rattle.{desk_theorem.specs.store_lives.declared.desk_lives.{Answer.TheVariants.{Swept, Unswept}, Request.TheVariants.Sweep}, page_store.specs.claim.Transactions.device_in}
 use Rattle.{sector_device.specs.declared.SectorDevice.Ghosts, store_command.specs.{Faults.fault_of_store, Reading.ShowsWhatIsRead, declared.fault.StoreFault.StoreFault}}
 use Rattle.store_command.specs.Sweeping.{SweptLife, SweptOnce, KeepsDesk, HasTaken, HasSweptAll, IsChecked, IsStopped, SweepsAll, SweepsSteps, HasSwept, SweepsDevice}
 use Rattle.{store_command.specs.declared.fault.StoreFault.TheVariants.NotAStore, store_rows.specs.claim.Rows.KeyMap, desk_loading.proofs.Moves.then_moved}
 use Rattle.store_command.proofs.{Opened.asked_life, Used.{kept_left, left_same}}
 use Rattle.desk_theorem.{specs.{claim.OneLife.RequestsHold, store_lives.DeskInside.Sweeps as Answered}, proofs.{Asked.one_asked, store_lives.DeskLiving.swept_for}}
-use Rattle.desk_runs.proofs.store_sweep.Taken.{then_by}
+use Rattle.desk_runs.proofs.plan_revisions_sweeps.Taken.{then_by}
 use Rattle.desk_runs.proofs.desk_store.Moved.{unmoved}
 
 module _ {D : Type 0} {g : Ghosts D} where

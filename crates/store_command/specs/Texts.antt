@@ -1,14 +1,11 @@
 -- What is printed of a store.
 use Rattle.std.specs.Prelude.{ℕ, ◌*◌, Bool, true, false, List, ◌++◌, length, codes, decimal}
-use Rattle.{audit_report.specs.audit_clauses.claim.People.state_people, desk_model.specs.{Ranges.ranges_of, claim.Geography.GeographyModel}}
+use Rattle.{audit_report.specs.audit_population.claim.People.state_people, desk_model.specs.{Ranges.ranges_of, claim.Geography.GeographyModel}}
+pub use Rattle.store_command.specs.claim.Telling.{rows_text}
 
 -- words, and a number after them
 abbrev pub number_after : List ℕ → ℕ → List ℕ
 number_after words n = words ++ decimal n
-
--- the line of so many rows
-abbrev pub rows_text : (words : List ℕ) → (rows : ℕ) → List ℕ
-rows_text words rows = words ++ decimal rows ++ codes " rows\n"
 
 -- how the line of one that was made ends, where its bytes are told too and where not
 abbrev pub formatted_end : (with_bytes : Bool) → (sectors : ℕ) → List ℕ

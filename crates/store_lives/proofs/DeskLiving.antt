@@ -2,14 +2,13 @@
 use Rattle.std.{specs.{List.remove, Prelude.{⊤, None, Some}, declared.{alloc.Global.Global, sync.Arc.Arc}}, proofs.lemmas.{Bool.both_ways, List.append-nil}}
 use Rattle.std.proofs.Common.{◌≡◌, ◌⊎◌, ℕ, ◌≤◌, ◌<◌, Bool, true, false, List, [], ◌∷◌, ◌++◌, length, get_or, inl, inr, ⊎_elim, refl, sym, subst, ◌∙◌, arith, append_assoc, rules}
 use Rattle.{desk_loading.specs.Loads.{Stopped, LoadRefused}, desk_model.specs.claim.{Desk.Desk, Geography.GeographyModel, Outcome.{IsStep, RefusalMay, CommandMay}, Step.step}}
-use Rattle.{desk_model.specs.declared.{command.Command.Command, reply.{Refusal.Refusal, Reply.Reply}}, desk_pages.specs.{Formats.OpensNew, Openings.AllDesks}}
-use Rattle.{desk_pages.specs.{claim.Desks.OpensDesk, declared.error.StoreError.StoreError}, desk_runs.specs.Recovery.{ImagesAreOne, HoldsOne}, desk_store.specs.Loads.HasGeography}
-use Rattle.desk_store.specs.{Sweeps.SweepRefused, claim.{Clerks.{desk_of, disk_of, is_halted, pages_of, sectors_of, Keeps, Moves}, Commands.{MustBeFull, MayBeFull}}}
-use Rattle.{desk_store.specs.declared.clerk.Clerk.Clerk, sector_device.specs.{claim.Disk.{Disk, Image}, declared.SectorDevice.Ghosts}, store_lives.specs.Lives.new_desk}
-use Rattle.store_lives.specs.{DeskInside.{OpensTo, Holds, GoingFailed, Stands, Loads, Answers, LivesOnce, GoingOn}, declared.desk_lives.{Answer.Answer, Request.Request}}
-use Rattle.{store_lives.specs.claim.DeskLives.{loaded_desk, after_load, MayFail, MayRefuse, Failed, FailsAt, Lived, LifeAfterLife}, desk_runs.proofs.One.one_of}
+use Rattle.{desk_model.specs.declared.{command.Command.Command, reply.{Refusal.Refusal, Reply.Reply}}, desk_pages.specs.claim.Desks.OpensDesk, desk_store.specs.Loads.HasGeography}
+use Rattle.{desk_pages.specs.declared.error.StoreError.StoreError, desk_store.specs.{Sweeps.SweepRefused, claim.Commands.{MustBeFull, MayBeFull}, declared.clerk.Clerk.Clerk}}
+use Rattle.{desk_store.specs.claim.Clerks.{desk_of, disk_of, is_halted, pages_of, sectors_of, Keeps, Moves}, sector_device.specs.{claim.Disk.Image, declared.SectorDevice.Ghosts}}
+use Rattle.store_lives.specs.{DeskInside.{OpensTo, Holds, GoingFailed, Stands, Loads, Answers}, declared.desk_lives.{Answer.Answer, Request.Request}}
+use Rattle.{store_lives.specs.claim.DeskLives.{loaded_desk, after_load, MayFail, MayRefuse, Failed, FailsAt, Lived}, desk_store.proofs.Moved.unmoved}
 use Rattle.store_lives.specs.declared.desk_lives.{Answer.TheVariants.{Said, Loaded, Unloaded, Swept, Unswept}, Request.TheVariants.{Change, Look, Load, Sweep}}
-use Rattle.{desk_store.proofs.Moved.unmoved, sector_device.proofs.Moments.leaves_now}
+use Rattle.sector_device.proofs.Moments.{leaves_now}
 pub use Rattle.{std.proofs.lemmas.Bool.cases_Bool as either, desk_runs.proofs.One.left_working}
 use Rattle.desk_model.specs.declared.reply.Reply.TheVariants as reply
 use Rattle.desk_model.specs.declared.reply.Refusal.TheVariants as refusal
@@ -227,37 +226,3 @@ module _ {D : Type 0} {g : Ghosts D} where
   pub swept_for : (x : Clerk D g) (e : StoreError) (y : Clerk D g) → (is_halted x ≡ true → is_halted y ≡ true) → ((disk_of y).is_honest → (disk_of x).is_honest) → SweepRefused x e (is_halted y) (pages_of y) → is_halted y ≡ false → Keeps x → (disk_of y).is_honest → e ≡ store.Memory
   swept_for x store.NotAStore y still was refused works keeps honest = absurd (refused.3 honest (keeps.holds refused.0 (was honest)))
   swept_for x _ y still was refused works keeps honest = search (rules, clash_of)
-
--- ---- one life
--- the first life begins with the desk of a new store
-pub first_life : {D : Type 0} (g : Ghosts D) (back : D) (new : Disk) → OpensNew (g.disk back) → new.sectors ≡ (g.disk back).sectors
-    → ((c : Image) → new.leaves c → (g.disk back).leaves c) → HoldsOne new new_desk
-first_life g back new opens same leaves i stopped = rw same (opens i (leaves i stopped))
-
--- ---- lives, one after the other
-module _ {S X Y : Type 0} (life : (t u : ℕ) → S → X → Y → S → Type 0) where
-  -- one more was answered
-  pub one_more : (t : ℕ) (d : S) (all : List X) (asked : X) (rest : List X) (so_far : List Y) (told : Y) (r s : ℕ) (now next : S) → r ≤ s → life r s now asked told next
-      → GoingOn life t d all (asked ∷ rest) so_far r now → GoingOn life t d all rest (so_far ++ told ∷ []) s next
-  one_more t d all asked rest so_far told r s now next more is going u answers e lives = rw append_assoc (going u (told ∷ answers) e (s, more, next, is, lives))
-
-  -- none is left
-  pub none_left : (t : ℕ) (d : S) (all : List X) (answers : List Y) (u : ℕ) (now : S) → GoingOn life t d all [] answers u now → LifeAfterLife life t u d all answers now
-  none_left t d all answers u now going = rw append-nil at (going u [] now (omega arith, refl))
-
-module _ {X Y : Type 0} (life : (t u : ℕ) → Desk → X → Y → Desk → Type 0) where
-  pub lives_on : ImagesAreOne → (t : ℕ) (d : Desk) (all : List X) (asked : X) (rest : List X) (so_far : List Y) (old new : Disk) (told : Y) → LivesOnce (λ s u now next. life s u now asked told next) old new → new.is_honest
-      → Holds old.sectors (GoingOn life t d all (asked ∷ rest) so_far old.faults) old → Holds new.sectors (GoingOn life t d all rest (so_far ++ told ∷ []) new.faults) new
-  lives_on one t d all asked rest so_far old new told once honest holds i stopped =
-      let desks : AllDesks old = λ c left. let is = holds c left in (is.0, is.2) in
-      let became = once.became honest desks i stopped in
-      let Goes = GoingOn life t d all (asked ∷ rest) so_far old.faults in
-      let going = one_of one Goes old (λ c left. (let is = holds c left in record { desk = is.0; has = is.1; opens = inl is.2 })) (true, became.0) became.1 in
-      let more = one_more life t d all asked rest so_far told old.faults new.faults became.0 became.2.0 (once.faults honest desks) became.2.1 going in
-      (became.2.0, more, rw once.sectors became.2.2)
-
-  pub begun : (d : Desk) (all : List X) (disk : Disk) → HoldsOne disk d → Holds disk.sectors (GoingOn life disk.faults d all all [] disk.faults) disk
-  begun d all disk holds i left = (d, (λ u answers e lives. lives), holds i left)
-
-  pub all_lived : (t : ℕ) (d : Desk) (all : List X) (answers : List Y) (disk : Disk) → Holds disk.sectors (GoingOn life t d all [] answers disk.faults) disk → (e : Desk) × LifeAfterLife life t disk.faults d all answers e
-  all_lived t d all answers disk holds = let is = holds disk.reads disk.as_read in (is.0, none_left life t d all answers disk.faults is.0 is.1)

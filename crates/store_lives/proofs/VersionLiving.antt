@@ -1,13 +1,12 @@
 -- Lives of a store of either version.
-use Rattle.std.{specs.Prelude.⊤, proofs.Common.{◌≡◌, ◌≢◌, ◌≤◌, ◌^◌, ℕ, Bool, true, false, List, [], ◌∷◌, ◌++◌, Ok, Err, ap, refl, sym, subst, ◌∙◌, rules}}
-use Rattle.{desk_model.specs.claim.Desk.Desk, desk_pages.specs.claim.{Desks.{OpensAs, OpensDeskOf}, Openings.{AllVersions, IsOneAs, IsOneOf, LeavesOneAs, OpensOneAs}}}
-use Rattle.{desk_pages.specs.declared.error.StoreError.StoreError, desk_runs.specs.{Recovery.ImagesAreOne, desk_migration.Openings.{IsRefused, KeepsOne, LeavesNew}}}
-use Rattle.desk_runs.specs.desk_migration.{claim.Migrating.{disk_of as migrated_disk, sectors_of as migrated_sectors}, declared.migration.Migration.Migration}
-use Rattle.{desk_store.specs.{Openings.OpenRefused, claim.Clerks.{desk_of, disk_of, is_halted, sectors_of, Keeps}, declared.clerk.Clerk.Clerk}, sector_device.specs.Disk.IsSynced}
-use Rattle.{sector_device.specs.{claim.Disk.{Disk, Image}, declared.SectorDevice.Ghosts}, store_lives.specs.DeskInside.{GoingOn, IsLife, LivedThrough, LivesOnce}}
-use Rattle.store_lives.specs.{VersionInside.{OpensIn, HoldsIn, AllIn, IsOneIn, Knows, Becomes, LivesIn, IsAsked, IsLed, LedTo, LeadsOn}, declared.leading.Led.Led}
-use Rattle.store_lives.specs.claim.{DeskLives.{Asked, Told, IsPassing, LifeAfterLife}, Versions.{Version, version_1, version_2, either, MayBeOld, MayBeNew, Store, MayBar, Leads}}
-use Rattle.{desk_runs.proofs.One.{one_version, few_sectors, in_either, either_as}, sector_device.proofs.Moments.leaves_now, store_lives.proofs.DeskLiving.{one_more, none_left}}
+use Rattle.{std.{specs.Prelude.⊤, proofs.Common.{◌≡◌, ◌≢◌, ◌≤◌, ◌^◌, ℕ, Bool, true, false, refl, sym, subst, ◌∙◌, rules}}, desk_model.specs.claim.Desk.Desk}
+use Rattle.desk_pages.specs.{claim.{Desks.OpensDeskOf, Openings.{AllVersions, IsOneAs, IsOneOf, LeavesOneAs, OpensOneAs}}, declared.error.StoreError.StoreError}
+use Rattle.desk_runs.specs.desk_migration.{Openings.{IsRefused, KeepsOne, LeavesNew}, claim.Migrating.{disk_of as migrated_disk, sectors_of as migrated_sectors}}
+use Rattle.{desk_runs.specs.desk_migration.declared.migration.Migration.Migration, desk_store.specs.{Openings.OpenRefused, declared.clerk.Clerk.Clerk}}
+use Rattle.{desk_store.specs.claim.Clerks.{desk_of, disk_of, is_halted, sectors_of, Keeps}, sector_device.specs.{claim.Disk.{Disk, Image}, declared.SectorDevice.Ghosts}}
+use Rattle.store_lives.specs.{DeskInside.LivedThrough, VersionInside.{OpensIn, AllIn, IsOneIn, Becomes, LivesIn, IsLed, LedTo, LeadsOn}, declared.leading.Led.Led}
+use Rattle.{store_lives.specs.claim.Versions.{Version, version_1, version_2, either, MayBeOld, MayBeNew, Store, MayBar, Leads}, sector_device.proofs.Moments.leaves_now}
+use Rattle.desk_runs.proofs.One.{one_version, few_sectors, in_either, either_as}
 use Rattle.desk_pages.specs.declared.error.StoreError.TheVariants as store
 use Rattle.store_lives.specs.declared.leading.Led.TheVariants as led
 
@@ -66,40 +65,13 @@ stays_in life v old new now all moments lives = (
       (is.x.1, one.1, (is.x.1, lives is.x.1, opens_in v is.x.0 old.sectors is.x.1 c one.0 is.opens))),
 )
 
--- ---- starts and stops
--- what is left at the start is what a stop left
-before : {A : Type 0} (Opens : ℕ → A → Image → Type 0) (old mid : Disk) → mid.sectors ≡ old.sectors → ((c : Image) → mid.leaves c → old.leaves c)
-    → ((c : Image) → old.leaves c → (a : A) × Opens old.sectors a c) → (c : Image) → mid.leaves c → (a : A) × Opens mid.sectors a c
-before Opens old mid same leaves all c left = let is = all c (leaves c left) in (is.0, rw same is.1)
-
-pub starts_in : (life : (t u : ℕ) → Store → Store → Type 0) (old mid new : Disk) → mid.sectors ≡ old.sectors → (mid.is_honest → old.is_honest) → (mid.is_honest → mid.faults ≡ old.faults)
-    → (mid.is_honest → (c : Image) → mid.leaves c → old.leaves c) → LivesIn life mid new → LivesIn life old new
-starts_in life old mid new same was faults leaves once = record {
-  sectors = once.sectors ∙ same;
-  honest = λ now. was (once.honest now);
-  faults = λ now all. rw (faults (once.honest now)) at (once.faults now (before OpensAs old mid same (leaves (once.honest now)) all));
-  became = λ now v all.
-      (let then = once.honest now in
-      let is = once.became now v (before (OpensIn v) old mid same (leaves then) all) in (
-        is.0,
-        λ c stopped.
-            (let there = is.1 c stopped in
-            let one = there.1 in
-            let lived = subst (λ (t : ℕ). life t new.faults (v, there.0) (is.0, there.2.0)) (faults then) there.2.1 in (
-              there.0,
-              record { was = one.was; left = leaves then one.was one.left; opens = subst (λ (n : ℕ). OpensIn v n there.0 one.was) same one.opens },
-              (there.2.0, lived, subst (λ (n : ℕ). OpensIn is.0 n there.2.0 c) same there.2.2),
-            )),
-      ));
-}
-
-pub stops_in : (life : (t u : ℕ) → Store → Store → Type 0) (old mid new : Disk) → new.sectors ≡ mid.sectors → (new.is_honest → mid.is_honest) → (new.is_honest → new.faults ≡ mid.faults)
-    → (new.is_honest → (c : Image) → new.leaves c → mid.leaves c) → LivesIn life old mid → LivesIn life old new
-stops_in life old mid new same was faults leaves once = record {
-  sectors = same ∙ once.sectors;
-  honest = λ now. once.honest (was now);
-  faults = λ now all. rw (faults now) (once.faults (was now) all);
-  became = λ now v all. rw (faults now) (let is = once.became (was now) v all in (is.0, λ c stopped. is.1 c (leaves now c stopped)));
+-- a device that was only read
+pub stays_lives : (old new : Disk) → new.sectors ≡ old.sectors → (new.is_honest → old.is_honest) → LeavesOneAs old new → (new.is_honest → old.faults ≤ new.faults) → LivesIn (λ t u s e. e ≡ s) old new
+stays_lives old new same honest moments more = record {
+  sectors = same;
+  honest = honest;
+  faults = λ now all. more now;
+  became = λ now v all. stays_in (λ t u s e. e ≡ s) v old new now all moments (λ d. refl);
 }
 
 -- ---- a store is asked
@@ -194,63 +166,3 @@ module _ {D : Type 0} (g : Ghosts D) where
             let is = led_to (g.disk device).faults (migrated_disk y).faults (g.disk device).sectors kept.0 v far (migrated_disk y) (may_be_old v one.0) left in
             (is.0, λ c stopped. (kept.0, one.1, (kept.0, (is.1, refl), is.2 c stopped))));
       }
-
--- ---- lives, one after the other
--- of a desk to which one of the images opens what is known of those that are there is known
-pub known : ImagesAreOne → (disk : Disk) (P : Store → Type 0) (v : Version) (e : Desk) → ((c : Image) → disk.leaves c → (d : Desk) × P (v, d) × OpensIn v disk.sectors d c) → IsOneIn v disk e → P (v, e)
-known one disk P v e holds is =
-    let there = holds is.was is.left in
-    let first = opens_as v disk.sectors there.0 is.was there.2 in
-    let other = opens_as v disk.sectors e is.was is.opens in
-    subst (λ (d : Desk). P (v, d)) (one first.0 other.0 disk.sectors there.0 e is.was (few_sectors disk) first.1 other.1) there.1
-
-module _ {X Y : Type 0} (life : (t u : ℕ) → Store → X → Y → Store → Type 0) where
-  pub lives_on : ImagesAreOne → (t : ℕ) (s : Store) (all : List X) (asked : X) (rest : List X) (so_far : List Y) (old new : Disk) (told : Y) → LivesIn (λ r u now next. life r u now asked told next) old new → new.is_honest
-      → Knows (GoingOn life t s all (asked ∷ rest) so_far old.faults) old → Knows (GoingOn life t s all rest (so_far ++ told ∷ []) new.faults) new
-  lives_on one t s all asked rest so_far old new told once now holds =
-      let v = holds.0 in
-      let desks : AllIn v old = λ c left. let is = holds.1 c left in (is.0, is.2) in
-      let became = once.became now v desks in
-      let more = once.faults now (all_in v old desks) in (
-        became.0,
-        λ c stopped.
-            (let there = became.1 c stopped in
-            let going = known one old (GoingOn life t s all (asked ∷ rest) so_far old.faults) v there.0 holds.1 there.1 in
-            let next : Store = (became.0, there.2.0) in
-            (there.2.0, one_more life t s all asked rest so_far told old.faults new.faults (v, there.0) next more there.2.1 going, rw once.sectors there.2.2)),
-      )
-
-  pub begun : (v : Version) (d : Desk) (all : List X) (disk : Disk) → HoldsIn v disk d → Knows (GoingOn life disk.faults (v, d) all all [] disk.faults) disk
-  begun v d all disk holds = (v, λ c left. (d, (λ u answers e lives. lives), holds c left))
-
-  pub all_lived : (t : ℕ) (s : Store) (all : List X) (answers : List Y) (disk : Disk) → Knows (GoingOn life t s all [] answers disk.faults) disk → (e : Store) × LifeAfterLife life t disk.faults s all answers e
-  all_lived t s all answers disk holds =
-      let is = holds.1 disk.reads disk.as_read in
-      ((holds.0, is.0), none_left life t s all answers disk.faults (holds.0, is.0) is.1)
-
--- a store of the new version, whose lives are told by its desks
-pub passing_of : (t u : ℕ) (why : StoreError) → MayBar t u version_2 why → IsPassing t u why
-passing_of t u store.OldVersion bars = absurd bars.0
-passing_of t u _ bars = bars
-
-life_of : (asked : Asked) (told : Told) (t u : ℕ) (d : Desk) (s : Store) → IsAsked asked told t u (version_2, d) s → (s.0 ≡ version_2) × IsLife asked told t u d s.1
-life_of asked (Ok answers) t u d s is = (is.1, is.2)
-life_of asked (Err why) t u d s is = (ap (λ (x : Store). x.0) is.1, (passing_of t u why is.0, ap (λ (x : Store). x.1) is.1))
-
-pub once_of : (asked : Asked) (told : Told) (old new : Disk) → LivesIn (IsAsked asked told) old new → LivesOnce (IsLife asked told) old new
-once_of asked told old new lives = record {
-  sectors = lives.sectors;
-  honest = lives.honest;
-  faults = λ now all. lives.faults now (all_in version_2 old all);
-  became = λ now all c stopped.
-      (let became = lives.became now version_2 all in
-      let is = became.1 c stopped in
-      let life = life_of asked told old.faults new.faults is.0 (became.0, is.2.0) is.2.1 in
-      (is.0, record { was = is.1.was; left = is.1.left; opens = is.1.opens }, (is.2.0, life.1, subst (λ (w : Version). OpensIn w old.sectors is.2.0 c) life.0 is.2.2)));
-}
-
--- a synced device leaves what it reads
-pub holds_read : (v : Version) (disk new : Disk) (d : Desk) → IsSynced disk → OpensIn v disk.sectors d disk.reads → new.sectors ≡ disk.sectors → ((c : Image) → new.leaves c → disk.leaves c) → HoldsIn v new d
-holds_read v disk new d synced opens same leaves c left =
-    let agree = synced c (leaves c left) in
-    subst (λ (n : ℕ). OpensIn v n d c) (sym same) (subst (λ (i : Image). OpensIn v disk.sectors d i) (λ i k. (sym (agree.same k (λ none. none))) i) opens)

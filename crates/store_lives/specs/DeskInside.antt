@@ -1,10 +1,10 @@
 -- What the loops know: which desks the images of a device open to.
 use Rattle.std.specs.Prelude.{◌≡◌, ◌⊎◌, ◌≤◌, ◌<◌, ◌++◌, ℕ, true, false, List, None}
 use Rattle.{desk_catalogue.specs.claim.Audits.AskMay, desk_model.specs.{claim.{Desk.Desk, Geography.GeographyModel}, declared.reply.Reply.Reply}}
-use Rattle.{desk_pages.specs.{Openings.AllDesks, claim.{Desks.OpensDesk, Openings.IsOneOf}}, desk_store.specs.claim.Clerks.{desk_of, disk_of, is_halted, sectors_of, Keeps, Moves}}
-use Rattle.{desk_store.specs.{claim.Commands.Does, declared.clerk.Clerk.Clerk}, sector_device.specs.{claim.Disk.{Disk, Image}, declared.SectorDevice.Ghosts}}
-use Rattle.store_lives.specs.{claim.DeskLives.{loaded_desk, MayFail, MayRefuse, Asked, Told, Failed, Lived, Life, LifeAfterLife}, declared.desk_lives.Answer.Answer}
-use Rattle.store_lives.specs.declared.desk_lives.{Answer.TheVariants.{Said, Loaded, Unloaded, Swept, Unswept}, Request.{Request, TheVariants.{Change, Look, Load, Sweep}}}
+use Rattle.{desk_pages.specs.claim.Desks.OpensDesk, desk_store.specs.claim.{Clerks.{desk_of, disk_of, is_halted, sectors_of, Keeps, Moves}, Commands.Does}}
+use Rattle.{desk_store.specs.declared.clerk.Clerk.Clerk, sector_device.specs.{claim.Disk.{Disk, Image}, declared.SectorDevice.Ghosts}}
+use Rattle.store_lives.specs.{claim.DeskLives.{loaded_desk, MayFail, MayRefuse, Failed, Lived}, declared.desk_lives.{Answer.Answer, Request.Request}}
+use Rattle.store_lives.specs.declared.desk_lives.{Answer.TheVariants.{Said, Loaded, Unloaded, Swept, Unswept}, Request.TheVariants.{Change, Look, Load, Sweep}}
 use Rattle.desk_pages.specs.declared.error.StoreError.TheVariants as store
 
 -- an image of n sectors opens to one of these desks
@@ -61,21 +61,3 @@ module _ {D : Type 0} {g : Ghosts D} where
   -- what requests come to
   abbrev pub Asks : Clerk D g → List Request → List Answer → Clerk D g → Type 0
   Asks x asked told y = LivedThrough (λ t u d e. Lived t u d asked told e) x y
-
--- What one life comes to, where `life` says what it makes of a desk: each image that a stop may leave opens to what it makes of a desk
--- that was there.
-pub record LivesOnce (life : (t u : ℕ) → Desk → Desk → Type 0) (old new : Disk) : Type 0 where
-  pub sectors : new.sectors ≡ old.sectors
-  pub honest : new.is_honest → old.is_honest
-  pub faults : new.is_honest → AllDesks old → old.faults ≤ new.faults
-  pub became : new.is_honest → AllDesks old → (c : Image) → new.leaves c
-      → (d : Desk) × IsOneOf old d × OpensTo old.sectors (life old.faults new.faults d) c
-
--- what these answers make of a desk
-abbrev pub IsLife : Asked → Told → ℕ → ℕ → Desk → Desk → Type 0
-IsLife asked told t u d e = Life t u d asked told e
-
-module _ {Store Asks Tells : Type 0} (life : (t u : ℕ) → Store → Asks → Tells → Store → Type 0) where
-  -- so many lives were answered, and others are left
-  abbrev pub GoingOn : (t : ℕ) → Store → List Asks → List Asks → List Tells → ℕ → Store → Type 0
-  GoingOn t d all rest so_far s now = (u : ℕ) (told : List Tells) (e : Store) → LifeAfterLife life s u now rest told e → LifeAfterLife life t u d all (so_far ++ told) e

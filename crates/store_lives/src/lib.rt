@@ -1,4 +1,4 @@
-//! Lives of a store: each opens it, asks it or migrates it, and ends with a crash.
+//! One life of a store: it is opened, asked or migrated, and ends with a crash.
 //!
 //! # Model
 //!
@@ -6,8 +6,6 @@
 //!
 //! # Proved
 //!
-//! - `desk_lives::live`: the answers are those of the desk's model, each life beginning with the
-//!   desk that the crash before it left (`Lives`).
 //! - `live_in` and `lead_in`: one life of a store of either version. The answers are those of the
 //!   model once the store has version 2, and refusals before (`LivesIn`).
 //!

@@ -3,7 +3,7 @@ use Rattle.std.{specs.{FinMap.insert, Prelude.Contains}, proofs.Common.{Bool, �
 use Rattle.{std.proofs.lemmas.Bool.cases_eq, desk_model.specs.claim.Ranges.cut, store_rows.specs.{Changes.plan_row_of, ForkLaws.SharesMakeDesks, NameRows.name_rows, Rows.SameTag}}
 use Rattle.store_rows.specs.{RevisionSteps.{AddsRevision, IsDrawn}, Shares.{CanHold, Holds, hold_all, with_shared}, Steps.{chunks_more, one_revision_more}, TidyLaws.MakesRevision}
 use Rattle.store_rows.{specs.claim.{Keys.{RowKey, key_of, Fits, counters, holding, named, part}, Puts.{Row, put_rows}, Rows.{KeyMap, Has}, Tidy.Tidy}, proofs.Changes.other_row}
-use Rattle.store_rows.{specs.{claim.Values.{plan_bytes, counters_bytes}, declared.value.PlanRow.PlanRow}, proofs.{HolderCounts.holder_counts_stay, Puts.put_rows-append}}
+use Rattle.store_rows.{specs.{claim.Values.{plan_bytes, counters_bytes}, declared.value.StoredPlan.StoredPlan}, proofs.{HolderCounts.holder_counts_stay, Puts.put_rows-append}}
 use Rattle.store_rows.proofs.{Frames.{put_is_there, put_keeps, put_keeps_tag, other_tag, tag_follows}, NameRows.{names_keep_tag, parts_put}, Sharing.all_held}
 use Rattle.store_rows.proofs.{PutAll.{IsRowOf, names_are, keeps_rows, keeps_row}, RevisionDesk.{its_chunks, revision_made}, TidyFree.{named_below, numbers_free}}
 use Rattle.store_rows.proofs.TidyParts.{rows_put, name_fits}
@@ -12,7 +12,7 @@ use Rattle.store_rows.proofs.TidyParts.{rows_put, name_fits}
 abbrev IsPartOf : ℕ → ℕ → RowKey → Type 0
 IsPartOf plan revision row = (index : ℕ) × (row ≡ part plan revision index)
 
-module _ (m : KeyMap) (tidy : Tidy m) (name : List ℕ) (p : PlanRow) (numbers : List ℕ) (number_fits : p.number < 2 ^ 64) (few_revisions : p.revisions + 1 < 2 ^ 32) (named_fits : Fits (named name)) (has : Has m (named name) (plan_bytes p)) (few : length numbers ≤ 128 * 2 ^ 8) (holds : Holds m (hold_all m p.number numbers) tidy.next.plan p.number numbers) where
+module _ (m : KeyMap) (tidy : Tidy m) (name : List ℕ) (p : StoredPlan) (numbers : List ℕ) (number_fits : p.number < 2 ^ 64) (few_revisions : p.revisions + 1 < 2 ^ 32) (named_fits : Fits (named name)) (has : Has m (named name) (plan_bytes p)) (few : length numbers ≤ 128 * 2 ^ 8) (holds : Holds m (hold_all m p.number numbers) tidy.next.plan p.number numbers) where
   abbrev held : KeyMap
   held = hold_all m p.number numbers
 
@@ -85,7 +85,7 @@ known_can_hold m tidy plan known = record {
   plan_below = known;
 }
 
-pub can_hold : (m : KeyMap) (tidy : Tidy m) (name : List ℕ) (p : PlanRow) → p.number < 2 ^ 64 → Has m (named name) (plan_bytes p) → CanHold m tidy.next.plan p.number
+pub can_hold : (m : KeyMap) (tidy : Tidy m) (name : List ℕ) (p : StoredPlan) → p.number < 2 ^ 64 → Has m (named name) (plan_bytes p) → CanHold m tidy.next.plan p.number
 can_hold m tidy name p fits has = known_can_hold m tidy p.number (tidy.below.plans name p.number (record { plan = p; row = has; is = refl; fits = fits }))
 
 pub shares_made : SharesMakeDesks

@@ -6,7 +6,7 @@ use Rattle.store_rows.specs.{Changes.{IsRevised, RevisionsStay, desk_with, plan_
 use Rattle.store_rows.specs.RevisionSteps.{IsGiven, AreItsChunks, AddsRevision, IsChunkList, new_chunk_rows, new_holding, new_holder_count, told_held, rows_of_revision, AreKept, IsDrawn}
 use Rattle.store_rows.specs.{TidyLaws.MakesRevision, claim.{DeskRows.{HasPlan, IsDesk, most_revisions}, Holders.IsHeld, Puts.{Row, put_rows}, Rows.{KeyMap, row_in, Has}}}
 use Rattle.store_rows.specs.claim.{Keys.{RowKey, key_of, Fits, counters, holding, holder_count, named, part, chunk, in_eight}, RevisionRows.{HasChunk, NamesChunks, HasRevision}}
-use Rattle.store_rows.specs.{claim.{Tidy.{IsPiece, IsNamedBy, Tidy, IsNumbered}, Values.{plan_bytes, counters_bytes}}, declared.value.{Counters.Counters, PlanRow.PlanRow}}
+use Rattle.store_rows.specs.{claim.{Tidy.{IsPiece, IsNamedBy, Tidy, IsNumbered}, Values.{plan_bytes, counters_bytes}}, declared.value.{Counters.Counters, StoredPlan.StoredPlan}}
 use Rattle.store_rows.proofs.{Changes.plan_revised, ChunkRows.{few_rows, pieces_are, new_there}, Counting.{OthersHold, no_holders, holders_joined}, RowLaws.keys_differ}
 use Rattle.store_rows.proofs.{Frames.{put_is_there, put_keeps, other_tag, chunk_stays}, HolderCounts.counted_by_holders_moved, NameRows.{parts_put, numbers_named}}
 use Rattle.store_rows.proofs.{OneGeography.{value_is, no_value, one_naming}, PutAll.{IsRowOf, is_row, names_are, told_all, keeps_key, keeps_row, keeps_rows, tells_value}}
@@ -14,7 +14,7 @@ use Rattle.store_rows.proofs.{Puts.{put_rows-append, told_are, told_keep}, TidyF
 
 -- ---- how many of the new chunks are told as held
 -- the rows that are put
-abbrev IsPut : Counters → ℕ → ℕ → List ℕ → PlanRow → RowKey → Type 0
+abbrev IsPut : Counters → ℕ → ℕ → List ℕ → StoredPlan → RowKey → Type 0
 IsPut next given many name p counters = Unit {0}
 IsPut next given many name p (holding plan number) = (plan ≡ p.number) × IsGiven next many number
 IsPut next given many name p (holder_count number) = IsGiven next many number
@@ -36,7 +36,7 @@ chunks_are Q next given told room first (districts ∷ lists) from within sound 
 one_key : (row : ℕ → RowKey) (first count : ℕ) → ((x y : ℕ) → row x ≡ row y → x ≡ y) → ((k : ℕ) → k < count → Fits (row (first + k))) → (i j : ℕ) → i < count → j < count → key_of (row (first + i)) ≡ key_of (row (first + j)) → i ≡ j
 one_key row first count apart fits i j one other same = let equal = apart (first + i) (first + j) (keys_differ (row (first + i)) (row (first + j)) (fits i one) (fits j other) same) in omega arith
 
-module _ (m : KeyMap) (tidy : Tidy m) (name : List ℕ) (p : PlanRow) (lists : List (List ℕ)) (numbers : List ℕ) (number_fits : p.number < 2 ^ 64) (few_revisions : p.revisions + 1 < 2 ^ 32) (fits_named : Fits (named name)) (room : tidy.next.chunk + length lists < 2 ^ 64) (has : Has m (named name) (plan_bytes p)) (few : length numbers ≤ 128 * 2 ^ 8) (sound : All IsChunkList lists) (its : AreItsChunks m tidy.next (length lists) p.number numbers) where
+module _ (m : KeyMap) (tidy : Tidy m) (name : List ℕ) (p : StoredPlan) (lists : List (List ℕ)) (numbers : List ℕ) (number_fits : p.number < 2 ^ 64) (few_revisions : p.revisions + 1 < 2 ^ 32) (fits_named : Fits (named name)) (room : tidy.next.chunk + length lists < 2 ^ 64) (has : Has m (named name) (plan_bytes p)) (few : length numbers ≤ 128 * 2 ^ 8) (sound : All IsChunkList lists) (its : AreItsChunks m tidy.next (length lists) p.number numbers) where
   abbrev many : ℕ
   many = told_held tidy.new (length lists)
 
@@ -200,7 +200,7 @@ its_chunks m next plan lists numbers counties drawn = record {
 chunk_below : (m : KeyMap) (tidy : Tidy m) (given number : ℕ) (districts : List ℕ) → HasChunk m number districts → IsGiven tidy.next given number → ⊥
 chunk_below m tidy given number districts has is = search (arith, has.pieces 0 (omega arith), lt-ltb, no_value, (numbers_free m tidy).chunks number is.0 has.number_fits 0 (omega arith))
 
-module _ (m n : KeyMap) (tidy : Tidy m) (given : ℕ) (name : List ℕ) (p : PlanRow) (numbers : List ℕ) (adds : AddsRevision m n tidy.new tidy.next given name p numbers) where
+module _ (m n : KeyMap) (tidy : Tidy m) (given : ℕ) (name : List ℕ) (p : StoredPlan) (numbers : List ℕ) (adds : AddsRevision m n tidy.new tidy.next given name p numbers) where
   chunk_moves : (number : ℕ) (districts : List ℕ) → HasChunk m number districts → HasChunk n number districts
   chunk_moves number districts has = search (has.number_fits, has.some, has.few, has.each, adds.other_chunks, chunk_below, m, tidy, has.pieces)
 
@@ -230,7 +230,7 @@ module _ (m n : KeyMap) (tidy : Tidy m) (given : ℕ) (name : List ℕ) (p : Pla
 
 -- ---- the desk
 module _ (m n : KeyMap) (tidy : Tidy m) (g : GeographyModel) (plans : FinMap name_cmp Plan) (name : List ℕ) (number : ℕ) (p : Plan) (districts : List ℕ) (lists : List (List ℕ)) (numbers : List ℕ) (there : get plans name ≡ Some p) (has : HasPlan m g name number p) (few : length p.revisions < most_revisions) (room : tidy.next.chunk + length lists < 2 ^ 64) (source : ℕ) (drawn : IsDrawn m tidy.next source lists numbers (cut g districts)) (adds : AddsRevision m n tidy.new tidy.next (length lists) name (plan_row_of number p) numbers) (made : (place : ℕ) → place < length lists → HasChunk n (tidy.next.chunk + place) (get_or lists place [])) where
-  abbrev row : PlanRow
+  abbrev row : StoredPlan
   row = plan_row_of number p
 
   few_more : row.revisions + 1 < 2 ^ 32
@@ -259,7 +259,7 @@ module _ (m n : KeyMap) (tidy : Tidy m) (g : GeographyModel) (plans : FinMap nam
   }
 
 -- ---- its rows, as they are listed
-module _ (m : KeyMap) (tidy : Tidy m) (name : List ℕ) (p : PlanRow) (lists : List (List ℕ)) (numbers : List ℕ) (number_fits : p.number < 2 ^ 64) (few_more : p.revisions + 1 < 2 ^ 32) (room : tidy.next.chunk + length lists < 2 ^ 64) (has : Has m (named name) (plan_bytes p)) (few : length numbers ≤ 128 * 2 ^ 8) (sound : All IsChunkList lists) (its : AreItsChunks m tidy.next (length lists) p.number numbers) where
+module _ (m : KeyMap) (tidy : Tidy m) (name : List ℕ) (p : StoredPlan) (lists : List (List ℕ)) (numbers : List ℕ) (number_fits : p.number < 2 ^ 64) (few_more : p.revisions + 1 < 2 ^ 32) (room : tidy.next.chunk + length lists < 2 ^ 64) (has : Has m (named name) (plan_bytes p)) (few : length numbers ≤ 128 * 2 ^ 8) (sound : All IsChunkList lists) (its : AreItsChunks m tidy.next (length lists) p.number numbers) where
   abbrev listed : KeyMap
   listed = put_rows m (rows_of_revision tidy.new tidy.next name p lists numbers)
 

@@ -2,9 +2,9 @@
 use Rattle.std.{specs.FinMap.{get, insert, remove}, proofs.Common.{◌∷◌, rules, Bool, ◌≡◌, ◌<◌, ◌≤◌, ◌^◌, ℕ, List, [], Option, Some, None, sym, ◌∙◌, arith}}
 use Rattle.store_rows.specs.{Rows.SameTag, Tidy.TidyWith, claim.{Holders.{IsHeld, AreTallied}, Rows.{KeyMap, row_in, Has}, Values.{counters_bytes, plan_bytes, seal_bytes}}}
 use Rattle.store_rows.specs.{claim.Keys.{holding, version, RowKey, key_of, Fits, counters, retired, begun, named, part, seal, block, pair, chunk}, declared.value.Counters.Counters}
-use Rattle.store_rows.specs.{claim.Tidy.{IsNext, CountersFit, IsNumbered, IsNamedBy, IsPart, IsPiece, AreRows, IsKnown, IsLoad, AreHoldings, Tidy}, declared.value.PlanRow.PlanRow}
-use Rattle.store_rows.{specs.declared.value.SealRow.SealRow, proofs.{Changes.cases_key, Frames.{put_is_there, put_keeps, put_keeps_tag, removed_is_gone, remove_keeps, other_tag}}}
-use Rattle.store_rows.proofs.{HolderCounts.holder_counts_stay, OneGeography.no_value}
+use Rattle.store_rows.specs.{claim.Tidy.{IsNext, CountersFit, IsNumbered, IsNamedBy, IsPart, IsPiece, AreRows, IsKnown, IsLoad, AreHoldings, Tidy}, declared.value.SealRow.SealRow}
+use Rattle.store_rows.{specs.declared.value.StoredPlan.StoredPlan, proofs.{Changes.cases_key, HolderCounts.holder_counts_stay, OneGeography.no_value}}
+use Rattle.store_rows.proofs.Frames.{put_is_there, put_keeps, put_keeps_tag, removed_is_gone, remove_keeps, other_tag}
 
 pub record PlansKept (m : KeyMap) (limit : ℕ) : Type 0 where
   pub below : (name : List ℕ) (number : ℕ) → IsNumbered m name number → number < limit
@@ -13,7 +13,7 @@ pub record PlansKept (m : KeyMap) (limit : ℕ) : Type 0 where
   pub gone : (name : List ℕ) (number : ℕ) → IsNumbered m name number → row_in m (retired number) ≡ None
   pub parts : (plan revision index : ℕ) (value : List ℕ) → Fits (part plan revision index) → Has m (part plan revision index) value → IsKnown m plan
   pub told : (plan revision index : ℕ) (value : List ℕ) → Fits (part plan revision index) → Has m (part plan revision index) value → IsPart value
-  pub counted : (name : List ℕ) (p : PlanRow) → p.number < 2 ^ 64 → p.revisions < 2 ^ 32 → Has m (named name) (plan_bytes p)
+  pub counted : (name : List ℕ) (p : StoredPlan) → p.number < 2 ^ 64 → p.revisions < 2 ^ 32 → Has m (named name) (plan_bytes p)
       → (revision index : ℕ) (value : List ℕ) → Fits (part p.number revision index) → Has m (part p.number revision index) value → (0 < revision) × (revision ≤ p.revisions)
 
 pub record ChunksKept (m : KeyMap) (limit : ℕ) : Type 0 where

@@ -2,20 +2,20 @@
 use Rattle.std.{specs.FinMap.{insert, remove}, proofs.{Common.{rules, Bool, ◌≡◌, ◌⊎◌, ◌<◌, ◌+◌, ◌^◌, ℕ, List, [], sym, ap, subst, ◌∙◌, inl, inr, arith}, lemmas.Bool.cases_eq}}
 use Rattle.store_rows.specs.{Rows.SameTag, Steps.one_plan_more, Tidy.TidyWith, claim.{Keys.{key_of, Fits, counters, retired, named}, Lists.chunks_bytes}}
 use Rattle.store_rows.specs.claim.{Rows.{KeyMap, row_in, Has, Lacks}, Tidy.{IsNumbered, IsNamedBy, IsKnown, AreHoldings, Tidy}, Values.{plan_bytes, counters_bytes}}
-use Rattle.store_rows.{specs.declared.value.PlanRow.PlanRow, proofs.{Changes.{cases_key, other_row}, HolderCounts.holder_counts_stay, OneDesk.row_number}}
+use Rattle.store_rows.{specs.declared.value.StoredPlan.StoredPlan, proofs.{Changes.{cases_key, other_row}, HolderCounts.holder_counts_stay, OneDesk.row_number}}
 use Rattle.store_rows.proofs.Frames.{put_is_there, put_keeps, put_keeps_tag, put_keeps_row, removed_is_gone, remove_keeps, remove_keeps_tag, tag_follows}
 use Rattle.store_rows.proofs.OneGeography.{value_is, no_value}
 use Rattle.store_rows.proofs.TidyParts.{removed_fewer, IsFewer, was_numbered, holders_fewer, same_fewer, PlansKept, kept_of, some_or_none, numbered_moves, naming_moves, chunks_stay, loads_stay, rows_put, rows_removed, counters_put, stays_tidy}
 
 -- ---- one row, one plan
-pub row_says : (m : KeyMap) (name : List ℕ) (p q : PlanRow) → Has m (named name) (plan_bytes p) → Has m (named name) (plan_bytes q) → plan_bytes p ≡ plan_bytes q
+pub row_says : (m : KeyMap) (name : List ℕ) (p q : StoredPlan) → Has m (named name) (plan_bytes p) → Has m (named name) (plan_bytes q) → plan_bytes p ≡ plan_bytes q
 row_says m name p q has also = value_is (plan_bytes p) (plan_bytes q) (sym has ∙ also)
 
-pub number_says : (m : KeyMap) (name : List ℕ) (p : PlanRow) (number : ℕ) → p.number < 2 ^ 64 → Has m (named name) (plan_bytes p) → IsNumbered m name number → p.number ≡ number
+pub number_says : (m : KeyMap) (name : List ℕ) (p : StoredPlan) (number : ℕ) → p.number < 2 ^ 64 → Has m (named name) (plan_bytes p) → IsNumbered m name number → p.number ≡ number
 number_says m name p number fits has is = search (rules, row_number, row_says)
 
 -- ---- a plan is created
-module _ (m : KeyMap) (limit : ℕ) (name : List ℕ) (p : PlanRow) (kept : PlansKept m limit) (lacks : Lacks m (named name)) (is : p.number ≡ limit) (none : p.revisions ≡ 0) (fits : limit < 2 ^ 64) where
+module _ (m : KeyMap) (limit : ℕ) (name : List ℕ) (p : StoredPlan) (kept : PlansKept m limit) (lacks : Lacks m (named name)) (is : p.number ≡ limit) (none : p.revisions ≡ 0) (fits : limit < 2 ^ 64) where
   abbrev made : KeyMap
   made = insert m (key_of (named name)) (plan_bytes p)
 
@@ -89,7 +89,7 @@ module _ (m : KeyMap) (limit : ℕ) (name : List ℕ) (p : PlanRow) (kept : Plan
   }
 
 -- so the rows stay tidy, with the counters one plan further
-pub created_tidy : (m : KeyMap) (tidy : Tidy m) (name : List ℕ) (p : PlanRow) → Fits (named name) → Lacks m (named name) → p.number ≡ tidy.next.plan → p.revisions ≡ 0 → tidy.next.plan + 1 < 2 ^ 64
+pub created_tidy : (m : KeyMap) (tidy : Tidy m) (name : List ℕ) (p : StoredPlan) → Fits (named name) → Lacks m (named name) → p.number ≡ tidy.next.plan → p.revisions ≡ 0 → tidy.next.plan + 1 < 2 ^ 64
     → TidyWith (insert (insert m (key_of (named name)) (plan_bytes p)) (key_of counters) (counters_bytes (one_plan_more tidy.next))) (one_plan_more tidy.next) tidy.new
 created_tidy m tidy name p fits lacks is none room =
     let next = tidy.next in

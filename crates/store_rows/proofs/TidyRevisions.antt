@@ -3,7 +3,7 @@ use Rattle.std.{specs.{Prelude.Contains, Set.is_member}, proofs.lemmas.{Bool.{ca
 use Rattle.std.proofs.{Common.{eqb, Bool, ◌≡◌, ◌⊎◌, ◌<◌, ◌≤◌, ◌+◌, ◌^◌, ℕ, List, get_or, All, Some, refl, sym, subst, ◌∙◌, inl, inr, arith}, lemmas.Map.Made.is_member-Decides}
 use Rattle.store_rows.specs.{RevisionSteps.{IsGiven, AreItsChunks, AddsRevision}, Steps.{chunks_more, one_revision_more}, Tidy.TidyWith, claim.{Holders.IsHeld, Lists.chunks_bytes}}
 use Rattle.store_rows.specs.claim.{Keys.{Fits, named, part, chunk}, Rows.{KeyMap, Has, part_row}, Tidy.{IsNext, IsNumbered, IsNamedBy, IsKnown, AreHoldings, Tidy}}
-use Rattle.store_rows.{specs.{claim.Values.plan_bytes, declared.value.{Counters.Counters, PlanRow.PlanRow}}, proofs.{Changes.cases_key, ListLaws.chunks_differ}}
+use Rattle.store_rows.{specs.{claim.Values.plan_bytes, declared.value.{Counters.Counters, StoredPlan.StoredPlan}}, proofs.{Changes.cases_key, ListLaws.chunks_differ}}
 use Rattle.store_rows.proofs.{NameRows.{part_at, part_within, part_says, part_chunks, part_among, numbers_named}, OneDesk.{row_number, row_revisions}}
 use Rattle.store_rows.proofs.{TidyParts.{PlansKept, ChunksKept, kept_of, tidy_at, numbered_moves, loads_stay}, TidyPlans.{row_says, number_says}}
 
@@ -24,7 +24,7 @@ held_or_not plan one numbers number = both_or_not (cases_eq plan one) (contains_
 pub given_or_not : (next : Counters) (given number : ℕ) → IsGiven next given number ⊎ (IsGiven next given number → ⊥)
 given_or_not next given number = search (arith, cases_lt)
 
-module _ (m n : KeyMap) (new : Bool) (next : Counters) (given source : ℕ) (name : List ℕ) (p : PlanRow) (numbers : List ℕ) (plans : PlansKept m next.plan) (kept : ChunksKept m next.chunk) (number_fits : p.number < 2 ^ 64) (few_revisions : p.revisions + 1 < 2 ^ 32) (room : next.chunk + given < 2 ^ 64) (has : Has m (named name) (plan_bytes p)) (its : AreItsChunks m next given source numbers) (adds : AddsRevision m n new next given name p numbers) where
+module _ (m n : KeyMap) (new : Bool) (next : Counters) (given source : ℕ) (name : List ℕ) (p : StoredPlan) (numbers : List ℕ) (plans : PlansKept m next.plan) (kept : ChunksKept m next.chunk) (number_fits : p.number < 2 ^ 64) (few_revisions : p.revisions + 1 < 2 ^ 32) (room : next.chunk + given < 2 ^ 64) (has : Has m (named name) (plan_bytes p)) (its : AreItsChunks m next given source numbers) (adds : AddsRevision m n new next given name p numbers) where
   abbrev IsNew : ℕ → ℕ → Type 0
   IsNew plan revision = (plan ≡ p.number) × (revision ≡ p.revisions + 1)
 
@@ -67,7 +67,7 @@ module _ (m n : KeyMap) (new : Bool) (next : Counters) (given source : ℕ) (nam
         | inr new ↦ (let less = new.1 in omega arith)
       ]
 
-  counted_here : (q : PlanRow) → q.number < 2 ^ 64 → q.revisions < 2 ^ 32 → Has n (named name) (plan_bytes q) → (revision index : ℕ) (value : List ℕ) → Fits (part q.number revision index) → Has n (part q.number revision index) value → (0 < revision) × (revision ≤ q.revisions)
+  counted_here : (q : StoredPlan) → q.number < 2 ^ 64 → q.revisions < 2 ^ 32 → Has n (named name) (plan_bytes q) → (revision index : ℕ) (value : List ℕ) → Fits (part q.number revision index) → Has n (part q.number revision index) value → (0 < revision) × (revision ≤ q.revisions)
   counted_here q fits small there revision index value part_fits row =
       let bytes : plan_bytes (one_revision_more p) ≡ plan_bytes q = row_says n name (one_revision_more p) q adds.row there in
       let same : p.number ≡ q.number = row_number (one_revision_more p) q number_fits fits bytes in
@@ -164,7 +164,7 @@ module _ (m n : KeyMap) (new : Bool) (next : Counters) (given source : ℕ) (nam
     ];
   }
 
-pub revised_tidy : (m n : KeyMap) (tidy : Tidy m) (given source : ℕ) (name : List ℕ) (p : PlanRow) (numbers : List ℕ) → p.number < 2 ^ 64 → p.revisions + 1 < 2 ^ 32 → tidy.next.chunk + given < 2 ^ 64
+pub revised_tidy : (m n : KeyMap) (tidy : Tidy m) (given source : ℕ) (name : List ℕ) (p : StoredPlan) (numbers : List ℕ) → p.number < 2 ^ 64 → p.revisions + 1 < 2 ^ 32 → tidy.next.chunk + given < 2 ^ 64
     → Has m (named name) (plan_bytes p) → AreItsChunks m tidy.next given source numbers → AddsRevision m n tidy.new tidy.next given name p numbers → TidyWith n (chunks_more tidy.next given) tidy.new
 revised_tidy m n tidy given source name p numbers number_fits few room has its adds =
     let next = tidy.next in

@@ -1,7 +1,7 @@
 -- Which chunks a new revision names: a county that is as before keeps its chunk, each other one gets the next number.
 use Rattle.std.specs.{List.zip, Prelude.{true, ◌≡◌, ◌≤◌, ◌+◌, ◌*◌, ◌^◌, ℕ, if◌then◌else◌, List, [], ◌∷◌, map, filter, length, Option, All}}
 use Rattle.{desk_model.specs.claim.{Geography.GeographyModel, Ranges.sizes, Room.{differs, changed, revision_rows}}, store_rows.specs.claim.Rows.KeyMap}
-use Rattle.store_rows.specs.{RevisionSteps.{IsChunkList, AreKept, IsDrawn, rows_of_revision}, declared.value.{Counters.Counters, PlanRow.PlanRow}}
+use Rattle.store_rows.specs.{RevisionSteps.{IsChunkList, AreKept, IsDrawn, rows_of_revision}, declared.value.{Counters.Counters, StoredPlan.StoredPlan}}
 
 -- the chunks of a later revision, from those of the one before
 abbrev pub draw : ℕ → List ℕ → List (List ℕ) → List (List ℕ) → List ℕ
@@ -31,6 +31,6 @@ ChangesAreDrawn = (m : KeyMap) (next : Counters) (plan : ℕ) (numbers : List �
 
 -- in the new version the rows are as many as a command is to have room for
 abbrev pub RowsAreCounted : Type 0
-RowsAreCounted = (g : GeographyModel) (last : Option (List ℕ)) (new : List ℕ) (next : Counters) (name : List ℕ) (p : PlanRow) (numbers : List ℕ)
+RowsAreCounted = (g : GeographyModel) (last : Option (List ℕ)) (new : List ℕ) (next : Counters) (name : List ℕ) (p : StoredPlan) (numbers : List ℕ)
     → length numbers ≡ length (sizes g)
     → length (rows_of_revision true next name p (changed g last new) numbers) ≡ revision_rows g last new

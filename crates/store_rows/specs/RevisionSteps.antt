@@ -2,8 +2,8 @@
 use Rattle.std.specs.Prelude.{Bool, true, false, ◌≡◌, ◌⊎◌, ◌<◌, ◌≤◌, ◌+◌, ◌*◌, ◌^◌, ℕ, List, [], ◌∷◌, ◌++◌, length, get_or, All, Contains}
 use Rattle.store_rows.specs.{ChunkRows.chunk_rows, NameRows.name_rows, Puts.rows_told, Rows.SameTag, Steps.{chunks_more, one_revision_more}, claim.Holders.{IsHeld, AreTallied}}
 use Rattle.store_rows.specs.claim.{Keys.{key_of, Fits, counters, holding, holder_count, named, part, version, chunk, in_eight}, Lists.chunks_bytes, Puts.Row, RevisionRows.HasChunk}
-use Rattle.store_rows.specs.{claim.{Rows.{KeyMap, row_in, Has, part_row}, Tidy.{IsNamedBy, IsPiece, AreRows}, Values.{counters_bytes, plan_bytes}}, declared.value.PlanRow.PlanRow}
-use Rattle.store_rows.specs.declared.value.Counters.{Counters}
+use Rattle.store_rows.specs.claim.{Rows.{KeyMap, row_in, Has, part_row}, Tidy.{IsNamedBy, IsPiece, AreRows}, Values.{counters_bytes, plan_bytes}}
+use Rattle.store_rows.specs.declared.value.{Counters.Counters, StoredPlan.StoredPlan}
 
 -- so many numbers from the counter on are given to new chunks
 abbrev pub IsGiven : Counters → ℕ → ℕ → Type 0
@@ -19,7 +19,7 @@ pub record AreItsChunks (m : KeyMap) (next : Counters) (given plan : ℕ) (numbe
 -- The plan's row tells one revision more, and the counters that the numbers were given; the parts of the new revision name its
 -- chunks, and chunks are put under numbers that are given, and the plan holds each chunk that it names now, which is
 -- counted. All else stays.
-pub record AddsRevision (m n : KeyMap) (new : Bool) (next : Counters) (given : ℕ) (name : List ℕ) (p : PlanRow) (numbers : List ℕ) : Type 0 where
+pub record AddsRevision (m n : KeyMap) (new : Bool) (next : Counters) (given : ℕ) (name : List ℕ) (p : StoredPlan) (numbers : List ℕ) : Type 0 where
   pub rows : AreRows n
   pub moved : Has n counters (counters_bytes (chunks_more next given))
   pub row : Has n (named name) (plan_bytes (one_revision_more p))
@@ -63,7 +63,7 @@ told_held true given = given
 told_held false given = 0
 
 -- the rows of one revision more: its new chunks, those by which the plan holds them, its parts, the plan's row and the counters
-abbrev pub rows_of_revision : Bool → Counters → List ℕ → PlanRow → List (List ℕ) → List ℕ → List Row
+abbrev pub rows_of_revision : Bool → Counters → List ℕ → StoredPlan → List (List ℕ) → List ℕ → List Row
 rows_of_revision new next name p lists numbers = new_chunk_rows next.chunk lists
     ++ (new_holding_rows p.number next.chunk (told_held new (length lists)) ++ (name_rows p.number (p.revisions + 1) numbers
     ++ (key_of (named name), plan_bytes (one_revision_more p)) ∷ (key_of counters, counters_bytes (chunks_more next (length lists))) ∷ []))

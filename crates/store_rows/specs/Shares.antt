@@ -1,8 +1,8 @@
 -- What no promise rests on, beside claim/Shares.antt.
 use Rattle.std.specs.Prelude.{◌≡◌, ◌<◌, ◌+◌, ◌^◌, ℕ, List, [], ◌∷◌, ◌++◌, Contains}
 use Rattle.store_rows.specs.{Holders.AreHoldersBelow, NameRows.name_rows, Rows.SameTag, Steps.{chunks_more, one_revision_more}, claim.{Holders.{IsHeld, AreTallied}, Shares.hold}}
-use Rattle.store_rows.specs.{claim.{Keys.{key_of, Fits, counters, holding, named}, Puts.{Row, put_rows}, Rows.{KeyMap, row_in, Has}, Tidy.AreRows}, declared.value.PlanRow.PlanRow}
-use Rattle.store_rows.specs.{claim.Values.{counters_bytes, plan_bytes}, declared.value.Counters.Counters}
+use Rattle.store_rows.specs.claim.{Keys.{key_of, Fits, counters, holding, named}, Puts.{Row, put_rows}, Rows.{KeyMap, row_in, Has}, Tidy.AreRows}
+use Rattle.store_rows.specs.{claim.Values.{counters_bytes, plan_bytes}, declared.value.{Counters.Counters, StoredPlan.StoredPlan}}
 
 abbrev pub hold_all : KeyMap → ℕ → List ℕ → KeyMap
 hold_all m plan [] = m
@@ -31,9 +31,9 @@ pub record Holds (m n : KeyMap) (limit plan : ℕ) (numbers : List ℕ) : Type 0
 
 -- The rows of a revision that has the chunks of another plan's, and no new one: the plan holds them, its parts name them, and its row
 -- tells one revision more.
-abbrev pub shared_rows : Counters → List ℕ → PlanRow → List ℕ → List Row
+abbrev pub shared_rows : Counters → List ℕ → StoredPlan → List ℕ → List Row
 shared_rows next name p numbers = name_rows p.number (p.revisions + 1) numbers
     ++ (key_of (named name), plan_bytes (one_revision_more p)) ∷ (key_of counters, counters_bytes (chunks_more next 0)) ∷ []
 
-abbrev pub with_shared : KeyMap → Counters → List ℕ → PlanRow → List ℕ → KeyMap
+abbrev pub with_shared : KeyMap → Counters → List ℕ → StoredPlan → List ℕ → KeyMap
 with_shared m next name p numbers = put_rows (hold_all m p.number numbers) (shared_rows next name p numbers)

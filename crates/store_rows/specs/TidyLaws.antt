@@ -6,7 +6,7 @@ use Rattle.store_rows.specs.{RevisionSteps.{AreItsChunks, AddsRevision, IsChunkL
 use Rattle.store_rows.specs.claim.{GeographyRows.IsStaged, Keys.{key_of, Fits, counters, retired, begun, holding, holder_count, named, part, seal, block, pair}}
 use Rattle.store_rows.specs.{claim.{Puts.{Row, put_rows}, RevisionRows.{HasChunk, NamesChunks, HasRevision}, Rows.{KeyMap, Has, Lacks}}, declared.value.Counters.Counters}
 use Rattle.store_rows.specs.claim.{Tidy.{no_numbers, IsNext, CountersFit, IsNumbered, IsLoad, Tidy}, Values.{counters_bytes, plan_bytes, seal_bytes}}
-use Rattle.store_rows.specs.declared.value.{PlanRow.PlanRow, SealRow.SealRow}
+use Rattle.store_rows.specs.declared.value.{SealRow.SealRow, StoredPlan.StoredPlan}
 
 -- a map without rows is tidy, and nothing was numbered
 abbrev pub NothingIsTidy : Type 0
@@ -24,7 +24,7 @@ pub record AreFree (m : KeyMap) (next : Counters) : Type 0 where
   pub holders : (plan number : ℕ) → next.plan ≤ plan → Fits (holding plan number) → Lacks m (holding plan number)
   pub marks : (plan : ℕ) → next.plan ≤ plan → plan < 2 ^ 64 → Lacks m (retired plan)
   pub parts : (plan revision index : ℕ) → next.plan ≤ plan → Fits (part plan revision index) → Lacks m (part plan revision index)
-  pub revisions : (name : List ℕ) (p : PlanRow) → p.number < 2 ^ 64 → p.revisions < 2 ^ 32 → Has m (named name) (plan_bytes p)
+  pub revisions : (name : List ℕ) (p : StoredPlan) → p.number < 2 ^ 64 → p.revisions < 2 ^ 32 → Has m (named name) (plan_bytes p)
       → (revision index : ℕ) → p.revisions < revision → Fits (part p.number revision index) → Lacks m (part p.number revision index)
   pub loads : (load : ℕ) → next.load ≤ load → load < 2 ^ 64 → Lacks m (begun load)
   pub blocks : (load place : ℕ) → next.load ≤ load → Fits (block load place) → Lacks m (block load place)
@@ -64,7 +64,7 @@ abbrev pub LoadsAreLoadedTidily : Type 0
 LoadsAreLoadedTidily = (m : KeyMap) (tidy : Tidy m) → LoadsLeaveTidy m tidy.next tidy.new
 
 -- A plan gets one revision more: in whatever order its rows were put, and as they are listed.
-pub record RevisionLeavesTidy (m : KeyMap) (next : Counters) (new : Bool) (name : List ℕ) (p : PlanRow) : Type 0 where
+pub record RevisionLeavesTidy (m : KeyMap) (next : Counters) (new : Bool) (name : List ℕ) (p : StoredPlan) : Type 0 where
   pub added : (n : KeyMap) (given : ℕ) (numbers : List ℕ) → next.chunk + given < 2 ^ 64 → AreItsChunks m next given p.number numbers
       → AddsRevision m n new next given name p numbers → TidyWith n (chunks_more next given) new
   pub put : (lists : List (List ℕ)) (numbers : List ℕ) → next.chunk + length lists < 2 ^ 64
@@ -72,7 +72,7 @@ pub record RevisionLeavesTidy (m : KeyMap) (next : Counters) (new : Bool) (name 
       → AddsRevision m (put_rows m (rows_of_revision new next name p lists numbers)) new next (length lists) name p numbers
 
 abbrev pub RevisionsAreAddedTidily : Type 0
-RevisionsAreAddedTidily = (m : KeyMap) (tidy : Tidy m) (name : List ℕ) (p : PlanRow) → p.number < 2 ^ 64
+RevisionsAreAddedTidily = (m : KeyMap) (tidy : Tidy m) (name : List ℕ) (p : StoredPlan) → p.number < 2 ^ 64
     → p.revisions + 1 < 2 ^ 32 → Has m (named name) (plan_bytes p) → RevisionLeavesTidy m tidy.next tidy.new name p
 
 -- The desk with the revision, and tidy rows.

@@ -51,7 +51,7 @@ pub use list::{
 };
 pub use row_key::RowKey;
 pub use value::{
-    Counters, HolderCount, PlanRow, SealRow, block_value, counters_value, eight, four,
+    Counters, HolderCount, SealRow, StoredPlan, block_value, counters_value, eight, four,
     holder_count_value, pair_value, plan_value, read_block, read_counters, read_holder_count,
     read_pair, read_plan, read_seal, seal_value, two,
 };

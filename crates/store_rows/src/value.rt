@@ -1,7 +1,7 @@
 //! Values of rows.
 ghost use Rattle.std.specs.Prelude.{◌≡◌, ◌<◌, ◌^◌, ℕ, length, Option, MatchOption};
 ghost use Rattle.store_rows.specs.declared.value.Counters.{Counters as CountersValue};
-ghost use Rattle.store_rows.specs.declared.value.PlanRow.{PlanRow as PlanValue};
+ghost use Rattle.store_rows.specs.declared.value.StoredPlan.{StoredPlan as PlanValue};
 ghost use Rattle.store_rows.specs.declared.value.SealRow.{SealRow as SealValue};
 ghost use Rattle.store_rows.specs.declared.value.HolderCount.{HolderCount as HolderCountValue};
 ghost use Rattle.desk_model.specs.declared.kind.Kind.{Kind as KindValue};
@@ -24,7 +24,7 @@ pub struct Counters {
 
 /// The value under a plan's name.
 #[derive(Clone, Copy)]
-pub struct PlanRow {
+pub struct StoredPlan {
     pub number: u64,
     pub kind: Kind,
     /// How many districts it has.
@@ -59,7 +59,7 @@ pub fn counters_value(counters: &Counters) -> [u8; 24]
 }
 
 /// The value of a plan's row.
-pub fn plan_value(plan: &PlanRow) -> [u8; 15]
+pub fn plan_value(plan: &StoredPlan) -> [u8; 15]
     ensures { result ≡ plan_bytes plan.now }
 {
     let mut value = [0; 15];
@@ -186,14 +186,14 @@ fn kind_from(byte: u8) -> Option<Kind>
 }
 
 /// What a plan's row says; None where it says no plan.
-pub fn read_plan(bytes: &[u8]) -> Option<PlanRow>
+pub fn read_plan(bytes: &[u8]) -> Option<StoredPlan>
     ensures { MatchOption result ((p : PlanValue) → plan_bytes p ≡ bytes.now → ⊥) (λ p. plan_bytes p ≡ bytes.now) }
 {
     if bytes.len() != 15 {
         return None;
     }
     let kind = kind_from(bytes[8])?;
-    Some(PlanRow {
+    Some(StoredPlan {
         number: eight(&bytes[..8]),
         kind,
         districts: two(&bytes[9..11]),

@@ -3,11 +3,11 @@ use Rattle.std.{specs.Prelude.{◌⊎◌, ℕ, ◌+◌, Bool, false, List, [], �
 use Rattle.{std.proofs.lemmas.List.append-nil, desk_model.specs.{claim.{Desk.Desk, Outcome.{CommandMay, IsStep}, Sample.sample_desk}, declared.command.Command.Command}}
 use Rattle.{desk_model.specs.declared.reply.{Refusal.TheVariants.{BadCompanion, Full, Memory, Halted}, Reply.Reply}, desk_runs.specs.desk_store.claim.Clerks.desk_of}
 use Rattle.{desk_runs.specs.desk_store.declared.clerk.Clerk.Clerk, desk_theorem.specs.claim.Streams.Ends, http_desk.specs.claim.Serving.{ServesTo, IsPrefixTalk, IsCutInHead}}
-use Rattle.{http_desk.specs.{claim.Talk.Talk, declared.serve.{Served.Served, StreamFault.StreamFault}}, sector_device.specs.declared.SectorDevice.Ghosts}
+use Rattle.{http_desk.specs.{claim.Talk.Talk, declared.serve.{ServeFault.ServeFault, Served.Served}}, sector_device.specs.declared.SectorDevice.Ghosts}
 use Rattle.talk_command.{specs.Desks.{desk_commands, desk_asks, DeskTalk, IsTalkToHead, DeskServesTo, ServesDesk}, proofs.Seen.talk_seen}
 use Rattle.talk_command.specs.claim.Talking.{clerk_commands, clerk_asks, ServesSample, ServesClerk, IsUnserved}
 use Rattle.desk_model.specs.declared.reply.Reply.TheVariants as reply
-use Rattle.http_desk.specs.declared.serve.StreamFault.TheVariants as fault
+use Rattle.http_desk.specs.declared.serve.ServeFault.TheVariants as fault
 
 step_seen : (must : Type 0) (d : Desk) (c : Command) (r : Reply) (e : Desk) → IsStep must d c r e → IsStep ⊥ d c r e
 step_seen must d c r e is = record { reply = is.reply; desk = is.desk; room = λ accepted none. none }
@@ -23,14 +23,14 @@ outcome_seen must may failed d c (reply.Retired name) e told = inl (λ none. non
 outcome_seen must may failed d c _ e told = absurd told
 
 -- no clerk could be made
-unserved_seen : (served : Result Served StreamFault) (old new : Ends) → IsUnserved served old new → ServesDesk served old.unread new.unread old.written new.written
+unserved_seen : (served : Result Served ServeFault) (old new : Ends) → IsUnserved served old new → ServesDesk served old.unread new.unread old.written new.written
 unserved_seen served old new is = record {
   last = sample_desk;
   input = [];
   output = [];
   reads = is.reads;
   writes = is.writes;
-  serves = subst (λ (s : Result Served StreamFault). DeskServesTo sample_desk s new.unread [] [] sample_desk) (sym is.memory) (refl, refl);
+  serves = subst (λ (s : Result Served ServeFault). DeskServesTo sample_desk s new.unread [] [] sample_desk) (sym is.memory) (refl, refl);
 }
 
 module _ {D : Type 0} {g : Ghosts D} where
@@ -61,13 +61,13 @@ module _ {D : Type 0} {g : Ghosts D} where
     talk = desks_talk x prefix.prefix answers prefix.count prefix.shut y prefix.talk;
   }
 
-  served_seen : (served : Result Served StreamFault) (left : Option (List ℕ)) (x : Clerk D g) (input output : List ℕ) (y : Clerk D g) → ServesTo (clerk_commands g) (clerk_asks g) x served left input output y → DeskServesTo (desk_of x) served left input output (desk_of y)
+  served_seen : (served : Result Served ServeFault) (left : Option (List ℕ)) (x : Clerk D g) (input output : List ℕ) (y : Clerk D g) → ServesTo (clerk_commands g) (clerk_asks g) x served left input output y → DeskServesTo (desk_of x) served left input output (desk_of y)
   served_seen (Ok served) left x input output y told = (told.0, desks_talk x input output served.requests told.0 y told.1, told.2)
-  served_seen (Err fault.Write) left x input output y told = record { answers = told.answers; unwritten = told.unwritten; written = told.written; over_prefix = prefix_seen x input told.answers y told.over_prefix }
+  served_seen (Err fault.WriteFault) left x input output y told = record { answers = told.answers; unwritten = told.unwritten; written = told.written; over_prefix = prefix_seen x input told.answers y told.over_prefix }
   served_seen (Err fault.Memory) left x input output y told = (told.0, told.1)
   served_seen (Err _) left x input output y told = ⊎_elim (λ all. inl (all.0, desks_talk x input output all.0 false y all.1)) (λ cut. inr (head_seen x input output y cut)) told
 
-  clerk_seen : (served : Result Served StreamFault) (old new : Ends) → ServesClerk g served old new → ServesDesk served old.unread new.unread old.written new.written
+  clerk_seen : (served : Result Served ServeFault) (old new : Ends) → ServesClerk g served old new → ServesDesk served old.unread new.unread old.written new.written
   clerk_seen served old new is = record {
     last = desk_of is.last;
     input = is.serves.input;
@@ -77,5 +77,5 @@ module _ {D : Type 0} {g : Ghosts D} where
     serves = subst (λ (d : Desk). DeskServesTo d served new.unread is.serves.input is.serves.output (desk_of is.last)) is.desk (served_seen served new.unread is.clerk is.serves.input is.serves.output is.last is.serves.serves);
   }
 
-  pub sample_seen : (served : Result Served StreamFault) (old new : Ends) → ServesSample g served old new → ServesDesk served old.unread new.unread old.written new.written
+  pub sample_seen : (served : Result Served ServeFault) (old new : Ends) → ServesSample g served old new → ServesDesk served old.unread new.unread old.written new.written
   sample_seen served old new = ⊎_elim (clerk_seen served old new) (unserved_seen served old new)

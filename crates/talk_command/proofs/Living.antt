@@ -2,10 +2,10 @@
 use Rattle.{std.proofs.Common.{◌≡◌, false, Result}, desk_model.specs.claim.Sample.sample_desk, desk_runs.specs.desk_store.declared.clerk.Clerk.Clerk}
 use Rattle.{desk_runs.specs.desk_store.claim.Clerks.{desk_of, disk_of, is_halted, sectors_of, Keeps}, desk_theorem.specs.claim.{Device.LeadsTo, OneLife.{Asked, StreamHolds}}}
 use Rattle.{desk_theorem.specs.{claim.Streams.{Ends, HasCause, Streamed}, store_lives.{DeskInside.LivedThrough, claim.Versions.version_2}}, http_desk.specs.claim.Serving.Serves}
-use Rattle.{http_desk.specs.declared.serve.{Served.Served, StreamFault.StreamFault}, sector_device.specs.declared.SectorDevice.Ghosts, desk_theorem.proofs.OneLife.stream_holds}
+use Rattle.{http_desk.specs.declared.serve.{ServeFault.ServeFault, Served.Served}, sector_device.specs.declared.SectorDevice.Ghosts, desk_theorem.proofs.OneLife.stream_holds}
 use Rattle.{talk_command.specs.claim.Served.{AsksAtCounter, DoesAtCounter}, desk_theorem.proofs.{Device.{asked_on, through_more}, Sim.stream_lived}}
 
-module _ {D : Type 0} {g : Ghosts D} (x y : Clerk D g) (old new : Ends) (served : Result Served StreamFault) where
+module _ {D : Type 0} {g : Ghosts D} (x y : Clerk D g) (old new : Ends) (served : Result Served ServeFault) where
   pub stream_life : Serves DoesAtCounter AsksAtCounter x served y old.unread new.unread old.written new.written → HasCause old new served → LivedThrough (StreamHolds old new served) x y
   stream_life serves cause = through_more x y (λ t u d e. Streamed t u d old new served e) (StreamHolds old new served) (stream_holds old new served) (stream_lived x y old new served serves cause)
 

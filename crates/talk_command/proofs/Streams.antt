@@ -1,11 +1,11 @@
 -- The commands of a talk are a run.
 use Rattle.{std.proofs.Common.{ℕ, ◌+◌, Bool, true, false, List, [], ◌++◌, Option, Result, Ok, Err, inl, inr, subst}, desk_runs.specs.claim.Runs.{Call, Run, SurvivesEachRun}}
-use Rattle.{desk_runs.specs.desk_store.declared.clerk.Clerk.Clerk, http_desk.specs.{claim.{Serving.ServesTo, Talk.{Talk, MayAnswer}}, declared.serve.Served.Served}}
-use Rattle.http_desk.specs.{declared.serve.StreamFault.StreamFault, http_routes.{claim.Orders.order_of, declared.order.Order.Order}, http_wire.claim.Prefix.{closes_after, is_head}}
+use Rattle.{desk_runs.specs.desk_store.declared.clerk.Clerk.Clerk, http_desk.specs.{claim.{Serving.ServesTo, Talk.{Talk, MayAnswer}}, declared.serve.ServeFault.ServeFault}}
+use Rattle.http_desk.specs.{declared.serve.Served.Served, http_routes.{claim.Orders.order_of, declared.order.Order.Order}, http_wire.claim.Prefix.{closes_after, is_head}}
 use Rattle.sector_device.specs.declared.SectorDevice.{Ghosts}
 use Rattle.talk_command.specs.claim.Served.{DoesAtCounter, AsksAtCounter, calls_with, calls_in, calls_served, SurvivesEachStream}
 use Rattle.http_desk.specs.http_routes.declared.order.Order.TheVariants as order
-use Rattle.http_desk.specs.declared.serve.StreamFault.TheVariants as fault
+use Rattle.http_desk.specs.declared.serve.ServeFault.TheVariants as fault
 
 module _ {D : Type 0} {g : Ghosts D} where
   -- an answer, and a run after it
@@ -21,10 +21,10 @@ module _ {D : Type 0} {g : Ghosts D} where
       answered x (order_of h.method target body) (closes_after h) (is_head h.method) text false y z may (calls_in y rest output n shut z talk) (talked y rest output n shut z talk)
   talked x _ _ _ _ _ _ = Run.over x
 
-  served : (x : Clerk D g) (result : Result Served StreamFault) (left : Option (List ℕ)) (input output : List ℕ) (y : Clerk D g) (serves : ServesTo DoesAtCounter AsksAtCounter x result left input output y)
+  served : (x : Clerk D g) (result : Result Served ServeFault) (left : Option (List ℕ)) (input output : List ℕ) (y : Clerk D g) (serves : ServesTo DoesAtCounter AsksAtCounter x result left input output y)
       → Run x (calls_served x result left input output y serves) y
   served x (Ok s) left input output y serves = talked x input output s.requests serves.0 y serves.1
-  served x (Err fault.Write) left input output y serves = talked x serves.over_prefix.prefix serves.answers serves.over_prefix.count serves.over_prefix.shut y serves.over_prefix.talk
+  served x (Err fault.WriteFault) left input output y serves = talked x serves.over_prefix.prefix serves.answers serves.over_prefix.count serves.over_prefix.shut y serves.over_prefix.talk
   served x (Err fault.Memory) left input output y serves = subst (λ (w : Clerk D g). Run w [] y) serves.2 (Run.over y)
   served x (Err _) left input output y (inl talk) = talked x input output talk.0 false y talk.1
   served x (Err _) left input output y (inr cut) = talked x (cut.taken ++ []) (output ++ []) (cut.count + 0) false y (cut.on [] [] 0 false y (Talk.over y))

@@ -3,9 +3,9 @@ use Rattle.std.specs.{Io.KnownBytes.{Appends, Consumes, IsAtEnd}, Prelude.{◌�
 use Rattle.{desk_catalogue.specs.claim.Audits.AskMay, desk_model.specs.{claim.{Desk.Desk, Outcome.CommandMay, Sample.sample_desk}, declared.command.{Command.Command, Query.Query}}}
 use Rattle.{desk_model.specs.declared.reply.{Refusal.TheVariants.Halted, Reply.{Reply, TheVariants.Refused}}, desk_runs.specs.desk_store.declared.clerk.Clerk.Clerk}
 use Rattle.{desk_runs.specs.desk_store.claim.Clerks.{desk_of, is_halted, room_of, sectors_of, Keeps}, desk_theorem.specs.claim.Streams.Ends, http_desk.specs.claim.Talk.Talk}
-use Rattle.http_desk.specs.{claim.Serving.IsCutTalk, declared.serve.{Served.Served, StreamFault.StreamFault}, http_wire.claim.Interim.IsCutHead}
+use Rattle.http_desk.specs.{claim.Serving.IsCutTalk, declared.serve.{ServeFault.ServeFault, Served.Served}, http_wire.claim.Interim.IsCutHead}
 use Rattle.{sector_device.specs.declared.SectorDevice.Ghosts, talk_command.specs.claim.Talking.ServesSample}
-use Rattle.http_desk.specs.declared.serve.StreamFault.TheVariants as fault
+use Rattle.http_desk.specs.declared.serve.ServeFault.TheVariants as fault
 
 -- A command has the desk's step, or it is refused for want of room or of memory, or since the device failed, and the desk is as it was.
 abbrev pub desk_commands : Desk → Command → Reply → Desk → Type 0
@@ -31,15 +31,15 @@ abbrev pub IsTalkSoFar : Desk → (input answers : List ℕ) → Desk → Type 0
 IsTalkSoFar d input answers e = ((n : ℕ) × DeskTalk d input answers n false e) ⊎ IsTalkToHead d input answers e
 
 -- how it ended: at the end of the input or after an answer that closes, within a request, at a write that failed, or before it began
-abbrev pub DeskServesTo : Desk → Result Served StreamFault → Option (List ℕ) → List ℕ → List ℕ → Desk → Type 0
+abbrev pub DeskServesTo : Desk → Result Served ServeFault → Option (List ℕ) → List ℕ → List ℕ → Desk → Type 0
 DeskServesTo d (Ok served) left input output e = (shut : Bool) × DeskTalk d input output served.requests shut e × (shut ≡ false → IsAtEnd left)
-DeskServesTo d (Err fault.Read) left input output e = IsTalkSoFar d input output e
+DeskServesTo d (Err fault.ReadFault) left input output e = IsTalkSoFar d input output e
 DeskServesTo d (Err fault.TurnLimit) left input output e = IsTalkSoFar d input output e
-DeskServesTo d (Err fault.Write) left input output e = IsCutTalk desk_commands desk_asks d input output e
+DeskServesTo d (Err fault.WriteFault) left input output e = IsCutTalk desk_commands desk_asks d input output e
 DeskServesTo d (Err fault.Memory) left input output e = (input ≡ []) × (output ≡ [])
 
 -- what was written is a talk of the sample desk over what was read
-pub record ServesDesk (served : Result Served StreamFault) (unread left before after : Option (List ℕ)) : Type 0 where
+pub record ServesDesk (served : Result Served ServeFault) (unread left before after : Option (List ℕ)) : Type 0 where
   pub last : Desk
   pub input : List ℕ
   pub output : List ℕ
@@ -50,7 +50,7 @@ pub record ServesDesk (served : Result Served StreamFault) (unread left before a
 -- a talk of clerks over the sample desk is one of desks
 abbrev pub SampleIsServed : {D : Type 0} → Ghosts D → Type 0
 SampleIsServed g =
-    (served : Result Served StreamFault) (old new : Ends) → ServesSample g served old new
+    (served : Result Served ServeFault) (old new : Ends) → ServesSample g served old new
     → ServesDesk served old.unread new.unread old.written new.written
 
 -- a clerk, where there is one, keeps this desk on a device of so many sectors, and has 256 journal pages

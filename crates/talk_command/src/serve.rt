@@ -12,7 +12,7 @@ use byte_stream::source::Source;
 use desk_theorem::Clerk;
 use http_desk::GatherSink;
 use http_desk::hearing::Hears;
-use http_desk::serve::{Served, StreamFault, serve};
+use http_desk::serve::{ServeFault, Served, serve};
 use sector_device::SectorDevice;
 use std::alloc::Global;
 
@@ -25,7 +25,7 @@ pub fn serve_clerk<R: Source, W: GatherSink, D: SectorDevice, G: Hears>(
     writer: &mut W,
     clerk: &mut Clerk<D>,
     gate: &G,
-) -> Result<Served, StreamFault>
+) -> Result<Served, ServeFault>
     ensures serves { ServesDurably clerk.old result clerk.new (R.remaining reader.old)
         (R.remaining reader.new) (W.contents writer.old) (W.contents writer.new) }
     ensures read_failures { R.failures reader.new ≡ read_failures (R.failures reader.old) result }
@@ -34,7 +34,7 @@ pub fn serve_clerk<R: Source, W: GatherSink, D: SectorDevice, G: Hears>(
         (ends_of (R.remaining reader.old) (R.turns reader.old) (R.failures reader.old) (W.contents writer.old) (W.failures writer.old))
         (ends_of (R.remaining reader.new) (R.turns reader.new) (R.failures reader.new) (W.contents writer.new) (W.failures writer.new)) result)
         clerk.old clerk.new }
-    ensures turn_limit { result ≡ Err StreamFault.TurnLimit → R.turns reader.new ≡ counted (R.turns reader.old) 4294967296 }
+    ensures turn_limit { result ≡ Err ServeFault.TurnLimit → R.turns reader.new ≡ counted (R.turns reader.old) 4294967296 }
 {
     streams_survive(clerk);
     serve(alloc, reader, writer, clerk, gate)

@@ -16,7 +16,7 @@ use desk_model::gate::NoGate;
 use desk_model::geography::{Geography, sample};
 use desk_theorem::{Clerk, start};
 use http_desk::GatherSink;
-use http_desk::serve::{Served, StreamFault};
+use http_desk::serve::{ServeFault, Served};
 use sector_device::SectorDevice;
 use sector_memory::MemoryDevice;
 use std::alloc::Global;
@@ -57,39 +57,40 @@ fn serve_sample<R: Source, W: GatherSink>(
     alloc: Global,
     reader: &mut R,
     writer: &mut W,
-) -> Result<Served, StreamFault>
+) -> Result<Served, ServeFault>
     ensures serves { ServesSample ⟦<MemoryDevice as SectorDevice>⟧ result
         (ends_of (R.remaining reader.old) (R.turns reader.old) (R.failures reader.old) (W.contents writer.old) (W.failures writer.old))
         (ends_of (R.remaining reader.new) (R.turns reader.new) (R.failures reader.new) (W.contents writer.new) (W.failures writer.new)) }
     ensures read_failures { R.failures reader.new ≡ read_failures (R.failures reader.old) result }
     ensures write_failures { W.failures writer.new ≡ write_failures (W.failures writer.old) result }
-    ensures turns { result ≡ Err StreamFault.TurnLimit → R.turns reader.new ≡ counted (R.turns reader.old) 4294967296 }
+    ensures turns { result ≡ Err ServeFault.TurnLimit → R.turns reader.new ≡ counted (R.turns reader.old) 4294967296 }
 {
     match sample_clerk(alloc) {
         Some(mut clerk) => serve_clerk(alloc, reader, writer, &mut clerk, &NoGate),
-        None => Err(StreamFault::Memory),
+        None => Err(ServeFault::Memory),
     }
 }
 
-fn status_of(served: Result<Served, StreamFault>) -> Status
+fn status_of(served: Result<Served, ServeFault>) -> Status
     ensures { result ≡ status_of_served served }
 {
     match served {
         Ok(_) => Status::Done,
-        Err(StreamFault::Memory) => Status::Memory,
-        Err(StreamFault::Read | StreamFault::Write | StreamFault::TurnLimit) => Status::Stream,
+        Err(ServeFault::Memory) => Status::Memory,
+        Err(ServeFault::ReadFault | ServeFault::WriteFault | ServeFault::TurnLimit) =>
+            Status::Stream,
     }
 }
 
 /// Returns the line for standard error of a fault.
-fn fault_line(fault: StreamFault) -> &'static [u8]
+fn fault_line(fault: ServeFault) -> &'static [u8]
     ensures { result.now ≡ line_of_fault fault }
 {
     match fault {
-        StreamFault::Read => b"plandesk: talk: ReadFault\n",
-        StreamFault::Write => b"plandesk: talk: WriteFault\n",
-        StreamFault::Memory => b"plandesk: talk: Memory\n",
-        StreamFault::TurnLimit => b"plandesk: talk: TurnLimit\n",
+        ServeFault::ReadFault => b"plandesk: talk: ReadFault\n",
+        ServeFault::WriteFault => b"plandesk: talk: WriteFault\n",
+        ServeFault::Memory => b"plandesk: talk: Memory\n",
+        ServeFault::TurnLimit => b"plandesk: talk: TurnLimit\n",
     }
 }
 

@@ -1,9 +1,9 @@
 -- The clauses of a report: their names, which of them apply to a kind of plan, and where each is broken (Iowa Code 42.4).
-use Rattle.{std.specs.List.Sorted.IsStrictlyIncreasing, audit_clauses.specs.claim.{Clauses.{deviation, MeanBreaks, RangeBreaks, IsDistrict, population_of}, Nested.BreaksNesting}}
+use Rattle.{std.specs.List.Sorted.IsStrictlyIncreasing, audit_contiguity.specs.claim.Paths.HoldsTogether, audit_population.specs.claim.People.{populations_of, state_people}}
 use Rattle.std.specs.Prelude.{◌*◌, ◌<◌, ◌≤◌, ℕ, Bool, true, false, ◌&&◌, IsTrue, List, map, length, Option, is_some, MatchOption, All, Contains, codes}
-use Rattle.{audit_clauses.specs.claim.{Paths.HoldsTogether, People.{populations_of, state_people}}, audit_report.specs.declared.clause.Clause.Clause}
-use Rattle.{audit_report.specs.declared.clause.Clause.TheVariants.{Complete, Mean, Range, Congress, Contiguous, Nested}, desk_model.specs.claim.Geography.GeographyModel}
-use Rattle.desk_model.specs.declared.kind.Kind.{Kind}
+use Rattle.{audit_population.specs.claim.Clauses.{deviation, MeanBreaks, RangeBreaks, IsDistrict, population_of}, audit_report.specs.declared.clause.Clause.Clause}
+use Rattle.{audit_report.specs.declared.clause.Clause.TheVariants.{Complete, Mean, Range, Congress, Contiguous, Nested}, audit_splits_nesting.specs.claim.Nested.BreaksNesting}
+use Rattle.desk_model.specs.{claim.Geography.GeographyModel, declared.kind.Kind.Kind}
 use Rattle.desk_model.specs.declared.kind.Kind.TheVariants as kind
 
 -- a clause's place in the order of a report

@@ -1,6 +1,6 @@
 -- What a report holds.
-use Rattle.{std.specs.Prelude.{ℕ, List, Option}, audit_clauses.specs.declared.{breaks.Break.Break, deviations.Extremes.Extremes}, audit_report.specs.declared.clause.Clause.Clause}
-use Rattle.desk_model.specs.declared.kind.Kind.{Kind}
+use Rattle.{std.specs.Prelude.{ℕ, List, Option}, audit_contiguity.specs.declared.breaks.Break.Break, audit_population.specs.declared.deviations.Extremes.Extremes}
+use Rattle.{audit_report.specs.declared.clause.Clause.Clause, desk_model.specs.declared.kind.Kind.Kind}
 
 pub record Figures : Type 0 where
   pub broken : List Clause

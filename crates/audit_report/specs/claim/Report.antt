@@ -1,9 +1,10 @@
 -- The report of a plan of n districts. A plan has the district of each block beside it, where 0 is none; so has each of its companions, a
 -- senate plan and one for the congress, if there is one.
 use Rattle.std.specs.Prelude.{◌≡◌, ℕ, ◌==◌, ◌&&◌, not, if◌then◌else◌, Bool, List, [], ◌∷◌, count_by, Option, Some, None, is_some, MatchOption, MatchBool}
-use Rattle.audit_clauses.specs.claim.{Breaks.AreBreaks, Clauses.{RangeBreaks, AreExtremes, deviating_districts}, Divided.{IsDividedCounty, IsDividedCity, IsDividedWithinCounty}}
-use Rattle.audit_clauses.specs.{claim.{Exactly.AreExactly, Nested.BreaksNesting, People.{populations_of, state_people}}, declared.deviations.Extremes.Extremes}
-use Rattle.audit_report.specs.{claim.{Clauses.{is_congress, is_house, IsNamed, AreExactlyClauses}, Figures.Figures}, declared.clause.Clause.{Clause, TheVariants.Nested}}
+use Rattle.{audit_contiguity.specs.claim.Breaks.AreBreaks, audit_population.specs.claim.Clauses.{RangeBreaks, AreExtremes, deviating_districts}}
+use Rattle.{audit_population.specs.{claim.People.{populations_of, state_people}, declared.deviations.Extremes.Extremes}, audit_report.specs.claim.Figures.Figures}
+use Rattle.audit_report.specs.{claim.Clauses.{is_congress, is_house, IsNamed, AreExactlyClauses}, declared.clause.Clause.{Clause, TheVariants.Nested}}
+use Rattle.audit_splits_nesting.specs.claim.{Divided.{IsDividedCounty, IsDividedCity, IsDividedWithinCounty}, Exactly.AreExactly, Nested.BreaksNesting}
 use Rattle.desk_model.specs.{claim.Geography.GeographyModel, declared.{companions.Companions.Companions, kind.Kind.Kind}}
 
 -- the unassigned blocks

@@ -1,7 +1,8 @@
 -- A report as compact JSON with its keys in byte order (RFC 8259).
-use Rattle.{std.specs.Prelude.{ℕ, List, map, codes, Option, Some, None}, audit_clauses.specs.declared.{breaks.{Break.Break, Gap.Gap}, deviations.Extremes.Extremes}}
-use Rattle.{audit_report.specs.{claim.{Clauses.clause_name, Figures.Figures}, declared.clause.Clause.Clause}, desk_model.specs.claim.{Kind.kind_name, Padded.padded_decimal}}
-use Rattle.serde_json.specs.{Data.{Data, null, number, unsigned, string, array, item, no_items, object, member, no_members}, View.items_of, Written.compact_text}
+use Rattle.{std.specs.Prelude.{ℕ, List, map, codes, Option, Some, None}, audit_contiguity.specs.declared.breaks.{Break.Break, Gap.Gap}, audit_report.specs.claim.Figures.Figures}
+use Rattle.{audit_population.specs.declared.deviations.Extremes.Extremes, audit_report.specs.{claim.Clauses.clause_name, declared.clause.Clause.Clause}}
+use Rattle.{desk_model.specs.claim.{Kind.kind_name, Padded.padded_decimal}, serde_json.specs.{View.items_of, Written.compact_text}}
+use Rattle.serde_json.specs.Data.{Data, null, number, unsigned, string, array, item, no_items, object, member, no_members}
 
 abbrev pub clause_data : Clause → Data
 clause_data clause = string (clause_name clause)

@@ -19,7 +19,7 @@ const LEAST: u32 = 323;
 fn first_pages<R: Abort>(rt: &R, alloc: Global, count: u32, byte: u8) -> PageWrites
     ensures { (n : ℕ) → count ≤ n → IsWithin (writes_of result) n }
 {
-    let mut writes = PageWrites::new(alloc);
+    let mut writes = PageWrites::new(alloc).expect(rt, "no memory");
     for p in 0..count {
         writes.put(p, &[byte; 4096]).expect(rt, "no memory");
     }
@@ -30,7 +30,7 @@ fn first_pages<R: Abort>(rt: &R, alloc: Global, count: u32, byte: u8) -> PageWri
 fn two_pages<R: Abort>(rt: &R, alloc: Global, byte: u8) -> PageWrites
     ensures { (n : ℕ) → 64 ≤ n → IsWithin (writes_of result) n }
 {
-    let mut writes = PageWrites::new(alloc);
+    let mut writes = PageWrites::new(alloc).expect(rt, "no memory");
     writes.put(5, &[byte; 4096]).expect(rt, "no memory");
     writes.put(63, &[byte; 4096]).expect(rt, "no memory");
     writes
@@ -199,7 +199,7 @@ fn a_stop_in_recovery_loses_nothing(rt: HostRuntime) {
 /// Commits a page to a device that notes its calls.
 fn noted<R: Abort>(rt: &R, alloc: Global, device: MemoryDevice) -> Recorder {
     let mut journal = opened(rt, Recorder::passing(device));
-    let mut writes = PageWrites::new(alloc);
+    let mut writes = PageWrites::new(alloc).expect(rt, "no memory");
     writes.put(5, &[7; 4096]).expect(rt, "no memory");
     journal.commit(&writes).expect(rt, "not committed");
     journal.into_device()

@@ -7,12 +7,13 @@ use desk_model::kind::Kind;
 use desk_model::name::PlanName;
 use desk_model::reply::Reply;
 use desk_model::size::PlanSize;
-use desk_pages::StoreError;
+use desk_pages::{StoreError, format};
 use sector_memory::MemoryDevice;
 use std::alloc::Global;
 use std::process::Abort;
 use std::sync::Arc;
-use store_lives::desk_lives::{Answer, Request, live};
+use store_lives::desk_lives::{Answer, Request, live_in};
+use store_lives::restarts::Restarts;
 
 const SECTORS: u32 = 400;
 
@@ -75,14 +76,6 @@ pub(crate) fn requests<R: Abort>(rt: &R, alloc: Global, asks: &[Ask]) -> Vec<Req
     all
 }
 
-fn lives<R: Abort>(rt: &R, alloc: Global, asks: &[&[Ask]]) -> Vec<Vec<Request>> {
-    let mut all = Vec::new(alloc);
-    for life in asks {
-        all.push(requests(rt, alloc, life)).expect(rt, "no memory");
-    }
-    all
-}
-
 /// Which of the two plans a list names: 1 for the first, 2 for the second.
 fn listed(reply: &Answer) -> Option<usize> {
     let Answer::Said(Reply::Plans(rows)) = reply else {
@@ -136,6 +129,13 @@ fn summed(told: &Told, plans: usize) -> (usize, bool, bool) {
     (done, tells, has_swept)
 }
 
+/// Returns what is answered in a life of a store, and what its crash leaves.
+fn lived_once<R: Abort>(rt: &R, alloc: Global, off: Unplugged, asks: &[Ask]) -> (Told, Unplugged) {
+    let asked = requests(rt, alloc, asks);
+    let (told, device) = live_in(alloc, Plugged::start(off), asked).expect(rt, "no memory");
+    (told, device.stop())
+}
+
 /// Returns what a new store answers in these lives, and what the last crash leaves.
 pub(crate) fn lived<R: Abort>(
     rt: &R,
@@ -146,11 +146,16 @@ pub(crate) fn lived<R: Abort>(
 ) -> (Vec<Told>, Unplugged) {
     let picks = picks_of(rt, alloc, SECTORS, byte);
     let memory = MemoryDevice::new(alloc, SECTORS).expect(rt, "no memory");
-    let device = Plugged::new(memory, passing, picks);
-    match live(alloc, device, 256, lives(rt, alloc, asks)) {
-        Ok(lived) => lived,
-        Err(_) => panic!(rt; "not started"),
+    let mut device = Plugged::new(memory, passing, picks);
+    format(alloc, &mut device, 256).expect(rt, "not formatted");
+    let mut off = device.stop();
+    let mut answers = Vec::new(alloc);
+    for asked in asks {
+        let (told, left) = lived_once(rt, alloc, off, asked);
+        off = left;
+        answers.push(told).expect(rt, "no memory");
     }
+    (answers, off)
 }
 
 /// Returns the number of commands acknowledged, which plans exist in the last life, and whether a

@@ -1,10 +1,11 @@
 -- The exit status of a fault.
 use Rattle.{command_output.specs.declared.status.Status.{Status, TheVariants.{Refused, Memory}}, state_files.specs.declared.fault.{FileFault.FileFault, OpenFault.OpenFault}}
 use Rattle.state_files.specs.declared.fault.{FileFault.TheVariants.{NoHeader, Header, NoSegment, Segment, Join, NoGal, Gal, Plan}, PlanFault.PlanFault}
-use Rattle.state_files.specs.{gal_text.declared.fault.GalFault.GalFault, pl94.declared.{geo.GeoFault.GeoFault, join.JoinFault.JoinFault, segment.SegFault.SegFault}}
-use Rattle.state_files.specs.pl94.declared.geo.GeoFault.TheVariants as geo
-use Rattle.state_files.specs.pl94.declared.segment.SegFault.TheVariants as segment
-use Rattle.state_files.specs.pl94.declared.join.JoinFault.TheVariants as join
+use Rattle.state_files.specs.{gal_text.declared.fault.GalFault.GalFault, pl94_geo.declared.geo.GeoFault.GeoFault, pl94_segment.declared.join.JoinFault.JoinFault}
+use Rattle.state_files.specs.pl94_segment.declared.segment.SegFault.{SegFault}
+use Rattle.state_files.specs.pl94_geo.declared.geo.GeoFault.TheVariants as geo
+use Rattle.state_files.specs.pl94_segment.declared.segment.SegFault.TheVariants as segment
+use Rattle.state_files.specs.pl94_segment.declared.join.JoinFault.TheVariants as join
 use Rattle.state_files.specs.gal_text.declared.fault.GalFault.TheVariants as gal
 use Rattle.state_files.specs.declared.fault.OpenFault.TheVariants as opening
 use Rattle.state_files.specs.declared.fault.PlanFault.TheVariants as plan

@@ -2,8 +2,8 @@
 use Rattle.{std.specs.List.{slice_get, flat_map, find, list_any, zip}, desk_model.specs.claim.{Baf.{Values, Fault, value_at, body_read, whole}, Block.county_of, Desk.{Plan, Desk}}}
 use Rattle.std.specs.Prelude.{ℕ, ◌+◌, ◌-◌, ◌==◌, Bool, not, ◌&&◌, if◌then◌else◌, nat_le, List, [], ◌∷◌, ◌++◌, map, length, Option, Some, None, option_map, is_some, Result, Ok, Err, unwrap_or, codes, decimal}
 use Rattle.desk_model.specs.{claim.{Geography.GeographyModel, Padded.padded_decimal, Printed.printed, Subject.{AuditSubject, subject_of, revision_at}}, declared.kind.Kind.Kind}
-use Rattle.desk_model.specs.declared.{block.BlockRow.BlockRow, command.{Command.{Command, TheVariants.{Create, Whole, Counties, Retire, Fork}}, Query.Query}, reply.Refusal.Refusal}
-use Rattle.desk_model.specs.declared.{command.Query.TheVariants.{Plans, Blocks, Revision, Audit}, reply.{PlanLine.PlanLine, Reply.Reply}}
+use Rattle.desk_model.specs.declared.{block.BlockRow.BlockRow, command.{Command.{Command, TheVariants.{Create, Whole, Counties, Retire, Fork}}, Query.Query}, reply.PlanRow.PlanRow}
+use Rattle.desk_model.specs.declared.{command.Query.TheVariants.{Plans, Blocks, Revision, Audit}, reply.{Refusal.Refusal, Reply.Reply}}
 use Rattle.desk_model.specs.declared.reply.Refusal.TheVariants.{NoPlan, NoRevision, PlanExists, Stale, BadBody, NotWholeCounty, Limit, NotSealed}
 use Rattle.std.specs.FinMap as map_of
 use Rattle.desk_model.specs.declared.reply.Reply.TheVariants as reply
@@ -116,7 +116,7 @@ abbrev pub step : Desk → Command → Outcome
 step d c = step_at d.geography d c
 
 -- a line of the list of plans
-abbrev pub plan_row : List ℕ × Plan → PlanLine
+abbrev pub plan_row : List ℕ × Plan → PlanRow
 plan_row e = record { name = e.0; kind = e.1.kind; n = e.1.n; revisions = length e.1.revisions }
 
 abbrev pub place_text : Option ℕ → List ℕ

@@ -1,5 +1,5 @@
 -- What a commit makes of the pages.
-use Rattle.{btree_puts.specs.page_btree.claim.Map.Holds, page_store.specs.claim.{Chain.{root_in, free_in, IsPages}, Transactions.{prepared_pages, after}}}
+use Rattle.{page_btree.specs.gets.claim.Map.Holds, page_store.specs.claim.{Chain.{root_in, free_in, IsPages}, Transactions.{prepared_pages, after}}}
 use Rattle.{page_store.specs.declared.txn.Prepared.Prepared, sector_device.specs.claim.Disk.Image, store_rows.specs.claim.Rows.KeyMap}
 
 -- the pages after the commit hold the map, and a root and free pages

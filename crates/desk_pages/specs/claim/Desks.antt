@@ -1,7 +1,7 @@
 -- Pages that hold a desk.
 use Rattle.std.specs.Prelude.{Bool, true, false, ◌≡◌, ◌⊎◌, ◌≤◌, ◌+◌, ℕ, List, All, Some}
-use Rattle.{btree_puts.specs.page_btree.claim.Map.Holds, desk_model.specs.claim.{Desk.{Plan, Desk}, Sizes.most_districts, Step.plan_limit}, page_store.specs.declared.txn.Txn.Txn}
-use Rattle.page_store.specs.{claim.{Chain.{root_in, free_in, IsPages}, Transactions.{stored, count_of, txn_pages, txn_root, over, free_over}}, declared.pages.Pages.Pages}
+use Rattle.{desk_model.specs.claim.{Desk.{Plan, Desk}, Sizes.most_districts, Step.plan_limit}, page_btree.specs.gets.claim.Map.Holds, page_store.specs.declared.pages.Pages.Pages}
+use Rattle.page_store.specs.{claim.{Chain.{root_in, free_in, IsPages}, Transactions.{stored, count_of, txn_pages, txn_root, over, free_over}}, declared.txn.Txn.Txn}
 use Rattle.{page_store.specs.gate_journal.claim.Store.{home, Opens}, sector_device.specs.{claim.Disk.Image, declared.SectorDevice.Ghosts}, store_rows.specs.claim.DeskRows.IsDesk}
 use Rattle.store_rows.specs.claim.{Rows.KeyMap, Tidy.Tidy}
 use Rattle.std.specs.FinMap as map_of

@@ -1,9 +1,9 @@
 -- Rows that are put one after the other in a transaction.
 use Rattle.std.specs.Prelude.{◌≡◌, ◌<◌, ◌≤◌, ◌+◌, ◌*◌, ℕ, List, ◌++◌, length, true}
-use Rattle.btree_puts.specs.page_btree.{claim.{Errors.{IsUnsound, level_in, reach_in, top_reach}, Map.InTxn}, declared.error.TreeError.TreeError}
-use Rattle.{btree_puts.specs.page_btree.declared.error.TreeError.TheVariants.{DeviceFault, NotAStore, Halted, NoPages, TooDeep, Memory}, page_store.specs.claim.Chain.root_in}
-use Rattle.page_store.specs.{claim.Transactions.{stored, disk_in, has_halted, txn_pages, txn_root, txn_free, txn_writes, over, HasFailed, Passed}, declared.pages.Pages.Pages}
-use Rattle.{page_store.specs.declared.txn.Txn.Txn, sector_device.specs.declared.SectorDevice.Ghosts, store_rows.specs.claim.{Puts.{Row, put_rows}, Rows.KeyMap}}
+use Rattle.{page_btree.specs.gets.{claim.{Errors.{IsUnsound, level_in, reach_in, top_reach}, Map.InTxn}, declared.error.TreeError.TreeError}, page_store.specs.claim.Chain.root_in}
+use Rattle.{page_btree.specs.gets.declared.error.TreeError.TheVariants.{DeviceFault, NotAStore, Halted, NoPages, TooDeep, Memory}, page_store.specs.declared.pages.Pages.Pages}
+use Rattle.page_store.specs.{claim.Transactions.{stored, disk_in, has_halted, txn_pages, txn_root, txn_free, txn_writes, over, HasFailed, Passed}, declared.txn.Txn.Txn}
+use Rattle.{sector_device.specs.declared.SectorDevice.Ghosts, store_rows.specs.claim.{Puts.{Row, put_rows}, Rows.KeyMap}}
 
 module _ {D : Type 0} {g : Ghosts D} where
   -- so many rows could bring a transaction's tree to the end of its sixth level: a row is one step of 301, and 50 of these are a level

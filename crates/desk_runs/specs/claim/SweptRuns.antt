@@ -1,8 +1,8 @@
 -- Runs of a clerk whose store is swept between commands, and what a stop at any moment of one leaves.
 use Rattle.std.specs.Prelude.{◌≡◌, ◌≤◌, ℕ, Bool, true, false, if◌then◌else◌, List, [], ◌∷◌, ◌++◌}
 use Rattle.{desk_model.specs.{claim.Step.step, declared.{command.Command.Command, reply.Reply.Reply}}, desk_store.specs.{claim.Commands.Does, declared.clerk.Clerk.Clerk}}
-use Rattle.{desk_runs.specs.claim.Runs.{Call, after, if_accepted, acknowledged, OpenSince}, desk_store.specs.store_sweep.claim.Checks.AreSoundHoldings}
-use Rattle.{desk_store.specs.claim.Clerks.{desk_of, disk_of, free_of, pages_of, sectors_of, HaltsByDevice, Keeps, Moves}, page_btree.specs.claim.Map.InPages as HoldsRows}
+use Rattle.{desk_runs.specs.claim.Runs.{Call, after, if_accepted, acknowledged, OpenSince}, desk_store.specs.plan_revisions_sweeps.claim.Checks.AreSoundHoldings}
+use Rattle.{desk_store.specs.claim.Clerks.{desk_of, disk_of, free_of, pages_of, sectors_of, HaltsByDevice, Keeps, Moves}, page_btree.specs.gets.claim.Map.InPages as HoldsRows}
 use Rattle.{page_store.specs.claim.Transactions.IsQuiet, sector_device.specs.declared.SectorDevice.Ghosts, store_rows.specs.claim.Rows.KeyMap}
 
 module _ {D : Type 0} {g : Ghosts D} where

@@ -3,7 +3,7 @@ use Rattle.std.specs.Prelude.{◌≡◌, ◌⊎◌, ◌≤◌, ◌<◌, ◌+◌,
 use Rattle.{desk_catalogue.specs.claim.Accepting.{IsAfter, acceptance}, desk_model.specs.claim.{Desk.Desk, Outcome.{IsAcceptance, CommandMay, RefusalMay}, Step.step}}
 use Rattle.desk_model.specs.{claim.Room.{need, command_rows}, declared.{command.Command.Command, reply.{Refusal.{Refusal, TheVariants.Halted}, Reply.{Reply, TheVariants.Refused}}}}
 use Rattle.{desk_pages.specs.claim.{Commits.HoldsAfter, Desks.IsDeskMap, Puts.IsStoredNear}, desk_store.specs.declared.{clerk.Clerk.Clerk, ready.Ready.Ready}}
-use Rattle.{desk_store.specs.claim.Clerks.{desk_of, disk_of, free_of, pages_of, room_of, HaltsByDevice, Keeps, Moves}, page_btree.specs.claim.Map.InPages as HoldsRows}
+use Rattle.{desk_store.specs.claim.Clerks.{desk_of, disk_of, free_of, pages_of, room_of, HaltsByDevice, Keeps, Moves}, page_btree.specs.gets.claim.Map.InPages as HoldsRows}
 use Rattle.page_store.specs.{claim.{Chain.free_in, Transactions.{stored, disk_in, count_of, prepared_pages, prepared_writes, after, IsQuiet}}, declared.pages.Pages.Pages}
 use Rattle.{page_store.specs.declared.txn.{Prepared.Prepared as Written, Txn.Txn}, plan_revisions.specs.claim.{Rows.HasNumbers, Steps.IsDeep}, store_rows.specs.claim.Rows.KeyMap}
 use Rattle.{sector_device.specs.declared.SectorDevice.Ghosts, store_rows.specs.{claim.Tidy.{IsNext, CountersFit}, declared.value.Counters.Counters}}

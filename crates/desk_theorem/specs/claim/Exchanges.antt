@@ -1,10 +1,10 @@
 -- The requests of a stream with their answers, as they stand in the talk over what was read and written.
 use Rattle.std.specs.Prelude.{ℕ, Bool, true, false, List, [], ◌∷◌, ◌++◌, Option, Result, Ok, Err}
-use Rattle.{desk_theorem.specs.claim.Streams.{State, Takes, Looks, ServedAs}, http_desk.specs.{claim.Talk.{Talk, MayAnswer}, declared.serve.Served.Served}}
-use Rattle.http_desk.specs.{declared.serve.StreamFault.StreamFault, http_routes.{claim.Orders.order_of, declared.order.Order.Order}, http_wire.claim.Prefix.{closes_after, is_head}}
+use Rattle.{desk_theorem.specs.claim.Streams.{State, Takes, Looks, ServedAs}, http_desk.specs.{claim.Talk.{Talk, MayAnswer}, declared.serve.{ServeFault.ServeFault, Served.Served}}}
+use Rattle.http_desk.specs.{http_routes.{claim.Orders.order_of, declared.order.Order.Order}, http_wire.claim.Prefix.{closes_after, is_head}}
 use Rattle.store_lives.specs.declared.desk_lives.{Answer.{Answer, TheVariants.Said}, Request.{Request, TheVariants.{Change, Look}}}
 use Rattle.http_desk.specs.http_routes.declared.order.Order.TheVariants as order
-use Rattle.http_desk.specs.declared.serve.StreamFault.TheVariants as fault
+use Rattle.http_desk.specs.declared.serve.ServeFault.TheVariants as fault
 
 module _ (t u : ℕ) where
   -- what an order asks of the desk, with the reply that its answer tells
@@ -27,11 +27,11 @@ module _ (t u : ℕ) where
       exchange_of s (order_of h.method target body) (closes_after h) (is_head h.method) text false y is ++ exchanges_of y rest output n shut end talk
 
   -- those of a stream that was served so
-  abbrev pub exchanges_in : (s : State) (served : Result Served StreamFault) (left : Option (List ℕ)) (input output : List ℕ) (end : State)
+  abbrev pub exchanges_in : (s : State) (served : Result Served ServeFault) (left : Option (List ℕ)) (input output : List ℕ) (end : State)
       → ServedAs t u s served left input output end → List (Request × Answer)
   exchanges_in s (Ok served) left input output end is = exchanges_of s input output served.requests is.0 end is.1
-  exchanges_in s (Err fault.Read) left input output end is = exchanges_of s is.prefix output is.count is.shut end is.talk
+  exchanges_in s (Err fault.ReadFault) left input output end is = exchanges_of s is.prefix output is.count is.shut end is.talk
   exchanges_in s (Err fault.TurnLimit) left input output end is = exchanges_of s is.prefix output is.count is.shut end is.talk
-  exchanges_in s (Err fault.Write) left input output end is =
+  exchanges_in s (Err fault.WriteFault) left input output end is =
       exchanges_of s is.over_prefix.prefix is.answers is.over_prefix.count is.over_prefix.shut end is.over_prefix.talk
   exchanges_in s (Err fault.Memory) left input output end is = []

@@ -2,7 +2,7 @@
 use Rattle.std.specs.Prelude.{◌≡◌, ℕ, List, [], Result}
 use Rattle.{desk_model.specs.claim.Desk.Desk, desk_pages.specs.declared.error.StoreError.StoreError, desk_theorem.specs.claim.{Exchanges.exchanges_in, Offices.{Answered, Officed}}}
 use Rattle.desk_theorem.specs.claim.{Clauses.{Account, Clauses, nothing, of_calls, of_exchanges, of_requests}, Streams.{Ends, Streamed, working}}
-use Rattle.{http_connections.specs.declared.ran.Ran.Ran, http_desk.specs.declared.serve.{Served.Served, StreamFault.StreamFault}, http_seats.specs.claim.Streams.Traffic}
+use Rattle.{http_connections.specs.declared.ran.Ran.Ran, http_desk.specs.declared.serve.{ServeFault.ServeFault, Served.Served}, http_seats.specs.claim.Streams.Traffic}
 use Rattle.store_lives.specs.{claim.{DeskLives.Lived, Versions.{Leads, MayBar, MayBeNew, Store, version_2}}, declared.desk_lives.{Answer.Answer, Request.Request}}
 use Rattle.store_lives.specs.declared.leading.Led.{Led}
 
@@ -17,7 +17,7 @@ abbrev pub RequestsHold : List Request → List Answer → (t u : ℕ) → Desk 
 RequestsHold asked told t u d e = Holds {May = Lived t u d asked told e} (λ _. of_requests asked told) t u d e
 
 -- a stream was served, whose reader and writer were so before and after; its requests are those of its talk
-abbrev pub StreamHolds : (old new : Ends) → Result Served StreamFault → (t u : ℕ) → Desk → Desk → Type 0
+abbrev pub StreamHolds : (old new : Ends) → Result Served ServeFault → (t u : ℕ) → Desk → Desk → Type 0
 StreamHolds old new served t u d e = Holds {May = Streamed t u d old new served e}
     (λ is. of_exchanges (exchanges_in t u (working d) served new.unread is.input is.output is.end is.talk)) t u d e
 
@@ -40,6 +40,10 @@ Asked life t u s e = MayBeNew s.0 × (e.0 ≡ version_2) × life t u s.1 e.1
 abbrev pub UnopenedHolds : StoreError → (t u : ℕ) → Store → Store → Type 0
 UnopenedHolds why t u s e = Holds {May = MayBar t u s.0 why × (e ≡ s)} (λ _. nothing) t u s.1 e.1
 
+-- it was read, and is as it was
+abbrev pub ReadHolds : (t u : ℕ) → Store → Store → Type 0
+ReadHolds t u s e = Holds {May = e ≡ s} (λ _. nothing) t u s.1 e.1
+
 -- it was led on to the new version so far, and its desk is as it was
 abbrev pub LedHolds : Led → (t u : ℕ) → Store → Store → Type 0
 LedHolds far t u s e = Holds {May = Leads t u s.0 far e.0 × (e.1 ≡ s.1)} (λ _. nothing) t u s.1 e.1
@@ -48,10 +52,11 @@ LedHolds far t u s e = Holds {May = Leads t u s.0 far e.0 × (e.1 ≡ s.1)} (λ 
 module _ {A P Q : Type 0} (streams : A → Traffic P Q) where
   pub data Came : Type 0 where
     requests : List Request → List Answer → Came
-    stream : (old new : Ends) → Result Served StreamFault → Came
+    stream : (old new : Ends) → Result Served ServeFault → Came
     office : A → (workers : ℕ) → Ran → Came
     closed : A → (workers : ℕ) → Came
     unopened : StoreError → Came
+    read : Came
     led : Led → Came
 
   -- One life from the store s on and to the store e, on a device that had failed t times before, and u times after it.
@@ -61,4 +66,5 @@ module _ {A P Q : Type 0} (streams : A → Traffic P Q) where
   LifeHolds (Came.office from workers ran) t u s e = Asked (OfficeHolds (streams from) workers ran) t u s e
   LifeHolds (Came.closed from workers) t u s e = Asked (ClosedHolds (streams from) workers) t u s e
   LifeHolds (Came.unopened why) t u s e = UnopenedHolds why t u s e
+  LifeHolds Came.read t u s e = ReadHolds t u s e
   LifeHolds (Came.led far) t u s e = LedHolds far t u s e

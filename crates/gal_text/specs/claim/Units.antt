@@ -1,9 +1,9 @@
 -- The words of a neighbour file, one after the other: the number of units, and for each unit its block, its number of neighbours, and their
 -- blocks.
 use Rattle.std.specs.{List.list_any, Prelude.{ℕ, ◌+◌, ◌-◌, ◌==◌, Bool, true, false, ◌&&◌, nat_lt, if◌then◌else◌, List, [], ◌∷◌, ◌++◌, length, Option, Some, None, Result, Ok, Err}}
-use Rattle.{byte_stream.specs.claim.{Digits.{number_of, number_of_digits}, Reading.line_limit, Words.words}, gal_text.specs.declared.{fault.TextFault.TextFault, units.Link.Link}}
+use Rattle.{byte_stream.specs.claim.{Reading.line_limit, Words.words}, field_text.specs.claim.Digits.{number_of, number_of_digits}, gal_text.specs.declared.units.Awaited.Awaited}
+use Rattle.gal_text.specs.declared.{fault.TextFault.TextFault, units.Link.Link}
 use Rattle.gal_text.specs.declared.fault.TextFault.TheVariants.{Header, Count, UnknownBlock, RepeatedUnit, OwnNeighbour, TooManyNeighbours, TrailingWord, EndsEarly, RepeatedNeighbour}
-use Rattle.gal_text.specs.declared.units.Awaited.{Awaited}
 use Rattle.gal_text.specs.declared.units.Awaited.TheVariants as awaited
 
 -- a unit has this many neighbours at most

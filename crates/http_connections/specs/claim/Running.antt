@@ -1,13 +1,13 @@
 -- What a run over many streams counts.
 use Rattle.std.specs.Prelude.{ℕ, ◌+◌, ◌-◌, ◌^◌, min, Option, Some, None, Result, Ok, Err}
-use Rattle.{http_connections.specs.declared.ran.Ran.Ran, http_desk.specs.declared.serve.{Served.Served, StreamFault.StreamFault}}
+use Rattle.{http_connections.specs.declared.ran.Ran.Ran, http_desk.specs.declared.serve.{ServeFault.ServeFault, Served.Served}}
 
 -- the numbers stay at the greatest u64
 abbrev pub counted : (so_far more : ℕ) → ℕ
 counted so_far more = min (so_far + more) (2 ^ 64 - 1)
 
 -- the requests of a stream that was served to its end
-abbrev pub requests_of : Result Served StreamFault → Option ℕ
+abbrev pub requests_of : Result Served ServeFault → Option ℕ
 requests_of (Ok served) = Some served.requests
 requests_of (Err fault) = None
 

@@ -1,21 +1,21 @@
 -- The bodies of answers, as compact JSON with its keys in byte order (RFC 8259).
 use Rattle.std.specs.Prelude.{ℕ, List, ◌++◌, map, codes, decimal}
-use Rattle.{desk_model.specs.{claim.{Baf.fault_code, Kind.kind_name, Padded.padded_decimal}, declared.reply.{PlanLine.PlanLine, Refusal.Refusal}}, serde_json.specs.View.items_of}
+use Rattle.{desk_model.specs.{claim.{Baf.fault_code, Kind.kind_name, Padded.padded_decimal}, declared.reply.{PlanRow.PlanRow, Refusal.Refusal}}, serde_json.specs.View.items_of}
 use Rattle.desk_model.specs.declared.reply.Refusal.TheVariants.{NoPlan, NoRevision, PlanExists, Stale, BadBody, NotWholeCounty, BadCompanion, Limit, Full, Memory, Halted, NotSealed}
 use Rattle.serde_json.specs.{Data.{Data, number, unsigned, string, array, object, member, no_members}, Written.compact_text}
 
 -- a line of the list of plans
-abbrev pub row_data : PlanLine → Data
+abbrev pub row_data : PlanRow → Data
 row_data row =
     object (member (codes "districts") (number (unsigned row.n))
     (member (codes "kind") (string (kind_name row.kind))
     (member (codes "name") (string row.name)
     (member (codes "revisions") (number (unsigned row.revisions)) no_members))))
 
-abbrev pub plans_data : List PlanLine → Data
+abbrev pub plans_data : List PlanRow → Data
 plans_data rows = object (member (codes "plans") (array (items_of (map row_data rows))) no_members)
 
-abbrev pub plans_body : List PlanLine → List ℕ
+abbrev pub plans_body : List PlanRow → List ℕ
 plans_body rows = compact_text (plans_data rows)
 
 -- a plan stands with so many revisions

@@ -1,23 +1,23 @@
 -- What a served stream comes to.
 use Rattle.std.specs.{Io.KnownBytes.{Appends, Consumes, IsAtEnd}, Prelude.{◌≡◌, ◌⊎◌, ℕ, suc, ◌+◌, Bool, true, false, List, [], ◌++◌, Option, Result, Ok, Err}}
 use Rattle.{byte_stream.specs.claim.Counts.counted, desk_model.specs.declared.{command.{Command.Command, Query.Query}, reply.Reply.Reply}, http_desk.specs.claim.Asking.Asks}
-use Rattle.{http_desk.specs.{claim.Talk.Talk, declared.serve.{Next.Next, Served.Served, StreamFault.StreamFault}}, http_wire.specs.claim.Interim.IsCutHead}
+use Rattle.{http_desk.specs.{claim.Talk.Talk, declared.serve.{Next.Next, ServeFault.ServeFault, Served.Served}}, http_wire.specs.claim.Interim.IsCutHead}
 use Rattle.http_desk.specs.declared.serve.Next.TheVariants as next
-use Rattle.http_desk.specs.declared.serve.StreamFault.TheVariants as fault
+use Rattle.http_desk.specs.declared.serve.ServeFault.TheVariants as fault
 
 -- a read fault is one failure of the reader more, and all else none
-abbrev pub read_failures : {A : Type 0} → ℕ → Result A StreamFault → ℕ
+abbrev pub read_failures : {A : Type 0} → ℕ → Result A ServeFault → ℕ
 read_failures n (Ok a) = n
-read_failures n (Err fault.Read) = counted n 1
-read_failures n (Err fault.Write) = n
+read_failures n (Err fault.ReadFault) = counted n 1
+read_failures n (Err fault.WriteFault) = n
 read_failures n (Err fault.Memory) = n
 read_failures n (Err fault.TurnLimit) = n
 
 -- a write fault is one failure of the writer more, and all else none
-abbrev pub write_failures : {A : Type 0} → ℕ → Result A StreamFault → ℕ
+abbrev pub write_failures : {A : Type 0} → ℕ → Result A ServeFault → ℕ
 write_failures n (Ok a) = n
-write_failures n (Err fault.Read) = n
-write_failures n (Err fault.Write) = counted n 1
+write_failures n (Err fault.ReadFault) = n
+write_failures n (Err fault.WriteFault) = counted n 1
 write_failures n (Err fault.Memory) = n
 write_failures n (Err fault.TurnLimit) = n
 
@@ -54,12 +54,12 @@ module _ {X : Type 0} (commands : X → Command → Reply → X → Type 0) (ask
   IsShortTalk x input answers y = ((n : ℕ) × Talk commands asks x input answers n false y) ⊎ IsCutInHead x input answers y
 
   -- Ok comes only at the end of the input or after an answer that closes
-  abbrev pub ServesTo : X → Result Served StreamFault → Option (List ℕ) → List ℕ → List ℕ → X → Type 0
+  abbrev pub ServesTo : X → Result Served ServeFault → Option (List ℕ) → List ℕ → List ℕ → X → Type 0
   ServesTo x (Ok served) left input output y = (shut : Bool)
       × Talk commands asks x input output served.requests shut y × (shut ≡ false → IsAtEnd left)
-  ServesTo x (Err fault.Read) left input output y = IsShortTalk x input output y
+  ServesTo x (Err fault.ReadFault) left input output y = IsShortTalk x input output y
   ServesTo x (Err fault.TurnLimit) left input output y = IsShortTalk x input output y
-  ServesTo x (Err fault.Write) left input output y = IsCutTalk x input output y
+  ServesTo x (Err fault.WriteFault) left input output y = IsCutTalk x input output y
   ServesTo x (Err fault.Memory) left input output y = (input ≡ []) × (output ≡ []) × (y ≡ x)
 
   -- a request was taken and answered: whatever talk goes on after it is one from before, and so is what is asked for after it
@@ -70,16 +70,16 @@ module _ {X : Type 0} (commands : X → Command → Reply → X → Type 0) (ask
     pub on : (later more : List ℕ) (n : ℕ) (shut : Bool) (z : X) → Talk commands asks y later more n shut z
         → Talk commands asks x (prefix ++ later) (output ++ more) (suc n) shut z
 
-  abbrev pub Exchanges : X → Result Next StreamFault → Option (List ℕ) → List ℕ → List ℕ → List ℕ → X → Type 0
+  abbrev pub Exchanges : X → Result Next ServeFault → Option (List ℕ) → List ℕ → List ℕ → List ℕ → X → Type 0
   Exchanges x (Ok next.Again) left input rest output y = GoesOn x input rest output y
   Exchanges x (Ok next.Last) left input rest output y = Talk commands asks x input output 1 true y
   Exchanges x (Ok next.End) left input rest output y = Talk commands asks x input output 0 false y × IsAtEnd left
-  Exchanges x (Err fault.Read) left input rest output y = IsShortTalk x input output y
+  Exchanges x (Err fault.ReadFault) left input rest output y = IsShortTalk x input output y
   Exchanges x (Err fault.TurnLimit) left input rest output y = IsShortTalk x input output y
-  Exchanges x (Err fault.Write) left input rest output y = IsPrefixTalk x input output y
+  Exchanges x (Err fault.WriteFault) left input rest output y = IsPrefixTalk x input output y
   Exchanges x (Err fault.Memory) left input rest output y = ⊥
 
   -- seen from the reader and the writer
-  abbrev pub Serves : X → Result Served StreamFault → X → Option (List ℕ) → Option (List ℕ) → Option (List ℕ) → Option (List ℕ) → Type 0
+  abbrev pub Serves : X → Result Served ServeFault → X → Option (List ℕ) → Option (List ℕ) → Option (List ℕ) → Option (List ℕ) → Type 0
   Serves x result y unread left before after =
       (input : List ℕ) × (output : List ℕ) × Consumes unread left input × Appends before after output × ServesTo x result left input output y

@@ -1,7 +1,7 @@
 -- What the query of a target says, as a form (application/x-www-form-urlencoded).
 use Rattle.std.specs.{List.{before_first, after_first, fold}, Prelude.{ℕ, Bool, true, false, ◌&&◌, if◌then◌else◌, ◌==◌, List, [], ◌∷◌, map, Option, Some, None, option_map, codes}}
-use Rattle.{std.specs.Str.{bytes_eq, Lossy.utf8_lossy}, byte_stream.specs.claim.Digits.number_of, desk_model.specs.claim.{Companions.no_companions, Name.plan_name_of}}
-use Rattle.{desk_model.specs.{claim.Sizes.{kind_named, sized}, declared.{companions.Companions.Companions, kind.Kind.Kind}}, form_urlencoded.specs.Form.{raw_pairs, decode}}
+use Rattle.{std.specs.Str.{bytes_eq, Lossy.utf8_lossy}, desk_model.specs.{claim.{Companions.no_companions, Name.plan_name_of, Sizes.{kind_named, sized}}, declared.kind.Kind.Kind}}
+use Rattle.{desk_model.specs.declared.companions.Companions.Companions, field_text.specs.claim.Digits.number_of, form_urlencoded.specs.Form.{raw_pairs, decode}}
 
 -- the text that a name or a value of the form stands for
 abbrev pub form_text : List ℕ → List ℕ

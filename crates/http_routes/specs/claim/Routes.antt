@@ -1,7 +1,7 @@
 -- The table of paths, and which of them a path is.
-use Rattle.std.specs.{List.{before_first, after_first}, Prelude.{ℕ, ◌==◌, List, [], Option, option_map, Result, Ok, Err, codes}}
-use Rattle.{http_routes.specs.declared.route.Route.{Route, TheVariants.{Blocks, Plans, Plan, Revisions, Counties, Revision, Audit}}, matchit.specs.{Order.placed, Rows.RowsOf}}
-use Rattle.matchit.specs.{Route.{Scan, parse_route}, Router.{RouteOf, route_from}, Seek.first, declared.InsertError.InsertError}
+use Rattle.{std.specs.Prelude.{ℕ, List, [], Option, Some, None, option_map, get_or, Result, Ok, Err, codes}, http_routes.specs.declared.route.Route.Route, matchit.specs.Seek.first}
+use Rattle.{http_routes.specs.declared.route.Route.TheVariants.{Blocks, Plans, Plan, Revisions, Counties, Revision, Audit}, matchit.specs.{Order.placed, Params.walk, Rows.RowsOf}}
+use Rattle.matchit.specs.{Route.{Scan, parse_route}, Router.{RouteOf, route_from}, declared.InsertError.InsertError}
 
 -- the rows with one more route
 abbrev pub with_read : Result Scan InsertError → Route → RowsOf (RouteOf Route) → RowsOf (RouteOf Route)
@@ -26,17 +26,18 @@ the_routes =
 abbrev pub route_of : List ℕ → Option Route
 route_of path = option_map (λ route. route.value) (first the_routes path)
 
--- what stands after the first slash
-abbrev pub after_slash : List ℕ → List ℕ
-after_slash path = after_first (λ b. b == 47) path
+-- the parts of a path that the names of its route's pattern took, each with its name, in the order of the pattern
+abbrev pub parts_of : Option (RouteOf Route) → List ℕ → List (List ℕ × List ℕ)
+parts_of None path = []
+parts_of (Some route) path = walk route.pattern route.text path route.names 0 0
 
-abbrev pub up_to_slash : List ℕ → List ℕ
-up_to_slash path = before_first (λ b. b == 47) path
+abbrev pub no_part : List ℕ × List ℕ
+no_part = ([], [])
 
--- the part {p} of a path: what stands between the second slash and the third, or after the second
+-- the part that {p} took, which is the first name of each pattern that has one
 abbrev pub plan_part : List ℕ → List ℕ
-plan_part path = up_to_slash (after_slash (after_slash path))
+plan_part path = (get_or (parts_of (first the_routes path) path) 0 no_part).1
 
--- the part {k} of a path: what stands between the fourth slash and the fifth, or after the fourth
+-- the part that {k} took, which is the second
 abbrev pub revision_part : List ℕ → List ℕ
-revision_part path = up_to_slash (after_slash (after_slash (after_slash (after_slash path))))
+revision_part path = (get_or (parts_of (first the_routes path) path) 1 no_part).1

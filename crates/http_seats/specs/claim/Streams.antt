@@ -2,11 +2,11 @@
 use Rattle.std.specs.{List.sum_by, Prelude.{◌≡◌, ℕ, All, List, [], ◌∷◌, length, map, reverse, fold, Option, Some, None, Result, ⊤}}
 use Rattle.{desk_model.specs.{claim.Desk.Desk, declared.command.Command.Command}, http_connections.specs.claim.Running.{joined, no_streams, one_more, requests_of}}
 use Rattle.{http_connections.specs.declared.ran.Ran.Ran, http_desk.specs.{claim.{Asking.IsAskedIn, Serving.{Serves, read_failures, write_failures}}, declared.serve.Served.Served}}
-use Rattle.{http_desk.specs.declared.serve.StreamFault.StreamFault, http_seats.specs.claim.{Explained.{ExplainsCommand, ExplainsQuery}, Seated.{Seated, newcomer}}}
+use Rattle.{http_desk.specs.declared.serve.ServeFault.ServeFault, http_seats.specs.claim.{Explained.{ExplainsCommand, ExplainsQuery}, Seated.{Seated, newcomer}}}
 use mathlib.Core.List.{IsPrefix}
 
 -- the streams of one worker, the last first
-abbrev pub counts_of : List (Result Served StreamFault) → Ran
+abbrev pub counts_of : List (Result Served ServeFault) → Ran
 counts_of [] = no_streams
 counts_of (served ∷ streams) = one_more (counts_of streams) (requests_of served)
 
@@ -18,7 +18,7 @@ total_of workers = fold joined no_streams workers
 -- came to; what is unread of a reader, what a writer holds, and how often each failed.
 pub record Traffic (R W : Type 0) : Type 1 where
   pub gives : (worker : ℕ) → Option (R × W) → Type 0
-  pub takes_back : R → W → Result Served StreamFault → Type 0
+  pub takes_back : R → W → Result Served ServeFault → Type 0
   pub unread : R → Option (List ℕ)
   pub failed_reads : R → ℕ
   pub written : W → Option (List ℕ)
@@ -41,7 +41,7 @@ module _ {R W : Type 0} (s : Traffic R W) (first : Desk) where
   -- A stream was given to a worker, and taken back as it was left, with what it came to. What was written to it since is a talk over what
   -- was read from it since, each answer of which is explained by a list of changes that begins with all that was heard of before, and each
   -- command of which counts as what it is told as. So the seat was when it began, and so it is in the end.
-  pub record IsTalkedTo (worker : ℕ) (before : Seated) (served : Result Served StreamFault) (guest : Seated) : Type 0 where
+  pub record IsTalkedTo (worker : ℕ) (before : Seated) (served : Result Served ServeFault) (guest : Seated) : Type 0 where
     pub reader : R
     pub writer : W
     pub given : s.gives worker (Some (reader, writer))
@@ -54,14 +54,14 @@ module _ {R W : Type 0} (s : Traffic R W) (first : Desk) where
     pub taken_back : s.takes_back reader_left writer_left served
 
   -- a worker's streams one after the other, the last first, at a seat that was so before
-  abbrev pub AreTalkedTo : (worker : ℕ) → Seated → List (Result Served StreamFault) → Seated → Type 0
+  abbrev pub AreTalkedTo : (worker : ℕ) → Seated → List (Result Served ServeFault) → Seated → Type 0
   AreTalkedTo worker before [] guest = guest ≡ before
   AreTalkedTo worker before (served ∷ streams) guest =
       (between : Seated) × AreTalkedTo worker before streams between × IsTalkedTo worker between served guest
 
   -- a worker's streams at a seat, and what they came to
   pub record AreServed (worker : ℕ) (before guest : Seated) (ran : Ran) : Type 0 where
-    pub streams : List (Result Served StreamFault)
+    pub streams : List (Result Served ServeFault)
     pub talked : AreTalkedTo worker before streams guest
     pub counts : ran ≡ counts_of streams
 

@@ -1,13 +1,13 @@
 -- What the census files of a state come to: each file is read and judged in turn, and the first fault ends it.
 use Rattle.std.specs.{Io.KnownBytes.Consumes, Prelude.{◌≡◌, ◌⊎◌, ℕ, ◌<◌, List, Result, Ok, Err, Vec}, declared.alloc.Global.Global}
-use Rattle.{byte_stream.specs.claim.{Counts.counted, Reading.turn_limit}, desk_model.specs.declared.block.BlockRow.BlockRow, pl94.specs.claim.Join.IsJoined}
-use Rattle.pl94.specs.{claim.GeoFile.{IsRead as IsHeaderRead, failures_after_file as failures_after_header}, declared.geo.{GeoFault.GeoFault, GeoRows.GeoRows}}
-use Rattle.pl94.specs.{claim.SegFile.{IsRead as IsSegmentRead, failures_after_file as failures_after_segment}, declared.{join.JoinFault.JoinFault, segment.SegFault.SegFault}}
-use Rattle.pl94.specs.{declared.record.SegmentNumber.{SegmentNumber, TheVariants.{One, Two, Three}}, declared.segment.SegRows.SegRows}
+use Rattle.{byte_stream.specs.claim.{Counts.counted, Reading.turn_limit}, desk_model.specs.declared.block.BlockRow.BlockRow, pl94_geo.specs.declared.geo.GeoFault.GeoFault}
+use Rattle.pl94_geo.specs.{claim.GeoFile.{IsRead as IsHeaderRead, failures_after_file as failures_after_header}, declared.geo.GeoRows.GeoRows}
+use Rattle.pl94_segment.specs.{claim.{Join.IsJoined, SegFile.{IsRead as IsSegmentRead, failures_after_file as failures_after_segment}}, declared.join.JoinFault.JoinFault}
+use Rattle.pl94_segment.specs.{declared.record.SegmentNumber.{SegmentNumber, TheVariants.{One, Two, Three}}, declared.segment.{SegFault.SegFault, SegRows.SegRows}}
 use Rattle.state_files.specs.{claim.Opening.{File, Opening, Census}, declared.{census.CensusFiles.CensusFiles, fault.{FileFault.FileFault, OpenFault.OpenFault}}}
 use Rattle.state_files.specs.declared.fault.FileFault.TheVariants.{NoHeader, Header, NoSegment, Segment, Join}
-use Rattle.pl94.specs.declared.geo.GeoFault.TheVariants as geo
-use Rattle.pl94.specs.declared.segment.SegFault.TheVariants as segment
+use Rattle.pl94_geo.specs.declared.geo.GeoFault.TheVariants as geo
+use Rattle.pl94_segment.specs.declared.segment.SegFault.TheVariants as segment
 
 -- what a fault or a success of the header is among all files
 abbrev pub header_outcome : Result GeoRows GeoFault → Result GeoRows FileFault

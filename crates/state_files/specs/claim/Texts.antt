@@ -1,8 +1,9 @@
 -- How a fault is shown: its file, the fault's code, and what it carries.
 use Rattle.std.specs.Prelude.{ℕ, List, ◌++◌, codes, decimal}
-use Rattle.{desk_model.specs.claim.Baf.fault_code, gal_text.specs.claim.Texts.gal_fault_text, pl94.specs.claim.{GeoTexts.header_text, SegmentTexts.{segment_text, join_text}}}
-use Rattle.{pl94.specs.declared.record.SegmentNumber.{SegmentNumber, TheVariants.{One, Two, Three}}, state_files.specs.declared.fault.{FileFault.FileFault, OpenFault.OpenFault}}
-use Rattle.state_files.specs.declared.fault.{FileFault.TheVariants.{NoHeader, Header, NoSegment, Segment, Join, NoGal, Gal, Plan}, PlanFault.PlanFault, PlanFile.PlanFile}
+use Rattle.{desk_model.specs.claim.Baf.fault_code, gal_text.specs.claim.Texts.gal_fault_text, pl94_geo.specs.claim.GeoTexts.header_text}
+use Rattle.pl94_segment.specs.{claim.SegmentTexts.{segment_text, join_text}, declared.record.SegmentNumber.{SegmentNumber, TheVariants.{One, Two, Three}}}
+use Rattle.state_files.specs.declared.fault.{FileFault.{FileFault, TheVariants.{NoHeader, Header, NoSegment, Segment, Join, NoGal, Gal, Plan}}, OpenFault.OpenFault}
+use Rattle.state_files.specs.declared.fault.{PlanFault.PlanFault, PlanFile.PlanFile}
 use Rattle.state_files.specs.declared.fault.OpenFault.TheVariants as opening
 use Rattle.state_files.specs.declared.fault.PlanFile.TheVariants as file
 use Rattle.state_files.specs.declared.fault.PlanFault.TheVariants as plan

@@ -1,44 +1,53 @@
--- What a command makes of the store that it opens: one life of it, on the device that was opened for it. The exit status goes with that.
-use Rattle.std.specs.{Prelude.{◌≡◌, ◌⊎◌, ◌≤◌, ◌^◌, ℕ, [], ◌∷◌, Ok, Err}, declared.{alloc.Global.Global, sync.Arc.Arc}}
-use Rattle.{command_output.specs.{claim.Faults.status_of_fault, declared.status.Status.Status}, desk_model.specs.claim.Geography.GeographyModel}
-use Rattle.{desk_pages.specs.declared.error.StoreError.StoreError, desk_theorem.specs.claim.{InFile.LivedOn, OneLife.{Asked, LedHolds, RequestsHold, UnopenedHolds}}}
-use Rattle.desk_theorem.specs.store_lives.{claim.Versions.Store, declared.desk_lives.Answer.{Answer, TheVariants.{Loaded, Swept, Unloaded, Unswept}}}
-use Rattle.{desk_theorem.specs.store_lives.declared.desk_lives.Request.TheVariants.{Load, Sweep}, sector_device.specs.declared.SectorDevice.Ghosts}
-use Rattle.{state_files.specs.declared.fault.FileFault.FileFault, store_command.specs.claim.Files.{Openings, ReadsGeography}}
+-- What a command makes of the store that it opens: one life of it, on the device that was opened for it. The exit status
+-- goes with that, and what is printed and told.
+use Rattle.std.specs.{Prelude.{◌≡◌, ◌≤◌, ◌^◌, ℕ, List, [], ◌∷◌, codes, Ok, Err}, declared.{alloc.Global.Global, sync.Arc.Arc}}
+use Rattle.{command_output.specs.{claim.{Telling.Tells, Writing.{Prints, Written, write_fault_line}}, declared.status.Status.Status}, desk_theorem.specs.claim.InFile.LivedOn}
+use Rattle.{desk_model.specs.claim.Geography.GeographyModel, desk_pages.specs.declared.error.StoreError.StoreError, sector_device.specs.declared.SectorDevice.Ghosts}
+use Rattle.desk_theorem.specs.{claim.OneLife.{Asked, LedHolds, RequestsHold, UnopenedHolds}, store_lives.declared.desk_lives.{Answer.Answer, Request.TheVariants.{Load, Sweep}}}
+use Rattle.{desk_theorem.specs.store_lives.declared.desk_lives.Answer.TheVariants.{Loaded, Swept, Unloaded, Unswept}, state_files.specs.declared.fault.FileFault.FileFault}
+use Rattle.store_command.specs.{claim.{Faults.fault_of_store, Files.{Openings, ReadsGeography}, Telling.{TellsStore, rows_text}}, declared.fault.StoreFault.StoreFault}
+use Rattle.store_command.specs.declared.fault.StoreFault.TheVariants.{NotAStore}
 use Rattle.command_output.specs.declared.status.Status.TheVariants as status
-use Rattle.desk_pages.specs.declared.error.StoreError.TheVariants as store
 use Rattle.desk_theorem.specs.store_lives.declared.leading.Led.TheVariants as led
 
--- the status that tells why a store is refused
-abbrev pub status_of_error : StoreError → Status
-status_of_error store.Memory = status.Memory
-status_of_error _ = status.Store
+-- ---- what is printed and told, and the status that goes with that
+-- the text, and the status is 0; or standard output failed once more, which the status and a line tell
+abbrev pub IsPrinted : (command text : List ℕ) → Status → (old new told_old told_new : Written) → Type 0
+IsPrinted command text end old new told_old told_new = Prints (write_fault_line command) text status.Done end old new told_old told_new
 
--- what was done is printed; or standard output fails
-abbrev pub HasPrinted : Status → Type 0
-HasPrinted end = (end ≡ status.Done) ⊎ (end ≡ status.Stream)
+-- nothing is printed, and this fault of a store is told
+abbrev pub IsRefused : StoreFault → Status → (old new told_old told_new : Written) → Type 0
+IsRefused fault end old new told_old told_new = (new ≡ old) × TellsStore fault end told_old told_new
 
 -- `opened` says how the device of a store was opened, and `none` that none was
 module _ {D : Type 0} (g : Ghosts D) (opened : D → Type 0) (none : Type 0) (end : Status) where
   -- a device was opened, its store was refused for this, and is as it was
-  abbrev pub IsBarred : Type 0
-  IsBarred = (why : StoreError) × (end ≡ status_of_error why) × LivedOn g opened (UnopenedHolds why)
+  pub record Bars (old new told_old told_new : Written) : Type 0 where
+    pub why : StoreError
+    pub told : IsRefused (fault_of_store why) end old new told_old told_new
+    pub life : LivedOn g opened (UnopenedHolds why)
 
-  abbrev pub NoneOpened : Type 0
-  NoneOpened = none × ((end ≡ status.Store) ⊎ (end ≡ status.Memory))
+  -- no device was opened, for what is told
+  pub record OpensNone (old new told_old told_new : Written) : Type 0 where
+    pub none_opened : none
+    pub fault : StoreFault
+    pub told : IsRefused fault end old new told_old told_new
 
   -- ---- a load
   -- one life, in which one load of this geography was answered so
   abbrev pub LoadLived : GeographyModel → Answer → Type 0
   LoadLived area a = (arc : Arc GeographyModel Global) × (arc.value ≡ area) × LivedOn g opened (Asked (RequestsHold (Load arc ∷ []) (a ∷ [])))
 
-  -- files that were refused touch no store
-  pub data LoadsLife (files left : Openings) : Type 0 where
-    loaded : (area : GeographyModel) → ReadsGeography files left (Ok area) → HasPrinted end → LoadLived area Loaded → LoadsLife files left
-    unloaded : (area : GeographyModel) → ReadsGeography files left (Ok area) → (why : StoreError) → end ≡ status_of_error why → LoadLived area (Unloaded why) → LoadsLife files left
-    barred : IsBarred → LoadsLife files left
-    not_opened : NoneOpened → LoadsLife files left
-    not_read : (fault : FileFault) → ReadsGeography files left (Err fault) → (end ≡ status_of_fault fault) ⊎ (end ≡ status.Memory) → none → LoadsLife files left
+  -- files that were refused touch no store, and their fault is told
+  pub data LoadsLife (files left : Openings) (old new told_old told_new : Written) : Type 0 where
+    loaded : (area : GeographyModel) → ReadsGeography files left (Ok area) → (text : List ℕ) → IsPrinted (codes "load") text end old new told_old told_new
+        → LoadLived area Loaded → LoadsLife files left old new told_old told_new
+    unloaded : (area : GeographyModel) → ReadsGeography files left (Ok area) → (why : StoreError) → IsRefused (fault_of_store why) end old new told_old told_new
+        → LoadLived area (Unloaded why) → LoadsLife files left old new told_old told_new
+    barred : (area : GeographyModel) → ReadsGeography files left (Ok area) → Bars old new told_old told_new → LoadsLife files left old new told_old told_new
+    not_opened : (area : GeographyModel) → ReadsGeography files left (Ok area) → OpensNone old new told_old told_new → LoadsLife files left old new told_old told_new
+    not_read : (fault : FileFault) → ReadsGeography files left (Err fault) → new ≡ old → Tells fault end told_old told_new → none
+        → LoadsLife files left old new told_old told_new
 
   -- ---- a sweep
   -- one life, in which one sweep was answered so
@@ -46,24 +55,22 @@ module _ {D : Type 0} (g : Ghosts D) (opened : D → Type 0) (none : Type 0) (en
   SweepLived a = LivedOn g opened (Asked (RequestsHold (Sweep ∷ []) (a ∷ [])))
 
   -- a sweep is given up after more rows than a store has
-  pub data SweepsLife : Type 0 where
-    swept : HasPrinted end → (rows : ℕ) → SweepLived (Swept rows) → SweepsLife
-    unswept : (why : StoreError) → end ≡ status_of_error why → SweepLived (Unswept why) → SweepsLife
-    endless : end ≡ status.Store → (rows : ℕ) → 2 ^ 48 ≤ rows → SweepLived (Swept rows) → SweepsLife
-    barred : IsBarred → SweepsLife
-    not_opened : NoneOpened → SweepsLife
+  pub data SweepsLife (old new told_old told_new : Written) : Type 0 where
+    swept : (rows : ℕ) → IsPrinted (codes "sweep") (rows_text (codes "swept ") rows) end old new told_old told_new → SweepLived (Swept rows)
+        → SweepsLife old new told_old told_new
+    unswept : (why : StoreError) → IsRefused (fault_of_store why) end old new told_old told_new → SweepLived (Unswept why) → SweepsLife old new told_old told_new
+    endless : (rows : ℕ) → 2 ^ 48 ≤ rows → IsRefused NotAStore end old new told_old told_new → SweepLived (Swept rows) → SweepsLife old new told_old told_new
+    barred : Bars old new told_old told_new → SweepsLife old new told_old told_new
+    not_opened : OpensNone old new told_old told_new → SweepsLife old new told_old told_new
 
   -- ---- a migration
-  pub data MigratesLife : Type 0 where
-    whole : HasPrinted end → LivedOn g opened (LedHolds led.Whole) → MigratesLife
-    stopped : (why : StoreError) → end ≡ status_of_error why → LivedOn g opened (LedHolds (led.Stopped why)) → MigratesLife
-    endless : end ≡ status.Store → (rows : ℕ) → 2 ^ 48 ≤ rows → LivedOn g opened (LedHolds led.InPart) → MigratesLife
-    barred : (why : StoreError) → end ≡ status_of_error why → LivedOn g opened (LedHolds (led.Unopened why)) → MigratesLife
-    not_opened : NoneOpened → MigratesLife
-
-  -- ---- a store that is looked at
-  -- nothing was asked of it, and it has the desk that it had
-  pub data LooksLife : Type 0 where
-    looked : LivedOn g opened (Asked (RequestsHold [] [])) → LooksLife
-    barred : IsBarred → LooksLife
-    not_opened : NoneOpened → LooksLife
+  pub data MigratesLife (old new told_old told_new : Written) : Type 0 where
+    whole : (rows : ℕ) → IsPrinted (codes "migrate") (rows_text (codes "migrated to version 2, ") rows) end old new told_old told_new
+        → LivedOn g opened (LedHolds led.Whole) → MigratesLife old new told_old told_new
+    stopped : (why : StoreError) → IsRefused (fault_of_store why) end old new told_old told_new → LivedOn g opened (LedHolds (led.Stopped why))
+        → MigratesLife old new told_old told_new
+    endless : (rows : ℕ) → 2 ^ 48 ≤ rows → IsRefused NotAStore end old new told_old told_new → LivedOn g opened (LedHolds led.InPart)
+        → MigratesLife old new told_old told_new
+    barred : (why : StoreError) → IsRefused (fault_of_store why) end old new told_old told_new → LivedOn g opened (LedHolds (led.Unopened why))
+        → MigratesLife old new told_old told_new
+    not_opened : OpensNone old new told_old told_new → MigratesLife old new told_old told_new

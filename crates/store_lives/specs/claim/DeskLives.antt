@@ -1,10 +1,15 @@
 -- Lives of a store, as those see them who ask it: what they asked, and what they were told.
-use Rattle.std.specs.{Prelude.{◌≡◌, ◌⊎◌, ◌≤◌, ◌<◌, ℕ, List, [], ◌∷◌, Option, Some, None, Result, Ok, Err, Vec, ⊤}, declared.alloc.Global.Global}
+use Rattle.std.specs.{Prelude.{◌≡◌, ◌⊎◌, ◌<◌, ℕ, List, [], ◌∷◌, Option, Some, None, Result, Vec, ⊤}, declared.alloc.Global.Global}
 use Rattle.{desk_catalogue.specs.claim.Audits.AskMay, desk_model.specs.{claim.{Desk.Desk, Geography.GeographyModel, Outcome.CommandMay, Step.step}, declared.reply.Reply.Reply}}
-use Rattle.{desk_model.specs.declared.reply.{Refusal.TheVariants.Halted, Reply.TheVariants.Refused}, desk_pages.specs.declared.error.StoreError.StoreError}
-use Rattle.store_lives.specs.declared.desk_lives.{Answer.{Answer, TheVariants.{Said, Loaded, Unloaded, Swept, Unswept}}, Request.{Request, TheVariants.{Change, Look, Load, Sweep}}}
+use Rattle.{desk_model.specs.declared.{command.Command.Command, reply.{Refusal.TheVariants.Halted, Reply.TheVariants.Refused}}, store_lives.specs.declared.desk_lives.Answer.Answer}
+use Rattle.{desk_pages.specs.declared.error.StoreError.StoreError, store_lives.specs.declared.desk_lives.Answer.TheVariants.{Said, Loaded, Unloaded, Swept, Unswept}}
+use Rattle.store_lives.specs.declared.desk_lives.Request.{Request, TheVariants.{Change, Look, Load, Sweep}}
 use Rattle.std.specs.FinMap as map_of
 use Rattle.desk_pages.specs.declared.error.StoreError.TheVariants as store
+
+-- A command is answered by the step; or it is refused for want of room or of memory, which may come at any time, and nothing is changed.
+abbrev pub StepOrRefused : Desk → Command → Reply → Desk → Type 0
+StepOrRefused d c r next = CommandMay ⊥ ⊤ ⊥ d c r next
 
 abbrev pub loaded_desk : GeographyModel → Desk
 loaded_desk g = record { geography = Some g; plans = map_of.empty }
@@ -62,7 +67,7 @@ Lived t u d [] [] e = e ≡ d
 Lived t u d [] (a ∷ told) e = ⊥
 Lived t u d (Change c ∷ asked) [] e = ⊥
 Lived t u d (Change c ∷ asked) (a ∷ told) e =
-    ((r : Reply) × (next : Desk) × (a ≡ Said r) × CommandMay ⊥ ⊤ ⊥ d c r next × Lived t u next asked told e)
+    ((r : Reply) × (next : Desk) × (a ≡ Said r) × StepOrRefused d c r next × Lived t u next asked told e)
     ⊎ ((t < u) × (a ≡ Said (Refused Halted)) × FailsAt d (step d c).1 asked told e)
 Lived t u d (Look q ∷ asked) [] e = ⊥
 Lived t u d (Look q ∷ asked) (a ∷ told) e = (r : Reply) × (a ≡ Said r) × AskMay d q r × Lived t u d asked told e
@@ -77,35 +82,9 @@ Lived t u d (Sweep ∷ asked) (a ∷ told) e =
     ⊎ (((a ≡ Unswept store.Memory) × Lived t u d asked told e)
     ⊎ ((t < u) × IsUnswept a × FailsAt d d asked told e))
 
--- an opening may be refused for this where the device had failed t times before, and u times after it; it can be tried again: for want
--- of memory only where the device didn't fail in that life
-abbrev pub IsPassing : (t u : ℕ) → StoreError → Type 0
-IsPassing t u store.DeviceFault = t < u
-IsPassing t u store.Memory = u ≡ t
-IsPassing t u _ = ⊥
-
 -- what was asked in a life, and the replies, or why it was not opened
 abbrev pub Asked : Type 0
 Asked = Vec Request Global
 
 abbrev pub Told : Type 0
 Told = Result (Vec Answer Global) StoreError
-
--- one life, from the desk d on and to e: it was answered, or the store was not opened, and is as it was
-abbrev pub Life : (t u : ℕ) → Desk → Asked → Told → Desk → Type 0
-Life t u d asked (Ok told) e = Lived t u d asked.items told.items e
-Life t u d asked (Err why) e = IsPassing t u why × (e ≡ d)
-
--- Life after life, where `life` says what one may come to.
-module _ {Store Asks Tells : Type 0} (life : (t u : ℕ) → Store → Asks → Tells → Store → Type 0) where
-  -- From the desk d on and to e: each life begins with the desk that the stop before it left. The device had failed t times before, and u
-  -- times in the end. A store may be told by more than its desk.
-  abbrev pub LifeAfterLife : (t u : ℕ) → Store → List Asks → List Tells → Store → Type 0
-  LifeAfterLife t u d [] [] e = (t ≤ u) × (e ≡ d)
-  LifeAfterLife t u d [] (told ∷ answers) e = ⊥
-  LifeAfterLife t u d (asked ∷ lives) [] e = ⊥
-  LifeAfterLife t u d (asked ∷ lives) (told ∷ answers) e =
-      (s : ℕ) × (t ≤ s) × (next : Store) × life t s d asked told next × LifeAfterLife s u next lives answers e
-
-abbrev pub Lives : (t u : ℕ) → Desk → List Asked → List Told → Desk → Type 0
-Lives t u d lives answers e = LifeAfterLife Life t u d lives answers e

@@ -3,7 +3,7 @@
 use Rattle.std.specs.Prelude.{◌≡◌, ◌⊎◌, ◌<◌, ◌≤◌, ◌^◌, ℕ, Bool, true, false, Option, List, [], Some, None, Contains, MatchOption}
 use Rattle.store_rows.specs.claim.{Holders.{IsHeld, AreTallied}, Lists.{chunks_bytes, districts_bytes, AreChunks, AreDistricts}, Rows.{KeyMap, row_in, Has}}
 use Rattle.store_rows.specs.claim.Keys.{RowKey, key_of, Fits, counters, retired, begun, holding, named, part, seal, version, block, pair, chunk, in_four}
-use Rattle.store_rows.specs.{claim.Values.{counters_bytes, plan_bytes, seal_bytes}, declared.value.{Counters.Counters, PlanRow.PlanRow, SealRow.SealRow}}
+use Rattle.store_rows.specs.{claim.Values.{counters_bytes, plan_bytes, seal_bytes}, declared.value.{Counters.Counters, SealRow.SealRow, StoredPlan.StoredPlan}}
 use Rattle.std.specs.FinMap as map_of
 
 -- before the first row of counters no number was given
@@ -22,7 +22,7 @@ pub record CountersFit (next : Counters) : Type 0 where
 
 -- the row of a plan that has this number
 pub record IsNumbered (m : KeyMap) (name : List ℕ) (number : ℕ) : Type 0 where
-  pub plan : PlanRow
+  pub plan : StoredPlan
   pub row : Has m (named name) (plan_bytes plan)
   pub is : plan.number ≡ number
   pub fits : number < 2 ^ 64
@@ -99,7 +99,7 @@ IsPiece value = (districts : List ℕ) × AreDistricts districts × (value ≡ d
 pub record AreCounted (m : KeyMap) : Type 0 where
   pub parts : (plan revision index : ℕ) (value : List ℕ) → Fits (part plan revision index) → Has m (part plan revision index) value → IsPart value
   pub pieces : (number piece : ℕ) (value : List ℕ) → Fits (chunk number piece) → Has m (chunk number piece) value → IsPiece value
-  pub counted : (name : List ℕ) (p : PlanRow) → p.number < 2 ^ 64 → p.revisions < 2 ^ 32 → Has m (named name) (plan_bytes p)
+  pub counted : (name : List ℕ) (p : StoredPlan) → p.number < 2 ^ 64 → p.revisions < 2 ^ 32 → Has m (named name) (plan_bytes p)
       → (revision index : ℕ) (value : List ℕ) → Fits (part p.number revision index)
       → Has m (part p.number revision index) value → (0 < revision) × (revision ≤ p.revisions)
 

@@ -1,7 +1,7 @@
 -- The values of rows. Each number stands in its bytes, the highest first.
 use Rattle.std.specs.Prelude.{ℕ, List, ◌++◌, Option, Some, None}
 use Rattle.{desk_model.specs.declared.{block.BlockRow.BlockRow, kind.Kind.{Kind, TheVariants.{Congress, Senate, House}}}, store_rows.specs.declared.value.Counters.Counters}
-use Rattle.store_rows.specs.{claim.Keys.{in_one, in_two, in_four, in_eight}, declared.value.{PlanRow.PlanRow, SealRow.SealRow}}
+use Rattle.store_rows.specs.{claim.Keys.{in_one, in_two, in_four, in_eight}, declared.value.{SealRow.SealRow, StoredPlan.StoredPlan}}
 
 abbrev pub counters_bytes : Counters → List ℕ
 counters_bytes c = in_eight c.plan ++ (in_eight c.chunk ++ in_eight c.load)
@@ -11,7 +11,7 @@ kind_code Congress = 0
 kind_code Senate = 1
 kind_code House = 2
 
-abbrev pub plan_bytes : PlanRow → List ℕ
+abbrev pub plan_bytes : StoredPlan → List ℕ
 plan_bytes p = in_eight p.number ++ (in_one (kind_code p.kind) ++ (in_two p.districts ++ in_four p.revisions))
 
 abbrev pub seal_bytes : SealRow → List ℕ

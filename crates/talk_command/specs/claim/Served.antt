@@ -2,11 +2,11 @@
 use Rattle.std.{specs.{Io.KnownBytes.{Appends, Consumes}, Prelude.{◌≡◌, ℕ, ◌+◌, Bool, true, false, List, [], ◌∷◌, ◌++◌, Option, Result, Ok, Err}}, proofs.Common.{inl, inr}}
 use Rattle.{desk_catalogue.specs.claim.Audits.AskMay, desk_model.specs.declared.{command.{Command.Command, Query.Query}, reply.Reply.Reply}}
 use Rattle.desk_runs.specs.{claim.Runs.{Call, Run, Survives}, desk_store.{claim.{Clerks.{desk_of, disk_of, Keeps}, Commands.Does}, declared.clerk.Clerk.Clerk}}
-use Rattle.http_desk.specs.{claim.{Serving.{ServesTo, IsShortTalk}, Talk.{Talk, MayAnswer}}, declared.serve.{Served.Served, StreamFault.StreamFault}}
+use Rattle.http_desk.specs.{claim.{Serving.{ServesTo, IsShortTalk}, Talk.{Talk, MayAnswer}}, declared.serve.{ServeFault.ServeFault, Served.Served}}
 use Rattle.http_desk.specs.{http_routes.{claim.Orders.order_of, declared.order.Order.Order}, http_wire.claim.Prefix.{closes_after, is_head}}
 use Rattle.sector_device.specs.declared.SectorDevice.{Ghosts}
 use Rattle.http_desk.specs.http_routes.declared.order.Order.TheVariants as order
-use Rattle.http_desk.specs.declared.serve.StreamFault.TheVariants as fault
+use Rattle.http_desk.specs.declared.serve.ServeFault.TheVariants as fault
 
 module _ {D : Type 0} {g : Ghosts D} where
   -- what a clerk is at a counter: commands are done, and a query changes nothing
@@ -42,12 +42,12 @@ module _ {D : Type 0} {g : Ghosts D} where
       (answers ++ []) (cut.count + 0) false y (cut.on [] [] 0 false y (Talk.over y))
 
   -- the commands of a served stream; where the writer failed, of all that was answered
-  abbrev pub calls_served : (x : Clerk D g) (result : Result Served StreamFault) (left : Option (List ℕ)) (input output : List ℕ) (y : Clerk D g)
+  abbrev pub calls_served : (x : Clerk D g) (result : Result Served ServeFault) (left : Option (List ℕ)) (input output : List ℕ) (y : Clerk D g)
       → ServesTo DoesAtCounter AsksAtCounter x result left input output y → List Call
   calls_served x (Ok s) left input output y serves = calls_in x input output s.requests serves.0 y serves.1
-  calls_served x (Err fault.Read) left input output y serves = short_calls x input output y serves
+  calls_served x (Err fault.ReadFault) left input output y serves = short_calls x input output y serves
   calls_served x (Err fault.TurnLimit) left input output y serves = short_calls x input output y serves
-  calls_served x (Err fault.Write) left input output y serves =
+  calls_served x (Err fault.WriteFault) left input output y serves =
       calls_in x serves.over_prefix.prefix serves.answers serves.over_prefix.count serves.over_prefix.shut y serves.over_prefix.talk
   calls_served x (Err fault.Memory) left input output y serves = []
 
@@ -57,12 +57,12 @@ module _ {D : Type 0} {g : Ghosts D} where
     pub survives : Keeps x → x.halted ≡ false → (disk_of y).is_honest → Survives x calls y run
 
   abbrev pub SurvivesEachStream : Clerk D g → Type 0
-  SurvivesEachStream x = (result : Result Served StreamFault) (left : Option (List ℕ)) (input output : List ℕ) (y : Clerk D g)
+  SurvivesEachStream x = (result : Result Served ServeFault) (left : Option (List ℕ)) (input output : List ℕ) (y : Clerk D g)
       (serves : ServesTo DoesAtCounter AsksAtCounter x result left input output y)
       → StreamSurvives x (calls_served x result left input output y serves) y
 
   -- a served stream, and what a stop at any moment of it leaves
-  pub record ServesDurably (x : Clerk D g) (result : Result Served StreamFault)
+  pub record ServesDurably (x : Clerk D g) (result : Result Served ServeFault)
       (y : Clerk D g) (unread left before after : Option (List ℕ)) : Type 0 where
     pub input : List ℕ
     pub output : List ℕ

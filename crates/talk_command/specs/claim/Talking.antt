@@ -3,15 +3,15 @@ use Rattle.std.specs.{Io.KnownBytes.{Appends, Consumes}, Prelude.{◌≡◌, ◌
 use Rattle.{byte_stream.specs.claim.Counts.counted, command_output.specs.declared.status.Status.{Status, TheVariants.{Done, Memory, Stream}}, desk_theorem.specs.claim.Streams.Ends}
 use Rattle.{desk_catalogue.specs.claim.Audits.AskMay, desk_model.specs.{claim.Sample.sample_desk, declared.{command.{Command.Command, Query.Query}, reply.Reply.Reply}}}
 use Rattle.desk_runs.specs.desk_store.{claim.{Clerks.{desk_of, disk_of, is_halted, room_of, sectors_of, Keeps}, Commands.Does}, declared.clerk.Clerk.Clerk}
-use Rattle.{desk_theorem.specs.{claim.{Device.LeadsTo, OneLife.{Asked, StreamHolds}}, store_lives.claim.Versions.version_2}, http_desk.specs.declared.serve.Served.Served}
-use Rattle.{http_desk.specs.{claim.Serving.{read_failures, write_failures}, declared.serve.StreamFault.StreamFault}, sector_device.specs.declared.SectorDevice.Ghosts}
+use Rattle.{desk_theorem.specs.{claim.{Device.LeadsTo, OneLife.{Asked, StreamHolds}}, store_lives.claim.Versions.version_2}, http_desk.specs.declared.serve.ServeFault.ServeFault}
+use Rattle.{http_desk.specs.{claim.Serving.{read_failures, write_failures}, declared.serve.Served.Served}, sector_device.specs.declared.SectorDevice.Ghosts}
 use Rattle.talk_command.specs.claim.Served.{ServesDurably}
-use Rattle.http_desk.specs.declared.serve.StreamFault.TheVariants as fault
+use Rattle.http_desk.specs.declared.serve.ServeFault.TheVariants as fault
 
-abbrev pub status_of : Result Served StreamFault → Status
+abbrev pub status_of : Result Served ServeFault → Status
 status_of (Ok served) = Done
-status_of (Err fault.Read) = Stream
-status_of (Err fault.Write) = Stream
+status_of (Err fault.ReadFault) = Stream
+status_of (Err fault.WriteFault) = Stream
 status_of (Err fault.Memory) = Memory
 status_of (Err fault.TurnLimit) = Stream
 
@@ -21,7 +21,7 @@ ends_of unread turns failed_reads written failed_writes =
     record { unread = unread; turns = turns; failed_reads = failed_reads; written = written; failed_writes = failed_writes }
 
 -- no clerk could be made, and nothing was read or written
-pub record IsUnserved (served : Result Served StreamFault) (old new : Ends) : Type 0 where
+pub record IsUnserved (served : Result Served ServeFault) (old new : Ends) : Type 0 where
   pub memory : served ≡ Err fault.Memory
   pub reads : Consumes old.unread new.unread []
   pub writes : Appends old.written new.written []
@@ -37,7 +37,7 @@ module _ {D : Type 0} (g : Ghosts D) where
   -- What was written is a talk over what was read, of a clerk whose store keeps the sample desk in 2,000 sectors with 256 journal pages,
   -- and whose device has not failed; and since each acknowledgement what a stop leaves opens to a desk that has it. So this is one life of
   -- that store.
-  pub record ServesClerk (served : Result Served StreamFault) (old new : Ends) : Type 0 where
+  pub record ServesClerk (served : Result Served ServeFault) (old new : Ends) : Type 0 where
     pub clerk : Clerk D g
     pub keeps : Keeps clerk
     pub desk : desk_of clerk ≡ sample_desk
@@ -50,7 +50,7 @@ module _ {D : Type 0} (g : Ghosts D) where
     pub serves : ServesDurably clerk served last old.unread new.unread old.written new.written
     pub life : LeadsTo (Asked (StreamHolds old new served)) 2000 (disk_of clerk).faults (version_2, sample_desk) (disk_of last)
 
-  abbrev pub ServesSample : Result Served StreamFault → (old new : Ends) → Type 0
+  abbrev pub ServesSample : Result Served ServeFault → (old new : Ends) → Type 0
   ServesSample served old new = ServesClerk served old new ⊎ IsUnserved served old new
 
   -- The same, and the status tells how it ended: a read fault or a write fault only where the reader or the writer failed, and the turn
@@ -58,6 +58,6 @@ module _ {D : Type 0} (g : Ghosts D) where
   abbrev pub Talks : Status → (unread left before after : Option (List ℕ))
       → (reads_failed reads_fail writes_failed writes_fail turned turns : ℕ) → Type 0
   Talks status unread left before after reads_failed reads_fail writes_failed writes_fail turned turns =
-      (served : Result Served StreamFault) × (status ≡ status_of served)
+      (served : Result Served ServeFault) × (status ≡ status_of served)
       × ServesSample served (ends_of unread turned reads_failed before writes_failed) (ends_of left turns reads_fail after writes_fail) × (reads_fail ≡ read_failures reads_failed served)
       × (writes_fail ≡ write_failures writes_failed served) × (served ≡ Err fault.TurnLimit → turns ≡ counted turned 4294967296)

@@ -1,4 +1,4 @@
-use Rattle.{std.proofs.Common.{◌*◌, ◌-◌, min}, audit_clauses.specs.claim.Breaks.AreBreaks}
+use Rattle.{std.proofs.Common.{◌*◌, ◌-◌, min}, audit_contiguity.specs.claim.Breaks.AreBreaks}
 use Rattle.audit_report.proofs.gather.all_breaks.Given as goal
 
 abbrev pub invariant-loop-piece : goal.invariant-loop-piece

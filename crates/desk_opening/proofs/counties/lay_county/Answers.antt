@@ -2,8 +2,8 @@ use Rattle.{std.proofs.Common.{◌≡◌, ◌++◌, List, ℕ, ap, sym, subst, �
 use Rattle.{desk_opening.proofs.Within.with_at_within, desk_pages.proofs.Looking.{fails, not_looked, refuses}}
 use Rattle.desk_opening.proofs.counties.lay_county.Goals as goal
 
-pub returns-in_err-append_chunk-clause-reads : goal.returns-in_err-append_chunk-clause-reads
-returns-in_err-append_chunk-clause-reads g c = fails c.from_residual.result c.in_err-append_chunk.ensures c.from_residual.ensures.1 (λ m is. (is.0, is.1.is))
+pub returns-in_err-get_chunk-clause-reads : goal.returns-in_err-get_chunk-clause-reads
+returns-in_err-get_chunk-clause-reads g c = fails c.from_residual.result c.in_err-get_chunk.ensures c.from_residual.ensures.1 (λ m is. (is.0, is.1.is))
 
 pub returns-then-len-range-clause-reads : goal.returns-then-len-range-clause-reads
 returns-then-len-range-clause-reads g c = search rules
@@ -18,10 +18,10 @@ pub returns-in-Ok-clause-reads : goal.returns-in-Ok-clause-reads
 returns-in-Ok-clause-reads g c = search rules
 
 pub returns-in-Err-clause-reads : goal.returns-in-Err-clause-reads
-returns-in-Err-clause-reads g c = not_looked c.in_ok-append_chunk.ensures.quiet tt
+returns-in-Err-clause-reads g c = not_looked c.in_ok-get_chunk.ensures.quiet tt
 
 pub returns-then-is_above-clause-reads : goal.returns-then-is_above-clause-reads
-returns-then-is_above-clause-reads g c = refuses c.in_ok-append_chunk.ensures (λ m appends is.
+returns-then-is_above-clause-reads g c = refuses c.in_ok-get_chunk.ensures (λ m appends is.
     let read : c.as_slice.result.now ≡ is.0 = c.as_slice.ensures.value ∙ appends.0 is.0 is.1.is ∙ ap (λ (l : List ℕ). l ++ is.0) c.clear.ensures.items in
     c.is_above.ensures.some c.if-is_above.true (subst (AreWithin c.args.n) (sym read) is.1.within))
 

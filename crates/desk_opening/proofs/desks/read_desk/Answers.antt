@@ -1,5 +1,5 @@
-use Rattle.{std.proofs.Common.{sym, subst, rules}, desk_opening.specs.Opening.OpenErr, page_btree.specs.claim.Map.InTxn as InTree, sector_device.specs.claim.Disk.Image}
-use Rattle.{store_check.specs.Owners.HasOwners, desk_opening.proofs.{Owned.{has_owners, parts_owned}, WholeDesks.{unkept, unopened, unread_unopened, then_unopened, still_reads}}}
+use Rattle.{std.proofs.Common.{sym, subst, rules}, desk_opening.specs.Opening.OpenErr, desk_opening_tidy.specs.Owners.HasOwners, page_btree.specs.gets.claim.Map.InTxn as InTree}
+use Rattle.{sector_device.specs.claim.Disk.Image, desk_opening.proofs.{Owned.{has_owners, parts_owned}, WholeDesks.{unkept, unopened, unread_unopened, then_unopened, still_reads}}}
 use Rattle.{desk_pages.proofs.Outcomes.err_of, page_store.proofs.Stops.{quiet_more, passed_more}}
 use Rattle.desk_opening.proofs.desks.read_desk.Goals as goal
 

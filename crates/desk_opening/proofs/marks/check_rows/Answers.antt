@@ -1,4 +1,4 @@
-use Rattle.{std.proofs.Common.rules, desk_pages.proofs.Looking.looks, store_check.proofs.Kept.seal_of}
+use Rattle.{std.proofs.Common.rules, desk_opening_tidy.proofs.Kept.seal_of, desk_pages.proofs.Looking.looks}
 use Rattle.desk_opening.proofs.marks.check_rows.Goals as goal
 
 pub returns : goal.returns

@@ -1,9 +1,9 @@
-use Rattle.{std.specs.{FinMap.{entries, find, get, insert}, Prelude.{Some, Option}}, btree_walks.specs.{Prefixes.under, Scanning.Rest, declared.rows.Row.Row}}
+use Rattle.{std.specs.{FinMap.{entries, find, get, insert}, Prelude.{Some, Option}}, btree_scan.specs.{Prefixes.under, Scanning.Rest, declared.rows.Row.Row}}
 use Rattle.{std.proofs.Common.{◌++◌, ℕ, List, [], ◌∷◌, Ok, sym, subst, ◌∙◌, arith, rules, ◌≡◌, Some, None, refl}, desk_catalogue.specs.Kept.AreWhole}
 use Rattle.{desk_model.specs.{Ranges.ranges_of, claim.{Desk.Plan, Geography.GeographyModel}}, desk_opening.specs.Opening.{ArePlans, IsNewPlan}, store_rows.specs.claim.Rows.KeyMap}
-use Rattle.{desk_pages.specs.Looking.{Gathers, Says}, page_btree.specs.page_node.claim.{Entries.Entry, Places.key_cmp}, store_rows.specs.claim.DeskRows.IsPlanAt}
+use Rattle.{desk_pages.specs.Looking.{Gathers, Says}, page_btree.specs.node.claim.{Entries.Entry, Places.key_cmp}, store_rows.specs.claim.DeskRows.IsPlanAt}
 use Rattle.{store_rows.specs.claim.Keys.{plans_prefix, key_of, named}, desk_opening.proofs.PlanNumbers.{AreNoted, all_apart, are_counts, noted_more, unused}}
-use Rattle.{btree_walks.proofs.Walked.{HasNext, walk_all, walk_begins, walk_ends, walk_next, walk_on, walk_passed, walk_quiet, walk_refused}, page_store.proofs.Stops.passed_more}
+use Rattle.{btree_scan.proofs.Walked.{HasNext, walk_all, walk_begins, walk_ends, walk_next, walk_on, walk_passed, walk_quiet, walk_refused}, page_store.proofs.Stops.passed_more}
 use Rattle.desk_opening.proofs.Parts.{Plans, AreRead, none_read, all_read, has_room, not_read, one_more_read, next_plan, none_whole}
 use Rattle.{desk_opening.proofs.Shown.{AreShown, none_shown, more_shown, all_shown}, desk_pages.proofs.Looking.{fails_then, looked, may_lack, not_looked}}
 use Rattle.desk_pages.proofs.Reading.{get_unread, less_sought}
@@ -38,8 +38,8 @@ pub loop-taken-init : goal.loop-taken-init
 loop-taken-init g c = record {
   begun = c.requires.begun;
   whole = subst (λ (plans : Plans). AreWhole (Some c.args.geography.now) plans) (sym c.new-plans.ensures) (none_whole c.args.geography.now);
-  walked = walk_begins c.args.pages.now c.new-scan.result c.new-scan.ensures.fault
-      (λ m. subst (λ (prefix : List ℕ). Rest c.new-scan.result (entries m) (under prefix (entries m))) (c.as_slice.ensures.bytes ∙ c.plans-prefix.ensures) (c.new-scan.ensures.rows m))
+  walked = walk_begins c.args.pages.now c.scan-scan.result c.scan-scan.ensures.fault
+      (λ m. subst (λ (prefix : List ℕ). Rest c.scan-scan.result (entries m) (under prefix (entries m))) (c.as_slice.ensures.bytes ∙ c.plans-prefix.ensures) (c.scan-scan.ensures.rows m))
       (λ m. search (rules, Plans, AreRead, none_read, none_shown m (ranges_of c.args.geography.now)));
 }
 

@@ -1,5 +1,5 @@
 use Rattle.{std.proofs.Common.{◌≡◌, Some}, desk_catalogue.specs.Kept.AreWhole, desk_model.specs.Ranges.ranges_of, desk_opening.{specs.Opening.ArePlans, proofs.Shown.AreShown}}
-use Rattle.{page_store.specs.claim.Transactions.{count_of, txn_pages}, store_rows.specs.claim.Keys.plans_prefix, btree_walks.proofs.Walked.HasWalked}
+use Rattle.{page_store.specs.claim.Transactions.{count_of, txn_pages}, store_rows.specs.claim.Keys.plans_prefix, btree_scan.proofs.Walked.HasWalked}
 use Rattle.desk_opening.proofs.{Parts.{Plans, AreRead}, PlanNumbers.AreNoted}
 use Rattle.desk_opening.proofs.rows.read_plans.Given as goal
 

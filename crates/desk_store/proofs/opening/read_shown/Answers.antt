@@ -1,6 +1,6 @@
-use Rattle.{std.proofs.Common.{sym, subst, ◌∙◌, rules}, desk_pages.{specs.declared.error.StoreError.StoreError, proofs.Refusals.calm_told}, desk_store.specs.Finding.FindErr}
-use Rattle.{page_store.specs.claim.Transactions.IsQuiet, desk_opening.proofs.WholeDesks.{still_reads, then_unopened}, desk_store.proofs.Prepared.{IsBegun, begun_reads}}
-use Rattle.{desk_store.proofs.Opened.{none_read, rows_begun, version_unread}, page_store.proofs.Stops.{quiet_more, passed_more}}
+use Rattle.{std.proofs.Common.{sym, ap, subst, ◌∙◌, rules}, desk_pages.{specs.declared.error.StoreError.StoreError, proofs.Refusals.calm_told}, desk_store.specs.Finding.FindErr}
+use Rattle.{page_store.specs.claim.Transactions.IsQuiet, store_rows.specs.claim.Tidy.version_row, desk_opening.proofs.WholeDesks.{still_reads, then_unopened}}
+use Rattle.{desk_store.proofs.{Opened.{none_read, old_refused, rows_begun, version_unread}, Prepared.{IsBegun, begun_reads}}, page_store.proofs.Stops.{quiet_more, passed_more}}
 use Rattle.desk_store.proofs.opening.read_shown.Given.{Over}
 use Rattle.desk_store.proofs.opening.read_shown.Goals.{After-begin-txn, After-read_desk}
 use Rattle.desk_store.proofs.opening.read_shown.Goals as goal
@@ -12,7 +12,12 @@ quiet : (g : Over) (c : After-read_desk g) → IsQuiet c.args.pages.now c.read_d
 quiet g c = quiet_more c.args.pages.now c.is_new.new.pages c.read_desk.new.pages c.is_new.ensures.quiet c.read_desk.ensures.reading.quiet
 
 pub returns-in-Ok-false-clause-reading : goal.returns-in-Ok-false-clause-reading
-returns-in-Ok-false-clause-reading g c = search (rules, quiet, rows_begun, begun)
+returns-in-Ok-false-clause-reading g c =
+    let a = c.args.pages.now in
+    let b = c.is_new.new.pages in
+    let d = c.refusal_of_old.new.pages in
+    let at = goal.at.returns-in-Ok-false-clause-reading g c in
+    search (rules, quiet_more a b d c.is_new.ensures.quiet c.refusal_of_old.ensures.quiet, old_refused a b d c.begin-txn.result c.refusal_of_old.result (begun g at.After-begin-txn) c.in-Ok-false.ensures.passed c.refusal_of_old.ensures.quiet (λ honest m holds. c.in-Ok-false.ensures.there honest m holds ∙ ap version_row c.in-Ok-false.field-0-test) c.refusal_of_old.ensures.why)
 
 pub returns-in-Err-clause-reading : goal.returns-in-Err-clause-reading
 returns-in-Err-clause-reading g c = search (rules, version_unread, begun)

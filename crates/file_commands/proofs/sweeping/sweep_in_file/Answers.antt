@@ -1,5 +1,5 @@
-use Rattle.{std.proofs.Common.{◌≡◌, refl}, inspect_command.proofs.store_command.Living.sweeps_life, file_commands.specs.Premises.IsJustOpened, sector_file.specs.Device.{file_disk, first_image}}
+use Rattle.{std.proofs.Common.{◌≡◌, ◌∙◌, false}, inspect_command.proofs.store_command.Living.sweeps_life, file_commands.specs.Premises.IsJustOpened, sector_file.specs.Device.{file_disk, first_image}}
 use Rattle.file_commands.proofs.sweeping.sweep_in_file.Goals as goal
 
 pub returns : goal.returns
-returns g c = sweeps_life _ _ _ (λ device. IsJustOpened (first_image g.S.Contents.sector) (file_disk device)) (λ before after. after.is_opened ≡ before.is_opened) (λ before name d after is. is.0.0) (λ before name f after is. is.1.1) (λ o. refl) _ _ _ _ _ _ _ _ c.sweep.ensures
+returns g c = sweeps_life _ _ _ (λ device. IsJustOpened (first_image g.S.Contents.sector) (file_disk device)) (λ o. o.is_opened ≡ false) (λ before name d after is. is.0.0) (λ before name f after is fresh. is.1.1 ∙ fresh) _ _ c.requires.fresh _ _ _ _ _ _ c.sweep.ensures

@@ -1,4 +1,4 @@
-use Rattle.{std.{specs.FinMap.entries, proofs.Common.{◌≡◌, sym, ◌∙◌, arith}}, btree_walks.specs.Prefixes.under, geo_tables.proofs.Along.all_in, page_store.proofs.Stops.quiet_none}
+use Rattle.{std.{specs.FinMap.entries, proofs.Common.{◌≡◌, sym, ◌∙◌, arith}}, btree_scan.specs.Prefixes.under, geo_tables.proofs.Along.all_in, page_store.proofs.Stops.quiet_none}
 use Rattle.{desk_pages.proofs.Looking.{begins, both, fails_then, finds, lacks_memory}, geo_tables.proofs.OneMore.{all_first, element_at, none_first, one_more_first}}
 use Rattle.geo_tables.proofs.reads.read_elements.Goals as goal
 
@@ -8,9 +8,9 @@ returns-in_err-all g c = lacks_memory c.from_residual.result (quiet_none c.args.
 pub loop-place-init : goal.loop-place-init
 loop-place-init g c = record {
   begun = c.requires.begun;
-  working = c.new-scan.ensures.fault;
+  working = c.scan-scan.ensures.fault;
   gathers = begins (λ m holds. (
-    (under c.as_slice.result.now (entries m), c.new-scan.ensures.rows m, all_in m c.as_slice.result.now),
+    (under c.as_slice.result.now (entries m), c.scan-scan.ensures.rows m, all_in m c.as_slice.result.now),
     none_first g.E.Element.bytes_of g.E.Element.fits (g.E.Element.key_at c.args.load) c.args.count m c.in_ok-all.all.items c.in_ok-all.ensures,
   ));
 }

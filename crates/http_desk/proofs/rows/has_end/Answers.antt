@@ -1,4 +1,4 @@
-use Rattle.{std.proofs.{Common.{◌≡◌, false, eqb, arith, rules}, lemmas.List.{take_all, Elements.All-more}}, byte_stream.proofs.ScanLemmas.{first_no, second_no}}
+use Rattle.{std.proofs.{Common.{◌≡◌, false, eqb, arith, rules}, lemmas.List.{take_all, Elements.All-more}}, field_text.proofs.ScanLemmas.{first_no, second_no}}
 use Rattle.http_desk.proofs.rows.has_end.Goals as goal
 
 pub loop-b-preserved : goal.loop-b-preserved

@@ -49,3 +49,6 @@ returns-clause-talks g c =
     let all = put g.C.Counter.commands g.C.Counter.asks c.args.counter.now handle.new.counter _ _ _ (g.R.Source.remaining c.next_request.new.reader) (stream.read_buffer ++ read.0) next.read_buffer stream.write_buffer next.write_buffer c.put_answer-next.new.write_buffer read.1
     handle.new.answer handle.result c.put_answer-next.result is.0 (queued_as _ _ stream.write_buffer read.2 next.write_buffer read.1 is.1 read.4) c.put_answer-next.ensures.bytes in
     (read.0, all.0, all.1, read.3, all.2, all.3, all.4)
+
+pub returns-clause-passed : goal.returns-clause-passed
+returns-clause-passed g c = λ is. c.handle-closes.ensures.passed (rw is at c.put_answer-next.ensures.bytes).0

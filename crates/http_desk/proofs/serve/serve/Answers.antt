@@ -1,5 +1,6 @@
-use Rattle.{std.proofs.{Common.{◌+◌, true, false, Ok, refl, ◌∙◌, arith, rules}, KnownBytes.Consumes-nil}, http_desk.specs.claim.Serving.{ServesTo, read_failures, write_failures}}
-use Rattle.{http_desk.proofs.TalkLemmas.{moved, asked_of, starts, goes, ends, fails}, http_intake.proofs.DrawsLemmas.{spends_more, spends_none}}
+use Rattle.{std.proofs.{Common.{◌+◌, ℕ, true, false, Ok, refl, subst, ◌∙◌, arith, rules}, KnownBytes.Consumes-nil}, http_desk.proofs.Passing.passed_more}
+use Rattle.http_desk.{specs.claim.Serving.{ServesTo, read_failures, write_failures}, proofs.TalkLemmas.{moved, asked_of, starts, goes, ends, fails}}
+use Rattle.http_intake.proofs.DrawsLemmas.{spends_more, spends_none}
 use Rattle.http_desk.proofs.serve.serve.Goals as goal
 
 pub loop-requests-init : goal.loop-requests-init
@@ -38,4 +39,11 @@ loop-requests-preserved g c =
       write_failures = c.in-Ok-Again.ensures.write_failures ∙ c.loop-requests.invariant.write_failures;
       turns = spends_more _ _ _ _ _ _ c.loop-requests.invariant.turns c.in-Ok-Again.ensures.turns;
       stands = goes g.C.Counter.commands g.C.Counter.asks c.args.counter.now c.loop-requests.counter c.exchange.new.counter _ _ _ _ _ _ c.loop-requests.stream.read_buffer c.exchange.new.stream.read_buffer c.loop-requests.stream.write_buffer c.exchange.new.stream.write_buffer t.0 t.1 t.2 c.loop-requests.requests c.loop-requests.invariant.stands t.3 t.4 t.5 t.6;
+      passed = passed_more (λ (k : ℕ). g.G.Hears.passes c.args.gate.now 0 k) c.loop-requests.requests c.loop-requests.invariant.passed (subst (λ (k : ℕ). g.G.Hears.passes c.args.gate.now 0 k) c.piece_of-piece.ensures ((rw c.in-Ok-Again.field-0-is at c.in-Ok-Again.ensures.passed) refl));
     }
+
+pub returns-in-Ok-Last-clause-passed : goal.returns-in-Ok-Last-clause-passed
+returns-in-Ok-Last-clause-passed g c = λ k few. c.loop-requests.invariant.passed k (omega (arith, few))
+
+pub returns-in-Ok-End-clause-passed : goal.returns-in-Ok-End-clause-passed
+returns-in-Ok-End-clause-passed g c = λ k few. c.loop-requests.invariant.passed k (omega (arith, few))

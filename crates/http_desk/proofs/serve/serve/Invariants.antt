@@ -1,4 +1,4 @@
-use Rattle.{std.proofs.Common.{◌≡◌, ◌+◌, ◌*◌, ◌≤◌}, http_intake.specs.Budget.{reading_left, Spends}, http_desk.proofs.TalkLemmas.Stands}
+use Rattle.{std.proofs.Common.{◌≡◌, ◌+◌, ◌*◌, ◌≤◌, ◌<◌, ℕ, min}, http_intake.specs.Budget.{reading_left, Spends}, http_desk.proofs.TalkLemmas.Stands}
 use Rattle.http_desk.proofs.serve.serve.Given as goal
 
 abbrev pub invariant-loop-requests : goal.invariant-loop-requests
@@ -8,6 +8,7 @@ invariant-loop-requests g l = record {
   write_failures : g.W.Sink.failures l.writer ≡ g.W.Sink.failures l.fn.writer;
   turns : Spends 4294967296 l.stream.turns (g.R.Source.turns l.fn.reader) (g.R.Source.turns l.reader);
   stands : Stands g.C.Counter.commands g.C.Counter.asks l.fn.counter (g.R.Source.remaining l.fn.reader) (g.R.Source.remaining l.reader) (g.W.Sink.contents l.fn.writer) (g.W.Sink.contents l.writer) l.counter l.stream.read_buffer l.stream.write_buffer l.requests;
+  passed : (k : ℕ) → k < l.requests → g.G.Hears.passes l.gate 0 (min k 4294967295);
 }
 
 abbrev pub decreases-loop-requests : goal.decreases-loop-requests

@@ -1,4 +1,4 @@
-use Rattle.{std.proofs.Common.rules, inspect_command.proofs.Since.{failed_first, verified_since}, parallel_verify.proofs.Seen.agreed}
+use Rattle.{std.proofs.Common.rules, inspect_command.proofs.Since.{failed_first, verified_since}, store_verification.proofs.Seen.agreed}
 use Rattle.inspect_command.proofs.beside.verify_beside.Goals as goal
 
 pub open_sound-requires-clause-sound : goal.open_sound-requires-clause-sound

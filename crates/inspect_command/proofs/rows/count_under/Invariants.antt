@@ -1,4 +1,4 @@
-use Rattle.{std.proofs.Common.{◌≡◌, length}, page_store.specs.claim.Transactions.{count_of, txn_pages}, btree_walks.proofs.Walked.HasWalked}
+use Rattle.{std.proofs.Common.{◌≡◌, length}, page_store.specs.claim.Transactions.{count_of, txn_pages}, btree_scan.proofs.Walked.HasWalked}
 use Rattle.inspect_command.proofs.rows.count_under.Given as goal
 
 abbrev pub invariant-loop-taken : goal.invariant-loop-taken

@@ -1,4 +1,4 @@
-use Rattle.{std.proofs.Common.{◌≡◌, true, sym, ap, ◌∙◌, rules}, desk_model.specs.{Ranges.ranges_in, claim.Desk.Desk}, page_btree.specs.claim.Map.InTxn}
+use Rattle.{std.proofs.Common.{◌≡◌, true, sym, ap, ◌∙◌, rules}, desk_model.specs.{Ranges.ranges_in, claim.Desk.Desk}, page_btree.specs.gets.claim.Map.InTxn}
 use Rattle.{inspect_command.proofs.Unsound.{opening_check, whole_check, holdings_check, then_check, still, found_as, found_stray, not_stray}, page_store.proofs.Stops.passed_more}
 use Rattle.inspect_command.proofs.verifying.check_desk.Goals as goal
 

@@ -1,4 +1,4 @@
-use Rattle.{std.proofs.Common.rules, inspect_command.specs.Sound.UnsoundIn, page_btree.specs.claim.Map.InTxn}
+use Rattle.{std.proofs.Common.rules, inspect_command.specs.Sound.UnsoundIn, page_btree.specs.gets.claim.Map.InTxn}
 use Rattle.inspect_command.proofs.Unsound.{then_check, told_as, unsound_told, old_unsound, sound_as, still}
 use Rattle.inspect_command.proofs.verifying.find_desk.Goals as goal
 

@@ -1,5 +1,5 @@
 use Rattle.{std.proofs.Common.{ℕ, List, length, Ok, Err, ap, arith, rules}, desk_model.specs.claim.Room.fork_rows, plan_revisions.specs.{Forking.HasSource, Plans.TakesFork}}
-use Rattle.{desk_pages.proofs.Writing.{does, told_on}, plan_revisions.proofs.{Forking.{forks, none_left}, LastRevision.sought_said}, plan_rows.proofs.Writing.{only_read, unread}}
+use Rattle.{chunk_table.proofs.Writing.{only_read, unread}, desk_pages.proofs.Writing.{does, told_on}, plan_revisions.proofs.{Forking.{forks, none_left}, LastRevision.sought_said}}
 use Rattle.plan_revisions.proofs.forks.fork.Goals as goal
 
 pub returns-in_err-read : goal.returns-in_err-read

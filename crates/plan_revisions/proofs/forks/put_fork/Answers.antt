@@ -1,4 +1,4 @@
-use Rattle.{std.proofs.Common.{arith, rules}, desk_pages.proofs.Writing.told_on, page_store.proofs.Stops.quiet_more, plan_rows.proofs.Writing.{after_reads, writes_as}}
+use Rattle.{std.proofs.Common.{arith, rules}, chunk_table.proofs.Writing.{after_reads, writes_as}, desk_pages.proofs.Writing.told_on, page_store.proofs.Stops.quiet_more}
 use Rattle.plan_revisions.proofs.Forking.{not_made, not_held, made_held, not_shared, all_put}
 use Rattle.plan_revisions.proofs.forks.put_fork.Goals as goal
 

@@ -1,6 +1,6 @@
-use Rattle.{std.proofs.Common.{◌≡◌, ◌≢◌, ◌∙◌, ◌++◌, List, ℕ, [], length, Option, rules, ap, subst, arith}, plan_rows.specs.PlanRows.IsFound, plan_revisions.proofs.Desks.row_found}
-use Rattle.{store_rows.specs.declared.value.PlanRow.PlanRow, desk_pages.proofs.Looking.{both, fails, fails_then, finds, gathered, refuses}, plan_revisions.proofs.Retiring.not_none}
-use Rattle.plan_revisions.proofs.Forking.{names_there}
+use Rattle.{std.proofs.Common.{◌≡◌, ◌≢◌, ◌∙◌, ◌++◌, List, ℕ, [], length, Option, rules, ap, subst, arith}, plan_revisions.{specs.PlanRows.IsFound, proofs.Desks.row_found}}
+use Rattle.{store_rows.specs.declared.value.StoredPlan.StoredPlan, desk_pages.proofs.Looking.{both, fails, fails_then, finds, gathered, refuses}}
+use Rattle.plan_revisions.proofs.{Forking.names_there, Retiring.not_none}
 use Rattle.plan_revisions.proofs.forks.read_source.Goals as goal
 
 pub returns-in_err-row-clause-gathers : goal.returns-in_err-row-clause-gathers
@@ -18,7 +18,7 @@ pub returns-in_err-append_names-clause-gathers : goal.returns-in_err-append_name
 returns-in_err-append_names-clause-gathers g c =
     fails_then (both (gathered _ c.in_ok-row.ensures) (gathered _ c.in_ok-next.ensures.looks)) c.from_residual-in_err-append_names.result c.in_err-append_names.ensures c.from_residual-in_err-append_names.ensures.1
     (λ m read said. names_there c.plans_are_told.ensures c.lists_are_cut.ensures said.g c.args.from.now c.args.revision c.in-Some.row c.args.count said.many (search rules) m said.desk.0
-    (subst (λ (o : Option PlanRow). IsFound m c.args.from.now o) c.in-Some.is read.0) said.desk.1 said.desk.2)
+    (subst (λ (o : Option StoredPlan). IsFound m c.args.from.now o) c.in-Some.is read.0) said.desk.1 said.desk.2)
 
 pub returns-then-len-count-clause-gathers : goal.returns-then-len-count-clause-gathers
 returns-then-len-count-clause-gathers g c =
@@ -26,14 +26,14 @@ returns-then-len-count-clause-gathers g c =
     let other : length c.append_names.new.into.items ≢ c.args.count = search rules in
     refuses (both (both (gathered _ c.in_ok-row.ensures) (gathered _ c.in_ok-next.ensures.looks)) c.in_ok-append_names.ensures) (λ m read said.
     let names = names_there c.plans_are_told.ensures c.lists_are_cut.ensures said.g c.args.from.now c.args.revision c.in-Some.row c.args.count said.many (search rules) m said.desk.0
-    (subst (λ (o : Option PlanRow). IsFound m c.args.from.now o) c.in-Some.is read.0.0) said.desk.1 said.desk.2 in
+    (subst (λ (o : Option StoredPlan). IsFound m c.args.from.now o) c.in-Some.is read.0.0) said.desk.1 said.desk.2 in
     other (ap length (read.1.0 names.0 names.1 ∙ ap (λ (l : List ℕ). l ++ names.0) none) ∙ names.1.long))
 
 pub returns-clause-gathers : goal.returns-clause-gathers
 returns-clause-gathers g c =
     let none : c.new-kept.result.items ≡ [] = search rules in
     finds (both (both (gathered _ c.in_ok-row.ensures) (gathered _ c.in_ok-next.ensures.looks)) c.in_ok-append_names.ensures) (λ m read. record {
-      found = subst (λ (o : Option PlanRow). IsFound m c.args.from.now o) c.in-Some.is read.0.0;
+      found = subst (λ (o : Option StoredPlan). IsFound m c.args.from.now o) c.in-Some.is read.0.0;
       is_next = read.0.1;
       names = λ numbers are. read.1.0 numbers are ∙ ap (λ (l : List ℕ). l ++ numbers) none;
     })

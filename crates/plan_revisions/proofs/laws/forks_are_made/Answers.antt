@@ -1,14 +1,14 @@
 use Rattle.std.{specs.{FinMap.{FinMap, insert}, Prelude.Contains}, proofs.Common.{rules, ◌≡◌, ◌<◌, ◌≤◌, ◌*◌, ◌^◌, ℕ, true, List, [], ◌∷◌, length, Some, refl, ap, subst, arith}}
 use Rattle.{std.proofs.lemmas.List.Elements.{All-cons, All-contains, All-nil}, desk_model.specs.{Ranges.{ranges_of, RangesAreCounties, ListsAreCut}, claim.Ranges.cut}}
 use Rattle.{desk_model.specs.{claim.{Desk.{Plan, Desk, name_cmp}, Geography.GeographyModel}, declared.kind.Kind.Kind}, desk_pages.specs.claim.Desks.{AreWithin, IsDeskMap}}
-use Rattle.plan_revisions.specs.{Forking.{CanMake, IsSource, MakesFork, forked_map, row_like, with_made}, Plans.{HasRevisionAt, TakesFork, with_fork, with_plan}}
-use Rattle.{plan_rows.specs.{PlanLaws.{PlansAreMade, PlansAreTold, RowFits}, PlanRows.IsFound}, store_rows.specs.{Changes.{desk_with, plan_row_of}, ForkLaws.SharesMakeDesks}}
+use Rattle.plan_revisions.specs.{Forking.{CanMake, IsSource, MakesFork, forked_map, row_like, with_made}, PlanLaws.{PlansAreMade, PlansAreTold, RowFits}, PlanRows.IsFound}
+use Rattle.{plan_revisions.specs.Plans.{HasRevisionAt, TakesFork, with_fork, with_plan}, store_rows.specs.{Changes.{desk_with, plan_row_of}, ForkLaws.SharesMakeDesks}}
 use Rattle.store_rows.specs.{RevisionSteps.AreKept, Rows.SameTag, Shares.with_shared, Steps.{chunks_more, one_plan_more}, claim.{DeskRows.{HasPlan, IsDesk}, Rows.KeyMap}}
 use Rattle.store_rows.specs.{TidyLaws.{ChunksAreKept, MakesRevision, NextIsOne, PlansComeAndGoTidily}, claim.RevisionRows.HasRevision, declared.value.Counters.Counters}
-use Rattle.{store_rows.specs.declared.value.PlanRow.PlanRow, desk_model.proofs.Maps.insert_again, plan_revisions.proofs.{ChunkLists.few_counties, Creating.{IsSize, created_desk}}}
-use Rattle.plan_revisions.proofs.{Desks.{is_with, is_still, numbers_are}, LastRevision.{as_many, told_plan, last_named}, Limits.{put_there, with_one_more}, Within.revision_within}
-use Rattle.{plan_revisions.proofs.Looking.{StandsAt, stands_at}, plan_rows.proofs.Made.{numbers_moved, rows_keep}, store_rows.proofs.{Forked.can_hold, TidyParts.naming_moves}}
-use Rattle.store_rows.proofs.Frames.{chunk_stays, other_tag, put_is_there, put_keeps}
+use Rattle.{store_rows.specs.declared.value.StoredPlan.StoredPlan, desk_model.proofs.Maps.insert_again, plan_revisions.proofs.{ChunkLists.few_counties, Within.revision_within}}
+use Rattle.plan_revisions.proofs.{Creating.{IsSize, created_desk}, Desks.{is_with, is_still, numbers_are}, LastRevision.{as_many, told_plan, last_named}}
+use Rattle.{plan_revisions.proofs.{Limits.{put_there, with_one_more}, Looking.{StandsAt, stands_at}, Made.{numbers_moved, rows_keep}}, store_rows.proofs.Forked.can_hold}
+use Rattle.store_rows.proofs.{Frames.{chunk_stays, other_tag, put_is_there, put_keeps}, TidyParts.naming_moves}
 use Rattle.plan_revisions.proofs.laws.forks_are_made.Goals as goal
 
 -- The rows of a fork make the desk with it.
@@ -20,14 +20,14 @@ kept_stay m n plan numbers counties parts pieces kept = record {
 }
 
 module _ (told : PlansAreTold) (made : PlansAreMade) (tidily : PlansComeAndGoTidily) (one : NextIsOne) (kept_law : ChunksAreKept) (shares : SharesMakeDesks) (counties : RangesAreCounties) (cut_law : ListsAreCut) where
-  module _ (g : GeographyModel) (name : List ℕ) (from : List ℕ × ℕ) (source : PlanRow) (next : Counters) (numbers : List ℕ) (can : CanMake g name source next) (m : KeyMap) (d : Desk) (is : IsDeskMap m d) (says : TakesFork g name from d) (read : IsSource from (length (ranges_of g)) source next numbers m) where
+  module _ (g : GeographyModel) (name : List ℕ) (from : List ℕ × ℕ) (source : StoredPlan) (next : Counters) (numbers : List ℕ) (can : CanMake g name source next) (m : KeyMap) (d : Desk) (is : IsDeskMap m d) (says : TakesFork g name from d) (read : IsSource from (length (ranges_of g)) source next numbers m) where
     abbrev origin : HasRevisionAt g from.0 from.1 d says.districts
     origin = says.source
 
     abbrev size : Kind × ℕ
     size = (source.kind, source.districts)
 
-    abbrev row : PlanRow
+    abbrev row : StoredPlan
     row = row_like source next.plan
 
     abbrev then : KeyMap
@@ -63,8 +63,8 @@ module _ (told : PlansAreTold) (made : PlansAreMade) (tidily : PlansComeAndGoTid
     sized =
         let limits = is.limits.sizes from.0 origin.plan origin.there in
         let some = limits.some in
-        let kind : source.kind ≡ origin.plan.kind = ap (λ (r : PlanRow). r.kind) source_is.0 in
-        let n : source.districts ≡ origin.plan.n = ap (λ (r : PlanRow). r.districts) source_is.0 in
+        let kind : source.kind ≡ origin.plan.kind = ap (λ (r : StoredPlan). r.kind) source_is.0 in
+        let n : source.districts ≡ origin.plan.n = ap (λ (r : StoredPlan). r.districts) source_is.0 in
         record { some = omega arith; few = rw (n, kind) limits.most; fits = can.row_fits.districts_fit }
 
     created : IsDeskMap then (with_plan name size d)
@@ -106,13 +106,13 @@ module _ (told : PlansAreTold) (made : PlansAreMade) (tidily : PlansComeAndGoTid
 
     fork_within : AreWithin source.districts says.districts
     fork_within =
-        let n : source.districts ≡ origin.plan.n = ap (λ (r : PlanRow). r.districts) source_is.0 in
+        let n : source.districts ≡ origin.plan.n = ap (λ (r : StoredPlan). r.districts) source_is.0 in
         search (rules, revision_within origin.plan from.1 says.districts origin.is (is.limits.sizes from.0 origin.plan origin.there).within)
 
     with_new : record d { plans = insert d.plans name new_plan } ≡ with_fork name from d
     with_new =
-        let kind : source.kind ≡ origin.plan.kind = ap (λ (r : PlanRow). r.kind) source_is.0 in
-        let n : source.districts ≡ origin.plan.n = ap (λ (r : PlanRow). r.districts) source_is.0 in
+        let kind : source.kind ≡ origin.plan.kind = ap (λ (r : StoredPlan). r.kind) source_is.0 in
+        let n : source.districts ≡ origin.plan.n = ap (λ (r : StoredPlan). r.districts) source_is.0 in
         search rules
 
     fork_made : MakesFork name from source next numbers m d

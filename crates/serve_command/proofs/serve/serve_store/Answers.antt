@@ -1,6 +1,6 @@
 use Rattle.{std.proofs.Common.{◌≡◌, ℕ, List, [], Some, Result, Ok, Err, ◌∙◌, inl, inr, refl, sym, subst}, command_output.specs.{Writing.written_of, claim.Writing.Writes}}
 use Rattle.{http_seats.specs.Streams.traffic, inspect_command.specs.desk_store.claim.Clerks.pages_of, page_store.specs.claim.Transactions.has_halted}
-use Rattle.serve_command.{specs.{Outlasting.FailsSince, Serving.{listening_text, HasAnnounced, Announces}, declared.fault.ServeFault.ServeFault}, proofs.Ends.run_ends}
+use Rattle.serve_command.{specs.{Outlasting.FailsSince, Serving.{listening_text, HasAnnounced, Announces}, declared.fault.ServingFault.ServingFault}, proofs.Ends.run_ends}
 use Rattle.serve_command.proofs.Lasts.{fails_since, lasts_on, none_read}
 use Rattle.inspect_command.{specs.desk_theorem.claim.OneLife.{ClosedHolds, OfficeHolds, RequestsHold}, proofs.{desk_theorem.Asked.none_asked, store_command.Opened.asked_life}}
 use Rattle.serve_command.proofs.serve.serve_store.Goals as goal
@@ -34,7 +34,7 @@ returns-in-Ok-serve_clerk g c =
     let first = c.in-Ok-open_store.clerk in
     let last = c.in-Ok-serve_clerk.last in
     let since : FailsSince first last (has_halted (pages_of last)) = fails_since first last _ c.in-Ok-open_store.ensures.opened.working c.in-Ok-serve_clerk.ensures.served.lasts refl in
-    let ends : Result (Unit {0}) ServeFault → Type 0 = λ ended. Announces g.D.SectorDevice g.O.Stores.opens g.O.Stores.closes streams heard fails (Some c.args.listening.now) c.args.serving.workers c.args.serving.port c.args.stores.now c.args.name.now ended c.close-in-Ok-serve_clerk.new.self before after in
+    let ends : Result (Unit {0}) ServingFault → Type 0 = λ ended. Announces g.D.SectorDevice g.O.Stores.opens g.O.Stores.closes streams heard fails (Some c.args.listening.now) c.args.serving.workers c.args.serving.port c.args.stores.now c.args.name.now ended c.close-in-Ok-serve_clerk.new.self before after in
     subst ends (sym c.end_run-ended.ensures) (run_ends g.D.SectorDevice g.O.Stores.opens g.O.Stores.closes streams heard fails (Some c.args.listening.now) c.args.serving.workers c.args.serving.port c.args.stores.now c.args.name.now c.close-in-Ok-serve_clerk.new.self before after _ _ c.has_failed.result c.in-Ok-serve_clerk.last.working line (record {
       first = c.in-Ok-open_store.clerk;
       middle = c.open_store.new.stores;

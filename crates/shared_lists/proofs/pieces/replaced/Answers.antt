@@ -6,11 +6,11 @@ written_over : (new old : List ℕ) (count : ℕ) → count ≡ length old → l
 written_over new old count counted long = search (rules, take-append_seam)
 
 pub replace-requires-clause-within : goal.replace-requires-clause-within
-replace-requires-clause-within c = subst (λ (l : List ℕ). c.args.to ≤ length l) (sym (c.deref_mut.ensures.value ∙ c.in_ok-list.ensures.items)) c.requires.within
+replace-requires-clause-within c = subst (λ (l : List ℕ). c.args.to ≤ length l) (sym c.deref_mut.ensures.value) c.requires.within
 
 pub returns : goal.returns
 returns c =
-    let long : length c.replace.new.districts ≡ length c.in_ok-list.list.items = omega (arith, c.replace.auto.districts, ap length c.deref_mut.ensures.value) in
-    written_over c.replace.new.districts c.in_ok-list.list.items c.in_ok-list.list.len c.in_ok-list.list.ok.0 long
+    let long : length c.replace.new.districts ≡ length c.args.districts.items = omega (arith, c.replace.auto.districts, ap length c.deref_mut.ensures.value) in
+    written_over c.replace.new.districts c.args.districts.items c.args.districts.len c.args.districts.ok.0 long
     ∙ c.replace.ensures
-    ∙ ap (λ (l : List ℕ). take c.args.from l ++ (c.args.new.now ++ drop c.args.to l)) (c.deref_mut.ensures.value ∙ c.in_ok-list.ensures.items)
+    ∙ ap (λ (l : List ℕ). take c.args.from l ++ (c.args.new.now ++ drop c.args.to l)) c.deref_mut.ensures.value

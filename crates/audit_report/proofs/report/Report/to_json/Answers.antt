@@ -1,6 +1,6 @@
-use Rattle.{std.specs.{Prelude.String, declared.alloc.{AllocError.AllocError, Global.Global}}, audit_clauses.specs.declared.breaks.{Break.Break, Gap.Gap}}
+use Rattle.{std.specs.{Prelude.String, declared.alloc.{AllocError.AllocError, Global.Global}}, audit_contiguity.specs.declared.breaks.{Break.Break, Gap.Gap}}
 use Rattle.{std.proofs.Common.{◌≡◌, false, ℕ, List, [], ◌∷◌, Option, Some, None, Result, Ok, Err, IfOk, refl, ap, ◌∙◌, string_bytes}, audit_report.specs.claim.Figures.Figures}
-use Rattle.{audit_clauses.specs.declared.deviations.Extremes.Extremes, serde_json.specs.{Data.Data, Written.{has_float, compact_text}}}
+use Rattle.{audit_population.specs.declared.deviations.Extremes.Extremes, serde_json.specs.{Data.Data, Written.{has_float, compact_text}}}
 use Rattle.audit_report.specs.claim.ReportText.{clause_data, code_data, number_data, list_data, gap_data, break_data, divided_data, range_data, report_data, report_text}
 use Rattle.audit_report.proofs.report.Report.to_json.Goals as goal
 

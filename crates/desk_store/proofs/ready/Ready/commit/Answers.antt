@@ -4,7 +4,7 @@ use Rattle.desk_store.{specs.claim.{Clerks.{desk_of, disk_of, pages_of, sectors_
 use Rattle.{desk_store.specs.declared.{clerk.Clerk.Clerk, ready.Ready.Ready}, page_store.specs.claim.Transactions.{journal_of, has_halted, prepared_writes, HasFailed, CommitErr}}
 use Rattle.page_store.specs.{declared.pages.Pages.Pages, gate_journal.declared.error.PageError.{PageError, TheVariants.{DeviceFault, Halted, TooManyPages}}}
 use Rattle.{sector_device.specs.declared.SectorDevice.Ghosts, desk_store.proofs.Moved.{Left, worked, faulted}}
-use Rattle.desk_opening.proofs.plan_rows.Committing.{both}
+use Rattle.desk_opening.proofs.chunk_table.Committing.{both}
 use Rattle.desk_model.specs.declared.reply.Refusal.TheVariants as refusal
 use Rattle.desk_store.proofs.ready.Ready.commit.Goals as goal
 

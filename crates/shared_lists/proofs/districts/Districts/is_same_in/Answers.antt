@@ -1,19 +1,17 @@
-use Rattle.{std.proofs.{Common.{◌+◌, sym, ◌∙◌, arith}, lemmas.Bool.{not-true, not-false}}, shared_lists.proofs.Cut.{same_more, apart_here}}
+use Rattle.{std.proofs.Common.{◌+◌, sym, ◌∙◌, arith}, shared_lists.proofs.Cut.{skipped, apart_at}}
 use Rattle.shared_lists.proofs.districts.Districts.is_same_in.Goals as goal
 
-pub returns-then-ne : goal.returns-then-ne
-returns-then-ne c =
-    sym (apart_here c.args.self.now c.args.other.now c.piece_from-here.result.now c.piece_from-there.result.now c.prefix.result.now c.prefix-in-loop-place.result.now
-    c.loop-place.place (c.args.first + c.args.count) c.min-some.result c.prefix.ensures c.prefix-in-loop-place.ensures c.piece_from-here.ensures.prefix c.piece_from-there.ensures.prefix
-    (omega arith) (omega arith) (omega arith) (not-true _ (sym c.ne.ensures ∙ c.if-ne.true)))
+pub returns-then-next-place : goal.returns-then-next-place
+returns-then-next-place c =
+    sym (apart_at c.args.self.now c.args.other.now c.loop-place.place (c.args.first + c.args.count) c.loop-place-test.true (c.same_until-next.ensures.apart c.if-next-place.true))
     ∙ c.loop-place.invariant.left
 
 pub loop-place-preserved : goal.loop-place-preserved
 loop-place-preserved c = record {
   left =
-      same_more c.args.self.now c.args.other.now c.piece_from-here.result.now c.piece_from-there.result.now c.prefix.result.now c.prefix-in-loop-place.result.now
-      c.loop-place.place (c.args.first + c.args.count) c.min-some.result c.prefix.ensures c.prefix-in-loop-place.ensures c.piece_from-here.ensures.prefix c.piece_from-there.ensures.prefix
-      (omega arith) (omega arith) (omega arith) (not-false _ (sym c.ne.ensures ∙ c.if-ne.false))
+      skipped c.args.self.now c.args.other.now c.loop-place.place (c.args.first + c.args.count) c.same_until-next.result c.min-place.result
+      (omega (arith, c.min-place.ensures, c.same_until-next.ensures.after, c.loop-place-test.true)) (omega (arith, c.min-place.ensures)) (omega (arith, c.min-place.ensures))
+      c.same_until-next.ensures.same
       ∙ c.loop-place.invariant.left;
-  within = omega arith;
+  within = omega (arith, c.min-place.ensures);
 }

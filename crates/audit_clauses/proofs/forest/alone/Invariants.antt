@@ -1,5 +1,0 @@
-use Rattle.audit_clauses.specs.Forest.{AreAlone}
-use Rattle.audit_clauses.proofs.forest.alone.Given as goal
-
-abbrev pub invariant-loop-i : goal.invariant-loop-i
-invariant-loop-i l = AreAlone l.i l.parents.items

@@ -1,5 +1,0 @@
-use Rattle.audit_clauses.proofs.Growth.{forest_alone}
-use Rattle.audit_clauses.proofs.forest.forest.Goals as goal
-
-pub join_pairs-requires : goal.join_pairs-requires
-join_pairs-requires c = forest_alone _ _ _ _ _ c.requires (rw c.as_mut_slice.ensures.value c.in_ok-parents.ensures)

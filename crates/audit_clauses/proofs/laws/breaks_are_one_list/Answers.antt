@@ -1,5 +1,0 @@
-use Rattle.audit_clauses.proofs.OneList.{one_list}
-use Rattle.audit_clauses.proofs.laws.breaks_are_one_list.Goals as goal
-
-pub returns : goal.returns
-returns c = one_list

@@ -1,5 +1,0 @@
-use Rattle.audit_clauses.{specs.Marks.IsDividedAt, proofs.Meaning.AreListed}
-use Rattle.audit_clauses.proofs.mark.divided_u32.Given as goal
-
-abbrev pub invariant-loop-k : goal.invariant-loop-k
-invariant-loop-k l = AreListed (IsDividedAt l.marks) l.k l.codes.items

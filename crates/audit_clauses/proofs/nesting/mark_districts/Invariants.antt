@@ -1,5 +1,0 @@
-use Rattle.{std.proofs.Common.length, audit_clauses.specs.{Marks.{AreMarks, one_part, value_at}, claim.Nested.IsIn}}
-use Rattle.audit_clauses.proofs.nesting.mark_districts.Given as goal
-
-abbrev pub invariant-loop-i : goal.invariant-loop-i
-invariant-loop-i l = AreMarks (IsIn l.plan) one_part (value_at l.companion) l.i (length l.initial.marks) l.marks

@@ -1,0 +1,3 @@
+pub mod claim
+pub mod Marks
+pub mod Splits

@@ -1,9 +1,0 @@
-use Rattle.{std.proofs.Common.{◌≡◌, ◌≤◌, ◌++◌, ◌∷◌, ℕ, List, [], length, take, drop}, btree_puts.specs.Putting.{after_child, linked}, page_node.specs.claim.Entries.Entry}
-use Rattle.btree_puts.proofs.tree.place_after.Given as goal
-
--- linked from a place on
-abbrev pub linked_at : List ℕ → Entry → List Entry → ℕ → List Entry
-linked_at key new es i = take i es ++ after_child key (new ∷ []) (drop i es)
-
-abbrev pub invariant-loop-i : goal.invariant-loop-i
-invariant-loop-i l = (l.i ≤ length l.node.entries) × ((new : Entry) → linked l.key (new ∷ []) l.node.entries ≡ linked_at l.key new l.node.entries l.i)

@@ -1,7 +1,0 @@
-pub mod Errors
-pub mod Putting
-pub mod Fitting
-pub mod Fingers
-pub mod Outcomes
-pub mod Reach
-pub use Rattle.page_btree.specs as page_btree

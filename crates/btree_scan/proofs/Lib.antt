@@ -1,0 +1,9 @@
+pub mod Leaves
+pub mod Places
+pub mod Prefixes
+pub mod Ready
+pub mod Refused
+pub mod RowsFound
+pub mod Scanning
+pub mod Taken
+pub mod Walked

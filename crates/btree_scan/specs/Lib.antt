@@ -1,0 +1,5 @@
+pub mod Parts
+pub mod Prefixes
+pub mod Scanning
+pub mod Taken
+pub mod Turning

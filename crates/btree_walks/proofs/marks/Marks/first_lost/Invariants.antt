@@ -1,5 +1,0 @@
-use Rattle.std.proofs.Common.{◌≡◌, ◌<◌, ℕ, true, false, get_or}
-use Rattle.btree_walks.proofs.marks.Marks.first_lost.Given as goal
-
-abbrev pub invariant-loop-place : goal.invariant-loop-place
-invariant-loop-place l = (p : ℕ) → p < l.place → get_or l.self.seen.items p false ≡ true

@@ -1,5 +1,0 @@
-use Rattle.{std.{specs.Option.option_copied, proofs.Common.{◌<◌, ℕ, suc}}, btree_walks.specs.Order.lower_of, page_btree.specs.claim.Keys.Parts, page_node.specs.Entries.key_at}
-use Rattle.btree_walks.proofs.order.are_parts.Given as goal
-
-abbrev pub invariant-loop-k : goal.invariant-loop-k
-invariant-loop-k l = (j : ℕ) → suc j < l.k → Parts (lower_of l.low l.node.entries j) (option_copied l.high) (key_at l.node.entries (suc j))

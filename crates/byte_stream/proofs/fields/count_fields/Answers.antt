@@ -1,5 +1,0 @@
-use Rattle.std.proofs.{Common.{arith, eqb}, lemmas.List.Splits.length-slice_split}
-use Rattle.byte_stream.proofs.fields.count_fields.Goals as goal
-
-pub returns : goal.returns
-returns c = omega (arith, c.count_bars.ensures, length-slice_split (λ b. eqb b 124) c.args.line.now)

@@ -1,8 +1,0 @@
-use Rattle.{std.proofs.{Common.rules, lemmas.Bool.Decides.nat_tests}, byte_stream.proofs.TextLemmas.{lines-cut, lines-last, lines-past}}
-use Rattle.byte_stream.proofs.lines.first_line.Goals as goal
-
-pub returns-in-Some-clause-line : goal.returns-in-Some-clause-line
-returns-in-Some-clause-line c = search (rules, c.in-Some.ensures.0, c.in-Some.ensures.1, c.without_return.ensures, lines-cut)
-
-pub returns-in-None-clause-line : goal.returns-in-None-clause-line
-returns-in-None-clause-line c = search (rules, c.if-is_empty.ensures, c.in-None.ensures, nat_tests, lines-last, lines-past)

@@ -1,2 +1,0 @@
-pub mod Checking
-pub use Rattle.desk_opening.specs as desk_opening

@@ -1,0 +1,4 @@
+-- What has to be read to believe a promise.
+pub mod Living
+pub mod SoundTexts
+pub mod Texts

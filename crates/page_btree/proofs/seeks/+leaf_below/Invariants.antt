@@ -1,4 +1,0 @@
-use Rattle.page_btree.proofs.seeks.+leaf_below.Given as goal
-
-abbrev pub decreases-leaf_below : goal.decreases-leaf_below
-decreases-leaf_below g l = l.level

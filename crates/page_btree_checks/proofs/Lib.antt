@@ -1,0 +1,9 @@
+mod Children
+mod Errors
+mod Faults
+mod Keys
+mod Lists
+mod Named
+mod PageWhole
+mod Rising
+mod Trees

@@ -1,0 +1,5 @@
+pub mod Errors
+pub mod Faults
+pub mod Marks
+pub mod Order
+pub mod Owners

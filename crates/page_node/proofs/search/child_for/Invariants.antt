@@ -1,5 +1,0 @@
-use Rattle.{std.proofs.Common.◌≤◌, page_node.specs.{Searching.IsLast, claim.Node.{Node, IsNode}}}
-use Rattle.page_node.proofs.search.child_for.Given as goal
-
-abbrev pub invariant-loop-k : goal.invariant-loop-k
-invariant-loop-k l = (l.at ≤ 4096) × (l.value ≤ 4096) × ((node : Node) → IsNode l.page node → IsLast l.page l.key node.entries l.k l.value l.at)

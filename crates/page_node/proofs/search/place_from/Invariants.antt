@@ -1,5 +1,0 @@
-use Rattle.page_node.specs.{Searching.IsBelow, claim.Node.{Node, IsNode}}
-use Rattle.page_node.proofs.search.place_from.Given as goal
-
-abbrev pub invariant-loop-k : goal.invariant-loop-k
-invariant-loop-k l = (node : Node) → IsNode l.page node → IsBelow l.key node.entries l.k l.at

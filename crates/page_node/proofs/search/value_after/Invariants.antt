@@ -1,5 +1,0 @@
-use Rattle.{std.proofs.Common.◌≤◌, page_node.specs.{Searching.IsBelow, claim.Node.{Node, IsNode}}}
-use Rattle.page_node.proofs.search.value_after.Given as goal
-
-abbrev pub invariant-loop-k : goal.invariant-loop-k
-invariant-loop-k l = (l.at ≤ 4096) × ((node : Node) → IsNode l.page node → IsBelow l.key node.entries l.fn.from.k l.fn.from.at → IsBelow l.key node.entries l.k l.at)

@@ -1,4 +1,0 @@
-pub mod Seen
-mod Opened
-mod Rows
-mod Lent

@@ -1,9 +1,0 @@
-pub mod FilesLemmas
-pub mod GeoLemmas
-pub mod HoldingLemmas
-pub mod JoinLemmas
-pub mod LineLemmas
-pub mod RunLemmas
-pub mod SegLemmas
-pub mod SetLemmas
-pub mod WholeLemmas

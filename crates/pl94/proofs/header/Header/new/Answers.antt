@@ -1,5 +1,0 @@
-use Rattle.{std.proofs.Common.refl, pl94.proofs.HoldingLemmas.holds_none}
-use Rattle.pl94.proofs.header.Header.new.Goals as goal
-
-pub returns : goal.returns
-returns c = holds_none _ refl refl c.new.ensures.items c.new-2.ensures c.new-3.ensures

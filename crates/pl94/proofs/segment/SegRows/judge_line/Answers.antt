@@ -1,5 +1,0 @@
-use Rattle.{std.proofs.Common.rules, pl94.proofs.SegLemmas.judges}
-use Rattle.pl94.proofs.segment.SegRows.judge_line.Goals as goal
-
-pub returns-in-Ok : goal.returns-in-Ok
-returns-in-Ok c = search (rules, c.in-Ok.ensures, c.take.ensures, judges)

@@ -1,5 +1,0 @@
-use Rattle.pl94.proofs.FilesLemmas.{segment_from_good, segment_good}
-use Rattle.pl94.proofs.segment_law.segment_law.Goals as goal
-
-pub returns : goal.returns
-returns c = λ part ls. (segment_from_good part ls, segment_good part ls)

@@ -1,9 +1,0 @@
-pub mod claim
-pub mod Entries
-pub mod Files
-pub mod GeoFile
-pub mod Holding
-pub mod Join
-pub mod SegFile
-pub mod Sets
-pub mod Whole

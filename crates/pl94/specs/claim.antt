@@ -1,9 +1,0 @@
--- What has to be read to believe a promise.
-pub mod Entries
-pub mod GeoFile
-pub mod GeoTexts
-pub mod Join
-pub mod Judging
-pub mod Records
-pub mod SegFile
-pub mod SegmentTexts

@@ -1,0 +1,72 @@
+use Rattle.{std.proofs.Common.{ℕ, ◌+◌, ap, ◌∙◌, inl, inr, rules}, pl94_geo.{specs.{GeoFile.{told, refused}, claim.Judging.judge}, proofs.LineLemmas.{judged_none, judged_more}}}
+use Rattle.pl94_geo.proofs.GeoLemmas.{stands_on, told_refused, told_fault, told_end, told_last_end, finishes_valid, finishes_failures, finishes_in_turns}
+use Rattle.pl94_geo.proofs.geo.GeoReader.read.Goals as goal
+
+pub loop-header-init : goal.loop-header-init
+loop-header-init g c = search (rules, c.in-Ok.ensures.number, c.in-Ok.ensures.held, c.new-header.ensures, c.in-Ok.ensures.turns, judged_none)
+
+pub returns-in-Err-judge_line-clause-read : goal.returns-in-Err-judge_line-clause-read
+returns-in-Err-judge_line-clause-read g c =
+    let came = rw c.in-Ok-Line.field-0-is at c.in-Ok-Line.ensures.bytes in
+    let counted = rw c.in-Ok-Line.field-0-is at c.in-Ok-Line.ensures.number in
+    told_refused _ _ (g.R.Source.remaining c.advance.new.reader) _ came.0 _ _ c.loop-header.invariant.stands came.1 _ _ c.judge_line.new.self c.in-Err-judge_line.refusal _
+    (c.line_fault.ensures ∙ ap (refused c.in-Err-judge_line.refusal) (c.number.ensures ∙ counted)) c.line.ensures (inl (_, came.2)) c.in-Err-judge_line.ensures
+
+pub loop-header-preserved : goal.loop-header-preserved
+loop-header-preserved g c =
+    let came = rw c.in-Ok-Line.field-0-is at c.in-Ok-Line.ensures.bytes in
+    record {
+      stands = rw (rw c.in-Ok-Line.field-0-is at c.in-Ok-Line.ensures.number)
+          (judged_more judge _ _ _ _ _ (stands_on _ _ (g.R.Source.remaining c.advance.new.reader) _ came.0 _ _ c.loop-header.invariant.stands came.1) _ _ _ came.2
+          (rw c.line.ensures at c.in_default-judge_line.ensures));
+      counted = c.advance.ensures.counted _ c.loop-header.invariant.counted;
+      failures = (rw c.in-Ok-Line.field-0-is at c.in-Ok-Line.ensures.failures) ∙ c.loop-header.invariant.failures;
+    }
+
+pub returns-in-Err-judge_line-2-clause-read : goal.returns-in-Err-judge_line-2-clause-read
+returns-in-Err-judge_line-2-clause-read g c =
+    let came = rw c.in-Ok-LastLine.field-0-is at c.in-Ok-LastLine.ensures.bytes in
+    let counted = rw c.in-Ok-LastLine.field-0-is at c.in-Ok-LastLine.ensures.number in
+    told_refused _ _
+    (g.R.Source.remaining c.advance.new.reader) _ came.0 _ _ c.loop-header.invariant.stands came.1 _ _ c.judge_line-in-Ok-LastLine.new.self c.in-Err-judge_line-2.refusal _
+    (c.line_fault-in-Err-judge_line-2.ensures ∙ ap (refused c.in-Err-judge_line-2.refusal) (c.number-in-Err-judge_line-2.ensures ∙ counted)) c.line-in-Ok-LastLine.ensures (inr came.2) c.in-Err-judge_line-2.ensures
+
+pub returns-in-Ok-LastLine-clause-read : goal.returns-in-Ok-LastLine-clause-read
+returns-in-Ok-LastLine-clause-read g c =
+    let came = rw c.in-Ok-LastLine.field-0-is at c.in-Ok-LastLine.ensures.bytes in
+    let counted = rw c.in-Ok-LastLine.field-0-is at c.in-Ok-LastLine.ensures.number in
+    told_last_end _ _ (g.R.Source.remaining c.advance.new.reader) _ came.0 _ _ c.loop-header.invariant.stands came.1 _ c.judge_line-in-Ok-LastLine.new.self c.in_default-judge_line-2.field-0 c.finish.result came.2.0 came.2.1
+    (rw c.line-in-Ok-LastLine.ensures at c.in_default-judge_line-2.ensures) (rw (c.number-in-Ok-LastLine.ensures, counted) at c.finish.ensures)
+
+pub returns-in-Ok-LastLine-clause-valid : goal.returns-in-Ok-LastLine-clause-valid
+returns-in-Ok-LastLine-clause-valid g c = search (rules, c.loop-header.invariant.stands, c.finish.ensures, c.in_default-judge_line-2.ensures, finishes_valid)
+
+pub returns-in-Ok-LastLine-clause-failures : goal.returns-in-Ok-LastLine-clause-failures
+returns-in-Ok-LastLine-clause-failures g c =
+    search (rules, c.loop-header.invariant.stands, c.in-Ok-LastLine.field-0-is, c.in-Ok-LastLine.ensures.failures, c.loop-header.invariant.failures, c.finish.ensures, c.in_default-judge_line-2.ensures, finishes_failures)
+
+pub returns-in-Ok-LastLine-clause-turns : goal.returns-in-Ok-LastLine-clause-turns
+returns-in-Ok-LastLine-clause-turns g c = search (rules, c.loop-header.invariant.stands, c.finish.ensures, c.in_default-judge_line-2.ensures, finishes_in_turns)
+
+pub returns-in-Ok-End-clause-read : goal.returns-in-Ok-End-clause-read
+returns-in-Ok-End-clause-read g c =
+    let came = rw c.in-Ok-End.field-0-is at c.in-Ok-End.ensures.bytes in
+    let counted = rw c.in-Ok-End.field-0-is at c.in-Ok-End.ensures.number in
+    told_end _ _ (g.R.Source.remaining c.advance.new.reader) _ came.0 _ _ c.loop-header.invariant.stands came.1 c.finish-in-Ok-End.result came.2.0 came.2.1
+    (rw (c.number-in-Ok-End.ensures, counted) at c.finish-in-Ok-End.ensures)
+
+pub returns-in-Ok-End-clause-valid : goal.returns-in-Ok-End-clause-valid
+returns-in-Ok-End-clause-valid g c = search (rules, c.loop-header.invariant.stands, c.finish-in-Ok-End.ensures, finishes_valid)
+
+pub returns-in-Ok-End-clause-failures : goal.returns-in-Ok-End-clause-failures
+returns-in-Ok-End-clause-failures g c =
+    search (rules, c.loop-header.invariant.stands, c.in-Ok-End.field-0-is, c.in-Ok-End.ensures.failures, c.loop-header.invariant.failures, c.finish-in-Ok-End.ensures, finishes_failures)
+
+pub returns-in-Ok-End-clause-turns : goal.returns-in-Ok-End-clause-turns
+returns-in-Ok-End-clause-turns g c = search (rules, c.loop-header.invariant.stands, c.finish-in-Ok-End.ensures, finishes_in_turns)
+
+pub returns-in-Err-clause-read : goal.returns-in-Err-clause-read
+returns-in-Err-clause-read g c =
+    let came = c.in-Err.ensures.bytes in
+    told_fault _ _ (g.R.Source.remaining c.advance.new.reader) _ came.0 _ _ c.loop-header.invariant.stands came.1 c.in-Err.fault c.advance.new.self _
+    (c.read_fault.ensures ∙ ap (λ (n : ℕ). told c.in-Err.fault (n + 1)) (c.number-in-Err.ensures ∙ c.in-Err.ensures.number)) came.2

@@ -1,0 +1,4 @@
+pub mod FilesLemmas
+pub mod JoinLemmas
+pub mod RunLemmas
+pub mod SegLemmas

@@ -1,0 +1,4 @@
+pub mod claim
+pub mod Files
+pub mod Join
+pub mod SegFile

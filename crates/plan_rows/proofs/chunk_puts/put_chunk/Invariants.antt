@@ -1,5 +1,0 @@
-use Rattle.{std.proofs.Common.Ok, desk_pages.specs.Outcomes.PutsRows, store_rows.specs.{ChunkRows.piece_row, Puts.rows_told}}
-use Rattle.plan_rows.proofs.chunk_puts.put_chunk.Given as goal
-
-abbrev pub invariant-loop-index : goal.invariant-loop-index
-invariant-loop-index g l = PutsRows (rows_told (piece_row l.number l.districts) l.index) l.initial.txn l.txn l.initial.pages l.pages (Ok (tt {0}))

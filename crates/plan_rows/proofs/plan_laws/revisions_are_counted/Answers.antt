@@ -1,5 +1,0 @@
-use Rattle.plan_rows.proofs.Made.{revision_counted}
-use Rattle.plan_rows.proofs.plan_laws.revisions_are_counted.Goals as goal
-
-pub returns : goal.returns
-returns c = revision_counted

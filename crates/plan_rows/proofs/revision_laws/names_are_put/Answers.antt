@@ -1,5 +1,0 @@
-use Rattle.{std.proofs.Common.{arith, rules}, store_rows.proofs.NameRows.{names_put, names_kept, revision_kept, names_keep_tag}}
-use Rattle.plan_rows.proofs.revision_laws.names_are_put.Goals as goal
-
-pub returns : goal.returns
-returns c m plan revision numbers fits small few = search (rules, arith, names_put, names_kept, revision_kept, names_keep_tag)

@@ -1,3 +1,0 @@
--- What has to be read to believe a promise.
-pub mod Outcomes
-pub mod PlanRows

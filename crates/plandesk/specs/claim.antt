@@ -1,0 +1,2 @@
+-- What has to be read to believe a promise.
+pub mod Running

@@ -1,9 +1,0 @@
-use Rattle.{std.{specs.List.AllByRecursion, proofs.Common.◌≡◌}, page_store.specs.claim.Transactions.{count_of, txn_pages}, btree_walks.proofs.Walked.HasWalked}
-use Rattle.store_sweep.proofs.Scanned.{IsPassed}
-use Rattle.store_sweep.proofs.firsts.first_mark.Given as goal
-
-abbrev pub invariant-loop-taken : goal.invariant-loop-taken
-invariant-loop-taken g l = record {
-  begun : txn_pages l.txn ≡ count_of l.pages;
-  walked : HasWalked l.prefix (λ m rows. AllByRecursion (IsPassed l.spared) rows) l.txn l.fn.pages l.pages l.scan l.taken;
-}

@@ -1,9 +1,0 @@
-use Rattle.{std.{specs.Prelude.All, proofs.Common.{◌≡◌, take, Ok}}, desk_pages.specs.Looking.Looks, page_store.specs.claim.Transactions.{count_of, txn_pages}}
-use Rattle.{store_rows.specs.claim.Tidy.AreRows, store_sweep.specs.Finding.{IsDone, IsGap}}
-use Rattle.store_sweep.proofs.pieces.first_piece.Given as goal
-
-abbrev pub invariant-loop-number : goal.invariant-loop-number
-invariant-loop-number g l = record {
-  begun : txn_pages l.txn ≡ count_of l.pages;
-  looked : Looks (λ m _. AreRows m → All (IsDone m) (take l.number-index l.numbers) × IsGap l.gap l.row.key m) AreRows l.txn l.fn.pages l.pages (Ok (tt {0}));
-}

@@ -1,0 +1,3 @@
+pub mod Readers
+pub mod Looking
+pub use Rattle.store_verification_rows.specs as rows

@@ -1,0 +1,20 @@
+use Rattle.{std.proofs.Common.{sym, ◌∙◌}, page_store.proofs.Stops.{quiet_more, quiet_none}}
+use Rattle.store_verification_rows.proofs.naming.first_wrong.Goals as goal
+
+pub loop-taken-init : goal.loop-taken-init
+loop-taken-init g c = record { begun = c.requires.begun; quiet = quiet_none c.args.pages.now }
+
+pub loop-taken-preserved : goal.loop-taken-preserved
+loop-taken-preserved g c = record { begun = c.loop-taken.invariant.begun ∙ sym c.next.ensures.quiet.count; quiet = quiet_more _ _ _ c.loop-taken.invariant.quiet c.next.ensures.quiet }
+
+pub returns-then-not-next : goal.returns-then-not-next
+returns-then-not-next g c = record { quiet = quiet_more _ _ _ c.loop-taken.invariant.quiet c.next.ensures.quiet }
+
+pub returns-in-Some-left_before : goal.returns-in-Some-left_before
+returns-in-Some-left_before g c = record { quiet = quiet_more _ _ _ c.loop-taken.invariant.quiet c.next.ensures.quiet }
+
+pub returns-in-Ok-Some : goal.returns-in-Ok-Some
+returns-in-Ok-Some g c = record { quiet = quiet_more _ _ _ c.loop-taken.invariant.quiet c.next.ensures.quiet }
+
+pub returns-in-Err : goal.returns-in-Err
+returns-in-Err g c = record { quiet = quiet_more _ _ _ c.loop-taken.invariant.quiet c.next.ensures.quiet }
