@@ -1,10 +1,10 @@
 -- Changes of a map that come one after the other.
-use Rattle.{std.proofs.Common.{rules, ◌≡◌, ◌≤◌, ◌+◌, ℕ, List, ◌++◌, length, refl, sym, ap, subst, ◌∙◌, arith, append_assoc, length-append}, desk_pages.specs.Reading.ReadErr}
-use Rattle.{chunk_table.specs.ChunkChanging.{IsByRows, HasChanged, MapErr}, desk_pages.specs.claim.Puts.{HasPut, HasDeepened, PutsErr, IsNear, Nears}}
-use Rattle.page_btree.specs.gets.{claim.{Errors.{level_in, reach_in, top_reach}, Map.InTxn}, declared.error.TreeError.{TreeError, TheVariants.{NotAStore, TooDeep}}}
-use Rattle.{page_store.specs.{claim.Transactions.{stored, txn_root, over, IsQuiet, Passed}, declared.{pages.Pages.Pages, txn.Txn.Txn}}, sector_device.specs.claim.Disk.Image}
-use Rattle.{sector_device.specs.declared.SectorDevice.Ghosts, store_rows.specs.claim.{Puts.{Row, put_rows}, Rows.KeyMap}, page_store.proofs.Stops.{passed_more, failed_more}}
-use Rattle.store_rows.proofs.Puts.{put_rows-append}
+use Rattle.{std.proofs.Common.{rules, ◌≡◌, ◌≤◌, ◌+◌, ℕ, List, ◌++◌, length, refl, sym, ap, subst, ◌∙◌, arith, append_assoc, length-append}, desk_store_pages.specs.Reading.ReadErr}
+use Rattle.{chunk_table.specs.ChunkChanging.{IsByRows, HasChanged, MapErr}, desk_store_pages.specs.claim.Puts.{HasPut, HasDeepened, PutsErr, IsNear, Nears}}
+use Rattle.{desk_store_rows.specs.claim.{Puts.{Row, put_rows}, Rows.KeyMap}, page_btree.specs.gets.claim.{Errors.{level_in, reach_in, top_reach}, Map.InTxn}}
+use Rattle.{page_btree.specs.gets.declared.error.TreeError.{TreeError, TheVariants.{NotAStore, TooDeep}}, page_store.specs.declared.{pages.Pages.Pages, txn.Txn.Txn}}
+use Rattle.{page_store.specs.claim.Transactions.{stored, txn_root, over, IsQuiet, Passed}, sector_device.specs.{claim.Disk.Image, declared.SectorDevice.Ghosts}}
+use Rattle.{desk_store_rows.proofs.Puts.put_rows-append, page_store.proofs.Stops.{passed_more, failed_more}}
 
 module _ {D : Type 0} {g : Ghosts D} where
   -- of pages that hold the same

@@ -1,8 +1,8 @@
 -- A list is read part by part.
 use Rattle.std.{specs.FinMap.get, proofs.lemmas.{Bool.cases_lt, List.{append-nil, drop_at, drop-append-le, length-drop, take-append-le, Elements.{All-append, All-nil}}}}
 use Rattle.std.proofs.Common.{rules, ◌≡◌, ◌<◌, ◌≤◌, ◌+◌, ◌*◌, ◌++◌, ℕ, List, length, take, drop, Some, sym, ap, subst, ◌∙◌, inl, inr, arith, append_assoc, length-append, take_all}
-use Rattle.{chunk_table.specs.{Appended.AppendsNext, Parts.{AppendsAll, AppendsPrefix, AppendsPart}}, store_rows.specs.claim.{Keys.RowKey, Rows.{KeyMap, row_in}}}
-use Rattle.{chunk_table.proofs.Appended.more_on, desk_pages.proofs.{ListParts.parts_more, Reading.one_value}}
+use Rattle.{chunk_table.specs.{Appended.AppendsNext, Parts.{AppendsAll, AppendsPrefix, AppendsPart}}, desk_store_rows.specs.claim.{Keys.RowKey, Rows.{KeyMap, row_in}}}
+use Rattle.{chunk_table.proofs.Appended.more_on, desk_store_pages.proofs.{ListParts.parts_more, Reading.one_value}}
 
 -- ---- a part of a list that goes on
 module _ (size limit : ℕ) (bytes : List ℕ → List ℕ) (row : ℕ → RowKey) (count : ℕ) (m : KeyMap) where

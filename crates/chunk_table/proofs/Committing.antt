@@ -1,9 +1,9 @@
 -- A transaction that is begun, in which rows change, and that is committed then.
 use Rattle.{std.{specs.Prelude.◌⊎◌, proofs.Common.{◌≡◌, ◌+◌, ℕ, Bool, true, false, length, sym, ◌∙◌, inl, ⊎_elim, arith}}, desk_model.specs.claim.Desk.Desk}
-use Rattle.{desk_pages.specs.claim.Desks.{InPagesOf, InTxnOf, OpensDesk, OpensDeskOf}, page_btree.specs.gets.claim.Map.{InTxn, InPages}, page_store.specs.declared.txn.Txn.Txn}
-use Rattle.{page_store.specs.{claim.Chain.{free_in, root_in}, declared.pages.Pages.Pages, gate_journal.claim.Store.home}, sector_device.specs.claim.Disk.{Disk, Image}}
+use Rattle.{desk_store_pages.specs.claim.Desks.{InPagesOf, InTxnOf, OpensDesk, OpensDeskOf}, desk_store_rows.specs.claim.Rows.KeyMap, page_store.specs.declared.pages.Pages.Pages}
+use Rattle.{page_btree.specs.gets.claim.Map.{InTxn, InPages}, page_store.specs.{claim.Chain.{free_in, root_in}, declared.txn.Txn.Txn, gate_journal.claim.Store.home}}
 use Rattle.page_store.specs.claim.Transactions.{stored, disk_in, count_of, journal_of, has_halted, txn_pages, txn_root, txn_free, txn_writes, over, free_over, HasFailed, HasShape, IsQuiet, Passed}
-use Rattle.{sector_device.specs.{claim.Moments.LeavesOnly, declared.SectorDevice.Ghosts}, store_rows.specs.claim.Rows.KeyMap, desk_pages.proofs.Kept.opens_now}
+use Rattle.{sector_device.specs.{claim.{Disk.{Disk, Image}, Moments.LeavesOnly}, declared.SectorDevice.Ghosts}, desk_store_pages.proofs.Kept.opens_now}
 use Rattle.{page_store.proofs.{Chains.length_chain, Stops.{leaves_here, leaves_quiet}}, sector_device.proofs.Moments.{leaves_more, leaves_wider}}
 use Rattle.page_btree.proofs.gets.MapLaws.{begun_holds}
 

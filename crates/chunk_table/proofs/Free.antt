@@ -1,8 +1,8 @@
 -- A plan that holds no chunk from a number on.
 use Rattle.{std.{specs.FinMap.entries, proofs.Common.{◌≡◌, ◌<◌, ◌≤◌, ◌+◌, ◌^◌, ℕ, List, [], Option, Some, None, refl, ◌∙◌, arith}}, btree_scan.specs.Prefixes.under}
-use Rattle.{chunk_table.specs.Holding.IsFreeFrom, store_rows.specs.claim.{Keys.{key_of, holding, holder_count, holdings_prefix, in_eight}, Rows.{KeyMap, row_in, Lacks}}}
-use Rattle.{store_rows.{specs.claim.Shares.{count_of, hold_by, hold}, proofs.{Frames.put_keeps_row, HolderCounts.too_holdings}}, btree_scan.proofs.RowsFound.found_among}
-use Rattle.store_rows.proofs.KeyPrefixes.{starts_itself}
+use Rattle.{chunk_table.specs.Holding.IsFreeFrom, desk_store_rows.specs.claim.{Keys.{key_of, holding, holder_count, holdings_prefix, in_eight}, Rows.{KeyMap, row_in, Lacks}}}
+use Rattle.{desk_store_rows.{specs.claim.Shares.{count_of, hold_by, hold}, proofs.{Frames.put_keeps_row, HolderCounts.too_holdings}}, btree_scan.proofs.RowsFound.found_among}
+use Rattle.desk_store_rows.proofs.KeyPrefixes.{starts_itself}
 
 -- ---- no row begins so
 pub none_held : (m : KeyMap) (plan : ℕ) → under (holdings_prefix plan) (entries m) ≡ [] → IsFreeFrom (Some 0) plan m

@@ -1,12 +1,12 @@
 -- A plan comes to hold chunks, one after the other.
-use Rattle.{std.{specs.Prelude.Contains, proofs.lemmas.List.{append-nil, Elements.{Contains-append_left, Contains-append_right}}}, page_btree.specs.gets.claim.Map.InTxn}
+use Rattle.{std.{specs.Prelude.Contains, proofs.lemmas.List.{append-nil, Elements.{Contains-append_left, Contains-append_right}}}, desk_store_rows.specs.ForkLaws.ChunksAreHeld}
 use Rattle.std.proofs.Common.{rules, ◌≡◌, ◌≤◌, ◌+◌, ◌*◌, ℕ, suc, List, [], ◌∷◌, ◌++◌, length, Option, Some, None, refl, sym, ap, subst, ◌∙◌, arith, append_assoc, length-append}
-use Rattle.{chunk_table.specs.{ChunkChanging.{IsByRows, HasChanged, MapErr}, Holding.{HasHeldWith, HoldErrWith, IsFreeFrom, CanHoldAll}}, page_btree.specs.puts.Fingers.Stand}
-use Rattle.{page_btree.specs.{gets.declared.error.TreeError.{TreeError, TheVariants.{NotAStore, TooDeep}}, puts.declared.finger.Fingers.Fingers}, store_rows.specs.Shares.hold_all}
+use Rattle.{chunk_table.specs.{ChunkChanging.{IsByRows, HasChanged, MapErr}, Holding.{HasHeldWith, HoldErrWith, IsFreeFrom, CanHoldAll}}, desk_store_rows.specs.Shares.hold_all}
+use Rattle.desk_store_rows.specs.claim.{Holders.holding_rows, Keys.{holding, holder_count}, Puts.{Row, put_rows}, Rows.{KeyMap, row_in}, Shares.{count_of, hold_by, hold}}
+use Rattle.page_btree.specs.{gets.{claim.Map.InTxn, declared.error.TreeError.{TreeError, TheVariants.{NotAStore, TooDeep}}}, puts.{Fingers.Stand, declared.finger.Fingers.Fingers}}
 use Rattle.{page_store.specs.{claim.Transactions.{stored, disk_in, IsQuiet, Passed}, declared.{pages.Pages.Pages, txn.Txn.Txn}}, sector_device.specs.declared.SectorDevice.Ghosts}
-use Rattle.store_rows.specs.{ForkLaws.ChunksAreHeld, claim.{Holders.holding_rows, Keys.{holding, holder_count}, Puts.{Row, put_rows}, Rows.{KeyMap, row_in}}}
-use Rattle.{store_rows.specs.claim.Shares.{count_of, hold_by, hold}, desk_pages.proofs.Rising.fresh_stand, page_store.proofs.Stops.{passed_more, failed_more}}
-use Rattle.chunk_table.proofs.Changed.{read_changed, changed_as, deep_after, nears_as, near_before, prefix_unchanged, more_by_rows}
+use Rattle.{chunk_table.proofs.Changed.{read_changed, changed_as, deep_after, nears_as, near_before, prefix_unchanged, more_by_rows}, desk_store_pages.proofs.Rising.fresh_stand}
+use Rattle.page_store.proofs.Stops.{passed_more, failed_more}
 
 -- ---- by how many rows
 held_by_two : (o : Option (List ℕ)) (m : KeyMap) (plan number : ℕ) → (put : List Row) × (length put ≤ 2) × (hold_by o m plan number ≡ put_rows m put)

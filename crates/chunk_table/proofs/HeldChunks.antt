@@ -1,13 +1,15 @@
 -- A plan comes to hold a chunk by two rows, or holds it already.
-use Rattle.{std.specs.Prelude.{option_map, Result, Ok, Err, IfOk}, desk_pages.specs.{Looking.Looks, Reading.{ReadErr, ReadErrWith, StandsAs}, Rising.{HasPutWith, PutsErrWith}}}
+use Rattle.{std.specs.Prelude.{option_map, Result, Ok, Err, IfOk}, desk_store_pages.specs.{Looking.Looks, Reading.{ReadErr, ReadErrWith, StandsAs}}}
 use Rattle.std.proofs.Common.{rules, ◌≡◌, ◌<◌, ◌+◌, ◌-◌, ◌^◌, ℕ, zero, suc, true, false, List, [], Option, Some, None, refl, sym, ap, subst, ◌∙◌, arith}
-use Rattle.{chunk_table.specs.Holding.{Stands, HasHolderCount, HasHeld, HasHeldWith, WasHeld, HoldErrOf, HoldErrWith, IsCountOf, IsUnheld}, page_btree.specs.gets.claim.Map.InTxn}
-use Rattle.page_btree.specs.{gets.declared.error.TreeError.{TreeError, TheVariants.{NotAStore, TooDeep}}, puts.{Fingers.Stand, declared.finger.Fingers.Fingers}}
-use Rattle.{page_store.specs.{claim.Transactions.{stored, disk_in, IsQuiet, Passed}, declared.{pages.Pages.Pages, txn.Txn.Txn}}, sector_device.specs.declared.SectorDevice.Ghosts}
-use Rattle.store_rows.specs.{Shares.CanHold, Values.holder_count_bytes, claim.{Holders.{holder_count_row, holding_rows}, Keys.{key_of, holding, holder_count}, Puts.put_rows}}
-use Rattle.store_rows.{specs.{claim.{Rows.{KeyMap, row_in, Lacks}, Shares.{count_of, hold_by, hold}}, declared.value.HolderCount.HolderCount}, proofs.HolderCounts.joins_holders}
-use Rattle.{chunk_table.proofs.Changed.{deep_after, nears_as, near_before}, desk_pages.proofs.Looking.{looked, not_looked as unlooked}, store_rows.proofs.Sharing.count_back}
-use Rattle.{desk_pages.proofs.Rising.{fresh_stand, put_with_after, not_put_with_after}, page_store.proofs.Stops.{passed_more, failed_more}}
+use Rattle.{chunk_table.specs.Holding.{Stands, HasHolderCount, HasHeld, HasHeldWith, WasHeld, HoldErrOf, HoldErrWith, IsCountOf, IsUnheld}, desk_store_rows.specs.Shares.CanHold}
+use Rattle.{desk_store_pages.specs.Rising.{HasPutWith, PutsErrWith}, desk_store_rows.specs.{Values.holder_count_bytes, claim.Holders.{holder_count_row, holding_rows}}}
+use Rattle.desk_store_rows.specs.claim.{Keys.{key_of, holding, holder_count}, Puts.put_rows, Rows.{KeyMap, row_in, Lacks}, Shares.{count_of, hold_by, hold}}
+use Rattle.{desk_store_rows.specs.declared.value.HolderCount.HolderCount, page_btree.specs.{gets.{claim.Map.InTxn, declared.error.TreeError.TreeError}, puts.Fingers.Stand}}
+use Rattle.{page_btree.specs.{gets.declared.error.TreeError.TheVariants.{NotAStore, TooDeep}, puts.declared.finger.Fingers.Fingers}, page_store.specs.declared.pages.Pages.Pages}
+use Rattle.{page_store.specs.{claim.Transactions.{stored, disk_in, IsQuiet, Passed}, declared.txn.Txn.Txn}, sector_device.specs.declared.SectorDevice.Ghosts}
+use Rattle.{chunk_table.proofs.Changed.{deep_after, nears_as, near_before}, desk_store_pages.proofs.Looking.{looked, not_looked as unlooked}}
+use Rattle.{desk_store_pages.proofs.Rising.{fresh_stand, put_with_after, not_put_with_after}, desk_store_rows.proofs.{HolderCounts.joins_holders, Sharing.count_back}}
+use Rattle.page_store.proofs.Stops.{passed_more, failed_more}
 
 -- ---- a count is a value of its row
 holder_count_in : (row : Option (List ℕ)) (count : ℕ) → row ≡ holder_count_row count → (value : Option HolderCount) × (option_map holder_count_bytes value ≡ row)

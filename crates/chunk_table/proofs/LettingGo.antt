@@ -1,11 +1,11 @@
 -- A plan lets a chunk go: its row is taken out, and the count goes down by one.
 use Rattle.std.{specs.FinMap.{get, insert, remove}, proofs.Common.{◌≡◌, ◌<◌, ◌≤◌, ◌+◌, ◌-◌, ◌^◌, ℕ, suc, List, length, Option, Some, None, sym, ap, subst, ◌∙◌, arith}}
-use Rattle.{chunk_table.specs.{Holding.HasHolderCount, Releasing.{TellsMore, HasCount, HasLowered, LowerErr, HasReleased, ReleaseErr}}, desk_pages.specs.Reading.ReadErr}
+use Rattle.{chunk_table.specs.{Holding.HasHolderCount, Releasing.{TellsMore, HasCount, HasLowered, LowerErr, HasReleased, ReleaseErr}}, desk_store_pages.specs.Reading.ReadErr}
+use Rattle.desk_store_rows.specs.{Holders.{with_holder_count, released}, claim.{Holders.holder_count_row, Keys.{key_of, holding, holder_count, in_eight}, Rows.{KeyMap, row_in}}}
 use Rattle.page_btree.specs.gets.{Errors.IsNoWant, claim.{Errors.{PutErr, RemoveErr}, Map.InTxn}, declared.error.TreeError.{TreeError, TheVariants.{NotAStore, NoPages, TooDeep}}}
 use Rattle.page_store.specs.{claim.Transactions.{stored, disk_in, txn_pages, txn_free, txn_writes, IsQuiet, Passed}, declared.{pages.Pages.Pages, txn.Txn.Txn}}
-use Rattle.{sector_device.specs.{claim.Disk.Image, declared.SectorDevice.Ghosts}, store_rows.specs.{Holders.{with_holder_count, released}, claim.Holders.holder_count_row}}
-use Rattle.{store_rows.specs.claim.{Keys.{key_of, holding, holder_count, in_eight}, Rows.{KeyMap, row_in}}, page_store.proofs.Stops.{passed_more, failed_more}}
-use Rattle.store_rows.proofs.Frames.{remove_keeps_tag}
+use Rattle.{sector_device.specs.{claim.Disk.Image, declared.SectorDevice.Ghosts}, desk_store_rows.proofs.Frames.remove_keeps_tag}
+use Rattle.page_store.proofs.Stops.{passed_more, failed_more}
 
 -- ---- the row of a count
 some_told : (m : KeyMap) (number count : ℕ) (key value : List ℕ) → (count ≡ 0 → ⊥) → key ≡ key_of (holder_count number) → value ≡ in_eight count → insert m key value ≡ with_holder_count m number count

@@ -1,9 +1,9 @@
 -- What is written after rows were only read.
-use Rattle.{std.{specs.Prelude.{◌≡◌, Result, Ok, Err, IsErrAnd, MatchResult}, proofs.Common.{ℕ, [], ◌∷◌, ◌+◌, ◌<◌, subst, sym, ◌∙◌, arith}}, desk_pages.specs.claim.Puts.HasPut}
-use Rattle.{desk_pages.{specs.{Outcomes.{PutsRows, Writes}, Rising.{HasPutWith, PutsErrWith}}, proofs.Outcomes.match_of}, page_btree.specs.gets.declared.error.TreeError.TreeError}
-use Rattle.{page_btree.specs.puts.declared.finger.Fingers.Fingers, page_store.specs.{claim.Transactions.{count_of, txn_pages, IsQuiet}, declared.{pages.Pages.Pages, txn.Txn.Txn}}}
-use Rattle.{sector_device.specs.declared.SectorDevice.Ghosts, store_rows.specs.{Puts.rows_told, claim.Puts.Row}, page_store.proofs.Stops.quiet_more}
-use Rattle.desk_pages.proofs.Rising.{HasPutFrom, told_more_from, told_not_put_from, all_from}
+use Rattle.{std.{specs.Prelude.{◌≡◌, Result, Ok, Err, IsErrAnd, MatchResult}, proofs.Common.{ℕ, [], ◌∷◌, ◌+◌, ◌<◌, subst, sym, ◌∙◌, arith}}, desk_store_rows.specs.Puts.rows_told}
+use Rattle.{desk_store_pages.specs.{Outcomes.{PutsRows, Writes}, Rising.{HasPutWith, PutsErrWith}, claim.Puts.HasPut}, desk_store_rows.specs.claim.Puts.Row}
+use Rattle.{page_btree.specs.{gets.declared.error.TreeError.TreeError, puts.declared.finger.Fingers.Fingers}, page_store.specs.claim.Transactions.{count_of, txn_pages, IsQuiet}}
+use Rattle.{page_store.specs.declared.{pages.Pages.Pages, txn.Txn.Txn}, sector_device.specs.declared.SectorDevice.Ghosts, desk_store_pages.proofs.Outcomes.match_of}
+use Rattle.{desk_store_pages.proofs.Rising.{HasPutFrom, told_more_from, told_not_put_from, all_from}, page_store.proofs.Stops.quiet_more}
 
 module _ {D Y : Type 0} {g : Ghosts D} {also : Y → Type 0} {why : TreeError → Type 0} {t : Txn} {a b : Pages D g} where
   -- nothing was written

@@ -1,7 +1,7 @@
 -- What is appended to a list, of what rows say.
 use Rattle.std.specs.Prelude.{◌≡◌, ◌++◌, List, ℕ, Result}
-use Rattle.{desk_pages.specs.Looking.{Gathers, Says}, page_btree.specs.gets.declared.error.TreeError.TreeError, page_store.specs.declared.{pages.Pages.Pages, txn.Txn.Txn}}
-use Rattle.{sector_device.specs.declared.SectorDevice.Ghosts, store_rows.specs.claim.Rows.KeyMap}
+use Rattle.{desk_store_pages.specs.Looking.{Gathers, Says}, desk_store_rows.specs.claim.Rows.KeyMap, page_btree.specs.gets.declared.error.TreeError.TreeError}
+use Rattle.{page_store.specs.declared.{pages.Pages.Pages, txn.Txn.Txn}, sector_device.specs.declared.SectorDevice.Ghosts}
 
 -- `says` is what a map is to say of a value, and `part` which part of the value is appended: it stands after what was there
 abbrev pub AppendsNext : {X : Type 0} → (KeyMap → X → Type 0) → (X → List ℕ) → List ℕ → List ℕ → KeyMap → Type 0

@@ -1,9 +1,9 @@
 -- A map that changes in a transaction by rows that depend on what is there.
 use Rattle.std.specs.Prelude.{◌≡◌, ◌<◌, ◌≤◌, ◌+◌, ◌*◌, ℕ, List, length, true, Result}
-use Rattle.{desk_pages.specs.{Outcomes.Writes, claim.Puts.{HasDeepened, IsNear, Nears}}, page_btree.specs.gets.{claim.Map.InTxn, declared.error.TreeError.TreeError}}
-use Rattle.{page_btree.specs.gets.declared.error.TreeError.TheVariants.{DeviceFault, NotAStore, Halted, NoPages, TooDeep, Memory}, page_store.specs.declared.pages.Pages.Pages}
-use Rattle.page_store.specs.{claim.Transactions.{stored, disk_in, has_halted, txn_pages, txn_free, txn_writes, HasFailed, Passed}, declared.txn.Txn.Txn}
-use Rattle.{sector_device.specs.declared.SectorDevice.Ghosts, store_rows.specs.claim.{Puts.{Row, put_rows}, Rows.KeyMap}}
+use Rattle.{desk_store_pages.specs.{Outcomes.Writes, claim.Puts.{HasDeepened, IsNear, Nears}}, desk_store_rows.specs.claim.{Puts.{Row, put_rows}, Rows.KeyMap}}
+use Rattle.page_btree.specs.gets.{claim.Map.InTxn, declared.error.TreeError.{TreeError, TheVariants.{DeviceFault, NotAStore, Halted, NoPages, TooDeep, Memory}}}
+use Rattle.page_store.specs.{claim.Transactions.{stored, disk_in, has_halted, txn_pages, txn_free, txn_writes, HasFailed, Passed}, declared.{pages.Pages.Pages, txn.Txn.Txn}}
+use Rattle.sector_device.specs.declared.SectorDevice.{Ghosts}
 
 -- so many rows at most make of each map what follows
 abbrev pub IsByRows : (KeyMap → KeyMap) → ℕ → Type 0

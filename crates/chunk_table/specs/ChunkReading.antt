@@ -1,6 +1,6 @@
 -- What is read of a chunk.
 use Rattle.std.specs.Prelude.{◌≡◌, ◌*◌, ◌^◌, ℕ, List, length, take, drop}
-use Rattle.{chunk_table.specs.Parts.{AppendsAll, AppendsPart, StandsInParts}, store_rows.specs.claim.{Keys.chunk, Lists.districts_bytes, RevisionRows.HasChunk, Rows.KeyMap}}
+use Rattle.{chunk_table.specs.Parts.{AppendsAll, AppendsPart, StandsInParts}, desk_store_rows.specs.claim.{Keys.chunk, Lists.districts_bytes, RevisionRows.HasChunk, Rows.KeyMap}}
 
 -- the number names these districts, and they are so many
 pub record IsChunk (number count : ℕ) (m : KeyMap) (districts : List ℕ) : Type 0 where

@@ -1,11 +1,11 @@
 -- What it is for a plan to come to hold a chunk, and why it doesn't.
 use Rattle.std.specs.Prelude.{◌≡◌, ◌<◌, ◌≤◌, ◌+◌, ◌*◌, ◌^◌, ℕ, Bool, true, false, List, length, Option, Some, None, Contains, Result, MatchResult}
-use Rattle.{chunk_table.specs.ChunkChanging.ChangesMap, desk_pages.specs.{Outcomes.Writes, Rising.{HasPutWith, PutsErrWith}, claim.Puts.{HasDeepened, IsNear, Nears}}}
-use Rattle.page_btree.specs.gets.{claim.Map.InTxn, declared.error.TreeError.{TreeError, TheVariants.{DeviceFault, NotAStore, Halted, NoPages, TooDeep, Memory}}}
-use Rattle.{page_btree.specs.puts.{Fingers.Stand, declared.finger.Fingers.Fingers}, page_store.specs.declared.{pages.Pages.Pages, txn.Txn.Txn}, store_rows.specs.claim.Puts.Row}
-use Rattle.{page_store.specs.claim.Transactions.{stored, disk_in, has_halted, txn_pages, txn_free, txn_writes, HasFailed, Passed}, sector_device.specs.declared.SectorDevice.Ghosts}
-use Rattle.store_rows.specs.{Shares.{CanHold, hold_all}, claim.{Holders.{holder_count_row, holding_rows}, Keys.{holding, holder_count}, Rows.{KeyMap, row_in, Has, Lacks}}}
-use Rattle.store_rows.specs.claim.Shares.{hold}
+use Rattle.{chunk_table.specs.ChunkChanging.ChangesMap, desk_store_pages.specs.{Outcomes.Writes, Rising.{HasPutWith, PutsErrWith}, claim.Puts.{HasDeepened, IsNear, Nears}}}
+use Rattle.desk_store_rows.specs.{Shares.{CanHold, hold_all}, claim.{Holders.{holder_count_row, holding_rows}, Keys.{holding, holder_count}, Puts.Row, Shares.hold}}
+use Rattle.{desk_store_rows.specs.claim.Rows.{KeyMap, row_in, Has, Lacks}, page_btree.specs.{gets.{claim.Map.InTxn, declared.error.TreeError.TreeError}, puts.Fingers.Stand}}
+use Rattle.page_btree.specs.{gets.declared.error.TreeError.TheVariants.{DeviceFault, NotAStore, Halted, NoPages, TooDeep, Memory}, puts.declared.finger.Fingers.Fingers}
+use Rattle.page_store.specs.{claim.Transactions.{stored, disk_in, has_halted, txn_pages, txn_free, txn_writes, HasFailed, Passed}, declared.{pages.Pages.Pages, txn.Txn.Txn}}
+use Rattle.sector_device.specs.declared.SectorDevice.{Ghosts}
 
 -- a holding row is there, or not
 abbrev pub Stands : Bool → ℕ → ℕ → KeyMap → Type 0

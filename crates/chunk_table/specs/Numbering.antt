@@ -1,9 +1,9 @@
 -- A chunk under the next number.
 use Rattle.std.specs.Prelude.{◌≡◌, ◌⊎◌, ◌<◌, ◌+◌, ◌^◌, ◌++◌, ℕ, List, [], ◌∷◌, Option, MatchOption, Result}
-use Rattle.{chunk_table.specs.declared.ids.ChunkId.ChunkId, desk_pages.specs.{Outcomes.Writes, Reading.{HasNext, ReadErr}, claim.Puts.{HasPut, PutsErr}}}
-use Rattle.{page_btree.specs.gets.{claim.Map.InTxn, declared.error.TreeError.TreeError}, page_store.specs.{claim.Transactions.{stored, disk_in, Passed}, declared.txn.Txn.Txn}}
-use Rattle.{page_store.specs.declared.pages.Pages.Pages, sector_device.specs.declared.SectorDevice.Ghosts, store_rows.specs.{ChunkRows.chunk_rows, Steps.chunks_more}}
-use Rattle.store_rows.specs.{claim.{Keys.{key_of, counters}, Puts.Row, Rows.KeyMap, Tidy.{IsNext, CountersFit}, Values.counters_bytes}, declared.value.Counters.Counters}
+use Rattle.{chunk_table.specs.declared.ids.ChunkId.ChunkId, desk_store_pages.specs.{Outcomes.Writes, Reading.{HasNext, ReadErr}, claim.Puts.{HasPut, PutsErr}}}
+use Rattle.desk_store_rows.specs.{ChunkRows.chunk_rows, Steps.chunks_more, claim.{Keys.{key_of, counters}, Puts.Row, Rows.KeyMap, Tidy.{IsNext, CountersFit}}}
+use Rattle.{desk_store_rows.specs.{claim.Values.counters_bytes, declared.value.Counters.Counters}, page_btree.specs.gets.{claim.Map.InTxn, declared.error.TreeError.TreeError}}
+use Rattle.{page_store.specs.{claim.Transactions.{stored, disk_in, Passed}, declared.{pages.Pages.Pages, txn.Txn.Txn}}, sector_device.specs.declared.SectorDevice.Ghosts}
 
 -- the rows of a chunk, and the row of the numbers that come after it
 abbrev pub numbered_rows : List ℕ → Counters → List Row

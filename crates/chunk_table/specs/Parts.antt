@@ -1,6 +1,6 @@
 -- A list that stands in rows part by part, as it is read.
 use Rattle.std.specs.Prelude.{◌≡◌, ◌<◌, ◌-◌, ◌*◌, ℕ, List, ◌++◌, length, min, take, drop, All, Some}
-use Rattle.store_rows.specs.claim.{Keys.RowKey, Rows.{KeyMap, row_in}}
+use Rattle.desk_store_rows.specs.claim.{Keys.RowKey, Rows.{KeyMap, row_in}}
 
 -- a place of so many, at which a part of the list begins
 pub record BeginsPart (size places count index : ℕ) : Type 0 where

@@ -1,10 +1,10 @@
 -- What it is for a plan to let a chunk go, and why it doesn't.
 use Rattle.std.specs.Prelude.{◌≡◌, ◌<◌, ◌≤◌, ◌+◌, ◌^◌, ℕ, suc, true, Result}
-use Rattle.{desk_pages.specs.Outcomes.Writes, page_btree.specs.gets.{claim.{Errors.IsUnsound, Map.InTxn}, declared.error.TreeError.TreeError}, sector_device.specs.claim.Disk.Image}
+use Rattle.{desk_store_pages.specs.Outcomes.Writes, desk_store_rows.specs.{Holders.{with_holder_count, released}, claim.{Holders.holder_count_row, Keys.holder_count}}}
+use Rattle.{desk_store_rows.specs.claim.Rows.{KeyMap, row_in}, page_btree.specs.gets.{claim.{Errors.IsUnsound, Map.InTxn}, declared.error.TreeError.TreeError}}
 use Rattle.{page_btree.specs.gets.declared.error.TreeError.TheVariants.{DeviceFault, NotAStore, Halted, NoPages, TooDeep, Memory}, page_store.specs.declared.pages.Pages.Pages}
 use Rattle.page_store.specs.{claim.Transactions.{stored, disk_in, has_halted, txn_pages, txn_free, txn_writes, HasFailed, Passed}, declared.txn.Txn.Txn}
-use Rattle.{sector_device.specs.declared.SectorDevice.Ghosts, store_rows.specs.{Holders.{with_holder_count, released}, claim.{Holders.holder_count_row, Keys.holder_count}}}
-use Rattle.store_rows.specs.claim.Rows.{KeyMap, row_in}
+use Rattle.sector_device.specs.{claim.Disk.Image, declared.SectorDevice.Ghosts}
 
 -- the map tells one plan more than so many
 abbrev pub TellsMore : ℕ → ℕ → KeyMap → Type 0

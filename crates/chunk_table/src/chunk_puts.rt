@@ -1,14 +1,14 @@
 //! Puts chunks.
 ghost use Rattle.std.specs.Prelude.{◌≡◌, ◌≤◌, ◌*◌, ◌^◌, length};
 ghost use Rattle.page_store.specs.claim.Transactions.{count_of, txn_pages};
-ghost use Rattle.store_rows.specs.ChunkRows.{chunk_rows};
-ghost use Rattle.desk_pages.specs.Outcomes.{PutsRows};
+ghost use Rattle.desk_store_rows.specs.ChunkRows.{chunk_rows};
+ghost use Rattle.desk_store_pages.specs.Outcomes.{PutsRows};
 
 use crate::ids::ChunkId;
-use desk_pages::{TreeError, part_of, put_row};
+use desk_store_pages::{TreeError, part_of, put_row};
+use desk_store_rows::{Key, ListValue, PIECE_DISTRICTS, fill_districts};
 use page_store::{Pages, Txn};
 use sector_device::SectorDevice;
-use store_rows::{Key, ListValue, PIECE_DISTRICTS, fill_districts};
 
 /// Puts a chunk of at most 33,554,432 districts under a number, in pieces of 512. The caller chooses
 /// the number: one that names no chunk. After an error the transaction can only be abandoned.

@@ -7,11 +7,11 @@ ghost use Rattle.chunk_table.specs.ChunkReading.{AppendsPiece, AppendsPieces, Is
 
 use crate::ids::ChunkId;
 use crate::lengths::part_length;
-use desk_pages::{TreeError, read_row};
+use desk_store_pages::{TreeError, read_row};
+use desk_store_rows::{Key, PIECE_DISTRICTS, read_districts};
 use page_btree::VALUE_LIMIT;
 use page_store::{Pages, Txn};
 use sector_device::SectorDevice;
-use store_rows::{Key, PIECE_DISTRICTS, read_districts};
 
 /// Appends one part of a chunk of `count` districts.
 fn append_piece<D: SectorDevice>(

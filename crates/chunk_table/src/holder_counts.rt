@@ -1,20 +1,20 @@
 //! How many plans hold a chunk.
 ghost use Rattle.std.specs.Prelude.{◌≡◌, ◌<◌, ◌^◌, option_map, IfOk};
 ghost use Rattle.page_store.specs.claim.Transactions.{count_of, stored, txn_pages};
-ghost use Rattle.store_rows.specs.Values.{holder_count_bytes};
-ghost use Rattle.store_rows.specs.claim.Keys.{holder_count};
-ghost use Rattle.store_rows.specs.claim.Rows.{row_in};
-ghost use Rattle.store_rows.specs.claim.Holders.{holder_count_row};
-ghost use Rattle.desk_pages.specs.Looking.{Looks};
+ghost use Rattle.desk_store_rows.specs.Values.{holder_count_bytes};
+ghost use Rattle.desk_store_rows.specs.claim.Keys.{holder_count};
+ghost use Rattle.desk_store_rows.specs.claim.Rows.{row_in};
+ghost use Rattle.desk_store_rows.specs.claim.Holders.{holder_count_row};
+ghost use Rattle.desk_store_pages.specs.Looking.{Looks};
 ghost use Rattle.page_btree.specs.puts.Fingers.{Stand};
 ghost use Rattle.chunk_table.specs.Holding.{HasHolderCount, IsCountOf};
 ghost use Rattle.chunk_table.specs.Releasing.{Lowers};
 
-use desk_pages::{Fingers, TreeError, get_row, get_row_with};
+use desk_store_pages::{Fingers, TreeError, get_row, get_row_with};
+use desk_store_rows::{HolderCount, Key, holder_count_value};
 use page_btree::{put, remove};
 use page_store::{Pages, Txn};
 use sector_device::SectorDevice;
-use store_rows::{HolderCount, Key, holder_count_value};
 
 /// How many plans hold a chunk. `NotAStore` comes also where the store counts none by a row.
 pub(crate) fn holder_count_of<D: SectorDevice>(

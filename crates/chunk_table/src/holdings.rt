@@ -1,14 +1,14 @@
 //! Puts the rows by which a plan holds new chunks.
 ghost use Rattle.std.specs.Prelude.{◌≡◌, ◌<◌, ◌+◌, ◌^◌};
 ghost use Rattle.page_store.specs.claim.Transactions.{count_of, txn_pages};
-ghost use Rattle.store_rows.specs.Puts.{rows_told};
-ghost use Rattle.store_rows.specs.RevisionSteps.{new_holding, new_holder_count, new_holding_rows};
-ghost use Rattle.desk_pages.specs.Outcomes.{PutsRows};
+ghost use Rattle.desk_store_rows.specs.Puts.{rows_told};
+ghost use Rattle.desk_store_rows.specs.RevisionSteps.{new_holding, new_holder_count, new_holding_rows};
+ghost use Rattle.desk_store_pages.specs.Outcomes.{PutsRows};
 
-use desk_pages::{Fingers, TreeError, put_row_with};
+use desk_store_pages::{Fingers, TreeError, put_row_with};
+use desk_store_rows::{HolderCount, Key, holder_count_value};
 use page_store::{Pages, Txn};
 use sector_device::SectorDevice;
-use store_rows::{HolderCount, Key, holder_count_value};
 
 /// Puts the rows that say that a plan holds `count` chunks from the first on.
 fn put_held<D: SectorDevice>(

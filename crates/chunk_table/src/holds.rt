@@ -1,21 +1,21 @@
 //! Plans that come to hold chunks.
 ghost use Rattle.std.specs.Prelude.{◌≡◌, ◌<◌, ◌+◌, ◌^◌, ℕ};
 ghost use Rattle.page_store.specs.claim.Transactions.{count_of, txn_pages};
-ghost use Rattle.store_rows.specs.claim.Keys.{holding};
-ghost use Rattle.store_rows.specs.claim.Rows.{KeyMap, Lacks};
-ghost use Rattle.store_rows.specs.claim.Holders.{holding_rows};
-ghost use Rattle.store_rows.specs.claim.Shares.{hold};
-ghost use Rattle.desk_pages.specs.Looking.{Looks};
+ghost use Rattle.desk_store_rows.specs.claim.Keys.{holding};
+ghost use Rattle.desk_store_rows.specs.claim.Rows.{KeyMap, Lacks};
+ghost use Rattle.desk_store_rows.specs.claim.Holders.{holding_rows};
+ghost use Rattle.desk_store_rows.specs.claim.Shares.{hold};
+ghost use Rattle.desk_store_pages.specs.Looking.{Looks};
 ghost use Rattle.chunk_table.specs.Holding.{HoldsChunk, HoldsChunks, HoldsUnheld, HoldsWith, IsFreeFrom, IsUnheld, PutsWith, Stands};
 
 use crate::holder_counts::holder_count_with;
 use btree_scan::scan;
-use desk_pages::{Fingers, TreeError, put_row_with};
+use desk_store_pages::{Fingers, TreeError, put_row_with};
+use desk_store_rows::forks::chunks_are_held;
+use desk_store_rows::{HolderCount, Key, holder_count_value};
 use page_btree::{VALUE_LIMIT, get};
 use page_store::{Pages, Txn};
 use sector_device::SectorDevice;
-use store_rows::forks::chunks_are_held;
-use store_rows::{HolderCount, Key, holder_count_value};
 
 /// Whether a plan holds a chunk. An error is `NotAStore`, `DeviceFault` or `Halted`.
 pub fn is_held<D: SectorDevice>(

@@ -5,10 +5,10 @@ ghost use Rattle.chunk_table.specs.Numbering.{PutsChunk};
 
 use crate::chunk_puts::put_chunk_as;
 use crate::ids::ChunkId;
-use desk_pages::{TreeError, next_numbers, put_row};
+use desk_store_pages::{TreeError, next_numbers, put_row};
+use desk_store_rows::{Counters, Key, counters_value};
 use page_store::{Pages, Txn};
 use sector_device::SectorDevice;
-use store_rows::{Counters, Key, counters_value};
 
 /// Puts a chunk of at most 33,554,432 districts under the next number, and returns the number, or
 /// none if no number is left: then nothing was written. After an error the transaction can only be

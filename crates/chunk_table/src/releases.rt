@@ -4,11 +4,11 @@ ghost use Rattle.page_store.specs.claim.Transactions.{count_of, txn_pages};
 ghost use Rattle.chunk_table.specs.Releasing.{Releases};
 
 use crate::holder_counts::{holder_count_of, lower};
-use desk_pages::TreeError;
+use desk_store_pages::TreeError;
+use desk_store_rows::Key;
 use page_btree::remove;
 use page_store::{Pages, Txn};
 use sector_device::SectorDevice;
-use store_rows::Key;
 
 /// Ends a plan's holding of a chunk: removes its row and lowers the number of holders by one,
 /// removing that row at zero. At most 17 pages are written, and none is taken. After an error the

@@ -1,7 +1,7 @@
 //! Devices that stop or fail at one of their calls, and what a stop leaves of them.
 use crate::stores::formatted;
-use desk_pages::StoreError;
 use desk_store::clerk::Clerk;
+use desk_store_pages::StoreError;
 use sector_device::{Sector, SectorDevice};
 use sector_memory::{Fused, MemoryDevice};
 use std::alloc::Global;

@@ -2,8 +2,8 @@
 use crate::devices::{FILLS, Image, Pick, device_with, image_of, opened_at, picks};
 use crate::stores::{device_of, opened};
 use crate::streams::{answers, sealed_store};
-use desk_pages::StoreError;
 use desk_store::clerk::Clerk;
+use desk_store_pages::StoreError;
 use sector_device::{Sector, SectorDevice};
 use sector_memory::{Fused, MemoryDevice};
 use std::alloc::Global;

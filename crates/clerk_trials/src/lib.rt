@@ -1,4 +1,4 @@
-//! Tests of the clerk's own calls, and of the desk that is found after a crash or a failure.
+//! Tests of loads, sweeps and migrations, and of the desk that is found after a crash or a failure.
 //!
 //! # Notes
 //!
@@ -15,8 +15,6 @@ macro_rules! holds {
     };
 }
 
-#[cfg(test)]
-mod commits;
 #[cfg(test)]
 mod devices;
 #[cfg(test)]

@@ -3,8 +3,8 @@ ghost use Rattle.std.specs.Prelude.{◌≤◌};
 
 use crate::stopped_loads::is_sealed;
 use crate::stores::{begun, device_of, formatted, opened, seal, stage};
-use desk_pages::StoreError;
 use desk_store::clerk::Clerk;
+use desk_store_pages::StoreError;
 use geo_tables::Load;
 use sector_memory::Fused;
 use std::alloc::Global;

@@ -2,8 +2,8 @@
 ghost use Rattle.std.specs.Prelude.{◌≤◌};
 
 use desk_model::geography::{Geography, sample};
-use desk_pages::{StoreError, format};
 use desk_store::clerk::Clerk;
+use desk_store_pages::{StoreError, format};
 use geo_tables::Load;
 use sector_device::SectorDevice;
 use sector_memory::{Fused, MemoryDevice};

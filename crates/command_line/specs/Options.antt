@@ -1,7 +1,7 @@
 -- Which options of `check` go together, and the values of those that aren't paths.
 use Rattle.{std.specs.{Char.is_ascii_digit, List.list_all, Option.{option_and_then, option_flatten}, Str.Parse.digits_value}, command_line.specs.Sizes.size_reckoned}
 use Rattle.std.specs.Prelude.{◌≡◌, true, false, ℕ, ◌≤◌, Bool, not, ◌&&◌, ◌||◌, nat_le, if◌then◌else◌, List, Option, Some, None, is_some, IsSome, IfSome, IsTrue, option_map}
-use Rattle.command_line.specs.declared.options.{Form.{Form, TheVariants.{Counts, Audit}}, Patience.Patience, Serving.Serving, Size.Size, Terms.Terms}
+use Rattle.command_line.specs.declared.options.{AuditOptions.AuditOptions, Form.{Form, TheVariants.{Counts, Audit}}, Patience.Patience, Serving.Serving, Size.Size}
 use Rattle.desk_model.specs.{claim.{Companions.takes, Sizes.{kind_named, most_districts}}, declared.{companions.Companions.Companions, kind.Kind.Kind}}
 use Rattle.{desk_model.specs.declared.kind.Kind.TheVariants.{Congress, Senate}, state_files.specs.Opens.AreAlike}
 
@@ -117,7 +117,7 @@ companions_read k senate congress words =
     given (option_map (λ (s c : Option ℕ). record { senate = s; congress = c }) (beside_read Senate k senate words.senate)) (beside_read Congress k congress words.congress)
 
 -- what is audited, where the words say it
-abbrev pub terms_read : (word districts : List ℕ) → (senate congress : Bool) → (words : Companions (List ℕ)) → Option Terms
+abbrev pub terms_read : (word districts : List ℕ) → (senate congress : Bool) → (words : Companions (List ℕ)) → Option AuditOptions
 terms_read word districts senate congress words = option_and_then (λ (k : Kind).
     given (option_map (λ (n : ℕ) (beside : Companions ℕ). record { kind = k; districts = n; beside = beside }) (number_to (most_districts k) districts))
     (companions_read k senate congress words)) (kind_named word)
@@ -137,7 +137,7 @@ form_read gal plan (Some word) (Some districts) senate congress words =
     if gal && plan then option_map Audit (terms_read word districts senate congress words) else None
 
 -- what an audit may be asked for
-pub record AreTerms (t : Terms) : Type 0 where
+pub record AreTerms (t : AuditOptions) : Type 0 where
   pub some : 1 ≤ t.districts
   pub few : t.districts ≤ 999
   pub senate : IsSome t.beside.senate → IsTrue (takes Senate t.kind)

@@ -14,7 +14,7 @@ use desk_model::kind::Kind;
 
 /// What is audited: the number of districts of the plan, and of each companion.
 #[derive(Clone, Copy)]
-pub struct Terms {
+pub struct AuditOptions {
     pub kind: Kind,
     pub districts: u16,
     pub beside: Companions<u16>,
@@ -26,7 +26,7 @@ pub enum Form {
     /// The counts of the census files.
     Counts,
     /// The audit of a plan.
-    Audit(Terms),
+    Audit(AuditOptions),
 }
 
 /// How large a store is.
@@ -328,7 +328,7 @@ fn read_terms(
     districts: &[u8],
     files: Companions<&str>,
     words: Companions<&[u8]>,
-) -> Option<Terms>
+) -> Option<AuditOptions>
     ensures value { result ≡ terms_read word.now districts.now (is_some files.entry.senate) (is_some files.entry.congress) (companions_copied words.entry) }
     ensures valid { IfSome result AreTerms }
     ensures alike { IfSome result (λ terms. AreAlike files.entry terms.beside) }
@@ -336,7 +336,7 @@ fn read_terms(
     let kind = Kind::from_name(word)?;
     let districts = number_to(kind.most_districts(), districts)?;
     let beside = companions_districts(kind, files, words)?;
-    Some(Terms {
+    Some(AuditOptions {
         kind,
         districts,
         beside,

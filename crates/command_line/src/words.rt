@@ -6,7 +6,7 @@ ghost use Rattle.command_line.specs.Jobs.{IsJob, AreCensusPaths, HasPaths, IsAsk
 
 use crate::line::command;
 use crate::options::{
-    Form, Logging, Serving, Size, Terms, is_number, read_form, read_format, read_interval,
+    AuditOptions, Form, Logging, Serving, Size, is_number, read_form, read_format, read_interval,
     read_serving, read_workers,
 };
 use crate::tables::{Argument, Values, orders};
@@ -25,7 +25,7 @@ pub enum Job<'a> {
     /// `check` with only the census files, and the number of workers.
     Counts(CensusPaths<'a>, u16),
     /// `check` with a plan, and the number of workers.
-    Audit(AuditPaths<'a>, Terms, u16),
+    Audit(AuditPaths<'a>, AuditOptions, u16),
     /// `format`: the store's name and size, and whether the size was computed from what it is to
     /// hold.
     Format(&'a str, Size, bool),

@@ -80,7 +80,7 @@ place_name ToolNeighbours = codes "tools/neighbours"
 place_name ToolServer = codes "tools that ask a server"
 place_name ToolDesk = codes "tools/desk"
 place_name ToolExport = codes "tools/export and tools/import"
-place_name ToolKeep = codes "tools/backup and tools/health and tools/release"
+place_name ToolKeep = codes "tools/backup and tools/health and tools/log and tools/release"
 
 -- the case of a device's reason, and of a command that did what it was asked for
 unfoldable pub case_at : Option Reason → List ℕ

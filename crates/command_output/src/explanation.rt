@@ -191,7 +191,7 @@ pub(crate) fn name_of(place: FaultPlace) -> &'static str
         FaultPlace::ToolServer => "tools that ask a server",
         FaultPlace::ToolDesk => "tools/desk",
         FaultPlace::ToolExport => "tools/export and tools/import",
-        FaultPlace::ToolKeep => "tools/backup and tools/health and tools/release",
+        FaultPlace::ToolKeep => "tools/backup and tools/health and tools/log and tools/release",
     }
 }
 

@@ -18,7 +18,7 @@
 //!
 //! # Notes
 //!
-//! `print` sends a text; `tell` sends the line of a fault and returns its status; `Noting`
+//! `print` sends a text; `tell` sends the line of a fault and returns its status; `LastLineWriter`
 //! remembers the last line, so that it can be explained.
 #![tactic(auto)]
 

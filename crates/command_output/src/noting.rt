@@ -46,18 +46,18 @@ impl LastLine {
 
 /// Any writer, which keeps the line that was written last.
 #[derive(Drop)]
-pub struct Noting<W> {
+pub struct LastLineWriter<W> {
     writer: W,
     last: LastLine,
 }
 
-impl<W> Noting<W> {
+impl<W> LastLineWriter<W> {
     ghost use Rattle.std.specs.Prelude.{◌≡◌};
 
-    pub fn new(writer: W) -> Noting<W>
+    pub fn new(writer: W) -> LastLineWriter<W>
         ensures { result.writer ≡ writer }
     {
-        Noting {
+        LastLineWriter {
             writer,
             last: LastLine::new(),
         }
@@ -72,12 +72,12 @@ impl<W> Noting<W> {
     pub fn into_inner(self) -> W
         ensures { result ≡ self.writer }
     {
-        let Noting { writer, last: _ } = self;
+        let LastLineWriter { writer, last: _ } = self;
         writer
     }
 }
 
-impl<W: Write> Write for Noting<W> {
+impl<W: Write> Write for LastLineWriter<W> {
     ghost contents = { λ s. W.contents s.writer };
 
     fn write(&mut self, buf: &[u8]) -> io::Result<usize> {

@@ -265,8 +265,8 @@ pub(crate) static TOOL_EXPORT: [FaultRow; 10] = [
     ),
 ];
 
-/// `tools/backup`, `tools/health` and `tools/release`.
-pub(crate) static TOOL_KEEP: [FaultRow; 11] = [
+/// `tools/backup`, `tools/health`, `tools/log` and `tools/release`.
+pub(crate) static TOOL_KEEP: [FaultRow; 12] = [
     (
         "InUse",
         "",
@@ -308,6 +308,13 @@ pub(crate) static TOOL_KEEP: [FaultRow; 11] = [
         "",
         "The server did not answer within the seconds of --seconds.",
         "Check the server's log and load, or give more seconds.",
+    ),
+    (
+        "NoLine",
+        "",
+        "",
+        "The log has no line with the free pages.",
+        "Check that it is the file of `serve --log`, or start the server with `--tell 60`.",
     ),
     (
         "NoProgram",

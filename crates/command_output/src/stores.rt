@@ -1,8 +1,8 @@
-//! Faults of a store's file, what `verify` finds, and faults of a command's streams. `tests/explained` compares these tables with what the program prints.
+//! Faults of a store's file, how it differs from census files, what `verify` finds, and faults of a command's streams. `tests/explained` compares these tables with what the program prints.
 use crate::explanation::FaultRow;
 
-/// The file of a store. A device's fault has a case for each known reason.
-pub(crate) static STORE: [FaultRow; 14] = [
+/// The file of a store, and how `verify` finds it to differ from census files. A device's fault has a case for each known reason.
+pub(crate) static STORE: [FaultRow; 21] = [
     (
         "NotFound",
         "",
@@ -93,6 +93,55 @@ pub(crate) static STORE: [FaultRow; 14] = [
         "",
         "The system refused to open, read, write or sync the file, for another reason: the disk failed, or it became full.",
         "Check the disk and the system's log, and try again. After `load` the store contains the whole state or nothing of it; after `serve` it contains every change that was acknowledged.",
+    ),
+    (
+        "NotSealed",
+        "",
+        "",
+        "`verify` was given the files of a state, and the store contains no state.",
+        "Load the files into it: `plandesk load`.",
+    ),
+    (
+        "MissingBlock",
+        "BLOCK",
+        "",
+        "The census files that `verify` was given have this block, and the store does not.",
+        "The store was loaded from other files. Find the files that it was loaded from, or create a new store from these.",
+    ),
+    (
+        "ExtraBlock",
+        "BLOCK",
+        "",
+        "The store has this block, and the census files that `verify` was given do not.",
+        "The store was loaded from other files. Find the files that it was loaded from, or create a new store from these.",
+    ),
+    (
+        "OtherCity",
+        "BLOCK",
+        "",
+        "The block lies in another city than the census files say, or in a city only in one of the two.",
+        "The store was loaded from other files. Find the files that it was loaded from, or create a new store from these.",
+    ),
+    (
+        "OtherPopulation",
+        "BLOCK",
+        "",
+        "The block has another population than the census files say.",
+        "The store was loaded from other files. Find the files that it was loaded from, or create a new store from these.",
+    ),
+    (
+        "MissingPair",
+        "BLOCK NEIGHBOUR",
+        "",
+        "The two blocks are neighbours in the neighbour file that `verify` was given, and not in the store.",
+        "The store was loaded with another neighbour file. Find that file, or create a new store with this one.",
+    ),
+    (
+        "ExtraPair",
+        "BLOCK NEIGHBOUR",
+        "",
+        "The two blocks are neighbours in the store, and not in the neighbour file that `verify` was given.",
+        "The store was loaded with another neighbour file. Find that file, or create a new store with this one.",
     ),
     (
         "Memory",

@@ -1,6 +1,6 @@
 -- What a connection came to.
 use Rattle.{std.specs.Prelude.{ℕ, Option, Result, Ok, Err}, connection_log.specs.declared.{connection.Connection.Connection, counting.Sent.Sent}}
-use Rattle.{http_desk.specs.declared.serve.{ServeFault.ServeFault, Served.Served}, jiff_core.specs.declared.civil.datetime.DateTime.DateTime}
+use Rattle.{http_desk.specs.streams.declared.serve.{ServeFault.ServeFault, Served.Served}, jiff_core.specs.declared.civil.datetime.DateTime.DateTime}
 
 -- the answers of one that was served to its end are told by who served it; of another they are those that were written
 abbrev pub requests_of : Result Served ServeFault → Sent → ℕ

@@ -1,9 +1,9 @@
 -- The lines of a log.
 use Rattle.std.specs.Prelude.{◌≡◌, ℕ, ◌+◌, ◌/◌, ◌%◌, ◌==◌, Bool, true, false, if◌then◌else◌, List, [], ◌∷◌, ◌++◌, codes, decimal, Option, Some, None, Result, Ok, Err, ℤ, unsigned_abs}
 use Rattle.{byte_stream.specs.{claim.{Counts.counted, Sends.Sends}, declared.sink.WriteFault.WriteFault}, connection_log.specs.declared.connection.Connection.Connection}
-use Rattle.{connection_log.specs.declared.line.{Change.Change, Ending.Ending, LogLine.LogLine, Owed.Owed, Room.Room}, http_desk.specs.Accepting.plan_of}
-use Rattle.{http_desk.specs.declared.accepted.Accepted.Accepted, jiff_core.specs.declared.civil.datetime.DateTime.DateTime}
-use Rattle.http_desk.specs.declared.accepted.Accepted.TheVariants as accepted
+use Rattle.{connection_log.specs.declared.line.{Change.Change, Ending.Ending, LogLine.LogLine, Owed.Owed, Room.Room}, http_desk.specs.streams.Accepting.plan_of}
+use Rattle.{http_desk.specs.streams.declared.accepted.Accepted.Accepted, jiff_core.specs.declared.civil.datetime.DateTime.DateTime}
+use Rattle.http_desk.specs.streams.declared.accepted.Accepted.TheVariants as accepted
 use Rattle.connection_log.specs.declared.line.LogLine.TheVariants as entry
 
 -- the last two digits of a number

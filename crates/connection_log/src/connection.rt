@@ -3,7 +3,7 @@ ghost use Rattle.std.specs.Prelude.{◌≡◌};
 ghost use Rattle.connection_log.specs.Connections.{connection_of as connection_by, requests_of, faults_of};
 
 use crate::counting::Sent;
-use http_desk::serve::{ServeFault, Served};
+use http_desk::{ServeFault, Served};
 use jiff_core::civil::DateTime;
 
 /// The result of a connection.

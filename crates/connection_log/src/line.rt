@@ -1,12 +1,12 @@
 //! The lines of a log.
 ghost use Rattle.std.specs.Prelude.{◌≡◌, ◌+◌, ◌≤◌, ◌++◌, [], length, decimal, IfOk};
-ghost use Rattle.http_desk.specs.http_wire.Adding.{Adds};
+ghost use Rattle.http_desk.specs.streams.http_wire.Adding.{Adds};
 ghost use Rattle.connection_log.specs.Lines.{connection_line, cut_end, dropped_line, end_line, entry_line, entry_moment, room_line, stamp, unsound_line};
 ghost use Rattle.connection_log.specs.Lines.{change_line, deed_words, revision_words, source_words, two_digits, year_text};
 
 use crate::connection::Connection;
 use desk_model::name::PlanName;
-use http_connections::ran::Ran;
+use http_desk::Ran;
 use http_desk::accepted::Accepted;
 use itoa::Buffer;
 use jiff_core::civil::DateTime;

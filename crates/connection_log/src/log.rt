@@ -1,6 +1,6 @@
 //! A log that many threads put lines into, and one writes.
 ghost use Rattle.connection_log.specs.declared.line.LogLine.{LogLine as Line};
-ghost use Rattle.http_connections.specs.declared.ran.Ran.{Ran as Totals};
+ghost use Rattle.http_desk.specs.connections.declared.ran.Ran.{Ran as Totals};
 
 use crate::batch::Batch;
 use crate::interval::Interval;
@@ -9,7 +9,7 @@ use crate::moment::moment_now;
 use crate::telling::tell_batch;
 use crate::waiting::{Taken, Waiting};
 use byte_stream::sink::Sink;
-use http_connections::ran::Ran;
+use http_desk::Ran;
 use std::alloc::{AllocError, Global};
 use std::sync::atomic::{AtomicU64, Ordering};
 use std::sync::{Arc, Condvar, CondvarTimeouts, Mutex, MutexGuard, Wait};

@@ -8,29 +8,27 @@ use crate::line::{Change, LogLine, Room};
 use crate::log::Notes;
 use crate::moment::moment_now;
 use desk_model::gate::Gate;
-use http_connections::arrivals::Arrivals;
-use http_connections::listening::Listens;
-use http_connections::ran::Ran;
 use http_desk::accepted::Accepted;
-use http_desk::hearing::Hears;
-use http_desk::serve::{ServeFault, Served};
+use http_desk::hearing::CommandObserver;
+use http_desk::listening::FallibleArrivals;
+use http_desk::{Arrivals, Ran, ServeFault, Served};
 use std::sync::Wait;
 use std::sync::atomic::{AtomicBool, AtomicU64, Ordering};
 use std::time::Clock;
 
 /// A source of streams that observes accepted commands, the store's room, and the result of all
 /// streams.
-pub trait Watched: Listens + Hears {
+pub trait Watched: FallibleArrivals + CommandObserver {
     // What was reported of a run.
     ghost use Rattle.std.specs.Prelude.{ℕ};
-    ghost use Rattle.http_connections.specs.declared.ran.Ran.{Ran};
+    ghost use Rattle.http_desk.specs.connections.declared.ran.Ran.{Ran};
 
     ghost heard: { Self → Ran → Type 0 };
 
     // These numbers of free pages and of pages for a whole revision were reported.
     ghost heard_room: { Self → ℕ → ℕ → Type 0 };
 
-    /// Hears how many pages are free before streams are served, and how many a whole revision asks for.
+    /// CommandObserver how many pages are free before streams are served, and how many a whole revision asks for.
     fn begin(&self, free_pages: u64, revision_pages: u64)
         ensures { heard_room self.now free_pages revision_pages };
 
@@ -41,7 +39,7 @@ pub trait Watched: Listens + Hears {
 
 /// Connections that are written to a log, if there is one.
 #[derive(Drop)]
-pub struct Watching<'r, 'a, 'l, A, R, L> {
+pub struct LoggedArrivals<'r, 'a, 'l, A, R, L> {
     rt: &'r R,
     arrivals: &'a A,
     log: Option<&'l L>,
@@ -52,9 +50,20 @@ pub struct Watching<'r, 'a, 'l, A, R, L> {
     is_low: AtomicBool,
 }
 
-impl<'r, 'a, 'l, A: Listens, R: Wait + Clock, L: Notes> Watching<'r, 'a, 'l, A, R, L> {
-    pub fn new(rt: &'r R, arrivals: &'a A, log: Option<&'l L>) -> Watching<'r, 'a, 'l, A, R, L> {
-        Watching {
+impl<'r, 'a, 'l, A: FallibleArrivals, R: Wait + Clock, L: Notes> LoggedArrivals<
+    'r,
+    'a,
+    'l,
+    A,
+    R,
+    L,
+> {
+    pub fn new(
+        rt: &'r R,
+        arrivals: &'a A,
+        log: Option<&'l L>,
+    ) -> LoggedArrivals<'r, 'a, 'l, A, R, L> {
+        LoggedArrivals {
             rt,
             arrivals,
             log,
@@ -108,11 +117,13 @@ fn has_crossed(free_pages: u64, revision_pages: u64, is_low: &AtomicBool) -> boo
     is_low.swap(is_lower, Ordering::SeqCst) != is_lower
 }
 
-impl<'r, 'a, 'l, A: Listens, R: Wait + Clock, L: Notes> Gate for Watching<'r, 'a, 'l, A, R, L> {
+impl<'r, 'a, 'l, A: FallibleArrivals, R: Wait + Clock, L: Notes> Gate
+    for LoggedArrivals<'r, 'a, 'l, A, R, L> {
     fn pass(&self, _worker: u32, _piece: u32) {}
 }
 
-impl<'r, 'a, 'l, A: Listens, R: Wait + Clock, L: Notes> Hears for Watching<'r, 'a, 'l, A, R, L> {
+impl<'r, 'a, 'l, A: FallibleArrivals, R: Wait + Clock, L: Notes> CommandObserver
+    for LoggedArrivals<'r, 'a, 'l, A, R, L> {
     ghost use Rattle.std.specs.Prelude.{is_some};
     ghost use Rattle.connection_log.specs.Hearing.{IsNoted};
     ghost use Rattle.connection_log.specs.declared.line.LogLine.TheVariants as entry;
@@ -169,7 +180,8 @@ impl<'r, 'a, 'l, A: Listens, R: Wait + Clock, L: Notes> Hears for Watching<'r, '
     }
 }
 
-impl<'r, 'a, 'l, A: Listens, R: Wait + Clock, L: Notes> Arrivals for Watching<'r, 'a, 'l, A, R, L> {
+impl<'r, 'a, 'l, A: FallibleArrivals, R: Wait + Clock, L: Notes> Arrivals
+    for LoggedArrivals<'r, 'a, 'l, A, R, L> {
     ghost use Rattle.std.specs.Option.{option_map};
     ghost use Rattle.connection_log.specs.Connections.{connection_of as connection_by};
     ghost use Rattle.connection_log.specs.Counts.{sent_of};
@@ -223,7 +235,8 @@ impl<'r, 'a, 'l, A: Listens, R: Wait + Clock, L: Notes> Arrivals for Watching<'r
     }
 }
 
-impl<'r, 'a, 'l, A: Listens, R: Wait + Clock, L: Notes> Listens for Watching<'r, 'a, 'l, A, R, L> {
+impl<'r, 'a, 'l, A: FallibleArrivals, R: Wait + Clock, L: Notes> FallibleArrivals
+    for LoggedArrivals<'r, 'a, 'l, A, R, L> {
     // What is known of the connections below.
     ghost fails = { λ w failed. A.fails w.arrivals.now failed };
 
@@ -234,7 +247,8 @@ impl<'r, 'a, 'l, A: Listens, R: Wait + Clock, L: Notes> Listens for Watching<'r,
     }
 }
 
-impl<'r, 'a, 'l, A: Listens, R: Wait + Clock, L: Notes> Watched for Watching<'r, 'a, 'l, A, R, L> {
+impl<'r, 'a, 'l, A: FallibleArrivals, R: Wait + Clock, L: Notes> Watched
+    for LoggedArrivals<'r, 'a, 'l, A, R, L> {
     ghost use Rattle.std.specs.Prelude.{IfSome};
     ghost use Rattle.connection_log.specs.Hearing.{IsNoted};
     ghost use Rattle.connection_log.specs.declared.line.LogLine.TheVariants as entry;

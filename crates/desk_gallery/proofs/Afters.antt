@@ -1,8 +1,8 @@
 -- The desk after one command more.
 use Rattle.std.{specs.{Prelude.{Option, Some, MatchOption}, declared.{alloc.Global.Global, sync.Arc.Arc}}, proofs.lemmas.{List.Sums.fold-append, Option.MatchOption-at_some}}
 use Rattle.{std.proofs.Common.{◌≡◌, ◌∙◌, ◌⊎◌, ⊎_elim, List, [], ◌∷◌, ◌++◌, sym, ap, subst, ℕ}, desk_gallery.specs.{Rules.shown_of, Shelves.{ComesAfter, IsMark, WaitsFor}}}
-use Rattle.{desk_gallery.specs.{claim.{After.after, Working.AreAccepted}, declared.shelf.Shelf.Shelf}, desk_model.specs.claim.{Desk.Desk, Outcome.IsAcceptance, Step.step}}
-use Rattle.{desk_model.specs.declared.command.Command.Command, logbook.specs.Pages.Book, desk_gallery.proofs.Pasts.{prefix_length, prefix_whole}}
+use Rattle.{desk_gallery.specs.{claim.{After.after, Working.AreAccepted}, declared.shelf.PublishedDesk.PublishedDesk}, desk_model.specs.claim.{Desk.Desk, Outcome.IsAcceptance}}
+use Rattle.{desk_model.specs.{claim.Step.step, declared.command.Command.Command}, logbook.specs.Pages.Book, desk_gallery.proofs.Pasts.{prefix_length, prefix_whole}}
 use mathlib.Core.List.{IsPrefix}
 
 pub after_more : (d : Desk) (commands : List Command) (c : Command) → after d (commands ++ c ∷ []) ≡ (step (after d commands) c).1
@@ -34,7 +34,7 @@ after_learned first old told new value comes one this that =
     comes.led ∙ ap (after first) (prefix_whole comes.longer new p (prefix_length new comes.longer q))
 
 -- a shelf with the desk after what was pending waits to be shown
-pub waits : (root : ℕ) (first : Desk) (old : List Command × List Command) {book : Book} {new : List Command × List Command} {pending : Option (Arc Desk Global)} {waiting : List Shelf} {shelf : Shelf} → pending ≡ Some shelf.shown
+pub waits : (root : ℕ) (first : Desk) (old : List Command × List Command) {book : Book} {new : List Command × List Command} {pending : Option (Arc Desk Global)} {waiting : List PublishedDesk} {shelf : PublishedDesk} → pending ≡ Some shelf.shown
     → MatchOption pending (old.0 ≡ old.1) (λ catalogue. catalogue.value ≡ after first old.1) → IsMark book root shelf.past → shown_of root shelf.past.seen.log ≡ new.0 → new ≡ (old.1, old.1) → waiting ≡ shelf ∷ [] → WaitsFor book root first waiting old.1
 waits root first old {book} {new} {pending} {waiting} {shelf} some value mark list shows is =
     let here : shown_of root shelf.past.seen.log ≡ old.1 = list ∙ ap (λ (s : List Command × List Command). s.0) shows in

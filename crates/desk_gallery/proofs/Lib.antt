@@ -1,5 +1,6 @@
 pub mod Afters
 mod Chaining
+mod Copied
 mod Keeping
 pub mod Pasts
 pub mod Running

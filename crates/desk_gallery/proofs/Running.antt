@@ -2,8 +2,8 @@
 use Rattle.std.proofs.{Common.{◌≡◌, ℕ, ◌+◌, Bool, false, List, [], ◌∷◌, ◌++◌, length, refl, sym, ap, ◌∙◌, arith, append_assoc, length-append, subst}, lemmas.List.append-nil}
 use Rattle.{std.proofs.lemmas.List.Elements.{All-nil, All-push, All-weaker}, desk_gallery.specs.claim.Begun.{Beginning, BeginsWith, HasRun}}
 use Rattle.{desk_gallery.specs.claim.Telling.{accepted_in, halted_in, halts_of}, desk_model.specs.{claim.Outcome.IsAcceptance, declared.command.Command.Command}}
-use Rattle.{desk_model.specs.declared.reply.Reply.Reply, desk_runs.specs.claim.{Runs.{Call, acknowledged, if_accepted}, SweptRuns.{Tends, SweptRun}}}
-use Rattle.{desk_runs.specs.desk_store.{claim.Commands.Does, declared.clerk.Clerk.Clerk}, sector_device.specs.declared.SectorDevice.Ghosts}
+use Rattle.{desk_model.specs.declared.reply.Reply.Reply, desk_theorem_runs.specs.claim.{Runs.{Call, acknowledged, if_accepted}, SweptRuns.{Tends, SweptRun}}}
+use Rattle.{desk_theorem_runs.specs.desk_store.{claim.Commands.Does, declared.clerk.Clerk.Clerk}, sector_device.specs.declared.SectorDevice.Ghosts}
 use Rattle.desk_model.specs.declared.reply.Reply.TheVariants as reply
 
 acknowledged_more : (calls : List Call) (c : Command) (r : Reply) → acknowledged (calls ++ (c, r) ∷ []) ≡ acknowledged calls ++ if_accepted c r

@@ -4,13 +4,13 @@ use Rattle.std.proofs.Common.{rules, ◌≡◌, ◌+◌, ℕ, Bool, Option, Resu
 use Rattle.{desk_gallery.specs.{Working.{Agree, Worked}, claim.{Outcomes.OutcomeMay, Working.AreAccepted}}, desk_model.specs.claim.{Desk.Desk, Step.step}}
 use Rattle.desk_model.specs.{claim.Outcome.{CommandMay, IsAcceptance, IsStep}, declared.{command.Command.Command, reply.{Refusal.Refusal, Reply.Reply}}}
 use Rattle.desk_model.specs.declared.reply.{Refusal.TheVariants.{BadCompanion, Full, Memory, Halted}, Reply.TheVariants.{Created, Refused, Retired}}
-use Rattle.desk_runs.specs.{Steps.StepMay, claim.SweptRuns.Tends, desk_pages.declared.error.StoreError.StoreError, desk_store.{claim.Keeping.IsLeft, declared.clerk.Clerk.Clerk}}
-use Rattle.{desk_runs.specs.desk_store.{claim.Clerks.{desk_of, is_halted, sectors_of, Keeps, Reads}, declared.ready.Ready.Ready}, sector_device.specs.declared.SectorDevice.Ghosts}
-use Rattle.{desk_runs.specs.desk_store.claim.Commands.{command_of, MustBeFull, PrepareErr, IsReady, IsMade, IsNotMade, Commits, Does}, desk_gallery.proofs.Pasts.prefix_self}
-use Rattle.desk_gallery.proofs.Afters.{after_more, accepted_first, accepted_more}
+use Rattle.desk_theorem_runs.specs.{Steps.StepMay, claim.SweptRuns.Tends, desk_store.claim.{Clerks.{desk_of, is_halted, sectors_of, Keeps, Reads}, Keeping.IsLeft}}
+use Rattle.desk_theorem_runs.specs.desk_store.{claim.Commands.{command_of, MustBeFull, PrepareErr, IsReady, IsMade, IsNotMade, Commits, Does}, declared.clerk.Clerk.Clerk}
+use Rattle.{desk_theorem_runs.specs.{desk_store.declared.ready.Ready.Ready, desk_store_pages.declared.error.StoreError.StoreError}, desk_gallery.proofs.Pasts.prefix_self}
+use Rattle.{sector_device.specs.declared.SectorDevice.Ghosts, desk_gallery.proofs.Afters.{after_more, accepted_first, accepted_more}}
 use mathlib.Core.List.{IsPrefix}
-use Rattle.desk_runs.proofs.desk_store.Kept.{acceptance_is, accepted_is}
-use Rattle.desk_runs.proofs.desk_store.Done.{refused_does, committed_does}
+use Rattle.desk_theorem_runs.proofs.desk_store.Kept.{acceptance_is, accepted_is}
+use Rattle.desk_theorem_runs.proofs.desk_store.Done.{refused_does, committed_does}
 
 -- a clerk's outcome without its room
 step_of : (must : Type 0) (d : Desk) (c : Command) (r : Reply) (e : Desk) → IsStep must d c r e → IsStep ⊥ d c r e

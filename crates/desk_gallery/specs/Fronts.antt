@@ -1,10 +1,10 @@
 -- What lies under an office's lock, as the layers above see it.
 use Rattle.std.specs.Prelude.{◌≡◌, ◌⊎◌, ◌≤◌, ◌+◌, ℕ, Bool, false, Option, List, length, Result}
 use Rattle.{desk_gallery.specs.claim.{After.after, Begun.{Beginning, BeginsWith}, Working.AreAccepted}, desk_model.specs.{claim.Desk.Desk, declared.command.Command.Command}}
-use Rattle.{desk_model.specs.declared.reply.Reply.Reply, desk_runs.specs.{Steps.StepMay, Turns.swept_of, claim.SweptRuns.Tends, declared.turning.Swept.{Swept, TheVariants.Over}}}
-use Rattle.desk_runs.specs.{desk_pages.declared.error.StoreError.StoreError, desk_store.claim.Clerks.{desk_of, Keeps, is_halted, sectors_of, room_of, free_of, pages_of}}
-use Rattle.{desk_runs.specs.desk_store.{claim.{Commands.Does, Keeping.IsLeft}, declared.clerk.Clerk.Clerk}, page_store.specs.claim.Transactions.device_in}
-use Rattle.sector_device.specs.{claim.Disk.Image, declared.SectorDevice.Ghosts}
+use Rattle.{desk_model.specs.declared.reply.Reply.Reply, desk_theorem_runs.specs.{Steps.StepMay, Turns.swept_of, claim.SweptRuns.Tends, declared.turning.Swept.Swept}}
+use Rattle.desk_theorem_runs.specs.{declared.turning.Swept.TheVariants.Over, desk_store.claim.Clerks.{desk_of, Keeps, is_halted, sectors_of, room_of, free_of, pages_of}}
+use Rattle.desk_theorem_runs.specs.{desk_store.{claim.{Commands.Does, Keeping.IsLeft}, declared.clerk.Clerk.Clerk}, desk_store_pages.declared.error.StoreError.StoreError}
+use Rattle.{page_store.specs.claim.Transactions.device_in, sector_device.specs.{claim.Disk.Image, declared.SectorDevice.Ghosts}}
 use mathlib.Core.List.{IsPrefix}
 
 -- the store's device, whether it has halted, its sizes, the changes that are shown, and these with what is pending after them

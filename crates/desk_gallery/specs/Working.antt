@@ -1,8 +1,8 @@
 -- What no promise rests on, beside claim/Working.antt.
 use Rattle.std.specs.Prelude.{◌≡◌, ◌⊎◌, ◌≤◌, ◌+◌, false, List, [], ◌∷◌, ◌++◌, length}
 use Rattle.{desk_gallery.specs.claim.{After.after, Working.AreAccepted}, desk_model.specs.{claim.{Desk.Desk, Outcome.IsAcceptance, Step.step}, declared.command.Command.Command}}
-use Rattle.{desk_model.specs.declared.reply.{Refusal.TheVariants.Halted, Reply.{Reply, TheVariants.Refused}}, desk_runs.specs.desk_store.claim.Clerks.{desk_of, is_halted}}
-use Rattle.{desk_runs.specs.desk_store.{claim.Commands.Does, declared.clerk.Clerk.Clerk}, sector_device.specs.declared.SectorDevice.Ghosts}
+use Rattle.{desk_model.specs.declared.reply.{Refusal.TheVariants.Halted, Reply.{Reply, TheVariants.Refused}}, desk_theorem_runs.specs.desk_store.claim.Clerks.{desk_of, is_halted}}
+use Rattle.{desk_theorem_runs.specs.desk_store.{claim.Commands.Does, declared.clerk.Clerk.Clerk}, sector_device.specs.declared.SectorDevice.Ghosts}
 use mathlib.Core.List.{IsPrefix}
 
 -- a desk after commands from this one on, each accepted after those before it

@@ -1,4 +1,4 @@
-//! One list of changes for all threads, which the holder of one token lengthens. It exists in proofs alone: a `Past` is what is
+//! One list of changes for all threads, which the holder of one token lengthens. It exists in proofs alone: a `SeenPrefix` is what is
 //! shown in some beginning of it, and no beginning shows more than the whole does.
 //!
 //! Each entry of the log uses up a key. Whoever writes holds the key that is next, so no entry but its own can follow, and what
@@ -218,7 +218,7 @@ impl Opened {
 /// A beginning of some log with the number of changes shown in it, as the copies of a gallery hold it.
 #[derive(Drop)]
 pub struct Mark {
-    pub number: u64,
+    pub number: u128,
     pub seen: Seen<LogEntry, u64, Law>,
 }
 
@@ -236,13 +236,13 @@ impl Mark {
 
 /// What is shown in a beginning of the log. Contracts see it as the changes.
 #[derive(Drop)]
-pub struct Past<J: GalleryId> {
-    number: u64,
+pub struct SeenPrefix<J: GalleryId> {
+    number: u128,
     seen: Seen<LogEntry, u64, Law>,
     of: PhantomData<J>,
 }
 
-impl<J: GalleryId> Model for Past<J> {
+impl<J: GalleryId> Model for SeenPrefix<J> {
     ghost use Rattle.std.specs.Prelude.{◌≡◌, List, length};
     ghost use Rattle.desk_model.specs.declared.command.Command.{Command};
     ghost use Rattle.desk_gallery.specs.Rules.{shown_of};
@@ -254,14 +254,14 @@ impl<J: GalleryId> Model for Past<J> {
     ghost invariant = { λ p. (p.number ≡ length (shown_of J.root p.seen.log)) × (p.seen.book ≡ J.book) };
 }
 
-impl<J: GalleryId> Past<J> {
+impl<J: GalleryId> SeenPrefix<J> {
     /// A beginning that a copy of the gallery holds.
-    pub fn of(mark: Mark) -> Past<J>
+    pub fn of(mark: Mark) -> SeenPrefix<J>
         requires { IsMark J.book J.root mark }
         ensures { result ≡ shown_of J.root mark.seen.log }
     {
         let Mark { number, seen } = mark;
-        Past {
+        SeenPrefix {
             number,
             seen,
             of: PhantomData,
@@ -269,14 +269,14 @@ impl<J: GalleryId> Past<J> {
     }
 
     /// How many changes it has.
-    pub fn len(&self) -> u64
+    pub fn len(&self) -> u128
         ensures { result ≡ length self.now }
     {
         self.number
     }
 
     /// Whether it is no longer than another, which it then begins; else the other begins it.
-    pub fn begins(&self, other: &Past<J>) -> bool
+    pub fn begins(&self, other: &SeenPrefix<J>) -> bool
         ensures yes { IsTrue result → IsPrefix self.now other.now }
         ensures no { length other.now < length self.now ⊎ IsTrue result }
         ensures other { IsPrefix other.now self.now ⊎ IsTrue result }
@@ -293,7 +293,7 @@ pub struct Whole<J: GalleryId> {
     head: Word<LogEntry, u64, Law>,
     pen: Pen,
     seen: Seen<LogEntry, u64, Law>,
-    number: u64,
+    number: u128,
     of: PhantomData<J>,
 }
 
@@ -330,7 +330,7 @@ impl<J: GalleryId> Whole<J> {
     }
 
     /// How many changes it has, those that are pending too.
-    pub fn len(&self) -> u64
+    pub fn len(&self) -> u128
         ensures { result ≡ length self.now.1 }
     {
         self.number
@@ -349,7 +349,7 @@ impl<J: GalleryId> Whole<J> {
     }
 
     /// What is shown begins with what anybody has seen shown, wherever that came from.
-    pub fn begins_with(&mut self, other: &Past<J>)
+    pub fn begins_with(&mut self, other: &SeenPrefix<J>)
         ensures begins { IsPrefix other.now self.new.0 }
         ensures same { self.new ≡ self.old }
     {
@@ -362,7 +362,7 @@ impl<J: GalleryId> Whole<J> {
 
     /// Puts a change after what is pending.
     pub fn append(&mut self, command: &Command)
-        requires { length self.old.1 + 1 < 2 ^ 64 }
+        requires { length self.old.1 + 1 < 2 ^ 128 }
         ensures { self.new ≡ (self.old.0, self.old.1 ++ command.now ∷ []) }
     {
         add_entry(&self.head, &mut self.seen, &mut self.pen, Some(command));

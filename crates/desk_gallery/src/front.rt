@@ -1,22 +1,40 @@
 //! The clerk with the writer of the gallery.
-ghost use Rattle.std.specs.Prelude.{◌≡◌, false, true};
-ghost use Rattle.desk_runs.specs.desk_store.claim.Clerks.{is_halted};
-ghost use Rattle.desk_runs.specs.desk_store.claim.Commands.{IsReady, Commits};
+ghost use Rattle.std.specs.Prelude.{◌≡◌, ◌∷◌, ◌++◌, [], false, true, IfOk, MatchResult};
+ghost use Rattle.desk_model.specs.claim.Step.{step};
+ghost use Rattle.desk_theorem_runs.specs.desk_store.claim.Clerks.{is_halted};
+ghost use Rattle.desk_theorem_runs.specs.desk_store.claim.Commands.{IsReady, Commits};
 ghost use Rattle.desk_gallery.specs.claim.After.{after};
 
 use crate::book::GalleryId;
-use crate::shower::Shower;
-use crate::tally::{Books, Tallies, Tally};
+use crate::shower::{CHANGE_LIMIT, Shower};
+use crate::tally::{AnswerLedgers, FreeShares, SeatShare};
 use crate::visitor::{Told, Visitor};
-use desk_catalogue::catalogue::Catalogue;
 use desk_model::command::Command;
 use desk_model::reply::{Refusal, Reply};
-use desk_runs::tending::tend;
-use desk_runs::{Clerk, Ready, StoreError};
+use desk_store_catalogue::catalogue::Catalogue;
+use desk_theorem_runs::tending::tend;
+use desk_theorem_runs::{Change, Clerk, Ready, StoreError};
 use sector_device::SectorDevice;
-use std::alloc::Global;
+use std::alloc::{AllocError, Global};
 use std::marker::Model;
 use std::sync::{Arc, Wait};
+
+/// Appends a change that leads from the last pending catalogue, and returns the catalogue after it.
+/// `Err`: one more owner was refused, or the list has all the changes that it takes; nothing pending
+/// has changed.
+fn append_next<J: GalleryId>(
+    shower: &mut Shower<J>,
+    change: Change,
+) -> Result<Arc<Catalogue>, AllocError>
+    requires { change.after ≡ (step (after J.first shower.old.1) change.command).1 }
+    ensures appended { MatchResult result (λ _. shower.new ≡ (shower.old.0, shower.old.1 ++ change.command ∷ [])) (λ _. shower.new ≡ shower.old) }
+    ensures after { IfOk result (λ next. next.value ≡ after J.first shower.new.1) }
+{
+    if shower.appended() >= CHANGE_LIMIT {
+        return Err(AllocError);
+    }
+    shower.append(change)
+}
 
 /// Commits a command whose change is pending, and shows it once the commit is acknowledged. After a
 /// fault the change stays pending. Returns what is shown then, with its catalogue.
@@ -49,13 +67,13 @@ fn settle<J: GalleryId, D: SectorDevice, R: Wait>(
 pub struct Front<J: GalleryId, D: SectorDevice> {
     pub(crate) clerk: Clerk<D>,
     pub(crate) shower: Shower<J>,
-    pub(crate) books: Books<J>,
+    pub(crate) books: AnswerLedgers<J>,
     is_checked: bool,
 }
 
 impl<J: GalleryId, D: SectorDevice> Model for Front<J, D> {
     ghost use Rattle.std.specs.Prelude.{◌≡◌, length};
-    ghost use Rattle.desk_runs.specs.desk_store.claim.Clerks.{Keeps};
+    ghost use Rattle.desk_theorem_runs.specs.desk_store.claim.Clerks.{Keeps};
     ghost use Rattle.desk_gallery.specs.claim.Begun.{HasRun};
     ghost use Rattle.desk_gallery.specs.Fronts.{Kept, kept_of};
     ghost use Rattle.desk_gallery.specs.Working.{Agree};
@@ -73,7 +91,7 @@ impl<J: GalleryId, D: SectorDevice> Front<J, D> {
     ghost use Rattle.std.specs.Prelude.{◌≡◌, ◌+◌, ◌∷◌, ◌++◌, ℕ, [], false, length};
     ghost use mathlib.Core.List.{IsPrefix};
     ghost use Rattle.desk_model.specs.claim.Outcome.{IsAcceptance};
-    ghost use Rattle.desk_runs.specs.desk_store.claim.Clerks.{is_halted, Keeps};
+    ghost use Rattle.desk_theorem_runs.specs.desk_store.claim.Clerks.{is_halted, Keeps};
     ghost use Rattle.desk_gallery.specs.claim.After.{after};
     ghost use Rattle.desk_gallery.specs.claim.Begun.{HasRun};
     ghost use Rattle.desk_gallery.specs.Fronts.{kept_of, IsClerk, Starts, Works, SweepsOn, ShowsAll};
@@ -84,7 +102,7 @@ impl<J: GalleryId, D: SectorDevice> Front<J, D> {
 
     /// A front of a clerk and a writer that shows the clerk's desk and has nothing pending, with
     /// empty books.
-    pub fn new(clerk: Clerk<D>, shower: Shower<J>, books: Books<J>) -> Front<J, D>
+    pub fn new(clerk: Clerk<D>, shower: Shower<J>, books: AnswerLedgers<J>) -> Front<J, D>
         requires none { shower ≡ ([], []) }
         requires books { (books.accepted.total ≡ 0) × (books.halted.total ≡ 0) }
         requires starts { Starts J.first J.begins J.sound clerk }
@@ -102,7 +120,7 @@ impl<J: GalleryId, D: SectorDevice> Front<J, D> {
     pub fn shown(&self) -> u128
         ensures { result ≡ length self.now.shown }
     {
-        u128::from(self.shower.shown())
+        self.shower.shown()
     }
 
     /// What is shown.
@@ -158,7 +176,7 @@ impl<J: GalleryId, D: SectorDevice> Front<J, D> {
         rt: &R,
         alloc: Global,
         command: Command,
-        tally: &mut Tally<J>,
+        tally: &mut SeatShare<J>,
     ) -> (Reply, Told<J>)
         requires { J.asked command }
         ensures works { Works D.SectorDevice J.first self.old command result.0 self.new }
@@ -172,7 +190,7 @@ impl<J: GalleryId, D: SectorDevice> Front<J, D> {
     {
         let (reply, told) = match self.clerk.prepare(alloc, command) {
             Ok(ready) => match ready.change() {
-                Ok(change) => match self.shower.append(change) {
+                Ok(change) => match append_next(&mut self.shower, change) {
                     Ok(next) => settle(rt, &mut self.clerk, &mut self.shower, ready, next),
                     Err(_) => {
                         drop(ready);
@@ -222,7 +240,7 @@ impl<J: GalleryId, D: SectorDevice> Front<J, D> {
     /// The same, for whoever has the tallies of all seats: each accepted command was answered as
     /// accepted at one of them, once, and each command answered as halted was answered so at one of
     /// them.
-    pub fn close_counted<R: Wait>(self, rt: &R, tallies: Tallies<J>) -> Clerk<D>
+    pub fn close_counted<R: Wait>(self, rt: &R, tallies: FreeShares<J>) -> Clerk<D>
         requires { tallies.accepted.parts ≡ J.counts.seats }
         ensures clerk { IsClerk J.first self result }
         ensures kept { J.sound → Keeps result }

@@ -3,11 +3,11 @@ ghost use Rattle.std.specs.Prelude.{◌≡◌, ◌<◌, ◌^◌, [], All, length
 ghost use Rattle.desk_gallery.specs.Naming.{IsOpenedFor};
 
 use crate::book::{GalleryId, Opened, Whole};
-use crate::shelf::Shelf;
+use crate::shelf::PublishedDesk;
 use crate::shower::Shower;
 use crate::tied::Copies;
 use crate::visitor::Visitor;
-use desk_catalogue::catalogue::Catalogue;
+use desk_store_catalogue::catalogue::Catalogue;
 use std::alloc::{AllocError, Global};
 use std::sync::Arc;
 
@@ -32,11 +32,11 @@ fn shower<J: GalleryId>(
     let again = catalogue.clone()?;
     let whole: Whole<J> = Whole::new(opened);
     let mark = whole.mark();
-    let second = Shelf {
+    let second = PublishedDesk {
         shown: again,
         past: mark.again(),
     };
-    let first = Shelf {
+    let first = PublishedDesk {
         shown: catalogue,
         past: mark,
     };

@@ -1,17 +1,20 @@
 //! A front after one lock, and who sweeps beside those that take it.
 ghost use Rattle.std.specs.Prelude.{◌≡◌, []};
-ghost use Rattle.desk_runs.specs.desk_store.claim.Clerks.{desk_of, Keeps};
+ghost use Rattle.desk_theorem_runs.specs.desk_store.claim.Clerks.{desk_of, Keeps};
 ghost use Rattle.desk_gallery.specs.claim.Begun.{IsLeftBy};
+ghost use Rattle.desk_gallery.specs.Copies.{MayCopy};
 ghost use Rattle.desk_gallery.specs.Fronts.{MayTurn, Starts};
 ghost use Rattle.desk_gallery.specs.Working.{IsRunFrom};
 
 use crate::book::GalleryId;
+use crate::copying::{Upkeep, copy_shown};
 use crate::front::Front;
 use crate::pace::Pace;
 use crate::shower::Shower;
-use crate::tally::Books;
-use desk_runs::Clerk;
-use desk_runs::turning::{Swept, has_rest, outcome_of};
+use crate::tally::AnswerLedgers;
+use desk_theorem_runs::Clerk;
+use desk_theorem_runs::turning::{Swept, has_rest, outcome_of};
+use sector_copies::fault::CopyFault;
 use sector_device::SectorDevice;
 use std::alloc::Global;
 use std::sync::atomic::{AtomicU64, Ordering};
@@ -28,7 +31,7 @@ pub struct Office<J: GalleryId, D: SectorDevice> {
 impl<J: GalleryId, D: SectorDevice> Office<J, D> {
     /// Puts a clerk, and a writer that shows the clerk's desk and has nothing pending, behind a
     /// lock, with empty books.
-    pub fn new(clerk: Clerk<D>, shower: Shower<J>, books: Books<J>) -> Office<J, D>
+    pub fn new(clerk: Clerk<D>, shower: Shower<J>, books: AnswerLedgers<J>) -> Office<J, D>
         requires none { shower ≡ ([], []) }
         requires books { (books.accepted.total ≡ 0) × (books.halted.total ≡ 0) }
         requires starts { Starts J.first J.begins J.sound clerk }
@@ -82,7 +85,23 @@ impl<J: GalleryId, D: SectorDevice> Office<J, D> {
         outcome_of(moves, did)
     }
 
-    /// Ends the sweeps: a step that was begun is the last.
+    /// Waits until the lock is free, then copies the store, puts the copy in place and returns the
+    /// outcome. Commands wait meanwhile, and visitors do not.
+    pub fn copy<U: Upkeep, R: Wait>(&self, rt: &R, upkeep: &U) -> Result<(), CopyFault>
+        ensures { MayCopy D.SectorDevice U.Served.SectorDevice U.Copied.SectorDevice J.first J.sound (U.begins upkeep.now) (U.places upkeep.now) result }
+    {
+        let front = self.front.lock(rt);
+        let did = copy_shown(upkeep, &*front);
+        MutexGuard::unlock(front);
+        did
+    }
+
+    /// Waits for a number of seconds. Returns false once sweeps and copies have ended.
+    pub fn rest<R: Wait>(&self, rt: &R, seconds: u32) -> bool {
+        self.pace.rest(rt, seconds)
+    }
+
+    /// Ends the sweeps and copies: a step or a copy that was begun is the last.
     pub fn end_sweeps(&self) {
         self.pace.end();
     }

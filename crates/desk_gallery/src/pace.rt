@@ -15,6 +15,8 @@ pub struct Pace {
     moves: AtomicU64,
     has_rows: AtomicBool,
     is_over: AtomicBool,
+    /// 0 until copies end.
+    ends: AtomicU64,
 }
 
 impl Pace {
@@ -24,6 +26,7 @@ impl Pace {
             moves: AtomicU64::new(0),
             has_rows: AtomicBool::new(true),
             is_over: AtomicBool::new(false),
+            ends: AtomicU64::new(0),
         }
     }
 
@@ -48,10 +51,23 @@ impl Pace {
         self.has_rows.store(false, Ordering::SeqCst);
     }
 
-    /// Nothing is swept from now on.
+    /// Nothing is swept or copied from now on.
     pub(crate) fn end(&self) {
         self.is_over.store(true, Ordering::SeqCst);
         self.wake();
+        self.ends.store(1, Ordering::SeqCst);
+        self.ends.wake_all();
+    }
+
+    /// Waits for a number of seconds. Returns false once copies have ended.
+    pub(crate) fn rest<R: Wait>(&self, rt: &R, seconds: u32) -> bool {
+        for _ in 0..seconds {
+            if self.ends.load(Ordering::SeqCst) != 0 {
+                return false;
+            }
+            self.ends.park_timeout(rt, 0, Duration::from_secs(1));
+        }
+        self.ends.load(Ordering::SeqCst) == 0
     }
 
     fn wake(&self) {

@@ -1,5 +1,5 @@
 //! The writer of a gallery.
-ghost use Rattle.std.specs.Prelude.{◌≡◌, List, ◌∷◌, ◌++◌, [], length, drop, IfOk, IfErr, MatchResult};
+ghost use Rattle.std.specs.Prelude.{◌≡◌, ◌<◌, List, ◌∷◌, ◌++◌, [], length, drop, IfOk, IfErr, MatchResult};
 ghost use mathlib.Core.List.{IsPrefix};
 ghost use Rattle.desk_model.specs.claim.Step.{step};
 ghost use Rattle.desk_model.specs.declared.command.Command.{Command};
@@ -7,19 +7,23 @@ ghost use Rattle.desk_gallery.specs.claim.After.{after};
 ghost use Rattle.desk_gallery.specs.Rules.{shown_of};
 ghost use Rattle.desk_gallery.specs.Shelves.{Stands, WaitsFor};
 
-use crate::book::{GalleryId, Past, Whole};
-use crate::shelf::Shelf;
-use crate::tied::{Copies, Tied};
+use crate::book::{GalleryId, SeenPrefix, Whole};
+use crate::shelf::PublishedDesk;
+use crate::tied::{Copies, CopyRule};
 use crate::visitor::{Told, Visitor};
 use core::mem::replace_with;
-use desk_catalogue::catalogue::Catalogue;
-use desk_runs::Change;
+use desk_store_catalogue::catalogue::Catalogue;
+use desk_theorem_runs::Change;
 use std::alloc::AllocError;
 use std::marker::Model;
 use std::sync::{Arc, Wait};
 
+/// The number of changes that a list takes, 2^81. A store runs out of numbers before: it makes at most
+/// 2^64 - 1 plans, each with at most 65,537 changes.
+pub const CHANGE_LIMIT: u128 = 2_417_851_639_229_258_349_412_352;
+
 /// Appends a shelf to copies that lack none; tries until there is memory.
-fn push<J: GalleryId, R: Wait>(rt: &R, copies: &mut Copies<J>, shelf: Shelf)
+fn push<J: GalleryId, R: Wait>(rt: &R, copies: &mut Copies<J>, shelf: PublishedDesk)
     requires { drop copies.old.behind copies.old.log.items ≡ [] }
     ensures desk { copies.new.desk ≡ copies.old.desk }
     ensures pending { drop copies.new.behind copies.new.log.items ≡ shelf ∷ [] }
@@ -45,7 +49,7 @@ fn publish_once<J: GalleryId, R: Wait>(
         × Stands J.book J.root J.first result.0.desk.shown.value × (drop result.0.behind result.0.log.items ≡ [])) }
     ensures err { IfErr result.1 (λ _. drop result.0.behind result.0.log.items ≡ drop copies.behind copies.log.items) }
 {
-    copies.publish_as::<Tied<J>, R>(rt)
+    copies.publish_as::<CopyRule<J>, R>(rt)
 }
 
 /// Shows the shelf that waits; tries until it can.
@@ -114,22 +118,27 @@ impl<J: GalleryId> Shower<J> {
     }
 
     /// How many changes are shown.
-    pub fn shown(&self) -> u64
+    pub fn shown(&self) -> u128
         ensures { result ≡ length self.now.0 }
     {
         self.copies.published().past.number
     }
 
-    /// Appends a change to the list: the catalogue after it. Err where one more owner is refused, or the list has 2^64 - 1
-    /// changes; nothing pending has changed then.
+    /// How many changes were appended, those that are pending too.
+    pub fn appended(&self) -> u128
+        ensures { result ≡ length self.now.1 }
+    {
+        self.whole.len()
+    }
+
+    /// Appends a change to a list of fewer than 2^81, and returns the catalogue after it. `Err`: one
+    /// more owner was refused, and nothing pending has changed.
     pub fn append(&mut self, change: Change) -> Result<Arc<Catalogue>, AllocError>
-        requires { change.after ≡ (step (after J.first self.old.1) change.command).1 }
+        requires few { length self.old.1 < CHANGE_LIMIT }
+        requires step { change.after ≡ (step (after J.first self.old.1) change.command).1 }
         ensures appended { MatchResult result (λ _. self.new ≡ (self.old.0, self.old.1 ++ change.command ∷ [])) (λ _. self.new ≡ self.old) }
         ensures after { IfOk result (λ next. next.value ≡ after J.first self.new.1) }
     {
-        if self.whole.len() == u64::MAX {
-            return Err(AllocError);
-        }
         let after = change.after()?;
         let next = change.after()?;
         self.whole.append(change.command());
@@ -145,7 +154,7 @@ impl<J: GalleryId> Shower<J> {
             return;
         };
         self.whole.show();
-        let shelf = Shelf {
+        let shelf = PublishedDesk {
             shown,
             past: self.whole.mark(),
         };
@@ -158,7 +167,7 @@ impl<J: GalleryId> Shower<J> {
         ensures { result ≡ self.now.0 }
     {
         let shelf = self.copies.published();
-        Told::of(Past::of(shelf.past.again()), shelf.shown.clone().ok())
+        Told::of(SeenPrefix::of(shelf.past.again()), shelf.shown.clone().ok())
     }
 
     /// The same with the catalogue after it, for which no memory is taken.
@@ -166,11 +175,14 @@ impl<J: GalleryId> Shower<J> {
         requires { shown.value ≡ after J.first self.now.0 }
         ensures { result ≡ self.now.0 }
     {
-        Told::of(Past::of(self.copies.published().past.again()), Some(shown))
+        Told::of(
+            SeenPrefix::of(self.copies.published().past.again()),
+            Some(shown),
+        )
     }
 
     /// Nobody has seen more than is shown: what is shown begins with it, whenever and by whomever it was seen.
-    pub(crate) fn knows(&mut self, past: &Past<J>)
+    pub(crate) fn knows(&mut self, past: &SeenPrefix<J>)
         ensures begins { IsPrefix past.now self.new.0 }
         ensures same { self.new ≡ self.old }
     {

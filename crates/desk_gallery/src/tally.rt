@@ -33,12 +33,12 @@ impl<J: GalleryId> Ledger for Halts<J> {
 /// Two ledgers for `seats` seats that no gallery uses yet. Contracts say what the gallery's
 /// identity has to be.
 #[derive(Drop)]
-pub struct Blanks {
+pub struct UnopenedLedgers {
     accepted: Blank,
     halted: Blank,
 }
 
-impl Model for Blanks {
+impl Model for UnopenedLedgers {
     ghost use Rattle.std.specs.Prelude.{◌≡◌};
     ghost use Rattle.desk_gallery.specs.Naming.{Counts};
 
@@ -49,46 +49,46 @@ impl Model for Blanks {
     ghost invariant = { λ b. b.halted.parts ≡ b.accepted.parts };
 }
 
-impl Blanks {
-    pub fn new(seats: u64) -> Blanks
+impl UnopenedLedgers {
+    pub fn new(seats: u64) -> UnopenedLedgers
         ensures { result.seats ≡ seats }
     {
-        Blanks {
+        UnopenedLedgers {
             accepted: Blank::new(seats),
             halted: Blank::new(seats),
         }
     }
 
     /// Returns the empty books, and the tallies of all seats.
-    pub fn open<J: GalleryId>(self) -> (Books<J>, Tallies<J>)
+    pub fn open<J: GalleryId>(self) -> (AnswerLedgers<J>, FreeShares<J>)
         requires { self ≡ J.counts }
         ensures none { (result.0.accepted.total ≡ 0) × (result.0.halted.total ≡ 0) }
         ensures all { result.1.accepted.parts ≡ J.counts.seats }
         ensures told { (result.1.accepted.amount ≡ 0) × (result.1.halted.amount ≡ 0) }
     {
-        let Blanks { accepted, halted } = self;
+        let UnopenedLedgers { accepted, halted } = self;
         let (accepted_book, accepted) = accepted.open::<Accepted<J>>();
         let (halted_book, halted) = halted.open::<Halts<J>>();
         (
-            Books {
+            AnswerLedgers {
                 accepted: accepted_book,
                 halted: halted_book,
             },
-            Tallies { accepted, halted },
+            FreeShares { accepted, halted },
         )
     }
 }
 
 /// The number of commands accepted, and of commands answered as halted, at all seats.
 #[derive(Drop)]
-pub struct Books<J: GalleryId> {
+pub struct AnswerLedgers<J: GalleryId> {
     accepted: Book<Accepted<J>>,
     halted: Book<Halts<J>>,
 }
 
 /// The number of commands accepted, and of commands answered as halted, at one seat.
 #[derive(Drop)]
-pub struct Tally<J: GalleryId> {
+pub struct SeatShare<J: GalleryId> {
     accepted: Share<Accepted<J>>,
     halted: Share<Halts<J>>,
     ghost one: { accepted.parts ≡ 1 },
@@ -97,21 +97,21 @@ pub struct Tally<J: GalleryId> {
 
 /// The same of seats that nobody has.
 #[derive(Drop)]
-pub struct Tallies<J: GalleryId> {
+pub struct FreeShares<J: GalleryId> {
     accepted: Share<Accepted<J>>,
     halted: Share<Halts<J>>,
     ghost same: { halted.parts ≡ accepted.parts },
 }
 
-impl<J: GalleryId> Books<J> {
+impl<J: GalleryId> AnswerLedgers<J> {
     /// Counts a reply at the seat that receives it.
-    pub(crate) fn count(&mut self, tally: &mut Tally<J>, reply: &Reply)
+    pub(crate) fn count(&mut self, tally: &mut SeatShare<J>, reply: &Reply)
         ensures book { self.new.accepted.total ≡ self.old.accepted.total + accepted_in reply.now }
         ensures halts { self.new.halted.total ≡ self.old.halted.total + halted_in reply.now }
         ensures seat { tally.new.accepted.amount ≡ tally.old.accepted.amount + accepted_in reply.now }
         ensures seat_halts { tally.new.halted.amount ≡ tally.old.halted.amount + halted_in reply.now }
     {
-        let Tally { accepted, halted } = tally;
+        let SeatShare { accepted, halted } = tally;
         match reply {
             Reply::Created { .. } | Reply::Retired { .. } => self.accepted.add(accepted, 1),
             Reply::Refused(Refusal::Halted) => self.halted.add(halted, 1),
@@ -120,41 +120,41 @@ impl<J: GalleryId> Books<J> {
     }
 
     /// Who has the tallies of all seats has the totals.
-    pub(crate) fn audit(&mut self, all: &mut Tallies<J>)
+    pub(crate) fn audit(&mut self, all: &mut FreeShares<J>)
         requires { all.old.accepted.parts ≡ J.counts.seats }
         ensures accepted { all.old.accepted.amount ≡ self.old.accepted.total }
         ensures halted { all.old.halted.amount ≡ self.old.halted.total }
         ensures same { (self.new.accepted.total ≡ self.old.accepted.total) × (self.new.halted.total ≡ self.old.halted.total) }
     {
-        let Tallies { accepted, halted } = all;
+        let FreeShares { accepted, halted } = all;
         self.accepted.audit(accepted);
         self.halted.audit(halted);
     }
 }
 
-impl<J: GalleryId> Tallies<J> {
+impl<J: GalleryId> FreeShares<J> {
     /// Returns the tally of a further seat, which received no answer.
-    pub fn seat(&mut self) -> Tally<J>
+    pub fn seat(&mut self) -> SeatShare<J>
         requires left { 0 < self.old.accepted.parts }
         requires none { (self.old.accepted.amount ≡ 0) × (self.old.halted.amount ≡ 0) }
         ensures told { (result.accepted.amount ≡ 0) × (result.halted.amount ≡ 0) }
         ensures one { self.new.accepted.parts + 1 ≡ self.old.accepted.parts }
         ensures none { (self.new.accepted.amount ≡ 0) × (self.new.halted.amount ≡ 0) }
     {
-        let Tallies { accepted, halted } = self;
-        Tally {
+        let FreeShares { accepted, halted } = self;
+        SeatShare {
             accepted: accepted.split_off(1, 0),
             halted: halted.split_off(1, 0),
         }
     }
 
     /// Takes in that of a seat which nobody has any more.
-    pub fn merge(&mut self, tally: Tally<J>)
+    pub fn merge(&mut self, tally: SeatShare<J>)
         ensures one { self.new.accepted.parts ≡ self.old.accepted.parts + 1 }
         ensures accepted { self.new.accepted.amount ≡ self.old.accepted.amount + tally.accepted.amount }
         ensures halted { self.new.halted.amount ≡ self.old.halted.amount + tally.halted.amount }
     {
-        let Tallies { accepted, halted } = self;
+        let FreeShares { accepted, halted } = self;
         accepted.merge(tally.accepted);
         halted.merge(tally.halted);
     }

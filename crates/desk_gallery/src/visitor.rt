@@ -6,11 +6,11 @@ ghost use Rattle.desk_gallery.specs.claim.After.{after};
 ghost use Rattle.desk_gallery.specs.Rules.{shown_of};
 ghost use Rattle.desk_gallery.specs.Shelves.{ComesAfter, Stands};
 
-use crate::book::{GalleryId, Past};
-use crate::shelf::Shelf;
-use crate::tied::{Eye, Tied};
+use crate::book::{GalleryId, SeenPrefix};
+use crate::shelf::PublishedDesk;
+use crate::tied::{CopyReader, CopyRule};
 use core::mem::replace_with;
-use desk_catalogue::catalogue::Catalogue;
+use desk_store_catalogue::catalogue::Catalogue;
 use std::alloc::AllocError;
 use std::marker::Model;
 use std::sync::Arc;
@@ -18,7 +18,7 @@ use std::sync::Arc;
 /// A note of what is shown: its changes, and the catalogue after them. Contracts see it as its changes.
 #[derive(Drop)]
 pub struct Told<J: GalleryId> {
-    pub(crate) past: Past<J>,
+    pub(crate) past: SeenPrefix<J>,
     /// None where one more owner was refused when the note was made.
     shown: Option<Arc<Catalogue>>,
 }
@@ -37,7 +37,7 @@ impl<J: GalleryId> Model for Told<J> {
 
 impl<J: GalleryId> Told<J> {
     /// A note of a list and, if there is one, the catalogue after it.
-    pub(crate) fn of(past: Past<J>, shown: Option<Arc<Catalogue>>) -> Told<J>
+    pub(crate) fn of(past: SeenPrefix<J>, shown: Option<Arc<Catalogue>>) -> Told<J>
         requires { IfSome shown (λ s. s.value ≡ after J.first past) }
         ensures { result ≡ past }
     {
@@ -45,13 +45,13 @@ impl<J: GalleryId> Told<J> {
     }
 
     /// What a copy shows.
-    pub(crate) fn of_shelf(shelf: Shelf) -> Told<J>
+    pub(crate) fn of_shelf(shelf: PublishedDesk) -> Told<J>
         requires { Stands J.book J.root J.first shelf }
         ensures { result ≡ shown_of J.root shelf.past.seen.log }
     {
-        let Shelf { shown, past } = shelf;
+        let PublishedDesk { shown, past } = shelf;
         Told {
-            past: Past::of(past),
+            past: SeenPrefix::of(past),
             shown: Some(shown),
         }
     }
@@ -78,10 +78,10 @@ impl<J: GalleryId> Told<J> {
 }
 
 /// Reads the copy that is shown, if a reader is let in and one more owner isn't refused.
-fn look<J: GalleryId>(eye: Eye<J>, _none: ()) -> (Eye<J>, Option<Shelf>)
+fn look<J: GalleryId>(eye: CopyReader<J>, _none: ()) -> (CopyReader<J>, Option<PublishedDesk>)
     ensures { IfSome result.1 (Stands J.book J.root J.first) }
 {
-    match eye.enter_as::<Tied<J>>() {
+    match eye.enter_as::<CopyRule<J>>() {
         Ok(reading) => {
             let shelf = reading.get().again().ok();
             (reading.leave(), shelf)
@@ -93,7 +93,7 @@ fn look<J: GalleryId>(eye: Eye<J>, _none: ()) -> (Eye<J>, Option<Shelf>)
 /// Sees what is shown. Contracts see a visitor as the changes that it saw or was told.
 #[derive(Drop)]
 pub struct Visitor<J: GalleryId> {
-    eye: Eye<J>,
+    eye: CopyReader<J>,
     pub(crate) heard: Told<J>,
 }
 
@@ -107,7 +107,7 @@ impl<J: GalleryId> Model for Visitor<J> {
 }
 
 impl<J: GalleryId> Visitor<J> {
-    pub(crate) fn over(eye: Eye<J>, heard: Told<J>) -> Visitor<J>
+    pub(crate) fn over(eye: CopyReader<J>, heard: Told<J>) -> Visitor<J>
         ensures { result ≡ heard }
     {
         Visitor { eye, heard }
@@ -117,7 +117,7 @@ impl<J: GalleryId> Visitor<J> {
     pub fn heard(&self) -> u128
         ensures { result ≡ length self.now }
     {
-        u128::from(self.heard.past.len())
+        self.heard.past.len()
     }
 
     /// Returns the catalogue after a list of shown changes that begins with everything this visitor

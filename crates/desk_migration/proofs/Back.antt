@@ -1,16 +1,16 @@
 -- Rows that are taken out, tag after tag, until the rows are of the old version.
 use Rattle.{std.specs.{Cmp.Lexicographic.nat_list_cmp_total, FinMap.{get, get-remove, remove}, List.starts_with, Ordering.eq_by_cmp}, btree_scan.specs.declared.rows.Row.Row}
 use Rattle.std.proofs.Common.{◌≡◌, ◌+◌, inl, ℕ, zero, List, [], ◌∷◌, drop, Bool, true, false, cond, nat_eq, Some, None, refl, sym, ap, subst, ◌∙◌, arith}
-use Rattle.{desk_migration.specs.TurningBack.{IsLess, IsWithout, NoneOf}, desk_model.specs.claim.Desk.Desk, desk_opening.specs.tidy.Rows.{IsFirst, NoneFrom}}
-use Rattle.{desk_pages.specs.claim.Desks.{InPages, InTxnOf, IsMapOf, OpensDesk, OpensEither}, page_btree.specs.{gets.claim.Map.InTxn, node.claim.Places.key_cmp}}
-use Rattle.page_store.specs.{claim.Transactions.{stored, disk_in, count_of, journal_of, has_halted, IsQuiet, Passed}, declared.{pages.Pages.Pages, txn.Txn.Txn}}
-use Rattle.{page_store.specs.gate_journal.claim.Store.home, sector_device.specs.{claim.{Disk.Image, Moments.LeavesOnly}, declared.SectorDevice.Ghosts}}
-use Rattle.{store_rows.{specs.{Rows.SameTag, claim.{Holders.AreTallied, Rows.KeyMap}}, proofs.KeyPrefixes.{after_tag, starts_itself}}, sector_device.proofs.Moments.leaves_wider}
-use Rattle.store_rows.proofs.{Frames.{desk_stays, either_way, remove_keeps_tag}, OneGeography.no_value}
-use Rattle.store_rows.proofs.TidyParts.{AllKept, chunks_stay, kept_of, loads_stay, next_moves, plans_stay, tidy_at, some_or_none as none_or}
-use Rattle.desk_opening.proofs.tidy.After.{from_tag}
-use Rattle.desk_opening.proofs.tidy.FirstRows.{none_at_all, none_after}
-use Rattle.desk_opening.proofs.chunk_table.Committing.{IsBegun, quiet_leaves}
+use Rattle.{desk_migration.specs.TurningBack.{IsLess, IsWithout, NoneOf}, desk_model.specs.claim.Desk.Desk, desk_store_opening.specs.tidy.Rows.{IsFirst, NoneFrom}}
+use Rattle.{desk_store_pages.specs.claim.Desks.{InPages, InTxnOf, IsMapOf, OpensDesk, OpensEither}, desk_store_rows.specs.{Rows.SameTag, claim.{Holders.AreTallied, Rows.KeyMap}}}
+use Rattle.{page_btree.specs.{gets.claim.Map.InTxn, node.claim.Places.key_cmp}, page_store.specs.{declared.{pages.Pages.Pages, txn.Txn.Txn}, gate_journal.claim.Store.home}}
+use Rattle.{page_store.specs.claim.Transactions.{stored, disk_in, count_of, journal_of, has_halted, IsQuiet, Passed}, sector_device.specs.claim.{Disk.Image, Moments.LeavesOnly}}
+use Rattle.{sector_device.specs.declared.SectorDevice.Ghosts, desk_store_rows.proofs.{Frames.{desk_stays, either_way, remove_keeps_tag}, KeyPrefixes.{after_tag, starts_itself}}}
+use Rattle.desk_store_rows.proofs.{OneGeography.no_value, TidyParts.{AllKept, chunks_stay, kept_of, loads_stay, next_moves, plans_stay, tidy_at, some_or_none as none_or}}
+use Rattle.sector_device.proofs.Moments.{leaves_wider}
+use Rattle.desk_store_opening.proofs.tidy.After.{from_tag}
+use Rattle.desk_store_opening.proofs.tidy.FirstRows.{none_at_all, none_after}
+use Rattle.desk_store_opening.proofs.chunk_table.Committing.{IsBegun, quiet_leaves}
 
 -- ---- one row
 none_of : (tag : ℕ) (m : KeyMap) → NoneFrom (tag ∷ []) (tag ∷ []) m → NoneOf tag m

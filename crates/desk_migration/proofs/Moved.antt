@@ -2,12 +2,12 @@
 use Rattle.{std.specs.Prelude.{◌↔◌, Result, Ok, Err, OnOk, IfErr, IsErr}, desk_migration.specs.Puts.{FinishErr, HoldsAll, HoldsMore, HoldsTo, StepErr, Steps}}
 use Rattle.{std.proofs.Common.{rules, ◌≡◌, ◌⊎◌, ℕ, zero, suc, true, false, List, refl, sym, ap, subst, ◌∙◌, inl, inr, arith}, desk_model.specs.claim.Desk.Desk}
 use Rattle.desk_migration.specs.claim.{Holding.{AllAreHeld, AreHeldTo}, Migrating.{disk_of, has_ended, is_halted, sectors_of, Ends, Goes, HasMore, HasRows, Keeps, KeepsNew, Moves}}
-use Rattle.{desk_migration.specs.declared.migration.Migration.Migration, desk_pages.specs.{Moments.StopsLeave, claim.Desks.{IsOldMap, InPages as HoldsDesk, OpensEither, OpensOld}}}
-use Rattle.{desk_pages.{specs.declared.error.StoreError.{StoreError, TheVariants.{Memory, DeviceFault, Halted}}, proofs.Kept.opens_now}, page_btree.specs.gets.claim.Map.InPages}
-use Rattle.page_store.specs.{claim.Transactions.{has_halted, IsQuiet, IsSame}, declared.pages.Pages.Pages, gate_journal.claim.Contents.is_halted as journal_halted}
-use Rattle.{sector_device.specs.{claim.{Disk.Image, Moments.LeavesOnly}, declared.SectorDevice.Ghosts}, store_rows.specs.claim.Rows.KeyMap, page_store.proofs.Chains.either}
-use Rattle.{desk_migration.proofs.Pairs.{not_all, same_map}, sector_device.proofs.Moments.leaves_now}
-use Rattle.desk_opening.proofs.chunk_table.Committing.{both, quiet_rows}
+use Rattle.{desk_migration.specs.declared.migration.Migration.Migration, desk_store_pages.{specs.{Moments.StopsLeave, declared.error.StoreError.StoreError}, proofs.Kept.opens_now}}
+use Rattle.desk_store_pages.specs.{claim.Desks.{IsOldMap, InPages as HoldsDesk, OpensEither, OpensOld}, declared.error.StoreError.TheVariants.{Memory, DeviceFault, Halted}}
+use Rattle.{desk_store_rows.specs.claim.Rows.KeyMap, page_btree.specs.gets.claim.Map.InPages, page_store.specs.claim.Transactions.{has_halted, IsQuiet, IsSame}}
+use Rattle.{page_store.specs.{declared.pages.Pages.Pages, gate_journal.claim.Contents.is_halted as journal_halted}, sector_device.specs.claim.{Disk.Image, Moments.LeavesOnly}}
+use Rattle.{sector_device.{specs.declared.SectorDevice.Ghosts, proofs.Moments.leaves_now}, desk_migration.proofs.Pairs.{not_all, same_map}, page_store.proofs.Chains.either}
+use Rattle.desk_store_opening.proofs.chunk_table.Committing.{both, quiet_rows}
 
 zero_or : (n : ℕ) → (n ≡ 0) ⊎ (n ≡ 0 → ⊥)
 zero_or zero = inl refl

@@ -1,18 +1,19 @@
 -- What an opening finds.
 use Rattle.{std.proofs.Common.{rules, ◌≡◌, Bool, true, false, refl, sym, subst, ◌∙◌, arith}, desk_migration.specs.declared.migration.Migration.Migration}
 use Rattle.{desk_migration.specs.Openings.{AreOfVersion, AreRead, IsFound, IsRefused, JudgeErr, KeepsOne, LeavesNew}, desk_model.specs.claim.Desk.Desk}
-use Rattle.{desk_migration.specs.claim.Migrating.{disk_of, has_ended, is_halted, sectors_of, HasRows}, desk_opening.specs.Opening.{HasVersion, IsReadFrom, OpenErr as ReadDeskErr}}
-use Rattle.desk_pages.specs.{Errors.{missing, page_refusal, row_refusal}, Reading.ReadErr, claim.{Desks.{InPagesOf, OpensDeskOf}, Openings.{AllVersions, OpensOneAs}}}
-use Rattle.{desk_pages.specs.declared.error.StoreError.{StoreError, TheVariants.{NotAStore, DeviceFault, Memory, AlreadyNew}}, page_btree.specs.gets.claim.Map.InTxn}
+use Rattle.{desk_migration.specs.claim.Migrating.{disk_of, has_ended, is_halted, sectors_of, HasRows}, desk_store_pages.specs.Errors.{missing, page_refusal, row_refusal}}
+use Rattle.{desk_store_opening.specs.Opening.{HasVersion, IsReadFrom, OpenErr as ReadDeskErr}, desk_store_pages.specs.{Reading.ReadErr, claim.Desks.{InPagesOf, OpensDeskOf}}}
+use Rattle.desk_store_pages.specs.{claim.Openings.{AllVersions, OpensOneAs}, declared.error.StoreError.{StoreError, TheVariants.{NotAStore, DeviceFault, Memory, AlreadyNew}}}
+use Rattle.{desk_store_rows.specs.{Keys.parts_prefix, claim.{Keys.version, Rows.{KeyMap, row_in}, Tidy.version_row}}, page_btree.specs.gets.claim.Map.InTxn}
 use Rattle.{page_btree.specs.gets.declared.error.TreeError.TreeError, page_store.specs.{Transactions.OpenErr, declared.{pages.Pages.Pages, txn.Txn.Txn}}}
 use Rattle.page_store.specs.{claim.Transactions.{stored, disk_in, count_of, journal_of, has_halted, IsQuiet, IsKept, Passed}, gate_journal.declared.error.PageError.PageError}
 use Rattle.{page_store.specs.gate_journal.Recovery.{AllStores, HasRoom, Found, ReadsAs}, sector_device.specs.{claim.{Disk.Disk, Moments.LeavesOnly}, declared.SectorDevice.Ghosts}}
-use Rattle.{store_rows.specs.{Keys.parts_prefix, claim.{Keys.version, Rows.{KeyMap, row_in}, Tidy.version_row}}, desk_migration.proofs.PartRows.begins_held}
-use Rattle.{desk_opening.proofs.WholeDesks.unread_unopened, desk_pages.proofs.Found.{found_after, found_desk, open_versions, page_stores_of, pages_left, stores_of}}
-use Rattle.{desk_pages.proofs.Kept.opens_now, page_store.proofs.Stops.{leaves_here, leaves_quiet, quiet_more}, sector_device.proofs.Moments.leaves_now}
+use Rattle.{desk_migration.proofs.PartRows.begins_held, desk_store_opening.proofs.WholeDesks.unread_unopened, desk_store_pages.proofs.Kept.opens_now}
+use Rattle.{desk_store_pages.proofs.Found.{found_after, found_desk, open_versions, page_stores_of, pages_left, stores_of}, sector_device.proofs.Moments.leaves_now}
+use Rattle.page_store.proofs.Stops.{leaves_here, leaves_quiet, quiet_more}
 use Rattle.page_store.specs.gate_journal.declared.error.PageError.TheVariants as page
 use Rattle.page_btree.specs.gets.declared.error.TreeError.TheVariants as tree
-use Rattle.desk_opening.proofs.chunk_table.Committing.{IsBegun, both, quiet_rows}
+use Rattle.desk_store_opening.proofs.chunk_table.Committing.{IsBegun, both, quiet_rows}
 
 -- ---- pages that aren't opened
 pub page_refused : {D : Type 0} (h : Ghosts D) (old new : D) (e : PageError) → OpenErr h old new e → IsRefused (h.disk old) (h.disk new) (page_refusal e)

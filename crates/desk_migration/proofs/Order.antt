@@ -1,11 +1,11 @@
 -- The key that comes next after another one.
 use Rattle.std.specs.{Cmp.{nat_cmp_is, Lexicographic.nat_list_cmp_total}, FinMap.{entries, get}, Ordering.{is_gt, nat_cmp, ordering_then}, declared.cmp.Ordering.Ordering}
 use Rattle.{std.{specs.declared.cmp.Ordering.TheVariants.{Less, Equal, Greater}, proofs.lemmas.Cmp.tied_itself}, desk_migration.specs.{Parts.IsUnderParts, Walks.after}}
-use Rattle.{std.proofs.Common.{rules, Some, ◌≡◌, ◌⊎◌, inl, inr, ◌<◌, ℕ, List, [], ◌∷◌, length, true, false, refl, sym, ap, ◌∙◌, arith}, desk_opening.specs.tidy.claim.Rows.IsFrom}
-use Rattle.{page_btree.specs.node.{Places.entries_from, claim.{Entries.Entry, Places.key_cmp}}, store_rows.{specs.claim.Rows.KeyMap, proofs.Frames.same_key}}
-use Rattle.store_rows.proofs.OneGeography.{value_is}
-use Rattle.desk_opening.proofs.tidy.After.{few_from, fewer, from_tag}
-use Rattle.desk_opening.proofs.tidy.FirstRows.{clash, first_is_from, first_least, first_none, first_there, from_trans, less_from}
+use Rattle.{std.proofs.Common.{rules, Some, ◌≡◌, ◌⊎◌, inl, inr, ◌<◌, ℕ, List, [], ◌∷◌, length, true, false, refl, sym, ap, ◌∙◌, arith}, desk_store_rows.specs.claim.Rows.KeyMap}
+use Rattle.{desk_store_opening.specs.tidy.claim.Rows.IsFrom, page_btree.specs.node.{Places.entries_from, claim.{Entries.Entry, Places.key_cmp}}}
+use Rattle.desk_store_rows.proofs.{Frames.same_key, OneGeography.value_is}
+use Rattle.desk_store_opening.proofs.tidy.After.{few_from, fewer, from_tag}
+use Rattle.desk_store_opening.proofs.tidy.FirstRows.{clash, first_is_from, first_least, first_none, first_there, from_trans, less_from}
 use Rattle.page_btree.proofs.node.Laws.{flip_less}
 
 -- ---- the key after one of parts is under them too

@@ -1,9 +1,9 @@
 -- Plans that come to hold chunks, one pair after the other.
 use Rattle.std.{specs.FinMap.get, proofs.Common.{rules, take, ◌≡◌, ◌+◌, ℕ, List, [], ◌∷◌, ◌++◌, length, Bool, refl, sym, ap, subst, ◌∙◌, arith, length-append}}
-use Rattle.{std.proofs.lemmas.List.Elements.All-weaker, desk_migration.specs.{Walks.{HoldsEach, HoldsIt, IsWalking, IsWithin}, declared.walks.Walk.Walk}}
+use Rattle.{std.proofs.lemmas.List.Elements.All-weaker, desk_migration.specs.{Walks.{HoldsEach, HoldsIt, IsWalking, IsWithin}, declared.walks.UnheldCursor.UnheldCursor}}
 use Rattle.{desk_migration.{specs.claim.Holding.{AllAreHeld, AreHeldTo, AreUnheld, IsHeldBy, IsUnheld, hold_pairs}, proofs.PartRows.named_fits}, desk_model.specs.claim.Desk.Desk}
-use Rattle.{desk_pages.specs.claim.Desks.IsMapOf, store_rows.specs.{MigrationLaws.{HoldsNamed, NamedIsHeld}, claim.{Rows.KeyMap, Shares.hold, Tidy.{IsNamedBy, Tidy}}}}
-use Rattle.store_rows.proofs.OneGeography.{no_value}
+use Rattle.{desk_store_pages.specs.claim.Desks.IsMapOf, desk_store_rows.specs.{MigrationLaws.{HoldsNamed, NamedIsHeld}, claim.{Rows.KeyMap, Shares.hold, Tidy.{IsNamedBy, Tidy}}}}
+use Rattle.desk_store_rows.proofs.OneGeography.{no_value}
 
 -- ---- one pair
 pub pair_held : NamedIsHeld → (m : KeyMap) (tidy : Tidy m) (plan number : ℕ) → IsUnheld m plan number → HoldsNamed m tidy.next tidy.new plan number (hold m plan number)
@@ -32,7 +32,7 @@ still_each : NamedIsHeld → (m : KeyMap) (tidy : Tidy m) (plan number : ℕ) �
 still_each law m tidy plan number is other numbers held =
     All-weaker (HoldsIt other m) (HoldsIt other (hold m plan number)) (λ x one. (one.0, (pair_held law m tidy plan number is).still other x one.0 one.1)) numbers held
 
-still_within : NamedIsHeld → (m : KeyMap) (tidy : Tidy m) (plan number : ℕ) → IsUnheld m plan number → (walk : Walk) → IsWithin walk m → IsWithin walk (hold m plan number)
+still_within : NamedIsHeld → (m : KeyMap) (tidy : Tidy m) (plan number : ℕ) → IsUnheld m plan number → (walk : UnheldCursor) → IsWithin walk m → IsWithin walk (hold m plan number)
 still_within law m tidy plan number is walk within =
     let held = pair_held law m tidy plan number is in
     record {
@@ -45,7 +45,7 @@ still_within law m tidy plan number is walk within =
       held = still_each law m tidy plan number is walk.part.plan (take walk.place walk.part.numbers.items) within.held;
     }
 
-pub still_walking : NamedIsHeld → (m : KeyMap) (plan number : ℕ) → IsUnheld m plan number → (walk : Walk) → IsWalking walk m → IsWalking walk (hold m plan number)
+pub still_walking : NamedIsHeld → (m : KeyMap) (plan number : ℕ) → IsUnheld m plan number → (walk : UnheldCursor) → IsWalking walk m → IsWalking walk (hold m plan number)
 still_walking law m plan number is walk was = search (tidy_held, was.tidy, still_done, walk.from, was.done, still_within, was.within, still_each, walk.seen.plan)
 
 map_held : NamedIsHeld → (m : KeyMap) (new : Bool) (d : Desk) (plan number : ℕ) → IsUnheld m plan number → IsMapOf new m d → IsMapOf new (hold m plan number) d

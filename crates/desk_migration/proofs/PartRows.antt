@@ -2,13 +2,13 @@
 use Rattle.{std.{specs.{FinMap.get, List.starts_with, Ordering.is_gt, Prelude.Contains}, proofs.lemmas.List.Elements.All-contains}, btree_scan.specs.declared.rows.Row.Row}
 use Rattle.std.proofs.Common.{rules, ◌≡◌, inl, inr, ◌<◌, ◌^◌, ℕ, List, ◌++◌, take, drop, Bool, true, false, nat_eq, Some, sym, ap, subst, ◌∙◌, arith}
 use Rattle.desk_migration.specs.{Outcomes.IsReadAs, Parts.{IsPartFrom, IsPartRow, IsUnderParts}, Walks.{after, HoldsEach, HoldsIt}, claim.Holding.{AllAreHeld, AreHeldTo, part_key}}
-use Rattle.{desk_migration.specs.declared.parts.Part.Part, desk_opening.specs.{chunk_table.Holding.Stands, tidy.Rows.{IsFirst, NoneFrom}}, store_rows.specs.Keys.parts_prefix}
-use Rattle.{page_btree.specs.node.claim.Places.key_cmp, store_rows.specs.claim.{Holders.IsHeld, Keys.{RowKey, key_of, Fits, holding, part, in_one, in_four, in_eight}}}
-use Rattle.{store_rows.specs.claim.{Lists.{AreChunks, chunks_bytes}, Rows.{KeyMap, Has}, Tidy.{IsNamedBy, Tidy}}, desk_migration.proofs.Order.{from_after, from_or_same}}
-use Rattle.store_rows.proofs.{Frames.either_way, ListLaws.chunks_differ, OneGeography.value_is}
-use Rattle.desk_opening.proofs.tidy.After.{from_tag}
-use Rattle.desk_opening.proofs.tidy.FirstRows.{clash, first_least, first_there, none_after}
-use Rattle.desk_opening.proofs.tidy.PartOrder.{starts_part}
+use Rattle.{desk_migration.specs.declared.parts.Part.Part, desk_store_opening.specs.{chunk_table.Holding.Stands, tidy.Rows.{IsFirst, NoneFrom}}}
+use Rattle.desk_store_rows.specs.{Keys.parts_prefix, claim.{Holders.IsHeld, Keys.{RowKey, key_of, Fits, holding, part, in_one, in_four, in_eight}, Lists.{AreChunks, chunks_bytes}}}
+use Rattle.{desk_store_rows.{specs.claim.{Rows.{KeyMap, Has}, Tidy.{IsNamedBy, Tidy}}, proofs.Frames.either_way}, page_btree.specs.node.claim.Places.key_cmp}
+use Rattle.{desk_migration.proofs.Order.{from_after, from_or_same}, desk_store_rows.proofs.{ListLaws.chunks_differ, OneGeography.value_is}}
+use Rattle.desk_store_opening.proofs.tidy.After.{from_tag}
+use Rattle.desk_store_opening.proofs.tidy.FirstRows.{clash, first_least, first_there, none_after}
+use Rattle.desk_store_opening.proofs.tidy.PartOrder.{starts_part}
 
 -- the first row from a key on is that of a part, or there is no part
 pub part_found : (found : Bool) (m : KeyMap) (from : List ℕ) (row : Row) → IsFirst true from row m → IsUnderParts from → starts_with nat_eq row.key parts_prefix ≡ found → IsPartFrom found from row m

@@ -2,15 +2,15 @@
 use Rattle.{std.specs.Prelude.{Result, OnOk, IfErr, IsErrAnd}, desk_migration.specs.{Parts.IsUnderWay, claim.Holding.{AllAreHeld, AreHeldTo, IsHeldBy}}}
 use Rattle.std.proofs.Common.{rules, ◌≡◌, ◌⊎◌, ◌<◌, ◌≤◌, ◌+◌, ◌*◌, ℕ, true, false, List, Ok, Err, refl, sym, subst, ◌∙◌, inl, inr, ⊎_elim, arith}
 use Rattle.{desk_migration.specs.Puts.{IsHeldMap, HasHeld, HoldErr, HoldsMore, HoldsTo, StepErr, Steps, TellsFaults, free_of}, desk_model.specs.claim.Desk.Desk}
-use Rattle.desk_pages.{specs.{Calls.CommitsFitting, Commits.FittingErr, Desks.{InPagesAs, InTxnAs}, Errors.tree_refusal, Moments.StopsLeaveEither}, proofs.Kept.kept_working}
-use Rattle.desk_pages.specs.{claim.Desks.{IsOldMap, OpensAs, OpensOld}, declared.error.StoreError.{StoreError, TheVariants.{Full, Memory, DeviceFault, Halted}}}
-use Rattle.{page_btree.specs.gets.{claim.Map.{InTxn, InPages}, declared.error.TreeError.TreeError}, page_store.specs.{Calls.BeginsOver, declared.{pages.Pages.Pages, txn.Txn.Txn}}}
-use Rattle.page_store.specs.{claim.Transactions.{stored, disk_in, count_of, journal_of, has_halted, txn_writes, IsKept, IsQuiet, IsSame, Passed}, gate_journal.claim.Store.home}
-use Rattle.{sector_device.specs.{claim.{Disk.Image, Moments.LeavesOnly}, declared.SectorDevice.Ghosts}, store_rows.specs.{MigrationLaws.NamedIsHeld, claim.Rows.KeyMap}}
-use Rattle.{desk_migration.proofs.Pairs.{map_by, none_by, same_map}, desk_pages.proofs.Nearness.begun_near, page_store.proofs.Stops.quiet_none}
-use Rattle.sector_device.proofs.Moments.{leaves_wider, on_ok}
+use Rattle.desk_store_pages.{specs.{Calls.CommitsFitting, Commits.FittingErr, Desks.{InPagesAs, InTxnAs}, Errors.tree_refusal, Moments.StopsLeaveEither}, proofs.Kept.kept_working}
+use Rattle.desk_store_pages.specs.{claim.Desks.{IsOldMap, OpensAs, OpensOld}, declared.error.StoreError.{StoreError, TheVariants.{Full, Memory, DeviceFault, Halted}}}
+use Rattle.{desk_store_rows.specs.{MigrationLaws.NamedIsHeld, claim.Rows.KeyMap}, page_btree.specs.gets.{claim.Map.{InTxn, InPages}, declared.error.TreeError.TreeError}}
+use Rattle.page_store.specs.{Calls.BeginsOver, claim.Transactions.{stored, disk_in, count_of, journal_of, has_halted, txn_writes, IsKept, IsQuiet, IsSame, Passed}}
+use Rattle.{page_store.specs.{declared.{pages.Pages.Pages, txn.Txn.Txn}, gate_journal.claim.Store.home}, sector_device.specs.claim.{Disk.Image, Moments.LeavesOnly}}
+use Rattle.{sector_device.specs.declared.SectorDevice.Ghosts, desk_migration.proofs.Pairs.{map_by, none_by, same_map}, desk_store_pages.proofs.Nearness.begun_near}
+use Rattle.{page_store.proofs.Stops.quiet_none, sector_device.proofs.Moments.{leaves_wider, on_ok}}
 use Rattle.page_btree.specs.gets.declared.error.TreeError.TheVariants as tree
-use Rattle.desk_opening.proofs.chunk_table.Committing.{IsBegun, both, commit_leaves, failed_after, quiet_leaves, quiet_rows, quiet_shape, shape_after}
+use Rattle.desk_store_opening.proofs.chunk_table.Committing.{IsBegun, both, commit_leaves, failed_after, quiet_leaves, quiet_rows, quiet_shape, shape_after}
 
 -- room enough
 pub no_room : (count free left : ℕ) → free ≡ left → 26 * count ≤ free → 13 * (2 * count) ≤ left

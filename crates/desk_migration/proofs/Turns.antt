@@ -1,13 +1,13 @@
 -- Pairs that come to be held one after the other within a transaction.
-use Rattle.{std.{specs.Prelude.{Option, Some}, proofs.Common.{rules, ◌≡◌, ◌<◌, ◌+◌, ◌*◌, ◌++◌, ℕ, false, [], refl, sym, ap, subst, ◌∙◌, arith}}, desk_pages.specs.Reading.ReadErr}
+use Rattle.std.{specs.Prelude.{Option, Some}, proofs.Common.{rules, ◌≡◌, ◌<◌, ◌+◌, ◌*◌, ◌++◌, ℕ, false, [], refl, sym, ap, subst, ◌∙◌, arith}}
 use Rattle.desk_migration.specs.{Puts.{AndStand, HasHeldAs, IsTurn, HoldErrOf}, Walks.IsNextPair, claim.Holding.{AreUnheld, IsUnheld, hold_pairs}, declared.parts.HeldPair.HeldPair}
+use Rattle.{desk_store_pages.specs.Reading.ReadErr, desk_store_rows.specs.claim.{Holders.holding_rows, Keys.holding, Rows.{KeyMap, Lacks}, Shares.hold, Tidy.Tidy}}
 use Rattle.page_btree.specs.{gets.{claim.Map.InTxn, declared.error.TreeError.{TreeError, TheVariants.{NotAStore, NoPages, TooDeep, Memory}}}, puts.declared.finger.Fingers.Fingers}
 use Rattle.{page_store.specs.{claim.Transactions.{stored, disk_in, IsQuiet, Passed}, declared.{pages.Pages.Pages, txn.Txn.Txn}}, sector_device.specs.claim.Disk.Image}
-use Rattle.{sector_device.specs.declared.SectorDevice.Ghosts, store_rows.specs.claim.{Holders.holding_rows, Keys.holding, Rows.{KeyMap, Lacks}, Shares.hold, Tidy.Tidy}}
-use Rattle.{desk_migration.proofs.Pairs.{then_by, none_by, one_by, unheld_more, hold_more}, desk_pages.proofs.Rising.fresh_stand, store_rows.proofs.Migrating.names_can_hold}
-use Rattle.page_store.proofs.Stops.{passed_none, passed_more, failed_more}
-use Rattle.desk_opening.proofs.chunk_table.Changed.{deep_after, near_before, nears_as}
-use Rattle.desk_opening.specs.chunk_table.Holding as chunk
+use Rattle.{sector_device.specs.declared.SectorDevice.Ghosts, desk_migration.proofs.Pairs.{then_by, none_by, one_by, unheld_more, hold_more}}
+use Rattle.{desk_store_pages.proofs.Rising.fresh_stand, desk_store_rows.proofs.Migrating.names_can_hold, page_store.proofs.Stops.{passed_none, passed_more, failed_more}}
+use Rattle.desk_store_opening.proofs.chunk_table.Changed.{deep_after, near_before, nears_as}
+use Rattle.desk_store_opening.specs.chunk_table.Holding as chunk
 
 -- what is known of a map is known of it where one pair more is held
 abbrev Stays : (KeyMap → Type 0) → Type 0

@@ -2,8 +2,8 @@
 use Rattle.std.specs.Prelude.{◌≡◌, ◌≢◌, ◌≤◌, false, OnOk, IfOk, IfErr, Result, ◌*◌, true, Err, ℕ, IsErr}
 use Rattle.desk_migration.specs.{Openings.{IsFound, IsRefused, KeepsOne, LeavesNew}, Outcomes.{PutsMore, TellsEnd}, Puts.{StepErr, FinishErr}, claim.Openings.device_after}
 use Rattle.desk_migration.specs.{claim.Migrating.{disk_of, has_ended, is_halted, sectors_of, free_of, Moves, Ends, Keeps, KeepsNew}, declared.migration.Migration.Migration}
-use Rattle.{desk_model.specs.claim.Desk.Desk, desk_pages.specs.{Openings.IsSpared, claim.Openings.{AllVersions, LeavesOneAs}, declared.error.StoreError.StoreError}}
-use Rattle.{desk_pages.specs.declared.error.StoreError.TheVariants.{AlreadyNew, DeviceFault, Halted, NotAStore}, sector_device.specs.declared.SectorDevice.Ghosts}
+use Rattle.{desk_model.specs.claim.Desk.Desk, desk_store_pages.specs.{Openings.IsSpared, claim.Openings.{AllVersions, LeavesOneAs}, declared.error.StoreError.StoreError}}
+use Rattle.{desk_store_pages.specs.declared.error.StoreError.TheVariants.{AlreadyNew, DeviceFault, Halted, NotAStore}, sector_device.specs.declared.SectorDevice.Ghosts}
 
 -- a migration is opened over a desk in the old version, or the device comes back; a stop leaves the desk that was there
 pub record OpensMigration {D : Type 0} (g : Ghosts D) (device : D) (result : Result (Migration D g) (StoreError × D)) : Type 0 where

@@ -1,11 +1,11 @@
 -- What no promise rests on, beside claim/Openings.antt.
 use Rattle.std.specs.Prelude.{◌≡◌, ◌<◌, ℕ, Bool, true, false}
-use Rattle.{desk_migration.specs.{claim.Migrating.{disk_of, Keeps}, declared.migration.Migration.Migration}, desk_model.specs.claim.Desk.Desk, store_rows.specs.claim.Keys.version}
-use Rattle.{desk_opening.specs.Opening.IsReadFrom, desk_pages.specs.{Openings.{AllOld, HasPages, OpensOneOf}, claim.{Desks.InPagesOf, Openings.{AllVersions, IsOneOld}}}}
-use Rattle.{desk_pages.specs.declared.error.StoreError.{StoreError, TheVariants.{NotAStore, DeviceFault, Memory, AlreadyNew}}, page_btree.specs.gets.claim.Map.Holds}
-use Rattle.page_store.specs.{claim.{Chain.{root_in, free_in}, Transactions.{stored, disk_in, count_of, journal_of, has_halted}}, declared.pages.Pages.Pages}
-use Rattle.{page_store.specs.gate_journal.{Recovery.Found, claim.Store.pages}, sector_device.specs.{claim.Disk.{Disk, Image}, declared.SectorDevice.Ghosts}}
-use Rattle.store_rows.specs.claim.{Rows.{KeyMap, row_in}, Tidy.version_row}
+use Rattle.{desk_migration.specs.{claim.Migrating.{disk_of, Keeps}, declared.migration.Migration.Migration}, desk_model.specs.claim.Desk.Desk}
+use Rattle.{desk_store_opening.specs.Opening.IsReadFrom, desk_store_pages.specs.{Openings.{AllOld, HasPages, OpensOneOf}, claim.Desks.InPagesOf}}
+use Rattle.desk_store_pages.specs.{claim.Openings.{AllVersions, IsOneOld}, declared.error.StoreError.{StoreError, TheVariants.{NotAStore, DeviceFault, Memory, AlreadyNew}}}
+use Rattle.{desk_store_rows.specs.claim.{Keys.version, Rows.{KeyMap, row_in}, Tidy.version_row}, page_btree.specs.gets.claim.Map.Holds, page_store.specs.declared.pages.Pages.Pages}
+use Rattle.page_store.specs.{claim.{Chain.{root_in, free_in}, Transactions.{stored, disk_in, count_of, journal_of, has_halted}}, gate_journal.{Recovery.Found, claim.Store.pages}}
+use Rattle.sector_device.specs.{claim.Disk.{Disk, Image}, declared.SectorDevice.Ghosts}
 
 -- n pages hold rows of this version alone
 abbrev pub AreOfVersion : Bool → ℕ → Image → Type 0

@@ -3,11 +3,11 @@ use Rattle.std.specs.Prelude.{◌≡◌, ◌<◌, ◌≤◌, ◌^◌, ◌↔◌,
 use Rattle.{btree_scan.specs.declared.rows.Row.Row, desk_migration.specs.{Parts.IsPartRow, Puts.{AndStand, HasHeld, HasHeldAs, HoldErr, HoldErrOf, HoldsMore, IsTurn}}}
 use Rattle.desk_migration.specs.{TurningBack.{IsTakenFirst, IsWithout}, Walks.{Enters, HoldsEach, HoldsIt, IsHeldTo, IsNextPair, IsWalking, LacksIn, Looks}}
 use Rattle.desk_migration.specs.{claim.{Holding.{AllAreHeld, AreHeldTo}, Migrating.{disk_of, HasMore, HasRows}}, declared.{migration.Migration.Migration, parts.HeldPair.HeldPair}}
-use Rattle.{desk_migration.specs.declared.{parts.{Part.Part, PartLook.PartLook}, walks.Walk.Walk}, desk_model.specs.claim.Desk.Desk, desk_pages.specs.Outcomes.Writes}
-use Rattle.{desk_pages.specs.{claim.Desks.{IsOldMap, InTxnOf}, declared.error.StoreError.StoreError}, page_btree.specs.gets.claim.Map.{InPages, InTxn}}
+use Rattle.{desk_migration.specs.declared.{parts.{Part.Part, PartLook.PartLook}, walks.UnheldCursor.UnheldCursor}, desk_model.specs.claim.Desk.Desk}
+use Rattle.{desk_store_pages.specs.{Outcomes.Writes, claim.Desks.{IsOldMap, InTxnOf}, declared.error.StoreError.StoreError}, desk_store_rows.specs.claim.Keys.{holding, in_eight}}
+use Rattle.{desk_store_rows.specs.claim.{Lists.{AreChunks, chunks_bytes}, Rows.{KeyMap, Lacks}, Tidy.Tidy}, page_btree.specs.gets.claim.Map.{InPages, InTxn}}
 use Rattle.{page_btree.specs.{gets.declared.error.TreeError.TreeError, puts.declared.finger.Fingers.Fingers}, page_store.specs.claim.Transactions.{stored, disk_in, Passed}}
-use Rattle.{page_store.specs.declared.{pages.Pages.Pages, txn.Txn.Txn}, sector_device.specs.declared.SectorDevice.Ghosts, store_rows.specs.claim.Keys.{holding, in_eight}}
-use Rattle.store_rows.specs.claim.{Lists.{AreChunks, chunks_bytes}, Rows.{KeyMap, Lacks}, Tidy.Tidy}
+use Rattle.{page_store.specs.declared.{pages.Pages.Pages, txn.Txn.Txn}, sector_device.specs.declared.SectorDevice.Ghosts}
 
 -- the bytes of a row are those of a part
 pub record IsReadAs (row : Row) (of : Part) : Type 0 where
@@ -35,25 +35,25 @@ abbrev pub IsFirstUnheld : Part → Part → ℕ → KeyMap → Option ℕ → T
 IsFirstUnheld of seen from m found = IfSome found (λ place. Lacks m (holding of.plan (get_or of.numbers.items place 0)))
     × (Tidy m × HoldsEach seen.plan seen.numbers.items m × HoldsEach of.plan (take from of.numbers.items) m → IsHeldTo of m found)
 
-abbrev pub EntersPart : Walk → Walk → KeyMap → Bool → Type 0
+abbrev pub EntersPart : UnheldCursor → UnheldCursor → KeyMap → Bool → Type 0
 EntersPart walk next m found = IsWalking walk m → IsWalking next m × Enters found walk next m
 
-abbrev pub LooksAt : Walk → Walk → KeyMap → PartLook → Type 0
+abbrev pub LooksAt : UnheldCursor → UnheldCursor → KeyMap → PartLook → Type 0
 LooksAt walk next m look = LacksIn look m × (IsWalking walk m → IsWalking next m × Looks look walk next m)
 
-abbrev pub FindsNext : Walk → Walk → KeyMap → Option HeldPair → Type 0
+abbrev pub FindsNext : UnheldCursor → UnheldCursor → KeyMap → Option HeldPair → Type 0
 FindsNext walk next m found = IfSome found (λ pair. Lacks m (holding pair.plan pair.number))
     × (IsWalking walk m → IsWalking next m × IsNextPair m found)
 
 module _ {D : Type 0} {g : Ghosts D} where
   -- ---- pairs that come to be held
   -- where both fingers stood: both stand then
-  abbrev pub HoldsNext : Fingers → Fingers → Walk → Walk → Txn → Txn → Pages D g → Pages D g → Result Bool TreeError → Type 0
+  abbrev pub HoldsNext : Fingers → Fingers → UnheldCursor → UnheldCursor → Txn → Txn → Pages D g → Pages D g → Result Bool TreeError → Type 0
   HoldsNext were fs walk next t u old new result =
       Writes (λ found. IsTurn found (AndStand (IsWalking walk) were t (stored old)) (AndStand (IsWalking next) fs u (stored old)) t u old new)
       (HoldErrOf 1 (AndStand (IsWalking walk) were t (stored old)) t old new) u old new result
 
-  abbrev pub HoldsAlong : Walk → Walk → Txn → Txn → Pages D g → Pages D g → Result ℕ TreeError → Type 0
+  abbrev pub HoldsAlong : UnheldCursor → UnheldCursor → Txn → Txn → Pages D g → Pages D g → Result ℕ TreeError → Type 0
   HoldsAlong walk next t u old new result =
       Writes (λ count. (count ≤ 8) × HasHeldAs (count < 8) count (IsWalking walk) (IsWalking next) t u old new) (HoldErrOf 8 (IsWalking walk) t old new) u old new result
 

@@ -1,7 +1,7 @@
 -- Parts of revisions, and the key from which they are gone over.
 use Rattle.std.specs.{List.starts_with, Prelude.{◌≡◌, ℕ, Bool, true, false, List, nat_eq}}
-use Rattle.{btree_scan.specs.declared.rows.Row.Row, desk_migration.specs.claim.Holding.AreHeldTo, desk_opening.specs.tidy.Rows.{IsFirst, NoneFrom}}
-use Rattle.store_rows.specs.{Keys.parts_prefix, claim.{Keys.{key_of, Fits, part}, Lists.{AreChunks, chunks_bytes}, Rows.KeyMap, Tidy.Tidy}}
+use Rattle.{btree_scan.specs.declared.rows.Row.Row, desk_migration.specs.claim.Holding.AreHeldTo, desk_store_opening.specs.tidy.Rows.{IsFirst, NoneFrom}}
+use Rattle.desk_store_rows.specs.{Keys.parts_prefix, claim.{Keys.{key_of, Fits, part}, Lists.{AreChunks, chunks_bytes}, Rows.KeyMap, Tidy.Tidy}}
 
 -- a key under which parts of revisions stand
 abbrev pub IsUnderParts : List ℕ → Type 0

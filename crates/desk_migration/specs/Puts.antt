@@ -1,12 +1,12 @@
 -- Chunks that plans come to hold within a transaction, and in pages.
 use Rattle.std.specs.Prelude.{◌≡◌, ◌⊎◌, ◌≤◌, ◌<◌, ◌+◌, ◌*◌, ℕ, Bool, true, false, List, [], ◌∷◌, length, Result, Err, OnOk}
 use Rattle.{desk_migration.specs.{Parts.IsUnderWay, claim.Holding.{AllAreHeld, AreHeldTo, AreUnheld, IsHeldBy, hold_pairs}}, desk_model.specs.claim.Desk.Desk}
-use Rattle.{desk_pages.specs.{claim.{Desks.IsOldMap, Puts.{HasDeepened, IsNear, IsStoredNear, Nears}}, declared.error.StoreError.StoreError}, page_btree.specs.puts.Fingers.Stand}
-use Rattle.{desk_pages.specs.declared.error.StoreError.TheVariants.{Full, Memory, NotAStore, DeviceFault, Halted}, page_btree.specs.gets.claim.Map.{InTxn, InPages}}
+use Rattle.desk_store_pages.specs.{claim.{Desks.IsOldMap, Puts.{HasDeepened, IsNear, IsStoredNear, Nears}}, declared.error.StoreError.StoreError}
+use Rattle.{desk_store_pages.specs.declared.error.StoreError.TheVariants.{Full, Memory, NotAStore, DeviceFault, Halted}, desk_store_rows.specs.claim.Holders.holding_rows}
+use Rattle.{desk_store_rows.specs.claim.{Keys.{key_of, version, in_four}, Puts.Row, Rows.KeyMap}, page_btree.specs.{gets.claim.Map.{InTxn, InPages}, puts.Fingers.Stand}}
 use Rattle.{page_btree.specs.{gets.declared.error.TreeError.TreeError, puts.declared.finger.Fingers.Fingers}, page_store.specs.{claim.Chain.free_in, declared.pages.Pages.Pages}}
 use Rattle.page_store.specs.claim.Transactions.{stored, disk_in, has_halted, txn_pages, txn_free, txn_writes, HasFailed, HasShape, IsKept, IsQuiet, IsSame, Passed}
-use Rattle.{page_store.specs.declared.txn.Txn.Txn, sector_device.specs.{claim.Disk.Image, declared.SectorDevice.Ghosts}, store_rows.specs.claim.{Holders.holding_rows, Puts.Row}}
-use Rattle.store_rows.specs.claim.{Keys.{key_of, version, in_four}, Rows.KeyMap}
+use Rattle.{page_store.specs.declared.txn.Txn.Txn, sector_device.specs.{claim.Disk.Image, declared.SectorDevice.Ghosts}}
 use Rattle.page_btree.specs.gets.declared.error.TreeError.TheVariants as tree
 
 -- the row that tells the new version

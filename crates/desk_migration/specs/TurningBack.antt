@@ -1,6 +1,7 @@
 -- What leads a store of the new version back to the old one, for trials.
 use Rattle.std.specs.{FinMap.get, Prelude.{◌≡◌, ℕ, Bool, true, false, List, ◌∷◌, Some, None}}
-use Rattle.{page_btree.specs.gets.claim.Map.InTxn, page_store.specs.declared.txn.Txn.Txn, sector_device.specs.claim.Disk.Image, store_rows.specs.{Rows.SameTag, claim.Rows.KeyMap}}
+use Rattle.{desk_store_rows.specs.{Rows.SameTag, claim.Rows.KeyMap}, page_btree.specs.gets.claim.Map.InTxn, page_store.specs.declared.txn.Txn.Txn}
+use Rattle.sector_device.specs.claim.Disk.{Image}
 
 -- no key begins with the tag
 abbrev pub NoneOf : ℕ → KeyMap → Type 0

@@ -5,13 +5,13 @@ ghost use Rattle.desk_migration.specs.Parts.{IsUnderParts};
 ghost use Rattle.desk_migration.specs.Walks.{StandsUnder};
 ghost use Rattle.desk_migration.specs.Outcomes.{HoldsAlong, HoldsNext, HoldsPairs};
 
-use crate::walks::{Walk, next_pair};
-use desk_opening::hold_unheld_with;
-use desk_pages::{Fingers, TreeError};
+use crate::walks::{UnheldCursor, next_pair};
+use desk_store_opening::hold_unheld_with;
+use desk_store_pages::{Fingers, TreeError};
+use desk_store_rows::migrations::named_is_held;
 use page_btree::SmallBytes;
 use page_store::{Pages, Txn};
 use sector_device::SectorDevice;
-use store_rows::migrations::named_is_held;
 
 /// How many pairs of a plan and a chunk one step has held at most.
 pub(crate) const PAIRS: usize = 8;
@@ -21,7 +21,7 @@ fn hold_next<D: SectorDevice>(
     txn: &mut Txn,
     pages: &mut Pages<D>,
     fingers: &mut Fingers,
-    walk: &mut Walk,
+    walk: &mut UnheldCursor,
 ) -> Result<bool, TreeError>
     requires begun { txn_pages txn.old ≡ count_of pages.old }
     requires under { StandsUnder walk.old }
@@ -42,7 +42,7 @@ fn hold_next<D: SectorDevice>(
 fn hold_along<D: SectorDevice>(
     txn: &mut Txn,
     pages: &mut Pages<D>,
-    walk: &mut Walk,
+    walk: &mut UnheldCursor,
 ) -> Result<usize, TreeError>
     requires begun { txn_pages txn.old ≡ count_of pages.old }
     requires under { StandsUnder walk.old }
@@ -69,7 +69,7 @@ pub(crate) fn hold_pairs<D: SectorDevice>(
     ensures under { IsUnderParts from.new }
     ensures holds { HoldsPairs from.old from.new txn.old txn.new pages.old pages.new result }
 {
-    let mut walk = Walk::from_key(from.as_slice());
+    let mut walk = UnheldCursor::from_key(from.as_slice());
     let count = hold_along(txn, pages, &mut walk)?;
     from.set(walk.from.as_slice());
     Ok(count)

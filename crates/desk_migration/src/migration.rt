@@ -3,7 +3,7 @@ ghost use Rattle.desk_migration.specs.Parts.{IsUnderParts};
 
 use crate::opening::judge;
 use crate::steps::{put_holdings, put_version};
-use desk_pages::StoreError;
+use desk_store_pages::StoreError;
 use page_btree::SmallBytes;
 use page_store::Pages;
 use sector_device::SectorDevice;

@@ -3,14 +3,14 @@
 ghost use Rattle.std.specs.Prelude.{◌≡◌, false, OnOk};
 ghost use Rattle.page_store.specs.claim.Transactions.{disk_in, count_of, has_halted, txn_pages, HasShape};
 ghost use Rattle.desk_model.specs.claim.Desk.{Desk};
-ghost use Rattle.desk_pages.specs.claim.Desks.{InPages, InPagesOf, OpensEither};
-ghost use Rattle.desk_pages.specs.Moments.{StopsLeave};
+ghost use Rattle.desk_store_pages.specs.claim.Desks.{InPages, InPagesOf, OpensEither};
+ghost use Rattle.desk_store_pages.specs.Moments.{StopsLeave};
 ghost use Rattle.desk_migration.specs.Outcomes.{TakesAll, TakesFirst, TakesVersion};
 
 use btree_scan::{Row, row_limit};
-use desk_opening::first_from;
-pub use desk_opening::read_desk;
-use desk_pages::{StoreError, TreeError, commit_txn};
+use desk_store_opening::first_from;
+pub use desk_store_opening::read_desk;
+use desk_store_pages::{StoreError, TreeError, commit_txn};
 use page_btree::{KEY_LIMIT, remove};
 use page_store::{Pages, Txn};
 use sector_device::SectorDevice;

@@ -2,11 +2,11 @@
 ghost use Rattle.std.specs.Prelude.{◌≡◌, false, OnOk, IfErr};
 ghost use Rattle.page_store.specs.claim.Transactions.{stored, disk_in, count_of, has_halted};
 ghost use Rattle.page_store.specs.Reading.{ReadsOnly};
-ghost use Rattle.desk_pages.specs.Errors.{IsCalm};
+ghost use Rattle.desk_store_pages.specs.Errors.{IsCalm};
 ghost use Rattle.desk_migration.specs.Openings.{AreOfVersion, AreRead, JudgeErr};
 
-use desk_opening::{is_new, read_desk};
-use desk_pages::{StoreError, row_error};
+use desk_store_opening::{is_new, read_desk};
+use desk_store_pages::{StoreError, row_error};
 use page_store::Pages;
 use sector_device::SectorDevice;
 use std::alloc::Global;

@@ -1,19 +1,19 @@
 //! Parts of revisions, and the chunks that they name.
 ghost use Rattle.std.specs.Prelude.{◌≡◌, ◌≤◌, ℕ, ◌++◌, [], ◌∷◌, length, true, IfOk, MatchOption};
 ghost use Rattle.page_store.specs.claim.Transactions.{count_of, txn_pages};
-ghost use Rattle.desk_pages.specs.Looking.{Looks};
-ghost use Rattle.store_rows.specs.RowKeys.{IsKey};
-ghost use Rattle.store_rows.specs.claim.Keys.{key_of, part};
+ghost use Rattle.desk_store_pages.specs.Looking.{Looks};
+ghost use Rattle.desk_store_rows.specs.RowKeys.{IsKey};
+ghost use Rattle.desk_store_rows.specs.claim.Keys.{key_of, part};
 ghost use Rattle.desk_migration.specs.Parts.{IsPartFrom, IsUnderParts};
 ghost use Rattle.desk_migration.specs.Outcomes.{IsNamedAt, ReadsPart};
 
 use arrayvec::ArrayVec;
 use btree_scan::Row;
-use desk_opening::first_from;
-use desk_pages::TreeError;
+use desk_store_opening::first_from;
+use desk_store_pages::TreeError;
+use desk_store_rows::{Key, PART_CHUNKS, RowKey, read_chunks};
 use page_store::{Pages, Txn};
 use sector_device::SectorDevice;
-use store_rows::{Key, PART_CHUNKS, RowKey, read_chunks};
 
 /// A part of a revision: its plan, and the chunks that it names.
 #[derive(Drop)]

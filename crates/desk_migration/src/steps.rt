@@ -2,20 +2,20 @@
 ghost use Rattle.std.specs.Prelude.{◌≡◌, ◌≤◌, ◌*◌, Err, OnOk, OnErr, IfOk, IfErr};
 ghost use Rattle.page_store.specs.claim.Transactions.{disk_in};
 ghost use Rattle.desk_model.specs.claim.Desk.{Desk};
-ghost use Rattle.desk_pages.specs.claim.Desks.{InPages as HoldsDesk, OpensEither, OpensOld};
-ghost use Rattle.desk_pages.specs.Moments.{StopsLeave};
+ghost use Rattle.desk_store_pages.specs.claim.Desks.{InPages as HoldsDesk, OpensEither, OpensOld};
+ghost use Rattle.desk_store_pages.specs.Moments.{StopsLeave};
 ghost use Rattle.desk_migration.specs.Parts.{IsUnderParts};
 ghost use Rattle.desk_migration.specs.Outcomes.{PutsHoldings};
 ghost use Rattle.desk_migration.specs.Puts.{FinishErr, HoldsAll, HoldsTo, StepErr, free_of, Steps};
 
 use crate::holds::hold_pairs;
-use desk_pages::{ROW_PAGES, StoreError, commit_fitting, put_row};
+use desk_store_pages::{ROW_PAGES, StoreError, commit_fitting, put_row};
+use desk_store_rows::Key;
+use desk_store_rows::migrations::{named_is_held, version_is_told};
 use page_btree::SmallBytes;
 use page_store::Pages;
 use sector_device::SectorDevice;
 use std::alloc::Global;
-use store_rows::Key;
-use store_rows::migrations::{named_is_held, version_is_told};
 
 /// Puts up to 16 rows by which plans hold chunks that they name, in one commit, and returns their
 /// number. `from` is the key up to which each part names only held chunks, and advances.

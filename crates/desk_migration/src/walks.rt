@@ -1,15 +1,15 @@
 //! Goes over the parts of revisions, to the next chunk that isn't held.
 ghost use Rattle.std.specs.Prelude.{◌≡◌, ◌<◌, ◌≤◌, [], length, true, false, IfOk, IfSome};
 ghost use Rattle.page_store.specs.claim.Transactions.{count_of, txn_pages};
-ghost use Rattle.desk_pages.specs.Looking.{Looks};
-ghost use Rattle.store_rows.specs.claim.Tidy.{Tidy};
+ghost use Rattle.desk_store_pages.specs.Looking.{Looks};
+ghost use Rattle.desk_store_rows.specs.claim.Tidy.{Tidy};
 ghost use Rattle.desk_migration.specs.Walks.{after, IsWalking, StandsUnder};
 ghost use Rattle.desk_migration.specs.Outcomes.{EntersPart, FindsNext, IsFirstUnheld, IsToldAt, LooksAt};
 
 use crate::parts::{HeldPair, Part, PartLook, key_after, names_too, part_from, read_part};
 use btree_scan::{Row, row_limit};
-use desk_opening::is_held;
-use desk_pages::TreeError;
+use desk_store_opening::is_held;
+use desk_store_pages::TreeError;
 use page_btree::SmallBytes;
 use page_store::{Pages, Txn};
 use sector_device::SectorDevice;
@@ -17,7 +17,7 @@ use std::mem;
 
 /// A walk over parts of revisions, to the chunks that they name and their plans don't hold.
 #[derive(Drop)]
-pub(crate) struct Walk {
+pub(crate) struct UnheldCursor {
     /// Each part whose key is below this one names only chunks that its plan holds.
     pub(crate) from: SmallBytes,
     /// The part under that key is being gone over.
@@ -30,9 +30,9 @@ pub(crate) struct Walk {
     pub(crate) seen: Part,
 }
 
-impl Walk {
+impl UnheldCursor {
     /// A walk that begins at a key.
-    pub(crate) fn from_key(key: &[u8]) -> Walk
+    pub(crate) fn from_key(key: &[u8]) -> UnheldCursor
         requires { length key.now ≤ 1024 }
         ensures from { result.from ≡ key.now }
         ensures outside { result.is_within ≡ false }
@@ -40,7 +40,7 @@ impl Walk {
     {
         let mut from = SmallBytes::empty();
         from.set(key);
-        Walk {
+        UnheldCursor {
             from,
             is_within: false,
             part: Part::empty(),
@@ -94,7 +94,7 @@ fn first_unheld<D: SectorDevice>(
 fn read_next<D: SectorDevice>(
     txn: &Txn,
     pages: &mut Pages<D>,
-    walk: &mut Walk,
+    walk: &mut UnheldCursor,
 ) -> Result<bool, TreeError>
     requires begun { txn_pages txn.now ≡ count_of pages.old }
     requires under { StandsUnder walk.old }
@@ -120,7 +120,7 @@ fn read_next<D: SectorDevice>(
 fn enter<D: SectorDevice>(
     txn: &Txn,
     pages: &mut Pages<D>,
-    walk: &mut Walk,
+    walk: &mut UnheldCursor,
 ) -> Result<bool, TreeError>
     requires begun { txn_pages txn.now ≡ count_of pages.old }
     requires under { StandsUnder walk.old }
@@ -135,7 +135,7 @@ fn enter<D: SectorDevice>(
 }
 
 /// Goes on after the part, whose plan holds each chunk that it names.
-fn pass(walk: &mut Walk)
+fn pass(walk: &mut UnheldCursor)
     requires under { StandsUnder walk.old }
     requires within { walk.old.is_within ≡ true }
     ensures under { StandsUnder walk.new }
@@ -154,7 +154,7 @@ fn pass(walk: &mut Walk)
 fn look<D: SectorDevice>(
     txn: &Txn,
     pages: &mut Pages<D>,
-    walk: &mut Walk,
+    walk: &mut UnheldCursor,
 ) -> Result<PartLook, TreeError>
     requires begun { txn_pages txn.now ≡ count_of pages.old }
     requires under { StandsUnder walk.old }
@@ -183,7 +183,7 @@ fn look<D: SectorDevice>(
 pub(crate) fn next_pair<D: SectorDevice>(
     txn: &Txn,
     pages: &mut Pages<D>,
-    walk: &mut Walk,
+    walk: &mut UnheldCursor,
 ) -> Result<Option<HeldPair>, TreeError>
     requires begun { txn_pages txn.now ≡ count_of pages.old }
     requires under { StandsUnder walk.old }

@@ -1,13 +1,13 @@
 -- What became of a command.
 use Rattle.{std.proofs.Common.{rules, ◌≡◌, ◌⊎◌, ◌+◌, ℕ, Bool, true, false, length, inl, inr, ⊎_elim, refl, sym, ap, subst, ◌∙◌, arith}, desk_model.specs.claim.Desk.Desk}
-use Rattle.{desk_catalogue.specs.claim.Accepting.{IsAfter, acceptance}, desk_model.specs.{claim.{Outcome.{IsAcceptance, CommandMay}, Room.need}, declared.command.Command.Command}}
-use Rattle.{desk_model.specs.declared.{command.Command.TheVariants.Fork, reply.{Refusal.Refusal, Reply.{Reply, TheVariants.Refused}}}, desk_store.specs.declared.clerk.Clerk.Clerk}
-use Rattle.{desk_pages.specs.claim.Desks.{InPages, OpensDesk}, desk_store.specs.claim.Clerks.{desk_of, disk_of, pages_of, sectors_of, free_of, HaltsByDevice, Keeps, Reads, Moves}}
-use Rattle.desk_store.specs.{claim.Commands.{command_of, after_of, IsExhausted, MustBeFull, MayBeFull, PrepareErr, IsReady, IsNotMade, Commits, Does}, declared.ready.Ready.Ready}
-use Rattle.{desk_store.specs.claim.Keeping.{IsLeft, OpensOneMore}, page_store.specs.{claim.{Chain.free_in, Transactions.IsQuiet}, gate_journal.claim.Store.home}}
-use Rattle.{sector_device.specs.{claim.{Disk.Image, Moments.LeavesOnly}, declared.SectorDevice.Ghosts}, desk_store.proofs.Kept.acceptance_is, page_store.proofs.Chains.either}
+use Rattle.desk_model.specs.{claim.{Outcome.{IsAcceptance, CommandMay}, Room.need}, declared.{command.Command.{Command, TheVariants.Fork}, reply.{Refusal.Refusal, Reply.Reply}}}
+use Rattle.{desk_model.specs.declared.reply.Reply.TheVariants.Refused, desk_store.specs.{claim.Keeping.{IsLeft, OpensOneMore}, declared.{clerk.Clerk.Clerk, ready.Ready.Ready}}}
+use Rattle.{desk_store.specs.claim.Clerks.{desk_of, disk_of, pages_of, sectors_of, free_of, HaltsByDevice, Keeps, Reads, Moves}, page_store.specs.claim.Chain.free_in}
+use Rattle.desk_store.{specs.claim.Commands.{command_of, after_of, IsExhausted, MustBeFull, MayBeFull, PrepareErr, IsReady, IsNotMade, Commits, Does}, proofs.Kept.acceptance_is}
+use Rattle.{desk_store_catalogue.specs.claim.Accepting.{IsAfter, acceptance}, desk_store_pages.specs.claim.Desks.{InPages, OpensDesk}, page_store.specs.claim.Transactions.IsQuiet}
+use Rattle.{page_store.{specs.gate_journal.claim.Store.home, proofs.Chains.either}, sector_device.specs.{claim.{Disk.Image, Moments.LeavesOnly}, declared.SectorDevice.Ghosts}}
 use Rattle.{page_store.proofs.Stops.{leaves_here, leaves_quiet}, sector_device.proofs.Moments.{leaves_more, leaves_now}}
-use Rattle.desk_opening.proofs.chunk_table.Committing.{both}
+use Rattle.desk_store_opening.proofs.chunk_table.Committing.{both}
 
 -- an accepted command has the step's outcome
 made_may : (must may failed : Type 0) (d : Desk) (c : Command) (e : Desk) → ¬ failed → IsAfter d c e → ¬ must → CommandMay must may failed d c (acceptance c) e

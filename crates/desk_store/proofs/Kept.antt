@@ -1,9 +1,9 @@
 -- What a clerk's store keeps.
-use Rattle.{std.proofs.Common.{rules, ◌≡◌, ◌⊎◌, ◌+◌, ℕ, true, false, inl, inr, ⊎_elim, refl, sym, subst}, desk_catalogue.specs.claim.Accepting.{IsAfter, acceptance}}
-use Rattle.{desk_model.specs.{claim.{Desk.Desk, Outcome.IsAcceptance, Step.step}, declared.command.Command.{Command, TheVariants.Create}}, desk_pages.proofs.Committed.pages_sound}
-use Rattle.{desk_pages.specs.claim.Desks.{InPages, OpensDesk}, desk_store.specs.claim.Keeping.{IsLeft, IsOneMore}, page_store.specs.declared.pages.Pages.Pages}
+use Rattle.{std.proofs.Common.{rules, ◌≡◌, ◌⊎◌, ◌+◌, ℕ, true, false, inl, inr, ⊎_elim, refl, sym, subst}, desk_model.specs.claim.{Desk.Desk, Outcome.IsAcceptance, Step.step}}
+use Rattle.{desk_model.specs.declared.command.Command.{Command, TheVariants.Create}, desk_store.specs.claim.Keeping.{IsLeft, IsOneMore}, sector_device.proofs.Moments.leaves_now}
+use Rattle.{desk_store_catalogue.specs.claim.Accepting.{IsAfter, acceptance}, desk_store_pages.specs.claim.Desks.{InPages, OpensDesk}, page_store.specs.declared.pages.Pages.Pages}
 use Rattle.{page_store.specs.{claim.Transactions.{disk_in, count_of, journal_of, has_halted, IsKept}, gate_journal.claim.Store.home}, sector_device.specs.claim.Disk.{Disk, Image}}
-use Rattle.sector_device.{specs.{claim.Moments.LeavesOnly, declared.SectorDevice.Ghosts}, proofs.Moments.leaves_now}
+use Rattle.{sector_device.specs.{claim.Moments.LeavesOnly, declared.SectorDevice.Ghosts}, desk_store_pages.proofs.Committed.pages_sound}
 
 -- each reply to a command that is accepted is one
 pub acceptance_is : (c : Command) → IsAcceptance (acceptance c)

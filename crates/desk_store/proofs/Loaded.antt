@@ -1,15 +1,16 @@
 -- Loads at a clerk.
-use Rattle.{std.specs.{Cmp.Lexicographic.nat_list_cmp_total, FinMap.{get-empty, same_map, slice_cmp-IsAntisymmetric, nat_cmp-IsAntisymmetric}}, desk_pages.specs.Commits.Commits}
+use Rattle.{std.specs.{Cmp.Lexicographic.nat_list_cmp_total, FinMap.{get-empty, same_map, slice_cmp-IsAntisymmetric, nat_cmp-IsAntisymmetric}}, desk_store.proofs.Done.OneOf}
 use Rattle.std.proofs.Common.{rules, ◌≡◌, ◌⊎◌, ◌<◌, ℕ, true, false, List, Option, Some, None, Result, Ok, Err, inl, inr, ⊎_elim, refl, sym, ap, subst, ◌∙◌}
-use Rattle.{desk_model.specs.claim.{Desk.{Desk, Plan, name_cmp}, Geography.GeographyModel}, desk_pages.specs.{Moments.StopsLeave, claim.Desks.{InPages, OpensDesk}}}
-use Rattle.{desk_pages.specs.declared.error.StoreError.{StoreError, TheVariants.{AlreadySealed, Memory, DeviceFault, Halted}}, desk_store.specs.Calls.{LoadsBatch, SealsLoad}}
-use Rattle.desk_store.specs.{Failures.is_failure, Keeping.sealed_desk, Loads.{Stages, BeginRefused, EndRefused, StepRefused, BatchRefused, SealRefused}, declared.clerk.Clerk.Clerk}
-use Rattle.{desk_store.specs.claim.Clerks.{desk_of, disk_of, pages_of, sectors_of, MovesIf}, geo_tables.specs.Loading.{HoldsLoad, OpensOrIsSealed, geography_model_of}}
-use Rattle.{geo_tables.specs.{Refusals.{BeginErr, RowsErr}, declared.load.Load.Load}, page_store.specs.{Outcomes.Commits as Fulfils, declared.pages.Pages.Pages}}
-use Rattle.{page_store.specs.claim.Transactions.{disk_in, has_halted, HasFailed, IsQuiet}, sector_device.specs.{claim.Moments.LeavesOnly, declared.SectorDevice.Ghosts}}
-use Rattle.{store_rows.specs.{Changes.desk_with, claim.{DeskRows.{IsDesk, IsPlanAt}, Puts.Row, Rows.KeyMap}}, desk_store.proofs.Done.OneOf}
-use Rattle.{desk_store.proofs.Moved.{Left, faulted, with_pages, worked}, sector_device.proofs.Moments.leaves_wider}
-use Rattle.desk_opening.proofs.chunk_table.Committing.{both}
+use Rattle.{desk_model.specs.claim.{Desk.{Desk, Plan, name_cmp}, Geography.GeographyModel}, desk_store.specs.{Calls.{LoadsBatch, SealsLoad}, Failures.is_failure}}
+use Rattle.desk_store.specs.{Keeping.sealed_desk, Loads.{Stages, BeginRefused, EndRefused, StepRefused, BatchRefused, SealRefused}, declared.clerk.Clerk.Clerk}
+use Rattle.{desk_store.specs.claim.Clerks.{desk_of, disk_of, pages_of, sectors_of, MovesIf}, desk_store_opening.specs.geo_tables.Refusals.{BeginErr, RowsErr}}
+use Rattle.{desk_store_opening.specs.geo_tables.{Loading.{HoldsLoad, OpensOrIsSealed, geography_model_of}, declared.load.Load.Load}, desk_store_pages.specs.Commits.Commits}
+use Rattle.{desk_store_pages.specs.{Moments.StopsLeave, claim.Desks.{InPages, OpensDesk}, declared.error.StoreError.StoreError}, desk_store_rows.specs.Changes.desk_with}
+use Rattle.{desk_store_pages.specs.declared.error.StoreError.TheVariants.{AlreadySealed, Memory, DeviceFault, Halted}, desk_store_rows.specs.claim.DeskRows.{IsDesk, IsPlanAt}}
+use Rattle.{desk_store_rows.specs.claim.{Puts.Row, Rows.KeyMap}, page_store.specs.{Outcomes.Commits as Fulfils, claim.Transactions.{disk_in, has_halted, HasFailed, IsQuiet}}}
+use Rattle.{page_store.specs.declared.pages.Pages.Pages, sector_device.{specs.{claim.Moments.LeavesOnly, declared.SectorDevice.Ghosts}, proofs.Moments.leaves_wider}}
+use Rattle.desk_store.proofs.Moved.{Left, faulted, with_pages, worked}
+use Rattle.desk_store_opening.proofs.chunk_table.Committing.{both}
 use Rattle.std.specs.FinMap as map_of
 
 -- a desk without geography has no plan

@@ -1,10 +1,10 @@
 -- Calls that commit, and calls that came to nothing.
 use Rattle.{std.{specs.Prelude.{Ok, Err}, proofs.Common.{rules, ◌≡◌, ◌⊎◌, ◌<◌, ◌+◌, ℕ, Option, Bool, true, false, inl}}, desk_model.specs.claim.Desk.Desk}
-use Rattle.{desk_pages.specs.claim.Desks.InPages, desk_store.specs.claim.{Clerks.{desk_of, disk_of, pages_of, sectors_of, Keeps, Reads, MovesIf}, Keeping.IsOneMore}}
-use Rattle.{desk_store.specs.declared.clerk.Clerk.Clerk, page_store.specs.{Outcomes.Commits as Fulfils, claim.Transactions.{disk_in, has_halted, HasShape, IsQuiet}}}
+use Rattle.desk_store.specs.{claim.{Clerks.{desk_of, disk_of, pages_of, sectors_of, Keeps, Reads, MovesIf}, Keeping.IsOneMore}, declared.clerk.Clerk.Clerk}
+use Rattle.{desk_store_pages.specs.claim.Desks.InPages, page_store.specs.{Outcomes.Commits as Fulfils, claim.Transactions.{disk_in, has_halted, HasShape, IsQuiet}}}
 use Rattle.{page_store.specs.{declared.pages.Pages.Pages, gate_journal.claim.Store.home}, sector_device.specs.{claim.Moments.LeavesOnly, declared.SectorDevice.Ghosts}}
 use Rattle.{desk_store.proofs.{Done.{OneOf, left_as, reads_move}, Kept.{kept_opens, left_halted}}, page_store.proofs.Stops.quiet_none}
-use Rattle.desk_opening.proofs.chunk_table.Committing.{both}
+use Rattle.desk_store_opening.proofs.chunk_table.Committing.{both}
 
 module _ {D : Type 0} {g : Ghosts D} where
   -- the clerk with other pages, another load and another halt

@@ -1,20 +1,20 @@
 -- What an opening finds.
 use Rattle.{std.{specs.Prelude.◌⊎◌, proofs.Common.{rules, ◌≡◌, ℕ, Bool, true, false, inl, ⊎_elim, refl, sym, ap, subst, ◌∙◌, arith}}, desk_model.specs.claim.Desk.Desk}
-use Rattle.{desk_opening.specs.{Held.{AreOld, GoesOn, HeldErr, IsHeld}, Opening.{HasVersion, IsReadFrom, OpenErr as ReadErr}}, desk_pages.specs.Desks.InPagesAs}
-use Rattle.desk_pages.specs.{Errors.{missing, page_refusal, row_refusal}, Openings.{AllDesks, OpensOneOf}, claim.Openings.{AllVersions, IsOneOf, OpensOneAs}}
-use Rattle.desk_pages.specs.{claim.Desks.{HoldsDeskOf, IsMapOf, InPagesOf, InPages, OpensDesk, OpensDeskOf}, declared.error.StoreError.StoreError}
-use Rattle.{desk_pages.specs.declared.error.StoreError.TheVariants.{NotAStore, DeviceFault, Memory, OldVersion}, desk_store.specs.Finding.{FindErr, OldErr}}
-use Rattle.desk_store.specs.{Openings.{DiskRefused, IsOldStore, IsFound, OpenRefused}, claim.Clerks.{desk_of, disk_of, pages_of, sectors_of, Keeps}, declared.clerk.Clerk.Clerk}
-use Rattle.{desk_store.specs.claim.Keeping.{IsLeft, OpensOneMore}, page_btree.specs.gets.{claim.Map.{InPages as HasRows, InTxn as TxnHas}, declared.error.TreeError.TreeError}}
-use Rattle.page_store.specs.{Transactions.OpenErr, claim.{Chain.{root_in, free_in}, Transactions.{stored, disk_in, count_of, journal_of, has_halted, IsQuiet, IsKept, Passed}}}
-use Rattle.page_store.specs.{declared.{pages.Pages.Pages, txn.Txn.Txn}, gate_journal.{Recovery.{AllStores, HasRoom, Found, ReadsAs}, claim.Store.pages}}
-use Rattle.{page_store.specs.gate_journal.declared.error.PageError.PageError, plan_revisions.specs.desk_pages.Reading.ReadErr as RowErr, store_rows.specs.claim.Tidy.version_row}
-use Rattle.{sector_device.specs.{claim.{Disk.{Disk, Image}, Moments.LeavesOnly}, declared.SectorDevice.Ghosts}, store_rows.specs.claim.Keys.{version, in_four}}
-use Rattle.{store_rows.specs.claim.Rows.{KeyMap, row_in, Has, Lacks}, desk_opening.proofs.WholeDesks.unread_unopened, desk_store.proofs.Kept.kept_opens}
-use Rattle.desk_pages.proofs.Found.{all_versions, stores_of, open_leaves, open_versions, page_stores_of, found_desk, found_after, pages_left, rows_before}
-use Rattle.{desk_store.proofs.Prepared.{IsBegun, begun_reads, begun_rows, still_held}, page_store.proofs.Stops.{kept_quiet, leaves_quiet, passed_none}}
-use Rattle.store_rows.proofs.OneGeography.{no_value}
-use Rattle.desk_opening.proofs.chunk_table.Committing.{both}
+use Rattle.desk_store.specs.{Finding.{FindErr, OldErr}, Openings.{DiskRefused, IsOldStore, IsFound, OpenRefused}, claim.Clerks.{desk_of, disk_of, pages_of, sectors_of, Keeps}}
+use Rattle.{desk_store.specs.{claim.Keeping.{IsLeft, OpensOneMore}, declared.clerk.Clerk.Clerk}, desk_store_opening.specs.Held.{AreOld, GoesOn, HeldErr, IsHeld}}
+use Rattle.desk_store_opening.specs.{Opening.{HasVersion, IsReadFrom, OpenErr as ReadErr}, plan_revisions.desk_store_pages.Reading.ReadErr as RowErr}
+use Rattle.desk_store_pages.specs.{Desks.InPagesAs, Errors.{missing, page_refusal, row_refusal}, Openings.{AllDesks, OpensOneOf}, claim.Openings.{AllVersions, IsOneOf, OpensOneAs}}
+use Rattle.desk_store_pages.specs.{claim.Desks.{HoldsDeskOf, IsMapOf, InPagesOf, InPages, OpensDesk, OpensDeskOf}, declared.error.StoreError.StoreError}
+use Rattle.{desk_store_pages.specs.declared.error.StoreError.TheVariants.{NotAStore, DeviceFault, Memory, OldVersion}, desk_store_rows.specs.claim.Keys.{version, in_four}}
+use Rattle.{desk_store_rows.specs.claim.{Rows.{KeyMap, row_in, Has, Lacks}, Tidy.version_row}, page_btree.specs.gets.claim.Map.{InPages as HasRows, InTxn as TxnHas}}
+use Rattle.{page_btree.specs.gets.declared.error.TreeError.TreeError, page_store.specs.{Transactions.OpenErr, claim.Chain.{root_in, free_in}, declared.pages.Pages.Pages}}
+use Rattle.page_store.specs.{claim.Transactions.{stored, disk_in, count_of, journal_of, has_halted, IsQuiet, IsKept, Passed}, declared.txn.Txn.Txn, gate_journal.claim.Store.pages}
+use Rattle.{page_store.specs.gate_journal.{Recovery.{AllStores, HasRoom, Found, ReadsAs}, declared.error.PageError.PageError}, sector_device.specs.claim.Disk.{Disk, Image}}
+use Rattle.{sector_device.specs.{claim.Moments.LeavesOnly, declared.SectorDevice.Ghosts}, desk_store.proofs.Kept.kept_opens, desk_store_opening.proofs.WholeDesks.unread_unopened}
+use Rattle.{desk_store.proofs.Prepared.{IsBegun, begun_reads, begun_rows, still_held}, desk_store_rows.proofs.OneGeography.no_value}
+use Rattle.desk_store_pages.proofs.Found.{all_versions, stores_of, open_leaves, open_versions, page_stores_of, found_desk, found_after, pages_left, rows_before}
+use Rattle.page_store.proofs.Stops.{kept_quiet, leaves_quiet, passed_none}
+use Rattle.desk_store_opening.proofs.chunk_table.Committing.{both}
 use Rattle.page_store.specs.gate_journal.declared.error.PageError.TheVariants as page
 use Rattle.page_btree.specs.gets.declared.error.TreeError.TheVariants as tree
 

@@ -1,17 +1,18 @@
 -- A command whose pages are made ready.
 use Rattle.{std.proofs.Common.{rules, ◌≡◌, ◌⊎◌, ◌≤◌, ◌+◌, ℕ, Bool, true, false, List, length, inl, inr, refl, sym, ap, subst, ◌∙◌, arith}, desk_model.specs.claim.Desk.Desk}
-use Rattle.{desk_catalogue.specs.claim.Accepting.IsAfter, desk_model.specs.{claim.{Outcome.{IsFull, RefusalMay}, Room.{need, command_rows}}, declared.command.Command.Command}}
-use Rattle.{desk_pages.specs.claim.{Commits.HoldsAfter, Desks.{HoldsDeskOf, InPages, InPagesOf, InTxn, InTxnOf}}, desk_store.specs.Faults.{is_fault, refusal_of}}
+use Rattle.{desk_model.specs.{claim.{Outcome.{IsFull, RefusalMay}, Room.{need, command_rows}}, declared.command.Command.Command}, desk_store.specs.Faults.{is_fault, refusal_of}}
 use Rattle.desk_store.specs.claim.{Clerks.{desk_of, disk_of, pages_of, room_of, Keeps, Reads}, Commands.{command_of, after_of, written_of, IsReady, HasRoom, MustBeFull, MayBeFull}}
-use Rattle.{desk_store.{specs.declared.{clerk.Clerk.Clerk, ready.Ready.Ready}, proofs.Kept.accepted_is}, page_btree.specs.gets.claim.Map.{InTxn as TxnHas, InPages as HoldsRows}}
-use Rattle.{page_btree.specs.gets.declared.error.TreeError.{TreeError, TheVariants.{DeviceFault, NotAStore, Halted, NoPages, TooDeep, Memory}}, store_rows.specs.claim.Rows.KeyMap}
-use Rattle.page_store.{specs.{Transactions.txn_first, claim.Chain.{free_in, root_in}, declared.{pages.Pages.Pages, txn.{Prepared.Prepared, Txn.Txn}}}, proofs.Chains.length_chain}
+use Rattle.{desk_store.specs.declared.{clerk.Clerk.Clerk, ready.Ready.Ready}, desk_store_catalogue.specs.claim.Accepting.IsAfter, desk_store_pages.specs.claim.Commits.HoldsAfter}
+use Rattle.{desk_store_opening.specs.plan_revisions.claim.{Outcomes.HasExhausted, Rows.HasNumbers, Steps.{HasStepped, LeavesNumbers, StepErr}}, desk_store.proofs.Kept.accepted_is}
+use Rattle.{desk_store_pages.specs.claim.Desks.{HoldsDeskOf, InPages, InPagesOf, InTxn, InTxnOf}, desk_store_rows.specs.claim.Rows.KeyMap, page_store.specs.Transactions.txn_first}
+use Rattle.{page_btree.specs.gets.{claim.Map.{InTxn as TxnHas, InPages as HoldsRows}, declared.error.TreeError.TreeError}, page_store.specs.claim.Chain.{free_in, root_in}}
+use Rattle.{page_btree.specs.gets.declared.error.TreeError.TheVariants.{DeviceFault, NotAStore, Halted, NoPages, TooDeep, Memory}, page_store.specs.declared.pages.Pages.Pages}
 use Rattle.page_store.specs.claim.Transactions.{stored, disk_in, count_of, has_halted, txn_pages, txn_writes, txn_free, txn_root, over, free_over, prepared_pages, prepared_writes, after, IsQuiet}
-use Rattle.{plan_revisions.specs.claim.{Outcomes.HasExhausted, Rows.HasNumbers, Steps.{HasStepped, LeavesNumbers, StepErr}}, sector_device.specs.claim.Disk.Image}
-use Rattle.{sector_device.specs.declared.SectorDevice.Ghosts, desk_pages.proofs.{DeskLaws.begun_desk, Found.rows_before, Nearness.near_stored}}
-use Rattle.plan_revisions.proofs.Accepted.{rows_some, geography_stays}
+use Rattle.{page_store.{specs.declared.txn.{Prepared.Prepared, Txn.Txn}, proofs.Chains.length_chain}, sector_device.specs.{claim.Disk.Image, declared.SectorDevice.Ghosts}}
+use Rattle.desk_store_pages.proofs.{DeskLaws.begun_desk, Found.rows_before, Nearness.near_stored}
+use Rattle.desk_store_opening.proofs.plan_revisions.Accepted.{rows_some, geography_stays}
 use Rattle.page_btree.proofs.gets.MapLaws.{begun_holds}
-use Rattle.desk_opening.proofs.chunk_table.Committing.{both}
+use Rattle.desk_store_opening.proofs.chunk_table.Committing.{both}
 
 -- the pages of a prepared transaction, which read what the one before reads with the command's rows
 pub record IsReadied (t : Txn) (made : Prepared) : Type 0 where

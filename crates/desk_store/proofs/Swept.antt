@@ -1,15 +1,16 @@
 -- Sweeps at a clerk.
 use Rattle.std.proofs.Common.{rules, ◌≡◌, ◌⊎◌, ◌<◌, ◌≤◌, ◌^◌, ℕ, Err, zero, suc, Bool, true, false, List, [], ◌∷◌, Option, Some, ⊎_elim, refl, sym, ap, subst, ◌∙◌, arith}
-use Rattle.{desk_model.specs.claim.{Desk.Desk, Geography.GeographyModel}, desk_pages.specs.{claim.Desks.{IsDeskMap, InPages}, declared.error.StoreError.StoreError}}
-use Rattle.{desk_pages.specs.declared.error.StoreError.TheVariants.{Memory, NotAStore, Halted}, desk_store.specs.{Calls.SweepsSome, Failures.is_failure, Loads.{Stages, IsLast}}}
+use Rattle.{desk_model.specs.claim.{Desk.Desk, Geography.GeographyModel}, desk_store.specs.{Calls.SweepsSome, Failures.is_failure, Loads.{Stages, IsLast}}}
 use Rattle.desk_store.specs.{Sweeps.{HasRows, HasSwept, Maintains, SweepRefused}, claim.Clerks.{desk_of, disk_of, free_of, pages_of, HaltsByDevice, Keeps, Reads, Moves}}
-use Rattle.{desk_store.specs.declared.clerk.Clerk.Clerk, geo_tables.specs.{Loading.{HoldsLoad, number_of, geography_model_of, done_of}, declared.load.Load.Load}}
-use Rattle.{page_btree.specs.gets.claim.Map.InPages as HoldsRows, page_store.specs.{claim.Transactions.{disk_in, has_halted, IsQuiet}, declared.pages.Pages.Pages}}
-use Rattle.{plan_revisions.specs.sweeps.{Leftovers.{IsOfLoad, IsApart, AreNotSpared, IsSweptBy}, Sweeping.{SweepErr, Sweeps}}, sector_device.specs.declared.SectorDevice.Ghosts}
-use Rattle.store_rows.specs.{Holders.released, Rows.SameTag, TurnLaws.{Turn, goes, lets_go, IsUnneeded, CanTurn, turned, take_turns, AreTurns}, claim.GeographyRows.IsStaged}
-use Rattle.{store_rows.specs.claim.{Keys.{RowKey, key_of, Fits, begun, seal, block, pair, in_eight}, Rows.{KeyMap, row_in}}, desk_store.proofs.Done.{quiet_device, reads_move}}
-use Rattle.store_rows.proofs.{Frames.{remove_keeps, put_keeps_tag, remove_keeps_tag, tag_follows}, RowLaws.keys_differ}
-use Rattle.desk_opening.proofs.chunk_table.Committing.{both, quiet_rows}
+use Rattle.{desk_store.specs.declared.clerk.Clerk.Clerk, desk_store_opening.specs.geo_tables.{Loading.{HoldsLoad, number_of, geography_model_of, done_of}, declared.load.Load.Load}}
+use Rattle.desk_store_opening.specs.plan_revisions.sweeps.{Leftovers.{IsOfLoad, IsApart, AreNotSpared, IsSweptBy}, Sweeping.{SweepErr, Sweeps}}
+use Rattle.desk_store_pages.specs.{claim.Desks.{IsDeskMap, InPages}, declared.error.StoreError.{StoreError, TheVariants.{Memory, NotAStore, Halted}}}
+use Rattle.desk_store_rows.specs.{Holders.released, Rows.SameTag, TurnLaws.{Turn, goes, lets_go, IsUnneeded, CanTurn, turned, take_turns, AreTurns}, claim.GeographyRows.IsStaged}
+use Rattle.{desk_store_rows.specs.claim.{Keys.{RowKey, key_of, Fits, begun, seal, block, pair, in_eight}, Rows.{KeyMap, row_in}}, page_store.specs.declared.pages.Pages.Pages}
+use Rattle.{page_btree.specs.gets.claim.Map.InPages as HoldsRows, page_store.specs.claim.Transactions.{disk_in, has_halted, IsQuiet}, desk_store_rows.proofs.RowLaws.keys_differ}
+use Rattle.{sector_device.specs.declared.SectorDevice.Ghosts, desk_store.proofs.Done.{quiet_device, reads_move}}
+use Rattle.desk_store_rows.proofs.Frames.{remove_keeps, put_keeps_tag, remove_keeps_tag, tag_follows}
+use Rattle.desk_store_opening.proofs.chunk_table.Committing.{both, quiet_rows}
 
 -- ---- turns leave the rows of a load
 -- a plan that lets a chunk go leaves the rows with other tags

@@ -1,12 +1,12 @@
 -- What calls of a clerk leave, each in one relation.
 use Rattle.std.specs.Prelude.{◌≡◌, false, OnOk, IfOk, IfErr, ◌≢◌, ◌≤◌, None, Result, ◌+◌, OnErr, ℕ, ◌↔◌}
-use Rattle.desk_pages.specs.{Openings.{IsSpared, LeavesOneOf}, claim.Openings.{AllVersions, IsOneOf, LeavesOneAs}, declared.error.StoreError.StoreError}
-use Rattle.{desk_pages.specs.declared.error.StoreError.TheVariants.{DeviceFault, NotAStore}, desk_store.specs.{Keeping.sealed_desk, Openings.{IsFound, OpenRefused}}}
-use Rattle.desk_store.specs.{Loads.{Loads, Stages, IsLast, BatchRefused, SealRefused}, Sweeps.{HasRows, IsClean, HasSwept, Maintains}, claim.Openings.device_after}
-use Rattle.desk_store.specs.{claim.Clerks.{desk_of, disk_of, is_halted, sectors_of, Keeps, pages_of, MovesIf, free_of, HaltsByDevice}, declared.clerk.Clerk.Clerk}
-use Rattle.{geo_tables.specs.{Loading.{IsFurther, geography_model_of, done_of}, declared.load.Load.Load}, page_btree.specs.gets.claim.Map.InPages as HoldsRows}
-use Rattle.{page_store.specs.claim.Transactions.IsQuiet, plan_revisions.specs.sweeps.claim.Checks.AreSoundHoldings, sector_device.specs.declared.SectorDevice.Ghosts}
-use Rattle.store_rows.specs.claim.{GeographyRows.geography_rows, Rows.KeyMap}
+use Rattle.desk_store.specs.{Keeping.sealed_desk, Loads.{Loads, Stages, IsLast, BatchRefused, SealRefused}, Openings.{IsFound, OpenRefused}, claim.Openings.device_after}
+use Rattle.{desk_store.specs.{Sweeps.{HasRows, IsClean, HasSwept, Maintains}, declared.clerk.Clerk.Clerk}, desk_store_opening.specs.geo_tables.declared.load.Load.Load}
+use Rattle.{desk_store.specs.claim.Clerks.{desk_of, disk_of, is_halted, sectors_of, Keeps, pages_of, MovesIf, free_of, HaltsByDevice}, desk_store_rows.specs.claim.Rows.KeyMap}
+use Rattle.desk_store_opening.specs.{geo_tables.Loading.{IsFurther, geography_model_of, done_of}, plan_revisions.sweeps.claim.Checks.AreSoundHoldings}
+use Rattle.desk_store_pages.specs.{Openings.{IsSpared, LeavesOneOf}, claim.Openings.{AllVersions, IsOneOf, LeavesOneAs}, declared.error.StoreError.StoreError}
+use Rattle.{desk_store_pages.specs.declared.error.StoreError.TheVariants.{DeviceFault, NotAStore}, desk_store_rows.specs.claim.GeographyRows.geography_rows}
+use Rattle.{page_btree.specs.gets.claim.Map.InPages as HoldsRows, page_store.specs.claim.Transactions.IsQuiet, sector_device.specs.declared.SectorDevice.Ghosts}
 
 -- a clerk is opened over a desk that the device holds, or the device comes back; a stop leaves a desk that was there
 pub record OpensClerk {D : Type 0} (g : Ghosts D) (device : D) (result : Result (Clerk D g) (StoreError × D)) : Type 0 where

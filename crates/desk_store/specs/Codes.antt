@@ -1,6 +1,6 @@
 -- How what a clerk made is told apart.
-use Rattle.{std.specs.{Coded.{Coded, code_by, coded×}, Prelude.refl}, desk_catalogue.specs.Codes.coded_desk, desk_model.specs.{claim.Desk.Desk, declared.command.Command.Command}}
-use Rattle.desk_store.specs.Changes.{Made}
+use Rattle.{std.specs.{Coded.{Coded, code_by, coded×}, Prelude.refl}, desk_model.specs.{claim.Desk.Desk, declared.command.Command.Command}, desk_store.specs.Changes.Made}
+use Rattle.desk_store_catalogue.specs.Codes.{coded_desk}
 use Rattle.desk_model.specs.contracts.command.Command as command
 
 abbrev pub coded_made : Coded Made

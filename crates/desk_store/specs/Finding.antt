@@ -1,7 +1,7 @@
 -- Why no desk of the new version is found in pages.
 use Rattle.std.specs.Prelude.{◌≡◌, ◌⊎◌, Bool, true}
-use Rattle.{desk_model.specs.claim.Desk.Desk, desk_opening.specs.Held.{AreOld, GoesOn, IsHeld}, desk_pages.specs.{Desks.InPagesAs, declared.error.StoreError.StoreError}}
-use Rattle.{desk_pages.specs.declared.error.StoreError.TheVariants.{NotAStore, DeviceFault, Memory, OldVersion}, page_store.specs.declared.pages.Pages.Pages}
+use Rattle.{desk_model.specs.claim.Desk.Desk, desk_store_opening.specs.Held.{AreOld, GoesOn, IsHeld}, desk_store_pages.specs.Desks.InPagesAs}
+use Rattle.{desk_store_pages.specs.declared.error.StoreError.{StoreError, TheVariants.{NotAStore, DeviceFault, Memory, OldVersion}}, page_store.specs.declared.pages.Pages.Pages}
 use Rattle.{page_store.specs.claim.Transactions.{stored, disk_in, count_of, has_halted}, sector_device.specs.declared.SectorDevice.Ghosts}
 
 -- the pages hold no desk, the device failed, a growth was refused, or they hold rows of which none tells a version

@@ -10,6 +10,6 @@ pub mod Sweeps
 pub mod Openings
 pub mod Calls
 pub mod Depth
-pub use Rattle.geo_tables.specs as geo_tables
-pub use Rattle.plan_revisions.specs.sweeps as plan_revisions_sweeps
-pub use Rattle.desk_opening.specs as desk_opening
+pub use Rattle.desk_store_opening.specs.geo_tables as geo_tables
+pub use Rattle.desk_store_opening.specs.plan_revisions.sweeps as plan_revisions_sweeps
+pub use Rattle.desk_store_opening.specs as desk_store_opening

@@ -1,8 +1,8 @@
 -- Loads at a clerk.
 use Rattle.std.specs.Prelude.{◌≡◌, ℕ, Bool, true, false, Some, None, Result, OnOk, OnErr}
-use Rattle.{desk_model.specs.claim.Geography.GeographyModel, desk_pages.specs.declared.error.StoreError.StoreError, desk_store.specs.declared.clerk.Clerk.Clerk}
-use Rattle.{desk_pages.specs.declared.error.StoreError.TheVariants.{AlreadySealed, Full, Memory, NotAStore, Halted, Ended}, geo_tables.specs.Loading.{HoldsLoad, number_of}}
-use Rattle.{desk_store.specs.claim.Clerks.{desk_of, disk_of, pages_of, Keeps}, geo_tables.specs.{Refusals.{BeginErr, BatchErr, SealErr}, declared.load.Load.Load}}
+use Rattle.{desk_model.specs.claim.Geography.GeographyModel, desk_store.specs.{claim.Clerks.{desk_of, disk_of, pages_of, Keeps}, declared.clerk.Clerk.Clerk}}
+use Rattle.desk_store_opening.specs.geo_tables.{Loading.{HoldsLoad, number_of}, Refusals.{BeginErr, BatchErr, SealErr}, declared.load.Load.Load}
+use Rattle.desk_store_pages.specs.declared.error.StoreError.{StoreError, TheVariants.{AlreadySealed, Full, Memory, NotAStore, Halted, Ended}}
 use Rattle.{page_store.specs.{claim.Transactions.{disk_in, has_halted, IsQuiet}, declared.pages.Pages.Pages}, sector_device.specs.declared.SectorDevice.Ghosts}
 
 module _ {D : Type 0} {g : Ghosts D} where

@@ -1,10 +1,10 @@
 -- What no promise rests on, beside claim/Openings.antt.
 use Rattle.std.specs.Prelude.{◌≡◌, ◌<◌, ℕ}
-use Rattle.{desk_model.specs.claim.Desk.Desk, desk_opening.specs.{Held.AreOld, Opening.IsReadFrom}, desk_pages.specs.{Openings.{AllDesks, HasPages}, claim.Desks.InPages}}
-use Rattle.desk_pages.specs.{claim.Openings.AllVersions, declared.error.StoreError.{StoreError, TheVariants.{NotAStore, DeviceFault, Memory, OldVersion}}}
-use Rattle.{desk_store.specs.{claim.Clerks.{desk_of, disk_of, pages_of}, declared.clerk.Clerk.Clerk}, page_btree.specs.gets.claim.Map.InPages as HasRows}
-use Rattle.{page_store.specs.{claim.Transactions.{count_of, journal_of}, gate_journal.{Recovery.Found, claim.Store.pages}}, sector_device.specs.claim.Disk.Disk}
-use Rattle.{sector_device.specs.declared.SectorDevice.Ghosts, store_rows.specs.claim.{Keys.{version, in_four}, Rows.{KeyMap, Has}}}
+use Rattle.{desk_model.specs.claim.Desk.Desk, desk_store.specs.{claim.Clerks.{desk_of, disk_of, pages_of}, declared.clerk.Clerk.Clerk}, desk_store_opening.specs.Held.AreOld}
+use Rattle.{desk_store_opening.specs.Opening.IsReadFrom, desk_store_pages.specs.{Openings.{AllDesks, HasPages}, claim.{Desks.InPages, Openings.AllVersions}}}
+use Rattle.{desk_store_pages.specs.declared.error.StoreError.{StoreError, TheVariants.{NotAStore, DeviceFault, Memory, OldVersion}}, desk_store_rows.specs.claim.Rows.{KeyMap, Has}}
+use Rattle.{desk_store_rows.specs.claim.Keys.{version, in_four}, page_btree.specs.gets.claim.Map.InPages as HasRows, page_store.specs.claim.Transactions.{count_of, journal_of}}
+use Rattle.{page_store.specs.gate_journal.{Recovery.Found, claim.Store.pages}, sector_device.specs.{claim.Disk.Disk, declared.SectorDevice.Ghosts}}
 
 -- The pages of a store that was there, as they were. They hold rows, or their list of free pages goes on where it is to end; and the
 -- rows that they hold tell no version.

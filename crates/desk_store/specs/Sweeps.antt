@@ -1,9 +1,10 @@
 -- Sweeps at a clerk.
 use Rattle.std.specs.Prelude.{◌≡◌, ◌<◌, ℕ, Bool, true, false, Result, OnOk, IfErr}
-use Rattle.desk_pages.specs.{claim.Desks.{IsDeskMap, InPages}, declared.error.StoreError.{StoreError, TheVariants.{Memory, NotAStore, DeviceFault, Halted}}}
-use Rattle.{desk_store.specs.{claim.Clerks.{desk_of, pages_of, Moves}, declared.clerk.Clerk.Clerk}, page_btree.specs.gets.claim.Map.InPages as HoldsRows}
-use Rattle.{page_store.specs.{claim.Transactions.{disk_in, IsQuiet}, declared.pages.Pages.Pages}, plan_revisions.specs.sweeps.Leftovers.{IsSweptBy, IsSweptClean}}
-use Rattle.{sector_device.specs.declared.SectorDevice.Ghosts, store_rows.specs.claim.Rows.KeyMap}
+use Rattle.{desk_store.specs.{claim.Clerks.{desk_of, pages_of, Moves}, declared.clerk.Clerk.Clerk}, desk_store_pages.specs.claim.Desks.{IsDeskMap, InPages}}
+use Rattle.{desk_store_opening.specs.plan_revisions.sweeps.Leftovers.{IsSweptBy, IsSweptClean}, desk_store_pages.specs.declared.error.StoreError.StoreError}
+use Rattle.{desk_store_pages.specs.declared.error.StoreError.TheVariants.{Memory, NotAStore, DeviceFault, Halted}, desk_store_rows.specs.claim.Rows.KeyMap}
+use Rattle.{page_btree.specs.gets.claim.Map.InPages as HoldsRows, page_store.specs.{claim.Transactions.{disk_in, IsQuiet}, declared.pages.Pages.Pages}}
+use Rattle.sector_device.specs.declared.SectorDevice.{Ghosts}
 
 module _ {D : Type 0} {g : Ghosts D} where
   -- the store holds these rows, which are those of the desk that is shown

@@ -1,8 +1,8 @@
 //! A change of the desk, as it is shown.
 ghost use Rattle.std.specs.Prelude.{◌≡◌, IfOk};
 
-use desk_catalogue::catalogue::Catalogue;
 use desk_model::command::Command;
+use desk_store_catalogue::catalogue::Catalogue;
 use std::alloc::AllocError;
 use std::marker::Model;
 use std::sync::Arc;

@@ -2,9 +2,9 @@
 ghost use Rattle.std.specs.Prelude.{◌≡◌, false};
 ghost use Rattle.page_store.specs.claim.Transactions.{has_halted};
 
-use desk_catalogue::catalogue::Catalogue;
 use desk_model::command::Query;
 use desk_model::reply::Reply;
+use desk_store_catalogue::catalogue::Catalogue;
 use page_store::Pages;
 use sector_device::SectorDevice;
 use std::alloc::{AllocError, Global};
@@ -24,7 +24,7 @@ pub struct Clerk<D: SectorDevice> {
 
 impl<D: SectorDevice> Clerk<D> {
     ghost use Rattle.std.specs.Prelude.{◌≡◌, false, IfOk};
-    ghost use Rattle.desk_catalogue.specs.claim.Audits.{AskMay};
+    ghost use Rattle.desk_store_catalogue.specs.claim.Audits.{AskMay};
     ghost use Rattle.desk_store.specs.claim.Clerks.{desk_of, disk_of, free_of, is_halted, pages_of, room_of};
     ghost use Rattle.page_store.specs.claim.Transactions.{device_in, has_halted};
 

@@ -1,13 +1,13 @@
 //! The clerk as a counter, alone with the desk.
 ghost use Rattle.std.specs.Prelude.{◌≡◌};
-ghost use Rattle.desk_catalogue.specs.claim.Audits.{AskMay};
+ghost use Rattle.desk_store_catalogue.specs.claim.Audits.{AskMay};
 ghost use Rattle.desk_store.specs.claim.Clerks.{desk_of};
 ghost use Rattle.desk_store.specs.claim.Commands.{Does};
 
 use crate::clerk::Clerk;
-use desk_catalogue::counter::Counter;
 use desk_model::command::{Command, Query};
 use desk_model::reply::Reply;
+use desk_store_catalogue::counter::Counter;
 use sector_device::SectorDevice;
 use std::alloc::Global;
 

@@ -3,7 +3,7 @@ ghost use Rattle.std.specs.Prelude.{◌≡◌, ◌⊎◌, true, false};
 ghost use Rattle.page_store.specs.claim.Transactions.{has_halted};
 ghost use Rattle.desk_store.specs.Failures.{is_failure};
 
-use desk_pages::StoreError;
+use desk_store_pages::StoreError;
 use page_store::Pages;
 use sector_device::SectorDevice;
 

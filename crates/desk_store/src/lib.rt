@@ -51,9 +51,7 @@ mod sweeps;
 
 pub use change::Change;
 pub use clerk::Clerk;
-pub use desk_catalogue::catalogue::Catalogue;
-pub use desk_opening::{is_new, read_desk};
-pub use desk_pages::{StoreError, format};
-pub use geo_tables::{BATCH_ROWS, Load, geography};
-pub use plan_revisions::check_holdings;
+pub use desk_store_catalogue::catalogue::Catalogue;
+pub use desk_store_opening::{BATCH_ROWS, Load, check_holdings, geography, is_new, read_desk};
+pub use desk_store_pages::{StoreError, format};
 pub use ready::Ready;

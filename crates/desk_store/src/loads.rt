@@ -4,16 +4,16 @@ use crate::clerk::Clerk;
 use crate::failures::has_failed;
 use crate::shown::sealed;
 use desk_model::geography::Geography;
-use desk_pages::StoreError;
-use geo_tables::Load;
+use desk_store_opening::Load;
+use desk_store_pages::StoreError;
 use sector_device::SectorDevice;
 use std::alloc::Global;
 use std::sync::Arc;
 
 impl<D: SectorDevice> Clerk<D> {
     ghost use Rattle.std.specs.Prelude.{◌≡◌, ◌≤◌, ◌+◌, false, None, OnOk, OnErr, IfOk, IfErr};
-    ghost use Rattle.store_rows.specs.claim.GeographyRows.{geography_rows};
-    ghost use Rattle.geo_tables.specs.Loading.{geography_model_of, done_of};
+    ghost use Rattle.desk_store_rows.specs.claim.GeographyRows.{geography_rows};
+    ghost use Rattle.desk_store_opening.specs.geo_tables.Loading.{geography_model_of, done_of};
     ghost use Rattle.desk_store.specs.claim.Clerks.{desk_of, pages_of, Keeps, Moves};
     ghost use Rattle.desk_store.specs.Calls.{LoadsBatch, SealsLoad};
     ghost use Rattle.desk_store.specs.Loads.{Loads, Stages, IsLast, EndRefused, BeginRefused};
@@ -40,7 +40,7 @@ impl<D: SectorDevice> Clerk<D> {
         if self.halted {
             return Err(StoreError::Halted);
         }
-        match geo_tables::begin_load(alloc, &mut self.pages, geography) {
+        match desk_store_opening::begin_load(alloc, &mut self.pages, geography) {
             Ok(load) => {
                 self.loading = Some(load.number());
                 Ok(load)
@@ -88,7 +88,7 @@ impl<D: SectorDevice> Clerk<D> {
         if let Err(e) = self.may_go_on(load) {
             return Err(e);
         }
-        match geo_tables::load_batch(alloc, &mut self.pages, load, rows) {
+        match desk_store_opening::load_batch(alloc, &mut self.pages, load, rows) {
             Ok(left) => Ok(left),
             Err(e) => {
                 if has_failed(e, &self.pages) {
@@ -111,7 +111,7 @@ impl<D: SectorDevice> Clerk<D> {
         let Ok(shown) = sealed(alloc, load.geography()) else {
             return Err((StoreError::Memory, load));
         };
-        match geo_tables::seal(alloc, &mut self.pages, load) {
+        match desk_store_opening::seal(alloc, &mut self.pages, load) {
             Ok(()) => {
                 self.catalogue = shown;
                 Ok(())

@@ -4,24 +4,24 @@ ghost use Rattle.page_store.specs.claim.Transactions.{disk_in, has_halted, IsQui
 ghost use Rattle.page_store.specs.Reading.{ReadsOnly};
 ghost use Rattle.desk_model.specs.claim.Desk.{Desk};
 ghost use Rattle.page_btree.specs.gets.claim.Map.{InPages as HasRows};
-ghost use Rattle.store_rows.specs.claim.Keys.{version, in_four};
-ghost use Rattle.store_rows.specs.claim.Rows.{KeyMap, Has};
-ghost use Rattle.desk_opening.specs.Opening.{IsReadFrom};
-ghost use Rattle.desk_pages.specs.Desks.{InPagesAs};
-ghost use Rattle.desk_pages.specs.Errors.{IsCalm};
+ghost use Rattle.desk_store_rows.specs.claim.Keys.{version, in_four};
+ghost use Rattle.desk_store_rows.specs.claim.Rows.{KeyMap, Has};
+ghost use Rattle.desk_store_opening.specs.Opening.{IsReadFrom};
+ghost use Rattle.desk_store_pages.specs.Desks.{InPagesAs};
+ghost use Rattle.desk_store_pages.specs.Errors.{IsCalm};
 ghost use Rattle.desk_store.specs.Finding.{FindErr, OldErr};
 
 use crate::clerk::Clerk;
-use desk_catalogue::catalogue::Catalogue;
-use desk_opening::{check_held, is_new, read_desk};
-use desk_pages::{StoreError, row_error};
+use desk_store_catalogue::catalogue::Catalogue;
+use desk_store_opening::{check_held, is_new, read_desk};
+use desk_store_pages::{StoreError, row_error};
 use page_store::Pages;
 use sector_device::SectorDevice;
 use std::alloc::Global;
 use std::sync::Arc;
 
 /// Returns why pages whose rows tell no version are refused: `OldVersion` only if they hold rows.
-#[tactic(auto, using(crate::proofs::Opened::none_held, desk_pages::proofs::Refusals::calm_told))]
+#[tactic(auto, using(crate::proofs::Opened::none_held, desk_store_pages::proofs::Refusals::calm_told))]
 fn refusal_of_old<D: SectorDevice>(alloc: Global, pages: &mut Pages<D>) -> StoreError
     requires working { has_halted pages.old ≡ false }
     ensures quiet { IsQuiet pages.old pages.new }

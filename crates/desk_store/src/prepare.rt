@@ -2,8 +2,8 @@
 ghost use Rattle.std.specs.Prelude.{◌≡◌, ◌≤◌, ◌*◌, ◌⊎◌, ◌↔◌, IsTrue, false, true, IfOk, IfErr};
 ghost use Rattle.desk_model.specs.Ranges.{ranges_in};
 ghost use Rattle.desk_model.specs.claim.Room.{command_rows as rows_of_command};
-ghost use Rattle.desk_catalogue.specs.claim.Accepting.{IsAfter};
-ghost use Rattle.desk_catalogue.specs.Drafts.{changes_of};
+ghost use Rattle.desk_store_catalogue.specs.claim.Accepting.{IsAfter};
+ghost use Rattle.desk_store_catalogue.specs.Drafts.{changes_of};
 ghost use Rattle.page_btree.specs.gets.declared.error.TreeError.TheVariants.{DeviceFault, Halted};
 ghost use Rattle.desk_store.specs.claim.Clerks.{desk_of, disk_of, Reads};
 ghost use Rattle.desk_store.specs.claim.Commands.{command_of, IsReady, HasRoom, LacksRoom, MustBeFull, PrepareErr, Does};
@@ -11,11 +11,11 @@ ghost use Rattle.desk_store.specs.Faults.{is_fault as is_fault_of, refusal_of as
 
 use crate::clerk::Clerk;
 use crate::ready::Ready;
-use desk_catalogue::catalogue::{Catalogue, Draft};
 use desk_model::command::Command;
 use desk_model::reply::{Refusal, Reply};
+use desk_store_catalogue::catalogue::{Catalogue, Draft};
+use desk_store_opening::{ChangeOutcome, ROW_PAGES, TreeError, command_rows, put_command};
 use page_store::Prepared;
-use plan_revisions::{ChangeOutcome, ROW_PAGES, TreeError, command_rows, put_command};
 use sector_device::SectorDevice;
 use std::alloc::Global;
 use std::sync::Arc;
@@ -130,7 +130,7 @@ impl<D: SectorDevice> Clerk<D> {
                 return Err(refusal_of(e));
             }
         }
-        let Ok(prepared) = desk_pages::prepare(txn) else {
+        let Ok(prepared) = desk_store_pages::prepare(txn) else {
             return Err(Refusal::Memory);
         };
         let Ok(after) = Arc::new(alloc, draft.catalogue) else {

@@ -1,13 +1,13 @@
 //! Commands that are ready to be committed.
 ghost use Rattle.std.specs.Prelude.{◌≡◌, ◌≤◌};
 ghost use Rattle.desk_model.specs.claim.Step.{revision_limit};
-ghost use Rattle.desk_catalogue.specs.claim.Accepting.{revisions_after};
+ghost use Rattle.desk_store_catalogue.specs.claim.Accepting.{revisions_after};
 
 use crate::change::Change;
 use crate::clerk::Clerk;
-use desk_catalogue::catalogue::Catalogue;
 use desk_model::command::Command;
 use desk_model::reply::{Refusal, Reply};
+use desk_store_catalogue::catalogue::Catalogue;
 use page_store::Prepared;
 use sector_device::SectorDevice;
 use std::alloc::AllocError;
@@ -24,7 +24,7 @@ pub struct Ready {
 
 impl Ready {
     ghost use Rattle.std.specs.Prelude.{◌≡◌, IfOk};
-    ghost use Rattle.desk_catalogue.specs.claim.Accepting.{acceptance};
+    ghost use Rattle.desk_store_catalogue.specs.claim.Accepting.{acceptance};
     ghost use Rattle.desk_store.specs.claim.Commands.{command_of, after_of, IsReady, Commits};
 
     /// What a gallery is given to show. Err where one more owner is refused.
@@ -75,7 +75,7 @@ impl Ready {
             after,
             prepared,
         } = self;
-        match desk_pages::commit(prepared, &mut clerk.pages) {
+        match desk_store_pages::commit(prepared, &mut clerk.pages) {
             Ok(()) => {
                 clerk.catalogue = after;
                 reply

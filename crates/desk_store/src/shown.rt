@@ -2,8 +2,8 @@
 ghost use Rattle.std.specs.Prelude.{◌≡◌, IfOk};
 ghost use Rattle.desk_store.specs.Keeping.{sealed_desk};
 
-use desk_catalogue::catalogue::Catalogue;
 use desk_model::geography::Geography;
+use desk_store_catalogue::catalogue::Catalogue;
 use std::alloc::{AllocError, Global};
 use std::sync::Arc;
 

@@ -3,7 +3,7 @@ ghost use Rattle.std.specs.Prelude.{◌≡◌, ◌<◌, ◌^◌, ℕ, Some};
 
 use crate::clerk::Clerk;
 use crate::failures::has_failed;
-use desk_pages::StoreError;
+use desk_store_pages::StoreError;
 use sector_device::SectorDevice;
 use std::alloc::Global;
 
@@ -33,7 +33,7 @@ impl<D: SectorDevice> Clerk<D> {
             return Err(StoreError::Halted);
         }
         let running = in_range(self.loading);
-        match plan_revisions::sweep_step(alloc, &mut self.pages, running) {
+        match desk_store_opening::sweep_step(alloc, &mut self.pages, running) {
             Ok(count) => Ok(count),
             Err(e) => {
                 if has_failed(e, &self.pages) {
@@ -54,7 +54,7 @@ impl<D: SectorDevice> Clerk<D> {
         if self.halted {
             return Err(StoreError::Halted);
         }
-        match plan_revisions::check_holders(alloc, &mut self.pages) {
+        match desk_store_opening::check_holders(alloc, &mut self.pages) {
             Ok(()) => Ok(()),
             Err(e) => {
                 if has_failed(e, &self.pages) {

@@ -1,8 +1,8 @@
 -- One request in a life.
-use Rattle.{std.proofs.Common.{◌≡◌, false, [], ◌∷◌, inl, refl, arith}, desk_theorem.specs.claim.OneLife.RequestsHold, sector_device.specs.declared.SectorDevice.Ghosts}
-use Rattle.store_lives.specs.{DeskInside.{Answers, LivedThrough, Stands}, claim.DeskLives.Lived, declared.desk_lives.{Answer.Answer, Request.Request}}
-use Rattle.{store_lives.specs.desk_store.{claim.Clerks.{desk_of, disk_of, is_halted, sectors_of, Keeps}, declared.clerk.Clerk.Clerk}, desk_theorem.proofs.Device.through_more}
-use Rattle.{desk_theorem.proofs.OneLife.requests_hold, store_lives.proofs.DeskLiving.{ends, fails_no_less, goes_on, same_sectors, was_honest}}
+use Rattle.{std.proofs.Common.{◌≡◌, false, [], ◌∷◌, inl, refl, arith}, desk_theorem.specs.claim.OneLife.RequestsHold, desk_theorem_lives.specs.claim.DeskLives.Lived}
+use Rattle.desk_theorem_lives.specs.{DeskInside.{Answers, LivedThrough, Stands}, declared.desk_lives.{Answer.Answer, Request.Request}, desk_store.declared.clerk.Clerk.Clerk}
+use Rattle.{desk_theorem_lives.specs.desk_store.claim.Clerks.{desk_of, disk_of, is_halted, sectors_of, Keeps}, sector_device.specs.declared.SectorDevice.Ghosts}
+use Rattle.{desk_theorem.proofs.{Device.through_more, OneLife.requests_hold}, desk_theorem_lives.proofs.DeskLiving.{ends, fails_no_less, goes_on, same_sectors, was_honest}}
 
 module _ {D : Type 0} {g : Ghosts D} (x : Clerk D g) (q : Request) (a : Answer) (y : Clerk D g) where
   one_lived : Answers x q a y → LivedThrough (λ t u d e. Lived t u d (q ∷ []) (a ∷ []) e) x y

@@ -1,8 +1,8 @@
 -- Each audit of a life names exactly the clauses that its subject breaks.
-use Rattle.{std.proofs.Common.{◌≡◌, ℕ, List, [], ◌∷◌, ⊎_elim, sym, subst, ◌∙◌}, desk_catalogue.specs.claim.Audits.{AskMay, IsReportText}, desk_model.specs.claim.Desk.Desk}
-use Rattle.desk_model.specs.{claim.{Outcome.IsAnswer, Step.{Answer as Answered, reports}}, declared.{command.Query.Query, reply.Reply.{Reply, TheVariants.Audited}}}
-use Rattle.{desk_theorem.specs.claim.Clauses.{NamesExactly, AuditIn, AuditsNameExactly}, store_lives.specs.{claim.DeskLives.{Failed, Lived}, declared.desk_lives.Answer.Answer}}
-use Rattle.store_lives.specs.declared.desk_lives.{Answer.TheVariants.Said, Request.{Request, TheVariants.Look}}
+use Rattle.{std.proofs.Common.{◌≡◌, ℕ, List, [], ◌∷◌, ⊎_elim, sym, subst, ◌∙◌}, desk_model.specs.claim.{Desk.Desk, Outcome.IsAnswer, Step.{Answer as Answered, reports}}}
+use Rattle.{desk_model.specs.declared.{command.Query.Query, reply.Reply.{Reply, TheVariants.Audited}}, desk_store_catalogue.specs.claim.Audits.{AskMay, IsReportText}}
+use Rattle.{desk_theorem.specs.claim.Clauses.{NamesExactly, AuditIn, AuditsNameExactly}, desk_theorem_lives.specs.claim.DeskLives.{Failed, Lived}}
+use Rattle.desk_theorem_lives.specs.declared.desk_lives.{Answer.{Answer, TheVariants.Said}, Request.{Request, TheVariants.Look}}
 use Rattle.desk_theorem.proofs.Requests.{Idle, Went, failed_of, rest_of, turn_of, next_is, idle_is}
 
 pub names_exactly : (d : Desk) (q : Query) (r : Reply) → AskMay d q r → NamesExactly d q r

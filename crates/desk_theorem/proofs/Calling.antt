@@ -2,7 +2,7 @@
 use Rattle.std.proofs.{Common.{◌≡◌, ◌⊎◌, inl, inr, ⊎_elim, max, List, [], ◌∷◌, ◌++◌, length, take, map, refl, sym, ap, ◌∙◌, arith}, lemmas.List.{map-set, take_all, take-append-le}}
 use Rattle.{std.proofs.lemmas.Option.slice_get-map, desk_model.specs.{claim.{Desk.Desk, Outcome.IsAcceptance, Step.step}, declared.{command.Command.Command, reply.Reply.Reply}}}
 use Rattle.desk_theorem.specs.{Calls.{IsMoved, CallsLaw}, claim.{Runs.standing, World.{world, move, run}}, declared.event.Event.TheVariants.{Commit, Acknowledge, Show}}
-use Rattle.{http_seats.specs.desk_gallery.{Working.Joins, claim.After.after}, desk_theorem.proofs.{Weaving.{begins_length, commit_moves, show_moves}, Worlds.learnt_to}}
+use Rattle.{http_desk.specs.seats.desk_gallery.{Working.Joins, claim.After.after}, desk_theorem.proofs.{Weaving.{begins_length, commit_moves, show_moves}, Worlds.learnt_to}}
 use mathlib.Core.List.{IsPrefix}
 
 append_moves : (d : Desk) (shown : List Command) (heard : List (List Command)) (c : Command) → IsAcceptance (step (after d shown) c).0

@@ -1,10 +1,10 @@
 -- From what one life makes of whatever was there to what it makes of a store.
 use Rattle.{std.proofs.Common.{◌≡◌, ◌≤◌, ℕ, true, false, refl, sym, subst, arith}, desk_model.specs.claim.Desk.Desk, desk_theorem.specs.claim.OneLife.{Asked, ReadHolds}}
-use Rattle.{desk_pages.specs.claim.Openings.{AllVersions, IsOneOf, LeavesOneAs}, desk_theorem.specs.claim.Device.{HoldsStore, LeadsTo, OnDevice, OpensAs}}
-use Rattle.{sector_device.specs.{claim.Disk.{Disk, Image}, declared.SectorDevice.Ghosts}, store_lives.specs.{DeskInside.LivedThrough, desk_runs.Recovery.ImagesAreOne}}
-use Rattle.store_lives.specs.{VersionInside.{HoldsIn, IsOneIn, LivesIn, OpensIn}, claim.Versions.{Store, Version, version_1, version_2}, desk_store.declared.clerk.Clerk.Clerk}
-use Rattle.{store_lives.specs.desk_store.claim.Clerks.{desk_of, disk_of, is_halted, sectors_of, Keeps}, desk_theorem.proofs.OneLife.read_holds}
-use Rattle.store_lives.proofs.VersionLiving.{clerk_lives, opens_as, stays_lives}
+use Rattle.{desk_store_pages.specs.claim.Openings.{AllVersions, IsOneOf, LeavesOneAs}, desk_theorem.specs.claim.Device.{HoldsStore, LeadsTo, OnDevice, OpensAs}}
+use Rattle.desk_theorem_lives.specs.{DeskInside.LivedThrough, VersionInside.{HoldsIn, IsOneIn, LivesIn, OpensIn}, claim.Versions.{Store, Version, version_1, version_2}}
+use Rattle.{desk_theorem_lives.specs.desk_store.{claim.Clerks.{desk_of, disk_of, is_halted, sectors_of, Keeps}, declared.clerk.Clerk.Clerk}, desk_theorem.proofs.OneLife.read_holds}
+use Rattle.{desk_theorem_lives.specs.desk_theorem_runs.Recovery.ImagesAreOne, sector_device.specs.{claim.Disk.{Disk, Image}, declared.SectorDevice.Ghosts}}
+use Rattle.desk_theorem_lives.proofs.VersionLiving.{clerk_lives, opens_as, stays_lives}
 
 opens_in : (v : Version) (n : ℕ) (d : Desk) (c : Image) → OpensAs v n d c → OpensIn v n d c
 opens_in version_1 n d c opens = opens

@@ -14,4 +14,6 @@ mod Calling
 mod Core
 mod Weaving
 mod Worlds
-pub use Rattle.store_lives.proofs as store_lives
+pub use Rattle.desk_theorem_lives.proofs as lives
+pub use Rattle.desk_theorem_lives.proofs.desk_theorem_runs as runs
+pub use Rattle.desk_theorem_lives.proofs.desk_theorem_loading as loading

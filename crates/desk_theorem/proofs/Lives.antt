@@ -1,6 +1,7 @@
 -- Life after life, by what each was found to hold.
 use Rattle.{std.proofs.Common.{[], ◌∷◌, refl, sym, subst}, desk_theorem.specs.claim.{Device.{HoldsStore, IsStoreAs}, Lives.{LeavesWhatItReads, PlanDesk, LivesOnDevice}}}
-use Rattle.{http_seats.specs.claim.Streams.Traffic, sector_device.specs.{claim.Disk.{Disk, Image}, declared.SectorDevice.Ghosts}, store_lives.specs.claim.Versions.Store}
+use Rattle.{desk_theorem_lives.specs.claim.Versions.Store, http_desk.specs.seats.claim.Streams.Traffic, sector_device.specs.claim.Disk.{Disk, Image}}
+use Rattle.sector_device.specs.declared.SectorDevice.{Ghosts}
 
 -- a synced device that reads as a store holds it
 holds_read : (s : Store) (disk : Disk) → LeavesWhatItReads disk → IsStoreAs disk.sectors s disk.reads → HoldsStore s disk

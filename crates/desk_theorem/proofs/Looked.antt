@@ -1,7 +1,8 @@
 -- A store that was opened, and looked at once more by calls that keep what was there: one life, in which nothing was asked.
-use Rattle.{std.proofs.Common.{◌≡◌, ◌≤◌, ℕ, true, [], refl, sym, subst, subst₂, ◌∙◌, arith}, desk_model.specs.claim.Desk.Desk, desk_pages.specs.Openings.{LeavesOneOf, OpensOneOf}}
-use Rattle.{desk_pages.specs.claim.Desks.OpensDesk, desk_theorem.{specs.claim.{Device.{LeadsTo, OnDevice, OpensAs}, OneLife.{Asked, RequestsHold}}, proofs.OneLife.requests_hold}}
-use Rattle.{sector_device.{specs.claim.Disk.{Disk, Image}, proofs.Moments.leaves_now}, store_lives.{specs.{claim.Versions.{Store, Version, version_2}, desk_runs.Recovery.ImagesAreOne}, proofs.desk_runs.One.few_sectors}}
+use Rattle.{std.proofs.Common.{◌≡◌, ◌≤◌, ℕ, true, [], refl, sym, subst, subst₂, ◌∙◌, arith}, desk_model.specs.claim.Desk.Desk, desk_store_pages.specs.claim.Desks.OpensDesk}
+use Rattle.{desk_store_pages.specs.Openings.{LeavesOneOf, OpensOneOf}, desk_theorem.specs.claim.{Device.{LeadsTo, OnDevice, OpensAs}, OneLife.{Asked, RequestsHold}}}
+use Rattle.desk_theorem.proofs.OneLife.{requests_hold}
+use Rattle.{sector_device.{specs.claim.Disk.{Disk, Image}, proofs.Moments.leaves_now}, desk_theorem_lives.{specs.{claim.Versions.{Store, Version, version_2}, desk_theorem_runs.Recovery.ImagesAreOne}, proofs.desk_theorem_runs.One.few_sectors}}
 
 abbrev Nothing : (t u : ℕ) → Store → Store → Type 0
 Nothing = Asked (RequestsHold [] [])

@@ -1,10 +1,10 @@
 -- The clauses of one life, by what came in it.
 use Rattle.{std.proofs.{Common.{◌≡◌, ℕ, List, [], All, Result}, lemmas.List.Elements.All-nil}, desk_model.specs.claim.Desk.Desk, desk_theorem.specs.claim.Exchanges.exchanges_in}
-use Rattle.{desk_pages.specs.declared.error.StoreError.StoreError, desk_theorem.specs.claim.{Offices.{Answered, Officed}, Streams.{Ends, Streamed, working}}}
-use Rattle.{desk_theorem.specs.claim.Clauses.{Account, Clauses, ShowsAcknowledged, nothing, of_calls, of_exchanges, of_requests}, http_connections.specs.declared.ran.Ran.Ran}
-use Rattle.{desk_theorem.specs.claim.OneLife.{RequestsHold, StreamHolds, OfficeHolds, ClosedHolds, UnopenedHolds, ReadHolds, LedHolds}, store_lives.specs.claim.DeskLives.Lived}
-use Rattle.{http_desk.specs.declared.serve.{ServeFault.ServeFault, Served.Served}, http_seats.specs.claim.Streams.{Traffic, Worker}, store_lives.specs.declared.leading.Led.Led}
-use Rattle.{store_lives.specs.{claim.Versions.{Leads, MayBar, Store}, declared.desk_lives.{Answer.Answer, Request.Request}}, desk_theorem.proofs.Audits.lived_audits}
+use Rattle.{desk_store_pages.specs.declared.error.StoreError.StoreError, desk_theorem.specs.claim.{Offices.{Answered, Officed}, Streams.{Ends, Streamed, working}}}
+use Rattle.{desk_theorem.specs.claim.Clauses.{Account, Clauses, ShowsAcknowledged, nothing, of_calls, of_exchanges, of_requests}, desk_theorem_lives.specs.claim.DeskLives.Lived}
+use Rattle.desk_theorem.{specs.claim.OneLife.{RequestsHold, StreamHolds, OfficeHolds, ClosedHolds, UnopenedHolds, ReadHolds, LedHolds}, proofs.Audits.lived_audits}
+use Rattle.desk_theorem_lives.specs.{claim.Versions.{Leads, MayBar, Store}, declared.{desk_lives.{Answer.Answer, Request.Request}, leading.Led.Led}}
+use Rattle.http_desk.specs.{connections.declared.ran.Ran.Ran, seats.claim.Streams.{Traffic, Worker}, streams.declared.serve.{ServeFault.ServeFault, Served.Served}}
 use Rattle.desk_theorem.proofs.{Readers.shows_acknowledged, Refused.lived_without, Requests.lasts, StreamAsked.stream_asked}
 
 none_shown : (life : Account) → All (λ w. ShowsAcknowledged life w) []

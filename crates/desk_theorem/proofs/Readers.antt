@@ -1,9 +1,8 @@
 -- What was shown in an office's life is the first of what was acknowledged in it.
 use Rattle.std.proofs.{Common.{◌≡◌, ℕ, Bool, true, false, if◌then◌else◌, List, [], ◌∷◌, ◌++◌, map, All, refl, sym, ap, ◌∙◌}, lemmas.List.{map-append, Elements.All-weaker}}
 use Rattle.{desk_model.specs.{claim.Desk.Desk, declared.{command.Command.Command, reply.Reply.Reply}}, desk_theorem.specs.claim.Offices.Answered}
-use Rattle.{desk_theorem.specs.claim.Clauses.{acknowledged_in, of_calls, ShowsAcknowledged}, http_connections.specs.declared.ran.Ran.Ran}
-use Rattle.{http_seats.specs.claim.Streams.{Traffic, Worker}, store_lives.specs.claim.Calls.{asked_in, told_in, is_done, acknowledged}}
-use Rattle.store_lives.specs.declared.desk_lives.Request.TheVariants.{Change}
+use Rattle.{desk_theorem.specs.claim.Clauses.{acknowledged_in, of_calls, ShowsAcknowledged}, desk_theorem_lives.specs.claim.Calls.{asked_in, told_in, is_done, acknowledged}}
+use Rattle.{desk_theorem_lives.specs.declared.desk_lives.Request.TheVariants.Change, http_desk.specs.{connections.declared.ran.Ran.Ran, seats.claim.Streams.{Traffic, Worker}}}
 use mathlib.Core.List.{IsPrefix}
 
 abbrev Call : Type 0

@@ -1,10 +1,10 @@
 -- A request to which memory was refused is as one that wasn't asked.
 use Rattle.{std.proofs.Common.{◌≡◌, ℕ, false, List, ◌∷◌, ⊎_elim, refl, subst, ◌∙◌}, desk_model.specs.{claim.Desk.Desk, declared.reply.Refusal.TheVariants.{Memory, Halted}}}
 use Rattle.{desk_model.specs.declared.reply.Reply.TheVariants.Refused, desk_theorem.specs.claim.Clauses.{made, acknowledges, Without}}
-use Rattle.store_lives.specs.{claim.DeskLives.{Failed, Lived}, declared.desk_lives.{Answer.{Answer, TheVariants.{Said, Unloaded, Unswept}}, Request.Request}}
-use Rattle.store_lives.specs.declared.desk_lives.Request.TheVariants.{Change, Look, Load, Sweep}
+use Rattle.desk_theorem_lives.specs.{claim.DeskLives.{Failed, Lived}, declared.desk_lives.{Answer.{Answer, TheVariants.{Said, Unloaded, Unswept}}, Request.Request}}
+use Rattle.desk_theorem_lives.specs.declared.desk_lives.Request.TheVariants.{Change, Look, Load, Sweep}
 use Rattle.desk_theorem.proofs.Requests.{Idle, failed_of, rest_of, turn_of, went_on, fails_in, failed_lives, next_is}
-use Rattle.desk_pages.specs.declared.error.StoreError.TheVariants as store
+use Rattle.desk_store_pages.specs.declared.error.StoreError.TheVariants as store
 
 failed_without : (d : Desk) (asked : List Request) (told : List Answer) (fewer : List Request) (fewer_told : List Answer) → Without asked told fewer fewer_told → Failed d asked told → Failed d fewer fewer_told
 failed_without d _ _ _ _ Without.over is = is

@@ -1,14 +1,14 @@
 -- The requests of a life, one by one, and what is acknowledged of them: that outlives the life's stop.
-use Rattle.{std.specs.Prelude.{⊤, fold, None}, desk_catalogue.specs.claim.Audits.AskMay, desk_model.specs.claim.{Desk.Desk, Outcome.{IsAcceptance, IsStep, RefusalMay, CommandMay}}}
+use Rattle.{std.specs.Prelude.{⊤, fold, None}, desk_model.specs.{claim.{Desk.Desk, Outcome.{IsAcceptance, IsStep, RefusalMay, CommandMay}, Step.step}, declared.reply.Reply.Reply}}
 use Rattle.std.proofs.Common.{◌≡◌, ◌⊎◌, ◌<◌, ℕ, Bool, true, false, if◌then◌else◌, List, [], ◌∷◌, ◌++◌, inl, inr, ⊎_elim, refl, sym, ap, subst, ◌∙◌, arith}
-use Rattle.{desk_model.specs.{claim.Step.step, declared.{command.Command.Command, reply.{Refusal.Refusal, Reply.Reply}}}, desk_pages.specs.declared.error.StoreError.StoreError}
-use Rattle.{desk_theorem.specs.claim.Clauses.{made, acknowledges, acknowledged_in, HoldsAcknowledged}, store_lives.specs.{claim.Calls.is_done, declared.desk_lives.Answer.Answer}}
-use Rattle.store_lives.specs.{claim.DeskLives.{loaded_desk, MayRefuse, IsUnloaded, IsUnswept, Failed, FailsAt, Lived}, declared.desk_lives.Request.Request}
-use Rattle.store_lives.specs.declared.desk_lives.{Answer.TheVariants.{Said, Loaded, Unloaded, Swept, Unswept}, Request.TheVariants.{Change, Look, Load, Sweep}}
+use Rattle.{desk_model.specs.declared.{command.Command.Command, reply.Refusal.Refusal}, desk_store_catalogue.specs.claim.Audits.AskMay}
+use Rattle.{desk_store_pages.specs.declared.error.StoreError.StoreError, desk_theorem.specs.claim.Clauses.{made, acknowledges, acknowledged_in, HoldsAcknowledged}}
+use Rattle.desk_theorem_lives.specs.{claim.{Calls.is_done, DeskLives.{loaded_desk, MayRefuse, IsUnloaded, IsUnswept, Failed, FailsAt, Lived}}, declared.desk_lives.Answer.Answer}
+use Rattle.desk_theorem_lives.specs.declared.desk_lives.{Answer.TheVariants.{Said, Loaded, Unloaded, Swept, Unswept}, Request.{Request, TheVariants.{Change, Look, Load, Sweep}}}
 use Rattle.desk_model.specs.declared.reply.Reply.TheVariants as reply
 use Rattle.desk_model.specs.declared.reply.Refusal.TheVariants as refusal
-use Rattle.desk_pages.specs.declared.error.StoreError.TheVariants as store
-use Rattle.store_lives.proofs.desk_runs.Steps.{refused_same}
+use Rattle.desk_store_pages.specs.declared.error.StoreError.TheVariants as store
+use Rattle.desk_theorem_lives.proofs.desk_theorem_runs.Steps.{refused_same}
 
 -- ---- what a command leaves, by its reply
 refused_step : (d : Desk) (c : Command) (r : Refusal) (next : Desk) → IsStep ⊥ d c (reply.Refused r) next → next ≡ d

@@ -1,15 +1,15 @@
 -- A talk at a clerk, seen without the store; and what is known of a stream's life doesn't depend on how often the device failed before.
-use Rattle.{std.{specs.Prelude.⊤, proofs.lemmas.List.append-nil}, desk_catalogue.specs.claim.Audits.AskMay, desk_model.specs.claim.{Desk.Desk, Step.step}}
+use Rattle.{std.{specs.Prelude.⊤, proofs.lemmas.List.append-nil}, desk_model.specs.{claim.{Desk.Desk, Step.step}, declared.command.{Command.Command, Query.Query}}}
 use Rattle.std.proofs.Common.{◌≡◌, ◌⊎◌, ◌≤◌, ◌<◌, ℕ, Bool, true, false, List, [], Option, Result, Ok, Err, ◌+◌, inl, inr, ⊎_elim, refl, sym, ap, subst, ◌∙◌, arith}
-use Rattle.{desk_model.specs.declared.{command.{Command.Command, Query.Query}, reply.Reply.Reply}, desk_pages.specs.claim.Desks.OpensDesk, sector_device.specs.claim.Disk.Image}
-use Rattle.{desk_theorem.specs.claim.Streams.{State, working, failed, shown_in, left_in, Takes, Looks, Ends, HasCause, ServedAs, Streamed}, sector_device.proofs.Moments.leaves_now}
-use Rattle.http_desk.specs.{claim.{Serving.{Serves, ServesTo, IsShortTalk, IsPrefixTalk}, Talk.{Talk, MayAnswer}}, declared.serve.{ServeFault.ServeFault, Served.Served}}
-use Rattle.http_desk.specs.{http_routes.{claim.Orders.order_of, declared.order.Order.Order}, http_wire.claim.Prefix.{closes_after, is_head}}
-use Rattle.{sector_device.specs.declared.SectorDevice.Ghosts, store_lives.specs.{DeskInside.LivedThrough, desk_store.claim.Commands.{Does, MustBeFull, MayBeFull}}}
-use Rattle.store_lives.specs.desk_store.{claim.Clerks.{desk_of, disk_of, is_halted, pages_of, sectors_of, Keeps}, declared.clerk.Clerk.Clerk}
-use Rattle.store_lives.proofs.DeskLiving.{either, calm, halt, clash_of, left_working}
-use Rattle.http_desk.specs.http_routes.declared.order.Order.TheVariants as order
-use Rattle.http_desk.specs.declared.serve.ServeFault.TheVariants as fault
+use Rattle.{desk_model.specs.declared.reply.Reply.Reply, desk_store_catalogue.specs.claim.Audits.AskMay, desk_store_pages.specs.claim.Desks.OpensDesk}
+use Rattle.{desk_theorem.specs.claim.Streams.{State, working, failed, shown_in, left_in, Takes, Looks, Ends, HasCause, ServedAs, Streamed}, sector_device.specs.claim.Disk.Image}
+use Rattle.desk_theorem_lives.specs.{DeskInside.LivedThrough, desk_store.{claim.Clerks.{desk_of, disk_of, is_halted, pages_of, sectors_of, Keeps}, declared.clerk.Clerk.Clerk}}
+use Rattle.{desk_theorem_lives.specs.desk_store.claim.Commands.{Does, MustBeFull, MayBeFull}, http_desk.specs.streams.claim.Serving.{Serves, ServesTo, IsShortTalk, IsPrefixTalk}}
+use Rattle.http_desk.specs.streams.{claim.Talk.{Talk, MayAnswer}, declared.serve.{ServeFault.ServeFault, Served.Served}, http_wire.claim.Prefix.{closes_after, is_head}}
+use Rattle.{http_desk.specs.streams.routes.{claim.Orders.order_of, declared.order.Order.Order}, sector_device.{specs.declared.SectorDevice.Ghosts, proofs.Moments.leaves_now}}
+use Rattle.desk_theorem_lives.proofs.DeskLiving.{either, calm, halt, clash_of, left_working}
+use Rattle.http_desk.specs.streams.routes.declared.order.Order.TheVariants as order
+use Rattle.http_desk.specs.streams.declared.serve.ServeFault.TheVariants as fault
 
 -- ---- talks in which a query leaves all as it is
 module _ {X : Type 0} (does : X → Command → Reply → X → Type 0) (asks : X → Query → Reply → X → Type 0) where

@@ -1,12 +1,13 @@
 -- The requests of a stream as those of a life.
 use Rattle.std.proofs.{Common.{◌≡◌, ℕ, Bool, true, false, List, [], ◌∷◌, ◌++◌, map, Option, Result, Ok, Err, inl, inr, ⊎_elim, refl, sym, subst, ◌∙◌}, lemmas.List.append-nil}
-use Rattle.{desk_catalogue.specs.claim.Audits.AskMay, desk_model.specs.{claim.Desk.Desk, declared.{command.{Command.Command, Query.Query}, reply.Reply.Reply}}}
-use Rattle.{desk_theorem.specs.claim.Exchanges.{exchange_of, exchanges_of, exchanges_in}, http_desk.specs.{claim.Talk.{Talk, MayAnswer}, declared.serve.ServeFault.ServeFault}}
-use Rattle.{desk_theorem.specs.claim.Streams.{State, working, failed, shown_in, left_in, Takes, Looks, Ends, ServedAs, Streamed}, http_desk.specs.declared.serve.Served.Served}
-use Rattle.http_desk.specs.{http_routes.{claim.Orders.order_of, declared.order.Order.Order}, http_wire.claim.Prefix.{closes_after, is_head}}
-use Rattle.store_lives.specs.{claim.DeskLives.{Failed, Lived}, declared.desk_lives.{Answer.{Answer, TheVariants.Said}, Request.{Request, TheVariants.{Change, Look}}}}
-use Rattle.http_desk.specs.http_routes.declared.order.Order.TheVariants as order
-use Rattle.http_desk.specs.declared.serve.ServeFault.TheVariants as fault
+use Rattle.{desk_model.specs.{claim.Desk.Desk, declared.{command.{Command.Command, Query.Query}, reply.Reply.Reply}}, desk_store_catalogue.specs.claim.Audits.AskMay}
+use Rattle.{desk_theorem.specs.claim.Exchanges.{exchange_of, exchanges_of, exchanges_in}, desk_theorem_lives.specs.claim.DeskLives.{Failed, Lived}}
+use Rattle.desk_theorem.specs.claim.Streams.{State, working, failed, shown_in, left_in, Takes, Looks, Ends, ServedAs, Streamed}
+use Rattle.desk_theorem_lives.specs.declared.desk_lives.{Answer.{Answer, TheVariants.Said}, Request.{Request, TheVariants.{Change, Look}}}
+use Rattle.http_desk.specs.streams.{claim.Talk.{Talk, MayAnswer}, declared.serve.{ServeFault.ServeFault, Served.Served}, http_wire.claim.Prefix.{closes_after, is_head}}
+use Rattle.http_desk.specs.streams.routes.{claim.Orders.order_of, declared.order.Order.Order}
+use Rattle.http_desk.specs.streams.routes.declared.order.Order.TheVariants as order
+use Rattle.http_desk.specs.streams.declared.serve.ServeFault.TheVariants as fault
 
 abbrev pub Exchange : Type 0
 Exchange = Request × Answer

@@ -1,10 +1,10 @@
 -- A run of commands, with steps of sweeps between them, as a life of the commands alone.
 use Rattle.std.proofs.{Common.{◌≡◌, ◌⊎◌, ℕ, Bool, false, List, [], ◌∷◌, ◌++◌, inl, inr, ⊎_elim, refl, subst, ◌∙◌, append_assoc}, lemmas.List.append-nil}
-use Rattle.{desk_model.specs.claim.Desk.Desk, desk_pages.specs.claim.Desks.OpensDesk, sector_device.specs.declared.SectorDevice.Ghosts, store_lives.specs.claim.DeskLives.Lived}
-use Rattle.store_lives.specs.{DeskInside.{LivedThrough, Stands}, claim.Calls.{asked_in, told_in}, declared.desk_lives.{Answer.{Answer, TheVariants.Said}, Request.Request}}
-use Rattle.store_lives.specs.{declared.desk_lives.Request.TheVariants.Change, desk_runs.claim.{Runs.Call, SweptRuns.{Tends, SweptRun}}, desk_store.declared.clerk.Clerk.Clerk}
-use Rattle.{store_lives.specs.desk_store.claim.Clerks.{desk_of, disk_of, is_halted, sectors_of, Keeps}, desk_theorem.proofs.Requests.failed_lives}
-use Rattle.{sector_device.proofs.Moments.leaves_now, store_lives.proofs.DeskLiving.{either, ends, fails_no_less, goes_on}}
+use Rattle.{desk_model.specs.claim.Desk.Desk, desk_store_pages.specs.claim.Desks.OpensDesk, desk_theorem_lives.specs.{DeskInside.{LivedThrough, Stands}, claim.DeskLives.Lived}}
+use Rattle.desk_theorem_lives.specs.{claim.Calls.{asked_in, told_in}, declared.desk_lives.{Answer.{Answer, TheVariants.Said}, Request.{Request, TheVariants.Change}}}
+use Rattle.desk_theorem_lives.specs.{desk_store.{claim.Clerks.{desk_of, disk_of, is_halted, sectors_of, Keeps}, declared.clerk.Clerk.Clerk}, desk_theorem_runs.claim.Runs.Call}
+use Rattle.{desk_theorem_lives.specs.desk_theorem_runs.claim.SweptRuns.{Tends, SweptRun}, sector_device.{specs.declared.SectorDevice.Ghosts, proofs.Moments.leaves_now}}
+use Rattle.{desk_theorem.proofs.Requests.failed_lives, desk_theorem_lives.proofs.DeskLiving.{either, ends, fails_no_less, goes_on}}
 
 module _ {D : Type 0} {g : Ghosts D} where
   swept_moved : (a : Bool) (x : Clerk D g) (calls : List Call) (b : Bool) (z : Clerk D g) → SweptRun a x calls b z → (sectors_of z ≡ sectors_of x) × ((disk_of z).is_honest → (disk_of x).is_honest)

@@ -6,8 +6,8 @@ use Rattle.{std.proofs.lemmas.Option.{slice_get-map, slice_get_read, get_or_from
 use Rattle.{desk_model.specs.declared.{command.{Command.Command, Query.Query}, reply.Reply.Reply}, desk_theorem.specs.Runs.{Grows, AreWithin, HasRunsWithin, IsReached, OfficeLaw}}
 use Rattle.desk_theorem.specs.claim.{Law.{IsNoStop, IsLawful, CoreLaw}, Runs.{standing, beginning, Heard, list_of, heard_of, answers, answer_at, answers_in, Rises, HasRuns}}
 use Rattle.desk_theorem.{specs.{claim.World.{World, world, accepts, move, run, shown_list, seen, seen_at}, declared.event.Event.Event}, proofs.Core.prefix_trans}
-use Rattle.{desk_theorem.specs.declared.event.Event.TheVariants.{Commit, Acknowledge, Show, Visit, Learn}, http_seats.specs.desk_gallery.claim.{After.after, Working.AreAccepted}}
-use Rattle.desk_theorem.proofs.Worlds.{learnt_to}
+use Rattle.{desk_theorem.specs.declared.event.Event.TheVariants.{Commit, Acknowledge, Show, Visit, Learn}, http_desk.specs.seats.desk_gallery.claim.After.after}
+use Rattle.{http_desk.specs.seats.desk_gallery.claim.Working.AreAccepted, desk_theorem.proofs.Worlds.learnt_to}
 use mathlib.Core.List.{IsPrefix}
 use Rattle.desk_model.specs.declared.reply.Reply.TheVariants as reply
 

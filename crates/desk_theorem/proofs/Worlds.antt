@@ -1,9 +1,9 @@
 -- What each step does to a world.
 use Rattle.std.proofs.Common.{◌≡◌, ℕ, zero, suc, ◌-◌, ◌≤◌, ◌<◌, if◌then◌else◌, nat_lt, max, Bool, true, false, List, [], ◌∷◌, ◌++◌, length, take, map, get_or, replicate, slice_get, slice_set, Some, refl, sym, ap, ◌∙◌, subst, arith, length-append, le-leb, ne_eqb}
 use Rattle.std.proofs.lemmas.{Bool.{cond_both, Decides.nat_tests}, List.{take_all, take-map, length-map}, Option.slice_get_read, Simd.splat_is_map}
-use Rattle.{desk_catalogue.specs.claim.Accepting.IsAfter, desk_model.specs.{claim.{Desk.Desk, Step.step}, declared.command.Command.Command}, desk_theorem.specs.claim.Law.IsOrdered}
-use Rattle.desk_theorem.specs.{Steps.{Follow, IsChanged}, claim.World.{World, world, move}, declared.event.Event.TheVariants.{Commit, Acknowledge, Learn, Stop}}
-use Rattle.{desk_theorem.specs.declared.world.WorldChange.WorldChange, http_seats.specs.desk_gallery.claim.After.after}
+use Rattle.{desk_model.specs.{claim.{Desk.Desk, Step.step}, declared.command.Command.Command}, desk_store_catalogue.specs.claim.Accepting.IsAfter}
+use Rattle.desk_theorem.specs.{Steps.{Follow, IsChanged}, claim.{Law.IsOrdered, World.{World, world, move}}, declared.event.Event.TheVariants.{Commit, Acknowledge, Learn, Stop}}
+use Rattle.{desk_theorem.specs.declared.world.WorldChange.WorldChange, http_desk.specs.seats.desk_gallery.claim.After.after}
 
 -- the catalogue of a change is the desk after the commands up to it
 pub followed : (d : Desk) (cs : List WorldChange) (n : ℕ) (x : WorldChange) → Follow d cs → n < length cs → (get_or cs n x).catalogue.value ≡ after d (take (suc n) (map (λ c. c.command) cs))

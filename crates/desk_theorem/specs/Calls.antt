@@ -2,7 +2,7 @@
 use Rattle.std.specs.{List.slice_get, Prelude.{◌≡◌, ◌⊎◌, ℕ, List, [], ◌∷◌, ◌++◌, length, slice_set, Some}}
 use Rattle.desk_model.specs.{claim.{Desk.Desk, Outcome.IsAcceptance, Step.step}, declared.{command.{Command.Command, Query.Query}, reply.Reply.Reply}}
 use Rattle.desk_theorem.specs.{claim.{Runs.standing, World.{move, run, shown_list}}, declared.event.Event.TheVariants.{Commit, Acknowledge, Show, Visit, Learn}}
-use Rattle.http_seats.specs.desk_gallery.{Working.Joins, claim.After.after}
+use Rattle.http_desk.specs.seats.desk_gallery.{Working.Joins, claim.After.after}
 use mathlib.Core.List.{IsPrefix}
 
 -- A command at a front: one that is accepted is written, acknowledged and shown; one whose commit met a fault may be written; no

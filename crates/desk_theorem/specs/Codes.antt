@@ -1,6 +1,6 @@
 -- How worlds are told apart.
-use Rattle.{std.specs.{Coded.{Coded, code_by, coded×, coded_ℕ, coded_list}, Prelude.{ℕ, List, refl}}, desk_catalogue.specs.Codes.coded_desk, desk_model.specs.claim.Desk.Desk}
-use Rattle.{desk_model.specs.declared.command.Command.Command, desk_theorem.specs.claim.World.World}
+use Rattle.{std.specs.{Coded.{Coded, code_by, coded×, coded_ℕ, coded_list}, Prelude.{ℕ, List, refl}}, desk_model.specs.{claim.Desk.Desk, declared.command.Command.Command}}
+use Rattle.{desk_store_catalogue.specs.Codes.coded_desk, desk_theorem.specs.claim.World.World}
 use Rattle.desk_model.specs.contracts.command.Command as command
 
 abbrev pub coded_world : Coded (Desk × World)

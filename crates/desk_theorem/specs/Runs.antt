@@ -1,7 +1,7 @@
 -- What no promise rests on, beside claim/Runs.antt.
 use Rattle.std.specs.Prelude.{◌≡◌, ◌≤◌, ◌+◌, ℕ, All, List, [], ◌∷◌, length, map}
 use Rattle.{desk_model.specs.{claim.Desk.Desk, declared.command.Command.Command}, desk_theorem.specs.{claim.{Law.IsNoStop, World.{World, run, seen}}, declared.event.Event.Event}}
-use Rattle.{desk_theorem.specs.claim.Runs.{Heard, IsRun, answers_in, beginning, list_of, standing}, http_seats.specs.desk_gallery.claim.Working.AreAccepted}
+use Rattle.{desk_theorem.specs.claim.Runs.{Heard, IsRun, answers_in, beginning, list_of, standing}, http_desk.specs.seats.desk_gallery.claim.Working.AreAccepted}
 use mathlib.Core.List.{IsPrefix}
 
 -- it hears of more and more, from this list on, and in the end of no more than what is shown

@@ -1,9 +1,9 @@
 -- What a step tells, and the catalogues that are kept.
 use Rattle.std.specs.Prelude.{◌≡◌, ◌≢◌, ℕ, ◌<◌, ◌≤◌, List, [], ◌∷◌, length, Option, Some, None, ⊤}
-use Rattle.{desk_catalogue.specs.claim.{Accepting.acceptance, Audits.AskMay}, desk_model.specs.{claim.{Desk.Desk, Step.step}, declared.command.{Command.Command, Query.Query}}}
-use Rattle.{desk_model.specs.declared.reply.{Refusal.TheVariants.Memory, Reply.Reply}, desk_theorem.specs.{claim.World.{World, move, shown_list}, declared.event.Event.Event}}
+use Rattle.desk_model.specs.{claim.{Desk.Desk, Step.step}, declared.{command.{Command.Command, Query.Query}, reply.{Refusal.TheVariants.Memory, Reply.Reply}}}
+use Rattle.{desk_store_catalogue.specs.claim.{Accepting.acceptance, Audits.AskMay}, desk_theorem.specs.{claim.World.{World, move, shown_list}, declared.event.Event.Event}}
 use Rattle.desk_theorem.specs.declared.{event.Event.TheVariants.{Commit, Acknowledge, Show, Visit, Learn, Stop}, world.WorldChange.WorldChange}
-use Rattle.http_seats.specs.desk_gallery.claim.After.{after}
+use Rattle.http_desk.specs.seats.desk_gallery.claim.After.{after}
 use Rattle.desk_model.specs.declared.reply.Reply.TheVariants as reply
 
 -- each change's catalogue is the desk after its command, from this desk on

@@ -1,9 +1,9 @@
 //! The laws on lives, and on lists of events.
-ghost use Rattle.http_seats.specs.Streams.{traffic};
+ghost use Rattle.http_desk.specs.seats.Streams.{traffic};
 ghost use Rattle.desk_theorem.specs.claim.Law.{CoreLaw};
 ghost use Rattle.desk_theorem.specs.claim.Lives.{LivesOnDevice, PlanDesk};
 
-use http_connections::arrivals::Arrivals;
+use http_desk::Arrivals;
 use sector_device::SectorDevice;
 
 /// States that lives which each begin on a crash state of the life before are lives of the first store.

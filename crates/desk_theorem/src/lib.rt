@@ -31,6 +31,9 @@
 //!
 //! A contract has types of level 0, and the model of a device is of level 1. So the law on lives
 //! speaks of images, and of no device.
+//!
+//! This is the room of the crates desk_theorem_runs, desk_theorem_loading and desk_theorem_lives,
+//! whose calls the program reaches through it.
 #![tactic(auto)]
 
 pub mod event;
@@ -39,4 +42,6 @@ pub mod law;
 pub mod office;
 pub mod world;
 
-pub use store_lives::{Clerk, one_desk_opens, start};
+pub use desk_theorem_lives::{
+    Clerk, Migration, load_geography, one_desk_opens, open_store, runs_survive, start, swept_law,
+};

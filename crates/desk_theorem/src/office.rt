@@ -6,9 +6,9 @@ ghost use Rattle.desk_theorem.specs.claim.Runs.{HasRuns, standing};
 ghost use Rattle.desk_theorem.specs.Runs.{IsReached};
 
 use crate::law::core_law;
-use http_seats::book::GalleryId;
-use http_seats::front::Front;
-use http_seats::visitor::Visitor;
+use http_desk::book::GalleryId;
+use http_desk::front::Front;
+use http_desk::visitor::Visitor;
 use sector_device::SectorDevice;
 
 /// No visitor has seen more than the front shows.

@@ -1,14 +1,14 @@
 //! A desk with visitors, moved by events.
 ghost use Rattle.std.specs.Prelude.{◌≡◌, ◌≤◌, [], ◌∷◌, ◌++◌, length, take, map, replicate, IfOk, IfErr, OnOk, OnErr, Some};
 ghost use Rattle.desk_model.specs.claim.Step.{step};
-ghost use Rattle.http_seats.specs.desk_gallery.claim.After.{after};
+ghost use Rattle.http_desk.specs.seats.desk_gallery.claim.After.{after};
 ghost use Rattle.desk_theorem.specs.claim.World.{move, world};
 ghost use Rattle.desk_theorem.specs.Steps.{CommitMay, IsChanged, StepMay};
 
 use crate::event::Event;
-use desk_catalogue::catalogue::Catalogue;
 use desk_model::command::{Command, Query};
 use desk_model::reply::{Refusal, Reply};
+use desk_store_catalogue::catalogue::Catalogue;
 use std::alloc::{AllocError, Global};
 use std::marker::Model;
 use std::sync::Arc;

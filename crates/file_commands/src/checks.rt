@@ -14,7 +14,7 @@ use byte_stream::sink::{Sink, WriteSink};
 use byte_stream::source::{ReadSource, Source};
 use check_command::audit_plan::audit_plan;
 use check_command::check::check;
-use command_line::options::Terms;
+use command_line::options::AuditOptions;
 use command_output::status::Status;
 use desk_model::gate::NoGate;
 use state_files::census::CensusFiles;
@@ -61,7 +61,7 @@ pub fn check_plan<T: Threads + Sync>(
     threads: &T,
     with_words: bool,
     paths: AuditPaths<'_>,
-    terms: Terms,
+    terms: AuditOptions,
     workers: u16,
 ) -> Status
     requires job { IsJob (Audit paths terms workers) }
@@ -84,7 +84,7 @@ fn audit_paths<
     crew: &C,
     opener: &mut O,
     paths: AuditPaths<'_>,
-    terms: Terms,
+    terms: AuditOptions,
     workers: u16,
     writer: &mut W,
     errors: &mut E,
@@ -116,7 +116,7 @@ fn check_by<T: Threads + Sync, C: Crew + Sync>(
     crew: &C,
     with_words: bool,
     paths: AuditPaths<'_>,
-    terms: Terms,
+    terms: AuditOptions,
     workers: u16,
 ) -> Status
     requires job { IsJob (Audit paths terms workers) }

@@ -3,10 +3,10 @@ ghost use Rattle.std.specs.Prelude.{◌≡◌, ◌≤◌, ◌^◌, ◌-◌, ℕ,
 
 use command_line::options::Serving;
 use connection_log::log::Log;
-use connection_log::watching::Watching;
-use http_connections::door::Door;
-use http_connections::kept_listening::Listening;
-use http_connections::pace::Limits;
+use connection_log::watching::LoggedArrivals;
+use http_desk::door::AcceptQueue;
+use http_desk::kept_listening::TcpArrivals;
+use http_desk::pace::Limits;
 use std::alloc::Global;
 use std::sync::{Arc, Wait};
 use std::time::Clock;
@@ -48,14 +48,14 @@ fn limits_of(serving: &Serving) -> Limits
 /// The connections that come in at a door, where there is one.
 pub fn listening_at<'a, T: Wait + Clock>(
     threads: &'a T,
-    door: Option<&'a Door>,
+    door: Option<&'a AcceptQueue>,
     serving: &Serving,
-) -> Option<Listening<'a, T>>
+) -> Option<TcpArrivals<'a, T>>
     requires { 1 ≤ serving.now.patience.idle }
     ensures { is_some result ≡ is_some door.entry }
 {
     match door {
-        Some(door) => Some(Listening::new(threads, door, limits_of(serving))),
+        Some(door) => Some(TcpArrivals::new(threads, door, limits_of(serving))),
         None => None,
     }
 }
@@ -63,13 +63,13 @@ pub fn listening_at<'a, T: Wait + Clock>(
 /// Wraps the listener so that connections are logged if there is a log.
 pub fn watching_at<'r, 'a, 'l, T: Wait + Clock + Sync>(
     threads: &'r T,
-    listening: Option<&'a Listening<'a, T>>,
+    listening: Option<&'a TcpArrivals<'a, T>>,
     log: Option<&'l Log>,
-) -> Option<Watching<'r, 'a, 'l, Listening<'a, T>, T, Log>>
+) -> Option<LoggedArrivals<'r, 'a, 'l, TcpArrivals<'a, T>, T, Log>>
     ensures { is_some result ≡ is_some listening.entry }
 {
     match listening {
-        Some(listening) => Some(Watching::new(threads, listening, log)),
+        Some(listening) => Some(LoggedArrivals::new(threads, listening, log)),
         None => None,
     }
 }

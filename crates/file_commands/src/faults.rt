@@ -8,14 +8,14 @@ use byte_stream::source::ReadSource;
 use command_output::explaining::tell_words;
 use command_output::explanation::Reason;
 use command_output::finding::path_in;
-use command_output::noting::Noting;
+use command_output::noting::LastLineWriter;
 use state_files::open::AuditFiles;
 use std::fs::File;
 use std::io::{IsTerminal, Stderr, Write};
 
 /// Standard error, where a command prints its fault.
-pub fn standard_error(rt: &HostRuntime) -> WriteSink<Noting<Stderr>> {
-    WriteSink::new(Noting::new(rt.stderr()))
+pub fn standard_error(rt: &HostRuntime) -> WriteSink<LastLineWriter<Stderr>> {
+    WriteSink::new(LastLineWriter::new(rt.stderr()))
 }
 
 /// Whether a fault's explanation follows it although nothing asks for it: its code alone doesn't say that the store is in use.
@@ -38,7 +38,7 @@ fn needs_words(reason: Option<Reason>) -> bool
 /// reason is that of a store's device.
 pub fn explain_last(
     rt: &HostRuntime,
-    told: WriteSink<Noting<Stderr>>,
+    told: WriteSink<LastLineWriter<Stderr>>,
     with_words: bool,
     files: &[(&'static str, &str)],
     reason: Option<Reason>,
@@ -50,7 +50,7 @@ pub fn explain_last(
 /// another line, that line.
 pub fn explain_audit(
     rt: &HostRuntime,
-    told: WriteSink<Noting<Stderr>>,
+    told: WriteSink<LastLineWriter<Stderr>>,
     with_words: bool,
     named: &[(&'static str, &str)],
     files: AuditFiles<ReadSource<Prefixed<File>>>,
@@ -79,7 +79,7 @@ pub fn explain_audit(
 /// The same of what was written by itself.
 pub fn explain_line(
     rt: &HostRuntime,
-    told: &Noting<Stderr>,
+    told: &LastLineWriter<Stderr>,
     with_words: bool,
     files: &[(&'static str, &str)],
     reason: Option<Reason>,

@@ -4,7 +4,7 @@ ghost use Rattle.file_commands.specs.Quotes.{all_escaped, hex_digit as digit_of}
 
 use crate::faults::explain_line;
 use command_line::words::Mistake;
-use command_output::noting::Noting;
+use command_output::noting::LastLineWriter;
 use command_output::status::Status;
 use std::alloc::{AllocError, Global};
 use std::env;
@@ -109,7 +109,7 @@ pub fn end_mistake(rt: &HostRuntime, mistake: &Mistake) -> Status {
             }
         }
         status => {
-            let mut errors = Noting::new(rt.stderr());
+            let mut errors = LastLineWriter::new(rt.stderr());
             tell(&mut errors, mistake.text());
             explain_line(rt, &errors, false, &[], None);
             status

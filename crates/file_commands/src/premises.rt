@@ -1,12 +1,12 @@
 //! The premises of what is proved of commands, met at the device that these are handed.
 ghost use Rattle.std.specs.Prelude.{◌≤◌, IfOk, OnOk};
-ghost use Rattle.desk_pages.specs.Desks.{new_desk};
+ghost use Rattle.desk_store_pages.specs.Desks.{new_desk};
 ghost use Rattle.inspect_command.specs.store_command.Reading.{HoldsWhatIsRead, FindsWhatIsRead, ReadsDesk};
 ghost use Rattle.sector_file.specs.Device.{first_image};
 ghost use Rattle.file_commands.specs.Premises.{HasNoPremise};
 
 use crate::stores::StoreFiles;
-use desk_pages::{StoreError, format};
+use desk_store_pages::{StoreError, format};
 use inspect_command::Clerk;
 use inspect_command::fault::StoreFault;
 use inspect_command::filling::open_clerk;

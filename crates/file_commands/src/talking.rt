@@ -2,7 +2,7 @@
 use crate::faults::explain_line;
 use byte_stream::sink::WriteSink;
 use byte_stream::source::ReadSource;
-use command_output::noting::Noting;
+use command_output::noting::LastLineWriter;
 use command_output::status::Status;
 use talk_command::talk::talk;
 
@@ -10,7 +10,7 @@ use talk_command::talk::talk;
 pub fn serve_talk(rt: &HostRuntime, with_words: bool) -> Status {
     let mut reader = ReadSource::new(rt.stdin());
     let mut writer = WriteSink::new(rt.stdout());
-    let mut errors = Noting::new(rt.stderr());
+    let mut errors = LastLineWriter::new(rt.stderr());
     let status = talk(rt.alloc(), &mut reader, &mut writer, &mut errors);
     let _ = reader.into_inner();
     let _ = writer.into_inner();

@@ -1,9 +1,9 @@
 -- The rows under a prefix are rows of the map.
 use Rattle.{std.specs.{FinMap.entries, Prelude.{Option, IfSome}}, btree_scan.specs.{Prefixes.under, Scanning.{Rest, IsNextRow, ScanErr, fault_in, has_ended, CanScan}}}
 use Rattle.{std.proofs.Common.{◌≡◌, ◌++◌, ℕ, List, [], ◌∷◌, Bool, true, false, Some, None, refl, sym, subst, ◌∙◌, append_assoc, arith}, btree_scan.specs.declared.rows.Row.Row}
-use Rattle.{btree_scan.specs.declared.scans.RowScan.RowScan, desk_pages.specs.Reading.ReadErr, geo_tables.specs.Following.{AreIn, IsFound, IsTaken, Scans}}
-use Rattle.{page_btree.specs.{gets.declared.error.TreeError.TreeError, node.claim.Entries.Entry}, page_store.specs.declared.{pages.Pages.Pages, txn.Txn.Txn}}
-use Rattle.{sector_device.specs.declared.SectorDevice.Ghosts, store_rows.specs.claim.Rows.KeyMap, btree_scan.proofs.{RowsFound.next_under, Scanning.none_to_come}}
+use Rattle.{btree_scan.specs.declared.scans.RowScan.RowScan, desk_store_pages.specs.Reading.ReadErr, desk_store_rows.specs.claim.Rows.KeyMap, page_store.specs.declared.txn.Txn.Txn}
+use Rattle.{geo_tables.specs.Following.{AreIn, IsFound, IsTaken, Scans}, page_btree.specs.{gets.declared.error.TreeError.TreeError, node.claim.Entries.Entry}}
+use Rattle.{page_store.specs.declared.pages.Pages.Pages, sector_device.specs.declared.SectorDevice.Ghosts, btree_scan.proofs.{RowsFound.next_under, Scanning.none_to_come}}
 
 -- those that follow some of the rows under a prefix
 rest_in : (m : KeyMap) (prefix : List ℕ) (taken es : List Entry) → under prefix (entries m) ≡ taken ++ es → AreIn m es

@@ -1,8 +1,8 @@
 -- What a transaction that is begun reads, and how many pages are free in it.
-use Rattle.{std.{specs.Prelude.◌⊎◌, proofs.{Common.{◌≡◌, ◌*◌, ◌≤◌, ◌<◌, ℕ, length, sym, subst, arith}, lemmas.Bool.cases_lt}}, geo_tables.specs.Starting.IsStarted}
-use Rattle.{page_btree.specs.gets.claim.Map.{Holds, InTxn, InPages}, page_store.specs.{Transactions.txn_first, claim.Chain.{free_in, root_in}, declared.pages.Pages.Pages}}
-use Rattle.page_store.specs.{claim.Transactions.{stored, disk_in, count_of, journal_of, txn_pages, txn_root, txn_free, over, free_over}, declared.txn.Txn.Txn}
-use Rattle.{sector_device.specs.{claim.Disk.Image, declared.SectorDevice.Ghosts}, store_rows.specs.claim.Rows.KeyMap, page_store.proofs.Chains.length_chain}
+use Rattle.{std.{specs.Prelude.◌⊎◌, proofs.{Common.{◌≡◌, ◌*◌, ◌≤◌, ◌<◌, ℕ, length, sym, subst, arith}, lemmas.Bool.cases_lt}}, desk_store_rows.specs.claim.Rows.KeyMap}
+use Rattle.{geo_tables.specs.Starting.IsStarted, page_btree.specs.gets.claim.Map.{Holds, InTxn, InPages}, page_store.specs.{Transactions.txn_first, claim.Chain.{free_in, root_in}}}
+use Rattle.page_store.specs.{claim.Transactions.{stored, disk_in, count_of, journal_of, txn_pages, txn_root, txn_free, over, free_over}, declared.{pages.Pages.Pages, txn.Txn.Txn}}
+use Rattle.{sector_device.specs.{claim.Disk.Image, declared.SectorDevice.Ghosts}, page_store.proofs.Chains.length_chain}
 use Rattle.page_btree.proofs.gets.MapLaws.{begun_holds}
 
 pub free_count : (t : Txn) (P : Image) → length (free_over t P) ≡ txn_free t

@@ -1,10 +1,10 @@
 -- A transaction that is begun, whose rows are put, and that is committed then.
 use Rattle.{std.{specs.Prelude.◌⊎◌, proofs.Common.{◌≡◌, ◌+◌, ◌*◌, ◌≤◌, ℕ, length, false, sym, subst, ◌∙◌, Result, inl, ⊎_elim, arith}}, desk_model.specs.claim.Desk.Desk}
-use Rattle.{desk_pages.specs.{Calls.CommitsFitting, claim.Desks.{InPages, InTxn, OpensDesk}, declared.error.StoreError.StoreError}, geo_tables.specs.Refusals.HasRoom}
-use Rattle.{geo_tables.specs.Starting.IsStarted, page_btree.specs.gets.claim.Map.{InTxn as TxnHolds, InPages as PagesHold}, page_store.specs.claim.Chain.{free_in, root_in}}
+use Rattle.{desk_store_pages.specs.{Calls.CommitsFitting, claim.Desks.{InPages, InTxn, OpensDesk}, declared.error.StoreError.StoreError}, desk_store_rows.specs.claim.Rows.KeyMap}
+use Rattle.{geo_tables.specs.{Refusals.HasRoom, Starting.IsStarted}, page_btree.specs.gets.claim.Map.{InTxn as TxnHolds, InPages as PagesHold}}
+use Rattle.{page_store.specs.{claim.Chain.{free_in, root_in}, declared.{pages.Pages.Pages, txn.Txn.Txn}, gate_journal.claim.Store.home}, sector_device.specs.claim.Disk.Image}
 use Rattle.page_store.specs.claim.Transactions.{stored, disk_in, count_of, journal_of, has_halted, txn_root, txn_free, over, HasFailed, HasShape, IsQuiet, Passed}
-use Rattle.{page_store.specs.{declared.{pages.Pages.Pages, txn.Txn.Txn}, gate_journal.claim.Store.home}, sector_device.specs.claim.{Disk.Image, Moments.LeavesOnly}}
-use Rattle.{sector_device.{specs.declared.SectorDevice.Ghosts, proofs.Moments.{leaves_more, leaves_wider}}, store_rows.specs.claim.Rows.KeyMap, desk_pages.proofs.Kept.opens_now}
+use Rattle.{sector_device.{specs.{claim.Moments.LeavesOnly, declared.SectorDevice.Ghosts}, proofs.Moments.{leaves_more, leaves_wider}}, desk_store_pages.proofs.Kept.opens_now}
 use Rattle.page_store.proofs.Stops.{leaves_here, leaves_quiet}
 
 module _ {D : Type 0} {g : Ghosts D} {a b : Pages D g} (quiet : IsQuiet a b) where

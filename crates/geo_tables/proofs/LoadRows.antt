@@ -1,12 +1,12 @@
 -- What the rows of a load leave as it is.
 use Rattle.std.{specs.{FinMap.{FinMap, insert}, Prelude.{◌≡◌, ◌<◌, ◌+◌, ◌^◌, ℕ, List, [], ◌∷◌, length, Option, MatchOption}}, proofs.lemmas.Bool.cases_lt}
 use Rattle.{std.proofs.Common.{zero, suc, sym, subst, ◌∙◌, inl, inr, arith}, desk_model.specs.claim.{Desk.{Desk, Plan, name_cmp}, Geography.GeographyModel}}
-use Rattle.{desk_model.specs.claim.GeographyModels.IsGeographyModel, geo_tables.specs.{Loads.sealed_rows, Rows.{begun_rows, load_taken, seal_row, staged_row, staged_rows}}}
-use Rattle.store_rows.specs.{Changes.desk_with, Rows.SameTag, Staging.desk_without, claim.{DeskRows.IsDesk, GeographyRows.{IsSealed, IsStaged, geography_rows}}}
-use Rattle.store_rows.specs.claim.{Keys.{key_of, begun, block, in_eight, pair, seal}, Puts.{Row, put_rows}, Rows.{KeyMap, Has, Lacks}, Tidy.{IsNext, no_numbers}}
-use Rattle.{store_rows.specs.{claim.Values.counters_bytes, declared.value.Counters.Counters}, geo_tables.proofs.Staging.{is_block, is_pair}}
-use Rattle.store_rows.proofs.{Frames.{desk_stays, put_is_there, put_keeps_tag, remove_keeps_tag, removed_is_gone, staged_stays, tag_follows}, Puts.{put_rows-append, told_keep}}
-use Rattle.store_rows.proofs.Staging.{load_sealed, none_staged, staged_unseen}
+use Rattle.{desk_model.specs.claim.GeographyModels.IsGeographyModel, desk_store_rows.specs.{Changes.desk_with, Rows.SameTag, Staging.desk_without, claim.DeskRows.IsDesk}}
+use Rattle.desk_store_rows.specs.claim.{GeographyRows.{IsSealed, IsStaged, geography_rows}, Keys.{key_of, begun, block, in_eight, pair, seal}, Puts.{Row, put_rows}}
+use Rattle.desk_store_rows.specs.{claim.{Rows.{KeyMap, Has, Lacks}, Tidy.{IsNext, no_numbers}, Values.counters_bytes}, declared.value.Counters.Counters}
+use Rattle.{geo_tables.specs.{Loads.sealed_rows, Rows.{begun_rows, load_taken, seal_row, staged_row, staged_rows}}, desk_store_rows.proofs.Puts.{put_rows-append, told_keep}}
+use Rattle.desk_store_rows.proofs.Frames.{desk_stays, put_is_there, put_keeps_tag, remove_keeps_tag, removed_is_gone, staged_stays, tag_follows}
+use Rattle.{desk_store_rows.proofs.Staging.{load_sealed, none_staged, staged_unseen}, geo_tables.proofs.Staging.{is_block, is_pair}}
 
 -- ---- a load that is begun
 module _ (m : KeyMap) (next : Counters) where

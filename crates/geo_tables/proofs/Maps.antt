@@ -1,11 +1,11 @@
 -- What the rows of a load make of a map that is a desk's.
 use Rattle.std.proofs.{Common.{◌≡◌, ◌<◌, ◌≤◌, ◌+◌, ◌-◌, ◌^◌, ℕ, List, [], length, Some, None, sym, ap, subst, ◌∙◌, inl, inr, arith}, lemmas.Bool.cases_lt}
-use Rattle.{desk_model.specs.claim.{Desk.Desk, Geography.GeographyModel, GeographyModels.IsGeographyModel}, desk_pages.specs.claim.Desks.IsDeskMap}
-use Rattle.{geo_tables.specs.{Loads.sealed_rows, Rows.{begun_rows, staged_row, staged_rows}}, store_rows.specs.{Changes.desk_with, Staging.desk_without, Steps.IsLoadKey}}
-use Rattle.store_rows.specs.claim.{DeskRows.IsDesk, GeographyRows.{IsStaged, geography_rows}, Keys.{begun, seal}, Puts.{Row, put_rows}, Rows.{KeyMap, Has, Lacks}}
-use Rattle.{store_rows.specs.{claim.Tidy.{IsNext, CountersFit, Tidy}, declared.value.{Counters.Counters, SealRow.SealRow}}, geo_tables.proofs.Staging.{is_block, is_pair}}
-use Rattle.{geo_tables.proofs.LoadRows.{begun_desk, batch_tag, batch_unseen, sealed_desk}, store_rows.proofs.{PutAll.told_all, TidyFree.one_next}}
-use Rattle.store_rows.proofs.TidyLoads.{begun_tidy, begun_unstaged, sealed_tidy, staged_tidy}
+use Rattle.{desk_model.specs.claim.{Desk.Desk, Geography.GeographyModel, GeographyModels.IsGeographyModel}, desk_store_pages.specs.claim.Desks.IsDeskMap}
+use Rattle.desk_store_rows.specs.{Changes.desk_with, Staging.desk_without, Steps.IsLoadKey, claim.{DeskRows.IsDesk, GeographyRows.{IsStaged, geography_rows}, Keys.{begun, seal}}}
+use Rattle.desk_store_rows.specs.{claim.{Puts.{Row, put_rows}, Rows.{KeyMap, Has, Lacks}, Tidy.{IsNext, CountersFit, Tidy}}, declared.value.{Counters.Counters, SealRow.SealRow}}
+use Rattle.{geo_tables.specs.{Loads.sealed_rows, Rows.{begun_rows, staged_row, staged_rows}}, desk_store_rows.proofs.{PutAll.told_all, TidyFree.one_next}}
+use Rattle.{desk_store_rows.proofs.TidyLoads.{begun_tidy, begun_unstaged, sealed_tidy, staged_tidy}, geo_tables.proofs.LoadRows.{begun_desk, batch_tag, batch_unseen, sealed_desk}}
+use Rattle.geo_tables.proofs.Staging.{is_block, is_pair}
 
 -- ---- what a desk's map says of the seal
 pub no_geography : (m : KeyMap) (d : Desk) → IsDesk m d → Lacks m seal → d.geography ≡ None

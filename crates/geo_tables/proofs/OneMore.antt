@@ -1,11 +1,11 @@
 -- One element more of those that a load's rows hold.
 use Rattle.std.{specs.{FinMap.get as row_at, List.slice_get, Prelude.{option_map, Result, Ok, Err, MatchResult}}, proofs.lemmas.{Bool.cases_lt, List.{take_all, take_more}}}
 use Rattle.std.proofs.Common.{◌≡◌, ◌<◌, ◌+◌, ℕ, zero, suc, List, [], ◌∷◌, ◌++◌, length, length-append, take, Some, refl, sym, ap, subst, ◌∙◌, arith}
-use Rattle.{std.proofs.lemmas.{List.Elements.All-push, Option.get_or_from_slice_get}, desk_pages.specs.Looking.{Gathers, IsOnly, Says}, page_btree.specs.gets.claim.Map.InTxn}
-use Rattle.{geo_tables.{specs.Elements.{AddsOne, HoldsElement, HoldsElements, IsIn, ValueErr}, proofs.Staging.there}, page_btree.specs.gets.declared.error.TreeError.TreeError}
-use Rattle.{page_btree.specs.gets.declared.error.TreeError.TheVariants.{NotAStore, Memory}, page_store.specs.{claim.Transactions.{stored, disk_in, Passed}, declared.txn.Txn.Txn}}
-use Rattle.{page_store.specs.declared.pages.Pages.Pages, sector_device.specs.declared.SectorDevice.Ghosts, store_rows.specs.claim.Rows.KeyMap, desk_pages.proofs.Reading.one_value}
-use Rattle.desk_pages.proofs.Looking.{looked, not_looked}
+use Rattle.{std.proofs.lemmas.{List.Elements.All-push, Option.get_or_from_slice_get}, desk_store_pages.specs.Looking.{Gathers, IsOnly, Says}, page_btree.specs.gets.claim.Map.InTxn}
+use Rattle.{desk_store_rows.specs.claim.Rows.KeyMap, geo_tables.specs.Elements.{AddsOne, HoldsElement, HoldsElements, IsIn, ValueErr}, page_store.specs.declared.pages.Pages.Pages}
+use Rattle.{page_btree.specs.gets.declared.error.TreeError.{TreeError, TheVariants.{NotAStore, Memory}}, page_store.specs.claim.Transactions.{stored, disk_in, Passed}}
+use Rattle.{page_store.specs.declared.txn.Txn.Txn, sector_device.specs.declared.SectorDevice.Ghosts, desk_store_pages.proofs.{Looking.{looked, not_looked}, Reading.one_value}}
+use Rattle.geo_tables.proofs.Staging.{there}
 
 -- the one at a place
 pub record IsElement {X : Type 0} (bytes_of : X → List ℕ) (fits : X → Type 0) (key : List ℕ) (m : KeyMap) (xs : List X) (place : ℕ) : Type 0 where

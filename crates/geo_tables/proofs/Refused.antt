@@ -1,13 +1,13 @@
 -- Why a step of a load is refused, from why its parts are.
 use Rattle.std.proofs.{Common.{◌≡◌, ◌*◌, ◌≤◌, ◌<◌, ◌^◌, ℕ, Bool, List, Option, None, length, false, true, refl, sym, subst, ◌∙◌, inl, inr, arith, ◌+◌}, lemmas.Bool.cases_lt}
-use Rattle.{desk_model.specs.claim.{Desk.Desk, Geography.GeographyModel}, desk_pages.specs.{Errors.tree_refusal, Reading.{HasNext, ReadErr, StandsAs}, claim.Puts.PutsErr}}
-use Rattle.desk_pages.specs.{claim.Desks.{IsDeskMap, InPages}, declared.error.StoreError.{StoreError, TheVariants.{Full, Memory, NotAStore, DeviceFault, Halted}}}
+use Rattle.{desk_model.specs.claim.{Desk.Desk, Geography.GeographyModel}, desk_store_pages.specs.{Errors.tree_refusal, Reading.{HasNext, ReadErr, StandsAs}, claim.Puts.PutsErr}}
+use Rattle.desk_store_pages.specs.{claim.Desks.{IsDeskMap, InPages}, declared.error.StoreError.{StoreError, TheVariants.{Full, Memory, NotAStore, DeviceFault, Halted}}}
+use Rattle.desk_store_rows.specs.{claim.{Keys.{key_of, seal}, Puts.{Row, put_rows}, Rows.{KeyMap, Lacks}, Values.seal_bytes}, declared.value.SealRow.SealRow}
 use Rattle.geo_tables.specs.{Loads.{AreExhausted, IsNotBegun, BeginErr}, Refusals.{HasRoom, IsShort, IsDeep, AreBegun, NextErr, RowsErr, SealedErr, BeginErr as Begins}}
 use Rattle.{geo_tables.specs.{Rows.begun_rows, Starting.{IsStarted, StartErr}, declared.load.Load.Load}, page_btree.specs.gets.claim.Errors.{level_in, reach_in, top_reach}}
 use Rattle.{page_btree.specs.gets.{claim.Map.{InTxn as TxnHolds, InPages as HoldsRows}, declared.error.TreeError.TreeError}, page_store.specs.claim.Chain.root_in}
 use Rattle.page_store.specs.{claim.Transactions.{stored, disk_in, journal_of, has_halted, txn_free, txn_root, over, IsQuiet, Passed}, declared.{pages.Pages.Pages, txn.Txn.Txn}}
-use Rattle.{sector_device.specs.{claim.Disk.Image, declared.SectorDevice.Ghosts}, store_rows.specs.claim.{Keys.{key_of, seal}, Puts.{Row, put_rows}, Rows.{KeyMap, Lacks}}}
-use Rattle.{store_rows.specs.{claim.Values.seal_bytes, declared.value.SealRow.SealRow}, desk_pages.proofs.Nearness.near_stored, geo_tables.proofs.Maps.no_geography}
+use Rattle.{sector_device.specs.{claim.Disk.Image, declared.SectorDevice.Ghosts}, desk_store_pages.proofs.Nearness.near_stored, geo_tables.proofs.Maps.no_geography}
 use Rattle.{geo_tables.proofs.{Joins.{failed_after, room_of, quiet_rows, quiet_desk}, SealedRows.seal_stands}, page_store.proofs.Stops.{quiet_more, quiet_none}}
 use Rattle.page_btree.specs.gets.declared.error.TreeError.TheVariants as tree
 

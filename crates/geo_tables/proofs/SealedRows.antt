@@ -1,9 +1,9 @@
 -- The seal tells the rows of its geography.
 use Rattle.std.proofs.{Common.{◌≡◌, ◌-◌, ℕ, List, length, take, Option, Some, None, refl, sym, ap, subst, ◌∙◌, arith}, lemmas.{List.take_all, Option.same_Some}}
-use Rattle.{desk_model.specs.{claim.Geography.GeographyModel, declared.{block.BlockRow.BlockRow, geography.Pair.Pair}}, desk_pages.specs.Reading.StandsAs}
-use Rattle.{geo_tables.specs.Elements.{IsSealedAs, IsSealRow}, store_rows.specs.claim.GeographyRows.{IsSealed, IsGeography, geography_rows, neighbours_bytes}}
-use Rattle.store_rows.specs.{claim.{Keys.{key_of, seal}, Rows.{KeyMap, Lacks, element_row}, Values.{block_bytes, seal_bytes}}, declared.value.SealRow.SealRow}
-use Rattle.store_rows.proofs.OneGeography.{no_value, seal_blocks, seal_load, seal_pairs}
+use Rattle.{desk_model.specs.{claim.Geography.GeographyModel, declared.{block.BlockRow.BlockRow, geography.Pair.Pair}}, desk_store_pages.specs.Reading.StandsAs}
+use Rattle.desk_store_rows.specs.claim.{GeographyRows.{IsSealed, IsGeography, geography_rows, neighbours_bytes}, Keys.{key_of, seal}, Rows.{KeyMap, Lacks, element_row}}
+use Rattle.{desk_store_rows.specs.{claim.Values.{block_bytes, seal_bytes}, declared.value.SealRow.SealRow}, geo_tables.specs.Elements.{IsSealedAs, IsSealRow}}
+use Rattle.desk_store_rows.proofs.OneGeography.{no_value, seal_blocks, seal_load, seal_pairs}
 
 -- the seal's row of a geography
 abbrev seal_of : ℕ → GeographyModel → SealRow

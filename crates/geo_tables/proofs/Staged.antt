@@ -1,13 +1,13 @@
 -- Rows of a load that are put and committed.
 use Rattle.{std.proofs.Common.{◌≡◌, ◌+◌, ◌*◌, ◌≤◌, ◌<◌, ◌^◌, ◌∙◌, ℕ, List, [], length, sym, subst, arith}, desk_model.specs.claim.{Desk.Desk, Geography.GeographyModel}}
-use Rattle.{desk_model.specs.claim.GeographyModels.IsGeographyModel, desk_pages.specs.claim.{Desks.{InTxn, InPages}, Puts.HasPut}, geo_tables.specs.Refusals.LackSeal}
-use Rattle.geo_tables.specs.{Loading.{HoldsLoad, HoldsFurther, HoldsNew, number_of, geography_model_of, done_of}, Loads.{HasBegun, HasSealed, sealed_rows}, Staging.Stages}
-use Rattle.{geo_tables.specs.{Rows.{begun_rows, staged_row, staged_rows}, Starting.IsStarted, declared.load.Load.Load}, page_store.specs.declared.{pages.Pages.Pages, txn.Txn.Txn}}
-use Rattle.{page_btree.specs.gets.claim.Map.{InTxn as TxnHolds, InPages as PagesHold}, page_store.specs.claim.Transactions.{stored, disk_in, journal_of, txn_writes}}
-use Rattle.{sector_device.specs.declared.SectorDevice.Ghosts, store_rows.specs.{Changes.desk_with, claim.{GeographyRows.{IsStaged, geography_rows}, Keys.begun}}}
-use Rattle.{store_rows.specs.{claim.{Puts.{Row, put_rows}, Rows.{KeyMap, Has}, Tidy.{IsNext, CountersFit}}, declared.value.Counters.Counters}, geo_tables.proofs.Joins.reads_then}
-use Rattle.geo_tables.proofs.{LoadRows.{begun_mark, begun_unsealed}, Maps.{begun_is, begun_none, batch_is, batch_mark, batch_unsealed, seal_is}}
-use Rattle.store_rows.proofs.Puts.{length-rows_told}
+use Rattle.{desk_model.specs.claim.GeographyModels.IsGeographyModel, desk_store_pages.specs.claim.{Desks.{InTxn, InPages}, Puts.HasPut}, desk_store_rows.specs.Changes.desk_with}
+use Rattle.desk_store_rows.specs.claim.{GeographyRows.{IsStaged, geography_rows}, Keys.begun, Puts.{Row, put_rows}, Rows.{KeyMap, Has}, Tidy.{IsNext, CountersFit}}
+use Rattle.{desk_store_rows.specs.declared.value.Counters.Counters, geo_tables.specs.Loading.{HoldsLoad, HoldsFurther, HoldsNew, number_of, geography_model_of, done_of}}
+use Rattle.geo_tables.specs.{Loads.{HasBegun, HasSealed, sealed_rows}, Refusals.LackSeal, Rows.{begun_rows, staged_row, staged_rows}, Staging.Stages, Starting.IsStarted}
+use Rattle.{geo_tables.specs.declared.load.Load.Load, page_btree.specs.gets.claim.Map.{InTxn as TxnHolds, InPages as PagesHold}, page_store.specs.declared.pages.Pages.Pages}
+use Rattle.{page_store.specs.{claim.Transactions.{stored, disk_in, journal_of, txn_writes}, declared.txn.Txn.Txn}, sector_device.specs.declared.SectorDevice.Ghosts}
+use Rattle.{desk_store_rows.proofs.Puts.length-rows_told, geo_tables.proofs.{Joins.reads_then, LoadRows.{begun_mark, begun_unsealed}}}
+use Rattle.geo_tables.proofs.Maps.{begun_is, begun_none, batch_is, batch_mark, batch_unsealed, seal_is}
 
 -- the rows of a load that are put next
 abbrev pub rows_of : Load → ℕ → List Row

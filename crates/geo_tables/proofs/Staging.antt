@@ -2,9 +2,9 @@
 use Rattle.{std.specs.{List.slice_get, Prelude.{◌≡◌, ◌<◌, ◌≤◌, ◌+◌, ◌-◌, ◌^◌, ℕ, List, [], ◌∷◌, length, Some, option_map, cond, get_or}}, geo_tables.specs.Staging.Stages}
 use Rattle.{std.proofs.{Common.{zero, suc, refl, sym, ap, subst, inl, inr, arith}, lemmas.Bool.{cases_lt, lt-ltb, le-ltb}}, desk_model.specs.claim.Geography.GeographyModel}
 use Rattle.{std.proofs.lemmas.Option.{slice_get_within, slice_get_read, slice_get-get_or}, desk_model.specs.declared.{block.BlockRow.BlockRow, geography.Pair.Pair}}
-use Rattle.{geo_tables.specs.Rows.{bytes_in, block_at, pair_at, staged_row, staged_rows}, store_rows.specs.claim.{Keys.{key_of, block, pair}, Puts.{Row, put_rows}}}
-use Rattle.store_rows.specs.claim.{GeographyRows.{IsBlockRow, IsStaged, geography_rows, neighbours_bytes}, Rows.{KeyMap, element_row}, Values.block_bytes}
-use Rattle.store_rows.proofs.{Puts.put_rows-append, Staging.{block_staged, pair_staged}}
+use Rattle.desk_store_rows.specs.claim.{GeographyRows.{IsBlockRow, IsStaged, geography_rows, neighbours_bytes}, Keys.{key_of, block, pair}, Puts.{Row, put_rows}}
+use Rattle.{desk_store_rows.specs.claim.{Rows.{KeyMap, element_row}, Values.block_bytes}, geo_tables.specs.Rows.{bytes_in, block_at, pair_at, staged_row, staged_rows}}
+use Rattle.desk_store_rows.proofs.{Puts.put_rows-append, Staging.{block_staged, pair_staged}}
 
 -- the block at a place, where there is one, fits in its row
 abbrev pub FitsAt : GeographyModel → ℕ → Type 0

@@ -1,7 +1,7 @@
 -- What a commit of rows comes to, exit by exit.
-use Rattle.{std.{specs.Prelude.{Result, IsErrAnd}, proofs.Common.{◌≡◌, ℕ, Ok, Err, false, true, refl, sym, subst, ◌∙◌, arith}}, desk_pages.specs.Calls.CommitsFitting}
-use Rattle.{desk_pages.specs.{Commits.FittingErr, declared.error.StoreError.{StoreError, TheVariants.{DeviceFault, Halted, Memory}}}, page_store.specs.declared.pages.Pages.Pages}
-use Rattle.{geo_tables.{specs.{Refusals.{CommitsRows, HasRoom}, Starting.{IsStarted, StartErr}}, proofs.Refused.{both, room_after}}, page_store.specs.declared.txn.Txn.Txn}
+use Rattle.{std.{specs.Prelude.{Result, IsErrAnd}, proofs.Common.{◌≡◌, ℕ, Ok, Err, false, true, refl, sym, subst, ◌∙◌, arith}}, desk_store_pages.specs.Calls.CommitsFitting}
+use Rattle.{desk_store_pages.specs.{Commits.FittingErr, declared.error.StoreError.{StoreError, TheVariants.{DeviceFault, Halted, Memory}}}, page_store.specs.declared.txn.Txn.Txn}
+use Rattle.{geo_tables.{specs.{Refusals.{CommitsRows, HasRoom}, Starting.{IsStarted, StartErr}}, proofs.Refused.{both, room_after}}, page_store.specs.declared.pages.Pages.Pages}
 use Rattle.{page_store.specs.claim.Transactions.{disk_in, has_halted, HasFailed, HasShape, IsKept, IsQuiet, Passed}, sector_device.specs.declared.SectorDevice.Ghosts}
 use Rattle.geo_tables.proofs.Joins.{failed_after, room_of, shape_after}
 

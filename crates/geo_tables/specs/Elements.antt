@@ -1,9 +1,9 @@
 -- What stands in the rows of a load, from the first place on.
 use Rattle.std.specs.{FinMap.get as row_at, Prelude.{◌≡◌, ◌<◌, ◌^◌, ℕ, List, [], ◌∷◌, ◌++◌, length, All, Option, Some, None}}
-use Rattle.{desk_model.specs.{claim.{Geography.GeographyModel, GeographyModels.IsGeographyModel}, declared.geography.Pair.Pair}, desk_pages.specs.Looking.IsOnly}
-use Rattle.{desk_pages.specs.Reading.StandsAs, page_btree.specs.gets.declared.error.TreeError.{TreeError, TheVariants.{NotAStore, Memory}}}
-use Rattle.store_rows.specs.claim.{GeographyRows.{IsBlockRow, neighbours_bytes}, Keys.{key_of, block, pair, seal}, Rows.{KeyMap, Lacks, element_row}}
-use Rattle.store_rows.specs.{claim.Values.{block_bytes, seal_bytes}, declared.value.SealRow.SealRow}
+use Rattle.{desk_model.specs.{claim.{Geography.GeographyModel, GeographyModels.IsGeographyModel}, declared.geography.Pair.Pair}, desk_store_pages.specs.Looking.IsOnly}
+use Rattle.{desk_store_pages.specs.Reading.StandsAs, desk_store_rows.specs.claim.{GeographyRows.{IsBlockRow, neighbours_bytes}, Keys.{key_of, block, pair, seal}}}
+use Rattle.desk_store_rows.specs.{claim.{Rows.{KeyMap, Lacks, element_row}, Values.{block_bytes, seal_bytes}}, declared.value.SealRow.SealRow}
+use Rattle.page_btree.specs.gets.declared.error.TreeError.{TreeError, TheVariants.{NotAStore, Memory}}
 
 -- the places of a pair fit in its row
 pub record IsPairRow (p : Pair) : Type 0 where

@@ -1,6 +1,6 @@
 -- A scan that goes along while rows are read by their places.
 use Rattle.std.specs.{FinMap.{entries, get as row_at}, Prelude.{◌≡◌, ℕ, List, [], ◌∷◌, Bool, true, false, Some}}
-use Rattle.{btree_scan.specs.{Scanning.Rest, declared.{rows.Row.Row, scans.RowScan.RowScan}}, page_btree.specs.node.claim.Entries.Entry, store_rows.specs.claim.Rows.KeyMap}
+use Rattle.{btree_scan.specs.{Scanning.Rest, declared.{rows.Row.Row, scans.RowScan.RowScan}}, desk_store_rows.specs.claim.Rows.KeyMap, page_btree.specs.node.claim.Entries.Entry}
 
 -- each of some rows is one of the map
 abbrev pub AreIn : KeyMap → List Entry → Type 0

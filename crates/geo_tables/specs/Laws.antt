@@ -1,9 +1,9 @@
 -- What holds of the rows of loads.
 use Rattle.std.specs.{FinMap.FinMap, Prelude.{◌<◌, ◌^◌, ℕ, [], length}}
-use Rattle.{desk_model.specs.claim.{Desk.{Desk, Plan, name_cmp}, Geography.GeographyModel, GeographyModels.IsGeographyModel}, geo_tables.specs.Loads.sealed_rows}
-use Rattle.{geo_tables.specs.Rows.{begun_rows, load_taken, staged_rows}, store_rows.specs.{Changes.desk_with, Staging.desk_without, claim.{DeskRows.IsDesk, Puts.put_rows}}}
-use Rattle.store_rows.specs.claim.{GeographyRows.{IsSealed, IsStaged, geography_rows}, Keys.{begun, block, pair, seal}, Rows.{KeyMap, Has, Lacks}, Tidy.IsNext}
-use Rattle.store_rows.specs.declared.value.Counters.{Counters}
+use Rattle.{desk_model.specs.claim.{Desk.{Desk, Plan, name_cmp}, Geography.GeographyModel, GeographyModels.IsGeographyModel}, desk_store_rows.specs.Changes.desk_with}
+use Rattle.desk_store_rows.specs.{Staging.desk_without, claim.{DeskRows.IsDesk, GeographyRows.{IsSealed, IsStaged, geography_rows}, Keys.{begun, block, pair, seal}, Puts.put_rows}}
+use Rattle.{desk_store_rows.specs.{claim.{Rows.{KeyMap, Has, Lacks}, Tidy.IsNext}, declared.value.Counters.Counters}, geo_tables.specs.Loads.sealed_rows}
+use Rattle.geo_tables.specs.Rows.{begun_rows, load_taken, staged_rows}
 
 -- A load that is begun is marked, and the next load gets another number. The desk stays. No row of the load is staged where
 -- none stood under its number.

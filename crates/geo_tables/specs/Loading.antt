@@ -1,9 +1,9 @@
 -- A load that is under way, and the pages that hold its rows.
 use Rattle.std.specs.Prelude.{◌≡◌, ◌≤◌, ◌+◌, ◌⊎◌, ℕ, [], Result, Ok, Err}
-use Rattle.{desk_model.specs.claim.{Desk.Desk, Geography.GeographyModel}, desk_pages.specs.{claim.Desks.{IsDeskMap, OpensDesk}, declared.error.StoreError.StoreError}}
+use Rattle.{desk_model.specs.claim.{Desk.Desk, Geography.GeographyModel}, desk_store_pages.specs.{claim.Desks.{IsDeskMap, OpensDesk}, declared.error.StoreError.StoreError}}
+use Rattle.desk_store_rows.specs.{Changes.desk_with, claim.{GeographyRows.{IsStaged, geography_rows}, Keys.{begun, seal}, Rows.{KeyMap, Has, Lacks}}}
 use Rattle.{geo_tables.specs.declared.load.Load.Load, page_btree.specs.gets.claim.Map.InPages, page_store.specs.declared.pages.Pages.Pages, sector_device.specs.claim.Disk.Image}
-use Rattle.{sector_device.specs.declared.SectorDevice.Ghosts, store_rows.specs.{Changes.desk_with, claim.{GeographyRows.{IsStaged, geography_rows}, Keys.{begun, seal}}}}
-use Rattle.store_rows.specs.claim.Rows.{KeyMap, Has, Lacks}
+use Rattle.sector_device.specs.declared.SectorDevice.{Ghosts}
 
 -- its number, its geography, and how many of the geography's rows are staged
 abbrev pub number_of : Load → ℕ

@@ -1,9 +1,9 @@
 -- Loads that are begun and sealed.
 use Rattle.std.specs.{FinMap.{insert, remove}, Prelude.{◌≡◌, ◌⊎◌, ◌<◌, ◌≤◌, ◌+◌, ◌^◌, ℕ, Option, MatchOption}}
-use Rattle.{desk_model.specs.claim.Geography.GeographyModel, desk_pages.specs.{Reading.{HasNext, ReadErr}, claim.Puts.{HasPut, PutsErr}}, page_btree.specs.gets.claim.Map.InTxn}
-use Rattle.{geo_tables.specs.Rows.{begun_rows, seal_row}, page_btree.specs.gets.declared.error.TreeError.TreeError, page_store.specs.declared.{pages.Pages.Pages, txn.Txn.Txn}}
+use Rattle.{desk_model.specs.claim.Geography.GeographyModel, desk_store_pages.specs.{Reading.{HasNext, ReadErr}, claim.Puts.{HasPut, PutsErr}}}
+use Rattle.{desk_store_rows.specs.{claim.{Keys.{key_of, begun}, Rows.KeyMap, Tidy.IsNext}, declared.value.Counters.Counters}, geo_tables.specs.Rows.{begun_rows, seal_row}}
+use Rattle.{page_btree.specs.gets.{claim.Map.InTxn, declared.error.TreeError.TreeError}, page_store.specs.declared.{pages.Pages.Pages, txn.Txn.Txn}}
 use Rattle.{page_store.specs.claim.Transactions.{stored, disk_in, txn_pages, txn_free, txn_writes, Passed}, sector_device.specs.declared.SectorDevice.Ghosts}
-use Rattle.store_rows.specs.{claim.{Keys.{key_of, begun}, Rows.KeyMap, Tidy.IsNext}, declared.value.Counters.Counters}
 
 -- the rows after the seal: that row is put, and the one that the load was begun with is gone
 abbrev pub sealed_rows : ℕ → GeographyModel → KeyMap → KeyMap

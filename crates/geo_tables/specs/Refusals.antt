@@ -1,11 +1,11 @@
 -- Why a load goes no further.
 use Rattle.std.specs.Prelude.{◌≡◌, ◌⊎◌, ◌<◌, ◌≤◌, ◌+◌, ◌*◌, ◌^◌, ℕ, List, [], ◌∷◌, length, Some, None, true, Result, Err, OnOk}
-use Rattle.{desk_model.specs.claim.{Desk.Desk, Geography.GeographyModel}, desk_pages.specs.{Commits.Commits, claim.{Desks.InPages, Puts.{HasDeepened, IsStoredNear}}}}
-use Rattle.{desk_pages.specs.declared.error.StoreError.{StoreError, TheVariants.{AlreadySealed, Full, Memory, NotAStore, DeviceFault, Halted}}, store_rows.specs.claim.Keys.seal}
-use Rattle.geo_tables.specs.{Loading.{HoldsLoad, number_of, geography_model_of, done_of}, Rows.{begun_rows, staged_rows, seal_row}, declared.load.Load.Load}
-use Rattle.{page_btree.specs.gets.claim.Map.InPages as HoldsRows, page_store.specs.{claim.Chain.free_in, declared.{pages.Pages.Pages, txn.Txn.Txn}}}
-use Rattle.{page_store.specs.claim.Transactions.{stored, disk_in, journal_of, has_halted, HasFailed, IsQuiet, IsSame, Passed}, sector_device.specs.declared.SectorDevice.Ghosts}
-use Rattle.store_rows.specs.{claim.{Puts.Row, Rows.{KeyMap, Lacks}, Tidy.IsNext}, declared.value.Counters.Counters}
+use Rattle.{desk_model.specs.claim.{Desk.Desk, Geography.GeographyModel}, desk_store_pages.specs.{Commits.Commits, claim.{Desks.InPages, Puts.{HasDeepened, IsStoredNear}}}}
+use Rattle.desk_store_pages.specs.declared.error.StoreError.{StoreError, TheVariants.{AlreadySealed, Full, Memory, NotAStore, DeviceFault, Halted}}
+use Rattle.{desk_store_rows.specs.{claim.{Keys.seal, Puts.Row, Rows.{KeyMap, Lacks}, Tidy.IsNext}, declared.value.Counters.Counters}, geo_tables.specs.declared.load.Load.Load}
+use Rattle.{geo_tables.specs.{Loading.{HoldsLoad, number_of, geography_model_of, done_of}, Rows.{begun_rows, staged_rows, seal_row}}, page_store.specs.claim.Chain.free_in}
+use Rattle.{page_btree.specs.gets.claim.Map.InPages as HoldsRows, page_store.specs.claim.Transactions.{stored, disk_in, journal_of, has_halted, HasFailed, IsQuiet, IsSame, Passed}}
+use Rattle.{page_store.specs.declared.{pages.Pages.Pages, txn.Txn.Txn}, sector_device.specs.declared.SectorDevice.Ghosts}
 
 -- the rows with which the next load begins
 abbrev pub AreBegun : KeyMap → List Row → Type 0

@@ -1,7 +1,7 @@
 -- The rows of a geography: its blocks rising, then its pairs rising.
 use Rattle.std.specs.Prelude.{◌+◌, ◌-◌, ℕ, nat_lt, if◌then◌else◌, List, [], ◌∷◌, length, Option, Some, None}
-use Rattle.{desk_model.specs.claim.Geography.GeographyModel, store_rows.specs.{Puts.rows_told, claim.{GeographyRows.neighbours_bytes, Puts.Row, Rows.element_row}}}
-use Rattle.store_rows.specs.{claim.{Keys.{key_of, block, pair, begun, counters, seal}, Values.{block_bytes, counters_bytes, seal_bytes}}, declared.value.Counters.Counters}
+use Rattle.{desk_model.specs.claim.Geography.GeographyModel, desk_store_rows.specs.{Puts.rows_told, claim.{GeographyRows.neighbours_bytes, Puts.Row, Rows.element_row}}}
+use Rattle.desk_store_rows.specs.{claim.{Keys.{key_of, block, pair, begun, counters, seal}, Values.{block_bytes, counters_bytes, seal_bytes}}, declared.value.Counters.Counters}
 
 -- the bytes of a row that is there
 abbrev pub bytes_in : Option (List ℕ) → List ℕ

@@ -1,8 +1,8 @@
 -- Rows of a geography that are put in batches are staged.
 use Rattle.std.specs.Prelude.{◌+◌, ℕ, [], ◌∷◌, Result}
-use Rattle.{desk_model.specs.claim.Geography.GeographyModel, desk_pages.specs.{Outcomes.Writes, Rising.{HasPutWith, PutsErrWith}}, geo_tables.specs.Rows.staged_rows}
-use Rattle.{page_btree.specs.{gets.declared.error.TreeError.TreeError, puts.declared.finger.Fingers.Fingers}, page_store.specs.declared.{pages.Pages.Pages, txn.Txn.Txn}}
-use Rattle.{sector_device.specs.declared.SectorDevice.Ghosts, store_rows.specs.claim.{GeographyRows.IsStaged, Puts.{Row, put_rows}, Rows.KeyMap}}
+use Rattle.{desk_model.specs.claim.Geography.GeographyModel, desk_store_pages.specs.{Outcomes.Writes, Rising.{HasPutWith, PutsErrWith}}, desk_store_rows.specs.claim.Rows.KeyMap}
+use Rattle.{desk_store_rows.specs.claim.{GeographyRows.IsStaged, Puts.{Row, put_rows}}, geo_tables.specs.Rows.staged_rows, page_btree.specs.gets.declared.error.TreeError.TreeError}
+use Rattle.{page_btree.specs.puts.declared.finger.Fingers.Fingers, page_store.specs.declared.{pages.Pages.Pages, txn.Txn.Txn}, sector_device.specs.declared.SectorDevice.Ghosts}
 
 -- what a batch's rows do, and one row more
 abbrev pub Stages : ℕ → GeographyModel → ℕ → ℕ → Type 0

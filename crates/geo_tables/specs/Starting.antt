@@ -1,8 +1,9 @@
 -- A transaction that is begun where there is room for its rows, and that is committed.
 use Rattle.std.specs.Prelude.{◌≡◌, ◌⊎◌, ◌<◌, ◌≤◌, ◌*◌, ℕ, length, true, false}
-use Rattle.{desk_pages.specs.declared.error.StoreError.{StoreError, TheVariants.{Full, Halted}}, page_btree.specs.gets.claim.Map.{InTxn, InPages}}
-use Rattle.page_store.specs.claim.{Chain.{free_in, root_in}, Transactions.{stored, disk_in, count_of, journal_of, has_halted, txn_pages, txn_root, txn_free, txn_writes, over}}
-use Rattle.{page_store.specs.declared.{pages.Pages.Pages, txn.Txn.Txn}, sector_device.specs.declared.SectorDevice.Ghosts, store_rows.specs.claim.Rows.KeyMap}
+use Rattle.{desk_store_pages.specs.declared.error.StoreError.{StoreError, TheVariants.{Full, Halted}}, desk_store_rows.specs.claim.Rows.KeyMap}
+use Rattle.{page_btree.specs.gets.claim.Map.{InTxn, InPages}, page_store.specs.{claim.Chain.{free_in, root_in}, declared.{pages.Pages.Pages, txn.Txn.Txn}}}
+use Rattle.page_store.specs.claim.Transactions.{stored, disk_in, count_of, journal_of, has_halted, txn_pages, txn_root, txn_free, txn_writes, over}
+use Rattle.sector_device.specs.declared.SectorDevice.{Ghosts}
 
 module _ {D : Type 0} {g : Ghosts D} where
   -- It reads what the pages hold and has written nothing. They have 13 free pages and 13 journal pages for each row.

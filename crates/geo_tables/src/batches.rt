@@ -2,15 +2,15 @@
 ghost use Rattle.std.specs.Prelude.{◌≡◌, ◌≤◌, ◌+◌, OnOk, MatchResult};
 ghost use Rattle.page_store.specs.claim.Transactions.{disk_in};
 ghost use Rattle.desk_model.specs.claim.Desk.{Desk};
-ghost use Rattle.desk_pages.specs.claim.Desks.{OpensDesk};
-ghost use Rattle.desk_pages.specs.Moments.{StopsLeave};
+ghost use Rattle.desk_store_pages.specs.claim.Desks.{OpensDesk};
+ghost use Rattle.desk_store_pages.specs.Moments.{StopsLeave};
 ghost use Rattle.geo_tables.specs.Loading.{LeavesRows, HoldsLoad, HoldsFurther, IsBatch};
 ghost use Rattle.geo_tables.specs.Refusals.{BatchErr, CommitsRows};
 
 use crate::load::Load;
 use crate::puts::put_batch;
 use crate::starts::start;
-use desk_pages::{StoreError, commit_fitting};
+use desk_store_pages::{StoreError, commit_fitting};
 use page_store::Pages;
 use sector_device::SectorDevice;
 use std::alloc::Global;

@@ -3,11 +3,11 @@ ghost use Rattle.std.specs.Prelude.{◌≡◌, ◌≤◌, ◌<◌, ◌*◌, ◌^
 ghost use Rattle.page_store.specs.claim.Transactions.{disk_in, journal_of, txn_free, IsQuiet};
 ghost use Rattle.page_btree.specs.gets.claim.Map.{InPages as HoldsRows};
 ghost use Rattle.desk_model.specs.claim.Desk.{Desk};
-ghost use Rattle.store_rows.specs.declared.value.Counters.{Counters};
-ghost use Rattle.store_rows.specs.claim.Rows.{KeyMap};
-ghost use Rattle.store_rows.specs.claim.Tidy.{IsNext};
-ghost use Rattle.desk_pages.specs.claim.Desks.{InPages, OpensDesk};
-ghost use Rattle.desk_pages.specs.Moments.{StopsLeave, StopsLeaveAtWork};
+ghost use Rattle.desk_store_rows.specs.declared.value.Counters.{Counters};
+ghost use Rattle.desk_store_rows.specs.claim.Rows.{KeyMap};
+ghost use Rattle.desk_store_rows.specs.claim.Tidy.{IsNext};
+ghost use Rattle.desk_store_pages.specs.claim.Desks.{InPages, OpensDesk};
+ghost use Rattle.desk_store_pages.specs.Moments.{StopsLeave, StopsLeaveAtWork};
 ghost use Rattle.geo_tables.specs.Starting.{IsStarted};
 ghost use Rattle.geo_tables.specs.Loading.{HoldsLoad, HoldsNew, number_of, done_of};
 ghost use Rattle.geo_tables.specs.Refusals.{BeginErr, CommitsRows, FindsNoSeal, LackSeal, NextErr, SealedErr};
@@ -17,12 +17,12 @@ use crate::load_rows::begin_rows;
 use crate::puts::has_small_places;
 use crate::starts::{begin, has_room};
 use desk_model::geography::Geography;
-use desk_pages::{StoreError, commit_fitting, get_row};
+use desk_store_pages::{StoreError, commit_fitting, get_row};
+use desk_store_rows::{Key, SealRow};
 use page_store::{Pages, Txn};
 use sector_device::SectorDevice;
 use std::alloc::Global;
 use std::sync::Arc;
-use store_rows::{Key, SealRow};
 
 /// Refuses where a geography is sealed.
 fn refuse_sealed<D: SectorDevice>(txn: &Txn, pages: &mut Pages<D>) -> Result<(), StoreError>

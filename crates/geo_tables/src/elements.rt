@@ -4,7 +4,7 @@ ghost use Rattle.geo_tables.specs.Elements.{IsPairRow};
 use crate::ranges::{block_fits, code_fits};
 use desk_model::block::BlockRow;
 use desk_model::geography::Pair;
-use store_rows::{Key, read_block, read_pair};
+use desk_store_rows::{Key, read_block, read_pair};
 
 /// An element of a geography, as a row holds it.
 pub(crate) trait Element: Copy {
@@ -33,9 +33,9 @@ pub(crate) trait Element: Copy {
 }
 
 impl Element for BlockRow {
-    ghost use Rattle.store_rows.specs.claim.Keys.{key_of, block, blocks_prefix};
-    ghost use Rattle.store_rows.specs.claim.Values.{block_bytes};
-    ghost use Rattle.store_rows.specs.claim.GeographyRows.{IsBlockRow};
+    ghost use Rattle.desk_store_rows.specs.claim.Keys.{key_of, block, blocks_prefix};
+    ghost use Rattle.desk_store_rows.specs.claim.Values.{block_bytes};
+    ghost use Rattle.desk_store_rows.specs.claim.GeographyRows.{IsBlockRow};
 
     ghost bytes_of = { block_bytes };
 
@@ -73,8 +73,8 @@ fn pair_fits(pair: Pair)
 }
 
 impl Element for Pair {
-    ghost use Rattle.store_rows.specs.claim.Keys.{key_of, pair, pairs_prefix};
-    ghost use Rattle.store_rows.specs.claim.GeographyRows.{neighbours_bytes};
+    ghost use Rattle.desk_store_rows.specs.claim.Keys.{key_of, pair, pairs_prefix};
+    ghost use Rattle.desk_store_rows.specs.claim.GeographyRows.{neighbours_bytes};
     ghost use Rattle.geo_tables.specs.Elements.{IsPairRow};
 
     ghost bytes_of = { neighbours_bytes };

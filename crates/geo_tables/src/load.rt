@@ -1,7 +1,7 @@
 //! A load that is under way.
 ghost use Rattle.std.specs.Prelude.{◌≡◌, ◌+◌, ◌≤◌, ◌<◌, ◌^◌, length};
 ghost use Rattle.desk_model.specs.claim.GeographyModels.{IsGeographyModel};
-ghost use Rattle.store_rows.specs.claim.GeographyRows.{geography_rows};
+ghost use Rattle.desk_store_rows.specs.claim.GeographyRows.{geography_rows};
 
 use desk_model::geography::Geography;
 use std::sync::Arc;

@@ -1,18 +1,18 @@
 //! Begins loads and seals them.
 ghost use Rattle.std.specs.Prelude.{◌≡◌, ◌<◌, ◌+◌, ◌^◌, [], ◌∷◌, length};
 ghost use Rattle.page_store.specs.claim.Transactions.{count_of, txn_pages};
-ghost use Rattle.store_rows.specs.claim.Keys.{seal};
-ghost use Rattle.desk_pages.specs.claim.Puts.{PutsErr};
-ghost use Rattle.desk_pages.specs.Outcomes.{PutsRows, Writes};
+ghost use Rattle.desk_store_rows.specs.claim.Keys.{seal};
+ghost use Rattle.desk_store_pages.specs.claim.Puts.{PutsErr};
+ghost use Rattle.desk_store_pages.specs.Outcomes.{PutsRows, Writes};
 ghost use Rattle.geo_tables.specs.Rows.{begun_rows, seal_row};
 ghost use Rattle.geo_tables.specs.Loads.{BeginErr, Begins, HasSealed};
 
 use desk_model::geography::Geography;
-use desk_pages::{TreeError, next_numbers, put_row};
+use desk_store_pages::{TreeError, next_numbers, put_row};
+use desk_store_rows::{Counters, Key, SealRow, counters_value, seal_value};
 use page_btree::remove;
 use page_store::{Pages, Txn};
 use sector_device::SectorDevice;
-use store_rows::{Counters, Key, SealRow, counters_value, seal_value};
 
 /// Puts the rows of a load with the next number.
 fn put_begun<D: SectorDevice>(

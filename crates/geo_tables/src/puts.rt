@@ -1,22 +1,22 @@
 //! Puts the rows of a geography.
 ghost use Rattle.std.specs.Prelude.{◌≡◌, ◌≤◌, ◌<◌, ◌+◌, ◌^◌, ◌↔◌, [], ◌∷◌, length, IsTrue, OnOk};
 ghost use Rattle.page_store.specs.claim.Transactions.{count_of, txn_pages};
-ghost use Rattle.store_rows.specs.claim.Keys.{key_of, block, pair};
-ghost use Rattle.store_rows.specs.claim.Values.{block_bytes};
-ghost use Rattle.store_rows.specs.claim.Rows.{KeyMap};
-ghost use Rattle.store_rows.specs.claim.Puts.{put_rows};
-ghost use Rattle.store_rows.specs.claim.GeographyRows.{IsBlockRow, IsStaged, geography_rows, neighbours_bytes};
-ghost use Rattle.desk_pages.specs.Outcomes.{PutsRows};
+ghost use Rattle.desk_store_rows.specs.claim.Keys.{key_of, block, pair};
+ghost use Rattle.desk_store_rows.specs.claim.Values.{block_bytes};
+ghost use Rattle.desk_store_rows.specs.claim.Rows.{KeyMap};
+ghost use Rattle.desk_store_rows.specs.claim.Puts.{put_rows};
+ghost use Rattle.desk_store_rows.specs.claim.GeographyRows.{IsBlockRow, IsStaged, geography_rows, neighbours_bytes};
+ghost use Rattle.desk_store_pages.specs.Outcomes.{PutsRows};
 ghost use Rattle.geo_tables.specs.Rows.{staged_row, staged_rows};
 ghost use Rattle.geo_tables.specs.Staging.{PutsRow, Stages};
 
 use crate::ranges::block_fits;
 use desk_model::block::BlockRow;
 use desk_model::geography::{Geography, Pair};
-use desk_pages::{Fingers, TreeError, put_row_with};
+use desk_store_pages::{Fingers, TreeError, put_row_with};
+use desk_store_rows::{Key, block_value, pair_value};
 use page_store::{Pages, Txn};
 use sector_device::SectorDevice;
-use store_rows::{Key, block_value, pair_value};
 
 /// Puts the row of a block.
 fn put_block<D: SectorDevice>(

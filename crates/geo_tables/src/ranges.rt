@@ -1,6 +1,6 @@
 //! The numbers of rows are in their ranges.
 ghost use Rattle.std.specs.Prelude.{◌<◌, ◌^◌, IfSome};
-ghost use Rattle.store_rows.specs.claim.GeographyRows.{IsBlockRow};
+ghost use Rattle.desk_store_rows.specs.claim.GeographyRows.{IsBlockRow};
 
 use desk_model::block::{BlockId, BlockRow};
 

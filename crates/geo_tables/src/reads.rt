@@ -1,7 +1,7 @@
 //! Reads what stands in the rows of a load.
 ghost use Rattle.std.specs.Prelude.{◌≡◌, [], None, OnOk, MatchResult};
 ghost use Rattle.page_store.specs.claim.Transactions.{count_of, txn_pages};
-ghost use Rattle.desk_pages.specs.Looking.{Gathers, IsOnly, Looks, Says};
+ghost use Rattle.desk_store_pages.specs.Looking.{Gathers, IsOnly, Looks, Says};
 ghost use Rattle.page_btree.specs.gets.declared.error.TreeError.TheVariants.{Memory};
 ghost use Rattle.btree_scan.specs.Parts.{row_of};
 ghost use Rattle.btree_scan.specs.Scanning.{fault_in};
@@ -11,7 +11,7 @@ ghost use Rattle.geo_tables.specs.Elements.{AddsOne, HoldsElement, HoldsElements
 use crate::elements::Element;
 use btree_scan::{RowScan, scan};
 use desk_model::geography::BLOCK_LIMIT;
-use desk_pages::{TreeError, read_row};
+use desk_store_pages::{TreeError, read_row};
 use page_btree::VALUE_LIMIT;
 use page_store::{Pages, Txn};
 use sector_device::SectorDevice;

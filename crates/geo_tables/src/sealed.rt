@@ -1,8 +1,8 @@
 //! Reads the sealed geography of a store.
 ghost use Rattle.std.specs.Prelude.{◌≡◌, ◌<◌, ◌^◌, MatchResult};
 ghost use Rattle.page_store.specs.claim.Transactions.{count_of, txn_pages};
-ghost use Rattle.store_rows.specs.claim.GeographyRows.{IsGeography};
-ghost use Rattle.desk_pages.specs.Looking.{Gathers, Says};
+ghost use Rattle.desk_store_rows.specs.claim.GeographyRows.{IsGeography};
+ghost use Rattle.desk_store_pages.specs.Looking.{Gathers, Says};
 ghost use Rattle.geo_tables.specs.Elements.{GeographyErr, IsGeographyRead, IsReadBy, IsSealedAs, IsSealRead, IsSealRow};
 
 use crate::checks::are_blocks;
@@ -10,11 +10,11 @@ use crate::ranges::code_fits;
 use crate::reads::read_elements;
 use desk_model::block::BlockRow;
 use desk_model::geography::{Geography, Pair};
-use desk_pages::{TreeError, get_row};
+use desk_store_pages::{TreeError, get_row};
+use desk_store_rows::{Key, SealRow};
 use page_store::{Pages, Txn};
 use sector_device::SectorDevice;
 use std::alloc::Global;
-use store_rows::{Key, SealRow};
 
 /// A number of 64 bits is in its range.
 fn number_fits(number: u64)

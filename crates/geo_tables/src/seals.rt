@@ -2,17 +2,17 @@
 ghost use Rattle.std.specs.Prelude.{◌≡◌, OnOk, IfErr};
 ghost use Rattle.page_store.specs.claim.Transactions.{disk_in};
 ghost use Rattle.desk_model.specs.claim.Desk.{Desk};
-ghost use Rattle.store_rows.specs.claim.GeographyRows.{geography_rows};
-ghost use Rattle.store_rows.specs.Changes.{desk_with};
-ghost use Rattle.desk_pages.specs.claim.Desks.{InPages};
-ghost use Rattle.desk_pages.specs.Moments.{StopsLeave};
+ghost use Rattle.desk_store_rows.specs.claim.GeographyRows.{geography_rows};
+ghost use Rattle.desk_store_rows.specs.Changes.{desk_with};
+ghost use Rattle.desk_store_pages.specs.claim.Desks.{InPages};
+ghost use Rattle.desk_store_pages.specs.Moments.{StopsLeave};
 ghost use Rattle.geo_tables.specs.Loading.{HoldsLoad, geography_model_of, done_of, error_alone, OpensOrIsSealed};
 ghost use Rattle.geo_tables.specs.Refusals.{CommitsRows, SealErr};
 
 use crate::load::Load;
 use crate::load_rows::seal_rows;
 use crate::starts::start;
-use desk_pages::{StoreError, commit_fitting};
+use desk_store_pages::{StoreError, commit_fitting};
 use page_store::Pages;
 use sector_device::SectorDevice;
 use std::alloc::Global;

@@ -3,7 +3,7 @@ ghost use Rattle.std.specs.Prelude.{◌≡◌, ◌≤◌, ◌*◌, ◌↔◌, tr
 ghost use Rattle.page_store.specs.claim.Transactions.{journal_of, has_halted, txn_free};
 ghost use Rattle.geo_tables.specs.Starting.{IsStarted, StartErr};
 
-use desk_pages::{ROW_PAGES, StoreError};
+use desk_store_pages::{ROW_PAGES, StoreError};
 use page_store::{Pages, Txn};
 use sector_device::SectorDevice;
 use std::alloc::Global;

@@ -1,10 +1,2 @@
-pub mod BodyLemmas
-mod Prefixes
-pub mod HearingLemmas
-pub mod NextLemmas
-pub mod ShortLemmas
-mod Steps
-pub mod TalkLemmas
-pub use Rattle.http_wire.proofs as http_wire
-pub mod Owing
-pub mod Passing
+pub use Rattle.http_desk_streams.proofs as streams
+pub use Rattle.http_desk_seats.proofs as seats

@@ -1,10 +1,3 @@
-pub mod claim
-pub mod Accepting
-pub mod Asking
-pub mod Hearing
-pub mod Laws
-pub mod Rows
-pub mod Serving
-pub mod Owing
-pub use Rattle.http_routes.specs as http_routes
-pub use Rattle.http_wire.specs as http_wire
+pub use Rattle.http_desk_streams.specs as streams
+pub use Rattle.http_desk_connections.specs as connections
+pub use Rattle.http_desk_seats.specs as seats

@@ -1,10 +1,10 @@
 -- No prefix is none of its cases.
 use Rattle.std.proofs.Common.{◌≡◌, ℕ, false, Option, Some, None, Result, Ok, Err, List, ◌++◌, length, take, drop, refl, sym, ap, subst, ◌∙◌, arith, inl, inr, ⊎_elim, append-nil, take-append-drop, length-take-le, length-append}
-use Rattle.{std.proofs.lemmas.Bool.cases_lt, http_intake.specs.{Chunks.ChunkLaw, claim.{Limits.window, Lines.head_lines}, declared.bad_request.BadRequest.BadRequest}}
-use Rattle.{http_intake.specs.declared.bad_request.BadRequest.TheVariants.{BadHead, HeadTooLarge, BadTarget}, http_wire.specs.{Law.IsNoPrefix, claim.Target.target_of}}
-use Rattle.http_wire.specs.{claim.Prefix.{HasHead, HasMessage, RefusesBytes, IsOpen, HasBody, IsFaulty, Lacks, judged_head, is_head}, declared.head.Framing.Framing}
-use Rattle.{http_wire.specs.declared.head.Framing.TheVariants.{Sized, Chunked}, httparse.specs.Grammar.{RequestHead, ReadsRequest, HasNoRequest, MayBecomeRequest, print_request}}
-use Rattle.{http_intake.proofs.{LineLemmas.{lines_of_head, head_lines_grow}, Prefixes.{window_rest, window_short, either_prefix}}, http_wire.proofs.LookLemmas.overflows_at}
+use Rattle.{std.proofs.lemmas.Bool.cases_lt, http_wire.specs.{Law.IsNoPrefix, claim.Target.target_of, declared.head.Framing.{Framing, TheVariants.{Sized, Chunked}}}}
+use Rattle.{http_wire.specs.claim.Prefix.{HasHead, HasMessage, RefusesBytes, IsOpen, HasBody, IsFaulty, Lacks, judged_head, is_head}, http_wire_intake.specs.Chunks.ChunkLaw}
+use Rattle.http_wire_intake.specs.{claim.{Limits.window, Lines.head_lines}, declared.bad_request.BadRequest.{BadRequest, TheVariants.{BadHead, HeadTooLarge, BadTarget}}}
+use Rattle.{httparse.specs.Grammar.{RequestHead, ReadsRequest, HasNoRequest, MayBecomeRequest, print_request}, http_wire.proofs.LookLemmas.overflows_at}
+use Rattle.http_wire_intake.proofs.{LineLemmas.{lines_of_head, head_lines_grow}, Prefixes.{window_rest, window_short, either_prefix}}
 use Rattle.httparse.proofs.GrammarLemmas.{request_unique, ReadsRequest-append}
 
 -- ---- a head

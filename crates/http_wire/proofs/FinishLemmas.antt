@@ -1,10 +1,10 @@
 -- What reading a request comes to once its body was read, or before it is.
 use Rattle.std.proofs.{Common.{◌≡◌, ◌<◌, ◌≤◌, ℕ, Bool, true, false, List, length, drop, Option, Result, Ok, arith, length-drop, rules, Err}, lemmas.Bool.cond_both}
-use Rattle.http_intake.specs.{Chunked.LacksChunksAtEnd, Draws.{Draws, SameParts}, declared.{bad_request.BadRequest.TheVariants.BadTarget, chunks.Chunked.Chunked}}
-use Rattle.{http_intake.specs.declared.{fault.WireFault.WireFault, intake.Intake.Intake}, http_wire.specs.{Budget.write_failures_of, declared.request.Request.Request}}
-use Rattle.{http_wire.specs.Incoming.{DrawsRequest, EndsAt, TakesSome, finished, targeted}, http_intake.proofs.DrawsLemmas.same_more}
-use Rattle.http_intake.specs.declared.chunks.Chunked.TheVariants as chunked
-use Rattle.http_intake.specs.declared.fault.WireFault.TheVariants as wire
+use Rattle.http_wire.specs.{Budget.write_failures_of, Incoming.{DrawsRequest, EndsAt, TakesSome, finished, targeted}, declared.request.Request.Request}
+use Rattle.http_wire_intake.specs.{Chunked.LacksChunksAtEnd, Draws.{Draws, SameParts}, declared.{bad_request.BadRequest.TheVariants.BadTarget, chunks.Chunked.Chunked}}
+use Rattle.http_wire_intake.{specs.declared.{fault.WireFault.WireFault, intake.Intake.Intake}, proofs.DrawsLemmas.same_more}
+use Rattle.http_wire_intake.specs.declared.chunks.Chunked.TheVariants as chunked
+use Rattle.http_wire_intake.specs.declared.fault.WireFault.TheVariants as wire
 use Rattle.http_wire.specs.declared.fault.RequestFault.TheVariants as fault
 use Rattle.http_wire.specs.declared.request.Incoming.TheVariants as came
 

@@ -1,9 +1,9 @@
 -- What is written before the answer to a start.
 use Rattle.std.proofs.Common.{◌≡◌, ℕ, zero, ◌+◌, Bool, true, List, [], ◌++◌, take, drop, refl, sym, ap, subst, ◌∙◌, inl, inr, append_assoc, append-nil, take-append-drop, rules}
-use Rattle.{std.proofs.lemmas.{Bool.and_parts, List.append_cancel_right}, http_intake.specs.{Chunks.ChunkLaw, Draws.IsPutOff, claim.Lines.IsWithinLine}}
-use Rattle.{http_intake.specs.declared.bad_request.BadRequest.BadRequest, http_wire.specs.{Interim.{IsCutInterim, IsCutShort}, Look.IsFound, Prefix.RefusesPrefix}}
+use Rattle.{std.proofs.lemmas.{Bool.and_parts, List.append_cancel_right}, http_wire.specs.{Interim.{IsCutInterim, IsCutShort}, Look.IsFound, Prefix.RefusesPrefix}}
 use Rattle.http_wire.specs.claim.{Interim.{Interim, continue_text, asks_by, asks_to_continue, has_body}, Prefix.{HasHead, HasFault, Lacks, IsOpen, IsIncomplete}}
-use Rattle.{http_wire.specs.declared.{head.Framing.{Framing, TheVariants.Sized}, look.Head.Head}, httparse.specs.Grammar.print_request}
+use Rattle.{http_wire.specs.declared.{head.Framing.{Framing, TheVariants.Sized}, look.Head.Head}, http_wire_intake.specs.{Chunks.ChunkLaw, Draws.IsPutOff}}
+use Rattle.{http_wire_intake.specs.{claim.Lines.IsWithinLine, declared.bad_request.BadRequest.BadRequest}, httparse.specs.Grammar.print_request}
 use Rattle.http_wire.proofs.PrefixLemmas.{bytes_no_head, open_no_head}
 
 -- once the bytes are known as others

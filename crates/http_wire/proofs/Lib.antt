@@ -13,3 +13,4 @@ mod CaseLemmas
 mod QueueLemmas
 mod GatherLemmas
 mod FinishLemmas
+pub use Rattle.http_wire_intake.proofs as intake

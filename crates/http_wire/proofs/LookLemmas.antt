@@ -1,10 +1,10 @@
 -- What the parser answers on the first bytes holds of all bytes.
 use Rattle.std.proofs.Common.{◌≡◌, ℕ, ◌-◌, ◌<◌, ◌≤◌, List, [], ◌∷◌, length, take, drop, sym, ap, ◌∙◌, arith, ⊎_elim, append-nil, length-take-le, length-take, rules}
-use Rattle.{std.proofs.lemmas.{List.{length-map, append_cancel_right}, Slice.between_is}, http_intake.specs.{claim.Lines.head_lines, declared.sought.Seen.Seen}}
-use Rattle.{http_intake.specs.declared.sought.Seen.TheVariants.Incomplete, http_wire.specs.{Look.{IsParsed, Sees}, declared.look.{Head.Head, HeadRefusal.HeadRefusal}}}
+use Rattle.{std.proofs.lemmas.{List.{length-map, append_cancel_right}, Slice.between_is}, http_wire.specs.{Look.{IsParsed, Sees}, declared.look.Head.Head}}
+use Rattle.{http_wire.specs.declared.look.HeadRefusal.HeadRefusal, http_wire_intake.specs.{claim.Lines.head_lines, declared.sought.Seen.{Seen, TheVariants.Incomplete}}}
 use Rattle.httparse.specs.{Grammar.{RequestHead, HasNoRequest, print_request}, Spans.{span_bytes, IsRequestAt, IsRequestWithin, RequestOverflows, RequestExceeds}}
-use Rattle.{httparse.specs.declared.spans.{HeaderSpan.HeaderSpan, RequestSpans.RequestSpans, Span.Span}, http_intake.proofs.LineLemmas.{lines_of_head, cut_head, head_lines_grow}}
-use Rattle.http_intake.proofs.Prefixes.{prefix_of_prefix, either_prefix}
+use Rattle.{httparse.specs.declared.spans.{HeaderSpan.HeaderSpan, RequestSpans.RequestSpans, Span.Span}, http_wire_intake.proofs.Prefixes.{prefix_of_prefix, either_prefix}}
+use Rattle.http_wire_intake.proofs.LineLemmas.{lines_of_head, cut_head, head_lines_grow}
 use lib.Seq.{take-take}
 
 -- a span of a prefix is one of the whole

@@ -1,11 +1,11 @@
 -- The prefix of an input is one thing alone.
 use Rattle.std.proofs.Common.{◌≡◌, ◌⊎◌, ℕ, ◌-◌, Bool, List, [], length, drop, Ok, Err, sym, ap, subst, ◌∙◌, arith, inl, inr, length-append, take-append-drop, ⊎_elim, refl}
-use Rattle.http_intake.specs.{Chunks.ChunkLaw, claim.Limits.window, declared.bad_request.BadRequest.{BadRequest, TheVariants.{BadHead, HeadTooLarge}}}
 use Rattle.http_wire.specs.{Law.{HasTwoHeadFaults, HasTwoBodyFaults, HasTwoFaults}, declared.head.Framing.{Framing, TheVariants.{Sized, Chunked}}}
 use Rattle.http_wire.specs.claim.Prefix.{HasHead, HasMessage, HasRequest, IsNoHead, RefusesBytes, RefusesHead, RefusesBody, RefusesTarget, HasFault, HasBody, Lacks, IsFaulty, IsOpen, IsIncomplete, judged_head, is_head}
-use Rattle.{httparse.specs.Grammar.{RequestHead, HasNoRequest, MayBecomeRequest, print_request}, http_intake.proofs.Prefixes.{same_cut, in_window}}
+use Rattle.http_wire_intake.specs.{Chunks.ChunkLaw, claim.Limits.window, declared.bad_request.BadRequest.{BadRequest, TheVariants.{BadHead, HeadTooLarge}}}
+use Rattle.{httparse.specs.Grammar.{RequestHead, HasNoRequest, MayBecomeRequest, print_request}, http_wire_intake.proofs.Prefixes.{same_cut, in_window}}
 use Rattle.httparse.proofs.GrammarLemmas.{request_unique}
-use Rattle.http_intake.specs.Chunks as chunks
+use Rattle.http_wire_intake.specs.Chunks as chunks
 
 -- a head within its limit stands in the window
 not_in_window : (input : List ℕ) (h : RequestHead) (rest : List ℕ) → HasNoRequest (window input) → HasHead input h rest → ⊥

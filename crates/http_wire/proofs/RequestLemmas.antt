@@ -1,12 +1,12 @@
 -- A head that has come, and then its body.
-use Rattle.{std.proofs.Common.{◌≡◌, ℕ, Bool, true, false, List, ◌++◌, drop, Result, Ok, Err, refl, sym, ap, ◌∙◌, inl, append_assoc, rules}, http_intake.specs.Chunks.ChunkLaw}
-use Rattle.{http_intake.specs.declared.{bad_request.BadRequest.BadRequest, chunks.Chunked.Chunked, fault.WireFault.WireFault}, http_wire.specs.{Framed.BodyRead, Look.IsFound}}
-use Rattle.http_wire.specs.{Incoming.{ReadsPrefix, IsTargetOf, finished, targeted}, claim.Interim.{Interim, continue_text, asks_to_continue}, declared.head.Framing.Framing}
+use Rattle.{std.proofs.Common.{◌≡◌, ℕ, Bool, true, false, List, ◌++◌, drop, Result, Ok, Err, refl, sym, ap, ◌∙◌, inl, append_assoc, rules}, http_wire.specs.Framed.BodyRead}
+use Rattle.http_wire.specs.{Incoming.{ReadsPrefix, IsTargetOf, finished, targeted}, Look.IsFound, claim.Interim.{Interim, continue_text, asks_to_continue}, declared.look.Head.Head}
 use Rattle.http_wire.specs.claim.Prefix.{HasHead, HasMessage, HasRequest, HasBody, HasFault, Lacks, IsFaulty, IsIncomplete, IsOutOfMemory, closes_after, is_head}
-use Rattle.{http_wire.specs.declared.{look.Head.Head, request.Request.Request}, httparse.specs.{Grammar.{RequestHead, print_request}, Spans.span_bytes}}
+use Rattle.{http_wire.specs.declared.{head.Framing.Framing, request.Request.Request}, http_wire_intake.specs.{Chunks.ChunkLaw, declared.bad_request.BadRequest.BadRequest}}
+use Rattle.{http_wire_intake.specs.declared.{chunks.Chunked.Chunked, fault.WireFault.WireFault}, httparse.specs.{Grammar.{RequestHead, print_request}, Spans.span_bytes}}
 use Rattle.{http_wire.proofs.TargetTexts.target_ascii, httparse.proofs.GrammarLemmas.ReadsRequest-append}
-use Rattle.http_intake.specs.declared.fault.WireFault.TheVariants as fault
-use Rattle.http_intake.specs.declared.chunks.Chunked.TheVariants as chunked
+use Rattle.http_wire_intake.specs.declared.fault.WireFault.TheVariants as fault
+use Rattle.http_wire_intake.specs.declared.chunks.Chunked.TheVariants as chunked
 use Rattle.http_wire.specs.declared.head.Framing.TheVariants as framing
 
 pub head_before : (input : List ℕ) (h : RequestHead) (rest more : List ℕ) → HasHead input h rest → HasHead (input ++ more) h (rest ++ more)

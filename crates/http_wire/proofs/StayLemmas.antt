@@ -1,10 +1,11 @@
 -- A request and a fault stay, whatever bytes follow.
 use Rattle.std.proofs.Common.{◌≡◌, ◌⊎◌, ℕ, ◌+◌, ◌-◌, ◌<◌, true, Bool, List, [], ◌∷◌, ◌++◌, length, take, codes, sym, ap, subst, ◌∙◌, arith, inl, inr, ⊎_elim, append_assoc, append-nil, length-append, rules}
-use Rattle.{std.proofs.{Math.Seq.take-append_seam, lemmas.List.{append_cancel_left, Elements.{All-nil, All-take}, Sums.AllPass-from_list_all}}, http_intake.specs.Chunks.ChunkLaw}
-use Rattle.http_intake.{specs.{claim.Limits.window, declared.bad_request.BadRequest.{BadRequest, TheVariants.{BadHead, HeadTooLarge}}}, proofs.LineLemmas.head_lines_grow}
+use Rattle.std.proofs.{Math.Seq.take-append_seam, lemmas.List.{append_cancel_left, Elements.{All-nil, All-take}, Sums.AllPass-from_list_all}}
 use Rattle.http_wire.specs.{claim.Prefix.{HasMessage, HasRequest, RefusesBytes, HasFault, HasBody, IsFaulty}, declared.head.Framing.{Framing, TheVariants.{Sized, Chunked}}}
+use Rattle.http_wire_intake.specs.{Chunks.ChunkLaw, claim.Limits.window, declared.bad_request.BadRequest.{BadRequest, TheVariants.{BadHead, HeadTooLarge}}}
 use Rattle.httparse.specs.Grammar.{is_uri_byte, AllPass, IsToken, LineEnd, lf, print_blank, RequestHead, IsRequestHead, ReadsRequest, EndsInTarget}
-use Rattle.{http_intake.proofs.Prefixes.{window_grows, window_full, either_prefix}, http_wire.proofs.RequestLemmas.head_before, httparse.proofs.GrammarLemmas.print_request-append}
+use Rattle.{http_wire.proofs.RequestLemmas.head_before, http_wire_intake.proofs.{LineLemmas.head_lines_grow, Prefixes.{window_grows, window_full, either_prefix}}}
+use Rattle.httparse.proofs.GrammarLemmas.{print_request-append}
 
 -- what holds of each head that more bytes may give holds with some of them
 grows : (P : RequestHead → Type 0) (w y : List ℕ) → ((more : List ℕ) (h : RequestHead) (rest : List ℕ) → ReadsRequest (w ++ more) h rest → P h)

@@ -1,10 +1,10 @@
 -- A request that is there whole.
 use Rattle.std.proofs.Common.{◌≡◌, ℕ, ◌≤◌, Bool, false, List, [], ◌++◌, length, take, drop, Ok, sym, ap, subst, ◌∙◌, append-nil, take-append-drop, length-take-le, rules}
-use Rattle.{std.proofs.lemmas.Bool.cond_both, http_intake.specs.{Chunks.ChunkLaw, declared.bad_request.BadRequest.TheVariants.BadTarget}, http_wire.specs.Look.IsFound}
-use Rattle.http_wire.specs.{Incoming.{Came, Taken, IsNoEnd, IsTargetOf, targeted}, claim.{Interim.{continue_text, asks_to_continue}, Prefix.HasBody}, declared.head.Framing.Framing}
-use Rattle.{http_wire.{specs.declared.{head.Framing.TheVariants.Sized, look.Head.Head, request.Request.Request}, proofs.InterimLemmas.found_asks}, httparse.specs.Spans.span_bytes}
-use Rattle.http_wire.proofs.RequestLemmas.{rest_reads, out_of_memory, due}
-use Rattle.http_intake.specs.declared.chunks.Chunked.TheVariants as chunked
+use Rattle.{std.proofs.lemmas.Bool.cond_both, http_wire.specs.{Incoming.{Came, Taken, IsNoEnd, IsTargetOf, targeted}, Look.IsFound, claim.Prefix.HasBody, declared.look.Head.Head}}
+use Rattle.http_wire.specs.{claim.Interim.{continue_text, asks_to_continue}, declared.{head.Framing.{Framing, TheVariants.Sized}, request.Request.Request}}
+use Rattle.{http_wire_intake.specs.{Chunks.ChunkLaw, declared.bad_request.BadRequest.TheVariants.BadTarget}, httparse.specs.Spans.span_bytes}
+use Rattle.http_wire.proofs.{InterimLemmas.found_asks, RequestLemmas.{rest_reads, out_of_memory, due}}
+use Rattle.http_wire_intake.specs.declared.chunks.Chunked.TheVariants as chunked
 use Rattle.http_wire.specs.declared.request.Incoming.TheVariants as came
 
 plainly : (input : List ℕ) (found : Head) (f : IsFound input found) → found.expects ≡ false → [] ≡ continue_text (asks_to_continue f.head)

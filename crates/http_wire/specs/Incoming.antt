@@ -1,14 +1,14 @@
 -- What reading a request gives.
-use Rattle.{std.specs.{Io.KnownBytes.{Appends, IsAtEnd}, Str.IsAscii}, http_intake.specs.{Budget.Spends, Draws.{Reads, SameParts, left_of}, declared.chunks.Chunked.Chunked}}
+use Rattle.{std.specs.{Io.KnownBytes.{Appends, IsAtEnd}, Str.IsAscii}, http_wire.specs.{Budget.{read_failures_of, write_failures_of}, Interim.{IsCutInterim, IsCutShort}}}
 use Rattle.std.specs.Prelude.{◌≡◌, ℕ, ◌++◌, ◌<◌, ◌≤◌, Bool, true, false, if◌then◌else◌, List, [], Option, Some, None, Result, Ok, Err, ⊤, vec_capacity}
-use Rattle.{http_intake.specs.declared.{bad_request.BadRequest.TheVariants.BadTarget, fault.WireFault.WireFault, intake.Intake.Intake}, http_wire.specs.claim.Target.target_of}
-use Rattle.http_wire.specs.{Budget.{read_failures_of, write_failures_of}, Interim.{IsCutInterim, IsCutShort}, claim.Interim.{Interim, continue_text, asks_to_continue}}
-use Rattle.http_wire.specs.{claim.Prefix.{HasRequest, HasFault, IsOutOfMemory, IsIncomplete, closes_after}, declared.{fault.RequestFault.RequestFault, look.Head.Head}}
-use Rattle.{http_wire.specs.declared.request.{Begun.Begun, Incoming.Incoming, Request.Request}, httparse.specs.{Grammar.RequestHead, Spans.span_bytes}}
+use Rattle.http_wire.specs.claim.{Interim.{Interim, continue_text, asks_to_continue}, Prefix.{HasRequest, HasFault, IsOutOfMemory, IsIncomplete, closes_after}, Target.target_of}
+use Rattle.{http_wire.specs.declared.{fault.RequestFault.RequestFault, look.Head.Head, request.{Begun.Begun, Incoming.Incoming, Request.Request}}, httparse.specs.Spans.span_bytes}
+use Rattle.http_wire_intake.specs.{Budget.Spends, Draws.{Reads, SameParts, left_of}, declared.{bad_request.BadRequest.TheVariants.BadTarget, chunks.Chunked.Chunked}}
+use Rattle.{http_wire_intake.specs.declared.{fault.WireFault.WireFault, intake.Intake.Intake}, httparse.specs.Grammar.RequestHead}
 use Rattle.http_wire.specs.declared.request.Incoming.TheVariants as came
-use Rattle.http_intake.specs.declared.fault.WireFault.TheVariants as wire
+use Rattle.http_wire_intake.specs.declared.fault.WireFault.TheVariants as wire
 use Rattle.http_wire.specs.declared.fault.RequestFault.TheVariants as fault
-use Rattle.http_intake.specs.declared.chunks.Chunked.TheVariants as chunked
+use Rattle.http_wire_intake.specs.declared.chunks.Chunked.TheVariants as chunked
 
 -- the text is what the target asks for, if it may stand
 abbrev pub IsTargetOf : List ℕ → Bool → List ℕ → Type 0

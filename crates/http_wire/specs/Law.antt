@@ -1,8 +1,8 @@
 -- The prefix of an input is one thing alone.
 use Rattle.std.specs.Prelude.{◌≡◌, ◌⊎◌, ℕ, Bool, true, false, List, [], ◌++◌, codes}
-use Rattle.{http_intake.specs.declared.bad_request.BadRequest.{BadRequest, TheVariants.{BadHost, BadLength}}, httparse.specs.Grammar.RequestHead}
-use Rattle.http_wire.specs.claim.Prefix.{HasHead, HasRequest, HasFault, closes_after, IsIncomplete, HasTooManyLines, IsNoHead}
-use Rattle.http_intake.specs.Chunks as chunks
+use Rattle.{http_wire.specs.claim.Prefix.{HasHead, HasRequest, HasFault, closes_after, IsIncomplete, HasTooManyLines, IsNoHead}, httparse.specs.Grammar.RequestHead}
+use Rattle.http_wire_intake.specs.declared.bad_request.BadRequest.{BadRequest, TheVariants.{BadHost, BadLength}}
+use Rattle.http_wire_intake.specs.Chunks as chunks
 
 -- more than 64 lines have come, and no head can stand, whatever follows
 pub record HasTwoHeadFaults (input : List ℕ) : Type 0 where

@@ -13,3 +13,4 @@ pub mod Target
 pub mod Adding
 pub mod Answer
 pub mod Queue
+pub use Rattle.http_wire_intake.specs as intake

@@ -1,7 +1,7 @@
 -- What a look at the bytes tells.
 use Rattle.std.specs.Prelude.{◌≡◌, ℕ, ◌<◌, ◌≤◌, List, map, length, drop, All, Ok}
-use Rattle.{http_intake.specs.declared.sought.Seen.{Seen, TheVariants.{Found, Refused, Incomplete}}, http_wire.specs.{Prefix.RefusesPrefix, claim.Interim.asks_by}}
-use Rattle.http_wire.specs.{claim.Prefix.{HasHead, IsOpen, judged_head, closes_after, is_head}, declared.look.{Head.Head, HeadRefusal.HeadRefusal}}
+use Rattle.http_wire.specs.{Prefix.RefusesPrefix, claim.{Interim.asks_by, Prefix.{HasHead, IsOpen, judged_head, closes_after, is_head}}, declared.look.Head.Head}
+use Rattle.{http_wire.specs.declared.look.HeadRefusal.HeadRefusal, http_wire_intake.specs.declared.sought.Seen.{Seen, TheVariants.{Found, Refused, Incomplete}}}
 use Rattle.httparse.specs.{Grammar.RequestHead, Spans.{header_bytes, name_and_value, span_bytes, IsWithin, IsHeaderWithin}, declared.spans.HeaderSpan.HeaderSpan}
 use Rattle.httparse.specs.declared.spans.RequestSpans.{RequestSpans}
 

@@ -1,6 +1,6 @@
 -- What no promise rests on, beside claim/Prefix.antt.
 use Rattle.std.specs.Prelude.{◌≡◌, ℕ, ◌⊎◌, Bool, false, List}
-use Rattle.{http_intake.specs.declared.bad_request.BadRequest.BadRequest, http_wire.specs.claim.Prefix.{RefusesBytes, RefusesHead}}
+use Rattle.{http_wire.specs.claim.Prefix.{RefusesBytes, RefusesHead}, http_wire_intake.specs.declared.bad_request.BadRequest.BadRequest}
 
 -- no head that may stand is at the start, and this is the fault
 abbrev pub RefusesPrefix : List ℕ → BadRequest → Bool → Type 0

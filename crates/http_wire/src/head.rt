@@ -9,8 +9,8 @@ ghost use Rattle.http_wire.specs.claim.Connection.{parts, ends_in};
 
 use crate::lists::{ends_in_chunked, is_one};
 use crate::word::is_named;
-use http_intake::bad_request::BadRequest;
-use http_intake::limits::BODY_LIMIT;
+use http_wire_intake::bad_request::BadRequest;
+use http_wire_intake::limits::BODY_LIMIT;
 use httparse::spans::HeaderSpan;
 
 /// How a body is framed (RFC 9112, section 6).

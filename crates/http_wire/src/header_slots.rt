@@ -1,5 +1,5 @@
 //! Room that is used again from head to head.
-use http_intake::limits::FIELD_LIMIT;
+use http_wire_intake::limits::FIELD_LIMIT;
 use httparse::spans::{EMPTY_HEADER_SPAN, HeaderSpan};
 
 /// Room for where the lines of a head are, which is made once for a stream.

@@ -1,7 +1,7 @@
 //! What the definitions of a prefix have for all inputs, and at worked ones.
 ghost use Rattle.http_wire.specs.Law.{PrefixLaw, WorkedPrefixes};
 
-use http_intake::law::chunk_law;
+use http_wire_intake::law::chunk_law;
 
 /// Each prefix of an input is exactly one of these: a request, one fault, or incomplete. Only more
 /// than 64 lines may come with another fault of the head or the trailers.

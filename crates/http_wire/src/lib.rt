@@ -41,3 +41,6 @@ pub mod request;
 pub mod response;
 pub mod target;
 pub mod word;
+
+pub use http_wire_intake::fault::WireFault;
+pub use http_wire_intake::{bad_request, read_buffer};

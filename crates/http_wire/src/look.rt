@@ -1,7 +1,7 @@
 //! A look at the bytes that have come, for a head.
 ghost use Rattle.std.specs.Prelude.{◌≡◌, ◌<◌, ◌≤◌, ◌+◌, length, true, false, drop};
 ghost use Rattle.httparse.specs.Grammar.{HasNoRequest, NeverHasRequest, MayBecomeRequest};
-ghost use Rattle.http_intake.specs.claim.Limits.{window};
+ghost use Rattle.http_wire_intake.specs.claim.Limits.{window};
 ghost use Rattle.http_wire.specs.claim.Prefix.{is_head as is_head_method};
 ghost use Rattle.http_wire.specs.Look.{IsParsed, Sees};
 ghost use Rattle.http_wire.specs.InTarget.{in_method, in_blank};
@@ -11,10 +11,10 @@ ghost use Rattle.std.specs.List.{list_all};
 use crate::connection::asks_to_close;
 use crate::head::{Framing, judge};
 use crate::interim::{expects_continue, has_body};
-use http_intake::bad_request::BadRequest;
-use http_intake::limits::{FIELD_LIMIT, HEAD_LIMIT};
-use http_intake::lines::{ends_line, head_lines};
-use http_intake::sought::{Seen, Sought};
+use http_wire_intake::bad_request::BadRequest;
+use http_wire_intake::limits::{FIELD_LIMIT, HEAD_LIMIT};
+use http_wire_intake::lines::{ends_line, head_lines};
+use http_wire_intake::sought::{PrefixParser, Seen};
 use httparse::spans::{EMPTY_HEADER_SPAN, HeaderSpan, RequestSpans, Span, parse_request};
 use httparse::{Error, Status, is_method_token, is_uri_token};
 
@@ -176,8 +176,8 @@ pub fn look_at(bytes: &[u8], headers: &mut [HeaderSpan]) -> Seen<Head, HeadRefus
 /// A head is looked for.
 pub struct HeadSought;
 
-impl Sought for HeadSought {
-    ghost use Rattle.http_intake.specs.claim.Lines.{IsWithinLine};
+impl PrefixParser for HeadSought {
+    ghost use Rattle.http_wire_intake.specs.claim.Lines.{IsWithinLine};
     ghost use Rattle.http_wire.specs.Look.{Sees};
 
     type Part = Head;
@@ -195,7 +195,7 @@ impl Sought for HeadSought {
     }
 
     // A head is judged once for each of its lines, however many pieces they come in.
-    #[tactic(auto, using(http_intake::proofs::LineLemmas::no_line_ends))]
+    #[tactic(auto, using(http_wire_intake::proofs::LineLemmas::no_line_ends))]
     fn is_due(&self, more: &[u8]) -> bool {
         ends_line(more)
     }

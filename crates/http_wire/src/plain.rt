@@ -8,9 +8,9 @@ ghost use Rattle.http_wire.specs.Plain.{IsPlain};
 use crate::head::Framing;
 use crate::header_slots::HeaderSlots;
 use crate::look::{Head, look_at};
-use http_intake::law::chunk_law;
-use http_intake::read_buffer::ReadBuffer;
-use http_intake::sought::Seen;
+use http_wire_intake::law::chunk_law;
+use http_wire_intake::read_buffer::ReadBuffer;
+use http_wire_intake::sought::Seen;
 
 /// Whether the head has just this method and this target, and no body.
 fn is_plain(bytes: &[u8], head: Head, method: &[u8], target: &[u8]) -> bool

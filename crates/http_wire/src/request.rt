@@ -3,9 +3,9 @@ ghost use Rattle.std.specs.Prelude.{◌≡◌, ℕ, ◌+◌, ◌≤◌, List, []
 ghost use Rattle.httparse.specs.Spans.{IsWithin};
 ghost use Rattle.std.specs.Io.KnownBytes.{Appends, Consumes};
 ghost use Rattle.std.specs.Option.{option_map};
-ghost use Rattle.http_intake.specs.Budget.{reading_left, Spends};
-ghost use Rattle.http_intake.specs.Draws.{Draws, Reads};
-ghost use Rattle.http_intake.specs.Chunked.{LacksChunksAtEnd};
+ghost use Rattle.http_wire_intake.specs.Budget.{reading_left, Spends};
+ghost use Rattle.http_wire_intake.specs.Draws.{Draws, Reads};
+ghost use Rattle.http_wire_intake.specs.Chunked.{LacksChunksAtEnd};
 ghost use Rattle.http_wire.specs.Budget.{read_failures_of, write_failures_of};
 ghost use Rattle.http_wire.specs.Framed.{BodyRead};
 ghost use Rattle.http_wire.specs.Incoming.{ReadsPrefix, EndsAt, TakesSome, Taken, finished, targeted as targeted_by, IsBegun, ReadsRequest};
@@ -21,14 +21,14 @@ use crate::target::{Target, read_target};
 use byte_stream::sink::Sink;
 use byte_stream::source::Source;
 use http::Method;
-use http_intake::bad_request::BadRequest;
-use http_intake::body::read_body;
-use http_intake::chunks::{Chunked, read_chunks};
-use http_intake::fault::WireFault;
-use http_intake::intake::Intake;
-use http_intake::law::chunk_law;
-use http_intake::read_buffer::{READ_BUFFER_LEN, ReadBuffer};
-use http_intake::sought::{Seen, read_prefix};
+use http_wire_intake::bad_request::BadRequest;
+use http_wire_intake::body::read_body;
+use http_wire_intake::chunks::{Chunked, read_chunks};
+use http_wire_intake::fault::WireFault;
+use http_wire_intake::intake::Intake;
+use http_wire_intake::law::chunk_law;
+use http_wire_intake::read_buffer::{READ_BUFFER_LEN, ReadBuffer};
+use http_wire_intake::sought::{Seen, read_prefix};
 use std::alloc::{AllocError, Global};
 
 /// The turns of a whole stream, from which each call takes its own.

@@ -1,7 +1,7 @@
 -- Rows of commands, by the counties of a geography.
 use Rattle.std.{specs.Prelude.◌==◌, proofs.{Common.{rules, ◌≡◌, ◌<◌, ◌+◌, ℕ, Bool, List, [], ◌∷◌, length, Some, None, arith}, lemmas.Bool.cond_both}}
-use Rattle.{std.proofs.lemmas.Option.{same_Some, none-some}, desk_catalogue.specs.Cutting.AreRevisionRows, desk_model.specs.{Ranges.ranges_of, claim.Desk.Desk}}
-use Rattle.desk_model.specs.{claim.{Geography.GeographyModel, Ranges.{runs_from, runs}, Room.command_rows}, declared.{command.Command.Command, ranges.CountyRange.CountyRange}}
+use Rattle.{std.proofs.lemmas.Option.{same_Some, none-some}, desk_model.specs.{Ranges.ranges_of, claim.{Desk.Desk, Geography.GeographyModel, Ranges.{runs_from, runs}}}}
+use Rattle.{desk_model.specs.{claim.Room.command_rows, declared.{command.Command.Command, ranges.CountyRange.CountyRange}}, desk_store_catalogue.specs.Cutting.AreRevisionRows}
 use Rattle.{inspect_command.specs.{Needs.{IsRevision, AreNeededBy, AreNeeded}, declared.needs.RowsNeeded.RowsNeeded}, desk_model.proofs.Runs.counties_long}
 use Rattle.desk_store.proofs.plan_revisions.LastRevision.{ranges_long}
 

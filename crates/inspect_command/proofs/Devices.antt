@@ -1,8 +1,8 @@
 -- A device whose store is verified.
 use Rattle.{std.{specs.Prelude.{Option, Some, None, Result, Ok, Err, IfOk, IfErr}, proofs.lemmas.Option.none-some}, desk_model.specs.{Ranges.ranges_in, claim.Desk.Desk}}
-use Rattle.{std.proofs.Common.{rules, ◌≡◌, ◌+◌, ◌≤◌, ℕ, Bool, true, false, inl, inr, refl, sym, ap, subst, ◌∙◌, arith}, desk_pages.specs.Errors.page_refusal}
-use Rattle.desk_pages.specs.{Openings.{LeavesOneOf, OpensOneOf, StillStands}, claim.Desks.{HoldsDeskOf, InPages as HoldsDesk, InTxn as ReadsIn}}
-use Rattle.{desk_pages.specs.{claim.Openings.{LeavesOneAs, OpensOneAs}, declared.error.StoreError.StoreError}, inspect_command.specs.Sound.{HasSound, HasStray}}
+use Rattle.{std.proofs.Common.{rules, ◌≡◌, ◌+◌, ◌≤◌, ℕ, Bool, true, false, inl, inr, refl, sym, ap, subst, ◌∙◌, arith}, desk_store_pages.specs.Errors.page_refusal}
+use Rattle.desk_store_pages.specs.{Openings.{LeavesOneOf, OpensOneOf, StillStands}, claim.Desks.{HoldsDeskOf, InPages as HoldsDesk, InTxn as ReadsIn}}
+use Rattle.{desk_store_pages.specs.{claim.Openings.{LeavesOneAs, OpensOneAs}, declared.error.StoreError.StoreError}, inspect_command.specs.Sound.{HasSound, HasStray}}
 use Rattle.inspect_command.specs.Verifying.{HoldsOwned, HoldsSound, HoldsStray, IsUnowned, IsFoundWrong, IsLookedAt, NamesPageOrRow, IsRefused, IsSparedFor, IsUnsound, StrayOr, TellsPages, Unsound, VerifiesDevice}
 use Rattle.{inspect_command.specs.declared.{refusal.Refusal.Refusal, verifying.Verified.Verified}, page_btree.specs.checks.{Errors.CheckErr, Faults.{IsWrongPage, TellsOf}}}
 use Rattle.page_btree.specs.{checks.{Owners.AreOwned, declared.error.{PageFault.PageFault, PagesError.PagesError}}, gets.claim.Map.{Holds, InPages as HoldsRows, InTxn}}
@@ -12,9 +12,9 @@ use Rattle.{page_store.specs.gate_journal.{Recovery.{HasRoom, AllStores, ReadsAs
 use Rattle.{sector_device.specs.{claim.Moments.LeavesOnly, declared.SectorDevice.Ghosts}, store_command.specs.{Faults.fault_of_store, Reading.ReadsDesk}}
 use Rattle.{store_command.specs.declared.fault.StoreFault.{StoreFault, TheVariants.{NotAStore, OldVersion, DeviceFault, Memory}}, store_verification.specs.Looking.IsSoundAt}
 use Rattle.{store_verification.specs.rows.{Strays.AllBelong, declared.wrong.WrongRow.WrongRow}, page_store.proofs.Stops.{leaves_quiet, quiet_more}}
-use Rattle.{desk_pages.proofs.Found.{page_stores_of, found_desk, found_after, pages_stand, rows_before}, store_command.proofs.Read.{left_opens, leaves_new, all_either}}
+use Rattle.{desk_store_pages.proofs.Found.{page_stores_of, found_desk, found_after, pages_stand, rows_before}, store_command.proofs.Read.{left_opens, leaves_new, all_either}}
 use Rattle.store_verification.proofs.Seen.{agreed, same_layout}
-use Rattle.{store_command.specs.desk_runs.Recovery.ImagesAreOne, store_rows.specs.claim.Rows.KeyMap, inspect_command.proofs.Unread.{no_less, opened_leaves, opened_versions}, store_command.proofs.desk_theorem.Device.read_on}
+use Rattle.{store_command.specs.desk_theorem_runs.Recovery.ImagesAreOne, desk_store_rows.specs.claim.Rows.KeyMap, inspect_command.proofs.Unread.{no_less, opened_leaves, opened_versions}, store_command.proofs.desk_theorem.Device.read_on}
 use Rattle.page_store.specs.gate_journal.declared.error.PageError.TheVariants as page
 use Rattle.page_btree.specs.checks.declared.error.PagesError.TheVariants as owners
 use Rattle.store_command.proofs.desk_store.Prepared.{IsBegun, begun_rows}

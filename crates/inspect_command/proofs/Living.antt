@@ -4,12 +4,11 @@ use Rattle.{command_output.specs.declared.status.Status.Status, inspect_command.
 use Rattle.inspect_command.specs.{claim.Living.{Hinders, HindersSound, LooksLife, VerifiesLife}, declared.{refusal.Refusal.Refusal, texts.Style.Style}}
 use Rattle.{sector_device.specs.declared.SectorDevice.Ghosts, store_command.specs.{claim.Living.IsRefused as IsTold, declared.fault.StoreFault.StoreFault}}
 use Rattle.store_command.specs.{declared.fault.StoreFault.TheVariants.{NotAStore, OldVersion, DeviceFault, Memory}, desk_theorem.claim.Device.{HoldsStore, OnDevice}}
-use Rattle.store_command.specs.desk_theorem.claim.{InFile.LivedOn, OneLife.{Asked, ReadHolds, RequestsHold}}
-use Rattle.store_command.specs.desk_theorem.store_lives.claim.Versions.{Store, Version, version_1, version_2, either}
+use Rattle.store_command.specs.desk_theorem.{claim.{InFile.LivedOn, OneLife.{Asked, ReadHolds, RequestsHold}}, lives.claim.Versions.{Store, Version, version_1, version_2, either}}
 use Rattle.store_command.proofs.{Living.{barred, none_opened, printed}, desk_theorem.Device.{and_on}}
 
 -- ---- why a store isn't found sound
-stray_hinders : (is : Bool) (t u : ℕ) (v : Version) (fault : StoreFault) → fault ≡ Memory → HindersSound is fault t u v
+pub stray_hinders : (is : Bool) (t u : ℕ) (v : Version) (fault : StoreFault) → fault ≡ Memory → HindersSound is fault t u v
 stray_hinders true t u v fault is = tt
 stray_hinders false t u v fault is = subst (λ (f : StoreFault). HindersSound false f t u v) (sym is) tt
 
@@ -26,7 +25,7 @@ module _ {D O : Type 0} (g : Ghosts D) (opens : O → List ℕ → Result D Stor
   hinders device left Memory why good s held = tt
   hinders device left _ why good s held = absurd why
 
-  is_hindered : (device left : D) (is : Bool) (fault : StoreFault) (P Q : Type 0) → StrayOr is fault P (IsRefused g device left fault × Q) → (g.disk left).is_honest → (s : Store) → HoldsStore s (g.disk device) → HindersSound is fault (g.disk device).faults (g.disk left).faults s.0
+  pub is_hindered : (device left : D) (is : Bool) (fault : StoreFault) (P Q : Type 0) → StrayOr is fault P (IsRefused g device left fault × Q) → (g.disk left).is_honest → (s : Store) → HoldsStore s (g.disk device) → HindersSound is fault (g.disk device).faults (g.disk left).faults s.0
   is_hindered device left true fault P Q why good s held = tt
   is_hindered device left false fault P Q why good s held = hinders device left fault why.0 good s held
 

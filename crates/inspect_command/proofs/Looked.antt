@@ -1,15 +1,15 @@
 -- A device that a clerk opened, and that was opened once more by its pages.
 use Rattle.std.{specs.Prelude.{Result, Ok, Err, IfOk, IfErr}, proofs.Common.{◌≡◌, ◌≤◌, ◌<◌, ℕ, [], true, refl, sym, subst, ◌∙◌, inl, inr, arith}}
-use Rattle.{desk_model.specs.claim.Desk.Desk, desk_pages.specs.{Openings.{AllDesks, LeavesOneOf, OpensOneOf}, claim.Desks.OpensDesk}, inspect_command.specs.Figures.AreHeld}
-use Rattle.inspect_command.specs.{Rows.{AreCounted, CountsRows, IsUncounted}, Stats.{joined, HasNoFigures, IsLookedAt, StatsDevice}, claim.Living.{Hinders, IsOfDesk}}
-use Rattle.{inspect_command.specs.declared.{figures.Held.Held, rows.Rows.Rows}, page_btree.specs.gets.claim.Map.InPages, page_store.specs.declared.pages.Pages.Pages}
+use Rattle.{desk_model.specs.claim.Desk.Desk, desk_store_pages.specs.{Openings.{AllDesks, LeavesOneOf, OpensOneOf}, claim.Desks.OpensDesk}, desk_store_rows.specs.claim.Rows.KeyMap}
+use Rattle.inspect_command.specs.{Figures.AreHeld, Rows.{AreCounted, CountsRows, IsUncounted}, Stats.{joined, HasNoFigures, IsLookedAt, StatsDevice}, declared.figures.Held.Held}
+use Rattle.{inspect_command.specs.{claim.Living.{Hinders, IsOfDesk}, declared.rows.Rows.Rows}, page_btree.specs.gets.claim.Map.InPages, page_store.specs.declared.pages.Pages.Pages}
 use Rattle.{page_store.specs.{claim.Transactions.{disk_in, device_in, count_of, journal_of, IsQuiet}, gate_journal.Recovery.Found}, sector_device.specs.claim.Disk.Disk}
 use Rattle.{sector_device.specs.declared.SectorDevice.Ghosts, store_command.specs.{Reading.{LeavesDesk, ShowsWhatIsRead}, declared.fault.StoreFault.StoreFault}}
-use Rattle.{store_command.specs.{declared.fault.StoreFault.TheVariants.Memory, desk_loading.Openings.IsOpened, desk_runs.Recovery.ImagesAreOne}, store_rows.specs.claim.Rows.KeyMap}
-use Rattle.store_command.specs.{desk_store.{claim.Clerks.{desk_of, disk_of, pages_of}, declared.clerk.Clerk.Clerk}, desk_theorem.claim.Device.{HoldsStore, OnDevice}}
-use Rattle.{store_command.specs.desk_theorem.{claim.OneLife.{RequestsHold, Asked}, store_lives.claim.Versions.Store}, desk_pages.proofs.Found.{found_after, rows_before}}
+use Rattle.store_command.specs.{declared.fault.StoreFault.TheVariants.Memory, desk_store.{claim.Clerks.{desk_of, disk_of, pages_of}, declared.clerk.Clerk.Clerk}}
+use Rattle.store_command.specs.desk_theorem.{claim.{Device.{HoldsStore, OnDevice}, OneLife.{RequestsHold, Asked}}, lives.claim.Versions.Store}
+use Rattle.{store_command.specs.{desk_theorem_loading.Openings.IsOpened, desk_theorem_runs.Recovery.ImagesAreOne}, desk_store_pages.proofs.Found.{found_after, rows_before}}
 use Rattle.sector_device.proofs.Moments.{leaves_more, leaves_now, leaves_wider}
-use Rattle.store_command.proofs.desk_runs.One.{few_sectors}
+use Rattle.store_command.proofs.desk_theorem_runs.One.{few_sectors}
 use Rattle.store_command.proofs.{Opened.asked_life, desk_store.Opened.reopened, desk_theorem.{Asked.none_asked, Device.{and_on, held_all, held_desk}, Looked.looked_on}}
 
 then_left : ImagesAreOne → (old mid new : Disk) (d : Desk) → mid.sectors ≡ old.sectors → LeavesDesk old mid d → AllDesks mid → new.is_honest → LeavesOneOf mid new → LeavesDesk old new d

@@ -1,12 +1,13 @@
 -- A device whose readers looked at it before it was verified.
 use Rattle.{std.{specs.Prelude.{Result, Ok, Err, None}, proofs.Common.{rules, ◌≡◌, ◌<◌, ℕ, false, inl, inr, refl, sym, subst, ◌∙◌, arith}}, desk_model.specs.claim.Desk.Desk}
-use Rattle.{desk_pages.specs.{Openings.{HasPages, IsSpared, StillStands}, claim.Desks.OpensDesk}, inspect_command.specs.declared.refusal.Refusal.Refusal}
+use Rattle.{desk_store_pages.specs.{Openings.{HasPages, IsSpared, StillStands}, claim.Desks.OpensDesk}, inspect_command.specs.declared.refusal.Refusal.Refusal}
 use Rattle.inspect_command.specs.{Verifying.{IsFoundWrong, IsLookedAt, IsRefused, IsSparedFor, VerifiesDevice}, declared.verifying.Verified.Verified}
 use Rattle.{page_store.specs.{claim.Transactions.{journal_of, count_of}, gate_journal.Recovery.Found}, sector_device.specs.{Disk.IsSynced, claim.Moments.LeavesOnly}}
 use Rattle.{sector_device.specs.{claim.Disk.{Disk, Image, Nowhere, Touches}, declared.SectorDevice.Ghosts}, store_command.specs.Reading.{LeavesDesk, ReadsDesk}}
-use Rattle.{store_command.specs.declared.fault.StoreFault.{StoreFault, TheVariants.{NotAStore, OldVersion, DeviceFault, Memory}}, store_verification.proofs.Seen.agreed}
-use Rattle.{inspect_command.proofs.Devices.{map_stray, other_told}, sector_device.proofs.Moments.{leaves_from, leaves_more, touches_more}}
-use Rattle.store_command.{specs.desk_theorem.{claim.{Device.{HoldsStore, IsStoreAs, OnDevice}, OneLife.ReadHolds}, store_lives.claim.Versions.Store}, proofs.desk_theorem.OneLife.read_holds}
+use Rattle.store_command.specs.{declared.fault.StoreFault.{StoreFault, TheVariants.{NotAStore, OldVersion, DeviceFault, Memory}}, desk_theorem.claim.OneLife.ReadHolds}
+use Rattle.{store_command.specs.desk_theorem.{claim.Device.{HoldsStore, IsStoreAs, OnDevice}, lives.claim.Versions.Store}, inspect_command.proofs.Devices.{map_stray, other_told}}
+use Rattle.{sector_device.proofs.Moments.{leaves_from, leaves_more, touches_more}, store_verification.proofs.Seen.agreed}
+use Rattle.store_command.proofs.desk_theorem.OneLife.{read_holds}
 
 -- the first device, and the one that was left by its readers
 module _ (a b : Disk) (synced : IsSynced a) (sectors : b.sectors ≡ a.sectors) (moves : Touches Nowhere a b) where

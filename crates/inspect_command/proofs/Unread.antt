@@ -1,12 +1,12 @@
 -- Rows that aren't read, where a device failed.
 use Rattle.std.{specs.Prelude.{◌<◌, Result, Ok, Err, OnErr, IfErr}, proofs.Common.{rules, ◌≡◌, ◌≤◌, Bool, true, false, inl, inr, refl, sym, subst, ◌∙◌, arith}}
-use Rattle.{desk_pages.specs.{Errors.page_refusal, Openings.LeavesOneOf, Reading.ReadErr, claim.Openings.LeavesOneAs}, inspect_command.specs.declared.rows.Rows.Rows}
-use Rattle.{inspect_command.specs.Rows.{fault_of_rows, AreUnread, IsUncounted}, page_btree.specs.gets.{claim.Map.InTxn, declared.error.TreeError.TreeError}}
-use Rattle.page_store.specs.{Transactions.OpenErr, claim.Transactions.{stored, disk_in, device_in, count_of, journal_of, has_halted, IsQuiet}, declared.pages.Pages.Pages}
-use Rattle.page_store.specs.{declared.txn.Txn.Txn, gate_journal.{Recovery.{HasRoom, Found, AllStores, ReadsAs}, declared.error.PageError.PageError}}
-use Rattle.{sector_device.specs.{claim.{Disk.Disk, Moments.LeavesOnly}, declared.SectorDevice.Ghosts}, store_command.specs.Faults.fault_of_store}
-use Rattle.{store_command.specs.declared.fault.StoreFault.{StoreFault, TheVariants.{NotAStore, DeviceFault}}, store_rows.specs.claim.Rows.KeyMap}
-use Rattle.{store_verification.specs.rows.Strays.IsAny, desk_pages.proofs.Found.{all_versions, stores_of, page_stores_of, open_leaves, open_versions, found_desk}}
+use Rattle.{desk_store_pages.specs.{Errors.page_refusal, Openings.LeavesOneOf, Reading.ReadErr, claim.Openings.LeavesOneAs}, desk_store_rows.specs.claim.Rows.KeyMap}
+use Rattle.{inspect_command.specs.{Rows.{fault_of_rows, AreUnread, IsUncounted}, declared.rows.Rows.Rows}, page_btree.specs.gets.claim.Map.InTxn}
+use Rattle.{page_btree.specs.gets.declared.error.TreeError.TreeError, page_store.specs.{Transactions.OpenErr, declared.{pages.Pages.Pages, txn.Txn.Txn}}}
+use Rattle.page_store.specs.{claim.Transactions.{stored, disk_in, device_in, count_of, journal_of, has_halted, IsQuiet}, gate_journal.Recovery.{HasRoom, Found, AllStores, ReadsAs}}
+use Rattle.{page_store.specs.gate_journal.declared.error.PageError.PageError, sector_device.specs.{claim.{Disk.Disk, Moments.LeavesOnly}, declared.SectorDevice.Ghosts}}
+use Rattle.{store_command.specs.{Faults.fault_of_store, declared.fault.StoreFault.{StoreFault, TheVariants.{NotAStore, DeviceFault}}}, store_verification.specs.rows.Strays.IsAny}
+use Rattle.desk_store_pages.proofs.Found.{all_versions, stores_of, page_stores_of, open_leaves, open_versions, found_desk}
 use Rattle.page_store.specs.gate_journal.declared.error.PageError.TheVariants as page
 use Rattle.page_btree.specs.gets.declared.error.TreeError.TheVariants as tree
 

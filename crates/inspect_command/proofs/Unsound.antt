@@ -1,14 +1,15 @@
 -- Why rows aren't found to be a desk's.
 use Rattle.std.{specs.Prelude.{Option, Some, None, is_some}, proofs.{Common.{◌≡◌, ℕ, List, Bool, true, false, refl, sym, ap, subst, ◌∙◌}, lemmas.Bool.both_ways}}
-use Rattle.{desk_model.specs.{Ranges.ranges_in, claim.Desk.Desk, declared.ranges.CountyRange.CountyRange}, desk_pages.specs.{Errors.{row_refusal, unread}, claim.Desks.InTxn}}
-use Rattle.{desk_pages.specs.{Reading.{ReadErr, SeekErr}, declared.error.StoreError.StoreError}, desk_store.specs.desk_opening.Opening.{HasVersion, IsReadFrom, OpenErr}}
-use Rattle.{desk_store.specs.plan_revisions_sweeps.{Checks.IsNewTidy, claim.Checks.AreSoundHoldings}, inspect_command.specs.Verifying.Unsound, sector_device.specs.claim.Disk.Image}
-use Rattle.{inspect_command.specs.Sound.{CheckErr, IsFoundAs, IsSoundAs, OldIn, UnsoundIn}, page_btree.specs.gets.declared.error.TreeError.TreeError}
-use Rattle.page_store.specs.{claim.Transactions.{stored, disk_in, has_halted, IsQuiet, Passed}, declared.{pages.Pages.Pages, txn.Txn.Txn}, gate_journal.claim.Contents.is_halted}
+use Rattle.{desk_model.specs.{Ranges.ranges_in, claim.Desk.Desk, declared.ranges.CountyRange.CountyRange}, desk_store.specs.plan_revisions_sweeps.Checks.IsNewTidy}
+use Rattle.desk_store.specs.{desk_store_opening.Opening.{HasVersion, IsReadFrom, OpenErr}, plan_revisions_sweeps.claim.Checks.AreSoundHoldings}
+use Rattle.desk_store_pages.specs.{Errors.{row_refusal, unread}, Reading.{ReadErr, SeekErr}, claim.Desks.InTxn, declared.error.StoreError.StoreError}
+use Rattle.{desk_store_rows.specs.claim.{Keys.{in_four, version}, Rows.{KeyMap, Has}}, inspect_command.specs.Sound.{CheckErr, IsFoundAs, IsSoundAs, OldIn, UnsoundIn}}
+use Rattle.{inspect_command.specs.Verifying.Unsound, page_btree.specs.gets.declared.error.TreeError.TreeError, page_store.specs.declared.{pages.Pages.Pages, txn.Txn.Txn}}
+use Rattle.{page_store.specs.{claim.Transactions.{stored, disk_in, has_halted, IsQuiet, Passed}, gate_journal.claim.Contents.is_halted}, sector_device.specs.claim.Disk.Image}
 use Rattle.{sector_device.specs.declared.SectorDevice.Ghosts, store_command.specs.{Faults.fault_of_store, declared.fault.StoreFault.StoreFault}}
-use Rattle.{store_command.specs.declared.fault.StoreFault.TheVariants.{NotAStore, OldVersion, DeviceFault, Memory}, store_rows.specs.claim.Keys.{in_four, version}}
-use Rattle.{store_rows.specs.claim.Rows.{KeyMap, Has}, store_verification.specs.rows.{Strays.{AllBelong, IsChecked, IsStray}, Wholes.AllSay, declared.wrong.WrongRow.WrongRow}}
-use Rattle.{page_store.proofs.Stops.failed_more, store_rows.proofs.OneGeography.no_value}
+use Rattle.{store_command.specs.declared.fault.StoreFault.TheVariants.{NotAStore, OldVersion, DeviceFault, Memory}, store_verification.specs.rows.Wholes.AllSay}
+use Rattle.{store_verification.specs.rows.{Strays.{AllBelong, IsChecked, IsStray}, declared.wrong.WrongRow.WrongRow}, desk_store_rows.proofs.OneGeography.no_value}
+use Rattle.page_store.proofs.Stops.{failed_more}
 use Rattle.store_verification.proofs.rows.Whole.{all_say}
 use Rattle.page_btree.specs.gets.declared.error.TreeError.TheVariants as tree
 use Rattle.store_command.proofs.desk_store.Opened.{new_tells}

@@ -1,8 +1,8 @@
 -- How much room commands would need, by the terms by which a clerk tells that a store is full.
 use Rattle.std.specs.Prelude.{◌≡◌, ◌⊎◌, ◌↔◌, ◌<◌, ◌≤◌, ◌*◌, ◌-◌, ℕ, Bool, true, false, IsTrue, List, replicate, length, get_or, slice_set, Option, Some, None, IfSome}
-use Rattle.{desk_catalogue.specs.Cutting.{AreForkRows, AreRevisionRows, changes_in}, desk_model.specs.{Ranges.{ranges_in, ranges_of}, claim.{Desk.Desk, Geography.GeographyModel}}}
-use Rattle.desk_model.specs.{claim.Room.{command_rows, revision_rows}, declared.{command.Command.{Command, TheVariants.Fork}, ranges.CountyRange.CountyRange}}
-use Rattle.inspect_command.specs.declared.needs.{Need.Need, RowsNeeded.RowsNeeded}
+use Rattle.desk_model.specs.{Ranges.{ranges_in, ranges_of}, claim.{Desk.Desk, Geography.GeographyModel, Room.{command_rows, revision_rows}}, declared.command.Command.Command}
+use Rattle.{desk_model.specs.declared.{command.Command.TheVariants.Fork, ranges.CountyRange.CountyRange}, inspect_command.specs.declared.needs.{Need.Need, RowsNeeded.RowsNeeded}}
+use Rattle.desk_store_catalogue.specs.Cutting.{AreForkRows, AreRevisionRows, changes_in}
 
 -- Beside so many free pages and pages of the journal: the pages for so many rows, of which each writes 13 at most; that there are too
 -- few of the ones or the others; how many free pages are missing, and how many are left.

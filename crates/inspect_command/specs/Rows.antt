@@ -1,9 +1,9 @@
 -- Rows of a store that are counted.
 use Rattle.std.specs.{FinMap.entries, Prelude.{◌≡◌, ◌⊎◌, ◌<◌, Bool, true, false, length}}
-use Rattle.{btree_scan.specs.Prefixes.under, desk_pages.specs.Openings.AllDesks, inspect_command.specs.declared.rows.Rows.Rows, page_btree.specs.gets.claim.Map.InPages}
+use Rattle.{btree_scan.specs.Prefixes.under, desk_store_pages.specs.Openings.AllDesks, desk_store_rows.specs.claim.Keys.{holder_counts_prefix, retired_prefix, begun_prefix}}
+use Rattle.{desk_store_rows.specs.claim.Rows.KeyMap, inspect_command.specs.declared.rows.Rows.Rows, page_btree.specs.gets.claim.Map.InPages}
 use Rattle.page_store.specs.{claim.Transactions.{disk_in, device_in, count_of, journal_of}, declared.pages.Pages.Pages, gate_journal.Recovery.Found}
 use Rattle.{sector_device.specs.declared.SectorDevice.Ghosts, store_command.specs.declared.fault.StoreFault.{StoreFault, TheVariants.{NotAStore, DeviceFault, Memory}}}
-use Rattle.store_rows.specs.claim.{Keys.{holder_counts_prefix, retired_prefix, begun_prefix}, Rows.KeyMap}
 
 -- a row for each chunk that plans hold, for each plan that was taken away, and for each load that was begun and isn't sealed
 pub record AreCounted (m : KeyMap) (rows : Rows) : Type 0 where

@@ -1,11 +1,11 @@
 -- Rows that a desk leaves.
 use Rattle.std.specs.Prelude.{◌≡◌, ℕ, true, List, Option, Some, None}
-use Rattle.{desk_model.specs.{Ranges.ranges_in, claim.Desk.Desk}, desk_pages.specs.claim.Desks.InTxn, desk_store.specs.desk_opening.Opening.{HasVersion, IsReadFrom}}
-use Rattle.{desk_store.specs.plan_revisions_sweeps.claim.Checks.AreSoundHoldings, page_btree.specs.gets.{claim.Map.InTxn as HasRows, declared.error.TreeError.TreeError}}
-use Rattle.page_store.specs.{claim.Transactions.{disk_in, has_halted, stored, HasFailed}, declared.{pages.Pages.Pages, txn.Txn.Txn}}
-use Rattle.{sector_device.specs.declared.SectorDevice.Ghosts, store_command.specs.declared.fault.StoreFault.{StoreFault, TheVariants.{NotAStore, OldVersion, DeviceFault, Memory}}}
-use Rattle.{store_rows.specs.claim.{Keys.{version, in_four}, Rows.{KeyMap, Has, Lacks}}, store_verification.specs.rows.{Strays.{AllBelong, IsStray}, Wholes.AreWhole}}
-use Rattle.store_verification.specs.rows.declared.wrong.WrongRow.{WrongRow}
+use Rattle.{desk_model.specs.{Ranges.ranges_in, claim.Desk.Desk}, desk_store.specs.desk_store_opening.Opening.{HasVersion, IsReadFrom}, desk_store_pages.specs.claim.Desks.InTxn}
+use Rattle.{desk_store.specs.plan_revisions_sweeps.claim.Checks.AreSoundHoldings, desk_store_rows.specs.claim.{Keys.{version, in_four}, Rows.{KeyMap, Has, Lacks}}}
+use Rattle.{page_btree.specs.gets.{claim.Map.InTxn as HasRows, declared.error.TreeError.TreeError}, page_store.specs.claim.Transactions.{disk_in, has_halted, stored, HasFailed}}
+use Rattle.{page_store.specs.declared.{pages.Pages.Pages, txn.Txn.Txn}, sector_device.specs.declared.SectorDevice.Ghosts, store_command.specs.declared.fault.StoreFault.StoreFault}
+use Rattle.{store_command.specs.declared.fault.StoreFault.TheVariants.{NotAStore, OldVersion, DeviceFault, Memory}, store_verification.specs.rows.Strays.{AllBelong, IsStray}}
+use Rattle.store_verification.specs.rows.{Wholes.AreWhole, declared.wrong.WrongRow.WrongRow}
 use Rattle.page_btree.specs.gets.declared.error.TreeError.TheVariants as tree
 
 -- The rows tell the new version; what an opening reads of them is this desk; each key is that of a row, and each part and piece says what

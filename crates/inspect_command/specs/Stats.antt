@@ -4,8 +4,8 @@ use Rattle.{command_output.specs.{claim.Writing.{Written, write_fault_line}, dec
 use Rattle.inspect_command.specs.{Texts.figures_text, claim.Living.{Hinders, IsOfDesk}, declared.{figures.{Figures.Figures, Held.Held}, rows.Rows.Rows, texts.Style.Style}}
 use Rattle.{page_store.specs.claim.Transactions.device_in, sector_device.specs.declared.SectorDevice.Ghosts, store_command.specs.Filling.{IsNotOpened, WhereItReads}}
 use Rattle.store_command.specs.{Reading.{LeavesDesk, ShowsWhatIsRead}, Telling.EndsStore, declared.fault.StoreFault.{StoreFault, TheVariants.{NotAStore, DeviceFault, Memory}}}
-use Rattle.store_command.specs.{desk_loading.Openings.IsOpened, desk_store.{claim.Clerks.{disk_of, pages_of}, declared.clerk.Clerk.Clerk}, desk_theorem.claim.Device.OnDevice}
-use Rattle.store_command.specs.desk_theorem.claim.OneLife.{Asked, RequestsHold}
+use Rattle.store_command.specs.{desk_store.{claim.Clerks.{disk_of, pages_of}, declared.clerk.Clerk.Clerk}, desk_theorem.claim.{Device.OnDevice, OneLife.{Asked, RequestsHold}}}
+use Rattle.store_command.specs.desk_theorem_loading.Openings.{IsOpened}
 
 -- the figures, where both parts of them were found
 abbrev pub joined : ℕ → Result Held StoreFault → Result Rows StoreFault → Result Figures StoreFault

@@ -1,13 +1,14 @@
 -- A store that is verified.
 use Rattle.std.specs.{Prelude.{◌≡◌, ◌⊎◌, ◌<◌, ℕ, Bool, true, false, List, codes, Option, Some, None, Result, Ok, Err, IfOk, IfErr, Vec}, declared.alloc.Global.Global}
 use Rattle.{command_output.specs.{claim.Writing.{Written, Prints, write_fault_line}, declared.status.Status.{Status, TheVariants.Done}}, desk_model.specs.Ranges.ranges_in}
-use Rattle.{desk_model.specs.claim.Desk.Desk, desk_pages.specs.{Openings.{HasPages, IsSpared, StillStands}, claim.Desks.InPages as HoldsDesk}, store_rows.specs.claim.Rows.KeyMap}
-use Rattle.inspect_command.specs.{Sound.{HasSound, HasStray}, SoundTexts.{verified_text, TellsRefusal}, declared.{refusal.Refusal.Refusal, verifying.Verified.Verified}}
-use Rattle.page_btree.specs.{checks.{Faults.IsWrongPage, Owners.AreOwned, declared.error.{PageFault.PageFault, PagesError.PagesError}}, gets.claim.Map.InPages}
-use Rattle.page_store.specs.{claim.Transactions.{stored, disk_in, device_in, count_of, journal_of, has_halted, IsQuiet}, declared.pages.Pages.Pages, gate_journal.Recovery.Found}
-use Rattle.{sector_device.specs.declared.SectorDevice.Ghosts, store_command.specs.{Filling.WhereItReads, Reading.LeavesDesk, declared.fault.StoreFault.StoreFault}}
+use Rattle.{desk_model.specs.claim.Desk.Desk, desk_store_pages.specs.{Openings.{HasPages, IsSpared, StillStands}, claim.Desks.InPages as HoldsDesk}}
+use Rattle.{desk_store_rows.specs.claim.Rows.KeyMap, inspect_command.specs.{Sound.{HasSound, HasStray}, SoundTexts.{verified_text, TellsRefusal}, declared.refusal.Refusal.Refusal}}
+use Rattle.{inspect_command.specs.declared.verifying.Verified.Verified, page_btree.specs.checks.{Faults.IsWrongPage, Owners.AreOwned, declared.error.PageFault.PageFault}}
+use Rattle.{page_btree.specs.{checks.declared.error.PagesError.PagesError, gets.claim.Map.InPages}, page_store.specs.{declared.pages.Pages.Pages, gate_journal.Recovery.Found}}
+use Rattle.{page_store.specs.claim.Transactions.{stored, disk_in, device_in, count_of, journal_of, has_halted, IsQuiet}, sector_device.specs.declared.SectorDevice.Ghosts}
+use Rattle.store_command.specs.{Filling.WhereItReads, Reading.LeavesDesk, declared.fault.StoreFault.StoreFault, desk_theorem.claim.{Device.OnDevice, OneLife.ReadHolds}}
 use Rattle.store_command.specs.declared.fault.StoreFault.TheVariants.{NotFound, WrongSize, Exists, TooSmall, NotAStore, OldVersion, AlreadyNew, AlreadySealed, Full, DeviceFault, Memory}
-use Rattle.{store_command.specs.desk_theorem.claim.{Device.OnDevice, OneLife.ReadHolds}, store_verification.specs.rows.{Strays.AllBelong, declared.wrong.WrongRow.WrongRow}}
+use Rattle.store_verification.specs.rows.{Strays.AllBelong, declared.wrong.WrongRow.WrongRow}
 use Rattle.page_btree.specs.checks.declared.error.PagesError.TheVariants as owners
 
 module _ {D : Type 0} {g : Ghosts D} where

@@ -6,13 +6,13 @@ ghost use Rattle.inspect_command.specs.Verifying.{VerifiesTelling};
 use crate::refusal::Refusal;
 use crate::verifying::{Verified, verify_device};
 use byte_stream::progress::Progress;
-use desk_pages::StoreError;
+use desk_store_pages::StoreError;
 use page_store::Pages;
 use sector_device::SectorDevice;
 use std::alloc::Global;
 use std::thread::Threads;
-use store_command::desk_law::one_desk_opens;
 use store_command::fault::{StoreFault, store_fault};
+use store_command::one_desk_opens;
 use store_verification::{Look, Readers, look_beside};
 
 /// Opens the store on a synced device that was found sound, with this number of rows, and returns
@@ -48,7 +48,7 @@ fn open_sound<D: SectorDevice + Drop, P: Progress>(
 /// do not find it sound, it is verified sequentially and what is wrong is printed. Writes nothing
 /// but what completes an interrupted commit. `progress` receives the number of pages so far and in
 /// all.
-pub(crate) fn verify_beside<
+pub fn verify_beside<
     T: Threads + Sync,
     D: SectorDevice + Drop,
     R: SectorDevice + Send + Drop,

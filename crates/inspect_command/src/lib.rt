@@ -14,25 +14,30 @@
 //!   desk (`IsSound`). Otherwise it reports a fault, a page only if it is wrong (`IsWrongPage`), a
 //!   row only if it does not belong (`VerifiesStore`). It is one life of a store of either version,
 //!   in which that is read (`VerifiesLife`).
-//! - Both write nothing but what completes a commit that was cut off (`IsSparedFor`).
+//! - `compare_device`: the geography of a store is the one that is given, or differs first in what
+//!   is returned (`DiffersFrom`). It is one life of the store, in which that is read
+//!   (`ComparesDevice`).
+//! - All write nothing but what completes a commit that was cut off (`IsSparedFor`).
 //!
 //! # Not proved
 //!
 //! Which of several faults `verify` names first.
 #![tactic(auto)]
 
-mod beside;
+pub mod beside;
+pub mod comparing;
 pub mod figures;
 pub mod needs;
-mod refusal;
+pub mod refusal;
 pub mod rows;
-mod sound_texts;
+pub mod sound_texts;
 pub mod stat;
 pub mod texts;
 pub mod verify;
-mod verifying;
+pub mod verifying;
 
+pub use census_difference::{Difference, push_line};
 pub use store_command::{
-    Clerk, desk_law, fault, filling, format, load, migrate, stores, sweep, swept_law, telling,
+    Clerk, fault, filling, format, load, migrate, one_desk_opens, stores, sweep, swept_law, telling,
 };
 pub use store_verification::Readers;

@@ -4,9 +4,9 @@ ghost use Rattle.std.specs.Option.{option_copied};
 ghost use Rattle.desk_model.specs.Ranges.{ranges_of};
 ghost use Rattle.inspect_command.specs.Needs.{all_change, one_changes, no_cut, IsLargest, IsNeed, AreNeeded, AreNeededBy};
 
-use desk_catalogue::{fork_rows, revision_rows};
 use desk_model::geography::Geography;
 use desk_model::ranges::CountyRange;
+use desk_store_catalogue::{fork_rows, revision_rows};
 use std::alloc::{AllocError, Global};
 
 /// Free pages, and pages of the journal, that each row of a command asks for.

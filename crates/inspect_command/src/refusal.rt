@@ -121,7 +121,7 @@ fn long_line(alloc: Global, refusal: &Refusal) -> Option<Vec<u8>>
 }
 
 /// Prints why, as far as it can be written. Without memory for it only the fault's line is printed.
-pub(crate) fn tell_refusal<E: Sink>(alloc: Global, refusal: &Refusal, errors: &mut E) -> Status
+pub fn tell_refusal<E: Sink>(alloc: Global, refusal: &Refusal, errors: &mut E) -> Status
     ensures { TellsRefusal refusal.now result (written_of E.contents E.failures errors.old) (written_of E.contents E.failures errors.new) }
 {
     match long_line(alloc, refusal) {

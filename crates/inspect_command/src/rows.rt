@@ -4,14 +4,14 @@ ghost use Rattle.std.specs.FinMap.{entries};
 ghost use Rattle.page_store.specs.claim.Transactions.{disk_in, count_of, has_halted, txn_pages, IsQuiet};
 ghost use Rattle.page_btree.specs.gets.claim.Map.{InPages};
 ghost use Rattle.btree_scan.specs.Prefixes.{under};
-ghost use Rattle.store_rows.specs.claim.Rows.{KeyMap};
-ghost use Rattle.desk_pages.specs.Looking.{Looks};
-ghost use Rattle.desk_pages.specs.Openings.{LeavesOneOf};
+ghost use Rattle.desk_store_rows.specs.claim.Rows.{KeyMap};
+ghost use Rattle.desk_store_pages.specs.Looking.{Looks};
+ghost use Rattle.desk_store_pages.specs.Openings.{LeavesOneOf};
 ghost use Rattle.inspect_command.specs.Rows.{AreCounted, CountsRows, fault_of_rows, AreUnread, IsUncounted};
 ghost use Rattle.store_verification.specs.rows.Strays.{IsAny};
 
 use btree_scan::{row_limit, scan};
-use desk_pages::StoreError;
+use desk_store_pages::StoreError;
 use page_btree::TreeError;
 use page_store::{Pages, Txn};
 use sector_device::SectorDevice;

@@ -10,7 +10,7 @@ use std::alloc::{AllocError, Global};
 const ROOM: usize = 128;
 
 /// A text with room for what is printed.
-pub(crate) fn room_for_text(alloc: Global) -> Result<Vec<u8>, AllocError>
+pub fn room_for_text(alloc: Global) -> Result<Vec<u8>, AllocError>
     ensures { IfOk result (λ text. text.items ≡ []) }
 {
     Vec::with_capacity(alloc, ROOM)
@@ -26,7 +26,7 @@ fn push_number(text: &mut Vec<u8>, words: &[u8], number: u64) -> Result<(), Allo
 }
 
 /// Adds what is printed to a text.
-pub(crate) fn put_verified(text: &mut Vec<u8>, found: &Verified) -> Result<(), AllocError>
+pub fn put_verified(text: &mut Vec<u8>, found: &Verified) -> Result<(), AllocError>
     ensures { OnOk result (text.new.items ≡ text.old.items ++ verified_text found.now) }
 {
     text.extend_from_slice(b"sound yes\n")?;

@@ -11,9 +11,9 @@ use byte_stream::sink::Sink;
 use command_output::status::Status;
 use sector_device::SectorDevice;
 use std::alloc::Global;
-use store_command::desk_law::one_desk_opens;
 use store_command::fault::StoreFault;
 use store_command::filling::open_clerk;
+use store_command::one_desk_opens;
 use store_command::stores::Stores;
 use store_command::telling::end_store;
 

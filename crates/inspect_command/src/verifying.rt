@@ -5,26 +5,26 @@ ghost use Rattle.desk_model.specs.Ranges.{ranges_in};
 ghost use Rattle.sector_device.specs.Disk.{IsSynced};
 ghost use Rattle.page_store.specs.claim.Transactions.{stored, disk_in, count_of, has_halted, txn_pages, IsQuiet, Passed};
 ghost use Rattle.page_btree.specs.gets.claim.Map.{InTxn};
-ghost use Rattle.store_rows.specs.claim.Keys.{version, in_four};
-ghost use Rattle.store_rows.specs.claim.Rows.{KeyMap, Has};
+ghost use Rattle.desk_store_rows.specs.claim.Keys.{version, in_four};
+ghost use Rattle.desk_store_rows.specs.claim.Rows.{KeyMap, Has};
 ghost use Rattle.page_btree.specs.gets.declared.error.TreeError.TheVariants.{Memory};
 ghost use Rattle.store_verification.specs.rows.Strays.{AllBelong};
-ghost use Rattle.desk_pages.specs.claim.Desks.{InTxn as HoldsDesk};
+ghost use Rattle.desk_store_pages.specs.claim.Desks.{InTxn as HoldsDesk};
 ghost use Rattle.inspect_command.specs.Sound.{CheckErr, IsFoundAs, IsSoundAs, OldIn, UnsoundIn};
 ghost use Rattle.inspect_command.specs.Verifying.{HoldsOwned, HoldsSound, TellsPages, VerifiesPages, VerifiesTelling};
 
 use crate::refusal::Refusal;
 use byte_stream::progress::Progress;
-use desk_catalogue::catalogue::Catalogue;
 use desk_model::ranges::CountyRange;
-use desk_pages::{StoreError, TreeError, row_error};
 use desk_store::{check_holdings, geography, is_new, read_desk};
+use desk_store_catalogue::catalogue::Catalogue;
+use desk_store_pages::{StoreError, TreeError, row_error};
 use page_btree::{PagesError, check_pages};
 use page_store::{Pages, Txn};
 use sector_device::SectorDevice;
 use std::alloc::Global;
-use store_command::desk_law::one_desk_opens;
 use store_command::fault::{StoreFault, store_fault};
+use store_command::one_desk_opens;
 use store_verification::{Checked, Hints, WrongRow, check_rows, first_wrong, note_parts};
 
 /// What was found in a store that is sound: how many pages it has, and how many rows these hold.

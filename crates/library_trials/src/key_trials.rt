@@ -1,7 +1,7 @@
 //! Keys of rows, by the table of docs/dev/STORE-FORMAT.md.
-ghost use Rattle.store_rows.specs.RowKeys.{IsShort, row_of};
+ghost use Rattle.desk_store_rows.specs.RowKeys.{IsShort, row_of};
 
-use store_rows::RowKey;
+use desk_store_rows::RowKey;
 
 /// Whether a row has these bytes as its key.
 fn has_key(row: &RowKey, key: &[u8]) -> bool

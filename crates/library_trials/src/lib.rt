@@ -1,12 +1,11 @@
-//! Tests of the libraries below the clerk: keys, rows and pages, plans, lists, districts, audits.
+//! Tests of the libraries below the clerk: keys, rows and pages, plans, districts.
 //!
 //! # Notes
 //!
 //! Devices stop and fail at each of their calls. Rows are put, got and removed in a tree of pages
 //! and in an ordered map. Keys of rows are written and read by the table of the store's format.
-//! Plans, lists and districts exceed the sizes at which their parts fill.
-//! The audits have more districts than the program accepts for congress, and check what passes the
-//! gate between workers.
+//! Plans and districts exceed the sizes at which their parts fill. surface_trials calls each public
+//! call of these libraries.
 #![tactic(auto)]
 
 /// Asserts a fact on which no later step rests. It is a call where `assert!` is a branch, which is dearer to prove.
@@ -22,23 +21,13 @@ mod facts;
 #[cfg(test)]
 mod key_trials;
 #[cfg(test)]
-mod list_trials;
-#[cfg(test)]
 mod long_trials;
-#[cfg(test)]
-mod memory_trials;
 #[cfg(test)]
 mod name_trials;
 #[cfg(test)]
 mod owner_trials;
 #[cfg(test)]
-mod page_trials;
-#[cfg(test)]
 mod piece_trials;
-#[cfg(test)]
-mod place_trials;
-#[cfg(test)]
-mod population_trials;
 #[cfg(test)]
 mod read_trials;
 #[cfg(test)]
@@ -49,5 +38,3 @@ mod row_trials;
 mod scan_trials;
 #[cfg(test)]
 mod stop_trials;
-#[cfg(test)]
-mod workers_trials;

@@ -2,8 +2,8 @@
 use desk_model::kind::Kind;
 use desk_model::name::PlanName;
 use desk_model::size::PlanSize;
-use desk_plans::entry::Entry;
-use desk_plans::plans::Plans;
+use desk_store_plans::entry::Entry;
+use desk_store_plans::plans::Plans;
 use std::alloc::Global;
 use std::process::Abort;
 

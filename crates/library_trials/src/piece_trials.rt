@@ -1,5 +1,5 @@
 //! Districts in pieces.
-use shared_lists::Districts;
+use desk_store_lists::Districts;
 use std::alloc::Global;
 use std::process::Abort;
 

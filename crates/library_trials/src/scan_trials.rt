@@ -15,7 +15,7 @@ use std::process::Abort;
 pub const ROWS: u32 = 2000;
 
 /// The key of a number below 2 to the 24. Keys have the order of their numbers.
-pub fn key_of(n: u32) -> [u8; 3] {
+fn key_of(n: u32) -> [u8; 3] {
     let [_, a, b, c] = n.to_be_bytes();
     [a, b, c]
 }
@@ -82,7 +82,7 @@ pub fn scanned<D: SectorDevice>(
 }
 
 /// Prefixes, the numbers in the map from one on to another, and how many they are.
-pub static PREFIXES: [(&[u8], u32, u32, u32); 9] = [
+static PREFIXES: [(&[u8], u32, u32, u32); 9] = [
     (&[], 0, 0x100_0000, 2000),
     (&[0x00], 0, 0x1_0000, 400),
     (&[0x20], 0x20_0000, 0x21_0000, 400),

@@ -1,12 +1,12 @@
 -- Lemmas on the definitions of Accepted.
-use Rattle.{std.{specs.{List.slice_get, Prelude.{◌==◌, not, nat_le}}, proofs.lemmas.Bool.{leb-false, eqb-true}}, desk_catalogue.specs.{Kept.revision_in, claim.Accepting.IsAfter}}
+use Rattle.{std.{specs.{List.slice_get, Prelude.{◌==◌, not, nat_le}}, proofs.lemmas.Bool.{leb-false, eqb-true}}, desk_model.specs.claim.{Baf.{Values, Fault}, Desk.{Plan, Desk}}}
 use Rattle.std.proofs.Common.{rules, ◌≡◌, ◌<◌, ◌≤◌, ◌+◌, ◌-◌, ℕ, suc, Bool, cond, List, [], ◌∷◌, ◌++◌, length, Option, Some, None, Result, Ok, refl, sym, ap, ◌∙◌, arith, length-append}
-use Rattle.desk_model.specs.{claim.{Baf.{Values, Fault}, Desk.{Plan, Desk}, Geography.GeographyModel, Subject.revision_at}, declared.{command.Command.Command, kind.Kind.Kind}}
-use Rattle.{desk_model.specs.claim.Room.{changed, revision_rows, added_rows, command_rows, fork_rows, forked_rows, last_revision}, plan_revisions.specs.Accepted.IsRevised}
+use Rattle.desk_model.specs.claim.{Geography.GeographyModel, Room.{changed, revision_rows, added_rows, command_rows, fork_rows, forked_rows, last_revision}, Subject.revision_at}
 use Rattle.desk_model.specs.claim.Step.{step, step_at, create, on_revisions, whole_read, patch_read, county_patched, patched, refused, retired, fork, fork_from, fork_of, plan_limit, revision_limit, Outcome}
-use Rattle.desk_model.specs.declared.{command.Command.TheVariants.{Create, Whole, Counties, Retire, Fork}, reply.Refusal.TheVariants.{Limit, Stale}}
-use Rattle.{plan_revisions.specs.{Plans.{TakesPlan, with_plan, HasPlanAt, without_plan, TakesFork, with_fork}, claim.Rows.added_by}, store_rows.specs.Changes.with_revision}
-use Rattle.{desk_catalogue.proofs.Drafted.{end_of, put_there, no_zero}, plan_revisions.proofs.Within.{AreSmall, body_small, patched_within, revision_within, whole_within}}
+use Rattle.desk_model.specs.declared.{command.Command.{Command, TheVariants.{Create, Whole, Counties, Retire, Fork}}, kind.Kind.Kind, reply.Refusal.TheVariants.{Limit, Stale}}
+use Rattle.{desk_store_catalogue.specs.{Kept.revision_in, claim.Accepting.IsAfter}, desk_store_rows.specs.Changes.with_revision, plan_revisions.specs.Accepted.IsRevised}
+use Rattle.plan_revisions.specs.{Plans.{TakesPlan, with_plan, HasPlanAt, without_plan, TakesFork, with_fork}, claim.Rows.added_by}
+use Rattle.{desk_store_catalogue.proofs.Drafted.{end_of, put_there, no_zero}, plan_revisions.proofs.Within.{AreSmall, body_small, patched_within, revision_within, whole_within}}
 use Rattle.std.specs.FinMap as map_of
 use Rattle.desk_model.specs.declared.reply.Reply.TheVariants as reply
 

@@ -1,6 +1,6 @@
 -- How many counties a geography has.
 use Rattle.{std.proofs.{Common.{◌<◌, ◌≤◌, ◌+◌, ◌^◌, ℕ, Bool, cond, List, [], ◌∷◌, length, arith}, lemmas.List.length-map}, desk_model.specs.Ranges.ranges_of}
-use Rattle.{desk_model.specs.claim.{Geography.GeographyModel, GeographyModels.block_limit, Ranges.{runs_from, runs}}, desk_catalogue.proofs.Counted.laid_long}
+use Rattle.{desk_model.specs.claim.{Geography.GeographyModel, GeographyModels.block_limit, Ranges.{runs_from, runs}}, desk_store_catalogue.proofs.Counted.laid_long}
 
 either_few : (same : Bool) (one other : List ℕ) (n : ℕ) → length one ≤ n → length other ≤ n → length (cond same one other) ≤ n
 either_few same one other n few more = search (arith)

@@ -1,8 +1,9 @@
 -- The rows of a revision that was accepted.
 use Rattle.std.{specs.Prelude.IfSome, proofs.{Common.{◌≡◌, ◌⊎◌, ◌+◌, ℕ, Bool, List, length, Option, Some, sym, ap, ◌∙◌, arith}, lemmas.List.length-map}}
-use Rattle.desk_catalogue.specs.{Cutting.{changes_in, is_changed}, Drafts.{changes_between, changes_of}, Kept.{IsWhole, revision_in}, claim.Accepting.IsAfter}
 use Rattle.desk_model.specs.{Ranges.{ranges_in, ranges_of}, claim.{Desk.Desk, Geography.GeographyModel}, declared.command.Command.{Command, TheVariants.{Whole, Counties}}}
-use Rattle.{desk_model.specs.declared.ranges.CountyRange.CountyRange, plan_revisions.{specs.Accepted.IsRevised, proofs.Accepted.{counties_revised, next_is, whole_revised}}}
+use Rattle.{desk_model.specs.declared.ranges.CountyRange.CountyRange, desk_store_catalogue.specs.{Cutting.{changes_in, is_changed}, Drafts.{changes_between, changes_of}}}
+use Rattle.{desk_store_catalogue.specs.{Kept.{IsWhole, revision_in}, claim.Accepting.IsAfter}, plan_revisions.specs.Accepted.IsRevised}
+use Rattle.plan_revisions.proofs.Accepted.{counties_revised, next_is, whole_revised}
 use Rattle.std.specs.FinMap as map_of
 
 -- a geography that a desk has is the one that it is known by

@@ -1,7 +1,8 @@
 -- The districts of counties, one after the other.
 use Rattle.std.{specs.List.concat, proofs.{Common.{◌≡◌, ◌<◌, ◌+◌, ◌++◌, ℕ, List, [], ◌∷◌, length, get_or, take, sym, ap, ◌∙◌, arith}, lemmas.List.Folds.concat-append}}
-use Rattle.{std.proofs.lemmas.List.{append-nil, take_more, length-map, get_or-map}, chunk_table.specs.ChunkReading.IsChunk, store_rows.specs.claim.Rows.KeyMap}
-use Rattle.{desk_model.specs.declared.ranges.CountyRange.CountyRange, plan_revisions.specs.RevisionReading.{AreLong, AreNames, AreCounties, IsRevision}}
+use Rattle.{std.proofs.lemmas.List.{append-nil, take_more, length-map, get_or-map}, desk_model.specs.declared.ranges.CountyRange.CountyRange}
+use Rattle.{desk_store_rows.specs.claim.Rows.KeyMap, plan_revisions.specs.RevisionReading.{AreLong, AreNames, AreCounties, IsRevision}}
+use Rattle.plan_revisions_sweeps.specs.chunk_table.ChunkReading.{IsChunk}
 
 pub one_county_more : (counties : List (List ℕ)) (i : ℕ) → i < length counties → concat (take i counties) ++ get_or counties i [] ≡ concat (take (i + 1) counties)
 one_county_more counties i within =

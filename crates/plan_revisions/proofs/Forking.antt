@@ -1,17 +1,18 @@
 -- A fork that is read and put is a step of the desk.
 use Rattle.std.proofs.Common.{rules, ◌≢◌, ◌≤◌, Result, Ok, ◌≡◌, ◌+◌, ◌*◌, ◌-◌, ◌^◌, ℕ, List, length, Some, refl, ap, subst, ◌∙◌, arith, length-append}
-use Rattle.{chunk_table.specs.{ChunkChanging.{HasChanged, MapErr}, Holding.CanHoldAll}, desk_model.specs.{Ranges.{ranges_of, ListsAreCut}, claim.{Desk.Desk, Name.IsPlanName}}}
-use Rattle.desk_model.specs.{claim.{Geography.GeographyModel, GeographyModels.AreBlocks, Room.{rows_for, fork_rows}}, declared.ranges.CountyRange.CountyRange}
-use Rattle.{desk_pages.specs.{Looking.Gathers, Outcomes.Writes, claim.{Desks.IsDeskMap, Puts.{HasPut, PutsErr}}}, page_btree.specs.gets.claim.Map.InTxn as HasMap}
-use Rattle.{page_btree.specs.gets.declared.error.TreeError.TreeError, page_store.specs.{claim.Transactions.{stored, disk_in, IsQuiet}, declared.{pages.Pages.Pages, txn.Txn.Txn}}}
-use Rattle.plan_revisions.specs.{Forking.{CanFork, CanMake, ForksAreMade, IsSource, MakesFork, PutsFork, forked_map, row_like, rows_of_fork}, Lookups.HasSomeRevision}
-use Rattle.plan_revisions.specs.{PlanLaws.{PlansAreTold, RowFits}, PlanRows.{IsFound, created_rows}, Plans.{TakesFork, with_fork}, RevisionReading.AreNames}
-use Rattle.plan_revisions.specs.{claim.{Outcomes.HasExhausted, PlanRows.HasPlanNumber, Steps.{HasStepped, LeavesNumbers, StepErr}}, declared.reads.Reading.Reading}
-use Rattle.{sector_device.specs.declared.SectorDevice.Ghosts, store_rows.specs.{Shares.{hold_all, shared_rows}, Steps.one_plan_more, TidyLaws.NextIsOne, claim.Rows.KeyMap}}
-use Rattle.{store_rows.specs.{claim.{Puts.{Row, put_rows}, Tidy.CountersFit}, declared.value.{Counters.Counters, StoredPlan.StoredPlan}}, chunk_table.proofs.HeldAll.held_by_rows}
-use Rattle.chunk_table.proofs.Changed.{changed_as, prefix_unchanged, more_by_rows, more_changed, rows_by_rows, rows_changed, rows_unchanged, then_unchanged}
-use Rattle.{chunk_table.proofs.Writing.{after_reads, writes_as}, plan_revisions.proofs.{LastRevision.{ranges_long, last_named}, Looking.stands_at}}
-use Rattle.{plan_revisions.proofs.Retiring.{stepped_by, not_stepped_by}, store_rows.proofs.Puts.length-rows_told}
+use Rattle.desk_model.specs.{Ranges.{ranges_of, ListsAreCut}, claim.{Desk.Desk, Geography.GeographyModel, GeographyModels.AreBlocks, Name.IsPlanName, Room.{rows_for, fork_rows}}}
+use Rattle.{desk_model.specs.declared.ranges.CountyRange.CountyRange, desk_store_pages.specs.{Looking.Gathers, Outcomes.Writes, claim.{Desks.IsDeskMap, Puts.{HasPut, PutsErr}}}}
+use Rattle.desk_store_rows.specs.{Shares.{hold_all, shared_rows}, Steps.one_plan_more, TidyLaws.NextIsOne, claim.{Puts.{Row, put_rows}, Rows.KeyMap, Tidy.CountersFit}}
+use Rattle.{desk_store_rows.specs.declared.value.{Counters.Counters, StoredPlan.StoredPlan}, page_btree.specs.gets.{claim.Map.InTxn as HasMap, declared.error.TreeError.TreeError}}
+use Rattle.{page_store.specs.{claim.Transactions.{stored, disk_in, IsQuiet}, declared.{pages.Pages.Pages, txn.Txn.Txn}}, plan_revisions.specs.Lookups.HasSomeRevision}
+use Rattle.plan_revisions.specs.{Forking.{CanFork, CanMake, ForksAreMade, IsSource, MakesFork, PutsFork, forked_map, row_like, rows_of_fork}, PlanLaws.{PlansAreTold, RowFits}}
+use Rattle.plan_revisions.specs.{PlanRows.{IsFound, created_rows}, Plans.{TakesFork, with_fork}, RevisionReading.AreNames, claim.{Outcomes.HasExhausted, PlanRows.HasPlanNumber}}
+use Rattle.{plan_revisions.specs.{claim.Steps.{HasStepped, LeavesNumbers, StepErr}, declared.reads.Reading.Reading}, plan_revisions_sweeps.specs.chunk_table.Holding.CanHoldAll}
+use Rattle.{plan_revisions_sweeps.specs.chunk_table.ChunkChanging.{HasChanged, MapErr}, sector_device.specs.declared.SectorDevice.Ghosts, plan_revisions.proofs.Looking.stands_at}
+use Rattle.{desk_store_rows.proofs.Puts.length-rows_told, plan_revisions.proofs.{LastRevision.{ranges_long, last_named}, Retiring.{stepped_by, not_stepped_by}}}
+use Rattle.plan_revisions_sweeps.proofs.chunk_table.Changed.{changed_as, prefix_unchanged, more_by_rows, more_changed, rows_by_rows, rows_changed, rows_unchanged, then_unchanged}
+use Rattle.plan_revisions_sweeps.proofs.chunk_table.HeldAll.{held_by_rows}
+use Rattle.plan_revisions_sweeps.proofs.chunk_table.Writing.{after_reads, writes_as}
 
 -- ---- what is read
 module _ (told : PlansAreTold) (cut_law : ListsAreCut) (the_geography : GeographyModel) (from : List ℕ) (k : ℕ) (row : StoredPlan) (count : ℕ) (many : count ≡ length (ranges_of the_geography)) (fits : RowFits row) where

@@ -1,11 +1,11 @@
 -- The rows of plans, with the row of numbers after them, make the desk that the plans' rows make.
 use Rattle.std.{specs.{FinMap.{FinMap, get, insert}, Prelude.{Option, MatchOption}}, proofs.Common.{◌≡◌, ◌<◌, ℕ, List, [], length, Some, ap, ◌∙◌, arith, length-append}}
-use Rattle.{desk_model.specs.claim.{Desk.{Desk, Plan, name_cmp}, Geography.GeographyModel}, plan_revisions.specs.PlanLaws.{MakesAndTakes, HasRevisionRows}}
-use Rattle.{plan_revisions.specs.PlanRows.{plan_rows, revised_rows}, store_rows.specs.{Changes.{IsRevised, desk_with, plan_row_of, with_revision}, Rows.SameTag, claim.Rows.KeyMap}}
-use Rattle.store_rows.specs.{Steps.one_revision_more, claim.{DeskRows.{HasPlan, IsDesk, most_revisions}, Keys.{key_of, counters, named}, Puts.put_rows, Tidy.{IsNext, no_numbers}}}
-use Rattle.store_rows.specs.{claim.Values.{counters_bytes, plan_bytes}, declared.value.{Counters.Counters, StoredPlan.StoredPlan}}
-use Rattle.store_rows.proofs.Changes.{plan_created, plan_retired, plan_revised, other_row as other_name}
-use Rattle.store_rows.proofs.Frames.{put_is_there, put_keeps, put_keeps_tag, tag_follows, desk_stays, revision_stays}
+use Rattle.{desk_model.specs.claim.{Desk.{Desk, Plan, name_cmp}, Geography.GeographyModel}, desk_store_rows.specs.Changes.{IsRevised, desk_with, plan_row_of, with_revision}}
+use Rattle.desk_store_rows.specs.{Rows.SameTag, Steps.one_revision_more, claim.{DeskRows.{HasPlan, IsDesk, most_revisions}, Keys.{key_of, counters, named}, Puts.put_rows}}
+use Rattle.desk_store_rows.specs.{claim.{Rows.KeyMap, Tidy.{IsNext, no_numbers}, Values.{counters_bytes, plan_bytes}}, declared.value.{Counters.Counters, StoredPlan.StoredPlan}}
+use Rattle.plan_revisions.specs.{PlanLaws.{MakesAndTakes, HasRevisionRows}, PlanRows.{plan_rows, revised_rows}}
+use Rattle.desk_store_rows.proofs.Changes.{plan_created, plan_retired, plan_revised, other_row as other_name}
+use Rattle.desk_store_rows.proofs.Frames.{put_is_there, put_keeps, put_keeps_tag, tag_follows, desk_stays, revision_stays}
 
 -- ---- the row of numbers says nothing of the desk
 numbers_keep : (m : KeyMap) (d : Desk) (value : List ℕ) → IsDesk m d → IsDesk (insert m (key_of counters) value) d

@@ -1,7 +1,7 @@
 -- A step is refused for the depth of the stored tree alone, where the transaction was begun over it.
-use Rattle.{std.proofs.Common.{◌≡◌, ◌<◌, ◌≤◌, ℕ, false}, desk_pages.specs.claim.Puts.IsStoredNear, page_btree.specs.gets.claim.Errors.level_in, page_store.specs.Calls.BeginsOver}
-use Rattle.page_store.specs.{claim.{Chain.root_in, Transactions.{stored, disk_in, has_halted}}, declared.{pages.Pages.Pages, txn.Txn.Txn}}
-use Rattle.{plan_revisions.specs.claim.Steps.IsDeep, sector_device.specs.declared.SectorDevice.Ghosts, desk_pages.proofs.Nearness.{begun_near, never_stored_near}}
+use Rattle.{std.proofs.Common.{◌≡◌, ◌<◌, ◌≤◌, ℕ, false}, desk_store_pages.specs.claim.Puts.IsStoredNear, page_btree.specs.gets.claim.Errors.level_in}
+use Rattle.page_store.specs.{Calls.BeginsOver, claim.{Chain.root_in, Transactions.{stored, disk_in, has_halted}}, declared.{pages.Pages.Pages, txn.Txn.Txn}}
+use Rattle.{plan_revisions.specs.claim.Steps.IsDeep, sector_device.specs.declared.SectorDevice.Ghosts, desk_store_pages.proofs.Nearness.{begun_near, never_stored_near}}
 
 module _ {D : Type 0} {g : Ghosts D} (t : Txn) (ps : Pages D g) (begun : BeginsOver ps t) (works : has_halted ps ≡ false) (honest : (disk_in ps).is_honest) where
   -- so many rows could bring the stored tree to the end of its sixth level

@@ -1,9 +1,9 @@
 -- A plan's row is read back from its bytes, so it tells one plan.
 use Rattle.std.{specs.{FinMap.{FinMap, get}, Int.from_be_bytes, Prelude.IfSome}, proofs.Common.{sym, ap, ◌∙◌, ◌≡◌, ◌%◌, ℕ, List, drop, get_or, Option, Some, w16, arith}}
 use Rattle.{std.proofs.lemmas.Nat.from_be_bytes-to_be_bytes_2, desk_model.specs.{claim.{Desk.{Plan, name_cmp}, Geography.GeographyModel}, declared.kind.Kind.Kind}}
-use Rattle.{plan_revisions.specs.{PlanLaws.{RowFits, IsTold}, PlanRows.IsFound}, store_rows.specs.{Changes.{desk_with, plan_row_of}, claim.DeskRows.{HasPlan, IsPlanAt, IsDesk}}}
-use Rattle.store_rows.{specs.{claim.{Rows.KeyMap, Values.{plan_bytes, kind_code}}, declared.value.StoredPlan.StoredPlan}, proofs.OneDesk.{row_number, row_revisions}}
-use Rattle.store_rows.proofs.OneGeography.{value_is, no_value as clash}
+use Rattle.desk_store_rows.specs.{Changes.{desk_with, plan_row_of}, claim.{DeskRows.{HasPlan, IsPlanAt, IsDesk}, Rows.KeyMap, Values.{plan_bytes, kind_code}}}
+use Rattle.{desk_store_rows.specs.declared.value.StoredPlan.StoredPlan, plan_revisions.specs.{PlanLaws.{RowFits, IsTold}, PlanRows.IsFound}}
+use Rattle.desk_store_rows.proofs.{OneDesk.{row_number, row_revisions}, OneGeography.{value_is, no_value as clash}}
 
 same_kind : (a b : Kind) → kind_code a % 256 ≡ kind_code b % 256 → a ≡ b
 same_kind a b same = search (arith)

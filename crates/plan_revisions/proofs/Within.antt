@@ -3,7 +3,7 @@ use Rattle.{std.{specs.{List.{slice_split, zip}, Prelude.{◌==◌, ◌&&◌, Al
 use Rattle.std.proofs.Common.{rules, ◌≡◌, ◌≤◌, ◌+◌, ◌-◌, ℕ, Bool, true, false, cond, List, [], ◌∷◌, ◌++◌, length, Option, Some, None, Result, Ok, Err, refl, subst, arith}
 use Rattle.{std.proofs.lemmas.List.Elements.{All-nil, All-cons, All-head, All-tail, All-push, All-map, All-get_or}, desk_model.specs.claim.{Geography.GeographyModel, Step.patched}}
 use Rattle.desk_model.specs.claim.{Baf.{Values, Fault, at_line, body_read, fields_of, in_range, line_read, placed, rows_read, value_at, with_header, whole}, Subject.revision_at}
-use Rattle.{desk_model.specs.declared.{block.BlockRow.BlockRow, reply.BodyFault.BodyFault}, desk_pages.specs.claim.Desks.AreWithin, plan_revisions.proofs.Looking.among}
+use Rattle.{desk_model.specs.declared.{block.BlockRow.BlockRow, reply.BodyFault.BodyFault}, desk_store_pages.specs.claim.Desks.AreWithin, plan_revisions.proofs.Looking.among}
 use Rattle.plan_revisions.proofs.Limits.{some_is, none_is as no_some}
 
 -- each value that is listed is n at most

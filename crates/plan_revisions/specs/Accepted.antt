@@ -1,7 +1,7 @@
 -- What a command that is accepted tells of the desk before it and after it.
 use Rattle.std.proofs.Common.{◌≡◌, ◌<◌, ℕ, List, length, Some}
-use Rattle.{desk_model.specs.claim.{Desk.{Plan, Desk}, Geography.GeographyModel, Step.revision_limit}, desk_pages.specs.claim.Desks.{AreWithin, IsWithinLimits}}
-use Rattle.store_rows.specs.Changes.{with_revision}
+use Rattle.{desk_model.specs.claim.{Desk.{Plan, Desk}, Geography.GeographyModel, Step.revision_limit}, desk_store_pages.specs.claim.Desks.{AreWithin, IsWithinLimits}}
+use Rattle.desk_store_rows.specs.Changes.{with_revision}
 use Rattle.std.specs.FinMap as map_of
 
 -- a plan got a revision more

@@ -1,9 +1,9 @@
 -- The rows of a revision that is added, and what is read before they are put.
 use Rattle.std.specs.Prelude.{◌<◌, ◌+◌, ◌≡◌, ℕ, List, ◌++◌, length, Option, Some}
-use Rattle.{desk_model.specs.{Ranges.ranges_of, claim.Geography.GeographyModel}, desk_pages.specs.Looking.Says, plan_revisions.specs.{PlanLaws.RowFits, RevisionReading.AreNames}}
-use Rattle.{plan_revisions.specs.{PlanRows.{IsFound, revised_rows}, Plans.{IsOfDesk, TakesRevision}}, store_rows.specs.{NameRows.name_rows, claim.DeskRows.most_revisions}}
-use Rattle.store_rows.specs.{RevisionSteps.{new_chunk_rows, new_holding_rows}, claim.{Puts.Row, Rows.KeyMap, Tidy.IsNext}, declared.value.Counters.Counters}
-use Rattle.store_rows.specs.declared.value.StoredPlan.{StoredPlan}
+use Rattle.{desk_model.specs.{Ranges.ranges_of, claim.Geography.GeographyModel}, desk_store_pages.specs.Looking.Says, desk_store_rows.specs.{NameRows.name_rows, claim.Puts.Row}}
+use Rattle.desk_store_rows.specs.{RevisionSteps.{new_chunk_rows, new_holding_rows}, claim.{DeskRows.most_revisions, Rows.KeyMap, Tidy.IsNext}, declared.value.Counters.Counters}
+use Rattle.{desk_store_rows.specs.declared.value.StoredPlan.StoredPlan, plan_revisions.specs.{PlanLaws.RowFits, PlanRows.{IsFound, revised_rows}, Plans.{IsOfDesk, TakesRevision}}}
+use Rattle.plan_revisions.specs.RevisionReading.{AreNames}
 
 -- the rows of a revision's chunks, of which so many are new, those by which the plan holds these, those of all names, and then the plan's
 -- and that of the numbers, of which so many are used

@@ -1,12 +1,12 @@
 -- The rows of a fork: a plan is made, holds the chunks of another plan's revision, and gets a revision that names them.
 use Rattle.std.specs.Prelude.{◌≡◌, ◌+◌, ◌*◌, ℕ, List, length, Some, Result}
-use Rattle.{chunk_table.specs.{ChunkChanging.ChangesMap, Holding.CanHoldAll}, desk_model.specs.{Ranges.ranges_of, claim.{Desk.Desk, Geography.GeographyModel, Name.IsPlanName}}}
-use Rattle.{desk_model.specs.claim.{GeographyModels.AreBlocks, Room.{rows_for, fork_rows}}, desk_pages.specs.claim.Desks.IsDeskMap, page_store.specs.declared.pages.Pages.Pages}
+use Rattle.desk_model.specs.{Ranges.ranges_of, claim.{Desk.Desk, Geography.GeographyModel, GeographyModels.AreBlocks, Name.IsPlanName, Room.{rows_for, fork_rows}}}
+use Rattle.{desk_store_pages.specs.claim.Desks.IsDeskMap, desk_store_rows.specs.{Shares.with_shared, Steps.one_plan_more, claim.{Puts.put_rows, Rows.KeyMap}}}
+use Rattle.{desk_store_rows.specs.{claim.Tidy.{IsNext, CountersFit}, declared.value.{Counters.Counters, StoredPlan.StoredPlan}}, page_store.specs.declared.pages.Pages.Pages}
 use Rattle.{page_btree.specs.gets.declared.error.TreeError.TreeError, page_store.specs.declared.txn.Txn.Txn, plan_revisions.specs.{Lookups.HasSomeRevision, PlanLaws.RowFits}}
 use Rattle.plan_revisions.specs.{Outcomes.StepsWhereLeft, PlanRows.{IsFound, created_rows}, Plans.{IsOfDesk, TakesFork, with_fork}, RevisionReading.AreNames}
-use Rattle.{plan_revisions.specs.{claim.PlanRows.HasPlanNumber, declared.change.ChangeOutcome.ChangeOutcome}, sector_device.specs.declared.SectorDevice.Ghosts}
-use Rattle.store_rows.specs.{Shares.with_shared, Steps.one_plan_more, claim.{Puts.put_rows, Rows.KeyMap, Tidy.{IsNext, CountersFit}}, declared.value.Counters.Counters}
-use Rattle.store_rows.specs.declared.value.StoredPlan.{StoredPlan}
+use Rattle.{plan_revisions.specs.{claim.PlanRows.HasPlanNumber, declared.change.ChangeOutcome.ChangeOutcome}, plan_revisions_sweeps.specs.chunk_table.ChunkChanging.ChangesMap}
+use Rattle.{plan_revisions_sweeps.specs.chunk_table.Holding.CanHoldAll, sector_device.specs.declared.SectorDevice.Ghosts}
 
 -- what a map says of a plan of which a revision is forked: its row, and the names of that revision's chunks, which are so many
 pub record IsSource (from : List ℕ × ℕ) (count : ℕ) (row : StoredPlan) (next : Counters) (kept : List ℕ) (m : KeyMap) : Type 0 where

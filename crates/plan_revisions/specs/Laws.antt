@@ -1,9 +1,9 @@
 -- The rows of one revision more make the next desk.
 use Rattle.std.specs.Prelude.{◌≡◌, ◌<◌, ◌+◌, ◌^◌, ℕ, List, length, All, Option}
-use Rattle.{desk_catalogue.specs.Cutting.changes_in, desk_model.specs.{Ranges.ranges_of, claim.{Desk.Desk, Geography.GeographyModel, GeographyModels.AreBlocks}}}
-use Rattle.{desk_model.specs.claim.Room.{changed, revision_rows}, desk_pages.specs.claim.Desks.IsDeskMap, plan_revisions.specs.{Adding.{AreRead, rows_put}, Counties.drawn}}
-use Rattle.{plan_revisions.specs.{PlanLaws.RowFits, Plans.{TakesNext, with_next}}, store_rows.specs.claim.{Puts.{Row, put_rows}, Rows.KeyMap, Tidy.CountersFit}}
-use Rattle.store_rows.specs.declared.value.{Counters.Counters, StoredPlan.StoredPlan}
+use Rattle.desk_model.specs.{Ranges.ranges_of, claim.{Desk.Desk, Geography.GeographyModel, GeographyModels.AreBlocks, Room.{changed, revision_rows}}}
+use Rattle.{desk_store_catalogue.specs.Cutting.changes_in, desk_store_pages.specs.claim.Desks.IsDeskMap, desk_store_rows.specs.claim.{Puts.{Row, put_rows}, Rows.KeyMap}}
+use Rattle.{desk_store_rows.specs.{claim.Tidy.CountersFit, declared.value.{Counters.Counters, StoredPlan.StoredPlan}}, plan_revisions.specs.Adding.{AreRead, rows_put}}
+use Rattle.plan_revisions.specs.{Counties.drawn, PlanLaws.RowFits, Plans.{TakesNext, with_next}}
 
 -- A plan's row and numbers that fit in theirs, the chunks of its last revision, and the districts of all blocks: there are numbers left
 -- for the chunks of the counties that change.

@@ -1,10 +1,10 @@
 -- What becomes of a step of a desk's plans, and of a revision that is added.
 use Rattle.std.specs.Prelude.{◌≡◌, ℕ, Bool, List, length, Option, Result}
-use Rattle.{desk_catalogue.specs.Cutting.changes_in, desk_model.specs.{Ranges.ranges_of, claim.{Desk.Desk, Geography.GeographyModel, Room.{changed, revision_rows}}}}
-use Rattle.{desk_model.specs.declared.ranges.CountyRange.CountyRange, desk_pages.specs.Outcomes.{PutsRows, Writes}, page_btree.specs.gets.declared.error.TreeError.TreeError}
-use Rattle.{page_store.specs.declared.{pages.Pages.Pages, txn.Txn.Txn}, plan_revisions.specs.{Adding.rows_put, Counties.new_lists, Plans.{TakesNext, with_next}}}
-use Rattle.plan_revisions.specs.{claim.{PlanRows.HasChunkNumbers, Steps.{HasStepped, IsStepped, StepErr}}, declared.change.ChangeOutcome.ChangeOutcome}
-use Rattle.{sector_device.specs.declared.SectorDevice.Ghosts, store_rows.specs.declared.value.{Counters.Counters, StoredPlan.StoredPlan}}
+use Rattle.desk_model.specs.{Ranges.ranges_of, claim.{Desk.Desk, Geography.GeographyModel, Room.{changed, revision_rows}}, declared.ranges.CountyRange.CountyRange}
+use Rattle.{desk_store_catalogue.specs.Cutting.changes_in, desk_store_pages.specs.Outcomes.{PutsRows, Writes}, desk_store_rows.specs.declared.value.Counters.Counters}
+use Rattle.{desk_store_rows.specs.declared.value.StoredPlan.StoredPlan, page_btree.specs.gets.declared.error.TreeError.TreeError, page_store.specs.declared.pages.Pages.Pages}
+use Rattle.{page_store.specs.declared.txn.Txn.Txn, plan_revisions.specs.{Adding.rows_put, Counties.new_lists, Plans.{TakesNext, with_next}, claim.PlanRows.HasChunkNumbers}}
+use Rattle.{plan_revisions.specs.{claim.Steps.{HasStepped, IsStepped, StepErr}, declared.change.ChangeOutcome.ChangeOutcome}, sector_device.specs.declared.SectorDevice.Ghosts}
 
 module _ {D : Type 0} {g : Ghosts D} where
   -- the step was made, or it is told why not

@@ -1,9 +1,9 @@
 -- A change of plans, or its refusal.
 use Rattle.std.specs.Prelude.{◌≡◌, ℕ, List, Result, IfErr}
-use Rattle.{desk_pages.specs.Outcomes.Writes, page_btree.specs.gets.declared.error.TreeError.{TreeError, TheVariants.NoPages}, page_store.specs.claim.Transactions.txn_free}
-use Rattle.{page_store.specs.declared.{pages.Pages.Pages, txn.Txn.Txn}, plan_revisions.specs.claim.Outcomes.{IsChanged, ChangeErr, HasRetired, RetireErr}}
-use Rattle.{plan_revisions.specs.declared.change.ChangeOutcome.ChangeOutcome, sector_device.specs.declared.SectorDevice.Ghosts, store_rows.specs.claim.Puts.Row}
-use Rattle.store_rows.specs.declared.value.Counters.{Counters}
+use Rattle.{desk_store_pages.specs.Outcomes.Writes, desk_store_rows.specs.{claim.Puts.Row, declared.value.Counters.Counters}, page_store.specs.claim.Transactions.txn_free}
+use Rattle.{page_btree.specs.gets.declared.error.TreeError.{TreeError, TheVariants.NoPages}, page_store.specs.declared.{pages.Pages.Pages, txn.Txn.Txn}}
+use Rattle.plan_revisions.specs.{claim.Outcomes.{IsChanged, ChangeErr, HasRetired, RetireErr}, declared.change.ChangeOutcome.ChangeOutcome}
+use Rattle.sector_device.specs.declared.SectorDevice.{Ghosts}
 
 -- What a change came to; where pages ran out, the transaction has none left.
 pub record UntilFull {T : Type 0} (outcome : Type 0) (u : Txn) (result : Result T TreeError) : Type 0 where

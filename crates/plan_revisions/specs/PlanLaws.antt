@@ -1,9 +1,9 @@
 -- What the rows of plans and of numbers make of a desk.
 use Rattle.std.specs.{FinMap.{FinMap, get, insert, remove}, Prelude.{◌≡◌, ◌<◌, ◌+◌, ◌^◌, ℕ, List, [], length, Option, Some, None, IfSome}}
-use Rattle.{desk_model.specs.{claim.{Desk.{Plan, name_cmp}, Geography.GeographyModel, Name.IsPlanName, Ranges.cut}, declared.kind.Kind.Kind}, store_rows.specs.Rows.SameTag}
-use Rattle.{plan_revisions.specs.{PlanRows.{IsFound, plan_rows, created_rows, revised_rows}, claim.PlanRows.retired_map}, store_rows.specs.claim.{Puts.put_rows, Rows.KeyMap}}
-use Rattle.store_rows.specs.{Changes.{RevisionsStay, desk_with, plan_row_of, with_revision}, claim.{DeskRows.{HasPlan, IsDesk, most_revisions}, RevisionRows.HasRevision}}
-use Rattle.store_rows.specs.{claim.Tidy.{IsNext, CountersFit}, declared.value.{Counters.Counters, StoredPlan.StoredPlan}}
+use Rattle.{desk_model.specs.{claim.{Desk.{Plan, name_cmp}, Geography.GeographyModel, Name.IsPlanName, Ranges.cut}, declared.kind.Kind.Kind}, desk_store_rows.specs.Rows.SameTag}
+use Rattle.desk_store_rows.specs.{Changes.{RevisionsStay, desk_with, plan_row_of, with_revision}, claim.{DeskRows.{HasPlan, IsDesk, most_revisions}, Puts.put_rows, Rows.KeyMap}}
+use Rattle.desk_store_rows.specs.{claim.{RevisionRows.HasRevision, Tidy.{IsNext, CountersFit}}, declared.value.{Counters.Counters, StoredPlan.StoredPlan}}
+use Rattle.plan_revisions.specs.{PlanRows.{IsFound, plan_rows, created_rows, revised_rows}, claim.PlanRows.retired_map}
 
 -- ---- a plan that is found
 -- the row's numbers fit in their bytes

@@ -1,8 +1,8 @@
 -- What no promise rests on, beside claim/PlanRows.antt.
 use Rattle.std.specs.Prelude.{◌<◌, ℕ, List, [], ◌∷◌, Option}
-use Rattle.{desk_model.specs.declared.kind.Kind.Kind, desk_pages.specs.Reading.StandsAs, plan_revisions.specs.claim.PlanRows.HasChunkNumbers, store_rows.specs.claim.Puts.Row}
-use Rattle.store_rows.specs.{Steps.{one_plan_more, chunks_more, one_revision_more}, claim.{DeskRows.most_revisions, Keys.{key_of, counters, named}, Rows.KeyMap}}
-use Rattle.store_rows.specs.{claim.Values.{counters_bytes, plan_bytes}, declared.value.{Counters.Counters, StoredPlan.StoredPlan}}
+use Rattle.{desk_model.specs.declared.kind.Kind.Kind, desk_store_pages.specs.Reading.StandsAs, desk_store_rows.specs.Steps.{one_plan_more, chunks_more, one_revision_more}}
+use Rattle.desk_store_rows.specs.claim.{DeskRows.most_revisions, Keys.{key_of, counters, named}, Puts.Row, Rows.KeyMap, Values.{counters_bytes, plan_bytes}}
+use Rattle.{desk_store_rows.specs.declared.value.{Counters.Counters, StoredPlan.StoredPlan}, plan_revisions.specs.claim.PlanRows.HasChunkNumbers}
 
 -- the row under a plan's name, or none
 abbrev pub IsFound : KeyMap → List ℕ → Option StoredPlan → Type 0

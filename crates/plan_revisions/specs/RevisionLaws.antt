@@ -1,6 +1,6 @@
 -- What holds of the rows of revisions.
 use Rattle.std.specs.Prelude.{◌≡◌, ◌<◌, ◌≤◌, ◌*◌, ◌^◌, ℕ, List, length, All}
-use Rattle.store_rows.specs.{NameRows.{name_rows, IsFreeRevision}, Rows.SameTag, claim.{Puts.put_rows, RevisionRows.{NamesChunks, HasRevision}, Rows.KeyMap}}
+use Rattle.desk_store_rows.specs.{NameRows.{name_rows, IsFreeRevision}, Rows.SameTag, claim.{Puts.put_rows, RevisionRows.{NamesChunks, HasRevision}, Rows.KeyMap}}
 
 -- a revision whose rows are put under a free place names its chunks, every other one of this plan and of others stays, and so do
 -- the rows of every other tag

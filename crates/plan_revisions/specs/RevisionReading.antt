@@ -1,7 +1,7 @@
 -- What is read of a revision.
 use Rattle.std.specs.Prelude.{◌≡◌, ◌<◌, ◌*◌, ◌^◌, ℕ, List, [], length, get_or, map, take, drop}
-use Rattle.{chunk_table.specs.Parts.{AppendsAll, AppendsPart, StandsInParts}, desk_model.specs.declared.ranges.CountyRange.CountyRange, store_rows.specs.claim.Keys.part}
-use Rattle.store_rows.specs.claim.{Lists.chunks_bytes, RevisionRows.{HasChunk, NamesChunks, HasRevision}, Rows.KeyMap}
+use Rattle.{desk_model.specs.declared.ranges.CountyRange.CountyRange, desk_store_rows.specs.claim.{Keys.part, Lists.chunks_bytes, Rows.KeyMap}}
+use Rattle.{desk_store_rows.specs.claim.RevisionRows.{HasChunk, NamesChunks, HasRevision}, plan_revisions_sweeps.specs.chunk_table.Parts.{AppendsAll, AppendsPart, StandsInParts}}
 
 -- the revision names these chunks, and they are so many
 pub record AreNames (plan revision count : ℕ) (m : KeyMap) (numbers : List ℕ) : Type 0 where

@@ -9,15 +9,15 @@ use crate::counties::{assign_numbers, count_changes};
 use crate::laws::{counties_are_chunks, desks_are_added};
 use crate::reads::read_plan;
 use crate::revisions::put_revision;
-use desk_catalogue::Districts;
-use desk_catalogue::laws::ranges_are_within;
 use desk_model::geography::Geography;
 use desk_model::name::PlanName;
-use desk_pages::TreeError;
+use desk_store_catalogue::Districts;
+use desk_store_catalogue::laws::ranges_are_within;
+use desk_store_pages::TreeError;
+use desk_store_rows::upkeep::next_is_one;
 use page_store::{Pages, Txn};
 use sector_device::SectorDevice;
 use std::alloc::Global;
-use store_rows::upkeep::next_is_one;
 
 /// Adds a revision to a plan: the districts of all blocks. `changes` says of each county of the geography whether it changes from the
 /// plan's last revision, which is for the caller to know: one that doesn't takes no new chunk. `NumbersExhausted` comes where the store has

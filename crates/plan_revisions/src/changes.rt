@@ -1,7 +1,7 @@
 //! Changes of plans.
 ghost use Rattle.std.specs.Prelude.{◌≡◌, ◌<◌, ◌+◌};
 ghost use Rattle.page_store.specs.claim.Transactions.{count_of, txn_pages};
-ghost use Rattle.desk_pages.specs.Outcomes.{PutsRows};
+ghost use Rattle.desk_store_pages.specs.Outcomes.{PutsRows};
 ghost use Rattle.plan_revisions.specs.PlanRows.{plan_rows, created_rows, revised_rows, CanRevise};
 ghost use Rattle.plan_revisions.specs.claim.PlanRows.{HasPlanNumber};
 ghost use Rattle.plan_revisions.specs.PlanChanging.{Changes, Retires, UntilFull};
@@ -9,11 +9,11 @@ ghost use Rattle.plan_revisions.specs.PlanChanging.{Changes, Retires, UntilFull}
 use crate::change::ChangeOutcome;
 use desk_model::kind::Kind;
 use desk_model::name::PlanName;
-use desk_pages::{TreeError, next_numbers, put_row};
+use desk_store_pages::{TreeError, next_numbers, put_row};
+use desk_store_rows::{Counters, Key, StoredPlan, counters_value, plan_value};
 use page_btree::remove;
 use page_store::{Pages, Txn};
 use sector_device::SectorDevice;
-use store_rows::{Counters, Key, StoredPlan, counters_value, plan_value};
 
 /// Puts a plan's row and the row of the numbers that come next. Nothing is read: both are for the caller to know. After an error the
 /// transaction can only be abandoned; each comes as from `put_row`.

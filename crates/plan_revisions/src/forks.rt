@@ -1,10 +1,10 @@
 //! Plans that begin with a revision of another plan.
 ghost use Rattle.std.specs.Prelude.{◌≡◌, ◌≤◌, ◌*◌, ◌^◌, length, IfOk};
 ghost use Rattle.page_store.specs.claim.Transactions.{count_of, txn_pages};
-ghost use Rattle.store_rows.specs.Shares.{shared_rows};
-ghost use Rattle.store_rows.specs.claim.Tidy.{CountersFit};
-ghost use Rattle.desk_pages.specs.Looking.{Gathers};
-ghost use Rattle.desk_pages.specs.Outcomes.{PutsRows};
+ghost use Rattle.desk_store_rows.specs.Shares.{shared_rows};
+ghost use Rattle.desk_store_rows.specs.claim.Tidy.{CountersFit};
+ghost use Rattle.desk_store_pages.specs.Looking.{Gathers};
+ghost use Rattle.desk_store_pages.specs.Outcomes.{PutsRows};
 ghost use Rattle.plan_revisions.specs.claim.PlanRows.{HasPlanNumber};
 ghost use Rattle.plan_revisions.specs.PlanRows.{CanRevise};
 ghost use Rattle.plan_revisions.specs.PlanLaws.{RowFits};
@@ -18,16 +18,16 @@ use crate::plan_laws::plans_are_told;
 use crate::plan_reads::find_plan;
 use crate::reads::Reading;
 use crate::revision_puts::put_names;
-use chunk_table::hold_all;
 use desk_model::geography::Geography;
 use desk_model::laws::lists_are_cut;
 use desk_model::name::PlanName;
-use desk_pages::{TreeError, next_numbers};
+use desk_store_pages::{TreeError, next_numbers};
+use desk_store_rows::upkeep::next_is_one;
+use desk_store_rows::{Counters, StoredPlan};
 use page_store::{Pages, Txn};
+use plan_revisions_sweeps::hold_all;
 use sector_device::SectorDevice;
 use std::alloc::Global;
-use store_rows::upkeep::next_is_one;
-use store_rows::{Counters, StoredPlan};
 
 /// Reads a plan's row, the next numbers, and the numbers of the `counties` chunks of a revision.
 fn read_source<D: SectorDevice>(

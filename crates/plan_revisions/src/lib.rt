@@ -54,12 +54,15 @@ mod rows;
 
 pub use adds::add;
 pub use change::ChangeOutcome;
-pub use desk_pages::{ROW_PAGES, TreeError};
+pub use desk_store_pages::{ROW_PAGES, TreeError};
 pub use forks::fork;
 pub use lookups::{append_districts, revision};
 pub use named_adds::{add_counties, add_whole};
 pub use names::append_names;
-pub use plan_revisions_sweeps::{ROWS_SWEPT, check_holders, check_holdings, sweep_step};
+pub use plan_revisions_sweeps::{
+    ChunkId, ROWS_SWEPT, check_holders, check_holdings, get_chunk, hold_unheld, hold_unheld_with,
+    is_held, sweep_step,
+};
 pub use plans::{create, retire};
 pub use puts::put_command;
 pub use rows::command_rows;

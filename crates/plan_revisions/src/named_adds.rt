@@ -1,18 +1,18 @@
 //! Adds a revision by the districts that it has.
 ghost use Rattle.std.specs.Prelude.{◌≡◌, length, IfSome};
 ghost use Rattle.std.specs.Option.{option_copied};
-ghost use Rattle.desk_catalogue.specs.Patches.{overlaid};
+ghost use Rattle.desk_store_catalogue.specs.Patches.{overlaid};
 ghost use Rattle.page_store.specs.claim.Transactions.{count_of, txn_pages};
 ghost use Rattle.plan_revisions.specs.Outcomes.{AddsNext};
 
 use crate::adds::add;
 use crate::change::ChangeOutcome;
 use baf_text::listed::Listed;
-use desk_catalogue::laws::ranges_are_within;
-use desk_catalogue::{Districts, Span, changed_counties, overlay};
 use desk_model::geography::Geography;
 use desk_model::name::PlanName;
-use desk_pages::TreeError;
+use desk_store_catalogue::laws::ranges_are_within;
+use desk_store_catalogue::{Districts, Span, changed_counties, overlay};
+use desk_store_pages::TreeError;
 use page_store::{Pages, Txn};
 use sector_device::SectorDevice;
 use std::alloc::Global;

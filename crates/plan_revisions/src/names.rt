@@ -1,16 +1,16 @@
 //! Reads which chunks a revision names.
 ghost use Rattle.std.specs.Prelude.{◌≡◌, ◌^◌};
 ghost use Rattle.page_store.specs.claim.Transactions.{count_of, txn_pages};
-ghost use Rattle.chunk_table.specs.Appended.{AppendsRows};
-ghost use Rattle.chunk_table.specs.Parts.{BeginsPart};
+ghost use Rattle.plan_revisions_sweeps.specs.chunk_table.Appended.{AppendsRows};
+ghost use Rattle.plan_revisions_sweeps.specs.chunk_table.Parts.{BeginsPart};
 ghost use Rattle.plan_revisions.specs.RevisionReading.{AppendsNames, AppendsParts, AreNames, names_in};
 
-use chunk_table::part_length;
-use desk_pages::{TreeError, read_row};
+use desk_store_pages::{TreeError, read_row};
+use desk_store_rows::{Key, PART_CHUNKS, read_chunks};
 use page_btree::VALUE_LIMIT;
 use page_store::{Pages, Txn};
+use plan_revisions_sweeps::part_length;
 use sector_device::SectorDevice;
-use store_rows::{Key, PART_CHUNKS, read_chunks};
 
 /// Appends one part of the numbers of a revision's `count` chunks.
 fn append_part<D: SectorDevice>(

@@ -2,13 +2,13 @@
 ghost use Rattle.std.specs.Prelude.{◌≡◌};
 ghost use Rattle.page_store.specs.claim.Transactions.{count_of, txn_pages};
 ghost use Rattle.plan_revisions.specs.PlanRows.{HasRow, IsFound};
-ghost use Rattle.desk_pages.specs.Looking.{Looks};
+ghost use Rattle.desk_store_pages.specs.Looking.{Looks};
 
 use desk_model::name::PlanName;
-use desk_pages::{TreeError, get_row};
+use desk_store_pages::{TreeError, get_row};
+use desk_store_rows::{Key, StoredPlan};
 use page_store::{Pages, Txn};
 use sector_device::SectorDevice;
-use store_rows::{Key, StoredPlan};
 
 /// Returns the row of a plan's name, or none. It takes no memory. An error is `NotAStore` if the
 /// bytes are not a plan's row, `DeviceFault` or `Halted`.

@@ -2,16 +2,16 @@
 ghost use Rattle.std.specs.Prelude.{◌≡◌};
 ghost use Rattle.desk_model.specs.Ranges.{ranges_in};
 ghost use Rattle.desk_model.specs.claim.Room.{command_rows as rows_of_command};
-ghost use Rattle.desk_catalogue.specs.claim.Accepting.{IsAfter};
-ghost use Rattle.desk_catalogue.specs.Drafts.{changes_of};
+ghost use Rattle.desk_store_catalogue.specs.claim.Accepting.{IsAfter};
+ghost use Rattle.desk_store_catalogue.specs.Drafts.{changes_of};
 ghost use Rattle.page_store.specs.claim.Transactions.{count_of, txn_pages};
 ghost use Rattle.plan_revisions.specs.Outcomes.{StepsWhereLeft};
 ghost use Rattle.plan_revisions.specs.claim.Rows.{HasNumbers};
 
 use crate::rows::next_of;
 use crate::{ChangeOutcome, TreeError, add, create, fork, retire};
-use desk_catalogue::catalogue::Catalogue;
 use desk_model::command::Command;
+use desk_store_catalogue::catalogue::Catalogue;
 use page_store::{Pages, Txn};
 use sector_device::SectorDevice;
 use std::alloc::Global;

@@ -1,13 +1,13 @@
 //! Puts the rows of revisions.
 ghost use Rattle.std.specs.Prelude.{◌≡◌, ◌≤◌, ◌*◌, ◌^◌, length};
 ghost use Rattle.page_store.specs.claim.Transactions.{count_of, txn_pages};
-ghost use Rattle.store_rows.specs.NameRows.{name_rows};
-ghost use Rattle.desk_pages.specs.Outcomes.{PutsRows};
+ghost use Rattle.desk_store_rows.specs.NameRows.{name_rows};
+ghost use Rattle.desk_store_pages.specs.Outcomes.{PutsRows};
 
-use desk_pages::{TreeError, part_of, put_row};
+use desk_store_pages::{TreeError, part_of, put_row};
+use desk_store_rows::{Key, ListValue, PART_CHUNKS, fill_chunks};
 use page_store::{Pages, Txn};
 use sector_device::SectorDevice;
-use store_rows::{Key, ListValue, PART_CHUNKS, fill_chunks};
 
 /// Puts the rows that name the chunks of a revision, from 1, of a plan: 32,768 numbers at most, in parts of 128. It is for the
 /// caller to see that the revision has no rows yet. After an error the transaction can only be abandoned.

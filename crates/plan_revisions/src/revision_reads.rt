@@ -2,14 +2,14 @@
 ghost use Rattle.std.specs.Prelude.{◌≡◌, ◌<◌, [], length, get_or};
 ghost use Rattle.std.specs.List.{concat};
 ghost use Rattle.page_store.specs.claim.Transactions.{count_of, txn_pages};
-ghost use Rattle.chunk_table.specs.Appended.{Appends};
+ghost use Rattle.plan_revisions_sweeps.specs.chunk_table.Appended.{Appends};
 ghost use Rattle.plan_revisions.specs.RevisionReading.{AreCounties, IsRevision};
 
 use crate::names::append_names;
-use chunk_table::{ChunkId, get_chunk};
 use desk_model::ranges::CountyRange;
-use desk_pages::TreeError;
+use desk_store_pages::TreeError;
 use page_store::{Pages, Txn};
+use plan_revisions_sweeps::{ChunkId, get_chunk};
 use sector_device::SectorDevice;
 
 /// Appends the districts of one county.

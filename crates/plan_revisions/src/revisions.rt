@@ -8,15 +8,15 @@ ghost use Rattle.plan_revisions.specs.Outcomes.{AddsRows};
 use crate::changes::revise_plan;
 use crate::chunks::put_changes;
 use crate::revision_puts::put_names;
-use chunk_table::put_holdings;
-use desk_catalogue::Districts;
 use desk_model::name::PlanName;
 use desk_model::ranges::CountyRange;
-use desk_pages::TreeError;
+use desk_store_catalogue::Districts;
+use desk_store_pages::TreeError;
+use desk_store_rows::{Counters, StoredPlan};
 use page_store::{Pages, Txn};
+use plan_revisions_sweeps::put_holdings;
 use sector_device::SectorDevice;
 use std::alloc::Global;
-use store_rows::{Counters, StoredPlan};
 
 /// Puts the rows of one more revision of the plan with this row: the chunks of the counties that
 /// change, under the next numbers, the rows by which the plan holds them, the names of all chunks,

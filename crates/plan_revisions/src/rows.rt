@@ -3,16 +3,16 @@ ghost use Rattle.std.specs.Prelude.{◌≡◌, ◌+◌, ℕ, List, Some, IsSome}
 ghost use Rattle.std.specs.FinMap as map_of;
 ghost use Rattle.desk_model.specs.Ranges.{ranges_in, ranges_of};
 ghost use Rattle.desk_model.specs.claim.Room.{added_rows, command_rows as rows_of_command};
-ghost use Rattle.desk_catalogue.specs.claim.Accepting.{IsAfter};
-ghost use Rattle.desk_catalogue.specs.Drafts.{changes_between, changes_of};
-ghost use Rattle.desk_catalogue.specs.Kept.{revision_in, IsWhole};
+ghost use Rattle.desk_store_catalogue.specs.claim.Accepting.{IsAfter};
+ghost use Rattle.desk_store_catalogue.specs.Drafts.{changes_between, changes_of};
+ghost use Rattle.desk_store_catalogue.specs.Kept.{revision_in, IsWhole};
 ghost use Rattle.plan_revisions.specs.Accepted.{IsRevised};
 
-use desk_catalogue::catalogue::Catalogue;
-use desk_catalogue::{Districts, fork_rows, revision_rows};
 use desk_model::command::Command;
 use desk_model::geography::Geography;
 use desk_model::name::PlanName;
+use desk_store_catalogue::catalogue::Catalogue;
+use desk_store_catalogue::{Districts, fork_rows, revision_rows};
 
 /// Returns the districts of a revision that exists.
 pub(crate) fn next_of<'a>(then: &'a Catalogue, name: &PlanName, k: u32) -> &'a Districts

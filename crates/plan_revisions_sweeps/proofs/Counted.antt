@@ -2,10 +2,10 @@
 use Rattle.std.specs.{BTreeMap.{BTreeMap, IsEmpty, is_at, get as count_at}, Cmp.Lexicographic.nat_list_cmp_total, FinMap.{empty, entries, find, get, get-empty, get-insert, insert}}
 use Rattle.std.{specs.{FinMap.Entries.find-append, Map.lookup, Ordering.{nat_cmp, eq_by_cmp}}, proofs.lemmas.{Bool.cases_eq, Map.{Lookups.exact_unsigned, Views.tells_apart}}}
 use Rattle.std.proofs.Common.{◌≡◌, ◌<◌, ◌≤◌, ◌+◌, ◌^◌, ◌++◌, ℕ, suc, Bool, false, List, [], ◌∷◌, cond, Some, None, refl, sym, ap, subst, ◌∙◌, inl, inr, arith}
-use Rattle.{btree_scan.specs.{Prefixes.under, declared.rows.Row.Row}, page_btree.specs.node.claim.Entries.Entry, store_rows.specs.{TurnLaws.IsShared, claim.Holders.AreHolders}}
-use Rattle.{plan_revisions_sweeps.specs.Checks.{so_many, noted, IsOneMore, IsCounted, AreCounts}, store_rows.specs.claim.{Keys.{key_of, holding}, Order.key_cmp}}
-use Rattle.{store_rows.{specs.claim.Rows.{KeyMap, Lacks}, proofs.Counting.{holders_moved, no_holders, holders_joined}}, btree_scan.proofs.RowsFound.{IsNextUnder, found_among}}
-use Rattle.store_rows.proofs.{Frames.{put_is_there, put_keeps_row}, HolderCounts.{other_chunk, other_plan}, OneGeography.no_value}
+use Rattle.{btree_scan.specs.{Prefixes.under, declared.rows.Row.Row}, desk_store_rows.specs.{TurnLaws.IsShared, claim.{Holders.AreHolders, Keys.{key_of, holding}, Order.key_cmp}}}
+use Rattle.{desk_store_rows.specs.claim.Rows.{KeyMap, Lacks}, page_btree.specs.node.claim.Entries.Entry, btree_scan.proofs.RowsFound.{IsNextUnder, found_among}}
+use Rattle.{plan_revisions_sweeps.specs.Checks.{so_many, noted, IsOneMore, IsCounted, AreCounts}, desk_store_rows.proofs.Counting.{holders_moved, no_holders, holders_joined}}
+use Rattle.desk_store_rows.proofs.{Frames.{put_is_there, put_keeps_row}, HolderCounts.{other_chunk, other_plan}, OneGeography.no_value}
 
 -- so many of the plans in a map hold the chunk as were counted, and no more than rows were taken
 pub record IsCountedSo (counts : BTreeMap ℕ ℕ) (so m : KeyMap) (taken number : ℕ) : Type 0 where

@@ -1,8 +1,8 @@
 -- Which rows a key that begins with a tag or a prefix can be of.
-use Rattle.{std.specs.{FinMap.get, List.starts_with, Prelude.Some}, store_rows.specs.{Keys.{plan_parts_prefix, load_prefix}, claim.{Rows.{KeyMap, Has}, Tidy.AreRows}}}
-use Rattle.{std.proofs.Common.{◌≡◌, ◌<◌, ◌≤◌, ◌^◌, ◌+◌, ◌++◌, ℕ, true, nat_eq, List, [], ◌∷◌, length, refl, sym, ap, subst, ◌∙◌, arith}, store_rows.proofs.HolderCounts.eight_says}
-use Rattle.store_rows.specs.claim.Keys.{RowKey, key_of, Fits, retired, begun, holding, holder_count, part, block, pair, in_one, in_four, in_eight, retired_prefix, begun_prefix, holdings_prefix}
-use Rattle.store_rows.proofs.KeyPrefixes.{starts_same}
+use Rattle.{std.specs.{FinMap.get, List.starts_with, Prelude.Some}, desk_store_rows.specs.{Keys.{plan_parts_prefix, load_prefix}, claim.{Rows.{KeyMap, Has}, Tidy.AreRows}}}
+use Rattle.std.proofs.Common.{◌≡◌, ◌<◌, ◌≤◌, ◌^◌, ◌+◌, ◌++◌, ℕ, true, nat_eq, List, [], ◌∷◌, length, refl, sym, ap, subst, ◌∙◌, arith}
+use Rattle.desk_store_rows.specs.claim.Keys.{RowKey, key_of, Fits, retired, begun, holding, holder_count, part, block, pair, in_one, in_four, in_eight, retired_prefix, begun_prefix, holdings_prefix}
+use Rattle.desk_store_rows.proofs.{HolderCounts.eight_says, KeyPrefixes.starts_same}
 
 -- a row of a map is of this kind
 pub record IsRowOf {A : Type 0} (of : A → RowKey) (m : KeyMap) (key value : List ℕ) : Type 0 where

@@ -2,13 +2,13 @@
 use Rattle.std.specs.{Cmp.nat_cmp_is, FinMap.{entries, get}, List.starts_with, Ordering.{nat_cmp, is_gt}, Prelude.{Result, Ok, Err}, declared.cmp.Ordering.Ordering}
 use Rattle.std.{specs.declared.cmp.Ordering.TheVariants.{Less, Equal, Greater}, proofs.lemmas.{Bool.{cases_lt, Decides.nat_tests}, List.nil_from_length}}
 use Rattle.std.proofs.Common.{zero, suc, get_or, ◌≡◌, ◌<◌, ◌≤◌, ◌^◌, ◌++◌, ℕ, List, [], ◌∷◌, Bool, true, false, nat_eq, length, drop, Some, None, refl, sym, ap, subst, ◌∙◌, inl, inr, arith}
-use Rattle.{desk_pages.specs.Looking.Looks, page_btree.specs.gets.{Seeking.{AreLeaves, IsFrom}, claim.Map.InTxn, declared.{error.TreeError.TreeError, seeks.Leaf.Leaf}}}
-use Rattle.{page_btree.specs.node.{Places.entries_from, Walking.IsAhead, claim.{Entries.Entry, Node.IsNode, Places.key_cmp}}, page_store.specs.declared.pages.Pages.Pages}
-use Rattle.{page_store.specs.{claim.Transactions.{stored, disk_in, Passed}, declared.txn.Txn.Txn}, sector_device.specs.declared.SectorDevice.Ghosts}
-use Rattle.{plan_revisions_sweeps.specs.Finding.{IsCopiedKey, IsLeast, IsFirstFrom, IsNextChunk, IsPieceKey, IsSought}, store_rows.specs.claim.{Rows.KeyMap, Tidy.AreRows}}
-use Rattle.{store_rows.specs.claim.Keys.{key_of, Fits, chunk, in_two, chunk_prefix}, btree_scan.proofs.{Prefixes.under_is_from, Ready.no_others as no_leaves}}
-use Rattle.{btree_scan.proofs.RowsFound.{first_is_from, first_least, first_there}, desk_pages.proofs.Looking.{looked, not_looked}, store_rows.proofs.Frames.either_way}
-use Rattle.store_rows.proofs.{KeyPrefixes.starts_itself, Numbers.numbers_decide, TidyParts.some_or_none}
+use Rattle.{desk_store_pages.specs.Looking.Looks, desk_store_rows.specs.claim.{Keys.{key_of, Fits, chunk, in_two, chunk_prefix}, Rows.KeyMap, Tidy.AreRows}}
+use Rattle.page_btree.specs.{gets.{Seeking.{AreLeaves, IsFrom}, claim.Map.InTxn, declared.{error.TreeError.TreeError, seeks.Leaf.Leaf}}, node.Places.entries_from}
+use Rattle.{page_btree.specs.node.{Walking.IsAhead, claim.{Entries.Entry, Node.IsNode, Places.key_cmp}}, page_store.specs.claim.Transactions.{stored, disk_in, Passed}}
+use Rattle.{page_store.specs.declared.{pages.Pages.Pages, txn.Txn.Txn}, plan_revisions_sweeps.specs.Finding.{IsCopiedKey, IsLeast, IsFirstFrom, IsNextChunk, IsPieceKey, IsSought}}
+use Rattle.{sector_device.specs.declared.SectorDevice.Ghosts, btree_scan.proofs.{Prefixes.under_is_from, Ready.no_others as no_leaves}, desk_store_rows.proofs.Frames.either_way}
+use Rattle.{btree_scan.proofs.RowsFound.{first_is_from, first_least, first_there}, desk_store_pages.proofs.Looking.{looked, not_looked}}
+use Rattle.desk_store_rows.proofs.{KeyPrefixes.starts_itself, Numbers.numbers_decide, TidyParts.some_or_none}
 use Rattle.page_btree.proofs.node.Walking.{node_ahead}
 
 -- ---- entries from a key on

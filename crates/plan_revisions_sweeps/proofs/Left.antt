@@ -1,10 +1,10 @@
 -- What is found under a prefix is left over.
-use Rattle.{std.specs.{FinMap.get, List.starts_with, Prelude.{Contains, Option}}, btree_scan.specs.declared.rows.Row.Row, plan_revisions_sweeps.specs.declared.leftovers.Left.Left}
-use Rattle.{std.proofs.Common.{◌≡◌, ◌<◌, ◌^◌, ℕ, List, [], nat_eq, true, Some, None, refl, sym, ap, subst, ◌∙◌, ◌++◌, ◌∷◌, arith}, store_rows.specs.RowKeys.IsKey}
+use Rattle.{std.specs.{FinMap.get, List.starts_with, Prelude.{Contains, Option}}, btree_scan.specs.declared.rows.Row.Row, desk_store_rows.specs.{RowKeys.IsKey, TurnLaws.IsLetGo}}
+use Rattle.{std.proofs.Common.{◌≡◌, ◌<◌, ◌^◌, ℕ, List, [], nat_eq, true, Some, None, refl, sym, ap, subst, ◌∙◌, ◌++◌, ◌∷◌, arith}, desk_store_rows.specs.claim.Rows.{KeyMap, Has}}
+use Rattle.desk_store_rows.{specs.{Keys.{plan_parts_prefix, load_prefix}, claim.{Lists.{AreChunks, chunks_bytes}, Tidy.{AreRows, IsNamedBy}}}, proofs.KeyPrefixes.starts_itself}
+use Rattle.desk_store_rows.specs.claim.Keys.{RowKey, key_of, counters, retired, begun, holding, part, block, pair, chunk, in_eight, retired_prefix, begun_prefix, holdings_prefix, in_four, in_one}
 use Rattle.plan_revisions_sweeps.specs.Finding.{IsUnder, IsMark, IsPieceOf, IsDone, IsLeft, IsLeftKey, IsLeftHolding, HasPlanMark, HasLoadMark, HoldsNone, spared_key}
-use Rattle.{plan_revisions_sweeps.specs.Leftovers.{IsNoLoads, IsOfLoad, IsSpared}, store_rows.specs.{Keys.{plan_parts_prefix, load_prefix}, TurnLaws.IsLetGo}}
-use Rattle.store_rows.specs.claim.Keys.{RowKey, key_of, counters, retired, begun, holding, part, block, pair, chunk, in_eight, retired_prefix, begun_prefix, holdings_prefix, in_four, in_one}
-use Rattle.store_rows.{specs.claim.{Lists.{AreChunks, chunks_bytes}, Rows.{KeyMap, Has}, Tidy.{AreRows, IsNamedBy}}, proofs.{KeyPrefixes.starts_itself, RowLaws.keys_differ}}
+use Rattle.{plan_revisions_sweeps.specs.{Leftovers.{IsNoLoads, IsOfLoad, IsSpared}, declared.leftovers.Left.Left}, desk_store_rows.proofs.RowLaws.keys_differ}
 use Rattle.plan_revisions_sweeps.proofs.Keys.{IsRowOf, row_under, retired_is, begun_is, holding_is, part_is, staged_is}
 
 abbrev pub NoneUnder : List ℕ → KeyMap → Type 0

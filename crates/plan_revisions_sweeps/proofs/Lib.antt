@@ -7,3 +7,4 @@ pub mod Stepped
 mod Counted
 mod Told
 mod Named
+pub use Rattle.chunk_table.proofs as chunk_table

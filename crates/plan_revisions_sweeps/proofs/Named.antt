@@ -1,11 +1,11 @@
 -- What parts of revisions name.
 use Rattle.{std.specs.{FinMap.{entries, get}, List.AllByRecursion, Prelude.{All, Contains, get_or}}, btree_scan.specs.{Prefixes.under, declared.rows.Row.Row}}
-use Rattle.{std.proofs.Common.{◌≡◌, ◌+◌, ℕ, List, [], ◌∷◌, Some, None, refl, sym, ap, subst, ◌∙◌, inl, inr}, page_btree.specs.node.claim.Entries.Entry}
-use Rattle.{std.proofs.lemmas.List.Elements.{All-contains, All-nil, All-push, All-set, Contains-get_or}, plan_revisions_sweeps.specs.claim.Checks.{AreNamesHeld, IsHeldOrGone}}
-use Rattle.{plan_revisions_sweeps.specs.Checks.{IsEntryNamed, IsHoldingRow, IsNewTidy, IsPartRow, IsPlansList, IsWithOne}, store_rows.specs.{RowKeys.IsKey, claim.Rows.KeyMap}}
-use Rattle.store_rows.{specs.claim.{Keys.{key_of, Fits, holding, holder_count, part, in_eight}, Lists.{AreChunks, chunks_bytes}}, proofs.HolderCounts.held_counted_by_holders}
-use Rattle.{btree_scan.proofs.RowsFound.{IsNextUnder, all_found, found_among}, plan_revisions_sweeps.proofs.Keys.{row_under, any_holding_is, any_part_is}}
-use Rattle.store_rows.proofs.{ListLaws.chunks_differ, OneGeography.no_value, RowLaws.keys_differ}
+use Rattle.{std.proofs.Common.{◌≡◌, ◌+◌, ℕ, List, [], ◌∷◌, Some, None, refl, sym, ap, subst, ◌∙◌, inl, inr}, desk_store_rows.specs.{RowKeys.IsKey, claim.Rows.KeyMap}}
+use Rattle.{std.proofs.lemmas.List.Elements.{All-contains, All-nil, All-push, All-set, Contains-get_or}, desk_store_rows.specs.claim.Lists.{AreChunks, chunks_bytes}}
+use Rattle.{desk_store_rows.{specs.claim.Keys.{key_of, Fits, holding, holder_count, part, in_eight}, proofs.ListLaws.chunks_differ}, page_btree.specs.node.claim.Entries.Entry}
+use Rattle.plan_revisions_sweeps.specs.{Checks.{IsEntryNamed, IsHoldingRow, IsNewTidy, IsPartRow, IsPlansList, IsWithOne}, claim.Checks.{AreNamesHeld, IsHeldOrGone}}
+use Rattle.{btree_scan.proofs.RowsFound.{IsNextUnder, all_found, found_among}, desk_store_rows.proofs.{HolderCounts.held_counted_by_holders, OneGeography.no_value}}
+use Rattle.{desk_store_rows.proofs.RowLaws.keys_differ, plan_revisions_sweeps.proofs.Keys.{row_under, any_holding_is, any_part_is}}
 
 -- ---- rows of a tidy map
 -- a holding

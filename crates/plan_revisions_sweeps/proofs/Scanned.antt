@@ -1,11 +1,12 @@
 -- Rows that a scan passes over, rows that are looked up, and what is noted in memory after a look.
 use Rattle.std.{specs.{FinMap.get as row_at, Prelude.{Option, Result, IsErrAnd, MatchResult, Some, None, Ok, Err, IfSome}}, proofs.lemmas.Bool.Decides.nat_tests}
 use Rattle.{std.proofs.{Common.{◌≤◌, length, take, nat_eq, arith, ◌≡◌, ℕ, Bool, true, false, List, []}, lemmas.List.length-take}, btree_scan.specs.declared.rows.Row.Row}
-use Rattle.{btree_scan.specs.{Scanning.{CanScan, ScanErr, TakesNextRow, fault_in, has_ended}, declared.scans.RowScan.RowScan}, desk_pages.specs.Looking.{Gathers, Looks, Seeks}}
-use Rattle.{page_btree.specs.{gets.{claim.Errors.GetErr, declared.error.TreeError.{TreeError, TheVariants.Memory}}, node.claim.Entries.Entry}, store_rows.specs.claim.Rows.KeyMap}
-use Rattle.{page_store.specs.{claim.Transactions.{IsQuiet, Passed}, declared.{pages.Pages.Pages, txn.Txn.Txn}}, plan_revisions_sweeps.specs.Checks.IsMarkedAs}
-use Rattle.{sector_device.specs.declared.SectorDevice.Ghosts, btree_scan.proofs.Walked.{HasNext, HasWalked, walk_next, walk_passed, walk_quiet, walk_refused}}
-use Rattle.{desk_pages.proofs.{Looking.{fails_from, finds, lacks_memory, looked, not_looked}, Reading.get_unread}, store_rows.proofs.OneGeography.value_is}
+use Rattle.{btree_scan.specs.{Scanning.{CanScan, ScanErr, TakesNextRow, fault_in, has_ended}, declared.scans.RowScan.RowScan}, desk_store_rows.specs.claim.Rows.KeyMap}
+use Rattle.{desk_store_pages.specs.Looking.{Gathers, Looks, Seeks}, page_btree.specs.gets.{claim.Errors.GetErr, declared.error.TreeError.{TreeError, TheVariants.Memory}}}
+use Rattle.{page_btree.specs.node.claim.Entries.Entry, page_store.specs.{claim.Transactions.{IsQuiet, Passed}, declared.{pages.Pages.Pages, txn.Txn.Txn}}}
+use Rattle.{plan_revisions_sweeps.specs.Checks.IsMarkedAs, sector_device.specs.declared.SectorDevice.Ghosts, desk_store_pages.proofs.Reading.get_unread}
+use Rattle.{btree_scan.proofs.Walked.{HasNext, HasWalked, walk_next, walk_passed, walk_quiet, walk_refused}, desk_store_rows.proofs.OneGeography.value_is}
+use Rattle.desk_store_pages.proofs.Looking.{fails_from, finds, lacks_memory, looked, not_looked}
 
 -- each has a value, or is the one that is spared
 abbrev pub IsPassed : List ℕ → Entry → Type 0

@@ -1,15 +1,15 @@
 -- A sweep: a transaction that is begun, out of which rows are taken, and that is committed then.
-use Rattle.{std.specs.Prelude.{Result, Ok, Err, IsErrAnd, if◌then◌else◌}, desk_model.specs.claim.Desk.Desk, desk_pages.specs.Commits.{Commits, Leaves, FittingErr}}
+use Rattle.{std.specs.Prelude.{Result, Ok, Err, IsErrAnd, if◌then◌else◌}, desk_model.specs.claim.Desk.Desk, desk_store_pages.specs.Commits.{Commits, Leaves, FittingErr}}
 use Rattle.std.proofs.Common.{◌≡◌, ◌<◌, ◌+◌, ℕ, Bool, List, [], ◌∷◌, length, Option, Some, None, true, false, refl, sym, ap, subst, ◌∙◌, inl, arith}
-use Rattle.desk_pages.specs.{Errors.row_refusal, Reading.SeekErr, claim.Desks.{IsDeskMap, InPages as DeskInPages, OpensDesk}, declared.error.StoreError.StoreError}
-use Rattle.{desk_pages.specs.declared.error.StoreError.TheVariants.{NotAStore, Memory, DeviceFault}, page_btree.specs.gets.claim.Map.{InTxn, InPages}}
-use Rattle.{page_btree.specs.gets.declared.error.TreeError.TreeError, page_store.specs.{Calls.BeginsOver, claim.Chain.free_in, declared.{pages.Pages.Pages, txn.Txn.Txn}}}
-use Rattle.page_store.specs.{claim.Transactions.{stored, disk_in, count_of, journal_of, has_halted, txn_free, HasFailed, HasShape, IsQuiet, Passed}, gate_journal.claim.Store.home}
+use Rattle.desk_store_pages.specs.{Errors.row_refusal, Reading.SeekErr, claim.Desks.{IsDeskMap, InPages as DeskInPages, OpensDesk}, declared.error.StoreError.StoreError}
+use Rattle.{desk_store_pages.specs.declared.error.StoreError.TheVariants.{NotAStore, Memory, DeviceFault}, desk_store_rows.specs.claim.{Rows.KeyMap, Tidy.Tidy}}
+use Rattle.{desk_store_rows.specs.TurnLaws.{IsUnneeded, CanTurn, Turn, goes, lets_go, take_turns, AreTurns}, page_btree.specs.gets.claim.Map.{InTxn, InPages}}
+use Rattle.{desk_store_rows.specs.claim.Keys.{RowKey, Fits, retired, begun, part, version, block, pair, chunk}, page_btree.specs.gets.declared.error.TreeError.TreeError}
+use Rattle.page_store.specs.{Calls.BeginsOver, claim.Chain.free_in, declared.{pages.Pages.Pages, txn.Txn.Txn}, gate_journal.claim.Store.home}
+use Rattle.page_store.specs.claim.Transactions.{stored, disk_in, count_of, journal_of, has_halted, txn_free, HasFailed, HasShape, IsQuiet, Passed}
 use Rattle.{plan_revisions_sweeps.specs.{Checks.IsNewTidy, Leftovers.{IsSpared, IsApart, AreNotSpared, rows_of, IsSweptClean}}, sector_device.specs.claim.Disk.Image}
 use Rattle.{plan_revisions_sweeps.specs.Sweeping.{IsSweptMap, HasSwept, HasDesk, TakeErr, SweepErr, Sweeps}, sector_device.specs.claim.Moments.LeavesOnly}
-use Rattle.{sector_device.specs.declared.SectorDevice.Ghosts, store_rows.specs.{TurnLaws.{IsUnneeded, CanTurn, Turn, goes, lets_go, take_turns, AreTurns}, claim.Rows.KeyMap}}
-use Rattle.store_rows.specs.claim.{Keys.{RowKey, Fits, retired, begun, part, version, block, pair, chunk}, Tidy.Tidy}
-use Rattle.chunk_table.proofs.Committing.{IsBegun, begun_now, both, commit_leaves, failed_after, one_leaves, quiet_rows}
+use Rattle.{sector_device.specs.declared.SectorDevice.Ghosts, chunk_table.proofs.Committing.{IsBegun, begun_now, both, commit_leaves, failed_after, one_leaves, quiet_rows}}
 use Rattle.page_btree.specs.gets.declared.error.TreeError.TheVariants as tree
 
 -- a transaction that is begun on pages that work

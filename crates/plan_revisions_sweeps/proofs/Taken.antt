@@ -1,12 +1,13 @@
 -- Turns that are taken one after the other.
 use Rattle.std.{specs.{FinMap.remove, Prelude.{Option, Some, None, Ok}}, proofs.Common.{◌≡◌, ◌≤◌, ◌+◌, ◌++◌, ℕ, zero, List, [], ◌∷◌, refl, sym, ap, subst, ◌∙◌, arith}}
-use Rattle.{chunk_table.specs.Releasing.{HasReleased, ReleaseErr}, desk_model.specs.claim.Desk.Desk, desk_pages.specs.{Looking.Looks, Reading.ReadErr, claim.Desks.IsDeskMap}}
-use Rattle.page_btree.specs.gets.{claim.{Errors.RemoveErr, Map.InTxn}, declared.error.TreeError.{TreeError, TheVariants.{DeviceFault, NotAStore, Halted, NoPages, TooDeep, Memory}}}
-use Rattle.page_store.specs.{claim.Transactions.{stored, disk_in, txn_pages, txn_free, txn_writes, IsQuiet, Passed}, declared.{pages.Pages.Pages, txn.Txn.Txn}}
+use Rattle.{chunk_table.specs.Releasing.{HasReleased, ReleaseErr}, desk_model.specs.claim.Desk.Desk, desk_store_pages.specs.{Looking.Looks, Reading.ReadErr, claim.Desks.IsDeskMap}}
+use Rattle.desk_store_rows.specs.{HolderLaws.HeldIsTallied, Holders.released, TurnLaws.{Turn, goes, lets_go, rows_in, CanTurn, turned, take_turns, AreTurns, TurnsAreSwept}}
+use Rattle.{desk_store_rows.specs.claim.{Keys.key_of, Rows.KeyMap, Tidy.Tidy}, page_btree.specs.gets.{claim.{Errors.RemoveErr, Map.InTxn}, declared.error.TreeError.TreeError}}
+use Rattle.{page_btree.specs.gets.declared.error.TreeError.TheVariants.{DeviceFault, NotAStore, Halted, NoPages, TooDeep, Memory}, page_store.specs.declared.pages.Pages.Pages}
+use Rattle.page_store.specs.{claim.Transactions.{stored, disk_in, txn_pages, txn_free, txn_writes, IsQuiet, Passed}, declared.txn.Txn.Txn}
 use Rattle.plan_revisions_sweeps.specs.{Finding.{IsLeftHolding, IsNextLeft}, Leftovers.{IsApart, AreNotSpared, rows_of, IsSweptBy}, declared.leftovers.Left.Left}
 use Rattle.plan_revisions_sweeps.specs.{Sweeping.{IsSweptMap, HasSwept, IsTurn, TakeErr, HasDesk}, declared.leftovers.Left.TheVariants.{Row, Holding}}
-use Rattle.{sector_device.specs.declared.SectorDevice.Ghosts, store_rows.specs.{HolderLaws.HeldIsTallied, Holders.released, claim.{Keys.key_of, Rows.KeyMap, Tidy.Tidy}}}
-use Rattle.{store_rows.specs.TurnLaws.{Turn, goes, lets_go, rows_in, CanTurn, turned, take_turns, AreTurns, TurnsAreSwept}, page_store.proofs.Stops.{passed_more, failed_more}}
+use Rattle.{sector_device.specs.declared.SectorDevice.Ghosts, page_store.proofs.Stops.{passed_more, failed_more}}
 
 turns_more : (running : Option ℕ) (m : KeyMap) (turns more : List Turn) → AreTurns m turns → AreNotSpared running turns
     → AreTurns (take_turns m turns) more → AreNotSpared running more → AreTurns m (turns ++ more) × AreNotSpared running (turns ++ more)

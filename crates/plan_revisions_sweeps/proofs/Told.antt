@@ -1,10 +1,10 @@
 -- What counts tell beside what was counted.
 use Rattle.{std.{specs.{BTreeMap.{BTreeMap, get as count_at}, FinMap.entries, List.AllByRecursion, Ordering.nat_cmp}, proofs.lemmas.Bool.cases_lt}, btree_scan.specs.Prefixes.under}
 use Rattle.std.proofs.Common.{◌≡◌, ◌⊎◌, ◌<◌, ◌≤◌, ◌+◌, ◌^◌, ℕ, zero, suc, List, [], ◌∷◌, Option, Some, None, refl, sym, ap, ◌∙◌, inl, inr, arith, drop}
+use Rattle.desk_store_rows.specs.claim.{Holders.{AreHolders, IsTallied, AreTallied, holder_count_row}, Keys.{key_of, holder_count, in_eight}, Rows.{KeyMap, row_in, Has}}
 use Rattle.{page_btree.specs.node.claim.Entries.Entry, plan_revisions_sweeps.specs.Checks.{noted, HasCount, AreCounts, HasCounts, IsEntryTold, AreTold}}
-use Rattle.store_rows.specs.claim.{Holders.{AreHolders, IsTallied, AreTallied, holder_count_row}, Keys.{key_of, holder_count, in_eight}, Rows.{KeyMap, row_in, Has}}
-use Rattle.{btree_scan.proofs.RowsFound.{IsNextUnder, all_found, found_among}, plan_revisions_sweeps.proofs.Keys.{row_under, holder_count_is}, store_rows.proofs.Counting.few}
-use Rattle.store_rows.proofs.{HolderCounts.eight_says, OneGeography.{no_value, value_is}}
+use Rattle.{btree_scan.proofs.RowsFound.{IsNextUnder, all_found, found_among}, desk_store_rows.proofs.{Counting.few, HolderCounts.eight_says, OneGeography.{no_value, value_is}}}
+use Rattle.plan_revisions_sweeps.proofs.Keys.{row_under, holder_count_is}
 
 -- ---- one set is of one size
 -- the place at which the other counting off has a plan

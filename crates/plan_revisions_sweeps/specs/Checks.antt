@@ -1,8 +1,8 @@
 -- What no promise rests on, beside claim/Checks.antt.
 use Rattle.{std.specs.{BTreeMap.{BTreeMap, Updates, get as count_at}, FinMap.get as row_at, Ordering.nat_cmp}, btree_scan.specs.declared.rows.Row.Row}
 use Rattle.std.specs.Prelude.{◌≡◌, ◌⊎◌, ◌<◌, ◌+◌, ◌^◌, ℕ, zero, suc, Bool, true, false, List, [], ◌∷◌, ◌++◌, set, Option, Some, None, Contains}
-use Rattle.{page_btree.specs.node.claim.Entries.Entry, plan_revisions_sweeps.specs.claim.Checks.IsHeldOrGone, store_rows.specs.{TurnLaws.IsShared, claim.Holders.AreHolders}}
-use Rattle.store_rows.specs.claim.{Keys.{key_of, Fits, holding, holder_count, part, in_eight}, Lists.{AreChunks, chunks_bytes}, Rows.{KeyMap, Has}, Tidy.Tidy}
+use Rattle.desk_store_rows.specs.{TurnLaws.IsShared, claim.{Holders.AreHolders, Keys.{key_of, Fits, holding, holder_count, part, in_eight}, Lists.{AreChunks, chunks_bytes}}}
+use Rattle.{desk_store_rows.specs.claim.{Rows.{KeyMap, Has}, Tidy.Tidy}, page_btree.specs.node.claim.Entries.Entry, plan_revisions_sweeps.specs.claim.Checks.IsHeldOrGone}
 
 -- the rows are tidy, in the new version
 pub record IsNewTidy (m : KeyMap) : Type 0 where

@@ -1,10 +1,10 @@
 -- Rows that are looked for.
-use Rattle.{std.specs.{FinMap.get, List.starts_with, Ordering.is_gt}, btree_scan.specs.declared.rows.Row.Row, page_btree.specs.gets.declared.error.TreeError.TreeError}
+use Rattle.{std.specs.{FinMap.get, List.starts_with, Ordering.is_gt}, btree_scan.specs.declared.rows.Row.Row, desk_store_rows.specs.{ChunkRows.IsFreeChunk, claim.Holders.IsHeld}}
 use Rattle.std.specs.Prelude.{◌≡◌, ◌⊎◌, ◌<◌, ◌≤◌, ◌^◌, ℕ, Bool, true, false, nat_eq, List, [], ◌∷◌, Option, Some, None, Result, Ok, Err, Contains}
-use Rattle.{page_btree.specs.{gets.declared.error.TreeError.TheVariants.NotAStore, node.{Walking.IsAhead, claim.{Entries.Entry, Places.key_cmp}}}, store_rows.specs.claim.Tidy.Tidy}
-use Rattle.plan_revisions_sweeps.specs.{Leftovers.{IsNoLoads, IsSpared, IsSweptClean}, declared.{leftovers.Left.Left, pieces.PieceGap.PieceGap}}
-use Rattle.store_rows.specs.{ChunkRows.IsFreeChunk, TurnLaws.{IsShared, IsUnneeded}, claim.{Holders.IsHeld, Rows.{KeyMap, Has, Lacks}}}
-use Rattle.store_rows.specs.claim.Keys.{RowKey, key_of, Fits, counters, retired, begun, holding, holder_count, chunk}
+use Rattle.desk_store_rows.specs.{TurnLaws.{IsShared, IsUnneeded}, claim.{Keys.{RowKey, key_of, Fits, counters, retired, begun, holding, holder_count, chunk}, Tidy.Tidy}}
+use Rattle.{desk_store_rows.specs.claim.Rows.{KeyMap, Has, Lacks}, page_btree.specs.{gets.declared.error.TreeError.{TreeError, TheVariants.NotAStore}, node.Walking.IsAhead}}
+use Rattle.{page_btree.specs.node.claim.{Entries.Entry, Places.key_cmp}, plan_revisions_sweeps.specs.{Leftovers.{IsNoLoads, IsSpared, IsSweptClean}, declared.leftovers.Left.Left}}
+use Rattle.plan_revisions_sweeps.specs.declared.pieces.PieceGap.{PieceGap}
 use Rattle.plan_revisions_sweeps.specs.declared.leftovers.Left.TheVariants as left
 
 -- a row whose key begins with a prefix, where there is one

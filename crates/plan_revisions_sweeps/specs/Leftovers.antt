@@ -1,6 +1,6 @@
 -- Which turns a sweep takes, and what is left once they are taken.
 use Rattle.std.specs.Prelude.{◌≡◌, ◌<◌, ◌+◌, ◌^◌, ℕ, List, [], ◌∷◌, Option, Some, None}
-use Rattle.store_rows.specs.{TurnLaws.{Turn, goes, lets_go, rows_in, take_turns, AreTurns}, claim.{Keys.{RowKey, retired, begun, block, pair}, Rows.{KeyMap, Has}}}
+use Rattle.desk_store_rows.specs.{TurnLaws.{Turn, goes, lets_go, rows_in, take_turns, AreTurns}, claim.{Keys.{RowKey, retired, begun, block, pair}, Rows.{KeyMap, Has}}}
 
 -- a row that a load staged, or its mark
 abbrev pub IsOfLoad : ℕ → RowKey → Type 0

@@ -1,10 +1,10 @@
 -- What a sweep did.
 use Rattle.std.specs.Prelude.{◌≡◌, ◌⊎◌, ◌<◌, ◌≤◌, ◌+◌, ◌*◌, ◌↔◌, ℕ, true, false, length, Option, Result}
-use Rattle.{desk_model.specs.claim.Desk.Desk, desk_pages.specs.{Outcomes.Writes, claim.Desks.{IsDeskMap, InPages as DeskInPages}, declared.error.StoreError.StoreError}}
-use Rattle.{desk_pages.specs.declared.error.StoreError.TheVariants.{Memory, NotAStore, DeviceFault, Halted}, page_btree.specs.gets.claim.Map.{InTxn, InPages}}
-use Rattle.{page_btree.specs.gets.declared.error.TreeError.TreeError, page_store.specs.{claim.Chain.free_in, declared.{pages.Pages.Pages, txn.Txn.Txn}}}
-use Rattle.page_store.specs.claim.Transactions.{stored, disk_in, has_halted, txn_pages, txn_free, txn_writes, HasFailed, IsQuiet, IsSame, Passed}
-use Rattle.{plan_revisions_sweeps.specs.Leftovers.{IsSweptBy, IsSweptClean}, sector_device.specs.declared.SectorDevice.Ghosts, store_rows.specs.claim.{Rows.KeyMap, Tidy.Tidy}}
+use Rattle.{desk_model.specs.claim.Desk.Desk, desk_store_pages.specs.{Outcomes.Writes, claim.Desks.{IsDeskMap, InPages as DeskInPages}, declared.error.StoreError.StoreError}}
+use Rattle.{desk_store_pages.specs.declared.error.StoreError.TheVariants.{Memory, NotAStore, DeviceFault, Halted}, desk_store_rows.specs.claim.{Rows.KeyMap, Tidy.Tidy}}
+use Rattle.{page_btree.specs.gets.{claim.Map.{InTxn, InPages}, declared.error.TreeError.TreeError}, page_store.specs.{claim.Chain.free_in, declared.pages.Pages.Pages}}
+use Rattle.page_store.specs.{claim.Transactions.{stored, disk_in, has_halted, txn_pages, txn_free, txn_writes, HasFailed, IsQuiet, IsSame, Passed}, declared.txn.Txn.Txn}
+use Rattle.{plan_revisions_sweeps.specs.Leftovers.{IsSweptBy, IsSweptClean}, sector_device.specs.declared.SectorDevice.Ghosts}
 use Rattle.page_btree.specs.gets.declared.error.TreeError.TheVariants as tree
 
 -- a map of the same desk, of which so many rows were changed or taken out

@@ -1,13 +1,13 @@
 //! Checks which plans hold chunks.
 ghost use Rattle.std.specs.Prelude.{◌≡◌};
 ghost use Rattle.page_store.specs.claim.Transactions.{count_of, txn_pages};
-ghost use Rattle.desk_pages.specs.Looking.{Gathers};
+ghost use Rattle.desk_store_pages.specs.Looking.{Gathers};
 ghost use Rattle.plan_revisions_sweeps.specs.claim.Checks.{AreSoundHoldings};
 ghost use Rattle.plan_revisions_sweeps.specs.Checks.{IsNewTidy};
 
 use crate::counts::{check_counts, count_holders};
 use crate::names::check_names;
-use desk_pages::TreeError;
+use desk_store_pages::TreeError;
 use page_store::{Pages, Txn};
 use sector_device::SectorDevice;
 use std::alloc::Global;

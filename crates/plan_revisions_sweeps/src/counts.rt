@@ -5,16 +5,16 @@ ghost use Rattle.std.specs.Ordering.{nat_cmp};
 ghost use Rattle.page_store.specs.claim.Transactions.{count_of, txn_pages};
 ghost use Rattle.page_btree.specs.gets.declared.error.TreeError.TheVariants.{Memory};
 ghost use Rattle.page_btree.specs.gets.Tests.{IsTest};
-ghost use Rattle.desk_pages.specs.Looking.{Gathers, Looks};
+ghost use Rattle.desk_store_pages.specs.Looking.{Gathers, Looks};
 ghost use Rattle.plan_revisions_sweeps.specs.Checks.{AreCounts, AreTold, HasCounts, IsCounted, IsEntryTold, IsHoldingRow, IsNewTidy, IsOneMore, so_many};
 
 use crate::held::{chunk_in, holding_in, is_bare, is_there};
 use btree_scan::{Row, row_limit, scan};
-use desk_pages::TreeError;
+use desk_store_pages::TreeError;
+use desk_store_rows::{Key, eight};
 use page_store::{Pages, Txn};
 use sector_device::SectorDevice;
 use std::collections::BTreeMap;
-use store_rows::{Key, eight};
 
 /// How many plans were counted so far that hold a chunk.
 fn counted(counts: &BTreeMap<u64, u64>, number: u64) -> u64

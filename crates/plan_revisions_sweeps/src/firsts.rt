@@ -1,11 +1,11 @@
 //! Finds the first row under a prefix.
 ghost use Rattle.std.specs.Prelude.{◌≡◌, ◌≤◌, [], true, false, length};
 ghost use Rattle.page_store.specs.claim.Transactions.{count_of, txn_pages};
-ghost use Rattle.desk_pages.specs.Looking.{Looks};
+ghost use Rattle.desk_store_pages.specs.Looking.{Looks};
 ghost use Rattle.plan_revisions_sweeps.specs.Finding.{IsFirst, IsFirstMark};
 
 use btree_scan::{Row, row_limit, scan};
-use desk_pages::TreeError;
+use desk_store_pages::TreeError;
 use page_store::{Pages, Txn};
 use sector_device::SectorDevice;
 

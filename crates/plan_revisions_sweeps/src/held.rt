@@ -2,17 +2,17 @@
 ghost use Rattle.std.specs.Prelude.{◌≡◌, ℕ, [], true, false, None, MatchOption};
 ghost use Rattle.page_store.specs.claim.Transactions.{count_of, txn_pages};
 ghost use Rattle.page_btree.specs.gets.Tests.{IsTest};
-ghost use Rattle.desk_pages.specs.Looking.{Looks};
-ghost use Rattle.store_rows.specs.RowKeys.{IsKey};
-ghost use Rattle.store_rows.specs.claim.Keys.{holding, holder_count, key_of, part};
+ghost use Rattle.desk_store_pages.specs.Looking.{Looks};
+ghost use Rattle.desk_store_rows.specs.RowKeys.{IsKey};
+ghost use Rattle.desk_store_rows.specs.claim.Keys.{holding, holder_count, key_of, part};
 ghost use Rattle.plan_revisions_sweeps.specs.Checks.{IsMarkedAs, IsThere};
 
 use btree_scan::Row;
-use desk_pages::TreeError;
+use desk_store_pages::TreeError;
+use desk_store_rows::{Key, RowKey};
 use page_btree::{VALUE_LIMIT, get};
 use page_store::{Pages, Txn};
 use sector_device::SectorDevice;
-use store_rows::{Key, RowKey};
 
 /// Returns the plan and the chunk of the holding with this key; `None` for any other key.
 pub(crate) fn holding_in(key: &[u8]) -> Option<(u64, u64)>

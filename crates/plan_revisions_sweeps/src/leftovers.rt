@@ -1,9 +1,9 @@
 //! Finds what is left over.
 ghost use Rattle.std.specs.Prelude.{◌≡◌, ◌<◌, ◌^◌, ℕ, Some, MatchOption};
 ghost use Rattle.page_store.specs.claim.Transactions.{count_of, txn_pages};
-ghost use Rattle.desk_pages.specs.Looking.{Looks};
-ghost use Rattle.store_rows.specs.claim.Keys.{begun, key_of, retired};
-ghost use Rattle.store_rows.specs.claim.Tidy.{Tidy};
+ghost use Rattle.desk_store_pages.specs.Looking.{Looks};
+ghost use Rattle.desk_store_rows.specs.claim.Keys.{begun, key_of, retired};
+ghost use Rattle.desk_store_rows.specs.claim.Tidy.{Tidy};
 ghost use Rattle.plan_revisions_sweeps.specs.Leftovers.{IsNoLoads, IsOfLoad};
 ghost use Rattle.plan_revisions_sweeps.specs.Finding.{HasLoadMark, HasPlanMark, HoldsNone, IsLeft, IsLeftKey, IsLoadLeft, IsNextLeft, IsPlanLeft, spared_key};
 
@@ -11,10 +11,10 @@ use crate::firsts::{first_mark, first_under};
 use crate::held::holding_in;
 use crate::pieces::first_piece;
 use btree_scan::Row;
-use desk_pages::TreeError;
+use desk_store_pages::TreeError;
+use desk_store_rows::{Key, RowKey, read_chunks};
 use page_store::{Pages, Txn};
 use sector_device::SectorDevice;
-use store_rows::{Key, RowKey, read_chunks};
 
 /// What is left over.
 #[derive(Clone, Copy, Drop)]

@@ -23,6 +23,8 @@
 //! Of the deleted plan with the least number it first removes the holdings, with their counts, then
 //! the first part of a revision with the pieces that no plan holds, and in the end the mark. An
 //! abandoned load goes the same way. If no mark is left, nothing else is (`swept_is_clean`).
+//!
+//! The calls of chunk_table that plan_revisions makes are passed on here.
 #![tactic(auto)]
 
 mod checks;
@@ -36,4 +38,8 @@ mod rows;
 mod sweeps;
 
 pub use checks::check_holdings;
+pub use chunk_table::{
+    ChunkId, get_chunk, hold_all, hold_unheld, hold_unheld_with, is_held, part_length,
+    put_chunk_as, put_holdings,
+};
 pub use sweeps::{ROWS_SWEPT, check_holders, sweep_step};

@@ -2,17 +2,17 @@
 ghost use Rattle.std.specs.Prelude.{◌≡◌, ◌<◌, All, MatchResult, Contains, true};
 ghost use Rattle.page_store.specs.claim.Transactions.{count_of, txn_pages};
 ghost use Rattle.page_btree.specs.gets.declared.error.TreeError.TheVariants.{Memory};
-ghost use Rattle.desk_pages.specs.Looking.{Gathers, Looks};
+ghost use Rattle.desk_store_pages.specs.Looking.{Gathers, Looks};
 ghost use Rattle.plan_revisions_sweeps.specs.claim.Checks.{AreNamesHeld, IsHeldOrGone};
 ghost use Rattle.plan_revisions_sweeps.specs.Checks.{IsEntryNamed, IsNewTidy, IsPartRow, IsPlansList, IsWithOne};
 
 use crate::held::{is_marked, part_in};
 use btree_scan::{Row, row_limit, scan};
-use desk_pages::TreeError;
+use desk_store_pages::TreeError;
+use desk_store_rows::{Key, PART_CHUNKS, read_chunks};
 use page_store::{Pages, Txn};
 use sector_device::SectorDevice;
 use std::alloc::Global;
-use store_rows::{Key, PART_CHUNKS, read_chunks};
 
 /// Whether a chunk is noted at a place of a list.
 fn is_noted(known: &[u64], place: usize, number: u64) -> bool

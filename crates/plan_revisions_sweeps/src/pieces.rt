@@ -1,18 +1,18 @@
 //! Finds a piece that is left of some chunks.
 ghost use Rattle.std.specs.Prelude.{◌≡◌, ◌<◌, ℕ, true, MatchOption};
 ghost use Rattle.page_store.specs.claim.Transactions.{count_of, txn_pages};
-ghost use Rattle.desk_pages.specs.Looking.{Looks};
-ghost use Rattle.store_rows.specs.claim.Keys.{chunk, key_of};
-ghost use Rattle.store_rows.specs.claim.Tidy.{AreRows};
+ghost use Rattle.desk_store_pages.specs.Looking.{Looks};
+ghost use Rattle.desk_store_rows.specs.claim.Keys.{chunk, key_of};
+ghost use Rattle.desk_store_rows.specs.claim.Tidy.{AreRows};
 ghost use Rattle.plan_revisions_sweeps.specs.Finding.{IsCopiedKey, IsFirstFrom, IsFirstPiece, IsGap, IsNextChunk, IsPieceKey, IsSought, IsSoughtLeft};
 
 use crate::held::is_there;
 use btree_scan::Row;
-use desk_pages::TreeError;
+use desk_store_pages::TreeError;
+use desk_store_rows::{Key, RowKey};
 use page_btree::{Leaf, Lengths, PAGE_SIZE, PageBytes, SmallBytes, bounds_in, leaf_from};
 use page_store::{Pages, Txn};
 use sector_device::SectorDevice;
-use store_rows::{Key, RowKey};
 
 /// Copies the first key in the map that isn't below a key, if there is one.
 fn key_from<D: SectorDevice>(

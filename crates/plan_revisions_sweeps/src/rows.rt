@@ -7,12 +7,12 @@ ghost use Rattle.plan_revisions_sweeps.specs.Sweeping.{Takes};
 use crate::leftovers::{Left, next_leftover};
 use btree_scan::Row;
 use chunk_table::release;
-use desk_pages::TreeError;
+use desk_store_pages::TreeError;
+use desk_store_rows::holders::held_is_counted_by_holders;
+use desk_store_rows::upkeep::turns_are_swept;
 use page_btree::{KEY_LIMIT, remove};
 use page_store::{Pages, Txn};
 use sector_device::SectorDevice;
-use store_rows::holders::held_is_counted_by_holders;
-use store_rows::upkeep::turns_are_swept;
 
 /// How many rows one sweep changes or takes out at most.
 pub const ROWS_SWEPT: usize = 16;

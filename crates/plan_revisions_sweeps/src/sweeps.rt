@@ -3,17 +3,17 @@ ghost use Rattle.std.specs.Prelude.{◌≡◌, ◌≤◌, Err, true, false, OnOk
 ghost use Rattle.page_store.specs.claim.Transactions.{disk_in, has_halted, IsSame, IsQuiet, Passed};
 ghost use Rattle.page_btree.specs.gets.claim.Map.{InPages};
 ghost use Rattle.desk_model.specs.claim.Desk.{Desk};
-ghost use Rattle.store_rows.specs.claim.Rows.{KeyMap};
-ghost use Rattle.desk_pages.specs.claim.Desks.{IsDeskMap, InPages as DeskInPages, OpensDesk};
-ghost use Rattle.desk_pages.specs.Commits.{Commits};
-ghost use Rattle.desk_pages.specs.Moments.{StopsLeave};
+ghost use Rattle.desk_store_rows.specs.claim.Rows.{KeyMap};
+ghost use Rattle.desk_store_pages.specs.claim.Desks.{IsDeskMap, InPages as DeskInPages, OpensDesk};
+ghost use Rattle.desk_store_pages.specs.Commits.{Commits};
+ghost use Rattle.desk_store_pages.specs.Moments.{StopsLeave};
 ghost use Rattle.plan_revisions_sweeps.specs.claim.Checks.{AreSoundHoldings};
 ghost use Rattle.plan_revisions_sweeps.specs.Sweeping.{SweepErr, Sweeps};
 
 use crate::check_holdings;
 pub use crate::rows::ROWS_SWEPT;
 use crate::rows::sweep_rows;
-use desk_pages::{StoreError, commit_fitting, row_error};
+use desk_store_pages::{StoreError, commit_fitting, row_error};
 use page_store::Pages;
 use sector_device::SectorDevice;
 use std::alloc::Global;

@@ -1,9 +1,9 @@
 -- What a run of `serve` is, by its exit status.
 use Rattle.{std.{specs.Prelude.Option, proofs.Common.{◌≡◌, ◌<◌, ℕ, Bool, true, false, [], inl, inr, refl, sym, ◌∙◌}}, byte_stream.specs.declared.source.Source.Ghosts as Sources}
 use Rattle.{command_output.specs.{claim.{Faults.status_of_open, Writing.Written}, declared.status.Status.Status}, desk_model.specs.claim.Desk.Desk}
-use Rattle.desk_theorem.specs.{claim.{Device.OnDevice, InFile.LivedOn, OneLife.{Asked, ClosedHolds, OfficeHolds, RequestsHold}}, store_lives.claim.Calls.{asked_in, told_in}}
-use Rattle.{desk_theorem.specs.store_lives.claim.Versions.Store, http_connections.specs.declared.ran.Ran.Ran, http_seats.specs.claim.Streams.Traffic}
-use Rattle.{plandesk.specs.claim.Running.{RunsServe, SomeRequests}, sector_device.specs.{claim.Disk.Disk, declared.SectorDevice.Ghosts}, serve_command.specs.Serving.fault_of_halt}
+use Rattle.desk_theorem.specs.{claim.{Device.OnDevice, InFile.LivedOn, OneLife.{Asked, ClosedHolds, OfficeHolds, RequestsHold}}, lives.claim.Calls.{asked_in, told_in}}
+use Rattle.{desk_theorem.specs.lives.claim.Versions.Store, http_desk.specs.{connections.declared.ran.Ran.Ran, seats.claim.Streams.Traffic}, sector_device.specs.claim.Disk.Disk}
+use Rattle.{plandesk.specs.claim.Running.{RunsServe, SomeRequests}, sector_device.specs.declared.SectorDevice.Ghosts, serve_command.specs.Serving.fault_of_halt}
 use Rattle.{serve_command.specs.claim.Living.ServesLife, state_files.specs.declared.fault.OpenFault.{OpenFault, TheVariants.{Unreadable, Memory as NoMemory}}}
 use Rattle.{store_command.specs.{Telling.status_of, declared.fault.StoreFault.StoreFault}, desk_theorem.proofs.OneLife.requests_hold}
 use Rattle.command_output.specs.declared.status.Status.TheVariants as status

@@ -5,7 +5,7 @@ ghost use Rattle.file_commands.specs.Premises.{IsJustOpened};
 ghost use Rattle.sector_file.specs.Device.{file_disk, first_image};
 ghost use Rattle.plandesk.specs.claim.Running.{RunsServe};
 ghost use Rattle.serve_command.specs.claim.Living.{ServesLife};
-ghost use Rattle.serve_command.specs.http_seats.Streams.{traffic};
+ghost use Rattle.serve_command.specs.http_desk.seats.Streams.{traffic};
 ghost use Rattle.serve_command.specs.Serving.{listener_of};
 
 use byte_stream::sink::{Sink, WriteSink};
@@ -13,15 +13,15 @@ use byte_stream::source::{ReadSource, Source};
 use command_line::options::{Logging, Serving};
 use command_output::status::Status;
 use connection_log::log::Log;
-use connection_log::watching::{Watched, Watching};
+use connection_log::watching::{LoggedArrivals, Watched};
 use file_commands::doors::{connections_of, listening_at, watcher_of, watching_at};
 use file_commands::faults::{explain_last, standard_error};
 use file_commands::logs::log_of;
 use file_commands::prefixes::Prefixed;
 use file_commands::stores::StoreFiles;
-use http_connections::door;
-use http_connections::door::Door;
-use http_connections::listening::Listens;
+use http_desk::door;
+use http_desk::door::AcceptQueue;
+use http_desk::listening::FallibleArrivals;
 use sector_device::SectorDevice;
 use sector_file::{Contents, FileDevice};
 use serve_command::log::refuse_log;
@@ -119,7 +119,7 @@ fn serve_door<'a, T: Threads + Wait + Clock + Sync, S: Contents + Send + Sync>(
     with_words: bool,
     name: &str,
     serving: Serving,
-    door: Option<&'a Door>,
+    door: Option<&'a AcceptQueue>,
     log: Option<&Log>,
     start: S,
 ) -> Status
@@ -180,13 +180,17 @@ fn serve_in_file<
 
 /// Serves a store to the connections that come, where a socket listens. They come from any type that listens, since a known one would be
 /// spelled out whole to the prover.
-fn serve_at<A: Listens + Sync, T: Threads + Wait + Clock + Sync, S: Contents + Send + Sync>(
+fn serve_at<
+    A: FallibleArrivals + Sync,
+    T: Threads + Wait + Clock + Sync,
+    S: Contents + Send + Sync,
+>(
     rt: &HostRuntime,
     threads: &T,
     with_words: bool,
     name: &str,
     serving: Serving,
-    listening: Option<&Watching<'_, '_, '_, A, T, Log>>,
+    listening: Option<&LoggedArrivals<'_, '_, '_, A, T, Log>>,
     start: S,
 ) -> Status
     requires { 1 ≤ serving.workers }

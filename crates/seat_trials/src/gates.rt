@@ -4,13 +4,13 @@ ghost use Rattle.std.specs.Prelude.{true};
 
 use byte_stream::sink::WriteSink;
 use byte_stream::source::ReadSource;
-use desk_catalogue::counter::Counter;
 use desk_model::command::{Command, Query};
 use desk_model::gate::Gate;
 use desk_model::reply::{PlanRows, Refusal, Reply};
-use http_desk::accepted::Accepted;
-use http_desk::hearing::Hears;
-use http_desk::serve::{ServeFault, Served, serve};
+use desk_store_catalogue::counter::Counter;
+use http_desk_streams::accepted::Accepted;
+use http_desk_streams::hearing::CommandObserver;
+use http_desk_streams::serve::{ServeFault, Served, serve};
 use std::alloc::Global;
 use std::cell::Cell;
 use std::io;
@@ -130,7 +130,7 @@ impl Gate for Listener<'_> {
     }
 }
 
-impl Hears for Listener<'_> {
+impl CommandObserver for Listener<'_> {
     ghost listening = { λ _. true };
 
     fn pass_before(&self, worker: u32, piece: u32) {

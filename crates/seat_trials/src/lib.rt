@@ -1,5 +1,5 @@
-//! Tests of concurrent service: gates between requests, visitors, two streams at one office,
-//! worlds.
+//! Tests of concurrent service: gates between requests, galleries, visitors, two streams at one
+//! office, a query while the office is locked, worlds.
 //!
 //! # Notes
 //!
@@ -17,6 +17,8 @@ macro_rules! holds {
 #[cfg(test)]
 #[cfg(test)]
 mod facts;
+#[cfg(test)]
+mod galleries;
 #[cfg(test)]
 mod gates;
 #[cfg(test)]

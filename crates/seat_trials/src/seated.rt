@@ -3,28 +3,28 @@ ghost use Rattle.std.specs.Prelude.{◌≡◌, ◌≤◌, true, length};
 ghost use Rattle.desk_model.specs.declared.command.Command.{Command};
 ghost use Rattle.desk_gallery.specs.Fronts.{Starts};
 ghost use Rattle.desk_gallery.specs.Naming.{IsOpenedFor};
-ghost use Rattle.http_seats.specs.claim.Streams.{IsAskedOf};
-ghost use Rattle.http_seats.specs.Streams.{traffic};
+ghost use Rattle.http_desk_seats.specs.claim.Streams.{IsAskedOf};
+ghost use Rattle.http_desk_seats.specs.Streams.{traffic};
 
 use crate::stores::sealed_device;
 use crate::visitors::gallery_of;
 use byte_stream::sink::WriteSink;
 use byte_stream::source::ReadSource;
-use desk_catalogue::catalogue::Catalogue;
 use desk_gallery::book::{GalleryId, Opened};
 use desk_gallery::office::Office;
-use desk_gallery::tally::{Blanks, Tallies};
+use desk_gallery::tally::{FreeShares, UnopenedLedgers};
 use desk_gallery::visitor::Visitor;
 use desk_model::command::Query;
 use desk_model::gate::Gate;
 use desk_model::reply::{PlanRow, Reply};
 use desk_store::clerk::Clerk;
-use http_connections::arrivals::Arrivals;
-use http_connections::ran::Ran;
-use http_desk::accepted::Accepted;
-use http_desk::hearing::Hears;
-use http_desk::serve::{ServeFault, Served};
-use http_seats::many::serve_many;
+use desk_store_catalogue::catalogue::Catalogue;
+use http_desk_connections::arrivals::Arrivals;
+use http_desk_connections::ran::Ran;
+use http_desk_seats::many::serve_many;
+use http_desk_streams::accepted::Accepted;
+use http_desk_streams::hearing::CommandObserver;
+use http_desk_streams::serve::{ServeFault, Served};
 use sector_memory::MemoryDevice;
 use std::alloc::Global;
 use std::io;
@@ -150,7 +150,7 @@ impl Gate for HoldsFirst<'_> {
     }
 }
 
-impl Hears for HoldsFirst<'_> {
+impl CommandObserver for HoldsFirst<'_> {
     ghost listening = { λ _. true };
 
     fn pass_before(&self, worker: u32, piece: u32) {
@@ -172,14 +172,14 @@ impl Hears for HoldsFirst<'_> {
 fn serve_at<
     J: GalleryId + Send + Sync,
     A: Arrivals + Sync,
-    G: Hears + Sync,
+    G: CommandObserver + Sync,
     R: Threads + Wait + Abort + Sync,
 >(
     rt: &R,
     alloc: Global,
     office: Office<J, MemoryDevice>,
     visitors: Vec<Visitor<J>>,
-    tallies: Tallies<J>,
+    tallies: FreeShares<J>,
     streams: &A,
     gate: &G,
 ) -> (Clerk<MemoryDevice>, Ran)
@@ -196,13 +196,13 @@ fn serve_at<
 fn served_in<
     J: GalleryId + Send + Sync,
     A: Arrivals + Sync,
-    G: Hears + Sync,
+    G: CommandObserver + Sync,
     R: Threads + Wait + Abort + Sync,
 >(
     rt: &R,
     alloc: Global,
     opened: Opened,
-    blanks: Blanks,
+    blanks: UnopenedLedgers,
     clerk: Clerk<MemoryDevice>,
     catalogue: Arc<Catalogue>,
     streams: &A,
@@ -221,7 +221,7 @@ fn served_in<
 }
 
 /// The same, of the sample geography.
-fn served<A: Arrivals + Sync, G: Hears + Sync, R: Threads + Wait + Abort + Sync>(
+fn served<A: Arrivals + Sync, G: CommandObserver + Sync, R: Threads + Wait + Abort + Sync>(
     rt: &R,
     alloc: Global,
     streams: &A,
@@ -235,7 +235,7 @@ fn served<A: Arrivals + Sync, G: Hears + Sync, R: Threads + Wait + Abort + Sync>
         rt,
         alloc,
         Opened::new(),
-        Blanks::new(2),
+        UnopenedLedgers::new(2),
         clerk,
         catalogue,
         streams,

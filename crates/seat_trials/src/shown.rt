@@ -5,12 +5,12 @@ ghost use Rattle.desk_gallery.specs.Fronts.{Starts};
 ghost use Rattle.desk_gallery.specs.Naming.{IsOpenedFor};
 
 use crate::visitors::{clerk_failing_at, create, gallery_of, is_created, is_halted, plans_seen};
-use desk_catalogue::catalogue::Catalogue;
 use desk_gallery::book::{GalleryId, Opened};
 use desk_gallery::front::Front;
-use desk_gallery::tally::{Blanks, Tally};
+use desk_gallery::tally::{SeatShare, UnopenedLedgers};
 use desk_gallery::visitor::Visitor;
 use desk_store::clerk::Clerk;
+use desk_store_catalogue::catalogue::Catalogue;
 use sector_memory::Fused;
 use std::alloc::Global;
 use std::marker::Brand;
@@ -23,7 +23,7 @@ fn stays_halted<J: GalleryId, R: Wait + Abort>(
     alloc: Global,
     front: &mut Front<J, Fused>,
     visitor: &mut Visitor<J>,
-    tally: &mut Tally<J>,
+    tally: &mut SeatShare<J>,
 )
     requires asked { (c : Command) → J.asked c }
 {
@@ -39,7 +39,7 @@ fn accepts<J: GalleryId, R: Wait + Abort>(
     alloc: Global,
     front: &mut Front<J, Fused>,
     visitor: &mut Visitor<J>,
-    tally: &mut Tally<J>,
+    tally: &mut SeatShare<J>,
 ) -> bool
     requires asked { (c : Command) → J.asked c }
 {
@@ -61,7 +61,7 @@ fn is_shown<J: GalleryId, R: Wait + Abort>(
     rt: &R,
     alloc: Global,
     opened: Opened,
-    blanks: Blanks,
+    blanks: UnopenedLedgers,
     clerk: Clerk<Fused>,
     catalogue: Arc<Catalogue>,
 ) -> bool
@@ -84,7 +84,7 @@ fn is_shown<J: GalleryId, R: Wait + Abort>(
 fn at_call<R: Wait + Abort>(rt: &R, alloc: Global, k: u64) -> Option<bool> {
     let clerk = clerk_failing_at(rt, alloc, k)?;
     let catalogue = clerk.published().expect(rt, "no memory");
-    let blanks = Blanks::new(1);
+    let blanks = UnopenedLedgers::new(1);
     Some(is_shown::<Brand, _>(rt, alloc, Opened::new(), blanks, clerk, catalogue))
 }
 

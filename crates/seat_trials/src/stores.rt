@@ -1,6 +1,6 @@
 //! A store in memory.
-use desk_loading::start;
 use desk_model::geography::sample;
+use desk_theorem_loading::start;
 use sector_memory::{Fused, MemoryDevice};
 use std::alloc::Global;
 use std::process::Abort;

@@ -3,7 +3,6 @@ ghost use Rattle.std.specs.Prelude.{◌≡◌, ◌<◌, ◌^◌, length, []};
 ghost use Rattle.desk_gallery.specs.Naming.{IsOpenedFor};
 
 use crate::stores::sealed_device;
-use desk_catalogue::catalogue::Catalogue;
 use desk_gallery::book::{GalleryId, Opened};
 use desk_gallery::gallery::{Gallery, GalleryFault};
 use desk_gallery::shower::Shower;
@@ -14,6 +13,7 @@ use desk_model::name::PlanName;
 use desk_model::reply::{Refusal, Reply};
 use desk_model::size::PlanSize;
 use desk_store::clerk::Clerk;
+use desk_store_catalogue::catalogue::Catalogue;
 use sector_memory::Fused;
 use std::alloc::Global;
 use std::process::Abort;

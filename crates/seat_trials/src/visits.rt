@@ -5,12 +5,12 @@ ghost use Rattle.desk_gallery.specs.Fronts.{Starts};
 ghost use Rattle.desk_gallery.specs.Naming.{IsOpenedFor};
 
 use crate::visitors::{clerk_failing_at, create, gallery_of, is_created, plans_seen};
-use desk_catalogue::catalogue::Catalogue;
 use desk_gallery::book::{GalleryId, Opened};
 use desk_gallery::front::Front;
-use desk_gallery::tally::{Blanks, Tally};
+use desk_gallery::tally::{SeatShare, UnopenedLedgers};
 use desk_gallery::visitor::Visitor;
 use desk_store::clerk::Clerk;
+use desk_store_catalogue::catalogue::Catalogue;
 use desk_theorem::office::are_standing;
 use sector_memory::Fused;
 use std::alloc::Global;
@@ -24,7 +24,7 @@ fn is_told<J: GalleryId, R: Wait + Abort>(
     alloc: Global,
     front: &mut Front<J, Fused>,
     visitors: &mut [Visitor<J>],
-    tally: &mut Tally<J>,
+    tally: &mut SeatShare<J>,
     name: &[u8],
     so_far: usize,
 )
@@ -46,7 +46,7 @@ fn find_both<J: GalleryId, R: Wait + Abort>(
     alloc: Global,
     front: &mut Front<J, Fused>,
     visitors: &mut [Visitor<J>],
-    tally: &mut Tally<J>,
+    tally: &mut SeatShare<J>,
 )
     requires two { length visitors.old ≡ 2 }
     requires asked { (c : Command) → J.asked c }
@@ -66,7 +66,7 @@ fn two_visitors<J: GalleryId, R: Wait + Abort>(
     rt: &R,
     alloc: Global,
     opened: Opened,
-    blanks: Blanks,
+    blanks: UnopenedLedgers,
     clerk: Clerk<Fused>,
     catalogue: Arc<Catalogue>,
 )
@@ -94,6 +94,6 @@ fn visitors_see_what_was_committed(rt: HostRuntime) {
     let alloc = rt.alloc();
     let clerk = clerk_failing_at(rt, alloc, u64::MAX).expect(rt, "no clerk");
     let catalogue = clerk.published().expect(rt, "no memory");
-    let blanks = Blanks::new(1);
+    let blanks = UnopenedLedgers::new(1);
     two_visitors::<Brand, _>(rt, alloc, Opened::new(), blanks, clerk, catalogue);
 }

@@ -1,5 +1,4 @@
 //! A world of the sample's catalogue: what visitors are answered, event by event.
-use desk_catalogue::catalogue::Catalogue;
 use desk_model::command::{Command, Query};
 use desk_model::geography::sample;
 use desk_model::kind::Kind;
@@ -7,6 +6,7 @@ use desk_model::name::PlanName;
 use desk_model::reply::{PlanRow, Refusal, Reply};
 use desk_model::size::PlanSize;
 use desk_model::text::Text;
+use desk_store_catalogue::catalogue::Catalogue;
 use desk_theorem::event::Event;
 use desk_theorem::world::World;
 use std::alloc::Global;

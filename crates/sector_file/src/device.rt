@@ -59,14 +59,22 @@ fn hold(file: &File) -> Result<(), FileError>
     }
 }
 
+/// Gives a file its size.
+fn resize(file: &File, count: u32) -> Result<(), FileError>
+    ensures { IfErr result (λ e. (e ≢ FileError.WrongSize) × (e ≢ FileError.InUse)) }
+{
+    match file.set_len(SECTOR_SIZE as u64 * count as u64) {
+        Ok(()) => Ok(()),
+        Err(error) => Err(of_making(&error)),
+    }
+}
+
 /// Gives a new file its size, writes zeros to all of it and syncs it. So the file has no hole, and a disk that gets full later refuses
 /// no write to it.
 fn fill(file: &File, count: u32) -> Result<(), FileError>
     ensures { IfErr result (λ e. (e ≢ FileError.WrongSize) × (e ≢ FileError.InUse)) }
 {
-    if let Err(error) = file.set_len(SECTOR_SIZE as u64 * count as u64) {
-        return Err(of_making(&error));
-    }
+    resize(file, count)?;
     let mut writer = file;
     if let Err(error) = write_zeros(&mut writer, count) {
         return Err(of_making(&error));
@@ -170,6 +178,38 @@ impl<S: Contents> FileDevice<S> {
         };
         hold(&file)?;
         fill(&file, count)?;
+        let size = size_of(&file)?;
+        match FileDevice::of_size(rt.alloc(), file, size, count) {
+            Ok(device) => Ok(device),
+            Err(_) => Err(FileError::DeviceFault),
+        }
+    }
+
+    /// Opens the file of a copy, which overwrites it: creates it if it does not exist, gives it
+    /// `count` sectors, and locks it. Returns InUse if another open of it holds the lock, and the
+    /// other errors of `create`. `_start` is consumed, as in `open`.
+    pub fn create_over(
+        rt: &HostRuntime,
+        path: &str,
+        count: u32,
+        _start: S,
+    ) -> Result<FileDevice<S>, FileError>
+        ensures count { IfOk result (λ device. (file_disk device).sectors ≡ count) }
+        ensures reads { IfOk result (λ device. (file_disk device).reads ≡ first_image S.Contents.sector count) }
+        ensures honest { IfOk result (λ device. (file_disk device).is_honest) }
+        ensures err { IfErr result (λ e. e ≢ FileError.WrongSize) }
+    {
+        let file = match OpenOptions::new()
+            .read(true)
+            .write(true)
+            .create(true)
+            .open(rt, path)
+        {
+            Ok(file) => file,
+            Err(error) => return Err(of_making(&error)),
+        };
+        hold(&file)?;
+        resize(&file, count)?;
         let size = size_of(&file)?;
         match FileDevice::of_size(rt.alloc(), file, size, count) {
             Ok(device) => Ok(device),

@@ -15,14 +15,18 @@
 //!   answer, which takes no memory; if the reads agree with the record, the device is honest.
 //! - `share` gives another thread a reader of the open file until the device is written;
 //!   `take_back` counts the reader's calls as the device's.
+//! - `HeldFile::reader` reads a file that a device holds as what it holds then (`Later`).
+//!   `create_over` and `put_in_place` are for copies that take the place of a file in one step.
 //!
 //! # Not proved
 //!
-//! The behaviour of the file system, and that reading ahead helps.
+//! The behaviour of the file system, and that reading ahead helps. That two opens of one file read
+//! the same is trusted.
 #![tactic(auto)]
 
 mod calls;
 mod contents;
+mod copies;
 mod device;
 mod error;
 mod reader;
@@ -31,7 +35,8 @@ mod record;
 mod run;
 mod zeros;
 
-pub use contents::{Contents, Unknown};
+pub use contents::{Contents, Later, Unknown};
+pub use copies::{HeldFile, check_place, put_in_place, remove};
 pub use device::FileDevice;
 pub use error::FileError;
 pub use reader::FileReader;

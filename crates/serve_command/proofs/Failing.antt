@@ -1,8 +1,8 @@
 -- Whether the device failed in a run, by induction on its calls.
 use Rattle.{std.proofs.Common.{◌≡◌, ◌<◌, Bool, true, false, List, inl, inr, ⊎_elim, refl, sym, subst, ◌∙◌, arith}, desk_model.specs.claim.{Desk.Desk, Step.step}}
-use Rattle.inspect_command.specs.{desk_runs.claim.{Runs.Call, SweptRuns.SweptRun}, desk_store.claim.Clerks.{desk_of, disk_of, pages_of, HaltsByDevice, Keeps, Moves}}
-use Rattle.{inspect_command.specs.desk_store.declared.clerk.Clerk.Clerk, page_store.specs.claim.Transactions.{has_halted, IsSame}, sector_device.specs.declared.SectorDevice.Ghosts}
-use Rattle.page_store.proofs.Chains.{either}
+use Rattle.{inspect_command.specs.desk_store.{claim.Clerks.{desk_of, disk_of, pages_of, HaltsByDevice, Keeps, Moves}, declared.clerk.Clerk.Clerk}, page_store.proofs.Chains.either}
+use Rattle.{inspect_command.specs.desk_theorem_runs.claim.{Runs.Call, SweptRuns.SweptRun}, page_store.specs.claim.Transactions.{has_halted, IsSame}}
+use Rattle.sector_device.specs.declared.SectorDevice.{Ghosts}
 
 module _ {D : Type 0} {g : Ghosts D} where
   -- What is known of the device from one clerk to another. From a halt on nothing changes; and where the store kept the desk, a clerk who

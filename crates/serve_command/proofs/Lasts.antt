@@ -1,11 +1,11 @@
 -- A run from a clerk who is like the first one.
 use Rattle.std.proofs.{Common.{◌≡◌, ℕ, Bool, true, false, Result, Ok, Err, IfOk, List, [], refl, sym, subst, ◌∙◌, arith}, lemmas.List.Elements.All-nil}
-use Rattle.{desk_model.specs.{claim.Desk.Desk, declared.command.Command.Command}, http_connections.specs.declared.ran.Ran.Ran, http_seats.specs.desk_gallery.claim.Telling.halts_of}
-use Rattle.http_seats.specs.{claim.Streams.{Traffic, IsAskedOf, AreCounted}, desk_gallery.claim.{Begun.{HasRun, IsLeftBy}, Working.AreAccepted}}
-use Rattle.inspect_command.specs.{desk_runs.claim.{Runs.Call, SweptRuns.{SweptRun, SurvivesEachSwept}}, desk_store.claim.Clerks.{desk_of, disk_of, is_halted, pages_of}}
-use Rattle.{inspect_command.specs.{desk_store.declared.clerk.Clerk.Clerk, store_command.Reading.{ReadsDesk, ShowsWhatIsRead}}, page_store.specs.claim.Transactions.has_halted}
-use Rattle.{sector_device.specs.declared.SectorDevice.Ghosts, serve_command.{specs.Outlasting.{FailsSince, OutlastsWhatIsRead}, proofs.Failing.along}}
-use Rattle.serve_command.specs.claim.Lasting.{IsLike, HasTalked, LastsAsked, Outlasts, ServesStreams}
+use Rattle.{desk_model.specs.{claim.Desk.Desk, declared.command.Command.Command}, http_desk.specs.{connections.declared.ran.Ran.Ran, seats.desk_gallery.claim.Telling.halts_of}}
+use Rattle.http_desk.specs.seats.{claim.Streams.{Traffic, IsAskedOf, AreCounted}, desk_gallery.claim.{Begun.{HasRun, IsLeftBy}, Working.AreAccepted}}
+use Rattle.inspect_command.specs.{desk_store.{claim.Clerks.{desk_of, disk_of, is_halted, pages_of}, declared.clerk.Clerk.Clerk}, desk_theorem_runs.claim.Runs.Call}
+use Rattle.inspect_command.specs.{desk_theorem_runs.claim.SweptRuns.{SweptRun, SurvivesEachSwept}, store_command.Reading.{ReadsDesk, ShowsWhatIsRead}}
+use Rattle.{page_store.specs.claim.Transactions.has_halted, sector_device.specs.declared.SectorDevice.Ghosts, serve_command.specs.Outlasting.{FailsSince, OutlastsWhatIsRead}}
+use Rattle.serve_command.{specs.claim.Lasting.{IsLike, HasTalked, LastsAsked, Outlasts, ServesStreams}, proofs.Failing.along}
 
 -- from what the device read as it was opened
 pub lasts_on : {D : Type 0} {g : Ghosts D} (device : D) (first last : Clerk D g) → ShowsWhatIsRead device first → is_halted first ≡ false → (lasts : Outlasts first last) → OutlastsWhatIsRead device first last lasts

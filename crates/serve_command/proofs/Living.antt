@@ -1,8 +1,8 @@
 -- What a run of `serve` is for the store that it opened.
 use Rattle.{std.proofs.Common.{◌≡◌, ◌⊎◌, ◌<◌, ℕ, Bool, true, false, List, Option, Result, Ok, Err, inl, inr, ⊎_elim, sym, subst, ◌∙◌, arith}, serve_command.proofs.Failing.along}
-use Rattle.{command_output.specs.{claim.Writing.Written, declared.status.Status.Status}, http_connections.specs.declared.ran.Ran.Ran, http_seats.specs.claim.Streams.Traffic}
+use Rattle.{command_output.specs.{claim.Writing.Written, declared.status.Status.Status}, http_desk.specs.{connections.declared.ran.Ran.Ran, seats.claim.Streams.Traffic}}
 use Rattle.inspect_command.specs.{desk_store.claim.Clerks.{disk_of, pages_of}, desk_theorem.claim.{Device.HoldsStore, OneLife.{Asked, OfficeHolds}}}
-use Rattle.inspect_command.specs.{desk_theorem.store_lives.claim.Versions.Store as Held, store_command.{claim.Living.{Bars, IsRefused}, declared.fault.StoreFault.StoreFault}}
+use Rattle.inspect_command.specs.{desk_theorem.lives.claim.Versions.Store as Held, store_command.{claim.Living.{Bars, IsRefused}, declared.fault.StoreFault.StoreFault}}
 use Rattle.{page_store.specs.claim.Transactions.device_in, sector_device.specs.declared.SectorDevice.Ghosts, serve_command.specs.declared.fault.ServingFault.ServingFault}
 use Rattle.serve_command.specs.Serving.{Announces, EndsServing, HasAnnounced, HasStopped, IsNoStore, IsServed, IsGivenUp, NotOpened, Serves}
 use Rattle.serve_command.specs.{claim.Living.{ClosedLived, HaltedLived, HasServed, OfficeLived, ServesLife}, declared.fault.ServingFault.TheVariants.{Store, Socket, Output}}

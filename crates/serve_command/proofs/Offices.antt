@@ -1,12 +1,14 @@
 -- The run of an office as a life.
 use Rattle.{std.proofs.Common.{◌≡◌, ℕ, false, if◌then◌else◌, List, [], ◌∷◌, ◌++◌, All, refl, subst, subst₂, ◌∙◌, Result, Ok, Err, IfOk}, desk_model.specs.claim.Desk.Desk}
-use Rattle.{desk_model.specs.declared.{command.Command.Command, reply.Reply.Reply}, http_connections.specs.declared.ran.Ran.Ran, sector_device.specs.declared.SectorDevice.Ghosts}
-use Rattle.{http_seats.specs.{claim.Streams.{Traffic, IsAskedOf}, desk_gallery.claim.Working.AreAccepted}, inspect_command.specs.desk_runs.desk_pages.claim.Desks.OpensDesk}
-use Rattle.inspect_command.specs.{desk_store.{claim.Clerks.{desk_of, disk_of}, declared.clerk.Clerk.Clerk}, desk_theorem.claim.Offices.{Officed, Answered}}
-use Rattle.inspect_command.specs.desk_theorem.{claim.OneLife.{ClosedHolds, OfficeHolds}, store_lives.{DeskInside.LivedThrough, claim.DeskLives.Lived}}
-use Rattle.inspect_command.specs.desk_theorem.store_lives.claim.Calls.{asked_in, told_in, is_done, acknowledged}
-use Rattle.serve_command.specs.claim.Lasting.{Outlasts, LastsAsked, ServesStreams}
-use Rattle.{inspect_command.specs.desk_theorem.store_lives.desk_runs.claim.Runs.{Call, if_accepted, acknowledged as acknowledged_calls}, inspect_command.proofs.desk_theorem.{Device.through_more, OneLife.{closed_holds, office_holds}, Sweeping.swept_lived}}
+use Rattle.{desk_model.specs.declared.{command.Command.Command, reply.Reply.Reply}, http_desk.specs.{connections.declared.ran.Ran.Ran, seats.claim.Streams.{Traffic, IsAskedOf}}}
+use Rattle.{http_desk.specs.seats.desk_gallery.claim.Working.AreAccepted, inspect_command.specs.desk_store.{claim.Clerks.{desk_of, disk_of}, declared.clerk.Clerk.Clerk}}
+use Rattle.inspect_command.specs.desk_theorem.{claim.{Offices.{Officed, Answered}, OneLife.{ClosedHolds, OfficeHolds}}, lives.{DeskInside.LivedThrough, claim.DeskLives.Lived}}
+use Rattle.inspect_command.specs.{desk_theorem.lives.claim.Calls.{asked_in, told_in, is_done, acknowledged}, desk_theorem_runs.desk_store_pages.claim.Desks.OpensDesk}
+use Rattle.inspect_command.specs.desk_theorem.lives.desk_theorem_runs.claim.Runs.{Call, if_accepted, acknowledged as acknowledged_calls}
+use Rattle.{sector_device.specs.declared.SectorDevice.Ghosts, serve_command.specs.claim.Lasting.{Outlasts, LastsAsked, ServesStreams}}
+use Rattle.inspect_command.proofs.desk_theorem.Device.{through_more}
+use Rattle.inspect_command.proofs.desk_theorem.OneLife.{closed_holds, office_holds}
+use Rattle.inspect_command.proofs.desk_theorem.Sweeping.{swept_lived}
 use Rattle.desk_model.specs.declared.reply.Reply.TheVariants as reply
 
 -- the acknowledged commands of a run, in the words of a life

@@ -1,5 +1,5 @@
 -- What no promise rests on, beside claim/Lasting.antt.
-use Rattle.{std.specs.{Prelude.{Result, Ok, Err}, declared.alloc.AllocError.AllocError}, http_connections.specs.declared.ran.Ran.Ran}
+use Rattle.{std.specs.{Prelude.{Result, Ok, Err}, declared.alloc.AllocError.AllocError}, http_desk.specs.connections.declared.ran.Ran.Ran}
 use Rattle.{inspect_command.specs.desk_store.declared.clerk.Clerk.Clerk, sector_device.specs.declared.SectorDevice.Ghosts}
 
 -- the clerk after a run, and after one for which memory was refused

@@ -4,5 +4,5 @@ pub mod Loopback
 pub mod Outlasting
 pub mod Rooms
 pub mod Serving
-pub use Rattle.http_seats.specs as http_seats
-pub use Rattle.http_seats.specs.desk_gallery
+pub use Rattle.http_desk.specs as http_desk
+pub use Rattle.http_desk.specs.seats.desk_gallery

@@ -1,7 +1,7 @@
 -- That commands outlive each stop from the desk on as which a device read when it was opened, and whether it has failed since.
 use Rattle.std.specs.Prelude.{◌≡◌, ◌<◌, Bool, true, false}
-use Rattle.{desk_model.specs.claim.Desk.Desk, inspect_command.specs.{desk_runs.claim.SweptRuns.SurvivesSwept, desk_store.claim.Clerks.{desk_of, disk_of, pages_of}}}
-use Rattle.{inspect_command.specs.{desk_store.declared.clerk.Clerk.Clerk, store_command.Reading.{LeavesDesk, ReadsDesk}}, page_store.specs.claim.Transactions.has_halted}
+use Rattle.{desk_model.specs.claim.Desk.Desk, inspect_command.specs.desk_store.{claim.Clerks.{desk_of, disk_of, pages_of}, declared.clerk.Clerk.Clerk}}
+use Rattle.{inspect_command.specs.{desk_theorem_runs.claim.SweptRuns.SurvivesSwept, store_command.Reading.{LeavesDesk, ReadsDesk}}, page_store.specs.claim.Transactions.has_halted}
 use Rattle.{sector_device.specs.declared.SectorDevice.Ghosts, serve_command.specs.claim.Lasting.Outlasts}
 
 module _ {D : Type 0} {g : Ghosts D} where

@@ -1,10 +1,10 @@
 -- A store that is served: what is opened, printed and told, and the status that goes with it.
 use Rattle.std.specs.{Borrow.Bor, Prelude.{◌≡◌, ◌⊎◌, ℕ, List, [], codes, Bool, true, false, Option, Some, None, Result, Ok, Err}}
 use Rattle.{byte_stream.specs.declared.sink.WriteFault.WriteFault, command_output.specs.claim.{Faults.status_of_open, Writing.{Written, Writes, Told}}}
-use Rattle.{command_output.specs.declared.status.Status.Status, desk_model.specs.claim.Desk.Desk, http_connections.specs.declared.ran.Ran.Ran}
-use Rattle.{http_seats.specs.{claim.Streams.Traffic, desk_gallery.Working.IsRunFrom}, inspect_command.specs.{desk_loading.Openings.IsOpened, desk_store.declared.clerk.Clerk.Clerk}}
-use Rattle.inspect_command.specs.{desk_store.claim.Clerks.{desk_of, disk_of, is_halted, pages_of, Keeps}, desk_theorem.claim.Device.OnDevice, store_command.Filling.IsNotOpened}
-use Rattle.inspect_command.specs.{desk_theorem.claim.OneLife.{Asked, ClosedHolds, OfficeHolds, RequestsHold}, store_command.Reading.{ReadsDesk, ShowsWhatIsRead}}
+use Rattle.{command_output.specs.declared.status.Status.Status, desk_model.specs.claim.Desk.Desk, http_desk.specs.{connections.declared.ran.Ran.Ran, seats.claim.Streams.Traffic}}
+use Rattle.{http_desk.specs.seats.desk_gallery.Working.IsRunFrom, inspect_command.specs.desk_store.claim.Clerks.{desk_of, disk_of, is_halted, pages_of, Keeps}}
+use Rattle.inspect_command.specs.{desk_store.declared.clerk.Clerk.Clerk, desk_theorem.claim.{Device.OnDevice, OneLife.{Asked, ClosedHolds, OfficeHolds, RequestsHold}}}
+use Rattle.inspect_command.specs.{desk_theorem_loading.Openings.IsOpened, store_command.{Filling.IsNotOpened, Reading.{ReadsDesk, ShowsWhatIsRead}}}
 use Rattle.{inspect_command.specs.store_command.declared.fault.StoreFault.{StoreFault, TheVariants.Memory}, page_store.specs.claim.Transactions.device_in}
 use Rattle.{sector_device.specs.declared.SectorDevice.Ghosts, serve_command.specs.{Outlasting.{FailsSince, OutlastsWhatIsRead}, claim.Lasting.{LastsAsked, ServesStreams}}}
 use Rattle.{serve_command.specs.declared.fault.ServingFault.{ServingFault, TheVariants.{Store, Socket, Output}}, state_files.specs.declared.fault.OpenFault.OpenFault}

@@ -29,4 +29,4 @@ mod room;
 pub mod serve;
 mod texts;
 
-pub use http_seats::{book, front, many, visitor};
+pub use http_desk::{book, front, many, visitor};

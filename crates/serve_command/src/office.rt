@@ -2,26 +2,24 @@
 ghost use Rattle.std.specs.Prelude.{◌≡◌, ◌≤◌, IfOk};
 ghost use Rattle.desk_model.specs.declared.command.Command.{Command};
 ghost use Rattle.inspect_command.specs.desk_store.claim.Clerks.{desk_of, Keeps};
-ghost use Rattle.http_seats.specs.desk_gallery.claim.Begun.{IsLeftBy};
-ghost use Rattle.http_seats.specs.desk_gallery.Fronts.{Starts};
-ghost use Rattle.http_seats.specs.desk_gallery.Naming.{IsOpenedFor};
-ghost use Rattle.http_seats.specs.desk_gallery.Working.{IsRunFrom};
-ghost use Rattle.http_seats.specs.claim.Streams.{IsAskedOf};
-ghost use Rattle.http_seats.specs.Streams.{traffic};
+ghost use Rattle.http_desk.specs.seats.desk_gallery.claim.Begun.{IsLeftBy};
+ghost use Rattle.http_desk.specs.seats.desk_gallery.Fronts.{Starts};
+ghost use Rattle.http_desk.specs.seats.desk_gallery.Naming.{IsOpenedFor};
+ghost use Rattle.http_desk.specs.seats.desk_gallery.Working.{IsRunFrom};
+ghost use Rattle.http_desk.specs.seats.claim.Streams.{IsAskedOf};
+ghost use Rattle.http_desk.specs.seats.Streams.{traffic};
 ghost use Rattle.serve_command.specs.claim.Lasting.{HasTalked, LastsAsked, ServesStreams};
 ghost use Rattle.inspect_command.specs.desk_theorem.claim.OneLife.{ClosedHolds, OfficeHolds};
-ghost use Rattle.inspect_command.specs.desk_theorem.store_lives.DeskInside.{LivedThrough};
+ghost use Rattle.inspect_command.specs.desk_theorem.lives.DeskInside.{LivedThrough};
 ghost use Rattle.serve_command.specs.Lasting.{clerk_in};
 
-use desk_catalogue::catalogue::Catalogue;
-use http_connections::arrivals::Arrivals;
-use http_connections::ran::Ran;
-use http_desk::hearing::Hears;
-use http_seats::book::{GalleryId, Opened};
-use http_seats::gallery::{Gallery, GalleryFault};
-use http_seats::many::serve_many;
-use http_seats::office::Office;
-use http_seats::tally::Blanks;
+use desk_store_catalogue::catalogue::Catalogue;
+use http_desk::book::{GalleryId, Opened};
+use http_desk::gallery::{Gallery, GalleryFault};
+use http_desk::hearing::CommandObserver;
+use http_desk::office::Office;
+use http_desk::tally::UnopenedLedgers;
+use http_desk::{Arrivals, Ran, serve_many};
 use inspect_command::Clerk;
 use inspect_command::swept_law::each_swept_run_survives;
 use sector_device::SectorDevice;
@@ -37,13 +35,13 @@ fn serve_named<
     J: GalleryId + Send + Sync,
     D: SectorDevice + Drop + Send + Sync,
     A: Arrivals + Sync,
-    G: Hears + Sync,
+    G: CommandObserver + Sync,
     R: Threads + Wait + Sync,
 >(
     rt: &R,
     alloc: Global,
     opened: Opened,
-    blanks: Blanks,
+    blanks: UnopenedLedgers,
     clerk: Clerk<D>,
     catalogue: Arc<Catalogue>,
     workers: u16,
@@ -90,7 +88,7 @@ fn serve_named<
 pub fn serve_clerk<
     D: SectorDevice + Drop + Send + Sync,
     A: Arrivals + Sync,
-    G: Hears + Sync,
+    G: CommandObserver + Sync,
     R: Threads + Wait + Sync,
 >(
     rt: &R,
@@ -119,7 +117,7 @@ pub fn serve_clerk<
         rt,
         alloc,
         Opened::new(),
-        Blanks::new(u64::from(workers)),
+        UnopenedLedgers::new(u64::from(workers)),
         clerk,
         catalogue,
         workers,

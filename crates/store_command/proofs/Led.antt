@@ -1,11 +1,13 @@
 -- A store that was led on: one life on its device.
-use Rattle.{std.{specs.Prelude.Err, proofs.Common.{◌≡◌, ℕ, false, inl, inr, refl, ◌≢◌, ◌≤◌}}, desk_pages.specs.{claim.Openings.LeavesOneAs, declared.error.StoreError.StoreError}}
-use Rattle.{desk_pages.specs.declared.error.StoreError.TheVariants.{AlreadyNew, DeviceFault}, desk_runs.specs.Recovery.ImagesAreOne}
-use Rattle.desk_runs.specs.desk_migration.{Openings.{IsRefused, LeavesNew}, claim.Migrating.{disk_of, is_halted, Moves}, declared.migration.Migration.Migration}
+use Rattle.{std.{specs.Prelude.Err, proofs.Common.{◌≡◌, ℕ, false, inl, inr, refl, ◌≢◌, ◌≤◌}}, desk_store_pages.specs.claim.Openings.LeavesOneAs}
+use Rattle.{desk_store_pages.specs.declared.error.StoreError.{StoreError, TheVariants.{AlreadyNew, DeviceFault}}, desk_theorem.specs.claim.{Device.OnDevice, OneLife.LedHolds}}
+use Rattle.desk_theorem.{specs.{lives.{VersionInside.{IsLed, LeadsOn, StepsOn}, declared.leading.Led.Led}, runs.Recovery.ImagesAreOne}, proofs.Device.on_device}
+use Rattle.desk_theorem.specs.runs.desk_migration.{Openings.{IsRefused, LeavesNew}, claim.Migrating.{disk_of, is_halted, Moves}, declared.migration.Migration.Migration}
 use Rattle.{sector_device.specs.declared.SectorDevice.Ghosts, store_command.specs.Migrating.{EndStopped, IsBegun, IsMigrated, MigratesAll, StepStopped, StoppedLife}}
-use Rattle.store_command.{specs.declared.fault.StoreFault.StoreFault, proofs.Steps.{all_led, end_stopped, goes_further, in_part, step_stopped, then_led}}
-use Rattle.desk_theorem.{specs.{claim.{Device.OnDevice, OneLife.LedHolds}, store_lives.{VersionInside.{IsLed, LeadsOn, StepsOn}, declared.leading.Led.Led}}, proofs.{Device.on_device, OneLife.led_holds, store_lives.VersionLiving.{barred_lives, led_lives}}}
-use Rattle.desk_theorem.specs.store_lives.declared.leading.Led.TheVariants as led
+use Rattle.{store_command.specs.declared.fault.StoreFault.StoreFault, desk_theorem.proofs.OneLife.led_holds}
+use Rattle.store_command.proofs.Steps.{all_led, end_stopped, goes_further, in_part, step_stopped, then_led}
+use Rattle.desk_theorem.proofs.lives.VersionLiving.{barred_lives, led_lives}
+use Rattle.desk_theorem.specs.lives.declared.leading.Led.TheVariants as led
 
 module _ {D : Type 0} {g : Ghosts D} where
   none_yet : (x : Migration D g) → is_halted x ≡ false → StepsOn x x

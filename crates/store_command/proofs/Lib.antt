@@ -7,6 +7,6 @@ pub mod Opened
 mod Steps
 mod Unopened
 pub mod Used
-pub use Rattle.desk_runs.proofs.desk_store
-pub use Rattle.desk_runs.proofs as desk_runs
+pub use Rattle.desk_theorem.proofs.runs.desk_store
+pub use Rattle.desk_theorem.proofs.runs as desk_theorem_runs
 pub use Rattle.desk_theorem.proofs as desk_theorem

@@ -1,13 +1,13 @@
 -- What a run of a command is for the store that it opened.
 use Rattle.std.{specs.{Prelude.{codes, Result, Ok, Err, Vec}, declared.alloc.Global.Global}, proofs.Common.{◌≡◌, ◌⊎◌, ℕ, List, [], ◌∷◌, inl, inr, ⊎_elim, sym, subst}}
 use Rattle.{command_output.specs.{claim.Writing.{Written, write_fault_line}, declared.status.Status.Status}, desk_model.specs.claim.Geography.GeographyModel}
-use Rattle.desk_theorem.specs.{claim.{Device.OnDevice, InFile.LivedOn, OneLife.{Asked, LedHolds, RequestsHold, UnopenedHolds}}, store_lives.claim.Versions.Store}
-use Rattle.desk_theorem.specs.store_lives.declared.desk_lives.{Answer.{Answer, TheVariants.{Loaded, Swept, Unloaded, Unswept}}, Request.TheVariants.{Load, Sweep}}
-use Rattle.{desk_theorem.specs.store_lives.declared.leading.Led.Led, sector_device.specs.declared.SectorDevice.Ghosts, store_command.specs.Loading.{Fills, Loads}}
-use Rattle.store_command.specs.{Filling.{FillsDevice, IsNotOpened, LoadedOnce}, Migrating.{MigratesStore, StoppedLife}, Sweeping.{SweepsStore, SweptLife, SweptOnce}}
-use Rattle.store_command.specs.{Telling.EndsStore, claim.Files.{Openings, ReadsGeography}, declared.fault.StoreFault.StoreFault}
+use Rattle.desk_theorem.specs.{claim.{Device.OnDevice, InFile.LivedOn, OneLife.{Asked, LedHolds, RequestsHold, UnopenedHolds}}, lives.claim.Versions.Store}
+use Rattle.desk_theorem.specs.lives.declared.{desk_lives.{Answer.{Answer, TheVariants.{Loaded, Swept, Unloaded, Unswept}}, Request.TheVariants.{Load, Sweep}}, leading.Led.Led}
+use Rattle.{sector_device.specs.declared.SectorDevice.Ghosts, store_command.specs.{Filling.{FillsDevice, IsNotOpened, LoadedOnce}, Loading.{Fills, Loads}, Telling.EndsStore}}
+use Rattle.store_command.specs.{Migrating.{MigratesStore, StoppedLife}, Sweeping.{SweepsStore, SweptLife, SweptOnce}, claim.Files.{Openings, ReadsGeography}}
 use Rattle.store_command.specs.claim.Living.{Bars, IsPrinted, IsRefused, LoadLived, LoadsLife, MigratesLife, OpensNone, SweepLived, SweepsLife}
-use Rattle.desk_theorem.specs.store_lives.declared.leading.Led.TheVariants as led
+use Rattle.store_command.specs.declared.fault.StoreFault.{StoreFault}
+use Rattle.desk_theorem.specs.lives.declared.leading.Led.TheVariants as led
 use Rattle.store_command.specs.declared.fault.StoreFault.TheVariants as fault
 
 -- what is told of a fault is told of the error that it stands for

@@ -1,12 +1,13 @@
 -- Steps of a migration, one after the other, and the end after them.
 use Rattle.{std.{specs.Prelude.{Result, Ok, Err}, proofs.Common.{rules, ◌≡◌, ◌≤◌, ◌+◌, ℕ, false, inl, inr, refl, sym, subst, ◌∙◌, arith}}, desk_model.specs.claim.Desk.Desk}
-use Rattle.{desk_pages.specs.claim.Desks.{OpensDesk, OpensOld, OpensEither}, desk_runs.specs.{Recovery.ImagesAreOne, desk_migration.declared.migration.Migration.Migration}}
-use Rattle.desk_runs.specs.desk_migration.claim.Migrating.{device_of, disk_of, is_halted, sectors_of, Ends, HasMore, HasRows, Keeps, KeepsNew, Moves}
-use Rattle.{sector_device.specs.{claim.{Disk.Disk, Moments.LeavesOnly}, declared.SectorDevice.Ghosts}, store_command.specs.{Filling.HasDesk, Reading.BeginsAtWhatIsRead}}
+use Rattle.{desk_store_pages.specs.claim.Desks.{OpensDesk, OpensOld, OpensEither}, desk_store_rows.specs.claim.Rows.KeyMap, desk_theorem.specs.runs.Recovery.ImagesAreOne}
+use Rattle.desk_theorem.specs.runs.desk_migration.claim.Migrating.{device_of, disk_of, is_halted, sectors_of, Ends, HasMore, HasRows, Keeps, KeepsNew, Moves}
+use Rattle.{desk_theorem.specs.runs.desk_migration.declared.migration.Migration.Migration, sector_device.specs.claim.{Disk.Disk, Moments.LeavesOnly}}
+use Rattle.{sector_device.specs.declared.SectorDevice.Ghosts, store_command.specs.{Filling.HasDesk, Reading.BeginsAtWhatIsRead, declared.fault.StoreFault.StoreFault}}
 use Rattle.store_command.specs.Migrating.{HasMigrated, HasOld, HasPut, HasStopped, IsBegun, IsStopped, LeavesEither, MigratesAll, MigratesDevice, WhereItReadsOld}
-use Rattle.{store_command.{specs.declared.fault.StoreFault.{StoreFault, TheVariants.NotAStore}, proofs.Led.{migrated_life, stopped_life}}, store_rows.specs.claim.Rows.KeyMap}
-use Rattle.sector_device.proofs.Moments.{leaves_more, leaves_wider}
-use Rattle.desk_runs.proofs.desk_migration.Pairs.{then_by, none_by}
+use Rattle.{store_command.specs.declared.fault.StoreFault.TheVariants.NotAStore, sector_device.proofs.Moments.{leaves_more, leaves_wider}}
+use Rattle.store_command.proofs.Led.{migrated_life, stopped_life}
+use Rattle.desk_theorem.proofs.runs.desk_migration.Pairs.{then_by, none_by}
 
 module _ {D : Type 0} {g : Ghosts D} where
   -- ---- steps

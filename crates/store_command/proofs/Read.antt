@@ -1,11 +1,12 @@
 -- A synced device, by what it reads.
-use Rattle.{std.proofs.Common.{rules, ◌≡◌, Bool, true, false, sym, subst}, desk_model.specs.claim.Desk.Desk, desk_pages.specs.Openings.{AllDesks, AllOld, LeavesOneOf, OpensOneOf}}
-use Rattle.desk_pages.specs.claim.{Desks.{OpensDeskOf, OpensAs, OpensDesk, OpensOld, OpensEither}, Openings.{AllVersions, IsOneAs, LeavesOneAs, OpensOneAs}}
-use Rattle.{desk_pages.specs.declared.error.StoreError.StoreError, desk_runs.specs.{Recovery.ImagesAreOne, claim.Lives.left_by, desk_migration.Openings.{IsRefused, KeepsOne}}}
-use Rattle.desk_runs.specs.{desk_migration.{claim.Migrating.{disk_of as migrated_disk, Keeps as KeepsOld}, declared.migration.Migration.Migration}, desk_store.Openings.OpenRefused}
-use Rattle.{desk_runs.specs.desk_store.{claim.Clerks.{desk_of, disk_of, Keeps}, declared.clerk.Clerk.Clerk}, sector_device.specs.{Disk.IsSynced, claim.Disk.{Disk, Image}}}
-use Rattle.{sector_device.{specs.{claim.Moments.LeavesOnly, declared.SectorDevice.Ghosts}, proofs.Moments.leaves_wider}, desk_runs.proofs.One.{one_version, few_sectors}}
+use Rattle.{std.proofs.Common.{rules, ◌≡◌, Bool, true, false, sym, subst}, desk_model.specs.claim.Desk.Desk, desk_store_pages.specs.declared.error.StoreError.StoreError}
+use Rattle.desk_store_pages.specs.{Openings.{AllDesks, AllOld, LeavesOneOf, OpensOneOf}, claim.Desks.{OpensDeskOf, OpensAs, OpensDesk, OpensOld, OpensEither}}
+use Rattle.{desk_store_pages.specs.claim.Openings.{AllVersions, IsOneAs, LeavesOneAs, OpensOneAs}, desk_theorem.specs.runs.{Recovery.ImagesAreOne, claim.Lives.left_by}}
+use Rattle.desk_theorem.specs.runs.{desk_migration.{Openings.{IsRefused, KeepsOne}, claim.Migrating.{disk_of as migrated_disk, Keeps as KeepsOld}}, desk_store.Openings.OpenRefused}
+use Rattle.desk_theorem.specs.runs.{desk_migration.declared.migration.Migration.Migration, desk_store.{claim.Clerks.{desk_of, disk_of, Keeps}, declared.clerk.Clerk.Clerk}}
+use Rattle.sector_device.{specs.{Disk.IsSynced, claim.{Disk.{Disk, Image}, Moments.LeavesOnly}, declared.SectorDevice.Ghosts}, proofs.Moments.leaves_wider}
 use Rattle.store_command.specs.Reading.{ReadsDesk, ReadsOld, ShowsWhatIsRead, BeginsAtWhatIsRead, RefusesWhatIsRead, BarsWhatIsRead, HoldsWhatIsRead, FindsWhatIsRead}
+use Rattle.desk_theorem.proofs.runs.One.{one_version, few_sectors}
 
 module _ (disk : Disk) (synced : IsSynced disk) where
   -- an image that a stop may leave now is what is read

@@ -1,11 +1,12 @@
 -- Steps of a migration, and what stops them.
 use Rattle.{std.proofs.{Common.{◌≡◌, ◌≤◌, ℕ, true, false, inr, subst, rules}, lemmas.Bool.{both_ways, cases_Bool}}, desk_model.specs.claim.Desk.Desk}
-use Rattle.{desk_pages.specs.{claim.Desks.OpensOld, declared.error.StoreError.StoreError}, desk_runs.specs.desk_migration.Puts.{FinishErr, StepErr}}
-use Rattle.desk_runs.specs.desk_migration.{claim.Migrating.{disk_of, has_ended, is_halted, sectors_of, Ends, Goes, Keeps, KeepsNew, Moves}, declared.migration.Migration.Migration}
-use Rattle.{desk_theorem.specs.store_lives.{VersionInside.{StepsOn, LeadsOn, LedTo}, declared.leading.Led.Led}, page_store.specs.claim.Transactions.IsQuiet}
-use Rattle.{sector_device.{specs.{claim.Disk.Image, declared.SectorDevice.Ghosts}, proofs.Moments.leaves_now}, page_store.proofs.Stops.{leaves_here, leaves_quiet}}
-use Rattle.desk_pages.specs.declared.error.StoreError.TheVariants as store
-use Rattle.desk_theorem.specs.store_lives.declared.leading.Led.TheVariants as led
+use Rattle.{desk_store_pages.specs.{claim.Desks.OpensOld, declared.error.StoreError.StoreError}, desk_theorem.specs.lives.VersionInside.{StepsOn, LeadsOn, LedTo}}
+use Rattle.desk_theorem.specs.{lives.declared.leading.Led.Led, runs.desk_migration.{Puts.{FinishErr, StepErr}, declared.migration.Migration.Migration}}
+use Rattle.desk_theorem.specs.runs.desk_migration.claim.Migrating.{disk_of, has_ended, is_halted, sectors_of, Ends, Goes, Keeps, KeepsNew, Moves}
+use Rattle.{page_store.{specs.claim.Transactions.IsQuiet, proofs.Stops.{leaves_here, leaves_quiet}}, sector_device.specs.{claim.Disk.Image, declared.SectorDevice.Ghosts}}
+use Rattle.sector_device.proofs.Moments.{leaves_now}
+use Rattle.desk_store_pages.specs.declared.error.StoreError.TheVariants as store
+use Rattle.desk_theorem.specs.lives.declared.leading.Led.TheVariants as led
 
 module _ {D : Type 0} {g : Ghosts D} where
   -- ---- steps that met no fault

@@ -1,16 +1,17 @@
 -- Steps of a sweep, one after the other.
 use Rattle.std.{specs.Prelude.{Result, Ok, Err}, proofs.Common.{◌≡◌, ◌≤◌, ◌+◌, ℕ, [], ◌∷◌, Option, false, inl, inr, refl, sym, subst, ◌∙◌, arith}}
-use Rattle.{desk_loading.specs.Openings.IsOpened, desk_model.specs.claim.Desk.Desk, desk_pages.specs.declared.error.StoreError.StoreError, desk_runs.specs.Recovery.ImagesAreOne}
-use Rattle.desk_runs.specs.desk_store.{Sweeps.{HasRows, HasSwept as HasSweptStep, SweepRefused}, claim.Clerks.{desk_of, disk_of, pages_of, Keeps, Moves}}
-use Rattle.{desk_runs.specs.{desk_store.declared.clerk.Clerk.Clerk, plan_revisions_sweeps.Leftovers.IsSweptBy}, desk_theorem.specs.store_lives.declared.desk_lives.Answer.Answer}
-use Rattle.{desk_theorem.specs.store_lives.declared.desk_lives.{Answer.TheVariants.{Swept, Unswept}, Request.TheVariants.Sweep}, page_store.specs.claim.Transactions.device_in}
-use Rattle.{sector_device.specs.declared.SectorDevice.Ghosts, store_command.specs.{Faults.fault_of_store, Reading.ShowsWhatIsRead, declared.fault.StoreFault.StoreFault}}
+use Rattle.{desk_model.specs.claim.Desk.Desk, desk_store_pages.specs.declared.error.StoreError.StoreError, desk_store_rows.specs.claim.Rows.KeyMap}
+use Rattle.desk_theorem.specs.{claim.OneLife.RequestsHold, lives.{DeskInside.Sweeps as Answered, declared.desk_lives.Answer.{Answer, TheVariants.{Swept, Unswept}}}}
+use Rattle.desk_theorem.specs.{lives.declared.desk_lives.Request.TheVariants.Sweep, loading.Openings.IsOpened, runs.{Recovery.ImagesAreOne, desk_store.declared.clerk.Clerk.Clerk}}
+use Rattle.desk_theorem.specs.runs.desk_store.{Sweeps.{HasRows, HasSwept as HasSweptStep, SweepRefused}, claim.Clerks.{desk_of, disk_of, pages_of, Keeps, Moves}}
+use Rattle.{desk_theorem.specs.runs.plan_revisions_sweeps.Leftovers.IsSweptBy, page_store.specs.claim.Transactions.device_in, sector_device.specs.declared.SectorDevice.Ghosts}
+use Rattle.store_command.{specs.{Faults.fault_of_store, Reading.ShowsWhatIsRead, declared.fault.StoreFault.{StoreFault, TheVariants.NotAStore}}, proofs.Opened.asked_life}
 use Rattle.store_command.specs.Sweeping.{SweptLife, SweptOnce, KeepsDesk, HasTaken, HasSweptAll, IsChecked, IsStopped, SweepsAll, SweepsSteps, HasSwept, SweepsDevice}
-use Rattle.{store_command.specs.declared.fault.StoreFault.TheVariants.NotAStore, store_rows.specs.claim.Rows.KeyMap, desk_loading.proofs.Moves.then_moved}
-use Rattle.store_command.proofs.{Opened.asked_life, Used.{kept_left, left_same}}
-use Rattle.desk_theorem.{specs.{claim.OneLife.RequestsHold, store_lives.DeskInside.Sweeps as Answered}, proofs.{Asked.one_asked, store_lives.DeskLiving.swept_for}}
-use Rattle.desk_runs.proofs.plan_revisions_sweeps.Taken.{then_by}
-use Rattle.desk_runs.proofs.desk_store.Moved.{unmoved}
+use Rattle.{desk_theorem.proofs.Asked.one_asked, store_command.proofs.Used.{kept_left, left_same}}
+use Rattle.desk_theorem.proofs.loading.Moves.{then_moved}
+use Rattle.desk_theorem.proofs.lives.DeskLiving.{swept_for}
+use Rattle.desk_theorem.proofs.runs.plan_revisions_sweeps.Taken.{then_by}
+use Rattle.desk_theorem.proofs.runs.desk_store.Moved.{unmoved}
 
 module _ {D : Type 0} {g : Ghosts D} where
   pub none_kept : (x : Clerk D g) → KeepsDesk x x

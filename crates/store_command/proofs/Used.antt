@@ -1,13 +1,15 @@
 -- A device that was opened, used by the clerk, and given back.
 use Rattle.std.{specs.declared.{alloc.Global.Global, sync.Arc.Arc}, proofs.Common.{◌≡◌, ℕ, false, [], ◌∷◌, inl, inr, ⊎_elim, refl, sym, subst, ◌∙◌}}
-use Rattle.{desk_loading.{specs.{Loads.{IsLoaded, LoadRefused}, Openings.IsOpened}, proofs.Moves.OneOf}, desk_model.specs.claim.{Desk.Desk, Geography.GeographyModel}}
-use Rattle.{desk_pages.specs.{claim.Desks.OpensDesk, declared.error.StoreError.StoreError}, desk_runs.specs.{Recovery.ImagesAreOne, desk_store.Keeping.sealed_desk}}
-use Rattle.desk_runs.{specs.desk_store.{claim.Clerks.{desk_of, disk_of, pages_of, sectors_of, Keeps, Moves}, declared.clerk.Clerk.Clerk}, proofs.One.left_working}
-use Rattle.{desk_theorem.{specs.{claim.OneLife.RequestsHold, store_lives.DeskInside.Answers}, proofs.Asked.one_asked}, page_store.specs.claim.Transactions.device_in}
-use Rattle.sector_device.{specs.{claim.{Disk.{Disk, Image}, Moments.LeavesOnly}, declared.SectorDevice.Ghosts}, proofs.Moments.{leaves_more, leaves_wider}}
+use Rattle.{desk_model.specs.claim.{Desk.Desk, Geography.GeographyModel}, desk_store_pages.specs.{claim.Desks.OpensDesk, declared.error.StoreError.StoreError}}
+use Rattle.desk_theorem.specs.{claim.OneLife.RequestsHold, lives.{DeskInside.Answers, declared.desk_lives.Answer.{Answer, TheVariants.{Loaded, Unloaded}}}}
+use Rattle.desk_theorem.specs.{lives.declared.desk_lives.Request.TheVariants.Load, loading.{Loads.{IsLoaded, LoadRefused}, Openings.IsOpened}, runs.Recovery.ImagesAreOne}
+use Rattle.desk_theorem.specs.runs.desk_store.{Keeping.sealed_desk, claim.Clerks.{desk_of, disk_of, pages_of, sectors_of, Keeps, Moves}, declared.clerk.Clerk.Clerk}
+use Rattle.{page_store.specs.claim.Transactions.device_in, sector_device.specs.{claim.{Disk.{Disk, Image}, Moments.LeavesOnly}, declared.SectorDevice.Ghosts}}
 use Rattle.store_command.specs.{Filling.{HasDesk, HasLoaded, HasKept, LoadedOnce, OpensOr, WhereItReads}, Reading.{LeavesDesk, ReadsDesk, ShowsWhatIsRead}}
-use Rattle.store_command.proofs.Opened.{asked_life}
-use Rattle.desk_theorem.{specs.store_lives.declared.desk_lives.{Answer.{Answer, TheVariants.{Loaded, Unloaded}}, Request.TheVariants.Load}, proofs.store_lives.DeskLiving.{may_fail, may_refuse, refused_for}}
+use Rattle.{desk_theorem.proofs.Asked.one_asked, sector_device.proofs.Moments.{leaves_more, leaves_wider}, store_command.proofs.Opened.asked_life}
+use Rattle.desk_theorem.proofs.loading.Moves.{OneOf}
+use Rattle.desk_theorem.proofs.runs.One.{left_working}
+use Rattle.desk_theorem.proofs.lives.DeskLiving.{may_fail, may_refuse, refused_for}
 
 module _ {D : Type 0} {g : Ghosts D} (device : D) (x y : Clerk D g) (opened : IsOpened device x) (shows : ShowsWhatIsRead device x) where
   abbrev old : Disk

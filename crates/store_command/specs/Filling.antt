@@ -1,9 +1,9 @@
 -- A store that is filled with a geography.
 use Rattle.std.specs.{Prelude.{◌≡◌, ◌⊎◌, ℕ, false, [], ◌∷◌, Result, Ok, Err}, declared.{alloc.Global.Global, sync.Arc.Arc}}
-use Rattle.{desk_loading.specs.{Loads.{IsLoaded, LoadRefused}, Openings.{IsOpened, IsUnopened}}, desk_model.specs.claim.{Desk.Desk, Geography.GeographyModel}}
-use Rattle.{desk_pages.specs.{claim.Desks.OpensDesk, declared.error.StoreError.StoreError}, desk_runs.specs.desk_store.{Keeping.sealed_desk, declared.clerk.Clerk.Clerk}}
-use Rattle.{desk_runs.specs.desk_store.claim.Clerks.{desk_of, is_halted, pages_of}, desk_theorem.specs.claim.{Device.OnDevice, OneLife.{Asked, RequestsHold, UnopenedHolds}}}
-use Rattle.desk_theorem.specs.store_lives.declared.desk_lives.{Answer.{Answer, TheVariants.{Loaded, Unloaded}}, Request.TheVariants.Load}
+use Rattle.{desk_model.specs.claim.{Desk.Desk, Geography.GeographyModel}, desk_store_pages.specs.{claim.Desks.OpensDesk, declared.error.StoreError.StoreError}}
+use Rattle.desk_theorem.specs.{claim.{Device.OnDevice, OneLife.{Asked, RequestsHold, UnopenedHolds}}, lives.declared.desk_lives.Answer.{Answer, TheVariants.{Loaded, Unloaded}}}
+use Rattle.desk_theorem.specs.{lives.declared.desk_lives.Request.TheVariants.Load, loading.{Loads.{IsLoaded, LoadRefused}, Openings.{IsOpened, IsUnopened}}}
+use Rattle.desk_theorem.specs.runs.desk_store.{Keeping.sealed_desk, claim.Clerks.{desk_of, is_halted, pages_of}, declared.clerk.Clerk.Clerk}
 use Rattle.{page_store.specs.claim.Transactions.device_in, sector_device.specs.{claim.{Disk.{Disk, Image}, Moments.LeavesOnly}, declared.SectorDevice.Ghosts}}
 use Rattle.store_command.specs.{Faults.fault_of_store, Reading.{ReadsDesk, RefusesWhatIsRead, ShowsWhatIsRead}, declared.fault.StoreFault.StoreFault}
 

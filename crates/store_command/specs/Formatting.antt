@@ -1,7 +1,7 @@
 -- A store that is made.
 use Rattle.std.specs.{Prelude.{◌≡◌, ◌⊎◌, ◌≤◌, ◌<◌, ◌+◌, ◌*◌, ℕ, Bool, List, codes, Result, Ok, Err, Vec}, declared.alloc.Global.Global}
-use Rattle.{command_output.specs.{claim.Writing.{Written, Told, write_fault_line}, declared.status.Status.Status}, desk_pages.specs.Formats.{OpensNew, HasJournal, FormatErr}}
-use Rattle.{desk_pages.specs.declared.error.StoreError.StoreError, page_store.specs.gate_journal.claim.Store.home, sector_device.specs.declared.SectorDevice.Ghosts}
+use Rattle.{command_output.specs.{claim.Writing.{Written, Told, write_fault_line}, declared.status.Status.Status}, desk_store_pages.specs.Formats.{OpensNew, HasJournal, FormatErr}}
+use Rattle.{desk_store_pages.specs.declared.error.StoreError.StoreError, page_store.specs.gate_journal.claim.Store.home, sector_device.specs.declared.SectorDevice.Ghosts}
 use Rattle.store_command.specs.{Faults.fault_of_store, Telling.EndsStore, Texts.{formatted_text, size_line}, declared.fault.StoreFault.{StoreFault, TheVariants.{TooSmall, Memory}}}
 
 -- The bytes of a file are told where they are 1,000,000,000 or more, as far as the writer writes them, and else nothing is.

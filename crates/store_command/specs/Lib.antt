@@ -7,9 +7,9 @@ pub mod Reading
 pub mod Texts
 pub mod Sweeping
 pub mod Using
-pub use Rattle.desk_loading.specs as desk_loading
-pub use Rattle.desk_runs.specs as desk_runs
-pub use Rattle.desk_runs.specs.desk_store
+pub use Rattle.desk_theorem.specs.loading as desk_theorem_loading
+pub use Rattle.desk_theorem.specs.runs as desk_theorem_runs
+pub use Rattle.desk_theorem.specs.runs.desk_store
 pub use Rattle.desk_theorem.specs as desk_theorem
 pub use Rattle.store_command.specs.claim.Faults
 pub use Rattle.store_command.specs.claim.Telling

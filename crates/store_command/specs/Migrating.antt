@@ -1,14 +1,14 @@
 -- A store of the old version that is led to the new one.
 use Rattle.std.specs.{Prelude.{◌≡◌, ◌⊎◌, ◌≤◌, ◌+◌, ◌*◌, ◌^◌, ℕ, List, codes, true, false, Result, Ok, Err, Vec}, declared.alloc.Global.Global}
-use Rattle.{command_output.specs.{claim.Writing.{Written, write_fault_line}, declared.status.Status.Status}, desk_model.specs.claim.Desk.Desk, desk_pages.specs.Openings.IsSpared}
-use Rattle.desk_pages.specs.{claim.{Desks.{OpensEither, OpensOld}, Openings.{AllVersions, IsOneOld, OpensOneAs}}, declared.error.StoreError.StoreError}
-use Rattle.desk_runs.specs.desk_migration.{Openings.{IsFound, IsRefused}, Puts.{FinishErr, StepErr}, claim.Holding.IsHeldBy, declared.migration.Migration.Migration}
-use Rattle.desk_runs.specs.desk_migration.claim.Migrating.{device_of, disk_of, has_ended, is_halted, sectors_of, Ends, HasRows, Keeps, KeepsNew, Moves}
-use Rattle.{desk_theorem.specs.claim.{Device.OnDevice, OneLife.LedHolds}, sector_device.specs.{claim.{Disk.{Disk, Image}, Moments.LeavesOnly}, declared.SectorDevice.Ghosts}}
-use Rattle.store_command.specs.{Faults.fault_of_store, Filling.HasDesk, Reading.{BarsWhatIsRead, BeginsAtWhatIsRead, ReadsOld}, Telling.EndsStore, Texts.rows_text, Using.Uses}
-use Rattle.{store_command.specs.declared.fault.StoreFault.{StoreFault, TheVariants.NotAStore}, store_rows.specs.claim.Rows.KeyMap}
-use Rattle.desk_pages.specs.declared.error.StoreError.TheVariants as store
-use Rattle.desk_theorem.specs.store_lives.declared.leading.Led.TheVariants as led
+use Rattle.{command_output.specs.{claim.Writing.{Written, write_fault_line}, declared.status.Status.Status}, desk_model.specs.claim.Desk.Desk, store_command.specs.Filling.HasDesk}
+use Rattle.desk_store_pages.specs.{Openings.IsSpared, claim.{Desks.{OpensEither, OpensOld}, Openings.{AllVersions, IsOneOld, OpensOneAs}}, declared.error.StoreError.StoreError}
+use Rattle.{desk_store_rows.specs.claim.Rows.KeyMap, desk_theorem.specs.{claim.{Device.OnDevice, OneLife.LedHolds}, runs.desk_migration.Openings.{IsFound, IsRefused}}}
+use Rattle.{desk_theorem.specs.runs.desk_migration.{Puts.{FinishErr, StepErr}, claim.Holding.IsHeldBy, declared.migration.Migration.Migration}, store_command.specs.Texts.rows_text}
+use Rattle.desk_theorem.specs.runs.desk_migration.claim.Migrating.{device_of, disk_of, has_ended, is_halted, sectors_of, Ends, HasRows, Keeps, KeepsNew, Moves}
+use Rattle.{sector_device.specs.{claim.{Disk.{Disk, Image}, Moments.LeavesOnly}, declared.SectorDevice.Ghosts}, store_command.specs.{Faults.fault_of_store, Telling.EndsStore}}
+use Rattle.store_command.specs.{Reading.{BarsWhatIsRead, BeginsAtWhatIsRead, ReadsOld}, Using.Uses, declared.fault.StoreFault.{StoreFault, TheVariants.NotAStore}}
+use Rattle.desk_store_pages.specs.declared.error.StoreError.TheVariants as store
+use Rattle.desk_theorem.specs.lives.declared.leading.Led.TheVariants as led
 
 -- what is printed of so many rows that were put
 abbrev pub migrated_text : ℕ → List ℕ

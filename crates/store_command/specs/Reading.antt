@@ -1,11 +1,11 @@
 -- What comes of a device by what it reads as. A stop leaves what a synced device reads, so nothing here is said of what else a stop
 -- may leave.
 use Rattle.std.specs.Prelude.{◌≡◌, ◌≢◌, ℕ}
-use Rattle.{desk_model.specs.claim.Desk.Desk, desk_pages.specs.{claim.Desks.{OpensDesk, OpensOld, OpensEither}, declared.error.StoreError.StoreError}}
-use Rattle.{desk_pages.specs.declared.error.StoreError.TheVariants.{NotAStore, OldVersion, AlreadyNew}, desk_runs.specs.claim.{Lives.{Life, left_by, Finds}, Recovery.HoldsEither}}
-use Rattle.desk_runs.specs.desk_migration.{claim.Migrating.{disk_of as migrated_disk, Keeps as KeepsOld}, declared.migration.Migration.Migration}
-use Rattle.{desk_runs.specs.desk_store.{claim.Clerks.{desk_of, disk_of, Keeps}, declared.clerk.Clerk.Clerk}, sector_device.specs.{Disk.IsSynced, claim.Disk.Disk}}
-use Rattle.sector_device.specs.{claim.Moments.LeavesOnly, declared.SectorDevice.Ghosts}
+use Rattle.{desk_model.specs.claim.Desk.Desk, desk_store_pages.specs.{claim.Desks.{OpensDesk, OpensOld, OpensEither}, declared.error.StoreError.StoreError}}
+use Rattle.{desk_store_pages.specs.declared.error.StoreError.TheVariants.{NotAStore, OldVersion, AlreadyNew}, desk_theorem.specs.runs.claim.Lives.{Life, left_by, Finds}}
+use Rattle.desk_theorem.specs.runs.{claim.Recovery.HoldsEither, desk_migration.claim.Migrating.{disk_of as migrated_disk, Keeps as KeepsOld}, desk_store.declared.clerk.Clerk.Clerk}
+use Rattle.{desk_theorem.specs.runs.{desk_migration.declared.migration.Migration.Migration, desk_store.claim.Clerks.{desk_of, disk_of, Keeps}}, sector_device.specs.Disk.IsSynced}
+use Rattle.sector_device.specs.{claim.{Disk.Disk, Moments.LeavesOnly}, declared.SectorDevice.Ghosts}
 
 -- what the device reads opens to the desk, in the new version or in the old one
 abbrev pub ReadsDesk : Disk → Desk → Type 0

@@ -1,13 +1,13 @@
 -- A store that is swept until nothing is left to be taken out.
 use Rattle.std.specs.{Prelude.{◌≡◌, ◌⊎◌, ◌≤◌, ◌^◌, ℕ, List, [], ◌∷◌, codes, false, Result, Ok, Err, Vec}, declared.alloc.Global.Global}
-use Rattle.{command_output.specs.{claim.Writing.{Written, write_fault_line}, declared.status.Status.Status}, desk_loading.specs.Openings.IsOpened, store_command.specs.Using.Uses}
-use Rattle.{desk_pages.specs.declared.error.StoreError.StoreError, desk_runs.specs.desk_store.{Sweeps.{HasRows, IsClean, SweepRefused}, declared.clerk.Clerk.Clerk}}
-use Rattle.desk_runs.specs.{desk_store.claim.Clerks.{desk_of, disk_of, is_halted, pages_of, Moves}, plan_revisions_sweeps.{Leftovers.IsSweptBy, claim.Checks.AreSoundHoldings}}
-use Rattle.desk_theorem.specs.{claim.{Device.OnDevice, OneLife.{Asked, RequestsHold}}, store_lives.declared.desk_lives.Answer.{Answer, TheVariants.{Swept, Unswept}}}
-use Rattle.{desk_theorem.specs.store_lives.declared.desk_lives.Request.TheVariants.Sweep, page_btree.specs.gets.claim.Map.InPages as HoldsRows, sector_device.specs.claim.Disk.Disk}
-use Rattle.{page_store.specs.claim.Transactions.{device_in, IsQuiet}, sector_device.specs.declared.SectorDevice.Ghosts, store_command.specs.Faults.fault_of_store}
-use Rattle.store_command.specs.{Filling.{HasDesk, IsNotOpened, WhereItReads}, Reading.{LeavesDesk, ShowsWhatIsRead}, Telling.EndsStore, Texts.rows_text}
-use Rattle.{store_command.specs.declared.fault.StoreFault.{StoreFault, TheVariants.NotAStore}, store_rows.specs.claim.Rows.KeyMap}
+use Rattle.{command_output.specs.{claim.Writing.{Written, write_fault_line}, declared.status.Status.Status}, desk_store_pages.specs.declared.error.StoreError.StoreError}
+use Rattle.{desk_store_rows.specs.claim.Rows.KeyMap, desk_theorem.specs.{claim.{Device.OnDevice, OneLife.{Asked, RequestsHold}}, lives.declared.desk_lives.Answer.Answer}}
+use Rattle.desk_theorem.specs.{lives.declared.desk_lives.{Answer.TheVariants.{Swept, Unswept}, Request.TheVariants.Sweep}, loading.Openings.IsOpened}
+use Rattle.desk_theorem.specs.runs.desk_store.{Sweeps.{HasRows, IsClean, SweepRefused}, claim.Clerks.{desk_of, disk_of, is_halted, pages_of, Moves}, declared.clerk.Clerk.Clerk}
+use Rattle.{desk_theorem.specs.runs.plan_revisions_sweeps.{Leftovers.IsSweptBy, claim.Checks.AreSoundHoldings}, page_btree.specs.gets.claim.Map.InPages as HoldsRows}
+use Rattle.{page_store.specs.claim.Transactions.{device_in, IsQuiet}, sector_device.specs.{claim.Disk.Disk, declared.SectorDevice.Ghosts}, store_command.specs.Telling.EndsStore}
+use Rattle.store_command.specs.{Faults.fault_of_store, Filling.{HasDesk, IsNotOpened, WhereItReads}, Reading.{LeavesDesk, ShowsWhatIsRead}, Texts.rows_text, Using.Uses}
+use Rattle.store_command.specs.declared.fault.StoreFault.{StoreFault, TheVariants.NotAStore}
 
 -- what is printed of so many rows that were taken out or changed
 abbrev pub swept_text : ℕ → List ℕ

@@ -2,7 +2,7 @@
 ghost use Rattle.std.specs.Prelude.{◌≡◌};
 ghost use Rattle.store_command.specs.Faults.{fault_of_store};
 
-use desk_pages::StoreError;
+use desk_store_pages::StoreError;
 use std::alloc::AllocError;
 
 /// Why a store isn't made, filled, swept or migrated.

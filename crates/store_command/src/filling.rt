@@ -1,16 +1,14 @@
 //! Fills a store with a geography.
 ghost use Rattle.std.specs.Prelude.{IfOk, IfErr};
 ghost use Rattle.sector_device.specs.Disk.{IsSynced};
-ghost use Rattle.desk_loading.specs.Openings.{IsOpened};
+ghost use Rattle.desk_theorem.specs.loading.Openings.{IsOpened};
 ghost use Rattle.store_command.specs.Reading.{ShowsWhatIsRead};
 ghost use Rattle.store_command.specs.Filling.{IsNotOpened, FillsDevice};
 
 use crate::fault::{StoreFault, store_fault};
 use byte_stream::progress::Progress;
-use desk_loading::{load_geography, open_store};
 use desk_model::geography::Geography;
-use desk_runs::Clerk;
-use desk_runs::desk_law::one_desk_opens;
+use desk_theorem::{Clerk, load_geography, one_desk_opens, open_store};
 use sector_device::SectorDevice;
 use std::alloc::Global;
 use std::sync::Arc;

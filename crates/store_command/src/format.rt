@@ -51,7 +51,7 @@ fn make_store<D: SectorDevice + Drop, O: Stores<D>, E: Sink>(
     let text = formatted_text(alloc, with_bytes, sectors, journal_pages)?;
     tell_size(alloc, sectors, errors)?;
     let mut device = stores.make(name, sectors)?;
-    let formatted = desk_pages::format(alloc, &mut device, journal_pages);
+    let formatted = desk_store_pages::format(alloc, &mut device, journal_pages);
     stores.close(device);
     match formatted {
         Ok(()) => Ok(text),

@@ -35,4 +35,4 @@ mod sweeping;
 pub mod telling;
 mod texts;
 
-pub use desk_runs::{Clerk, desk_law, swept_law};
+pub use desk_theorem::{Clerk, one_desk_opens, swept_law};

@@ -29,8 +29,8 @@ pub struct StateFiles<R> {
     pub gal: Result<R, OpenFault>,
 }
 
-/// The geography that the files say, or their first fault.
-fn read_geography<R: Source>(
+/// Returns the geography that the files say, or their first fault.
+pub fn read_geography<R: Source>(
     alloc: Global,
     files: &mut StateFiles<R>,
 ) -> Result<Geography, FileFault>

@@ -12,7 +12,7 @@ use crate::texts::{put_rows, room_for_text};
 use byte_stream::progress::Progress;
 use byte_stream::sink::Sink;
 use command_output::status::Status;
-use desk_runs::desk_law::one_desk_opens;
+use desk_theorem::one_desk_opens;
 use sector_device::SectorDevice;
 use std::alloc::Global;
 

@@ -1,14 +1,13 @@
 //! Leads a store of the old version to the new one by as many steps as it takes.
 ghost use Rattle.std.specs.Prelude.{◌≡◌, ◌≤◌, ◌^◌, false, IfOk, IfErr};
 ghost use Rattle.sector_device.specs.Disk.{IsSynced};
-ghost use Rattle.desk_runs.specs.desk_migration.claim.Migrating.{is_halted, Moves};
+ghost use Rattle.desk_theorem.specs.runs.desk_migration.claim.Migrating.{is_halted, Moves};
 ghost use Rattle.store_command.specs.Reading.{BeginsAtWhatIsRead};
 ghost use Rattle.store_command.specs.Migrating.{IsBegun, IsNotBegun, PutsAll, MigratesAll};
 
 use crate::fault::{StoreFault, store_fault};
 use byte_stream::progress::Progress;
-use desk_runs::Migration;
-use desk_runs::desk_law::one_desk_opens;
+use desk_theorem::{Migration, one_desk_opens};
 use sector_device::SectorDevice;
 use std::alloc::Global;
 

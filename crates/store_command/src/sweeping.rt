@@ -1,11 +1,11 @@
 //! Sweeps a store by as many steps as it takes.
 ghost use Rattle.std.specs.Prelude.{◌≡◌, false};
-ghost use Rattle.desk_runs.specs.desk_store.claim.Clerks.{is_halted};
+ghost use Rattle.desk_theorem.specs.runs.desk_store.claim.Clerks.{is_halted};
 ghost use Rattle.store_command.specs.Sweeping.{KeepsDesk, SweepsAll, SweepsSteps};
 
 use crate::fault::{StoreFault, store_fault};
 use byte_stream::progress::Progress;
-use desk_runs::Clerk;
+use desk_theorem::Clerk;
 use sector_device::SectorDevice;
 use std::alloc::Global;
 

@@ -3,7 +3,7 @@ use Rattle.{std.{specs.Prelude.{Option, IfSome}, proofs.Common.{◌≡◌, ◌+�
 use Rattle.page_store.specs.{claim.Transactions.{stored, disk_in, device_in, count_of, journal_of, has_halted, IsQuiet}, declared.pages.Pages.Pages, gate_journal.claim.Store.home}
 use Rattle.{page_store.specs.gate_journal.{Recovery.{Found, HasRoom}, declared.error.PageError.PageError}, sector_device.specs.claim.Disk.{Disk, Image}}
 use Rattle.{sector_device.specs.declared.SectorDevice.Ghosts, store_verification.specs.{Looking.{IsLookOf, IsUnopened, LooksAs, LooksBy}, declared.look.Look.Look}}
-use Rattle.{store_verification.specs.declared.look.Look.TheVariants.{Sound, Unsound, Failed}, desk_pages.proofs.Found.found_after}
+use Rattle.{store_verification.specs.declared.look.Look.TheVariants.{Sound, Unsound, Failed}, desk_store_pages.proofs.Found.found_after}
 
 -- pages that were read keep the size of their device
 same_sectors : {D : Type 0} (g : Ghosts D) (a b : Pages D g) → IsQuiet a b → (disk_in b).sectors ≡ (disk_in a).sectors

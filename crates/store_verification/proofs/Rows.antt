@@ -1,8 +1,8 @@
 -- What is read of a desk and its rows while pages are only read.
-use Rattle.{std.{specs.Prelude.{Option, Some, None, is_some}, proofs.Common.{◌≡◌, ℕ, List, Bool, true, false, sym, subst}}, desk_opening.specs.Checking.TellsDesk}
+use Rattle.{std.{specs.Prelude.{Option, Some, None, is_some}, proofs.Common.{◌≡◌, ℕ, List, Bool, true, false, sym, subst}}, desk_store_opening.specs.Checking.TellsDesk}
 use Rattle.{desk_model.specs.declared.ranges.CountyRange.CountyRange, desk_store.specs.plan_revisions_sweeps.claim.Checks.AreSoundHoldings, page_btree.specs.gets.claim.Map.InTxn}
-use Rattle.{page_store.specs.{claim.Transactions.{stored, disk_in, count_of, IsQuiet}, declared.{pages.Pages.Pages, txn.Txn.Txn}}, sector_device.specs.claim.Disk.Image}
-use Rattle.{sector_device.specs.declared.SectorDevice.Ghosts, store_rows.specs.claim.{Keys.version, Rows.{KeyMap, row_in}, Tidy.version_row}}
+use Rattle.{desk_store_rows.specs.claim.{Keys.version, Rows.{KeyMap, row_in}, Tidy.version_row}, page_store.specs.claim.Transactions.{stored, disk_in, count_of, IsQuiet}}
+use Rattle.{page_store.specs.declared.{pages.Pages.Pages, txn.Txn.Txn}, sector_device.specs.{claim.Disk.Image, declared.SectorDevice.Ghosts}}
 use Rattle.{store_verification.specs.Looking.{Finds, OfRows, TellsNewDesk, TellsRows}, store_verification_rows.specs.{Strays.IsChecked, declared.wrong.WrongRow.WrongRow}}
 use Rattle.desk_store.proofs.Prepared.{IsBegun, begun_rows}
 

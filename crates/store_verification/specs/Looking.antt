@@ -1,12 +1,12 @@
 -- What readers of a device find of its store.
 use Rattle.std.specs.{Prelude.{◌≡◌, ◌⊎◌, ◌<◌, ℕ, Bool, true, false, List, Option, Some, IfSome, Vec}, declared.alloc.Global.Global}
-use Rattle.{desk_model.specs.{Ranges.ranges_in, claim.Desk.Desk, declared.ranges.CountyRange.CountyRange}, desk_opening.specs.Checking.TellsDesk}
-use Rattle.{desk_store.specs.{desk_opening.Opening.IsReadFrom, plan_revisions_sweeps.claim.Checks.AreSoundHoldings}, page_btree.specs.checks.Owners.AreOwned}
-use Rattle.{page_btree.specs.gets.claim.Map.Holds, page_store.specs.claim.{Chain.{root_in, free_in}, Transactions.{stored, disk_in, count_of, IsQuiet}}}
-use Rattle.page_store.specs.{declared.pages.Pages.Pages, gate_journal.{Recovery.{Found, HasRoom}, claim.Store.{header_of, pages}, declared.error.PageError.PageError}}
-use Rattle.{sector_device.specs.{claim.Disk.{Disk, Image}, declared.SectorDevice.Ghosts}, store_rows.specs.claim.{Keys.{version, in_four}, Rows.{KeyMap, Has}}}
-use Rattle.{store_verification.specs.declared.{jobs.SeenRows.SeenRows, look.Look.{Look, TheVariants.{Sound, Unsound, Failed}}}, store_verification_rows.specs.Strays.AllBelong}
-use Rattle.store_verification_rows.specs.Wholes.{AreWhole}
+use Rattle.{desk_model.specs.{Ranges.ranges_in, claim.Desk.Desk, declared.ranges.CountyRange.CountyRange}, desk_store.specs.desk_store_opening.Opening.IsReadFrom}
+use Rattle.{desk_store.specs.plan_revisions_sweeps.claim.Checks.AreSoundHoldings, desk_store_opening.specs.Checking.TellsDesk, desk_store_rows.specs.claim.Keys.{version, in_four}}
+use Rattle.{desk_store_rows.specs.claim.Rows.{KeyMap, Has}, page_btree.specs.{checks.Owners.AreOwned, gets.claim.Map.Holds}, page_store.specs.claim.Chain.{root_in, free_in}}
+use Rattle.page_store.specs.{claim.Transactions.{stored, disk_in, count_of, IsQuiet}, declared.pages.Pages.Pages, gate_journal.Recovery.{Found, HasRoom}}
+use Rattle.{page_store.specs.gate_journal.{claim.Store.{header_of, pages}, declared.error.PageError.PageError}, sector_device.specs.claim.Disk.{Disk, Image}}
+use Rattle.{sector_device.specs.declared.SectorDevice.Ghosts, store_verification.specs.declared.{jobs.SeenRows.SeenRows, look.Look.{Look, TheVariants.{Sound, Unsound, Failed}}}}
+use Rattle.store_verification_rows.specs.{Strays.AllBelong, Wholes.AreWhole}
 use Rattle.page_store.specs.gate_journal.declared.error.PageError.TheVariants as page
 
 -- ---- what is found in pages, which are so many

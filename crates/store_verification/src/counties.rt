@@ -4,11 +4,11 @@ ghost use Rattle.page_store.specs.claim.Transactions.{count_of, txn_pages, IsQui
 
 use btree_scan::{row_limit, scan};
 use desk_model::ranges::CountyRange;
-use desk_pages::get_row;
+use desk_store_pages::get_row;
+use desk_store_rows::{Key, SealRow, read_block};
 use page_store::{Pages, Txn};
 use sector_device::SectorDevice;
 use std::alloc::Global;
-use store_rows::{Key, SealRow, read_block};
 
 /// Counties so far, and the number of the last one.
 #[derive(Drop)]

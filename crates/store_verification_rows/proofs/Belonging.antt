@@ -1,13 +1,13 @@
 -- Rows that belong to a store.
 use Rattle.{std.specs.{FinMap.{entries, get}, List.AllByRecursion, Prelude.{Option, Result, Err, IsErrAnd}}, btree_scan.specs.{Prefixes.under, declared.rows.Row.Row}}
 use Rattle.{std.proofs.Common.{◌≡◌, ℕ, List, [], Bool, true, false, Some, None, Ok, refl, sym, ap, subst, ◌∙◌}, btree_scan.specs.Scanning.{TakesNextRow, fault_in, has_ended}}
-use Rattle.{btree_scan.{specs.declared.scans.RowScan.RowScan, proofs.RowsFound.all_found}, desk_model.specs.declared.ranges.CountyRange.CountyRange, desk_pages.specs.Looking.Looks}
-use Rattle.{page_btree.specs.{gets.declared.error.TreeError.TreeError, node.claim.Entries.Entry}, page_store.specs.{claim.Transactions.{IsQuiet, Passed}, declared.txn.Txn.Txn}}
-use Rattle.{page_store.specs.declared.pages.Pages.Pages, sector_device.specs.declared.SectorDevice.Ghosts, store_rows.specs.{RowKeys.IsKey, claim.Keys.{RowKey, key_of, part}}}
-use Rattle.{store_rows.{specs.claim.{Lists.{AreChunks, chunks_bytes}, Rows.KeyMap}, proofs.ListLaws.chunks_differ}, store_verification_rows.specs.declared.wrong.Wrong.Wrong}
+use Rattle.{btree_scan.specs.declared.scans.RowScan.RowScan, desk_model.specs.declared.ranges.CountyRange.CountyRange, desk_store_pages.specs.Looking.Looks}
+use Rattle.{desk_store_rows.specs.{RowKeys.IsKey, claim.{Keys.{RowKey, key_of, part}, Lists.{AreChunks, chunks_bytes}, Rows.KeyMap}}, page_btree.specs.node.claim.Entries.Entry}
+use Rattle.{page_btree.specs.gets.declared.error.TreeError.TreeError, page_store.specs.{claim.Transactions.{IsQuiet, Passed}, declared.{pages.Pages.Pages, txn.Txn.Txn}}}
+use Rattle.{sector_device.specs.declared.SectorDevice.Ghosts, store_verification_rows.specs.declared.wrong.Wrong.Wrong, btree_scan.proofs.RowsFound.all_found}
 use Rattle.store_verification_rows.{specs.Strays.{AllBelong, Belongs, IsAny, IsJudged, IsNamed, IsNaming, IsRight, IsStray, IsWrong, NamesAt, Tells}, proofs.KeyBytes.at_row}
-use Rattle.{btree_scan.proofs.Walked.{HasNext, HasWalked, walk_next, walk_passed}, desk_pages.proofs.Looking.{fails, looked}, store_rows.proofs.RowLaws.keys_differ}
-use Rattle.store_verification_rows.proofs.Whole.{get_is}
+use Rattle.{btree_scan.proofs.Walked.{HasNext, HasWalked, walk_next, walk_passed}, desk_store_pages.proofs.Looking.{fails, looked}, desk_store_rows.proofs.ListLaws.chunks_differ}
+use Rattle.{desk_store_rows.proofs.RowLaws.keys_differ, store_verification_rows.proofs.Whole.get_is}
 
 module _ (ranges : List CountyRange) (m : KeyMap) (key value : List ℕ) where
   pub judged : (row : RowKey) → IsKey row key → (wrong : Option Wrong) → Tells (Belongs ranges m row value) wrong → IsJudged ranges (key, value) m wrong

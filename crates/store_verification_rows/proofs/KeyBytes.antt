@@ -1,5 +1,5 @@
 -- Rows by the bytes of their keys.
-use Rattle.{std.proofs.Common.{◌≡◌, ℕ, List, sym, subst, ◌∙◌}, store_rows.{specs.{RowKeys.IsKey, claim.Keys.{RowKey, key_of, Fits}}, proofs.RowLaws.keys_differ}}
+use Rattle.{std.proofs.Common.{◌≡◌, ℕ, List, sym, subst, ◌∙◌}, desk_store_rows.{specs.{RowKeys.IsKey, claim.Keys.{RowKey, key_of, Fits}}, proofs.RowLaws.keys_differ}}
 use Rattle.store_verification_rows.specs.Wholes.{IsWhole, SaysSo}
 
 -- a row with a key is one

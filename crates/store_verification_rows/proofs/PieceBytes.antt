@@ -1,6 +1,6 @@
 -- Bytes of a piece of a chunk.
 use Rattle.std.{specs.Prelude.All, proofs.Common.{◌≡◌, ◌<◌, ◌+◌, ◌*◌, ◌/◌, ◌%◌, ◌^◌, ℕ, zero, suc, List, [], ◌∷◌, ◌++◌, length, get_or, refl, ap, arith}}
-use Rattle.{std.proofs.lemmas.List.Elements.{All-cons, All-nil}, store_rows.specs.claim.{Keys.in_two, Lists.districts_bytes}}
+use Rattle.{std.proofs.lemmas.List.Elements.{All-cons, All-nil}, desk_store_rows.specs.claim.{Keys.in_two, Lists.districts_bytes}}
 
 -- so many districts have these bytes
 pub record AreTwos (count : ℕ) (bytes : List ℕ) : Type 0 where

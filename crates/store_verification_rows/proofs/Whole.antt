@@ -1,6 +1,6 @@
 -- All rows say what they are.
 use Rattle.{std.{specs.{FinMap.{entries, find, get}, List.AllByRecursion}, proofs.Common.{◌≡◌, ℕ, List, [], length, Some, refl, sym, ap, ◌∙◌}}, btree_scan.specs.Prefixes.under}
-use Rattle.{page_btree.specs.node.claim.{Entries.Entry, Places.key_cmp}, store_rows.specs.claim.{Keys.{RowKey, key_of, Fits, part, chunk}, Rows.{KeyMap, Has}, Tidy.Tidy}}
+use Rattle.{desk_store_rows.specs.claim.{Keys.{RowKey, key_of, Fits, part, chunk}, Rows.{KeyMap, Has}, Tidy.Tidy}, page_btree.specs.node.claim.{Entries.Entry, Places.key_cmp}}
 use Rattle.{store_verification_rows.specs.Wholes.{AllSay, AreWhole, IsWhole, SaysSo}, btree_scan.proofs.Ready.{under_nothing as under_all, all_under}}
 use Rattle.btree_scan.proofs.RowsFound.{all_found, found_among}
 

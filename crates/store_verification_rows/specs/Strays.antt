@@ -1,9 +1,9 @@
 -- Rows that belong to a store: what a row is of is there, and its value is one that such a row has.
 use Rattle.std.specs.{FinMap.get as row_at, Prelude.{◌≡◌, ◌⊎◌, ◌<◌, ◌+◌, ◌*◌, ◌^◌, ℕ, Bool, true, false, List, [], length, get_or, Option, Some, None, IfSome}}
 use Rattle.{btree_scan.specs.declared.rows.Row.Row, desk_model.specs.declared.{block.BlockRow.BlockRow, ranges.CountyRange.CountyRange}, page_btree.specs.node.claim.Entries.Entry}
-use Rattle.store_rows.specs.claim.{Keys.{RowKey, key_of, Fits, counters, retired, begun, holding, holder_count, named, part, seal, version, block, pair, chunk}, Rows.{KeyMap, Has}}
-use Rattle.{store_rows.specs.claim.{Lists.{AreChunks, chunks_bytes}, Values.{block_bytes, pair_bytes}}, store_verification_rows.specs.{Wholes.AreWhole, declared.wrong.Wrong.Wrong}}
-use Rattle.store_verification_rows.specs.declared.wrong.WrongRow.{WrongRow}
+use Rattle.desk_store_rows.specs.claim.Keys.{RowKey, key_of, Fits, counters, retired, begun, holding, holder_count, named, part, seal, version, block, pair, chunk}
+use Rattle.{desk_store_rows.specs.claim.{Lists.{AreChunks, chunks_bytes}, Rows.{KeyMap, Has}, Values.{block_bytes, pair_bytes}}, store_verification_rows.specs.Wholes.AreWhole}
+use Rattle.store_verification_rows.specs.declared.wrong.{Wrong.Wrong, WrongRow.WrongRow}
 
 abbrev pub no_county : CountyRange
 no_county = record { first = 0; count = 0 }

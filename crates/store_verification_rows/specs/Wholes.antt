@@ -1,7 +1,7 @@
 -- Rows that say what they are.
 use Rattle.std.specs.{FinMap.{entries, get}, Prelude.{◌≡◌, ℕ, List, length, Some}}
-use Rattle.{desk_opening.specs.tidy.Rows.{IsPast, IsRow}, page_btree.specs.node.claim.Entries.Entry, store_rows.specs.claim.{Rows.{KeyMap, Has}, Tidy.{IsPart, IsPiece}}}
-use Rattle.store_rows.specs.claim.Keys.{RowKey, key_of, Fits, counters, retired, begun, holding, holder_count, named, part, seal, version, block, pair, chunk}
+use Rattle.{desk_store_opening.specs.tidy.Rows.{IsPast, IsRow}, desk_store_rows.specs.claim.{Rows.{KeyMap, Has}, Tidy.{IsPart, IsPiece}}, page_btree.specs.node.claim.Entries.Entry}
+use Rattle.desk_store_rows.specs.claim.Keys.{RowKey, key_of, Fits, counters, retired, begun, holding, holder_count, named, part, seal, version, block, pair, chunk}
 
 -- a part of a revision names chunks, and a piece of a chunk has districts
 abbrev pub SaysSo : RowKey → List ℕ → Type 0

@@ -1,6 +1,6 @@
 //! Numbers that are noted of rows that were read.
 
-use desk_pages::TreeError;
+use desk_store_pages::TreeError;
 use std::collections::BTreeMap;
 
 /// The number for a plan and a chunk.

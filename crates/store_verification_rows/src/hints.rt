@@ -4,12 +4,12 @@ ghost use Rattle.page_store.specs.claim.Transactions.{count_of, txn_pages, IsQui
 
 use crate::facts::pair_of;
 use btree_scan::{Row, row_limit, scan};
-use desk_pages::TreeError;
+use desk_store_pages::TreeError;
+use desk_store_rows::{Key, RowKey, read_chunks};
 use page_store::{Pages, Txn};
 use sector_device::SectorDevice;
 use std::alloc::Global;
 use std::collections::BTreeMap;
-use store_rows::{Key, RowKey, read_chunks};
 
 /// A part of a revision.
 #[derive(Clone, Copy, Drop)]

@@ -6,7 +6,7 @@ use crate::seen::Seen;
 use crate::wrong::WrongRow;
 use btree_scan::{Row, row_limit, scan};
 use desk_model::ranges::CountyRange;
-use desk_pages::TreeError;
+use desk_store_pages::TreeError;
 use page_store::{Pages, Txn};
 use sector_device::SectorDevice;
 use std::alloc::Global;

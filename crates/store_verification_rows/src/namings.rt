@@ -4,15 +4,15 @@ ghost use Rattle.std.specs.FinMap.{get as row_at};
 ghost use Rattle.page_store.specs.claim.Transactions.{count_of, txn_pages};
 ghost use Rattle.page_btree.specs.gets.Tests.{IsTest};
 ghost use Rattle.store_verification_rows.specs.Strays.{HasPiece, Holds, IsAny, IsNamed, IsNamedAs, IsNaming, NamesAt};
-ghost use Rattle.desk_pages.specs.Looking.{Looks};
+ghost use Rattle.desk_store_pages.specs.Looking.{Looks};
 
 use btree_scan::{Row, row_limit, scan};
 use desk_model::ranges::CountyRange;
-use desk_pages::TreeError;
+use desk_store_pages::TreeError;
+use desk_store_rows::{Key, RowKey, read_chunks};
 use page_btree::{VALUE_LIMIT, get};
 use page_store::{Pages, Txn};
 use sector_device::SectorDevice;
-use store_rows::{Key, RowKey, read_chunks};
 
 /// Whether the county at a place has blocks for a piece of a chunk.
 fn has_piece(ranges: &[CountyRange], county: usize, piece: u16) -> bool

@@ -4,14 +4,14 @@ use crate::facts::{note, note_pair, pair_of};
 use crate::wrong::{Wrong, WrongRow};
 use btree_scan::Row;
 use desk_model::ranges::CountyRange;
-use desk_opening::is_version;
-use desk_pages::TreeError;
-use std::alloc::Global;
-use std::collections::BTreeMap;
-use store_rows::{
+use desk_store_opening::is_version;
+use desk_store_pages::TreeError;
+use desk_store_rows::{
     Counters, Key, RowKey, SealRow, StoredPlan, read_block, read_chunks, read_counters,
     read_districts, read_holder_count, read_pair, read_plan, read_seal,
 };
+use std::alloc::Global;
+use std::collections::BTreeMap;
 
 /// How many blocks a chunk is of, and the last district that it may have.
 #[derive(Clone, Copy)]

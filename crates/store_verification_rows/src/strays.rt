@@ -2,9 +2,9 @@
 ghost use Rattle.std.specs.Prelude.{◌≡◌, ◌<◌, ◌*◌, ◌^◌, ℕ, [], None, Some, length};
 ghost use Rattle.desk_model.specs.declared.block.BlockRow.{BlockRow as BlockValue};
 ghost use Rattle.page_store.specs.claim.Transactions.{count_of, txn_pages};
-ghost use Rattle.store_rows.specs.claim.Values.{block_bytes, pair_bytes};
+ghost use Rattle.desk_store_rows.specs.claim.Values.{block_bytes, pair_bytes};
 ghost use Rattle.store_verification_rows.specs.Strays.{Holds, IsAny, IsJudged, IsNamed, Tells};
-ghost use Rattle.desk_pages.specs.Looking.{Looks};
+ghost use Rattle.desk_store_pages.specs.Looking.{Looks};
 
 use crate::hints::Hints;
 use crate::namings::is_named;
@@ -12,10 +12,10 @@ use crate::wrong::Wrong;
 use btree_scan::Row;
 use desk_model::block::BlockId;
 use desk_model::ranges::CountyRange;
-use desk_pages::TreeError;
+use desk_store_pages::TreeError;
+use desk_store_rows::{Key, RowKey, read_block, read_pair};
 use page_store::{Pages, Txn};
 use sector_device::SectorDevice;
-use store_rows::{Key, RowKey, read_block, read_pair};
 
 /// What is wrong with the value of a mark.
 fn judge_mark(value: &[u8]) -> Option<Wrong>

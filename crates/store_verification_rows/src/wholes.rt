@@ -3,10 +3,10 @@
 ghost use Rattle.std.specs.Prelude.{◌≡◌, ◌<◌, true, false};
 ghost use Rattle.page_store.specs.claim.Transactions.{count_of, txn_pages};
 ghost use Rattle.page_btree.specs.gets.Tests.{IsTest};
-ghost use Rattle.store_rows.specs.claim.Tidy.{IsPart, IsPiece};
+ghost use Rattle.desk_store_rows.specs.claim.Tidy.{IsPart, IsPiece};
 ghost use Rattle.store_verification_rows.specs.Strays.{IsChecked};
 ghost use Rattle.store_verification_rows.specs.Wholes.{AllSay, IsRowOf, IsWhole};
-ghost use Rattle.desk_pages.specs.Looking.{Looks};
+ghost use Rattle.desk_store_pages.specs.Looking.{Looks};
 
 use crate::hints::Hints;
 use crate::strays::judge;
@@ -14,10 +14,10 @@ use crate::wrong::{Wrong, WrongRow};
 use btree_scan::{Row, row_limit, scan};
 use byte_stream::progress::Progress;
 use desk_model::ranges::CountyRange;
-use desk_pages::TreeError;
+use desk_store_pages::TreeError;
+use desk_store_rows::{PIECE_DISTRICTS, RowKey, read_chunks};
 use page_store::{Pages, Txn};
 use sector_device::SectorDevice;
-use store_rows::{PIECE_DISTRICTS, RowKey, read_chunks};
 
 /// Whether a value is that of a part of a revision.
 fn is_part(value: &[u8]) -> bool

@@ -1,7 +1,7 @@
 //! What is wrong with a row, by a name.
 
+use desk_store_rows::Key;
 use page_btree::SmallBytes;
-use store_rows::Key;
 
 /// What is wrong with a row.
 #[derive(Clone, Copy, Drop)]

@@ -1,13 +1,13 @@
 -- A talk of clerks is one of the desks that they show.
 use Rattle.std.{specs.Prelude.{◌⊎◌, ℕ, ◌+◌, Bool, false, List, [], ◌++◌, Option, Result, Ok, Err}, proofs.Common.{refl, sym, ap, subst, inl, inr, ⊎_elim, add-zero}}
 use Rattle.{std.proofs.lemmas.List.append-nil, desk_model.specs.{claim.{Desk.Desk, Outcome.{CommandMay, IsStep}, Sample.sample_desk}, declared.command.Command.Command}}
-use Rattle.{desk_model.specs.declared.reply.{Refusal.TheVariants.{BadCompanion, Full, Memory, Halted}, Reply.Reply}, desk_runs.specs.desk_store.claim.Clerks.desk_of}
-use Rattle.{desk_runs.specs.desk_store.declared.clerk.Clerk.Clerk, desk_theorem.specs.claim.Streams.Ends, http_desk.specs.claim.Serving.{ServesTo, IsPrefixTalk, IsCutInHead}}
-use Rattle.{http_desk.specs.{claim.Talk.Talk, declared.serve.{ServeFault.ServeFault, Served.Served}}, sector_device.specs.declared.SectorDevice.Ghosts}
+use Rattle.{desk_model.specs.declared.reply.{Refusal.TheVariants.{BadCompanion, Full, Memory, Halted}, Reply.Reply}, desk_theorem.specs.claim.Streams.Ends}
+use Rattle.{desk_theorem.specs.runs.desk_store.{claim.Clerks.desk_of, declared.clerk.Clerk.Clerk}, http_desk.specs.streams.claim.Serving.{ServesTo, IsPrefixTalk, IsCutInHead}}
+use Rattle.{http_desk.specs.streams.{claim.Talk.Talk, declared.serve.{ServeFault.ServeFault, Served.Served}}, sector_device.specs.declared.SectorDevice.Ghosts}
 use Rattle.talk_command.{specs.Desks.{desk_commands, desk_asks, DeskTalk, IsTalkToHead, DeskServesTo, ServesDesk}, proofs.Seen.talk_seen}
 use Rattle.talk_command.specs.claim.Talking.{clerk_commands, clerk_asks, ServesSample, ServesClerk, IsUnserved}
 use Rattle.desk_model.specs.declared.reply.Reply.TheVariants as reply
-use Rattle.http_desk.specs.declared.serve.ServeFault.TheVariants as fault
+use Rattle.http_desk.specs.streams.declared.serve.ServeFault.TheVariants as fault
 
 step_seen : (must : Type 0) (d : Desk) (c : Command) (r : Reply) (e : Desk) → IsStep must d c r e → IsStep ⊥ d c r e
 step_seen must d c r e is = record { reply = is.reply; desk = is.desk; room = λ accepted none. none }

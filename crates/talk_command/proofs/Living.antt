@@ -1,9 +1,9 @@
 -- A stream at a clerk, as one life of its store.
-use Rattle.{std.proofs.Common.{◌≡◌, false, Result}, desk_model.specs.claim.Sample.sample_desk, desk_runs.specs.desk_store.declared.clerk.Clerk.Clerk}
-use Rattle.{desk_runs.specs.desk_store.claim.Clerks.{desk_of, disk_of, is_halted, sectors_of, Keeps}, desk_theorem.specs.claim.{Device.LeadsTo, OneLife.{Asked, StreamHolds}}}
-use Rattle.{desk_theorem.specs.{claim.Streams.{Ends, HasCause, Streamed}, store_lives.{DeskInside.LivedThrough, claim.Versions.version_2}}, http_desk.specs.claim.Serving.Serves}
-use Rattle.{http_desk.specs.declared.serve.{ServeFault.ServeFault, Served.Served}, sector_device.specs.declared.SectorDevice.Ghosts, desk_theorem.proofs.OneLife.stream_holds}
-use Rattle.{talk_command.specs.claim.Served.{AsksAtCounter, DoesAtCounter}, desk_theorem.proofs.{Device.{asked_on, through_more}, Sim.stream_lived}}
+use Rattle.{std.proofs.Common.{◌≡◌, false, Result}, desk_model.specs.claim.Sample.sample_desk, desk_theorem.specs.claim.{Device.LeadsTo, OneLife.{Asked, StreamHolds}}}
+use Rattle.desk_theorem.specs.{claim.Streams.{Ends, HasCause, Streamed}, lives.{DeskInside.LivedThrough, claim.Versions.version_2}, runs.desk_store.declared.clerk.Clerk.Clerk}
+use Rattle.{desk_theorem.specs.runs.desk_store.claim.Clerks.{desk_of, disk_of, is_halted, sectors_of, Keeps}, http_desk.specs.streams.claim.Serving.Serves}
+use Rattle.{http_desk.specs.streams.declared.serve.{ServeFault.ServeFault, Served.Served}, sector_device.specs.declared.SectorDevice.Ghosts, desk_theorem.proofs.Sim.stream_lived}
+use Rattle.{talk_command.specs.claim.Served.{AsksAtCounter, DoesAtCounter}, desk_theorem.proofs.{Device.{asked_on, through_more}, OneLife.stream_holds}}
 
 module _ {D : Type 0} {g : Ghosts D} (x y : Clerk D g) (old new : Ends) (served : Result Served ServeFault) where
   pub stream_life : Serves DoesAtCounter AsksAtCounter x served y old.unread new.unread old.written new.written → HasCause old new served → LivedThrough (StreamHolds old new served) x y

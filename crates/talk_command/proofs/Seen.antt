@@ -1,7 +1,7 @@
 -- The talk of a counter, as one of something else that its counter shows.
 use Rattle.{std.{specs.Prelude.{ℕ, Bool, true, false, List}, proofs.Common.ap}, desk_model.specs.declared.{command.{Command.Command, Query.Query}, reply.Reply.Reply}}
-use Rattle.http_desk.specs.{claim.Talk.{MayAnswer, Talk}, http_routes.declared.order.Order.Order}
-use Rattle.http_desk.specs.http_routes.declared.order.Order.TheVariants as order
+use Rattle.http_desk.specs.streams.{claim.Talk.{MayAnswer, Talk}, routes.declared.order.Order.Order}
+use Rattle.http_desk.specs.streams.routes.declared.order.Order.TheVariants as order
 
 module _ {X Y : Type 0} (f : X → Y) (commands : X → Command → Reply → X → Type 0) (asks : X → Query → Reply → X → Type 0) (does : Y → Command → Reply → Y → Type 0) (tells : Y → Query → Reply → Y → Type 0) (one : (x : X) (c : Command) (r : Reply) (y : X) → commands x c r y → does (f x) c r (f y)) (other : (x : X) (q : Query) (r : Reply) (y : X) → asks x q r y → tells (f x) q r (f y)) where
   answer_seen : (x : X) (o : Order) (closing head_only : Bool) (text : List ℕ) (shut : Bool) (y : X) → MayAnswer commands asks x o closing head_only text shut y → MayAnswer does tells (f x) o closing head_only text shut (f y)

@@ -1,11 +1,11 @@
 -- The commands of a talk are a run.
-use Rattle.{std.proofs.Common.{ℕ, ◌+◌, Bool, true, false, List, [], ◌++◌, Option, Result, Ok, Err, inl, inr, subst}, desk_runs.specs.claim.Runs.{Call, Run, SurvivesEachRun}}
-use Rattle.{desk_runs.specs.desk_store.declared.clerk.Clerk.Clerk, http_desk.specs.{claim.{Serving.ServesTo, Talk.{Talk, MayAnswer}}, declared.serve.ServeFault.ServeFault}}
-use Rattle.http_desk.specs.{declared.serve.Served.Served, http_routes.{claim.Orders.order_of, declared.order.Order.Order}, http_wire.claim.Prefix.{closes_after, is_head}}
-use Rattle.sector_device.specs.declared.SectorDevice.{Ghosts}
+use Rattle.{std.proofs.Common.{ℕ, ◌+◌, Bool, true, false, List, [], ◌++◌, Option, Result, Ok, Err, inl, inr, subst}, desk_theorem.specs.runs.desk_store.declared.clerk.Clerk.Clerk}
+use Rattle.{desk_theorem.specs.runs.claim.Runs.{Call, Run, SurvivesEachRun}, http_desk.specs.streams.claim.{Serving.ServesTo, Talk.{Talk, MayAnswer}}}
+use Rattle.http_desk.specs.streams.{declared.serve.{ServeFault.ServeFault, Served.Served}, http_wire.claim.Prefix.{closes_after, is_head}, routes.claim.Orders.order_of}
+use Rattle.{http_desk.specs.streams.routes.declared.order.Order.Order, sector_device.specs.declared.SectorDevice.Ghosts}
 use Rattle.talk_command.specs.claim.Served.{DoesAtCounter, AsksAtCounter, calls_with, calls_in, calls_served, SurvivesEachStream}
-use Rattle.http_desk.specs.http_routes.declared.order.Order.TheVariants as order
-use Rattle.http_desk.specs.declared.serve.ServeFault.TheVariants as fault
+use Rattle.http_desk.specs.streams.routes.declared.order.Order.TheVariants as order
+use Rattle.http_desk.specs.streams.declared.serve.ServeFault.TheVariants as fault
 
 module _ {D : Type 0} {g : Ghosts D} where
   -- an answer, and a run after it

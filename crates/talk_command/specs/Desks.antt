@@ -1,11 +1,11 @@
 -- The same talk, told of desks alone.
 use Rattle.std.specs.{Io.KnownBytes.{Appends, Consumes, IsAtEnd}, Prelude.{◌≡◌, ◌⊎◌, ⊤, ℕ, false, Bool, List, [], ◌++◌, Option, IfSome, Result, Ok, Err}}
-use Rattle.{desk_catalogue.specs.claim.Audits.AskMay, desk_model.specs.{claim.{Desk.Desk, Outcome.CommandMay, Sample.sample_desk}, declared.command.{Command.Command, Query.Query}}}
-use Rattle.{desk_model.specs.declared.reply.{Refusal.TheVariants.Halted, Reply.{Reply, TheVariants.Refused}}, desk_runs.specs.desk_store.declared.clerk.Clerk.Clerk}
-use Rattle.{desk_runs.specs.desk_store.claim.Clerks.{desk_of, is_halted, room_of, sectors_of, Keeps}, desk_theorem.specs.claim.Streams.Ends, http_desk.specs.claim.Talk.Talk}
-use Rattle.http_desk.specs.{claim.Serving.IsCutTalk, declared.serve.{ServeFault.ServeFault, Served.Served}, http_wire.claim.Interim.IsCutHead}
+use Rattle.desk_model.specs.{claim.{Desk.Desk, Outcome.CommandMay, Sample.sample_desk}, declared.{command.{Command.Command, Query.Query}, reply.Refusal.TheVariants.Halted}}
+use Rattle.{desk_model.specs.declared.reply.Reply.{Reply, TheVariants.Refused}, desk_store_catalogue.specs.claim.Audits.AskMay, desk_theorem.specs.claim.Streams.Ends}
+use Rattle.{desk_theorem.specs.runs.desk_store.{claim.Clerks.{desk_of, is_halted, room_of, sectors_of, Keeps}, declared.clerk.Clerk.Clerk}, http_desk.specs.streams.claim.Talk.Talk}
+use Rattle.http_desk.specs.streams.{claim.Serving.IsCutTalk, declared.serve.{ServeFault.ServeFault, Served.Served}, http_wire.claim.Interim.IsCutHead}
 use Rattle.{sector_device.specs.declared.SectorDevice.Ghosts, talk_command.specs.claim.Talking.ServesSample}
-use Rattle.http_desk.specs.declared.serve.ServeFault.TheVariants as fault
+use Rattle.http_desk.specs.streams.declared.serve.ServeFault.TheVariants as fault
 
 -- A command has the desk's step, or it is refused for want of room or of memory, or since the device failed, and the desk is as it was.
 abbrev pub desk_commands : Desk → Command → Reply → Desk → Type 0

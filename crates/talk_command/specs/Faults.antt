@@ -1,5 +1,5 @@
 -- What is told of a fault of `talk`.
-use Rattle.{std.specs.Prelude.{ℕ, List, codes}, http_desk.specs.declared.serve.ServeFault.{ServeFault, TheVariants.{ReadFault, WriteFault, Memory, TurnLimit}}}
+use Rattle.{std.specs.Prelude.{ℕ, List, codes}, http_desk.specs.streams.declared.serve.ServeFault.{ServeFault, TheVariants.{ReadFault, WriteFault, Memory, TurnLimit}}}
 
 abbrev pub fault_line : ServeFault → List ℕ
 fault_line ReadFault = codes "plandesk: talk: ReadFault\n"

@@ -1,25 +1,24 @@
 //! A stream served at a clerk, whose acknowledged commands outlive each stop.
 ghost use Rattle.std.specs.Prelude.{◌≡◌, Err};
 ghost use Rattle.byte_stream.specs.claim.Counts.{counted};
-ghost use Rattle.http_desk.specs.claim.Serving.{read_failures, write_failures};
+ghost use Rattle.http_desk.specs.streams.claim.Serving.{read_failures, write_failures};
 ghost use Rattle.desk_theorem.specs.claim.OneLife.{StreamHolds};
-ghost use Rattle.desk_theorem.specs.store_lives.DeskInside.{LivedThrough};
+ghost use Rattle.desk_theorem.specs.lives.DeskInside.{LivedThrough};
 ghost use Rattle.talk_command.specs.claim.Served.{ServesDurably};
 ghost use Rattle.talk_command.specs.claim.Talking.{ends_of};
 
 use crate::stream_law::streams_survive;
 use byte_stream::source::Source;
 use desk_theorem::Clerk;
-use http_desk::GatherSink;
-use http_desk::hearing::Hears;
-use http_desk::serve::{ServeFault, Served, serve};
+use http_desk::hearing::CommandObserver;
+use http_desk::{GatherSink, ServeFault, Served, serve};
 use sector_device::SectorDevice;
 use std::alloc::Global;
 
 /// Serves a stream at a clerk, as `serve` does. However it ends, and at whatever moment a stop comes: since a command of it was
 /// acknowledged, each image that the stop may leave opens to the desk after that command and all before it. This is one life of the clerk's
 /// store.
-pub fn serve_clerk<R: Source, W: GatherSink, D: SectorDevice, G: Hears>(
+pub fn serve_clerk<R: Source, W: GatherSink, D: SectorDevice, G: CommandObserver>(
     alloc: Global,
     reader: &mut R,
     writer: &mut W,

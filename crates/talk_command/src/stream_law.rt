@@ -1,8 +1,7 @@
 //! Whatever a stream comes to, the clerk went by a run of commands.
 ghost use Rattle.talk_command.specs.claim.Served.{SurvivesEachStream};
 
-use desk_runs::law::runs_survive;
-use desk_theorem::Clerk;
+use desk_theorem::{Clerk, runs_survive};
 use sector_device::SectorDevice;
 
 /// Whatever is served at a clerk from now on, and however it ends, the acknowledged commands of it outlive each stop, as

@@ -1,9 +1,9 @@
 //! `talk`: serves standard input to standard output, with a clerk alone over the sample geography.
 ghost use Rattle.std.specs.Prelude.{◌≡◌, Err};
 ghost use Rattle.byte_stream.specs.claim.Counts.{counted};
-ghost use Rattle.http_desk.specs.claim.Serving.{read_failures, write_failures};
+ghost use Rattle.http_desk.specs.streams.claim.Serving.{read_failures, write_failures};
 ghost use Rattle.desk_model.specs.claim.Sample.{sample_desk};
-ghost use Rattle.desk_runs.specs.desk_store.Keeping.{sealed_desk};
+ghost use Rattle.desk_theorem.specs.runs.desk_store.Keeping.{sealed_desk};
 ghost use Rattle.sector_memory.specs.Device.{disk_of};
 ghost use Rattle.talk_command.specs.claim.Talking.{Talks, ServesSample, ends_of, status_of as status_of_served};
 ghost use Rattle.talk_command.specs.Faults.{fault_line as line_of_fault};
@@ -15,8 +15,7 @@ use command_output::status::Status;
 use desk_model::gate::NoGate;
 use desk_model::geography::{Geography, sample};
 use desk_theorem::{Clerk, start};
-use http_desk::GatherSink;
-use http_desk::serve::{ServeFault, Served};
+use http_desk::{GatherSink, ServeFault, Served};
 use sector_device::SectorDevice;
 use sector_memory::MemoryDevice;
 use std::alloc::Global;

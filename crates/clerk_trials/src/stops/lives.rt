@@ -7,13 +7,13 @@ use desk_model::kind::Kind;
 use desk_model::name::PlanName;
 use desk_model::reply::Reply;
 use desk_model::size::PlanSize;
-use desk_pages::{StoreError, format};
+use desk_store_pages::{StoreError, format};
+use desk_theorem_lives::desk_lives::{Answer, Request, live_in};
+use desk_theorem_lives::restarts::Restarts;
 use sector_memory::MemoryDevice;
 use std::alloc::Global;
 use std::process::Abort;
 use std::sync::Arc;
-use store_lives::desk_lives::{Answer, Request, live_in};
-use store_lives::restarts::Restarts;
 
 const SECTORS: u32 = 400;
 

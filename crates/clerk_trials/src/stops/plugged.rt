@@ -1,9 +1,9 @@
 //! Devices in memory whose current fails at a chosen call.
 ghost use Rattle.std.specs.Prelude.{◌≡◌};
 
+use desk_theorem_lives::restarts::Restarts;
 use sector_device::{DeviceFault, Sector, SectorDevice};
 use sector_memory::{Fused, MemoryDevice};
-use store_lives::restarts::Restarts;
 
 /// How many calls pass in each of the next lives.
 pub type Fuses = [u64; 5];

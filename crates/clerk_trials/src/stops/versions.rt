@@ -2,13 +2,13 @@
 use crate::stops::lives::{Ask, BYTES, Told, listed_alone, lived, requests};
 use crate::stops::plugged::{Plugged, Unplugged};
 use desk_migration::old::turn_back;
-use desk_pages::StoreError;
+use desk_store_pages::StoreError;
+use desk_theorem_lives::desk_lives::live_in;
+use desk_theorem_lives::leading::{Led, lead_in};
+use desk_theorem_lives::restarts::Restarts;
 use page_store::Pages;
 use std::alloc::Global;
 use std::process::Abort;
-use store_lives::desk_lives::live_in;
-use store_lives::leading::{Led, lead_in};
-use store_lives::restarts::Restarts;
 
 /// What makes a store with two plans, and what is asked of it.
 static MADE: [&[Ask]; 1] = [&[Ask::Load, Ask::Create(b'a'), Ask::Create(b'b')]];

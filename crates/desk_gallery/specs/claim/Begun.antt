@@ -1,7 +1,8 @@
 -- A clerk after a front, by the clerk with whom its gallery began.
 use Rattle.std.specs.Prelude.{◌≡◌, ℕ, Bool, false, All, List}
 use Rattle.{desk_gallery.specs.claim.{Telling.halts_of, Working.AreAccepted}, desk_model.specs.{claim.Desk.Desk, declared.command.Command.Command}}
-use Rattle.{desk_runs.specs.{claim.{Runs.{Call, acknowledged}, SweptRuns.SweptRun}, desk_store.declared.clerk.Clerk.Clerk}, sector_device.specs.declared.SectorDevice.Ghosts}
+use Rattle.desk_theorem_runs.specs.{claim.{Runs.{Call, acknowledged}, SweptRuns.SweptRun}, desk_store.declared.clerk.Clerk.Clerk}
+use Rattle.sector_device.specs.declared.SectorDevice.{Ghosts}
 
 -- what is known of the clerk with whom a gallery begins
 abbrev pub Beginning : Type 1

@@ -1,7 +1,7 @@
 -- Which chunks the plans of a map hold, of those that parts of their revisions name.
 use Rattle.std.specs.Prelude.{◌≡◌, ℕ, List, [], ◌∷◌, length}
-use Rattle.{desk_opening.specs.tidy.claim.Rows.IsFrom, store_rows.specs.claim.{Holders.IsHeld, Keys.{key_of, Fits, holding, part}, Rows.{KeyMap, Lacks}, Shares.hold}}
-use Rattle.store_rows.specs.claim.Tidy.{IsNamedBy}
+use Rattle.{desk_store_opening.specs.tidy.claim.Rows.IsFrom, desk_store_rows.specs.claim.{Holders.IsHeld, Keys.{key_of, Fits, holding, part}, Rows.{KeyMap, Lacks}, Shares.hold}}
+use Rattle.desk_store_rows.specs.claim.Tidy.{IsNamedBy}
 
 -- Each chunk that a part of a plan's revisions names is held by the plan. This is said also of plans that were taken away.
 abbrev pub AllAreHeld : KeyMap → Type 0

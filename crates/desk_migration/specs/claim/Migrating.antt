@@ -1,9 +1,9 @@
 -- A migration, which leads a store from the old version of its rows to the new one, as the layers above see it.
 use Rattle.std.specs.Prelude.{◌≡◌, ◌<◌, ◌+◌, ◌*◌, ℕ, Bool, true, false, length}
 use Rattle.{desk_migration.specs.{claim.Holding.{AllAreHeld, AreHeldTo, IsHeldBy}, declared.migration.Migration.Migration}, desk_model.specs.claim.Desk.Desk}
-use Rattle.{desk_pages.specs.claim.Desks.{IsOldMap, InPages as HoldsDesk, OpensDesk, OpensOld, OpensEither}, page_btree.specs.gets.claim.Map.InPages}
-use Rattle.page_store.specs.{claim.{Chain.free_in, Transactions.{stored, disk_in, device_in, count_of, journal_of, has_halted, IsSame}}, gate_journal.claim.Store.home}
-use Rattle.{sector_device.specs.{claim.{Disk.{Disk, Image}, Moments.LeavesOnly}, declared.SectorDevice.Ghosts}, store_rows.specs.claim.Rows.KeyMap}
+use Rattle.{desk_store_pages.specs.claim.Desks.{IsOldMap, InPages as HoldsDesk, OpensDesk, OpensOld, OpensEither}, desk_store_rows.specs.claim.Rows.KeyMap}
+use Rattle.{page_btree.specs.gets.claim.Map.InPages, page_store.specs.claim.{Chain.free_in, Transactions.{stored, disk_in, device_in, count_of, journal_of, has_halted, IsSame}}}
+use Rattle.{page_store.specs.gate_journal.claim.Store.home, sector_device.specs.{claim.{Disk.{Disk, Image}, Moments.LeavesOnly}, declared.SectorDevice.Ghosts}}
 
 module _ {D : Type 0} {g : Ghosts D} where
   abbrev pub disk_of : Migration D g → Disk

@@ -1,6 +1,6 @@
 -- A clerk, who keeps a desk in the pages of a store, as the layers above see it.
 use Rattle.std.specs.Prelude.{◌≡◌, ◌⊎◌, ◌<◌, ◌+◌, ℕ, Bool, true, false, length}
-use Rattle.{desk_model.specs.claim.Desk.Desk, desk_pages.specs.claim.Desks.{InPages, OpensDesk}, desk_store.specs.{claim.Keeping.IsLeft, declared.clerk.Clerk.Clerk}}
+use Rattle.{desk_model.specs.claim.Desk.Desk, desk_store.specs.{claim.Keeping.IsLeft, declared.clerk.Clerk.Clerk}, desk_store_pages.specs.claim.Desks.{InPages, OpensDesk}}
 use Rattle.page_store.specs.{claim.{Chain.free_in, Transactions.{stored, disk_in, count_of, journal_of, has_halted, IsSame, IsQuiet}}, declared.pages.Pages.Pages}
 use Rattle.{page_store.specs.gate_journal.claim.Store.home, sector_device.specs.{claim.{Disk.{Disk, Image}, Moments.LeavesOnly}, declared.SectorDevice.Ghosts}}
 

@@ -1,12 +1,13 @@
 -- What a clerk makes of a command.
 use Rattle.std.specs.Prelude.{◌≡◌, ◌⊎◌, ◌≤◌, ◌<◌, ◌+◌, ◌*◌, ℕ, true, false, length}
-use Rattle.{desk_catalogue.specs.claim.Accepting.{IsAfter, acceptance}, desk_model.specs.claim.{Desk.Desk, Outcome.{IsAcceptance, CommandMay, RefusalMay}, Step.step}}
-use Rattle.desk_model.specs.{claim.Room.{need, command_rows}, declared.{command.Command.Command, reply.{Refusal.{Refusal, TheVariants.Halted}, Reply.{Reply, TheVariants.Refused}}}}
-use Rattle.{desk_pages.specs.claim.{Commits.HoldsAfter, Desks.IsDeskMap, Puts.IsStoredNear}, desk_store.specs.declared.{clerk.Clerk.Clerk, ready.Ready.Ready}}
-use Rattle.{desk_store.specs.claim.Clerks.{desk_of, disk_of, free_of, pages_of, room_of, HaltsByDevice, Keeps, Moves}, page_btree.specs.gets.claim.Map.InPages as HoldsRows}
-use Rattle.page_store.specs.{claim.{Chain.free_in, Transactions.{stored, disk_in, count_of, prepared_pages, prepared_writes, after, IsQuiet}}, declared.pages.Pages.Pages}
-use Rattle.{page_store.specs.declared.txn.{Prepared.Prepared as Written, Txn.Txn}, plan_revisions.specs.claim.{Rows.HasNumbers, Steps.IsDeep}, store_rows.specs.claim.Rows.KeyMap}
-use Rattle.{sector_device.specs.declared.SectorDevice.Ghosts, store_rows.specs.{claim.Tidy.{IsNext, CountersFit}, declared.value.Counters.Counters}}
+use Rattle.desk_model.specs.{claim.{Desk.Desk, Outcome.{IsAcceptance, CommandMay, RefusalMay}, Room.{need, command_rows}, Step.step}, declared.command.Command.Command}
+use Rattle.{desk_model.specs.declared.reply.{Refusal.{Refusal, TheVariants.Halted}, Reply.{Reply, TheVariants.Refused}}, desk_store.specs.declared.clerk.Clerk.Clerk}
+use Rattle.desk_store.specs.{claim.Clerks.{desk_of, disk_of, free_of, pages_of, room_of, HaltsByDevice, Keeps, Moves}, declared.ready.Ready.Ready}
+use Rattle.{desk_store_catalogue.specs.claim.Accepting.{IsAfter, acceptance}, desk_store_opening.specs.plan_revisions.claim.{Rows.HasNumbers, Steps.IsDeep}}
+use Rattle.{desk_store_pages.specs.claim.{Commits.HoldsAfter, Desks.IsDeskMap, Puts.IsStoredNear}, desk_store_rows.specs.claim.{Rows.KeyMap, Tidy.{IsNext, CountersFit}}}
+use Rattle.{desk_store_rows.specs.declared.value.Counters.Counters, page_btree.specs.gets.claim.Map.InPages as HoldsRows, page_store.specs.claim.Chain.free_in}
+use Rattle.page_store.specs.{claim.Transactions.{stored, disk_in, count_of, prepared_pages, prepared_writes, after, IsQuiet}, declared.{pages.Pages.Pages, txn.Txn.Txn}}
+use Rattle.{page_store.specs.declared.txn.Prepared.Prepared as Written, sector_device.specs.declared.SectorDevice.Ghosts}
 
 abbrev pub command_of : Ready → Command
 command_of r = r.command.value

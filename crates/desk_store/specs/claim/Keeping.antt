@@ -1,7 +1,7 @@
 -- What a clerk's store keeps of its desk.
 use Rattle.std.specs.Prelude.{◌≡◌, ◌⊎◌, ℕ, Bool, true, Some, None}
 use Rattle.{desk_model.specs.{claim.{Desk.Desk, Geography.GeographyModel, Outcome.IsAcceptance, Step.step}, declared.command.Command.Command}, sector_device.specs.claim.Disk.Image}
-use Rattle.desk_pages.specs.claim.Desks.{OpensDesk}
+use Rattle.desk_store_pages.specs.claim.Desks.{OpensDesk}
 
 -- the desk after a command that is accepted
 pub record IsAccepted (d e : Desk) : Type 0 where

@@ -2,10 +2,11 @@
 use Rattle.std.specs.{Prelude.{◌≡◌, ◌≢◌, ◌⊎◌, ◌<◌, ⊤, ℕ, Bool, true, false, if◌then◌else◌, All, List, [], ◌∷◌, ◌++◌, fold, length, map}, declared.alloc.Global.Global}
 use Rattle.{std.specs.declared.sync.Arc.Arc, audit_report.specs.claim.{Clauses.{IsNamed, AreExactlyClauses}, Figures.Figures, ReportText.report_text}}
 use Rattle.desk_model.specs.{claim.{Desk.Desk, Geography.GeographyModel, Step.{step, reports, answer}, Subject.AuditSubject}, declared.command.{Command.Command, Query.Query}}
-use Rattle.{desk_model.specs.declared.reply.{Refusal.TheVariants.Memory, Reply.{Reply, TheVariants.{Audited, Refused}}}, http_seats.specs.claim.Streams.Worker}
-use Rattle.store_lives.specs.{claim.{Calls.{asked_in, told_in, is_done}, DeskLives.{Lived, after_load}}, declared.desk_lives.{Answer.Answer, Request.Request}}
-use Rattle.store_lives.specs.declared.desk_lives.{Answer.TheVariants.{Said, Loaded, Unloaded, Swept, Unswept}, Request.TheVariants.{Change, Look, Load, Sweep}}
-use Rattle.desk_pages.specs.declared.error.StoreError.TheVariants as store
+use Rattle.{desk_model.specs.declared.reply.{Refusal.TheVariants.Memory, Reply.{Reply, TheVariants.{Audited, Refused}}}, desk_theorem_lives.specs.declared.desk_lives.Answer.Answer}
+use Rattle.desk_theorem_lives.specs.{claim.{Calls.{asked_in, told_in, is_done}, DeskLives.{Lived, after_load}}, declared.desk_lives.Request.Request}
+use Rattle.desk_theorem_lives.specs.declared.desk_lives.{Answer.TheVariants.{Said, Loaded, Unloaded, Swept, Unswept}, Request.TheVariants.{Change, Look, Load, Sweep}}
+use Rattle.http_desk.specs.seats.claim.Streams.{Worker}
+use Rattle.desk_store_pages.specs.declared.error.StoreError.TheVariants as store
 use mathlib.Core.List.{IsPrefix}
 
 -- ==== What the words of the sentence mean

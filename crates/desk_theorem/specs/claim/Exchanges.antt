@@ -1,10 +1,11 @@
 -- The requests of a stream with their answers, as they stand in the talk over what was read and written.
 use Rattle.std.specs.Prelude.{ℕ, Bool, true, false, List, [], ◌∷◌, ◌++◌, Option, Result, Ok, Err}
-use Rattle.{desk_theorem.specs.claim.Streams.{State, Takes, Looks, ServedAs}, http_desk.specs.{claim.Talk.{Talk, MayAnswer}, declared.serve.{ServeFault.ServeFault, Served.Served}}}
-use Rattle.http_desk.specs.{http_routes.{claim.Orders.order_of, declared.order.Order.Order}, http_wire.claim.Prefix.{closes_after, is_head}}
-use Rattle.store_lives.specs.declared.desk_lives.{Answer.{Answer, TheVariants.Said}, Request.{Request, TheVariants.{Change, Look}}}
-use Rattle.http_desk.specs.http_routes.declared.order.Order.TheVariants as order
-use Rattle.http_desk.specs.declared.serve.ServeFault.TheVariants as fault
+use Rattle.{desk_theorem.specs.claim.Streams.{State, Takes, Looks, ServedAs}, desk_theorem_lives.specs.declared.desk_lives.{Answer.{Answer, TheVariants.Said}, Request.Request}}
+use Rattle.{desk_theorem_lives.specs.declared.desk_lives.Request.TheVariants.{Change, Look}, http_desk.specs.streams.{claim.Talk.{Talk, MayAnswer}, declared.serve.Served.Served}}
+use Rattle.http_desk.specs.streams.{declared.serve.ServeFault.ServeFault, http_wire.claim.Prefix.{closes_after, is_head}, routes.claim.Orders.order_of}
+use Rattle.http_desk.specs.streams.routes.declared.order.Order.{Order}
+use Rattle.http_desk.specs.streams.routes.declared.order.Order.TheVariants as order
+use Rattle.http_desk.specs.streams.declared.serve.ServeFault.TheVariants as fault
 
 module _ (t u : ℕ) where
   -- what an order asks of the desk, with the reply that its answer tells

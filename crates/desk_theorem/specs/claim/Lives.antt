@@ -1,7 +1,7 @@
 -- The claim: any number of lives of a store.
 use Rattle.std.specs.Prelude.{◌≡◌, ◌≤◌, ℕ, List, [], ◌∷◌}
-use Rattle.{desk_theorem.specs.claim.{Device.{IsStoreAs, OnDevice}, OneLife.{Came, LifeHolds}}, http_seats.specs.claim.Streams.Traffic, store_lives.specs.claim.Versions.Store}
-use Rattle.sector_device.specs.{claim.Disk.{AgreeOff, Disk, Image, Nowhere}, declared.SectorDevice.Ghosts}
+use Rattle.{desk_theorem.specs.claim.{Device.{IsStoreAs, OnDevice}, OneLife.{Came, LifeHolds}}, desk_theorem_lives.specs.claim.Versions.Store}
+use Rattle.{http_desk.specs.seats.claim.Streams.Traffic, sector_device.specs.{claim.Disk.{AgreeOff, Disk, Image, Nowhere}, declared.SectorDevice.Ghosts}}
 
 -- a stop leaves of a device what it reads, as it does of one that was synced
 abbrev pub LeavesWhatItReads : Disk → Type 0

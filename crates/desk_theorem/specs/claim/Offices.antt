@@ -1,8 +1,8 @@
 -- A life of a store that an office serves to many streams, as those see it who wrote and read these.
 use Rattle.std.specs.Prelude.{◌≡◌, ℕ, All, List, [], length}
-use Rattle.{desk_model.specs.{claim.Desk.Desk, declared.{command.Command.Command, reply.Reply.Reply}}, http_connections.specs.declared.ran.Ran.Ran}
-use Rattle.{http_seats.specs.{claim.Streams.{Traffic, IsAskedOf, AreCounted}, desk_gallery.claim.{Telling.halts_of, Working.AreAccepted}}, store_lives.specs.claim.DeskLives.Lived}
-use Rattle.store_lives.specs.claim.Calls.{asked_in, told_in, acknowledged}
+use Rattle.{desk_model.specs.{claim.Desk.Desk, declared.{command.Command.Command, reply.Reply.Reply}}, desk_theorem_lives.specs.claim.Calls.{asked_in, told_in, acknowledged}}
+use Rattle.{desk_theorem_lives.specs.claim.DeskLives.Lived, http_desk.specs.{connections.declared.ran.Ran.Ran, seats.claim.Streams.{Traffic, IsAskedOf, AreCounted}}}
+use Rattle.http_desk.specs.seats.desk_gallery.claim.{Telling.halts_of, Working.AreAccepted}
 
 module _ {R W : Type 0} (s : Traffic R W) (workers : ℕ) where
   -- In one life commands were done one after the other from the desk d on, each of which one of the streams asked for; what a stop after

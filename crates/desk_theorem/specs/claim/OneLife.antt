@@ -1,10 +1,10 @@
 -- What comes in one life of a store, of each kind: what it makes of a store, and the clauses of it.
 use Rattle.std.specs.Prelude.{◌≡◌, ℕ, List, [], Result}
-use Rattle.{desk_model.specs.claim.Desk.Desk, desk_pages.specs.declared.error.StoreError.StoreError, desk_theorem.specs.claim.{Exchanges.exchanges_in, Offices.{Answered, Officed}}}
-use Rattle.desk_theorem.specs.claim.{Clauses.{Account, Clauses, nothing, of_calls, of_exchanges, of_requests}, Streams.{Ends, Streamed, working}}
-use Rattle.{http_connections.specs.declared.ran.Ran.Ran, http_desk.specs.declared.serve.{ServeFault.ServeFault, Served.Served}, http_seats.specs.claim.Streams.Traffic}
-use Rattle.store_lives.specs.{claim.{DeskLives.Lived, Versions.{Leads, MayBar, MayBeNew, Store, version_2}}, declared.desk_lives.{Answer.Answer, Request.Request}}
-use Rattle.store_lives.specs.declared.leading.Led.{Led}
+use Rattle.{desk_model.specs.claim.Desk.Desk, desk_store_pages.specs.declared.error.StoreError.StoreError, desk_theorem.specs.claim.Exchanges.exchanges_in}
+use Rattle.desk_theorem.specs.claim.{Clauses.{Account, Clauses, nothing, of_calls, of_exchanges, of_requests}, Offices.{Answered, Officed}, Streams.{Ends, Streamed, working}}
+use Rattle.desk_theorem_lives.specs.{claim.{DeskLives.Lived, Versions.{Leads, MayBar, MayBeNew, Store, version_2}}, declared.desk_lives.{Answer.Answer, Request.Request}}
+use Rattle.{desk_theorem_lives.specs.declared.leading.Led.Led, http_desk.specs.{connections.declared.ran.Ran.Ran, seats.claim.Streams.Traffic}}
+use Rattle.http_desk.specs.streams.declared.serve.{ServeFault.ServeFault, Served.Served}
 
 -- It was told so, and the clauses hold of what came in it, by its account.
 pub record Holds {May : Type 0} (account : May → Account) (t u : ℕ) (d e : Desk) : Type 0 where

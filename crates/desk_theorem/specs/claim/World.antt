@@ -1,7 +1,7 @@
 -- What happens to a desk with visitors, as events on a list of changes.
 use Rattle.{std.specs.List.slice_get, desk_model.specs.{claim.{Desk.Desk, Step.step}, declared.{command.Command.Command, reply.Reply.Reply}}}
 use Rattle.std.specs.Prelude.{ℕ, ◌==◌, ◌&&◌, if◌then◌else◌, nat_le, nat_lt, max, Bool, true, false, List, [], ◌∷◌, ◌++◌, length, take, map, slice_set, Option, Some, None}
-use Rattle.{desk_theorem.specs.declared.event.Event.{Event, TheVariants.{Commit, Acknowledge, Show, Visit, Learn, Stop}}, http_seats.specs.desk_gallery.claim.After.after}
+use Rattle.{desk_theorem.specs.declared.event.Event.{Event, TheVariants.{Commit, Acknowledge, Show, Visit, Learn, Stop}}, http_desk.specs.seats.desk_gallery.claim.After.after}
 use Rattle.desk_model.specs.declared.reply.Reply.TheVariants as reply
 
 abbrev pub accepts : Reply → Bool

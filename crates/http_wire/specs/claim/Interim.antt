@@ -1,7 +1,7 @@
 -- The interim answer that asks for a body (RFC 9110, sections 10.1.1 and 15.2.1).
 use Rattle.std.specs.{List.list_any, Prelude.{◌≡◌, ◌⊎◌, ℕ, ◌==◌, Bool, true, false, not, ◌&&◌, if◌then◌else◌, List, [], ◌++◌, map, All, Result, Ok, Err, codes}}
-use Rattle.{http_intake.specs.{claim.Lines.IsWithinLine, declared.bad_request.BadRequest.BadRequest}, http_wire.specs.claim.{Prefix.{HasHead, IsOpen, judged_head}, Target.is_word}}
-use Rattle.{http_wire.specs.declared.head.Framing.{Framing, TheVariants.{Sized, Chunked}}, httparse.specs.{Grammar.RequestHead, Spans.name_and_value}}
+use Rattle.http_wire.specs.{claim.{Prefix.{HasHead, IsOpen, judged_head}, Target.is_word}, declared.head.Framing.{Framing, TheVariants.{Sized, Chunked}}}
+use Rattle.{http_wire_intake.specs.{claim.Lines.IsWithinLine, declared.bad_request.BadRequest.BadRequest}, httparse.specs.{Grammar.RequestHead, Spans.name_and_value}}
 
 abbrev pub continue_line : List ℕ
 continue_line = codes "HTTP/1.1 100 Continue\r\n\r\n"

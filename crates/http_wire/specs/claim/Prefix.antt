@@ -1,9 +1,9 @@
 -- What stands at the start of the input: a request, a fault, or not enough to tell (RFC 9112, sections 2 to 6).
-use Rattle.{std.specs.{Char.is_ascii_digit, List.{filter_map, flat_map, list_all}, Str.bytes_eq}, http_intake.specs.claim.Chunks.{HasChunks, LacksChunks, HasChunkFault}}
+use Rattle.{std.specs.{Char.is_ascii_digit, List.{filter_map, flat_map, list_all}, Str.bytes_eq}, http_wire.specs.claim.Connection.{asks_to_close, parts, ends_in}}
 use Rattle.std.specs.Prelude.{◌≡◌, ℕ, ◌+◌, ◌-◌, ◌*◌, ◌<◌, ◌≤◌, ◌⊎◌, Bool, false, not, ◌&&◌, ◌||◌, if◌then◌else◌, ◌==◌, nat_lt, nat_le, List, [], ◌∷◌, ◌++◌, map, length, Option, Some, None, Result, Ok, Err, codes, fold}
-use Rattle.http_intake.specs.{claim.{Limits.{head_limit, field_limit, body_limit, window}, Lines.head_lines}, declared.bad_request.BadRequest.BadRequest}
-use Rattle.http_intake.specs.declared.bad_request.BadRequest.TheVariants.{BadHead, HeadTooLarge, BadHost, BadLength, BadCoding, BodyTooLarge, BadTarget}
-use Rattle.http_wire.specs.{claim.{Connection.{asks_to_close, parts, ends_in}, Target.{is_word, target_of}}, declared.head.Framing.{Framing, TheVariants.{Sized, Chunked}}}
+use Rattle.{http_wire.specs.{claim.Target.{is_word, target_of}, declared.head.Framing.{Framing, TheVariants.{Sized, Chunked}}}, http_wire_intake.specs.claim.Lines.head_lines}
+use Rattle.http_wire_intake.specs.claim.{Chunks.{HasChunks, LacksChunks, HasChunkFault}, Limits.{head_limit, field_limit, body_limit, window}}
+use Rattle.http_wire_intake.specs.declared.bad_request.BadRequest.{BadRequest, TheVariants.{BadHead, HeadTooLarge, BadHost, BadLength, BadCoding, BodyTooLarge, BadTarget}}
 use Rattle.httparse.specs.Grammar.{RequestHead, ReadsRequest, NeverHasRequest, HasNoRequest, MayBecomeRequest, EndsInTarget, print_request}
 use Rattle.httparse.specs.Spans.{name_and_value, RequestOverflows}
 

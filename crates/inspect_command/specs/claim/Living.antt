@@ -5,7 +5,7 @@ use Rattle.{desk_model.specs.declared.reply.PlanRow.PlanRow, inspect_command.spe
 use Rattle.inspect_command.specs.declared.{figures.{Figures.Figures, Held.Held}, refusal.Refusal.Refusal, texts.Style.Style, verifying.Verified.Verified}
 use Rattle.{sector_device.specs.declared.SectorDevice.Ghosts, store_command.specs.{claim.Living.{Bars, IsPrinted, IsRefused, OpensNone}, declared.fault.StoreFault.StoreFault}}
 use Rattle.store_command.specs.{declared.fault.StoreFault.TheVariants.{NotAStore, OldVersion, DeviceFault, Memory}, desk_theorem.claim.InFile.LivedOn}
-use Rattle.store_command.specs.desk_theorem.{claim.OneLife.{Asked, ReadHolds, RequestsHold}, store_lives.claim.Versions.{MayBeOld, Version}}
+use Rattle.store_command.specs.desk_theorem.{claim.OneLife.{Asked, ReadHolds, RequestsHold}, lives.claim.Versions.{MayBeOld, Version}}
 use Rattle.std.specs.FinMap as map_of
 
 abbrev pub blocks_in : Option GeographyModel → ℕ

@@ -1,11 +1,11 @@
 -- What became of a change of plans, and why it was refused.
 use Rattle.std.specs.{FinMap.remove, Prelude.{◌≡◌, ◌<◌, ◌≤◌, ◌+◌, ℕ, List, true}}
-use Rattle.{desk_pages.specs.claim.Puts.{HasPut, HasDeepened, IsNear}, page_btree.specs.gets.{claim.{Errors.IsUnsound, Map.InTxn}, declared.error.TreeError.TreeError}}
+use Rattle.{desk_store_pages.specs.claim.Puts.{HasPut, HasDeepened, IsNear}, desk_store_rows.specs.claim.{Keys.{key_of, named}, Puts.Row, Rows.KeyMap, Tidy.{IsNext, CountersFit}}}
+use Rattle.{desk_store_rows.specs.declared.value.Counters.Counters, page_btree.specs.gets.{claim.{Errors.IsUnsound, Map.InTxn}, declared.error.TreeError.TreeError}}
 use Rattle.{page_btree.specs.gets.declared.error.TreeError.TheVariants.{DeviceFault, NotAStore, Halted, NoPages, TooDeep, Memory}, page_store.specs.declared.pages.Pages.Pages}
 use Rattle.page_store.specs.{claim.Transactions.{stored, disk_in, has_halted, txn_pages, txn_free, txn_writes, HasFailed, Passed}, declared.txn.Txn.Txn}
 use Rattle.plan_revisions.specs.{claim.PlanRows.{retired_rows, retired_map}, declared.change.ChangeOutcome.{ChangeOutcome, TheVariants.{Made, NumbersExhausted}}}
-use Rattle.{sector_device.specs.declared.SectorDevice.Ghosts, store_rows.specs.claim.{Keys.{key_of, named}, Puts.Row, Rows.KeyMap, Tidy.{IsNext, CountersFit}}}
-use Rattle.store_rows.specs.declared.value.Counters.{Counters}
+use Rattle.sector_device.specs.declared.SectorDevice.{Ghosts}
 
 module _ {D : Type 0} {g : Ghosts D} where
   -- the transaction's map has these numbers

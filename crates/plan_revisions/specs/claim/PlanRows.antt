@@ -1,6 +1,6 @@
 -- The rows of plans: what is found, and what a change of plans puts.
 use Rattle.std.specs.{FinMap.remove, Prelude.{◌<◌, ◌+◌, ◌^◌, ℕ, List, [], ◌∷◌}}
-use Rattle.store_rows.specs.{claim.{Keys.{key_of, named, retired}, Puts.{Row, put_rows}, Rows.KeyMap}, declared.value.Counters.Counters}
+use Rattle.desk_store_rows.specs.{claim.{Keys.{key_of, named, retired}, Puts.{Row, put_rows}, Rows.KeyMap}, declared.value.Counters.Counters}
 
 abbrev pub HasPlanNumber : Counters → Type 0
 HasPlanNumber next = next.plan + 1 < 2 ^ 64

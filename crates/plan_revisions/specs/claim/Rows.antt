@@ -1,7 +1,7 @@
 -- The counties and the numbers that a command asks for.
 use Rattle.{std.specs.Prelude.{ℕ, List, [], length, Option, Some, None, unwrap_or}, desk_model.specs.claim.{Desk.{Plan, Desk}, Geography.GeographyModel, Step.step}}
 use Rattle.desk_model.specs.{claim.Room.{changed, last_revision}, declared.command.Command.{Command, TheVariants.{Create, Whole, Counties, Retire, Fork}}}
-use Rattle.{plan_revisions.specs.claim.PlanRows.{HasPlanNumber, HasChunkNumbers}, store_rows.specs.declared.value.Counters.Counters}
+use Rattle.{desk_store_rows.specs.declared.value.Counters.Counters, plan_revisions.specs.claim.PlanRows.{HasPlanNumber, HasChunkNumbers}}
 use Rattle.std.specs.FinMap as map_of
 
 -- the chunks that a revision adds

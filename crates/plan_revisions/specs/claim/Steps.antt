@@ -1,10 +1,11 @@
 -- One step of the desk that a transaction reads, and why there was none.
 use Rattle.std.specs.{FinMap.remove, Prelude.{◌≡◌, ◌⊎◌, ◌<◌, ◌≤◌, ◌+◌, ◌*◌, ℕ, List, length, true}}
-use Rattle.{desk_model.specs.claim.Desk.Desk, desk_pages.specs.claim.{Desks.InTxn, Puts.{HasDeepened, IsNear}}, page_btree.specs.gets.claim.Map.InTxn as HasMap}
-use Rattle.{page_btree.specs.gets.declared.error.TreeError.{TreeError, TheVariants.{DeviceFault, NotAStore, Halted, NoPages, TooDeep, Memory}}, store_rows.specs.claim.Puts.Row}
+use Rattle.{desk_model.specs.claim.Desk.Desk, desk_store_pages.specs.claim.{Desks.InTxn, Puts.{HasDeepened, IsNear}}, desk_store_rows.specs.claim.{Puts.Row, Rows.KeyMap}}
+use Rattle.{desk_store_rows.specs.{claim.Tidy.{IsNext, CountersFit}, declared.value.Counters.Counters}, page_btree.specs.gets.claim.Map.InTxn as HasMap}
+use Rattle.page_btree.specs.gets.declared.error.TreeError.{TreeError, TheVariants.{DeviceFault, NotAStore, Halted, NoPages, TooDeep, Memory}}
 use Rattle.page_store.specs.{claim.Transactions.{stored, disk_in, has_halted, txn_pages, txn_free, txn_writes, HasFailed, Passed}, declared.{pages.Pages.Pages, txn.Txn.Txn}}
 use Rattle.plan_revisions.specs.{claim.Outcomes.HasExhausted, declared.change.ChangeOutcome.{ChangeOutcome, TheVariants.{Made, NumbersExhausted}}}
-use Rattle.{sector_device.specs.declared.SectorDevice.Ghosts, store_rows.specs.{claim.{Rows.KeyMap, Tidy.{IsNext, CountersFit}}, declared.value.Counters.Counters}}
+use Rattle.sector_device.specs.declared.SectorDevice.{Ghosts}
 
 -- a map, or that without one of its rows
 abbrev pub IsLess : KeyMap → KeyMap → Type 0

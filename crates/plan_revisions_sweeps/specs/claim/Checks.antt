@@ -1,6 +1,6 @@
 -- Whether chunks are counted, and held by the plans that name them.
 use Rattle.std.specs.Prelude.{◌⊎◌, ℕ, []}
-use Rattle.store_rows.specs.claim.{Holders.{IsHeld, AreTallied}, Keys.retired, Rows.{KeyMap, Has}, Tidy.IsNamedBy}
+use Rattle.desk_store_rows.specs.claim.{Holders.{IsHeld, AreTallied}, Keys.retired, Rows.{KeyMap, Has}, Tidy.IsNamedBy}
 
 -- the plan holds the chunk, or it was taken away
 abbrev pub IsHeldOrGone : KeyMap → ℕ → ℕ → Type 0

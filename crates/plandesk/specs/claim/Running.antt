@@ -2,8 +2,8 @@
 use Rattle.std.specs.Prelude.{◌≡◌, ◌⊎◌, ◌<◌, ℕ, List}
 use Rattle.{byte_stream.specs.declared.source.Source.Ghosts as Sources, command_line.specs.declared.words.Job.Job, command_output.specs.declared.status.Status.Status}
 use Rattle.{command_line.specs.declared.words.Job.TheVariants.{Talk, Counts, Audit, Format, Load, Serve, Stat, Verify, Sweep, Migrate, Explain}, desk_model.specs.claim.Desk.Desk}
-use Rattle.{desk_pages.specs.declared.error.StoreError.StoreError, desk_theorem.specs.claim.{InFile.LivedOn, OneLife.{Asked, RequestsHold, UnopenedHolds}}}
-use Rattle.{desk_theorem.specs.store_lives.declared.desk_lives.{Answer.Answer, Request.Request}, file_commands.specs.claim.Audits.IsOfAudit}
+use Rattle.{desk_store_pages.specs.declared.error.StoreError.StoreError, desk_theorem.specs.claim.{InFile.LivedOn, OneLife.{Asked, RequestsHold, UnopenedHolds}}}
+use Rattle.{desk_theorem.specs.lives.declared.desk_lives.{Answer.Answer, Request.Request}, file_commands.specs.claim.Audits.IsOfAudit}
 use Rattle.{file_commands.specs.claim.Running.{RunsLoad, RunsMigrate, RunsStat, RunsSweep, RunsVerify}, sector_device.specs.declared.SectorDevice.Ghosts}
 use Rattle.command_output.specs.declared.status.Status.TheVariants as status
 

@@ -1,9 +1,9 @@
 -- What a stop at any moment of a served store leaves, and what its streams came to.
 use Rattle.std.specs.Prelude.{◌≡◌, ℕ, Bool, false, All, List, [], length}
-use Rattle.{desk_model.specs.{claim.Desk.Desk, declared.command.Command.Command}, http_connections.specs.declared.ran.Ran.Ran, http_seats.specs.claim.Served.HasServed}
-use Rattle.http_seats.specs.{claim.Streams.{Traffic, IsAskedOf, AreCounted}, desk_gallery.claim.{Begun.Beginning, Telling.halts_of, Working.AreAccepted}}
-use Rattle.inspect_command.specs.{desk_runs.claim.{Runs.{Call, acknowledged}, SweptRuns.{SweptRun, SurvivesSwept}}, desk_store.declared.clerk.Clerk.Clerk}
-use Rattle.{inspect_command.specs.desk_store.claim.Clerks.{desk_of, disk_of, is_halted, sectors_of, Keeps}, sector_device.specs.declared.SectorDevice.Ghosts}
+use Rattle.{desk_model.specs.{claim.Desk.Desk, declared.command.Command.Command}, http_desk.specs.{connections.declared.ran.Ran.Ran, seats.claim.Served.HasServed}}
+use Rattle.http_desk.specs.seats.{claim.Streams.{Traffic, IsAskedOf, AreCounted}, desk_gallery.claim.{Begun.Beginning, Telling.halts_of, Working.AreAccepted}}
+use Rattle.inspect_command.specs.desk_store.{claim.Clerks.{desk_of, disk_of, is_halted, sectors_of, Keeps}, declared.clerk.Clerk.Clerk}
+use Rattle.{inspect_command.specs.desk_theorem_runs.claim.{Runs.{Call, acknowledged}, SweptRuns.{SweptRun, SurvivesSwept}}, sector_device.specs.declared.SectorDevice.Ghosts}
 
 -- the same desk, in a store of as many sectors, at the same moment of its device, which has failed as often, is as honest and keeps it
 -- where the other does

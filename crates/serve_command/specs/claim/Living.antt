@@ -2,7 +2,7 @@
 -- that, and what is printed and told.
 use Rattle.std.specs.Prelude.{◌≡◌, ◌<◌, ℕ, Bool, true, false, [], Option, Some, None, Result, Ok, Err}
 use Rattle.{byte_stream.specs.declared.sink.WriteFault.WriteFault, command_output.specs.{claim.Writing.{Written, Writes}, declared.status.Status.Status}}
-use Rattle.{http_connections.specs.declared.ran.Ran.Ran, http_seats.specs.claim.Streams.Traffic, inspect_command.specs.desk_theorem.claim.InFile.LivedOn}
+use Rattle.{http_desk.specs.{connections.declared.ran.Ran.Ran, seats.claim.Streams.Traffic}, inspect_command.specs.desk_theorem.claim.InFile.LivedOn}
 use Rattle.inspect_command.specs.{desk_theorem.claim.OneLife.{Asked, ClosedHolds, OfficeHolds, RequestsHold}, store_command.claim.Living.{Bars, OpensNone}}
 use Rattle.{inspect_command.specs.store_command.declared.fault.StoreFault.TheVariants.Memory, sector_device.specs.declared.SectorDevice.Ghosts}
 use Rattle.serve_command.specs.{claim.Telling.{fault_of_halt, listening_text, EndsServing, HasAnnounced}, declared.fault.ServingFault.ServingFault}

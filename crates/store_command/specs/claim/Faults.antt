@@ -1,7 +1,7 @@
 -- Why nothing is stored: what of a store is told as what.
-use Rattle.{desk_pages.specs.declared.error.StoreError.StoreError, store_command.specs.declared.fault.StoreFault.StoreFault}
+use Rattle.{desk_store_pages.specs.declared.error.StoreError.StoreError, store_command.specs.declared.fault.StoreFault.StoreFault}
 use Rattle.store_command.specs.declared.fault.StoreFault.TheVariants.{TooSmall, NotAStore, OldVersion, AlreadyNew, AlreadySealed, Full, DeviceFault, Memory}
-use Rattle.desk_pages.specs.declared.error.StoreError.TheVariants as store
+use Rattle.desk_store_pages.specs.declared.error.StoreError.TheVariants as store
 
 abbrev pub fault_of_store : StoreError → StoreFault
 fault_of_store store.TooSmall = TooSmall

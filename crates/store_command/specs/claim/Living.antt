@@ -2,13 +2,13 @@
 -- goes with that, and what is printed and told.
 use Rattle.std.specs.{Prelude.{◌≡◌, ◌≤◌, ◌^◌, ℕ, List, [], ◌∷◌, codes, Ok, Err}, declared.{alloc.Global.Global, sync.Arc.Arc}}
 use Rattle.{command_output.specs.{claim.{Telling.Tells, Writing.{Prints, Written, write_fault_line}}, declared.status.Status.Status}, desk_theorem.specs.claim.InFile.LivedOn}
-use Rattle.{desk_model.specs.claim.Geography.GeographyModel, desk_pages.specs.declared.error.StoreError.StoreError, sector_device.specs.declared.SectorDevice.Ghosts}
-use Rattle.desk_theorem.specs.{claim.OneLife.{Asked, LedHolds, RequestsHold, UnopenedHolds}, store_lives.declared.desk_lives.{Answer.Answer, Request.TheVariants.{Load, Sweep}}}
-use Rattle.{desk_theorem.specs.store_lives.declared.desk_lives.Answer.TheVariants.{Loaded, Swept, Unloaded, Unswept}, state_files.specs.declared.fault.FileFault.FileFault}
+use Rattle.{desk_model.specs.claim.Geography.GeographyModel, desk_store_pages.specs.declared.error.StoreError.StoreError, sector_device.specs.declared.SectorDevice.Ghosts}
+use Rattle.desk_theorem.specs.{claim.OneLife.{Asked, LedHolds, RequestsHold, UnopenedHolds}, lives.declared.desk_lives.{Answer.Answer, Request.TheVariants.{Load, Sweep}}}
+use Rattle.{desk_theorem.specs.lives.declared.desk_lives.Answer.TheVariants.{Loaded, Swept, Unloaded, Unswept}, state_files.specs.declared.fault.FileFault.FileFault}
 use Rattle.store_command.specs.{claim.{Faults.fault_of_store, Files.{Openings, ReadsGeography}, Telling.{TellsStore, rows_text}}, declared.fault.StoreFault.StoreFault}
 use Rattle.store_command.specs.declared.fault.StoreFault.TheVariants.{NotAStore}
 use Rattle.command_output.specs.declared.status.Status.TheVariants as status
-use Rattle.desk_theorem.specs.store_lives.declared.leading.Led.TheVariants as led
+use Rattle.desk_theorem.specs.lives.declared.leading.Led.TheVariants as led
 
 -- ---- what is printed and told, and the status that goes with that
 -- the text, and the status is 0; or standard output failed once more, which the status and a line tell

@@ -1,12 +1,12 @@
 -- What a stop at any moment of a served stream leaves.
 use Rattle.std.{specs.{Io.KnownBytes.{Appends, Consumes}, Prelude.{◌≡◌, ℕ, ◌+◌, Bool, true, false, List, [], ◌∷◌, ◌++◌, Option, Result, Ok, Err}}, proofs.Common.{inl, inr}}
-use Rattle.{desk_catalogue.specs.claim.Audits.AskMay, desk_model.specs.declared.{command.{Command.Command, Query.Query}, reply.Reply.Reply}}
-use Rattle.desk_runs.specs.{claim.Runs.{Call, Run, Survives}, desk_store.{claim.{Clerks.{desk_of, disk_of, Keeps}, Commands.Does}, declared.clerk.Clerk.Clerk}}
-use Rattle.http_desk.specs.{claim.{Serving.{ServesTo, IsShortTalk}, Talk.{Talk, MayAnswer}}, declared.serve.{ServeFault.ServeFault, Served.Served}}
-use Rattle.http_desk.specs.{http_routes.{claim.Orders.order_of, declared.order.Order.Order}, http_wire.claim.Prefix.{closes_after, is_head}}
+use Rattle.{desk_model.specs.declared.{command.{Command.Command, Query.Query}, reply.Reply.Reply}, desk_store_catalogue.specs.claim.Audits.AskMay}
+use Rattle.desk_theorem.specs.runs.{claim.Runs.{Call, Run, Survives}, desk_store.{claim.{Clerks.{desk_of, disk_of, Keeps}, Commands.Does}, declared.clerk.Clerk.Clerk}}
+use Rattle.http_desk.specs.streams.{claim.{Serving.{ServesTo, IsShortTalk}, Talk.{Talk, MayAnswer}}, declared.serve.{ServeFault.ServeFault, Served.Served}}
+use Rattle.http_desk.specs.streams.{http_wire.claim.Prefix.{closes_after, is_head}, routes.{claim.Orders.order_of, declared.order.Order.Order}}
 use Rattle.sector_device.specs.declared.SectorDevice.{Ghosts}
-use Rattle.http_desk.specs.http_routes.declared.order.Order.TheVariants as order
-use Rattle.http_desk.specs.declared.serve.ServeFault.TheVariants as fault
+use Rattle.http_desk.specs.streams.routes.declared.order.Order.TheVariants as order
+use Rattle.http_desk.specs.streams.declared.serve.ServeFault.TheVariants as fault
 
 module _ {D : Type 0} {g : Ghosts D} where
   -- what a clerk is at a counter: commands are done, and a query changes nothing

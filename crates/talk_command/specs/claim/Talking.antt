@@ -1,12 +1,12 @@
 -- What `talk` comes to.
 use Rattle.std.specs.{Io.KnownBytes.{Appends, Consumes}, Prelude.{◌≡◌, ◌⊎◌, ℕ, false, List, [], Option, Result, Ok, Err}}
 use Rattle.{byte_stream.specs.claim.Counts.counted, command_output.specs.declared.status.Status.{Status, TheVariants.{Done, Memory, Stream}}, desk_theorem.specs.claim.Streams.Ends}
-use Rattle.{desk_catalogue.specs.claim.Audits.AskMay, desk_model.specs.{claim.Sample.sample_desk, declared.{command.{Command.Command, Query.Query}, reply.Reply.Reply}}}
-use Rattle.desk_runs.specs.desk_store.{claim.{Clerks.{desk_of, disk_of, is_halted, room_of, sectors_of, Keeps}, Commands.Does}, declared.clerk.Clerk.Clerk}
-use Rattle.{desk_theorem.specs.{claim.{Device.LeadsTo, OneLife.{Asked, StreamHolds}}, store_lives.claim.Versions.version_2}, http_desk.specs.declared.serve.ServeFault.ServeFault}
-use Rattle.{http_desk.specs.{claim.Serving.{read_failures, write_failures}, declared.serve.Served.Served}, sector_device.specs.declared.SectorDevice.Ghosts}
-use Rattle.talk_command.specs.claim.Served.{ServesDurably}
-use Rattle.http_desk.specs.declared.serve.ServeFault.TheVariants as fault
+use Rattle.{desk_model.specs.{claim.Sample.sample_desk, declared.{command.{Command.Command, Query.Query}, reply.Reply.Reply}}, desk_store_catalogue.specs.claim.Audits.AskMay}
+use Rattle.desk_theorem.specs.{claim.{Device.LeadsTo, OneLife.{Asked, StreamHolds}}, lives.claim.Versions.version_2, runs.desk_store.claim.Commands.Does}
+use Rattle.desk_theorem.specs.runs.desk_store.{claim.Clerks.{desk_of, disk_of, is_halted, room_of, sectors_of, Keeps}, declared.clerk.Clerk.Clerk}
+use Rattle.http_desk.specs.streams.{claim.Serving.{read_failures, write_failures}, declared.serve.{ServeFault.ServeFault, Served.Served}}
+use Rattle.{sector_device.specs.declared.SectorDevice.Ghosts, talk_command.specs.claim.Served.ServesDurably}
+use Rattle.http_desk.specs.streams.declared.serve.ServeFault.TheVariants as fault
 
 abbrev pub status_of : Result Served ServeFault → Status
 status_of (Ok served) = Done

@@ -1,5 +1,5 @@
-use Rattle.{std.proofs.Common.{◌≡◌, ◌∷◌, [], Ok, ap, subst, ◌∙◌, arith, length}, desk_model.specs.claim.Room.rows_for, desk_pages.specs.Outcomes.PutsRows}
-use Rattle.{store_rows.specs.{ChunkRows.piece_row, Puts.rows_told, claim.Lists.districts_bytes}, desk_pages.proofs.Writing.{puts_as, puts_nothing, told_fail, told_puts}}
+use Rattle.{std.proofs.Common.{◌≡◌, ◌∷◌, [], Ok, ap, subst, ◌∙◌, arith, length}, desk_model.specs.claim.Room.rows_for, desk_store_pages.specs.Outcomes.PutsRows}
+use Rattle.{desk_store_rows.specs.{ChunkRows.piece_row, Puts.rows_told, claim.Lists.districts_bytes}, desk_store_pages.proofs.Writing.{puts_as, puts_nothing, told_fail, told_puts}}
 use Rattle.chunk_table.proofs.chunk_puts.put_chunk_as.Goals as goal
 
 pub loop-index-init : goal.loop-index-init

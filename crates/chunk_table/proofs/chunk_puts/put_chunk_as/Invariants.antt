@@ -1,4 +1,4 @@
-use Rattle.{std.proofs.Common.Ok, desk_pages.specs.Outcomes.PutsRows, store_rows.specs.{ChunkRows.piece_row, Puts.rows_told}}
+use Rattle.{std.proofs.Common.Ok, desk_store_pages.specs.Outcomes.PutsRows, desk_store_rows.specs.{ChunkRows.piece_row, Puts.rows_told}}
 use Rattle.chunk_table.proofs.chunk_puts.put_chunk_as.Given as goal
 
 abbrev pub invariant-loop-index : goal.invariant-loop-index

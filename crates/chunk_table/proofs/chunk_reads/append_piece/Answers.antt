@@ -1,7 +1,7 @@
 use Rattle.std.{specs.FinMap.get, proofs.Common.{rules, ◌≡◌, ◌^◌, ℕ, List, Some, sym, subst, ◌∙◌, arith, ◌-◌, ◌*◌, ◌++◌, length, length-drop, length-take, drop, ap}}
-use Rattle.{chunk_table.specs.{ChunkReading.{IsChunk, piece}, Parts.BeginsPart}, store_rows.specs.claim.{Keys.{key_of, chunk}, Lists.{AreDistricts, districts_bytes}, Rows.KeyMap}}
-use Rattle.{chunk_table.proofs.ChunkParts.one_part, desk_pages.proofs.{ListParts.{part_there, some_of_part, most_of_part, each_of_part}, Reading.one_value}}
-use Rattle.{desk_pages.proofs.Looking.{fails, finds, gathered, not_looked, refuses}, store_rows.proofs.ListLaws.districts_differ}
+use Rattle.{chunk_table.specs.{ChunkReading.{IsChunk, piece}, Parts.BeginsPart}, desk_store_rows.specs.claim.{Keys.{key_of, chunk}, Lists.{AreDistricts, districts_bytes}}}
+use Rattle.{desk_store_rows.specs.claim.Rows.KeyMap, chunk_table.proofs.ChunkParts.one_part, desk_store_pages.proofs.Looking.{fails, finds, gathered, not_looked, refuses}}
+use Rattle.{desk_store_pages.proofs.{ListParts.{part_there, some_of_part, most_of_part, each_of_part}, Reading.one_value}, desk_store_rows.proofs.ListLaws.districts_differ}
 use Rattle.chunk_table.proofs.chunk_reads.append_piece.Goals as goal
 
 -- A piece of a chunk, as its row has it.

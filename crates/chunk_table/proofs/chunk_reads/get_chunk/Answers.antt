@@ -1,6 +1,6 @@
-use Rattle.{std.proofs.{Common.{◌^◌, sym, ◌∙◌, arith, rules}, lemmas.List.append-nil}, chunk_table.specs.ChunkReading.IsChunk, store_rows.specs.claim.Keys.chunk}
-use Rattle.{store_rows.specs.claim.Lists.districts_bytes, chunk_table.proofs.ChunkParts.{none_read, read_on, read_whole}}
-use Rattle.desk_pages.proofs.Looking.{begins, both, fails_then, finds}
+use Rattle.{std.proofs.{Common.{◌^◌, sym, ◌∙◌, arith, rules}, lemmas.List.append-nil}, chunk_table.specs.ChunkReading.IsChunk, desk_store_rows.specs.claim.Keys.chunk}
+use Rattle.{desk_store_rows.specs.claim.Lists.districts_bytes, chunk_table.proofs.ChunkParts.{none_read, read_on, read_whole}}
+use Rattle.desk_store_pages.proofs.Looking.{begins, both, fails_then, finds}
 use Rattle.chunk_table.proofs.chunk_reads.get_chunk.Goals as goal
 
 pub returns-in_err-append_piece : goal.returns-in_err-append_piece

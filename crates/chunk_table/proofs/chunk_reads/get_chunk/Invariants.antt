@@ -1,5 +1,5 @@
-use Rattle.{std.proofs.Common.{◌≡◌, ◌*◌, ◌^◌, Ok, take}, chunk_table.specs.{Appended.AppendsRows, ChunkReading.IsChunk, Parts.AppendsPrefix}, store_rows.specs.claim.Keys.chunk}
-use Rattle.{page_store.specs.claim.Transactions.{count_of, txn_pages}, store_rows.specs.claim.Lists.districts_bytes}
+use Rattle.{std.proofs.Common.{◌≡◌, ◌*◌, ◌^◌, Ok, take}, chunk_table.specs.{Appended.AppendsRows, ChunkReading.IsChunk, Parts.AppendsPrefix}}
+use Rattle.{desk_store_rows.specs.claim.{Keys.chunk, Lists.districts_bytes}, page_store.specs.claim.Transactions.{count_of, txn_pages}}
 use Rattle.chunk_table.proofs.chunk_reads.get_chunk.Given as goal
 
 abbrev pub invariant-loop-index : goal.invariant-loop-index

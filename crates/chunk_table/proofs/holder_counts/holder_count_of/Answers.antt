@@ -1,5 +1,5 @@
-use Rattle.{std.{specs.{FinMap.get, Prelude.option_map}, proofs.Common.{Option, sym, ap, subst, ◌∙◌}}, desk_pages.{specs.Reading.StandsAs, proofs.Looking.fails}}
-use Rattle.{store_rows.specs.{Values.holder_count_bytes, declared.value.HolderCount.HolderCount}, chunk_table.proofs.HeldChunks.{holder_count_stands, count_looked}}
+use Rattle.{std.{specs.{FinMap.get, Prelude.option_map}, proofs.Common.{Option, sym, ap, subst, ◌∙◌}}, desk_store_pages.{specs.Reading.StandsAs, proofs.Looking.fails}}
+use Rattle.{desk_store_rows.specs.{Values.holder_count_bytes, declared.value.HolderCount.HolderCount}, chunk_table.proofs.HeldChunks.{holder_count_stands, count_looked}}
 use Rattle.chunk_table.proofs.holder_counts.holder_count_of.Goals as goal
 
 pub returns-in_err-found-clause-looks : goal.returns-in_err-found-clause-looks

@@ -1,7 +1,7 @@
-use Rattle.{std.{specs.{FinMap.get, Prelude.option_map}, proofs.Common.{Option, sym, ap, subst, ◌∙◌}}, chunk_table.specs.Holding.HasHolderCount, desk_pages.specs.Reading.StandsAs}
-use Rattle.{page_btree.specs.puts.Fingers.Stand, page_store.specs.claim.Transactions.stored, store_rows.specs.{Values.holder_count_bytes, claim.Rows.KeyMap}}
-use Rattle.{store_rows.specs.declared.value.HolderCount.HolderCount, chunk_table.proofs.HeldChunks.{holder_count_stands, count_looked_with, count_unread_with}}
-use Rattle.desk_pages.proofs.Looking.{fails_from}
+use Rattle.{std.{specs.{FinMap.get, Prelude.option_map}, proofs.Common.{Option, sym, ap, subst, ◌∙◌}}, chunk_table.specs.Holding.HasHolderCount}
+use Rattle.{desk_store_pages.specs.Reading.StandsAs, desk_store_rows.specs.{Values.holder_count_bytes, claim.Rows.KeyMap, declared.value.HolderCount.HolderCount}}
+use Rattle.{page_btree.specs.puts.Fingers.Stand, page_store.specs.claim.Transactions.stored, desk_store_pages.proofs.Looking.fails_from}
+use Rattle.chunk_table.proofs.HeldChunks.{holder_count_stands, count_looked_with, count_unread_with}
 use Rattle.chunk_table.proofs.holder_counts.holder_count_with.Goals as goal
 
 pub returns-in_err-found-clause-looks : goal.returns-in_err-found-clause-looks

@@ -1,5 +1,5 @@
-use Rattle.{std.proofs.Common.{arith, rules}, store_rows.specs.RevisionSteps.new_holder_count, chunk_table.proofs.Writing.{told_more_row, told_fail_row, all_told}}
-use Rattle.desk_pages.proofs.Rising.{from_none}
+use Rattle.{std.proofs.Common.{arith, rules}, desk_store_rows.specs.RevisionSteps.new_holder_count, chunk_table.proofs.Writing.{told_more_row, told_fail_row, all_told}}
+use Rattle.desk_store_pages.proofs.Rising.{from_none}
 use Rattle.chunk_table.proofs.holdings.put_counts.Goals as goal
 
 pub loop-k-init : goal.loop-k-init

@@ -1,5 +1,5 @@
-use Rattle.{std.proofs.Common.◌≡◌, page_store.specs.claim.Transactions.{count_of, txn_pages}, store_rows.specs.{Puts.rows_told, RevisionSteps.new_holding}}
-use Rattle.desk_pages.proofs.Rising.{HasPutFrom}
+use Rattle.{std.proofs.Common.◌≡◌, desk_store_rows.specs.{Puts.rows_told, RevisionSteps.new_holding}, page_store.specs.claim.Transactions.{count_of, txn_pages}}
+use Rattle.desk_store_pages.proofs.Rising.{HasPutFrom}
 use Rattle.chunk_table.proofs.holdings.put_held.Given as goal
 
 abbrev pub invariant-loop-k : goal.invariant-loop-k

@@ -1,4 +1,4 @@
-use Rattle.{store_rows.specs.{Puts.rows_told, RevisionSteps.new_holder_count}, desk_pages.proofs.Writing.{puts_fail, puts_more, puts_none}}
+use Rattle.{desk_store_rows.specs.{Puts.rows_told, RevisionSteps.new_holder_count}, desk_store_pages.proofs.Writing.{puts_fail, puts_more, puts_none}}
 use Rattle.chunk_table.proofs.holdings.put_holdings.Goals as goal
 
 pub returns-in_err-put_held : goal.returns-in_err-put_held

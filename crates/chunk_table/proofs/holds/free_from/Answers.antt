@@ -1,5 +1,5 @@
 use Rattle.{std.{specs.{FinMap.entries, Prelude.IfSome}, proofs.Common.{◌≡◌, List, [], ℕ, sym, subst, ◌∙◌, rules}}, btree_scan.specs.{Prefixes.under, Scanning.{CanScan, ScanErr}}}
-use Rattle.{btree_scan.proofs.Refused.scan_refused, chunk_table.proofs.Free.none_held, desk_pages.proofs.{Looking.{looked, not_looked}, Reading.get_unread}}
+use Rattle.{btree_scan.proofs.Refused.scan_refused, chunk_table.proofs.Free.none_held, desk_store_pages.proofs.{Looking.{looked, not_looked}, Reading.get_unread}}
 use Rattle.page_store.proofs.Stops.{passed_none}
 use Rattle.chunk_table.proofs.holds.free_from.Goals as goal
 

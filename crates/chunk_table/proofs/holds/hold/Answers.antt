@@ -1,5 +1,5 @@
 use Rattle.{std.proofs.Common.{Bool, true, false, subst, refl}, chunk_table.{specs.Holding.{Stands, WasHeld}, proofs.Writing.{after_reads, only_read, unread}}}
-use Rattle.{chunk_table.proofs.HeldChunks.{held_already, held_after, unheld_there, not_held_after, not_told}, desk_pages.proofs.Writing.{does, told_on}}
+use Rattle.{chunk_table.proofs.HeldChunks.{held_already, held_after, unheld_there, not_held_after, not_told}, desk_store_pages.proofs.Writing.{does, told_on}}
 use Rattle.chunk_table.proofs.holds.hold.Goals as goal
 
 pub returns-in_err-is_held : goal.returns-in_err-is_held

@@ -1,6 +1,6 @@
 use Rattle.{std.proofs.{Common.{◌+◌, ◌*◌, drop, length, sym, ◌∙◌, arith}, Math.ListN.drop_of_length-le, lemmas.List.drop_more}, chunk_table.specs.Holding.CanHoldAll}
 use Rattle.chunk_table.proofs.{Changed.unread_unchanged, HeldAll.{begun_held, next_held, all_held, next_not_held}, Writing.{after_reads, unread}}
-use Rattle.desk_pages.proofs.Writing.{told_on}
+use Rattle.desk_store_pages.proofs.Writing.{told_on}
 use Rattle.chunk_table.proofs.holds.hold_all.Goals as goal
 
 pub returns-in_err-free : goal.returns-in_err-free

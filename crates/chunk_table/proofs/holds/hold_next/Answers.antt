@@ -1,6 +1,6 @@
-use Rattle.{std.proofs.Common.{◌<◌, ◌^◌, ℕ, Option, subst, arith, rules}, chunk_table.{specs.Holding.IsFreeFrom, proofs.Writing.writes_as}, page_btree.specs.puts.Fingers.Stand}
-use Rattle.{page_store.specs.claim.Transactions.stored, store_rows.specs.claim.{Keys.holding, Rows.{KeyMap, Lacks}}, desk_pages.proofs.Writing.{does, told_on}}
-use Rattle.chunk_table.proofs.HeldChunks.{held_of_all, held_of_fewer, not_held_of}
+use Rattle.{std.proofs.Common.{◌<◌, ◌^◌, ℕ, Option, subst, arith, rules}, chunk_table.specs.Holding.IsFreeFrom, desk_store_rows.specs.claim.{Keys.holding, Rows.{KeyMap, Lacks}}}
+use Rattle.{page_btree.specs.puts.Fingers.Stand, page_store.specs.claim.Transactions.stored, chunk_table.proofs.HeldChunks.{held_of_all, held_of_fewer, not_held_of}}
+use Rattle.{chunk_table.proofs.Writing.writes_as, desk_store_pages.proofs.Writing.{does, told_on}}
 use Rattle.chunk_table.proofs.holds.hold_next.Goals as goal
 
 pub returns-then-from-number : goal.returns-then-from-number

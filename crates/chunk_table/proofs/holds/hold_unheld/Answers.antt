@@ -1,5 +1,5 @@
-use Rattle.{page_btree.specs.puts.Fingers.Stand, page_store.specs.claim.Transactions.stored, store_rows.specs.claim.{Keys.holding, Rows.Lacks}}
-use Rattle.{chunk_table.proofs.{HeldChunks.{held_unheld, not_held_of}, Writing.writes_as}, desk_pages.proofs.Rising.fresh_stand}
+use Rattle.{desk_store_rows.specs.claim.{Keys.holding, Rows.Lacks}, page_btree.specs.puts.Fingers.Stand, page_store.specs.claim.Transactions.stored}
+use Rattle.{chunk_table.proofs.{HeldChunks.{held_unheld, not_held_of}, Writing.writes_as}, desk_store_pages.proofs.Rising.fresh_stand}
 use Rattle.chunk_table.proofs.holds.hold_unheld.Goals as goal
 
 pub returns : goal.returns

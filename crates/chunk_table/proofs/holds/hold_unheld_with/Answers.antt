@@ -1,5 +1,5 @@
-use Rattle.{chunk_table.specs.Holding.HasHolderCount, page_btree.specs.puts.Fingers.Stand, page_store.specs.claim.Transactions.stored, store_rows.specs.claim.Keys.holding}
-use Rattle.{store_rows.specs.claim.Rows.{KeyMap, Lacks}, chunk_table.proofs.HeldChunks.{held_then, too_many, holding_not_put, not_told}}
+use Rattle.{chunk_table.specs.Holding.HasHolderCount, desk_store_rows.specs.claim.{Keys.holding, Rows.{KeyMap, Lacks}}, page_btree.specs.puts.Fingers.Stand}
+use Rattle.{page_store.specs.claim.Transactions.stored, chunk_table.proofs.HeldChunks.{held_then, too_many, holding_not_put, not_told}}
 use Rattle.chunk_table.proofs.Writing.{after_reads, only_read, unread, writes_as}
 use Rattle.chunk_table.proofs.holds.hold_unheld_with.Goals as goal
 

@@ -1,6 +1,6 @@
-use Rattle.{std.proofs.Common.{ℕ, List, ◌++◌, ◌+◌, subst, [], ◌∷◌}, desk_pages.specs.Rising.{HasPutWith, PutsErrWith, PutsRowsWith}, store_rows.specs.claim.Holders.holding_rows}
-use Rattle.{store_rows.specs.claim.{Keys.{key_of, holding, holder_count, in_eight}, Puts.Row}, desk_pages.proofs.Outcomes.{map_both, match_of}, page_store.proofs.Stops.quiet_more}
-use Rattle.desk_pages.proofs.Rising.{more_put_with, then_not_put_with, prefix_not_put_with}
+use Rattle.{std.proofs.Common.{ℕ, List, ◌++◌, ◌+◌, subst, [], ◌∷◌}, desk_store_pages.specs.Rising.{HasPutWith, PutsErrWith, PutsRowsWith}, desk_store_rows.specs.claim.Puts.Row}
+use Rattle.{desk_store_rows.specs.claim.{Holders.holding_rows, Keys.{key_of, holding, holder_count, in_eight}}, desk_store_pages.proofs.Outcomes.{map_both, match_of}}
+use Rattle.{desk_store_pages.proofs.Rising.{more_put_with, then_not_put_with, prefix_not_put_with}, page_store.proofs.Stops.quiet_more}
 use Rattle.chunk_table.proofs.holds.put_holding.Goals as goal
 
 pub returns-in_err-put_row_with : goal.returns-in_err-put_row_with

@@ -1,9 +1,9 @@
-use Rattle.{std.proofs.Common.{◌∷◌, List, [], inl, inr, arith, rules, refl}, chunk_table.specs.Numbering.{AreNumbers, numbered_rows}, desk_pages.specs.claim.Puts.{HasPut, PutsErr}}
-use Rattle.{page_btree.specs.gets.{claim.Map.InTxn, declared.error.TreeError.TreeError}, page_store.specs.claim.Transactions.{stored, disk_in, IsQuiet, Passed}}
-use Rattle.{page_store.specs.declared.{pages.Pages.Pages, txn.Txn.Txn}, sector_device.specs.declared.SectorDevice.Ghosts, store_rows.specs.{ChunkRows.chunk_rows, claim.Puts.Row}}
-use Rattle.store_rows.specs.{Steps.chunks_more, claim.{Keys.{key_of, counters}, Rows.KeyMap, Tidy.{IsNext, CountersFit}, Values.counters_bytes}, declared.value.Counters.Counters}
-use Rattle.{chunk_table.proofs.Writing.{after_reads, only_read, unread}, desk_pages.proofs.RowsPut.{more_put, then_not_put, prefix_not_put}}
-use Rattle.desk_pages.proofs.Writing.{does, told_on, puts_as, puts_more}
+use Rattle.{std.proofs.Common.{◌∷◌, List, [], inl, inr, arith, rules, refl}, chunk_table.specs.Numbering.{AreNumbers, numbered_rows}, desk_store_rows.specs.ChunkRows.chunk_rows}
+use Rattle.{desk_store_pages.specs.claim.Puts.{HasPut, PutsErr}, desk_store_rows.specs.{Steps.chunks_more, claim.{Keys.{key_of, counters}, Puts.Row, Rows.KeyMap}}}
+use Rattle.{desk_store_rows.specs.{claim.{Tidy.{IsNext, CountersFit}, Values.counters_bytes}, declared.value.Counters.Counters}, page_btree.specs.gets.claim.Map.InTxn}
+use Rattle.{page_btree.specs.gets.declared.error.TreeError.TreeError, page_store.specs.{claim.Transactions.{stored, disk_in, IsQuiet, Passed}, declared.pages.Pages.Pages}}
+use Rattle.{page_store.specs.declared.txn.Txn.Txn, sector_device.specs.declared.SectorDevice.Ghosts, chunk_table.proofs.Writing.{after_reads, only_read, unread}}
+use Rattle.desk_store_pages.proofs.{RowsPut.{more_put, then_not_put, prefix_not_put}, Writing.{does, told_on, puts_as, puts_more}}
 use Rattle.chunk_table.proofs.numbering.put_chunk.Goals as goal
 
 -- The numbers are read, and then rows are put.

@@ -1,5 +1,5 @@
 use Rattle.{std.proofs.Common.{sym, ◌∙◌}, chunk_table.{specs.Releasing.{HasReleased, ReleaseErr}, proofs.Writing.{after_reads, only_read, unread, writes_as}}}
-use Rattle.{chunk_table.proofs.LettingGo.{none_counted, not_counted_here, not_removed, released_then, not_lowered}, desk_pages.proofs.Outcomes.match_of}
+use Rattle.{chunk_table.proofs.LettingGo.{none_counted, not_counted_here, not_removed, released_then, not_lowered}, desk_store_pages.proofs.Outcomes.match_of}
 use Rattle.page_store.proofs.Stops.{quiet_more}
 use Rattle.chunk_table.proofs.releases.release.Goals as goal
 

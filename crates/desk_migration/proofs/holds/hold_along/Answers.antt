@@ -1,6 +1,6 @@
 use Rattle.{std.proofs.Common.{◌≡◌, ◌≤◌, true, false, arith}, desk_migration.{specs.Walks.IsWalking, proofs.Turns.{full_held, more_held, none_held, not_later, stop_held}}}
-use Rattle.desk_pages.proofs.Writing.{does, told_on}
-use Rattle.desk_opening.proofs.chunk_table.Writing.{after_reads}
+use Rattle.desk_store_pages.proofs.Writing.{does, told_on}
+use Rattle.desk_store_opening.proofs.chunk_table.Writing.{after_reads}
 use Rattle.desk_migration.proofs.holds.hold_along.Goals as goal
 
 pub loop-held-init : goal.loop-held-init

@@ -1,6 +1,6 @@
 use Rattle.{std.{specs.Prelude.Option, proofs.Common.{refl, subst, rules}}, desk_migration.specs.{Walks.{IsNextPair, IsWalking}, declared.parts.HeldPair.HeldPair}}
-use Rattle.{desk_migration.proofs.{Pairs.still_walking, Turns.{less_not_held, not_found, pair_not_taken, pair_taken}}, desk_pages.proofs.Writing.{does, told_on}}
-use Rattle.desk_opening.proofs.chunk_table.Writing.{after_reads, only_read, unread}
+use Rattle.{desk_migration.proofs.{Pairs.still_walking, Turns.{less_not_held, not_found, pair_not_taken, pair_taken}}, desk_store_pages.proofs.Writing.{does, told_on}}
+use Rattle.desk_store_opening.proofs.chunk_table.Writing.{after_reads, only_read, unread}
 use Rattle.desk_migration.proofs.holds.hold_next.Goals as goal
 
 pub returns-in_err-next_pair-clause-holds : goal.returns-in_err-next_pair-clause-holds

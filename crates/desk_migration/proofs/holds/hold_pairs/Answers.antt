@@ -1,5 +1,5 @@
 use Rattle.{std.proofs.Common.{List, ℕ, sym, subst, ◌∙◌, rules}, desk_migration.specs.{Parts.{IsUnderParts, IsUnderWay}, Walks.IsWalking, claim.Holding.AreHeldTo}}
-use Rattle.{desk_migration.proofs.{Turns.{less_held, less_not_held}, Walking.begins_walking}, desk_pages.proofs.Writing.{does, told_on}}
+use Rattle.{desk_migration.proofs.{Turns.{less_held, less_not_held}, Walking.begins_walking}, desk_store_pages.proofs.Writing.{does, told_on}}
 use Rattle.desk_migration.proofs.holds.hold_pairs.Goals as goal
 
 pub hold_along-requires-clause-under : goal.hold_along-requires-clause-under

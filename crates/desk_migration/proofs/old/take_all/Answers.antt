@@ -1,7 +1,7 @@
 use Rattle.{std.proofs.Common.{Bool, sym, subst}, desk_migration.specs.TurningBack.IsTakenFirst, page_btree.specs.gets.claim.Map.InTxn, page_store.specs.claim.Transactions.stored}
-use Rattle.{sector_device.specs.claim.Disk.Image, desk_migration.proofs.Back.{more_less, none_less}, desk_pages.proofs.Writing.{does, told_on}}
+use Rattle.{sector_device.specs.claim.Disk.Image, desk_migration.proofs.Back.{more_less, none_less}, desk_store_pages.proofs.Writing.{does, told_on}}
 use Rattle.page_store.proofs.Stops.{passed_more, passed_none}
-use Rattle.desk_opening.proofs.chunk_table.Writing.{after_reads}
+use Rattle.desk_store_opening.proofs.chunk_table.Writing.{after_reads}
 use Rattle.desk_migration.proofs.old.take_all.Goals as goal
 
 pub loop-taken-init : goal.loop-taken-init

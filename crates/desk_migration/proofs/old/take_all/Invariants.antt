@@ -1,4 +1,4 @@
-use Rattle.{std.proofs.Common.◌≡◌, desk_migration.specs.TurningBack.IsLess, page_btree.specs.gets.claim.Map.InTxn, store_rows.specs.claim.Rows.KeyMap}
+use Rattle.{std.proofs.Common.◌≡◌, desk_migration.specs.TurningBack.IsLess, desk_store_rows.specs.claim.Rows.KeyMap, page_btree.specs.gets.claim.Map.InTxn}
 use Rattle.page_store.specs.claim.Transactions.{stored, disk_in, count_of, txn_pages, Passed}
 use Rattle.desk_migration.proofs.old.take_all.Given as goal
 

@@ -1,7 +1,7 @@
-use Rattle.{std.{specs.{FinMap.remove as without, List.starts_with}, proofs.Common.{◌∷◌, [], Bool, nat_eq, sym, subst, ◌∙◌, rules}}, desk_opening.specs.tidy.Rows.IsFirst}
+use Rattle.{std.{specs.{FinMap.remove as without, List.starts_with}, proofs.Common.{◌∷◌, [], Bool, nat_eq, sym, subst, ◌∙◌, rules}}, desk_store_opening.specs.tidy.Rows.IsFirst}
 use Rattle.{page_btree.specs.gets.claim.Map.InTxn, sector_device.specs.claim.Disk.Image, desk_migration.proofs.Back.{none_found, none_later, one_less}}
 use Rattle.page_store.proofs.Stops.{passed_more, quiet_more}
-use Rattle.desk_opening.proofs.chunk_table.Writing.{only_read, unread}
+use Rattle.desk_store_opening.proofs.chunk_table.Writing.{only_read, unread}
 use Rattle.desk_migration.proofs.old.take_first.Goals as goal
 
 pub returns-in_err-first_from : goal.returns-in_err-first_from

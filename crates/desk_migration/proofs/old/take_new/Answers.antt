@@ -1,5 +1,5 @@
-use Rattle.{desk_migration.proofs.Back.turned_pages, desk_pages.proofs.Writing.told_on, page_store.proofs.Stops.{passed_more, quiet_more}}
-use Rattle.desk_opening.proofs.chunk_table.Writing.{after_reads, writes_as}
+use Rattle.{desk_migration.proofs.Back.turned_pages, desk_store_pages.proofs.Writing.told_on, page_store.proofs.Stops.{passed_more, quiet_more}}
+use Rattle.desk_store_opening.proofs.chunk_table.Writing.{after_reads, writes_as}
 use Rattle.desk_migration.proofs.old.take_new.Goals as goal
 
 pub returns-in_err-take_all : goal.returns-in_err-take_all

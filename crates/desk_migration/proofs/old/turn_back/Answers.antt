@@ -1,6 +1,6 @@
-use Rattle.{std.proofs.Common.{true, false, ◌∙◌, rules}, desk_model.specs.claim.Desk.Desk, desk_pages.specs.{Moments.StopsLeave, claim.Desks.{InPages, InTxnOf, OpensEither}}}
+use Rattle.{std.proofs.Common.{true, false, ◌∙◌, rules}, desk_model.specs.claim.Desk.Desk, desk_store_pages.specs.{Moments.StopsLeave, claim.Desks.{InPages, InTxnOf, OpensEither}}}
 use Rattle.{page_store.specs.claim.Transactions.{stored, disk_in}, desk_migration.proofs.Back.{back_quiet, back_reads}}
-use Rattle.desk_opening.proofs.chunk_table.Committing.{begun_now, commit_leaves, quiet_shape, shape_after}
+use Rattle.desk_store_opening.proofs.chunk_table.Committing.{begun_now, commit_leaves, quiet_shape, shape_after}
 use Rattle.desk_migration.proofs.old.turn_back.Given.{Over}
 use Rattle.desk_migration.proofs.old.turn_back.Goals.{After-commit_txn}
 use Rattle.desk_migration.proofs.old.turn_back.Goals as goal

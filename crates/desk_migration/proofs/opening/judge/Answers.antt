@@ -1,7 +1,7 @@
-use Rattle.{std.proofs.Common.{true, false, sym, ap, subst, ◌∙◌, rules}, desk_migration.specs.Openings.JudgeErr, desk_pages.specs.declared.error.StoreError.StoreError}
-use Rattle.{store_rows.specs.claim.Tidy.version_row, desk_migration.proofs.Opened.{not_read, of_version, read_from, version_not_read}, desk_pages.proofs.Refusals.calm_told}
-use Rattle.page_store.proofs.Stops.{quiet_more, passed_more}
-use Rattle.desk_opening.proofs.chunk_table.Committing.{IsBegun, begun_now}
+use Rattle.{std.proofs.Common.{true, false, sym, ap, subst, ◌∙◌, rules}, desk_migration.specs.Openings.JudgeErr, desk_store_pages.specs.declared.error.StoreError.StoreError}
+use Rattle.{desk_store_rows.specs.claim.Tidy.version_row, desk_migration.proofs.Opened.{not_read, of_version, read_from, version_not_read}}
+use Rattle.{desk_store_pages.proofs.Refusals.calm_told, page_store.proofs.Stops.{quiet_more, passed_more}}
+use Rattle.desk_store_opening.proofs.chunk_table.Committing.{IsBegun, begun_now}
 use Rattle.desk_migration.proofs.opening.judge.Given.{Over}
 use Rattle.desk_migration.proofs.opening.judge.Goals.{After-begin-txn}
 use Rattle.desk_migration.proofs.opening.judge.Goals as goal

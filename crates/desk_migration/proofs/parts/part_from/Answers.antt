@@ -1,5 +1,5 @@
-use Rattle.{std.proofs.Common.{nat_eq, rules}, store_rows.specs.Keys.parts_prefix, desk_migration.proofs.PartRows.part_found, desk_pages.proofs.Looking.{fails, finds}}
-use Rattle.desk_opening.proofs.tidy.FirstRows.{none_at_all}
+use Rattle.{std.proofs.Common.{nat_eq, rules}, desk_store_rows.specs.Keys.parts_prefix, desk_migration.proofs.PartRows.part_found, desk_store_pages.proofs.Looking.{fails, finds}}
+use Rattle.desk_store_opening.proofs.tidy.FirstRows.{none_at_all}
 use Rattle.desk_migration.proofs.parts.part_from.Goals as goal
 
 pub returns-in_err-first_from-clause-looks : goal.returns-in_err-first_from-clause-looks

@@ -1,4 +1,4 @@
-use Rattle.{std.proofs.Common.{◌≡◌, ℕ, List, length, take, drop, sym, ap, ◌∙◌}, store_rows.specs.claim.Keys.{key_of, part}}
+use Rattle.{std.proofs.Common.{◌≡◌, ℕ, List, length, take, drop, sym, ap, ◌∙◌}, desk_store_rows.specs.claim.Keys.{key_of, part}}
 use Rattle.desk_migration.proofs.parts.read_part.Goals as goal
 
 pub returns-in_default : goal.returns-in_default

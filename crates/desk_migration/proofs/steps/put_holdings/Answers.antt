@@ -1,7 +1,7 @@
 use Rattle.{std.proofs.Common.{◌<◌, ℕ, List, Err, refl, sym, subst, ◌∙◌, arith, rules}, desk_migration.specs.{Parts.IsUnderParts, Puts.{HasHeld, HoldErr, StepErr, free_of}}}
-use Rattle.{desk_pages.{specs.{Errors.tree_refusal, declared.error.StoreError.TheVariants.Full}, proofs.Outcomes.err_of}, page_store.proofs.Stops.quiet_none}
+use Rattle.{desk_store_pages.{specs.{Errors.tree_refusal, declared.error.StoreError.TheVariants.Full}, proofs.Outcomes.err_of}, page_store.proofs.Stops.quiet_none}
 use Rattle.desk_migration.proofs.Stepped.{to_quiet, none_steps, halted_steps, refused_steps, commit_steps, taken_writes, still_working, none_more, some_more, some_leaves, short_of, not_committed, not_taken, no_room}
-use Rattle.desk_opening.proofs.chunk_table.Committing.{IsBegun, begun_now}
+use Rattle.desk_store_opening.proofs.chunk_table.Committing.{IsBegun, begun_now}
 use Rattle.desk_migration.proofs.steps.put_holdings.Given.{Over}
 use Rattle.desk_migration.proofs.steps.put_holdings.Goals.{After-begin-txn, In_ok-pairs}
 use Rattle.desk_migration.proofs.steps.put_holdings.Goals as goal

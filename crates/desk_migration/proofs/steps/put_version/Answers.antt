@@ -1,14 +1,15 @@
 use Rattle.{std.proofs.Common.{◌≡◌, ◌⊎◌, ◌≤◌, ◌+◌, ℕ, List, [], ◌∷◌, true, false, ◌∙◌, inl, inr, ⊎_elim, arith, ◌<◌, refl, sym, subst, rules}, desk_model.specs.claim.Desk.Desk}
-use Rattle.{desk_migration.specs.{Puts.{version_rows, FinishErr, HoldsAll, free_of}, claim.Holding.AllAreHeld}, desk_pages.specs.{Commits.FittingErr, Desks.{InPagesAs, InTxnAs}}}
-use Rattle.desk_pages.specs.{Errors.tree_refusal, Moments.StopsLeaveEither, claim.Desks.{IsMapOf, IsOldMap, OpensAs, OpensOld, OpensDesk, OpensEither, InPages as HoldsDesk}}
-use Rattle.{desk_pages.specs.{claim.Puts.{HasPut, PutsErr}, declared.error.StoreError.{StoreError, TheVariants.{Memory, DeviceFault, Full}}}, page_store.specs.Calls.BeginsOver}
-use Rattle.{page_btree.specs.gets.{claim.Map.{InTxn, InPages}, declared.error.TreeError.TreeError}, page_store.specs.declared.{pages.Pages.Pages, txn.Txn.Txn}}
-use Rattle.page_store.{specs.{claim.Transactions.{stored, disk_in, count_of, journal_of, has_halted, txn_writes, IsQuiet}, gate_journal.claim.Store.home}, proofs.Stops.quiet_none}
-use Rattle.{sector_device.specs.{claim.{Disk.Image, Moments.LeavesOnly}, declared.SectorDevice.Ghosts}, store_rows.specs.{MigrationLaws.{VersionIsTold, as_new}, claim.Puts.Row}}
-use Rattle.{store_rows.specs.claim.{Keys.{key_of, version, in_four}, Rows.KeyMap}, desk_migration.proofs.Stepped.{commit_steps, halted_steps, refused_steps}}
-use Rattle.{desk_pages.proofs.{Nearness.begun_near, Outcomes.err_of}, sector_device.proofs.Moments.{leaves_wider, on_ok}}
+use Rattle.{desk_migration.specs.{Puts.{version_rows, FinishErr, HoldsAll, free_of}, claim.Holding.AllAreHeld}, desk_store_pages.specs.{Commits.FittingErr, Errors.tree_refusal}}
+use Rattle.desk_store_pages.specs.{Desks.{InPagesAs, InTxnAs}, Moments.StopsLeaveEither, claim.Puts.{HasPut, PutsErr}, declared.error.StoreError.StoreError}
+use Rattle.{desk_store_pages.specs.claim.Desks.{IsMapOf, IsOldMap, OpensAs, OpensOld, OpensDesk, OpensEither, InPages as HoldsDesk}, desk_store_rows.specs.claim.Puts.Row}
+use Rattle.{desk_store_pages.specs.declared.error.StoreError.TheVariants.{Memory, DeviceFault, Full}, desk_store_rows.specs.MigrationLaws.{VersionIsTold, as_new}}
+use Rattle.{desk_store_rows.specs.claim.{Keys.{key_of, version, in_four}, Rows.KeyMap}, page_btree.specs.gets.{claim.Map.{InTxn, InPages}, declared.error.TreeError.TreeError}}
+use Rattle.page_store.specs.{Calls.BeginsOver, claim.Transactions.{stored, disk_in, count_of, journal_of, has_halted, txn_writes, IsQuiet}, declared.pages.Pages.Pages}
+use Rattle.{page_store.specs.{declared.txn.Txn.Txn, gate_journal.claim.Store.home}, sector_device.specs.{claim.{Disk.Image, Moments.LeavesOnly}, declared.SectorDevice.Ghosts}}
+use Rattle.{desk_migration.proofs.Stepped.{commit_steps, halted_steps, refused_steps}, desk_store_pages.proofs.{Nearness.begun_near, Outcomes.err_of}}
+use Rattle.{page_store.proofs.Stops.quiet_none, sector_device.proofs.Moments.{leaves_wider, on_ok}}
 use Rattle.page_btree.proofs.gets.Outcomes.{map_err, on_ok as if_ok}
-use Rattle.desk_opening.proofs.chunk_table.Committing.{IsBegun, both, commit_leaves, failed_after, quiet_leaves, begun_now}
+use Rattle.desk_store_opening.proofs.chunk_table.Committing.{IsBegun, both, commit_leaves, failed_after, quiet_leaves, begun_now}
 use Rattle.page_btree.specs.gets.declared.error.TreeError.TheVariants as tree
 use Rattle.desk_migration.proofs.steps.put_version.Given.{Over}
 use Rattle.desk_migration.proofs.steps.put_version.Goals.{After-begin-txn, In_ok-put_row}

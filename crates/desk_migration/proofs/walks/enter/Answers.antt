@@ -1,4 +1,4 @@
-use Rattle.{desk_migration.proofs.Walking.stays_within, desk_pages.proofs.Looking.begins}
+use Rattle.{desk_migration.proofs.Walking.stays_within, desk_store_pages.proofs.Looking.begins}
 use Rattle.desk_migration.proofs.walks.enter.Goals as goal
 
 pub returns-then-walk-clause-looks : goal.returns-then-walk-clause-looks

@@ -1,5 +1,5 @@
 use Rattle.std.{specs.Prelude.All, proofs.{Common.{◌<◌, ◌≤◌, ℕ, List, length, get_or, sym, subst, ◌∙◌, take_all}, lemmas.List.Elements.All-more}}
-use Rattle.{desk_migration.specs.Walks.HoldsIt, store_rows.specs.claim.{Keys.holding, Rows.Lacks}, desk_pages.proofs.Looking.{begins, both, fails_then, finds}}
+use Rattle.{desk_migration.specs.Walks.HoldsIt, desk_store_rows.specs.claim.{Keys.holding, Rows.Lacks}, desk_store_pages.proofs.Looking.{begins, both, fails_then, finds}}
 use Rattle.desk_migration.proofs.walks.first_unheld.Goals as goal
 
 pub loop-place-init : goal.loop-place-init

@@ -1,5 +1,5 @@
-use Rattle.{std.proofs.Common.{◌≡◌, take, Ok}, desk_migration.specs.Walks.HoldsEach, desk_pages.specs.Looking.Looks, page_store.specs.claim.Transactions.{count_of, txn_pages}}
-use Rattle.store_rows.specs.claim.Tidy.{Tidy}
+use Rattle.{std.proofs.Common.{◌≡◌, take, Ok}, desk_migration.specs.Walks.HoldsEach, desk_store_pages.specs.Looking.Looks, desk_store_rows.specs.claim.Tidy.Tidy}
+use Rattle.page_store.specs.claim.Transactions.{count_of, txn_pages}
 use Rattle.desk_migration.proofs.walks.first_unheld.Given as goal
 
 abbrev pub invariant-loop-place : goal.invariant-loop-place

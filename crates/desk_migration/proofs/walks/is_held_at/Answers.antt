@@ -1,4 +1,4 @@
-use Rattle.{std.proofs.Common.rules, desk_migration.proofs.Walking.told_at, desk_pages.proofs.Looking.{begins, tells}}
+use Rattle.{std.proofs.Common.rules, desk_migration.proofs.Walking.told_at, desk_store_pages.proofs.Looking.{begins, tells}}
 use Rattle.desk_migration.proofs.walks.is_held_at.Goals as goal
 
 pub returns-then-names_too : goal.returns-then-names_too

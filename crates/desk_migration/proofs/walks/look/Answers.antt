@@ -1,6 +1,6 @@
 use Rattle.{std.{specs.Prelude.Option, proofs.Common.{◌<◌, ℕ, List, length, get_or, Bool, true, false, sym, subst, rules}}, desk_migration.specs.claim.Holding.IsUnheld}
-use Rattle.{desk_migration.{specs.Walks.{Enters, IsHeldTo, IsNextPart}, proofs.Walking.{passes, reaches, some_of}}, store_rows.specs.claim.{Keys.holding, Rows.Lacks}}
-use Rattle.desk_pages.proofs.Looking.{both, fails, fails_then, finds}
+use Rattle.{desk_migration.{specs.Walks.{Enters, IsHeldTo, IsNextPart}, proofs.Walking.{passes, reaches, some_of}}, desk_store_rows.specs.claim.{Keys.holding, Rows.Lacks}}
+use Rattle.desk_store_pages.proofs.Looking.{both, fails, fails_then, finds}
 use Rattle.desk_migration.proofs.walks.look.Goals as goal
 
 pub returns-in_err-enter-clause-looks : goal.returns-in_err-enter-clause-looks

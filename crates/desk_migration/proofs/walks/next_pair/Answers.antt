@@ -1,6 +1,6 @@
 use Rattle.{std.proofs.Common.{sym, subst, ◌∙◌, arith, rules}, desk_migration.specs.{Walks.Looks, declared.parts.PartLook.PartLook}}
-use Rattle.desk_pages.proofs.Looking.{begins, both, fails_then, finds, not_looked}
-use Rattle.desk_opening.proofs.tidy.After.{all_left}
+use Rattle.desk_store_pages.proofs.Looking.{begins, both, fails_then, finds, not_looked}
+use Rattle.desk_store_opening.proofs.tidy.After.{all_left}
 use Rattle.desk_migration.proofs.walks.next_pair.Goals as goal
 
 pub loop-taken-init : goal.loop-taken-init

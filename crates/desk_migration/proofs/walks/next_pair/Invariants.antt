@@ -1,4 +1,4 @@
-use Rattle.{std.{specs.FinMap.entries, proofs.Common.{◌≡◌, ◌+◌, ◌≤◌, length, Ok}}, desk_migration.specs.Walks.{IsWalking, StandsUnder}, desk_pages.specs.Looking.Looks}
+use Rattle.{std.{specs.FinMap.entries, proofs.Common.{◌≡◌, ◌+◌, ◌≤◌, length, Ok}}, desk_migration.specs.Walks.{IsWalking, StandsUnder}, desk_store_pages.specs.Looking.Looks}
 use Rattle.{page_btree.specs.node.Places.entries_from, page_store.specs.claim.Transactions.{count_of, txn_pages}}
 use Rattle.desk_migration.proofs.walks.next_pair.Given as goal
 

@@ -1,5 +1,5 @@
 use Rattle.{std.proofs.Common.{true, false, refl, ◌∙◌, rules}, desk_migration.proofs.{PartRows.{all_held, part_row}, Walking.enters_part}}
-use Rattle.desk_pages.proofs.Looking.{fails, finds, refuses}
+use Rattle.desk_store_pages.proofs.Looking.{fails, finds, refuses}
 use Rattle.desk_migration.proofs.walks.read_next.Goals as goal
 
 pub returns-in_err-part_from-clause-looks : goal.returns-in_err-part_from-clause-looks

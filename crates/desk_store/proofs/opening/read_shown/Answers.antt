@@ -1,6 +1,7 @@
-use Rattle.{std.proofs.Common.{sym, ap, subst, ◌∙◌, rules}, desk_pages.{specs.declared.error.StoreError.StoreError, proofs.Refusals.calm_told}, desk_store.specs.Finding.FindErr}
-use Rattle.{page_store.specs.claim.Transactions.IsQuiet, store_rows.specs.claim.Tidy.version_row, desk_opening.proofs.WholeDesks.{still_reads, then_unopened}}
-use Rattle.{desk_store.proofs.{Opened.{none_read, old_refused, rows_begun, version_unread}, Prepared.{IsBegun, begun_reads}}, page_store.proofs.Stops.{quiet_more, passed_more}}
+use Rattle.{std.proofs.Common.{sym, ap, subst, ◌∙◌, rules}, desk_store.specs.Finding.FindErr, desk_store_pages.specs.declared.error.StoreError.StoreError}
+use Rattle.{desk_store_rows.specs.claim.Tidy.version_row, page_store.specs.claim.Transactions.IsQuiet, desk_store.proofs.Prepared.{IsBegun, begun_reads}}
+use Rattle.{desk_store.proofs.Opened.{none_read, old_refused, rows_begun, version_unread}, desk_store_opening.proofs.WholeDesks.{still_reads, then_unopened}}
+use Rattle.{desk_store_pages.proofs.Refusals.calm_told, page_store.proofs.Stops.{quiet_more, passed_more}}
 use Rattle.desk_store.proofs.opening.read_shown.Given.{Over}
 use Rattle.desk_store.proofs.opening.read_shown.Goals.{After-begin-txn, After-read_desk}
 use Rattle.desk_store.proofs.opening.read_shown.Goals as goal

@@ -1,4 +1,4 @@
-use Rattle.{std.proofs.Common.{sym, subst}, desk_theorem.{specs.Runs.IsReached, proofs.Weaving.{AllBegin, runs_of, reached}}, http_seats.specs.desk_gallery.Fronts.Kept}
+use Rattle.{std.proofs.Common.{sym, subst}, desk_theorem.{specs.Runs.IsReached, proofs.Weaving.{AllBegin, runs_of, reached}}, http_desk.specs.seats.desk_gallery.Fronts.Kept}
 use Rattle.desk_theorem.proofs.office.are_standing.Goals as goal
 
 pub returns-clause-reached : goal.returns-clause-reached

@@ -1,4 +1,4 @@
-use Rattle.{std.proofs.Common.{◌∙◌, List, sym, subst, take, take_all, arith}, desk_model.specs.declared.command.Command.Command, http_seats.specs.desk_gallery.Fronts.Kept}
+use Rattle.{std.proofs.Common.{◌∙◌, List, sym, subst, take, take_all, arith}, desk_model.specs.declared.command.Command.Command, http_desk.specs.seats.desk_gallery.Fronts.Kept}
 use Rattle.desk_theorem.proofs.Weaving.{AllBegin, one_more_begins}
 use Rattle.desk_theorem.proofs.office.know_all.Goals as goal
 

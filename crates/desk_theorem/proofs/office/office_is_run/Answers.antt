@@ -1,4 +1,4 @@
-use Rattle.{std.proofs.Common.{sym, subst}, desk_theorem.{specs.claim.Runs.HasRuns, proofs.Weaving.{AllBegin, runs_of, runs_for}}, http_seats.specs.desk_gallery.Fronts.Kept}
+use Rattle.{std.proofs.Common.{sym, subst}, desk_theorem.{specs.claim.Runs.HasRuns, proofs.Weaving.{AllBegin, runs_of, runs_for}}, http_desk.specs.seats.desk_gallery.Fronts.Kept}
 use Rattle.desk_theorem.proofs.office.office_is_run.Goals as goal
 
 pub returns-clause-runs : goal.returns-clause-runs

@@ -1,8 +1,9 @@
-use Rattle.{std.proofs.{Common.{◌≡◌, ◌+◌, ℕ, arith}, lemmas.Result.on_ok_weaker}, desk_model.specs.claim.Geography.GeographyModel, desk_pages.specs.Errors.tree_refusal}
-use Rattle.{desk_pages.specs.claim.{Desks.OpensDesk, Puts.HasPut}, geo_tables.specs.{Loading.{number_of, geography_model_of, done_of}, Rows.staged_rows, declared.load.Load.Load}}
-use Rattle.{page_store.{specs.{claim.Transactions.disk_in, declared.{pages.Pages.Pages, txn.Txn.Txn}}, proofs.Stops.leaves_here}, sector_device.specs.declared.SectorDevice.Ghosts}
-use Rattle.{desk_pages.proofs.Kept.opens_now, geo_tables.proofs.{Joins.{desk_leaves, quiet_leaves}, Refused.{rows_refused, rows_unstarted}}}
-use Rattle.geo_tables.proofs.{Staged.{rows_of, rows_count, put_fits, desk_held, batch_desk, batch_holds}, Steps.{commits_after, not_started, not_stepped}}
+use Rattle.{std.proofs.{Common.{◌≡◌, ◌+◌, ℕ, arith}, lemmas.Result.on_ok_weaker}, desk_model.specs.claim.Geography.GeographyModel, desk_store_pages.specs.Errors.tree_refusal}
+use Rattle.{desk_store_pages.specs.claim.{Desks.OpensDesk, Puts.HasPut}, geo_tables.specs.{Loading.{number_of, geography_model_of, done_of}, Rows.staged_rows}}
+use Rattle.{geo_tables.specs.declared.load.Load.Load, page_store.{specs.{claim.Transactions.disk_in, declared.{pages.Pages.Pages, txn.Txn.Txn}}, proofs.Stops.leaves_here}}
+use Rattle.{sector_device.specs.declared.SectorDevice.Ghosts, desk_store_pages.proofs.Kept.opens_now, geo_tables.proofs.Joins.{desk_leaves, quiet_leaves}}
+use Rattle.geo_tables.proofs.{Refused.{rows_refused, rows_unstarted}, Staged.{rows_of, rows_count, put_fits, desk_held, batch_desk, batch_holds}}
+use Rattle.geo_tables.proofs.Steps.{commits_after, not_started, not_stepped}
 use Rattle.geo_tables.proofs.batches.stage.Goals as goal
 
 -- what was put, of the geography itself

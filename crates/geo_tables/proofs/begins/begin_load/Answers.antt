@@ -1,5 +1,5 @@
-use Rattle.{std.proofs.Common.{◌≡◌, Err, refl, true, false}, desk_pages.specs.{Moments.{StopsLeave, StopsLeaveAtWork}, claim.Desks.{InPages, OpensDesk}}}
-use Rattle.{desk_pages.specs.declared.error.StoreError.TheVariants.Full, page_store.specs.{claim.Transactions.{disk_in, IsQuiet}, declared.pages.Pages.Pages}}
+use Rattle.{std.proofs.Common.{◌≡◌, Err, refl, true, false}, desk_store_pages.specs.{Moments.{StopsLeave, StopsLeaveAtWork}, claim.Desks.{InPages, OpensDesk}}}
+use Rattle.{desk_store_pages.specs.declared.error.StoreError.TheVariants.Full, page_store.specs.{claim.Transactions.{disk_in, IsQuiet}, declared.pages.Pages.Pages}}
 use Rattle.{sector_device.specs.declared.SectorDevice.Ghosts, geo_tables.proofs.Joins.{quiet_leaves, quiet_desk, quiet_rows, started_then, whole_then}}
 use Rattle.geo_tables.proofs.{Refused.{begin_after, begin_full, desk_unsealed, sealed_refused}, Steps.{not_stepped, not_stepped_after, step_after, was_halted}}
 use Rattle.sector_device.proofs.Moments.{leaves_more}

@@ -1,4 +1,4 @@
-use Rattle.{std.proofs.Common.{◌≡◌, ℕ, Err, Option, Some, refl, subst, arith}, desk_pages.specs.{Errors.tree_refusal, declared.error.StoreError.TheVariants.Full}}
+use Rattle.{std.proofs.Common.{◌≡◌, ℕ, Err, Option, Some, refl, subst, arith}, desk_store_pages.specs.{Errors.tree_refusal, declared.error.StoreError.TheVariants.Full}}
 use Rattle.{geo_tables.specs.Loads.{Begins, HasBegun}, page_store.specs.declared.{pages.Pages.Pages, txn.Txn.Txn}, sector_device.specs.declared.SectorDevice.Ghosts}
 use Rattle.geo_tables.proofs.{Joins.{desk_leaves, quiet_leaves}, Refused.{next_refused, next_exhausted}, Staged.{put_fits, begun_told, begun_desk, begun_holds}}
 use Rattle.geo_tables.proofs.Steps.{commits_after, not_stepped, step_made, step_told}

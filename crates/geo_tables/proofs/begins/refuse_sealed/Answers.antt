@@ -1,5 +1,5 @@
-use Rattle.{std.proofs.Common.{rules, sym}, desk_pages.specs.Errors.tree_refusal, geo_tables.specs.Refusals.SealedErr, store_rows.specs.claim.Values.seal_bytes}
-use Rattle.{desk_pages.proofs.Outcomes.match_of, geo_tables.proofs.{Maps.has_geography, Refused.seal_unread}}
+use Rattle.{std.proofs.Common.{rules, sym}, desk_store_pages.specs.Errors.tree_refusal, desk_store_rows.specs.claim.Values.seal_bytes, geo_tables.specs.Refusals.SealedErr}
+use Rattle.{desk_store_pages.proofs.Outcomes.match_of, geo_tables.proofs.{Maps.has_geography, Refused.seal_unread}}
 use Rattle.geo_tables.proofs.begins.refuse_sealed.Goals as goal
 
 pub returns-in_err-found-clause-none : goal.returns-in_err-found-clause-none

@@ -1,5 +1,5 @@
-use Rattle.{std.proofs.Common.{refl, inr, arith}, geo_tables.specs.{Loads.BeginErr, Rows.begun_rows}, desk_pages.proofs.{Outcomes.match_of, Reading.{put_after, not_put_after}}}
-use Rattle.page_store.proofs.Stops.{quiet_more}
+use Rattle.{std.proofs.Common.{refl, inr, arith}, geo_tables.specs.{Loads.BeginErr, Rows.begun_rows}, desk_store_pages.proofs.Outcomes.match_of, page_store.proofs.Stops.quiet_more}
+use Rattle.desk_store_pages.proofs.Reading.{put_after, not_put_after}
 use Rattle.geo_tables.proofs.load_rows.begin_rows.Goals as goal
 
 pub returns-in_err-put_begun : goal.returns-in_err-put_begun

@@ -1,5 +1,5 @@
-use Rattle.{std.proofs.Common.{[], ◌∷◌}, geo_tables.specs.Rows.load_taken, store_rows.specs.claim.{Keys.{key_of, counters}, Values.counters_bytes}}
-use Rattle.desk_pages.proofs.Writing.{puts_as, puts_fail, puts_more, puts_none}
+use Rattle.{std.proofs.Common.{[], ◌∷◌}, desk_store_rows.specs.claim.{Keys.{key_of, counters}, Values.counters_bytes}, geo_tables.specs.Rows.load_taken}
+use Rattle.desk_store_pages.proofs.Writing.{puts_as, puts_fail, puts_more, puts_none}
 use Rattle.geo_tables.proofs.load_rows.put_begun.Goals as goal
 
 pub returns-in_err-put_row : goal.returns-in_err-put_row

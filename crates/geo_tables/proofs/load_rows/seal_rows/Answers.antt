@@ -1,8 +1,8 @@
 use Rattle.{std.{specs.FinMap.{insert, remove}, proofs.Common.{List, ℕ, [], ◌∷◌, ◌≡◌, ◌∙◌, length, sym, subst, arith}}, desk_model.specs.claim.Geography.GeographyModel}
-use Rattle.{desk_model.specs.declared.{block.BlockRow.BlockRow, geography.Pair.Pair}, desk_pages.specs.claim.Puts.{HasPut, PutsErr}, geo_tables.specs.Rows.seal_row}
-use Rattle.{page_btree.specs.gets.{claim.{Errors.RemoveErr, Map.InTxn}, declared.error.TreeError.TreeError}, page_store.specs.claim.Transactions.{stored, IsQuiet}}
-use Rattle.{page_store.specs.declared.{pages.Pages.Pages, txn.Txn.Txn}, sector_device.specs.{claim.Disk.Image, declared.SectorDevice.Ghosts}, store_rows.specs.claim.Puts.Row}
-use Rattle.{store_rows.specs.claim.{Keys.{key_of, seal}, Values.seal_bytes}, desk_pages.proofs.{Outcomes.match_of, RowsPut.then_not_put, Writing.{puts_as, told_on}}}
+use Rattle.{desk_model.specs.declared.{block.BlockRow.BlockRow, geography.Pair.Pair}, desk_store_pages.specs.claim.Puts.{HasPut, PutsErr}, desk_store_rows.specs.claim.Puts.Row}
+use Rattle.{desk_store_rows.specs.claim.{Keys.{key_of, seal}, Values.seal_bytes}, geo_tables.specs.Rows.seal_row, page_btree.specs.gets.claim.{Errors.RemoveErr, Map.InTxn}}
+use Rattle.{page_btree.specs.gets.declared.error.TreeError.TreeError, page_store.specs.{claim.Transactions.{stored, IsQuiet}, declared.{pages.Pages.Pages, txn.Txn.Txn}}}
+use Rattle.{sector_device.specs.{claim.Disk.Image, declared.SectorDevice.Ghosts}, desk_store_pages.proofs.{Outcomes.match_of, RowsPut.then_not_put, Writing.{puts_as, told_on}}}
 use Rattle.page_store.proofs.Stops.{quiet_more, passed_more}
 use Rattle.geo_tables.proofs.load_rows.seal_rows.Goals as goal
 

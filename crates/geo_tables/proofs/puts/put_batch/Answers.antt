@@ -1,5 +1,5 @@
-use Rattle.{std.proofs.Common.{◌≡◌, ◌+◌, ℕ, subst, arith}, desk_pages.specs.claim.Puts.{HasPut, PutsErr}, geo_tables.specs.{Rows.{staged_row, staged_rows}, Staging.Stages}}
-use Rattle.{store_rows.specs.claim.Puts.Row, desk_pages.proofs.{Outcomes.match_of, Rising.{from_none, told_more_from, told_not_put_from, all_from}}}
+use Rattle.{std.proofs.Common.{◌≡◌, ◌+◌, ℕ, subst, arith}, desk_store_pages.{specs.claim.Puts.{HasPut, PutsErr}, proofs.Outcomes.match_of}, desk_store_rows.specs.claim.Puts.Row}
+use Rattle.{geo_tables.specs.{Rows.{staged_row, staged_rows}, Staging.Stages}, desk_store_pages.proofs.Rising.{from_none, told_more_from, told_not_put_from, all_from}}
 use Rattle.{geo_tables.proofs.Staging.{more_stage, none_stage}, page_store.proofs.Stops.quiet_more}
 use Rattle.geo_tables.proofs.puts.put_batch.Goals as goal
 

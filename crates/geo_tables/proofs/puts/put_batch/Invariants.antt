@@ -1,5 +1,5 @@
 use Rattle.{std.proofs.Common.◌≡◌, geo_tables.specs.{Rows.staged_rows, Staging.Stages}, page_store.specs.claim.Transactions.{count_of, txn_pages}}
-use Rattle.desk_pages.proofs.Rising.{HasPutFrom}
+use Rattle.desk_store_pages.proofs.Rising.{HasPutFrom}
 use Rattle.geo_tables.proofs.puts.put_batch.Given as goal
 
 abbrev pub invariant-loop-k : goal.invariant-loop-k

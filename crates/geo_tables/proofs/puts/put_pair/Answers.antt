@@ -1,4 +1,4 @@
-use Rattle.{std.proofs.Common.subst, geo_tables.specs.Staging.PutsRow, store_rows.specs.claim.Puts.Row}
+use Rattle.{std.proofs.Common.subst, desk_store_rows.specs.claim.Puts.Row, geo_tables.specs.Staging.PutsRow}
 use Rattle.geo_tables.proofs.puts.put_pair.Goals as goal
 
 pub returns : goal.returns

@@ -1,5 +1,5 @@
-use Rattle.{std.proofs.Common.{◌<◌, ◌-◌, length, get_or, subst, ap, arith}, desk_model.specs.declared.geography.Pair.Pair, geo_tables.specs.Staging.PutsRow}
-use Rattle.{store_rows.specs.claim.Puts.Row, geo_tables.proofs.Staging.{read_at, had_at, row_more, block_is, pair_is, fits_here, no_block}}
+use Rattle.{std.proofs.Common.{◌<◌, ◌-◌, length, get_or, subst, ap, arith}, desk_model.specs.declared.geography.Pair.Pair, desk_store_rows.specs.claim.Puts.Row}
+use Rattle.geo_tables.{specs.Staging.PutsRow, proofs.Staging.{read_at, had_at, row_more, block_is, pair_is, fits_here, no_block}}
 use Rattle.geo_tables.proofs.puts.put_place.Goals as goal
 
 pub returns-then-place-blocks-clause-puts : goal.returns-then-place-blocks-clause-puts

@@ -1,4 +1,5 @@
-use Rattle.{btree_scan.specs.Parts.row_of, geo_tables.{specs.Following.at_hand, proofs.Along.found_same}, desk_pages.proofs.Looking.{both, fails, fails_then, finds, gathered}}
+use Rattle.{btree_scan.specs.Parts.row_of, geo_tables.specs.Following.at_hand, desk_store_pages.proofs.Looking.{both, fails, fails_then, finds, gathered}}
+use Rattle.geo_tables.proofs.Along.{found_same}
 use Rattle.geo_tables.proofs.reads.append_along.Goals as goal
 
 pub returns-in_err-found-clause-gathers : goal.returns-in_err-found-clause-gathers

@@ -1,4 +1,4 @@
-use Rattle.{std.{specs.FinMap.get as row_at, proofs.Common.{◌≡◌, List, ℕ, Some, sym, subst, take, ap, ◌∙◌}}, desk_pages.proofs.Looking.{fails, gathered}}
+use Rattle.{std.{specs.FinMap.get as row_at, proofs.Common.{◌≡◌, List, ℕ, Some, sym, subst, take, ap, ◌∙◌}}, desk_store_pages.proofs.Looking.{fails, gathered}}
 use Rattle.geo_tables.proofs.OneMore.{value_gathered}
 use Rattle.geo_tables.proofs.reads.append_element.Goals as goal
 

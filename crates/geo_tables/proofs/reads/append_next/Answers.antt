@@ -1,4 +1,4 @@
-use Rattle.desk_pages.proofs.Looking.{tells}
+use Rattle.desk_store_pages.proofs.Looking.{tells}
 use Rattle.geo_tables.proofs.reads.append_next.Goals as goal
 
 pub returns : goal.returns

@@ -1,5 +1,5 @@
 use Rattle.{std.{specs.FinMap.entries, proofs.Common.{◌≡◌, sym, ◌∙◌, arith}}, btree_scan.specs.Prefixes.under, geo_tables.proofs.Along.all_in, page_store.proofs.Stops.quiet_none}
-use Rattle.{desk_pages.proofs.Looking.{begins, both, fails_then, finds, lacks_memory}, geo_tables.proofs.OneMore.{all_first, element_at, none_first, one_more_first}}
+use Rattle.{desk_store_pages.proofs.Looking.{begins, both, fails_then, finds, lacks_memory}, geo_tables.proofs.OneMore.{all_first, element_at, none_first, one_more_first}}
 use Rattle.geo_tables.proofs.reads.read_elements.Goals as goal
 
 pub returns-in_err-all : goal.returns-in_err-all

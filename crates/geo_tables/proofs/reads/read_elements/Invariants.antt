@@ -1,4 +1,4 @@
-use Rattle.{std.proofs.Common.{◌≡◌, None, Ok}, btree_scan.specs.Scanning.fault_in, desk_pages.specs.Looking.{Gathers, Says}, geo_tables.specs.Elements.HoldsElements}
+use Rattle.{std.proofs.Common.{◌≡◌, None, Ok}, btree_scan.specs.Scanning.fault_in, desk_store_pages.specs.Looking.{Gathers, Says}, geo_tables.specs.Elements.HoldsElements}
 use Rattle.{geo_tables.{specs.Following.Scans, proofs.OneMore.HoldsFirst}, page_store.specs.claim.Transactions.{count_of, txn_pages}}
 use Rattle.geo_tables.proofs.reads.read_elements.Given as goal
 

@@ -1,5 +1,5 @@
 use Rattle.{std.{specs.Prelude.IfSome, proofs.Common.{Option, subst, sym, ◌∙◌}}, btree_scan.specs.{Parts.row_of, Scanning.{CanScan, ScanErr}}}
-use Rattle.{page_btree.specs.gets.declared.error.TreeError.TreeError, desk_pages.proofs.Looking.{looked, not_looked}, geo_tables.proofs.Along.{fault_unread, taken_so}}
+use Rattle.{page_btree.specs.gets.declared.error.TreeError.TreeError, desk_store_pages.proofs.Looking.{looked, not_looked}, geo_tables.proofs.Along.{fault_unread, taken_so}}
 use Rattle.geo_tables.proofs.reads.take_next.Goals as goal
 
 pub returns-in-Some-clause-looks : goal.returns-in-Some-clause-looks

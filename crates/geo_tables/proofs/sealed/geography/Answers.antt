@@ -1,4 +1,4 @@
-use Rattle.{std.proofs.Common.{Some, ap, sym, ◌∙◌, arith, rules}, desk_pages.proofs.Looking.{both, fails, fails_then, finds, gathered}}
+use Rattle.{std.proofs.Common.{Some, ap, sym, ◌∙◌, arith, rules}, desk_store_pages.proofs.Looking.{both, fails, fails_then, finds, gathered}}
 use Rattle.geo_tables.proofs.SealedRows.{none_by_seal, seal_stands, told_by_seal}
 use Rattle.geo_tables.proofs.sealed.geography.Goals as goal
 

@@ -1,9 +1,10 @@
 use Rattle.{std.{specs.Prelude.{Result, MatchResult}, proofs.Common.{◌≡◌, Ok, Err, List, sym, subst, ◌∙◌}}, desk_model.specs.claim.Geography.GeographyModel}
-use Rattle.{desk_model.specs.{claim.GeographyModels.IsGeographyModel, declared.{block.BlockRow.BlockRow, geography.Pair.Pair}}, desk_pages.specs.Looking.{Gathers, IsOnly, Says}}
-use Rattle.{geo_tables.specs.Elements.{GeographyErr, HoldsElements, IsPairRow, IsReadBy, IsSealedAs, IsSealRead}, page_btree.specs.gets.declared.error.TreeError.TreeError}
-use Rattle.{page_btree.specs.gets.declared.error.TreeError.TheVariants.{NotAStore, Memory}, page_store.specs.declared.{pages.Pages.Pages, txn.Txn.Txn}}
-use Rattle.{sector_device.specs.declared.SectorDevice.Ghosts, store_rows.specs.claim.{GeographyRows.{IsBlockRow, neighbours_bytes}, Keys.{key_of, block, pair}, Rows.KeyMap}}
-use Rattle.{store_rows.specs.{claim.Values.block_bytes, declared.value.SealRow.SealRow}, desk_pages.proofs.Looking.{both, fails, fails_then, finds, not_looked, refuses}}
+use Rattle.{desk_model.specs.{claim.GeographyModels.IsGeographyModel, declared.{block.BlockRow.BlockRow, geography.Pair.Pair}}, desk_store_rows.specs.claim.Rows.KeyMap}
+use Rattle.{desk_store_pages.specs.Looking.{Gathers, IsOnly, Says}, desk_store_rows.specs.claim.{GeographyRows.{IsBlockRow, neighbours_bytes}, Keys.{key_of, block, pair}}}
+use Rattle.{desk_store_rows.specs.{claim.Values.block_bytes, declared.value.SealRow.SealRow}, page_btree.specs.gets.declared.error.TreeError.TreeError}
+use Rattle.{geo_tables.specs.Elements.{GeographyErr, HoldsElements, IsPairRow, IsReadBy, IsSealedAs, IsSealRead}, page_store.specs.declared.{pages.Pages.Pages, txn.Txn.Txn}}
+use Rattle.{page_btree.specs.gets.declared.error.TreeError.TheVariants.{NotAStore, Memory}, sector_device.specs.declared.SectorDevice.Ghosts}
+use Rattle.desk_store_pages.proofs.Looking.{both, fails, fails_then, finds, not_looked, refuses}
 use Rattle.geo_tables.proofs.sealed.read_sealed.Goals as goal
 
 -- ---- what was read of a geography, where it is none

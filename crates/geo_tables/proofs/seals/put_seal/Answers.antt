@@ -1,9 +1,9 @@
 use Rattle.{std.{specs.Prelude.◌⊎◌, proofs.{Common.{◌≡◌, [], ◌∷◌, inl, arith}, lemmas.Result.on_ok_weaker}}, desk_model.specs.claim.Geography.GeographyModel}
-use Rattle.{desk_pages.specs.{Errors.tree_refusal, claim.Desks.OpensDesk}, geo_tables.specs.{Loading.{number_of, geography_model_of}, Loads.HasSealed, Rows.seal_row}}
-use Rattle.{geo_tables.specs.declared.load.Load.Load, page_store.specs.{claim.Transactions.disk_in, declared.{pages.Pages.Pages, txn.Txn.Txn}}, store_rows.specs.Changes.desk_with}
-use Rattle.{sector_device.{specs.declared.SectorDevice.Ghosts, proofs.Moments.leaves_wider}, desk_pages.proofs.Kept.opens_now, geo_tables.proofs.Joins.{quiet_leaves, step_leaves}}
+use Rattle.{desk_store_pages.specs.{Errors.tree_refusal, claim.Desks.OpensDesk}, desk_store_rows.specs.Changes.desk_with, geo_tables.specs.Loading.{number_of, geography_model_of}}
+use Rattle.{geo_tables.specs.{Loads.HasSealed, Rows.seal_row, declared.load.Load.Load}, page_store.specs.{claim.Transactions.disk_in, declared.{pages.Pages.Pages, txn.Txn.Txn}}}
+use Rattle.{sector_device.specs.declared.SectorDevice.Ghosts, desk_store_pages.proofs.Kept.opens_now, geo_tables.proofs.Joins.{quiet_leaves, step_leaves}}
 use Rattle.geo_tables.proofs.{Refused.{rows_refused, rows_unstarted}, Staged.{desk_held, seal_fits, seal_desk}, Steps.{commits_after, not_started, not_stepped}}
-use Rattle.page_store.proofs.Stops.{leaves_here}
+use Rattle.{page_store.proofs.Stops.leaves_here, sector_device.proofs.Moments.leaves_wider}
 use Rattle.geo_tables.proofs.seals.put_seal.Goals as goal
 
 -- what was put, of the geography itself

@@ -1,4 +1,4 @@
-use Rattle.{std.proofs.Common.{◌≤◌, ℕ, length, take, inl, inr, subst, refl, rules}, http_intake.{specs.claim.Lines.head_lines, proofs.Prefixes.window_is}}
+use Rattle.{std.proofs.Common.{◌≤◌, ℕ, length, take, inl, inr, subst, refl, rules}, http_wire_intake.{specs.claim.Lines.head_lines, proofs.Prefixes.window_is}}
 use Rattle.{httparse.specs.Spans.{RequestOverflows, RequestExceeds}, http_wire.proofs.LookLemmas.{parsed_at, exceeds_lines}}
 use Rattle.http_wire.proofs.look.look_at.Goals as goal
 

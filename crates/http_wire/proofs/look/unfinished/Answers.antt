@@ -1,4 +1,4 @@
-use Rattle.{std.proofs.Common.{◌≤◌, inl, inr, subst, refl, arith, rules}, http_intake.specs.claim.Lines.head_lines, httparse.specs.Grammar.{HasNoRequest, MayBecomeRequest}}
+use Rattle.{std.proofs.Common.{◌≤◌, inl, inr, subst, refl, arith, rules}, http_wire_intake.specs.claim.Lines.head_lines, httparse.specs.Grammar.{HasNoRequest, MayBecomeRequest}}
 use Rattle.http_wire.proofs.LookLemmas.{overflows_at}
 use Rattle.http_wire.proofs.look.unfinished.Goals as goal
 

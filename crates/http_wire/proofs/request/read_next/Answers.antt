@@ -1,4 +1,4 @@
-use Rattle.{std.proofs.{Common.{[], ◌++◌, Ok, subst, sym, rules}, KnownBytes.Appends-nil}, http_wire.specs.Incoming.ReadsPrefix, http_intake.proofs.DrawsLemmas.goes_on}
+use Rattle.{std.proofs.{Common.{[], ◌++◌, Ok, subst, sym, rules}, KnownBytes.Appends-nil}, http_wire.specs.Incoming.ReadsPrefix, http_wire_intake.proofs.DrawsLemmas.goes_on}
 use Rattle.http_wire.proofs.InterimLemmas.{open_prefix, open_short, refused_prefix}
 use Rattle.http_wire.proofs.request.read_next.Goals as goal
 

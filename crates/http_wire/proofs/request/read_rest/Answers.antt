@@ -1,6 +1,6 @@
 use Rattle.{std.proofs.{Common.{List, [], ℕ, ◌++◌, ◌∙◌, ap, sym, subst, rules}, KnownBytes.Consumes-nil}, http_wire.specs.{Framed.BodyRead, Incoming.{ReadsPrefix, IsTargetOf}}}
-use Rattle.{http_wire.specs.claim.Interim.continue_text, httparse.specs.Spans.span_bytes, http_intake.proofs.DrawsLemmas.{same_none, spends_none}}
-use Rattle.http_wire.proofs.{FinishLemmas.{finish_draws, finish_ends, finish_writes}, InterimLemmas.{found_asks, found_cut}, RequestLemmas.{rest_reads, out_of_memory, due}}
+use Rattle.{http_wire.{specs.claim.Interim.continue_text, proofs.FinishLemmas.{finish_draws, finish_ends, finish_writes}}, httparse.specs.Spans.span_bytes}
+use Rattle.{http_wire.proofs.{InterimLemmas.{found_asks, found_cut}, RequestLemmas.{rest_reads, out_of_memory, due}}, http_wire_intake.proofs.DrawsLemmas.{same_none, spends_none}}
 use Rattle.http_wire.proofs.request.read_rest.Goals as goal
 
 pub returns : goal.returns

@@ -1,4 +1,4 @@
-use Rattle.desk_pages.proofs.Looking.{both, fails, fails_then, finds}
+use Rattle.desk_store_pages.proofs.Looking.{both, fails, fails_then, finds}
 use Rattle.inspect_command.proofs.rows.count_rows.Goals as goal
 
 pub returns-in_err-chunks-clause-looks : goal.returns-in_err-chunks-clause-looks

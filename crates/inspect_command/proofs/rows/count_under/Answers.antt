@@ -1,6 +1,6 @@
 use Rattle.{std.proofs.Common.{◌+◌, List, [], ◌∷◌, length, length-append, sym, ap, ◌∙◌, arith}, btree_scan.specs.Parts.row_of, page_btree.specs.node.claim.Entries.Entry}
 use Rattle.{store_verification.specs.rows.Strays.IsAny, btree_scan.proofs.Walked.{walk_all, walk_begins, walk_ends, walk_on, walk_quiet, walk_refused}}
-use Rattle.{desk_pages.proofs.{Looking.{looked, not_looked}, Reading.get_unread}, page_store.proofs.Stops.{passed_more, passed_none}}
+use Rattle.{desk_store_pages.proofs.{Looking.{looked, not_looked}, Reading.get_unread}, page_store.proofs.Stops.{passed_more, passed_none}}
 use Rattle.inspect_command.proofs.rows.count_under.Goals as goal
 
 pub loop-taken-init : goal.loop-taken-init

@@ -1,4 +1,4 @@
-use Rattle.{std.proofs.Common.{◌≤◌, sym, ap, subst, ◌∙◌}, desk_pages.specs.{Openings.{LeavesOneOf, OpensOneOf}, declared.error.StoreError.StoreError}}
+use Rattle.{std.proofs.Common.{◌≤◌, sym, ap, subst, ◌∙◌}, desk_store_pages.specs.{Openings.{LeavesOneOf, OpensOneOf}, declared.error.StoreError.StoreError}}
 use Rattle.{inspect_command.specs.Rows.IsUncounted, page_store.specs.claim.Transactions.disk_in, store_command.specs.{Faults.fault_of_store, declared.fault.StoreFault.StoreFault}}
 use Rattle.{inspect_command.proofs.{Looked.counts, Unread.{no_less, opened_leaves, page_uncounted, rows_uncounted}}, page_store.proofs.Stops.leaves_quiet}
 use Rattle.inspect_command.proofs.rows.rows_of.Goals as goal

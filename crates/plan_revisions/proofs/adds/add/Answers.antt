@@ -1,14 +1,16 @@
 use Rattle.std.proofs.Common.{rules, ◌≡◌, ◌<◌, ◌≤◌, ◌-◌, ◌^◌, ◌∙◌, ℕ, Bool, List, length, get_or, Option, Result, Ok, sym, ap, subst, arith, Err}
-use Rattle.{std.proofs.lemmas.Grind.get_or_default_zero, desk_catalogue.specs.Cutting.{changes_in, is_changed}, desk_model.specs.{Ranges.ranges_of, claim.Desk.Desk}}
-use Rattle.desk_model.specs.{claim.{Geography.GeographyModel, GeographyModels.AreBlocks, Room.{changed, revision_rows}}, declared.ranges.CountyRange.CountyRange}
-use Rattle.{desk_pages.specs.{Looking.Gathers, Outcomes.Writes, claim.Puts.{HasPut, PutsErr}}, page_btree.specs.gets.claim.Map.InTxn as HasMap, store_rows.specs.TidyLaws.NextIsOne}
+use Rattle.{std.proofs.lemmas.Grind.get_or_default_zero, desk_model.specs.{Ranges.ranges_of, claim.{Desk.Desk, Geography.GeographyModel, GeographyModels.AreBlocks}}}
+use Rattle.{desk_model.specs.{claim.Room.{changed, revision_rows}, declared.ranges.CountyRange.CountyRange}, desk_store_catalogue.specs.Cutting.{changes_in, is_changed}}
+use Rattle.{desk_store_pages.specs.{Looking.Gathers, Outcomes.Writes, claim.Puts.{HasPut, PutsErr}}, desk_store_rows.specs.{TidyLaws.NextIsOne, claim.Puts.{Row, put_rows}}}
+use Rattle.{desk_store_rows.specs.{claim.{Rows.KeyMap, Tidy.CountersFit}, declared.value.Counters.Counters}, page_btree.specs.gets.claim.Map.InTxn as HasMap}
 use Rattle.{page_btree.specs.gets.declared.error.TreeError.TreeError, page_store.specs.{claim.Transactions.{stored, disk_in, IsQuiet}, declared.{pages.Pages.Pages, txn.Txn.Txn}}}
 use Rattle.plan_revisions.specs.{Adding.{AreRead, IsOpen, rows_put, TakesSome}, Counties.{count_new, drawn, new_lists}, Laws.{CanAdd, DesksAreAdded, RowsAreFew, all_rows}}
 use Rattle.plan_revisions.specs.{Outcomes.AddsRows, Plans.{TakesNext, with_next}, claim.{Outcomes.HasExhausted, PlanRows.HasChunkNumbers}, declared.reads.Reading.Reading}
-use Rattle.{plan_revisions.specs.claim.Steps.{HasStepped, LeavesNumbers, StepErr}, sector_device.specs.declared.SectorDevice.Ghosts, store_rows.specs.claim.Puts.{Row, put_rows}}
-use Rattle.{store_rows.specs.{claim.{Rows.KeyMap, Tidy.CountersFit}, declared.value.Counters.Counters}, chunk_table.proofs.Changed.{rows_changed, rows_unchanged}}
-use Rattle.{chunk_table.proofs.Writing.{after_reads, writes_as, only_read, unread}, desk_pages.proofs.Writing.{does, told_on}, plan_revisions.proofs.Chunking.new_many}
-use Rattle.plan_revisions.proofs.{Drawn.{new_are_changed, long_drawn}, LastRevision.sought_said, Retiring.{stepped_by, not_stepped_by}}
+use Rattle.{plan_revisions.{specs.claim.Steps.{HasStepped, LeavesNumbers, StepErr}, proofs.Chunking.new_many}, sector_device.specs.declared.SectorDevice.Ghosts}
+use Rattle.{desk_store_pages.proofs.Writing.{does, told_on}, plan_revisions.proofs.{Drawn.{new_are_changed, long_drawn}, LastRevision.sought_said}}
+use Rattle.plan_revisions.proofs.Retiring.{stepped_by, not_stepped_by}
+use Rattle.plan_revisions_sweeps.proofs.chunk_table.Changed.{rows_changed, rows_unchanged}
+use Rattle.plan_revisions_sweeps.proofs.chunk_table.Writing.{after_reads, writes_as, only_read, unread}
 use Rattle.plan_revisions.proofs.adds.add.Goals as goal
 
 -- A revision that was read and put is a step of the desk.

@@ -1,9 +1,10 @@
-use Rattle.{std.proofs.Common.{◌≡◌, List, [], length, arith, rules, refl}, desk_pages.specs.{Reading.{HasNext, ReadErr}, claim.Puts.{HasPut, PutsErr}}}
-use Rattle.{page_btree.specs.gets.{claim.Map.InTxn, declared.error.TreeError.{TreeError, TheVariants.TooDeep}}, page_store.specs.declared.{pages.Pages.Pages, txn.Txn.Txn}}
-use Rattle.{page_store.specs.claim.Transactions.{stored, disk_in, IsQuiet, Passed}, plan_revisions.specs.{PlanRows.created_rows, claim.Outcomes.{AreNext, HasNumbered, ChangeErr}}}
-use Rattle.{plan_revisions.specs.claim.PlanRows.HasPlanNumber, sector_device.specs.declared.SectorDevice.Ghosts, store_rows.specs.claim.{Puts.Row, Rows.KeyMap}}
-use Rattle.{store_rows.specs.{claim.Tidy.{IsNext, CountersFit}, declared.value.Counters.Counters}, chunk_table.proofs.Writing.{after_reads, only_read, unread}}
-use Rattle.{desk_pages.proofs.{RowsPut.{more_put, then_not_put}, Writing.{does, told_on}}, plan_revisions.proofs.Exhausting.until_full}
+use Rattle.{std.proofs.Common.{◌≡◌, List, [], length, arith, rules, refl}, desk_store_pages.specs.{Reading.{HasNext, ReadErr}, claim.Puts.{HasPut, PutsErr}}}
+use Rattle.{desk_store_rows.specs.{claim.{Puts.Row, Rows.KeyMap, Tidy.{IsNext, CountersFit}}, declared.value.Counters.Counters}, page_btree.specs.gets.claim.Map.InTxn}
+use Rattle.{page_btree.specs.gets.declared.error.TreeError.{TreeError, TheVariants.TooDeep}, page_store.specs.claim.Transactions.{stored, disk_in, IsQuiet, Passed}}
+use Rattle.{page_store.specs.declared.{pages.Pages.Pages, txn.Txn.Txn}, plan_revisions.specs.{PlanRows.created_rows, claim.Outcomes.{AreNext, HasNumbered, ChangeErr}}}
+use Rattle.{plan_revisions.specs.claim.PlanRows.HasPlanNumber, sector_device.specs.declared.SectorDevice.Ghosts, desk_store_pages.proofs.RowsPut.{more_put, then_not_put}}
+use Rattle.{desk_store_pages.proofs.Writing.{does, told_on}, plan_revisions.proofs.Exhausting.until_full}
+use Rattle.plan_revisions_sweeps.proofs.chunk_table.Writing.{after_reads, only_read, unread}
 use Rattle.plan_revisions.proofs.changes.create_plan.Goals as goal
 
 -- The numbers are read, and then rows are put.

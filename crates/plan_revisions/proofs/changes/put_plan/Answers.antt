@@ -1,5 +1,5 @@
-use Rattle.{std.proofs.Common.{◌∷◌, [], rules}, store_rows.specs.claim.{Keys.{key_of, counters}, Values.counters_bytes}, plan_revisions.proofs.Exhausting.until_full}
-use Rattle.desk_pages.proofs.Writing.{puts_as, puts_fail, puts_more, puts_none}
+use Rattle.{std.proofs.Common.{◌∷◌, [], rules}, desk_store_rows.specs.claim.{Keys.{key_of, counters}, Values.counters_bytes}, plan_revisions.proofs.Exhausting.until_full}
+use Rattle.desk_store_pages.proofs.Writing.{puts_as, puts_fail, puts_more, puts_none}
 use Rattle.plan_revisions.proofs.changes.put_plan.Goals as goal
 
 pub returns-in_err-put_row : goal.returns-in_err-put_row

@@ -1,9 +1,11 @@
-use Rattle.{std.{specs.FinMap.remove, proofs.Common.{◌≡◌, ◌≤◌, ◌+◌, ℕ, List, [], refl, ◌∙◌, arith, ◌∷◌, rules, sym}}, desk_pages.specs.claim.Puts.{HasPut, PutsErr}}
-use Rattle.page_btree.specs.{gets.{claim.{Errors.RemoveErr, Map.InTxn}, declared.error.TreeError.{TreeError, TheVariants.{NotAStore, TooDeep}}}, removes.Outcomes.IsNoNearer}
-use Rattle.page_store.specs.{claim.Transactions.{stored, disk_in, txn_pages, txn_root, txn_free, txn_writes, over, IsQuiet, Passed}, declared.{pages.Pages.Pages, txn.Txn.Txn}}
+use Rattle.{std.{specs.FinMap.remove, proofs.Common.{◌≡◌, ◌≤◌, ◌+◌, ℕ, List, [], refl, ◌∙◌, arith, ◌∷◌, rules, sym}}, desk_store_pages.specs.claim.Puts.{HasPut, PutsErr}}
+use Rattle.{desk_store_rows.specs.claim.{Keys.{key_of, named, retired}, Rows.KeyMap}, page_btree.specs.{gets.claim.{Errors.RemoveErr, Map.InTxn}, removes.Outcomes.IsNoNearer}}
+use Rattle.{page_btree.specs.gets.declared.error.TreeError.{TreeError, TheVariants.{NotAStore, TooDeep}}, page_store.specs.declared.{pages.Pages.Pages, txn.Txn.Txn}}
+use Rattle.{page_store.specs.claim.Transactions.{stored, disk_in, txn_pages, txn_root, txn_free, txn_writes, over, IsQuiet, Passed}, desk_store_pages.proofs.Outcomes.match_of}
 use Rattle.{plan_revisions.{specs.claim.{Outcomes.{HasRetired, RetireErr}, PlanRows.retired_rows}, proofs.Exhausting.until_full}, sector_device.specs.declared.SectorDevice.Ghosts}
-use Rattle.{store_rows.specs.claim.{Keys.{key_of, named, retired}, Rows.KeyMap}, chunk_table.proofs.{Changed.{deep_after, near_before}, Writing.{after_reads, writes_as}}}
-use Rattle.{desk_pages.proofs.{Outcomes.match_of, Writing.puts_as}, page_store.proofs.Stops.{passed_more, failed_more}}
+use Rattle.{desk_store_pages.proofs.Writing.puts_as, page_store.proofs.Stops.{passed_more, failed_more}}
+use Rattle.plan_revisions_sweeps.proofs.chunk_table.Changed.{deep_after, near_before}
+use Rattle.plan_revisions_sweeps.proofs.chunk_table.Writing.{after_reads, writes_as}
 use Rattle.plan_revisions.proofs.changes.retire_plan.Goals as goal
 
 -- A plan's row is removed, and then its number is marked.

@@ -1,5 +1,6 @@
 use Rattle.{std.proofs.Common.{ℕ, List, length, Ok, Err, ap, arith, rules}, desk_model.specs.claim.Room.fork_rows, plan_revisions.specs.{Forking.HasSource, Plans.TakesFork}}
-use Rattle.{chunk_table.proofs.Writing.{only_read, unread}, desk_pages.proofs.Writing.{does, told_on}, plan_revisions.proofs.{Forking.{forks, none_left}, LastRevision.sought_said}}
+use Rattle.{desk_store_pages.proofs.Writing.{does, told_on}, plan_revisions.proofs.{Forking.{forks, none_left}, LastRevision.sought_said}}
+use Rattle.plan_revisions_sweeps.proofs.chunk_table.Writing.{only_read, unread}
 use Rattle.plan_revisions.proofs.forks.fork.Goals as goal
 
 pub returns-in_err-read : goal.returns-in_err-read

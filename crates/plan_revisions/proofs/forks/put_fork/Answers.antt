@@ -1,5 +1,6 @@
-use Rattle.{std.proofs.Common.{arith, rules}, chunk_table.proofs.Writing.{after_reads, writes_as}, desk_pages.proofs.Writing.told_on, page_store.proofs.Stops.quiet_more}
+use Rattle.{std.proofs.Common.{arith, rules}, desk_store_pages.proofs.Writing.told_on, page_store.proofs.Stops.quiet_more}
 use Rattle.plan_revisions.proofs.Forking.{not_made, not_held, made_held, not_shared, all_put}
+use Rattle.plan_revisions_sweeps.proofs.chunk_table.Writing.{after_reads, writes_as}
 use Rattle.plan_revisions.proofs.forks.put_fork.Goals as goal
 
 pub returns-in_err-put_plan : goal.returns-in_err-put_plan

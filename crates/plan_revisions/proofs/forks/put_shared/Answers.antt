@@ -1,4 +1,4 @@
-use Rattle.desk_pages.proofs.Writing.{puts_fail, puts_more, puts_none}
+use Rattle.desk_store_pages.proofs.Writing.{puts_fail, puts_more, puts_none}
 use Rattle.plan_revisions.proofs.forks.put_shared.Goals as goal
 
 pub returns-in_err-put_names : goal.returns-in_err-put_names

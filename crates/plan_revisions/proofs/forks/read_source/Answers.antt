@@ -1,5 +1,5 @@
-use Rattle.{std.proofs.Common.{◌≡◌, ◌≢◌, ◌∙◌, ◌++◌, List, ℕ, [], length, Option, rules, ap, subst, arith}, plan_revisions.{specs.PlanRows.IsFound, proofs.Desks.row_found}}
-use Rattle.{store_rows.specs.declared.value.StoredPlan.StoredPlan, desk_pages.proofs.Looking.{both, fails, fails_then, finds, gathered, refuses}}
+use Rattle.{std.proofs.Common.{◌≡◌, ◌≢◌, ◌∙◌, ◌++◌, List, ℕ, [], length, Option, rules, ap, subst, arith}, desk_store_rows.specs.declared.value.StoredPlan.StoredPlan}
+use Rattle.{plan_revisions.{specs.PlanRows.IsFound, proofs.Desks.row_found}, desk_store_pages.proofs.Looking.{both, fails, fails_then, finds, gathered, refuses}}
 use Rattle.plan_revisions.proofs.{Forking.names_there, Retiring.not_none}
 use Rattle.plan_revisions.proofs.forks.read_source.Goals as goal
 

@@ -1,14 +1,14 @@
 use Rattle.std.{specs.{FinMap.{FinMap, insert}, Prelude.Contains}, proofs.Common.{rules, ◌≡◌, ◌<◌, ◌≤◌, ◌*◌, ◌^◌, ℕ, true, List, [], ◌∷◌, length, Some, refl, ap, subst, arith}}
 use Rattle.{std.proofs.lemmas.List.Elements.{All-cons, All-contains, All-nil}, desk_model.specs.{Ranges.{ranges_of, RangesAreCounties, ListsAreCut}, claim.Ranges.cut}}
-use Rattle.{desk_model.specs.{claim.{Desk.{Plan, Desk, name_cmp}, Geography.GeographyModel}, declared.kind.Kind.Kind}, desk_pages.specs.claim.Desks.{AreWithin, IsDeskMap}}
-use Rattle.plan_revisions.specs.{Forking.{CanMake, IsSource, MakesFork, forked_map, row_like, with_made}, PlanLaws.{PlansAreMade, PlansAreTold, RowFits}, PlanRows.IsFound}
-use Rattle.{plan_revisions.specs.Plans.{HasRevisionAt, TakesFork, with_fork, with_plan}, store_rows.specs.{Changes.{desk_with, plan_row_of}, ForkLaws.SharesMakeDesks}}
-use Rattle.store_rows.specs.{RevisionSteps.AreKept, Rows.SameTag, Shares.with_shared, Steps.{chunks_more, one_plan_more}, claim.{DeskRows.{HasPlan, IsDesk}, Rows.KeyMap}}
-use Rattle.store_rows.specs.{TidyLaws.{ChunksAreKept, MakesRevision, NextIsOne, PlansComeAndGoTidily}, claim.RevisionRows.HasRevision, declared.value.Counters.Counters}
-use Rattle.{store_rows.specs.declared.value.StoredPlan.StoredPlan, desk_model.proofs.Maps.insert_again, plan_revisions.proofs.{ChunkLists.few_counties, Within.revision_within}}
-use Rattle.plan_revisions.proofs.{Creating.{IsSize, created_desk}, Desks.{is_with, is_still, numbers_are}, LastRevision.{as_many, told_plan, last_named}}
-use Rattle.{plan_revisions.proofs.{Limits.{put_there, with_one_more}, Looking.{StandsAt, stands_at}, Made.{numbers_moved, rows_keep}}, store_rows.proofs.Forked.can_hold}
-use Rattle.store_rows.proofs.{Frames.{chunk_stays, other_tag, put_is_there, put_keeps}, TidyParts.naming_moves}
+use Rattle.{desk_model.specs.{claim.{Desk.{Plan, Desk, name_cmp}, Geography.GeographyModel}, declared.kind.Kind.Kind}, desk_store_pages.specs.claim.Desks.{AreWithin, IsDeskMap}}
+use Rattle.desk_store_rows.specs.{Changes.{desk_with, plan_row_of}, ForkLaws.SharesMakeDesks, RevisionSteps.AreKept, Rows.SameTag, Shares.with_shared, claim.Rows.KeyMap}
+use Rattle.desk_store_rows.specs.{Steps.{chunks_more, one_plan_more}, TidyLaws.{ChunksAreKept, MakesRevision, NextIsOne, PlansComeAndGoTidily}, claim.DeskRows.{HasPlan, IsDesk}}
+use Rattle.{desk_store_rows.specs.{claim.RevisionRows.HasRevision, declared.value.{Counters.Counters, StoredPlan.StoredPlan}}, plan_revisions.specs.PlanRows.IsFound}
+use Rattle.plan_revisions.specs.{Forking.{CanMake, IsSource, MakesFork, forked_map, row_like, with_made}, PlanLaws.{PlansAreMade, PlansAreTold, RowFits}}
+use Rattle.{plan_revisions.specs.Plans.{HasRevisionAt, TakesFork, with_fork, with_plan}, desk_model.proofs.Maps.insert_again, desk_store_rows.proofs.Forked.can_hold}
+use Rattle.{desk_store_rows.proofs.{Frames.{chunk_stays, other_tag, put_is_there, put_keeps}, TidyParts.naming_moves}, plan_revisions.proofs.ChunkLists.few_counties}
+use Rattle.plan_revisions.proofs.{Creating.{IsSize, created_desk}, Desks.{is_with, is_still, numbers_are}, LastRevision.{as_many, told_plan, last_named}, Within.revision_within}
+use Rattle.plan_revisions.proofs.{Limits.{put_there, with_one_more}, Looking.{StandsAt, stands_at}, Made.{numbers_moved, rows_keep}}
 use Rattle.plan_revisions.proofs.laws.forks_are_made.Goals as goal
 
 -- The rows of a fork make the desk with it.

@@ -1,5 +1,5 @@
 use Rattle.{std.proofs.Common.{◌++◌, ◌∙◌, List, ℕ, ap, sym, subst}, desk_model.specs.declared.ranges.CountyRange.CountyRange, plan_revisions.specs.Lookups.IsRevisionOf}
-use Rattle.desk_pages.proofs.Looking.{finds}
+use Rattle.desk_store_pages.proofs.Looking.{finds}
 use Rattle.plan_revisions.proofs.lookups.revision.Goals as goal
 
 pub returns : goal.returns

@@ -1,4 +1,4 @@
-use Rattle.{std.{specs.Option.option_copied, proofs.Common.{List, ℕ, subst}}, plan_revisions.specs.Outcomes.AddsNext, desk_catalogue.proofs.Overlays.overlaid_long}
+use Rattle.{std.{specs.Option.option_copied, proofs.Common.{List, ℕ, subst}}, plan_revisions.specs.Outcomes.AddsNext, desk_store_catalogue.proofs.Overlays.overlaid_long}
 use Rattle.plan_revisions.proofs.named_adds.add_counties.Goals as goal
 
 pub overlay-requires : goal.overlay-requires

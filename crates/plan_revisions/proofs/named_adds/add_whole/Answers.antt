@@ -1,5 +1,5 @@
-use Rattle.{std.{specs.Option.option_copied, proofs.Common.{List, length, sym, subst, rules}}, desk_catalogue.{specs.Cutting.AreWithin, proofs.Cutting.within_all}}
-use Rattle.{desk_model.specs.declared.ranges.CountyRange.CountyRange, desk_catalogue.proofs.Drafted.all_stay}
+use Rattle.{std.{specs.Option.option_copied, proofs.Common.{List, length, sym, subst, rules}}, desk_model.specs.declared.ranges.CountyRange.CountyRange}
+use Rattle.desk_store_catalogue.{specs.Cutting.AreWithin, proofs.{Cutting.within_all, Drafted.all_stay}}
 use Rattle.plan_revisions.proofs.named_adds.add_whole.Goals as goal
 
 pub changed_counties-requires : goal.changed_counties-requires

@@ -1,5 +1,6 @@
-use Rattle.{std.proofs.{Common.{◌^◌, sym, ◌∙◌, arith, rules}, lemmas.List.append-nil}, plan_revisions.specs.RevisionReading.AreNames, store_rows.specs.claim.Keys.part}
-use Rattle.{store_rows.specs.claim.Lists.chunks_bytes, chunk_table.proofs.ChunkParts.{none_read, read_on, read_whole}, desk_pages.proofs.Looking.{begins, both, fails_then, finds}}
+use Rattle.{std.proofs.{Common.{◌^◌, sym, ◌∙◌, arith, rules}, lemmas.List.append-nil}, desk_store_rows.specs.claim.{Keys.part, Lists.chunks_bytes}}
+use Rattle.{plan_revisions.specs.RevisionReading.AreNames, desk_store_pages.proofs.Looking.{begins, both, fails_then, finds}}
+use Rattle.plan_revisions_sweeps.proofs.chunk_table.ChunkParts.{none_read, read_on, read_whole}
 use Rattle.plan_revisions.proofs.names.append_names.Goals as goal
 
 pub returns-in_err-append_part : goal.returns-in_err-append_part

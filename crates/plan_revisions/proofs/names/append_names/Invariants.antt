@@ -1,5 +1,5 @@
-use Rattle.{std.proofs.Common.{◌≡◌, ◌*◌, ◌^◌, Ok, take}, chunk_table.specs.{Appended.AppendsRows, Parts.AppendsPrefix}, page_store.specs.claim.Transactions.{count_of, txn_pages}}
-use Rattle.{plan_revisions.specs.RevisionReading.AreNames, store_rows.specs.claim.{Keys.part, Lists.chunks_bytes}}
+use Rattle.{std.proofs.Common.{◌≡◌, ◌*◌, ◌^◌, Ok, take}, desk_store_rows.specs.claim.{Keys.part, Lists.chunks_bytes}, page_store.specs.claim.Transactions.{count_of, txn_pages}}
+use Rattle.{plan_revisions.specs.RevisionReading.AreNames, plan_revisions_sweeps.specs.chunk_table.{Appended.AppendsRows, Parts.AppendsPrefix}}
 use Rattle.plan_revisions.proofs.names.append_names.Given as goal
 
 abbrev pub invariant-loop-index : goal.invariant-loop-index

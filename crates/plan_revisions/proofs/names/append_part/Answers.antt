@@ -1,7 +1,8 @@
 use Rattle.std.{specs.FinMap.get, proofs.Common.{◌≡◌, ◌^◌, ℕ, List, Some, arith, ◌-◌, ◌*◌, ◌++◌, length, length-drop, length-take, drop, ap, sym, ◌∙◌, rules}}
-use Rattle.{chunk_table.specs.Parts.BeginsPart, plan_revisions.specs.RevisionReading.{AreNames, names_in}, store_rows.specs.claim.{Keys.{key_of, part}, Rows.KeyMap}}
-use Rattle.{store_rows.specs.claim.Lists.{AreChunks, chunks_bytes}, chunk_table.proofs.ChunkParts.one_part, desk_pages.proofs.Looking.{fails, finds, gathered, not_looked, refuses}}
-use Rattle.{desk_pages.proofs.{ListParts.{part_there, some_of_part, most_of_part, each_of_part}, Reading.one_value}, store_rows.proofs.ListLaws.chunks_differ}
+use Rattle.{desk_store_rows.specs.claim.{Keys.{key_of, part}, Lists.{AreChunks, chunks_bytes}, Rows.KeyMap}, plan_revisions.specs.RevisionReading.{AreNames, names_in}}
+use Rattle.{plan_revisions_sweeps.specs.chunk_table.Parts.BeginsPart, desk_store_pages.proofs.{ListParts.{part_there, some_of_part, most_of_part, each_of_part}, Reading.one_value}}
+use Rattle.{desk_store_pages.proofs.Looking.{fails, finds, gathered, not_looked, refuses}, desk_store_rows.proofs.ListLaws.chunks_differ}
+use Rattle.plan_revisions_sweeps.proofs.chunk_table.ChunkParts.{one_part}
 use Rattle.plan_revisions.proofs.names.append_part.Goals as goal
 
 -- A part of a revision, as its row has it.

@@ -1,4 +1,5 @@
-use Rattle.{std.{specs.FinMap.get, proofs.Common.{sym, ap, subst, ◌∙◌}}, desk_pages.{specs.Reading.StandsAs, proofs.Looking.tells}, store_rows.specs.claim.Values.plan_bytes}
+use Rattle.{std.{specs.FinMap.get, proofs.Common.{sym, ap, subst, ◌∙◌}}, desk_store_pages.specs.Reading.StandsAs, desk_store_rows.specs.claim.Values.plan_bytes}
+use Rattle.desk_store_pages.proofs.Looking.{tells}
 use Rattle.plan_revisions.proofs.plan_reads.find_plan.Goals as goal
 
 pub returns : goal.returns

@@ -1,14 +1,15 @@
-use Rattle.{std.proofs.Common.{◌≡◌, ℕ, List, length, Option, Some, Result, sym, ap, subst, ◌∙◌, arith, rules, ◌⊎◌, is_some, refl}, desk_catalogue.specs.Kept.revision_in}
-use Rattle.{desk_catalogue.specs.claim.Accepting.IsAfter, desk_model.specs.{Ranges.ranges_of, claim.{Desk.{Plan, Desk}, Geography.GeographyModel}, declared.kind.Kind.Kind}}
-use Rattle.{desk_model.specs.{claim.Room.{added_rows, changed, revision_rows, command_rows, fork_rows}, declared.command.Command.Command}, desk_pages.specs.Outcomes.Writes}
-use Rattle.{desk_model.specs.declared.command.Command.TheVariants.{Create, Whole, Counties, Retire, Fork}, desk_pages.specs.claim.Desks.{AreWithin, InTxn}}
-use Rattle.{page_btree.specs.gets.declared.error.TreeError.TreeError, page_store.specs.{claim.Transactions.stored, declared.{pages.Pages.Pages, txn.Txn.Txn}}}
-use Rattle.plan_revisions.specs.{Accepted.IsRevised, Outcomes.{StepsWhereLeft, Steps}, claim.{PlanRows.{HasChunkNumbers, HasPlanNumber}, Rows.{added_by, HasNumbers}}}
-use Rattle.plan_revisions.specs.Plans.{TakesNext, with_next, with_next_of, TakesPlan, with_plan, HasPlanAt, without_plan, TakesFork, with_fork}
-use Rattle.plan_revisions.specs.{claim.Steps.{HasStepped, IsStepped, StepErr}, declared.change.ChangeOutcome.{ChangeOutcome, TheVariants.Made}}
-use Rattle.{sector_device.specs.declared.SectorDevice.Ghosts, store_rows.specs.{Changes.with_revision, declared.value.Counters.Counters}, chunk_table.proofs.Writing.writes_as}
-use Rattle.{desk_pages.proofs.Writing.{does, told_on}, plan_revisions.proofs.Accepted.{last_is, rows_added, chunks_added, created, forked, rows_forked, taken_away, next_is}}
+use Rattle.{std.proofs.Common.{◌≡◌, ℕ, List, length, Option, Some, Result, sym, ap, subst, ◌∙◌, arith, rules, ◌⊎◌, is_some, refl}, desk_model.specs.Ranges.ranges_of}
+use Rattle.desk_model.specs.{claim.{Desk.{Plan, Desk}, Geography.GeographyModel, Room.{added_rows, changed, revision_rows, command_rows, fork_rows}}, declared.kind.Kind.Kind}
+use Rattle.{desk_model.specs.declared.command.Command.{Command, TheVariants.{Create, Whole, Counties, Retire, Fork}}, desk_store_catalogue.specs.Kept.revision_in}
+use Rattle.{desk_store_catalogue.specs.claim.Accepting.IsAfter, desk_store_pages.specs.{Outcomes.Writes, claim.Desks.{AreWithin, InTxn}}, page_store.specs.declared.txn.Txn.Txn}
+use Rattle.{desk_store_rows.specs.{Changes.with_revision, declared.value.Counters.Counters}, page_btree.specs.gets.declared.error.TreeError.TreeError}
+use Rattle.{page_store.specs.{claim.Transactions.stored, declared.pages.Pages.Pages}, plan_revisions.specs.{Accepted.IsRevised, Outcomes.{StepsWhereLeft, Steps}}}
+use Rattle.plan_revisions.specs.{Plans.{TakesNext, with_next, with_next_of, TakesPlan, with_plan, HasPlanAt, without_plan, TakesFork, with_fork}, claim.Rows.{added_by, HasNumbers}}
+use Rattle.plan_revisions.specs.{claim.{PlanRows.{HasChunkNumbers, HasPlanNumber}, Steps.{HasStepped, IsStepped, StepErr}}, declared.change.ChangeOutcome.ChangeOutcome}
+use Rattle.{plan_revisions.specs.declared.change.ChangeOutcome.TheVariants.Made, sector_device.specs.declared.SectorDevice.Ghosts, desk_store_pages.proofs.Writing.{does, told_on}}
+use Rattle.plan_revisions.proofs.Accepted.{last_is, rows_added, chunks_added, created, forked, rows_forked, taken_away, next_is}
 use Rattle.plan_revisions.proofs.Counted.{same_geography, changes_by, changes_now, each_told, revised_by}
+use Rattle.plan_revisions_sweeps.proofs.chunk_table.Writing.{writes_as}
 use Rattle.std.specs.FinMap as map_of
 use Rattle.plan_revisions.proofs.puts.put_command.Goals as goal
 

@@ -1,5 +1,5 @@
-use Rattle.{std.proofs.Common.{◌∷◌, [], ap, ◌∙◌}, store_rows.specs.{NameRows.name_row, claim.Lists.chunks_bytes}}
-use Rattle.desk_pages.proofs.Writing.{puts_as, puts_nothing, told_fail, told_puts}
+use Rattle.{std.proofs.Common.{◌∷◌, [], ap, ◌∙◌}, desk_store_rows.specs.{NameRows.name_row, claim.Lists.chunks_bytes}}
+use Rattle.desk_store_pages.proofs.Writing.{puts_as, puts_nothing, told_fail, told_puts}
 use Rattle.plan_revisions.proofs.revision_puts.put_names.Goals as goal
 
 pub loop-index-init : goal.loop-index-init

@@ -1,4 +1,4 @@
-use Rattle.{std.proofs.Common.Ok, desk_pages.specs.Outcomes.PutsRows, store_rows.specs.{NameRows.name_row, Puts.rows_told}}
+use Rattle.{std.proofs.Common.Ok, desk_store_pages.specs.Outcomes.PutsRows, desk_store_rows.specs.{NameRows.name_row, Puts.rows_told}}
 use Rattle.plan_revisions.proofs.revision_puts.put_names.Given as goal
 
 abbrev pub invariant-loop-index : goal.invariant-loop-index

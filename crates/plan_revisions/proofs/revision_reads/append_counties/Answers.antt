@@ -1,6 +1,6 @@
 use Rattle.std.{specs.List.concat, proofs.{Common.{◌≡◌, ◌<◌, ◌≤◌, ◌+◌, ◌++◌, List, ℕ, [], length, get_or, take, sym, ap, ◌∙◌, take_all, arith}, lemmas.List.append-nil}}
-use Rattle.{plan_revisions.specs.RevisionReading.AreCounties, chunk_table.proofs.Appended.more_on, desk_pages.proofs.Looking.{begins, both, fails_then, finds}}
-use Rattle.plan_revisions.proofs.CountyLists.{as_many, one_county_more}
+use Rattle.{plan_revisions.{specs.RevisionReading.AreCounties, proofs.CountyLists.{as_many, one_county_more}}, desk_store_pages.proofs.Looking.{begins, both, fails_then, finds}}
+use Rattle.plan_revisions_sweeps.proofs.chunk_table.Appended.{more_on}
 use Rattle.plan_revisions.proofs.revision_reads.append_counties.Goals as goal
 
 pub returns-in_err-append_county : goal.returns-in_err-append_county

@@ -1,5 +1,5 @@
-use Rattle.{std.{specs.List.concat, proofs.Common.{◌≡◌, Ok, take}}, chunk_table.specs.Appended.Appends, page_store.specs.claim.Transactions.{count_of, txn_pages}}
-use Rattle.plan_revisions.specs.RevisionReading.{AreCounties}
+use Rattle.{std.{specs.List.concat, proofs.Common.{◌≡◌, Ok, take}}, page_store.specs.claim.Transactions.{count_of, txn_pages}, plan_revisions.specs.RevisionReading.AreCounties}
+use Rattle.plan_revisions_sweeps.specs.chunk_table.Appended.{Appends}
 use Rattle.plan_revisions.proofs.revision_reads.append_counties.Given as goal
 
 abbrev pub invariant-loop-county : goal.invariant-loop-county

@@ -1,4 +1,4 @@
-use Rattle.{std.proofs.Common.{[], get_or}, desk_pages.proofs.Looking.tells, plan_revisions.proofs.CountyLists.county_there}
+use Rattle.{std.proofs.Common.{[], get_or}, desk_store_pages.proofs.Looking.tells, plan_revisions.proofs.CountyLists.county_there}
 use Rattle.plan_revisions.proofs.revision_reads.append_county.Goals as goal
 
 pub returns : goal.returns

@@ -1,4 +1,4 @@
-use Rattle.{std.proofs.Common.{◌++◌, List, ℕ, length, ap, ◌∙◌}, desk_pages.proofs.Looking.{fails, looks, refuses}, plan_revisions.proofs.CountyLists.{named, counties_of}}
+use Rattle.{std.proofs.Common.{◌++◌, List, ℕ, length, ap, ◌∙◌}, desk_store_pages.proofs.Looking.{fails, looks, refuses}, plan_revisions.proofs.CountyLists.{named, counties_of}}
 use Rattle.plan_revisions.proofs.revision_reads.append_revision.Goals as goal
 
 pub returns-in_err-append_names : goal.returns-in_err-append_names

@@ -1,4 +1,4 @@
-use Rattle.{std.proofs.Common.{Ok, Err}, desk_pages.proofs.Writing.{puts_fail, puts_more, puts_none}}
+use Rattle.{std.proofs.Common.{Ok, Err}, desk_store_pages.proofs.Writing.{puts_fail, puts_more, puts_none}}
 use Rattle.plan_revisions.proofs.revisions.put_revision.Goals as goal
 
 pub returns-in_err-put_changes : goal.returns-in_err-put_changes

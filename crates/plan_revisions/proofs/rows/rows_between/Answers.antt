@@ -1,5 +1,5 @@
-use Rattle.{std.proofs.Common.{◌≡◌, ◌+◌, List, length, sym, ap, ◌∙◌, arith, rules}, desk_catalogue.specs.{Cutting.changes_in, Kept.revision_in}, desk_model.specs.Ranges.ranges_of}
-use Rattle.desk_model.specs.{claim.{Desk.Desk, Geography.GeographyModel, Room.revision_rows}, declared.ranges.CountyRange.CountyRange}
+use Rattle.{std.proofs.Common.{◌≡◌, ◌+◌, List, length, sym, ap, ◌∙◌, arith, rules}, desk_model.specs.{Ranges.ranges_of, claim.{Desk.Desk, Geography.GeographyModel}}}
+use Rattle.{desk_model.specs.{claim.Room.revision_rows, declared.ranges.CountyRange.CountyRange}, desk_store_catalogue.specs.{Cutting.changes_in, Kept.revision_in}}
 use Rattle.plan_revisions.proofs.{Accepted.{next_is, rows_added}, CommandCounties.few_ranges, Counted.{changes_told, each_told, if_whole, same_geography}}
 use Rattle.std.specs.FinMap as map_of
 use Rattle.plan_revisions.proofs.rows.rows_between.Goals as goal

@@ -1,4 +1,4 @@
-use Rattle.{desk_pages.proofs.Looking.{both, fails, fails_then, gathered, looks}, plan_revisions_sweeps.proofs.Told.counted_by_holders_by}
+use Rattle.{desk_store_pages.proofs.Looking.{both, fails, fails_then, gathered, looks}, plan_revisions_sweeps.proofs.Told.counted_by_holders_by}
 use Rattle.plan_revisions_sweeps.proofs.checks.check_holdings.Goals as goal
 
 pub returns-in_err-count_holders : goal.returns-in_err-count_holders

@@ -1,5 +1,5 @@
 use Rattle.{std.proofs.Common.{refl, sym, ◌∙◌, arith, rules}, plan_revisions_sweeps.specs.Checks.IsEntryTold, btree_scan.proofs.RowsFound.all_more}
-use Rattle.{btree_scan.proofs.Walked.{walk_all, walk_begins, walk_ends, walk_on}, desk_pages.proofs.Looking.{looked, not_looked, refuses}}
+use Rattle.{btree_scan.proofs.Walked.{walk_all, walk_begins, walk_ends, walk_on}, desk_store_pages.proofs.Looking.{looked, not_looked, refuses}}
 use Rattle.{page_store.proofs.Stops.{passed_more, passed_none}, plan_revisions_sweeps.proofs.{Scanned.{comes, not_come}, Told.{all_told, not_told}}}
 use Rattle.plan_revisions_sweeps.proofs.counts.check_counts.Goals as goal
 

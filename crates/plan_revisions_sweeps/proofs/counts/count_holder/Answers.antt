@@ -1,5 +1,5 @@
-use Rattle.{std.{specs.FinMap.get, proofs.Common.{refl, sym, ap, subst, ◌∙◌}}, plan_revisions_sweeps.specs.Checks.IsThere, store_rows.specs.{RowKeys.IsKey, claim.Keys.holding}}
-use Rattle.{desk_pages.proofs.Looking.{fails, gathered, refuses}, plan_revisions_sweeps.proofs.{Named.count_there, Scanned.notes}}
+use Rattle.{std.{specs.FinMap.get, proofs.Common.{refl, sym, ap, subst, ◌∙◌}}, desk_store_rows.specs.{RowKeys.IsKey, claim.Keys.holding}}
+use Rattle.{plan_revisions_sweeps.{specs.Checks.IsThere, proofs.{Named.count_there, Scanned.notes}}, desk_store_pages.proofs.Looking.{fails, gathered, refuses}}
 use Rattle.plan_revisions_sweeps.proofs.counts.count_holder.Goals as goal
 
 pub returns-in_err-is_there : goal.returns-in_err-is_there

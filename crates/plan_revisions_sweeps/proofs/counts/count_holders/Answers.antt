@@ -1,5 +1,5 @@
 use Rattle.{std.proofs.Common.{sym, ◌∙◌, arith}, btree_scan.proofs.Walked.{walk_all, walk_begins, walk_ends, walk_on}, page_store.proofs.Stops.passed_more}
-use Rattle.{desk_pages.proofs.Looking.{fails_then, gathered, looked, not_looked}, plan_revisions_sweeps.proofs.Counted.{none_counted, one_counted, all_counted}}
+use Rattle.{desk_store_pages.proofs.Looking.{fails_then, gathered, looked, not_looked}, plan_revisions_sweeps.proofs.Counted.{none_counted, one_counted, all_counted}}
 use Rattle.plan_revisions_sweeps.proofs.{Named.holding_next, Scanned.{comes, not_come}}
 use Rattle.plan_revisions_sweeps.proofs.counts.count_holders.Goals as goal
 

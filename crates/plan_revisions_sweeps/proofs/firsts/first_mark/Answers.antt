@@ -1,5 +1,5 @@
 use Rattle.{std.{specs.Prelude.Some, proofs.Common.{[], refl, sym, ap, ◌∙◌, arith, rules}}, btree_scan.proofs.RowsFound.{all_found, all_more, found_among}}
-use Rattle.{btree_scan.proofs.Walked.{walk_all, walk_begins, walk_ends, walk_on}, desk_pages.proofs.Looking.{finds, looked, not_looked}}
+use Rattle.{btree_scan.proofs.Walked.{walk_all, walk_begins, walk_ends, walk_on}, desk_store_pages.proofs.Looking.{finds, looked, not_looked}}
 use Rattle.{page_store.proofs.Stops.{passed_more, passed_none}, plan_revisions_sweeps.proofs.Scanned.{IsPassed, comes, not_come}}
 use Rattle.plan_revisions_sweeps.proofs.firsts.first_mark.Goals as goal
 

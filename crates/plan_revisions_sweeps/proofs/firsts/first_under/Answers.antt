@@ -1,5 +1,5 @@
 use Rattle.{std.{specs.{FinMap.entries, Prelude.None}, proofs.Common.{◌≡◌, [], sym, subst, ◌∙◌}}, btree_scan.specs.{Prefixes.under, Scanning.{IsNextRow, fault_in}}}
-use Rattle.{btree_scan.proofs.{RowsFound.{found_among, next_under}, Walked.walk_begins}, desk_pages.proofs.Looking.looked, plan_revisions_sweeps.proofs.Scanned.not_come}
+use Rattle.{btree_scan.proofs.{RowsFound.{found_among, next_under}, Walked.walk_begins}, desk_store_pages.proofs.Looking.looked, plan_revisions_sweeps.proofs.Scanned.not_come}
 use Rattle.plan_revisions_sweeps.proofs.firsts.first_under.Goals as goal
 
 pub returns-then-next : goal.returns-then-next

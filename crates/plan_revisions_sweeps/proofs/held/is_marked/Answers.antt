@@ -1,5 +1,5 @@
-use Rattle.{std.{specs.{FinMap.get, Prelude.{option_map, IfSome}}, proofs.Common.{◌≤◌, ℕ, take, nat_eq, refl, sym, ap, subst, ◌∙◌, arith, rules}}, desk_pages.proofs.Looking.looked}
-use Rattle.{plan_revisions_sweeps.proofs.Scanned.{marked_by, not_got}, store_rows.proofs.OneGeography.no_value}
+use Rattle.std.{specs.{FinMap.get, Prelude.{option_map, IfSome}}, proofs.Common.{◌≤◌, ℕ, take, nat_eq, refl, sym, ap, subst, ◌∙◌, arith, rules}}
+use Rattle.{desk_store_pages.proofs.Looking.looked, desk_store_rows.proofs.OneGeography.no_value, plan_revisions_sweeps.proofs.Scanned.{marked_by, not_got}}
 use Rattle.plan_revisions_sweeps.proofs.held.is_marked.Goals as goal
 
 pub returns-in_err-get : goal.returns-in_err-get

@@ -1,4 +1,4 @@
-use Rattle.{std.{specs.{FinMap.get, Prelude.option_map}, proofs.Common.{ℕ, take, sym, ap, ◌∙◌, arith, rules}}, desk_pages.proofs.Looking.looked}
+use Rattle.{std.{specs.{FinMap.get, Prelude.option_map}, proofs.Common.{ℕ, take, sym, ap, ◌∙◌, arith, rules}}, desk_store_pages.proofs.Looking.looked}
 use Rattle.plan_revisions_sweeps.proofs.Scanned.{not_got}
 use Rattle.plan_revisions_sweeps.proofs.held.is_there.Goals as goal
 

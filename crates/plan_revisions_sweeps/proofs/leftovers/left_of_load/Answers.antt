@@ -1,4 +1,4 @@
-use Rattle.{std.proofs.Common.{◌∙◌, arith}, desk_pages.proofs.Looking.{fails, finds}, plan_revisions_sweeps.proofs.Left.{load_left, load_mark_left}}
+use Rattle.{std.proofs.Common.{◌∙◌, arith}, desk_store_pages.proofs.Looking.{fails, finds}, plan_revisions_sweeps.proofs.Left.{load_left, load_mark_left}}
 use Rattle.plan_revisions_sweeps.proofs.leftovers.left_of_load.Goals as goal
 
 pub returns-in_err-first_under : goal.returns-in_err-first_under

@@ -1,5 +1,5 @@
-use Rattle.{std.proofs.Common.{sym, ◌∙◌}, plan_revisions_sweeps.specs.Finding.spared_key, store_rows.specs.claim.Keys.begun}
-use Rattle.{desk_pages.proofs.Looking.{both, fails, fails_then, finds, refuses}, plan_revisions_sweeps.proofs.Left.{begun_told, mark_of, no_begun, load_next_left}}
+use Rattle.{std.proofs.Common.{sym, ◌∙◌}, desk_store_rows.specs.claim.Keys.begun, plan_revisions_sweeps.specs.Finding.spared_key}
+use Rattle.{desk_store_pages.proofs.Looking.{both, fails, fails_then, finds, refuses}, plan_revisions_sweeps.proofs.Left.{begun_told, mark_of, no_begun, load_next_left}}
 use Rattle.plan_revisions_sweeps.proofs.leftovers.left_of_loads.Goals as goal
 
 pub returns-in_err-first_mark : goal.returns-in_err-first_mark

@@ -1,5 +1,5 @@
-use Rattle.{std.proofs.Common.{◌≡◌, sym, subst, ◌∙◌, arith}, store_rows.specs.claim.Lists.{AreChunks, chunks_bytes}}
-use Rattle.{desk_pages.proofs.Looking.{both, fails, fails_then, finds, refuses}, plan_revisions_sweeps.proofs.Left.{part_left, part_told, piece_left, plan_mark_left}}
+use Rattle.{std.proofs.Common.{◌≡◌, sym, subst, ◌∙◌, arith}, desk_store_rows.specs.claim.Lists.{AreChunks, chunks_bytes}}
+use Rattle.{desk_store_pages.proofs.Looking.{both, fails, fails_then, finds, refuses}, plan_revisions_sweeps.proofs.Left.{part_left, part_told, piece_left, plan_mark_left}}
 use Rattle.plan_revisions_sweeps.proofs.leftovers.left_of_parts.Goals as goal
 
 pub returns-in_err-first_under : goal.returns-in_err-first_under

@@ -1,5 +1,5 @@
-use Rattle.{std.proofs.Common.{subst, ◌∙◌, arith}, store_rows.specs.{RowKeys.IsKey, claim.Keys.holding}, desk_pages.proofs.Looking.{both, fails, fails_then, finds, refuses}}
-use Rattle.plan_revisions_sweeps.proofs.Left.{holding_left, holding_told, holds_none}
+use Rattle.{std.proofs.Common.{subst, ◌∙◌, arith}, desk_store_rows.specs.{RowKeys.IsKey, claim.Keys.holding}}
+use Rattle.{desk_store_pages.proofs.Looking.{both, fails, fails_then, finds, refuses}, plan_revisions_sweeps.proofs.Left.{holding_left, holding_told, holds_none}}
 use Rattle.plan_revisions_sweeps.proofs.leftovers.left_of_plan.Goals as goal
 
 pub returns-in_err-first_under : goal.returns-in_err-first_under

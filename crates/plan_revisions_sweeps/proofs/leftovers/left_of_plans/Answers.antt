@@ -1,4 +1,4 @@
-use Rattle.{std.proofs.Common.{sym, ◌∙◌}, store_rows.specs.claim.Keys.retired, desk_pages.proofs.Looking.{both, fails, fails_then, finds, refuses}}
+use Rattle.{std.proofs.Common.{sym, ◌∙◌}, desk_store_rows.specs.claim.Keys.retired, desk_store_pages.proofs.Looking.{both, fails, fails_then, finds, refuses}}
 use Rattle.plan_revisions_sweeps.proofs.Left.{mark_of, retired_told, no_retired}
 use Rattle.plan_revisions_sweeps.proofs.leftovers.left_of_plans.Goals as goal
 

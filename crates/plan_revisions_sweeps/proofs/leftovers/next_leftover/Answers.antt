@@ -1,4 +1,4 @@
-use Rattle.{std.proofs.Common.subst, plan_revisions_sweeps.specs.Finding.{IsPlanLeft, IsLoadLeft}, desk_pages.proofs.Looking.{both, fails, fails_then, finds}}
+use Rattle.{std.proofs.Common.subst, plan_revisions_sweeps.specs.Finding.{IsPlanLeft, IsLoadLeft}, desk_store_pages.proofs.Looking.{both, fails, fails_then, finds}}
 use Rattle.plan_revisions_sweeps.proofs.Left.{plan_next}
 use Rattle.plan_revisions_sweeps.proofs.leftovers.next_leftover.Goals as goal
 

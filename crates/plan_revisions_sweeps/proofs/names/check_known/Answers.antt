@@ -1,5 +1,5 @@
 use Rattle.{std.{specs.Prelude.{List, ℕ, Contains}, proofs.{Common.subst, lemmas.List.Elements.All-contains}}, plan_revisions_sweeps.specs.claim.Checks.IsHeldOrGone}
-use Rattle.{desk_pages.proofs.Looking.{begins, fails, gathered}, plan_revisions_sweeps.proofs.{Named.with_one, Scanned.notes}}
+use Rattle.{desk_store_pages.proofs.Looking.{begins, fails, gathered}, plan_revisions_sweeps.proofs.{Named.with_one, Scanned.notes}}
 use Rattle.plan_revisions_sweeps.proofs.names.check_known.Goals as goal
 
 pub returns-then-is_noted : goal.returns-then-is_noted

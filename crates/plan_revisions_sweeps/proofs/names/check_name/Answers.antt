@@ -1,5 +1,5 @@
 use Rattle.{std.{specs.FinMap.get, proofs.Common.{inl, inr, sym, ap, subst, ◌∙◌}}, plan_revisions_sweeps.specs.Checks.IsMarkedAs}
-use Rattle.desk_pages.proofs.Looking.{both, fails, fails_then, finds, refuses}
+use Rattle.desk_store_pages.proofs.Looking.{both, fails, fails_then, finds, refuses}
 use Rattle.plan_revisions_sweeps.proofs.names.check_name.Goals as goal
 
 pub returns-in_err-is_marked : goal.returns-in_err-is_marked

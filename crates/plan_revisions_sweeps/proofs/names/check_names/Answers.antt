@@ -1,7 +1,7 @@
 use Rattle.{std.{specs.Prelude.All, proofs.{Common.{sym, subst, ◌∙◌, arith}, lemmas.List.Elements.All-nil}}, plan_revisions_sweeps.specs.Checks.IsEntryNamed}
 use Rattle.{plan_revisions_sweeps.specs.claim.Checks.IsHeldOrGone, btree_scan.proofs.{RowsFound.all_more, Walked.{walk_all, walk_begins, walk_ends, walk_on}}}
-use Rattle.{desk_pages.proofs.Looking.{fails_then, gathered, looked, not_looked}, page_store.proofs.Stops.passed_more, plan_revisions_sweeps.proofs.Named.{part_next, all_named}}
-use Rattle.plan_revisions_sweeps.proofs.Scanned.{comes, not_come}
+use Rattle.{desk_store_pages.proofs.Looking.{fails_then, gathered, looked, not_looked}, page_store.proofs.Stops.passed_more, plan_revisions_sweeps.proofs.Scanned.{comes, not_come}}
+use Rattle.plan_revisions_sweeps.proofs.Named.{part_next, all_named}
 use Rattle.plan_revisions_sweeps.proofs.names.check_names.Goals as goal
 
 pub loop-taken-init : goal.loop-taken-init

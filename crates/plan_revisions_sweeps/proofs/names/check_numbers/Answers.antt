@@ -1,5 +1,5 @@
 use Rattle.std.{specs.Prelude.{All, get_or}, proofs.{Common.{take, sym, subst, ◌∙◌, take_all}, lemmas.List.{take_more, Elements.{All-nil, All-push}}}}
-use Rattle.{plan_revisions_sweeps.specs.claim.Checks.IsHeldOrGone, desk_pages.proofs.Looking.{begins, both, fails_then, finds}}
+use Rattle.{plan_revisions_sweeps.specs.claim.Checks.IsHeldOrGone, desk_store_pages.proofs.Looking.{begins, both, fails_then, finds}}
 use Rattle.plan_revisions_sweeps.proofs.names.check_numbers.Goals as goal
 
 pub loop-number-init : goal.loop-number-init

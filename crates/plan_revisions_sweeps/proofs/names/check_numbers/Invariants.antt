@@ -1,4 +1,4 @@
-use Rattle.{std.{specs.Prelude.All, proofs.Common.{◌≡◌, Ok, take}}, desk_pages.specs.Looking.Gathers, page_store.specs.claim.Transactions.{count_of, txn_pages}}
+use Rattle.{std.{specs.Prelude.All, proofs.Common.{◌≡◌, Ok, take}}, desk_store_pages.specs.Looking.Gathers, page_store.specs.claim.Transactions.{count_of, txn_pages}}
 use Rattle.plan_revisions_sweeps.specs.claim.Checks.{IsHeldOrGone}
 use Rattle.plan_revisions_sweeps.proofs.names.check_numbers.Given as goal
 

@@ -1,5 +1,5 @@
-use Rattle.{std.{specs.Prelude.All, proofs.Common.{ℕ, sym, subst, ◌∙◌}}, plan_revisions_sweeps.specs.claim.Checks.IsHeldOrGone, store_rows.specs.{RowKeys.IsKey, claim.Keys.part}}
-use Rattle.{desk_pages.proofs.Looking.{not_looked, tells}, page_store.proofs.Stops.quiet_none, plan_revisions_sweeps.proofs.Named.{entry_named, part_all, plans_list}}
+use Rattle.{std.{specs.Prelude.All, proofs.Common.{ℕ, sym, subst, ◌∙◌}}, desk_store_rows.specs.{RowKeys.IsKey, claim.Keys.part}, page_store.proofs.Stops.quiet_none}
+use Rattle.{plan_revisions_sweeps.{specs.claim.Checks.IsHeldOrGone, proofs.Named.{entry_named, part_all, plans_list}}, desk_store_pages.proofs.Looking.{not_looked, tells}}
 use Rattle.plan_revisions_sweeps.proofs.names.check_part.Goals as goal
 
 pub returns-in_default : goal.returns-in_default

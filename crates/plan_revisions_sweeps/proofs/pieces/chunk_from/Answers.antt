@@ -1,4 +1,4 @@
-use Rattle.{std.proofs.Common.{subst₂, ◌∙◌, subst}, plan_revisions_sweeps.specs.Finding.{IsFirstFrom, IsPieceKey}, desk_pages.proofs.Looking.{fails, finds, refuses}}
+use Rattle.{std.proofs.Common.{subst₂, ◌∙◌, subst}, plan_revisions_sweeps.specs.Finding.{IsFirstFrom, IsPieceKey}, desk_store_pages.proofs.Looking.{fails, finds, refuses}}
 use Rattle.plan_revisions_sweeps.proofs.Least.{least_piece, next_some, next_none}
 use Rattle.plan_revisions_sweeps.proofs.pieces.chunk_from.Goals as goal
 

@@ -1,6 +1,6 @@
 use Rattle.std.{specs.Prelude.{All, get_or}, proofs.{Common.{take, sym, subst, ◌∙◌, take_all, arith}, lemmas.List.take_more}}
 use Rattle.{std.proofs.lemmas.List.Elements.{All-contains, All-nil, All-push, Contains-get_or}, plan_revisions_sweeps.specs.Finding.{IsDone, IsSoughtLeft}}
-use Rattle.desk_pages.proofs.Looking.{begins, both, fails_then, finds}
+use Rattle.desk_store_pages.proofs.Looking.{begins, both, fails_then, finds}
 use Rattle.plan_revisions_sweeps.proofs.pieces.first_piece.Goals as goal
 
 pub loop-number-init : goal.loop-number-init

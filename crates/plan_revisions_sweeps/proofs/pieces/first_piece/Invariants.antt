@@ -1,5 +1,5 @@
-use Rattle.{std.{specs.Prelude.All, proofs.Common.{◌≡◌, take, Ok}}, desk_pages.specs.Looking.Looks, page_store.specs.claim.Transactions.{count_of, txn_pages}}
-use Rattle.{plan_revisions_sweeps.specs.Finding.{IsDone, IsGap}, store_rows.specs.claim.Tidy.AreRows}
+use Rattle.{std.{specs.Prelude.All, proofs.Common.{◌≡◌, take, Ok}}, desk_store_pages.specs.Looking.Looks, desk_store_rows.specs.claim.Tidy.AreRows}
+use Rattle.{page_store.specs.claim.Transactions.{count_of, txn_pages}, plan_revisions_sweeps.specs.Finding.{IsDone, IsGap}}
 use Rattle.plan_revisions_sweeps.proofs.pieces.first_piece.Given as goal
 
 abbrev pub invariant-loop-number : goal.invariant-loop-number

@@ -1,4 +1,4 @@
-use Rattle.{std.{specs.FinMap.entries, proofs.Common.{◌≡◌, arith}}, btree_scan.proofs.RowsFound.first_none, desk_pages.proofs.Looking.looked}
+use Rattle.{std.{specs.FinMap.entries, proofs.Common.{◌≡◌, arith}}, btree_scan.proofs.RowsFound.first_none, desk_store_pages.proofs.Looking.looked}
 use Rattle.plan_revisions_sweeps.proofs.{Least.{copied_at, leaf_next, leaf_none, leaf_some}, Scanned.not_got}
 use Rattle.plan_revisions_sweeps.proofs.pieces.key_from.Goals as goal
 

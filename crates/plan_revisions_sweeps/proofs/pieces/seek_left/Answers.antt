@@ -1,4 +1,5 @@
-use Rattle.{std.proofs.Common.{inl, inr, subst, subst₂}, plan_revisions_sweeps.specs.{Checks.IsThere, Finding.IsSought}, desk_pages.proofs.Looking.{both, fails, fails_then, finds}}
+use Rattle.{std.proofs.Common.{inl, inr, subst, subst₂}, plan_revisions_sweeps.specs.{Checks.IsThere, Finding.IsSought}}
+use Rattle.desk_store_pages.proofs.Looking.{both, fails, fails_then, finds}
 use Rattle.plan_revisions_sweeps.proofs.pieces.seek_left.Goals as goal
 
 pub returns-in_err-seek_piece : goal.returns-in_err-seek_piece

@@ -1,5 +1,5 @@
 use Rattle.{std.proofs.Common.{nat_eq, refl, sym, subst, subst₂, arith}, plan_revisions_sweeps.{specs.Finding.{EndsAt, IsNextChunk}, proofs.Least.sought_next}}
-use Rattle.desk_pages.proofs.Looking.{begins, fails, finds}
+use Rattle.desk_store_pages.proofs.Looking.{begins, fails, finds}
 use Rattle.plan_revisions_sweeps.proofs.pieces.seek_piece.Goals as goal
 
 pub returns-then-number-gap : goal.returns-then-number-gap

@@ -1,5 +1,5 @@
 use Rattle.{std.proofs.Common.{ℕ, sym, subst, arith}, page_btree.specs.gets.claim.Map.InTxn, plan_revisions_sweeps.specs.Sweeping.HasSwept, sector_device.specs.claim.Disk.Image}
-use Rattle.{chunk_table.proofs.Writing.after_reads, desk_pages.proofs.Writing.{does, told_on}, page_store.proofs.Stops.passed_none}
+use Rattle.{chunk_table.proofs.Writing.after_reads, desk_store_pages.proofs.Writing.{does, told_on}, page_store.proofs.Stops.passed_none}
 use Rattle.plan_revisions_sweeps.proofs.Taken.{none_swept, more_swept, not_later}
 use Rattle.plan_revisions_sweeps.proofs.rows.sweep_rows.Goals as goal
 

@@ -1,6 +1,6 @@
 use Rattle.{std.{specs.FinMap.remove, proofs.Common.{◌<◌, ◌≤◌, ℕ, List, Some, length, sym, ap, subst, ◌∙◌}}, page_btree.specs.gets.claim.Map.InTxn}
 use Rattle.{page_store.specs.claim.Transactions.stored, plan_revisions_sweeps.specs.Finding.IsNextLeft, chunk_table.proofs.Writing.{after_reads, only_read, unread}}
-use Rattle.{desk_pages.proofs.Writing.{does, told_on}, page_store.proofs.Stops.quiet_more, plan_revisions_sweeps.proofs.Keys.key_short}
+use Rattle.{desk_store_pages.proofs.Writing.{does, told_on}, page_store.proofs.Stops.quiet_more, plan_revisions_sweeps.proofs.Keys.key_short}
 use Rattle.plan_revisions_sweeps.proofs.Taken.{turn_none, turn_row, turn_hold, not_found, not_removed, not_released}
 use Rattle.plan_revisions_sweeps.specs.declared.leftovers.Left.TheVariants as left
 use Rattle.plan_revisions_sweeps.proofs.rows.sweep_turn.Goals as goal

@@ -1,4 +1,4 @@
-use Rattle.{std.proofs.Common.{Err, true, refl, sym, ◌∙◌, arith}, page_store.specs.claim.Transactions.has_halted, desk_pages.proofs.Kept.kept_working}
+use Rattle.{std.proofs.Common.{Err, true, refl, sym, ◌∙◌, arith}, page_store.specs.claim.Transactions.has_halted, desk_store_pages.proofs.Kept.kept_working}
 use Rattle.chunk_table.proofs.Committing.{both, quiet_leaves, quiet_shape, shape_after}
 use Rattle.plan_revisions_sweeps.proofs.Stepped.{begun_by, none_swept, not_made, some_leaves, some_swept, not_taken, not_committed}
 use Rattle.plan_revisions_sweeps.proofs.sweeps.sweep_step.Goals as goal

@@ -1,4 +1,4 @@
-use Rattle.{desk_store.specs.claim.Clerks.Keeps, http_seats.specs.{Streams.traffic, claim.Streams.IsAskedOf}}
+use Rattle.{desk_store.specs.claim.Clerks.Keeps, http_desk_seats.specs.{Streams.traffic, claim.Streams.IsAskedOf}}
 use Rattle.seat_trials.proofs.seated.served.Given as goal
 
 -- the gallery that is opened

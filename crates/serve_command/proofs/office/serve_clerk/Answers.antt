@@ -1,4 +1,4 @@
-use Rattle.{std.proofs.Common.{ap, subst, ◌∙◌}, desk_model.specs.claim.Desk.Desk, http_seats.specs.{Streams.traffic, desk_gallery.Working.IsRunFrom}}
+use Rattle.{std.proofs.Common.{ap, subst, ◌∙◌}, desk_model.specs.claim.Desk.Desk, http_desk.specs.seats.{Streams.traffic, desk_gallery.Working.IsRunFrom}}
 use Rattle.{inspect_command.specs.desk_store.claim.Clerks.desk_of, serve_command.{specs.Lasting.clerk_in, proofs.Lasts.{all_serve, lasts_asked, none_asked}}}
 use Rattle.serve_command.proofs.Offices.{all_live, closed_life}
 use Rattle.serve_command.proofs.office.serve_clerk.Goals as goal

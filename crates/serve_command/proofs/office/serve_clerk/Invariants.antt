@@ -1,4 +1,4 @@
-use Rattle.{http_seats.specs.{Streams.traffic, claim.Streams.IsAskedOf}, inspect_command.specs.desk_store.claim.Clerks.Keeps, serve_command.specs.claim.Lasting.IsLike}
+use Rattle.{http_desk.specs.seats.{Streams.traffic, claim.Streams.IsAskedOf}, inspect_command.specs.desk_store.claim.Clerks.Keeps, serve_command.specs.claim.Lasting.IsLike}
 use Rattle.serve_command.proofs.office.serve_clerk.Given as goal
 
 -- the gallery that is opened

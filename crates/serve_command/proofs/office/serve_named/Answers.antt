@@ -1,5 +1,5 @@
 use Rattle.std.proofs.Common.{[], refl}
-use Rattle.http_seats.proofs.desk_gallery.Running.{has_run_none}
+use Rattle.http_desk.proofs.seats.desk_gallery.Running.{has_run_none}
 use Rattle.serve_command.proofs.office.serve_named.Goals as goal
 
 pub returns-in-Err-Refused-clause-ran : goal.returns-in-Err-Refused-clause-ran

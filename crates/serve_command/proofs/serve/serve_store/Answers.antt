@@ -1,5 +1,5 @@
 use Rattle.{std.proofs.Common.{◌≡◌, ℕ, List, [], Some, Result, Ok, Err, ◌∙◌, inl, inr, refl, sym, subst}, command_output.specs.{Writing.written_of, claim.Writing.Writes}}
-use Rattle.{http_seats.specs.Streams.traffic, inspect_command.specs.desk_store.claim.Clerks.pages_of, page_store.specs.claim.Transactions.has_halted}
+use Rattle.{http_desk.specs.seats.Streams.traffic, inspect_command.specs.desk_store.claim.Clerks.pages_of, page_store.specs.claim.Transactions.has_halted}
 use Rattle.serve_command.{specs.{Outlasting.FailsSince, Serving.{listening_text, HasAnnounced, Announces}, declared.fault.ServingFault.ServingFault}, proofs.Ends.run_ends}
 use Rattle.serve_command.proofs.Lasts.{fails_since, lasts_on, none_read}
 use Rattle.inspect_command.{specs.desk_theorem.claim.OneLife.{ClosedHolds, OfficeHolds, RequestsHold}, proofs.{desk_theorem.Asked.none_asked, store_command.Opened.asked_life}}
@@ -30,7 +30,7 @@ returns-in-Ok-serve_clerk g c =
     let line : HasAnnounced c.args.serving.port before after = subst whole is (c.in-Ok-send.ensures.bytes, c.in-Ok-send.ensures.failures) in
     let streams = traffic g.A.Arrivals.gives g.A.Arrivals.takes_back g.A.Reader.Source g.A.Writer.Sink in
     let heard = g.A.Watched.heard in
-    let fails = g.A.Listens.fails in
+    let fails = g.A.FallibleArrivals.fails in
     let first = c.in-Ok-open_store.clerk in
     let last = c.in-Ok-serve_clerk.last in
     let since : FailsSince first last (has_halted (pages_of last)) = fails_since first last _ c.in-Ok-open_store.ensures.opened.working c.in-Ok-serve_clerk.ensures.served.lasts refl in

@@ -1,5 +1,5 @@
-use Rattle.{std.proofs.Common.{◌≡◌, ◌≤◌, ◌*◌, false}, desk_model.specs.claim.Desk.Desk, desk_runs.specs.desk_migration.claim.Migrating.{disk_of, is_halted, HasRows, Moves}}
-use Rattle.{store_command.specs.Migrating.HasPut, store_rows.specs.claim.Rows.KeyMap}
+use Rattle.{std.proofs.Common.{◌≡◌, ◌≤◌, ◌*◌, false}, desk_model.specs.claim.Desk.Desk, desk_store_rows.specs.claim.Rows.KeyMap, store_command.specs.Migrating.HasPut}
+use Rattle.desk_theorem.specs.runs.desk_migration.claim.Migrating.{disk_of, is_halted, HasRows, Moves}
 use Rattle.store_command.proofs.migrating.put_all.Given as goal
 
 abbrev pub invariant-loop-steps : goal.invariant-loop-steps

@@ -1,5 +1,5 @@
-use Rattle.{std.proofs.Common.{◌≡◌, ◌≤◌, ◌*◌, false}, desk_runs.specs.desk_store.{Sweeps.HasRows, claim.Clerks.{disk_of, is_halted}}, store_rows.specs.claim.Rows.KeyMap}
-use Rattle.store_command.specs.Sweeping.{KeepsDesk, HasTaken}
+use Rattle.{std.proofs.Common.{◌≡◌, ◌≤◌, ◌*◌, false}, desk_store_rows.specs.claim.Rows.KeyMap, desk_theorem.specs.runs.desk_store.Sweeps.HasRows}
+use Rattle.{desk_theorem.specs.runs.desk_store.claim.Clerks.{disk_of, is_halted}, store_command.specs.Sweeping.{KeepsDesk, HasTaken}}
 use Rattle.store_command.proofs.sweeping.sweep_steps.Given as goal
 
 abbrev pub invariant-loop-steps : goal.invariant-loop-steps

@@ -1,6 +1,6 @@
 use Rattle.{std.proofs.Common.{rules, sym, subst, ◌∙◌, arith}, page_btree.specs.node.claim.Entries.Entry, store_verification_rows.specs.Strays.{IsAny, IsNaming}}
-use Rattle.{btree_scan.proofs.{RowsFound.all_more, Walked.{walk_all, walk_begins, walk_ends, walk_on, walk_quiet, walk_refused}}, desk_pages.proofs.Reading.get_unread}
-use Rattle.{desk_pages.proofs.Looking.{finds, looked, not_looked}, page_store.proofs.Stops.{passed_more, passed_none}}
+use Rattle.{btree_scan.proofs.{RowsFound.all_more, Walked.{walk_all, walk_begins, walk_ends, walk_on, walk_quiet, walk_refused}}, desk_store_pages.proofs.Reading.get_unread}
+use Rattle.{desk_store_pages.proofs.Looking.{finds, looked, not_looked}, page_store.proofs.Stops.{passed_more, passed_none}}
 use Rattle.store_verification_rows.proofs.Belonging.{none_named, walk_looks}
 use Rattle.store_verification_rows.proofs.namings.find_naming.Goals as goal
 

@@ -1,5 +1,5 @@
 use Rattle.{std.{specs.{FinMap.get, Prelude.{Some, option_map}}, proofs.Common.{◌≡◌, ℕ, true, false, take, inr, ⊎_elim, sym, ap, ◌∙◌}}, store_verification_rows.specs.Strays.IsAny}
-use Rattle.desk_pages.proofs.{Looking.{begins, fails_from, looked}, Reading.get_unread}
+use Rattle.desk_store_pages.proofs.{Looking.{begins, fails_from, looked}, Reading.get_unread}
 use Rattle.store_verification_rows.proofs.namings.hold_row.Goals as goal
 
 pub returns-then-is_held : goal.returns-then-is_held

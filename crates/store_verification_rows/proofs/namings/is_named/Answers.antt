@@ -1,4 +1,4 @@
-use Rattle.desk_pages.proofs.Looking.{fails, finds, looks}
+use Rattle.desk_store_pages.proofs.Looking.{fails, finds, looks}
 use Rattle.store_verification_rows.proofs.namings.is_named.Goals as goal
 
 pub returns-in_err-is_named_first : goal.returns-in_err-is_named_first

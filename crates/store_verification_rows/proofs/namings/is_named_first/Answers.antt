@@ -1,5 +1,5 @@
 use Rattle.{std.proofs.Common.{◌≡◌, true, false, subst}, page_btree.specs.node.claim.Entries.Entry, store_verification_rows.specs.Strays.IsNaming}
-use Rattle.desk_pages.proofs.Looking.{begins, fails, finds}
+use Rattle.desk_store_pages.proofs.Looking.{begins, fails, finds}
 use Rattle.store_verification_rows.proofs.namings.is_named_first.Goals as goal
 
 pub returns-in_default : goal.returns-in_default

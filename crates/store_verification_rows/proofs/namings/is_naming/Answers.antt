@@ -1,5 +1,5 @@
-use Rattle.{std.proofs.Common.{ℕ, List, sym, subst, rules, Option, MatchOption}, store_rows.specs.{RowKeys.{IsKey, IsNoKey, row_of}, claim.Keys.part}}
-use Rattle.{store_rows.specs.declared.row_key.RowKey.RowKey as Read, store_verification_rows.{specs.Strays.NamesAt, proofs.Belonging.naming_at}}
+use Rattle.{std.proofs.Common.{ℕ, List, sym, subst, rules, Option, MatchOption}, desk_store_rows.specs.{RowKeys.{IsKey, IsNoKey, row_of}, claim.Keys.part}}
+use Rattle.{desk_store_rows.specs.declared.row_key.RowKey.RowKey as Read, store_verification_rows.{specs.Strays.NamesAt, proofs.Belonging.naming_at}}
 use Rattle.store_verification_rows.proofs.namings.is_naming.Goals as goal
 
 pub returns-in_default-2 : goal.returns-in_default-2

@@ -1,5 +1,5 @@
-use Rattle.{std.proofs.Common.subst, store_rows.specs.{RowKeys.{IsKey, row_of}, claim.Keys.{chunk, holding}, declared.row_key.RowKey.RowKey as Read}}
-use Rattle.{desk_pages.proofs.Looking.tells, store_verification_rows.proofs.Belonging.judged}
+use Rattle.{std.proofs.Common.subst, desk_store_rows.specs.{RowKeys.{IsKey, row_of}, claim.Keys.{chunk, holding}, declared.row_key.RowKey.RowKey as Read}}
+use Rattle.{desk_store_pages.proofs.Looking.tells, store_verification_rows.proofs.Belonging.judged}
 use Rattle.store_verification_rows.proofs.strays.judge.Goals as goal
 
 pub returns-in-Some-Holding : goal.returns-in-Some-Holding

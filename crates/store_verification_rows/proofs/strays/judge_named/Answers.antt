@@ -1,4 +1,4 @@
-use Rattle.{std.proofs.Common.{Bool, subst}, store_verification_rows.specs.Strays.IsNamedAs, desk_pages.proofs.Looking.{fails, finds}}
+use Rattle.{std.proofs.Common.{Bool, subst}, store_verification_rows.specs.Strays.IsNamedAs, desk_store_pages.proofs.Looking.{fails, finds}}
 use Rattle.store_verification_rows.proofs.strays.judge_named.Goals as goal
 
 pub returns-in_err-is_named : goal.returns-in_err-is_named

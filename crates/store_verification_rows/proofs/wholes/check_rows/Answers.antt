@@ -1,8 +1,8 @@
 use Rattle.{std.{specs.{FinMap.get, Prelude.Some}, proofs.Common.{◌≡◌, ◌+◌, ℕ, List, [], ◌∷◌, refl, inl, sym, ap, subst, ◌∙◌, arith, length-append}}, btree_scan.specs.Parts.row_of}
 use Rattle.{page_btree.specs.node.claim.Entries.Entry, store_verification_rows.specs.{Strays.{IsJudged, IsRight, IsStray}, Wholes.{AllSay, IsRowOf, IsWhole}}}
-use Rattle.{btree_scan.proofs.{RowsFound.all_more, Walked.{walk_all, walk_begins, walk_ends, walk_on, walk_quiet, walk_refused}}, desk_pages.proofs.Reading.get_unread}
-use Rattle.{desk_pages.proofs.Looking.{both, fails_then, finds, looked, not_looked, refuses}, page_store.proofs.Stops.passed_more, store_verification_rows.proofs.Whole.all_whole}
-use Rattle.store_verification_rows.proofs.Belonging.{all_right, stray_by, walk_looks}
+use Rattle.{btree_scan.proofs.{RowsFound.all_more, Walked.{walk_all, walk_begins, walk_ends, walk_on, walk_quiet, walk_refused}}, desk_store_pages.proofs.Reading.get_unread}
+use Rattle.{desk_store_pages.proofs.Looking.{both, fails_then, finds, looked, not_looked, refuses}, page_store.proofs.Stops.passed_more}
+use Rattle.store_verification_rows.proofs.{Belonging.{all_right, stray_by, walk_looks}, Whole.all_whole}
 use Rattle.store_verification_rows.proofs.wholes.check_rows.Goals as goal
 
 pub loop-taken-init : goal.loop-taken-init

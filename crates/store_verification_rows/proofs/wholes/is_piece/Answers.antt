@@ -1,4 +1,4 @@
-use Rattle.{std.proofs.Common.{◌≡◌, ◌*◌, ◌/◌, length, ap, ◌∙◌, arith, rules}, store_rows.proofs.ListValues.length-districts, store_verification_rows.proofs.PieceBytes.twos}
+use Rattle.{std.proofs.Common.{◌≡◌, ◌*◌, ◌/◌, length, ap, ◌∙◌, arith, rules}, desk_store_rows.proofs.ListValues.length-districts, store_verification_rows.proofs.PieceBytes.twos}
 use Rattle.store_verification_rows.proofs.wholes.is_piece.Goals as goal
 
 pub returns-then-count-eq0 : goal.returns-then-count-eq0

@@ -1,6 +1,6 @@
 use Rattle.{std.proofs.{Common.{ℤ, Option, arith, subst, sym, FitsSigned, w16}, lemmas.Int.{ints, to_z-of_z}}, connection_log.specs.Lines.{stamp, year_text}}
-use Rattle.{http_desk.specs.http_wire.Adding.Adds, jiff_core.specs.declared.civil.datetime.DateTime.DateTime}
-use Rattle.http_desk.proofs.http_wire.AddingLemmas.{adds}
+use Rattle.{http_desk.specs.streams.http_wire.Adding.Adds, jiff_core.specs.declared.civil.datetime.DateTime.DateTime}
+use Rattle.http_desk.proofs.streams.http_wire.AddingLemmas.{adds}
 use Rattle.connection_log.proofs.line.LineText.put_moment.Goals as goal
 
 pub returns : goal.returns

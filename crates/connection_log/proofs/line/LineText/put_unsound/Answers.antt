@@ -1,4 +1,4 @@
-use Rattle.http_desk.proofs.http_wire.AddingLemmas.{adds}
+use Rattle.http_desk.proofs.streams.http_wire.AddingLemmas.{adds}
 use Rattle.connection_log.proofs.line.LineText.put_unsound.Goals as goal
 
 pub returns : goal.returns

@@ -1,8 +1,8 @@
 use Rattle.{std.proofs.Common.{◌≡◌, ◌+◌, ◌∙◌, [], ◌∷◌, ◌++◌, refl, ap, sym, subst, rules}, desk_gallery.specs.{Fronts.Kept, claim.{After.after, Outcomes.OutcomeMay}}}
-use Rattle.{desk_gallery.{specs.claim.Telling.{accepted_in, halted_in}, proofs.Running.{counted_by, has_run_more}}, desk_runs.specs.desk_store.Changes.Made}
+use Rattle.{desk_gallery.{specs.claim.Telling.{accepted_in, halted_in}, proofs.Running.{counted_by, has_run_more}}, desk_theorem_runs.specs.desk_store.Changes.Made}
 use Rattle.desk_gallery.proofs.Working.{Came, came_as, refused_work, unready_work, settled_work, works_of, outcome_of}
 use Rattle.desk_gallery.proofs.front.Front.command.Given.{Over}
-use Rattle.desk_gallery.proofs.front.Front.command.Goals.{After-count, in-Ok+in-Ok-change+in-Ok-append, in-Ok+in-Ok-change+in-Err-append, in-Ok+in-Err-change, in-Err}
+use Rattle.desk_gallery.proofs.front.Front.command.Goals.{After-count, in-Ok+in-Ok-change+in-Ok-append_next, in-Ok+in-Ok-change+in-Err-append_next, in-Ok+in-Err-change, in-Err}
 use Rattle.desk_gallery.proofs.front.Front.command.Goals as goal
 
 -- what the command came to, at each way
@@ -16,16 +16,16 @@ came g c =
     let agree = c.self.invariant.0 in
     let read = c.prepare.ensures in
     elim c.match-prepare.branch [
-      | in-Ok+in-Ok-change+in-Ok-append w ↦
-          let added = w.in-Ok-append.ensures.appended ∙ ap (λ (m : Made). (s.0, s.1 ++ m.command ∷ [])) w.in-Ok-change.ensures in
+      | in-Ok+in-Ok-change+in-Ok-append_next w ↦
+          let added = w.in-Ok-append_next.ensures.appended ∙ ap (λ (m : Made). (s.0, s.1 ++ m.command ∷ [])) w.in-Ok-change.ensures in
           came_as first x s command _ _ _ _ _ _ w.reply-is (ap (λ k. k.clerk) w.self-inside-is) (ap (λ k. k.shower) w.self-inside-is) (
-            settled_work first x y w.settle.new.clerk s w.append.new.self w.settle.new.shower command w.in-Ok.ready w.settle.result.0 agree read.reads read.loading
+            settled_work first x y w.settle.new.clerk s w.append_next.new.shower w.settle.new.shower command w.in-Ok.ready w.settle.result.0 agree read.reads read.loading
                 w.in-Ok.ensures.ready w.in-Ok.ensures.command w.in-Ok.ensures.room w.in-Ok.ensures.works added w.settle.ensures.commits w.settle.ensures.shown w.settle.ensures.hidden,
             w.settle.ensures.told,
           )
-      | in-Ok+in-Ok-change+in-Err-append w ↦
+      | in-Ok+in-Ok-change+in-Err-append_next w ↦
           came_as first x s command _ _ _ _ _ _ w.reply-is (ap (λ k. k.clerk) w.self-inside-is) (ap (λ k. k.shower) w.self-inside-is)
-          (unready_work first x y s w.append.new.self command agree read.reads read.loading w.in-Ok.ensures.works w.in-Err-append.ensures.appended, w.tell.ensures)
+          (unready_work first x y s w.append_next.new.shower command agree read.reads read.loading w.in-Ok.ensures.works w.in-Err-append_next.ensures.appended, w.tell.ensures)
       | in-Ok+in-Err-change w ↦ search (rules, unready_work first x y s s command agree read.reads read.loading w.in-Ok.ensures.works refl)
       | in-Err w ↦ search (rules, refused_work)
     ]
@@ -33,8 +33,8 @@ came g c =
 -- the books and the mark of the check stay
 kept : (g : Over) (c : After-count g) → (c.match-prepare.self-inside.books ≡ c.self.inside.books) × (c.match-prepare.self-inside.is_checked ≡ c.self.inside.is_checked)
 kept g c = elim c.match-prepare.branch [
-  | in-Ok+in-Ok-change+in-Ok-append w ↦ (ap (λ k. k.books) w.self-inside-is, ap (λ k. k.is_checked) w.self-inside-is)
-  | in-Ok+in-Ok-change+in-Err-append w ↦ (ap (λ k. k.books) w.self-inside-is, ap (λ k. k.is_checked) w.self-inside-is)
+  | in-Ok+in-Ok-change+in-Ok-append_next w ↦ (ap (λ k. k.books) w.self-inside-is, ap (λ k. k.is_checked) w.self-inside-is)
+  | in-Ok+in-Ok-change+in-Err-append_next w ↦ (ap (λ k. k.books) w.self-inside-is, ap (λ k. k.is_checked) w.self-inside-is)
   | in-Ok+in-Err-change w ↦ (ap (λ k. k.books) w.self-inside-is, ap (λ k. k.is_checked) w.self-inside-is)
   | in-Err w ↦ (ap (λ k. k.books) w.self-inside-is, ap (λ k. k.is_checked) w.self-inside-is)
 ]

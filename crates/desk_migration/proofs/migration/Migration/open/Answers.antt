@@ -1,5 +1,5 @@
 use Rattle.{std.proofs.Common.{inr, refl, ◌∙◌, rules}, desk_migration.proofs.Opened.{opened_keeps, page_refused, page_not_new, judged, left_new, is_found, moment_quiet}}
-use Rattle.desk_pages.proofs.{Found.{open_versions, pages_stand, stores_of}, Refusals.{page_calm, page_spared, calm_refused}}
+use Rattle.desk_store_pages.proofs.{Found.{open_versions, pages_stand, stores_of}, Refusals.{page_calm, page_spared, calm_refused}}
 use Rattle.desk_migration.proofs.migration.Migration.open.Goals as goal
 
 pub returns-in-Err : goal.returns-in-Err

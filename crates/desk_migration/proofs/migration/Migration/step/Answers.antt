@@ -1,6 +1,6 @@
 use Rattle.{std.proofs.{Common.{refl, rules}, lemmas.Bool.eqb-true}, desk_migration.proofs.Moved.{exact_rows, goes_on, more_rows, not_stepped, stepped}}
-use Rattle.desk_pages.proofs.Outcomes.{err_of}
-use Rattle.desk_opening.proofs.chunk_table.Committing.{both}
+use Rattle.desk_store_pages.proofs.Outcomes.{err_of}
+use Rattle.desk_store_opening.proofs.chunk_table.Committing.{both}
 use Rattle.desk_migration.proofs.migration.Migration.step.Goals as goal
 
 pub returns-in_err-count : goal.returns-in_err-count

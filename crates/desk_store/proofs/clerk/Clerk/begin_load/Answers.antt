@@ -1,5 +1,5 @@
-use Rattle.{std.proofs.Common.{refl, rules}, desk_pages.specs.claim.Desks.InPages, desk_store.{specs.claim.Clerks.{desk_of, pages_of, Keeps}, proofs.Moved.{quieted, unmoved}}}
-use Rattle.desk_store.proofs.Loaded.{begin_told, begin_refused, refused_failed, refused_quiet, load_desk, step_faulted, step_worked, step_stages}
+use Rattle.{std.proofs.Common.{refl, rules}, desk_store.specs.claim.Clerks.{desk_of, pages_of, Keeps}, desk_store_pages.specs.claim.Desks.InPages}
+use Rattle.desk_store.proofs.{Loaded.{begin_told, begin_refused, refused_failed, refused_quiet, load_desk, step_faulted, step_worked, step_stages}, Moved.{quieted, unmoved}}
 use Rattle.page_store.proofs.Stops.{quiet_none}
 use Rattle.desk_store.proofs.clerk.Clerk.begin_load.Goals as goal
 

@@ -1,7 +1,7 @@
 use Rattle.{std.proofs.Common.{◌+◌, refl, rules}, desk_model.specs.claim.Desk.Desk, desk_store.specs.{Loads.Stages, claim.Clerks.{desk_of, pages_of}}}
-use Rattle.{geo_tables.specs.{Loading.{HoldsLoad, number_of, geography_model_of, done_of}, Refusals.BatchErr, Rows.staged_rows}, desk_store.proofs.Moved.{quieted, unmoved}}
+use Rattle.desk_store_opening.specs.geo_tables.{Loading.{HoldsLoad, number_of, geography_model_of, done_of}, Refusals.BatchErr, Rows.staged_rows}
 use Rattle.desk_store.proofs.Loaded.{batch_stopped, rows_told, rows_refused, refused_failed, refused_quiet, load_desk, step_ended, step_faulted, step_worked, step_stages}
-use Rattle.page_store.proofs.Stops.{quiet_none}
+use Rattle.{desk_store.proofs.Moved.{quieted, unmoved}, page_store.proofs.Stops.quiet_none}
 use Rattle.desk_store.proofs.clerk.Clerk.load_batch.Goals as goal
 
 pub returns-in-Err : goal.returns-in-Err

@@ -1,6 +1,5 @@
-use Rattle.{std.proofs.Common.{inr, refl, rules}, desk_pages.proofs.Found.{all_versions, stores_of, open_leaves, open_versions, pages_stand}}
-use Rattle.desk_pages.proofs.Refusals.{page_calm, page_spared, calm_refused}
-use Rattle.desk_store.proofs.Opened.{opened_keeps, page_refused, find_refused, is_found, moment_quiet, version_quiet}
+use Rattle.{std.proofs.Common.{inr, refl, rules}, desk_store.proofs.Opened.{opened_keeps, page_refused, find_refused, is_found, moment_quiet, version_quiet}}
+use Rattle.desk_store_pages.proofs.{Found.{all_versions, stores_of, open_leaves, open_versions, pages_stand}, Refusals.{page_calm, page_spared, calm_refused}}
 use Rattle.desk_store.proofs.clerk.Clerk.open.Goals as goal
 
 pub returns-in-Err : goal.returns-in-Err

@@ -1,5 +1,5 @@
-use Rattle.{std.proofs.Common.{[], ◌∷◌, refl, ◌∙◌, rules}, desk_store.specs.{Keeping.sealed_desk, Loads.Stages, claim.Clerks.pages_of}, geo_tables.specs.Refusals.SealErr}
-use Rattle.{geo_tables.specs.{Loading.{number_of, geography_model_of}, Rows.seal_row}, desk_store.proofs.Moved.{quieted, unmoved}, page_store.proofs.Stops.quiet_none}
+use Rattle.{std.proofs.Common.{[], ◌∷◌, refl, ◌∙◌, rules}, desk_store.{specs.{Keeping.sealed_desk, Loads.Stages, claim.Clerks.pages_of}, proofs.Moved.{quieted, unmoved}}}
+use Rattle.{desk_store_opening.specs.geo_tables.{Loading.{number_of, geography_model_of}, Refusals.SealErr, Rows.seal_row}, page_store.proofs.Stops.quiet_none}
 use Rattle.desk_store.proofs.Loaded.{rows_told, rows_refused, refused_failed, refused_quiet, seal_faulted, seal_stopped, seal_worked, step_ended}
 use Rattle.desk_store.proofs.clerk.Clerk.seal.Goals as goal
 

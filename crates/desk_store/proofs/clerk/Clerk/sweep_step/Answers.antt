@@ -1,5 +1,5 @@
-use Rattle.{std.proofs.Common.{refl, rules}, desk_pages.specs.claim.Desks.InPages, desk_store.specs.claim.Clerks.{desk_of, pages_of, Keeps}, geo_tables.specs.Loading.number_of}
-use Rattle.desk_store.proofs.{Done.quiet_device, Loaded.{step_faulted, step_worked}, Moved.quieted}
+use Rattle.{std.proofs.Common.{refl, rules}, desk_store.specs.claim.Clerks.{desk_of, pages_of, Keeps}, desk_store_opening.specs.geo_tables.Loading.number_of}
+use Rattle.{desk_store_pages.specs.claim.Desks.InPages, desk_store.proofs.{Done.quiet_device, Loaded.{step_faulted, step_worked}, Moved.quieted}}
 use Rattle.desk_store.proofs.Swept.{as_loading, sweep_stopped, swept_holds, swept_stages, swept_told, sweep_rose, sweep_quiet, refused_so, still_stages, halted_stages, passed_device, refused_device}
 use Rattle.desk_store.proofs.clerk.Clerk.sweep_step.Goals as goal
 

@@ -1,10 +1,11 @@
-use Rattle.{std.{specs.Prelude.{Result, Ok, Err}, proofs.Common.{◌≡◌, ◌≤◌, ℕ, true, false, length, inl, inr, refl, arith}}, desk_catalogue.specs.claim.Accepting.acceptance}
-use Rattle.{desk_model.specs.declared.reply.Reply.{Reply, TheVariants.Refused}, desk_pages.{specs.{Calls.CommitsRows, claim.Desks.InPages}, proofs.Openings.leaves_desk}}
-use Rattle.desk_store.{specs.claim.{Clerks.{desk_of, disk_of, pages_of, sectors_of, Keeps}, Commands.{command_of, after_of, written_of, IsReady, Commits}}, proofs.Kept.accepted_is}
-use Rattle.{desk_store.specs.declared.{clerk.Clerk.Clerk, ready.Ready.Ready}, page_store.specs.claim.Transactions.{journal_of, has_halted, prepared_writes, HasFailed, CommitErr}}
-use Rattle.page_store.specs.{declared.pages.Pages.Pages, gate_journal.declared.error.PageError.{PageError, TheVariants.{DeviceFault, Halted, TooManyPages}}}
-use Rattle.{sector_device.specs.declared.SectorDevice.Ghosts, desk_store.proofs.Moved.{Left, worked, faulted}}
-use Rattle.desk_opening.proofs.chunk_table.Committing.{both}
+use Rattle.{std.{specs.Prelude.{Result, Ok, Err}, proofs.Common.{◌≡◌, ◌≤◌, ℕ, true, false, length, inl, inr, refl, arith}}, desk_model.specs.declared.reply.Reply.Reply}
+use Rattle.{desk_model.specs.declared.reply.Reply.TheVariants.Refused, desk_store.specs.{claim.Clerks.{desk_of, disk_of, pages_of, sectors_of, Keeps}, declared.clerk.Clerk.Clerk}}
+use Rattle.{desk_store.specs.{claim.Commands.{command_of, after_of, written_of, IsReady, Commits}, declared.ready.Ready.Ready}, desk_store_pages.specs.Calls.CommitsRows}
+use Rattle.{desk_store_catalogue.specs.claim.Accepting.acceptance, desk_store_pages.specs.claim.Desks.InPages, page_store.specs.declared.pages.Pages.Pages}
+use Rattle.page_store.specs.{claim.Transactions.{journal_of, has_halted, prepared_writes, HasFailed, CommitErr}, gate_journal.declared.error.PageError.PageError}
+use Rattle.{page_store.specs.gate_journal.declared.error.PageError.TheVariants.{DeviceFault, Halted, TooManyPages}, sector_device.specs.declared.SectorDevice.Ghosts}
+use Rattle.{desk_store.proofs.{Kept.accepted_is, Moved.{Left, worked, faulted}}, desk_store_pages.proofs.Openings.leaves_desk}
+use Rattle.desk_store_opening.proofs.chunk_table.Committing.{both}
 use Rattle.desk_model.specs.declared.reply.Refusal.TheVariants as refusal
 use Rattle.desk_store.proofs.ready.Ready.commit.Goals as goal
 

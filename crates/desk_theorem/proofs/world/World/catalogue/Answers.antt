@@ -1,4 +1,4 @@
-use Rattle.{std.proofs.Common.{◌≡◌, ◌∙◌, ◌≤◌, ap, sym, subst, length, take}, http_seats.specs.desk_gallery.claim.After.after, desk_theorem.proofs.Worlds.catalogued}
+use Rattle.{std.proofs.Common.{◌≡◌, ◌∙◌, ◌≤◌, ap, sym, subst, length, take}, http_desk.specs.seats.desk_gallery.claim.After.after, desk_theorem.proofs.Worlds.catalogued}
 use Rattle.desk_theorem.proofs.world.World.catalogue.Goals as goal
 
 pub returns : goal.returns

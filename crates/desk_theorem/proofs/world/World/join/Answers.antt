@@ -1,4 +1,4 @@
-use Rattle.{std.{specs.Result.is_ok, proofs.Common.{◌≡◌, sym, subst}}, desk_model.specs.claim.Step.step, http_seats.specs.desk_gallery.claim.After.after}
+use Rattle.{std.{specs.Result.is_ok, proofs.Common.{◌≡◌, sym, subst}}, desk_model.specs.claim.Step.step, http_desk.specs.seats.desk_gallery.claim.After.after}
 use Rattle.desk_theorem.proofs.Worlds.{joined}
 use Rattle.desk_theorem.proofs.world.World.join.Goals as goal
 

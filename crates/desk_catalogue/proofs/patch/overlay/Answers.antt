@@ -1,5 +1,0 @@
-use Rattle.{std.proofs.Common.rules, desk_catalogue.proofs.Overlays.laid_over}
-use Rattle.desk_catalogue.proofs.patch.overlay.Goals as goal
-
-pub returns : goal.returns
-returns c = search (rules, laid_over)

@@ -1,5 +1,0 @@
-use Rattle.desk_runs.proofs.One.{images_are_one}
-use Rattle.desk_runs.proofs.desk_law.one_desk_opens.Goals as goal
-
-pub returns : goal.returns
-returns c = images_are_one c.one_desk.ensures

@@ -1,5 +1,0 @@
-use Rattle.desk_runs.proofs.Runs.{survives}
-use Rattle.desk_runs.proofs.law.runs_survive.Goals as goal
-
-pub returns : goal.returns
-returns g c = survives c.args.clerk.now

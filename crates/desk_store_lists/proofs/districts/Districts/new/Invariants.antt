@@ -1,0 +1,5 @@
+use Rattle.{std.proofs.Common.{◌≡◌, ◌*◌, take}, desk_store_lists.specs.Pieces.{joined, AreFull}}
+use Rattle.desk_store_lists.proofs.districts.Districts.new.Given as goal
+
+abbrev pub invariant-loop-place : goal.invariant-loop-place
+invariant-loop-place l = record { are_full : AreFull l.full.items; same : joined l.full.items ≡ take (l.place * 512) l.list }

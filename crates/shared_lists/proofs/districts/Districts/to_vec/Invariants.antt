@@ -1,5 +1,0 @@
-use Rattle.{std.proofs.Common.{◌≡◌, take}, shared_lists.specs.Pieces.joined}
-use Rattle.shared_lists.proofs.districts.Districts.to_vec.Given as goal
-
-abbrev pub invariant-loop-piece : goal.invariant-loop-piece
-invariant-loop-piece l = l.list.items ≡ joined (take l.piece-index l.piece-items)

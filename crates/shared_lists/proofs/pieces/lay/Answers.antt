@@ -1,7 +1,0 @@
-use Rattle.{std.proofs.Common.arith, shared_lists.proofs.Laying.laid_all}
-use Rattle.shared_lists.proofs.pieces.lay.Goals as goal
-
-pub returns : goal.returns
-returns c =
-    laid_all c.args.first c.args.listed.now c.args.start c.args.districts.now c.loop-k.districts c.loop-k.k c.loop-k.invariant
-    (omega (arith, c.loop-k-test.false, c.loop-k.auto.districts, c.loop-k.auto.k-end))

@@ -1,5 +1,0 @@
-use Rattle.shared_lists.proofs.Laying.{IsLaid}
-use Rattle.shared_lists.proofs.pieces.lay.Given as goal
-
-abbrev pub invariant-loop-k : goal.invariant-loop-k
-invariant-loop-k l = IsLaid l.first l.listed l.start l.initial.districts l.districts l.k

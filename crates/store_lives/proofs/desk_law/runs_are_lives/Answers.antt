@@ -1,5 +1,0 @@
-use Rattle.store_lives.proofs.Bridging.{run_lived}
-use Rattle.store_lives.proofs.desk_law.runs_are_lives.Goals as goal
-
-pub returns : goal.returns
-returns g c = λ calls y run. run_lived c.args.clerk.now calls y run

@@ -1,8 +1,0 @@
-use Rattle.{std.proofs.Common.rules, store_lives.proofs.VersionLiving.{barred_lives, led_lives}}
-use Rattle.store_lives.proofs.leading.lead_in.Goals as goal
-
-pub returns-in-Err : goal.returns-in-Err
-returns-in-Err g c = search (rules, c.in-Err.ensures, barred_lives)
-
-pub returns : goal.returns
-returns g c = search (rules, c.in-Ok.ensures, c.into_device.ensures, c.lead-led.ensures, led_lives)

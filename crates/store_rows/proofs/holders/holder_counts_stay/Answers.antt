@@ -1,5 +1,0 @@
-use Rattle.store_rows.proofs.HolderCounts.{holder_counts_stay}
-use Rattle.store_rows.proofs.holders.holder_counts_stay.Goals as goal
-
-pub returns : goal.returns
-returns c = holder_counts_stay

@@ -1,5 +1,0 @@
-use Rattle.store_rows.proofs.RowLaws.{keys_differ}
-use Rattle.store_rows.proofs.key_laws.keys_differ.Goals as goal
-
-pub returns : goal.returns
-returns c = keys_differ

@@ -1,5 +1,0 @@
-use Rattle.store_rows.proofs.Numbers.{numbers_decide}
-use Rattle.store_rows.proofs.key_laws.numbers_decide.Goals as goal
-
-pub returns : goal.returns
-returns c = numbers_decide

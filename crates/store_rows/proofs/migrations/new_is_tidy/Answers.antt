@@ -1,5 +1,0 @@
-use Rattle.store_rows.proofs.Migrating.{new_tidy}
-use Rattle.store_rows.proofs.migrations.new_is_tidy.Goals as goal
-
-pub returns : goal.returns
-returns c = new_tidy

@@ -1,5 +1,0 @@
-use Rattle.store_rows.proofs.Migrating.{version_told}
-use Rattle.store_rows.proofs.migrations.version_is_told.Goals as goal
-
-pub returns : goal.returns
-returns c = version_told
