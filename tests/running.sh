@@ -12,7 +12,8 @@ beside=('first_build python3' 'hostile python3 rustc' 'report_files python3' 'pl
         'clauses python3' 'sweeps python3 rustc' 'spoiled python3' 'release python3 git tar xz sha256sum curl' 'stores python3' 'reports python3'
         'explained python3' 'stat python3' 'verify python3' 'loads python3' 'traces python3 rustc' 'kept python3 rustc' 'checks python3'
         'old_stores python3' 'trust python3' 'census python3' 'reads python3 rustc' 'words python3' 'generated python3' 'prose python3'
-        'closed_streams python3' 'neighbours /usr/bin/python3:geopandas /usr/bin/python3:libpysal' 'full_disk python3 unshare mount')
+        'closed_streams python3' 'neighbours /usr/bin/python3:geopandas /usr/bin/python3:libpysal' 'full_disk python3 unshare mount'
+        'copies python3 rustc unshare mount')
 alone=('prebuilt python3' 'kept_connections python3' 'sweeps_beside python3' 'serve python3' 'seats python3 rustc' 'watched python3'
        'units python3 systemd-analyze flock setpriv' 'clients python3' 'proxy python3 nginx openssl' 'browser python3 nginx openssl chromium'
        'examples python3 curl' 'tasks python3 curl' 'wrong_bodies python3')

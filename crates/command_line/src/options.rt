@@ -124,6 +124,14 @@ pub struct Logging<'a> {
     pub tell: Option<u32>,
 }
 
+/// The copies of a served store: the file whose place each of them takes, and the seconds between
+/// two of them. Both are given or neither.
+#[derive(Clone, Copy)]
+pub struct Copying<'a> {
+    pub file: Option<&'a str>,
+    pub every: Option<u32>,
+}
+
 /// Parses a number of 1 to `most`, digits only. Leading zeros are allowed.
 fn number_up_to(most: u32, text: &[u8]) -> Option<u32>
     ensures { GivesNumber (number_in most text.now) 1 most result }

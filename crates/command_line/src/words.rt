@@ -1,13 +1,13 @@
 //! The words of the command line.
-ghost use Rattle.std.specs.Prelude.{◌≡◌, map, IfOk, IfSome};
+ghost use Rattle.std.specs.Prelude.{◌≡◌, true, None, map, IfOk, IfSome};
 ghost use Rattle.std.specs.Option.{option_copied};
 ghost use Rattle.clap.specs.Matches.{found_of, first_value};
-ghost use Rattle.command_line.specs.Jobs.{IsJob, AreCensusPaths, HasPaths, IsAsked, first_code as code_of_first, IsJobOf};
+ghost use Rattle.command_line.specs.Jobs.{IsJob, AreCensusPaths, HasNoState, HasPaths, IsAsked, first_code as code_of_first, IsJobOf};
 
 use crate::line::command;
 use crate::options::{
-    AuditOptions, Form, Logging, Serving, Size, is_number, read_form, read_format, read_interval,
-    read_serving, read_workers,
+    AuditOptions, Copying, Form, Logging, Serving, Size, is_number, read_form, read_format,
+    read_interval, read_serving, read_workers,
 };
 use crate::tables::{Argument, Values, orders};
 use clap::ArgMatches;
@@ -31,12 +31,14 @@ pub enum Job<'a> {
     Format(&'a str, Size, bool),
     /// `load`: a store is filled with what the census files and the neighbour file say.
     Load(&'a str, CensusPaths<'a>, &'a str),
-    /// `serve`: the store's name, how it is served, and its log.
-    Serve(&'a str, Serving, Logging<'a>),
+    /// `serve`: the store's name, how it is served, its log and its copies.
+    Serve(&'a str, Serving, Logging<'a>, Copying<'a>),
     /// `stat`: how full a store is, as JSON or in lines.
     Stat(&'a str, bool),
     /// `verify`: whether a store is one that a desk leaves.
     Verify(&'a str),
+    /// `verify` with the census files and the neighbour file: whether a store has what they say.
+    VerifyCensus(&'a str, CensusPaths<'a>, &'a str),
     /// `sweep`: what nothing needs any more is taken out of a store.
     Sweep(&'a str),
     /// `migrate`: a store of version 1 becomes one of version 2.
@@ -92,6 +94,8 @@ const TOO_LARGE: &str =
 
 const WRONG_SERVING: &str =
     "error: '--port <P>' is 1 to 65535, '--workers <W>' 1 to 64, '--connections <C>' 1 to 4294967295, and a number of seconds 1 to 86400\n";
+
+const OVER_STORE: &str = "error: '--copy <FILE>' names the store or its log; name another file\n";
 
 fn memory() -> Mistake {
     Mistake {
@@ -186,6 +190,22 @@ fn load_job<'a>(matches: &ArgMatches<'a>) -> Option<Job<'a>>
     Some(Job::Load(matches.get_str("store")?, census, matches.get_str("gal")?))
 }
 
+/// Whether copies take the place of the store itself or of its log, by their names.
+fn copies_over<'a>(matches: &ArgMatches<'a>) -> bool {
+    let Some(copy) = matches.get_str("copy") else {
+        return false;
+    };
+    if let Some(store) = matches.get_str("store") {
+        if copy == store {
+            return true;
+        }
+    }
+    match matches.get_str("log") {
+        Some(log) => copy == log,
+        None => false,
+    }
+}
+
 /// What `serve` is asked for, where its numbers are in range.
 fn serve_job<'a>(matches: &ArgMatches<'a>) -> Option<Job<'a>>
     ensures { IsJobOf (found_of matches.now) result }
@@ -205,7 +225,14 @@ fn serve_job<'a>(matches: &ArgMatches<'a>) -> Option<Job<'a>>
         file: matches.get_str("log"),
         tell: read_interval(word_of(matches, "tell"))?,
     };
-    Some(Job::Serve(store, serving, log))
+    let copying = Copying {
+        file: matches.get_str("copy"),
+        every: read_interval(word_of(matches, "every"))?,
+    };
+    if copies_over(matches) {
+        return None;
+    }
+    Some(Job::Serve(store, serving, log, copying))
 }
 
 /// What `stat` is asked for.
@@ -216,13 +243,50 @@ fn stat_job<'a>(matches: &ArgMatches<'a>) -> Option<Job<'a>>
     Some(Job::Stat(store, matches.get_flag("json")))
 }
 
-/// Returns the job of a command that takes only a store: `verify`, `sweep` or `migrate`.
+/// Returns whether an option is missing.
+fn is_missing<'a>(matches: &ArgMatches<'a>, option: &str) -> bool
+    ensures { result ≡ true → first_value (found_of matches.now) option.now ≡ None }
+{
+    match word_of(matches, option) {
+        Some(_) => false,
+        None => true,
+    }
+}
+
+/// Returns whether no file of a state is given.
+fn has_no_state<'a>(matches: &ArgMatches<'a>) -> bool
+    ensures { result ≡ true → HasNoState (found_of matches.now) }
+{
+    if !is_missing(matches, "geo") {
+        return false;
+    }
+    if !is_missing(matches, "seg1")
+        || !is_missing(matches, "seg2")
+        || !is_missing(matches, "seg3")
+    {
+        return false;
+    }
+    is_missing(matches, "gal")
+}
+
+/// Returns what `verify` is asked for, if all files of a state are given or none.
+fn verify_job<'a>(matches: &ArgMatches<'a>) -> Option<Job<'a>>
+    ensures { IsJobOf (found_of matches.now) result }
+{
+    let store = matches.get_str("store")?;
+    if has_no_state(matches) {
+        return Some(Job::Verify(store));
+    }
+    let census = census_paths(matches)?;
+    Some(Job::VerifyCensus(store, census, matches.get_str("gal")?))
+}
+
+/// Returns the job of a command that takes only a store: `sweep` or `migrate`.
 fn store_job<'a>(name: &str, matches: &ArgMatches<'a>) -> Option<Job<'a>>
     ensures { IsJobOf (found_of matches.now) result }
 {
     let store = matches.get_str("store")?;
     match name {
-        "verify" => Some(Job::Verify(store)),
         "sweep" => Some(Job::Sweep(store)),
         _ => Some(Job::Migrate(store)),
     }
@@ -306,7 +370,8 @@ fn job_under<'a>(name: &str, options: &ArgMatches<'a>) -> Option<Job<'a>>
         "load" => load_job(options),
         "serve" => serve_job(options),
         "stat" => stat_job(options),
-        "verify" | "sweep" | "migrate" => store_job(name, options),
+        "verify" => verify_job(options),
+        "sweep" | "migrate" => store_job(name, options),
         "explain" => explain_job(options),
         _ => check_job(options),
     }
@@ -384,12 +449,20 @@ fn wrong_size<'a>(options: &ArgMatches<'a>) -> &'static str {
     NO_SIZE
 }
 
+/// What is wrong with the options of `serve`, whose numbers are in range.
+fn wrong_serving<'a>(options: &ArgMatches<'a>) -> &'static str {
+    if copies_over(options) {
+        return OVER_STORE;
+    }
+    WRONG_SERVING
+}
+
 /// What is wrong with a command's options, which clap let pass.
 fn wrong_under<'a>(name: &str, options: &ArgMatches<'a>) -> &'static str {
     match name {
         "format" => wrong_size(options),
         "load" => "error: a file is missing\n",
-        "serve" => WRONG_SERVING,
+        "serve" => wrong_serving(options),
         "stat" | "verify" | "sweep" | "migrate" => "error: a store is missing\n",
         _ => wrong_options(options),
     }

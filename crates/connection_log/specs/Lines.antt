@@ -1,10 +1,12 @@
 -- The lines of a log.
 use Rattle.std.specs.Prelude.{◌≡◌, ℕ, ◌+◌, ◌/◌, ◌%◌, ◌==◌, Bool, true, false, if◌then◌else◌, List, [], ◌∷◌, ◌++◌, codes, decimal, Option, Some, None, Result, Ok, Err, ℤ, unsigned_abs}
 use Rattle.{byte_stream.specs.{claim.{Counts.counted, Sends.Sends}, declared.sink.WriteFault.WriteFault}, connection_log.specs.declared.connection.Connection.Connection}
-use Rattle.{connection_log.specs.declared.line.{Change.Change, Ending.Ending, LogLine.LogLine, Owed.Owed, Room.Room}, http_desk.specs.streams.Accepting.plan_of}
+use Rattle.{connection_log.specs.declared.line.{Change.Change, CopyNote.CopyNote, Ending.Ending, LogLine.LogLine, Owed.Owed, Room.Room}, http_desk.specs.streams.Accepting.plan_of}
 use Rattle.{http_desk.specs.streams.declared.accepted.Accepted.Accepted, jiff_core.specs.declared.civil.datetime.DateTime.DateTime}
 use Rattle.http_desk.specs.streams.declared.accepted.Accepted.TheVariants as accepted
 use Rattle.connection_log.specs.declared.line.LogLine.TheVariants as entry
+use Rattle.http_desk.specs.seats.desk_gallery.sector_copies.declared.fault.CopyFault.CopyFault
+use Rattle.http_desk.specs.seats.desk_gallery.sector_copies.declared.fault.CopyFault.TheVariants as fault
 
 -- the last two digits of a number
 abbrev pub two_digits : ℕ → List ℕ
@@ -38,6 +40,21 @@ room_line r = stamp r.at ++ (codes "free " ++ decimal r.free_pages) ++ (codes " 
 abbrev pub unsound_line : Option DateTime → List ℕ
 unsound_line at = stamp at ++ codes "store NotAStore, nothing is swept\n"
 
+-- the outcome of a copy of the store
+abbrev pub copy_words : Option CopyFault → List ℕ
+copy_words None = codes "store copied\n"
+copy_words (Some fault.Unread) = codes "store not copied: Unreadable\n"
+copy_words (Some fault.Unwritten) = codes "store not copied: WriteFault\n"
+copy_words (Some fault.NoRoom) = codes "store not copied: NoRoom\n"
+copy_words (Some fault.NotFound) = codes "store not copied: NotFound\n"
+copy_words (Some fault.NotPermitted) = codes "store not copied: NotPermitted\n"
+copy_words (Some fault.NotAStore) = codes "store not copied: NotAStore\n"
+copy_words (Some fault.InUse) = codes "store not copied: InUse\n"
+copy_words (Some fault.Halted) = codes "store not copied: Halted\n"
+
+abbrev pub copy_line : CopyNote → List ℕ
+copy_line n = stamp n.at ++ copy_words n.fault
+
 abbrev pub revision_words : (revision blocks : ℕ) → List ℕ
 revision_words revision blocks = (codes " revision " ++ decimal revision) ++ (codes " of " ++ decimal blocks) ++ codes " blocks"
 
@@ -59,6 +76,7 @@ entry_line (entry.Change c) = change_line c
 entry_line (entry.Connection c) = connection_line c
 entry_line (entry.Room r) = room_line r
 entry_line (entry.Unsound at) = unsound_line at
+entry_line (entry.Copied n) = copy_line n
 entry_line (entry.End e) = end_line e
 
 -- when it came about
@@ -67,6 +85,7 @@ entry_moment (entry.Change c) = c.at
 entry_moment (entry.Connection c) = c.at
 entry_moment (entry.Room r) = r.at
 entry_moment (entry.Unsound at) = at
+entry_moment (entry.Copied n) = n.at
 entry_moment (entry.End e) = e.at
 
 -- the end of a line that may be there in part

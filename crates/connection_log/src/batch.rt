@@ -1,7 +1,7 @@
 //! Lines that wait together.
 ghost use Rattle.std.specs.Prelude.{◌≡◌, ◌≤◌, ◌<◌, ◌++◌, ◌∷◌, [], MatchBool, length, vec_capacity, IfOk};
 
-use crate::line::{Change, LogLine};
+use crate::line::{Change, CopyNote, LogLine};
 use http_desk::accepted::Accepted;
 use std::alloc::{AllocError, Global};
 
@@ -43,7 +43,7 @@ impl Batch {
         ensures { self.new.list.items ≡ self.old.list.items ++ line ∷ [] }
     {
         // (the prover wants each type that a line may hold named here)
-        let _ = (None::<Change>, None::<Accepted>);
+        let _ = (None::<Change>, None::<Accepted>, None::<CopyNote>);
         let _ = self.list.push(line);
     }
 

@@ -1,5 +1,5 @@
-//! The log of a server: accepted commands, free pages, and a line for each connection that has
-//! ended.
+//! The log of a server: accepted commands, free pages, copies of the store, and a line for each
+//! connection that has ended.
 //!
 //! # Model
 //!

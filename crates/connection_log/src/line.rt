@@ -1,13 +1,14 @@
 //! The lines of a log.
 ghost use Rattle.std.specs.Prelude.{◌≡◌, ◌+◌, ◌≤◌, ◌++◌, [], length, decimal, IfOk};
 ghost use Rattle.http_desk.specs.streams.http_wire.Adding.{Adds};
-ghost use Rattle.connection_log.specs.Lines.{connection_line, cut_end, dropped_line, end_line, entry_line, entry_moment, room_line, stamp, unsound_line};
+ghost use Rattle.connection_log.specs.Lines.{connection_line, copy_line, copy_words, cut_end, dropped_line, end_line, entry_line, entry_moment, room_line, stamp, unsound_line};
 ghost use Rattle.connection_log.specs.Lines.{change_line, deed_words, revision_words, source_words, two_digits, year_text};
 
 use crate::connection::Connection;
 use desk_model::name::PlanName;
 use http_desk::Ran;
 use http_desk::accepted::Accepted;
+use http_desk::fault::CopyFault;
 use itoa::Buffer;
 use jiff_core::civil::DateTime;
 use std::alloc::{AllocError, Global};
@@ -42,6 +43,33 @@ pub struct Change {
     pub accepted: Accepted,
 }
 
+/// The outcome of a copy of the store.
+#[derive(Clone, Copy)]
+pub struct CopyNote {
+    /// In UTC, if the clock could be read.
+    pub at: Option<DateTime>,
+    /// Why no copy was made, if none was.
+    pub fault: Option<CopyFault>,
+}
+
+/// The words for the outcome of a copy.
+fn words_of_copy(fault: Option<CopyFault>) -> &'static [u8]
+    ensures words { result.now ≡ copy_words fault }
+    ensures short { length result.now ≤ 40 }
+{
+    match fault {
+        None => b"store copied\n",
+        Some(CopyFault::Unread) => b"store not copied: Unreadable\n",
+        Some(CopyFault::Unwritten) => b"store not copied: WriteFault\n",
+        Some(CopyFault::NoRoom) => b"store not copied: NoRoom\n",
+        Some(CopyFault::NotFound) => b"store not copied: NotFound\n",
+        Some(CopyFault::NotPermitted) => b"store not copied: NotPermitted\n",
+        Some(CopyFault::NotAStore) => b"store not copied: NotAStore\n",
+        Some(CopyFault::InUse) => b"store not copied: InUse\n",
+        Some(CopyFault::Halted) => b"store not copied: Halted\n",
+    }
+}
+
 /// What a line of a log is of.
 #[derive(Clone, Copy)]
 pub enum LogLine {
@@ -54,6 +82,8 @@ pub enum LogLine {
     /// A sweep found rows that are not those of a desk, at this moment of UTC, if the clock could
     /// be read.
     Unsound(Option<DateTime>),
+    /// A copy of the store was made, or failed.
+    Copied(CopyNote),
     /// All connections.
     End(Ending),
 }
@@ -68,6 +98,7 @@ impl LogLine {
             LogLine::Connection(connection) => connection.at,
             LogLine::Room(room) => room.at,
             LogLine::Unsound(at) => *at,
+            LogLine::Copied(note) => note.at,
             LogLine::End(ending) => ending.at,
         }
     }
@@ -236,6 +267,15 @@ impl LineText {
         self.put(b"store NotAStore, nothing is swept\n");
     }
 
+    /// Puts the line of a copy of the store.
+    fn put_copy(&mut self, note: &CopyNote)
+        requires { length self.old ≤ 100 }
+        ensures { self.new ≡ self.old ++ copy_line note.now }
+    {
+        self.put_moment(note.at);
+        self.put(words_of_copy(note.fault));
+    }
+
     /// Puts words and a plan's name after them.
     fn put_name(&mut self, words: &[u8], name: &PlanName)
         requires { length self.old + length words.now + 64 ≤ 512 }
@@ -302,6 +342,7 @@ impl LineText {
             LogLine::Connection(connection) => self.put_connection(connection),
             LogLine::Room(room) => self.put_room(room),
             LogLine::Unsound(at) => self.put_unsound(*at),
+            LogLine::Copied(note) => self.put_copy(note),
             LogLine::End(ending) => self.put_end(ending),
         }
     }

@@ -3,7 +3,7 @@ ghost use Rattle.std.specs.Prelude.{◌≡◌, [], true, Some, IfOk};
 ghost use Rattle.connection_log.specs.Waits.{has_nothing, HasPut, HasTaken};
 
 use crate::batch::{Batch, MOST_WAITING};
-use crate::line::{Change, Ending, LogLine};
+use crate::line::{Change, CopyNote, Ending, LogLine};
 use http_desk::accepted::Accepted;
 use std::alloc::{AllocError, Global};
 use std::mem;
@@ -50,7 +50,7 @@ impl Waiting {
             return;
         }
         // (the prover wants each type that a line may hold named here)
-        let _ = (None::<Change>, None::<Accepted>);
+        let _ = (None::<Change>, None::<Accepted>, None::<CopyNote>);
         let _ = self.batch.list.push(line);
     }
 

@@ -19,10 +19,10 @@ pub trait Upkeep {
     ghost use Rattle.desk_gallery.specs.Copies.{CanCopy};
 
     /// The store, opened once more for reading.
-    type Served: SectorDevice + Drop;
+    type Served: SectorDevice + Drop + Send + Sync;
 
     /// A copy that is not yet in place.
-    type Copied: SectorDevice + Drop;
+    type Copied: SectorDevice + Drop + Send + Sync;
 
     // The store was opened for a copy while its own device read as this image, and this was given.
     ghost begins: { Self → Image → Self.Served → Type 0 };

@@ -39,6 +39,8 @@ pub use http_desk_connections::{
 };
 pub use http_desk_seats::many::serve_many;
 pub use http_desk_seats::seat::Seat;
-pub use http_desk_seats::{book, front, gallery, guest, many, office, seat, tally, visitor};
+pub use http_desk_seats::{
+    book, copying, fault, front, gallery, guest, many, office, seat, tally, visitor,
+};
 pub use http_desk_streams::serve::{ServeFault, Served, serve};
 pub use http_desk_streams::{GatherSink, accepted, answer, body, hearing, law, short};

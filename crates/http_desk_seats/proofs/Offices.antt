@@ -74,6 +74,10 @@ module _ (J D : RattleType) (g : room.Ghosts J.Denot) (h : device.Ghosts D.Denot
 pub captures_send : (ν : Sym) (A B C E F : RattleType) → IsSend A → IsSend B → IsSend C → IsSend E → IsSend F → IsSend (TupleAt ν (A ∷ B ∷ C ∷ E ∷ F ∷ []))
 captures_send ν A B C E F a b c e f = search sendable depth 30
 
+-- what the closure captures that copies
+pub copier_send : (ν : Sym) (A B C E : RattleType) → IsSend A → IsSend B → IsSend C → IsSend E → IsSend (TupleAt ν (A ∷ B ∷ C ∷ E ∷ []))
+copier_send ν A B C E a b c e = search sendable depth 30
+
 -- what a worker's closure captures
 pub captures_sync : (ν : Sym) (A B C D E : RattleType) → IsSync A → IsSync B → IsSync C → IsSync D → IsSync E → IsSync (TupleAt ν (A ∷ B ∷ C ∷ D ∷ E ∷ []))
 captures_sync ν A B C D E a b c d e = search sendable depth 30

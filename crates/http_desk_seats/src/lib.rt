@@ -24,4 +24,4 @@ pub mod guest;
 pub mod many;
 pub mod seat;
 
-pub use desk_gallery::{book, front, gallery, office, tally, visitor};
+pub use desk_gallery::{book, copying, fault, front, gallery, office, tally, visitor};

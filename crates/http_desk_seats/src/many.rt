@@ -18,6 +18,8 @@ use crate::guest::SeatState;
 use crate::seat::Seat;
 use desk_gallery::Clerk;
 use desk_gallery::book::GalleryId;
+use desk_gallery::copying::Upkeep;
+use desk_gallery::fault::CopyFault;
 use desk_gallery::front::Front;
 use desk_gallery::office::Office;
 use desk_gallery::tally::FreeShares;
@@ -270,6 +272,30 @@ fn follow<G: CommandObserver>(gate: &G, swept: Swept) -> Option<u64>
     }
 }
 
+/// Copies the store while others serve, and again after each number of seconds, until copies are
+/// ended or the clerk has halted. Whoever sees to the store hears of each outcome.
+fn copy_beside<J: GalleryId, D: SectorDevice, U: Upkeep, R: Wait>(
+    rt: &R,
+    office: &Office<J, D>,
+    upkeep: &U,
+    seconds: u32,
+) {
+    for _ in rt.forever() {
+        if !office.rest(rt, 0) {
+            return;
+        }
+        let did = office.copy(rt, upkeep);
+        upkeep.hear_copy(did);
+        if let Err(CopyFault::Halted) = did {
+            return;
+        }
+        if !office.rest(rt, seconds) {
+            return;
+        }
+    }
+    unreachable!()
+}
+
 /// If asked to, sweeps while others serve: step by step, while rows are left and commands leave
 /// time, until sweeping is ended. The gate is told the free pages after each step, and once if the
 /// rows are not those of a desk.
@@ -294,19 +320,39 @@ fn sweep_beside<J: GalleryId, D: SectorDevice, G: CommandObserver, R: Wait>(
     unreachable!()
 }
 
-/// Serves streams at each place, with one more thread that sweeps, and returns the places as they
-/// are left. If that thread cannot be started, nothing is swept.
+/// Sweeps and copies the store while others serve, as far as it is asked to. Copies have a thread
+/// of their own.
+fn keep_beside<
+    J: GalleryId + Send + Sync,
+    D: SectorDevice + Drop + Send + Sync,
+    G: CommandObserver + Sync,
+    U: Upkeep + Sync,
+    R: Threads + Wait + Sync,
+>(rt: &R, alloc: Global, office: &Office<J, D>, upkeep: &U, gate: &G) {
+    let sweeps = upkeep.sweeps();
+    let Some(seconds) = upkeep.pause() else {
+        sweep_beside(rt, alloc, office, sweeps, gate);
+        return;
+    };
+    let copy = move || copy_beside(rt, office, upkeep, seconds);
+    let sweep = move || sweep_beside(rt, alloc, office, sweeps, gate);
+    let _ = join(rt, copy, sweep);
+}
+
+/// Serves streams at each place, with one more thread that sweeps and copies, and returns the
+/// places as they are left. If that thread cannot be started, nothing is swept or copied.
 fn serve_beside<
     J: GalleryId + Send + Sync,
     D: SectorDevice + Drop + Send + Sync,
     A: Arrivals + Sync,
     G: CommandObserver + Sync,
+    U: Upkeep + Sync,
     R: Threads + Wait + Sync,
 >(
     rt: &R,
     alloc: Global,
     office: &Office<J, D>,
-    sweeps: bool,
+    upkeep: &U,
     places: Vec<WorkerPlace<J>>,
     arrivals: &A,
     gate: &G,
@@ -315,13 +361,13 @@ fn serve_beside<
     ensures { PlacesAreLeft (traffic A.gives A.takes_back A.Reader.Source A.Writer.Sink arrivals.now) J.first
         (map (λ p. (p.worker, p.guest)) places.items) (map (λ p. (p.guest, p.totals.ran)) result.items) }
 {
-    let sweep = move || sweep_beside(rt, alloc, office, sweeps, gate);
+    let keep = move || keep_beside(rt, alloc, office, upkeep, gate);
     let serve = move || -> Vec<WorkerPlace<J>>
         requires { MayBeAsked (traffic A.gives A.takes_back A.Reader.Source A.Writer.Sink arrivals.now) J.asked }
         ensures { PlacesAreLeft (traffic A.gives A.takes_back A.Reader.Source A.Writer.Sink arrivals.entry.now) J.first
             (map (λ p. (p.worker, p.guest)) places.items) (map (λ p. (p.guest, p.totals.ran)) result.items) }
     { serve_all(rt, alloc, office, places, arrivals, gate) };
-    let (_, left) = join(rt, sweep, serve);
+    let (_, left) = join(rt, keep, serve);
     left
 }
 
@@ -356,21 +402,22 @@ fn know_all<J: GalleryId, D: SectorDevice>(front: &mut Front<J, D>, places: &[Wo
 /// the visitor had seen, and with which the commands begin that the clerk has carried out in the
 /// end. Each command that the clerk was handed was asked for in the bytes of a given stream: this
 /// is what `asked` of the gallery's identity has to say. Each accepted command is done once: there
-/// are as many changes as answers that report one. With `sweeps` one more thread sweeps the store
-/// between commands, which no answer shows. The gate is told of each accepted command, of the free
-/// pages, and once if the rows are not those of a desk. Returns an error if memory for the workers
-/// is refused; then no stream was taken.
+/// are as many changes as answers that report one. The store is swept and copied between commands,
+/// as far as `upkeep` asks for it, which no answer shows. The gate is told of each accepted command,
+/// of the free pages, and once if the rows are not those of a desk. Returns an error if memory for
+/// the workers is refused; then no stream was taken.
 pub fn serve_many<
     J: GalleryId + Send + Sync,
     D: SectorDevice + Drop + Send + Sync,
     A: Arrivals + Sync,
     G: CommandObserver + Sync,
+    U: Upkeep + Sync,
     R: Threads + Wait + Sync,
 >(
     rt: &R,
     alloc: Global,
     office: Office<J, D>,
-    sweeps: bool,
+    upkeep: &U,
     visitors: Vec<Visitor<J>>,
     tallies: FreeShares<J>,
     arrivals: &A,
@@ -391,7 +438,7 @@ pub fn serve_many<
     let Ok(places) = places_for(alloc, visitors, &mut tallies) else {
         return (office.close(rt), Err(AllocError));
     };
-    let left = serve_beside(rt, alloc, &office, sweeps, places, arrivals, gate);
+    let left = serve_beside(rt, alloc, &office, upkeep, places, arrivals, gate);
     let stands = left.as_slice();
     let mut front = office.into_front();
     know_all(&mut front, stands);

@@ -1,6 +1,7 @@
 //! `serve` over the file system, the network and the standard streams.
 ghost use Rattle.std.specs.Prelude.{◌≡◌, ◌≤◌, false};
 ghost use Rattle.command_output.specs.Writing.{OfWriters};
+ghost use Rattle.command_output.specs.declared.status.Status.TheVariants.{Memory};
 ghost use Rattle.file_commands.specs.Premises.{IsJustOpened};
 ghost use Rattle.sector_file.specs.Device.{file_disk, first_image};
 ghost use Rattle.plandesk.specs.claim.Running.{RunsServe};
@@ -10,7 +11,7 @@ ghost use Rattle.serve_command.specs.Serving.{listener_of};
 
 use byte_stream::sink::{Sink, WriteSink};
 use byte_stream::source::{ReadSource, Source};
-use command_line::options::{Logging, Serving};
+use command_line::options::{Copying, Logging, Serving};
 use command_output::status::Status;
 use connection_log::log::Log;
 use connection_log::watching::{LoggedArrivals, Watched};
@@ -19,6 +20,8 @@ use file_commands::faults::{explain_last, standard_error};
 use file_commands::logs::log_of;
 use file_commands::prefixes::Prefixed;
 use file_commands::stores::StoreFiles;
+use file_copies::{FileUpkeep, Place};
+use http_desk::copying::Upkeep;
 use http_desk::door;
 use http_desk::door::AcceptQueue;
 use http_desk::listening::FallibleArrivals;
@@ -27,7 +30,7 @@ use sector_file::{Contents, FileDevice};
 use serve_command::log::refuse_log;
 use serve_command::loopback::listen_here;
 use serve_command::serve::{refuse_memory, serve};
-use std::alloc::Global;
+use std::alloc::{AllocError, Global};
 use std::fs::File;
 use std::sync::Wait;
 use std::thread::Threads;
@@ -45,6 +48,7 @@ pub fn serve_desk<
     name: &str,
     serving: Serving,
     log: Logging<'_>,
+    copying: Copying<'_>,
     start: S,
 ) -> Status
     requires workers { 1 ≤ serving.workers }
@@ -59,6 +63,7 @@ pub fn serve_desk<
             name,
             serving,
             watcher_of(&log),
+            copying,
             start,
         ),
         Err(refused) => {
@@ -68,6 +73,34 @@ pub fn serve_desk<
             explain_last(rt, errors, with_words, &files, refused.reason);
             status
         }
+    }
+}
+
+/// Prints that memory was refused before anything was opened.
+fn end_without_memory(rt: &HostRuntime, with_words: bool, name: &str) -> Status
+    ensures { result ≡ Memory }
+{
+    let mut errors = standard_error(rt);
+    let status = refuse_memory(&mut errors);
+    explain_last(rt, errors, with_words, &[("store", name)], None);
+    status
+}
+
+/// The place of copies of a store, if they are asked for.
+fn place_of<'a>(
+    rt: &HostRuntime,
+    name: &str,
+    copying: Copying<'a>,
+) -> Result<Option<Place<'a>>, AllocError> {
+    let Some(file) = copying.file else {
+        return Ok(None);
+    };
+    let Some(seconds) = copying.every else {
+        return Ok(None);
+    };
+    match Place::new(rt, name, file, seconds) {
+        Ok(place) => Ok(Some(place)),
+        Err(_) => Err(AllocError),
     }
 }
 
@@ -82,6 +115,7 @@ fn serve_watched<
     name: &str,
     serving: Serving,
     log: Option<&Log>,
+    copying: Copying<'_>,
     start: S,
 ) -> Status
     requires workers { 1 ≤ serving.workers }
@@ -89,7 +123,9 @@ fn serve_watched<
     ensures { RunsServe ⟦<FileDevice<S> as SectorDevice>⟧ (λ device. IsJustOpened (first_image S.Contents.sector) (file_disk device)) ⟦<ReadSource<Prefixed<File>> as Source>⟧ result }
 {
     let Ok(listener) = listen_here(rt, serving.port) else {
-        return serve_door(rt, threads, with_words, name, serving, None, log, start);
+        return serve_door(
+            rt, threads, with_words, name, serving, None, log, copying, start,
+        );
     };
     let connections = connections_of(&serving);
     match door::open(threads, rt.alloc(), listener, connections, serving.workers) {
@@ -101,14 +137,10 @@ fn serve_watched<
             serving,
             Some(&*door),
             log,
+            copying,
             start,
         ),
-        Err(_) => {
-            let mut errors = standard_error(rt);
-            let status = refuse_memory(&mut errors);
-            explain_last(rt, errors, with_words, &[("store", name)], None);
-            status
-        }
+        Err(_) => end_without_memory(rt, with_words, name),
     }
 }
 
@@ -121,6 +153,7 @@ fn serve_door<'a, T: Threads + Wait + Clock + Sync, S: Contents + Send + Sync>(
     serving: Serving,
     door: Option<&'a AcceptQueue>,
     log: Option<&Log>,
+    copying: Copying<'_>,
     start: S,
 ) -> Status
     requires workers { 1 ≤ serving.workers }
@@ -129,6 +162,10 @@ fn serve_door<'a, T: Threads + Wait + Clock + Sync, S: Contents + Send + Sync>(
 {
     let listening = listening_at(threads, door, &serving);
     let watching = watching_at(threads, listening.as_ref(), log);
+    let Ok(place) = place_of(rt, name, copying) else {
+        return end_without_memory(rt, with_words, name);
+    };
+    let upkeep = FileUpkeep::<S, T, Log>::new(rt, threads, serving.sweeps, place, log);
     serve_at(
         rt,
         threads,
@@ -136,6 +173,7 @@ fn serve_door<'a, T: Threads + Wait + Clock + Sync, S: Contents + Send + Sync>(
         name,
         serving,
         watching.as_ref(),
+        &upkeep,
         start,
     )
 }
@@ -145,6 +183,7 @@ fn serve_door<'a, T: Threads + Wait + Clock + Sync, S: Contents + Send + Sync>(
 fn serve_in_file<
     S: Contents + Send + Sync,
     A: Watched + Sync,
+    U: Upkeep + Sync,
     T: Threads + Wait + Sync,
     W: Sink,
     E: Sink,
@@ -154,6 +193,7 @@ fn serve_in_file<
     stores: &mut StoreFiles<'_, S>,
     name: &str,
     serving: Serving,
+    upkeep: &U,
     listening: Option<&A>,
     writer: &mut W,
     errors: &mut E,
@@ -164,16 +204,8 @@ fn serve_in_file<
         (stores.new.is_opened ≡ false) (traffic A.gives A.takes_back A.Reader.Source A.Writer.Sink) A.fails (listener_of listening.entry)
         serving.workers serving.port result) W.Sink writer.old writer.new E.Sink errors.old errors.new }
 {
-    let served = serve::<FileDevice<S>, _, _, _, _, _>(
-        threads,
-        alloc,
-        stores,
-        name,
-        serving,
-        serving.sweeps,
-        listening,
-        writer,
-        errors,
+    let served = serve::<FileDevice<S>, _, _, _, _, _, _>(
+        threads, alloc, stores, name, serving, upkeep, listening, writer, errors,
     );
     served
 }
@@ -182,6 +214,7 @@ fn serve_in_file<
 /// spelled out whole to the prover.
 fn serve_at<
     A: FallibleArrivals + Sync,
+    U: Upkeep + Sync,
     T: Threads + Wait + Clock + Sync,
     S: Contents + Send + Sync,
 >(
@@ -191,6 +224,7 @@ fn serve_at<
     name: &str,
     serving: Serving,
     listening: Option<&LoggedArrivals<'_, '_, '_, A, T, Log>>,
+    upkeep: &U,
     start: S,
 ) -> Status
     requires { 1 ≤ serving.workers }
@@ -205,6 +239,7 @@ fn serve_at<
         &mut stores,
         name,
         serving,
+        upkeep,
         listening,
         &mut writer,
         &mut errors,

@@ -1,5 +1,7 @@
 -- What is recorded of a device in memory owns nothing, so it may go to another thread.
-use denote.Param.Send.{IsSend, IsSync, sendable, owning_send, whole-keyless}
+use denote.{Param.Send.{IsSend, IsSync, sendable, owning_send, whole-keyless}, RattleType.RattleType, Struct.Tuple.TupleAt}
+use mir.Syntax.{Sym}
+use mathlib.Core.List.{[], ◌∷◌}
 use Rattle.std.proofs.Crossing.{crosses}
 use Rattle.sector_memory.specs.contracts.past.PastStates as PastStates
 use Rattle.sector_memory.specs.contracts.memory.MemoryDevice as MemoryDevice
@@ -15,3 +17,7 @@ memory_send = search (sendable, crosses, past_send) depth 40
 
 pub memory_sync : IsSync MemoryDevice.the_row
 memory_sync = search (sendable, crosses, past_sync) depth 40
+
+-- what the closure captures that holds a lock
+pub held_send : (ν : Sym) (A B C : RattleType) → IsSend A → IsSend B → IsSend C → IsSend (TupleAt ν (A ∷ B ∷ C ∷ []))
+held_send ν A B C a b c = search sendable depth 30

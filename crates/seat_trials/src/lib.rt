@@ -15,6 +15,7 @@ macro_rules! holds {
 }
 
 #[cfg(test)]
+mod beside;
 #[cfg(test)]
 mod facts;
 #[cfg(test)]

@@ -11,6 +11,9 @@ use crate::visitors::gallery_of;
 use byte_stream::sink::WriteSink;
 use byte_stream::source::ReadSource;
 use desk_gallery::book::{GalleryId, Opened};
+use desk_gallery::copying::Upkeep;
+use desk_gallery::fault::CopyFault;
+use desk_gallery::front::Front;
 use desk_gallery::office::Office;
 use desk_gallery::tally::{FreeShares, UnopenedLedgers};
 use desk_gallery::visitor::Visitor;
@@ -25,6 +28,7 @@ use http_desk_seats::many::serve_many;
 use http_desk_streams::accepted::Accepted;
 use http_desk_streams::hearing::CommandObserver;
 use http_desk_streams::serve::{ServeFault, Served};
+use sector_device::SectorDevice;
 use sector_memory::MemoryDevice;
 use std::alloc::Global;
 use std::io;
@@ -168,6 +172,47 @@ impl CommandObserver for HoldsFirst<'_> {
     fn hear_unsound(&self) {}
 }
 
+/// Sweeps between commands, and makes no copies.
+#[derive(Drop)]
+struct OnlySweeps;
+
+impl Upkeep for OnlySweeps {
+    type Served = MemoryDevice;
+
+    type Copied = MemoryDevice;
+
+    ghost begins = { λ _ _ _. Unit {0} };
+
+    ghost places = { λ _ _. Unit {0} };
+
+    ghost hears = { λ _ _. Unit {0} };
+
+    fn sweeps(&self) -> bool {
+        true
+    }
+
+    fn pause(&self) -> Option<u32> {
+        None
+    }
+
+    fn begin<J: GalleryId, D: SectorDevice>(
+        &self,
+        _front: &Front<J, D>,
+    ) -> Result<(MemoryDevice, MemoryDevice), CopyFault> {
+        Err(CopyFault::Unread)
+    }
+
+    fn place(&self, _copy: MemoryDevice) -> Result<(), CopyFault> {
+        Err(CopyFault::Unwritten)
+    }
+
+    fn give_up(&self, _copy: MemoryDevice, fault: CopyFault) -> CopyFault {
+        fault
+    }
+
+    fn hear_copy(&self, _did: Result<(), CopyFault>) {}
+}
+
 /// Serves streams at the visitors' seats and returns the clerk and the result.
 fn serve_at<
     J: GalleryId + Send + Sync,
@@ -188,7 +233,7 @@ fn serve_at<
     requires asked { (c : Command) → IsAskedOf (traffic A.gives A.takes_back A.Reader.Source A.Writer.Sink streams.now) c → J.asked c }
     requires only { (c : Command) → J.asked c → IsAskedOf (traffic A.gives A.takes_back A.Reader.Source A.Writer.Sink streams.now) c }
 {
-    let (clerk, ran) = serve_many(rt, alloc, office, true, visitors, tallies, streams, gate);
+    let (clerk, ran) = serve_many(rt, alloc, office, &OnlySweeps, visitors, tallies, streams, gate);
     (clerk, ran.expect(rt, "no memory"))
 }
 

@@ -15,6 +15,7 @@ ghost use Rattle.serve_command.specs.Lasting.{clerk_in};
 
 use desk_store_catalogue::catalogue::Catalogue;
 use http_desk::book::{GalleryId, Opened};
+use http_desk::copying::Upkeep;
 use http_desk::gallery::{Gallery, GalleryFault};
 use http_desk::hearing::CommandObserver;
 use http_desk::office::Office;
@@ -36,6 +37,7 @@ fn serve_named<
     D: SectorDevice + Drop + Send + Sync,
     A: Arrivals + Sync,
     G: CommandObserver + Sync,
+    U: Upkeep + Sync,
     R: Threads + Wait + Sync,
 >(
     rt: &R,
@@ -45,7 +47,7 @@ fn serve_named<
     clerk: Clerk<D>,
     catalogue: Arc<Catalogue>,
     workers: u16,
-    sweeps: bool,
+    upkeep: &U,
     arrivals: &A,
     gate: &G,
 ) -> Result<(Clerk<D>, Ran), (AllocError, Clerk<D>)>
@@ -71,7 +73,7 @@ fn serve_named<
     };
     let (books, tallies) = blanks.open::<J>();
     let office = Office::new(clerk, shower, books);
-    let (last, ran) = serve_many(rt, alloc, office, sweeps, visitors, tallies, arrivals, gate);
+    let (last, ran) = serve_many(rt, alloc, office, upkeep, visitors, tallies, arrivals, gate);
     match ran {
         Ok(ran) => Ok((last, ran)),
         Err(e) => Err((e, last)),
@@ -82,20 +84,21 @@ fn serve_named<
 /// as it then is, whose desk follows from commands accepted one after the other, and the result of
 /// the streams. At whatever moment a crash comes: since a command was acknowledged, each crash
 /// state opens to the desk after that command and all before it. Each stream was answered along
-/// these commands, and each command was asked for in the bytes of one. With `sweeps` the store is
-/// swept between commands. The gate observes the accepted commands and of the free pages. Returns
-/// an error if memory is refused, with the clerk; then nothing was served.
+/// these commands, and each command was asked for in the bytes of one. The store is swept and copied
+/// between commands, as far as `upkeep` asks for it. The gate observes the accepted commands and the
+/// free pages. Returns an error if memory is refused, with the clerk; then nothing was served.
 pub fn serve_clerk<
     D: SectorDevice + Drop + Send + Sync,
     A: Arrivals + Sync,
     G: CommandObserver + Sync,
+    U: Upkeep + Sync,
     R: Threads + Wait + Sync,
 >(
     rt: &R,
     alloc: Global,
     mut clerk: Clerk<D>,
     workers: u16,
-    sweeps: bool,
+    upkeep: &U,
     arrivals: &A,
     gate: &G,
 ) -> Result<(Clerk<D>, Ran), (AllocError, Clerk<D>)>
@@ -113,7 +116,7 @@ pub fn serve_clerk<
     let Ok(catalogue) = clerk.published() else {
         return Err((AllocError, clerk));
     };
-    serve_named::<Brand, _, _, _, _>(
+    serve_named::<Brand, _, _, _, _, _>(
         rt,
         alloc,
         Opened::new(),
@@ -121,7 +124,7 @@ pub fn serve_clerk<
         clerk,
         catalogue,
         workers,
-        sweeps,
+        upkeep,
         arrivals,
         gate,
     )

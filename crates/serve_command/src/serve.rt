@@ -17,6 +17,7 @@ use command_line::options::Serving;
 use command_output::status::Status;
 use command_output::telling::send_line;
 use connection_log::watching::Watched;
+use http_desk::copying::Upkeep;
 use inspect_command::fault::StoreFault;
 use inspect_command::filling::open_clerk;
 use inspect_command::stores::Stores;
@@ -76,6 +77,7 @@ fn serve_store<
     D: SectorDevice + Drop + Send + Sync,
     O: Stores<D>,
     A: Watched + Sync,
+    U: Upkeep + Sync,
     W: Sink,
     R: Threads + Wait + Sync,
 >(
@@ -84,7 +86,7 @@ fn serve_store<
     stores: &mut O,
     name: &str,
     serving: Serving,
-    sweeps: bool,
+    upkeep: &U,
     listening: &A,
     writer: &mut W,
 ) -> Result<(), ServingFault>
@@ -114,7 +116,7 @@ fn serve_store<
         alloc,
         clerk,
         serving.workers,
-        sweeps,
+        upkeep,
         listening,
         listening,
     ) {
@@ -136,11 +138,13 @@ fn serve_store<
 /// desk, 5 if memory is refused, and 6 if no socket listens or standard output fails, and the fault
 /// is printed. The line that says where it listens is printed once the store is open, and the store
 /// is closed once the last clerk returns it. Then the listener receives the result of the
-/// connections. With `sweeps` the store is swept between commands.
+/// connections. The store is swept and copied between commands,
+/// as far as `upkeep` asks for it.
 pub fn serve<
     D: SectorDevice + Drop + Send + Sync,
     O: Stores<D>,
     A: Watched + Sync,
+    U: Upkeep + Sync,
     W: Sink,
     E: Sink,
     R: Threads + Wait + Sync,
@@ -150,7 +154,7 @@ pub fn serve<
     stores: &mut O,
     name: &str,
     serving: Serving,
-    sweeps: bool,
+    upkeep: &U,
     listening: Option<&A>,
     writer: &mut W,
     errors: &mut E,
@@ -162,7 +166,7 @@ pub fn serve<
         W.Sink writer.old writer.new E.Sink errors.old errors.new }
 {
     let ended = match listening {
-        Some(listening) => serve_store(rt, alloc, stores, name, serving, sweeps, listening, writer),
+        Some(listening) => serve_store(rt, alloc, stores, name, serving, upkeep, listening, writer),
         None => Err(ServingFault::Socket),
     };
     end_serving(ended, errors)

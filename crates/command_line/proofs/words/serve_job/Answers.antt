@@ -14,5 +14,7 @@ returns c = record {
     ),
     sym c.get_str-2.ensures,
     sym (c.in_ok-read_interval.ensures.value ∙ (λ i. interval_read (c.word_of-7.ensures i))),
+    sym c.get_str-3.ensures,
+    sym (c.in_ok-read_interval-2.ensures.value ∙ (λ i. interval_read (c.word_of-8.ensures i))),
   );
 }
