@@ -2,7 +2,7 @@
 use Rattle.std.specs.{Option.option_copied, Prelude.{◌≡◌, ◌≤◌, ℕ, Bool, true, false, List, [], ◌∷◌, codes, not, Option, None, Some, IfSome, is_some, option_map}}
 use Rattle.{clap.specs.{Matches.{first_value, one_text, matched_of, raw_values}, declared.parser.matches.Found.Found}, command_line.specs.declared.options.Form.Form}
 use Rattle.command_line.specs.{Options.{AreTerms, form_read, workers_read, IsSize, format_read, IsInterval, interval_read, IsServing, serving_read}, declared.words.Asked.Asked}
-use Rattle.command_line.specs.declared.words.Job.{Job, TheVariants.{Talk, Counts, Audit, Format, Load, Serve, Stat, Verify, Sweep, Migrate, Explain}}
+use Rattle.command_line.specs.declared.words.Job.{Job, TheVariants.{Talk, Counts, Audit, Format, Load, Serve, Stat, Verify, VerifyCensus, Sweep, Migrate, Explain}}
 use Rattle.{command_output.specs.Codes.{code_in, or_code}, state_files.specs.{Opens.AreAlike, declared.open.CensusPaths.CensusPaths}}
 use Rattle.command_line.specs.declared.options.Form.TheVariants as form
 
@@ -17,6 +17,7 @@ IsJob (Load store census gal) = Unit {0}
 IsJob (Serve store serving log) = IsServing serving × IfSome log.tell IsInterval
 IsJob (Stat store json) = Unit {0}
 IsJob (Verify store) = Unit {0}
+IsJob (VerifyCensus store census gal) = Unit {0}
 IsJob (Sweep store) = Unit {0}
 IsJob (Migrate store) = Unit {0}
 IsJob (Explain code) = Unit {0}
@@ -27,6 +28,14 @@ pub record AreCensusPaths (found : Found) (paths : CensusPaths) : Type 0 where
   pub first : first_value found (codes "seg1") ≡ Some paths.seg1.now
   pub second : first_value found (codes "seg2") ≡ Some paths.seg2.now
   pub third : first_value found (codes "seg3") ≡ Some paths.seg3.now
+
+-- no file of a state was given
+pub record HasNoState (found : Found) : Type 0 where
+  pub header : first_value found (codes "geo") ≡ None
+  pub first : first_value found (codes "seg1") ≡ None
+  pub second : first_value found (codes "seg2") ≡ None
+  pub third : first_value found (codes "seg3") ≡ None
+  pub neighbours : first_value found (codes "gal") ≡ None
 
 -- an option without a value was given, or wasn't
 pub record IsFlag (found : Found) (name : List ℕ) (is : Bool) : Type 0 where
@@ -80,7 +89,10 @@ HasPaths found (Serve store serving log) = (first_value found (codes "store") �
     × (first_value found (codes "log") ≡ option_copied log.file)
     × (interval_read (first_value found (codes "tell")) ≡ Some log.tell)
 HasPaths found (Stat store json) = (first_value found (codes "store") ≡ Some store.now) × IsFlag found (codes "json") json
-HasPaths found (Verify store) = first_value found (codes "store") ≡ Some store.now
+HasPaths found (Verify store) = (first_value found (codes "store") ≡ Some store.now) × HasNoState found
+HasPaths found (VerifyCensus store census gal) = AreCensusPaths found census
+    × (first_value found (codes "store") ≡ Some store.now)
+    × (first_value found (codes "gal") ≡ Some gal.now)
 HasPaths found (Sweep store) = first_value found (codes "store") ≡ Some store.now
 HasPaths found (Migrate store) = first_value found (codes "store") ≡ Some store.now
 HasPaths found (Explain code) = code_read (option_map raw_values (matched_of found (codes "code"))) ≡ Some (option_copied code)

@@ -99,16 +99,22 @@ pub(crate) const VERIFY_HELP: &str =
 districts that it names, and each list of districts is as long as its county. Otherwise it prints what is wrong, with the number of the
 page, or with the row's key in hexadecimal; 'plandesk explain WORD' explains it.
 
+With the census files and the neighbour file of a state, it also prints 'census same' if the store has exactly what they say: the same
+blocks, cities, populations and pairs of neighbours. Otherwise it prints only the first difference, with the numbers of its blocks. Blocks
+are compared in the order of their numbers, and then the pairs.
+
 verify changes nothing, except that it completes a change that a crash interrupted, as every command on a store does. So it needs the
 permission to write, and it cannot open a store that is being served: verify a copy.
 
 Example:
   plandesk verify state.copy
+  plandesk verify state.copy --geo iageo2020.pl --seg1 ia000012020.pl --seg2 ia000022020.pl --seg3 ia000032020.pl --gal iowa.gal
 
 Exit statuses:
-  0  the store is sound
+  0  the store is sound, and has what the files say, if they were given
   2  the command line is wrong; no file was opened
-  4  the store is damaged, was rejected, is in use, or its disk failed
+  3  a census file or the neighbour file was rejected; the store was not opened
+  4  the store is damaged, was rejected, is in use, or its disk failed; or it differs from the files
   5  there was not enough memory
   6  standard output failed";
 

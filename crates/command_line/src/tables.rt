@@ -282,7 +282,45 @@ const STAT: &[Argument] = &[
     Argument::Flag("json", "Print the figures as one JSON object"),
 ];
 
-const VERIFY: &[Argument] = &[Argument::Store];
+/// With one of the files of a state all of them have to be given.
+const VERIFY: &[Argument] = &[
+    Argument::Store,
+    Argument::Valued(
+        "geo",
+        "FILE",
+        "Geographic header of the 2020 census, to compare the store with",
+        Values::Texts,
+        Presence::Optional(&["seg1", "seg2", "seg3", "gal"]),
+    ),
+    Argument::Valued(
+        "seg1",
+        "FILE",
+        "Segment 1 of the 2020 census",
+        Values::Texts,
+        Presence::Optional(&["geo", "seg2", "seg3", "gal"]),
+    ),
+    Argument::Valued(
+        "seg2",
+        "FILE",
+        "Segment 2 of the 2020 census",
+        Values::Texts,
+        Presence::Optional(&["geo", "seg1", "seg3", "gal"]),
+    ),
+    Argument::Valued(
+        "seg3",
+        "FILE",
+        "Segment 3 of the 2020 census",
+        Values::Texts,
+        Presence::Optional(&["geo", "seg1", "seg2", "gal"]),
+    ),
+    Argument::Valued(
+        "gal",
+        "FILE",
+        "Neighbour file (GAL): which blocks share an edge",
+        Values::Texts,
+        Presence::Optional(&["geo", "seg1", "seg2", "seg3"]),
+    ),
+];
 
 const SWEEP: &[Argument] = &[Argument::Store];
 
@@ -330,7 +368,7 @@ static LAST: [Subcommand; 6] = [
     },
     Subcommand {
         name: "verify",
-        about: "Checks a store for damage",
+        about: "Checks a store for damage, and compares it with census files",
         after: VERIFY_HELP,
         entries: VERIFY,
     },

@@ -1,8 +1,8 @@
 //! The words of the command line.
-ghost use Rattle.std.specs.Prelude.{◌≡◌, map, IfOk, IfSome};
+ghost use Rattle.std.specs.Prelude.{◌≡◌, true, None, map, IfOk, IfSome};
 ghost use Rattle.std.specs.Option.{option_copied};
 ghost use Rattle.clap.specs.Matches.{found_of, first_value};
-ghost use Rattle.command_line.specs.Jobs.{IsJob, AreCensusPaths, HasPaths, IsAsked, first_code as code_of_first, IsJobOf};
+ghost use Rattle.command_line.specs.Jobs.{IsJob, AreCensusPaths, HasNoState, HasPaths, IsAsked, first_code as code_of_first, IsJobOf};
 
 use crate::line::command;
 use crate::options::{
@@ -37,6 +37,8 @@ pub enum Job<'a> {
     Stat(&'a str, bool),
     /// `verify`: whether a store is one that a desk leaves.
     Verify(&'a str),
+    /// `verify` with the census files and the neighbour file: whether a store has what they say.
+    VerifyCensus(&'a str, CensusPaths<'a>, &'a str),
     /// `sweep`: what nothing needs any more is taken out of a store.
     Sweep(&'a str),
     /// `migrate`: a store of version 1 becomes one of version 2.
@@ -216,13 +218,50 @@ fn stat_job<'a>(matches: &ArgMatches<'a>) -> Option<Job<'a>>
     Some(Job::Stat(store, matches.get_flag("json")))
 }
 
-/// Returns the job of a command that takes only a store: `verify`, `sweep` or `migrate`.
+/// Returns whether an option is missing.
+fn is_missing<'a>(matches: &ArgMatches<'a>, option: &str) -> bool
+    ensures { result ≡ true → first_value (found_of matches.now) option.now ≡ None }
+{
+    match word_of(matches, option) {
+        Some(_) => false,
+        None => true,
+    }
+}
+
+/// Returns whether no file of a state is given.
+fn has_no_state<'a>(matches: &ArgMatches<'a>) -> bool
+    ensures { result ≡ true → HasNoState (found_of matches.now) }
+{
+    if !is_missing(matches, "geo") {
+        return false;
+    }
+    if !is_missing(matches, "seg1")
+        || !is_missing(matches, "seg2")
+        || !is_missing(matches, "seg3")
+    {
+        return false;
+    }
+    is_missing(matches, "gal")
+}
+
+/// Returns what `verify` is asked for, if all files of a state are given or none.
+fn verify_job<'a>(matches: &ArgMatches<'a>) -> Option<Job<'a>>
+    ensures { IsJobOf (found_of matches.now) result }
+{
+    let store = matches.get_str("store")?;
+    if has_no_state(matches) {
+        return Some(Job::Verify(store));
+    }
+    let census = census_paths(matches)?;
+    Some(Job::VerifyCensus(store, census, matches.get_str("gal")?))
+}
+
+/// Returns the job of a command that takes only a store: `sweep` or `migrate`.
 fn store_job<'a>(name: &str, matches: &ArgMatches<'a>) -> Option<Job<'a>>
     ensures { IsJobOf (found_of matches.now) result }
 {
     let store = matches.get_str("store")?;
     match name {
-        "verify" => Some(Job::Verify(store)),
         "sweep" => Some(Job::Sweep(store)),
         _ => Some(Job::Migrate(store)),
     }
@@ -306,7 +345,8 @@ fn job_under<'a>(name: &str, options: &ArgMatches<'a>) -> Option<Job<'a>>
         "load" => load_job(options),
         "serve" => serve_job(options),
         "stat" => stat_job(options),
-        "verify" | "sweep" | "migrate" => store_job(name, options),
+        "verify" => verify_job(options),
+        "sweep" | "migrate" => store_job(name, options),
         "explain" => explain_job(options),
         _ => check_job(options),
     }

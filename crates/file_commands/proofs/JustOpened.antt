@@ -1,10 +1,10 @@
 -- Each premise is met of a device just opened.
-use Rattle.{std.proofs.Common.{ℕ, Bool, true, sym, subst}, desk_model.specs.claim.Desk.Desk, desk_store_pages.specs.claim.Desks.{OpensAs, OpensDeskOf}}
-use Rattle.{file_commands.specs.Premises.{IsJustOpened, MeetsPremises, HasNoPremise}, inspect_command.specs.desk_store.declared.clerk.Clerk.Clerk}
-use Rattle.{inspect_command.specs.store_command.{Reading.ShowsWhatIsRead, desk_theorem_loading.Openings.IsOpened}, sector_device.specs.claim.Disk.{Disk, Image}}
-use Rattle.sector_device.specs.declared.SectorDevice.{Ghosts}
-use Rattle.inspect_command.proofs.store_command.Read.{all_either, all_new, all_old, left_opens}
-use Rattle.inspect_command.proofs.store_command.desk_theorem_runs.One.{in_either}
+use Rattle.{std.proofs.Common.{ℕ, Bool, true, sym, subst}, census_command.specs.inspect_command.{desk_store.declared.clerk.Clerk.Clerk, store_command.Reading.ShowsWhatIsRead}}
+use Rattle.{census_command.specs.inspect_command.store_command.desk_theorem_loading.Openings.IsOpened, desk_model.specs.claim.Desk.Desk}
+use Rattle.{desk_store_pages.specs.claim.Desks.{OpensAs, OpensDeskOf}, file_commands.specs.Premises.{IsJustOpened, MeetsPremises, HasNoPremise}}
+use Rattle.sector_device.specs.{claim.Disk.{Disk, Image}, declared.SectorDevice.Ghosts}
+use Rattle.census_command.proofs.inspect_command.store_command.Read.{all_either, all_new, all_old, left_opens}
+use Rattle.census_command.proofs.inspect_command.store_command.desk_theorem_runs.One.{in_either}
 
 module _ (held : ℕ → Image) (disk : Disk) (just : IsJustOpened held disk) where
   -- what the file held is read

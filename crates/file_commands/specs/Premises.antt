@@ -1,9 +1,9 @@
 -- What is known of a device just opened, and that each premise of what is proved of commands is met of it.
 use Rattle.std.specs.Prelude.{◌≡◌, ℕ, Bool, true, false}
-use Rattle.{desk_model.specs.claim.Desk.Desk, desk_store_pages.specs.{Openings.{AllDesks, AllOld}, claim.{Desks.OpensAs, Openings.AllVersions}}, sector_device.specs.Disk.IsSynced}
-use Rattle.inspect_command.specs.{desk_store.{claim.Clerks.{desk_of, disk_of, is_halted, Keeps}, declared.clerk.Clerk.Clerk}, store_command.Reading.{ReadsDesk, ReadsOld}}
-use Rattle.inspect_command.specs.store_command.{desk_theorem_loading.Openings.IsOpened, desk_theorem_runs.claim.Recovery.HoldsEither}
-use Rattle.sector_device.specs.{claim.Disk.{Disk, Image}, declared.SectorDevice.Ghosts}
+use Rattle.{census_command.specs.inspect_command.desk_store.{claim.Clerks.{desk_of, disk_of, is_halted, Keeps}, declared.clerk.Clerk.Clerk}, desk_model.specs.claim.Desk.Desk}
+use Rattle.census_command.specs.inspect_command.store_command.{Reading.{ReadsDesk, ReadsOld}, desk_theorem_loading.Openings.IsOpened, desk_theorem_runs.claim.Recovery.HoldsEither}
+use Rattle.{desk_store_pages.specs.{Openings.{AllDesks, AllOld}, claim.{Desks.OpensAs, Openings.AllVersions}}, sector_device.specs.{Disk.IsSynced, claim.Disk.{Disk, Image}}}
+use Rattle.sector_device.specs.declared.SectorDevice.{Ghosts}
 
 -- It keeps to the model of a device, a stop leaves what it reads, and it reads what the file of so many sectors held.
 pub record IsJustOpened (held : ℕ → Image) (disk : Disk) : Type 0 where

@@ -1,7 +1,7 @@
 -- What is told of a file that is no device, and its reason, where that is told apart.
 use Rattle.std.specs.Prelude.{◌≡◌, ◌⊎◌, Option, Some, None}
+use Rattle.census_command.specs.inspect_command.store_command.declared.fault.StoreFault.{StoreFault, TheVariants.{NotFound, WrongSize, Exists, DeviceFault, Memory}}
 use Rattle.{command_output.specs.declared.explanation.Reason.{Reason, TheVariants.{InUse, NotPermitted, NoRoom}}, sector_file.specs.declared.error.FileError.FileError}
-use Rattle.inspect_command.specs.store_command.declared.fault.StoreFault.{StoreFault, TheVariants.{NotFound, WrongSize, Exists, DeviceFault, Memory}}
 use Rattle.sector_file.specs.declared.error.FileError.TheVariants as file
 
 abbrev pub fault_of_file : FileError → StoreFault

@@ -6,12 +6,12 @@
 //!
 //! # Proved
 //!
-//! - `load_in_file`, `sweep_in_file`, `migrate_in_file`, `stat_in_file` and `verify_in_file`:
-//!   whatever the file holds, each is one life of its store, given by the exit status and by what
-//!   was printed (`LoadsLife`, `SweepsLife`, `MigratesLife`, `LooksLife`, `VerifiesLife`). If no
-//!   device was opened, they say so.
-//! - `load_state`, `sweep_desk`, `migrate_desk`, `stat_desk` and `verify_desk` hand that up by the
-//!   exit status alone.
+//! - `load_in_file`, `sweep_in_file`, `migrate_in_file`, `stat_in_file`, `verify_in_file` and
+//!   `verify_census_in_file`: whatever the file holds, each is one life of its store, given by the
+//!   exit status and by what was printed (`LoadsLife`, `SweepsLife`, `MigratesLife`, `LooksLife`,
+//!   `VerifiesLife`, `ComparesLife`). If no device was opened, they say so.
+//! - `load_state`, `sweep_desk`, `migrate_desk`, `stat_desk`, `verify_desk` and
+//!   `verify_census_desk` hand that up by the exit status alone.
 //! - `premises_are_met` and `lives_find_what_is_read` meet the premises of the clauses on openings
 //!   ([PROOFS](docs/dev/PROOFS.md)). Of the other functions: safety and termination.
 //!

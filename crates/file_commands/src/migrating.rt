@@ -4,14 +4,14 @@ ghost use Rattle.sector_file.specs.Device.{file_disk, first_image};
 ghost use Rattle.command_output.specs.Writing.{OfWriters};
 ghost use Rattle.file_commands.specs.Premises.{IsJustOpened};
 ghost use Rattle.file_commands.specs.claim.Running.{RunsMigrate};
-ghost use Rattle.inspect_command.specs.store_command.claim.Living.{MigratesLife};
+ghost use Rattle.census_command.specs.inspect_command.store_command.claim.Living.{MigratesLife};
 
 use crate::faults::{explain_last, standard_error};
 use crate::stores::StoreFiles;
 use byte_stream::progress::{Progress, Telling};
 use byte_stream::sink::{Sink, WriteSink};
+use census_command::migrate::migrate;
 use command_output::status::Status;
-use inspect_command::migrate::migrate;
 use sector_device::SectorDevice;
 use sector_file::{Contents, FileDevice};
 use std::alloc::Global;

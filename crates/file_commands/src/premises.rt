@@ -1,16 +1,16 @@
 //! The premises of what is proved of commands, met at the device that these are handed.
 ghost use Rattle.std.specs.Prelude.{◌≤◌, IfOk, OnOk};
 ghost use Rattle.desk_store_pages.specs.Desks.{new_desk};
-ghost use Rattle.inspect_command.specs.store_command.Reading.{HoldsWhatIsRead, FindsWhatIsRead, ReadsDesk};
+ghost use Rattle.census_command.specs.inspect_command.store_command.Reading.{HoldsWhatIsRead, FindsWhatIsRead, ReadsDesk};
 ghost use Rattle.sector_file.specs.Device.{first_image};
 ghost use Rattle.file_commands.specs.Premises.{HasNoPremise};
 
 use crate::stores::StoreFiles;
+use census_command::Clerk;
+use census_command::fault::StoreFault;
+use census_command::filling::open_clerk;
+use census_command::stores::Stores;
 use desk_store_pages::{StoreError, format};
-use inspect_command::Clerk;
-use inspect_command::fault::StoreFault;
-use inspect_command::filling::open_clerk;
-use inspect_command::stores::Stores;
 use sector_device::SectorDevice;
 use sector_file::{Contents, FileDevice};
 use std::alloc::Global;

@@ -4,14 +4,14 @@ ghost use Rattle.command_output.specs.Writing.{OfWriters};
 ghost use Rattle.sector_file.specs.Device.{file_disk, first_image};
 ghost use Rattle.file_commands.specs.Premises.{IsJustOpened};
 ghost use Rattle.file_commands.specs.claim.Running.{RunsStat};
-ghost use Rattle.inspect_command.specs.claim.Living.{LooksLife};
+ghost use Rattle.census_command.specs.inspect_command.claim.Living.{LooksLife};
 
 use crate::faults::{explain_last, standard_error};
 use crate::stores::StoreFiles;
 use byte_stream::sink::{Sink, WriteSink};
+use census_command::stat::stat;
+use census_command::texts::{Style, style_of};
 use command_output::status::Status;
-use inspect_command::stat::stat;
-use inspect_command::texts::{Style, style_of};
 use sector_device::SectorDevice;
 use sector_file::{Contents, FileDevice};
 use std::alloc::Global;

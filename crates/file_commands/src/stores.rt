@@ -5,10 +5,10 @@ ghost use Rattle.sector_file.specs.Device.{file_disk, first_image};
 ghost use Rattle.file_commands.specs.Premises.{IsJustOpened};
 ghost use Rattle.file_commands.specs.Refusals.{IsTold, fault_of_file, reason_of_file};
 
+use census_command::Readers;
+use census_command::fault::StoreFault;
+use census_command::stores::Stores;
 use command_output::explanation::Reason;
-use inspect_command::Readers;
-use inspect_command::fault::StoreFault;
-use inspect_command::stores::Stores;
 use sector_device::SECTOR_SIZE;
 use sector_file::{Contents, FileDevice, FileError, FileReader};
 use std::fs::{File, metadata};

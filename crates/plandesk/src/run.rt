@@ -17,7 +17,7 @@ use file_commands::prefixes::Prefixed;
 use file_commands::stating::stat_desk;
 use file_commands::sweeping::sweep_desk;
 use file_commands::talking::serve_talk;
-use file_commands::verifying::verify_desk;
+use file_commands::verifying::{verify_census_desk, verify_desk};
 use sector_device::SectorDevice;
 use sector_file::{Contents, FileDevice};
 use std::fs::File;
@@ -53,6 +53,9 @@ fn run_job<T: Threads + Wait + Clock + Copy + Send + Sync + 'static, S: Contents
         }
         Job::Stat(name, json) => stat_desk(rt, words, name, json, start),
         Job::Verify(name) => verify_desk(rt, threads, words, name, start),
+        Job::VerifyCensus(name, paths, neighbours) => {
+            verify_census_desk(rt, threads, words, name, paths, neighbours, start)
+        }
         Job::Sweep(name) => sweep_desk(rt, words, name, start),
         Job::Migrate(name) => migrate_desk(rt, words, name, start),
         Job::Explain(code) => explain_code(rt, words, code),

@@ -1,7 +1,8 @@
 -- What a command came to that opened the system's files by itself: the life of the store, by the exit status alone.
 use Rattle.std.specs.Prelude.{◌≡◌, Bool, false}
-use Rattle.{command_output.specs.{claim.Writing.Written, declared.status.Status.Status}, inspect_command.specs.{claim.Living.{LooksLife, VerifiesLife}, declared.texts.Style.Style}}
-use Rattle.{inspect_command.specs.store_command.claim.{Files.Openings, Living.{LoadsLife, MigratesLife, SweepsLife}}, sector_device.specs.declared.SectorDevice.Ghosts}
+use Rattle.census_command.specs.{claim.Living.ComparesLife, inspect_command.{claim.Living.{LooksLife, VerifiesLife}, declared.texts.Style.Style}}
+use Rattle.{census_command.specs.inspect_command.store_command.claim.{Files.Openings, Living.{LoadsLife, MigratesLife, SweepsLife}}, command_output.specs.claim.Writing.Written}
+use Rattle.{command_output.specs.declared.status.Status.Status, sector_device.specs.declared.SectorDevice.Ghosts}
 
 -- Of standard output and standard error, before and after, and of whether a device was opened, this is so; no more is said of them.
 pub record Ran (says : (none : Type 0) → (old new told_old told_new : Written) → Type 0) : Type 0 where
@@ -29,3 +30,7 @@ module _ {D : Type 0} (g : Ghosts D) (opened : D → Type 0) (end : Status) wher
 
   abbrev pub RunsVerify : Type 0
   RunsVerify = Ran (λ none. VerifiesLife g opened none end)
+
+  -- files of a state were read, and a store was compared with them
+  abbrev pub RunsCensus : Type 0
+  RunsCensus = (files : Openings) × ((left : Openings) × Ran (λ none. ComparesLife g opened none end files left))

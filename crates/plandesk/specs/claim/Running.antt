@@ -1,10 +1,11 @@
 -- What a run of the program is for the store whose file it opened, by the job that it did and the exit status.
 use Rattle.std.specs.Prelude.{◌≡◌, ◌⊎◌, ◌<◌, ℕ, List}
 use Rattle.{byte_stream.specs.declared.source.Source.Ghosts as Sources, command_line.specs.declared.words.Job.Job, command_output.specs.declared.status.Status.Status}
-use Rattle.{command_line.specs.declared.words.Job.TheVariants.{Talk, Counts, Audit, Format, Load, Serve, Stat, Verify, Sweep, Migrate, Explain}, desk_model.specs.claim.Desk.Desk}
-use Rattle.{desk_store_pages.specs.declared.error.StoreError.StoreError, desk_theorem.specs.claim.{InFile.LivedOn, OneLife.{Asked, RequestsHold, UnopenedHolds}}}
-use Rattle.{desk_theorem.specs.lives.declared.desk_lives.{Answer.Answer, Request.Request}, file_commands.specs.claim.Audits.IsOfAudit}
-use Rattle.{file_commands.specs.claim.Running.{RunsLoad, RunsMigrate, RunsStat, RunsSweep, RunsVerify}, sector_device.specs.declared.SectorDevice.Ghosts}
+use Rattle.command_line.specs.declared.words.Job.TheVariants.{Talk, Counts, Audit, Format, Load, Serve, Stat, Verify, VerifyCensus, Sweep, Migrate, Explain}
+use Rattle.{desk_model.specs.claim.Desk.Desk, desk_store_pages.specs.declared.error.StoreError.StoreError, desk_theorem.specs.claim.InFile.LivedOn}
+use Rattle.desk_theorem.specs.{claim.OneLife.{Asked, RequestsHold, UnopenedHolds}, lives.declared.desk_lives.{Answer.Answer, Request.Request}}
+use Rattle.file_commands.specs.claim.{Audits.IsOfAudit, Running.{RunsCensus, RunsLoad, RunsMigrate, RunsStat, RunsSweep, RunsVerify}}
+use Rattle.sector_device.specs.declared.SectorDevice.{Ghosts}
 use Rattle.command_output.specs.declared.status.Status.TheVariants as status
 
 -- some requests were answered, of which no more is said
@@ -32,6 +33,7 @@ module _ {D : Type 0} (g : Ghosts D) (opened : D → Type 0) {R : Type 0} (r : S
   RunsJob (Serve store serving log) end = RunsServe end
   RunsJob (Stat store json) end = RunsStat g opened end
   RunsJob (Verify store) end = RunsVerify g opened end
+  RunsJob (VerifyCensus store census gal) end = RunsCensus g opened end
   RunsJob (Sweep store) end = RunsSweep g opened end
   RunsJob (Migrate store) end = RunsMigrate g opened end
   RunsJob (Explain code) end = Unit {0}

@@ -1,4 +1,4 @@
-use Rattle.{std.proofs.Common.{◌≡◌, ◌∙◌, false}, inspect_command.proofs.store_command.Living.migrates_life, file_commands.specs.Premises.IsJustOpened, sector_file.specs.Device.{file_disk, first_image}}
+use Rattle.{std.proofs.Common.{◌≡◌, ◌∙◌, false}, census_command.proofs.inspect_command.store_command.Living.migrates_life, file_commands.specs.Premises.IsJustOpened, sector_file.specs.Device.{file_disk, first_image}}
 use Rattle.file_commands.proofs.migrating.migrate_in_file.Goals as goal
 
 pub returns : goal.returns

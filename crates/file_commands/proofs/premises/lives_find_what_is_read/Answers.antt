@@ -1,4 +1,4 @@
-use Rattle.inspect_command.proofs.store_command.Read.{holds_read, finds_read}
+use Rattle.census_command.proofs.inspect_command.store_command.Read.{holds_read, finds_read}
 use Rattle.file_commands.proofs.premises.lives_find_what_is_read.Goals as goal
 
 pub returns-clause-first : goal.returns-clause-first

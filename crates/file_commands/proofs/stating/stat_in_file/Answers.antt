@@ -1,5 +1,5 @@
 use Rattle.{std.proofs.Common.{◌≡◌, ◌∙◌, false}, file_commands.specs.Premises.IsJustOpened, sector_file.specs.Device.{file_disk, first_image}}
-use Rattle.inspect_command.proofs.Living.{stats_life}
+use Rattle.census_command.proofs.inspect_command.Living.{stats_life}
 use Rattle.file_commands.proofs.stating.stat_in_file.Goals as goal
 
 pub returns : goal.returns

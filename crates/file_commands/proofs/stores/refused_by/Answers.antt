@@ -1,4 +1,4 @@
-use Rattle.{std.proofs.Common.{◌≡◌, ◌∙◌, inr, sym}, inspect_command.specs.store_command.declared.fault.StoreFault.TheVariants.{NotFound, DeviceFault, Memory}}
+use Rattle.{std.proofs.Common.{◌≡◌, ◌∙◌, inr, sym}, census_command.specs.inspect_command.store_command.declared.fault.StoreFault.TheVariants.{NotFound, DeviceFault, Memory}}
 use Rattle.sector_file.specs.declared.error.FileError.TheVariants as file
 use Rattle.file_commands.proofs.stores.refused_by.Goals as goal
 

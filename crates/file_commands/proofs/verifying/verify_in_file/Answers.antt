@@ -1,5 +1,5 @@
 use Rattle.{std.proofs.{Common.{◌≡◌, ◌∙◌, false}, Crossing.crosses}, file_commands.specs.Premises.IsJustOpened, sector_file.specs.Device.{file_disk, first_image}}
-use Rattle.{inspect_command.proofs.Living.verifies_life, sector_file.proofs.Sending.record_send}
+use Rattle.{census_command.proofs.inspect_command.Living.verifies_life, sector_file.proofs.Sending.record_send}
 use denote.Param.Send.{sendable}
 use Rattle.file_commands.proofs.verifying.verify_in_file.Goals as goal
 

@@ -1,0 +1,4 @@
+mod Lives
+mod Whole
+pub mod Living
+pub use Rattle.inspect_command.proofs as inspect_command
